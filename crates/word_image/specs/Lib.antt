@@ -1,0 +1,2 @@
+pub mod LocalRules
+pub mod Words
