@@ -1,2 +1,4 @@
 pub mod LocalRules
 pub mod Words
+pub mod Graphs
+pub mod Ranks
