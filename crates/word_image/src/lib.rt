@@ -1,13 +1,16 @@
-// A library with one function.
+//! The local rules of one-dimensional cellular automata, and what they give on windows.
+//!
+//! A rule has k states, the letters 0 to k - 1, and a width m. Its table has a letter for each
+//! window of m letters, at the window's value: the base-k number whose most significant digit is
+//! the leftmost letter. Cell i of the image of a line x is the table's letter for the window of
+//! m cells from i + o on, where o is the rule's offset.
+//!
+//! Rule 110 has k = 2, m = 3, o = -1 and the table 0 1 1 1 0 1 1 0. It gives 1 on the window
+//! 0 1 1, whose value is 3.
 #![tactic(auto)]
 
-ghost use Rattle.std.specs.Prelude.{◌≡◌};
-ghost use Rattle.word_image.specs.Echo.{echo_of};
+mod letters;
+mod local_rule;
 
-// The `ensures` clause is the contract: what `echo` returns is `echo_of` of its argument, a definition
-// in `specs/Echo.antt`, which a caller's clause can cite too.
-pub fn echo(x: usize) -> usize
-    ensures { result ≡ echo_of x }
-{
-    x
-}
+pub use letters::digit;
+pub use local_rule::{Rule, RuleFault};

@@ -1,0 +1,6 @@
+pub mod Values
+pub mod Words
+pub mod Graphs
+pub mod LastNodes
+pub mod LastSets
+pub mod RuleFaults

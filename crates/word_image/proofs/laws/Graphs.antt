@@ -1,0 +1,63 @@
+-- The de Bruijn graph of a rule read on words: nodes are ends of words, edges are windows.
+use Rattle.std.proofs.Common.{◌≡◌, ℕ, suc, ◌+◌, ◌-◌, ◌*◌, ◌%◌, ◌^◌, ◌<◌, List, [], ◌∷◌, ◌++◌, length, drop, slice_index, sym, ap, ◌∙◌, subst, arith, length-drop, pow-suc, mul_comm, mod-lt}
+use Rattle.std.proofs.Math.Nat.{one-le-pow}
+use Rattle.std.proofs.lemmas.Nat.{mul-add-lt, mod-mul-add}
+use Rattle.std.proofs.lemmas.List.{drop-append-le, drop-drop, length_push}
+use Rattle.std.proofs.lemmas.List.Elements.{All-drop, All-push, All-tail}
+use Rattle.word_image.specs.LocalRules.{LocalRule, IsRule, IsWord, value, local_map, node_count}
+use Rattle.word_image.specs.Graphs.{next, label}
+use Rattle.word_image.proofs.laws.Values.{value-below, value-snoc}
+use Rattle.word_image.proofs.laws.Words.{entry-below}
+
+-- there are nodes
+pub node_count_pos : {r : LocalRule} → IsRule r → 0 < node_count r
+node_count_pos {r} rule = one-le-pow (r.width - 1) r.states (omega arith)
+
+-- an edge is a node and a letter
+pub node_count-mul-states : {r : LocalRule} → IsRule r → node_count r * r.states ≡ r.states ^ r.width
+node_count-mul-states {r} rule =
+    let long : suc (r.width - 1) ≡ r.width = omega arith in
+    sym (pow-suc r.states (r.width - 1)) ∙ ap (λ n. r.states ^ n) long
+
+-- an edge leads to a node
+pub next-below : {r : LocalRule} → IsRule r → (u a : ℕ) → next r u a < node_count r
+next-below {r} rule u a = mod-lt (u * r.states + a) (node_count_pos rule)
+
+-- an edge has an entry of the table
+pub edge-below : {r : LocalRule} → IsRule r → (u a : ℕ) → u < node_count r → a < r.states → u * r.states + a < r.states ^ r.width
+edge-below {r} rule u a h l =
+    let within : u * r.states + a < r.states * node_count r = mul-add-lt u r.states a (node_count r) h l in
+    let turned : r.states * node_count r ≡ r.states ^ r.width = mul_comm r.states (node_count r) ∙ node_count-mul-states rule in
+    omega arith
+
+-- an edge has a letter for its label
+pub label-below : {r : LocalRule} → IsRule r → (u a : ℕ) → label r u a < r.states
+label-below {r} rule u a = entry-below rule (u * r.states + a)
+
+-- a word of m - 1 letters is a node
+pub value-node : (r : LocalRule) (z : List ℕ) → IsWord r.states z → length z ≡ r.width - 1 → value r.states z < node_count r
+value-node r z h e = subst (λ n. value r.states z < r.states ^ n) e (value-below r.states z h)
+
+-- the value of a word without its first letter
+pub value-tail : (k d : ℕ) (y : List ℕ) → IsWord k y → length y ≡ d + 1 → value k (drop 1 y) ≡ value k y % k ^ d
+value-tail k d [] h e = absurd (omega arith)
+value-tail k d (c ∷ y) h e =
+    let long : length y ≡ d = omega arith in
+    subst (λ n. value k y ≡ (c * k ^ length y + value k y) % k ^ n) long
+    (sym (mod-mul-add c (k ^ length y) (value k y) (value-below k y (All-tail (λ a. a < k) c y h))))
+
+-- where one more letter leads from a node
+pub value-next : {r : LocalRule} → IsRule r → (n : ℕ) (x : List ℕ) (b : ℕ) → IsWord r.states x → length x ≡ n + (r.width - 1) → b < r.states
+    → value r.states (drop (n + 1) (x ++ b ∷ [])) ≡ next r (value r.states (drop n x)) b
+value-next {r} rule n x b h e l =
+    let window : drop n (x ++ b ∷ []) ≡ drop n x ++ b ∷ [] = drop-append-le n x (b ∷ []) (omega arith) in
+    let word : IsWord r.states (drop n x ++ b ∷ []) = All-push (λ a. a < r.states) (drop n x) b (All-drop (λ a. a < r.states) n x h) l in
+    let long : length (drop n x ++ b ∷ []) ≡ r.width - 1 + 1 = omega (arith, length_push (drop n x) b, length-drop n x) in
+    ap (value r.states) (sym (drop-drop 1 n (x ++ b ∷ [])))
+    ∙ ap (λ z. value r.states (drop 1 z)) window
+    ∙ value-tail r.states (r.width - 1) (drop n x ++ b ∷ []) word long
+    ∙ ap (λ v. v % node_count r) (value-snoc r.states (drop n x) b)
+
+-- the label of that edge is what the rule gives on its window
+pub local_map-label : (r : LocalRule) (z : List ℕ) (b : ℕ) → local_map r (z ++ b ∷ []) ≡ label r (value r.states z) b
+local_map-label r z b = ap (slice_index r.table) (value-snoc r.states z b)

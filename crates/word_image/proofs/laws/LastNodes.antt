@@ -1,0 +1,57 @@
+-- The last nodes of the preimages of a word, one letter at a time.
+use Rattle.std.proofs.Common.{◌≡◌, ℕ, ◌-◌, ◌<◌, List, [], ◌∷◌, ◌++◌, length, drop, refl, sym, ap, ◌∙◌, arith, length-drop}
+use Rattle.std.proofs.lemmas.List.{length_push}
+use Rattle.std.proofs.lemmas.List.Elements.{All-drop}
+use Rattle.word_image.specs.LocalRules.{LocalRule, IsRule, value, word_of, node_count}
+use Rattle.word_image.specs.Words.{IsPreimage}
+use Rattle.word_image.specs.Graphs.{next, label}
+use Rattle.word_image.specs.Ranks.{IsLastNode}
+use Rattle.word_image.proofs.laws.Values.{length-word_of, IsWord-word_of, value-word_of}
+use Rattle.word_image.proofs.laws.Words.{IsLongerPreimage, IsPreimage-empty, IsPreimage-snoc, IsPreimage-push}
+use Rattle.word_image.proofs.laws.Graphs.{value-node, value-next, local_map-label}
+
+-- each node is a last node of the empty word
+pub IsLastNode-empty : (r : LocalRule) (u : ℕ) → u < node_count r → IsLastNode r [] u
+IsLastNode-empty r u h =
+    record {
+      x = word_of r.states (r.width - 1) u;
+      preimage = IsPreimage-empty r _ (IsWord-word_of r.states (r.width - 1) u h) (length-word_of r.states (r.width - 1) u);
+      last = value-word_of r.states (r.width - 1) u h;
+    }
+
+-- the node at the end of a preimage is a last node
+pub IsLastNode-preimage : {r : LocalRule} {w x : List ℕ} → IsPreimage r w x → IsLastNode r w (value r.states (drop (length w) x))
+IsLastNode-preimage {r} {w} {x} p = record { x = x; preimage = p; last = refl }
+
+-- a last node is a node
+pub IsLastNode-below : {r : LocalRule} {w : List ℕ} {u : ℕ} → IsLastNode r w u → u < node_count r
+IsLastNode-below {r} {w} {u} h =
+    rw (← h.last) (value-node r _ (All-drop (λ a. a < r.states) (length w) h.x h.preimage.word) (rw (length-drop) (omega arith)))
+
+-- an edge with label a leads from a last node of w to a last node of w a
+pub IsLastNode-push : {r : LocalRule} {w : List ℕ} {u : ℕ} → IsRule r → IsLastNode r w u → (a b v : ℕ) → b < r.states → label r u b ≡ a → next r u b ≡ v
+    → IsLastNode r (w ++ a ∷ []) v
+IsLastNode-push {r} {w} {u} rule h a b v l e f =
+    record {
+      x = h.x ++ b ∷ [];
+      preimage = IsPreimage-push rule h.preimage a b l (local_map-label r (drop (length w) h.x) b ∙ ap (λ n. label r n b) h.last ∙ e);
+      last = ap (λ n. value r.states (drop n (h.x ++ b ∷ []))) (length_push w a) ∙ value-next rule (length w) h.x b h.preimage.word h.preimage.long l ∙ ap (λ n. next r n b) h.last ∙ f;
+    }
+
+-- a last node of w a is reached from a last node of w by an edge with label a
+pub IsLastNode-snoc : {r : LocalRule} → IsRule r → (w : List ℕ) (a v : ℕ) → IsLastNode r (w ++ a ∷ []) v
+    → (u : ℕ) × (b : ℕ) × (u < node_count r) × (b < r.states) × IsLastNode r w u × (label r u b ≡ a) × (next r u b ≡ v)
+IsLastNode-snoc {r} rule w a v h =
+    let p : IsLongerPreimage r w a h.x = IsPreimage-snoc rule w a h.x h.preimage in
+    let at : IsLastNode r w (value r.states (drop (length w) p.front)) = IsLastNode-preimage p.preimage in (
+      value r.states (drop (length w) p.front),
+      p.letter,
+      IsLastNode-below at,
+      p.within,
+      at,
+      sym (local_map-label r (drop (length w) p.front) p.letter) ∙ p.gives,
+      sym (value-next rule (length w) p.front p.letter p.preimage.word p.preimage.long p.within)
+          ∙ ap (λ n. value r.states (drop n (p.front ++ p.letter ∷ []))) (sym (length_push w a))
+          ∙ ap (λ y. value r.states (drop (length (w ++ a ∷ [])) y)) (sym p.splits)
+          ∙ h.last,
+    )

@@ -1,0 +1,126 @@
+-- Sets of last nodes, step by step, and what closed families of them say of surjectivity.
+use Rattle.std.proofs.Common.{◌≡◌, ℕ, zero, suc, ◌-◌, ◌*◌, ◌^◌, ◌<◌, ◌≤◌, ◌↔◌, List, [], ◌∷◌, ◌++◌, length, take, drop, get_or, Contains, IsBitSet, bit_and, ◌/◌, ◌%◌, zero-mul, pow-suc, refl, sym, ap, ◌∙◌, subst, arith, ⊎_elim}
+use Rattle.std.proofs.lemmas.Bool.{cases_eq}
+use Rattle.std.proofs.lemmas.Nat.{pow_pos, leading_top, le-div, div_below}
+use Rattle.std.proofs.lemmas.List.{nil_from_length, length-take-le}
+use Rattle.std.proofs.lemmas.Nat.Bits.{bit_at_ones, bit_at-zero, same_from_bits_below, and_pow, bit_at-lt}
+use Rattle.std.proofs.lemmas.List.Elements.{All-nil, All-push, All-take}
+use Rattle.std.specs.Int.{bit_at}
+use Rattle.word_image.specs.LocalRules.{LocalRule, IsRule, IsWord, value, node_count}
+use Rattle.word_image.specs.Words.{IsPreimage, IsOrphan, IsSurjective}
+use Rattle.word_image.specs.Graphs.{IsStep}
+use Rattle.word_image.specs.Ranks.{IsLastNode, IsLastSet}
+use Rattle.word_image.proofs.laws.LastNodes.{IsLastNode-empty, IsLastNode-preimage, IsLastNode-below, IsLastNode-push, IsLastNode-snoc}
+use Rattle.word_image.proofs.laws.Words.{split_last}
+
+-- a bit that is set is 1
+pub bit_at-IsBitSet : (n i : ℕ) → IsBitSet n i ↔ (bit_at n i ≡ 1)
+bit_at-IsBitSet n i = (
+  (λ some. ⊎_elim (λ e. e)
+      (λ no. absurd (some (let zeroth : bit_at n i ≡ 0 = omega (arith, bit_at-lt n i) in and_pow n i ∙ ap (λ b. b * 2 ^ i) zeroth ∙ zero-mul (2 ^ i))))
+      (cases_eq (bit_at n i) 1)),
+  (λ e none. let same : bit_and n (2 ^ i) ≡ 1 * 2 ^ i = and_pow n i ∙ ap (λ b. b * 2 ^ i) e in omega (arith, pow_pos i)),
+)
+
+-- two numbers below 2 ^ n with the same bits are equal
+pub same_from_bits_set : (n a b : ℕ) → a < 2 ^ n → b < 2 ^ n → ((i : ℕ) → i < n → (IsBitSet a i ↔ IsBitSet b i)) → a ≡ b
+same_from_bits_set n a b h g e = same_from_bits_below n a b h g (λ i l.
+    ⊎_elim
+    (λ one. one ∙ sym ((bit_at-IsBitSet b i).0 ((e i l).0 ((bit_at-IsBitSet a i).1 one))))
+    (λ no. ⊎_elim
+    (λ one. absurd (no ((bit_at-IsBitSet a i).0 ((e i l).1 ((bit_at-IsBitSet b i).1 one)))))
+    (λ none. omega (arith, bit_at-lt a i, bit_at-lt b i))
+    (cases_eq (bit_at b i) 1))
+    (cases_eq (bit_at a i) 1))
+
+-- a number that is not 0 has a bit
+pub IsBitSet-some : (n a : ℕ) → a < 2 ^ n → ¬ (a ≡ 0) → (i : ℕ) × (i < n) × IsBitSet a i
+IsBitSet-some n a h ne =
+    let top = leading_top n a (omega arith) h in
+    let power : 2 ^ suc top.0 ≡ 2 ^ top.0 * 2 = pow-suc 2 top.0 in
+    let least : 1 ≤ a / 2 ^ top.0 = le-div 1 a (2 ^ top.0) (pow_pos top.0) (omega arith) in
+    let most : a / 2 ^ top.0 < 2 = div_below a (2 ^ top.0) 2 (pow_pos top.0) (omega arith) in
+    let one : a / 2 ^ top.0 ≡ 1 = omega arith in
+    (top.0, omega arith, (bit_at-IsBitSet a top.0).1 (ap (λ q. q % 2) one))
+
+-- every node is a last node of the empty word
+pub IsLastSet-full : (r : LocalRule) → IsLastSet r [] (2 ^ node_count r - 1)
+IsLastSet-full r =
+    record {
+      word = All-nil (λ a. a < r.states);
+      within = omega (arith, pow_pos (node_count r));
+      nodes = λ u l. ((λ _. IsLastNode-empty r u l), (λ _. (bit_at-IsBitSet (2 ^ node_count r - 1) u).1 (bit_at_ones (node_count r) u l)));
+    }
+
+-- a step leads from the last nodes of w to those of w a
+pub IsLastSet-step : {r : LocalRule} {w : List ℕ} {set a after : ℕ} → IsRule r → IsLastSet r w set → a < r.states → IsStep r set a after → IsLastSet r (w ++ a ∷ []) after
+IsLastSet-step {r} {w} {set} {a} {after} rule h l s =
+    record {
+      word = All-push (λ b. b < r.states) w a h.word l;
+      within = s.within;
+      nodes = λ v below. (
+        (λ bit. let edge = (s.nodes v below).0 bit in IsLastNode-push rule ((h.nodes edge.0 edge.2).0 edge.4) a edge.1 v edge.3 edge.5 edge.6),
+        (λ last. let edge = IsLastNode-snoc rule w a v last in
+            (s.nodes v below).1 (edge.0, edge.1, edge.2, edge.3, (h.nodes edge.0 edge.2).1 edge.4, edge.5, edge.6)),
+      );
+    }
+
+-- a word with no last node is an orphan
+pub IsOrphan-empty_set : {r : LocalRule} {w : List ℕ} → IsLastSet r w 0 → IsOrphan r w
+IsOrphan-empty_set {r} {w} h =
+    record {
+      word = h.word;
+      none = λ x p.
+          let u : ℕ = value r.states (drop (length w) x) in
+          let last : IsLastNode r w u = IsLastNode-preimage p in
+          let one : bit_at 0 u ≡ 1 = (bit_at-IsBitSet 0 u).0 ((h.nodes u (IsLastNode-below last)).1 last) in
+          omega (arith, bit_at-zero u);
+    }
+
+-- a word whose set of last nodes is not empty has a preimage
+pub IsPreimage-nonempty_set : {r : LocalRule} {w : List ℕ} {set : ℕ} → IsLastSet r w set → ¬ (set ≡ 0) → (x : List ℕ) × IsPreimage r w x
+IsPreimage-nonempty_set {r} {w} {set} h some =
+    let bit = IsBitSet-some (node_count r) set h.within some in
+    let last : IsLastNode r w bit.0 = (h.nodes bit.0 bit.1).0 bit.2 in
+    (last.x, last.preimage)
+
+-- a step gives one set
+pub IsStep-unique : {r : LocalRule} {set a s t : ℕ} → IsStep r set a s → IsStep r set a t → s ≡ t
+IsStep-unique {r} {set} {a} {s} {t} p q =
+    same_from_bits_set (node_count r) s t p.within q.within
+    (λ v l. ((λ bit. (q.nodes v l).1 ((p.nodes v l).0 bit)), (λ bit. (p.nodes v l).1 ((q.nodes v l).0 bit))))
+
+-- a word has one set of last nodes
+pub IsLastSet-unique : {r : LocalRule} {w : List ℕ} {s t : ℕ} → IsLastSet r w s → IsLastSet r w t → s ≡ t
+IsLastSet-unique {r} {w} {s} {t} p q =
+    same_from_bits_set (node_count r) s t p.within q.within
+    (λ v l. ((λ bit. (q.nodes v l).1 ((p.nodes v l).0 bit)), (λ bit. (p.nodes v l).1 ((q.nodes v l).0 bit))))
+
+-- each step from a set of the list leads to a set of the list
+pub record IsClosedUnderSteps (r : LocalRule) (sets : List ℕ) : Type 0 where
+  pub step : (set a : ℕ) → Contains sets set → a < r.states → (after : ℕ) × IsStep r set a after × Contains sets after
+
+-- `IsLastSet-closed` at the words of n letters
+last_set_of_length : {r : LocalRule} {sets : List ℕ} → IsRule r → Contains sets (2 ^ node_count r - 1) → IsClosedUnderSteps r sets
+    → (n : ℕ) (w : List ℕ) → length w ≡ n → IsWord r.states w → (set : ℕ) × IsLastSet r w set × Contains sets set
+last_set_of_length {r} {sets} rule full closed zero w e h =
+    subst (λ v. (set : ℕ) × IsLastSet r v set × Contains sets set) (sym (nil_from_length w e)) (2 ^ node_count r - 1, IsLastSet-full r, full)
+last_set_of_length {r} {sets} rule full closed (suc n) w e h =
+    let front : List ℕ = take (length w - 1) w in
+    let a : ℕ = get_or w (length w - 1) 0 in
+    let split : w ≡ front ++ a ∷ [] = split_last w (omega arith) in
+    let letter : a < r.states = h (length w - 1) 0 (omega arith) in
+    let before = last_set_of_length rule full closed n front (omega (arith, length-take-le (length w - 1) w (omega arith))) (All-take (λ b. b < r.states) (length w - 1) w h) in
+    let after = closed.step before.0 a before.2 letter in
+    subst (λ v. (set : ℕ) × IsLastSet r v set × Contains sets set) (sym split) (after.0, IsLastSet-step {set = before.0} {after = after.0} rule before.1 letter after.1, after.2)
+
+-- the last nodes of each word are a set of a list that has the full set and is closed under steps
+pub IsLastSet-closed : {r : LocalRule} {sets : List ℕ} → IsRule r → Contains sets (2 ^ node_count r - 1) → IsClosedUnderSteps r sets
+    → (w : List ℕ) → IsWord r.states w → (set : ℕ) × IsLastSet r w set × Contains sets set
+IsLastSet-closed {r} {sets} rule full closed w h = last_set_of_length rule full closed (length w) w refl h
+
+-- a rule is surjective if such a list has no empty set
+pub IsSurjective-closed : {r : LocalRule} {sets : List ℕ} → IsRule r → Contains sets (2 ^ node_count r - 1) → ¬ (Contains sets 0) → IsClosedUnderSteps r sets → IsSurjective r
+IsSurjective-closed {r} {sets} rule full nonempty closed w h =
+    let s = IsLastSet-closed rule full closed w h in
+    IsPreimage-nonempty_set s.1 (λ e. nonempty (subst (λ n. Contains sets n) e s.2))

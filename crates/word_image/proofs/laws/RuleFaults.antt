@@ -1,0 +1,48 @@
+-- No limit is broken exactly where the rule is accepted.
+use Rattle.std.proofs.Common.{◌≡◌, ℕ, suc, ap, pow-suc, mul-le-mul, ◌*◌, ◌-◌, ◌^◌, ◌<◌, ◌≤◌, List, length, leb, None, ℤ, arith}
+use Rattle.std.proofs.lemmas.Bool.Decides.{nat_tests}
+use Rattle.std.proofs.lemmas.Int.{ints}
+use Rattle.std.specs.List.{position_or_len}
+use Rattle.std.proofs.lemmas.List.Sums.{position_or_len_is, fails_before_first}
+use Rattle.std.proofs.lemmas.List.Elements.{All-from_get_or}
+use Rattle.word_image.specs.LocalRules.{IsWord, IsShape}
+use Rattle.word_image.specs.RuleFaults.{shape_fault, table_fault}
+
+pub IsShape-shape_fault : (k m : ℕ) (o : ℤ) → shape_fault k m o ≡ None → IsShape k m o
+IsShape-shape_fault k m o none = record {
+  least_states = grind (arith, nat_tests);
+  most_states = grind (arith, nat_tests);
+  least_width = grind (arith, nat_tests);
+  most_width = grind (arith, nat_tests);
+  most_nodes = grind (arith, nat_tests);
+  least_offset = grind (arith, ints);
+  most_offset = grind (arith, ints);
+}
+
+pub shape_fault-IsShape : (k m : ℕ) (o : ℤ) → IsShape k m o → shape_fault k m o ≡ None
+shape_fault-IsShape k m o shape = grind (arith, nat_tests, ints)
+
+-- where no letter has a fault, each is a letter
+no_fault_before : (k : ℕ) (table : List ℕ) → length table ≤ position_or_len (λ a. leb k a) table → IsWord k table
+no_fault_before k table none =
+    All-from_get_or (λ a. a < k) table 0 (λ i h. grind (arith, nat_tests, fails_before_first (λ a. leb k a) table i 0 (omega arith)))
+
+pub IsWord-table_fault : (k m : ℕ) (table : List ℕ) → table_fault k m table ≡ None → (length table ≡ k ^ m) × IsWord k table
+IsWord-table_fault k m table none =
+    let past : length table ≤ position_or_len (λ a. leb k a) table = grind (arith, nat_tests) in
+    let long : length table ≡ k ^ m = grind (arith, nat_tests) in
+    (long, no_fault_before k table past)
+
+pub table_fault-IsWord : (k m : ℕ) (table : List ℕ) → length table ≡ k ^ m → IsWord k table → table_fault k m table ≡ None
+table_fault-IsWord k m table long word =
+    let none : position_or_len (λ a. leb k a) table ≡ length table =
+    position_or_len_is (λ a. leb k a) table (length table) 0 (omega arith) (λ i h. grind (arith, nat_tests, word i 0 h)) (λ h. absurd (omega arith)) in
+    grind (arith, nat_tests)
+
+-- an accepted shape has at most 256 windows
+pub window_count-le : (k m : ℕ) (o : ℤ) → IsShape k m o → k ^ m ≤ 256
+window_count-le k m o shape =
+    let split : k ^ suc (m - 1) ≡ k ^ (m - 1) * k = pow-suc k (m - 1) in
+    let whole : k ^ m ≡ k ^ suc (m - 1) = let e : m ≡ suc (m - 1) = omega arith in ap (λ j. k ^ j) e in
+    let few : k ^ (m - 1) * k ≤ 16 * 16 = mul-le-mul shape.most_nodes shape.most_states in
+    omega arith

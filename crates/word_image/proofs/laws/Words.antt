@@ -1,0 +1,116 @@
+-- Images and preimages, one letter at a time.
+use Rattle.std.proofs.Common.{◌≡◌, ℕ, ◌+◌, ◌-◌, ◌<◌, ◌≤◌, List, [], ◌∷◌, ◌++◌, length, map, take, drop, get_or, slice_index, slice_range, refl, sym, ap, ap₂, ◌∙◌, ⊎_elim, arith, length-append, length-drop}
+use Rattle.std.specs.List.{range_with_len}
+use Rattle.std.proofs.lemmas.Bool.{cases_lt}
+use Rattle.std.proofs.lemmas.List.{length_push, length-take-le, same_from_push, nil_from_length, drop-append-le, take-append-le, take_all, take_more, drop_at, get_or_past, get_or_append_left}
+use Rattle.std.proofs.lemmas.List.FromFn.{length-map-range_with_len, get_or-map-range_with_len, map-range_with_len_more, fill_by_all}
+use Rattle.std.proofs.lemmas.List.Elements.{All-push, All-take, All-drop, All-same, All-map}
+use Rattle.word_image.specs.LocalRules.{LocalRule, IsRule, IsWord, local_map}
+use Rattle.word_image.specs.Words.{image, IsPreimage}
+
+-- a list that is not empty is its front and its last element
+pub split_last : (y : List ℕ) → 0 < length y → y ≡ take (length y - 1) y ++ get_or y (length y - 1) 0 ∷ []
+split_last y h =
+    let all : take (length y - 1 + 1) y ≡ y = take_all (length y - 1 + 1) y (omega arith) in
+    sym all ∙ take_more y (length y - 1) 0 (omega arith)
+
+-- the front of a word is a word
+pub IsWord-append_left : (k : ℕ) (x y : List ℕ) → IsWord k (x ++ y) → IsWord k x
+IsWord-append_left k x y h = λ i d l.
+    let letter : get_or (x ++ y) i d < k = h i d (omega (arith, length-append x y)) in
+    let same : get_or (x ++ y) i d ≡ get_or x i d = get_or_append_left x y d i l in
+    omega arith
+
+-- the end of a word is a word
+pub IsWord-append_right : (k : ℕ) (x y : List ℕ) → IsWord k (x ++ y) → IsWord k y
+IsWord-append_right k x y h = All-same (λ a. a < k) y (drop (length x) (x ++ y)) (sym (drop_at x y (length x) refl)) (All-drop (λ a. a < k) (length x) (x ++ y) h)
+
+-- what the table holds is a letter
+pub entry-below : {r : LocalRule} → IsRule r → (v : ℕ) → slice_index r.table v < r.states
+entry-below {r} rule v =
+    ⊎_elim (λ l. rule.letters v 0 l)
+    (λ l. let past : get_or r.table v 0 ≡ 0 = get_or_past r.table v 0 l in omega arith)
+    (cases_lt v (length r.table))
+
+-- an image is a word
+pub IsWord-image : {r : LocalRule} → IsRule r → (x : List ℕ) → IsWord r.states (image r x)
+IsWord-image {r} rule x =
+    All-map (λ a. a < r.states) (λ i. local_map r (slice_range x i (i + r.width))) (range_with_len 0 (length x - (r.width - 1)))
+    (λ i d l. entry-below rule _)
+
+-- an image has m - 1 letters fewer
+pub length-image : (r : LocalRule) (x : List ℕ) → length (image r x) ≡ length x - (r.width - 1)
+length-image r x = length-map-range_with_len (λ i. local_map r (slice_range x i (i + r.width))) 0 (length x - (r.width - 1))
+
+-- a word with no window has the empty image
+pub image-short : (r : LocalRule) (x : List ℕ) → length x ≤ r.width - 1 → image r x ≡ []
+image-short r x h = nil_from_length (image r x) (omega (arith, length-image r x))
+
+-- one more letter at the end of a word is one more letter at the end of its image
+pub image-snoc : {r : LocalRule} → IsRule r → (x : List ℕ) (a : ℕ) → r.width - 1 ≤ length x
+    → image r (x ++ a ∷ []) ≡ image r x ++ local_map r (drop (length x - (r.width - 1)) x ++ a ∷ []) ∷ []
+image-snoc {r} rule x a h =
+    let n : ℕ = length x - (r.width - 1) in
+    let more : length (x ++ a ∷ []) - (r.width - 1) ≡ n + 1 = omega (arith, length_push x a) in
+    let new : ℕ → ℕ = λ i. local_map r (slice_range (x ++ a ∷ []) i (i + r.width)) in
+    let old : ℕ → ℕ = λ i. local_map r (slice_range x i (i + r.width)) in
+    let window : (i : ℕ) → i + r.width ≤ length x → slice_range (x ++ a ∷ []) i (i + r.width) ≡ slice_range x i (i + r.width) = λ i l.
+    ap (take (i + r.width - i)) (drop-append-le i x (a ∷ []) (omega arith))
+    ∙ take-append-le (i + r.width - i) (drop i x) (a ∷ []) (omega (arith, length-drop i x)) in
+    let front : image r x ≡ map new (range_with_len 0 n) = fill_by_all new (image r x) n 0 (length-image r x)
+    (λ i l. get_or-map-range_with_len old 0 n i i 0 l (omega arith) ∙ ap (local_map r) (sym (window i (omega arith)))) in
+    let last : slice_range (x ++ a ∷ []) n (n + r.width) ≡ drop n x ++ a ∷ [] =
+    ap (take (n + r.width - n)) (drop-append-le n x (a ∷ []) (omega arith))
+    ∙ take_all (n + r.width - n) (drop n x ++ a ∷ []) (omega (arith, length_push (drop n x) a, length-drop n x)) in
+    ap (λ j. map new (range_with_len 0 j)) more
+    ∙ map-range_with_len_more new 0 n n (omega arith)
+    ∙ ap₂ (λ (u : List ℕ) (c : ℕ). u ++ c ∷ []) (sym front) (ap (local_map r) last)
+
+-- each word of m - 1 letters is a preimage of the empty word
+pub IsPreimage-empty : (r : LocalRule) (x : List ℕ) → IsWord r.states x → length x ≡ r.width - 1 → IsPreimage r [] x
+IsPreimage-empty r x h e = record { word = h; long = omega arith; maps = image-short r x (omega arith) }
+
+-- the preimages of the empty word have m - 1 letters
+pub length-preimage_empty : {r : LocalRule} {x : List ℕ} → IsPreimage r [] x → length x ≡ r.width - 1
+length-preimage_empty p = let long = p.long in omega arith
+
+-- y is a preimage of w and one more letter, and its last window gives a
+pub record IsLongerPreimage (r : LocalRule) (w : List ℕ) (a : ℕ) (y : List ℕ) : Type 0 where
+  pub front : List ℕ
+  pub letter : ℕ
+  pub splits : y ≡ front ++ letter ∷ []
+  pub preimage : IsPreimage r w front
+  pub within : letter < r.states
+  pub gives : local_map r (drop (length w) front ++ letter ∷ []) ≡ a
+
+-- a preimage of a longer word is a preimage of the word and one more letter
+pub IsPreimage-snoc : {r : LocalRule} → IsRule r → (w : List ℕ) (a : ℕ) (y : List ℕ) → IsPreimage r (w ++ a ∷ []) y → IsLongerPreimage r w a y
+IsPreimage-snoc {r} rule w a y p =
+    let n : ℕ = length y - 1 in
+    let long : length y ≡ length w + 1 + (r.width - 1) = p.long ∙ ap (λ j. j + (r.width - 1)) (length_push w a) in
+    let splits : y ≡ take n y ++ get_or y n 0 ∷ [] = split_last y (omega arith) in
+    let front_long : length (take n y) ≡ n = length-take-le n y (omega arith) in
+    let start : length (take n y) - (r.width - 1) ≡ length w = omega arith in
+    let ends : image r (take n y) ++ local_map r (drop (length (take n y) - (r.width - 1)) (take n y) ++ get_or y n 0 ∷ []) ∷ [] ≡ w ++ a ∷ [] =
+    sym (image-snoc rule (take n y) (get_or y n 0) (omega arith)) ∙ ap (image r) (sym splits) ∙ p.maps in
+    let parts : (image r (take n y) ≡ w) × (local_map r (drop (length (take n y) - (r.width - 1)) (take n y) ++ get_or y n 0 ∷ []) ≡ a) = same_from_push _ _ _ _ ends in
+    record {
+      front = take n y;
+      letter = get_or y n 0;
+      splits = splits;
+      preimage = record { word = All-take (λ b. b < r.states) n y p.word; long = omega arith; maps = parts.0 };
+      within = p.word n 0 (omega arith);
+      gives = ap (λ i. local_map r (drop i (take n y) ++ get_or y n 0 ∷ [])) (sym start) ∙ parts.1;
+    }
+
+-- a preimage of a word and one more letter, whose last window gives a, is a preimage of the longer word
+pub IsPreimage-push : {r : LocalRule} {w x : List ℕ} → IsRule r → IsPreimage r w x → (a b : ℕ) → b < r.states
+    → local_map r (drop (length w) x ++ b ∷ []) ≡ a → IsPreimage r (w ++ a ∷ []) (x ++ b ∷ [])
+IsPreimage-push {r} {w} {x} rule p a b l e =
+    let start : length x - (r.width - 1) ≡ length w = let long = p.long in omega arith in
+    record {
+      word = All-push (λ c. c < r.states) x b p.word l;
+      long = let long = p.long in omega (arith, length_push x b, length_push w a);
+      maps = image-snoc rule x b (let long = p.long in omega arith)
+          ∙ ap₂ (λ (u : List ℕ) (c : ℕ). u ++ c ∷ []) p.maps (ap (λ i. local_map r (drop i x ++ b ∷ [])) start ∙ e);
+    }

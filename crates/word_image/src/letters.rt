@@ -1,0 +1,14 @@
+ghost use Rattle.std.specs.Prelude.{◌≡◌, ◌<◌};
+ghost use Rattle.word_image.specs.Digits.{lower_digit};
+
+/// The ASCII byte of the lower-case hexadecimal digit of a letter below 16.
+pub fn digit(letter: u8) -> u8
+    requires { letter < 16 }
+    ensures { result ≡ lower_digit letter }
+{
+    if letter < 10 {
+        b'0' + letter
+    } else {
+        b'a' + (letter - 10)
+    }
+}

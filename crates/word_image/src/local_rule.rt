@@ -1,0 +1,207 @@
+ghost use Rattle.std.specs.Prelude.{◌≡◌, ℕ, ◌-◌, ◌^◌, ◌<◌, ◌≤◌, ◌↔◌, length, slice_index, IfOk, IfSome, IsOk};
+ghost use Rattle.std.specs.Result.{result_err};
+
+use std::marker::Model;
+
+/// The most letters that a table has: 16 states at width 2.
+const ROOM: usize = 256;
+
+/// Which limit of an accepted rule is broken.
+#[derive(Clone, Copy, Debug, PartialEq, Eq)]
+pub enum RuleFault {
+    /// There are not 2 to 16 states.
+    States,
+    /// The width is not 2 to 5.
+    Width,
+    /// There are more than 16 words of m - 1 letters.
+    Nodes,
+    /// A window reaches further than 16 cells to the left or to the right.
+    Offset,
+    /// The table has not one letter for each window.
+    Length,
+    /// The letter at this place of the table, the first such one, is not below k.
+    Letter(u16),
+}
+
+/// An accepted local rule, as `LocalRule` says it: its states, width, offset and table.
+#[derive(Clone, Copy, Debug, PartialEq, Eq)]
+pub struct Rule {
+    k: u8,
+    m: u8,
+    o: i8,
+    // The letters of the table, and zeros behind them.
+    entries: [u8; ROOM],
+}
+
+impl Model for Rule {
+    ghost use Rattle.std.specs.Prelude.{◌≡◌, ◌^◌, ◌-◌, length, take, drop, replicate};
+    ghost use Rattle.word_image.specs.LocalRules.{LocalRule, IsRule};
+    ghost use Rattle.word_image.specs.Storage.{padded, padded-take};
+
+    ghost Value = { LocalRule };
+
+    ghost view = { λ r. record { states = r.k; width = r.m; offset = r.o; table = take (r.k ^ r.m) r.entries } };
+
+    ghost invariant = { λ r. IsRule (record { states = r.k; width = r.m; offset = r.o; table = take (r.k ^ r.m) r.entries })
+        × (drop (r.k ^ r.m) r.entries ≡ replicate (256 - r.k ^ r.m) 0) };
+
+    ghost inverse = { λ v. record { k = v.states; m = v.width; o = v.offset; entries = padded v.table } };
+
+    ghost inverse_ok = { λ r h i. record {
+      k = r.k;
+      m = r.m;
+      o = r.o;
+      entries = padded-take (r.k ^ r.m) r.entries h.0.entries h.1 i;
+    } };
+}
+
+impl Rule {
+    ghost use Rattle.word_image.specs.LocalRules.{LocalRule, IsRule, IsWord, local_map, node_count};
+    ghost use Rattle.word_image.specs.RuleFaults.{rule_fault};
+
+    /// The rule of exactly these states, width, offset and table, whose letters stand in the order
+    /// of the values of their windows; else the first fault, in the order of `RuleFault`.
+    pub fn new(k: u8, m: u8, o: i8, table: &[u8]) -> Result<Rule, RuleFault>
+        ensures rule { IfOk result (λ r. r ≡ record { states = k; width = m; offset = o; table = table.now }) }
+        ensures fault { result_err result ≡ rule_fault k m o table.now }
+        ensures accepted { IsOk result ↔ IsRule (record { states = k; width = m; offset = o; table = table.now }) }
+    {
+        check_shape(k, m, o)?;
+        check_table(k, m, table)?;
+        Ok(Rule {
+            k,
+            m,
+            o,
+            entries: in_memory(table),
+        })
+    }
+
+    /// The number of states k, from 2 to 16.
+    pub fn k(&self) -> u8
+        ensures states { result ≡ self.now.states }
+        ensures rule { IsRule self.now }
+    {
+        self.k
+    }
+
+    /// The width m, from 2 to 5.
+    pub fn m(&self) -> u8
+        ensures width { result ≡ self.now.width }
+        ensures rule { IsRule self.now }
+    {
+        self.m
+    }
+
+    /// The offset o, from -16 to 15.
+    pub fn o(&self) -> i8
+        ensures offset { result ≡ self.now.offset }
+        ensures rule { IsRule self.now }
+    {
+        self.o
+    }
+
+    /// How many windows there are, and so letters in the table: `k^m`, at most 256.
+    pub fn size(&self) -> u16
+        ensures size { result ≡ self.now.states ^ self.now.width }
+        ensures rule { IsRule self.now }
+    {
+        u16::from(self.k).pow(u32::from(self.m))
+    }
+
+    /// How many words of m - 1 letters there are, the nodes of the de Bruijn graph: at most 16.
+    pub fn nodes(&self) -> u8
+        ensures nodes { result ≡ node_count self.now }
+        ensures rule { IsRule self.now }
+    {
+        self.k.pow(u32::from(self.m - 1))
+    }
+
+    /// The table's letter for the window of this value, which is below `k^m`.
+    pub fn at(&self, value: u16) -> u8
+        requires { value < self.now.states ^ self.now.width }
+        ensures entry { result ≡ slice_index self.now.table value }
+        ensures letter { result < self.now.states }
+    {
+        self.entries[usize::from(value)]
+    }
+
+    /// The letter that the rule gives on a window of m letters below k.
+    pub fn apply(&self, window: &[u8]) -> u8
+        requires word { IsWord self.now.states window.now }
+        requires long { length window.now ≡ self.now.width }
+        ensures value { result ≡ local_map self.now window.now }
+        ensures letter { result < self.now.states }
+    {
+        self.at(value_of(self.k, window))
+    }
+}
+
+ghost use Rattle.std.specs.Prelude.{nat_le, position};
+ghost use Rattle.word_image.specs.LocalRules.{IsWord, value};
+ghost use Rattle.word_image.specs.RuleFaults.{shape_fault, table_fault};
+ghost use Rattle.word_image.specs.Storage.{padded};
+
+/// The letters of a table, and zeros behind them.
+fn in_memory(table: &[u8]) -> [u8; ROOM]
+    requires { length table.now ≤ 256 }
+    ensures { result ≡ padded table.now }
+{
+    let mut entries = [0; ROOM];
+    entries[..table.len()].copy_from_slice(table);
+    entries
+}
+
+/// The first fault of a shape and an offset.
+fn check_shape(k: u8, m: u8, o: i8) -> Result<(), RuleFault>
+    ensures { result_err result ≡ shape_fault k m o }
+{
+    if k < 2 || k > 16 {
+        return Err(RuleFault::States);
+    }
+    if m < 2 || m > 5 {
+        return Err(RuleFault::Width);
+    }
+    if u32::from(k).pow(u32::from(m - 1)) > 16 {
+        return Err(RuleFault::Nodes);
+    }
+    let last = i16::from(o) + i16::from(m) - 1;
+    if o < -16 || last > 16 {
+        return Err(RuleFault::Offset);
+    }
+    Ok(())
+}
+
+/// The first fault of a table, for a shape that is accepted.
+fn check_table(k: u8, m: u8, table: &[u8]) -> Result<(), RuleFault>
+    requires { k ^ m ≤ 256 }
+    ensures { result_err result ≡ table_fault k m table.now }
+{
+    if table.len() != usize::from(k).pow(u32::from(m)) {
+        return Err(RuleFault::Length);
+    }
+    match first_foreign(k, table) {
+        Some(place) => Err(RuleFault::Letter(place as u16)),
+        None => Ok(()),
+    }
+}
+
+/// The place of the first letter that is not below k.
+fn first_foreign(k: u8, word: &[u8]) -> Option<usize>
+    ensures place { result ≡ position (λ a. nat_le k a) word.now }
+    ensures within { IfSome result (λ i. i < length word.now) }
+{
+    word.iter().position(|letter| *letter >= k)
+}
+
+/// The value of a window of letters below k, of which there are few enough that it fits.
+fn value_of(k: u8, window: &[u8]) -> u16
+    requires word { IsWord k window.now }
+    requires fits { k ^ length window.now ≤ 256 }
+    ensures { result ≡ value k window.now }
+{
+    let mut value = 0;
+    for letter in window {
+        value = value * u16::from(k) + u16::from(*letter);
+    }
+    value
+}
