@@ -13,4 +13,4 @@ mod letters;
 mod local_rule;
 
 pub use letters::digit;
-pub use local_rule::{Rule, RuleFault};
+pub use local_rule::{Rule, RuleFault, check_shape};

@@ -151,8 +151,9 @@ fn in_memory(table: &[u8]) -> [u8; ROOM]
     entries
 }
 
-/// The first fault of a shape and an offset.
-fn check_shape(k: u8, m: u8, o: i8) -> Result<(), RuleFault>
+/// Whether a rule may have k states, width m and offset o; else the first of `States`, `Width`,
+/// `Nodes` and `Offset` that holds.
+pub fn check_shape(k: u8, m: u8, o: i8) -> Result<(), RuleFault>
     ensures { result_err result ≡ shape_fault k m o }
 {
     if k < 2 || k > 16 {
