@@ -1,47 +1,17 @@
 -- Sets of last nodes, step by step, and what closed families of them say of surjectivity.
-use Rattle.std.proofs.Common.{◌≡◌, ℕ, zero, suc, ◌-◌, ◌*◌, ◌^◌, ◌<◌, ◌≤◌, ◌↔◌, List, [], ◌∷◌, ◌++◌, length, take, drop, get_or, Contains, IsBitSet, bit_and, ◌/◌, ◌%◌, zero-mul, pow-suc, refl, sym, ap, ◌∙◌, subst, arith, ⊎_elim}
-use Rattle.std.proofs.lemmas.Bool.{cases_eq}
-use Rattle.std.proofs.lemmas.Nat.{pow_pos, leading_top, le-div, div_below}
+use Rattle.std.proofs.Common.{◌≡◌, ℕ, zero, suc, ◌-◌, ◌^◌, ◌<◌, List, [], ◌∷◌, ◌++◌, length, take, drop, get_or, Contains, refl, sym, subst, arith}
+use Rattle.std.proofs.lemmas.Nat.{pow_pos}
 use Rattle.std.proofs.lemmas.List.{nil_from_length, length-take-le}
-use Rattle.std.proofs.lemmas.Nat.Bits.{bit_at_ones, bit_at-zero, same_from_bits_below, and_pow, bit_at-lt}
+use Rattle.std.proofs.lemmas.Nat.Bits.{bit_at_ones, bit_at-zero}
 use Rattle.std.proofs.lemmas.List.Elements.{All-nil, All-push, All-take}
 use Rattle.std.specs.Int.{bit_at}
 use Rattle.word_image.specs.LocalRules.{LocalRule, IsRule, IsWord, value, node_count}
 use Rattle.word_image.specs.Words.{IsPreimage, IsOrphan, IsSurjective}
 use Rattle.word_image.specs.Graphs.{IsStep}
 use Rattle.word_image.specs.Ranks.{IsLastNode, IsLastSet}
+use Rattle.word_image.proofs.laws.Bits.{bit_at-IsBitSet, same_from_bits_set, IsBitSet-some}
 use Rattle.word_image.proofs.laws.LastNodes.{IsLastNode-empty, IsLastNode-preimage, IsLastNode-below, IsLastNode-push, IsLastNode-snoc}
 use Rattle.word_image.proofs.laws.Words.{split_last}
-
--- a bit that is set is 1
-pub bit_at-IsBitSet : (n i : ℕ) → IsBitSet n i ↔ (bit_at n i ≡ 1)
-bit_at-IsBitSet n i = (
-  (λ some. ⊎_elim (λ e. e)
-      (λ no. absurd (some (let zeroth : bit_at n i ≡ 0 = omega (arith, bit_at-lt n i) in and_pow n i ∙ ap (λ b. b * 2 ^ i) zeroth ∙ zero-mul (2 ^ i))))
-      (cases_eq (bit_at n i) 1)),
-  (λ e none. let same : bit_and n (2 ^ i) ≡ 1 * 2 ^ i = and_pow n i ∙ ap (λ b. b * 2 ^ i) e in omega (arith, pow_pos i)),
-)
-
--- two numbers below 2 ^ n with the same bits are equal
-pub same_from_bits_set : (n a b : ℕ) → a < 2 ^ n → b < 2 ^ n → ((i : ℕ) → i < n → (IsBitSet a i ↔ IsBitSet b i)) → a ≡ b
-same_from_bits_set n a b h g e = same_from_bits_below n a b h g (λ i l.
-    ⊎_elim
-    (λ one. one ∙ sym ((bit_at-IsBitSet b i).0 ((e i l).0 ((bit_at-IsBitSet a i).1 one))))
-    (λ no. ⊎_elim
-    (λ one. absurd (no ((bit_at-IsBitSet a i).0 ((e i l).1 ((bit_at-IsBitSet b i).1 one)))))
-    (λ none. omega (arith, bit_at-lt a i, bit_at-lt b i))
-    (cases_eq (bit_at b i) 1))
-    (cases_eq (bit_at a i) 1))
-
--- a number that is not 0 has a bit
-pub IsBitSet-some : (n a : ℕ) → a < 2 ^ n → ¬ (a ≡ 0) → (i : ℕ) × (i < n) × IsBitSet a i
-IsBitSet-some n a h ne =
-    let top = leading_top n a (omega arith) h in
-    let power : 2 ^ suc top.0 ≡ 2 ^ top.0 * 2 = pow-suc 2 top.0 in
-    let least : 1 ≤ a / 2 ^ top.0 = le-div 1 a (2 ^ top.0) (pow_pos top.0) (omega arith) in
-    let most : a / 2 ^ top.0 < 2 = div_below a (2 ^ top.0) 2 (pow_pos top.0) (omega arith) in
-    let one : a / 2 ^ top.0 ≡ 1 = omega arith in
-    (top.0, omega arith, (bit_at-IsBitSet a top.0).1 (ap (λ q. q % 2) one))
 
 -- every node is a last node of the empty word
 pub IsLastSet-full : (r : LocalRule) → IsLastSet r [] (2 ^ node_count r - 1)

@@ -1,0 +1,60 @@
+-- The bits of a number, as a set of the places where it has one.
+use Rattle.std.proofs.Common.{◌≡◌, ℕ, suc, ◌*◌, ◌^◌, ◌<◌, ◌≤◌, ◌↔◌, ◌⊎◌, inl, inr, IsBitSet, bit_and, bit_or, ◌/◌, ◌%◌, zero-mul, pow-suc, sym, ap, ◌∙◌, arith, ⊎_elim}
+use Rattle.std.proofs.lemmas.Bool.{cases_eq}
+use Rattle.std.proofs.lemmas.Nat.{pow_pos, leading_top, le-div, div_below}
+use Rattle.std.proofs.lemmas.Nat.Bits.{bit_at-zero, bit_at_or, bit_at-pow_same, bit_at-pow_other, same_from_bits_below, and_pow, bit_at-lt}
+use Rattle.std.specs.Int.{bit_at}
+
+-- a bit that is set is 1
+pub bit_at-IsBitSet : (n i : ℕ) → IsBitSet n i ↔ (bit_at n i ≡ 1)
+bit_at-IsBitSet n i = (
+  (λ some. ⊎_elim (λ e. e)
+      (λ no. absurd (some (let zeroth : bit_at n i ≡ 0 = omega (arith, bit_at-lt n i) in and_pow n i ∙ ap (λ b. b * 2 ^ i) zeroth ∙ zero-mul (2 ^ i))))
+      (cases_eq (bit_at n i) 1)),
+  (λ e none. let same : bit_and n (2 ^ i) ≡ 1 * 2 ^ i = and_pow n i ∙ ap (λ b. b * 2 ^ i) e in omega (arith, pow_pos i)),
+)
+
+-- two numbers below 2 ^ n with the same bits are equal
+pub same_from_bits_set : (n a b : ℕ) → a < 2 ^ n → b < 2 ^ n → ((i : ℕ) → i < n → (IsBitSet a i ↔ IsBitSet b i)) → a ≡ b
+same_from_bits_set n a b h g e = same_from_bits_below n a b h g (λ i l.
+    ⊎_elim
+    (λ one. one ∙ sym ((bit_at-IsBitSet b i).0 ((e i l).0 ((bit_at-IsBitSet a i).1 one))))
+    (λ no. ⊎_elim
+    (λ one. absurd (no ((bit_at-IsBitSet a i).0 ((e i l).1 ((bit_at-IsBitSet b i).1 one)))))
+    (λ none. omega (arith, bit_at-lt a i, bit_at-lt b i))
+    (cases_eq (bit_at b i) 1))
+    (cases_eq (bit_at a i) 1))
+
+-- a number that is not 0 has a bit
+pub IsBitSet-some : (n a : ℕ) → a < 2 ^ n → ¬ (a ≡ 0) → (i : ℕ) × (i < n) × IsBitSet a i
+IsBitSet-some n a h ne =
+    let top = leading_top n a (omega arith) h in
+    let power : 2 ^ suc top.0 ≡ 2 ^ top.0 * 2 = pow-suc 2 top.0 in
+    let least : 1 ≤ a / 2 ^ top.0 = le-div 1 a (2 ^ top.0) (pow_pos top.0) (omega arith) in
+    let most : a / 2 ^ top.0 < 2 = div_below a (2 ^ top.0) 2 (pow_pos top.0) (omega arith) in
+    let one : a / 2 ^ top.0 ≡ 1 = omega arith in
+    (top.0, omega arith, (bit_at-IsBitSet a top.0).1 (ap (λ q. q % 2) one))
+
+-- 0 is the empty set
+pub IsBitSet-zero : (i : ℕ) → ¬ IsBitSet 0 i
+IsBitSet-zero i some = let one = (bit_at-IsBitSet 0 i).0 some in let zeroth = bit_at-zero i in omega arith
+
+-- a power of two is the set of one place
+pub IsBitSet-pow : (k i : ℕ) → IsBitSet (2 ^ k) i ↔ (i ≡ k)
+IsBitSet-pow k i = (
+  (λ some. ⊎_elim (λ e. e) (λ other. let one = (bit_at-IsBitSet (2 ^ k) i).0 some in let zeroth = bit_at-pow_other k i other in absurd (omega arith)) (cases_eq i k)),
+  (λ e. (bit_at-IsBitSet (2 ^ k) i).1 (ap (bit_at (2 ^ k)) e ∙ bit_at-pow_same k)),
+)
+
+-- the union of two sets
+pub IsBitSet-or : (a b i : ℕ) → IsBitSet (bit_or a b) i ↔ (IsBitSet a i ⊎ IsBitSet b i)
+IsBitSet-or a b i = (
+  (λ some. let one = (bit_at-IsBitSet (bit_or a b) i).0 some in let both = bit_at_or a b i in
+      ⊎_elim (λ e. inl ((bit_at-IsBitSet a i).1 e))
+      (λ other. inr ((bit_at-IsBitSet b i).1 (omega (arith, bit_at-lt a i, bit_at-lt b i))))
+      (cases_eq (bit_at a i) 1)),
+  (λ either. let both = bit_at_or a b i in (bit_at-IsBitSet (bit_or a b) i).1 (⊎_elim
+      (λ some. let one = (bit_at-IsBitSet a i).0 some in omega (arith, bit_at-lt b i))
+      (λ some. let one = (bit_at-IsBitSet b i).0 some in omega (arith, bit_at-lt a i))
+      either)),
+)
