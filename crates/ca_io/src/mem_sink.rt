@@ -45,7 +45,9 @@ impl Model for MemSink {
 /// Want of memory for the room of a [`MemSink`], with the list of failing calls handed back.
 #[derive(Debug, Drop)]
 pub struct RoomRefusal {
+    /// The allocation that failed.
     pub fault: AllocError,
+    /// The list as it was passed.
     pub failing: Vec<u64>,
 }
 

@@ -42,7 +42,7 @@ impl Source for PlainSource {
     /// Gives the most bytes that `buf` has places for and that are left.
     fn read(&mut self, buf: &mut [u8]) -> Result<usize, Failed>
         ensures count { result ≡ Ok (min (length buf.old) (length self.old)) }
-        ensures given { let n = min (length buf.old) (length self.old) in
+        ensures front { let n = min (length buf.old) (length self.old) in
             buf.new ≡ take n self.old ++ drop n buf.old }
         ensures rest { self.new ≡ drop (min (length buf.old) (length self.old)) self.old }
     {

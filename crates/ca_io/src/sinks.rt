@@ -27,6 +27,7 @@ pub trait Sink {
 
 /// Writes all of `bytes`, in as many calls as the sink needs, and none for the empty output. After
 /// `Failed`, which the sink gave and has counted, a part of `bytes` is taken and not the whole.
+#[tactic(auto, using(crate::proofs::laws::Pieces::piece_steps))]
 pub fn write_all<T: Sink>(sink: &mut T, bytes: &[u8]) -> Result<(), Failed>
     ensures written { OnOk result (Appends (T.taken sink.old) (T.taken sink.new) bytes.now) }
     ensures part { OnErr result ((n : ℕ) × (n < length bytes.now)
