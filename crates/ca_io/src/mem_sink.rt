@@ -35,8 +35,14 @@ impl Model for MemSink {
 
     ghost Value = { Tray };
 
-    ghost view = { λ s. record { room = s.room; piece = s.piece; failing = s.failing.items;
-        calls = s.calls; faults = s.faults; taken = s.taken.items } };
+    ghost view = { λ s. record {
+      room = s.room;
+      piece = s.piece;
+      failing = s.failing.items;
+      calls = s.calls;
+      faults = s.faults;
+      taken = s.taken.items;
+    } };
 
     ghost invariant = { λ s. (1 ≤ s.piece) × (vec_len s.taken ≤ s.room)
         × (s.room ≤ vec_capacity s.taken) };

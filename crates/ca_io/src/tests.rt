@@ -108,7 +108,10 @@ fn std_source_reads_on_after_a_fault(rt: HostRuntime) {
 #[test]
 fn std_sink_counts_errors_of_write_and_flush_and_empty_writes(rt: HostRuntime) {
     let mut written = Vec::new(rt.alloc());
-    assert_eq!(rt; write_all(&mut StdSink::new(&mut written), b"hello"), Ok(()));
+    assert_eq!(rt;
+        write_all(&mut StdSink::new(&mut written), b"hello"),
+        Ok(())
+    );
     assert_eq!(rt; written.as_slice(), b"hello".as_slice());
 
     let mut faulty = StdSink::new(Faulty { calls: 0 });
