@@ -1,7 +1,5 @@
 //! A sink in memory that fails at calls that its maker names.
-ghost use Rattle.std.specs.Prelude.{◌≡◌, ◌<◌, ◌≤◌, ◌↔◌, Some, length, take, is_some, IsErr, IsTrue, IfOk, IfErr, OnErr};
-ghost use Rattle.std.specs.Io.{WritesAtMost};
-ghost use Rattle.std.specs.Io.KnownBytes.{WriteAppends};
+ghost use Rattle.std.specs.Prelude.{◌≡◌, ◌<◌, ◌≤◌, ◌↔◌, Some, length, take, IsErr, IsTrue, IfOk, IfErr, OnErr};
 ghost use Rattle.ca_io.specs.Faults.{CountsFaults};
 ghost use Rattle.ca_io.specs.Trays.{empty_tray, fails_next, count_to_take, after_taking, after_fault};
 
@@ -30,7 +28,7 @@ pub struct MemSink {
 }
 
 impl Model for MemSink {
-    ghost use Rattle.std.specs.Prelude.{◌≤◌, ◌<◌, ◌^◌, vec_len, vec_capacity};
+    ghost use Rattle.std.specs.Prelude.{◌≤◌, vec_len, vec_capacity};
     ghost use Rattle.ca_io.specs.Trays.{Tray};
 
     ghost Value = { Tray };

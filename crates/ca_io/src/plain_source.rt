@@ -1,8 +1,5 @@
 //! A source over bytes in memory that never fails.
-ghost use Rattle.std.specs.Prelude.{◌≡◌, ◌<◌, min, ◌++◌, Ok, Some, length, take, drop, is_some};
-ghost use Rattle.std.specs.Io.{ReadsAtMost};
-ghost use Rattle.std.specs.Io.KnownBytes.{ReadConsumes};
-ghost use Rattle.ca_io.specs.Faults.{CountsFaults};
+ghost use Rattle.std.specs.Prelude.{◌≡◌, min, ◌++◌, Some, length, take, drop};
 
 use crate::sources::{Failed, Source};
 use std::marker::Model;
