@@ -6,9 +6,9 @@
 //! [`StdSink`] stand over a reader and a writer of std and tell none.
 //!
 //! A call answers [`Failed`] only where the object's count of faults rose in it, or stands at its end
-//! `2^64 - 1`, and it has then moved no byte. So who hands a fault on can name the object that it came
-//! from. [`write_all`] is the one loop over a sink: it writes a whole output, or a part of it and a
-//! fault.
+//! `2^64 - 1`. So who hands a fault on can name the object that it came from. An object that tells its
+//! bytes has then moved none. [`write_all`] is the one loop over a sink: it writes a whole output, or
+//! a part of it before a fault.
 //!
 //! Worked by hand: a `MemSink` with room for 3 bytes, 1 in a call, whose call 1 fails, is handed `ab`,
 //! `cd`, `ef`, `g` and `h`. It answers 1, `Failed`, 1, 1 and `Failed`, since the room is used up. It

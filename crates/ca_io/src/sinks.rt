@@ -15,7 +15,8 @@ pub trait Sink {
     ghost faults: { Self → ℕ };
 
     /// Takes at least one byte from the front of `piece`, which isn't empty, and answers how many it
-    /// took. `Failed` comes only where a fault was counted, and no byte is taken then.
+    /// took. `Failed` comes only where a fault was counted, and a sink that tells its bytes has taken
+    /// none then.
     fn write(&mut self, piece: &[u8]) -> Result<usize, Failed>
         requires { 0 < length piece.now }
         ensures bound { WritesAtMost result piece.now }

@@ -4,7 +4,8 @@ ghost use Rattle.std.specs.Io.{ReadsAtMost};
 ghost use Rattle.std.specs.Io.KnownBytes.{ReadConsumes};
 ghost use Rattle.ca_io.specs.Faults.{CountsFaults};
 
-/// A call that moved no byte, and that the object's count of faults has counted.
+/// What a call answers that the object's count of faults has counted. No byte has moved, where the
+/// object tells its bytes.
 #[derive(Clone, Copy, Debug, PartialEq, Eq)]
 pub struct Failed;
 
@@ -17,8 +18,8 @@ pub trait Source {
     ghost faults: { Self → ℕ };
 
     /// Puts the next bytes at the front of `buf`, which isn't empty, and answers how many they are.
-    /// `Ok(0)` is the end of the input. `Failed` comes only where a fault was counted, and no byte is
-    /// lost then.
+    /// `Ok(0)` is the end of the input. `Failed` comes only where a fault was counted, and a source that
+    /// tells its bytes has lost none then.
     fn read(&mut self, buf: &mut [u8]) -> Result<usize, Failed>
         requires { 0 < length buf.old }
         ensures bound { ReadsAtMost result buf.new }

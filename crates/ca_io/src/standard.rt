@@ -1,6 +1,6 @@
 //! A source over a reader of std, and a sink over a writer. What the world behind them gave or got, no
 //! contract can say, so they tell no bytes.
-ghost use Rattle.std.specs.Prelude.{◌≡◌, ◌≤◌, None, take, IfOk, OnErr};
+ghost use Rattle.std.specs.Prelude.{◌≡◌, ℕ, ◌≤◌, None, length, take, IfOk, OnErr};
 ghost use Rattle.std.specs.Io.{ReadsAtMost, WritesAtMost};
 ghost use Rattle.std.specs.Io.KnownBytes.{Appends, ReadConsumes, WriteAppends};
 ghost use Rattle.ca_io.specs.Faults.{CountsFaults, count_up};
@@ -58,7 +58,7 @@ impl<R: Read> Source for StdSource<R> {
 }
 
 /// A sink over a writer, which flushes each piece. Every error of the writer is a fault, and so is a
-/// write that takes no byte.
+/// write that takes no byte. Where the flush fails, a part of the piece has reached the writer.
 #[derive(Drop)]
 pub struct StdSink<W> {
     inner: W,
@@ -94,6 +94,9 @@ impl<W: Write> Sink for StdSink<W> {
         // What this sink adds to the trait.
         ensures passed_on { IfOk result (λ n. Appends (W.contents (sink_writer self.old))
             (W.contents (sink_writer self.new)) (take n piece.now)) }
+        ensures part { OnErr result ((n : ℕ) × (n ≤ length piece.now)
+            × Appends (W.contents (sink_writer self.old)) (W.contents (sink_writer self.new))
+            (take n piece.now)) }
         ensures one_more { OnErr result (sink_faults self.new ≡ count_up (sink_faults self.old)) }
     {
         match write_and_flush(&mut self.inner, piece) {
@@ -112,6 +115,8 @@ fn write_and_flush<W: Write>(writer: &mut W, piece: &[u8]) -> io::Result<usize>
     ensures some { IfOk result (λ n. 1 ≤ n) }
     ensures bytes { IfOk result (λ n. Appends (W.contents writer.old) (W.contents writer.new)
         (take n piece.now)) }
+    ensures part { OnErr result ((n : ℕ) × (n ≤ length piece.now)
+        × Appends (W.contents writer.old) (W.contents writer.new) (take n piece.now)) }
 {
     let n = writer.write(piece)?;
     if n == 0 {
