@@ -1,0 +1,2 @@
+pub mod FaultCounts
+pub mod Pieces

@@ -1,0 +1,20 @@
+-- What a clause reads of a source or sink over a reader or writer of std.
+use Rattle.std.specs.Prelude.{ℕ}
+use Rattle.ca_io.specs.declared.standard.StdSource.{StdSource}
+use Rattle.ca_io.specs.declared.standard.StdSink.{StdSink}
+
+-- the reader behind a source
+abbrev pub source_reader : {R : Type 0} → StdSource R → R
+source_reader s = s.inner
+
+-- how many reads of a source have failed
+abbrev pub source_faults : {R : Type 0} → StdSource R → ℕ
+source_faults s = s.faults
+
+-- the writer behind a sink
+abbrev pub sink_writer : {W : Type 0} → StdSink W → W
+sink_writer s = s.inner
+
+-- how many writes of a sink have failed
+abbrev pub sink_faults : {W : Type 0} → StdSink W → ℕ
+sink_faults s = s.faults

@@ -1,0 +1,52 @@
+-- What a sink in memory holds, and what its next call does.
+use Rattle.std.specs.Prelude.{◌≡◌, refl, ℕ, ◌-◌, ◌==◌, nat_le, min, Bool, true, ◌||◌, List, [], ◌∷◌, ◌++◌, length}
+use Rattle.std.specs.List.{list_any}
+use Rattle.ca_io.specs.Faults.{count_up}
+
+-- what a sink in memory was made with, and what came of its calls so far
+pub record Tray : Type 0 where
+  -- how many bytes it takes in all
+  pub room : ℕ
+  -- how many bytes one call takes at most
+  pub piece : ℕ
+  -- the numbers of the calls that fail
+  pub failing : List ℕ
+  -- the number of the next call
+  pub calls : ℕ
+  -- how many calls have failed
+  pub faults : ℕ
+  -- the bytes taken so far
+  pub taken : List ℕ
+
+-- a tray that no call has touched
+abbrev pub empty_tray : ℕ → ℕ → List ℕ → Tray
+empty_tray room piece failing =
+    record { room = room; piece = piece; failing = failing; calls = 0; faults = 0; taken = [] }
+
+-- the number of the next call is listed, or the room is used up
+abbrev pub fails_next : Tray → Bool
+fails_next t = list_any (λ n. n == t.calls) t.failing || nat_le t.room (length t.taken)
+
+-- of so many bytes the most that the longest piece and the rest of the room allow
+abbrev pub count_to_take : Tray → ℕ → ℕ
+count_to_take t len = min len (min t.piece (t.room - length t.taken))
+
+-- the tray after a call that took these bytes
+abbrev pub after_taking : Tray → List ℕ → Tray
+after_taking t bytes = record t { calls = count_up t.calls; taken = t.taken ++ bytes }
+
+-- the tray after a call that failed
+abbrev pub after_fault : Tray → Tray
+after_fault t = record t { calls = count_up t.calls; faults = count_up t.faults }
+
+-- room for three bytes, one in a call, and the call 1 fails
+abbrev pub example : Tray
+example = empty_tray 3 1 (1 ∷ [])
+
+-- its first call takes one of two bytes
+pub count_to_take-example : count_to_take example 2 ≡ 1
+count_to_take-example = refl
+
+-- and then its next call fails
+pub fails_next-example : fails_next (after_taking example (97 ∷ [])) ≡ true
+fails_next-example = refl

@@ -1,0 +1,120 @@
+//! A sink in memory that fails at calls that its maker names.
+ghost use Rattle.std.specs.Prelude.{◌≡◌, ◌<◌, ◌≤◌, ◌↔◌, Some, length, take, IsErr, IsTrue, IfOk, IfErr, OnErr};
+ghost use Rattle.ca_io.specs.Faults.{CountsFaults};
+ghost use Rattle.ca_io.specs.Trays.{empty_tray, fails_next, count_to_take, after_taking, after_fault};
+
+use crate::sinks::Sink;
+use crate::sources::Failed;
+use std::alloc::{AllocError, Global};
+use std::marker::Model;
+
+/// A sink in memory. Its calls are numbered from 0, and from the number `2^64 - 1` on every call has
+/// that number. A call fails exactly where its number is listed or the room is used up, and else takes
+/// the most bytes that its slice, the longest piece and the rest of the room allow.
+#[derive(Drop)]
+pub struct MemSink {
+    // How many bytes it takes in all.
+    room: usize,
+    // How many bytes one call takes at most.
+    piece: usize,
+    // The numbers of the calls that fail.
+    failing: Vec<u64>,
+    // The number of the next call.
+    calls: u64,
+    // How many calls have failed.
+    faults: u64,
+    // The bytes taken so far, with places for the whole room.
+    taken: Vec<u8>,
+}
+
+impl Model for MemSink {
+    ghost use Rattle.std.specs.Prelude.{◌≤◌, vec_len, vec_capacity};
+    ghost use Rattle.ca_io.specs.Trays.{Tray};
+
+    ghost Value = { Tray };
+
+    ghost view = { λ s. record {
+      room = s.room;
+      piece = s.piece;
+      failing = s.failing.items;
+      calls = s.calls;
+      faults = s.faults;
+      taken = s.taken.items;
+    } };
+
+    ghost invariant = { λ s. (1 ≤ s.piece) × (vec_len s.taken ≤ s.room)
+        × (s.room ≤ vec_capacity s.taken) };
+}
+
+/// Want of memory for the room of a [`MemSink`], with the list of failing calls handed back.
+#[derive(Debug, Drop)]
+pub struct RoomRefusal {
+    /// The allocation that failed.
+    pub fault: AllocError,
+    /// The list as it was passed.
+    pub failing: Vec<u64>,
+}
+
+impl MemSink {
+    /// A sink that takes `room` bytes in all and at most `piece` of them, one or more, in a call, and
+    /// whose calls with the numbers in `failing` fail. It makes its room here, and no write takes
+    /// memory.
+    pub fn with_room(
+        alloc: Global,
+        room: usize,
+        piece: usize,
+        failing: Vec<u64>,
+    ) -> Result<MemSink, RoomRefusal>
+        requires { 1 ≤ piece }
+        ensures made { IfOk result (λ sink. sink ≡ empty_tray room piece failing.items) }
+        ensures refused { IfErr result (λ refusal. refusal.failing ≡ failing) }
+    {
+        match Vec::with_capacity(alloc, room) {
+            Ok(taken) => Ok(MemSink {
+                room,
+                piece,
+                failing,
+                calls: 0,
+                faults: 0,
+                taken,
+            }),
+            Err(fault) => Err(RoomRefusal { fault, failing }),
+        }
+    }
+
+    /// The bytes taken so far.
+    pub fn bytes(&self) -> &[u8]
+        ensures { result.now ≡ self.now.taken }
+    {
+        &self.taken
+    }
+}
+
+impl Sink for MemSink {
+    ghost taken = { λ s. Some s.taken };
+
+    ghost faults = { λ s. s.faults };
+
+    fn write(&mut self, piece: &[u8]) -> Result<usize, Failed>
+        requires { 0 < length piece.now }
+        ensures some { IfOk result (λ n. 1 ≤ n) }
+        ensures counted { CountsFaults self.old.faults self.new.faults result }
+
+        // What this sink adds to the trait.
+        ensures fails { IsErr result ↔ IsTrue (fails_next self.old) }
+        ensures count { IfOk result (λ n. n ≡ count_to_take self.old (length piece.now)) }
+        ensures took { IfOk result (λ n. self.new ≡ after_taking self.old (take n piece.now)) }
+        ensures failed { OnErr result (self.new ≡ after_fault self.old) }
+    {
+        let number = self.calls;
+        self.calls = number.saturating_add(1);
+        let rest = self.room - self.taken.len();
+        if rest == 0 || self.failing.contains(&number) {
+            self.faults = self.faults.saturating_add(1);
+            return Err(Failed);
+        }
+        let n = piece.len().min(self.piece.min(rest));
+        self.taken.extend_from_slice(&piece[..n]).unwrap();
+        Ok(n)
+    }
+}

@@ -1,0 +1,124 @@
+//! What no clause can say: that memory is there, and what a reader and a writer of std do.
+
+use crate::{Failed, MemSink, PlainSource, Sink, Source, StdSink, StdSource, write_all};
+use std::io;
+use std::io::{ErrorKind, Read, Write};
+use std::test::Fail;
+
+// One read into two places.
+fn next<S: Source>(source: &mut S) -> Result<([u8; 2], usize), Failed> {
+    let mut buf = [0; 2];
+    let n = source.read(&mut buf)?;
+    Ok((buf, n))
+}
+
+// A reader or writer of one byte in a call, some of whose calls go wrong. The calls are numbered from 1.
+#[derive(Drop)]
+struct Faulty {
+    calls: u8,
+}
+
+impl Read for Faulty {
+    fn read(&mut self, buf: &mut [u8]) -> io::Result<usize> {
+        self.calls = self.calls.saturating_add(1);
+        if self.calls == 2 {
+            return Err(io::Error::from(ErrorKind::BrokenPipe));
+        }
+        match buf.first_mut() {
+            Some(byte) => {
+                *byte = self.calls;
+                Ok(1)
+            }
+            None => Ok(0),
+        }
+    }
+}
+
+impl Write for Faulty {
+    fn write(&mut self, buf: &[u8]) -> io::Result<usize> {
+        self.calls = self.calls.saturating_add(1);
+        match self.calls {
+            3 => Ok(0),
+            8 => Err(io::Error::from(ErrorKind::BrokenPipe)),
+            _ => Ok(buf.len().min(1)),
+        }
+    }
+
+    fn flush(&mut self) -> io::Result<()> {
+        self.calls = self.calls.saturating_add(1);
+        if self.calls == 5 {
+            return Err(io::Error::from(ErrorKind::BrokenPipe));
+        }
+        Ok(())
+    }
+}
+
+#[test]
+fn plain_source_gives_all_and_ends(rt: HostRuntime) -> Result<(), Fail> {
+    let mut source = PlainSource::new(b"abc".to_vec(rt.alloc())?);
+    assert_eq!(rt; next(&mut source), Ok((*b"ab", 2)));
+    assert_eq!(rt; next(&mut source), Ok((*b"c\0", 1)));
+    assert_eq!(rt; next(&mut source), Ok((*b"\0\0", 0)));
+    Ok(())
+}
+
+#[test]
+fn mem_sink_fails_at_listed_calls_and_without_room(rt: HostRuntime) -> Result<(), Fail> {
+    let failing = [1u64].to_vec(rt.alloc())?;
+    let mut sink = MemSink::with_room(rt.alloc(), 3, 1, failing)?;
+    assert_eq!(rt; sink.write(b"ab"), Ok(1));
+    assert_eq!(rt; sink.write(b"cd"), Err(Failed));
+    assert_eq!(rt; sink.write(b"ef"), Ok(1));
+    assert_eq!(rt; sink.write(b"g"), Ok(1));
+    assert_eq!(rt; sink.write(b"h"), Err(Failed));
+    assert_eq!(rt; sink.bytes(), b"aeg".as_slice());
+    Ok(())
+}
+
+#[test]
+fn write_all_takes_the_whole_or_the_first_bytes(rt: HostRuntime) -> Result<(), Fail> {
+    let mut whole = MemSink::with_room(rt.alloc(), 5, 2, Vec::new(rt.alloc()))?;
+    assert_eq!(rt; write_all(&mut whole, b"hello"), Ok(()));
+    assert_eq!(rt; write_all(&mut whole, b""), Ok(()));
+    assert_eq!(rt; write_all(&mut whole, b"!"), Err(Failed));
+    assert_eq!(rt; whole.bytes(), b"hello".as_slice());
+
+    let failing = [2u64].to_vec(rt.alloc())?;
+    let mut part = MemSink::with_room(rt.alloc(), 5, 2, failing)?;
+    assert_eq!(rt; write_all(&mut part, b"hello"), Err(Failed));
+    assert_eq!(rt; part.bytes(), b"hell".as_slice());
+    assert_eq!(rt; write_all(&mut part, b"o"), Ok(()));
+    assert_eq!(rt; part.bytes(), b"hello".as_slice());
+    Ok(())
+}
+
+#[test]
+fn std_source_reads_on_after_a_fault(rt: HostRuntime) {
+    let mut source = StdSource::new(b"abc".as_slice());
+    assert_eq!(rt; next(&mut source), Ok((*b"ab", 2)));
+    assert_eq!(rt; next(&mut source), Ok((*b"c\0", 1)));
+    assert_eq!(rt; next(&mut source), Ok((*b"\0\0", 0)));
+
+    let mut faulty = StdSource::new(Faulty { calls: 0 });
+    assert_eq!(rt; next(&mut faulty), Ok(([1, 0], 1)));
+    assert_eq!(rt; next(&mut faulty), Err(Failed));
+    assert_eq!(rt; next(&mut faulty), Ok(([3, 0], 1)));
+}
+
+#[test]
+fn std_sink_counts_errors_of_write_and_flush_and_empty_writes(rt: HostRuntime) {
+    let mut written = Vec::new(rt.alloc());
+    assert_eq!(rt;
+        write_all(&mut StdSink::new(&mut written), b"hello"),
+        Ok(())
+    );
+    assert_eq!(rt; written.as_slice(), b"hello".as_slice());
+
+    let mut faulty = StdSink::new(Faulty { calls: 0 });
+    assert_eq!(rt; faulty.write(b"ab"), Ok(1));
+    assert_eq!(rt; faulty.write(b"ab"), Err(Failed), "no byte was written");
+    assert_eq!(rt; faulty.write(b"ab"), Err(Failed), "the flush failed");
+    assert_eq!(rt; faulty.write(b"ab"), Ok(1));
+    assert_eq!(rt; faulty.write(b"ab"), Err(Failed), "the write failed");
+    assert_eq!(rt; faulty.write(b"ab"), Ok(1));
+}
