@@ -1,6 +1,6 @@
 -- The sets that a search has reached, each but the first from an earlier one by a step.
-use Rattle.std.specs.Prelude.{◌≡◌, ◌≢◌, ℕ, ◌+◌, ◌-◌, ◌^◌, ◌<◌, List, [], ◌∷◌, ◌++◌, length, map, slice_get, Some, Contains, All, AllPairs, Bool, true, false}
-use Rattle.word_image.specs.LocalRules.{LocalRule, node_count}
+use Rattle.std.specs.Prelude.{◌≡◌, ◌≢◌, ℕ, ◌-◌, ◌^◌, ◌<◌, List, [], ◌∷◌, ◌++◌, length, map, slice_get, Some, Contains, All, AllPairs, Bool, true, false}
+use Rattle.word_image.specs.LocalRules.{LocalRule, IsRule, node_count}
 use Rattle.word_image.specs.Graphs.{IsStep}
 use Rattle.orphan_search.specs.declared.search.Outcome.{Outcome}
 use Rattle.orphan_search.specs.declared.search.Outcome.TheVariants.{Closed, Orphan}
@@ -27,6 +27,7 @@ pub record IsBranch (r : LocalRule) (tree : List Reached) (x : Reached) : Type 0
 
 -- the full set stands first, each other set was reached from an earlier one, and none stands twice
 pub record IsTree (r : LocalRule) (tree : List Reached) : Type 0 where
+  pub rule : IsRule r
   pub root : slice_get (sets_of tree) 0 ≡ Some (2 ^ node_count r - 1)
   pub backward : IsBackward tree
   pub branches : (i : ℕ) (x : Reached) → 0 < i → slice_get tree i ≡ Some x → IsBranch r tree x

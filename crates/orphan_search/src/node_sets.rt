@@ -1,5 +1,5 @@
 ghost use Rattle.std.specs.Prelude.{◌≡◌, ◌-◌, ◌^◌, ◌<◌};
-ghost use Rattle.word_image.specs.LocalRules.{LocalRule, node_count};
+ghost use Rattle.word_image.specs.LocalRules.{LocalRule, IsRule, node_count};
 ghost use Rattle.word_image.specs.Graphs.{IsStep};
 ghost use Rattle.orphan_search.specs.NodeSets.{IsEnds};
 
@@ -9,7 +9,8 @@ use word_image::Rule;
 
 /// The set of all nodes.
 pub fn full(rule: &Rule) -> u16
-    ensures { result ≡ 2 ^ node_count rule.now - 1 }
+    ensures set { result ≡ 2 ^ node_count rule.now - 1 }
+    ensures rule { IsRule rule.now }
 {
     u16::MAX >> (16 - rule.nodes())
 }

@@ -56,11 +56,13 @@ impl Search {
         ensures refused { OnErr result (self.new ≡ []) }
     {
         self.word.clear();
-        let outcome = explore(rule, &mut self.tree)?;
-        if outcome == Outcome::Orphan {
-            self.word = spelled(alloc, &self.tree, self.tree.len() - 1)?;
+        match explore(rule, &mut self.tree)? {
+            Outcome::Closed => Ok(Outcome::Closed),
+            Outcome::Orphan => {
+                self.word = spelled(alloc, &self.tree, self.tree.len() - 1)?;
+                Ok(Outcome::Orphan)
+            }
         }
-        Ok(outcome)
     }
 
     /// After a run that answered `Orphan` a word without a preimage, in letters below k; else empty.

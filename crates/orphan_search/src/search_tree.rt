@@ -1,4 +1,4 @@
-ghost use Rattle.std.specs.Prelude.{◌+◌, ◌<◌, ◌↔◌, length, vec_len, IsTrue, IfOk, Contains};
+ghost use Rattle.std.specs.Prelude.{◌≡◌, ◌+◌, ◌<◌, ◌↔◌, length, vec_len, IsTrue, IfOk, Any};
 ghost use Rattle.orphan_search.specs.SearchTrees.{IsTree, IsBackward, IsClosedTo, IsExpanded, IsExplored, Spells, sets_of};
 
 use crate::node_sets::{full, step};
@@ -63,7 +63,7 @@ fn expand(rule: &Rule, tree: &mut Vec<Reached>, head: usize) -> Result<bool, All
 
 /// Whether the set is in the list.
 fn is_reached(tree: &[Reached], set: u16) -> bool
-    ensures { IsTrue result ↔ Contains (sets_of tree.now) set }
+    ensures { IsTrue result ↔ Any (λ reached. reached.set ≡ set) tree.now }
 {
     tree.iter().any(|reached| reached.set == set)
 }

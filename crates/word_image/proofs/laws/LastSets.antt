@@ -94,3 +94,7 @@ pub IsSurjective-closed : {r : LocalRule} {sets : List ℕ} → IsRule r → Con
 IsSurjective-closed {r} {sets} rule full nonempty closed w h =
     let s = IsLastSet-closed rule full closed w h in
     IsPreimage-nonempty_set s.1 (λ e. nonempty (subst (λ n. Contains sets n) e s.2))
+
+-- a rule with an orphan isn't surjective
+pub IsOrphan-not_surjective : {r : LocalRule} {w : List ℕ} → IsOrphan r w → ¬ IsSurjective r
+IsOrphan-not_surjective {r} {w} orphan every = let preimage = every w orphan.word in orphan.none preimage.0 preimage.1

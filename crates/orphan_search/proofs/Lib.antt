@@ -1,0 +1,3 @@
+pub mod NodeSets
+pub mod Places
+pub mod SearchTrees
