@@ -1,0 +1,4 @@
+pub mod Texts
+pub mod FormFaults
+pub mod Decimals
+pub mod Letters

@@ -1,0 +1,59 @@
+-- A text says one thing, and has one rule or one first fault.
+use Rattle.std.proofs.Common.{◌≡◌, ℕ, List, Ok, Err, Result, refl, sym, ap, ◌∙◌, inl, inr}
+use Rattle.std.specs.Prelude.{IfOk, IfErr}
+use Rattle.std.proofs.lemmas.Bool.{cases_order}
+use Rattle.word_image.specs.LocalRules.{LocalRule}
+use Rattle.rule_text.specs.declared.text_fault.TextFault.{TextFault}
+use Rattle.rule_text.specs.declared.text_fault.TextFault.TheVariants as fault
+use Rattle.rule_text.specs.RuleTexts.{Said, Says, Bare, IsFormFault, IsRuleText, IsTextFault, NoForm, Refused, IsAnswer, fault_of, rule_of}
+
+-- the grammar gives a text one meaning
+pub Says-unique : {text : List ℕ} {s t : Said} → Says text s → Says text t → s ≡ t
+Says-unique (Bare digits h) (Bare _ g) = refl
+
+-- a text has one longest front that begins a text of the grammar
+pub IsFormFault-unique : {text : List ℕ} {p q : ℕ} → IsFormFault text p → IsFormFault text q → p ≡ q
+IsFormFault-unique {p = p} {q = q} f g =
+    elim (cases_order p q) [
+      | inl same ↦ same
+      | inr (inl less) ↦ absurd (f.longest q less g.within g.begins)
+      | inr (inr more) ↦ absurd (g.longest p more f.within f.begins)
+    ]
+
+-- a text is a text of one rule
+pub IsRuleText-unique : {text : List ℕ} {r s : LocalRule} → IsRuleText text r → IsRuleText text s → r ≡ s
+IsRuleText-unique f g = f.rule ∙ ap rule_of (Says-unique f.says g.says) ∙ sym g.rule
+
+-- a text has one first fault
+pub IsTextFault-unique : {text : List ℕ} {f g : TextFault} → IsTextFault text f → IsTextFault text g → f ≡ g
+IsTextFault-unique (NoForm p h) (NoForm q g) = ap fault.Form (IsFormFault-unique h g)
+IsTextFault-unique (NoForm p h) (Refused s f says is) = absurd (h.outside s says)
+IsTextFault-unique (Refused s f says is) (NoForm q g) = absurd (g.outside s says)
+IsTextFault-unique (Refused s f says is) (Refused t g says' is') = let same : fault_of s ≡ fault_of t = ap fault_of (Says-unique says says') in cc
+
+-- a text of a rule has no fault
+pub IsRuleText-no_fault : {text : List ℕ} {r : LocalRule} {f : TextFault} → IsRuleText text r → IsTextFault text f → ⊥
+IsRuleText-no_fault rule (NoForm p h) = h.outside rule.said rule.says
+IsRuleText-no_fault rule (Refused s f says is) = let same : fault_of rule.said ≡ fault_of s = ap fault_of (Says-unique rule.says says) in let accepted = rule.accepted in cc
+
+-- an answer to what the text says has the rule of the text
+pub IsAnswer-rule : {text : List ℕ} {s : Said} → Says text s → (a : Result LocalRule TextFault) → IsAnswer s a → IfOk a (λ r. IsRuleText text r)
+IsAnswer-rule {s = s} says (Ok r) answer = record { said = s; says = says; accepted = answer.0; rule = answer.1 }
+IsAnswer-rule says (Err f) answer = tt
+
+-- and its fault
+pub IsAnswer-fault : {text : List ℕ} {s : Said} → Says text s → (a : Result LocalRule TextFault) → IsAnswer s a → IfErr a (λ f. IsTextFault text f)
+IsAnswer-fault says (Ok r) answer = tt
+IsAnswer-fault {s = s} says (Err f) answer = Refused s f says answer
+
+-- a text of a rule has no other answer
+pub every_rule : (text : List ℕ) (a : Result LocalRule TextFault) → IfOk a (λ r. IsRuleText text r) → IfErr a (λ f. IsTextFault text f)
+    → (r : LocalRule) → IsRuleText text r → a ≡ Ok r
+every_rule text (Ok s) rule fault r is = ap Ok (IsRuleText-unique rule is)
+every_rule text (Err f) rule fault r is = absurd (IsRuleText-no_fault is fault)
+
+-- nor has a text with a fault
+pub every_fault : (text : List ℕ) (a : Result LocalRule TextFault) → IfOk a (λ r. IsRuleText text r) → IfErr a (λ f. IsTextFault text f)
+    → (f : TextFault) → IsTextFault text f → a ≡ Err f
+every_fault text (Ok r) rule fault f is = absurd (IsRuleText-no_fault rule is)
+every_fault text (Err g) rule fault f is = ap Err (IsTextFault-unique fault is)
