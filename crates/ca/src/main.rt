@@ -1,0 +1,34 @@
+//! The program: hands the words of the command line, the standard input and the standard output to
+//! `ca_cli::run`, and ends with the status that it answers.
+#![tactic(auto)]
+
+use ca_cli::run;
+use ca_io::{StdSink, StdSource};
+use std::io::ErrorKind;
+use std::process::ExitCode;
+use std::rt::Env;
+use std::{env, io};
+
+/// The exit status where there is no memory for the words.
+const NO_MEMORY: u8 = 8;
+
+/// The exit status where the system doesn't give the words, as where one isn't UTF-8.
+const NO_WORDS: u8 = 9;
+
+fn main(rt: HostRuntime) -> ExitCode {
+    match words(&rt) {
+        Ok(words) => {
+            let mut source = StdSource::new(rt.stdin());
+            let mut sink = StdSink::new(rt.stdout());
+            let status = run(rt.alloc(), &words, &mut source, &mut sink);
+            ExitCode::from(status.code())
+        }
+        Err(fault) if fault.kind() == ErrorKind::OutOfMemory => ExitCode::from(NO_MEMORY),
+        Err(_) => ExitCode::from(NO_WORDS),
+    }
+}
+
+/// The words of the command line without the program's name.
+fn words(rt: &(impl Env + AllocGlobal)) -> io::Result<Vec<String>> {
+    Ok(env::args(rt)?.skip(1).collect(rt.alloc())?)
+}

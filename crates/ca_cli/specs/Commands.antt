@@ -1,0 +1,19 @@
+-- The commands of the program, and the words of each.
+use Rattle.std.specs.Prelude.{ℕ, List, [], ◌∷◌, codes}
+use Rattle.ca_cli.specs.declared.request.Request.{Request}
+use Rattle.ca_cli.specs.declared.request.Request.TheVariants as request
+
+-- an operand is any word
+pub data Command : Type 0 where
+  Orphan : (rule : List ℕ) → Command
+
+abbrev pub words_of : Command → List (List ℕ)
+words_of (Orphan rule) = codes "orphan" ∷ rule ∷ []
+
+-- the operand that is to be a rule text
+abbrev pub rule_of : Command → List ℕ
+rule_of (Orphan rule) = rule
+
+-- the command of a request
+abbrev pub command_of : Request → Command
+command_of (request.Orphan rule) = Orphan rule.now

@@ -1,0 +1,5 @@
+pub mod Statuses
+pub mod Commands
+pub mod Lines
+pub mod Reports
+pub mod Answers

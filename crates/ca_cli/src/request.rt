@@ -1,0 +1,23 @@
+ghost use Rattle.std.specs.Prelude.{◌≡◌, ◌≢◌, map, MatchOption, string_bytes};
+ghost use Rattle.ca_cli.specs.Commands.{Command, words_of, command_of};
+
+/// What the words ask for: a command, with its operands as they stand on the command line.
+#[derive(Clone, Copy, Debug)]
+pub enum Request<'a> {
+    /// `orphan R`: whether the rule is surjective, with an orphan where it isn't.
+    Orphan(&'a [u8]),
+}
+
+impl<'a> Request<'a> {
+    /// The request that the words are, if they are a command.
+    pub fn of(words: &'a [String]) -> Option<Request<'a>>
+        ensures { MatchOption result
+            ((c : Command) → map string_bytes words.now ≢ words_of c)
+            (λ request. map string_bytes words.now ≡ words_of (command_of request)) }
+    {
+        match words {
+            [name, rule] if name.as_str() == "orphan" => Some(Request::Orphan(rule.as_bytes())),
+            _ => None,
+        }
+    }
+}
