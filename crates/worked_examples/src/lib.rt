@@ -1,0 +1,10 @@
+//! Tests that cross the crates: each hands words to [`ca_cli::run`] over objects in memory, and
+//! compares the status and what the sink has taken with values from outside.
+#![tactic(auto)]
+
+#[cfg(test)]
+mod faulty_sinks;
+#[cfg(test)]
+mod orphans;
+#[cfg(test)]
+mod top_call;

@@ -1,0 +1,45 @@
+//! How the tests call the program.
+ghost use Rattle.std.specs.Prelude.{◌≤◌};
+
+use ca_cli::{Status, run};
+use ca_io::{MemSink, PlainSource};
+use std::alloc::{AllocError, Global};
+
+/// What a call left: its status and the bytes that the sink has taken.
+#[derive(Drop)]
+pub struct Outcome {
+    pub status: Status,
+    pub output: MemSink,
+}
+
+/// A call with the words of this command line, one blank between two, an empty input and this sink.
+/// The empty line has no words, and a word between two blanks or behind the last is empty.
+pub fn call(alloc: Global, line: &str, sink: MemSink) -> Result<Outcome, AllocError> {
+    let mut words = Vec::new(alloc);
+    if !line.is_empty() {
+        for word in line.split(' ') {
+            words.push(String::from_str(alloc, word)?)?;
+        }
+    }
+    let mut source = PlainSource::new(Vec::new(alloc));
+    let mut output = sink;
+    let status = run(alloc, &words, &mut source, &mut output);
+    Ok(Outcome { status, output })
+}
+
+/// A sink that takes all that the program writes.
+pub fn ample(alloc: Global) -> Result<MemSink, AllocError> {
+    sink(alloc, 1 << 20, 1 << 20, Vec::new(alloc))
+}
+
+/// A sink of this room and longest piece, whose calls with these numbers fail.
+pub fn sink(
+    alloc: Global,
+    room: usize,
+    piece: usize,
+    failing: Vec<u64>,
+) -> Result<MemSink, AllocError>
+    requires { 1 ≤ piece }
+{
+    MemSink::with_room(alloc, room, piece, failing).map_err(|refusal| refusal.fault)
+}
