@@ -5,3 +5,4 @@ pub mod Ranks
 pub mod RuleFaults
 pub mod Digits
 pub mod Storage
+pub mod Examples

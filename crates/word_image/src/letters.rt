@@ -12,3 +12,15 @@ pub fn digit(letter: u8) -> u8
         b'a' + (letter - 10)
     }
 }
+
+#[cfg(test)]
+mod tests {
+    use super::*;
+
+    #[test]
+    fn the_digits_are_those_of_lower_case(rt: HostRuntime) {
+        for (letter, want) in b"0123456789abcdef".iter().enumerate() {
+            assert_eq!(rt; digit(letter as u8), *want);
+        }
+    }
+}
