@@ -1,5 +1,5 @@
 ghost use Rattle.std.specs.Prelude.{◌≡◌, ◌<◌};
-ghost use Rattle.word_image.specs.Digits.{lower_digit};
+ghost use Rattle.word_image.specs.Digits.{lower_digit, hex_value};
 
 /// The ASCII byte of the lower-case hexadecimal digit of a letter below 16.
 pub fn digit(letter: u8) -> u8
@@ -10,6 +10,18 @@ pub fn digit(letter: u8) -> u8
         b'0' + letter
     } else {
         b'a' + (letter - 10)
+    }
+}
+
+/// The value of a hexadecimal digit of either case; `None` exactly where the byte is none.
+pub fn letter(byte: u8) -> Option<u8>
+    ensures { result ≡ hex_value byte }
+{
+    match byte {
+        b'0'..=b'9' => Some(byte - b'0'),
+        b'A'..=b'F' => Some(byte - b'A' + 10),
+        b'a'..=b'f' => Some(byte - b'a' + 10),
+        _ => None,
     }
 }
 

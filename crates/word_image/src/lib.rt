@@ -9,8 +9,12 @@
 //! 0 1 1, whose value is 3.
 #![tactic(auto)]
 
+mod images;
 mod letters;
+mod lists;
 mod local_rule;
 
-pub use letters::digit;
+pub use images::{ImageFault, image};
+pub use letters::{digit, letter};
+pub use lists::{FluxRow, RankRow, SetList, Word};
 pub use local_rule::{Rule, RuleFault, check_shape};

@@ -1,5 +1,6 @@
 -- No limit is broken exactly where the rule is accepted.
 use Rattle.std.proofs.Common.{◌≡◌, ℕ, suc, ap, pow-suc, mul-le-mul, ◌*◌, ◌-◌, ◌^◌, ◌<◌, ◌≤◌, List, length, leb, None, ℤ, arith}
+use Rattle.std.specs.Prelude.{nat_le, position}
 use Rattle.std.proofs.lemmas.Bool.Decides.{nat_tests}
 use Rattle.std.proofs.lemmas.Int.{ints}
 use Rattle.std.specs.List.{position_or_len}
@@ -26,6 +27,12 @@ shape_fault-IsShape k m o shape = grind (arith, nat_tests, ints)
 no_fault_before : (k : ℕ) (table : List ℕ) → length table ≤ position_or_len (λ a. leb k a) table → IsWord k table
 no_fault_before k table none =
     All-from_get_or (λ a. a < k) table 0 (λ i h. grind (arith, nat_tests, fails_before_first (λ a. leb k a) table i 0 (omega arith)))
+
+-- a list with no letter that is not below k is a word
+pub IsWord-position : (k : ℕ) (w : List ℕ) → position (λ a. nat_le k a) w ≡ None → IsWord k w
+IsWord-position k w none =
+    let past : length w ≤ position_or_len (λ a. leb k a) w = grind (arith, nat_tests) in
+    no_fault_before k w past
 
 pub IsWord-table_fault : (k m : ℕ) (table : List ℕ) → table_fault k m table ≡ None → (length table ≡ k ^ m) × IsWord k table
 IsWord-table_fault k m table none =
