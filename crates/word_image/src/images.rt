@@ -4,7 +4,6 @@ ghost use Rattle.word_image.specs.Words.{image};
 ghost use Rattle.word_image.specs.ImageFaults.{image_fault};
 
 use crate::local_rule::{Rule, first_foreign};
-
 use std::alloc::{AllocError, Global};
 
 /// Why a word gets no image.
@@ -51,4 +50,31 @@ fn windows_image(alloc: Global, rule: &Rule, word: &[u8]) -> Result<Vec<u8>, All
         letters.push(rule.apply(&word[start..start + width]))?;
     }
     Ok(letters)
+}
+
+#[cfg(test)]
+mod tests {
+    use super::*;
+
+    #[test]
+    fn rule_110_has_these_images(rt: HostRuntime) {
+        let Ok(rule) = Rule::new(2, 3, -1, &[0, 1, 1, 1, 0, 1, 1, 0]) else {
+            return assert!(rt; false, "rule 110 is refused");
+        };
+        let cases: [(&[u8], Result<&[u8], ImageFault>); 7] = [
+            (&[0, 1, 1, 0, 0], Ok(&[1, 1, 0])),
+            (&[0, 1], Ok(&[])),
+            (&[0], Err(ImageFault::Short)),
+            (&[], Err(ImageFault::Short)),
+            (&[0, 1, 2], Err(ImageFault::Letter(2))),
+            (&[0, 3, 2, 0], Err(ImageFault::Letter(1))),
+            (&[2], Err(ImageFault::Letter(0))),
+        ];
+        for (word, want) in cases {
+            match image(rt.alloc(), &rule, word) {
+                Ok(letters) => assert_eq!(rt; Ok(letters.as_slice()), want),
+                Err(fault) => assert_eq!(rt; Err(fault), want),
+            }
+        }
+    }
 }

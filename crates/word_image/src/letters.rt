@@ -35,4 +35,15 @@ mod tests {
             assert_eq!(rt; digit(letter as u8), *want);
         }
     }
+
+    #[test]
+    fn digits_of_both_cases_are_read(rt: HostRuntime) {
+        for (value, digit) in b"0123456789abcdef".iter().enumerate() {
+            assert_eq!(rt; letter(*digit), Some(value as u8));
+            assert_eq!(rt; letter(digit.to_ascii_uppercase()), Some(value as u8));
+        }
+        for byte in b"/:@G`g " {
+            assert_eq!(rt; letter(*byte), None);
+        }
+    }
 }
