@@ -72,7 +72,7 @@ mod tests {
         ];
         for (word, want) in cases {
             match image(rt.alloc(), &rule, word) {
-                Ok(letters) => assert_eq!(rt; Ok(letters.as_slice()), want),
+                Ok(found) => assert_eq!(rt; Ok(found.as_slice()), want),
                 Err(fault) => assert_eq!(rt; Err(fault), want),
             }
         }

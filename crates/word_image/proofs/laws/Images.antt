@@ -1,13 +1,14 @@
 -- Images of parts of a word, and of a word that is read backwards.
-use Rattle.std.proofs.Common.{◌≡◌, ℕ, ◌+◌, ◌-◌, ◌^◌, ◌<◌, ◌≤◌, List, length, take, drop, reverse, get_or, slice_range, sym, ap, ap₂, subst, ◌∙◌, arith, length-drop}
+use Rattle.std.proofs.Common.{◌≡◌, ℕ, ◌+◌, ◌-◌, ◌^◌, ◌<◌, ◌≤◌, List, length, take, drop, reverse, get_or, slice_index, slice_range, ℤ, pos, ◌+ℤ◌, neg_ℤ, sym, ap, ap₂, subst, ◌∙◌, arith, length-drop}
 use Rattle.std.specs.List.{range_with_len}
-use Rattle.std.proofs.lemmas.List.{length-take, length-take-le, length-reverse, ext_get_or, get_or-take, get_or-drop, get_or-reverse, drop-drop, drop-take, take-take}
+use Rattle.std.proofs.lemmas.List.{length-take, length-take-le, length-reverse, reverse-reverse, ext_get_or, get_or-take, get_or-drop, get_or-reverse, drop-drop, drop-take, take-take}
 use Rattle.std.proofs.lemmas.List.FromFn.{length-map-range_with_len, get_or-map-range_with_len, fill_by_all}
 use Rattle.std.proofs.lemmas.List.Elements.{All-take, All-drop, All-map, All-from_get_or}
 use Rattle.std.proofs.lemmas.Int.{ints}
+use Rattle.std.proofs.Math.IntN.{neg_ℤ-+ℤ, neg_ℤ-neg_ℤ, +ℤ-neg_ℤ_cancel}
 use Rattle.word_image.specs.LocalRules.{LocalRule, IsRule, IsWord, value, word_of, local_map, mirrored}
 use Rattle.word_image.specs.Words.{image}
-use Rattle.word_image.proofs.laws.Values.{value-below, word_of-value}
+use Rattle.word_image.proofs.laws.Values.{value-below, word_of-value, length-word_of, IsWord-word_of, value-word_of}
 use Rattle.word_image.proofs.laws.Words.{length-image, entry-below}
 
 -- a letter of an image is what the rule gives on the window there
@@ -108,3 +109,20 @@ IsRule-mirrored {r} rule =
       entries = length-map-range_with_len (λ v. local_map r (reverse (word_of r.states r.width v))) 0 (r.states ^ r.width);
       letters = All-map (λ a. a < r.states) (λ v. local_map r (reverse (word_of r.states r.width v))) (range_with_len 0 (r.states ^ r.width)) (λ i d l. entry-below rule _);
     }
+
+-- mirrored twice, a rule is itself
+pub mirrored-mirrored : {r : LocalRule} → IsRule r → mirrored (mirrored r) ≡ r
+mirrored-mirrored {r} rule =
+    let back : (v : ℕ) → v < r.states ^ r.width → get_or r.table v 0 ≡ local_map (mirrored r) (reverse (word_of r.states r.width v)) = λ v l.
+    let z : List ℕ = word_of r.states r.width v in
+    let word : IsWord r.states (reverse z) = IsWord-reverse r.states z (IsWord-word_of r.states r.width v l) in
+    sym (local_map-mirrored r (reverse z) word (length-reverse z ∙ length-word_of r.states r.width v)
+    ∙ ap (local_map r) (reverse-reverse z)
+    ∙ ap (slice_index r.table) (value-word_of r.states r.width v l)) in
+    let table : r.table ≡ (mirrored (mirrored r)).table =
+    fill_by_all (λ v. local_map (mirrored r) (reverse (word_of r.states r.width v))) r.table (r.states ^ r.width) 0 rule.entries back in
+    let offset : (mirrored (mirrored r)).offset ≡ r.offset =
+    neg_ℤ-+ℤ (neg_ℤ (r.offset +ℤ pos (r.width - 1))) (pos (r.width - 1))
+    ∙ ap (λ o. o +ℤ neg_ℤ (pos (r.width - 1))) (neg_ℤ-neg_ℤ (r.offset +ℤ pos (r.width - 1)))
+    ∙ +ℤ-neg_ℤ_cancel r.offset (pos (r.width - 1)) in
+    ap₂ (λ (o : ℤ) (t : List ℕ). record { states = r.states; width = r.width; offset = o; table = t }) offset (sym table)
