@@ -13,14 +13,15 @@ use Rattle.word_image.specs.Storage.{padded}
 use Rattle.word_image.specs.declared.local_rule.RuleFault.TheVariants as fault
 use Rattle.word_image.specs.declared.images.ImageFault.TheVariants as refusal
 
+-- the text 2:3:-1:t01110110
 abbrev pub rule110 : LocalRule
 rule110 = record { states = 2; width = 3; offset = negsuc 0; table = 0 ∷ 1 ∷ 1 ∷ 1 ∷ 0 ∷ 1 ∷ 1 ∷ 0 ∷ [] }
 
--- the sum of two letters, by 3: the text 3:2:0:t012120201
-abbrev pub sum_by_three : LocalRule
-sum_by_three = record { states = 3; width = 2; offset = pos 0; table = 0 ∷ 1 ∷ 2 ∷ 1 ∷ 2 ∷ 0 ∷ 2 ∷ 0 ∷ 1 ∷ [] }
+-- the sum of two letters modulo 3: the text 3:2:0:t012120201
+abbrev pub sum_mod_three : LocalRule
+sum_mod_three = record { states = 3; width = 2; offset = pos 0; table = 0 ∷ 1 ∷ 2 ∷ 1 ∷ 2 ∷ 0 ∷ 2 ∷ 0 ∷ 1 ∷ [] }
 
--- 184 moves each 1 one cell to the right where a 0 stands there
+-- each 1 moves one cell to the right where a 0 stands there: the text 2:3:-1:t00011101
 abbrev pub rule184 : LocalRule
 rule184 = record { states = 2; width = 3; offset = negsuc 0; table = 0 ∷ 0 ∷ 0 ∷ 1 ∷ 1 ∷ 1 ∷ 0 ∷ 1 ∷ [] }
 
@@ -44,14 +45,14 @@ word_of-7 = refl
 local_map-011 : local_map rule110 (0 ∷ 1 ∷ 1 ∷ []) ≡ 1
 local_map-011 = refl
 
-local_map-21 : local_map sum_by_three (2 ∷ 1 ∷ []) ≡ 0
+local_map-21 : local_map sum_mod_three (2 ∷ 1 ∷ []) ≡ 0
 local_map-21 = refl
 
 wolfram_number-110 : wolfram_number rule110 ≡ 110
 wolfram_number-110 = refl
 
-wolfram_number-sum_by_three : wolfram_number sum_by_three ≡ 8229
-wolfram_number-sum_by_three = refl
+wolfram_number-sum_mod_three : wolfram_number sum_mod_three ≡ 8229
+wolfram_number-sum_mod_three = refl
 
 -- The mirrored rule: 110 becomes 124, and the offset of a rule that reads the cell and the one to its right becomes -1
 
@@ -61,7 +62,7 @@ mirrored-table = refl
 mirrored-number : wolfram_number (mirrored rule110) ≡ 124
 mirrored-number = refl
 
-mirrored-offset : (mirrored sum_by_three).offset ≡ negsuc 0
+mirrored-offset : (mirrored sum_mod_three).offset ≡ negsuc 0
 mirrored-offset = refl
 
 -- Images
