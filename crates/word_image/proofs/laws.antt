@@ -1,5 +1,7 @@
 pub mod Values
 pub mod Words
+pub mod Images
+pub mod Orders
 pub mod Graphs
 pub mod Bits
 pub mod LastNodes

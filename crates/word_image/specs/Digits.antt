@@ -1,6 +1,14 @@
 -- How a letter is written.
-use Rattle.std.specs.Prelude.{ℕ, ◌+◌, nat_lt, if◌then◌else◌}
+use Rattle.std.specs.Prelude.{ℕ, ◌+◌, ◌-◌, nat_lt, nat_le, ◌&&◌, if◌then◌else◌, Option, Some, None}
 
 -- the hexadecimal digit of a letter, in lower case
 abbrev pub lower_digit : ℕ → ℕ
 lower_digit a = if nat_lt a 10 then 48 + a else 87 + a
+
+-- the value of a hexadecimal digit of either case
+abbrev pub hex_value : ℕ → Option ℕ
+hex_value b =
+    if nat_le 48 b && nat_le b 57 then Some (b - 48)
+    else (if nat_le 65 b && nat_le b 70 then Some (b - 55)
+    else (if nat_le 97 b && nat_le b 102 then Some (b - 87)
+    else None))

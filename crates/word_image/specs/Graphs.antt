@@ -1,11 +1,12 @@
 -- The de Bruijn graph of a rule (Sutner 1991): a node is a word of m - 1 letters by its value, an edge a window.
-use Rattle.std.specs.Prelude.{◌≡◌, ℕ, ◌+◌, ◌*◌, ◌%◌, ◌^◌, ◌<◌, slice_index, ◌↔◌, IsBitSet}
+use Rattle.std.specs.Prelude.{◌≡◌, ℕ, ◌+◌, ◌*◌, ◌/◌, ◌%◌, ◌^◌, ◌<◌, Option, Some, None, ◌==◌, ◌||◌, not, if◌then◌else◌, slice_index, nat_le, ◌↔◌, IsBitSet}
 use Rattle.word_image.specs.LocalRules.{LocalRule, node_count}
 
--- where letter a leads from node u, and the label of that edge
+-- where letter a leads from node u: to the last m - 1 letters of their window
 abbrev pub next : LocalRule → ℕ → ℕ → ℕ
 next r u a = (u * r.states + a) % node_count r
 
+-- what the rule gives on the window of node u and letter a
 abbrev pub label : LocalRule → ℕ → ℕ → ℕ
 label r u a = slice_index r.table (u * r.states + a)
 
@@ -14,3 +15,35 @@ pub record IsStep (r : LocalRule) (set a after : ℕ) : Type 0 where
   pub within : after < 2 ^ node_count r
   pub nodes : (v : ℕ) → v < node_count r
       → (IsBitSet after v ↔ ((u : ℕ) × (b : ℕ) × (u < node_count r) × (b < r.states) × IsBitSet set u × (label r u b ≡ a) × (next r u b ≡ v)))
+
+-- the number of a pair of nodes
+abbrev pub pair_of : LocalRule → ℕ → ℕ → ℕ
+pair_of r u v = u * node_count r + v
+
+-- the first node of a pair
+abbrev pub first_of : LocalRule → ℕ → ℕ
+first_of r p = p / node_count r
+
+-- the second node of a pair
+abbrev pub second_of : LocalRule → ℕ → ℕ
+second_of r p = p % node_count r
+
+-- from a pair on letters a and b, where the two labels are equal
+abbrev pub follow : LocalRule → ℕ → ℕ → ℕ → Option ℕ
+follow r p a b =
+    if label r (first_of r p) a == label r (second_of r p) b
+    then Some (pair_of r (next r (first_of r p) a) (next r (second_of r p) b))
+    else None
+
+-- how many pairs of nodes there are
+abbrev pub pair_count : LocalRule → ℕ
+pair_count r = node_count r * node_count r
+
+-- the marked graph: a pair p with mark 0 is p, and with mark 1 it is p plus the number of pairs.
+-- The mark becomes 1 where the two letters differ, and stays 1.
+abbrev pub marked : LocalRule → ℕ → ℕ → ℕ → Option ℕ
+marked r t a b =
+    if label r (first_of r (t % pair_count r)) a == label r (second_of r (t % pair_count r)) b
+    then Some (pair_of r (next r (first_of r (t % pair_count r)) a) (next r (second_of r (t % pair_count r)) b)
+    + (if nat_le (pair_count r) t || not (a == b) then pair_count r else 0))
+    else None

@@ -1,7 +1,12 @@
 pub mod LocalRules
 pub mod Words
+pub mod Rings
+pub mod Windows
 pub mod Graphs
 pub mod Ranks
+pub mod Erasure
 pub mod RuleFaults
+pub mod ImageFaults
 pub mod Digits
 pub mod Storage
+pub mod Examples

@@ -1,7 +1,32 @@
--- The last nodes of the preimages of a word, said in words (Sutner 1991).
-use Rattle.std.specs.Prelude.{◌≡◌, ℕ, ◌^◌, ◌<◌, ◌↔◌, List, length, drop, IsBitSet}
+-- How far two nodes lead, or have been led, with equal labels, and the last nodes of the preimages of a word, said in words (Sutner 1991).
+use Rattle.std.specs.Prelude.{◌≡◌, ℕ, ◌+◌, ◌-◌, ◌^◌, ◌<◌, ◌↔◌, List, length, take, drop, IsBitSet}
 use Rattle.word_image.specs.LocalRules.{LocalRule, IsWord, value, node_count}
 use Rattle.word_image.specs.Words.{IsPreimage}
+use Rattle.word_image.specs.Windows.{HaveOneImage}
+
+-- two words of n + m - 1 letters with one image begin with the nodes u and v
+pub record BeginTogether (r : LocalRule) (u v n : ℕ) : Type 0 where
+  pub x : List ℕ
+  pub y : List ℕ
+  pub one_image : HaveOneImage r n x y
+  pub first : value r.states (take (r.width - 1) x) ≡ u
+  pub second : value r.states (take (r.width - 1) y) ≡ v
+
+-- and end with them
+pub record EndTogether (r : LocalRule) (u v n : ℕ) : Type 0 where
+  pub x : List ℕ
+  pub y : List ℕ
+  pub one_image : HaveOneImage r n x y
+  pub first : value r.states (drop n x) ≡ u
+  pub second : value r.states (drop n y) ≡ v
+
+-- n is the greatest length that holds, or each length holds
+pub record IsRank (Holds : ℕ → Type 0) (n : ℕ) : Type 0 where
+  pub holds : Holds n
+  pub no_more : ¬ Holds (n + 1)
+
+abbrev pub IsEndless : (ℕ → Type 0) → Type 0
+IsEndless Holds = (n : ℕ) → Holds n
 
 -- u is the last node of a preimage of w
 pub record IsLastNode (r : LocalRule) (w : List ℕ) (u : ℕ) : Type 0 where

@@ -2,6 +2,7 @@
 use Rattle.std.specs.Prelude.{◌≡◌, ℕ, ◌-◌, List, ◌++◌, length, take, drop, replicate}
 use Rattle.std.proofs.Common.{ap, ◌∙◌, sym, take-append-drop}
 
+-- a table of at most 256 letters in a row of 256
 abbrev pub padded : List ℕ → List ℕ
 padded table = table ++ replicate (256 - length table) 0
 

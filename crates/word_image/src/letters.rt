@@ -1,5 +1,5 @@
 ghost use Rattle.std.specs.Prelude.{◌≡◌, ◌<◌};
-ghost use Rattle.word_image.specs.Digits.{lower_digit};
+ghost use Rattle.word_image.specs.Digits.{lower_digit, hex_value};
 
 /// The ASCII byte of the lower-case hexadecimal digit of a letter below 16.
 pub fn digit(letter: u8) -> u8
@@ -10,5 +10,40 @@ pub fn digit(letter: u8) -> u8
         b'0' + letter
     } else {
         b'a' + (letter - 10)
+    }
+}
+
+/// The value of a hexadecimal digit of either case; `None` exactly where the byte is none.
+pub fn letter(byte: u8) -> Option<u8>
+    ensures { result ≡ hex_value byte }
+{
+    match byte {
+        b'0'..=b'9' => Some(byte - b'0'),
+        b'A'..=b'F' => Some(byte - b'A' + 10),
+        b'a'..=b'f' => Some(byte - b'a' + 10),
+        _ => None,
+    }
+}
+
+#[cfg(test)]
+mod tests {
+    use super::*;
+
+    #[test]
+    fn the_digits_are_those_of_lower_case(rt: HostRuntime) {
+        for (letter, want) in b"0123456789abcdef".iter().enumerate() {
+            assert_eq!(rt; digit(letter as u8), *want);
+        }
+    }
+
+    #[test]
+    fn digits_of_both_cases_are_read(rt: HostRuntime) {
+        for (value, digit) in b"0123456789abcdef".iter().enumerate() {
+            assert_eq!(rt; letter(*digit), Some(value as u8));
+            assert_eq!(rt; letter(digit.to_ascii_uppercase()), Some(value as u8));
+        }
+        for byte in b"/:@G`g " {
+            assert_eq!(rt; letter(*byte), None);
+        }
     }
 }

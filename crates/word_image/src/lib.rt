@@ -1,4 +1,4 @@
-//! The local rules of one-dimensional cellular automata, and what they give on windows.
+//! The local rules of one-dimensional cellular automata, and what they give on windows and words.
 //!
 //! A rule has k states, the letters 0 to k - 1, and a width m. Its table has a letter for each
 //! window of m letters, at the window's value: the base-k number whose most significant digit is
@@ -7,10 +7,23 @@
 //!
 //! Rule 110 has k = 2, m = 3, o = -1 and the table 0 1 1 1 0 1 1 0. It gives 1 on the window
 //! 0 1 1, whose value is 3.
+//!
+//! The image of a word is what the rule gives on its windows, from the first one to the last.
+//! Under rule 110 the image of 0 1 1 0 0 is 1 1 0, and that of 0 1 has no letter.
+//!
+//! The last m - 1 letters of a word are a node of the de Bruijn graph, of which there are
+//! N = k^(m - 1), at most 16. `at` takes time O(1), `apply` O(m), and `image` of n letters time
+//! O(n m) and space O(n).
+//!
+//! `Word`, `SetList`, `RankRow` and `FluxRow` are the lists in which evidence is handed on.
 #![tactic(auto)]
 
+mod images;
 mod letters;
+mod lists;
 mod local_rule;
 
-pub use letters::digit;
+pub use images::{ImageFault, image};
+pub use letters::{digit, letter};
+pub use lists::{FluxRow, RankRow, SetList, Word};
 pub use local_rule::{Rule, RuleFault, check_shape};

@@ -187,7 +187,7 @@ fn check_table(k: u8, m: u8, table: &[u8]) -> Result<(), RuleFault>
 }
 
 /// The place of the first letter that is not below k.
-fn first_foreign(k: u8, word: &[u8]) -> Option<usize>
+pub(crate) fn first_foreign(k: u8, word: &[u8]) -> Option<usize>
     ensures place { result ≡ position (λ a. nat_le k a) word.now }
     ensures within { IfSome result (λ i. i < length word.now) }
 {
@@ -205,4 +205,63 @@ fn value_of(k: u8, window: &[u8]) -> u16
         value = value * u16::from(k) + u16::from(*letter);
     }
     value
+}
+
+#[cfg(test)]
+mod tests {
+    use super::*;
+
+    const RULE_110: [u8; 8] = [0, 1, 1, 1, 0, 1, 1, 0];
+
+    #[test]
+    fn the_first_fault_is_named(rt: HostRuntime) {
+        let foreign: [u8; 8] = [0, 1, 2, 1, 0, 3, 1, 0];
+        let last: [u8; 9] = [0, 1, 2, 1, 2, 0, 2, 0, 3];
+        let long: [u8; 9] = [0, 1, 1, 1, 0, 1, 1, 0, 0];
+        let cases: [(u8, u8, i8, &[u8], Option<RuleFault>); 18] = [
+            (2, 3, -1, &RULE_110, None),
+            (1, 3, -1, &RULE_110, Some(RuleFault::States)),
+            (17, 6, -17, &[0], Some(RuleFault::States)),
+            (2, 1, -1, &RULE_110, Some(RuleFault::Width)),
+            (16, 6, -17, &[0], Some(RuleFault::Width)),
+            (3, 4, 0, &[0], Some(RuleFault::Nodes)),
+            (5, 3, 17, &[5], Some(RuleFault::Nodes)),
+            (4, 3, 15, &[4], Some(RuleFault::Offset)),
+            (2, 3, -17, &RULE_110, Some(RuleFault::Offset)),
+            (2, 3, -16, &RULE_110, None),
+            (2, 3, 14, &RULE_110, None),
+            (2, 3, 15, &RULE_110, Some(RuleFault::Offset)),
+            (2, 3, -1, &[0, 1, 1, 1], Some(RuleFault::Length)),
+            (2, 3, -1, &[2], Some(RuleFault::Length)),
+            (2, 3, -1, &long, Some(RuleFault::Length)),
+            (2, 3, -1, &foreign, Some(RuleFault::Letter(2))),
+            (3, 2, 0, &[0, 1, 2, 1, 2, 0, 2, 0, 1], None),
+            (3, 2, 0, &last, Some(RuleFault::Letter(8))),
+        ];
+        for (case, (k, m, o, table, fault)) in cases.into_iter().enumerate() {
+            assert_eq!(rt; Rule::new(k, m, o, table).err(), fault, "case {case}");
+        }
+    }
+
+    #[test]
+    fn rule_110_reads_its_windows(rt: HostRuntime) {
+        let windows = [
+            ([0, 0, 0], 0),
+            ([0, 0, 1], 1),
+            ([0, 1, 0], 1),
+            ([0, 1, 1], 1),
+            ([1, 0, 0], 0),
+            ([1, 0, 1], 1),
+            ([1, 1, 0], 1),
+            ([1, 1, 1], 0),
+        ];
+        let Ok(rule) = Rule::new(2, 3, -1, &RULE_110) else {
+            return assert!(rt; false, "rule 110 is refused");
+        };
+        for (value, ([a, b, c], letter)) in windows.into_iter().enumerate() {
+            assert!(rt; a < 2 && b < 2 && c < 2);
+            assert_eq!(rt; rule.apply(&[a, b, c]), letter);
+            assert_eq!(rt; rule.at(value as u16), letter);
+        }
+    }
 }

@@ -1,5 +1,6 @@
 -- No limit is broken exactly where the rule is accepted.
 use Rattle.std.proofs.Common.{◌≡◌, ℕ, suc, ap, pow-suc, mul-le-mul, ◌*◌, ◌-◌, ◌^◌, ◌<◌, ◌≤◌, List, length, leb, None, ℤ, arith}
+use Rattle.std.specs.Prelude.{nat_le, position}
 use Rattle.std.proofs.lemmas.Bool.Decides.{nat_tests}
 use Rattle.std.proofs.lemmas.Int.{ints}
 use Rattle.std.specs.List.{position_or_len}
@@ -8,6 +9,7 @@ use Rattle.std.proofs.lemmas.List.Elements.{All-from_get_or}
 use Rattle.word_image.specs.LocalRules.{IsWord, IsShape}
 use Rattle.word_image.specs.RuleFaults.{shape_fault, table_fault}
 
+-- a shape with no fault is accepted
 pub IsShape-shape_fault : (k m : ℕ) (o : ℤ) → shape_fault k m o ≡ None → IsShape k m o
 IsShape-shape_fault k m o none = record {
   least_states = grind (arith, nat_tests);
@@ -19,6 +21,7 @@ IsShape-shape_fault k m o none = record {
   most_offset = grind (arith, ints);
 }
 
+-- an accepted shape has no fault
 pub shape_fault-IsShape : (k m : ℕ) (o : ℤ) → IsShape k m o → shape_fault k m o ≡ None
 shape_fault-IsShape k m o shape = grind (arith, nat_tests, ints)
 
@@ -27,12 +30,20 @@ no_fault_before : (k : ℕ) (table : List ℕ) → length table ≤ position_or_
 no_fault_before k table none =
     All-from_get_or (λ a. a < k) table 0 (λ i h. grind (arith, nat_tests, fails_before_first (λ a. leb k a) table i 0 (omega arith)))
 
+-- a list with no letter that is not below k is a word
+pub IsWord-position : (k : ℕ) (w : List ℕ) → position (λ a. nat_le k a) w ≡ None → IsWord k w
+IsWord-position k w none =
+    let past : length w ≤ position_or_len (λ a. leb k a) w = grind (arith, nat_tests) in
+    no_fault_before k w past
+
+-- a table with no fault has a letter for each window
 pub IsWord-table_fault : (k m : ℕ) (table : List ℕ) → table_fault k m table ≡ None → (length table ≡ k ^ m) × IsWord k table
 IsWord-table_fault k m table none =
     let past : length table ≤ position_or_len (λ a. leb k a) table = grind (arith, nat_tests) in
     let long : length table ≡ k ^ m = grind (arith, nat_tests) in
     (long, no_fault_before k table past)
 
+-- a table with a letter for each window has no fault
 pub table_fault-IsWord : (k m : ℕ) (table : List ℕ) → length table ≡ k ^ m → IsWord k table → table_fault k m table ≡ None
 table_fault-IsWord k m table long word =
     let none : position_or_len (λ a. leb k a) table ≡ length table =

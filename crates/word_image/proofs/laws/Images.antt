@@ -1,0 +1,128 @@
+-- Images of parts of a word, and of a word that is read backwards.
+use Rattle.std.proofs.Common.{◌≡◌, ℕ, ◌+◌, ◌-◌, ◌^◌, ◌<◌, ◌≤◌, List, length, take, drop, reverse, get_or, slice_index, slice_range, ℤ, pos, ◌+ℤ◌, neg_ℤ, sym, ap, ap₂, subst, ◌∙◌, arith, length-drop}
+use Rattle.std.specs.List.{range_with_len}
+use Rattle.std.proofs.lemmas.List.{length-take, length-take-le, length-reverse, reverse-reverse, ext_get_or, get_or-take, get_or-drop, get_or-reverse, drop-drop, drop-take, take-take}
+use Rattle.std.proofs.lemmas.List.FromFn.{length-map-range_with_len, get_or-map-range_with_len, fill_by_all}
+use Rattle.std.proofs.lemmas.List.Elements.{All-take, All-drop, All-map, All-from_get_or}
+use Rattle.std.proofs.lemmas.Int.{ints}
+use Rattle.std.proofs.Math.IntN.{neg_ℤ-+ℤ, neg_ℤ-neg_ℤ, +ℤ-neg_ℤ_cancel}
+use Rattle.word_image.specs.LocalRules.{LocalRule, IsRule, IsWord, value, word_of, local_map, mirrored}
+use Rattle.word_image.specs.Words.{image}
+use Rattle.word_image.proofs.laws.Values.{value-below, word_of-value, length-word_of, IsWord-word_of, value-word_of}
+use Rattle.word_image.proofs.laws.Words.{length-image, entry-below}
+
+-- a letter of an image is what the rule gives on the window there
+pub get_or-image : (r : LocalRule) (x : List ℕ) (i : ℕ) → i < length x - (r.width - 1) → get_or (image r x) i 0 ≡ local_map r (slice_range x i (i + r.width))
+get_or-image r x i h = get_or-map-range_with_len (λ j. local_map r (slice_range x j (j + r.width))) 0 (length x - (r.width - 1)) i i 0 h (omega arith)
+
+-- a list is an image if it has the image's length, and what the rule gives on each window
+pub image-by_letters : (r : LocalRule) (x w : List ℕ) → length w ≡ length x - (r.width - 1)
+    → ((i : ℕ) → i < length w → get_or w i 0 ≡ local_map r (slice_range x i (i + r.width))) → image r x ≡ w
+image-by_letters r x w e h =
+    sym (fill_by_all (λ i. local_map r (slice_range x i (i + r.width))) w (length x - (r.width - 1)) 0 e (λ i l. h i (omega arith)))
+
+-- the image of a word without its first n letters is the image without its first n letters
+pub image-drop : (r : LocalRule) (n : ℕ) (x : List ℕ) → image r (drop n x) ≡ drop n (image r x)
+image-drop r n x =
+    let long : length (drop n (image r x)) ≡ length (drop n x) - (r.width - 1) = omega (arith, length-drop n (image r x), length-drop n x, length-image r x) in
+    let window : (i : ℕ) → slice_range x (n + i) (n + i + r.width) ≡ slice_range (drop n x) i (i + r.width) = λ i.
+    let wide : n + i + r.width - (n + i) ≡ i + r.width - i = omega arith in
+    ap₂ (λ (j : ℕ) (y : List ℕ). take j y) wide (sym (drop-drop i n x)) in
+    image-by_letters r (drop n x) (drop n (image r x)) long (λ i l.
+    let within : n + i < length x - (r.width - 1) = omega (arith, length-drop n x) in
+    get_or-drop n (image r x) i 0 ∙ get_or-image r x (n + i) within ∙ ap (local_map r) (window i))
+
+-- the image of the first n letters of a word is the front of its image
+pub image-take : {r : LocalRule} → IsRule r → (n : ℕ) (x : List ℕ) → image r (take n x) ≡ take (n - (r.width - 1)) (image r x)
+image-take {r} rule n x =
+    let wide : 2 ≤ r.width = rule.shape.least_width in
+    let long : length (take (n - (r.width - 1)) (image r x)) ≡ length (take n x) - (r.width - 1) =
+    omega (arith, length-take (n - (r.width - 1)) (image r x), length-take n x, length-image r x) in
+    let window : (i : ℕ) → i + r.width ≤ n → slice_range x i (i + r.width) ≡ slice_range (take n x) i (i + r.width) = λ i l.
+    let split : i + (n - i) ≡ n = omega arith in
+    sym (ap (take (i + r.width - i)) (ap (λ j. drop i (take j x)) (sym split) ∙ drop-take i (n - i) x) ∙ take-take (i + r.width - i) (n - i) (drop i x) (omega arith)) in
+    image-by_letters r (take n x) (take (n - (r.width - 1)) (image r x)) long (λ i l.
+    let fore : i < n - (r.width - 1) = omega (arith, length-take n x) in
+    let within : i < length x - (r.width - 1) = omega (arith, length-take n x) in
+    get_or-take (n - (r.width - 1)) (image r x) i 0 fore ∙ get_or-image r x i within ∙ ap (local_map r) (window i (omega arith)))
+
+-- a word read backwards is a word
+pub IsWord-reverse : (k : ℕ) (x : List ℕ) → IsWord k x → IsWord k (reverse x)
+IsWord-reverse k x h = All-from_get_or (λ a. a < k) (reverse x) 0 (λ i l.
+    let within : i < length x = omega (arith, length-reverse x) in
+    subst (λ a. a < k) (sym (get_or-reverse x i 0 within)) (h (length x - 1 - i) 0 (omega arith)))
+
+-- what stands between two places of a list, in the list that is read backwards
+pub slice_range-reverse : (x : List ℕ) (i j n : ℕ) → i + n + j ≡ length x → reverse (slice_range (reverse x) i (i + n)) ≡ slice_range x j (j + n)
+slice_range-reverse x i j n e =
+    let there : length (slice_range (reverse x) i (i + n)) ≡ n = length-take-le (i + n - i) (drop i (reverse x)) (omega (arith, length-drop i (reverse x), length-reverse x)) ∙ omega arith in
+    let here : length (slice_range x j (j + n)) ≡ n = length-take-le (j + n - j) (drop j x) (omega (arith, length-drop j x)) ∙ omega arith in
+    ext_get_or 0 _ _ (length-reverse (slice_range (reverse x) i (i + n)) ∙ there ∙ sym here) (λ m l.
+    let within : m < n = omega (arith, length-reverse (slice_range (reverse x) i (i + n))) in
+    let place : length x - 1 - (i + (length (slice_range (reverse x) i (i + n)) - 1 - m)) ≡ j + m = omega arith in
+    get_or-reverse (slice_range (reverse x) i (i + n)) m 0 (omega arith)
+    ∙ get_or-take (i + n - i) (drop i (reverse x)) (length (slice_range (reverse x) i (i + n)) - 1 - m) 0 (omega arith)
+    ∙ get_or-drop i (reverse x) (length (slice_range (reverse x) i (i + n)) - 1 - m) 0
+    ∙ get_or-reverse x (i + (length (slice_range (reverse x) i (i + n)) - 1 - m)) 0 (omega arith)
+    ∙ ap (λ p. get_or x p 0) place
+    ∙ sym (get_or-take (j + n - j) (drop j x) m 0 (omega arith) ∙ get_or-drop j x m 0))
+
+-- the mirrored rule gives on a window what the rule gives on the window read backwards
+pub local_map-mirrored : (r : LocalRule) (z : List ℕ) → IsWord r.states z → length z ≡ r.width → local_map (mirrored r) z ≡ local_map r (reverse z)
+local_map-mirrored r z h e =
+    let below : value r.states z < r.states ^ r.width = subst (λ n. value r.states z < r.states ^ n) e (value-below r.states z h) in
+    get_or-map-range_with_len (λ v. local_map r (reverse (word_of r.states r.width v))) 0 (r.states ^ r.width) (value r.states z) (value r.states z) 0 below (omega arith)
+    ∙ ap (λ n. local_map r (reverse (word_of r.states n (value r.states z)))) (sym e)
+    ∙ ap (λ y. local_map r (reverse y)) (word_of-value r.states z h)
+
+-- the mirrored rule's image of a word read backwards is the image read backwards
+pub image-mirrored : {r : LocalRule} → IsRule r → (x : List ℕ) → IsWord r.states x → image (mirrored r) (reverse x) ≡ reverse (image r x)
+image-mirrored {r} rule x h =
+    let wide : 2 ≤ r.width = rule.shape.least_width in
+    let long : length (reverse (image r x)) ≡ length (reverse x) - (r.width - 1) = omega (arith, length-reverse (image r x), length-reverse x, length-image r x) in
+    image-by_letters (mirrored r) (reverse x) (reverse (image r x)) long (λ i l.
+    let within : i < length (image r x) = omega (arith, length-reverse (image r x)) in
+    let j : ℕ = length (image r x) - 1 - i in
+    let behind : i + r.width + j ≡ length x = omega (arith, length-image r x) in
+    let window : List ℕ = slice_range (reverse x) i (i + r.width) in
+    let word : IsWord r.states window = All-take (λ a. a < r.states) (i + r.width - i) (drop i (reverse x)) (All-drop (λ a. a < r.states) i (reverse x) (IsWord-reverse r.states x h)) in
+    let window_long : length window ≡ r.width = length-take-le (i + r.width - i) (drop i (reverse x)) (omega (arith, length-drop i (reverse x), length-reverse x)) ∙ omega arith in
+    get_or-reverse (image r x) i 0 within
+    ∙ get_or-image r x j (omega (arith, length-image r x))
+    ∙ ap (local_map r) (sym (slice_range-reverse x i j r.width behind))
+    ∙ sym (local_map-mirrored r window word window_long))
+
+-- the mirrored rule of an accepted rule is accepted
+pub IsRule-mirrored : {r : LocalRule} → IsRule r → IsRule (mirrored r)
+IsRule-mirrored {r} rule =
+    let shape = rule.shape in
+    record {
+      shape = record {
+        least_states = shape.least_states;
+        most_states = shape.most_states;
+        least_width = shape.least_width;
+        most_width = shape.most_width;
+        most_nodes = shape.most_nodes;
+        least_offset = grind (arith, ints);
+        most_offset = grind (arith, ints);
+      };
+      entries = length-map-range_with_len (λ v. local_map r (reverse (word_of r.states r.width v))) 0 (r.states ^ r.width);
+      letters = All-map (λ a. a < r.states) (λ v. local_map r (reverse (word_of r.states r.width v))) (range_with_len 0 (r.states ^ r.width)) (λ i d l. entry-below rule _);
+    }
+
+-- mirrored twice, a rule is itself
+pub mirrored-mirrored : {r : LocalRule} → IsRule r → mirrored (mirrored r) ≡ r
+mirrored-mirrored {r} rule =
+    let back : (v : ℕ) → v < r.states ^ r.width → get_or r.table v 0 ≡ local_map (mirrored r) (reverse (word_of r.states r.width v)) = λ v l.
+    let z : List ℕ = word_of r.states r.width v in
+    let word : IsWord r.states (reverse z) = IsWord-reverse r.states z (IsWord-word_of r.states r.width v l) in
+    sym (local_map-mirrored r (reverse z) word (length-reverse z ∙ length-word_of r.states r.width v)
+    ∙ ap (local_map r) (reverse-reverse z)
+    ∙ ap (slice_index r.table) (value-word_of r.states r.width v l)) in
+    let table : r.table ≡ (mirrored (mirrored r)).table =
+    fill_by_all (λ v. local_map (mirrored r) (reverse (word_of r.states r.width v))) r.table (r.states ^ r.width) 0 rule.entries back in
+    let offset : (mirrored (mirrored r)).offset ≡ r.offset =
+    neg_ℤ-+ℤ (neg_ℤ (r.offset +ℤ pos (r.width - 1))) (pos (r.width - 1))
+    ∙ ap (λ o. o +ℤ neg_ℤ (pos (r.width - 1))) (neg_ℤ-neg_ℤ (r.offset +ℤ pos (r.width - 1)))
+    ∙ +ℤ-neg_ℤ_cancel r.offset (pos (r.width - 1)) in
+    ap₂ (λ (o : ℤ) (t : List ℕ). record { states = r.states; width = r.width; offset = o; table = t }) offset (sym table)

@@ -1,0 +1,50 @@
+-- Dictionary order of words of one length is the order of their values.
+use Rattle.std.proofs.Common.{◌≡◌, ℕ, ◌+◌, ◌*◌, ◌^◌, ◌<◌, List, [], ◌∷◌, length, refl, ap, ◌∙◌, arith, mul_comm}
+use Rattle.std.proofs.lemmas.Nat.{mul-add-lt}
+use Rattle.std.proofs.lemmas.List.Elements.{All-tail}
+use Rattle.std.specs.Ordering.{ordering_then, nat_cmp}
+use Rattle.std.specs.Cmp.{nat_cmp_is}
+use Rattle.std.proofs.lemmas.Cmp.{ranked, by_ranked}
+use Rattle.std.specs.declared.cmp.Ordering.{Ordering}
+use Rattle.std.specs.Cmp.Lexicographic.{slice_cmp}
+use Rattle.std.specs.declared.cmp.Ordering.TheVariants.{Less, Equal, Greater}
+use Rattle.word_image.specs.LocalRules.{IsWord, value}
+use Rattle.word_image.proofs.laws.Values.{value-below}
+
+-- of two numbers in base n the one with the lesser first digit is less
+digits-lt : (a b u v n : ℕ) → u < n → a < b → a * n + u < b * n + v
+digits-lt a b u v n h l =
+    let below : a * n + u < n * b = mul-add-lt a n u b l h in
+    let turned : n * b ≡ b * n = mul_comm n b in
+    omega arith
+
+-- two numbers with one first digit are compared by the last one
+nat_cmp-add : (m u v : ℕ) → nat_cmp u v ≡ nat_cmp (m + u) (m + v)
+nat_cmp-add m u v =
+    by_ranked (u < v) (u ≡ v) (v < u) (nat_cmp u v) (ranked u v (nat_cmp u v) refl)
+    (λ is l. is ∙ nat_cmp_is (m + u) (m + v) Less (omega arith))
+    (λ is e. is ∙ nat_cmp_is (m + u) (m + v) Equal (omega arith))
+    (λ is l. is ∙ nat_cmp_is (m + u) (m + v) Greater (omega arith))
+
+-- numbers of two digits in base n are compared by the first digit, then by the second
+nat_cmp-digits : (a b u v n : ℕ) → u < n → v < n → ordering_then (nat_cmp a b) (nat_cmp u v) ≡ nat_cmp (a * n + u) (b * n + v)
+nat_cmp-digits a b u v n h g =
+    let after = λ (o : Ordering). ordering_then o (nat_cmp u v) in
+    by_ranked (a < b) (a ≡ b) (b < a) (nat_cmp a b) (ranked a b (nat_cmp a b) refl)
+    (λ is l. ap after is ∙ nat_cmp_is (a * n + u) (b * n + v) Less (digits-lt a b u v n h l))
+    (λ is e. ap after is ∙ nat_cmp-add (a * n) u v ∙ ap (λ c. nat_cmp (a * n + u) (c * n + v)) e)
+    (λ is l. ap after is ∙ nat_cmp_is (a * n + u) (b * n + v) Greater (digits-lt b a v u n g l))
+
+-- of words of one length the first in dictionary order has the least value
+pub slice_cmp-value : (k : ℕ) (x y : List ℕ) → IsWord k x → IsWord k y → length x ≡ length y → slice_cmp nat_cmp x y ≡ nat_cmp (value k x) (value k y)
+slice_cmp-value k [] [] h g e = refl
+slice_cmp-value k [] (b ∷ y) h g e = absurd (omega arith)
+slice_cmp-value k (a ∷ x) [] h g e = absurd (omega arith)
+slice_cmp-value k (a ∷ x) (b ∷ y) h g e =
+    let long : length x ≡ length y = omega arith in
+    let first : IsWord k x = All-tail (λ c. c < k) a x h in
+    let second : IsWord k y = All-tail (λ c. c < k) b y g in
+    let below : value k y < k ^ length x = rw long (value-below k y second) in
+    ap (ordering_then (nat_cmp a b)) (slice_cmp-value k x y first second long)
+    ∙ nat_cmp-digits a b (value k x) (value k y) (k ^ length x) (value-below k x first) below
+    ∙ ap (λ n. nat_cmp (a * k ^ length x + value k x) (b * k ^ n + value k y)) long

@@ -1,0 +1,80 @@
+ghost use Rattle.std.specs.Prelude.{◌≡◌, ◌+◌, ◌≤◌, length, alloc_error, IfOk, IfSome, IfNone, IsOkUnless};
+ghost use Rattle.word_image.specs.LocalRules.{IsRule, IsWord};
+ghost use Rattle.word_image.specs.Words.{image};
+ghost use Rattle.word_image.specs.ImageFaults.{image_fault};
+
+use crate::local_rule::{Rule, first_foreign};
+use std::alloc::{AllocError, Global};
+
+/// Why a word gets no image.
+#[derive(Clone, Copy, Debug, PartialEq, Eq)]
+pub enum ImageFault {
+    /// The letter at this place of the word, the first such one, is not below k.
+    Letter(usize),
+    /// The word has fewer than m - 1 letters.
+    Short,
+    /// There is not enough memory.
+    Memory(AllocError),
+}
+
+/// The image of a word of at least m - 1 letters below k: what the rule gives on its windows of
+/// m letters, from the first one to the last. It has m - 1 letters fewer than the word.
+///
+/// `Letter` and `Short` come exactly where they are the first fault of the word, in this order,
+/// and `Memory` only where the word has neither.
+pub fn image(alloc: Global, rule: &Rule, word: &[u8]) -> Result<Vec<u8>, ImageFault>
+    ensures image { IfOk result (λ v. v.items ≡ image rule.now word.now) }
+    ensures refused { IfSome (image_fault rule.now word.now) (λ fault. result ≡ Err fault) }
+    ensures accepted { IfNone (image_fault rule.now word.now) (IsOkUnless result (ImageFault.Memory alloc_error)) }
+{
+    if let Some(place) = first_foreign(rule.k(), word) {
+        return Err(ImageFault::Letter(place));
+    }
+    if word.len() + 1 < usize::from(rule.m()) {
+        return Err(ImageFault::Short);
+    }
+    windows_image(alloc, rule, word).map_err(ImageFault::Memory)
+}
+
+/// What the rule gives on the windows of a word that has an image.
+fn windows_image(alloc: Global, rule: &Rule, word: &[u8]) -> Result<Vec<u8>, AllocError>
+    requires rule { IsRule rule.now }
+    requires word { IsWord rule.now.states word.now }
+    requires long { rule.now.width ≤ length word.now + 1 }
+    ensures { IfOk result (λ v. v.items ≡ image rule.now word.now) }
+{
+    let width = usize::from(rule.m());
+    let count = word.len() + 1 - width;
+    let mut letters = Vec::with_capacity(alloc, count)?;
+    for start in 0..count {
+        letters.push(rule.apply(&word[start..start + width]))?;
+    }
+    Ok(letters)
+}
+
+#[cfg(test)]
+mod tests {
+    use super::*;
+
+    #[test]
+    fn rule_110_has_these_images(rt: HostRuntime) {
+        let Ok(rule) = Rule::new(2, 3, -1, &[0, 1, 1, 1, 0, 1, 1, 0]) else {
+            return assert!(rt; false, "rule 110 is refused");
+        };
+        let cases: [(&[u8], Result<&[u8], ImageFault>); 7] = [
+            (&[0, 1, 1, 0, 0], Ok(&[1, 1, 0])),
+            (&[0, 1], Ok(&[])),
+            (&[0], Err(ImageFault::Short)),
+            (&[], Err(ImageFault::Short)),
+            (&[0, 1, 2], Err(ImageFault::Letter(2))),
+            (&[0, 3, 2, 0], Err(ImageFault::Letter(1))),
+            (&[2], Err(ImageFault::Letter(0))),
+        ];
+        for (word, want) in cases {
+            match image(rt.alloc(), &rule, word) {
+                Ok(found) => assert_eq!(rt; Ok(found.as_slice()), want),
+                Err(fault) => assert_eq!(rt; Err(fault), want),
+            }
+        }
+    }
+}
