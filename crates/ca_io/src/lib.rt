@@ -3,7 +3,8 @@
 //!
 //! An object in memory tells its bytes, a [`PlainSource`] those that are left and a [`MemSink`] those
 //! that it has taken, so that a contract can say exactly what a call moved. A [`StdSource`] and a
-//! [`StdSink`] stand over a reader and a writer of std and tell none.
+//! [`StdSink`] stand over a reader and a writer of std and tell none, and a [`NullSink`] drops what it
+//! takes.
 //!
 //! A call answers [`Failed`] only where the object's count of faults rose in it, or stands at its end
 //! `2^64 - 1`. So who hands a fault on can name the object that it came from. An object that tells its
@@ -19,12 +20,14 @@
 #![tactic(auto)]
 
 mod mem_sink;
+mod null_sink;
 mod plain_source;
 mod sinks;
 mod sources;
 mod standard;
 
 pub use mem_sink::{MemSink, RoomRefusal};
+pub use null_sink::NullSink;
 pub use plain_source::PlainSource;
 pub use sinks::{Sink, write_all};
 pub use sources::{Failed, Source};

@@ -1,6 +1,6 @@
 //! What no clause can say: that memory is there, and what a reader and a writer of std do.
 
-use crate::{Failed, MemSink, PlainSource, Sink, Source, StdSink, StdSource, write_all};
+use crate::{Failed, MemSink, NullSink, PlainSource, Sink, Source, StdSink, StdSource, write_all};
 use std::io;
 use std::io::{ErrorKind, Read, Write};
 use std::test::Fail;
@@ -89,6 +89,8 @@ fn write_all_takes_the_whole_or_the_first_bytes(rt: HostRuntime) -> Result<(), F
     assert_eq!(rt; part.bytes(), b"hell".as_slice());
     assert_eq!(rt; write_all(&mut part, b"o"), Ok(()));
     assert_eq!(rt; part.bytes(), b"hello".as_slice());
+
+    assert_eq!(rt; write_all(&mut NullSink::new(), b"hello"), Ok(()));
     Ok(())
 }
 

@@ -1,0 +1,30 @@
+//! A sink that drops what it takes.
+ghost use Rattle.std.specs.Prelude.{◌≡◌, ◌<◌, None, Ok, length};
+
+use crate::sinks::Sink;
+use crate::sources::Failed;
+
+/// Takes each piece whole, never fails, and tells no bytes.
+#[derive(Clone, Copy, Debug, Default)]
+pub struct NullSink;
+
+impl NullSink {
+    /// A sink that drops what it takes.
+    pub fn new() -> NullSink {
+        NullSink
+    }
+}
+
+impl Sink for NullSink {
+    ghost taken = { λ _. None };
+
+    ghost faults = { λ _. 0 };
+
+    /// Takes the whole piece.
+    fn write(&mut self, piece: &[u8]) -> Result<usize, Failed>
+        requires { 0 < length piece.now }
+        ensures { result ≡ Ok (length piece.now) }
+    {
+        Ok(piece.len())
+    }
+}
