@@ -13,5 +13,7 @@
 mod node_sets;
 mod search;
 mod search_tree;
+#[cfg(test)]
+mod tests;
 
 pub use search::{Outcome, Search};
