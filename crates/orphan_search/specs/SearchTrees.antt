@@ -4,6 +4,7 @@ use Rattle.word_image.specs.LocalRules.{LocalRule, IsRule, node_count}
 use Rattle.word_image.specs.Graphs.{IsStep}
 use Rattle.orphan_search.specs.declared.search_tree.Reached.{Reached}
 
+-- the sets of a tree, in the order in which they were reached
 abbrev pub sets_of : List Reached → List ℕ
 sets_of = map (λ x. x.set)
 

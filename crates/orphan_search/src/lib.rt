@@ -11,7 +11,8 @@
 //! {00, 11}, {01, 10}, {00}, {01} and the empty one, letter by letter: no word has the image 01010.
 //!
 //! There are at most `2^N` sets for the `N = k^(m-1)` nodes, so a run takes at most
-//! **O(k·2^N·(k^m + 2^N))** time and **O(2^N)** memory. [`Search`] has this by what a run meets.
+//! **O(k·2^N·(k^m + 2^N))** time and **O(2^N)** memory. [`Search`] says it for the sets
+//! that a run lists.
 #![tactic(auto)]
 
 mod node_sets;

@@ -1,12 +1,14 @@
-//! What no clause can say: that memory is there, that a verdict comes, and which orphan is found. The
-//! verdicts are known from the literature, follow by hand, or come from listing all short words.
+//! What no clause says: that a run comes to a verdict where there is memory, and which orphan it finds.
+//! The verdicts are well known or follow by hand; the orphans come from a listing of all words, the
+//! shorter ones first.
 
 use crate::{Outcome, Search};
 use std::alloc::{AllocError, Global};
 use std::test::Fail;
 use word_image::Rule;
 
-// States, width, offset and table of a rule, and its first orphan; none where every word has a preimage.
+// States, width, offset and table of a rule, and the least of its shortest orphans; none where every
+// word has a preimage.
 const CASES: [(u8, u8, i8, &[u8], &[u8]); 17] = [
     // The elementary rules 110, 30, 110 again, 0, 106, 184, 232, 204 and 170.
     (2, 3, -1, b"01110110", b"01010"),
