@@ -1,7 +1,7 @@
 //! The sets that a search reaches, in the order in which it reaches them, and the way to each.
 
-ghost use Rattle.std.specs.Prelude.{◌≡◌, ◌+◌, ◌<◌, ◌↔◌, length, vec_len, IsTrue, IfOk, Any};
-ghost use Rattle.orphan_search.specs.SearchTrees.{IsTree, IsBackward, IsClosedTo, IsExpanded, Spells};
+ghost use Rattle.std.specs.Prelude.{◌≡◌, ◌+◌, ◌<◌, ◌↔◌, length, vec_len, Contains, IsTrue, IfOk};
+ghost use Rattle.orphan_search.specs.SearchTrees.{IsTree, IsBackward, IsClosedTo, IsExpanded, Spells, sets_of};
 
 use crate::node_sets::{full, step};
 use std::alloc::{AllocError, Global};
@@ -64,7 +64,7 @@ fn expand(rule: &Rule, tree: &mut Vec<Reached>, head: usize) -> Result<bool, All
 
 /// Whether the set is in the list.
 fn is_reached(tree: &[Reached], set: u16) -> bool
-    ensures { IsTrue result ↔ Any (λ reached. reached.set ≡ set) tree.now }
+    ensures { IsTrue result ↔ Contains (sets_of tree.now) set }
 {
     tree.iter().any(|reached| reached.set == set)
 }
