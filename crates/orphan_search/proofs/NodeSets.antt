@@ -14,15 +14,16 @@ pub record IsEndsOf (r : LocalRule) (u a n ends : ℕ) : Type 0 where
   pub within : ends < 2 ^ node_count r
   pub nodes : (v : ℕ) → v < node_count r → (IsBitSet ends v ↔ ((b : ℕ) × (b < n) × (label r u b ≡ a) × (next r u b ≡ v)))
 
-pub ends_none : (r : LocalRule) (u a : ℕ) → IsEndsOf r u a 0 0
-ends_none r u a = record {
+-- of no edges it is empty
+pub IsEndsOf-none : (r : LocalRule) (u a : ℕ) → IsEndsOf r u a 0 0
+IsEndsOf-none r u a = record {
   within = pow_pos (node_count r);
   nodes = λ v _. ((λ some. absurd (IsBitSet-zero v some)), (λ (b, below, _, _). absurd (omega arith)));
 }
 
 -- the next edge has another label
-pub ends_skip : {r : LocalRule} {u a n ends : ℕ} → IsEndsOf r u a n ends → label r u n ≢ a → IsEndsOf r u a (n + 1) ends
-ends_skip {r} {u} {a} {n} {ends} h other = record {
+pub IsEndsOf-skip : {r : LocalRule} {u a n ends : ℕ} → IsEndsOf r u a n ends → label r u n ≢ a → IsEndsOf r u a (n + 1) ends
+IsEndsOf-skip {r} {u} {a} {n} {ends} h other = record {
   within = h.within;
   nodes = λ v inside. (
     (λ some. let edge = (h.nodes v inside).0 some in (edge.0, omega (arith, edge.1), edge.2, edge.3)),
@@ -36,8 +37,8 @@ ends_skip {r} {u} {a} {n} {ends} h other = record {
 }
 
 -- the next edge has the label
-pub ends_take : {r : LocalRule} {u a n ends : ℕ} → IsRule r → IsEndsOf r u a n ends → label r u n ≡ a → IsEndsOf r u a (n + 1) (bit_or ends (2 ^ next r u n))
-ends_take {r} {u} {a} {n} {ends} rule h same = record {
+pub IsEndsOf-take : {r : LocalRule} {u a n ends : ℕ} → IsRule r → IsEndsOf r u a n ends → label r u n ≡ a → IsEndsOf r u a (n + 1) (bit_or ends (2 ^ next r u n))
+IsEndsOf-take {r} {u} {a} {n} {ends} rule h same = record {
   within = or_lt (node_count r) ends (2 ^ next r u n) h.within (pow-lt (next-below rule u n));
   nodes = λ v inside. (
     (λ some. ⊎_elim
@@ -57,15 +58,16 @@ pub record IsStepOf (r : LocalRule) (set a n after : ℕ) : Type 0 where
   pub nodes : (v : ℕ) → v < node_count r
       → (IsBitSet after v ↔ ((u : ℕ) × (b : ℕ) × (u < n) × (b < r.states) × IsBitSet set u × (label r u b ≡ a) × (next r u b ≡ v)))
 
-pub step_none : (r : LocalRule) (set a : ℕ) → IsStepOf r set a 0 0
-step_none r set a = record {
+-- of no nodes it is empty
+pub IsStepOf-none : (r : LocalRule) (set a : ℕ) → IsStepOf r set a 0 0
+IsStepOf-none r set a = record {
   within = pow_pos (node_count r);
   nodes = λ v _. ((λ some. absurd (IsBitSet-zero v some)), (λ edge. absurd (omega (arith, edge.2))));
 }
 
 -- the next node isn't in the set
-pub step_skip : {r : LocalRule} {set a n after : ℕ} → IsStepOf r set a n after → ¬ IsBitSet set n → IsStepOf r set a (n + 1) after
-step_skip {r} {set} {a} {n} {after} h absent = record {
+pub IsStepOf-skip : {r : LocalRule} {set a n after : ℕ} → IsStepOf r set a n after → ¬ IsBitSet set n → IsStepOf r set a (n + 1) after
+IsStepOf-skip {r} {set} {a} {n} {after} h absent = record {
   within = h.within;
   nodes = λ v inside. (
     (λ some. let edge = (h.nodes v inside).0 some in (edge.0, edge.1, omega (arith, edge.2), edge.3, edge.4, edge.5, edge.6)),
@@ -82,8 +84,8 @@ step_skip {r} {set} {a} {n} {after} h absent = record {
 }
 
 -- the next node is in the set
-pub step_take : {r : LocalRule} {set a n after ends : ℕ} → IsStepOf r set a n after → IsBitSet set n → IsEnds r n a ends → IsStepOf r set a (n + 1) (bit_or after ends)
-step_take {r} {set} {a} {n} {after} {ends} h present e = record {
+pub IsStepOf-take : {r : LocalRule} {set a n after ends : ℕ} → IsStepOf r set a n after → IsBitSet set n → IsEnds r n a ends → IsStepOf r set a (n + 1) (bit_or after ends)
+IsStepOf-take {r} {set} {a} {n} {after} {ends} h present e = record {
   within = or_lt (node_count r) after ends h.within e.within;
   nodes = λ v inside. (
     (λ some. ⊎_elim

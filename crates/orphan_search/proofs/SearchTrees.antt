@@ -1,5 +1,5 @@
 -- Search trees, one set more at a time, and what they say of a rule once they are done.
-use Rattle.std.proofs.Common.{◌≡◌, ◌≢◌, ℕ, zero, suc, ◌+◌, ◌-◌, ◌^◌, ◌<◌, ◌≤◌, ◌↔◌, inl, inr, List, [], ◌∷◌, ◌++◌, length, Some, Contains, Any, All, AllPairs, sym, ap, ◌∙◌, subst, arith, ⊎_elim, option_map}
+use Rattle.std.proofs.Common.{◌≡◌, ◌≢◌, ℕ, zero, suc, ◌+◌, ◌-◌, ◌^◌, ◌<◌, ◌≤◌, ◌↔◌, inl, inr, List, [], ◌∷◌, ◌++◌, length, Some, Contains, Any, All, AllPairs, sym, ap, ◌∙◌, subst, arith, ⊎_elim, option_map, below_more}
 use Rattle.std.specs.List.{slice_get}
 use Rattle.std.proofs.lemmas.Bool.Decides.{Decides-eqb}
 use Rattle.std.proofs.lemmas.Bool.{cases_eq}
@@ -90,6 +90,13 @@ IsTree-push {r} {tree} h x branch new = record {
       (λ k d below same. new (Contains-slice_get (sets_of tree) k x.set (slice_get-get_or (sets_of tree) k d below ∙ ap Some same))));
 }
 
+-- the empty set was added last
+pub EndsEmpty-push : (tree : List Reached) (x : Reached) → x.set ≡ 0 → EndsEmpty (tree ++ x ∷ [])
+EndsEmpty-push tree x empty =
+    let last : length (tree ++ x ∷ []) - 1 ≡ length (sets_of tree) = omega (arith, length-append tree (x ∷ []), length-map tree (λ y. y.set)) in
+    let sets = ap (λ s. slice_get s (length (sets_of tree))) (sets_of-push tree x) in
+    ap (slice_get (sets_of (tree ++ x ∷ []))) last ∙ sets ∙ slice_get-push (sets_of tree) x.set ∙ ap Some empty
+
 -- a step to a set of the list stays one where the list grows
 pub HasStep-push : (r : LocalRule) (tree : List Reached) (x : Reached) (set a : ℕ) → HasStep r tree set a → HasStep r (tree ++ x ∷ []) set a
 HasStep-push r tree x set a (after, step, has) =
@@ -139,12 +146,6 @@ pub record IsExpanding (r : LocalRule) (tree : List Reached) (head set letters :
   pub of_set : here.set ≡ set
   pub steps : (a : ℕ) → a < letters → HasStep r tree set a
 
--- what holds of the letters before the next, and of that one, holds of those up to it
-one_letter_more : (r : LocalRule) (tree : List Reached) (set n : ℕ) → ((a : ℕ) → a < n → HasStep r tree set a) → HasStep r tree set n
-    → (a : ℕ) → a < n + 1 → HasStep r tree set a
-one_letter_more r tree set n steps step a below =
-    ⊎_elim (λ same. subst (HasStep r tree set) (sym same) step) (λ other. steps a (omega (arith, other))) (cases_eq a n)
-
 -- the next step leads to a set that is there
 pub IsExpanding-there : {r : LocalRule} {tree : List Reached} {head set n after : ℕ} → IsExpanding r tree head set n → IsStep r set n after → Contains (sets_of tree) after
     → IsExpanding r tree head set (n + 1)
@@ -154,7 +155,7 @@ IsExpanding-there {r} {tree} {head} {set} {n} {after} h step has = record {
   here = h.here;
   stands = h.stands;
   of_set = h.of_set;
-  steps = one_letter_more r tree set n h.steps (after, step, has);
+  steps = below_more (HasStep r tree set) n h.steps (after, step, has);
 }
 
 -- a set to which the next step leads is a branch
@@ -178,7 +179,7 @@ IsExpanding-new {r} {tree} {head} {set} {n} h x parent letter below step new som
       here = h.here;
       stands = slice_get-append tree (x ∷ []) head h.here h.stands;
       of_set = h.of_set;
-      steps = one_letter_more r (tree ++ x ∷ []) set n (λ a less. HasStep-push r tree x set a (h.steps a less))
+      steps = below_more (HasStep r (tree ++ x ∷ []) set) n (λ a less. HasStep-push r tree x set a (h.steps a less))
           (x.set, step, subst (λ s. Contains s x.set) (sym (sets_of-push tree x)) (Contains-push (sets_of tree) x.set));
     }
 
@@ -224,10 +225,3 @@ pub IsOrphan-tree : {r : LocalRule} {tree : List Reached} {w : List ℕ} → IsT
 IsOrphan-tree {r} {tree} {w} h empty spells =
     let last = reached_at tree (length tree - 1) 0 empty in
     IsOrphan-empty_set (subst (IsLastSet r w) last.2 (IsLastSet-spelled r tree (length tree - 1) w h spells last.0 last.1))
-
--- the empty set was added last
-pub EndsEmpty-push : (tree : List Reached) (x : Reached) → x.set ≡ 0 → EndsEmpty (tree ++ x ∷ [])
-EndsEmpty-push tree x empty =
-    let last : length (tree ++ x ∷ []) - 1 ≡ length (sets_of tree) = omega (arith, length-append tree (x ∷ []), length-map tree (λ y. y.set)) in
-    let sets = ap (λ s. slice_get s (length (sets_of tree))) (sets_of-push tree x) in
-    ap (slice_get (sets_of (tree ++ x ∷ []))) last ∙ sets ∙ slice_get-push (sets_of tree) x.set ∙ ap Some empty

@@ -2,10 +2,9 @@
 use Rattle.std.specs.Prelude.{◌≡◌, ◌≢◌, ℕ, ◌-◌, ◌^◌, ◌<◌, List, [], ◌∷◌, ◌++◌, length, map, slice_get, Some, Contains, All, AllPairs, Bool, true, false}
 use Rattle.word_image.specs.LocalRules.{LocalRule, IsRule, node_count}
 use Rattle.word_image.specs.Graphs.{IsStep}
-use Rattle.orphan_search.specs.declared.search.Outcome.{Outcome}
-use Rattle.orphan_search.specs.declared.search.Outcome.TheVariants.{Closed, Orphan}
 use Rattle.orphan_search.specs.declared.search_tree.Reached.{Reached}
 
+-- the sets of a tree, in the order in which they were reached
 abbrev pub sets_of : List Reached → List ℕ
 sets_of = map (λ x. x.set)
 
@@ -51,8 +50,3 @@ EndsEmpty tree = slice_get (sets_of tree) (length tree - 1) ≡ Some 0
 abbrev pub IsExpanded : LocalRule → List Reached → ℕ → Bool → Type 0
 IsExpanded r tree n true = IsTree r tree × EndsEmpty tree
 IsExpanded r tree n false = IsTree r tree × IsClosedTo r tree n
-
--- a tree that is done
-abbrev pub IsExplored : LocalRule → List Reached → Outcome → Type 0
-IsExplored r tree Closed = IsTree r tree × IsClosedTo r tree (length tree)
-IsExplored r tree Orphan = IsTree r tree × EndsEmpty tree

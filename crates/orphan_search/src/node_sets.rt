@@ -1,11 +1,11 @@
+//! Sets of nodes, each a mask in which node u is bit u, and the steps between them.
+
 ghost use Rattle.std.specs.Prelude.{◌≡◌, ◌-◌, ◌^◌, ◌<◌};
-ghost use Rattle.word_image.specs.LocalRules.{LocalRule, IsRule, node_count};
+ghost use Rattle.word_image.specs.LocalRules.{IsRule, node_count};
 ghost use Rattle.word_image.specs.Graphs.{IsStep};
 ghost use Rattle.orphan_search.specs.NodeSets.{IsEnds};
 
 use word_image::Rule;
-
-// A set of nodes is a mask in which node u is bit u.
 
 /// The set of all nodes.
 pub fn full(rule: &Rule) -> u16

@@ -1,3 +1,5 @@
+//! The verdict, and the word that proves it where it is no.
+
 ghost use Rattle.std.specs.Prelude.{◌≡◌, [], ◌↔◌, IfOk, OnErr};
 
 use crate::search_tree::{Reached, explore, spelled};
@@ -15,14 +17,16 @@ pub enum Outcome {
 }
 
 /// A search through the sets of last nodes, breadth first from the full set with letters ascending:
-/// the subset construction on the de Bruijn graph. It lists each set once, at most `2^N` for N
-/// nodes, and looks through the list for each step.
+/// the subset construction on the de Bruijn graph. It lists each set once, and looks through the list
+/// for each step. A run that lists s sets takes **O(k·s·(k^m + s))** time and **O(s)** memory; a flag
+/// for each possible set would spare the last s, and take `2^N` bits.
 ///
 /// It is seen as the word that its last run left.
 #[derive(Debug, Drop)]
 pub struct Search {
     // The sets that the last run reached; kept for its room.
     tree: Vec<Reached>,
+    // The word that it found; empty where it found none.
     word: Vec<u8>,
 }
 
@@ -56,13 +60,11 @@ impl Search {
         ensures refused { OnErr result (self.new ≡ []) }
     {
         self.word.clear();
-        match explore(rule, &mut self.tree)? {
-            Outcome::Closed => Ok(Outcome::Closed),
-            Outcome::Orphan => {
-                self.word = spelled(alloc, &self.tree, self.tree.len() - 1)?;
-                Ok(Outcome::Orphan)
-            }
+        if !explore(rule, &mut self.tree)? {
+            return Ok(Outcome::Closed);
         }
+        self.word = spelled(alloc, &self.tree, self.tree.len() - 1)?;
+        Ok(Outcome::Orphan)
     }
 
     /// After a run that answered `Orphan` a word without a preimage, in letters below k; else empty.

@@ -1,8 +1,9 @@
-ghost use Rattle.std.specs.Prelude.{◌≡◌, ◌+◌, ◌<◌, ◌↔◌, length, vec_len, IsTrue, IfOk, Any};
-ghost use Rattle.orphan_search.specs.SearchTrees.{IsTree, IsBackward, IsClosedTo, IsExpanded, IsExplored, Spells, sets_of};
+//! The sets that a search reaches, in the order in which it reaches them, and the way to each.
+
+ghost use Rattle.std.specs.Prelude.{◌≡◌, ◌+◌, ◌<◌, ◌↔◌, length, vec_len, Contains, IsTrue, IfOk};
+ghost use Rattle.orphan_search.specs.SearchTrees.{IsTree, IsBackward, IsClosedTo, IsExpanded, Spells, sets_of};
 
 use crate::node_sets::{full, step};
-use crate::search::Outcome;
 use std::alloc::{AllocError, Global};
 use word_image::Rule;
 
@@ -15,10 +16,10 @@ pub struct Reached {
     pub letter: u8,
 }
 
-/// Lists the sets that are reached from the full one, breadth first with letters ascending, until
-/// all of them stand there or the empty set is the last.
-pub fn explore(rule: &Rule, tree: &mut Vec<Reached>) -> Result<Outcome, AllocError>
-    ensures { IfOk result (IsExplored rule.now tree.new.items) }
+/// Lists the sets that are reached from the full one, breadth first with letters ascending. Stops
+/// where the empty set is reached, and answers whether it was.
+pub fn explore(rule: &Rule, tree: &mut Vec<Reached>) -> Result<bool, AllocError>
+    ensures { IfOk result (IsExpanded rule.now tree.new.items (length tree.new.items)) }
 {
     tree.clear();
     tree.push(Reached {
@@ -29,11 +30,11 @@ pub fn explore(rule: &Rule, tree: &mut Vec<Reached>) -> Result<Outcome, AllocErr
     let mut head = 0;
     while head < tree.len() {
         if expand(rule, tree, head)? {
-            return Ok(Outcome::Orphan);
+            return Ok(true);
         }
         head += 1;
     }
-    Ok(Outcome::Closed)
+    Ok(false)
 }
 
 /// Adds the sets to which steps lead from the set at `head`. Stops where the empty set is reached,
@@ -63,7 +64,7 @@ fn expand(rule: &Rule, tree: &mut Vec<Reached>, head: usize) -> Result<bool, All
 
 /// Whether the set is in the list.
 fn is_reached(tree: &[Reached], set: u16) -> bool
-    ensures { IsTrue result ↔ Any (λ reached. reached.set ≡ set) tree.now }
+    ensures { IsTrue result ↔ Contains (sets_of tree.now) set }
 {
     tree.iter().any(|reached| reached.set == set)
 }

@@ -1,14 +1,10 @@
-use Rattle.std.proofs.Common.{◌≡◌, ℕ, ◌+◌, ◌*◌, ◌%◌, ◌^◌, ◌<◌, slice_index, bit_or, sym, ap, ◌∙◌, subst, mod-eq_of_lt, one-mul, arith}
-use Rattle.std.proofs.Math.Pow.{pow-lt}
+use Rattle.std.proofs.Common.{◌≡◌, ◌+◌, ◌*◌, ◌%◌, ◌^◌, ◌<◌, slice_index, bit_or, sym, ap, ◌∙◌, subst, arith}
+use Rattle.std.proofs.lemmas.Nat.{one_shl}
 use Rattle.word_image.specs.Graphs.{next, label}
 use Rattle.word_image.proofs.laws.Graphs.{next-below}
-use Rattle.orphan_search.proofs.NodeSets.{IsEndsOf, ends_skip, ends_take}
+use Rattle.orphan_search.proofs.NodeSets.{IsEndsOf, IsEndsOf-skip, IsEndsOf-take}
 use Rattle.orphan_search.proofs.node_sets.ends.Goals as goal
 use Rattle.orphan_search.proofs.node_sets.ends.Goals.{then-at-label, else-at-label}
-
--- a shift of one in sixteen bits
-shifted_one : (v : ℕ) → v < 16 → 1 * 2 ^ v % 2 ^ 16 ≡ 2 ^ v
-shifted_one v h = let below : 2 ^ v < 2 ^ 16 = pow-lt h in ap (λ n. n % 2 ^ 16) (one-mul (2 ^ v)) ∙ mod-eq_of_lt below
 
 pub loop-b-preserved : goal.loop-b-preserved
 loop-b-preserved c =
@@ -20,8 +16,8 @@ loop-b-preserved c =
       | then-at-label w ↦
           let node : (c.from.result * c.from-in-loop-b.result + c.from-in-loop-b-2.result) % w.from-then-at-label.result ≡ next r c.args.u c.loop-b.b = cc in
           let few : next r c.args.u c.loop-b.b < 16 = omega (arith, next-below rule c.args.u c.loop-b.b, rule.shape.most_nodes) in
-          let bit = ap (λ v. bit_or c.loop-b.after (1 * 2 ^ v % 2 ^ 16)) node ∙ ap (bit_or c.loop-b.after) (shifted_one (next r c.args.u c.loop-b.b) few) in
-          subst (IsEndsOf r c.args.u c.args.label (c.loop-b.b + 1)) (sym (w.after-is ∙ bit)) (ends_take rule c.loop-b.invariant (sym found ∙ w.if-at-label.true))
+          let bit = ap (λ v. bit_or c.loop-b.after (1 * 2 ^ v % 2 ^ 16)) node ∙ ap (bit_or c.loop-b.after) (one_shl (next r c.args.u c.loop-b.b) 16 few) in
+          subst (IsEndsOf r c.args.u c.args.label (c.loop-b.b + 1)) (sym (w.after-is ∙ bit)) (IsEndsOf-take rule c.loop-b.invariant (sym found ∙ w.if-at-label.true))
       | else-at-label w ↦
-          subst (IsEndsOf r c.args.u c.args.label (c.loop-b.b + 1)) (sym w.after-is) (ends_skip c.loop-b.invariant (λ same. w.if-at-label.false (found ∙ same)))
+          subst (IsEndsOf r c.args.u c.args.label (c.loop-b.b + 1)) (sym w.after-is) (IsEndsOf-skip c.loop-b.invariant (λ same. w.if-at-label.false (found ∙ same)))
     ]

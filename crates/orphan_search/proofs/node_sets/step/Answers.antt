@@ -1,7 +1,7 @@
 use Rattle.std.proofs.Common.{◌+◌, sym, ◌∙◌, subst}
 use Rattle.std.proofs.lemmas.Nat.Bits.{shr_and_one}
 use Rattle.word_image.proofs.laws.Bits.{bit_at-IsBitSet}
-use Rattle.orphan_search.proofs.NodeSets.{IsStepOf, step_skip, step_take}
+use Rattle.orphan_search.proofs.NodeSets.{IsStepOf, IsStepOf-skip, IsStepOf-take}
 use Rattle.orphan_search.proofs.node_sets.step.Goals as goal
 use Rattle.orphan_search.proofs.node_sets.step.Goals.{then-set-u-eq1, else-set-u-eq1}
 
@@ -12,8 +12,8 @@ loop-u-preserved c =
     elim c.if-set-u-eq1.branch [
       | then-set-u-eq1 w ↦
           let present = (bit_at-IsBitSet set u).1 (sym (shr_and_one set u) ∙ w.if-set-u-eq1.true) in
-          subst (IsStepOf c.args.rule.now set c.args.a (u + 1)) (sym w.after-is) (step_take c.loop-u.invariant present w.ends-after.ensures)
+          subst (IsStepOf c.args.rule.now set c.args.a (u + 1)) (sym w.after-is) (IsStepOf-take c.loop-u.invariant present w.ends-after.ensures)
       | else-set-u-eq1 w ↦
           subst (IsStepOf c.args.rule.now set c.args.a (u + 1)) (sym w.after-is)
-          (step_skip c.loop-u.invariant (λ some. w.if-set-u-eq1.false (shr_and_one set u ∙ (bit_at-IsBitSet set u).0 some)))
+          (IsStepOf-skip c.loop-u.invariant (λ some. w.if-set-u-eq1.false (shr_and_one set u ∙ (bit_at-IsBitSet set u).0 some)))
     ]
