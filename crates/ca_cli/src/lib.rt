@@ -4,6 +4,7 @@
 
 mod answers;
 mod exactness;
+mod lines;
 mod request;
 mod status;
 mod top_call;

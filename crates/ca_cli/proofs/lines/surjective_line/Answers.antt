@@ -5,7 +5,7 @@ use Rattle.orphan_search.specs.Verdicts.{IsVerdict}
 use Rattle.ca_cli.specs.Lines.{line, word_text}
 use Rattle.ca_cli.specs.Reports.{IsSurjectiveLine}
 use Rattle.ca_cli.specs.Reports.IsSurjectiveLine.{Yes, No}
-use Rattle.ca_cli.proofs.answers.surjective_line.Goals as goal
+use Rattle.ca_cli.proofs.lines.surjective_line.Goals as goal
 
 pub returns-in-Closed : goal.returns-in-Closed
 returns-in-Closed c =
