@@ -1,6 +1,7 @@
 -- An answer says what came of the words, and there is one status for the words.
-use Rattle.std.proofs.Common.{◌≡◌, ◌≢◌, ◌↔◌, ℕ, List, refl, sym, ◌∙◌, subst}
-use Rattle.std.specs.Prelude.{Option, codes}
+use Rattle.std.proofs.Common.{◌≡◌, ◌≢◌, ◌↔◌, ℕ, List, refl, sym, ap, ◌∙◌, subst}
+use Rattle.std.specs.Prelude.{Option, Some, codes, slice_get}
+use Rattle.std.proofs.lemmas.Option.{same_Some}
 use Rattle.word_image.specs.LocalRules.{LocalRule}
 use Rattle.rule_text.specs.declared.text_fault.TextFault.{TextFault}
 use Rattle.ca_cli.specs.declared.status.Status.{Status}
@@ -15,9 +16,13 @@ use Rattle.ca_cli.specs.Reports.{IsSurjectiveLine}
 use Rattle.ca_cli.specs.Answers.{IsAnswer}
 use Rattle.ca_cli.specs.Answers.IsAnswer.{Usage, RuleFault, Orphan}
 
+-- the rule operand of a command stands behind its name
+operand-words_of : (c : Command) → slice_get (words_of c) 1 ≡ Some (rule_of c)
+operand-words_of (commands.Orphan text) = refl
+
 -- the words of a command have one rule operand
 rule_of-words_of : (c d : Command) → words_of c ≡ words_of d → rule_of c ≡ rule_of d
-rule_of-words_of (commands.Orphan text) (commands.Orphan other) same = cc
+rule_of-words_of c d same = same_Some (rule_of c) (rule_of d) (sym (operand-words_of c) ∙ ap (λ words. slice_get words 1) same ∙ operand-words_of d)
 
 -- what came of the words: they are no command, or a command whose rule operand is refused, or accepted
 data Cause (words : List (List ℕ)) : Status → Type 0 where
