@@ -22,7 +22,7 @@ pub fn rule_fault_line(alloc: Global, fault: TextFault) -> Result<String, AllocE
 pub fn surjective_line(alloc: Global, rule: &Rule) -> Result<String, AllocError>
     ensures { IfOk result (λ text. IsSurjectiveLine rule.now (string_bytes text)) }
 {
-    // So each letter has one digit.
+    // A letter is below k, so it has one digit.
     prove!(rule.k() <= 16);
     let mut search = Search::new(alloc)?;
     match search.run(alloc, rule)? {

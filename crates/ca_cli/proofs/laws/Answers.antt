@@ -1,5 +1,5 @@
--- An answer says what came of the words, and there is one status for the words.
-use Rattle.std.proofs.Common.{◌≡◌, ◌≢◌, ◌↔◌, ℕ, List, refl, sym, ap, ◌∙◌, subst}
+-- What an answer says of the words, and that they have one status.
+use Rattle.std.proofs.Common.{◌≡◌, ◌≢◌, ℕ, List, refl, sym, ap, ◌∙◌, subst}
 use Rattle.std.specs.Prelude.{Option, Some, codes, slice_get}
 use Rattle.std.proofs.lemmas.Option.{same_Some}
 use Rattle.word_image.specs.LocalRules.{LocalRule}
@@ -66,33 +66,17 @@ pub one_status : {words : List (List ℕ)} {input : Option (List ℕ)} {s t : St
 one_status answer also = one_cause (cause_of answer) (cause_of also)
 
 -- what an answer of status Usage says
-usage_says : {words : List (List ℕ)} {input : Option (List ℕ)} {out : List ℕ} → IsAnswer words input status.Usage out
+pub usage_says : {words : List (List ℕ)} {input : Option (List ℕ)} {out : List ℕ} → IsAnswer words input status.Usage out
     → ((c : Command) → words ≢ words_of c) × (out ≡ line (codes "usage error"))
 usage_says (Usage none) = (none, refl)
 
--- Usage is right exactly where the words are no command
-pub usage_exactly : (words : List (List ℕ)) (input : Option (List ℕ)) (out : List ℕ) → IsAnswer words input status.Usage out
-    ↔ (((c : Command) → words ≢ words_of c) × (out ≡ line (codes "usage error")))
-usage_exactly words input out = (usage_says, (λ (none, is). subst (IsAnswer words input status.Usage) (sym is) (Usage none)))
-
 -- what an answer of status RuleFault says
-rule_fault_says : {words : List (List ℕ)} {input : Option (List ℕ)} {out : List ℕ} → IsAnswer words input status.RuleFault out
+pub rule_fault_says : {words : List (List ℕ)} {input : Option (List ℕ)} {out : List ℕ} → IsAnswer words input status.RuleFault out
     → (c : Command) × (f : TextFault) × (words ≡ words_of c) × IsTextFault (rule_of c) f × (out ≡ rule_fault_line f)
 rule_fault_says (RuleFault c f same fault) = (c, f, same, fault, refl)
 
--- RuleFault is right exactly where the rule operand is refused
-pub rule_fault_exactly : (words : List (List ℕ)) (input : Option (List ℕ)) (out : List ℕ) → IsAnswer words input status.RuleFault out
-    ↔ ((c : Command) × (f : TextFault) × (words ≡ words_of c) × IsTextFault (rule_of c) f × (out ≡ rule_fault_line f))
-rule_fault_exactly words input out =
-    (rule_fault_says, (λ (c, f, same, fault, is). subst (IsAnswer words input status.RuleFault) (sym is) (RuleFault c f same fault)))
-
 -- what an answer of status Done says of the words `orphan R`
-orphan_says : (text : List ℕ) {words : List (List ℕ)} {input : Option (List ℕ)} {out : List ℕ} → words ≡ words_of (commands.Orphan text) → IsAnswer words input status.Done out
+pub orphan_says : (text : List ℕ) {words : List (List ℕ)} {input : Option (List ℕ)} {out : List ℕ} → words ≡ words_of (commands.Orphan text) → IsAnswer words input status.Done out
     → (r : LocalRule) × IsRuleText text r × IsSurjectiveLine r out
 orphan_says text here (Orphan text' r _ same says true_line) =
     (r, subst (λ t. IsRuleText t r) (rule_of-words_of (commands.Orphan text') (commands.Orphan text) (sym same ∙ here)) says, true_line)
-
--- Done is right on `orphan R` exactly with a true line on the rule of R
-pub orphan_exactly : (text out : List ℕ) (input : Option (List ℕ)) → IsAnswer (words_of (commands.Orphan text)) input status.Done out
-    ↔ ((r : LocalRule) × IsRuleText text r × IsSurjectiveLine r out)
-orphan_exactly text out input = (orphan_says text refl, (λ (r, says, true_line). Orphan text r out refl says true_line))
