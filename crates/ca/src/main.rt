@@ -1,16 +1,13 @@
 //! The program: hands the words of the command line, the standard input and the standard output to
-//! `ca_cli::run`, and ends with the status that it answers.
+//! `ca_cli::run`, and ends with the code of the status that it answers.
 #![tactic(auto)]
 
-use ca_cli::run;
+use ca_cli::{Status, run};
 use ca_io::{StdSink, StdSource};
 use std::io::ErrorKind;
 use std::process::ExitCode;
 use std::rt::Env;
 use std::{env, io};
-
-/// The exit status where there is no memory for the words.
-const NO_MEMORY: u8 = 8;
 
 /// The exit status where the system doesn't give the words, as where one isn't UTF-8.
 const NO_WORDS: u8 = 9;
@@ -23,7 +20,9 @@ fn main(rt: HostRuntime) -> ExitCode {
             let status = run(rt.alloc(), &words, &mut source, &mut sink);
             ExitCode::from(status.code())
         }
-        Err(fault) if fault.kind() == ErrorKind::OutOfMemory => ExitCode::from(NO_MEMORY),
+        Err(fault) if fault.kind() == ErrorKind::OutOfMemory => {
+            ExitCode::from(Status::Memory.code())
+        }
         Err(_) => ExitCode::from(NO_WORDS),
     }
 }

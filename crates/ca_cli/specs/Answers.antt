@@ -9,6 +9,7 @@ use Rattle.ca_cli.specs.Commands.{Command, words_of, rule_of}
 use Rattle.ca_cli.specs.Lines.{line, rule_fault_line}
 use Rattle.ca_cli.specs.Reports.{IsSurjectiveLine}
 
+-- the words are no command, or their rule operand is refused, or what the command says of the rule is true
 pub data IsAnswer (words : List (List ℕ)) (input : Option (List ℕ)) : Status → List ℕ → Type 0 where
   Usage : ((c : Command) → words ≢ words_of c) → IsAnswer words input status.Usage (line (codes "usage error"))
   RuleFault : (c : Command) (f : TextFault) → words ≡ words_of c → IsTextFault (rule_of c) f → IsAnswer words input status.RuleFault (rule_fault_line f)

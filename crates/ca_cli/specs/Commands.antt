@@ -3,10 +3,11 @@ use Rattle.std.specs.Prelude.{ℕ, List, [], ◌∷◌, codes}
 use Rattle.ca_cli.specs.declared.request.Request.{Request}
 use Rattle.ca_cli.specs.declared.request.Request.TheVariants as request
 
--- an operand is any word
+-- a command with its operands, each of which may be any word
 pub data Command : Type 0 where
   Orphan : (rule : List ℕ) → Command
 
+-- the words of a command: its name and its operands
 abbrev pub words_of : Command → List (List ℕ)
 words_of (Orphan rule) = codes "orphan" ∷ rule ∷ []
 

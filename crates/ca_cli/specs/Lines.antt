@@ -5,7 +5,7 @@ use Rattle.word_image.specs.Digits.{lower_digit}
 use Rattle.rule_text.specs.declared.text_fault.TextFault.{TextFault}
 use Rattle.rule_text.specs.declared.text_fault.TextFault.TheVariants.{Form, Number}
 
--- a line ends with one byte
+-- a text, and the byte that ends a line
 abbrev pub line : List ℕ → List ℕ
 line text = text ++ 10 ∷ []
 

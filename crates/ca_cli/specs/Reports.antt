@@ -4,7 +4,7 @@ use Rattle.word_image.specs.LocalRules.{LocalRule}
 use Rattle.word_image.specs.Words.{IsSurjective, IsOrphan}
 use Rattle.ca_cli.specs.Lines.{line, word_text}
 
--- whether every word has a preimage, and a word that has none where not
+-- every word has a preimage, or else the line names a word that has none
 pub data IsSurjectiveLine (r : LocalRule) : List ℕ → Type 0 where
   Yes : IsSurjective r → IsSurjectiveLine r (line (codes "surjective yes"))
   No : (w : List ℕ) → IsOrphan r w → IsSurjectiveLine r (line (codes "surjective no orphan " ++ word_text w))

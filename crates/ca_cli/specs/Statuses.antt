@@ -3,6 +3,7 @@ use Rattle.std.specs.Prelude.{ℕ, ⊤}
 use Rattle.ca_cli.specs.declared.status.Status.{Status}
 use Rattle.ca_cli.specs.declared.status.Status.TheVariants.{Done, Usage, RuleFault, WriteFault, Memory}
 
+-- the exit status of the program
 abbrev pub code_of : Status → ℕ
 code_of Done = 0
 code_of Usage = 2

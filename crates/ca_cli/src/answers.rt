@@ -1,15 +1,14 @@
-ghost use Rattle.std.specs.Prelude.{◌≡◌, ℕ, ◌<◌, ◌++◌, List, Option, map, codes, All, IfOk, string_bytes};
-ghost use Rattle.ca_cli.specs.Commands.{Command, words_of};
-ghost use Rattle.ca_cli.specs.Lines.{line, word_text, rule_fault_line as fault_line};
-ghost use Rattle.ca_cli.specs.Reports.{IsSurjectiveLine};
+//! The answer to the words, made whole in memory.
+ghost use Rattle.std.specs.Prelude.{◌≡◌, ℕ, List, Option, map, IfOk, string_bytes};
+ghost use Rattle.rule_text.specs.RuleTexts.{IsTextFault};
+ghost use Rattle.ca_cli.specs.Commands.{Command, words_of, rule_of};
 ghost use Rattle.ca_cli.specs.Answers.{IsAnswer};
 
+use crate::lines::{rule_fault_line, surjective_line};
 use crate::request::Request;
 use crate::status::Status;
-use orphan_search::{Outcome, Search};
 use rule_text::{TextFault, parse};
 use std::alloc::{AllocError, Global};
-use word_image::{Rule, digit};
 
 /// What the program answers to its words: a status, and the output that belongs to it.
 #[derive(Debug, Drop)]
@@ -18,7 +17,7 @@ pub struct Answer {
     pub output: String,
 }
 
-/// The answer to these words, made whole in memory.
+/// The answer to these words.
 pub fn answer_to(alloc: Global, words: &[String]) -> Result<Answer, AllocError>
     ensures { IfOk result (λ answer. (input : Option (List ℕ)) →
         IsAnswer (map string_bytes words.now) input answer.status (string_bytes answer.output)) }
@@ -44,54 +43,19 @@ fn orphan(alloc: Global, text: &[u8]) -> Result<Answer, AllocError>
             status: Status::Done,
             output: surjective_line(alloc, &rule)?,
         }),
-        Err(fault) => Ok(Answer {
-            status: Status::RuleFault,
-            output: rule_fault_line(alloc, fault)?,
-        }),
+        Err(fault) => refusal(alloc, fault),
     }
 }
 
-/// The line that says which fault the first operand has.
-fn rule_fault_line(alloc: Global, fault: TextFault) -> Result<String, AllocError>
-    ensures { IfOk result (λ text. string_bytes text ≡ fault_line fault) }
+/// The answer to every command whose rule operand has this fault.
+fn refusal(alloc: Global, fault: TextFault) -> Result<Answer, AllocError>
+    ensures { IfOk result (λ answer.
+        (c : Command) (words : List (List ℕ)) (input : Option (List ℕ)) →
+        words ≡ words_of c → IsTextFault (rule_of c) fault →
+        IsAnswer words input answer.status (string_bytes answer.output)) }
 {
-    match fault {
-        TextFault::Form(place) => format!(in alloc; "rule fault 1 form {place}\n"),
-        TextFault::Number => String::from_str(alloc, "rule fault 1 number\n"),
-    }
-}
-
-/// The line that says whether the rule is surjective, with an orphan where it isn't.
-fn surjective_line(alloc: Global, rule: &Rule) -> Result<String, AllocError>
-    ensures { IfOk result (λ text. IsSurjectiveLine rule.now (string_bytes text)) }
-{
-    // So each letter has one digit.
-    prove!(rule.k() <= 16);
-    let mut search = Search::new(alloc)?;
-    match search.run(alloc, rule)? {
-        Outcome::Closed => String::from_str(alloc, "surjective yes\n"),
-        Outcome::Orphan => orphan_line(alloc, search.word()),
-    }
-}
-
-/// The line that names an orphan, whose letters are below 16.
-fn orphan_line(alloc: Global, word: &[u8]) -> Result<String, AllocError>
-    requires { All (λ letter. letter < 16) word.now }
-    ensures { IfOk result (λ text.
-        string_bytes text ≡ line (codes "surjective no orphan " ++ word_text word.now)) }
-{
-    let word = digits(alloc, word)?;
-    format!(in alloc; "surjective no orphan {word}\n")
-}
-
-/// The digits of a word, whose letters are below 16.
-fn digits(alloc: Global, word: &[u8]) -> Result<String, AllocError>
-    requires { All (λ letter. letter < 16) word.now }
-    ensures { IfOk result (λ text. string_bytes text ≡ word_text word.now) }
-{
-    let mut text = String::new(alloc);
-    for letter in word {
-        text.push(char::from(digit(*letter)))?;
-    }
-    Ok(text)
+    Ok(Answer {
+        status: Status::RuleFault,
+        output: rule_fault_line(alloc, fault)?,
+    })
 }

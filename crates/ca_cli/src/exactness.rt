@@ -11,20 +11,21 @@ ghost use Rattle.ca_cli.specs.Answers.{IsAnswer};
 
 use crate::status::Status;
 
-/// The words have one status.
+/// The words have one right status.
 pub fn one_status()
     ensures { (words : List (List ℕ)) (input : Option (List ℕ)) (s t : Status) (out other : List ℕ)
         → IsAnswer words input s out → IsAnswer words input t other → s ≡ t }
 {}
 
-/// Usage is right exactly where the words are no command.
+/// Usage is right exactly where the words are no command, with the line `usage error`.
 pub fn usage_exactly()
     ensures { (words : List (List ℕ)) (input : Option (List ℕ)) (out : List ℕ)
         → IsAnswer words input Status.Usage out
         ↔ (((c : Command) → words ≢ words_of c) × (out ≡ line (codes "usage error"))) }
 {}
 
-/// RuleFault is right exactly where the rule operand is refused, with its first fault.
+/// RuleFault is right exactly where the words are a command whose rule operand is refused, with the
+/// line that names its first fault.
 pub fn rule_fault_exactly()
     ensures { (words : List (List ℕ)) (input : Option (List ℕ)) (out : List ℕ)
         → IsAnswer words input Status.RuleFault out

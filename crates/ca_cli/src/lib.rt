@@ -1,9 +1,30 @@
-//! The program, but for its `main`: reads the words of the command line, decides, and writes one
-//! output over any sink.
+//! The program, but for its `main`: what it answers to the words of its command line.
+//!
+//! A command is a name and its operands, each of which may be any word. An answer is a [`Status`],
+//! which says how the program ended, and an output, the bytes that go to the sink. The output is
+//! made whole in memory before the first write, so the sink takes all of it, or a part before a
+//! fault of its own, or nothing.
+//!
+//! [`run`] is the program. Its contract cites one relation, `IsAnswer` of specs/Answers.antt: which
+//! status and which output are right for the words. [`one_status`], [`usage_exactly`],
+//! [`rule_fault_exactly`] and [`orphan_exactly`] are its laws. By them:
+//!
+//! | Words | Status | Code | Output |
+//! |---|---|---|---|
+//! | `orphan 110` | Done | 0 | `surjective no orphan 01010`, or another word without a preimage |
+//! | `orphan 90` | Done | 0 | `surjective yes` |
+//! | `orphan 256` | RuleFault | 3 | `rule fault 1 number` |
+//! | `orphan 1x` | RuleFault | 3 | `rule fault 1 form 1` |
+//! | `110` | Usage | 2 | `usage error` |
+//!
+//! Each output is one line. A call takes the time and the memory of its search, and besides **O(n)**
+//! of both for n bytes of words and output. A search lists at most `2^N` sets of nodes, where a rule
+//! with k states and width m has `N = k^(m-1)`, so 16 for each rule of this table.
 #![tactic(auto)]
 
 mod answers;
 mod exactness;
+mod lines;
 mod request;
 mod status;
 mod top_call;
@@ -11,3 +32,6 @@ mod top_call;
 pub use exactness::{one_status, orphan_exactly, rule_fault_exactly, usage_exactly};
 pub use status::Status;
 pub use top_call::run;
+
+#[cfg(test)]
+mod tests;

@@ -1,7 +1,8 @@
+//! What the words ask for.
 ghost use Rattle.std.specs.Prelude.{◌≡◌, ◌≢◌, map, MatchOption, string_bytes};
 ghost use Rattle.ca_cli.specs.Commands.{Command, words_of, command_of};
 
-/// What the words ask for: a command, with its operands as they stand on the command line.
+/// A command, with its operands as they stand on the command line.
 #[derive(Clone, Copy, Debug)]
 pub enum Request<'a> {
     /// `orphan R`: whether the rule is surjective, with an orphan where it isn't.
@@ -16,7 +17,10 @@ impl<'a> Request<'a> {
             (λ request. map string_bytes words.now ≡ words_of (command_of request)) }
     {
         match words {
-            [name, rule] if name.as_str() == "orphan" => Some(Request::Orphan(rule.as_bytes())),
+            [name, rule] => match name.as_str() {
+                "orphan" => Some(Request::Orphan(rule.as_bytes())),
+                _ => None,
+            },
             _ => None,
         }
     }

@@ -1,3 +1,4 @@
+//! The statuses of the program.
 ghost use Rattle.std.specs.Prelude.{◌≡◌};
 ghost use Rattle.ca_cli.specs.Statuses.{code_of};
 

@@ -1,3 +1,4 @@
+//! The top call.
 ghost use Rattle.std.specs.Prelude.{◌≡◌, ◌≢◌, ℕ, ◌-◌, ◌^◌, ◌<◌, List, length, take, map, string_bytes};
 ghost use Rattle.std.specs.Io.KnownBytes.{Appends};
 ghost use Rattle.ca_io.specs.Faults.{Rose};
@@ -9,15 +10,19 @@ use crate::status::Status;
 use ca_io::{Sink, Source, write_all};
 use std::alloc::Global;
 
-/// Carries out the command that the words are, and writes its output to the sink. Nothing is read
-/// from the source.
+/// Carries out the command that the words are, and writes its output to the sink. `words` are those
+/// of the command line without the program's name. Nothing is read from the source.
+///
+/// `WriteFault` comes where a write of the output failed, in place of the status to which the output
+/// belongs; `Memory` where memory was refused, before the first write.
 pub fn run<S: Source, T: Sink>(
     alloc: Global,
     words: &[String],
     source: &mut S,
     sink: &mut T,
 ) -> Status
-    // Every status but WriteFault and Memory came with exactly the output that is right for it.
+    // Every status but WriteFault and Memory is right for the words. The sink took exactly an output
+    // that is right with it, where it tells its bytes.
     ensures answer { IsAnswered result → (out : List ℕ)
         × IsAnswer (map string_bytes words.now) (S.left source.old) result out
         × Appends (T.taken sink.old) (T.taken sink.new) out }
@@ -37,8 +42,8 @@ pub fn run<S: Source, T: Sink>(
     ensures unread { source.new ≡ source.old }
     ensures faults { result ≢ Status.WriteFault → T.faults sink.new ≡ T.faults sink.old }
 
-    // A sink whose count neither rises nor stands at its end gets a right answer, or there is no
-    // memory.
+    // Where the sink's count neither rose nor stood at its end, no write failed: the answer is right,
+    // or there was no memory.
     ensures complete { T.faults sink.new ≡ T.faults sink.old → T.faults sink.old < 2 ^ 64 - 1 →
         result ≢ Status.WriteFault }
 {

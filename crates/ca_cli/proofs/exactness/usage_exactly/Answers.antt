@@ -1,5 +1,9 @@
-use Rattle.ca_cli.proofs.laws.Answers as laws
+use Rattle.std.proofs.Common.{sym, subst}
+use Rattle.ca_cli.specs.declared.status.Status.TheVariants as status
+use Rattle.ca_cli.specs.Answers.{IsAnswer}
+use Rattle.ca_cli.specs.Answers.IsAnswer.{Usage}
+use Rattle.ca_cli.proofs.laws.Answers.{usage_says}
 use Rattle.ca_cli.proofs.exactness.usage_exactly.Goals as goal
 
 pub returns : goal.returns
-returns c = laws.usage_exactly
+returns c words input out = (usage_says, (λ (none, is). subst (IsAnswer words input status.Usage) (sym is) (Usage none)))

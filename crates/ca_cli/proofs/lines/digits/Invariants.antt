@@ -1,7 +1,7 @@
 use Rattle.std.proofs.Common.{◌≡◌, take}
 use Rattle.std.specs.Prelude.{string_bytes}
 use Rattle.ca_cli.specs.Lines.{word_text}
-use Rattle.ca_cli.proofs.answers.digits.Given as goal
+use Rattle.ca_cli.proofs.lines.digits.Given as goal
 
 -- the digits of the letters so far
 abbrev pub invariant-loop-letter : goal.invariant-loop-letter

@@ -1,0 +1,54 @@
+//! The lines that the program writes.
+ghost use Rattle.std.specs.Prelude.{◌≡◌, ◌<◌, ◌++◌, codes, All, IfOk, string_bytes};
+ghost use Rattle.ca_cli.specs.Lines.{line, word_text, rule_fault_line as fault_line};
+ghost use Rattle.ca_cli.specs.Reports.{IsSurjectiveLine};
+
+use orphan_search::{Outcome, Search};
+use rule_text::TextFault;
+use std::alloc::{AllocError, Global};
+use word_image::{Rule, digit};
+
+/// The line that says which fault the first operand has.
+pub fn rule_fault_line(alloc: Global, fault: TextFault) -> Result<String, AllocError>
+    ensures { IfOk result (λ text. string_bytes text ≡ fault_line fault) }
+{
+    match fault {
+        TextFault::Form(place) => format!(in alloc; "rule fault 1 form {place}\n"),
+        TextFault::Number => String::from_str(alloc, "rule fault 1 number\n"),
+    }
+}
+
+/// The line that says whether the rule is surjective, with an orphan where it isn't.
+pub fn surjective_line(alloc: Global, rule: &Rule) -> Result<String, AllocError>
+    ensures { IfOk result (λ text. IsSurjectiveLine rule.now (string_bytes text)) }
+{
+    // A letter is below k, so it has one digit.
+    prove!(rule.k() <= 16);
+    let mut search = Search::new(alloc)?;
+    match search.run(alloc, rule)? {
+        Outcome::Closed => String::from_str(alloc, "surjective yes\n"),
+        Outcome::Orphan => orphan_line(alloc, search.word()),
+    }
+}
+
+/// The line that names an orphan, whose letters are below 16.
+fn orphan_line(alloc: Global, word: &[u8]) -> Result<String, AllocError>
+    requires { All (λ letter. letter < 16) word.now }
+    ensures { IfOk result (λ text.
+        string_bytes text ≡ line (codes "surjective no orphan " ++ word_text word.now)) }
+{
+    let word = digits(alloc, word)?;
+    format!(in alloc; "surjective no orphan {word}\n")
+}
+
+/// The digits of a word, whose letters are below 16.
+fn digits(alloc: Global, word: &[u8]) -> Result<String, AllocError>
+    requires { All (λ letter. letter < 16) word.now }
+    ensures { IfOk result (λ text. string_bytes text ≡ word_text word.now) }
+{
+    let mut text = String::new(alloc);
+    for letter in word {
+        text.push(char::from(digit(*letter)))?;
+    }
+    Ok(text)
+}
