@@ -1,9 +1,18 @@
 -- How a reader goes over the parts of a text that stand in front of its entries.
 use Rattle.std.specs.Prelude.{◌≡◌, ◌≢◌, ℕ, ◌<◌, ◌≤◌, ◌⊎◌, Bool, true, false, List, [], ◌++◌, length, map, take, codes, slice_index, All, ℤ, pos, neg_ℤ}
+use Rattle.rule_text.specs.declared.text_fault.TextFault.{TextFault}
+use Rattle.rule_text.specs.declared.text_fault.TextFault.TheVariants as fault
 use Rattle.rule_text.specs.declared.front.Kind.{Kind}
 use Rattle.rule_text.specs.declared.front.Kind.TheVariants as kind
 use Rattle.rule_text.specs.declared.front.Front.{Front}
 use Rattle.rule_text.specs.RuleTexts.{IsDigit, IsHexDigit, IsDecimal, IsOffset, Entries, Said, Table, Number, letter_at, decimal_value, head}
+
+-- bytes that the grammar names
+abbrev pub colon : ℕ
+colon = 58
+
+abbrev pub minus_sign : ℕ
+minus_sign = 45
 
 -- from one place to the other the text has this part
 abbrev pub GoesOver : List ℕ → ℕ → ℕ → List ℕ → Type 0
@@ -28,7 +37,7 @@ pub record GoesOverField (text : List ℕ) (from to number : ℕ) : Type 0 where
 pub data LacksField (text : List ℕ) (from : ℕ) : ℕ → Type 0 where
   NoDigit : ¬ IsDigit (slice_index text from) → LacksField text from from
   NoColon : (place : ℕ) (digits : List ℕ) → GoesOver text from place digits → IsDecimal 1 2 digits
-      → (length digits ≡ 2) ⊎ ¬ IsDigit (slice_index text place) → slice_index text place ≢ 58 → LacksField text from place
+      → (length digits ≡ 2) ⊎ ¬ IsDigit (slice_index text place) → slice_index text place ≢ colon → LacksField text from place
 
 -- a minus sign or none, and what it makes of a number
 abbrev pub sign : Bool → List ℕ
@@ -53,15 +62,23 @@ pub record LacksOffset (text : List ℕ) (from place : ℕ) : Type 0 where
   pub behind : ℕ
   pub over : GoesOver text from behind (sign minus)
   pub field : LacksField text behind place
-  pub no_sign : minus ≡ false → slice_index text behind ≢ 45
+  pub no_sign : minus ≡ false → slice_index text behind ≢ minus_sign
 
 abbrev pub kind_text : Kind → List ℕ
 kind_text kind.Table = codes "t"
 kind_text kind.Number = codes "w"
 
+-- the byte is neither t nor w
+abbrev pub IsNoKind : ℕ → Type 0
+IsNoKind b = (b ≢ 116) × (b ≢ 119)
+
+-- the fault is one of form, at a place of the text of which this is true
+abbrev pub IsFormAt : List ℕ → TextFault → (ℕ → Type 0) → Type 0
+IsFormAt text f P = (place : ℕ) × (f ≡ fault.Form place) × (place ≤ length text) × P place
+
 -- a colon is the second or the third byte: no text of the bare form has one
 abbrev pub IsHeaded : List ℕ → Type 0
-IsHeaded text = (slice_index text 1 ≡ 58) ⊎ (slice_index text 2 ≡ 58)
+IsHeaded text = (slice_index text 1 ≡ colon) ⊎ (slice_index text 2 ≡ colon)
 
 -- what stands in front of the entries: nothing, or K:M:O: and the kind
 pub data IsFront (text : List ℕ) : Front → Type 0 where

@@ -74,7 +74,8 @@ pub fn decimal_number(digits: &[u8]) -> Option<u128>
 
 /// The number with one more decimal digit behind it; None stands for those from `2^128` on.
 fn with_digit(number: Option<u128>, digit: u8) -> Option<u128>
-    ensures { (n : ℕ) → SomeIff number (n < 2 ^ 128) n → SomeIff result (n * 10 + digit < 2 ^ 128) (n * 10 + digit) }
+    ensures { (n : ℕ) → SomeIff number (n < 2 ^ 128) n
+        → SomeIff result (n * 10 + digit < 2 ^ 128) (n * 10 + digit) }
 {
     number?.checked_mul(10)?.checked_add(u128::from(digit))
 }

@@ -12,7 +12,7 @@ use word_image::{Rule, check_shape};
 /// The most letters that a table has: 16 states at width 2.
 const ROOM: usize = 256;
 
-/// The rule that a text says; else the text's first fault.
+/// The rule that a text says; else the text's first fault, in the order of `TextFault`.
 pub fn parse(text: &[u8]) -> Result<Rule, TextFault>
     ensures rule { IfOk result (λ r. IsRuleText text.now r) }
     ensures fault { IfErr result (λ f. IsTextFault text.now f) }
@@ -21,8 +21,9 @@ pub fn parse(text: &[u8]) -> Result<Rule, TextFault>
 {
     let front = read_front(text)?;
     let digits = &text[front.place..];
-    if let Some(place) = first_stop(front.kind, digits) {
-        return Err(TextFault::Form(front.place + place));
+    if let Some(stop) = first_stop(front.kind, digits) {
+        let place = front.place + stop;
+        return Err(TextFault::Form(place));
     }
     accept(&front, digits)
 }

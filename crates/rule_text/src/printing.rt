@@ -7,7 +7,7 @@ use std::alloc::{AllocError, Global};
 use word_image::{Rule, digit};
 
 /// The text of a rule in the table form: lower-case digits, numbers without leading zeros, and a
-/// minus sign exactly before a negative offset.
+/// minus sign exactly before a negative offset. The only error is want of memory.
 pub fn print(alloc: Global, rule: &Rule) -> Result<Vec<u8>, AllocError>
     ensures { IfOk result (λ text. text.items ≡ printed rule.now) }
 {

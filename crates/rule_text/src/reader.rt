@@ -1,6 +1,7 @@
-ghost use Rattle.std.specs.Prelude.{◌≡◌, ◌≢◌, ℕ, ◌+◌, ◌-◌, ◌<◌, ◌≤◌, ◌∷◌, [], IfOk, IfErr, OnOk, IfSome, IfNone, IsNone, length, slice_index, MatchBool};
+ghost use Rattle.std.specs.Prelude.{◌≡◌, ◌≢◌, ℕ, ◌+◌, ◌-◌, ◌<◌, ◌≤◌, ◌∷◌, [], ◌↔◌, IfOk, IfErr, OnOk, OnErr, IfSome, IfNone, IsTrue, codes, length, slice_index};
+ghost use Rattle.std.specs.Bool.{OnTrue, OnFalse};
 ghost use Rattle.rule_text.specs.RuleTexts.{IsDigit};
-ghost use Rattle.rule_text.specs.Fronts.{GoesOver, GoesOverSmall, GoesOverField, GoesOverOffset, LacksField, LacksOffset, kind_text};
+ghost use Rattle.rule_text.specs.Fronts.{GoesOver, GoesOverSmall, GoesOverField, GoesOverOffset, LacksField, LacksOffset, IsFormAt, IsNoKind, colon, kind_text};
 ghost use Rattle.rule_text.specs.declared.text_fault.TextFault.{TextFault};
 
 use crate::front::Kind;
@@ -36,8 +37,9 @@ impl<'a> Reader<'a> {
     fn skip(&mut self, byte: u8) -> bool
         requires { 0 < byte }
         ensures text { self.new.text.now ≡ self.old.text.now }
-        ensures over { MatchBool result (GoesOver self.old.text.now self.old.place self.new.place (byte ∷ [])) (self.new.place ≡ self.old.place) }
-        ensures next { MatchBool result (slice_index self.old.text.now self.old.place ≡ byte) (slice_index self.old.text.now self.old.place ≢ byte) }
+        ensures over { OnTrue result (GoesOver self.old.text.now self.old.place self.new.place (byte ∷ [])) }
+        ensures stays { OnFalse result (self.new.place ≡ self.old.place) }
+        ensures next { IsTrue result ↔ (slice_index self.old.text.now self.old.place ≡ byte) }
     {
         if self.text.get(self.place) == Some(&byte) {
             self.place += 1;
@@ -50,8 +52,10 @@ impl<'a> Reader<'a> {
     /// Goes over a decimal digit, if one comes next, and gives its value.
     fn digit(&mut self) -> Option<u8>
         ensures text { self.new.text.now ≡ self.old.text.now }
-        ensures digit { IfSome result (λ d. GoesOver self.old.text.now self.old.place self.new.place ((d + 48) ∷ []) × (d < 10)) }
-        ensures none { IfNone result ((self.new.place ≡ self.old.place) × ¬ IsDigit (slice_index self.old.text.now self.old.place)) }
+        ensures digit { IfSome result (λ d. d < 10) }
+        ensures over { IfSome result (λ d. GoesOver self.old.text.now self.old.place self.new.place ((d + 48) ∷ [])) }
+        ensures stays { IfNone result (self.new.place ≡ self.old.place) }
+        ensures none { IfNone result (¬ IsDigit (slice_index self.old.text.now self.old.place)) }
     {
         let byte = *self.text.get(self.place)?;
         if !byte.is_ascii_digit() {
@@ -66,7 +70,8 @@ impl<'a> Reader<'a> {
         ensures text { self.new.text.now ≡ self.old.text.now }
         ensures number { IfOk result (λ n. GoesOverSmall self.old.text.now self.old.place self.new.place n) }
         ensures below { IfOk result (λ n. n < 100) }
-        ensures fault { IfErr result (λ f. (f ≡ TextFault.Form self.old.place) × ¬ IsDigit (slice_index self.old.text.now self.old.place)) }
+        ensures fault { IfErr result (λ f. f ≡ TextFault.Form self.old.place) }
+        ensures no_digit { OnErr result (¬ IsDigit (slice_index self.old.text.now self.old.place)) }
     {
         let Some(first) = self.digit() else {
             return Err(TextFault::Form(self.place));
@@ -80,8 +85,9 @@ impl<'a> Reader<'a> {
     /// Goes over a colon.
     fn colon(&mut self) -> Result<(), TextFault>
         ensures text { self.new.text.now ≡ self.old.text.now }
-        ensures over { OnOk result (GoesOver self.old.text.now self.old.place self.new.place (58 ∷ [])) }
-        ensures fault { IfErr result (λ f. (f ≡ TextFault.Form self.old.place) × (slice_index self.old.text.now self.old.place ≢ 58)) }
+        ensures over { OnOk result (GoesOver self.old.text.now self.old.place self.new.place (codes ":")) }
+        ensures fault { IfErr result (λ f. f ≡ TextFault.Form self.old.place) }
+        ensures no_colon { OnErr result (slice_index self.old.text.now self.old.place ≢ colon) }
     {
         if self.skip(b':') {
             Ok(())
@@ -95,7 +101,7 @@ impl<'a> Reader<'a> {
         ensures text { self.new.text.now ≡ self.old.text.now }
         ensures number { IfOk result (λ n. GoesOverField self.old.text.now self.old.place self.new.place n) }
         ensures below { IfOk result (λ n. n < 100) }
-        ensures fault { IfErr result (λ f. (place : ℕ) × (f ≡ TextFault.Form place) × (place ≤ length self.old.text.now) × LacksField self.old.text.now self.old.place place) }
+        ensures fault { IfErr result (λ f. IsFormAt self.old.text.now f (LacksField self.old.text.now self.old.place)) }
     {
         let number = self.small()?;
         self.colon()?;
@@ -106,7 +112,7 @@ impl<'a> Reader<'a> {
     pub fn offset(&mut self) -> Result<i8, TextFault>
         ensures text { self.new.text.now ≡ self.old.text.now }
         ensures offset { IfOk result (λ o. GoesOverOffset self.old.text.now self.old.place self.new.place o) }
-        ensures fault { IfErr result (λ f. (place : ℕ) × (f ≡ TextFault.Form place) × (place ≤ length self.old.text.now) × LacksOffset self.old.text.now self.old.place place) }
+        ensures fault { IfErr result (λ f. IsFormAt self.old.text.now f (LacksOffset self.old.text.now self.old.place)) }
     {
         let minus = self.skip(b'-');
         let number = self.field()? as i8;
@@ -117,7 +123,8 @@ impl<'a> Reader<'a> {
     pub fn kind(&mut self) -> Result<Kind, TextFault>
         ensures text { self.new.text.now ≡ self.old.text.now }
         ensures over { IfOk result (λ k. GoesOver self.old.text.now self.old.place self.new.place (kind_text k)) }
-        ensures fault { IfErr result (λ f. (f ≡ TextFault.Form self.old.place) × (slice_index self.old.text.now self.old.place ≢ 116) × (slice_index self.old.text.now self.old.place ≢ 119)) }
+        ensures fault { IfErr result (λ f. f ≡ TextFault.Form self.old.place) }
+        ensures no_kind { OnErr result (IsNoKind (slice_index self.old.text.now self.old.place)) }
     {
         if self.skip(b't') {
             Ok(Kind::Table)

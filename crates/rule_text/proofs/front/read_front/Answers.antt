@@ -1,10 +1,10 @@
-use Rattle.std.proofs.Common.{◌≡◌, ◌≢◌, ℕ, ◌≤◌, List, ◌++◌, length, take, get_or, sym, ap, subst, ◌∙◌, append_assoc, rules, FitsSigned, w8, to_z, of_z}
+use Rattle.std.proofs.Common.{◌≡◌, ℕ, ◌≤◌, List, ◌++◌, length, take, get_or, sym, ap, subst, ◌∙◌, append_assoc, rules, FitsSigned, w8, to_z, of_z}
 use Rattle.std.specs.Prelude.{codes, ℤ}
 use Rattle.std.proofs.lemmas.Int.{to_z-of_z}
 use Rattle.rule_text.specs.declared.text_fault.TextFault.{TextFault}
 use Rattle.rule_text.specs.declared.text_fault.TextFault.TheVariants as fault
 use Rattle.rule_text.specs.RuleTexts.{IsDecimal, IsOffset, IsTextFault, IsFormFault, NoForm}
-use Rattle.rule_text.specs.Fronts.{IsHeaded, NoHead, Head, GoesOver, GoesOverField, GoesOverOffset, LacksField, LacksOffset, kind_text, sign}
+use Rattle.rule_text.specs.Fronts.{IsHeaded, NoHead, Head, GoesOver, GoesOverField, GoesOverOffset, LacksField, LacksOffset, IsFormAt, IsNoKind, kind_text, sign}
 use Rattle.rule_text.proofs.laws.Scanner.{IsOffset-signed}
 use Rattle.rule_text.proofs.laws.FrontFaults.{IsFormFault-first_field, IsFormFault-second_field, IsFormFault-third_field, IsFormFault-kind}
 use Rattle.rule_text.proofs.front.read_front.Goals as goal
@@ -15,28 +15,28 @@ named {text = text} {place = place} is form = subst (λ (g : TextFault). IsTextF
 
 -- a fault of the reader's text is one of the text, which is the same
 at_first : {t text : List ℕ} {p : ℕ} {f : TextFault} → t ≡ text → p ≡ 0 → IsHeaded text
-    → (place : ℕ) × (f ≡ fault.Form place) × (place ≤ length t) × LacksField t p place → IsTextFault text f
+    → IsFormAt t f (LacksField t p) → IsTextFault text f
 at_first {text = text} {p = p} {f = f} same start headed h =
-    let g = subst (λ (u : List ℕ). (place : ℕ) × (f ≡ fault.Form place) × (place ≤ length u) × LacksField u p place) same h in
+    let g = subst (λ (u : List ℕ). IsFormAt u f (LacksField u p)) same h in
     named g.1 (IsFormFault-first_field text g.0 headed g.2 (subst (λ (q : ℕ). LacksField text q g.0) start g.3))
 
 at_second : {t text k : List ℕ} {p : ℕ} {f : TextFault} → t ≡ text → take p text ≡ k ++ codes ":" → IsDecimal 1 2 k
-    → (place : ℕ) × (f ≡ fault.Form place) × (place ≤ length t) × LacksField t p place → IsTextFault text f
+    → IsFormAt t f (LacksField t p) → IsTextFault text f
 at_second {text = text} {k = k} {p = p} {f = f} same is d h =
-    let g = subst (λ (u : List ℕ). (place : ℕ) × (f ≡ fault.Form place) × (place ≤ length u) × LacksField u p place) same h in
+    let g = subst (λ (u : List ℕ). IsFormAt u f (LacksField u p)) same h in
     named g.1 (IsFormFault-second_field text p g.0 k is d g.2 g.3)
 
 at_third : {t text k m : List ℕ} {p : ℕ} {f : TextFault} → t ≡ text → take p text ≡ k ++ codes ":" ++ m ++ codes ":" → IsDecimal 1 2 k → IsDecimal 1 2 m
-    → (place : ℕ) × (f ≡ fault.Form place) × (place ≤ length t) × LacksOffset t p place → IsTextFault text f
+    → IsFormAt t f (LacksOffset t p) → IsTextFault text f
 at_third {text = text} {k = k} {m = m} {p = p} {f = f} same is d e h =
-    let g = subst (λ (u : List ℕ). (place : ℕ) × (f ≡ fault.Form place) × (place ≤ length u) × LacksOffset u p place) same h in
+    let g = subst (λ (u : List ℕ). IsFormAt u f (LacksOffset u p)) same h in
     named g.1 (IsFormFault-third_field text p g.0 k m is d e g.2 g.3)
 
 at_kind : {t text k m o : List ℕ} {p : ℕ} {z : ℤ} {f : TextFault} → t ≡ text → take p text ≡ k ++ codes ":" ++ m ++ codes ":" ++ o ++ codes ":"
-    → IsDecimal 1 2 k → IsDecimal 1 2 m → IsOffset o z → p ≤ length t → (f ≡ fault.Form p) × (get_or t p 0 ≢ 116) × (get_or t p 0 ≢ 119) → IsTextFault text f
-at_kind {text = text} {k = k} {m = m} {o = o} {p = p} {z = z} {f = f} same is d e offset within h =
-    let g = subst (λ (u : List ℕ). (p ≤ length u) × (f ≡ fault.Form p) × (get_or u p 0 ≢ 116) × (get_or u p 0 ≢ 119)) same (within, h.0, h.1, h.2) in
-    named g.1 (IsFormFault-kind text p k m o z is g.0 d e offset g.2 g.3)
+    → IsDecimal 1 2 k → IsDecimal 1 2 m → IsOffset o z → p ≤ length t → f ≡ fault.Form p → IsNoKind (get_or t p 0) → IsTextFault text f
+at_kind {text = text} {k = k} {m = m} {o = o} {p = p} {z = z} {f = f} same is d e offset within form none =
+    let g = subst (λ (u : List ℕ). (p ≤ length u) × IsNoKind (get_or u p 0)) same (within, none) in
+    named form (IsFormFault-kind text p k m o z is g.0 d e offset g.1.0 g.1.1)
 
 -- what the reader went over in its text, which is the text
 first_is : {t text : List ℕ} {p q n : ℕ} → t ≡ text → p ≡ 0 → (h : GoesOverField t p q n) → take q text ≡ h.digits ++ codes ":"
@@ -97,7 +97,7 @@ returns-in_err-kind-clause-fault c =
     let o = c.in_ok-o.ensures.offset in
     let is = third_is same_m (second_is same_k (first_is same c.new-reader.ensures.place k) m) o in
     let fault : IsTextFault text c.in_err-kind.field-0.0 =
-    at_kind (c.in_ok-o.ensures.text ∙ same_m) is k.decimal m.decimal (IsOffset-signed o.minus o.digits o.decimal) c.offset.new.self.within c.in_err-kind.ensures.fault in
+    at_kind (c.in_ok-o.ensures.text ∙ same_m) is k.decimal m.decimal (IsOffset-signed o.minus o.digits o.decimal) c.offset.new.self.within c.in_err-kind.ensures.fault c.in_err-kind.ensures.no_kind in
     search rules
 
 pub returns-clause-front : goal.returns-clause-front

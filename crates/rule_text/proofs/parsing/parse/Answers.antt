@@ -1,6 +1,7 @@
-use Rattle.std.proofs.Common.{ℕ, List, drop, length-drop, subst, Err, arith, rules}
+use Rattle.std.proofs.Common.{ℕ, ◌+◌, ◌-◌, List, take, drop, length, length-drop, subst, Err, arith, rules}
 use Rattle.std.specs.Prelude.{IfOk, IfErr}
 use Rattle.std.proofs.lemmas.List.{take_rest}
+use Rattle.rule_text.specs.declared.front.Front.{Front}
 use Rattle.rule_text.specs.RuleTexts.{IsRuleText, IsTextFault, IsAnswer, NoForm}
 use Rattle.rule_text.specs.Fronts.{IsEntries, IsStop, said_of}
 use Rattle.rule_text.proofs.laws.Texts.{IsAnswer-rule, IsAnswer-fault, every_rule, every_fault}
@@ -21,21 +22,22 @@ returns-in_err-front-clause-every_fault c =
     let fault : IfErr c.from_residual.result (λ f. IsTextFault text f) = search rules in
     every_fault text c.from_residual.result rule fault
 
--- where the digits go wrong, the text does
-stop_of : (c : goal.In-Some) → IsStop c.in_ok-front.front.kind (drop c.in_ok-front.front.place c.args.text.now) c.in-Some.place
-stop_of c =
-    let f = c.in_ok-front.front in
-    subst (λ (x : List ℕ). IsStop f.kind x c.in-Some.place) (take_rest c.args.text.now f.place) c.in-Some.ensures.some
+-- the digits behind a front, as the code takes them
+stop_of : (text : List ℕ) (f : Front) (n : ℕ) → IsStop f.kind (take (length text - f.place) (drop f.place text)) n → IsStop f.kind (drop f.place text) n
+stop_of text f n stop = subst (λ (x : List ℕ). IsStop f.kind x n) (take_rest text f.place) stop
 
-pub overflow_add-result : goal.overflow_add-result
-overflow_add-result c =
+pub overflow_add-place : goal.overflow_add-place
+overflow_add-place c =
     let text = c.args.text.now in
     let f = c.in_ok-front.front in
-    let inside = IsStop-within f.kind (drop f.place text) c.in-Some.place (stop_of c) in
+    let inside = IsStop-within f.kind (drop f.place text) c.in-Some.stop (stop_of text f c.in-Some.stop c.in-Some.ensures.some) in
     omega (arith, inside, length-drop f.place text, IsFront-within c.in_ok-front.ensures.front)
 
 pub returns-in-Some-clause-fault : goal.returns-in-Some-clause-fault
-returns-in-Some-clause-fault c = NoForm _ (IsFormFault-front c.args.text.now c.in_ok-front.front c.in-Some.place c.in_ok-front.ensures.front (stop_of c))
+returns-in-Some-clause-fault c =
+    let text = c.args.text.now in
+    let f = c.in_ok-front.front in
+    NoForm (f.place + c.in-Some.stop) (IsFormFault-front text f c.in-Some.stop c.in_ok-front.ensures.front (stop_of text f c.in-Some.stop c.in-Some.ensures.some))
 
 pub returns-in-Some-clause-every_rule : goal.returns-in-Some-clause-every_rule
 returns-in-Some-clause-every_rule c = every_rule c.args.text.now (Err _) tt (returns-in-Some-clause-fault c)
