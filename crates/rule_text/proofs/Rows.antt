@@ -1,20 +1,52 @@
 -- What the definitions give at some texts.
-use Rattle.std.proofs.Common.{◌≡◌, [], ◌∷◌, Some, None, refl}
+use Rattle.std.proofs.Common.{◌≡◌, refl, [], ◌∷◌, pos, negsuc, Some, None, map}
 use Rattle.std.specs.Prelude.{codes}
+use Rattle.std.specs.Fmt.{digits}
 use Rattle.rule_text.specs.declared.text_fault.TextFault.TheVariants as fault
-use Rattle.rule_text.specs.RuleTexts.{bare, decimal_value, fault_of, rule_of}
+use Rattle.rule_text.specs.RuleTexts.{Table, Number, bare, decimal_value, fault_of, letter_at, printed, rule_of}
 
 value_110 : decimal_value (codes "110") ≡ 110
 value_110 = refl
 
+printed_110 : printed (rule_of (bare 110)) ≡ codes "2:3:-1:t01110110"
+unfolding digits
+printed_110 = refl
+
+printed_30 : printed (rule_of (bare 30)) ≡ codes "2:3:-1:t01111000"
+unfolding digits
+printed_30 = refl
+
 accepted_110 : fault_of (bare 110) ≡ None
 accepted_110 = refl
 
-table_110 : (rule_of (bare 110)).table ≡ 0 ∷ 1 ∷ 1 ∷ 1 ∷ 0 ∷ 1 ∷ 1 ∷ 0 ∷ []
-table_110 = refl
-
-table_30 : (rule_of (bare 30)).table ≡ 0 ∷ 1 ∷ 1 ∷ 1 ∷ 1 ∷ 0 ∷ 0 ∷ 0 ∷ []
-table_30 = refl
-
 too_large : fault_of (bare 256) ≡ Some fault.Number
 too_large = refl
+
+-- 4:3:-1:w with the number 2 ^ 128
+beyond_128_bits : fault_of (record { states = 4; width = 3; offset = negsuc 0; entries = Number 340282366920938463463374607431768211456; place = 8 }) ≡ Some fault.Number
+beyond_128_bits = refl
+
+greatest_of_128_bits : fault_of (record { states = 4; width = 3; offset = negsuc 0; entries = Number 340282366920938463463374607431768211455; place = 8 }) ≡ None
+greatest_of_128_bits = refl
+
+-- 7:2:0:w5, 3:4:0:t0, 2:3:-1:t01110112, 2:3:-1:t0111, 2:3:15:t01110110, 17:2:0:t0, 2:6:0:t0
+first_fault_kind : fault_of (record { states = 7; width = 2; offset = pos 0; entries = Number 5; place = 7 }) ≡ Some fault.Kind
+first_fault_kind = refl
+
+first_fault_nodes : fault_of (record { states = 3; width = 4; offset = pos 0; entries = Table (0 ∷ []); place = 7 }) ≡ Some fault.Nodes
+first_fault_nodes = refl
+
+first_fault_letter : fault_of (record { states = 2; width = 3; offset = negsuc 0; entries = Table (map letter_at (codes "01110112")); place = 8 }) ≡ Some (fault.Letter 15)
+first_fault_letter = refl
+
+first_fault_length : fault_of (record { states = 2; width = 3; offset = negsuc 0; entries = Table (map letter_at (codes "0111")); place = 8 }) ≡ Some fault.Length
+first_fault_length = refl
+
+first_fault_offset : fault_of (record { states = 2; width = 3; offset = pos 15; entries = Table (map letter_at (codes "01110110")); place = 8 }) ≡ Some fault.Offset
+first_fault_offset = refl
+
+first_fault_states : fault_of (record { states = 17; width = 2; offset = pos 0; entries = Table (0 ∷ []); place = 8 }) ≡ Some fault.States
+first_fault_states = refl
+
+first_fault_width : fault_of (record { states = 2; width = 6; offset = pos 0; entries = Table (0 ∷ []); place = 7 }) ≡ Some fault.Width
+first_fault_width = refl

@@ -1,4 +1,9 @@
+pub mod Scanner
 pub mod Texts
 pub mod FormFaults
+pub mod FrontFaults
+pub mod Fronts
 pub mod Decimals
 pub mod Letters
+pub mod Numbers
+pub mod Printed

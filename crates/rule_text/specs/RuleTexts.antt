@@ -1,36 +1,75 @@
 -- The texts of a rule: their grammar, what each means, and which fault comes first.
-use Rattle.std.specs.Prelude.{◌≡◌, ℕ, ◌-◌, ◌^◌, ◌<◌, ◌≤◌, List, ◌++◌, length, map, take, All, nat_le, if◌then◌else◌, Option, Some, None, Result, Ok, Err, ℤ, negsuc, reverse}
+use Rattle.std.specs.Prelude.{◌≡◌, ◌≢◌, ℕ, ◌+◌, ◌-◌, ◌^◌, ◌<◌, ◌≤◌, List, ◌++◌, length, map, take, codes, Option, Some, None, Result, Ok, Err, All, nat_lt, nat_le, unwrap_or, ◌&&◌, if◌then◌else◌, ℤ, pos, negsuc, neg_ℤ, reverse}
+use Rattle.std.specs.Option.{option_map, option_or}
+use Rattle.std.specs.Fmt.{decimal}
 use Rattle.word_image.specs.LocalRules.{LocalRule, value, word_of}
+use Rattle.word_image.specs.Digits.{lower_digit}
+use Rattle.word_image.specs.RuleFaults.{shape_fault, table_fault}
+use Rattle.word_image.specs.declared.local_rule.RuleFault.{RuleFault}
+use Rattle.word_image.specs.declared.local_rule.RuleFault.TheVariants as limit
 use Rattle.rule_text.specs.declared.text_fault.TextFault.{TextFault}
 use Rattle.rule_text.specs.declared.text_fault.TextFault.TheVariants as fault
 
+-- the value of a hexadecimal digit of either case
+abbrev pub hex_value : ℕ → Option ℕ
+hex_value b =
+    if nat_le 48 b && nat_le b 57 then Some (b - 48)
+    else (if nat_le 65 b && nat_le b 70 then Some (b - 55)
+    else (if nat_le 97 b && nat_le b 102 then Some (b - 87)
+    else None))
+
+abbrev pub IsHexDigit : ℕ → Type 0
+IsHexDigit b = hex_value b ≢ None
+
+abbrev pub letter_at : ℕ → ℕ
+letter_at b = unwrap_or (hex_value b) 0
+
+abbrev pub IsDigit : ℕ → Type 0
+IsDigit b = (48 ≤ b) × (b ≤ 57)
+
 -- from low to high decimal digits
 pub record IsDecimal (low high : ℕ) (text : List ℕ) : Type 0 where
-  pub digits : All (λ b. (48 ≤ b) × (b ≤ 57)) text
+  pub digits : All IsDigit text
   pub least : low ≤ length text
   pub most : length text ≤ high
 
 abbrev pub decimal_value : List ℕ → ℕ
 decimal_value text = value 10 (map (λ b. b - 48) text)
 
--- what stands for the table: its number
+-- one or two decimal digits, behind a minus sign or not, and the offset that they name
+pub data IsOffset : List ℕ → ℤ → Type 0 where
+  Plain : (digits : List ℕ) → IsDecimal 1 2 digits → IsOffset digits (pos (decimal_value digits))
+  Minus : (digits : List ℕ) → IsDecimal 1 2 digits → IsOffset (codes "-" ++ digits) (neg_ℤ (pos (decimal_value digits)))
+
+-- what stands behind the colon: the table's letters, or the number
 pub data Entries : Type 0 where
+  Table : (letters : List ℕ) → Entries
   Number : (number : ℕ) → Entries
 
--- what a text of the grammar says, accepted or not
+-- what a text of the grammar says, accepted or not; place is where its entries begin
 pub record Said : Type 0 where
   pub states : ℕ
   pub width : ℕ
   pub offset : ℤ
   pub entries : Entries
+  pub place : ℕ
+
+abbrev pub head : List ℕ → List ℕ → List ℕ → List ℕ → List ℕ
+head k m o kind = k ++ codes ":" ++ m ++ codes ":" ++ o ++ codes ":" ++ kind
 
 -- the rule of two states, width 3 and offset -1 with this number
 abbrev pub bare : ℕ → Said
-bare n = record { states = 2; width = 3; offset = negsuc 0; entries = Entries.Number n }
+bare n = record { states = 2; width = 3; offset = negsuc 0; entries = Entries.Number n; place = 0 }
 
--- the grammar: the bare form
+-- the grammar: the bare form, the table form and the number form
 pub data Says : List ℕ → Said → Type 0 where
   Bare : (digits : List ℕ) → IsDecimal 1 39 digits → Says digits (bare (decimal_value digits))
+  InTable : (k m o digits : List ℕ) (offset : ℤ) → IsDecimal 1 2 k → IsDecimal 1 2 m → IsOffset o offset → All IsHexDigit digits
+      → Says (head k m o (codes "t") ++ digits)
+      (record { states = decimal_value k; width = decimal_value m; offset = offset; entries = Entries.Table (map letter_at digits); place = length (head k m o (codes "t")) })
+  InNumber : (k m o digits : List ℕ) (offset : ℤ) → IsDecimal 1 2 k → IsDecimal 1 2 m → IsOffset o offset → IsDecimal 1 39 digits
+      → Says (head k m o (codes "w") ++ digits)
+      (record { states = decimal_value k; width = decimal_value m; offset = offset; entries = Entries.Number (decimal_value digits); place = length (head k m o (codes "w")) })
 
 -- some text of the grammar begins so
 pub record Begins (text : List ℕ) : Type 0 where
@@ -45,24 +84,35 @@ pub record IsFormFault (text : List ℕ) (place : ℕ) : Type 0 where
   pub begins : Begins (take place text)
   pub longest : (n : ℕ) → place < n → n ≤ length text → ¬ Begins (take n text)
 
--- the fault of what a text says: the number is beyond those of the tables of this shape
+-- the fault of a rule whose table begins at this place of the text
+abbrev pub in_text : ℕ → RuleFault → TextFault
+in_text place limit.States = fault.States
+in_text place limit.Width = fault.Width
+in_text place limit.Nodes = fault.Nodes
+in_text place limit.Offset = fault.Offset
+in_text place limit.Length = fault.Length
+in_text place (limit.Letter i) = fault.Letter (place + i)
+
+-- the first fault of what a text says, in the order of the shape, the kind, the length, the letters and the number
 abbrev pub number_fault : ℕ → ℕ → ℕ → Option TextFault
-number_fault k m n = if nat_le (k ^ (k ^ m)) n then Some fault.Number else None
+number_fault k m n = if nat_lt 6 k then Some fault.Kind else (if nat_le (k ^ (k ^ m)) n then Some fault.Number else None)
 
 abbrev pub entries_fault : Said → Entries → Option TextFault
+entries_fault s (Entries.Table letters) = option_map (in_text s.place) (table_fault s.states s.width letters)
 entries_fault s (Entries.Number n) = number_fault s.states s.width n
 
 abbrev pub fault_of : Said → Option TextFault
-fault_of s = entries_fault s s.entries
+fault_of s = option_or (option_map (in_text s.place) (shape_fault s.states s.width s.offset)) (entries_fault s s.entries)
 
--- the rule that a text says: the letter at value v is digit v of the number, from the least significant on
+-- the table that a text says; that of a number has its digits in base k, from the least significant on
 abbrev pub table_of : Said → Entries → List ℕ
+table_of s (Entries.Table letters) = letters
 table_of s (Entries.Number n) = reverse (word_of s.states (s.states ^ s.width) n)
 
 abbrev pub rule_of : Said → LocalRule
 rule_of s = record { states = s.states; width = s.width; offset = s.offset; table = table_of s s.entries }
 
--- the answer to what a text says: the rule where it's accepted, else the fault
+-- the answer to what a text says: the rule where it's accepted, else the first fault
 abbrev pub IsAnswer : Said → Result LocalRule TextFault → Type 0
 IsAnswer s (Ok r) = (fault_of s ≡ None) × (r ≡ rule_of s)
 IsAnswer s (Err f) = fault_of s ≡ Some f
@@ -78,3 +128,11 @@ pub record IsRuleText (text : List ℕ) (r : LocalRule) : Type 0 where
 pub data IsTextFault (text : List ℕ) : TextFault → Type 0 where
   NoForm : (place : ℕ) → IsFormFault text place → IsTextFault text (fault.Form place)
   Refused : (said : Said) (f : TextFault) → Says text said → fault_of said ≡ Some f → IsTextFault text f
+
+-- the printed form: the table form in lower case
+abbrev pub offset_text : ℤ → List ℕ
+offset_text (pos n) = decimal n
+offset_text (negsuc n) = codes "-" ++ decimal (n + 1)
+
+abbrev pub printed : LocalRule → List ℕ
+printed r = head (decimal r.states) (decimal r.width) (offset_text r.offset) (codes "t") ++ map lower_digit r.table

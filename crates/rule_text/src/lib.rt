@@ -1,13 +1,31 @@
-//! The texts of a rule: what `parse` reads.
+//! The texts of a rule: reading, printing and the Wolfram number.
 //!
-//! A text of 1 to 39 decimal digits is the Wolfram number of a rule with two states, width 3 and
-//! offset -1: the letter at the window of value v is the number's binary digit v, counted from
-//! the least significant on. So `110` is the rule whose table is 0 1 1 1 0 1 1 0.
+//! A rule with k states, width m and offset o has three kinds of text:
+//!
+//! | Form | Text | Meaning |
+//! |---|---|---|
+//! | bare | 1 to 39 decimal digits | the same as `2:3:-1:w` and these digits |
+//! | table | `K:M:O:t` and hexadecimal digits of either case | the table's letters, by the value of their window |
+//! | number | `K:M:O:w` and 1 to 39 decimal digits | the Wolfram number |
+//!
+//! K and M are one or two decimal digits, O is one or two behind a minus sign or none. The Wolfram
+//! number is the sum over all windows of the letter there times k to the window's value. So `110`,
+//! `2:3:-1:w110` and `2:3:-1:t01110110` are one rule.
+//!
+//! `parse` goes over the text once. What stands in front of the entries is read by a small reader,
+//! part by part; the entries are then taken for what the front says that they are.
 #![tactic(auto)]
 
-mod numbers;
+mod digits;
+mod front;
 mod parsing;
+mod printing;
+mod reader;
 mod text_fault;
 
 pub use parsing::parse;
+pub use printing::{number, print, printed_text_is_read};
 pub use text_fault::TextFault;
+
+#[cfg(test)]
+mod tests;

@@ -1,60 +1,88 @@
-ghost use Rattle.std.specs.Prelude.{◌≡◌, ℕ, ◌^◌, ◌<◌, IfOk, IfErr};
-ghost use Rattle.std.specs.Option.{SomeIff};
-ghost use Rattle.word_image.specs.LocalRules.{LocalRule};
+ghost use Rattle.std.specs.Prelude.{◌≡◌, ℕ, ◌+◌, ◌^◌, ◌<◌, IfOk, IfErr, None, All, map};
+ghost use Rattle.word_image.specs.LocalRules.{LocalRule, IsShape};
 ghost use Rattle.rule_text.specs.declared.text_fault.TextFault.{TextFault};
-ghost use Rattle.rule_text.specs.RuleTexts.{IsRuleText, IsTextFault, IsAnswer, IsDecimal, bare, decimal_value};
+ghost use Rattle.rule_text.specs.RuleTexts.{IsRuleText, IsTextFault, IsAnswer, IsHexDigit, IsDecimal, Table, Number, letter_at, decimal_value};
+ghost use Rattle.rule_text.specs.Fronts.{IsEntries, said_of, said_with};
 
-use crate::numbers::{peel_letters, with_digit};
-use crate::text_fault::TextFault;
-use word_image::Rule;
+use crate::digits::{decimal_number, first_stop, write_letters, write_number};
+use crate::front::{Front, Kind, read_front};
+use crate::text_fault::{TextFault, in_text};
+use word_image::{Rule, check_shape};
 
-/// The most digits that a number has in a text.
-const MOST_DIGITS: usize = 39;
+/// The most letters that a table has: 16 states at width 2.
+const ROOM: usize = 256;
 
-/// The rule that a text says; else the text's first fault.
+/// The rule that a text says; else the text's first fault, in the order of `TextFault`.
 pub fn parse(text: &[u8]) -> Result<Rule, TextFault>
     ensures rule { IfOk result (λ r. IsRuleText text.now r) }
     ensures fault { IfErr result (λ f. IsTextFault text.now f) }
     ensures every_rule { (r : LocalRule) → IsRuleText text.now r → result ≡ Ok r }
     ensures every_fault { (f : TextFault) → IsTextFault text.now f → result ≡ Err f }
 {
-    match decimal(text)? {
-        Some(number) => elementary(number),
-        None => Err(TextFault::Number),
+    let front = read_front(text)?;
+    let digits = &text[front.place..];
+    if let Some(stop) = first_stop(front.kind, digits) {
+        let place = front.place + stop;
+        return Err(TextFault::Form(place));
+    }
+    accept(&front, digits)
+}
+
+/// The rule that a front says with the digits behind it; else the first fault.
+fn accept(front: &Front, digits: &[u8]) -> Result<Rule, TextFault>
+    requires entries { IsEntries front.now.kind digits.now }
+    requires place { front.now.place + 2 ^ 16 < 2 ^ 64 }
+    ensures { IsAnswer (said_of front.now digits.now) result }
+{
+    if let Err(fault) = check_shape(front.k, front.m, front.o) {
+        return Err(in_text(fault, front.place));
+    }
+    match front.kind {
+        Kind::Table => accept_table(front, digits),
+        Kind::Number => accept_number(front, digits),
     }
 }
 
-/// The number of 1 to 39 decimal digits, None where it is `2^128` or more.
-fn decimal(text: &[u8]) -> Result<Option<u128>, TextFault>
-    ensures number { IfOk result (λ n. IsDecimal 1 39 text.now × SomeIff n (decimal_value text.now < 2 ^ 128) (decimal_value text.now)) }
-    ensures fault { IfErr result (λ f. IsTextFault text.now f) }
+/// The rule of the table form, for an accepted shape.
+fn accept_table(front: &Front, digits: &[u8]) -> Result<Rule, TextFault>
+    requires shape { IsShape front.now.k front.now.m front.now.o }
+    requires digits { All IsHexDigit digits.now }
+    requires place { front.now.place + 2 ^ 16 < 2 ^ 64 }
+    ensures { IsAnswer (said_with front.now (Table (map letter_at digits.now))) result }
 {
-    let mut number = Some(0);
-    for (place, byte) in text.iter().enumerate() {
-        if place == MOST_DIGITS || !byte.is_ascii_digit() {
-            return Err(TextFault::Form(place));
-        }
-        number = with_digit(number, *byte - b'0');
+    let size = usize::from(front.k).pow(u32::from(front.m));
+    if digits.len() != size {
+        return Err(TextFault::Length);
     }
-    if text.is_empty() {
-        return Err(TextFault::Form(0));
+    let mut table = [0; ROOM];
+    let table = &mut table[..size];
+    write_letters(table, digits);
+    match Rule::new(front.k, front.m, front.o, table) {
+        Ok(rule) => Ok(rule),
+        Err(fault) => Err(in_text(fault, front.place)),
     }
-    Ok(number)
 }
 
-/// The rule of two states, width 3 and offset -1 with this Wolfram number.
-fn elementary(number: u128) -> Result<Rule, TextFault>
-    ensures { IsAnswer (bare number) result }
+/// The rule of the number form and of the bare form, for an accepted shape.
+fn accept_number(front: &Front, digits: &[u8]) -> Result<Rule, TextFault>
+    requires shape { IsShape front.now.k front.now.m front.now.o }
+    requires digits { IsDecimal 1 39 digits.now }
+    ensures { IsAnswer (said_with front.now (Number (decimal_value digits.now))) result }
 {
-    let mut table = [0; 8];
-    if peel_letters(&mut table, 2, number) > 0 {
+    if front.k > 6 {
+        return Err(TextFault::Kind);
+    }
+    let Some(number) = decimal_number(digits) else {
+        return Err(TextFault::Number);
+    };
+    let size = usize::from(front.k).pow(u32::from(front.m));
+    let mut table = [0; ROOM];
+    let table = &mut table[..size];
+    if !write_number(table, front.k, number) {
         return Err(TextFault::Number);
     }
-    match Rule::new(2, 3, -1, &table) {
+    match Rule::new(front.k, front.m, front.o, table) {
         Ok(rule) => Ok(rule),
         Err(_) => unreachable!(),
     }
 }
-
-#[cfg(test)]
-mod tests;

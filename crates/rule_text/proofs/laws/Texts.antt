@@ -1,15 +1,22 @@
 -- A text says one thing, and has one rule or one first fault.
-use Rattle.std.proofs.Common.{◌≡◌, ℕ, List, Ok, Err, Result, refl, sym, ap, ◌∙◌, inl, inr}
+use Rattle.std.proofs.Common.{◌≡◌, ℕ, List, Ok, Err, Result, sym, ap, ◌∙◌, inl, inr}
 use Rattle.std.specs.Prelude.{IfOk, IfErr}
 use Rattle.std.proofs.lemmas.Bool.{cases_order}
 use Rattle.word_image.specs.LocalRules.{LocalRule}
 use Rattle.rule_text.specs.declared.text_fault.TextFault.{TextFault}
 use Rattle.rule_text.specs.declared.text_fault.TextFault.TheVariants as fault
-use Rattle.rule_text.specs.RuleTexts.{Said, Says, Bare, IsFormFault, IsRuleText, IsTextFault, NoForm, Refused, IsAnswer, fault_of, rule_of}
+use Rattle.rule_text.specs.RuleTexts.{Said, Says, IsFormFault, IsRuleText, IsTextFault, NoForm, Refused, IsAnswer, fault_of, rule_of}
+use Rattle.rule_text.proofs.laws.Scanner.{finish, Finishes-Says, Reaches-unique}
 
 -- the grammar gives a text one meaning
 pub Says-unique : {text : List ℕ} {s t : Said} → Says text s → Says text t → s ≡ t
-Says-unique (Bare digits h) (Bare _ g) = refl
+Says-unique f g =
+    let a = Finishes-Says f in
+    let b = Finishes-Says g in
+    let same : finish a.state ≡ finish b.state = ap finish (Reaches-unique a.reaches b.reaches) in
+    let first = a.finish in
+    let second = b.finish in
+    cc
 
 -- a text has one longest front that begins a text of the grammar
 pub IsFormFault-unique : {text : List ℕ} {p q : ℕ} → IsFormFault text p → IsFormFault text q → p ≡ q

@@ -1,6 +1,6 @@
 use Rattle.std.proofs.Common.{◌≡◌, ◌/◌, ◌%◌, ◌^◌, take, reverse}
 use Rattle.word_image.specs.LocalRules.{word_of}
-use Rattle.rule_text.proofs.numbers.peel_letters.Given as goal
+use Rattle.rule_text.proofs.digits.write_number.Given as goal
 
 -- the letters so far, and what is left of the number
 abbrev pub invariant-loop-letter : goal.invariant-loop-letter

@@ -1,0 +1,10 @@
+use Rattle.std.proofs.Common.{◌^◌, ◌<◌, take}
+use Rattle.std.specs.Option.{SomeIff}
+use Rattle.rule_text.specs.RuleTexts.{decimal_value}
+use Rattle.rule_text.proofs.digits.decimal_number.Given as goal
+
+-- the number of the digits so far
+abbrev pub invariant-loop-byte : goal.invariant-loop-byte
+invariant-loop-byte l =
+    let front = take l.byte-index l.digits in
+    SomeIff l.number (decimal_value front < 2 ^ 128) (decimal_value front)

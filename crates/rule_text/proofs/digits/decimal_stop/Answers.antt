@@ -1,0 +1,22 @@
+use Rattle.std.proofs.Common.{◌≢◌, length, arith, subst}
+use Rattle.std.specs.Prelude.{List, All}
+use Rattle.std.proofs.lemmas.List.{take_all}
+use Rattle.std.proofs.lemmas.List.Elements.{All-more}
+use Rattle.rule_text.specs.RuleTexts.{IsDigit}
+use Rattle.rule_text.proofs.digits.decimal_stop.Goals as goal
+
+pub loop-place-preserved : goal.loop-place-preserved
+loop-place-preserved c = record {
+  digits = All-more IsDigit c.args.digits.now c.loop-place.place 0 c.loop-place-test.true c.loop-place.invariant.digits c.if-not-is_ascii_digit.ensures.cases;
+  few = omega arith;
+}
+
+pub returns-else-is_empty-clause-none : goal.returns-else-is_empty-clause-none
+returns-else-is_empty-clause-none c =
+    let digits = c.args.digits.now in
+    let some : length digits ≢ 0 = grind arith in
+    record {
+      digits = subst (λ (x : List _). All IsDigit x) (take_all c.loop-place.place digits c.loop-place-test.false) c.loop-place.invariant.digits;
+      least = omega arith;
+      most = omega arith;
+    }

@@ -1,0 +1,8 @@
+use Rattle.std.proofs.Common.{take}
+use Rattle.std.specs.Prelude.{All}
+use Rattle.rule_text.specs.RuleTexts.{IsHexDigit}
+use Rattle.rule_text.proofs.digits.hex_stop.Given as goal
+
+-- the bytes so far are hexadecimal digits
+abbrev pub invariant-loop-place : goal.invariant-loop-place
+invariant-loop-place l = All IsHexDigit (take l.place l.digits)

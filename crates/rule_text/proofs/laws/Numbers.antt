@@ -1,0 +1,130 @@
+-- Wolfram numbers and the rules that they stand for.
+use Rattle.std.proofs.Common.{◌≡◌, ℕ, zero, suc, ◌+◌, ◌-◌, ◌*◌, ◌/◌, ◌^◌, ◌<◌, ◌≤◌, Bool, ◌&&◌, ◌||◌, List, [], ◌∷◌, ◌++◌, length, reverse, take, drop, map-id, add-one, zero-add, length-drop, length-take-le, Some, get_or, inl, inr, refl, sym, ap, subst, ◌∙◌, arith, true, false, mod-lt, zero-mul}
+use Rattle.std.specs.Prelude.{ℤ, nat_lt, nat_le, ◌↔◌, sum_by}
+use Rattle.std.specs.List.{range_with_len}
+use Rattle.std.proofs.Math.Nat.{div-eq_of_lt, pow-le-pow_right}
+use Rattle.std.proofs.lemmas.Nat.{div-add-mod'}
+use Rattle.std.proofs.lemmas.Bool.{cases_eq, false≢true}
+use Rattle.std.proofs.lemmas.Bool.Decides.{nat_tests}
+use Rattle.std.proofs.lemmas.List.{get_or-reverse, length-reverse, reverse-append, drop_more, take_more, take_all}
+use Rattle.std.proofs.lemmas.List.FromFn.{map-range_with_len_more}
+use Rattle.std.proofs.lemmas.List.Sums.{sum_by_push}
+use Rattle.std.proofs.lemmas.List.Elements.{All-from_get_or, All-drop}
+use Rattle.std.specs.Option.{option_map, option_or}
+use Rattle.word_image.specs.LocalRules.{LocalRule, IsShape, IsRule, IsWord, value, word_of, wolfram_number}
+use Rattle.word_image.proofs.laws.RuleFaults.{shape_fault-IsShape}
+use Rattle.word_image.proofs.laws.Values.{length-word_of, IsWord-word_of, value-snoc, value-below}
+use Rattle.rule_text.specs.declared.text_fault.TextFault.TheVariants as fault
+use Rattle.rule_text.specs.RuleTexts.{Said, Number, in_text, number_fault, entries_fault, fault_of}
+
+-- each number below a limit passes a test that all of them pass
+abbrev all_below : (ℕ → Bool) → ℕ → Bool
+all_below p zero = true
+all_below p (suc n) = p n && all_below p n
+
+both : (a b : Bool) → (a && b) ≡ true → (a ≡ true) × (b ≡ true)
+both true b h = (refl, h)
+both false b h = absurd (false≢true h)
+
+all_below-is : (p : ℕ → Bool) (n : ℕ) → all_below p n ≡ true → (i : ℕ) → i < n → p i ≡ true
+all_below-is p zero all i h = absurd (omega arith)
+all_below-is p (suc n) all i h =
+    let parts = both (p n) (all_below p n) all in
+    elim (cases_eq i n) [
+      | inl last ↦ ap p last ∙ parts.0
+      | inr other ↦ all_below-is p n parts.1 i (omega arith)
+    ]
+
+-- with at most 6 states every number of an accepted shape fits 128 bits
+abbrev fits : ℕ → ℕ → Bool
+fits k m = nat_lt k 2 || (nat_lt m 2 || (nat_lt 16 (k ^ (m - 1)) || nat_le (k ^ (k ^ m)) (2 ^ 128)))
+
+pub number_limit : (k m : ℕ) (o : ℤ) → IsShape k m o → k ≤ 6 → k ^ (k ^ m) ≤ 2 ^ 128
+number_limit k m o shape few =
+    let all : all_below (λ k. all_below (fits k) 6) 7 ≡ true = refl in
+    let row : all_below (fits k) 6 ≡ true = all_below-is (λ k. all_below (fits k) 6) 7 all k (omega arith) in
+    let width = shape.most_width in
+    let here : fits k m ≡ true = all_below-is (fits k) 6 row m (omega arith) in
+    let states = shape.least_states in
+    let least = shape.least_width in
+    let nodes = shape.most_nodes in
+    grind (arith, nat_tests)
+
+-- of an accepted shape the entries alone may have a fault
+pub fault_of-shape : (s : Said) → IsShape s.states s.width s.offset → fault_of s ≡ entries_fault s s.entries
+fault_of-shape s shape =
+    ap (λ f. option_or (option_map (in_text s.place) f) (entries_fault s s.entries)) (shape_fault-IsShape s.states s.width s.offset shape)
+
+-- a word read backwards
+IsWord-reverse : (k : ℕ) (w : List ℕ) → IsWord k w → IsWord k (reverse w)
+IsWord-reverse k w word =
+    All-from_get_or (λ a. a < k) (reverse w) 0 (λ i h.
+    let inside : i < length w = omega (arith, length-reverse w) in
+    let same : get_or (reverse w) i 0 ≡ get_or w (length w - 1 - i) 0 = get_or-reverse w i 0 inside in
+    let letter : get_or w (length w - 1 - i) 0 < k = word (length w - 1 - i) 0 (omega arith) in
+    omega arith)
+
+-- the digits of a number of an accepted shape are the table of a rule
+pub IsRule-number : (k m : ℕ) (o p : ℤ) (long n : ℕ) (table : List ℕ) → IsShape k m o → p ≡ o → long ≡ k ^ m → n < k ^ long
+    → table ≡ reverse (word_of k long n) → IsRule (record { states = k; width = m; offset = p; table = table })
+IsRule-number k m o p long n table shape same size below is =
+    let word : IsWord k (reverse (word_of k long n)) = IsWord-reverse k (word_of k long n) (IsWord-word_of k long n below) in
+    record {
+      shape = subst (λ (q : ℤ). IsShape k m q) (sym same) shape;
+      entries = ap length is ∙ length-reverse (word_of k long n) ∙ length-word_of k long n ∙ size;
+      letters = subst (λ (t : List ℕ). IsWord k t) (sym is) word;
+    }
+
+-- a number from k ^ (k ^ m) on has no table
+pub fault_of-beyond : (k m : ℕ) (o : ℤ) (place n : ℕ) → IsShape k m o → k ≤ 6 → k ^ (k ^ m) ≤ n
+    → fault_of (record { states = k; width = m; offset = o; entries = Number n; place = place }) ≡ Some fault.Number
+fault_of-beyond k m o place n shape few beyond =
+    let entries : number_fault k m n ≡ Some fault.Number = grind (arith, nat_tests) in
+    fault_of-shape (record { states = k; width = m; offset = o; entries = Number n; place = place }) shape ∙ entries
+
+-- what is below a power is what is left with nothing
+pub div-zero : (n p : ℕ) → 0 < p → (n / p ≡ 0) ↔ (n < p)
+div-zero n p some = (λ none. let whole = div-add-mod' n p in let zeroth : n / p * p ≡ 0 = ap (λ j. j * p) none ∙ zero-mul p in omega (arith, mod-lt n some), λ below. div-eq_of_lt below)
+
+-- the number of the letters from one place on, with the letter before them
+pub value-reverse_drop : (k : ℕ) (t : List ℕ) (i : ℕ) → 0 < i → i ≤ length t
+    → value k (reverse (drop (i - 1) t)) ≡ value k (reverse (drop i t)) * k + get_or t (i - 1) 0
+value-reverse_drop k t i some within =
+    let j = i - 1 in
+    let next : j + 1 ≡ i = omega arith in
+    let split : drop j t ≡ get_or t j 0 ∷ drop i t = drop_more t j 0 (omega arith) ∙ ap (λ n. get_or t j 0 ∷ drop n t) next in
+    ap (λ x. value k (reverse x)) split ∙ ap (value k) (reverse-append (get_or t j 0 ∷ []) (drop i t)) ∙ value-snoc k (reverse (drop i t)) (get_or t j 0)
+
+-- it fits 128 bits where there are at most 6 states
+pub value-reverse_drop-below : {r : LocalRule} → IsRule r → r.states < 7 → (i : ℕ) → value r.states (reverse (drop i r.table)) < 2 ^ 128
+value-reverse_drop-below {r = r} rule few i =
+    let k = r.states in
+    let w = reverse (drop i r.table) in
+    let least = rule.shape.least_states in
+    let long : length w ≤ k ^ r.width = omega (arith, length-reverse (drop i r.table), length-drop i r.table, rule.entries) in
+    let below = value-below k w (IsWord-reverse k (drop i r.table) (All-drop (λ a. a < k) i r.table rule.letters)) in
+    let grows : k ^ length w ≤ k ^ (k ^ r.width) = pow-le-pow_right (omega arith) long in
+    omega (arith, below, grows, number_limit k r.width r.offset rule.shape (omega arith))
+
+-- the sum over the first windows is the number of the first letters
+sum_by-front : (k : ℕ) (t : List ℕ) (n : ℕ) → n ≤ length t → sum_by (λ v. get_or t v 0 * k ^ v) (range_with_len 0 n) ≡ value k (reverse (take n t))
+sum_by-front k t zero within = refl
+sum_by-front k t (suc n) within =
+    let term = λ (v : ℕ). get_or t v 0 * k ^ v in
+    let front = reverse (take n t) in
+    let a = get_or t n 0 in
+    let more : range_with_len 0 (n + 1) ≡ range_with_len 0 n ++ n ∷ [] =
+    sym (map-id (range_with_len 0 (n + 1))) ∙ map-range_with_len_more (λ (v : ℕ). v) 0 n n (zero-add n)
+    ∙ ap (λ x. x ++ n ∷ []) (map-id (range_with_len 0 n)) in
+    let long : length front ≡ n = length-reverse (take n t) ∙ length-take-le n t (omega arith) in
+    let turned : reverse (take (suc n) t) ≡ a ∷ front =
+    ap (λ j. reverse (take j t)) (sym (add-one n)) ∙ ap reverse (take_more t n 0 (omega arith)) ∙ reverse-append (take n t) (a ∷ []) in
+    let whole : value k (reverse (take (suc n) t)) ≡ a * k ^ n + value k front = ap (value k) turned ∙ ap (λ j. a * k ^ j + value k front) long in
+    let sum : sum_by term (range_with_len 0 (suc n)) ≡ sum_by term (range_with_len 0 n) + term n =
+    ap (λ j. sum_by term (range_with_len 0 j)) (sym (add-one n)) ∙ ap (sum_by term) more ∙ sum_by_push term (range_with_len 0 n) n in
+    omega (arith, sum, whole, sum_by-front k t n (omega arith))
+
+-- the Wolfram number is the number whose digits are the table, the last letter the most significant
+pub wolfram_number-value : {r : LocalRule} → IsRule r → wolfram_number r ≡ value r.states (reverse r.table)
+wolfram_number-value {r = r} rule =
+    sum_by-front r.states r.table (r.states ^ r.width) (omega (arith, rule.entries)) ∙ ap (λ x. value r.states (reverse x)) (take_all (r.states ^ r.width) r.table (omega (arith, rule.entries)))

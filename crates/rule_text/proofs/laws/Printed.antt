@@ -1,0 +1,103 @@
+-- The printed form of a rule is a text of it.
+use Rattle.std.proofs.Common.{◌≡◌, ℕ, suc, ◌+◌, ◌*◌, ◌/◌, ◌%◌, ◌<◌, List, [], ◌∷◌, ◌++◌, length, map, Some, inl, inr, refl, sym, ap, ap₂, subst, ◌∙◌, arith, add-one, mod-lt}
+use Rattle.std.specs.Prelude.{All, ℤ, pos, negsuc, neg_ℤ, codes, unwrap_or}
+use Rattle.std.specs.Option.{option_map}
+use Rattle.std.specs.Fmt.{decimal}
+use Rattle.std.proofs.lemmas.Bool.{cases_lt}
+use Rattle.std.proofs.lemmas.Bool.Decides.{nat_tests}
+use Rattle.std.proofs.lemmas.Int.{ints}
+use Rattle.std.proofs.lemmas.Nat.{div-add-mod', div_below}
+use Rattle.std.proofs.lemmas.Option.{none-some}
+use Rattle.std.proofs.lemmas.Fmt.{decimal_digit, decimal_step}
+use Rattle.std.proofs.lemmas.List.Elements.{All-nil, All-cons, All-head, All-tail, All-map, All-weaker}
+use Rattle.word_image.specs.LocalRules.{LocalRule, IsShape, IsRule}
+use Rattle.word_image.specs.Digits.{lower_digit}
+use Rattle.word_image.proofs.laws.RuleFaults.{table_fault-IsWord}
+use Rattle.rule_text.specs.RuleTexts.{IsDigit, IsHexDigit, IsDecimal, IsOffset, Plain, Minus, Says, InTable, Table, IsRuleText, hex_value, letter_at, decimal_value, in_text, offset_text, printed, head}
+use Rattle.rule_text.proofs.laws.Fronts.{saying, Says-same}
+use Rattle.rule_text.proofs.laws.Numbers.{fault_of-shape}
+
+-- a text of one or two digits for a number
+record Writes (text : List ℕ) (n : ℕ) : Type 0 where
+  decimal : IsDecimal 1 2 text
+  value : decimal_value text ≡ n
+
+is_digit : (d : ℕ) → d < 10 → IsDigit (48 + d)
+is_digit d h = (omega arith, omega arith)
+
+Writes-one : (n : ℕ) → n < 10 → Writes ((48 + n) ∷ []) n
+Writes-one n h = record {
+  decimal = record { digits = All-cons IsDigit (48 + n) [] (is_digit n h) (All-nil IsDigit); least = omega arith; most = omega arith };
+  value = omega arith;
+}
+
+Writes-two : (a b : ℕ) → a < 10 → b < 10 → Writes ((48 + a) ∷ (48 + b) ∷ []) (a * 10 + b)
+Writes-two a b h g = record {
+  decimal = record {
+    digits = All-cons IsDigit (48 + a) ((48 + b) ∷ []) (is_digit a h) (All-cons IsDigit (48 + b) [] (is_digit b g) (All-nil IsDigit));
+    least = omega arith;
+    most = omega arith;
+  };
+  value = omega arith;
+}
+
+-- the text of a number below 100
+Writes-decimal : (n : ℕ) → n < 100 → Writes (decimal n) n
+Writes-decimal n h =
+    elim (cases_lt n 10) [
+      | inl one ↦ subst (λ (x : List ℕ). Writes x n) (sym (decimal_digit n one)) (Writes-one n one)
+      | inr two ↦
+          let high : n / 10 < 10 = div_below n 10 10 (omega arith) (omega arith) in
+          let text : decimal n ≡ (48 + n / 10) ∷ (48 + n % 10) ∷ [] =
+          decimal_step n two (omega arith) ∙ ap (λ x. x ++ (48 + n % 10) ∷ []) (decimal_digit (n / 10) high) in
+          subst (λ (x : List ℕ). Writes x n) (sym text)
+          (subst (λ (j : ℕ). Writes ((48 + n / 10) ∷ (48 + n % 10) ∷ []) j) (div-add-mod' n 10) (Writes-two (n / 10) (n % 10) high (mod-lt n (omega arith))))
+    ]
+
+-- the text of an offset of an accepted shape
+IsOffset-offset_text : (k m : ℕ) (o : ℤ) → IsShape k m o → IsOffset (offset_text o) o
+IsOffset-offset_text k m (pos n) shape =
+    let most = shape.most_offset in
+    let w = Writes-decimal n (grind (arith, ints)) in
+    subst (λ (j : ℕ). IsOffset (decimal n) (pos j)) w.value (Plain (decimal n) w.decimal)
+IsOffset-offset_text k m (negsuc n) shape =
+    let least = shape.least_offset in
+    let w = Writes-decimal (n + 1) (grind (arith, ints)) in
+    let value : decimal_value (decimal (n + 1)) ≡ suc n = w.value ∙ add-one n in
+    subst (λ (j : ℕ). IsOffset (codes "-" ++ decimal (n + 1)) (neg_ℤ (pos j))) value (Minus (decimal (n + 1)) w.decimal)
+
+-- the digit of a letter below 16 stands for it
+hex_value-lower_digit : (a : ℕ) → a < 16 → hex_value (lower_digit a) ≡ Some a
+hex_value-lower_digit a h = grind (arith, nat_tests)
+
+IsHexDigit-lower_digit : (a : ℕ) → a < 16 → IsHexDigit (lower_digit a)
+IsHexDigit-lower_digit a h none = none-some a (sym none ∙ hex_value-lower_digit a h)
+
+letters-lower_digits : (table : List ℕ) → All (λ a. a < 16) table → map letter_at (map lower_digit table) ≡ table
+letters-lower_digits [] all = refl
+letters-lower_digits (a ∷ table) all =
+    ap₂ (λ (b : ℕ) (x : List ℕ). b ∷ x) (ap (λ o. unwrap_or o 0) (hex_value-lower_digit a (All-head (λ a. a < 16) a table all)))
+    (letters-lower_digits table (All-tail (λ a. a < 16) a table all))
+
+-- the printed form of an accepted rule says the rule
+pub IsRuleText-printed : (r : LocalRule) → IsRule r → IsRuleText (printed r) r
+IsRuleText-printed r rule =
+    let shape = rule.shape in
+    let most = shape.most_states in
+    let width = shape.most_width in
+    let k = Writes-decimal r.states (omega arith) in
+    let m = Writes-decimal r.width (omega arith) in
+    let small : All (λ a. a < 16) r.table = All-weaker (λ a. a < r.states) (λ a. a < 16) (λ a h. omega arith) r.table rule.letters in
+    let digits : All IsHexDigit (map lower_digit r.table) = All-map IsHexDigit lower_digit r.table (All-weaker (λ a. a < 16) (λ a. IsHexDigit (lower_digit a)) IsHexDigit-lower_digit r.table small) in
+    let front = head (decimal r.states) (decimal r.width) (offset_text r.offset) (codes "t") in
+    let told = InTable (decimal r.states) (decimal r.width) (offset_text r.offset) (map lower_digit r.table) r.offset k.decimal m.decimal
+    (IsOffset-offset_text r.states r.width r.offset shape) digits in
+    let says : Says (printed r) (saying r.states r.width r.offset (Table (map letter_at (map lower_digit r.table))) (length front)) =
+    Says-same told refl (sym k.value) (sym m.value) refl in
+    record {
+      said = saying r.states r.width r.offset (Table r.table) (length front);
+      says = subst (λ (t : List ℕ). Says (printed r) (saying r.states r.width r.offset (Table t) (length front))) (letters-lower_digits r.table small) says;
+      accepted = fault_of-shape (saying r.states r.width r.offset (Table r.table) (length front)) shape
+          ∙ ap (option_map (in_text (length front))) (table_fault-IsWord r.states r.width r.table rule.entries rule.letters);
+      rule = refl;
+    }

@@ -1,0 +1,106 @@
+ghost use Rattle.std.specs.Prelude.{◌≡◌, ℕ, ◌+◌, ◌*◌, ◌/◌, ◌%◌, ◌^◌, ◌<◌, ◌≤◌, All, IfSome, IfNone, IsTrue, ◌↔◌, length, map, reverse};
+ghost use Rattle.std.specs.Bool.{OnTrue};
+ghost use Rattle.std.specs.Option.{SomeIff};
+ghost use Rattle.word_image.specs.LocalRules.{word_of};
+ghost use Rattle.rule_text.specs.RuleTexts.{IsDigit, IsHexDigit, IsDecimal, hex_value, letter_at, decimal_value};
+ghost use Rattle.rule_text.specs.Fronts.{IsEntries, IsStop, IsDecimalStop, IsHexStop};
+
+use crate::front::Kind;
+
+/// The most digits that a number has in a text.
+const MOST_DIGITS: usize = 39;
+
+/// The value of a hexadecimal digit of either case.
+fn hex_value(byte: u8) -> Option<u8>
+    ensures { result ≡ hex_value byte }
+{
+    match byte {
+        b'0'..=b'9' => Some(byte - b'0'),
+        b'A'..=b'F' => Some(byte - b'A' + 10),
+        b'a'..=b'f' => Some(byte - b'a' + 10),
+        _ => None,
+    }
+}
+
+/// Where the digits of a table or of a number go wrong, if they do.
+pub fn first_stop(kind: Kind, digits: &[u8]) -> Option<usize>
+    ensures some { IfSome result (λ place. IsStop kind digits.now place) }
+    ensures none { IfNone result (IsEntries kind digits.now) }
+{
+    match kind {
+        Kind::Table => hex_stop(digits),
+        Kind::Number => decimal_stop(digits),
+    }
+}
+
+/// The place of the first byte that is no hexadecimal digit.
+fn hex_stop(digits: &[u8]) -> Option<usize>
+    ensures some { IfSome result (λ place. IsHexStop digits.now place) }
+    ensures none { IfNone result (All IsHexDigit digits.now) }
+{
+    for (place, byte) in digits.iter().enumerate() {
+        if hex_value(*byte).is_none() {
+            return Some(place);
+        }
+    }
+    None
+}
+
+/// Where 1 to 39 decimal digits go wrong: at another byte, at the fortieth, or at once where there
+/// is none.
+fn decimal_stop(digits: &[u8]) -> Option<usize>
+    ensures some { IfSome result (λ place. IsDecimalStop digits.now place) }
+    ensures none { IfNone result (IsDecimal 1 39 digits.now) }
+{
+    for (place, byte) in digits.iter().enumerate() {
+        if place == MOST_DIGITS || !byte.is_ascii_digit() {
+            return Some(place);
+        }
+    }
+    if digits.is_empty() { Some(0) } else { None }
+}
+
+/// The number of a row of decimal digits; None where it is `2^128` or more.
+pub fn decimal_number(digits: &[u8]) -> Option<u128>
+    requires { All IsDigit digits.now }
+    ensures { SomeIff result (decimal_value digits.now < 2 ^ 128) (decimal_value digits.now) }
+{
+    let mut number = Some(0);
+    for byte in digits {
+        number = with_digit(number, *byte - b'0');
+    }
+    number
+}
+
+/// The number with one more decimal digit behind it; None stands for those from `2^128` on.
+fn with_digit(number: Option<u128>, digit: u8) -> Option<u128>
+    ensures { (n : ℕ) → SomeIff number (n < 2 ^ 128) n
+        → SomeIff result (n * 10 + digit < 2 ^ 128) (n * 10 + digit) }
+{
+    number?.checked_mul(10)?.checked_add(u128::from(digit))
+}
+
+/// Writes the letters that hexadecimal digits stand for; those of other bytes are 0.
+pub fn write_letters(table: &mut [u8], digits: &[u8])
+    requires { length table.old ≡ length digits.now }
+    ensures { table.new ≡ map letter_at digits.now }
+{
+    for (place, byte) in digits.iter().enumerate() {
+        table[place] = hex_value(*byte).unwrap_or(0);
+    }
+}
+
+/// Writes the digits of a number in base k into a table, from the least significant on; gives
+/// whether the table has room for all.
+pub fn write_number(table: &mut [u8], k: u8, number: u128) -> bool
+    requires { 2 ≤ k }
+    ensures fits { IsTrue result ↔ (number < k ^ length table.old) }
+    ensures letters { OnTrue result (table.new ≡ reverse (word_of k (length table.old) number)) }
+{
+    let mut rest = number;
+    for letter in table.iter_mut() {
+        *letter = (rest % u128::from(k)) as u8;
+        rest /= u128::from(k);
+    }
+    rest == 0
+}
