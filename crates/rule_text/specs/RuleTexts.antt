@@ -1,23 +1,16 @@
 -- The texts of a rule: their grammar, what each means, and which fault comes first.
-use Rattle.std.specs.Prelude.{◌≡◌, ◌≢◌, ℕ, ◌+◌, ◌-◌, ◌^◌, ◌<◌, ◌≤◌, List, ◌++◌, length, map, take, codes, Option, Some, None, Result, Ok, Err, All, nat_lt, nat_le, unwrap_or, ◌&&◌, if◌then◌else◌, ℤ, pos, negsuc, neg_ℤ, reverse}
+use Rattle.std.specs.Prelude.{◌≡◌, ◌≢◌, ℕ, ◌+◌, ◌-◌, ◌^◌, ◌<◌, ◌≤◌, List, ◌++◌, length, map, take, codes, Option, Some, None, Result, Ok, Err, All, nat_lt, nat_le, unwrap_or, if◌then◌else◌, ℤ, pos, negsuc, neg_ℤ, reverse}
 use Rattle.std.specs.Option.{option_map, option_or}
 use Rattle.std.specs.Fmt.{decimal}
 use Rattle.word_image.specs.LocalRules.{LocalRule, value, word_of}
-use Rattle.word_image.specs.Digits.{lower_digit}
+use Rattle.word_image.specs.Digits.{lower_digit, hex_value}
 use Rattle.word_image.specs.RuleFaults.{shape_fault, table_fault}
 use Rattle.word_image.specs.declared.local_rule.RuleFault.{RuleFault}
 use Rattle.word_image.specs.declared.local_rule.RuleFault.TheVariants as limit
 use Rattle.rule_text.specs.declared.text_fault.TextFault.{TextFault}
 use Rattle.rule_text.specs.declared.text_fault.TextFault.TheVariants as fault
 
--- the value of a hexadecimal digit of either case
-abbrev pub hex_value : ℕ → Option ℕ
-hex_value b =
-    if nat_le 48 b && nat_le b 57 then Some (b - 48)
-    else (if nat_le 65 b && nat_le b 70 then Some (b - 55)
-    else (if nat_le 97 b && nat_le b 102 then Some (b - 87)
-    else None))
-
+-- a hexadecimal digit of either case, and the letter that it stands for
 abbrev pub IsHexDigit : ℕ → Type 0
 IsHexDigit b = hex_value b ≢ None
 

@@ -2,25 +2,14 @@ ghost use Rattle.std.specs.Prelude.{◌≡◌, ℕ, ◌+◌, ◌*◌, ◌/◌, �
 ghost use Rattle.std.specs.Bool.{OnTrue};
 ghost use Rattle.std.specs.Option.{SomeIff};
 ghost use Rattle.word_image.specs.LocalRules.{word_of};
-ghost use Rattle.rule_text.specs.RuleTexts.{IsDigit, IsHexDigit, IsDecimal, hex_value, letter_at, decimal_value};
+ghost use Rattle.rule_text.specs.RuleTexts.{IsDigit, IsHexDigit, IsDecimal, letter_at, decimal_value};
 ghost use Rattle.rule_text.specs.Fronts.{IsEntries, IsStop, IsDecimalStop, IsHexStop};
 
 use crate::front::Kind;
+use word_image::letter;
 
 /// The most digits that a number has in a text.
 const MOST_DIGITS: usize = 39;
-
-/// The value of a hexadecimal digit of either case.
-fn hex_value(byte: u8) -> Option<u8>
-    ensures { result ≡ hex_value byte }
-{
-    match byte {
-        b'0'..=b'9' => Some(byte - b'0'),
-        b'A'..=b'F' => Some(byte - b'A' + 10),
-        b'a'..=b'f' => Some(byte - b'a' + 10),
-        _ => None,
-    }
-}
 
 /// Where the digits of a table or of a number go wrong, if they do.
 pub fn first_stop(kind: Kind, digits: &[u8]) -> Option<usize>
@@ -39,7 +28,7 @@ fn hex_stop(digits: &[u8]) -> Option<usize>
     ensures none { IfNone result (All IsHexDigit digits.now) }
 {
     for (place, byte) in digits.iter().enumerate() {
-        if hex_value(*byte).is_none() {
+        if letter(*byte).is_none() {
             return Some(place);
         }
     }
@@ -86,7 +75,7 @@ pub fn write_letters(table: &mut [u8], digits: &[u8])
     ensures { table.new ≡ map letter_at digits.now }
 {
     for (place, byte) in digits.iter().enumerate() {
-        table[place] = hex_value(*byte).unwrap_or(0);
+        table[place] = letter(*byte).unwrap_or(0);
     }
 }
 

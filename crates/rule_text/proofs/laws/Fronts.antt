@@ -8,7 +8,8 @@ use Rattle.std.proofs.lemmas.Bool.Decides.{nat_tests}
 use Rattle.rule_text.specs.declared.front.Front.{Front}
 use Rattle.rule_text.specs.declared.front.Kind.{Kind}
 use Rattle.rule_text.specs.declared.front.Kind.TheVariants as kind
-use Rattle.rule_text.specs.RuleTexts.{IsDigit, IsDecimal, IsOffset, Said, Entries, Table, Number, Says, Bare, InTable, InNumber, Begins, IsFormFault, hex_value, letter_at, decimal_value, head}
+use Rattle.word_image.specs.Digits.{hex_value}
+use Rattle.rule_text.specs.RuleTexts.{IsDigit, IsDecimal, IsOffset, Said, Entries, Table, Number, Says, Bare, InTable, InNumber, Begins, IsFormFault, letter_at, decimal_value, head}
 use Rattle.rule_text.specs.Fronts.{IsFront, NoHead, Head, IsEntries, IsStop, IsDecimalStop, IsHexStop, IsHeaded, kind_text, entries_of, said_of}
 use Rattle.rule_text.proofs.laws.Scanner.{Reaches, First, Letters, Digits, next, Reaches-first, Reaches-table, Reaches-number}
 use Rattle.rule_text.proofs.laws.FormFaults.{IsFormFault-stuck}

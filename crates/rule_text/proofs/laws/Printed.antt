@@ -11,9 +11,9 @@ use Rattle.std.proofs.lemmas.Option.{none-some}
 use Rattle.std.proofs.lemmas.Fmt.{decimal_digit, decimal_step}
 use Rattle.std.proofs.lemmas.List.Elements.{All-nil, All-cons, All-head, All-tail, All-map, All-weaker}
 use Rattle.word_image.specs.LocalRules.{LocalRule, IsShape, IsRule}
-use Rattle.word_image.specs.Digits.{lower_digit}
+use Rattle.word_image.specs.Digits.{lower_digit, hex_value}
 use Rattle.word_image.proofs.laws.RuleFaults.{table_fault-IsWord}
-use Rattle.rule_text.specs.RuleTexts.{IsDigit, IsHexDigit, IsDecimal, IsOffset, Plain, Minus, Says, InTable, Table, IsRuleText, hex_value, letter_at, decimal_value, in_text, offset_text, printed, head}
+use Rattle.rule_text.specs.RuleTexts.{IsDigit, IsHexDigit, IsDecimal, IsOffset, Plain, Minus, Says, InTable, Table, IsRuleText, letter_at, decimal_value, in_text, offset_text, printed, head}
 use Rattle.rule_text.proofs.laws.Fronts.{saying, Says-same}
 use Rattle.rule_text.proofs.laws.Numbers.{fault_of-shape}
 

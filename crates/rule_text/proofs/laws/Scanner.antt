@@ -4,7 +4,8 @@ use Rattle.std.specs.Prelude.{nat_lt, nat_le, ◌==◌, if◌then◌else◌, is_
 use Rattle.std.proofs.lemmas.Option.{none-some}
 use Rattle.std.proofs.lemmas.Bool.Decides.{nat_tests}
 use Rattle.std.proofs.lemmas.List.Elements.{All-head, All-tail}
-use Rattle.rule_text.specs.RuleTexts.{IsDigit, IsHexDigit, IsDecimal, IsOffset, Plain, Minus, Said, Says, Bare, InTable, InNumber, head, Table, Number, hex_value, letter_at, decimal_value, bare}
+use Rattle.word_image.specs.Digits.{hex_value}
+use Rattle.rule_text.specs.RuleTexts.{IsDigit, IsHexDigit, IsDecimal, IsOffset, Plain, Minus, Said, Says, Bare, InTable, InNumber, head, Table, Number, letter_at, decimal_value, bare}
 use Rattle.rule_text.specs.Fronts.{sign, signed}
 
 -- how far a text has come, with the digits of the part that it is in
