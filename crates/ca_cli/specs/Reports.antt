@@ -1,8 +1,13 @@
 -- What the program says of a rule, line by line, and when it is true.
-use Rattle.std.specs.Prelude.{ℕ, List, ◌++◌, codes}
-use Rattle.word_image.specs.LocalRules.{LocalRule}
+use Rattle.std.specs.Prelude.{ℕ, List, ◌++◌, codes, nat_lt, if◌then◌else◌}
+use Rattle.std.specs.Fmt.{decimal}
+use Rattle.word_image.specs.LocalRules.{LocalRule, wolfram_number}
 use Rattle.word_image.specs.Words.{IsSurjective, IsOrphan}
 use Rattle.ca_cli.specs.Lines.{line, word_text}
+
+-- the Wolfram number, of a rule of at most six states
+abbrev pub number_line : LocalRule → List ℕ
+number_line r = line (codes "number " ++ (if nat_lt r.states 7 then decimal (wolfram_number r) else codes "none"))
 
 -- every word has a preimage, or else the line names a word that has none
 pub data IsSurjectiveLine (r : LocalRule) : List ℕ → Type 0 where

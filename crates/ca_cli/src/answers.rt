@@ -4,7 +4,7 @@ ghost use Rattle.rule_text.specs.RuleTexts.{IsTextFault};
 ghost use Rattle.ca_cli.specs.Commands.{Command, words_of, rule_of};
 ghost use Rattle.ca_cli.specs.Answers.{IsAnswer};
 
-use crate::lines::{rule_fault_line, surjective_line};
+use crate::lines::{number_line, rule_fault_line, surjective_line};
 use crate::request::Request;
 use crate::status::Status;
 use rule_text::{TextFault, parse};
@@ -28,6 +28,7 @@ pub fn answer_to(alloc: Global, words: &[String]) -> Result<Answer, AllocError>
             output: String::from_str(alloc, "usage error\n")?,
         }),
         Some(Request::Orphan(text)) => orphan(alloc, text),
+        Some(Request::Number(text)) => number(alloc, text),
     }
 }
 
@@ -42,6 +43,22 @@ fn orphan(alloc: Global, text: &[u8]) -> Result<Answer, AllocError>
         Ok(rule) => Ok(Answer {
             status: Status::Done,
             output: surjective_line(alloc, &rule)?,
+        }),
+        Err(fault) => refusal(alloc, fault),
+    }
+}
+
+/// The answer to `number R`.
+fn number(alloc: Global, text: &[u8]) -> Result<Answer, AllocError>
+    ensures { IfOk result (λ answer.
+        (words : List (List ℕ)) (input : Option (List ℕ)) →
+        words ≡ words_of (Command.Number text.now) →
+        IsAnswer words input answer.status (string_bytes answer.output)) }
+{
+    match parse(text) {
+        Ok(rule) => Ok(Answer {
+            status: Status::Done,
+            output: number_line(alloc, &rule)?,
         }),
         Err(fault) => refusal(alloc, fault),
     }

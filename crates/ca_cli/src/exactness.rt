@@ -6,7 +6,7 @@ ghost use Rattle.rule_text.specs.declared.text_fault.TextFault.{TextFault};
 ghost use Rattle.rule_text.specs.RuleTexts.{IsRuleText, IsTextFault};
 ghost use Rattle.ca_cli.specs.Commands.{Command, words_of, rule_of};
 ghost use Rattle.ca_cli.specs.Lines.{line, rule_fault_line};
-ghost use Rattle.ca_cli.specs.Reports.{IsSurjectiveLine};
+ghost use Rattle.ca_cli.specs.Reports.{IsSurjectiveLine, number_line};
 ghost use Rattle.ca_cli.specs.Answers.{IsAnswer};
 
 use crate::status::Status;
@@ -38,4 +38,11 @@ pub fn orphan_exactly()
     ensures { (text out : List ℕ) (input : Option (List ℕ))
         → IsAnswer (words_of (Command.Orphan text)) input Status.Done out
         ↔ ((r : LocalRule) × IsRuleText text r × IsSurjectiveLine r out) }
+{}
+
+/// Done is right on `number R` exactly with the number of the rule of which R is a text.
+pub fn number_exactly()
+    ensures { (text out : List ℕ) (input : Option (List ℕ))
+        → IsAnswer (words_of (Command.Number text)) input Status.Done out
+        ↔ ((r : LocalRule) × IsRuleText text r × (out ≡ number_line r)) }
 {}

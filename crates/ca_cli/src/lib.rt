@@ -7,12 +7,13 @@
 //!
 //! [`run`] is the program. Its contract cites one relation, `IsAnswer` of specs/Answers.antt: which
 //! status and which output are right for the words. [`one_status`], [`usage_exactly`],
-//! [`rule_fault_exactly`] and [`orphan_exactly`] are its laws. By them:
+//! [`rule_fault_exactly`], [`orphan_exactly`] and [`number_exactly`] are its laws. By them:
 //!
 //! | Words | Status | Code | Output |
 //! |---|---|---|---|
 //! | `orphan 110` | Done | 0 | `surjective no orphan 01010`, or another word without a preimage |
 //! | `orphan 90` | Done | 0 | `surjective yes` |
+//! | `number 2:3:-1:t01110110` | Done | 0 | `number 110` |
 //! | `orphan 256` | RuleFault | 3 | `rule fault 1 number` |
 //! | `orphan 1x` | RuleFault | 3 | `rule fault 1 form 1` |
 //! | `110` | Usage | 2 | `usage error` |
@@ -29,7 +30,9 @@ mod request;
 mod status;
 mod top_call;
 
-pub use exactness::{one_status, orphan_exactly, rule_fault_exactly, usage_exactly};
+pub use exactness::{
+    number_exactly, one_status, orphan_exactly, rule_fault_exactly, usage_exactly,
+};
 pub use status::Status;
 pub use top_call::run;
 

@@ -1,10 +1,10 @@
 //! The lines that the program writes.
 ghost use Rattle.std.specs.Prelude.{◌≡◌, ◌<◌, ◌++◌, codes, All, IfOk, string_bytes};
 ghost use Rattle.ca_cli.specs.Lines.{line, word_text, rule_fault_line as fault_line};
-ghost use Rattle.ca_cli.specs.Reports.{IsSurjectiveLine};
+ghost use Rattle.ca_cli.specs.Reports.{IsSurjectiveLine, number_line as rule_number_line};
 
 use orphan_search::{Outcome, Search};
-use rule_text::TextFault;
+use rule_text::{TextFault, number};
 use std::alloc::{AllocError, Global};
 use word_image::{Rule, digit};
 
@@ -14,7 +14,24 @@ pub fn rule_fault_line(alloc: Global, fault: TextFault) -> Result<String, AllocE
 {
     match fault {
         TextFault::Form(place) => format!(in alloc; "rule fault 1 form {place}\n"),
+        TextFault::States => String::from_str(alloc, "rule fault 1 states\n"),
+        TextFault::Width => String::from_str(alloc, "rule fault 1 width\n"),
+        TextFault::Nodes => String::from_str(alloc, "rule fault 1 nodes\n"),
+        TextFault::Offset => String::from_str(alloc, "rule fault 1 offset\n"),
+        TextFault::Kind => String::from_str(alloc, "rule fault 1 kind\n"),
+        TextFault::Length => String::from_str(alloc, "rule fault 1 length\n"),
+        TextFault::Letter(place) => format!(in alloc; "rule fault 1 letter {place}\n"),
         TextFault::Number => String::from_str(alloc, "rule fault 1 number\n"),
+    }
+}
+
+/// The line that says the Wolfram number of the rule, where it has at most six states.
+pub fn number_line(alloc: Global, rule: &Rule) -> Result<String, AllocError>
+    ensures { IfOk result (λ text. string_bytes text ≡ rule_number_line rule.now) }
+{
+    match number(rule) {
+        Some(number) => format!(in alloc; "number {number}\n"),
+        None => String::from_str(alloc, "number none\n"),
     }
 }
 

@@ -7,6 +7,8 @@ ghost use Rattle.ca_cli.specs.Commands.{Command, words_of, command_of};
 pub enum Request<'a> {
     /// `orphan R`: whether the rule is surjective, with an orphan where it isn't.
     Orphan(&'a [u8]),
+    /// `number R`: the Wolfram number of the rule.
+    Number(&'a [u8]),
 }
 
 impl<'a> Request<'a> {
@@ -19,6 +21,7 @@ impl<'a> Request<'a> {
         match words {
             [name, rule] => match name.as_str() {
                 "orphan" => Some(Request::Orphan(rule.as_bytes())),
+                "number" => Some(Request::Number(rule.as_bytes())),
                 _ => None,
             },
             _ => None,

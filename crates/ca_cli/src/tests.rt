@@ -1,6 +1,8 @@
 //! What no clause can say: that the statuses have the codes that the outside knows.
 
-use crate::{Status, one_status, orphan_exactly, rule_fault_exactly, usage_exactly};
+use crate::{
+    Status, number_exactly, one_status, orphan_exactly, rule_fault_exactly, usage_exactly,
+};
 
 #[test]
 fn each_status_has_its_code(rt: HostRuntime) {
@@ -24,6 +26,7 @@ fn each_law_returns(rt: HostRuntime) {
         usage_exactly(),
         rule_fault_exactly(),
         orphan_exactly(),
+        number_exactly(),
     ];
-    assert_eq!(rt; laws, [(); 4]);
+    assert_eq!(rt; laws, [(); 5]);
 }

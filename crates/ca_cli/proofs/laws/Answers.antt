@@ -1,5 +1,5 @@
 -- What an answer says of the words, and that they have one status.
-use Rattle.std.proofs.Common.{◌≡◌, ◌≢◌, ℕ, List, refl, sym, ap, ◌∙◌, subst}
+use Rattle.std.proofs.Common.{◌≡◌, ◌≢◌, ℕ, List, [], get_or, refl, sym, ap, ◌∙◌, subst, arith}
 use Rattle.std.specs.Prelude.{Option, Some, codes, slice_get}
 use Rattle.std.proofs.lemmas.Option.{same_Some}
 use Rattle.word_image.specs.LocalRules.{LocalRule}
@@ -12,13 +12,14 @@ use Rattle.ca_cli.specs.Commands.{Command, words_of, rule_of}
 use Rattle.ca_cli.specs.Commands as commands
 use Rattle.ca_cli.specs.Statuses.{IsAnswered}
 use Rattle.ca_cli.specs.Lines.{line, rule_fault_line}
-use Rattle.ca_cli.specs.Reports.{IsSurjectiveLine}
+use Rattle.ca_cli.specs.Reports.{IsSurjectiveLine, number_line}
 use Rattle.ca_cli.specs.Answers.{IsAnswer}
-use Rattle.ca_cli.specs.Answers.IsAnswer.{Usage, RuleFault, Orphan}
+use Rattle.ca_cli.specs.Answers.IsAnswer.{Usage, RuleFault, Orphan, Number}
 
 -- the rule operand of a command stands behind its name
 operand-words_of : (c : Command) → slice_get (words_of c) 1 ≡ Some (rule_of c)
 operand-words_of (commands.Orphan text) = refl
+operand-words_of (commands.Number text) = refl
 
 -- the words of a command have one rule operand
 rule_of-words_of : (c d : Command) → words_of c ≡ words_of d → rule_of c ≡ rule_of d
@@ -35,6 +36,7 @@ cause_of : {words : List (List ℕ)} {input : Option (List ℕ)} {s : Status} {o
 cause_of (Usage none) = NoCommand none
 cause_of (RuleFault c f same fault) = Refused c f same fault
 cause_of (Orphan text r out same says true_line) = Accepted (commands.Orphan text) r same says
+cause_of (Number text r same says) = Accepted (commands.Number text) r same says
 
 -- no answer is a failed write or want of memory
 pub IsAnswered-answer : {words : List (List ℕ)} {input : Option (List ℕ)} {s : Status} {out : List ℕ} → IsAnswer words input s out → IsAnswered s
@@ -75,8 +77,20 @@ pub rule_fault_says : {words : List (List ℕ)} {input : Option (List ℕ)} {out
     → (c : Command) × (f : TextFault) × (words ≡ words_of c) × IsTextFault (rule_of c) f × (out ≡ rule_fault_line f)
 rule_fault_says (RuleFault c f same fault) = (c, f, same, fault, refl)
 
+-- the commands have different names
+number-orphan : (a b : List ℕ) → words_of (commands.Number a) ≡ words_of (commands.Orphan b) → ⊥
+number-orphan a b same = let first : 110 ≡ 111 = ap (λ words. get_or (get_or words 0 []) 0 0) same in omega arith
+
 -- what an answer of status Done says of the words `orphan R`
 pub orphan_says : (text : List ℕ) {words : List (List ℕ)} {input : Option (List ℕ)} {out : List ℕ} → words ≡ words_of (commands.Orphan text) → IsAnswer words input status.Done out
     → (r : LocalRule) × IsRuleText text r × IsSurjectiveLine r out
 orphan_says text here (Orphan text' r _ same says true_line) =
     (r, subst (λ t. IsRuleText t r) (rule_of-words_of (commands.Orphan text') (commands.Orphan text) (sym same ∙ here)) says, true_line)
+orphan_says text here (Number text' r same says) = absurd (number-orphan text' text (sym same ∙ here))
+
+-- what an answer of status Done says of the words `number R`
+pub number_says : (text : List ℕ) {words : List (List ℕ)} {input : Option (List ℕ)} {out : List ℕ} → words ≡ words_of (commands.Number text) → IsAnswer words input status.Done out
+    → (r : LocalRule) × IsRuleText text r × (out ≡ number_line r)
+number_says text here (Orphan text' r _ same says true_line) = absurd (number-orphan text text' (sym here ∙ same))
+number_says text here (Number text' r same says) =
+    (r, subst (λ t. IsRuleText t r) (rule_of-words_of (commands.Number text') (commands.Number text) (sym same ∙ here)) says, refl)
