@@ -7,10 +7,11 @@ use Rattle.rule_text.specs.declared.front.Kind.TheVariants as kind
 use Rattle.rule_text.specs.declared.front.Front.{Front}
 use Rattle.rule_text.specs.RuleTexts.{IsDigit, IsHexDigit, IsDecimal, IsOffset, Entries, Said, Table, Number, letter_at, decimal_value, head}
 
--- bytes that the grammar names
+-- the byte of a colon
 abbrev pub colon : ℕ
 colon = 58
 
+-- the byte of a minus sign
 abbrev pub minus_sign : ℕ
 minus_sign = 45
 
@@ -39,11 +40,12 @@ pub data LacksField (text : List ℕ) (from : ℕ) : ℕ → Type 0 where
   NoColon : (place : ℕ) (digits : List ℕ) → GoesOver text from place digits → IsDecimal 1 2 digits
       → (length digits ≡ 2) ⊎ ¬ IsDigit (slice_index text place) → slice_index text place ≢ colon → LacksField text from place
 
--- a minus sign or none, and what it makes of a number
+-- a minus sign or none
 abbrev pub sign : Bool → List ℕ
 sign true = codes "-"
 sign false = []
 
+-- what the sign makes of a number
 abbrev pub signed : Bool → ℕ → ℤ
 signed true n = neg_ℤ (pos n)
 signed false n = pos n
@@ -64,6 +66,7 @@ pub record LacksOffset (text : List ℕ) (from place : ℕ) : Type 0 where
   pub field : LacksField text behind place
   pub no_sign : minus ≡ false → slice_index text behind ≢ minus_sign
 
+-- how a kind is written
 abbrev pub kind_text : Kind → List ℕ
 kind_text kind.Table = codes "t"
 kind_text kind.Number = codes "w"
@@ -91,6 +94,7 @@ abbrev pub entries_of : Kind → List ℕ → Entries
 entries_of kind.Table digits = Table (map letter_at digits)
 entries_of kind.Number digits = Number (decimal_value digits)
 
+-- digits that may stand as entries of this kind
 abbrev pub IsEntries : Kind → List ℕ → Type 0
 IsEntries kind.Table digits = All IsHexDigit digits
 IsEntries kind.Number digits = IsDecimal 1 39 digits
@@ -99,6 +103,7 @@ IsEntries kind.Number digits = IsDecimal 1 39 digits
 abbrev pub said_with : Front → Entries → Said
 said_with f entries = record { states = f.k; width = f.m; offset = f.o; entries = entries; place = f.place }
 
+-- and what is said with digits of its kind behind it
 abbrev pub said_of : Front → List ℕ → Said
 said_of f digits = said_with f (entries_of f.kind digits)
 
@@ -115,6 +120,7 @@ pub record IsHexStop (digits : List ℕ) (place : ℕ) : Type 0 where
   pub within : place < length digits
   pub stop : ¬ IsHexDigit (slice_index digits place)
 
+-- at this place digits of this kind go wrong
 abbrev pub IsStop : Kind → List ℕ → ℕ → Type 0
 IsStop kind.Table = IsHexStop
 IsStop kind.Number = IsDecimalStop

@@ -10,13 +10,15 @@ use Rattle.word_image.specs.declared.local_rule.RuleFault.TheVariants as limit
 use Rattle.rule_text.specs.declared.text_fault.TextFault.{TextFault}
 use Rattle.rule_text.specs.declared.text_fault.TextFault.TheVariants as fault
 
--- a hexadecimal digit of either case, and the letter that it stands for
+-- a hexadecimal digit of either case
 abbrev pub IsHexDigit : ℕ → Type 0
 IsHexDigit b = hex_value b ≢ None
 
+-- the letter that a byte of a table stands for
 abbrev pub letter_at : ℕ → ℕ
 letter_at b = unwrap_or (hex_value b) 0
 
+-- a decimal digit
 abbrev pub IsDigit : ℕ → Type 0
 IsDigit b = (48 ≤ b) × (b ≤ 57)
 
@@ -26,6 +28,7 @@ pub record IsDecimal (low high : ℕ) (text : List ℕ) : Type 0 where
   pub least : low ≤ length text
   pub most : length text ≤ high
 
+-- the number that decimal digits stand for
 abbrev pub decimal_value : List ℕ → ℕ
 decimal_value text = value 10 (map (λ b. b - 48) text)
 
@@ -47,6 +50,7 @@ pub record Said : Type 0 where
   pub entries : Entries
   pub place : ℕ
 
+-- what stands in front of the entries: K:M:O: and their kind
 abbrev pub head : List ℕ → List ℕ → List ℕ → List ℕ → List ℕ
 head k m o kind = k ++ codes ":" ++ m ++ codes ":" ++ o ++ codes ":" ++ kind
 
@@ -86,14 +90,16 @@ in_text place limit.Offset = fault.Offset
 in_text place limit.Length = fault.Length
 in_text place (limit.Letter i) = fault.Letter (place + i)
 
--- the first fault of what a text says, in the order of the shape, the kind, the length, the letters and the number
+-- the fault of a number, for a shape that is accepted: there are more than 6 states, or no table has this number
 abbrev pub number_fault : ℕ → ℕ → ℕ → Option TextFault
 number_fault k m n = if nat_lt 6 k then Some fault.Kind else (if nat_le (k ^ (k ^ m)) n then Some fault.Number else None)
 
+-- the fault of the entries, for a shape that is accepted
 abbrev pub entries_fault : Said → Entries → Option TextFault
 entries_fault s (Entries.Table letters) = option_map (in_text s.place) (table_fault s.states s.width letters)
 entries_fault s (Entries.Number n) = number_fault s.states s.width n
 
+-- the first fault of what a text says, in the order of the shape, the kind, the length, the letters and the number
 abbrev pub fault_of : Said → Option TextFault
 fault_of s = option_or (option_map (in_text s.place) (shape_fault s.states s.width s.offset)) (entries_fault s s.entries)
 
@@ -102,6 +108,7 @@ abbrev pub table_of : Said → Entries → List ℕ
 table_of s (Entries.Table letters) = letters
 table_of s (Entries.Number n) = reverse (word_of s.states (s.states ^ s.width) n)
 
+-- the rule that a text says
 abbrev pub rule_of : Said → LocalRule
 rule_of s = record { states = s.states; width = s.width; offset = s.offset; table = table_of s s.entries }
 
@@ -122,10 +129,11 @@ pub data IsTextFault (text : List ℕ) : TextFault → Type 0 where
   NoForm : (place : ℕ) → IsFormFault text place → IsTextFault text (fault.Form place)
   Refused : (said : Said) (f : TextFault) → Says text said → fault_of said ≡ Some f → IsTextFault text f
 
--- the printed form: the table form in lower case
+-- an offset, with a minus sign exactly where it is negative
 abbrev pub offset_text : ℤ → List ℕ
 offset_text (pos n) = decimal n
 offset_text (negsuc n) = codes "-" ++ decimal (n + 1)
 
+-- the printed form: the table form in lower case
 abbrev pub printed : LocalRule → List ℕ
 printed r = head (decimal r.states) (decimal r.width) (offset_text r.offset) (codes "t") ++ map lower_digit r.table

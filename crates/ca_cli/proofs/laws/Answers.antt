@@ -1,5 +1,5 @@
 -- What an answer says of the words, and that they have one status.
-use Rattle.std.proofs.Common.{◌≡◌, ◌≢◌, ℕ, List, [], get_or, refl, sym, ap, ◌∙◌, subst, arith}
+use Rattle.std.proofs.Common.{◌≡◌, ◌≢◌, ℕ, List, refl, sym, ap, ◌∙◌, subst, arith}
 use Rattle.std.specs.Prelude.{Option, Some, codes, slice_get}
 use Rattle.std.proofs.lemmas.Option.{same_Some}
 use Rattle.word_image.specs.LocalRules.{LocalRule}
@@ -79,7 +79,7 @@ rule_fault_says (RuleFault c f same fault) = (c, f, same, fault, refl)
 
 -- the commands have different names
 number-orphan : (a b : List ℕ) → words_of (commands.Number a) ≡ words_of (commands.Orphan b) → ⊥
-number-orphan a b same = let first : 110 ≡ 111 = ap (λ words. get_or (get_or words 0 []) 0 0) same in omega arith
+number-orphan a b same = grind arith
 
 -- what an answer of status Done says of the words `orphan R`
 pub orphan_says : (text : List ℕ) {words : List (List ℕ)} {input : Option (List ℕ)} {out : List ℕ} → words ≡ words_of (commands.Orphan text) → IsAnswer words input status.Done out

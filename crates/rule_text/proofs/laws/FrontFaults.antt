@@ -39,20 +39,25 @@ pub Begins-offset_colon : (k m o : List ℕ) (z : ℤ) → IsDecimal 1 2 k → I
 Begins-offset_colon k m o z d e offset =
     Begins-front _ (codes "t") (record { more = []; said = _; says = InTable k m o [] z d e offset (All-nil IsHexDigit) })
 
+-- so does K:M:O
 Begins-offset : (k m o : List ℕ) (z : ℤ) → IsDecimal 1 2 k → IsDecimal 1 2 m → IsOffset o z → Begins (k ++ codes ":" ++ m ++ codes ":" ++ o)
 Begins-offset k m o z d e offset = Begins-front _ (codes ":") (Begins-offset_colon k m o z d e offset)
 
+-- so does K:M:
 Begins-width_colon : (k m : List ℕ) → IsDecimal 1 2 k → IsDecimal 1 2 m → Begins (k ++ codes ":" ++ m ++ codes ":")
 Begins-width_colon k m d e = Begins-front _ (codes "0") (Begins-offset k m (codes "0") _ d e (Plain (codes "0") zero_digit))
 
+-- so does K:M: with a sign or none
 Begins-sign : (k m : List ℕ) (minus : Bool) → IsDecimal 1 2 k → IsDecimal 1 2 m → Begins (k ++ codes ":" ++ m ++ codes ":" ++ sign minus)
 Begins-sign k m minus d e =
     Begins-front _ (codes "0") (subst (λ (x : List ℕ). Begins x) (sym (append_assoc (k ++ codes ":" ++ m ++ codes ":") (sign minus) (codes "0")))
     (Begins-offset k m (sign minus ++ codes "0") _ d e (IsOffset-signed minus (codes "0") zero_digit)))
 
+-- so does K:M
 Begins-width : (k m : List ℕ) → IsDecimal 1 2 k → IsDecimal 1 2 m → Begins (k ++ codes ":" ++ m)
 Begins-width k m d e = Begins-front _ (codes ":") (Begins-width_colon k m d e)
 
+-- so does K:
 Begins-states_colon : (k : List ℕ) → IsDecimal 1 2 k → Begins (k ++ codes ":")
 Begins-states_colon k d = Begins-front _ (codes "0") (Begins-width k (codes "0") d zero_digit)
 

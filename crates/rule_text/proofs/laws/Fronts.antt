@@ -77,6 +77,7 @@ IsFormFault-bare text n unheaded stop =
     IsFormFault-stuck text n (First x) (Reaches-first x stop.before (omega arith)) within (Begins-bare x stop.before (omega arith))
     (grind (arith, nat_tests)) (λ end. let none = none_or_more text n stop end in grind (arith, nat_tests))
 
+-- the test of an option that isn't anything
 is_some-false : {X : Type 0} (o : Option X) → ¬ (o ≢ None) → is_some o ≡ false
 is_some-false None other = refl
 is_some-false (Some x) other = absurd (other (λ is. none-some x (sym is)))
@@ -150,10 +151,12 @@ IsFormFault-front text f n (Head k m o _ d e offset states width is within) stop
       | kind.Number ↦ λ is stop. IsFormFault-number text k m o f.o f.place n d e offset is within stop
     ] is stop
 
+-- the entries begin within the text
 pub IsFront-within : {text : List ℕ} {f : Front} → IsFront text f → f.place ≤ length text
 IsFront-within (NoHead unheaded) = omega arith
 IsFront-within (Head k m o f d e offset states width is within) = within
 
+-- digits go wrong within them, or at their end
 pub IsStop-within : (kd : Kind) (digits : List ℕ) (n : ℕ) → IsStop kd digits n → n ≤ length digits
 IsStop-within kind.Table digits n stop = omega (arith, stop.within)
 IsStop-within kind.Number digits n stop = stop.within

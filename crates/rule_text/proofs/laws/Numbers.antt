@@ -17,15 +17,17 @@ use Rattle.word_image.proofs.laws.Values.{length-word_of, IsWord-word_of, value-
 use Rattle.rule_text.specs.declared.text_fault.TextFault.TheVariants as fault
 use Rattle.rule_text.specs.RuleTexts.{Said, Number, in_text, number_fault, entries_fault, fault_of}
 
--- each number below a limit passes a test that all of them pass
+-- a test passes at all numbers below a limit
 abbrev all_below : (ℕ → Bool) → ℕ → Bool
 all_below p zero = true
 all_below p (suc n) = p n && all_below p n
 
+-- both sides of a true `&&`
 both : (a b : Bool) → (a && b) ≡ true → (a ≡ true) × (b ≡ true)
 both true b h = (refl, h)
 both false b h = absurd (false≢true h)
 
+-- the test passes at each number below
 all_below-is : (p : ℕ → Bool) (n : ℕ) → all_below p n ≡ true → (i : ℕ) → i < n → p i ≡ true
 all_below-is p zero all i h = absurd (omega arith)
 all_below-is p (suc n) all i h =
@@ -35,10 +37,11 @@ all_below-is p (suc n) all i h =
       | inr other ↦ all_below-is p n parts.1 i (omega arith)
     ]
 
--- with at most 6 states every number of an accepted shape fits 128 bits
+-- the limit of a shape fits 128 bits, or the shape isn't accepted
 abbrev fits : ℕ → ℕ → Bool
 fits k m = nat_lt k 2 || (nat_lt m 2 || (nat_lt 16 (k ^ (m - 1)) || nat_le (k ^ (k ^ m)) (2 ^ 128)))
 
+-- with at most 6 states every number of an accepted shape fits 128 bits
 pub number_limit : (k m : ℕ) (o : ℤ) → IsShape k m o → k ≤ 6 → k ^ (k ^ m) ≤ 2 ^ 128
 number_limit k m o shape few =
     let all : all_below (λ k. all_below (fits k) 6) 7 ≡ true = refl in

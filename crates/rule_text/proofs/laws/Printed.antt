@@ -22,15 +22,18 @@ record Writes (text : List ℕ) (n : ℕ) : Type 0 where
   decimal : IsDecimal 1 2 text
   value : decimal_value text ≡ n
 
+-- the digit of a number below 10
 is_digit : (d : ℕ) → d < 10 → IsDigit (48 + d)
 is_digit d h = (omega arith, omega arith)
 
+-- a number of one digit
 Writes-one : (n : ℕ) → n < 10 → Writes ((48 + n) ∷ []) n
 Writes-one n h = record {
   decimal = record { digits = All-cons IsDigit (48 + n) [] (is_digit n h) (All-nil IsDigit); least = omega arith; most = omega arith };
   value = omega arith;
 }
 
+-- a number of two digits
 Writes-two : (a b : ℕ) → a < 10 → b < 10 → Writes ((48 + a) ∷ (48 + b) ∷ []) (a * 10 + b)
 Writes-two a b h g = record {
   decimal = record {
@@ -70,9 +73,11 @@ IsOffset-offset_text k m (negsuc n) shape =
 hex_value-lower_digit : (a : ℕ) → a < 16 → hex_value (lower_digit a) ≡ Some a
 hex_value-lower_digit a h = grind (arith, nat_tests)
 
+-- and is a hexadecimal digit
 IsHexDigit-lower_digit : (a : ℕ) → a < 16 → IsHexDigit (lower_digit a)
 IsHexDigit-lower_digit a h none = none-some a (sym none ∙ hex_value-lower_digit a h)
 
+-- the letters of a table's digits are the table
 letters-lower_digits : (table : List ℕ) → All (λ a. a < 16) table → map letter_at (map lower_digit table) ≡ table
 letters-lower_digits [] all = refl
 letters-lower_digits (a ∷ table) all =

@@ -17,6 +17,7 @@ pub data State : Type 0 where
   Letters : (k m : ℕ) (o : ℤ) (place : ℕ) (digits : List ℕ) → State
   Digits : (k m : ℕ) (o : ℤ) (place : ℕ) (digits : List ℕ) → State
 
+-- the test of a decimal digit
 abbrev is_digit : ℕ → Bool
 is_digit b = nat_le 48 b && nat_le b 57
 
@@ -47,10 +48,12 @@ finish (Letters k m o p x) = Some (record { states = k; width = m; offset = o; e
 finish (Digits k m o p x) =
     if nat_lt 0 (length x) then Some (record { states = k; width = m; offset = o; entries = Number (decimal_value x); place = p }) else None
 
+-- from a state on, over these bytes; i is the place of the first
 abbrev run : ℕ → State → List ℕ → Option State
 run i s [] = Some s
 run i s (b ∷ x) = option_and_then (λ t. run (i + 1) t x) (next i s b)
 
+-- over two texts in a row
 run-append : (i : ℕ) (s : State) (x y : List ℕ) → run i s (x ++ y) ≡ option_and_then (λ t. run (i + length x) t y) (run i s x)
 run-append i s [] y = ap (λ j. run j s y) (sym (add-zero i))
 run-append i s (b ∷ x) y =
@@ -65,6 +68,7 @@ run-append i s (b ∷ x) y =
 pub record Reaches (text : List ℕ) (s : State) : Type 0 where
   is : run 0 (First []) text ≡ Some s
 
+-- nothing is read yet
 pub Reaches-none : Reaches [] (First [])
 Reaches-none = record { is = refl }
 
@@ -89,6 +93,7 @@ run-part F P most takes i x (b ∷ y) all few =
     ap (option_and_then (λ t. run (i + 1) t y)) first ∙ run-part F P most takes (i + 1) (x ++ b ∷ []) y (All-tail P b y all) room
     ∙ ap (λ z. Some (F z)) (append_assoc x (b ∷ []) y)
 
+-- a state that takes digits is reached with all of them
 pub Reaches-part : (F : List ℕ → State) (P : ℕ → Type 0) (most : ℕ) → Takes F P most → {x : List ℕ} → Reaches x (F [])
     → (y : List ℕ) → All P y → length y ≤ most → Reaches (x ++ y) (F y)
 Reaches-part F P most takes {x = x} reaches y all few = record {
@@ -96,24 +101,30 @@ Reaches-part F P most takes {x = x} reaches y all few = record {
       ∙ run-part F P most takes (0 + length x) [] y all (omega arith);
 }
 
+-- the first digits are at most 39
 Takes-First : Takes First IsDigit 39
 Takes-First = record { step = λ i x b digit few. grind (arith, nat_tests) }
 
+-- those of M are at most 2
 Takes-Width : (k : ℕ) → Takes (Width k) IsDigit 2
 Takes-Width k = record { step = λ i x b digit few. grind (arith, nat_tests) }
 
+-- those of O are at most 2
 Takes-Offset : (k m : ℕ) (minus : Bool) → Takes (Offset k m minus) IsDigit 2
 Takes-Offset k m minus = record { step = λ i x b digit few. grind (arith, nat_tests) }
 
+-- the test of an option that is something
 is_some-true : {X : Type 0} (o : Option X) → o ≢ None → is_some o ≡ true
 is_some-true None other = absurd (other refl)
 is_some-true (Some x) other = refl
 
+-- those of a table are as many as one likes
 Takes-Letters : (k m : ℕ) (o : ℤ) (p most : ℕ) → Takes (Letters k m o p) IsHexDigit most
 Takes-Letters k m o p most = record {
   step = λ i x b digit few. ap (λ t. if t then Some (Letters k m o p (x ++ b ∷ [])) else None) (is_some-true (hex_value b) digit);
 }
 
+-- those of a number are at most 39
 Takes-Digits : (k m : ℕ) (o : ℤ) (p : ℕ) → Takes (Digits k m o p) IsDigit 39
 Takes-Digits k m o p = record { step = λ i x b digit few. grind (arith, nat_tests) }
 
@@ -163,10 +174,12 @@ pub record IsSigned (o : List ℕ) (z : ℤ) : Type 0 where
   pub text : o ≡ sign minus ++ digits
   pub value : z ≡ signed minus (decimal_value digits)
 
+-- each offset of the grammar is of this form
 pub IsSigned-IsOffset : {o : List ℕ} {z : ℤ} → IsOffset o z → IsSigned o z
 IsSigned-IsOffset (Plain digits d) = record { minus = false; digits = digits; decimal = d; text = refl; value = refl }
 IsSigned-IsOffset (Minus digits d) = record { minus = true; digits = digits; decimal = d; text = refl; value = refl }
 
+-- and each such form is an offset
 pub IsOffset-signed : (minus : Bool) (digits : List ℕ) → IsDecimal 1 2 digits → IsOffset (sign minus ++ digits) (signed minus (decimal_value digits))
 IsOffset-signed true digits d = Minus digits d
 IsOffset-signed false digits d = Plain digits d
@@ -215,6 +228,7 @@ pub record Finishes (text : List ℕ) (said : Said) : Type 0 where
   pub reaches : Reaches text state
   pub finish : finish state ≡ Some said
 
+-- each text of the grammar ends so
 pub Finishes-Says : {text : List ℕ} {said : Said} → Says text said → Finishes text said
 Finishes-Says (Bare digits d) =
     let low = d.least in

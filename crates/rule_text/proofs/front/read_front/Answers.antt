@@ -20,18 +20,21 @@ at_first {text = text} {p = p} {f = f} same start headed h =
     let g = subst (λ (u : List ℕ). IsFormAt u f (LacksField u p)) same h in
     named g.1 (IsFormFault-first_field text g.0 headed g.2 (subst (λ (q : ℕ). LacksField text q g.0) start g.3))
 
+-- behind K
 at_second : {t text k : List ℕ} {p : ℕ} {f : TextFault} → t ≡ text → take p text ≡ k ++ codes ":" → IsDecimal 1 2 k
     → IsFormAt t f (LacksField t p) → IsTextFault text f
 at_second {text = text} {k = k} {p = p} {f = f} same is d h =
     let g = subst (λ (u : List ℕ). IsFormAt u f (LacksField u p)) same h in
     named g.1 (IsFormFault-second_field text p g.0 k is d g.2 g.3)
 
+-- behind M
 at_third : {t text k m : List ℕ} {p : ℕ} {f : TextFault} → t ≡ text → take p text ≡ k ++ codes ":" ++ m ++ codes ":" → IsDecimal 1 2 k → IsDecimal 1 2 m
     → IsFormAt t f (LacksOffset t p) → IsTextFault text f
 at_third {text = text} {k = k} {m = m} {p = p} {f = f} same is d e h =
     let g = subst (λ (u : List ℕ). IsFormAt u f (LacksOffset u p)) same h in
     named g.1 (IsFormFault-third_field text p g.0 k m is d e g.2 g.3)
 
+-- behind O
 at_kind : {t text k m o : List ℕ} {p : ℕ} {z : ℤ} {f : TextFault} → t ≡ text → take p text ≡ k ++ codes ":" ++ m ++ codes ":" ++ o ++ codes ":"
     → IsDecimal 1 2 k → IsDecimal 1 2 m → IsOffset o z → p ≤ length t → f ≡ fault.Form p → IsNoKind (get_or t p 0) → IsTextFault text f
 at_kind {text = text} {k = k} {m = m} {o = o} {p = p} {z = z} {f = f} same is d e offset within form none =
@@ -42,15 +45,18 @@ at_kind {text = text} {k = k} {m = m} {o = o} {p = p} {z = z} {f = f} same is d 
 first_is : {t text : List ℕ} {p q n : ℕ} → t ≡ text → p ≡ 0 → (h : GoesOverField t p q n) → take q text ≡ h.digits ++ codes ":"
 first_is {t = t} {q = q} same start h = ap (take q) (sym same) ∙ h.over ∙ ap (λ j. take j t ++ h.digits ++ codes ":") start
 
+-- K and M
 second_is : {t text y : List ℕ} {p q n : ℕ} → t ≡ text → take p text ≡ y → (h : GoesOverField t p q n) → take q text ≡ y ++ h.digits ++ codes ":"
 second_is {p = p} {q = q} same is h = ap (take q) (sym same) ∙ h.over ∙ ap (λ x. take p x ++ h.digits ++ codes ":") same ∙ ap (λ x. x ++ h.digits ++ codes ":") is
 
+-- K, M and O
 third_is : {t text y : List ℕ} {p q : ℕ} {z : ℤ} → t ≡ text → take p text ≡ y → (h : GoesOverOffset t p q z)
     → take q text ≡ y ++ (sign h.minus ++ h.digits) ++ codes ":"
 third_is {y = y} {p = p} {q = q} same is h =
     ap (take q) (sym same) ∙ h.over ∙ ap (λ x. take p x ++ sign h.minus ++ h.digits ++ codes ":") same
     ∙ ap (λ x. x ++ sign h.minus ++ h.digits ++ codes ":") is ∙ ap (λ x. x ++ codes ":") (append_assoc y (sign h.minus) h.digits)
 
+-- and the kind
 last_is : {t text y : List ℕ} (x : List ℕ) (p q : ℕ) → t ≡ text → take p text ≡ y → GoesOver t p q x → take q text ≡ y ++ x
 last_is x p q same is h = ap (take q) (sym same) ∙ h ∙ ap (λ z. take p z ++ x) same ∙ ap (λ z. z ++ x) is
 

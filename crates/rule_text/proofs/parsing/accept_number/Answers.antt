@@ -10,6 +10,7 @@ use Rattle.rule_text.proofs.parsing.accept_number.Goals as goal
 part_long : (size windows : ℕ) (room : List ℕ) → length room ≡ 256 → size ≡ windows → windows ≤ 256 → length (take size room) ≡ windows
 part_long size windows room all same few = length-take-le size room (omega arith) ∙ same
 
+-- a number that isn't below a limit, where both are known by other names
 not_below : (n v p q : ℕ) → n ≡ v → p ≡ q → ¬ (n < p) → q ≤ v
 not_below n v p q same limit none = elim (cases_lt n p) [ inl below ↦ absurd (none below) | inr past ↦ omega arith ]
 
