@@ -5,6 +5,10 @@
 #[cfg(test)]
 mod faulty_sinks;
 #[cfg(test)]
+mod numbers;
+#[cfg(test)]
 mod orphans;
+#[cfg(test)]
+mod rule_faults;
 #[cfg(test)]
 mod top_call;
