@@ -1,3 +1,4 @@
+//! Texts with their rules and faults, from outside.
 use super::{TextFault, number, parse, print};
 use word_image::Rule;
 

@@ -1,3 +1,4 @@
+//! The faults of a text.
 ghost use Rattle.std.specs.Prelude.{◌≡◌, ◌+◌, ◌^◌, ◌<◌};
 ghost use Rattle.rule_text.specs.RuleTexts.{in_text};
 

@@ -1,3 +1,4 @@
+//! Letters and their digits.
 ghost use Rattle.std.specs.Prelude.{◌≡◌, ◌<◌};
 ghost use Rattle.word_image.specs.Digits.{lower_digit, hex_value};
 

@@ -1,3 +1,4 @@
+//! Small lists, each seen as the list that it holds.
 ghost use Rattle.std.specs.Prelude.{◌≡◌};
 
 use std::marker::Model;

@@ -1,5 +1,9 @@
-ghost use Rattle.std.specs.Prelude.{◌≡◌, ℕ, ◌-◌, ◌^◌, ◌<◌, ◌≤◌, ◌↔◌, length, slice_index, IfOk, IfSome, IsOk};
+//! A rule, and what it gives on a window.
+ghost use Rattle.std.specs.Prelude.{◌≡◌, ◌^◌, ◌<◌, ◌≤◌, ◌↔◌, length, nat_le, position, slice_index, IfOk, IfSome, IsOk};
 ghost use Rattle.std.specs.Result.{result_err};
+ghost use Rattle.word_image.specs.LocalRules.{IsWord, value};
+ghost use Rattle.word_image.specs.RuleFaults.{shape_fault, table_fault};
+ghost use Rattle.word_image.specs.Storage.{padded};
 
 use std::marker::Model;
 
@@ -56,7 +60,7 @@ impl Model for Rule {
 }
 
 impl Rule {
-    ghost use Rattle.word_image.specs.LocalRules.{LocalRule, IsRule, IsWord, local_map, node_count};
+    ghost use Rattle.word_image.specs.LocalRules.{IsRule, local_map, node_count};
     ghost use Rattle.word_image.specs.RuleFaults.{rule_fault};
 
     /// The rule of exactly these states, width, offset and table, whose letters stand in the order
@@ -135,11 +139,6 @@ impl Rule {
         self.at(value_of(self.k, window))
     }
 }
-
-ghost use Rattle.std.specs.Prelude.{nat_le, position};
-ghost use Rattle.word_image.specs.LocalRules.{IsWord, value};
-ghost use Rattle.word_image.specs.RuleFaults.{shape_fault, table_fault};
-ghost use Rattle.word_image.specs.Storage.{padded};
 
 /// The letters of a table, and zeros behind them.
 fn in_memory(table: &[u8]) -> [u8; ROOM]
