@@ -14,9 +14,9 @@ words_of (Orphan rule) = codes "orphan" ∷ rule ∷ []
 words_of (Number rule) = codes "number" ∷ rule ∷ []
 
 -- the operand that is to be a rule text
-abbrev pub rule_of : Command → List ℕ
-rule_of (Orphan rule) = rule
-rule_of (Number rule) = rule
+abbrev pub rule_operand : Command → List ℕ
+rule_operand (Orphan rule) = rule
+rule_operand (Number rule) = rule
 
 -- the command of a request
 abbrev pub command_of : Request → Command

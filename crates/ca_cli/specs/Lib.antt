@@ -3,3 +3,4 @@ pub mod Commands
 pub mod Lines
 pub mod Reports
 pub mod Answers
+pub mod Examples

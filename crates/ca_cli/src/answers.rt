@@ -1,7 +1,7 @@
 //! The answer to the words, made whole in memory.
 ghost use Rattle.std.specs.Prelude.{◌≡◌, ℕ, List, Option, map, IfOk, string_bytes};
 ghost use Rattle.rule_text.specs.RuleTexts.{IsTextFault};
-ghost use Rattle.ca_cli.specs.Commands.{Command, words_of, rule_of};
+ghost use Rattle.ca_cli.specs.Commands.{Command, words_of, rule_operand};
 ghost use Rattle.ca_cli.specs.Answers.{IsAnswer};
 
 use crate::lines::{number_line, rule_fault_line, surjective_line};
@@ -68,7 +68,7 @@ fn number(alloc: Global, text: &[u8]) -> Result<Answer, AllocError>
 fn refusal(alloc: Global, fault: TextFault) -> Result<Answer, AllocError>
     ensures { IfOk result (λ answer.
         (c : Command) (words : List (List ℕ)) (input : Option (List ℕ)) →
-        words ≡ words_of c → IsTextFault (rule_of c) fault →
+        words ≡ words_of c → IsTextFault (rule_operand c) fault →
         IsAnswer words input answer.status (string_bytes answer.output)) }
 {
     Ok(Answer {

@@ -4,7 +4,7 @@ ghost use Rattle.std.specs.Prelude.{◌≡◌, ◌≢◌, ◌↔◌, ℕ, List, 
 ghost use Rattle.word_image.specs.LocalRules.{LocalRule};
 ghost use Rattle.rule_text.specs.declared.text_fault.TextFault.{TextFault};
 ghost use Rattle.rule_text.specs.RuleTexts.{IsRuleText, IsTextFault};
-ghost use Rattle.ca_cli.specs.Commands.{Command, words_of, rule_of};
+ghost use Rattle.ca_cli.specs.Commands.{Command, words_of, rule_operand};
 ghost use Rattle.ca_cli.specs.Lines.{line, rule_fault_line};
 ghost use Rattle.ca_cli.specs.Reports.{IsSurjectiveLine, number_line};
 ghost use Rattle.ca_cli.specs.Answers.{IsAnswer};
@@ -15,6 +15,13 @@ use crate::status::Status;
 pub fn one_status()
     ensures { (words : List (List ℕ)) (input : Option (List ℕ)) (s t : Status) (out other : List ℕ)
         → IsAnswer words input s out → IsAnswer words input t other → s ≡ t }
+{}
+
+/// Done is the right status of a command whose rule operand is accepted. With the clause `complete` of
+/// `run`: it then answers Done or Memory over a sink that fails no write.
+pub fn accepted_is_done()
+    ensures { (c : Command) (r : LocalRule) (input : Option (List ℕ)) (s : Status) (out : List ℕ)
+        → IsRuleText (rule_operand c) r → IsAnswer (words_of c) input s out → s ≡ Status.Done }
 {}
 
 /// Usage is right exactly where the words are no command, with the line `usage error`.
@@ -29,7 +36,7 @@ pub fn usage_exactly()
 pub fn rule_fault_exactly()
     ensures { (words : List (List ℕ)) (input : Option (List ℕ)) (out : List ℕ)
         → IsAnswer words input Status.RuleFault out
-        ↔ ((c : Command) × (f : TextFault) × (words ≡ words_of c) × IsTextFault (rule_of c) f
+        ↔ ((c : Command) × (f : TextFault) × (words ≡ words_of c) × IsTextFault (rule_operand c) f
         × (out ≡ rule_fault_line f)) }
 {}
 

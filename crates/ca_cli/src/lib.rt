@@ -6,8 +6,9 @@
 //! fault of its own, or nothing.
 //!
 //! [`run`] is the program. Its contract cites one relation, `IsAnswer` of specs/Answers.antt: which
-//! status and which output are right for the words. [`one_status`], [`usage_exactly`],
-//! [`rule_fault_exactly`], [`orphan_exactly`] and [`number_exactly`] are its laws. By them:
+//! status and which output are right for the words. [`one_status`],
+//! [`accepted_is_done`], [`usage_exactly`], [`rule_fault_exactly`], [`orphan_exactly`] and
+//! [`number_exactly`] are its laws. By them:
 //!
 //! | Words | Status | Code | Output |
 //! |---|---|---|---|
@@ -31,7 +32,7 @@ mod status;
 mod top_call;
 
 pub use exactness::{
-    number_exactly, one_status, orphan_exactly, rule_fault_exactly, usage_exactly,
+    accepted_is_done, number_exactly, one_status, orphan_exactly, rule_fault_exactly, usage_exactly,
 };
 pub use status::Status;
 pub use top_call::run;

@@ -1,6 +1,6 @@
 //! The lines that the program writes.
 ghost use Rattle.std.specs.Prelude.{◌≡◌, ◌<◌, ◌++◌, codes, All, IfOk, string_bytes};
-ghost use Rattle.ca_cli.specs.Lines.{line, word_text, rule_fault_line as fault_line};
+ghost use Rattle.ca_cli.specs.Lines.{line, word_text, fault_text, rule_fault_line as fault_line};
 ghost use Rattle.ca_cli.specs.Reports.{IsSurjectiveLine, number_line as rule_number_line};
 
 use orphan_search::{Outcome, Search};
@@ -12,16 +12,24 @@ use word_image::{Rule, digit};
 pub fn rule_fault_line(alloc: Global, fault: TextFault) -> Result<String, AllocError>
     ensures { IfOk result (λ text. string_bytes text ≡ fault_line fault) }
 {
+    let kind = fault_kind(alloc, fault)?;
+    format!(in alloc; "rule fault 1 {kind}\n")
+}
+
+/// The kind of a fault, and its place where it has one.
+fn fault_kind(alloc: Global, fault: TextFault) -> Result<String, AllocError>
+    ensures { IfOk result (λ text. string_bytes text ≡ fault_text fault) }
+{
     match fault {
-        TextFault::Form(place) => format!(in alloc; "rule fault 1 form {place}\n"),
-        TextFault::States => String::from_str(alloc, "rule fault 1 states\n"),
-        TextFault::Width => String::from_str(alloc, "rule fault 1 width\n"),
-        TextFault::Nodes => String::from_str(alloc, "rule fault 1 nodes\n"),
-        TextFault::Offset => String::from_str(alloc, "rule fault 1 offset\n"),
-        TextFault::Kind => String::from_str(alloc, "rule fault 1 kind\n"),
-        TextFault::Length => String::from_str(alloc, "rule fault 1 length\n"),
-        TextFault::Letter(place) => format!(in alloc; "rule fault 1 letter {place}\n"),
-        TextFault::Number => String::from_str(alloc, "rule fault 1 number\n"),
+        TextFault::Form(place) => format!(in alloc; "form {place}"),
+        TextFault::States => String::from_str(alloc, "states"),
+        TextFault::Width => String::from_str(alloc, "width"),
+        TextFault::Nodes => String::from_str(alloc, "nodes"),
+        TextFault::Offset => String::from_str(alloc, "offset"),
+        TextFault::Kind => String::from_str(alloc, "kind"),
+        TextFault::Length => String::from_str(alloc, "length"),
+        TextFault::Letter(place) => format!(in alloc; "letter {place}"),
+        TextFault::Number => String::from_str(alloc, "number"),
     }
 }
 

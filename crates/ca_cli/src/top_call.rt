@@ -7,7 +7,7 @@ ghost use Rattle.ca_cli.specs.Statuses.{IsAnswered};
 
 use crate::answers::answer_to;
 use crate::status::Status;
-use ca_io::{Sink, Source, write_all};
+use ca_io::{Failed, Sink, Source, write_all};
 use std::alloc::Global;
 
 /// Carries out the command that the words are, and writes its output to the sink. `words` are those
@@ -52,6 +52,6 @@ pub fn run<S: Source, T: Sink>(
     };
     match write_all(sink, answer.output.as_bytes()) {
         Ok(()) => answer.status,
-        Err(_) => Status::WriteFault,
+        Err(Failed) => Status::WriteFault,
     }
 }

@@ -1,11 +1,11 @@
 -- Sets of nodes, one edge or one node more at a time.
 use Rattle.std.proofs.Common.{◌≡◌, ◌≢◌, ℕ, ◌+◌, ◌^◌, ◌<◌, ◌↔◌, inl, inr, IsBitSet, bit_or, subst, sym, arith, ⊎_elim}
 use Rattle.std.proofs.lemmas.Bool.{cases_eq}
-use Rattle.std.proofs.lemmas.Nat.{pow_pos, or_lt}
+use Rattle.std.proofs.lemmas.Nat.{or_lt}
 use Rattle.std.proofs.Math.Pow.{pow-lt}
 use Rattle.word_image.specs.LocalRules.{LocalRule, IsRule, node_count}
 use Rattle.word_image.specs.Graphs.{next, label}
-use Rattle.word_image.proofs.laws.Bits.{IsBitSet-zero, IsBitSet-pow, IsBitSet-or}
+use Rattle.word_image.proofs.laws.Bits.{IsBitSet-pow, IsBitSet-or}
 use Rattle.word_image.proofs.laws.Graphs.{next-below}
 use Rattle.orphan_search.specs.NodeSets.{IsEnds}
 
@@ -13,13 +13,6 @@ use Rattle.orphan_search.specs.NodeSets.{IsEnds}
 pub record IsEndsOf (r : LocalRule) (u a n ends : ℕ) : Type 0 where
   pub within : ends < 2 ^ node_count r
   pub nodes : (v : ℕ) → v < node_count r → (IsBitSet ends v ↔ ((b : ℕ) × (b < n) × (label r u b ≡ a) × (next r u b ≡ v)))
-
--- of no edges it is empty
-pub IsEndsOf-none : (r : LocalRule) (u a : ℕ) → IsEndsOf r u a 0 0
-IsEndsOf-none r u a = record {
-  within = pow_pos (node_count r);
-  nodes = λ v _. ((λ some. absurd (IsBitSet-zero v some)), (λ (b, below, _, _). absurd (omega arith)));
-}
 
 -- the next edge has another label
 pub IsEndsOf-skip : {r : LocalRule} {u a n ends : ℕ} → IsEndsOf r u a n ends → label r u n ≢ a → IsEndsOf r u a (n + 1) ends
@@ -57,13 +50,6 @@ pub record IsStepOf (r : LocalRule) (set a n after : ℕ) : Type 0 where
   pub within : after < 2 ^ node_count r
   pub nodes : (v : ℕ) → v < node_count r
       → (IsBitSet after v ↔ ((u : ℕ) × (b : ℕ) × (u < n) × (b < r.states) × IsBitSet set u × (label r u b ≡ a) × (next r u b ≡ v)))
-
--- of no nodes it is empty
-pub IsStepOf-none : (r : LocalRule) (set a : ℕ) → IsStepOf r set a 0 0
-IsStepOf-none r set a = record {
-  within = pow_pos (node_count r);
-  nodes = λ v _. ((λ some. absurd (IsBitSet-zero v some)), (λ edge. absurd (omega (arith, edge.2))));
-}
 
 -- the next node isn't in the set
 pub IsStepOf-skip : {r : LocalRule} {set a n after : ℕ} → IsStepOf r set a n after → ¬ IsBitSet set n → IsStepOf r set a (n + 1) after

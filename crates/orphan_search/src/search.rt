@@ -39,7 +39,7 @@ impl Model for Search {
 }
 
 impl Search {
-    ghost use Rattle.word_image.specs.Words.{IsSurjective, IsOrphan};
+    ghost use Rattle.word_image.specs.Words.{IsSurjective};
     ghost use Rattle.orphan_search.specs.Verdicts.{IsVerdict};
 
     /// A search that has not run: its word is empty.

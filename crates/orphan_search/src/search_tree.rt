@@ -1,6 +1,6 @@
 //! The sets that a search reaches, in the order in which it reaches them, and the way to each.
 
-ghost use Rattle.std.specs.Prelude.{◌≡◌, ◌+◌, ◌<◌, ◌↔◌, length, vec_len, Contains, IsTrue, IfOk};
+ghost use Rattle.std.specs.Prelude.{◌+◌, ◌<◌, ◌↔◌, length, vec_len, Contains, IsTrue, IfOk};
 ghost use Rattle.orphan_search.specs.SearchTrees.{IsTree, IsBackward, IsClosedTo, IsExpanded, Spells, sets_of};
 
 use crate::node_sets::{full, step};

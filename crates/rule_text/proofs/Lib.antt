@@ -1,2 +1,2 @@
 pub mod laws
-pub mod Rows
+pub mod Examples

@@ -113,9 +113,9 @@ abbrev pub rule_of : Said → LocalRule
 rule_of s = record { states = s.states; width = s.width; offset = s.offset; table = table_of s s.entries }
 
 -- the answer to what a text says: the rule where it's accepted, else the first fault
-abbrev pub IsAnswer : Said → Result LocalRule TextFault → Type 0
-IsAnswer s (Ok r) = (fault_of s ≡ None) × (r ≡ rule_of s)
-IsAnswer s (Err f) = fault_of s ≡ Some f
+abbrev pub IsReading : Said → Result LocalRule TextFault → Type 0
+IsReading s (Ok r) = (fault_of s ≡ None) × (r ≡ rule_of s)
+IsReading s (Err f) = fault_of s ≡ Some f
 
 -- the text is a text of the rule
 pub record IsRuleText (text : List ℕ) (r : LocalRule) : Type 0 where

@@ -1,5 +1,5 @@
 //! What stands in front of the entries of a text.
-ghost use Rattle.std.specs.Prelude.{◌≡◌, ◌⊎◌, ◌↔◌, IsTrue, slice_index, IfOk, IfErr};
+ghost use Rattle.std.specs.Prelude.{◌↔◌, IsTrue, IfOk, IfErr};
 ghost use Rattle.rule_text.specs.RuleTexts.{IsTextFault};
 ghost use Rattle.rule_text.specs.Fronts.{IsFront, IsHeaded};
 

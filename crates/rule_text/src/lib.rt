@@ -12,8 +12,9 @@
 //! number is the sum over all windows of the letter there times k to the window's value. So `110`,
 //! `2:3:-1:w110` and `2:3:-1:t01110110` are one rule.
 //!
-//! `parse` goes over the text once. What stands in front of the entries is read by a small reader,
-//! part by part; the entries are then taken for what the front says that they are.
+//! `parse` reads what stands in front of the entries by a small reader, part by part. The entries
+//! are checked for what the front says that they are, and then taken for it. So a call takes
+//! **O(n + k^m)** time for a text of n bytes, and no memory; `print` makes the text of its rule.
 #![tactic(auto)]
 
 mod digits;

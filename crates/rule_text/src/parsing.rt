@@ -1,17 +1,14 @@
 //! From a text to its rule or its first fault.
-ghost use Rattle.std.specs.Prelude.{◌≡◌, ℕ, ◌+◌, ◌^◌, ◌<◌, IfOk, IfErr, None, All, map};
+ghost use Rattle.std.specs.Prelude.{◌≡◌, ◌+◌, ◌^◌, ◌<◌, IfOk, IfErr, All, map};
 ghost use Rattle.word_image.specs.LocalRules.{LocalRule, IsShape};
 ghost use Rattle.rule_text.specs.declared.text_fault.TextFault.{TextFault};
-ghost use Rattle.rule_text.specs.RuleTexts.{IsRuleText, IsTextFault, IsAnswer, IsHexDigit, IsDecimal, Table, Number, letter_at, decimal_value};
+ghost use Rattle.rule_text.specs.RuleTexts.{IsRuleText, IsTextFault, IsReading, IsHexDigit, IsDecimal, Table, Number, letter_at, decimal_value};
 ghost use Rattle.rule_text.specs.Fronts.{IsEntries, said_of, said_with};
 
 use crate::digits::{decimal_number, first_stop, write_letters, write_number};
 use crate::front::{Front, Kind, read_front};
 use crate::text_fault::{TextFault, in_text};
-use word_image::{Rule, check_shape};
-
-/// The most letters that a table has: 16 states at width 2.
-const ROOM: usize = 256;
+use word_image::{MOST_ENTRIES, Rule, check_shape};
 
 /// The rule that a text says; else the text's first fault, in the order of `TextFault`.
 pub fn parse(text: &[u8]) -> Result<Rule, TextFault>
@@ -33,7 +30,7 @@ pub fn parse(text: &[u8]) -> Result<Rule, TextFault>
 fn accept(front: &Front, digits: &[u8]) -> Result<Rule, TextFault>
     requires entries { IsEntries front.now.kind digits.now }
     requires place { front.now.place + 2 ^ 16 < 2 ^ 64 }
-    ensures { IsAnswer (said_of front.now digits.now) result }
+    ensures { IsReading (said_of front.now digits.now) result }
 {
     if let Err(fault) = check_shape(front.k, front.m, front.o) {
         return Err(in_text(fault, front.place));
@@ -49,13 +46,13 @@ fn accept_table(front: &Front, digits: &[u8]) -> Result<Rule, TextFault>
     requires shape { IsShape front.now.k front.now.m front.now.o }
     requires digits { All IsHexDigit digits.now }
     requires place { front.now.place + 2 ^ 16 < 2 ^ 64 }
-    ensures { IsAnswer (said_with front.now (Table (map letter_at digits.now))) result }
+    ensures { IsReading (said_with front.now (Table (map letter_at digits.now))) result }
 {
     let size = usize::from(front.k).pow(u32::from(front.m));
     if digits.len() != size {
         return Err(TextFault::Length);
     }
-    let mut table = [0; ROOM];
+    let mut table = [0; MOST_ENTRIES];
     let table = &mut table[..size];
     write_letters(table, digits);
     match Rule::new(front.k, front.m, front.o, table) {
@@ -68,7 +65,7 @@ fn accept_table(front: &Front, digits: &[u8]) -> Result<Rule, TextFault>
 fn accept_number(front: &Front, digits: &[u8]) -> Result<Rule, TextFault>
     requires shape { IsShape front.now.k front.now.m front.now.o }
     requires digits { IsDecimal 1 39 digits.now }
-    ensures { IsAnswer (said_with front.now (Number (decimal_value digits.now))) result }
+    ensures { IsReading (said_with front.now (Number (decimal_value digits.now))) result }
 {
     if front.k > 6 {
         return Err(TextFault::Kind);
@@ -77,7 +74,7 @@ fn accept_number(front: &Front, digits: &[u8]) -> Result<Rule, TextFault>
         return Err(TextFault::Number);
     };
     let size = usize::from(front.k).pow(u32::from(front.m));
-    let mut table = [0; ROOM];
+    let mut table = [0; MOST_ENTRIES];
     let table = &mut table[..size];
     if !write_number(table, front.k, number) {
         return Err(TextFault::Number);

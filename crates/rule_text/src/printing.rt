@@ -1,5 +1,5 @@
 //! From a rule to its text and its number.
-ghost use Rattle.std.specs.Prelude.{◌≡◌, ◌<◌, IfOk, vec_len};
+ghost use Rattle.std.specs.Prelude.{◌≡◌, ◌<◌, IfOk};
 ghost use Rattle.std.specs.Option.{SomeIff};
 ghost use Rattle.word_image.specs.LocalRules.{LocalRule, IsRule, wolfram_number};
 ghost use Rattle.rule_text.specs.RuleTexts.{IsRuleText, printed};

@@ -1,5 +1,5 @@
 //! A reader that goes over a text part by part.
-ghost use Rattle.std.specs.Prelude.{◌≡◌, ◌≢◌, ℕ, ◌+◌, ◌-◌, ◌<◌, ◌≤◌, ◌∷◌, [], ◌↔◌, IfOk, IfErr, OnOk, OnErr, IfSome, IfNone, IsTrue, codes, length, slice_index};
+ghost use Rattle.std.specs.Prelude.{◌≡◌, ◌≢◌, ◌+◌, ◌-◌, ◌<◌, ◌≤◌, ◌∷◌, [], ◌↔◌, IfOk, IfErr, OnOk, OnErr, IfSome, IfNone, IsTrue, codes, length, slice_index};
 ghost use Rattle.std.specs.Bool.{OnTrue, OnFalse};
 ghost use Rattle.rule_text.specs.RuleTexts.{IsDigit};
 ghost use Rattle.rule_text.specs.Fronts.{GoesOver, GoesOverSmall, GoesOverField, GoesOverOffset, LacksField, LacksOffset, IsFormAt, IsNoKind, colon, kind_text};

@@ -20,11 +20,12 @@ pub record EndTogether (r : LocalRule) (u v n : ℕ) : Type 0 where
   pub first : value r.states (drop n x) ≡ u
   pub second : value r.states (drop n y) ≡ v
 
--- n is the greatest length that holds, or each length holds
+-- n holds, and n + 1 doesn't
 pub record IsRank (Holds : ℕ → Type 0) (n : ℕ) : Type 0 where
   pub holds : Holds n
   pub no_more : ¬ Holds (n + 1)
 
+-- every length holds
 abbrev pub IsEndless : (ℕ → Type 0) → Type 0
 IsEndless Holds = (n : ℕ) → Holds n
 

@@ -26,4 +26,4 @@ mod local_rule;
 pub use images::{ImageFault, image};
 pub use letters::{digit, letter};
 pub use lists::{FluxRow, RankRow, SetList, Word};
-pub use local_rule::{Rule, RuleFault, check_shape};
+pub use local_rule::{MOST_ENTRIES, Rule, RuleFault, check_shape};

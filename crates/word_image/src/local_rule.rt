@@ -8,7 +8,7 @@ ghost use Rattle.word_image.specs.Storage.{padded};
 use std::marker::Model;
 
 /// The most letters that a table has: 16 states at width 2.
-const ROOM: usize = 256;
+pub const MOST_ENTRIES: usize = 256;
 
 /// Which limit of an accepted rule is broken.
 #[derive(Clone, Copy, Debug, PartialEq, Eq)]
@@ -34,7 +34,7 @@ pub struct Rule {
     m: u8,
     o: i8,
     // The letters of the table, and zeros behind them.
-    entries: [u8; ROOM],
+    entries: [u8; MOST_ENTRIES],
 }
 
 impl Model for Rule {
@@ -141,11 +141,11 @@ impl Rule {
 }
 
 /// The letters of a table, and zeros behind them.
-fn in_memory(table: &[u8]) -> [u8; ROOM]
+fn in_memory(table: &[u8]) -> [u8; MOST_ENTRIES]
     requires { length table.now ≤ 256 }
     ensures { result ≡ padded table.now }
 {
-    let mut entries = [0; ROOM];
+    let mut entries = [0; MOST_ENTRIES];
     entries[..table.len()].copy_from_slice(table);
     entries
 }
@@ -240,6 +240,16 @@ mod tests {
         for (case, (k, m, o, table, fault)) in cases.into_iter().enumerate() {
             assert_eq!(rt; Rule::new(k, m, o, table).err(), fault, "case {case}");
         }
+    }
+
+    #[test]
+    fn rules_are_equal_where_all_their_parts_are(rt: HostRuntime) {
+        let rule_124 = [0, 0, 1, 1, 1, 1, 1, 0];
+        let rule = Rule::new(2, 3, -1, &RULE_110);
+        assert_eq!(rt; rule, Rule::new(2, 3, -1, &RULE_110));
+        assert_ne!(rt; rule, Rule::new(2, 3, -1, &rule_124));
+        assert_ne!(rt; rule, Rule::new(2, 3, 0, &RULE_110));
+        assert_ne!(rt; Rule::new(4, 2, 0, &[0; 16]), Rule::new(2, 4, 0, &[0; 16]));
     }
 
     #[test]

@@ -2,56 +2,44 @@
 
 use crate::top_call::{call, sink};
 use ca_cli::Status;
+use ca_io::MemSink;
+use std::alloc::{AllocError, Global};
+use std::process::Abort;
 use std::test::Fail;
 
 const LINE: &[u8] = b"surjective no orphan 01010\n";
 
-/// Each of the 27 calls fails in turn: the bytes before it are taken, and no more.
+/// Each of the 27 calls fails in turn, and the room ends at each byte in turn: the bytes before it are
+/// taken, and no more.
 #[test]
-fn failed_calls(rt: HostRuntime) -> Result<(), Fail> {
-    for i in 0..28u64 {
-        let failing = vec![in rt.alloc(); i]?;
-        let outcome = call(
-            rt.alloc(),
-            "orphan 110",
-            sink(rt.alloc(), 1 << 10, 1, failing)?,
-        )?;
-        let status = if i < 27 {
-            Status::WriteFault
-        } else {
-            Status::Done
-        };
-        assert_eq!(rt; outcome.status, status, "call {i} fails");
-        assert_eq!(rt;
-            outcome.output.bytes(),
-            &LINE[..i.min(27) as usize],
-            "call {i} fails"
-        );
+fn failed_calls_and_small_rooms(rt: HostRuntime) -> Result<(), Fail> {
+    for i in 0..28usize {
+        let failing = vec![in rt.alloc(); i as u64]?;
+        takes_first_bytes(&rt, rt.alloc(), sink(rt.alloc(), 1 << 10, 1, failing)?, i)?;
+        let never = Vec::new(rt.alloc());
+        takes_first_bytes(&rt, rt.alloc(), sink(rt.alloc(), i, 1, never)?, i)?;
     }
     Ok(())
 }
 
-/// The room ends at each byte in turn.
-#[test]
-fn small_rooms(rt: HostRuntime) -> Result<(), Fail> {
-    for room in 0..28usize {
-        let failing = Vec::new(rt.alloc());
-        let outcome = call(
-            rt.alloc(),
-            "orphan 110",
-            sink(rt.alloc(), room, 1, failing)?,
-        )?;
-        let status = if room < 27 {
-            Status::WriteFault
-        } else {
-            Status::Done
-        };
-        assert_eq!(rt; outcome.status, status, "room for {room}");
-        assert_eq!(rt;
-            outcome.output.bytes(),
-            &LINE[..room.min(27)],
-            "room for {room}"
-        );
-    }
+/// `orphan 110` into a sink that can take this many bytes.
+fn takes_first_bytes(
+    rt: &impl Abort,
+    alloc: Global,
+    sink: MemSink,
+    count: usize,
+) -> Result<(), AllocError> {
+    let outcome = call(alloc, "orphan 110", sink)?;
+    let status = if count < LINE.len() {
+        Status::WriteFault
+    } else {
+        Status::Done
+    };
+    assert_eq!(rt; outcome.status, status, "{count} bytes");
+    assert_eq!(rt;
+        outcome.output.bytes(),
+        &LINE[..count.min(LINE.len())],
+        "{count} bytes"
+    );
     Ok(())
 }

@@ -8,7 +8,7 @@ use Rattle.ca_cli.specs.declared.status.Status.{Status}
 use Rattle.ca_cli.specs.declared.status.Status.TheVariants as status
 use Rattle.rule_text.specs.RuleTexts.{IsRuleText, IsTextFault}
 use Rattle.rule_text.proofs.laws.Texts.{IsRuleText-no_fault}
-use Rattle.ca_cli.specs.Commands.{Command, words_of, rule_of}
+use Rattle.ca_cli.specs.Commands.{Command, words_of, rule_operand}
 use Rattle.ca_cli.specs.Commands as commands
 use Rattle.ca_cli.specs.Statuses.{IsAnswered}
 use Rattle.ca_cli.specs.Lines.{line, rule_fault_line}
@@ -17,19 +17,19 @@ use Rattle.ca_cli.specs.Answers.{IsAnswer}
 use Rattle.ca_cli.specs.Answers.IsAnswer.{Usage, RuleFault, Orphan, Number}
 
 -- the rule operand of a command stands behind its name
-operand-words_of : (c : Command) → slice_get (words_of c) 1 ≡ Some (rule_of c)
-operand-words_of (commands.Orphan text) = refl
-operand-words_of (commands.Number text) = refl
+slice_get-words_of : (c : Command) → slice_get (words_of c) 1 ≡ Some (rule_operand c)
+slice_get-words_of (commands.Orphan text) = refl
+slice_get-words_of (commands.Number text) = refl
 
 -- the words of a command have one rule operand
-rule_of-words_of : (c d : Command) → words_of c ≡ words_of d → rule_of c ≡ rule_of d
-rule_of-words_of c d same = same_Some (rule_of c) (rule_of d) (sym (operand-words_of c) ∙ ap (λ words. slice_get words 1) same ∙ operand-words_of d)
+rule_operand-words_of : (c d : Command) → words_of c ≡ words_of d → rule_operand c ≡ rule_operand d
+rule_operand-words_of c d same = same_Some (rule_operand c) (rule_operand d) (sym (slice_get-words_of c) ∙ ap (λ words. slice_get words 1) same ∙ slice_get-words_of d)
 
 -- what came of the words: they are no command, or a command whose rule operand is refused, or accepted
 data Cause (words : List (List ℕ)) : Status → Type 0 where
   NoCommand : ((c : Command) → words ≢ words_of c) → Cause words status.Usage
-  Refused : (c : Command) (f : TextFault) → words ≡ words_of c → IsTextFault (rule_of c) f → Cause words status.RuleFault
-  Accepted : (c : Command) (r : LocalRule) → words ≡ words_of c → IsRuleText (rule_of c) r → Cause words status.Done
+  Refused : (c : Command) (f : TextFault) → words ≡ words_of c → IsTextFault (rule_operand c) f → Cause words status.RuleFault
+  Accepted : (c : Command) (r : LocalRule) → words ≡ words_of c → IsRuleText (rule_operand c) r → Cause words status.Done
 
 -- the cause of an answer
 cause_of : {words : List (List ℕ)} {input : Option (List ℕ)} {s : Status} {out : List ℕ} → IsAnswer words input s out → Cause words s
@@ -47,9 +47,9 @@ IsAnswered-answer answer = answered (cause_of answer) where
   answered (Accepted _ _ _ _) = tt
 
 -- a rule operand that is refused isn't accepted
-refused_or_accepted : (c d : Command) (words : List (List ℕ)) → words ≡ words_of c → words ≡ words_of d → {f : TextFault} {r : LocalRule} → IsTextFault (rule_of c) f → IsRuleText (rule_of d) r → ⊥
+refused_or_accepted : (c d : Command) (words : List (List ℕ)) → words ≡ words_of c → words ≡ words_of d → {f : TextFault} {r : LocalRule} → IsTextFault (rule_operand c) f → IsRuleText (rule_operand d) r → ⊥
 refused_or_accepted c d words here also {f} {r} refused accepted =
-    IsRuleText-no_fault accepted (subst (λ text. IsTextFault text f) (rule_of-words_of c d (sym here ∙ also)) refused)
+    IsRuleText-no_fault accepted (subst (λ text. IsTextFault text f) (rule_operand-words_of c d (sym here ∙ also)) refused)
 
 -- causes of the same words are of one status
 one_cause : {words : List (List ℕ)} {s t : Status} → Cause words s → Cause words t → s ≡ t
@@ -67,6 +67,11 @@ one_cause (Accepted c r same says) (Accepted _ _ _ _) = refl
 pub one_status : {words : List (List ℕ)} {input : Option (List ℕ)} {s t : Status} {out other : List ℕ} → IsAnswer words input s out → IsAnswer words input t other → s ≡ t
 one_status answer also = one_cause (cause_of answer) (cause_of also)
 
+-- a command whose rule operand is accepted is Done
+pub accepted_is_done : {input : Option (List ℕ)} {s : Status} {out : List ℕ} (c : Command) (r : LocalRule) → IsRuleText (rule_operand c) r
+    → IsAnswer (words_of c) input s out → s ≡ status.Done
+accepted_is_done c r says answer = one_cause (cause_of answer) (Accepted c r refl says)
+
 -- what an answer of status Usage says
 pub usage_says : {words : List (List ℕ)} {input : Option (List ℕ)} {out : List ℕ} → IsAnswer words input status.Usage out
     → ((c : Command) → words ≢ words_of c) × (out ≡ line (codes "usage error"))
@@ -74,7 +79,7 @@ usage_says (Usage none) = (none, refl)
 
 -- what an answer of status RuleFault says
 pub rule_fault_says : {words : List (List ℕ)} {input : Option (List ℕ)} {out : List ℕ} → IsAnswer words input status.RuleFault out
-    → (c : Command) × (f : TextFault) × (words ≡ words_of c) × IsTextFault (rule_of c) f × (out ≡ rule_fault_line f)
+    → (c : Command) × (f : TextFault) × (words ≡ words_of c) × IsTextFault (rule_operand c) f × (out ≡ rule_fault_line f)
 rule_fault_says (RuleFault c f same fault) = (c, f, same, fault, refl)
 
 -- the commands have different names
@@ -85,7 +90,7 @@ number-orphan a b same = grind arith
 pub orphan_says : (text : List ℕ) {words : List (List ℕ)} {input : Option (List ℕ)} {out : List ℕ} → words ≡ words_of (commands.Orphan text) → IsAnswer words input status.Done out
     → (r : LocalRule) × IsRuleText text r × IsSurjectiveLine r out
 orphan_says text here (Orphan text' r _ same says true_line) =
-    (r, subst (λ t. IsRuleText t r) (rule_of-words_of (commands.Orphan text') (commands.Orphan text) (sym same ∙ here)) says, true_line)
+    (r, subst (λ t. IsRuleText t r) (rule_operand-words_of (commands.Orphan text') (commands.Orphan text) (sym same ∙ here)) says, true_line)
 orphan_says text here (Number text' r same says) = absurd (number-orphan text' text (sym same ∙ here))
 
 -- what an answer of status Done says of the words `number R`
@@ -93,4 +98,4 @@ pub number_says : (text : List ℕ) {words : List (List ℕ)} {input : Option (L
     → (r : LocalRule) × IsRuleText text r × (out ≡ number_line r)
 number_says text here (Orphan text' r _ same says true_line) = absurd (number-orphan text text' (sym here ∙ same))
 number_says text here (Number text' r same says) =
-    (r, subst (λ t. IsRuleText t r) (rule_of-words_of (commands.Number text') (commands.Number text) (sym same ∙ here)) says, refl)
+    (r, subst (λ t. IsRuleText t r) (rule_operand-words_of (commands.Number text') (commands.Number text) (sym same ∙ here)) says, refl)

@@ -6,12 +6,13 @@ use Rattle.std.proofs.Math.Nat.{div-eq_of_lt, pow-le-pow_right}
 use Rattle.std.proofs.lemmas.Nat.{div-add-mod'}
 use Rattle.std.proofs.lemmas.Bool.{cases_eq, false≢true}
 use Rattle.std.proofs.lemmas.Bool.Decides.{nat_tests}
-use Rattle.std.proofs.lemmas.List.{get_or-reverse, length-reverse, reverse-append, drop_more, take_more, take_all}
+use Rattle.std.proofs.lemmas.List.{length-reverse, reverse-append, drop_more, take_more, take_all}
 use Rattle.std.proofs.lemmas.List.FromFn.{map-range_with_len_more}
 use Rattle.std.proofs.lemmas.List.Sums.{sum_by_push}
-use Rattle.std.proofs.lemmas.List.Elements.{All-from_get_or, All-drop}
+use Rattle.std.proofs.lemmas.List.Elements.{All-drop}
 use Rattle.std.specs.Option.{option_map, option_or}
 use Rattle.word_image.specs.LocalRules.{LocalRule, IsShape, IsRule, IsWord, value, word_of, wolfram_number}
+use Rattle.word_image.proofs.laws.Images.{IsWord-reverse}
 use Rattle.word_image.proofs.laws.RuleFaults.{shape_fault-IsShape}
 use Rattle.word_image.proofs.laws.Values.{length-word_of, IsWord-word_of, value-snoc, value-below}
 use Rattle.rule_text.specs.declared.text_fault.TextFault.TheVariants as fault
@@ -58,15 +59,6 @@ pub fault_of-shape : (s : Said) → IsShape s.states s.width s.offset → fault_
 fault_of-shape s shape =
     ap (λ f. option_or (option_map (in_text s.place) f) (entries_fault s s.entries)) (shape_fault-IsShape s.states s.width s.offset shape)
 
--- a word read backwards
-IsWord-reverse : (k : ℕ) (w : List ℕ) → IsWord k w → IsWord k (reverse w)
-IsWord-reverse k w word =
-    All-from_get_or (λ a. a < k) (reverse w) 0 (λ i h.
-    let inside : i < length w = omega (arith, length-reverse w) in
-    let same : get_or (reverse w) i 0 ≡ get_or w (length w - 1 - i) 0 = get_or-reverse w i 0 inside in
-    let letter : get_or w (length w - 1 - i) 0 < k = word (length w - 1 - i) 0 (omega arith) in
-    omega arith)
-
 -- the digits of a number of an accepted shape are the table of a rule
 pub IsRule-number : (k m : ℕ) (o p : ℤ) (long n : ℕ) (table : List ℕ) → IsShape k m o → p ≡ o → long ≡ k ^ m → n < k ^ long
     → table ≡ reverse (word_of k long n) → IsRule (record { states = k; width = m; offset = p; table = table })
@@ -86,8 +78,8 @@ fault_of-beyond k m o place n shape few beyond =
     fault_of-shape (record { states = k; width = m; offset = o; entries = Number n; place = place }) shape ∙ entries
 
 -- what is below a power is what is left with nothing
-pub div-zero : (n p : ℕ) → 0 < p → (n / p ≡ 0) ↔ (n < p)
-div-zero n p some = (λ none. let whole = div-add-mod' n p in let zeroth : n / p * p ≡ 0 = ap (λ j. j * p) none ∙ zero-mul p in omega (arith, mod-lt n some), λ below. div-eq_of_lt below)
+pub div-is_zero : (n p : ℕ) → 0 < p → (n / p ≡ 0) ↔ (n < p)
+div-is_zero n p some = (λ none. let whole = div-add-mod' n p in let zeroth : n / p * p ≡ 0 = ap (λ j. j * p) none ∙ zero-mul p in omega (arith, mod-lt n some), λ below. div-eq_of_lt below)
 
 -- the number of the letters from one place on, with the letter before them
 pub value-reverse_drop : (k : ℕ) (t : List ℕ) (i : ℕ) → 0 < i → i ≤ length t

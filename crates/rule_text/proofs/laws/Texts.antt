@@ -5,7 +5,7 @@ use Rattle.std.proofs.lemmas.Bool.{cases_order}
 use Rattle.word_image.specs.LocalRules.{LocalRule}
 use Rattle.rule_text.specs.declared.text_fault.TextFault.{TextFault}
 use Rattle.rule_text.specs.declared.text_fault.TextFault.TheVariants as fault
-use Rattle.rule_text.specs.RuleTexts.{Said, Says, IsFormFault, IsRuleText, IsTextFault, NoForm, Refused, IsAnswer, fault_of, rule_of}
+use Rattle.rule_text.specs.RuleTexts.{Said, Says, IsFormFault, IsRuleText, IsTextFault, NoForm, Refused, IsReading, fault_of, rule_of}
 use Rattle.rule_text.proofs.laws.Scanner.{finish, Finishes-Says, Reaches-unique}
 
 -- the grammar gives a text one meaning
@@ -44,14 +44,14 @@ IsRuleText-no_fault rule (NoForm p h) = h.outside rule.said rule.says
 IsRuleText-no_fault rule (Refused s f says is) = let same : fault_of rule.said ≡ fault_of s = ap fault_of (Says-unique rule.says says) in let accepted = rule.accepted in cc
 
 -- an answer to what the text says has the rule of the text
-pub IsAnswer-rule : {text : List ℕ} {s : Said} → Says text s → (a : Result LocalRule TextFault) → IsAnswer s a → IfOk a (λ r. IsRuleText text r)
-IsAnswer-rule {s = s} says (Ok r) answer = record { said = s; says = says; accepted = answer.0; rule = answer.1 }
-IsAnswer-rule says (Err f) answer = tt
+pub IsReading-rule : {text : List ℕ} {s : Said} → Says text s → (a : Result LocalRule TextFault) → IsReading s a → IfOk a (λ r. IsRuleText text r)
+IsReading-rule {s = s} says (Ok r) answer = record { said = s; says = says; accepted = answer.0; rule = answer.1 }
+IsReading-rule says (Err f) answer = tt
 
 -- and its fault
-pub IsAnswer-fault : {text : List ℕ} {s : Said} → Says text s → (a : Result LocalRule TextFault) → IsAnswer s a → IfErr a (λ f. IsTextFault text f)
-IsAnswer-fault says (Ok r) answer = tt
-IsAnswer-fault {s = s} says (Err f) answer = Refused s f says answer
+pub IsReading-fault : {text : List ℕ} {s : Said} → Says text s → (a : Result LocalRule TextFault) → IsReading s a → IfErr a (λ f. IsTextFault text f)
+IsReading-fault says (Ok r) answer = tt
+IsReading-fault {s = s} says (Err f) answer = Refused s f says answer
 
 -- a text of a rule has no other answer
 pub every_rule : (text : List ℕ) (a : Result LocalRule TextFault) → IfOk a (λ r. IsRuleText text r) → IfErr a (λ f. IsTextFault text f)

@@ -2,7 +2,7 @@ use Rattle.std.proofs.Common.{ℕ, ◌/◌, ◌%◌, ◌<◌, List, [], ◌∷�
 use Rattle.std.proofs.lemmas.List.{take_more_set}
 use Rattle.std.proofs.lemmas.Bool.Decides.{nat_tests}
 use Rattle.std.proofs.Math.Nat.{one-le-pow}
-use Rattle.rule_text.proofs.laws.Numbers.{div-zero}
+use Rattle.rule_text.proofs.laws.Numbers.{div-is_zero}
 use Rattle.rule_text.proofs.laws.Letters.{reverse-word_of-more, div-pow-more}
 use Rattle.rule_text.proofs.digits.write_number.Goals as goal
 
@@ -27,5 +27,5 @@ returns-clause-fits c =
     let base : 0 < k = omega arith in
     let whole : c.loop-letter.letter-index ≡ long = omega arith in
     let left : c.loop-letter.rest ≡ n / k ^ long = c.loop-letter.invariant.left ∙ ap (λ i. n / k ^ i) whole in
-    let none = div-zero n (k ^ long) (one-le-pow long k base) in
+    let none = div-is_zero n (k ^ long) (one-le-pow long k base) in
     (λ empty. let zeroth : c.loop-letter.rest ≡ 0 = grind (arith, nat_tests) in none.0 (sym left ∙ zeroth), λ below. eq-eqb c.loop-letter.rest 0 (left ∙ none.1 below))

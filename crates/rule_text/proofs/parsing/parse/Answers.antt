@@ -2,9 +2,9 @@ use Rattle.std.proofs.Common.{ℕ, ◌+◌, ◌-◌, List, take, drop, length, l
 use Rattle.std.specs.Prelude.{IfOk, IfErr}
 use Rattle.std.proofs.lemmas.List.{take_rest}
 use Rattle.rule_text.specs.declared.front.Front.{Front}
-use Rattle.rule_text.specs.RuleTexts.{IsRuleText, IsTextFault, IsAnswer, NoForm}
+use Rattle.rule_text.specs.RuleTexts.{IsRuleText, IsTextFault, IsReading, NoForm}
 use Rattle.rule_text.specs.Fronts.{IsEntries, IsStop, said_of}
-use Rattle.rule_text.proofs.laws.Texts.{IsAnswer-rule, IsAnswer-fault, every_rule, every_fault}
+use Rattle.rule_text.proofs.laws.Texts.{IsReading-rule, IsReading-fault, every_rule, every_fault}
 use Rattle.rule_text.proofs.laws.Fronts.{Says-front, IsFormFault-front, IsFront-within, IsStop-within}
 use Rattle.rule_text.proofs.parsing.parse.Goals as goal
 
@@ -50,16 +50,16 @@ returns-clause-rule c =
     let text = c.args.text.now in
     let f = c.in_ok-front.front in
     let entries = subst (λ (x : List ℕ). IsEntries f.kind x) (take_rest text f.place) c.in_default.ensures.none in
-    let answer = subst (λ (x : List ℕ). IsAnswer (said_of f x) c.accept.result) (take_rest text f.place) c.accept.ensures in
-    IsAnswer-rule (Says-front text f c.in_ok-front.ensures.front entries) c.accept.result answer
+    let answer = subst (λ (x : List ℕ). IsReading (said_of f x) c.accept.result) (take_rest text f.place) c.accept.ensures in
+    IsReading-rule (Says-front text f c.in_ok-front.ensures.front entries) c.accept.result answer
 
 pub returns-clause-fault : goal.returns-clause-fault
 returns-clause-fault c =
     let text = c.args.text.now in
     let f = c.in_ok-front.front in
     let entries = subst (λ (x : List ℕ). IsEntries f.kind x) (take_rest text f.place) c.in_default.ensures.none in
-    let answer = subst (λ (x : List ℕ). IsAnswer (said_of f x) c.accept.result) (take_rest text f.place) c.accept.ensures in
-    IsAnswer-fault (Says-front text f c.in_ok-front.ensures.front entries) c.accept.result answer
+    let answer = subst (λ (x : List ℕ). IsReading (said_of f x) c.accept.result) (take_rest text f.place) c.accept.ensures in
+    IsReading-fault (Says-front text f c.in_ok-front.ensures.front entries) c.accept.result answer
 
 pub returns-clause-every_rule : goal.returns-clause-every_rule
 returns-clause-every_rule c = every_rule c.args.text.now c.accept.result (returns-clause-rule c) (returns-clause-fault c)
