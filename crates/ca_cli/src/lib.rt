@@ -6,9 +6,9 @@
 //! fault of its own, or nothing.
 //!
 //! [`run`] is the program. Its contract cites one relation, `IsAnswer` of specs/Answers.antt: which
-//! status and which output are right for the words. [`one_status`],
-//! [`accepted_is_done`], [`usage_exactly`], [`rule_fault_exactly`], [`orphan_exactly`] and
-//! [`number_exactly`] are its laws. By them:
+//! status and which output are right for the words. [`one_status`], [`accepted_is_done`],
+//! [`usage_exactly`], [`rule_fault_exactly`], [`orphan_exactly`] and [`number_exactly`] are its laws.
+//! By them:
 //!
 //! | Words | Status | Code | Output |
 //! |---|---|---|---|

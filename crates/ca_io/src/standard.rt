@@ -109,7 +109,7 @@ impl<W: Write> Sink for StdSink<W> {
     }
 }
 
-// Writes at least one byte of the piece and flushes, and answers how many bytes it wrote.
+/// Writes at least one byte of the piece and flushes, and answers how many bytes it wrote.
 fn write_and_flush<W: Write>(writer: &mut W, piece: &[u8]) -> io::Result<usize>
     ensures bound { WritesAtMost result piece.now }
     ensures some { IfOk result (λ n. 1 ≤ n) }
