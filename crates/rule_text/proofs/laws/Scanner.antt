@@ -200,27 +200,29 @@ Reaches-front k m o z d e offset =
     grind (arith, nat_tests) in
     Reaches-byte there 58 (Kind (decimal_value k) (decimal_value m) z) (step ∙ ap (λ y. Some (Kind (decimal_value k) (decimal_value m) y)) (sym p.value))
 
+-- in the entries behind a kind, which its byte begins
+Reaches-entries : (k m o digits : List ℕ) (z : ℤ) (b : ℕ) (F : ℕ → List ℕ → State) (P : ℕ → Type 0) (most : ℕ) → IsDecimal 1 2 k → IsDecimal 1 2 m → IsOffset o z
+    → ((i : ℕ) → next i (Kind (decimal_value k) (decimal_value m) z) b ≡ Some (F (i + 1) [])) → ((p : ℕ) → Takes (F p) P most)
+    → All P digits → length digits ≤ most → Reaches (head k m o (b ∷ []) ++ digits) (F (length (head k m o (b ∷ []))) digits)
+Reaches-entries k m o digits z b F P most d e offset begins takes all few =
+    let front = k ++ codes ":" ++ m ++ codes ":" ++ o ++ codes ":" in
+    let place = length (front ++ b ∷ []) in
+    let first = begins (length front) ∙ ap (λ j. Some (F j [])) (sym (length-append front (b ∷ []))) in
+    Reaches-part (F place) P most (takes place) (Reaches-byte (Reaches-front k m o z d e offset) b (F place []) first) digits all few
+
 -- in the letters of a table
 pub Reaches-table : (k m o digits : List ℕ) (z : ℤ) → IsDecimal 1 2 k → IsDecimal 1 2 m → IsOffset o z → All IsHexDigit digits
     → Reaches (head k m o (codes "t") ++ digits) (Letters (decimal_value k) (decimal_value m) z (length (head k m o (codes "t"))) digits)
 Reaches-table k m o digits z d e offset all =
-    let front = k ++ codes ":" ++ m ++ codes ":" ++ o ++ codes ":" in
-    let F = Letters (decimal_value k) (decimal_value m) z (length (front ++ codes "t")) in
-    let place : length front + 1 ≡ length (front ++ codes "t") = sym (length-append front (codes "t")) in
-    let begins : Reaches (front ++ codes "t") (F []) =
-    Reaches-byte (Reaches-front k m o z d e offset) 116 (F []) (ap (λ j. Some (Letters (decimal_value k) (decimal_value m) z j [])) place) in
-    Reaches-part F IsHexDigit (length digits) (Takes-Letters (decimal_value k) (decimal_value m) z (length (front ++ codes "t")) (length digits)) begins digits all (omega arith)
+    Reaches-entries k m o digits z 116 (Letters (decimal_value k) (decimal_value m) z) IsHexDigit (length digits) d e offset
+    (λ i. refl) (λ p. Takes-Letters (decimal_value k) (decimal_value m) z p (length digits)) all (omega arith)
 
 -- in the digits of a number
 pub Reaches-number : (k m o digits : List ℕ) (z : ℤ) → IsDecimal 1 2 k → IsDecimal 1 2 m → IsOffset o z → All IsDigit digits → length digits ≤ 39
     → Reaches (head k m o (codes "w") ++ digits) (Digits (decimal_value k) (decimal_value m) z (length (head k m o (codes "w"))) digits)
 Reaches-number k m o digits z d e offset all few =
-    let front = k ++ codes ":" ++ m ++ codes ":" ++ o ++ codes ":" in
-    let F = Digits (decimal_value k) (decimal_value m) z (length (front ++ codes "w")) in
-    let place : length front + 1 ≡ length (front ++ codes "w") = sym (length-append front (codes "w")) in
-    let begins : Reaches (front ++ codes "w") (F []) =
-    Reaches-byte (Reaches-front k m o z d e offset) 119 (F []) (ap (λ j. Some (Digits (decimal_value k) (decimal_value m) z j [])) place) in
-    Reaches-part F IsDigit 39 (Takes-Digits (decimal_value k) (decimal_value m) z (length (front ++ codes "w"))) begins digits all few
+    Reaches-entries k m o digits z 119 (Digits (decimal_value k) (decimal_value m) z) IsDigit 39 d e offset
+    (λ i. refl) (Takes-Digits (decimal_value k) (decimal_value m) z) all few
 
 -- a text of the grammar ends where it may end, and says what is told there
 pub record Finishes (text : List ℕ) (said : Said) : Type 0 where

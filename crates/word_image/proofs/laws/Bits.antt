@@ -1,8 +1,8 @@
 -- The bits of a number, as a set of the places where it has one.
-use Rattle.std.proofs.Common.{◌≡◌, ℕ, suc, ◌*◌, ◌^◌, ◌<◌, ◌≤◌, ◌↔◌, ◌⊎◌, inl, inr, IsBitSet, bit_and, bit_or, ◌/◌, ◌%◌, zero-mul, pow-suc, sym, ap, ◌∙◌, arith, ⊎_elim}
+use Rattle.std.proofs.Common.{◌≡◌, ℕ, suc, ◌*◌, ◌^◌, ◌<◌, ◌≤◌, ◌↔◌, ◌⊎◌, inl, inr, IsBitSet, bit_and, bit_or, ◌/◌, ◌%◌, zero-mul, pow-suc, ap, ◌∙◌, arith, ⊎_elim}
 use Rattle.std.proofs.lemmas.Bool.{cases_eq}
 use Rattle.std.proofs.lemmas.Nat.{pow_pos, leading_top, le-div, div_below}
-use Rattle.std.proofs.lemmas.Nat.Bits.{bit_at-zero, bit_at_or, bit_at-pow_same, bit_at-pow_other, same_from_bits_below, and_pow, bit_at-lt}
+use Rattle.std.proofs.lemmas.Nat.Bits.{bit_at-zero, bit_at_or, bit_at-pow_same, bit_at-pow_other, and_pow, bit_at-lt}
 use Rattle.std.specs.Int.{bit_at}
 
 -- a bit that is set is 1
@@ -13,17 +13,6 @@ bit_at-IsBitSet n i = (
       (cases_eq (bit_at n i) 1)),
   (λ e none. let same : bit_and n (2 ^ i) ≡ 1 * 2 ^ i = and_pow n i ∙ ap (λ b. b * 2 ^ i) e in omega (arith, pow_pos i)),
 )
-
--- two numbers below 2 ^ n with the same bits are equal
-pub same_from_bits_set : (n a b : ℕ) → a < 2 ^ n → b < 2 ^ n → ((i : ℕ) → i < n → (IsBitSet a i ↔ IsBitSet b i)) → a ≡ b
-same_from_bits_set n a b h g e = same_from_bits_below n a b h g (λ i l.
-    ⊎_elim
-    (λ one. one ∙ sym ((bit_at-IsBitSet b i).0 ((e i l).0 ((bit_at-IsBitSet a i).1 one))))
-    (λ no. ⊎_elim
-    (λ one. absurd (no ((bit_at-IsBitSet a i).0 ((e i l).1 ((bit_at-IsBitSet b i).1 one)))))
-    (λ none. omega (arith, bit_at-lt a i, bit_at-lt b i))
-    (cases_eq (bit_at b i) 1))
-    (cases_eq (bit_at a i) 1))
 
 -- a number that is not 0 has a bit
 pub IsBitSet-some : (n a : ℕ) → a < 2 ^ n → ¬ (a ≡ 0) → (i : ℕ) × (i < n) × IsBitSet a i

@@ -1,38 +1,20 @@
 -- The de Bruijn graph of a rule read on words: nodes are ends of words, edges are windows.
-use Rattle.std.proofs.Common.{◌≡◌, ℕ, suc, ◌+◌, ◌-◌, ◌*◌, ◌%◌, ◌^◌, ◌<◌, List, [], ◌∷◌, ◌++◌, length, drop, slice_index, sym, ap, ◌∙◌, subst, arith, length-drop, pow-suc, mul_comm, mod-lt}
+use Rattle.std.proofs.Common.{◌≡◌, ℕ, ◌+◌, ◌-◌, ◌*◌, ◌%◌, ◌^◌, ◌<◌, List, [], ◌∷◌, ◌++◌, length, drop, slice_index, sym, ap, ◌∙◌, subst, arith, length-drop, mod-lt}
 use Rattle.std.proofs.Math.Nat.{one-le-pow}
-use Rattle.std.proofs.lemmas.Nat.{mul-add-lt, mod-mul-add}
+use Rattle.std.proofs.lemmas.Nat.{mod-mul-add}
 use Rattle.std.proofs.lemmas.List.{drop-append-le, drop-drop, length_push}
 use Rattle.std.proofs.lemmas.List.Elements.{All-drop, All-push, All-tail}
 use Rattle.word_image.specs.LocalRules.{LocalRule, IsRule, IsWord, value, local_map, node_count}
 use Rattle.word_image.specs.Graphs.{next, label}
 use Rattle.word_image.proofs.laws.Values.{value-below, value-snoc}
-use Rattle.word_image.proofs.laws.Words.{entry-below}
 
 -- there are nodes
 pub node_count_pos : {r : LocalRule} → IsRule r → 0 < node_count r
 node_count_pos {r} rule = one-le-pow (r.width - 1) r.states (omega arith)
 
--- an edge is a node and a letter
-pub node_count-mul-states : {r : LocalRule} → IsRule r → node_count r * r.states ≡ r.states ^ r.width
-node_count-mul-states {r} rule =
-    let long : suc (r.width - 1) ≡ r.width = omega arith in
-    sym (pow-suc r.states (r.width - 1)) ∙ ap (λ n. r.states ^ n) long
-
 -- an edge leads to a node
 pub next-below : {r : LocalRule} → IsRule r → (u a : ℕ) → next r u a < node_count r
 next-below {r} rule u a = mod-lt (u * r.states + a) (node_count_pos rule)
-
--- an edge has an entry of the table
-pub edge-below : {r : LocalRule} → IsRule r → (u a : ℕ) → u < node_count r → a < r.states → u * r.states + a < r.states ^ r.width
-edge-below {r} rule u a h l =
-    let within : u * r.states + a < r.states * node_count r = mul-add-lt u r.states a (node_count r) h l in
-    let turned : r.states * node_count r ≡ r.states ^ r.width = mul_comm r.states (node_count r) ∙ node_count-mul-states rule in
-    omega arith
-
--- an edge has a letter for its label
-pub label-below : {r : LocalRule} → IsRule r → (u a : ℕ) → label r u a < r.states
-label-below {r} rule u a = entry-below rule (u * r.states + a)
 
 -- a word of m - 1 letters is a node
 pub value-node : (r : LocalRule) (z : List ℕ) → IsWord r.states z → length z ≡ r.width - 1 → value r.states z < node_count r

@@ -2,14 +2,13 @@
 use Rattle.std.proofs.Common.{◌≡◌, ℕ, zero, suc, ◌-◌, ◌^◌, ◌<◌, List, [], ◌∷◌, ◌++◌, length, take, drop, get_or, Contains, refl, sym, subst, arith}
 use Rattle.std.proofs.lemmas.Nat.{pow_pos}
 use Rattle.std.proofs.lemmas.List.{nil_from_length, length-take-le}
-use Rattle.std.proofs.lemmas.Nat.Bits.{bit_at_ones, bit_at-zero}
+use Rattle.std.proofs.lemmas.Nat.Bits.{bit_at_ones}
 use Rattle.std.proofs.lemmas.List.Elements.{All-nil, All-push, All-take}
-use Rattle.std.specs.Int.{bit_at}
 use Rattle.word_image.specs.LocalRules.{LocalRule, IsRule, IsWord, value, node_count}
 use Rattle.word_image.specs.Words.{IsPreimage, IsOrphan, IsSurjective}
 use Rattle.word_image.specs.Graphs.{IsStep}
 use Rattle.word_image.specs.Ranks.{IsLastNode, IsLastSet}
-use Rattle.word_image.proofs.laws.Bits.{bit_at-IsBitSet, same_from_bits_set, IsBitSet-some}
+use Rattle.word_image.proofs.laws.Bits.{bit_at-IsBitSet, IsBitSet-some, IsBitSet-zero}
 use Rattle.word_image.proofs.laws.LastNodes.{IsLastNode-empty, IsLastNode-preimage, IsLastNode-below, IsLastNode-push, IsLastNode-snoc}
 use Rattle.word_image.proofs.laws.Words.{split_last}
 
@@ -43,8 +42,7 @@ IsOrphan-empty_set {r} {w} h =
       none = λ x p.
           let u : ℕ = value r.states (drop (length w) x) in
           let last : IsLastNode r w u = IsLastNode-preimage p in
-          let one : bit_at 0 u ≡ 1 = (bit_at-IsBitSet 0 u).0 ((h.nodes u (IsLastNode-below last)).1 last) in
-          omega (arith, bit_at-zero u);
+          IsBitSet-zero u ((h.nodes u (IsLastNode-below last)).1 last);
     }
 
 -- a word whose set of last nodes is not empty has a preimage
@@ -53,18 +51,6 @@ IsPreimage-nonempty_set {r} {w} {set} h some =
     let bit = IsBitSet-some (node_count r) set h.within some in
     let last : IsLastNode r w bit.0 = (h.nodes bit.0 bit.1).0 bit.2 in
     (last.x, last.preimage)
-
--- a step gives one set
-pub IsStep-unique : {r : LocalRule} {set a s t : ℕ} → IsStep r set a s → IsStep r set a t → s ≡ t
-IsStep-unique {r} {set} {a} {s} {t} p q =
-    same_from_bits_set (node_count r) s t p.within q.within
-    (λ v l. ((λ bit. (q.nodes v l).1 ((p.nodes v l).0 bit)), (λ bit. (p.nodes v l).1 ((q.nodes v l).0 bit))))
-
--- a word has one set of last nodes
-pub IsLastSet-unique : {r : LocalRule} {w : List ℕ} {s t : ℕ} → IsLastSet r w s → IsLastSet r w t → s ≡ t
-IsLastSet-unique {r} {w} {s} {t} p q =
-    same_from_bits_set (node_count r) s t p.within q.within
-    (λ v l. ((λ bit. (q.nodes v l).1 ((p.nodes v l).0 bit)), (λ bit. (p.nodes v l).1 ((q.nodes v l).0 bit))))
 
 -- each step from a set of the list leads to a set of the list
 pub record IsClosedUnderSteps (r : LocalRule) (sets : List ℕ) : Type 0 where

@@ -1,10 +1,10 @@
 -- Images and preimages, one letter at a time.
-use Rattle.std.proofs.Common.{◌≡◌, ℕ, ◌+◌, ◌-◌, ◌<◌, ◌≤◌, List, [], ◌∷◌, ◌++◌, length, map, take, drop, get_or, slice_index, slice_range, refl, sym, ap, ap₂, ◌∙◌, ⊎_elim, arith, length-append, length-drop}
+use Rattle.std.proofs.Common.{◌≡◌, ℕ, ◌+◌, ◌-◌, ◌<◌, ◌≤◌, List, [], ◌∷◌, ◌++◌, length, map, take, drop, get_or, slice_index, slice_range, sym, ap, ap₂, ◌∙◌, ⊎_elim, arith, length-drop}
 use Rattle.std.specs.List.{range_with_len}
 use Rattle.std.proofs.lemmas.Bool.{cases_lt}
-use Rattle.std.proofs.lemmas.List.{length_push, length-take-le, same_from_push, nil_from_length, drop-append-le, take-append-le, take_all, take_more, drop_at, get_or_past, get_or_append_left}
+use Rattle.std.proofs.lemmas.List.{length_push, length-take-le, same_from_push, nil_from_length, drop-append-le, take-append-le, take_all, take_more, get_or_past}
 use Rattle.std.proofs.lemmas.List.FromFn.{length-map-range_with_len, get_or-map-range_with_len, map-range_with_len_more, fill_by_all}
-use Rattle.std.proofs.lemmas.List.Elements.{All-push, All-take, All-drop, All-same, All-map}
+use Rattle.std.proofs.lemmas.List.Elements.{All-push, All-take, All-map}
 use Rattle.word_image.specs.LocalRules.{LocalRule, IsRule, IsWord, local_map}
 use Rattle.word_image.specs.Words.{image, IsPreimage}
 
@@ -13,17 +13,6 @@ pub split_last : (y : List ℕ) → 0 < length y → y ≡ take (length y - 1) y
 split_last y h =
     let all : take (length y - 1 + 1) y ≡ y = take_all (length y - 1 + 1) y (omega arith) in
     sym all ∙ take_more y (length y - 1) 0 (omega arith)
-
--- the front of a word is a word
-pub IsWord-append_left : (k : ℕ) (x y : List ℕ) → IsWord k (x ++ y) → IsWord k x
-IsWord-append_left k x y h = λ i d l.
-    let letter : get_or (x ++ y) i d < k = h i d (omega (arith, length-append x y)) in
-    let same : get_or (x ++ y) i d ≡ get_or x i d = get_or_append_left x y d i l in
-    omega arith
-
--- the end of a word is a word
-pub IsWord-append_right : (k : ℕ) (x y : List ℕ) → IsWord k (x ++ y) → IsWord k y
-IsWord-append_right k x y h = All-same (λ a. a < k) y (drop (length x) (x ++ y)) (sym (drop_at x y (length x) refl)) (All-drop (λ a. a < k) (length x) (x ++ y) h)
 
 -- what the table holds is a letter
 pub entry-below : {r : LocalRule} → IsRule r → (v : ℕ) → slice_index r.table v < r.states
@@ -69,10 +58,6 @@ image-snoc {r} rule x a h =
 -- each word of m - 1 letters is a preimage of the empty word
 pub IsPreimage-empty : (r : LocalRule) (x : List ℕ) → IsWord r.states x → length x ≡ r.width - 1 → IsPreimage r [] x
 IsPreimage-empty r x h e = record { word = h; long = omega arith; maps = image-short r x (omega arith) }
-
--- the preimages of the empty word have m - 1 letters
-pub length-preimage_empty : {r : LocalRule} {x : List ℕ} → IsPreimage r [] x → length x ≡ r.width - 1
-length-preimage_empty p = let long = p.long in omega arith
 
 -- y is a preimage of w and one more letter, and its last window gives a
 pub record IsLongerPreimage (r : LocalRule) (w : List ℕ) (a : ℕ) (y : List ℕ) : Type 0 where

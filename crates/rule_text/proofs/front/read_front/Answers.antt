@@ -41,24 +41,20 @@ at_kind {text = text} {k = k} {m = m} {o = o} {p = p} {z = z} {f = f} same is d 
     let g = subst (λ (u : List ℕ). (p ≤ length u) × IsNoKind (get_or u p 0)) same (within, none) in
     named form (IsFormFault-kind text p k m o z is g.0 d e offset g.1.0 g.1.1)
 
--- what the reader went over in its text, which is the text
-first_is : {t text : List ℕ} {p q n : ℕ} → t ≡ text → p ≡ 0 → (h : GoesOverField t p q n) → take q text ≡ h.digits ++ codes ":"
-first_is {t = t} {q = q} same start h = ap (take q) (sym same) ∙ h.over ∙ ap (λ j. take j t ++ h.digits ++ codes ":") start
+-- the field that the reader went over in its text, which is the text
+field_is : {t text y : List ℕ} {p q n : ℕ} → t ≡ text → take p text ≡ y → (h : GoesOverField t p q n) → take q text ≡ y ++ h.digits ++ codes ":"
+field_is {p = p} {q = q} same is h = ap (take q) (sym same) ∙ h.over ∙ ap (λ x. take p x ++ h.digits ++ codes ":") same ∙ ap (λ x. x ++ h.digits ++ codes ":") is
 
--- K and M
-second_is : {t text y : List ℕ} {p q n : ℕ} → t ≡ text → take p text ≡ y → (h : GoesOverField t p q n) → take q text ≡ y ++ h.digits ++ codes ":"
-second_is {p = p} {q = q} same is h = ap (take q) (sym same) ∙ h.over ∙ ap (λ x. take p x ++ h.digits ++ codes ":") same ∙ ap (λ x. x ++ h.digits ++ codes ":") is
-
--- K, M and O
-third_is : {t text y : List ℕ} {p q : ℕ} {z : ℤ} → t ≡ text → take p text ≡ y → (h : GoesOverOffset t p q z)
+-- the offset
+offset_is : {t text y : List ℕ} {p q : ℕ} {z : ℤ} → t ≡ text → take p text ≡ y → (h : GoesOverOffset t p q z)
     → take q text ≡ y ++ (sign h.minus ++ h.digits) ++ codes ":"
-third_is {y = y} {p = p} {q = q} same is h =
+offset_is {y = y} {p = p} {q = q} same is h =
     ap (take q) (sym same) ∙ h.over ∙ ap (λ x. take p x ++ sign h.minus ++ h.digits ++ codes ":") same
     ∙ ap (λ x. x ++ sign h.minus ++ h.digits ++ codes ":") is ∙ ap (λ x. x ++ codes ":") (append_assoc y (sign h.minus) h.digits)
 
--- and the kind
-last_is : {t text y : List ℕ} (x : List ℕ) (p q : ℕ) → t ≡ text → take p text ≡ y → GoesOver t p q x → take q text ≡ y ++ x
-last_is x p q same is h = ap (take q) (sym same) ∙ h ∙ ap (λ z. take p z ++ x) same ∙ ap (λ z. z ++ x) is
+-- and any other part
+part_is : {t text y : List ℕ} (x : List ℕ) (p q : ℕ) → t ≡ text → take p text ≡ y → GoesOver t p q x → take q text ≡ y ++ x
+part_is x p q same is h = ap (take q) (sym same) ∙ h ∙ ap (λ z. take p z ++ x) same ∙ ap (λ z. z ++ x) is
 
 pub returns-then-not-is_headed-clause-front : goal.returns-then-not-is_headed-clause-front
 returns-then-not-is_headed-clause-front c =
@@ -78,7 +74,7 @@ returns-in_err-m-clause-fault c =
     let same = c.new-reader.ensures.text in
     let k = c.in_ok-k.ensures.number in
     let fault : IsTextFault text c.in_err-m.field-0.0 =
-    at_second (c.in_ok-k.ensures.text ∙ same) (first_is same c.new-reader.ensures.place k) k.decimal c.in_err-m.ensures.fault in
+    at_second (c.in_ok-k.ensures.text ∙ same) (field_is same (ap (λ j. take j text) c.new-reader.ensures.place) k) k.decimal c.in_err-m.ensures.fault in
     search rules
 
 pub returns-in_err-o-clause-fault : goal.returns-in_err-o-clause-fault
@@ -89,7 +85,7 @@ returns-in_err-o-clause-fault c =
     let k = c.in_ok-k.ensures.number in
     let m = c.in_ok-m.ensures.number in
     let fault : IsTextFault text c.in_err-o.field-0.0 =
-    at_third (c.in_ok-m.ensures.text ∙ same_k) (second_is same_k (first_is same c.new-reader.ensures.place k) m) k.decimal m.decimal c.in_err-o.ensures.fault in
+    at_third (c.in_ok-m.ensures.text ∙ same_k) (field_is same_k (field_is same (ap (λ j. take j text) c.new-reader.ensures.place) k) m) k.decimal m.decimal c.in_err-o.ensures.fault in
     search rules
 
 pub returns-in_err-kind-clause-fault : goal.returns-in_err-kind-clause-fault
@@ -101,7 +97,7 @@ returns-in_err-kind-clause-fault c =
     let k = c.in_ok-k.ensures.number in
     let m = c.in_ok-m.ensures.number in
     let o = c.in_ok-o.ensures.offset in
-    let is = third_is same_m (second_is same_k (first_is same c.new-reader.ensures.place k) m) o in
+    let is = offset_is same_m (field_is same_k (field_is same (ap (λ j. take j text) c.new-reader.ensures.place) k) m) o in
     let fault : IsTextFault text c.in_err-kind.field-0.0 =
     at_kind (c.in_ok-o.ensures.text ∙ same_m) is k.decimal m.decimal (IsOffset-signed o.minus o.digits o.decimal) c.offset.new.self.within c.in_err-kind.ensures.fault c.in_err-kind.ensures.no_kind in
     search rules
@@ -116,13 +112,13 @@ returns-clause-front c =
     let k = c.in_ok-k.ensures.number in
     let m = c.in_ok-m.ensures.number in
     let o = c.in_ok-o.ensures.offset in
-    let is = third_is same_m (second_is same_k (first_is same c.new-reader.ensures.place k) m) o in
+    let is = offset_is same_m (field_is same_k (field_is same (ap (λ j. take j text) c.new-reader.ensures.place) k) m) o in
     let fits : FitsSigned w8 c.in_ok-o.o = search rules in
     let kept : to_z w8 (of_z w8 c.in_ok-o.o) ≡ c.in_ok-o.o = to_z-of_z w8 c.in_ok-o.o fits in
     let offset : IsOffset (sign o.minus ++ o.digits) (to_z w8 (of_z w8 c.in_ok-o.o)) =
     subst (λ (z : ℤ). IsOffset (sign o.minus ++ o.digits) z) (sym (kept ∙ o.value)) (IsOffset-signed o.minus o.digits o.decimal) in
     let place : c.place-place.result ≡ c.kind.new.self.place = c.place-place.ensures.place in
-    let head_is = ap (λ j. take j text) place ∙ last_is (kind_text c.in_ok-kind.kind) c.offset.new.self.place c.kind.new.self.place same_o is c.in_ok-kind.ensures.over in
+    let head_is = ap (λ j. take j text) place ∙ part_is (kind_text c.in_ok-kind.kind) c.offset.new.self.place c.kind.new.self.place same_o is c.in_ok-kind.ensures.over in
     let within : c.place-place.result ≤ length text =
     subst (λ (t : List ℕ). c.place-place.result ≤ length t) (c.in_ok-kind.ensures.text ∙ same_o) c.place-place.ensures.within in
     Head k.digits m.digits (sign o.minus ++ o.digits) _ k.decimal m.decimal offset k.value m.value head_is within

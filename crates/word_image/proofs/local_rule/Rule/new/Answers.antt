@@ -1,4 +1,4 @@
-use Rattle.std.proofs.Common.{◌≡◌, ℕ, ◌^◌, List, length, take, drop, refl, sym, ap, ◌∙◌, arith, w8, FitsSigned, to_z, of_z}
+use Rattle.std.proofs.Common.{◌≡◌, ℕ, ◌^◌, List, length, take, drop, None, refl, sym, ap, ◌∙◌, arith, w8, FitsSigned, to_z, of_z}
 use Rattle.std.specs.Prelude.{ℤ}
 use Rattle.std.proofs.lemmas.Int.{to_z-of_z}
 use Rattle.std.proofs.lemmas.Option.{none-some}
@@ -12,6 +12,10 @@ use Rattle.word_image.proofs.local_rule.Rule.new.Goals as goal
 passed : (k m : ℕ) (o : ℤ) → FitsSigned w8 o → shape_fault k m (to_z w8 (of_z w8 o)) ≡ shape_fault k m o
 passed k m o fits = ap (shape_fault k m) (to_z-of_z w8 o fits)
 
+-- so the shape is accepted where it has none
+accepted_shape : (k m : ℕ) (o : ℤ) → FitsSigned w8 o → None ≡ shape_fault k m (to_z w8 (of_z w8 o)) → IsShape k m o
+accepted_shape k m o fits none = IsShape-shape_fault k m o (sym (passed k m o fits) ∙ sym none)
+
 -- a rule whose offset and table are known by other names
 IsRule-same : (k m : ℕ) (o p : ℤ) (t u : List ℕ) → p ≡ o → u ≡ t → IsShape k m o → length t ≡ k ^ m → IsWord k t
     → IsRule (record { states = k; width = m; offset = p; table = u })
@@ -20,13 +24,13 @@ IsRule-same k m o p t u offset table shape long word = rw (offset, table) (recor
 pub check_table-requires : goal.check_table-requires
 check_table-requires c =
     let o = c.args.o in
-    let shape : IsShape c.args.k c.args.m o = IsShape-shape_fault c.args.k c.args.m o (sym (passed c.args.k c.args.m o c.ranges.o) ∙ sym c.in_ok-check_shape.ensures) in
+    let shape = accepted_shape c.args.k c.args.m o c.ranges.o c.in_ok-check_shape.ensures in
     window_count-le c.args.k c.args.m o shape
 
 pub in_memory-requires : goal.in_memory-requires
 in_memory-requires c =
     let o = c.args.o in
-    let shape : IsShape c.args.k c.args.m o = IsShape-shape_fault c.args.k c.args.m o (sym (passed c.args.k c.args.m o c.ranges.o) ∙ sym c.in_ok-check_shape.ensures) in
+    let shape = accepted_shape c.args.k c.args.m o c.ranges.o c.in_ok-check_shape.ensures in
     let table = IsWord-table_fault c.args.k c.args.m c.args.table.now (sym c.in_ok-check_table.ensures) in
     omega (arith, window_count-le c.args.k c.args.m o shape, table.0)
 
@@ -48,7 +52,7 @@ invariant_of-result c =
     let o = c.args.o in
     let t = c.args.table.now in
     let n = c.args.k ^ c.args.m in
-    let shape : IsShape c.args.k c.args.m o = IsShape-shape_fault c.args.k c.args.m o (sym (passed c.args.k c.args.m o c.ranges.o) ∙ sym c.in_ok-check_shape.ensures) in
+    let shape = accepted_shape c.args.k c.args.m o c.ranges.o c.in_ok-check_shape.ensures in
     let table = IsWord-table_fault c.args.k c.args.m t (sym c.in_ok-check_table.ensures) in
     let same = ap (take n) c.in_memory.ensures ∙ take-padded n t table.0 in
     let zeros = ap (drop n) c.in_memory.ensures ∙ drop-padded n t table.0 in
@@ -57,6 +61,6 @@ invariant_of-result c =
 pub returns-clause-accepted : goal.returns-clause-accepted
 returns-clause-accepted c =
     let o = c.args.o in
-    let shape : IsShape c.args.k c.args.m o = IsShape-shape_fault c.args.k c.args.m o (sym (passed c.args.k c.args.m o c.ranges.o) ∙ sym c.in_ok-check_shape.ensures) in
+    let shape = accepted_shape c.args.k c.args.m o c.ranges.o c.in_ok-check_shape.ensures in
     let table = IsWord-table_fault c.args.k c.args.m c.args.table.now (sym c.in_ok-check_table.ensures) in
     (λ _. record { shape = shape; entries = table.0; letters = table.1 }, λ _. refl)
