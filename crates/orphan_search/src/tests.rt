@@ -1,7 +1,9 @@
-//! What no clause says: that a run comes to a verdict where there is memory, and which orphan it finds.
+//! What no clause says: that a run comes to a verdict where there is memory, how many sets it lists, and
+//! which orphan it finds.
 //! The verdicts are well known or follow by hand; the orphans come from a listing of all words, the
 //! shorter ones first.
 
+use crate::search_tree::explore;
 use crate::{Outcome, Search};
 use std::alloc::{AllocError, Global};
 use std::test::Fail;
@@ -10,12 +12,12 @@ use word_image::Rule;
 // States, width, offset and table of a rule, and the least of its shortest orphans; none where every
 // word has a preimage.
 const CASES: [(u8, u8, i8, &[u8], &[u8]); 17] = [
-    // The elementary rules 110, 30, 110 again, 0, 106, 184, 232, 204 and 170.
+    // The elementary rules 110, 106, 110 again, 0, 30, 184, 232, 204 and 170.
     (2, 3, -1, b"01110110", b"01010"),
-    (2, 3, -1, b"01111000", b""),
+    (2, 3, -1, b"01010110", b""),
     (2, 3, -1, b"01110110", b"01010"),
     (2, 3, -1, b"00000000", b"1"),
-    (2, 3, -1, b"01010110", b""),
+    (2, 3, -1, b"01111000", b""),
     (2, 3, -1, b"00011101", b"1100"),
     (2, 3, -1, b"00010111", b"01001"),
     (2, 3, -1, b"00110011", b""),
@@ -85,5 +87,14 @@ fn shift_of_sixteen_states_is_surjective(rt: HostRuntime) -> Result<(), Fail> {
     let mut search = Search::new(rt.alloc())?;
     assert_eq!(rt; search.run(rt.alloc(), &rule)?, Outcome::Closed);
     assert_eq!(rt; search.word(), [].as_slice());
+    Ok(())
+}
+
+#[test]
+fn rule_106_reaches_twelve_sets(rt: HostRuntime) -> Result<(), Fail> {
+    let rule = Rule::new(2, 3, -1, &[0, 1, 0, 1, 0, 1, 1, 0])?;
+    let mut tree = Vec::new(rt.alloc());
+    assert!(rt; !explore(&rule, &mut tree)?);
+    assert_eq!(rt; tree.len(), 12);
     Ok(())
 }
