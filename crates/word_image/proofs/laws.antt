@@ -7,3 +7,4 @@ pub mod Bits
 pub mod LastNodes
 pub mod LastSets
 pub mod RuleFaults
+pub mod Searches

@@ -1,5 +1,5 @@
--- How a letter is written.
-use Rattle.std.specs.Prelude.{ℕ, ◌+◌, ◌-◌, nat_lt, nat_le, ◌&&◌, if◌then◌else◌, Option, Some, None}
+-- How letters and words are written.
+use Rattle.std.specs.Prelude.{ℕ, ◌+◌, ◌-◌, nat_lt, nat_le, ◌&&◌, if◌then◌else◌, ◌≢◌, List, map, Option, Some, None, unwrap_or}
 
 -- the hexadecimal digit of a letter, in lower case
 abbrev pub lower_digit : ℕ → ℕ
@@ -12,3 +12,15 @@ hex_value b =
     else (if nat_le 65 b && nat_le b 70 then Some (b - 55)
     else (if nat_le 97 b && nat_le b 102 then Some (b - 87)
     else None))
+
+-- a hexadecimal digit of either case
+abbrev pub IsHexDigit : ℕ → Type 0
+IsHexDigit b = hex_value b ≢ None
+
+-- the letter that a digit stands for
+abbrev pub letter_at : ℕ → ℕ
+letter_at b = unwrap_or (hex_value b) 0
+
+-- the text of a word: the digit of each letter
+abbrev pub word_text : List ℕ → List ℕ
+word_text w = map lower_digit w

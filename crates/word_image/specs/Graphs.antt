@@ -1,6 +1,6 @@
 -- The de Bruijn graph of a rule (Sutner 1991): a node is a word of m - 1 letters by its value, an edge a window.
-use Rattle.std.specs.Prelude.{◌≡◌, ℕ, ◌+◌, ◌*◌, ◌/◌, ◌%◌, ◌^◌, ◌<◌, Option, Some, None, ◌==◌, ◌||◌, not, if◌then◌else◌, slice_index, nat_le, ◌↔◌, IsBitSet}
-use Rattle.word_image.specs.LocalRules.{LocalRule, node_count}
+use Rattle.std.specs.Prelude.{◌≡◌, ℕ, ◌+◌, ◌-◌, ◌*◌, ◌/◌, ◌%◌, ◌^◌, ◌<◌, Option, Some, None, ◌==◌, ◌||◌, not, if◌then◌else◌, slice_index, nat_le, ◌↔◌, IsBitSet}
+use Rattle.word_image.specs.LocalRules.{LocalRule, node_count, word_of}
 
 -- where letter a leads from node u: to the last m - 1 letters of their window
 abbrev pub next : LocalRule → ℕ → ℕ → ℕ
@@ -10,11 +10,19 @@ next r u a = (u * r.states + a) % node_count r
 abbrev pub label : LocalRule → ℕ → ℕ → ℕ
 label r u a = slice_index r.table (u * r.states + a)
 
--- a set of nodes is a number in which node u is bit u. A step on letter a goes along every edge with that label.
+-- a set of nodes is a number in which node u is bit u. This is the set of all nodes.
+abbrev pub full_set : LocalRule → ℕ
+full_set r = 2 ^ node_count r - 1
+
+-- a step of a set on letter a goes along every edge with that label, from every node of the set
 pub record IsStep (r : LocalRule) (set a after : ℕ) : Type 0 where
   pub within : after < 2 ^ node_count r
   pub nodes : (v : ℕ) → v < node_count r
       → (IsBitSet after v ↔ ((u : ℕ) × (b : ℕ) × (u < node_count r) × (b < r.states) × IsBitSet set u × (label r u b ≡ a) × (next r u b ≡ v)))
+
+-- a letter of a node, by its place
+abbrev pub node_letter : LocalRule → ℕ → ℕ → ℕ
+node_letter r u i = slice_index (word_of r.states (r.width - 1) u) i
 
 -- the number of a pair of nodes
 abbrev pub pair_of : LocalRule → ℕ → ℕ → ℕ

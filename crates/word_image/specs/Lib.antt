@@ -7,6 +7,8 @@ pub mod Ranks
 pub mod Erasure
 pub mod RuleFaults
 pub mod ImageFaults
+pub mod Families
 pub mod Digits
+pub mod Grammars
 pub mod Storage
 pub mod Examples

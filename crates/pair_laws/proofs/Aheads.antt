@@ -1,0 +1,98 @@
+-- Right look-aheads by pairs of nodes: no pair to which two different letters lead from one node begins together for the rest.
+use Rattle.std.proofs.Common.{◌≡◌, ◌≢◌, ℕ, ◌-◌, ◌<◌, ◌≤◌, ◌↔◌, List, [], ◌∷◌, ◌++◌, length, take, drop, get_or, refl, sym, ap, subst, subst₂, ◌∙◌, ⊎_elim, arith}
+use Rattle.std.proofs.lemmas.Bool.{cases_eq}
+use Rattle.std.proofs.lemmas.List.{append_assoc, length-take-le, take_at, get_or_at}
+use Rattle.std.proofs.lemmas.List.Elements.{All-take}
+use Rattle.word_image.specs.LocalRules.{LocalRule, IsRule, IsWord, value, word_of, node_count}
+use Rattle.word_image.specs.Windows.{HaveOneImage, IsRightAhead, IsLeastRightAhead}
+use Rattle.word_image.specs.Graphs.{next, label, pair_of}
+use Rattle.word_image.specs.Ranks.{BeginTogether}
+use Rattle.word_image.specs.Erasure.{IsFirstOfRight}
+use Rattle.word_image.proofs.laws.Values.{length-word_of, IsWord-word_of, value-word_of}
+use Rattle.word_image.proofs.laws.Graphs.{value-node, value-next, next-below}
+use Rattle.pair_laws.proofs.Edges.{image-first, value-first, HaveOneImage-none, HaveOneImage-push}
+use Rattle.pair_laws.proofs.Joins.{HaveOneImage-take, HaveOneImage-join}
+use Rattle.pair_laws.proofs.Ranks.{BeginTogether-less}
+use Rattle.pair_laws.proofs.Pairs.{PairBegins, PairBegins-pair_of}
+use Rattle.pair_laws.proofs.Windows.{HaveOneImage-begin}
+
+-- the letters of a node, one letter, and more: what stands in front, and the letter
+take-letter : (d : ℕ) (z : List ℕ) (a : ℕ) (rest : List ℕ) → length z ≡ d → take d ((z ++ a ∷ []) ++ rest) ≡ z
+take-letter d z a rest e = ap (take d) (append_assoc z (a ∷ []) rest) ∙ take_at z (a ∷ rest) d e
+
+-- and the letter
+get_or-letter : (d : ℕ) (z : List ℕ) (a : ℕ) (rest : List ℕ) → length z ≡ d → get_or ((z ++ a ∷ []) ++ rest) d 0 ≡ a
+get_or-letter d z a rest e = ap (λ y. get_or y d 0) (append_assoc z (a ∷ []) rest) ∙ get_or_at z a rest 0 d e
+
+-- from one node two different letters with one label lead to two nodes that don't begin together for n - 1
+pub BeginTogether-ahead : {r : LocalRule} {n : ℕ} → IsRule r → IsRightAhead r n → (u a b : ℕ) → u < node_count r → a < r.states → b < r.states
+    → a ≢ b → label r u a ≡ label r u b → ¬ BeginTogether r (next r u a) (next r u b) (n - 1)
+BeginTogether-ahead {r} {n} rule ahead u a b hu ha hb different l h =
+    let some : 1 ≤ n = ahead.some in
+    let z : List ℕ = word_of r.states (r.width - 1) u in
+    let word : IsWord r.states z = IsWord-word_of r.states (r.width - 1) u hu in
+    let long : length z ≡ r.width - 1 = length-word_of r.states (r.width - 1) u in
+    let node : value r.states z ≡ u = value-word_of r.states (r.width - 1) u hu in
+    let edges : HaveOneImage r 1 (z ++ a ∷ []) (z ++ b ∷ []) =
+    HaveOneImage-push {j = 0} rule (omega arith) (HaveOneImage-none r z z word word long long) a b ha hb (rw (node) l) in
+    let first : value r.states (drop 1 (z ++ a ∷ [])) ≡ value r.states (take (r.width - 1) h.x) = value-next rule 0 z a word (omega arith) ha ∙ ap (λ c. next r c a) node ∙ sym h.first in
+    let second : value r.states (drop 1 (z ++ b ∷ [])) ≡ value r.states (take (r.width - 1) h.y) = value-next rule 0 z b word (omega arith) hb ∙ ap (λ c. next r c b) node ∙ sym h.second in
+    let whole : HaveOneImage r n ((z ++ a ∷ []) ++ drop (r.width - 1) h.x) ((z ++ b ∷ []) ++ drop (r.width - 1) h.y) = HaveOneImage-join rule (omega arith) edges h.one_image first second in
+    different (sym (get_or-letter (r.width - 1) z a (drop (r.width - 1) h.x) long)
+    ∙ ahead.letter _ _ whole (take-letter (r.width - 1) z a (drop (r.width - 1) h.x) long ∙ sym (take-letter (r.width - 1) z b (drop (r.width - 1) h.y) long))
+    ∙ get_or-letter (r.width - 1) z b (drop (r.width - 1) h.y) long)
+
+-- where no two such nodes begin together for n - 1, the rule looks ahead for n
+pub IsRightAhead-apart : {r : LocalRule} {n : ℕ} → IsRule r → 1 ≤ n
+    → ((u a b : ℕ) → u < node_count r → a < r.states → b < r.states → a ≢ b → label r u a ≡ label r u b → ¬ BeginTogether r (next r u a) (next r u b) (n - 1))
+    → IsRightAhead r n
+IsRightAhead-apart {r} {n} rule some apart =
+    record {
+      some = some;
+      letter = λ x y h same.
+          let u : ℕ = value r.states (take (r.width - 1) x) in
+          let a : ℕ = get_or x (r.width - 1) 0 in
+          let b : ℕ = get_or y (r.width - 1) 0 in
+          let node : value r.states (take (r.width - 1) y) ≡ u = ap (value r.states) (sym same) in
+          let label_x = image-first rule x (omega arith) in
+          let label_y = image-first rule y (omega arith) ∙ ap (λ c. label r c b ∷ []) node in
+          let images = (HaveOneImage-take rule 1 (n - 1) n (omega arith) h).one_image in
+          let one_label : label r u a ≡ label r u b = cc in
+          let next_x = value-first rule x h.first (omega arith) in
+          let next_y = value-first rule y h.second (omega arith) ∙ ap (λ c. next r c b) node in
+          let nodes = value-node r (take (r.width - 1) x) (All-take (λ c. c < r.states) (r.width - 1) x h.first) (length-take-le (r.width - 1) x (omega arith)) in
+          ⊎_elim (λ e. e)
+          (λ other. absurd (apart u a b nodes (h.first (r.width - 1) 0 (omega arith)) (h.second (r.width - 1) 0 (omega arith)) other one_label
+          (subst₂ (λ (s t : ℕ). BeginTogether r s t (n - 1)) next_x next_y (HaveOneImage-begin 1 (n - 1) n (omega arith) h))))
+          (cases_eq a b);
+    }
+
+-- a rule looks ahead for n exactly where no first pair of the right begins together for n - 1
+pub IsRightAhead-pairs : {r : LocalRule} → IsRule r → (n : ℕ) → IsRightAhead r n ↔ ((1 ≤ n) × ((p : ℕ) → IsFirstOfRight r p → ¬ PairBegins r p (n - 1)))
+IsRightAhead-pairs {r} rule n = (
+  (λ h. (
+    h.some,
+    (λ p f begins. BeginTogether-ahead rule h f.node f.a f.b f.in_nodes f.a_letter f.b_letter f.different f.one_label
+        ((PairBegins-pair_of r (next r f.node f.a) (next r f.node f.b) (n - 1) (next-below rule f.node f.b)).0 (subst (λ (q : ℕ). PairBegins r q (n - 1)) f.pair begins))),
+  )),
+  (λ h. IsRightAhead-apart rule h.0 (λ u a b hu ha hb different l begins.
+      h.1 (pair_of r (next r u a) (next r u b))
+      (record { node = u; a = a; b = b; in_nodes = hu; a_letter = ha; b_letter = hb; different = different; one_label = l; pair = refl })
+      ((PairBegins-pair_of r (next r u a) (next r u b) (n - 1) (next-below rule u b)).1 begins))),
+)
+
+-- a rule that looks ahead for n does for more
+pub IsRightAhead-more : {r : LocalRule} {n : ℕ} → IsRule r → (k : ℕ) → n ≤ k → IsRightAhead r n → IsRightAhead r k
+IsRightAhead-more {r} {n} rule k l h =
+    let some : 1 ≤ n = h.some in
+    IsRightAhead-apart rule (omega arith) (λ u a b hu ha hb different e begins.
+    BeginTogether-ahead rule h u a b hu ha hb different e (BeginTogether-less rule (n - 1) (omega arith) begins))
+
+-- 1 is the least look-ahead wherever it is one
+pub IsLeastRightAhead-one : {r : LocalRule} → IsRightAhead r 1 → IsLeastRightAhead r 1
+IsLeastRightAhead-one ahead = record { ahead = ahead; least = λ n l h. let some = h.some in omega arith }
+
+-- a look-ahead of n is the least one where a first pair of the right begins together for n - 2
+pub IsLeastRightAhead-pair : {r : LocalRule} {n p : ℕ} → IsRule r → IsRightAhead r n → 2 ≤ n → IsFirstOfRight r p → PairBegins r p (n - 2) → IsLeastRightAhead r n
+IsLeastRightAhead-pair {n = n} {p = p} rule ahead many f begins =
+    record { ahead = ahead; least = λ k l h. ((IsRightAhead-pairs rule k).0 h).1 p f (BeginTogether-less rule (k - 1) (omega arith) begins) }

@@ -1,0 +1,147 @@
+-- When there is a determined window or a look-ahead at all: no two different nodes are endless both ways, and no first pair is endless.
+use Rattle.std.proofs.Common.{◌≡◌, ◌≢◌, ℕ, zero, suc, ◌+◌, ◌-◌, ◌<◌, ◌≤◌, ◌↔◌, ◌⊎◌, inl, inr, Some, min, List, [], ◌∷◌, ◌++◌, length, take, drop, slice_index, refl, sym, ap, subst, ◌∙◌, ⊎_elim, arith, length-drop, mul-pos}
+use Rattle.std.proofs.lemmas.Bool.{cases_eq}
+use Rattle.std.proofs.lemmas.List.{ext_get_or, length_push, take_all, get_or_append_left}
+use Rattle.std.proofs.lemmas.List.Elements.{All-push}
+use Rattle.word_image.specs.LocalRules.{LocalRule, IsRule, IsWord, value, word_of, node_count}
+use Rattle.word_image.specs.Windows.{IsDetermined, IsRightAhead, IsLeftAhead}
+use Rattle.word_image.specs.Graphs.{next, follow, pair_of, first_of, second_of, pair_count, node_letter}
+use Rattle.word_image.specs.Erasure.{IsFirstOfRight, IsFirstOfLeft}
+use Rattle.word_image.specs.Ranks.{IsEndless}
+use Rattle.word_image.proofs.laws.Values.{length-word_of, IsWord-word_of, value-word_of}
+use Rattle.word_image.proofs.laws.Graphs.{value-next, next-below, node_count_pos}
+use Rattle.pair_laws.proofs.Ranks.{BeginTogether-below, BeginTogether-less, EndTogether-less}
+use Rattle.pair_laws.proofs.Pairs.{PairBegins, PairEnds, first_of-pair_of, second_of-pair_of, pair-below, first_of-below, second_of-below, follow-some, PairBegins-push, PairEnds-push}
+use Rattle.pair_laws.proofs.Windows.{node_letter-at, IsDetermined-pairs}
+use Rattle.pair_laws.proofs.Aheads.{IsRightAhead-pairs}
+use Rattle.pair_laws.proofs.LeftAheads.{IsLeftAhead-pairs}
+use Rattle.word_image.proofs.laws.Searches.{some_below}
+use Rattle.pair_laws.proofs.Endless.{BeginTogether-endless, EndTogether-endless, PairBegins-endless_step, PairEnds-endless_step}
+
+-- a letter of a node further on is a letter of the node to which it leads
+pub node_letter-next : {r : LocalRule} → IsRule r → (u a i : ℕ) → u < node_count r → a < r.states → i + 1 < r.width - 1 → node_letter r (next r u a) i ≡ node_letter r u (i + 1)
+node_letter-next {r} rule u a i hu ha l =
+    let z : List ℕ = word_of r.states (r.width - 1) u in
+    let word : IsWord r.states z = IsWord-word_of r.states (r.width - 1) u hu in
+    let long : length z ≡ r.width - 1 = length-word_of r.states (r.width - 1) u in
+    let more : length (z ++ a ∷ []) ≡ length z + 1 = length_push z a in
+    let place : 1 + i ≡ i + 1 = omega arith in
+    let at : value r.states (take (r.width - 1) (drop 1 (z ++ a ∷ []))) ≡ next r u a =
+    ap (value r.states) (take_all (r.width - 1) (drop 1 (z ++ a ∷ [])) (omega (arith, length-drop 1 (z ++ a ∷ []))))
+    ∙ value-next rule 0 z a word (omega arith) ha ∙ ap (λ n. next r n a) (value-word_of r.states (r.width - 1) u hu) in
+    node_letter-at r (next r u a) 1 i (z ++ a ∷ []) (All-push (λ c. c < r.states) z a word ha) (omega arith) at (omega arith)
+    ∙ ap (slice_index (z ++ a ∷ [])) place ∙ get_or_append_left z (a ∷ []) 0 (i + 1) (omega arith)
+
+-- two different nodes differ at a letter
+pub node_letter-different : (r : LocalRule) (u v : ℕ) → u < node_count r → v < node_count r → u ≢ v → (i : ℕ) × (i < r.width - 1) × (node_letter r u i ≢ node_letter r v i)
+node_letter-different r u v hu hv different =
+    let differ : (i : ℕ) → (node_letter r u i ≢ node_letter r v i) ⊎ ¬ (node_letter r u i ≢ node_letter r v i) = λ i.
+    ⊎_elim (λ same. inr (λ other. other same)) (λ other. inl other) (cases_eq (node_letter r u i) (node_letter r v i)) in
+    ⊎_elim (λ found. found)
+    (λ none. absurd (different (sym (value-word_of r.states (r.width - 1) u hu)
+    ∙ ap (value r.states) (ext_get_or 0 (word_of r.states (r.width - 1) u) (word_of r.states (r.width - 1) v) (length-word_of r.states (r.width - 1) u ∙ sym (length-word_of r.states (r.width - 1) v))
+    (λ i l. ⊎_elim (λ same. same) (λ other. absurd (none i (omega (arith, length-word_of r.states (r.width - 1) u)) other)) (cases_eq (node_letter r u i) (node_letter r v i))))
+    ∙ value-word_of r.states (r.width - 1) v hv)))
+    (some_below (λ i. node_letter r u i ≢ node_letter r v i) differ (r.width - 1))
+
+-- a pair is endless both ways
+pub record IsEndlessBothWays (r : LocalRule) (p : ℕ) : Type 0 where
+  pub begins : IsEndless (PairBegins r p)
+  pub ends : IsEndless (PairEnds r p)
+
+-- such a pair whose nodes differ at a letter
+record DifferAt (r : LocalRule) (i : ℕ) : Type 0 where
+  pair : ℕ
+  endless : IsEndlessBothWays r pair
+  different : node_letter r (first_of r pair) i ≢ node_letter r (second_of r pair) i
+
+-- the letters of the pair to which a pair leads
+node_letter-follow : {r : LocalRule} → IsRule r → (p a b q i : ℕ) → p < pair_count r → a < r.states → b < r.states → follow r p a b ≡ Some q → i + 1 < r.width - 1
+    → (node_letter r (first_of r q) i ≡ node_letter r (first_of r p) (i + 1)) × (node_letter r (second_of r q) i ≡ node_letter r (second_of r p) (i + 1))
+node_letter-follow {r} rule p a b q i hp ha hb f l =
+    let u : ℕ = next r (first_of r p) a in
+    let v : ℕ = next r (second_of r p) b in
+    let pair : pair_of r u v ≡ q = (follow-some r p a b q f).1 in
+    let first : first_of r q ≡ u = ap (first_of r) (sym pair) ∙ first_of-pair_of r u v (next-below rule (second_of r p) b) in
+    let second : second_of r q ≡ v = ap (second_of r) (sym pair) ∙ second_of-pair_of r u v (next-below rule (second_of r p) b) in (
+      ap (λ n. node_letter r n i) first ∙ node_letter-next rule (first_of r p) a i (first_of-below rule p hp) ha l,
+      ap (λ n. node_letter r n i) second ∙ node_letter-next rule (second_of r p) b i (second_of-below rule p) hb l,
+    )
+
+-- one step on, the pair differs at the letter before
+differ_before : {r : LocalRule} → IsRule r → (i : ℕ) → i + 1 < r.width - 1 → DifferAt r (i + 1) → DifferAt r i
+differ_before {r} rule i l d =
+    let step = PairBegins-endless_step rule d.pair d.endless.begins in
+    let p : d.pair < pair_count r = pair-below rule d.pair (BeginTogether-below (d.endless.begins 0)).0 in
+    let letters = node_letter-follow rule d.pair step.0 step.1 step.2 i p step.3 step.4 step.5 l in
+    record {
+      pair = step.2;
+      endless = record {
+        begins = step.6;
+        ends = λ n. EndTogether-less rule n (omega arith) (PairEnds-push {j = n} rule refl d.pair step.0 step.1 step.2 step.3 step.4 step.5 (d.endless.ends n));
+      };
+      different = λ e. d.different (sym letters.0 ∙ e ∙ letters.1);
+    }
+
+-- and one step before, at the letter behind
+differ_behind : {r : LocalRule} → IsRule r → (i : ℕ) → i + 1 < r.width - 1 → DifferAt r i → DifferAt r (i + 1)
+differ_behind {r} rule i l d =
+    let step = PairEnds-endless_step rule d.pair d.endless.ends in
+    let letters = node_letter-follow rule step.2 step.0 step.1 d.pair i step.3 step.4 step.5 step.6 l in
+    record {
+      pair = step.2;
+      endless = record {
+        begins = λ n. BeginTogether-less rule n (omega arith) (PairBegins-push {j = n} rule refl step.2 step.0 step.1 d.pair step.3 step.4 step.5 step.6 (d.endless.begins n));
+        ends = step.7;
+      };
+      different = λ e. d.different (letters.0 ∙ e ∙ sym letters.1);
+    }
+
+-- so pairs differ at the first letter
+differ_first : {r : LocalRule} → IsRule r → (i : ℕ) → i < r.width - 1 → DifferAt r i → DifferAt r 0
+differ_first rule zero l d = d
+differ_first {r} rule (suc i) l d = let e : suc i ≡ i + 1 = omega arith in differ_first rule i (omega arith) (differ_before rule i (omega arith) (subst (DifferAt r) e d))
+
+-- and at each
+differ_each : {r : LocalRule} → IsRule r → (i : ℕ) → i < r.width - 1 → DifferAt r 0 → DifferAt r i
+differ_each rule zero l d = d
+differ_each {r} rule (suc i) l d = let e : i + 1 ≡ suc i = omega arith in subst (DifferAt r) e (differ_behind rule i (omega arith) (differ_each rule i (omega arith) d))
+
+-- where a window is determined, no two different nodes are endless both ways
+pub IsDetermined-not_both_ways : {r : LocalRule} {n c : ℕ} → IsRule r → IsDetermined r n c → (p : ℕ) → first_of r p ≢ second_of r p → ¬ IsEndlessBothWays r p
+IsDetermined-not_both_ways {r} {n} {c} rule h p different endless =
+    let nodes = BeginTogether-below (endless.begins 0) in
+    let found = node_letter-different r (first_of r p) (second_of r p) nodes.0 nodes.1 different in
+    let inside : c ≤ n + r.width - 2 = h.inside in
+    let wide : 2 ≤ r.width = rule.shape.least_width in
+    let first : DifferAt r 0 = differ_first rule found.0 found.1 (record { pair = p; endless = endless; different = found.2 }) in
+    let d : DifferAt r (c - min c n) = differ_each rule (c - min c n) (omega arith) first in
+    ((IsDetermined-pairs rule n c).0 h).2 d.pair (pair-below rule d.pair (BeginTogether-below (d.endless.begins 0)).0) d.different (d.endless.ends (min c n)) (d.endless.begins (n - min c n))
+
+-- where none are, a window is determined
+pub IsDetermined-none_both_ways : {r : LocalRule} → IsRule r → ((p : ℕ) → p < pair_count r → first_of r p ≢ second_of r p → ¬ IsEndlessBothWays r p)
+    → IsDetermined r (pair_count r + pair_count r) (pair_count r)
+IsDetermined-none_both_ways {r} rule none =
+    let some : 0 < pair_count r = mul-pos (node_count_pos rule) (node_count_pos rule) in
+    let wide : 2 ≤ r.width = rule.shape.least_width in
+    (IsDetermined-pairs rule (pair_count r + pair_count r) (pair_count r)).1 (
+      omega arith,
+      omega arith,
+      (λ p l different ends begins.
+          none p l (λ same. different (ap (λ u. node_letter r u (pair_count r - min (pair_count r) (pair_count r + pair_count r))) same))
+          (record { begins = BeginTogether-endless rule (omega arith) begins; ends = EndTogether-endless rule (omega arith) ends })),
+    )
+
+-- a rule looks ahead for some n exactly where no first pair of the right is endless
+pub IsRightAhead-some : {r : LocalRule} → IsRule r → ((n : ℕ) × IsRightAhead r n) ↔ ((p : ℕ) → IsFirstOfRight r p → ¬ IsEndless (PairBegins r p))
+IsRightAhead-some {r} rule = (
+  (λ h p f endless. ((IsRightAhead-pairs rule h.0).0 h.1).1 p f (endless (h.0 - 1))),
+  (λ none. (pair_count r + 1, (IsRightAhead-pairs rule (pair_count r + 1)).1 (omega arith, (λ p f begins. none p f (BeginTogether-endless rule (omega arith) begins))))),
+)
+
+-- and to the left exactly where no first pair of the left is
+pub IsLeftAhead-some : {r : LocalRule} → IsRule r → ((n : ℕ) × IsLeftAhead r n) ↔ ((p : ℕ) → IsFirstOfLeft r p → ¬ IsEndless (PairEnds r p))
+IsLeftAhead-some {r} rule = (
+  (λ h p f endless. ((IsLeftAhead-pairs rule h.0).0 h.1).1 p f (endless (h.0 - 1))),
+  (λ none. (pair_count r + 1, (IsLeftAhead-pairs rule (pair_count r + 1)).1 (omega arith, (λ p f ends. none p f (EndTogether-endless rule (omega arith) ends))))),
+)

@@ -1,0 +1,15 @@
+pub mod Edges
+pub mod Joins
+pub mod Walks
+pub mod Ranks
+pub mod Pairs
+pub mod Claims
+pub mod Windows
+pub mod Aheads
+pub mod Mirrors
+pub mod LeftAheads
+pub mod Endless
+pub mod Decisions
+pub mod ExactClaims
+pub mod Evidence
+pub mod BothWays

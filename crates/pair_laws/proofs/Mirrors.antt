@@ -1,0 +1,138 @@
+-- The mirrored rule: words with one image read backwards, mirrored nodes, and left look-aheads said in words.
+use Rattle.std.proofs.Common.{◌≡◌, ℕ, ◌+◌, ◌-◌, ◌<◌, ◌≤◌, ◌↔◌, List, ◌++◌, length, take, drop, reverse, slice_index, sym, ap, subst, subst₂, ◌∙◌, arith, length-drop}
+use Rattle.std.proofs.lemmas.List.{length-reverse, reverse-reverse, reverse-append, get_or-reverse, take-append-drop, take_at, drop_at, length-take-le}
+use Rattle.std.proofs.lemmas.List.Elements.{All-take, All-drop}
+use Rattle.word_image.specs.LocalRules.{LocalRule, IsRule, IsWord, value, word_of, node_count, mirrored}
+use Rattle.word_image.specs.Windows.{HaveOneImage, IsLeftAhead}
+use Rattle.word_image.specs.Graphs.{first_of, second_of, pair_of, pair_count}
+use Rattle.word_image.specs.Ranks.{BeginTogether, EndTogether}
+use Rattle.word_image.proofs.laws.Values.{length-word_of, IsWord-word_of, value-word_of, word_of-value}
+use Rattle.word_image.proofs.laws.Images.{IsWord-reverse, image-mirrored, IsRule-mirrored, mirrored-mirrored}
+use Rattle.word_image.proofs.laws.Graphs.{value-node}
+use Rattle.pair_laws.proofs.Ranks.{BeginTogether-same}
+use Rattle.pair_laws.proofs.Pairs.{PairBegins, PairEnds, first_of-below, second_of-below, PairBegins-pair_of}
+
+-- a word of i + j letters read backwards begins with its last j letters read backwards, and goes on with the others
+reverse-cut : (i j : ℕ) (x : List ℕ) → length x ≡ i + j → (take j (reverse x) ≡ reverse (drop i x)) × (drop j (reverse x) ≡ reverse (take i x))
+reverse-cut i j x e =
+    let split : reverse x ≡ reverse (drop i x) ++ reverse (take i x) = ap reverse (sym (take-append-drop i x)) ∙ reverse-append (take i x) (drop i x) in
+    let long : length (reverse (drop i x)) ≡ j = omega (arith, length-reverse (drop i x), length-drop i x) in
+    (ap (take j) split ∙ take_at (reverse (drop i x)) (reverse (take i x)) j long, ap (drop j) split ∙ drop_at (reverse (drop i x)) (reverse (take i x)) j long)
+
+-- words with one image, read backwards, have one under the mirrored rule
+pub HaveOneImage-reverse : {r : LocalRule} {n : ℕ} {x y : List ℕ} → IsRule r → HaveOneImage r n x y → HaveOneImage (mirrored r) n (reverse x) (reverse y)
+HaveOneImage-reverse {r} {n} {x} {y} rule h =
+    record {
+      first = IsWord-reverse r.states x h.first;
+      second = IsWord-reverse r.states y h.second;
+      first_long = length-reverse x ∙ h.first_long;
+      second_long = length-reverse y ∙ h.second_long;
+      one_image = image-mirrored rule x h.first ∙ ap reverse h.one_image ∙ sym (image-mirrored rule y h.second);
+    }
+
+-- the node of a node's word read backwards
+abbrev pub mirror_node : LocalRule → ℕ → ℕ
+mirror_node r u = value r.states (reverse (word_of r.states (r.width - 1) u))
+
+-- the value of m - 1 letters read backwards
+pub value-reverse : (r : LocalRule) (z : List ℕ) → IsWord r.states z → length z ≡ r.width - 1 → value r.states (reverse z) ≡ mirror_node r (value r.states z)
+value-reverse r z h e = ap (λ y. value r.states (reverse y)) (sym (word_of-value r.states z h) ∙ ap (λ d. word_of r.states d (value r.states z)) e)
+
+-- a mirrored node is a node
+pub mirror_node-below : (r : LocalRule) (u : ℕ) → u < node_count r → mirror_node r u < node_count r
+mirror_node-below r u h =
+    let z : List ℕ = word_of r.states (r.width - 1) u in
+    value-node r (reverse z) (IsWord-reverse r.states z (IsWord-word_of r.states (r.width - 1) u h)) (length-reverse z ∙ length-word_of r.states (r.width - 1) u)
+
+-- mirrored twice, a node is itself
+pub mirror_node-mirror_node : (r : LocalRule) (u : ℕ) → u < node_count r → mirror_node r (mirror_node r u) ≡ u
+mirror_node-mirror_node r u h =
+    let z : List ℕ = word_of r.states (r.width - 1) u in
+    let word : IsWord r.states (reverse z) = IsWord-reverse r.states z (IsWord-word_of r.states (r.width - 1) u h) in
+    sym (value-reverse r (reverse z) word (length-reverse z ∙ length-word_of r.states (r.width - 1) u))
+    ∙ ap (value r.states) (reverse-reverse z) ∙ value-word_of r.states (r.width - 1) u h
+
+-- the first m - 1 letters of a word that is read backwards
+value-take_reverse : (r : LocalRule) (n : ℕ) (x : List ℕ) → IsWord r.states x → length x ≡ n + (r.width - 1)
+    → value r.states (take (r.width - 1) (reverse x)) ≡ mirror_node r (value r.states (drop n x))
+value-take_reverse r n x h e =
+    ap (value r.states) (reverse-cut n (r.width - 1) x e).0 ∙ value-reverse r (drop n x) (All-drop (λ a. a < r.states) n x h) (omega (arith, length-drop n x))
+
+-- and its last
+value-drop_reverse : (r : LocalRule) (n : ℕ) (x : List ℕ) → IsWord r.states x → length x ≡ n + (r.width - 1)
+    → value r.states (drop n (reverse x)) ≡ mirror_node r (value r.states (take (r.width - 1) x))
+value-drop_reverse r n x h e =
+    ap (value r.states) (reverse-cut (r.width - 1) n x (omega arith)).1
+    ∙ value-reverse r (take (r.width - 1) x) (All-take (λ a. a < r.states) (r.width - 1) x h) (length-take-le (r.width - 1) x (omega arith))
+
+-- what ends together begins together under the mirrored rule, mirrored
+pub BeginTogether-mirrored : {r : LocalRule} {u v n : ℕ} → IsRule r → EndTogether r u v n → BeginTogether (mirrored r) (mirror_node r u) (mirror_node r v) n
+BeginTogether-mirrored {r} {n = n} rule h =
+    record {
+      x = reverse h.x;
+      y = reverse h.y;
+      one_image = HaveOneImage-reverse rule h.one_image;
+      first = value-take_reverse r n h.x h.one_image.first h.one_image.first_long ∙ ap (mirror_node r) h.first;
+      second = value-take_reverse r n h.y h.one_image.second h.one_image.second_long ∙ ap (mirror_node r) h.second;
+    }
+
+-- and what begins together ends together
+pub EndTogether-mirrored : {r : LocalRule} {u v n : ℕ} → IsRule r → BeginTogether r u v n → EndTogether (mirrored r) (mirror_node r u) (mirror_node r v) n
+EndTogether-mirrored {r} {n = n} rule h =
+    record {
+      x = reverse h.x;
+      y = reverse h.y;
+      one_image = HaveOneImage-reverse rule h.one_image;
+      first = value-drop_reverse r n h.x h.one_image.first h.one_image.first_long ∙ ap (mirror_node r) h.first;
+      second = value-drop_reverse r n h.y h.one_image.second h.one_image.second_long ∙ ap (mirror_node r) h.second;
+    }
+
+-- two nodes end together exactly where the mirrored ones begin together under the mirrored rule
+pub EndTogether-is_mirrored : {r : LocalRule} → IsRule r → (u v n : ℕ) → u < node_count r → v < node_count r
+    → EndTogether r u v n ↔ BeginTogether (mirrored r) (mirror_node r u) (mirror_node r v) n
+EndTogether-is_mirrored {r} rule u v n hu hv = (
+  BeginTogether-mirrored rule,
+  (λ h. subst (λ (s : LocalRule). EndTogether s u v n) (mirrored-mirrored rule)
+      (subst₂ (λ (s t : ℕ). EndTogether (mirrored (mirrored r)) s t n) (mirror_node-mirror_node r u hu) (mirror_node-mirror_node r v hv) (EndTogether-mirrored (IsRule-mirrored rule) h))),
+)
+
+-- a pair ends together exactly where the mirrored pair begins together under the mirrored rule
+pub PairEnds-is_mirrored : {r : LocalRule} → IsRule r → (p n : ℕ) → p < pair_count r
+    → PairEnds r p n ↔ PairBegins (mirrored r) (pair_of r (mirror_node r (first_of r p)) (mirror_node r (second_of r p))) n
+PairEnds-is_mirrored {r} rule p n h =
+    let mirror = EndTogether-is_mirrored rule (first_of r p) (second_of r p) n (first_of-below rule p h) (second_of-below rule p) in
+    let pair = PairBegins-pair_of (mirrored r) (mirror_node r (first_of r p)) (mirror_node r (second_of r p)) n (mirror_node-below r (second_of r p) (second_of-below rule p)) in
+    ((λ e. pair.1 (mirror.0 e)), (λ b. mirror.1 (pair.0 b)))
+
+-- a node ends together with itself for every n
+pub EndTogether-same : {r : LocalRule} → IsRule r → (n u : ℕ) → u < node_count r → EndTogether r u u n
+EndTogether-same {r} rule n u h = (EndTogether-is_mirrored rule u u n h h).1 (BeginTogether-same (IsRule-mirrored rule) n (mirror_node r u) (mirror_node-below r u h))
+
+-- a rule looks ahead to the left for n exactly where n letters of the image and the last m - 1 determine the letter before them
+pub IsLeftAhead-words : {r : LocalRule} → IsRule r → (n : ℕ)
+    → IsLeftAhead r n ↔ ((1 ≤ n) × ((x y : List ℕ) → HaveOneImage r n x y → drop n x ≡ drop n y → slice_index x (n - 1) ≡ slice_index y (n - 1)))
+IsLeftAhead-words {r} rule n = (
+  (λ ahead. (
+    ahead.some,
+    (λ x y h same.
+        let some : 1 ≤ n = ahead.some in
+        let place : length x - 1 - (r.width - 1) ≡ n - 1 = omega arith in
+        let place_y : length y - 1 - (r.width - 1) ≡ n - 1 = omega arith in
+        ap (slice_index x) (sym place) ∙ sym (get_or-reverse x (r.width - 1) 0 (omega arith))
+        ∙ ahead.letter (reverse x) (reverse y) (HaveOneImage-reverse rule h)
+        ((reverse-cut n (r.width - 1) x h.first_long).0 ∙ ap reverse same ∙ sym (reverse-cut n (r.width - 1) y h.second_long).0)
+        ∙ get_or-reverse y (r.width - 1) 0 (omega arith) ∙ ap (slice_index y) place_y),
+  )),
+  (λ words. record {
+    some = words.0;
+    letter = λ x y h same.
+        let some : 1 ≤ n = words.0 in
+        let back : HaveOneImage r n (reverse x) (reverse y) = subst (λ (s : LocalRule). HaveOneImage s n (reverse x) (reverse y)) (mirrored-mirrored rule) (HaveOneImage-reverse (IsRule-mirrored rule) h) in
+        let place : length x - 1 - (n - 1) ≡ r.width - 1 = omega arith in
+        let place_y : length y - 1 - (n - 1) ≡ r.width - 1 = omega arith in
+        ap (slice_index x) (sym place) ∙ sym (get_or-reverse x (n - 1) 0 (omega arith))
+        ∙ words.1 (reverse x) (reverse y) back
+        ((reverse-cut (r.width - 1) n x (omega arith)).1 ∙ ap reverse same ∙ sym (reverse-cut (r.width - 1) n y (omega arith)).1)
+        ∙ get_or-reverse y (n - 1) 0 (omega arith) ∙ ap (slice_index y) place_y;
+  }),
+)

@@ -1,0 +1,136 @@
+-- Walks of pairs of nodes: two words with one image lead from the pair that they begin with to the pair that they end with.
+use Rattle.std.proofs.Common.{◌≡◌, ℕ, ◌+◌, ◌-◌, ◌<◌, List, [], ◌∷◌, ◌++◌, length, take, drop, get_or, refl, sym, ap, ◌∙◌, arith, length-drop}
+use Rattle.std.proofs.lemmas.List.{length-take-le, take-append-le, take-take, take_all, drop-take, drop-drop}
+use Rattle.std.proofs.lemmas.List.Elements.{All-take, All-drop}
+use Rattle.word_image.specs.LocalRules.{LocalRule, IsRule, IsWord, value, word_of, node_count}
+use Rattle.word_image.specs.Words.{image}
+use Rattle.word_image.specs.Windows.{HaveOneImage}
+use Rattle.word_image.specs.Graphs.{next, label}
+use Rattle.word_image.proofs.laws.Values.{length-word_of, IsWord-word_of, value-word_of}
+use Rattle.word_image.proofs.laws.Graphs.{value-node, value-next}
+use Rattle.pair_laws.proofs.Edges.{image-one, value-one, HaveOneImage-none, HaveOneImage-push}
+use Rattle.pair_laws.proofs.Joins.{drop-join_more, same_node, HaveOneImage-take, HaveOneImage-drop, HaveOneImage-join}
+
+-- two words of n + m - 1 letters with one image begin with the nodes u and v, and end with s and t
+pub record LeadTogether (r : LocalRule) (u v n s t : ℕ) : Type 0 where
+  pub x : List ℕ
+  pub y : List ℕ
+  pub one_image : HaveOneImage r n x y
+  pub first : value r.states (take (r.width - 1) x) ≡ u
+  pub second : value r.states (take (r.width - 1) y) ≡ v
+  pub first_last : value r.states (drop n x) ≡ s
+  pub second_last : value r.states (drop n y) ≡ t
+
+-- where a joined word ends
+value-join : (k d i j n : ℕ) (x y : List ℕ) → i + j ≡ n → IsWord k x → IsWord k y → length x ≡ i + d → length y ≡ j + d → value k (drop i x) ≡ value k (take d y)
+    → value k (drop n (x ++ drop d y)) ≡ value k (drop j y)
+value-join k d i j n x y e hx hy long_x long_y seam =
+    ap (λ l. value k (drop l (x ++ drop d y))) (sym e) ∙ ap (value k) (drop-join_more i j d x y long_x (same_node k i d x y hx hy long_x (omega arith) seam))
+
+-- a walk that ends where another one begins goes on as that one
+pub LeadTogether-join : {r : LocalRule} {u v p q s t i j n : ℕ} → IsRule r → i + j ≡ n → LeadTogether r u v i p q → LeadTogether r p q j s t → LeadTogether r u v n s t
+LeadTogether-join {r} {i = i} {j = j} {n = n} rule e h g =
+    record {
+      x = h.x ++ drop (r.width - 1) g.x;
+      y = h.y ++ drop (r.width - 1) g.y;
+      one_image = HaveOneImage-join rule e h.one_image g.one_image (h.first_last ∙ sym g.first) (h.second_last ∙ sym g.second);
+      first = ap (value r.states) (take-append-le (r.width - 1) h.x (drop (r.width - 1) g.x) (omega arith)) ∙ h.first;
+      second = ap (value r.states) (take-append-le (r.width - 1) h.y (drop (r.width - 1) g.y) (omega arith)) ∙ h.second;
+      first_last = value-join r.states (r.width - 1) i j n h.x g.x e h.one_image.first g.one_image.first h.one_image.first_long g.one_image.first_long (h.first_last ∙ sym g.first) ∙ g.first_last;
+      second_last = value-join r.states (r.width - 1) i j n h.y g.y e h.one_image.second g.one_image.second h.one_image.second_long g.one_image.second_long (h.second_last ∙ sym g.second) ∙ g.second_last;
+    }
+
+-- a walk of i + j steps is one of i and one of j
+pub LeadTogether-cut : {r : LocalRule} {u v s t n : ℕ} → IsRule r → (i j : ℕ) → i + j ≡ n → LeadTogether r u v n s t
+    → (p : ℕ) × (q : ℕ) × LeadTogether r u v i p q × LeadTogether r p q j s t
+LeadTogether-cut {r} {n = n} rule i j e h = (
+  value r.states (take (r.width - 1) (drop i h.x)),
+  value r.states (take (r.width - 1) (drop i h.y)),
+  record {
+    x = take (i + (r.width - 1)) h.x;
+    y = take (i + (r.width - 1)) h.y;
+    one_image = HaveOneImage-take rule i j n e h.one_image;
+    first = ap (value r.states) (take-take (r.width - 1) (i + (r.width - 1)) h.x (omega arith)) ∙ h.first;
+    second = ap (value r.states) (take-take (r.width - 1) (i + (r.width - 1)) h.y (omega arith)) ∙ h.second;
+    first_last = ap (value r.states) (drop-take i (r.width - 1) h.x);
+    second_last = ap (value r.states) (drop-take i (r.width - 1) h.y);
+  },
+  record {
+    x = drop i h.x;
+    y = drop i h.y;
+    one_image = HaveOneImage-drop i j n e h.one_image;
+    first = refl;
+    second = refl;
+    first_last = ap (value r.states) (drop-drop j i h.x) ∙ ap (λ l. value r.states (drop l h.x)) e ∙ h.first_last;
+    second_last = ap (value r.states) (drop-drop j i h.y) ∙ ap (λ l. value r.states (drop l h.y)) e ∙ h.second_last;
+  },
+)
+
+-- a walk leads from two nodes
+pub LeadTogether-first : {r : LocalRule} {u v s t n : ℕ} → LeadTogether r u v n s t → (u < node_count r) × (v < node_count r)
+LeadTogether-first {r} h = (
+  rw (← h.first) (value-node r (take (r.width - 1) h.x) (All-take (λ a. a < r.states) (r.width - 1) h.x h.one_image.first) (length-take-le (r.width - 1) h.x (omega arith))),
+  rw (← h.second) (value-node r (take (r.width - 1) h.y) (All-take (λ a. a < r.states) (r.width - 1) h.y h.one_image.second) (length-take-le (r.width - 1) h.y (omega arith))),
+)
+
+-- and to two nodes
+pub LeadTogether-last : {r : LocalRule} {u v s t n : ℕ} → LeadTogether r u v n s t → (s < node_count r) × (t < node_count r)
+LeadTogether-last {r} {n = n} h = (
+  rw (← h.first_last) (value-node r (drop n h.x) (All-drop (λ a. a < r.states) n h.x h.one_image.first) (omega (arith, length-drop n h.x))),
+  rw (← h.second_last) (value-node r (drop n h.y) (All-drop (λ a. a < r.states) n h.y h.one_image.second) (omega (arith, length-drop n h.y))),
+)
+
+-- from two nodes a walk of no step leads to them
+pub LeadTogether-none : (r : LocalRule) (u v : ℕ) → u < node_count r → v < node_count r → LeadTogether r u v 0 u v
+LeadTogether-none r u v hu hv =
+    let z : List ℕ = word_of r.states (r.width - 1) u in
+    let w : List ℕ = word_of r.states (r.width - 1) v in
+    let z_long : length z ≡ r.width - 1 = length-word_of r.states (r.width - 1) u in
+    let w_long : length w ≡ r.width - 1 = length-word_of r.states (r.width - 1) v in
+    let z_value : value r.states z ≡ u = value-word_of r.states (r.width - 1) u hu in
+    let w_value : value r.states w ≡ v = value-word_of r.states (r.width - 1) v hv in
+    record {
+      x = z;
+      y = w;
+      one_image = HaveOneImage-none r z w (IsWord-word_of r.states (r.width - 1) u hu) (IsWord-word_of r.states (r.width - 1) v hv) z_long w_long;
+      first = ap (value r.states) (take_all (r.width - 1) z (omega arith)) ∙ z_value;
+      second = ap (value r.states) (take_all (r.width - 1) w (omega arith)) ∙ w_value;
+      first_last = z_value;
+      second_last = w_value;
+    }
+
+-- a walk goes on along two edges with one label
+pub LeadTogether-push : {r : LocalRule} {u v s t j n : ℕ} → IsRule r → j + 1 ≡ n → LeadTogether r u v j s t → (a b : ℕ) → a < r.states → b < r.states
+    → label r s a ≡ label r t b → LeadTogether r u v n (next r s a) (next r t b)
+LeadTogether-push {r} {j = j} {n = n} rule e h a b ha hb l =
+    record {
+      x = h.x ++ a ∷ [];
+      y = h.y ++ b ∷ [];
+      one_image = HaveOneImage-push rule e h.one_image a b ha hb (ap (λ c. label r c a) h.first_last ∙ l ∙ ap (λ c. label r c b) (sym h.second_last));
+      first = ap (value r.states) (take-append-le (r.width - 1) h.x (a ∷ []) (omega arith)) ∙ h.first;
+      second = ap (value r.states) (take-append-le (r.width - 1) h.y (b ∷ []) (omega arith)) ∙ h.second;
+      first_last = ap (λ i. value r.states (drop i (h.x ++ a ∷ []))) (sym e) ∙ value-next rule j h.x a h.one_image.first h.one_image.first_long ha ∙ ap (λ c. next r c a) h.first_last;
+      second_last = ap (λ i. value r.states (drop i (h.y ++ b ∷ []))) (sym e) ∙ value-next rule j h.y b h.one_image.second h.one_image.second_long hb ∙ ap (λ c. next r c b) h.second_last;
+    }
+
+-- two edges with one label are a walk of one step
+pub LeadTogether-edges : {r : LocalRule} → IsRule r → (u v a b : ℕ) → u < node_count r → v < node_count r → a < r.states → b < r.states
+    → label r u a ≡ label r v b → LeadTogether r u v 1 (next r u a) (next r v b)
+LeadTogether-edges {r} rule u v a b hu hv ha hb l = LeadTogether-push rule (omega arith) (LeadTogether-none r u v hu hv) a b ha hb l
+
+-- a walk of one step is two edges with one label
+pub LeadTogether-one : {r : LocalRule} {u v s t : ℕ} → IsRule r → LeadTogether r u v 1 s t
+    → (a : ℕ) × (b : ℕ) × (a < r.states) × (b < r.states) × (label r u a ≡ label r v b) × (next r u a ≡ s) × (next r v b ≡ t)
+LeadTogether-one {r} {u} {v} {s} {t} rule h =
+    let a : ℕ = get_or h.x (r.width - 1) 0 in
+    let b : ℕ = get_or h.y (r.width - 1) 0 in
+    let first : image r h.x ≡ label r u a ∷ [] = image-one rule h.x h.one_image.first_long ∙ ap (λ n. label r n a ∷ []) h.first in
+    let second : image r h.y ≡ label r v b ∷ [] = image-one rule h.y h.one_image.second_long ∙ ap (λ n. label r n b ∷ []) h.second in (
+      a,
+      b,
+      h.one_image.first (r.width - 1) 0 (omega arith),
+      h.one_image.second (r.width - 1) 0 (omega arith),
+      cc,
+      ap (λ n. next r n a) (sym h.first) ∙ sym (value-one rule h.x h.one_image.first h.one_image.first_long) ∙ h.first_last,
+      ap (λ n. next r n b) (sym h.second) ∙ sym (value-one rule h.y h.one_image.second h.one_image.second_long) ∙ h.second_last,
+    )

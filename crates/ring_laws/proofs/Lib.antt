@@ -1,0 +1,6 @@
+pub mod Rings
+pub mod Gains
+pub mod Fluxes
+pub mod FluxWalks
+pub mod LossyRings
+pub mod FluxNodes

@@ -1,0 +1,10 @@
+pub mod WordOrder
+pub mod QueueSteps
+pub mod QueueStates
+pub mod SpelledWords
+pub mod LeastFirst
+pub mod StepSets
+pub mod LeastOrphans
+pub mod Families
+pub mod LeastSteps
+pub mod PairWalks

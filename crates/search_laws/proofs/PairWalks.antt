@@ -1,0 +1,156 @@
+-- Walks by letter pairs, the first of them found breadth first: a pair of letters is followed as one letter of a code.
+use Rattle.std.proofs.Common.{◌≡◌, ◌≢◌, ℕ, ◌+◌, ◌*◌, ◌/◌, ◌%◌, ◌^◌, ◌<◌, ◌≤◌, List, [], ◌∷◌, ◌++◌, length, map, All, Option, Some, refl, sym, ap, ap₂, ◌∙◌, subst, arith, pow-suc, one-mul, mul-one, mul_comm}
+use Rattle.std.specs.Ordering.{ordering_then, nat_cmp}
+use Rattle.std.specs.Cmp.Lexicographic.{slice_cmp}
+use Rattle.std.specs.declared.cmp.Ordering.{Ordering}
+use Rattle.std.specs.declared.cmp.Ordering.TheVariants.{Less, Equal, Greater}
+use Rattle.std.proofs.Math.Nat.{pow-zero}
+use Rattle.std.proofs.lemmas.Nat.{mul-add-lt, div-mul-add, mod-mul-add, div-add-mod'}
+use Rattle.std.proofs.lemmas.List.{map-append, length-map}
+use Rattle.std.proofs.lemmas.List.Elements.{All-nil, All-cons, All-head, All-tail, All-push}
+use Rattle.word_image.specs.LocalRules.{IsWord, value}
+use Rattle.word_image.specs.Words.{word_cmp}
+use Rattle.word_image.specs.Rings.{pair_cmp, pairs_cmp}
+use Rattle.word_image.proofs.laws.Orders.{slice_cmp-value}
+use Rattle.search_laws.specs.SearchQueues.{Leads}
+use Rattle.search_laws.specs.SearchQueues.Leads.{Here, On}
+use Rattle.search_laws.proofs.LeastSteps.{IsLeastStepsTo}
+
+-- the letter pairs lead from the start to the state, each pair to where `follow` leads, if it does
+pub data PairWalk (follow : ℕ → ℕ → ℕ → Option ℕ) (k start : ℕ) : List (ℕ × ℕ) → ℕ → Type 0 where
+  Stay : PairWalk follow k start [] start
+  Go : (w : List (ℕ × ℕ)) (a b s t : ℕ) → PairWalk follow k start w s → a < k → b < k → follow s a b ≡ Some t → PairWalk follow k start (w ++ (a, b) ∷ []) t
+
+-- the first walk of at least one step to the state: the shortest, and of these the first in dictionary order
+pub record IsLeastWalk (follow : ℕ → ℕ → ℕ → Option ℕ) (k start t : ℕ) (w : List (ℕ × ℕ)) : Type 0 where
+  pub some : 0 < length w
+  pub walk : PairWalk follow k start w t
+  pub least : (v : List (ℕ × ℕ)) → 0 < length v → PairWalk follow k start v t → pairs_cmp w v ≢ Greater
+
+-- the number of a letter pair, in base n
+abbrev pub code : ℕ → ℕ × ℕ → ℕ
+code n p = p.0 * n + p.1
+
+-- the letter pair of a number
+abbrev pub uncode : ℕ → ℕ → ℕ × ℕ
+uncode n c = (c / n, c % n)
+
+-- a step on the number of a letter pair, for letters below k
+pub record CodeStep (follow : ℕ → ℕ → ℕ → Option ℕ) (k n s c t : ℕ) : Type 0 where
+  pub first : c / n < k
+  pub second : c % n < k
+  pub follows : follow s (c / n) (c % n) ≡ Some t
+
+-- both letters of each pair are below n
+abbrev pub ArePairs : ℕ → List (ℕ × ℕ) → Type 0
+ArePairs n = All (λ p. (p.0 < n) × (p.1 < n))
+
+-- nothing after an order that is told
+then_equal : (o : Ordering) → ordering_then o Equal ≡ o
+then_equal Less = refl
+then_equal Equal = refl
+then_equal Greater = refl
+
+-- the value of two letters
+value-pair : (n a b : ℕ) → value n (a ∷ b ∷ []) ≡ a * n + b
+value-pair n a b =
+    let one : n ^ 1 ≡ n = pow-suc n 0 ∙ ap (λ m. m * n) (pow-zero n) ∙ one-mul n in
+    let first : a * n ^ 1 ≡ a * n = ap (λ m. a * m) one in
+    let second : b * n ^ 0 ≡ b = ap (λ m. b * m) (pow-zero n) ∙ mul-one b in
+    let goal : a * n ^ 1 + (b * n ^ 0 + 0) ≡ a * n + b = omega arith in
+    goal
+
+-- letter pairs are compared as their numbers are
+pair_cmp-code : (n : ℕ) (p q : ℕ × ℕ) → (p.0 < n) × (p.1 < n) → (q.0 < n) × (q.1 < n) → pair_cmp p q ≡ nat_cmp (code n p) (code n q)
+pair_cmp-code n p q small_p small_q =
+    let below : (a : ℕ × ℕ) → (a.0 < n) × (a.1 < n) → IsWord n (a.0 ∷ a.1 ∷ []) = λ a small.
+    All-cons (λ c. c < n) a.0 (a.1 ∷ []) small.0 (All-cons (λ c. c < n) a.1 [] small.1 (All-nil (λ c. c < n))) in
+    ap (ordering_then (nat_cmp p.0 q.0)) (sym (then_equal (nat_cmp p.1 q.1)))
+    ∙ slice_cmp-value n (p.0 ∷ p.1 ∷ []) (q.0 ∷ q.1 ∷ []) (below p small_p) (below q small_q) refl
+    ∙ ap₂ nat_cmp (value-pair n p.0 p.1) (value-pair n q.0 q.1)
+
+-- and lists of letter pairs in dictionary order as those of their numbers
+slice_cmp-codes : (n : ℕ) (p q : List (ℕ × ℕ)) → ArePairs n p → ArePairs n q → slice_cmp pair_cmp p q ≡ slice_cmp nat_cmp (map (code n) p) (map (code n) q)
+slice_cmp-codes n [] [] small_p small_q = refl
+slice_cmp-codes n [] (b ∷ q) small_p small_q = refl
+slice_cmp-codes n (a ∷ p) [] small_p small_q = refl
+slice_cmp-codes n (a ∷ p) (b ∷ q) small_p small_q =
+    let Small : ℕ × ℕ → Type 0 = λ c. (c.0 < n) × (c.1 < n) in
+    ap₂ ordering_then
+    (pair_cmp-code n a b (All-head Small a p small_p) (All-head Small b q small_q))
+    (slice_cmp-codes n p q (All-tail Small a p small_p) (All-tail Small b q small_q))
+
+-- the order of pairs of words is the order of the words of numbers
+pub pairs_cmp-codes : (n : ℕ) (p q : List (ℕ × ℕ)) → ArePairs n p → ArePairs n q → pairs_cmp p q ≡ word_cmp (map (code n) p) (map (code n) q)
+pairs_cmp-codes n p q small_p small_q =
+    ap₂ ordering_then (ap₂ nat_cmp (sym (length-map p (code n))) (sym (length-map q (code n)))) (slice_cmp-codes n p q small_p small_q)
+
+-- the letters of a walk are below k, and so below n
+ArePairs-walk : {follow : ℕ → ℕ → ℕ → Option ℕ} {k start t : ℕ} {w : List (ℕ × ℕ)} (n : ℕ) → k ≤ n → PairWalk follow k start w t → ArePairs n w
+ArePairs-walk n le Stay = All-nil (λ p. (p.0 < n) × (p.1 < n))
+ArePairs-walk n le (Go w a b s t before first second follows) =
+    All-push (λ p. (p.0 < n) × (p.1 < n)) w (a, b) (ArePairs-walk n le before) (omega arith, omega arith)
+
+-- a walk by letter pairs is a walk by their numbers
+pub Leads-walk : {follow : ℕ → ℕ → ℕ → Option ℕ} {k start t : ℕ} {w : List (ℕ × ℕ)} (n : ℕ) → k ≤ n → PairWalk follow k start w t
+    → Leads (CodeStep follow k n) (k * n) start (map (code n) w) t
+Leads-walk {follow} {k} {start} n le Stay = Here
+Leads-walk {follow} {k} {start} n le (Go w a b s t before first second follows) =
+    let quotient : code n (a, b) / n ≡ a = div-mul-add a n b (omega arith) in
+    let rest : code n (a, b) % n ≡ b = mod-mul-add a n b (omega arith) in
+    let below : a * n + b < n * k = mul-add-lt a n b k first (omega arith) in
+    let step : CodeStep follow k n s (code n (a, b)) t = record {
+      first = omega arith;
+      second = omega arith;
+      follows = ap₂ (follow s) quotient rest ∙ follows;
+    } in
+    subst (λ v. Leads (CodeStep follow k n) (k * n) start v t) (sym (map-append (code n) w ((a, b) ∷ [])))
+    (On (map (code n) w) (code n (a, b)) s t (Leads-walk n le before) (omega (arith, mul_comm n k)) step)
+
+-- and back
+pub PairWalk-leads : {follow : ℕ → ℕ → ℕ → Option ℕ} {k n start t : ℕ} {w : List ℕ} → Leads (CodeStep follow k n) (k * n) start w t
+    → PairWalk follow k start (map (uncode n) w) t
+PairWalk-leads Here = Stay
+PairWalk-leads {follow} {k} {n} {start} (On w c s t before below step) =
+    subst (λ v. PairWalk follow k start v t) (sym (map-append (uncode n) w (c ∷ [])))
+    (Go (map (uncode n) w) (c / n) (c % n) s t (PairWalk-leads before) step.first step.second step.follows)
+
+-- the number of a letter pair has these two letters
+uncode-code : (n a b : ℕ) → b < n → ((a * n + b) / n ≡ a) × ((a * n + b) % n ≡ b)
+uncode-code n a b below = (div-mul-add a n b below, mod-mul-add a n b below)
+
+-- where `follow` leads on two letters, a step leads on their number
+pub CodeStep-some : (follow : ℕ → ℕ → ℕ → Option ℕ) (k n s a b t : ℕ) → k ≤ n → a < k → b < k → follow s a b ≡ Some t → CodeStep follow k n s (a * n + b) t
+CodeStep-some follow k n s a b t le first second follows =
+    let parts = uncode-code n a b (omega arith) in
+    record { first = omega (arith, parts.0); second = omega (arith, parts.1); follows = ap₂ (follow s) parts.0 parts.1 ∙ follows }
+
+-- where a step leads on their number, `follow` leads on the two letters
+pub CodeStep-follows : {follow : ℕ → ℕ → ℕ → Option ℕ} {k n s t : ℕ} (a b : ℕ) → b < n → CodeStep follow k n s (a * n + b) t → follow s a b ≡ Some t
+CodeStep-follows {follow} {k} {n} {s} a b below step =
+    let parts = uncode-code n a b below in
+    ap₂ (follow s) (sym parts.0) (sym parts.1) ∙ step.follows
+
+-- the numbers of the letter pairs of numbers
+codes-uncode : (n : ℕ) (w : List ℕ) → map (code n) (map (uncode n) w) ≡ w
+codes-uncode n [] = refl
+codes-uncode n (c ∷ w) = ap₂ (λ (d : ℕ) (v : List ℕ). d ∷ v) (div-add-mod' c n) (codes-uncode n w)
+
+-- the first word of numbers that leads to a state gives the first walk of letter pairs
+pub IsLeastWalk-steps : {follow : ℕ → ℕ → ℕ → Option ℕ} {k n start t : ℕ} {w : List ℕ} → k ≤ n → IsLeastStepsTo (CodeStep follow k n) (k * n) start t w
+    → IsLeastWalk follow k start t (map (uncode n) w)
+IsLeastWalk-steps {follow} {k} {n} {start} {t} {w} le first =
+    let walk = PairWalk-leads first.leads in
+    record {
+      some = omega (arith, length-map w (uncode n), first.some);
+      walk = walk;
+      least = λ v some other greater.
+          let order : pairs_cmp (map (uncode n) w) v ≡ word_cmp w (map (code n) v) =
+          pairs_cmp-codes n (map (uncode n) w) v (ArePairs-walk n le walk) (ArePairs-walk n le other) ∙ ap (λ u. word_cmp u (map (code n) v)) (codes-uncode n w) in
+          first.least (map (code n) v) (omega (arith, length-map v (code n))) (Leads-walk n le other) (sym order ∙ greater);
+    }
+
+-- where no word of at least one number leads to a state, no walk of at least one step does
+pub no_walk : {follow : ℕ → ℕ → ℕ → Option ℕ} {k start : ℕ} (n t : ℕ) → k ≤ n → ((v : List ℕ) → 0 < length v → ¬ Leads (CodeStep follow k n) (k * n) start v t)
+    → (w : List (ℕ × ℕ)) → 0 < length w → ¬ PairWalk follow k start w t
+no_walk n t le none w some walk = none (map (code n) w) (omega (arith, length-map w (code n))) (Leads-walk n le walk)

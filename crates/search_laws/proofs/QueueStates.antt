@@ -1,0 +1,68 @@
+-- The states of a breadth first queue: each is listed once, so there are no more places than states.
+use Rattle.std.proofs.Common.{◌≡◌, ◌≢◌, ℕ, zero, suc, ◌<◌, ◌≤◌, List, [], ◌∷◌, length, map, Some, Contains, AllPairs, refl, sym, ap, ◌∙◌, subst, arith, ⊎_elim, option_map}
+use Rattle.std.specs.List.{slice_get}
+use Rattle.std.proofs.lemmas.Bool.Decides.{Decides-eqb}
+use Rattle.std.proofs.lemmas.Bool.{cases_eq}
+use Rattle.std.proofs.lemmas.List.{length-map}
+use Rattle.std.proofs.lemmas.Map.Made.{IsDistinct-from_AllPairs}
+use Rattle.std.proofs.lemmas.Map.Steps.{length-le_from_distinct_below}
+use Rattle.std.proofs.lemmas.Map.Views.{Contains-from_any}
+use Rattle.std.proofs.lemmas.Option.{slice_get_within, slice_get-get_or, get_or_from_slice_get, slice_get-map, none-some}
+use Rattle.search_laws.specs.SearchQueues.{Place, IsQueue}
+
+-- the states of a list, in its order
+abbrev pub states_of : List Place → List ℕ
+states_of = map (λ x. x.state)
+
+-- the place of a state
+pub place_of_state : (tree : List Place) (i set : ℕ) → slice_get (states_of tree) i ≡ Some set → (x : Place) × (slice_get tree i ≡ Some x) × (x.state ≡ set)
+place_of_state [] i set at = absurd (none-some set at)
+place_of_state (y ∷ tree) zero set at = (y, refl, cc)
+place_of_state (y ∷ tree) (suc i) set at = place_of_state tree i set at
+
+-- the state of a place
+pub state_of_place : (tree : List Place) (i : ℕ) (x : Place) → slice_get tree i ≡ Some x → slice_get (states_of tree) i ≡ Some x.state
+state_of_place tree i x at = slice_get-map (λ y. y.state) tree i ∙ ap (option_map (λ y. y.state)) at
+
+-- the state of a place is listed
+pub Contains-state : (tree : List Place) (i : ℕ) (x : Place) (set : ℕ) → slice_get tree i ≡ Some x → x.state ≡ set → Contains (states_of tree) set
+Contains-state tree i x set at same =
+    let there : slice_get (states_of tree) i ≡ Some set = state_of_place tree i x at ∙ ap Some same in
+    (i, slice_get_within (states_of tree) i set there, get_or_from_slice_get (states_of tree) i set set there)
+
+-- a listed state has a place
+pub place_of_listed : (tree : List Place) (set : ℕ) → Contains (states_of tree) set → (i : ℕ) × (x : Place) × (slice_get tree i ≡ Some x) × (x.state ≡ set)
+place_of_listed tree set (i, below, same) =
+    let found = place_of_state tree i set (slice_get-get_or (states_of tree) i set below ∙ ap Some same) in
+    (i, found.0, found.1, found.2)
+
+-- each state is below n if the start is, and each step leads below n
+pub state-below : {Step : ℕ → ℕ → ℕ → Type 0} {k start : ℕ} {tree : List Place} {e : ℕ} → IsQueue Step k start tree e
+    → (n : ℕ) → start < n → ((s a t : ℕ) → Step s a t → t < n) → (i : ℕ) (x : Place) → slice_get tree i ≡ Some x → x.state < n
+state-below {tree = tree} q n first steps i x at =
+    ⊎_elim
+    (λ none.
+    let root = q.root in
+    let starts = q.starts in
+    let here : slice_get tree 0 ≡ Some x = subst (λ j. slice_get tree j ≡ Some x) none at in
+    let same : q.first ≡ x = cc in
+    subst (λ s. s < n) (sym starts ∙ ap (λ z. z.state) same) first)
+    (λ some. let b = q.branches i x (omega (arith, some)) at in steps b.parent.state x.letter x.state b.step)
+    (cases_eq i 0)
+
+-- no state is listed twice
+pub states-apart : {Step : ℕ → ℕ → ℕ → Type 0} {k start : ℕ} {tree : List Place} {e : ℕ} → IsQueue Step k start tree e → AllPairs (λ s t. s ≢ t) (states_of tree)
+states-apart {tree = tree} q i j d less within same =
+    let first = place_of_state tree i _ (slice_get-get_or (states_of tree) i d (omega arith)) in
+    let second = place_of_state tree j _ (slice_get-get_or (states_of tree) j d within) in
+    let one = q.apart i j first.0 second.0 first.1 second.1 (first.2 ∙ same ∙ sym second.2) in
+    omega (arith, one)
+
+-- so there are no more places than states
+pub length-queue-le : {Step : ℕ → ℕ → ℕ → Type 0} {k start : ℕ} {tree : List Place} {e : ℕ} → IsQueue Step k start tree e
+    → (n : ℕ) → start < n → ((s a t : ℕ) → Step s a t → t < n) → length tree ≤ n
+length-queue-le {tree = tree} q n first steps =
+    let few = length-le_from_distinct_below (states_of tree) n (IsDistinct-from_AllPairs Decides-eqb (states_of tree) (states-apart q)) (λ s any.
+    let found = place_of_listed tree s (Contains-from_any (λ x y same. (Decides-eqb x y).0 same) s (states_of tree) any) in
+    subst (λ z. z < n) found.3 (state-below q n first steps found.0 found.1 found.2)) in
+    omega (arith, few, length-map tree (λ x. x.state))

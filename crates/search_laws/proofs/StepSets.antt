@@ -1,0 +1,165 @@
+-- Each step leads to one set of nodes, each word has one set of last nodes, and steps lead along words from set to set.
+use Rattle.std.proofs.Common.{◌≡◌, ℕ, zero, suc, ◌-◌, ◌*◌, ◌^◌, ◌<◌, ◌⊎◌, ◌↔◌, inl, inr, List, [], ◌∷◌, ◌++◌, length, take, get_or, IsBitSet, bit_or, refl, sym, ◌∙◌, subst, arith, ⊎_elim, pow-suc}
+use Rattle.std.specs.Int.{bit_at}
+use Rattle.std.proofs.lemmas.Bool.{cases_eq}
+use Rattle.std.proofs.lemmas.Nat.{pow_pos, or_lt}
+use Rattle.std.proofs.lemmas.List.{nil_from_length, length-take-le}
+use Rattle.std.proofs.lemmas.List.Elements.{All-take}
+use Rattle.std.proofs.lemmas.Nat.Bits.{bit_at_above, bit_at-lt, same_from_bits_below}
+use Rattle.word_image.specs.LocalRules.{LocalRule, IsRule, IsWord, node_count}
+use Rattle.word_image.specs.Words.{IsOrphan}
+use Rattle.word_image.specs.Graphs.{full_set, IsStep, next, label}
+use Rattle.word_image.specs.Ranks.{IsLastSet}
+use Rattle.word_image.proofs.laws.Bits.{bit_at-IsBitSet, IsBitSet-pow, IsBitSet-or}
+use Rattle.word_image.proofs.laws.Words.{split_last}
+use Rattle.word_image.proofs.laws.LastSets.{IsLastSet-full, IsLastSet-step, IsPreimage-nonempty_set}
+use Rattle.search_laws.specs.SearchQueues.{Leads}
+use Rattle.search_laws.specs.SearchQueues.Leads.{Here, On}
+use Rattle.word_image.proofs.laws.Searches.{some_below}
+
+-- two sets of n nodes with the same nodes are one
+pub same_set : (n a b : ℕ) → a < 2 ^ n → b < 2 ^ n → ((i : ℕ) → i < n → (IsBitSet a i ↔ IsBitSet b i)) → a ≡ b
+same_set n a b small_a small_b same = same_from_bits_below n a b small_a small_b (λ i l.
+    ⊎_elim
+    (λ one. one ∙ sym ((bit_at-IsBitSet b i).0 ((same i l).0 ((bit_at-IsBitSet a i).1 one))))
+    (λ none. ⊎_elim
+    (λ one. absurd (none ((bit_at-IsBitSet a i).0 ((same i l).1 ((bit_at-IsBitSet b i).1 one)))))
+    (λ also. omega (arith, bit_at-lt a i, bit_at-lt b i))
+    (cases_eq (bit_at b i) 1))
+    (cases_eq (bit_at a i) 1))
+
+-- a set below 2 ^ n has no node n
+IsBitSet-above : (n a : ℕ) → a < 2 ^ n → ¬ IsBitSet a n
+IsBitSet-above n a small some = let one = (bit_at-IsBitSet a n).0 some in let none = bit_at_above a n n small (omega arith) in omega arith
+
+-- the nodes below n of which something that can be decided holds are a set
+pub some_set : (Has : ℕ → Type 0) → ((v : ℕ) → Has v ⊎ ¬ Has v) → (n : ℕ) → (set : ℕ) × (set < 2 ^ n) × ((v : ℕ) → v < n → (IsBitSet set v ↔ Has v))
+some_set Has decide zero = (0, pow_pos 0, λ v l. absurd (omega arith))
+some_set Has decide (suc n) =
+    let before = some_set Has decide n in
+    let more : 2 ^ suc n ≡ 2 ^ n * 2 = pow-suc 2 n in
+    ⊎_elim
+    (λ has. (
+      bit_or before.0 (2 ^ n),
+      or_lt (suc n) before.0 (2 ^ n) (omega (arith, before.1)) (omega (arith, pow_pos n)),
+      λ v l. (
+        (λ some. ⊎_elim
+            (λ old. ⊎_elim
+            (λ same. subst Has (sym same) has)
+            (λ other. (before.2 v (omega (arith, other))).0 old)
+            (cases_eq v n))
+            (λ new. subst Has (sym ((IsBitSet-pow n v).0 new)) has)
+            ((IsBitSet-or before.0 (2 ^ n) v).0 some)),
+        (λ holds. (IsBitSet-or before.0 (2 ^ n) v).1 (⊎_elim
+            (λ same. inr ((IsBitSet-pow n v).1 same))
+            (λ other. inl ((before.2 v (omega (arith, other))).1 holds))
+            (cases_eq v n))),
+      ),
+    ))
+    (λ none. (
+      before.0,
+      omega (arith, before.1),
+      λ v l. (
+        (λ some. ⊎_elim
+            (λ same. absurd (IsBitSet-above n before.0 before.1 (subst (IsBitSet before.0) same some)))
+            (λ other. (before.2 v (omega (arith, other))).0 some)
+            (cases_eq v n)),
+        (λ holds. ⊎_elim
+            (λ same. absurd (none (subst Has same holds)))
+            (λ other. (before.2 v (omega (arith, other))).1 holds)
+            (cases_eq v n)),
+      ),
+    ))
+    (decide n)
+
+-- an edge from the set, labelled a, leads from node u to v on letter b
+abbrev pub IsEdgeFrom : LocalRule → ℕ → ℕ → ℕ → ℕ → ℕ → Type 0
+IsEdgeFrom r set a v u b = IsBitSet set u × (label r u b ≡ a) × (next r u b ≡ v)
+
+-- whether there is one
+edge_or_none : (r : LocalRule) (set a v u b : ℕ) → IsEdgeFrom r set a v u b ⊎ ¬ IsEdgeFrom r set a v u b
+edge_or_none r set a v u b =
+    ⊎_elim
+    (λ present. ⊎_elim
+    (λ labelled. ⊎_elim (λ ends. inl ((bit_at-IsBitSet set u).1 present, labelled, ends)) (λ other. inr (λ edge. other edge.2)) (cases_eq (next r u b) v))
+    (λ other. inr (λ edge. other edge.1))
+    (cases_eq (label r u b) a))
+    (λ absent. inr (λ edge. absent ((bit_at-IsBitSet set u).0 edge.0)))
+    (cases_eq (bit_at set u) 1)
+
+-- whether the node u has such an edge, on any letter
+node_or_none : (r : LocalRule) (set a v u : ℕ) → ((b : ℕ) × (b < r.states) × IsEdgeFrom r set a v u b) ⊎ ¬ ((b : ℕ) × (b < r.states) × IsEdgeFrom r set a v u b)
+node_or_none r set a v u =
+    ⊎_elim (λ some. inl some) (λ none. inr (λ (b, l, edge). none b l edge)) (some_below (IsEdgeFrom r set a v u) (edge_or_none r set a v u) r.states)
+
+-- from each set a step on each letter leads to a set
+pub IsStep-some : (r : LocalRule) (set a : ℕ) → (after : ℕ) × IsStep r set a after
+IsStep-some r set a =
+    let Leads_to : ℕ → Type 0 = λ v. (u : ℕ) × (u < node_count r) × ((b : ℕ) × (b < r.states) × IsEdgeFrom r set a v u b) in
+    let decide : (v : ℕ) → Leads_to v ⊎ ¬ Leads_to v = λ v.
+    ⊎_elim (λ some. inl some) (λ none. inr (λ (u, l, edge). none u l edge)) (some_below (λ u. (b : ℕ) × (b < r.states) × IsEdgeFrom r set a v u b) (node_or_none r set a v) (node_count r)) in
+    let made = some_set Leads_to decide (node_count r) in (
+      made.0,
+      record {
+        within = made.1;
+        nodes = λ v l. (
+          (λ some. let (u, node, (b, letter, (present, labelled, ends))) = (made.2 v l).0 some in (u, b, node, letter, present, labelled, ends)),
+          (λ (u, b, node, letter, present, labelled, ends). (made.2 v l).1 (u, node, (b, letter, (present, labelled, ends)))),
+        );
+      },
+    )
+
+-- and to no other
+pub IsStep-unique : {r : LocalRule} {set a s t : ℕ} → IsStep r set a s → IsStep r set a t → s ≡ t
+IsStep-unique {r} {set} {a} {s} {t} first second = same_set (node_count r) s t first.within second.within (λ v l. (
+  (λ some. (second.nodes v l).1 ((first.nodes v l).0 some)),
+  (λ some. (first.nodes v l).1 ((second.nodes v l).0 some)),
+))
+
+-- a word has one set of last nodes
+pub IsLastSet-unique : {r : LocalRule} {w : List ℕ} {s t : ℕ} → IsLastSet r w s → IsLastSet r w t → s ≡ t
+IsLastSet-unique {r} {w} {s} {t} first second = same_set (node_count r) s t first.within second.within (λ u l. (
+  (λ some. (second.nodes u l).1 ((first.nodes u l).0 some)),
+  (λ some. (first.nodes u l).1 ((second.nodes u l).0 some)),
+))
+
+-- from the full set a word leads to its set of last nodes
+abbrev pub LeadsToSet : LocalRule → List ℕ → ℕ → Type 0
+LeadsToSet r = Leads (IsStep r) r.states (full_set r)
+
+-- where it leads is that set
+pub IsLastSet-leads : {r : LocalRule} {w : List ℕ} {set : ℕ} → IsRule r → LeadsToSet r w set → IsLastSet r w set
+IsLastSet-leads {r} rule Here = IsLastSet-full r
+IsLastSet-leads {r} rule (On w a s t before letter step) = IsLastSet-step {set = s} {after = t} rule (IsLastSet-leads rule before) letter step
+
+-- `LeadsToSet-some` at the words of n letters
+leads_of_length : (r : LocalRule) (n : ℕ) (w : List ℕ) → length w ≡ n → IsWord r.states w → (set : ℕ) × LeadsToSet r w set
+leads_of_length r zero w e word =
+    subst (λ v. (set : ℕ) × LeadsToSet r v set) (sym (nil_from_length w e)) (full_set r, Here)
+leads_of_length r (suc n) w e word =
+    let front : List ℕ = take (length w - 1) w in
+    let a : ℕ = get_or w (length w - 1) 0 in
+    let split : w ≡ front ++ a ∷ [] = split_last w (omega arith) in
+    let before = leads_of_length r n front (omega (arith, length-take-le (length w - 1) w (omega arith))) (All-take (λ b. b < r.states) (length w - 1) w word) in
+    let after = IsStep-some r before.0 a in
+    subst (λ v. (set : ℕ) × LeadsToSet r v set) (sym split) (after.0, On front a before.0 after.0 before.1 (word (length w - 1) 0 (omega arith)) after.1)
+
+-- each word leads to a set
+pub LeadsToSet-some : (r : LocalRule) (w : List ℕ) → IsWord r.states w → (set : ℕ) × LeadsToSet r w set
+LeadsToSet-some r w word = leads_of_length r (length w) w refl word
+
+-- a word leads to its set of last nodes
+pub LeadsToSet-last : {r : LocalRule} {w : List ℕ} {set : ℕ} → IsRule r → IsLastSet r w set → LeadsToSet r w set
+LeadsToSet-last {r} {w} {set} rule last =
+    let found = LeadsToSet-some r w last.word in
+    subst (LeadsToSet r w) (IsLastSet-unique (IsLastSet-leads rule found.1) last) found.1
+
+-- the last nodes of an orphan are the empty set
+pub IsLastSet-orphan : {r : LocalRule} {w : List ℕ} → IsRule r → IsOrphan r w → IsLastSet r w 0
+IsLastSet-orphan {r} {w} rule orphan =
+    let found = LeadsToSet-some r w orphan.word in
+    let last : IsLastSet r w found.0 = IsLastSet-leads rule found.1 in
+    ⊎_elim
+    (λ empty. subst (IsLastSet r w) empty last)
+    (λ some. let preimage = IsPreimage-nonempty_set last some in absurd (orphan.none preimage.0 preimage.1))
+    (cases_eq found.0 0)

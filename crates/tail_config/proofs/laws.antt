@@ -1,0 +1,7 @@
+pub mod Cells
+pub mod Differences
+pub mod Periods
+pub mod Repeats
+pub mod Spans
+pub mod Decisions
+pub mod Mirror

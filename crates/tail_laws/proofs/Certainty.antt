@@ -1,0 +1,119 @@
+-- Every rule has a determined window or twins, and on each side a look-ahead or a normal split (Amoroso and Patt 1972, Sutner 1991).
+use Rattle.std.proofs.Common.{◌≡◌, ◌≢◌, ◌⊎◌, ℕ, ◌<◌, inl, inr, refl, ⊎_elim, subst, arith}
+use Rattle.std.specs.Prelude.{◌↔◌}
+use Rattle.std.proofs.lemmas.Bool.{cases_eq, cases_lt}
+use Rattle.word_image.specs.LocalRules.{LocalRule, IsRule, node_count, mirrored}
+use Rattle.word_image.specs.Windows.{IsDetermined, IsRightAhead, IsLeftAhead}
+use Rattle.word_image.specs.Graphs.{next, label, first_of, second_of, pair_count}
+use Rattle.word_image.specs.Ranks.{BeginTogether}
+use Rattle.word_image.proofs.laws.Graphs.{next-below}
+use Rattle.word_image.proofs.laws.Images.{IsRule-mirrored}
+use Rattle.pair_laws.proofs.Pairs.{PairBegins, PairEnds, first_of-below, second_of-below, PairBegins-pair_of}
+use Rattle.word_image.proofs.laws.Searches.{some_below}
+use Rattle.pair_laws.proofs.Decisions.{BeginTogether-decide, EndTogether-decide}
+use Rattle.pair_laws.proofs.BothWays.{IsDetermined-none_both_ways, IsRightAhead-some}
+use Rattle.tail_config.specs.Tails.{IsInjective, IsRightClosing, IsLeftClosing}
+use Rattle.tail_laws.proofs.Injective.{IsInjective-determined}
+use Rattle.tail_laws.proofs.Closing.{IsRightClosing-ahead}
+use Rattle.tail_laws.proofs.Sides.{IsLeftClosing-mirrored, IsLeftClosing-ahead}
+use Rattle.tail_laws.proofs.TwinTails.{no_twins}
+use Rattle.tail_laws.proofs.NoTwins.{HasTwins}
+use Rattle.tail_laws.proofs.Verdicts.{IsRightClosing-none}
+use Rattle.tail_laws.proofs.EndlessPairs.{HasNormalSplit, normal_split-begins, has_twins-both_ways}
+
+-- a rule has a determined window
+abbrev pub HasWindow : LocalRule → Type 0
+HasWindow r = (n : ℕ) × (c : ℕ) × IsDetermined r n c
+
+-- what can be decided can be decided of two things at once
+both : {P Q : Type 0} → P ⊎ ¬ P → Q ⊎ ¬ Q → (P × Q) ⊎ ¬ (P × Q)
+both p q = ⊎_elim (λ h. ⊎_elim (λ g. inl (h, g)) (λ none. inr (λ s. none s.1)) q) (λ none. inr (λ s. none s.0)) p
+
+-- and whether it holds of some number below k
+exists_below : (P : ℕ → Type 0) → ((a : ℕ) → P a ⊎ ¬ P a) → (k : ℕ) → ((a : ℕ) × (a < k) × P a) ⊎ ¬ ((a : ℕ) × (a < k) × P a)
+exists_below P decide k = ⊎_elim (λ h. inl h) (λ none. inr (λ e. none e.0 e.1 e.2)) (some_below P decide k)
+
+-- two numbers are different or not
+differ_or_not : (a b : ℕ) → (a ≢ b) ⊎ ¬ (a ≢ b)
+differ_or_not a b = ⊎_elim (λ e. inr (λ n. n e)) (λ n. inl n) (cases_eq a b)
+
+-- the nodes of a pair differ, and end and begin together for as long as there are pairs
+abbrev pub IsLongBothWays : LocalRule → ℕ → Type 0
+IsLongBothWays r p = (first_of r p ≢ second_of r p) × (PairEnds r p (pair_count r) × PairBegins r p (pair_count r))
+
+-- that is decided of each pair
+long_or_not : {r : LocalRule} → IsRule r → (p : ℕ) → ((p < pair_count r) × IsLongBothWays r p) ⊎ ¬ ((p < pair_count r) × IsLongBothWays r p)
+long_or_not {r} rule p =
+    ⊎_elim (λ l. both (inl l) (both (differ_or_not (first_of r p) (second_of r p)) (both
+    (EndTogether-decide rule (pair_count r) (first_of r p) (second_of r p) (first_of-below rule p l) (second_of-below rule p))
+    (BeginTogether-decide rule (pair_count r) (first_of r p) (second_of r p) (first_of-below rule p l) (second_of-below rule p)))))
+    (λ l. inr (λ h. let within : p < pair_count r = h.0 in absurd (omega arith))) (cases_lt p (pair_count r))
+
+-- a rule has a determined window or twins
+pub window_or_twins : {r : LocalRule} → IsRule r → HasWindow r ⊎ HasTwins r
+window_or_twins {r} rule =
+    ⊎_elim (λ h. inr (has_twins-both_ways rule h.2.1.0 h.2.1.1.0 h.2.1.1.1))
+    (λ none. inl (_, _, IsDetermined-none_both_ways rule (λ p l other endless. none p l (l, (other, (endless.ends (pair_count r), endless.begins (pair_count r)))))))
+    (some_below (λ p. (p < pair_count r) × IsLongBothWays r p) (long_or_not rule) (pair_count r))
+
+-- so it is injective exactly where it has a determined window
+pub IsInjective-window : {r : LocalRule} → IsRule r → IsInjective r ↔ HasWindow r
+IsInjective-window {r} rule = (
+  λ injective. ⊎_elim (λ w. w) (λ t. absurd (no_twins t.2 injective)) (window_or_twins rule),
+  λ w. IsInjective-determined rule w.2,
+)
+
+-- from one node two different letters lead with one label to nodes that begin together for as long as there are pairs
+abbrev pub IsLongFirst : LocalRule → ℕ → ℕ → ℕ → Type 0
+IsLongFirst r node a b = (a ≢ b) × ((label r node a ≡ label r node b) × BeginTogether r (next r node a) (next r node b) (pair_count r))
+
+-- which gives a normal split
+first_split : {r : LocalRule} → IsRule r → (node a b : ℕ) → node < node_count r → a < r.states → b < r.states → IsLongFirst r node a b → HasNormalSplit r
+first_split {r} rule node a b hn ha hb h =
+    normal_split-begins rule
+    (record { node = node; a = a; b = b; in_nodes = hn; a_letter = ha; b_letter = hb; different = h.0; one_label = h.1.0; pair = refl })
+    ((PairBegins-pair_of r (next r node a) (next r node b) (pair_count r) (next-below rule node b)).1 h.1.1)
+
+-- a rule looks ahead to the right or has a normal right split
+pub ahead_or_split : {r : LocalRule} → IsRule r → ((n : ℕ) × IsRightAhead r n) ⊎ HasNormalSplit r
+ahead_or_split {r} rule =
+    let at : (node a b : ℕ) → IsLongFirst r node a b ⊎ ¬ IsLongFirst r node a b = λ node a b.
+    both (differ_or_not a b) (both (cases_eq (label r node a) (label r node b)) (BeginTogether-decide rule (pair_count r) (next r node a) (next r node b) (next-below rule node a) (next-below rule node b))) in
+    let letter = λ (node a : ℕ). exists_below (IsLongFirst r node a) (at node a) r.states in
+    let letters = λ (node : ℕ). exists_below (λ a. (b : ℕ) × (b < r.states) × IsLongFirst r node a b) (letter node) r.states in
+    ⊎_elim (λ h. inr (first_split rule h.0 h.2.0 h.2.2.0 h.1 h.2.1 h.2.2.1 h.2.2.2))
+    (λ none. inl ((IsRightAhead-some rule).1 (λ p f endless. none f.node f.in_nodes (
+      f.a,
+      f.a_letter,
+      (
+        f.b,
+        f.b_letter,
+        (
+          f.different,
+          (
+            f.one_label,
+            (PairBegins-pair_of r (next r f.node f.a) (next r f.node f.b) (pair_count r) (next-below rule f.node f.b)).0
+                (subst (λ q. PairBegins r q (pair_count r)) f.pair (endless (pair_count r))),
+          ),
+        ),
+      ),
+    ))))
+    (some_below (λ node. (a : ℕ) × (a < r.states) × ((b : ℕ) × (b < r.states) × IsLongFirst r node a b)) letters (node_count r))
+
+-- so it is right-closing exactly where it looks ahead
+pub IsRightClosing-window : {r : LocalRule} → IsRule r → IsRightClosing r ↔ ((n : ℕ) × IsRightAhead r n)
+IsRightClosing-window {r} rule = (
+  λ closing. ⊎_elim (λ a. a) (λ s. absurd ((IsRightClosing-none r).0 closing s.0 s.1 s.2.split)) (ahead_or_split rule),
+  λ a. IsRightClosing-ahead rule a.1,
+)
+
+-- and left-closing exactly where it looks ahead to the left
+pub IsLeftClosing-window : {r : LocalRule} → IsRule r → IsLeftClosing r ↔ ((n : ℕ) × IsLeftAhead r n)
+IsLeftClosing-window {r} rule = (
+  λ closing. (IsRightClosing-window (IsRule-mirrored rule)).0 ((IsLeftClosing-mirrored rule).0 closing),
+  λ a. IsLeftClosing-ahead rule a.1,
+)
+
+-- and it looks ahead to the left, or its mirrored rule has a normal right split
+pub left_ahead_or_split : {r : LocalRule} → IsRule r → ((n : ℕ) × IsLeftAhead r n) ⊎ HasNormalSplit (mirrored r)
+left_ahead_or_split {r} rule = ahead_or_split (IsRule-mirrored rule)

@@ -1,0 +1,137 @@
+-- Walks in the marked graph are walks of pairs, and the mark tells whether two letters have differed.
+use Rattle.std.proofs.Common.{◌≡◌, ◌≢◌, ◌⊎◌, ℕ, ◌+◌, ◌%◌, ◌<◌, ◌≤◌, List, [], ◌∷◌, length, drop, slice_index, Some, None, if◌then◌else◌, ◌==◌, ◌||◌, not, refl, sym, ap, ap₂, ◌∙◌, subst, inl, inr, ⊎_elim, arith, mod-eq_of_lt}
+use Rattle.std.specs.Prelude.{◌↔◌, nat_le}
+use Rattle.std.specs.List.{zip}
+use Rattle.std.proofs.Math.Nat.{add-mod_right}
+use Rattle.std.proofs.lemmas.Bool.{cases_lt, cases_eq}
+use Rattle.std.proofs.lemmas.Bool.Decides.{nat_tests}
+use Rattle.std.proofs.lemmas.Nat.{mul-add-lt}
+use Rattle.word_image.specs.LocalRules.{LocalRule, IsRule, node_count}
+use Rattle.word_image.specs.Graphs.{next, label, pair_of, first_of, second_of, follow, pair_count, marked}
+use Rattle.word_image.proofs.laws.Graphs.{next-below}
+use Rattle.tail_laws.proofs.PairLeads.{Follows, PairLeads}
+
+-- from state t of the marked graph along a list of letter pairs to state s
+abbrev pub MarkedLeads : LocalRule → ℕ → List (ℕ × ℕ) → ℕ → Type 0
+MarkedLeads r = Follows (marked r)
+
+-- some pair has two different letters
+abbrev pub HasOther : List (ℕ × ℕ) → Type 0
+HasOther [] = ⊥
+HasOther (ab ∷ rest) = (ab.0 ≢ ab.1) ⊎ HasOther rest
+
+-- the letters of two words of one length make such a pair if the words differ
+pub HasOther-zip : (x y : List ℕ) → length x ≡ length y → x ≢ y → HasOther (zip x y)
+HasOther-zip [] [] e n = n refl
+HasOther-zip [] (b ∷ y) e n = absurd (omega arith)
+HasOther-zip (a ∷ x) [] e n = absurd (omega arith)
+HasOther-zip (a ∷ x) (b ∷ y) e n =
+    ⊎_elim (λ same. inr (HasOther-zip x y (omega arith) (λ rest. n (ap₂ (λ (c : ℕ) (z : List ℕ). c ∷ z) same rest)))) (λ other. inl other) (cases_eq a b)
+
+-- and only then
+pub HasOther-different : (x y : List ℕ) → HasOther (zip x y) → x ≢ y
+HasOther-different [] y h e = h
+HasOther-different (a ∷ x) [] h e = h
+HasOther-different (a ∷ x) (b ∷ y) (inl other) e = other (ap (λ w. slice_index w 0) e)
+HasOther-different (a ∷ x) (b ∷ y) (inr rest) e = HasOther-different x y rest (ap (drop 1) e)
+
+-- the mark that a step adds
+abbrev pub mark : LocalRule → ℕ → ℕ → ℕ → ℕ
+mark r t a b = if nat_le (pair_count r) t || not (a == b) then pair_count r else 0
+
+-- a value under a test, and the same with a mark that is added to it
+marked_value : (c d s k : ℕ) (q : ℕ) → (if c == d then Some s else None) ≡ Some q → (if c == d then Some (s + k) else None) ≡ Some (q + k)
+marked_value c d s k q e = grind (arith, nat_tests)
+
+-- and back
+value_marked : (c d s k : ℕ) (q : ℕ) → (if c == d then Some (s + k) else None) ≡ Some q → ((if c == d then Some s else None) ≡ Some s) × (q ≡ s + k)
+value_marked c d s k q e = (grind (arith, nat_tests), grind (arith, nat_tests))
+
+-- equal values are one value
+some_same : (m n : ℕ) → Some m ≡ Some n → m ≡ n
+some_same m n e = grind arith
+
+-- a step of the marked graph is a step of the pair, and adds the mark
+pub marked-follow : (r : LocalRule) (t a b q : ℕ) → follow r (t % pair_count r) a b ≡ Some q → marked r t a b ≡ Some (q + mark r t a b)
+marked-follow r t a b q e = marked_value _ _ _ (mark r t a b) q e
+
+-- what follows a pair is a pair
+follow-below : {r : LocalRule} → IsRule r → (p a b : ℕ) → pair_of r (next r (first_of r p) a) (next r (second_of r p) b) < pair_count r
+follow-below {r} rule p a b = mul-add-lt (next r (first_of r p) a) (node_count r) (next r (second_of r p) b) (node_count r) (next-below rule (first_of r p) a) (next-below rule (second_of r p) b)
+
+-- and nothing else is one
+pub follow-marked : {r : LocalRule} → IsRule r → (t a b s : ℕ) → marked r t a b ≡ Some s → (q : ℕ) × (follow r (t % pair_count r) a b ≡ Some q) × (q < pair_count r) × (s ≡ q + mark r t a b)
+follow-marked {r} rule t a b s e =
+    let p : ℕ = t % pair_count r in
+    let q : ℕ = pair_of r (next r (first_of r p) a) (next r (second_of r p) b) in
+    let both = value_marked (label r (first_of r p) a) (label r (second_of r p) b) q (mark r t a b) s e in
+    (q, both.0, follow-below rule p a b, both.1)
+
+-- a mark is kept
+mark_kept : (p t a b : ℕ) → p ≤ t → (if nat_le p t || not (a == b) then p else 0) ≡ p
+mark_kept p t a b l = grind (arith, nat_tests)
+
+-- it is set where two letters differ
+mark_set : (p t a b : ℕ) → a ≢ b → (if nat_le p t || not (a == b) then p else 0) ≡ p
+mark_set p t a b n = grind (arith, nat_tests)
+
+-- else there is none
+mark_none : (p t a b : ℕ) → t < p → a ≡ b → (if nat_le p t || not (a == b) then p else 0) ≡ 0
+mark_none p t a b l e = grind (arith, nat_tests)
+
+-- the state behind a step is the pair, and has the mark exactly if the state before it has or the letters differ
+record IsMarked (r : LocalRule) (t a b s q : ℕ) : Type 0 where
+  pub pair : s % pair_count r ≡ q
+  pub mark : (pair_count r ≤ s) ↔ ((pair_count r ≤ t) ⊎ (a ≢ b))
+
+-- so is each state behind a step
+marked_step : (r : LocalRule) (t a b q : ℕ) → q < pair_count r → IsMarked r t a b (q + mark r t a b) q
+marked_step r t a b q h =
+    let p : ℕ = pair_count r in
+    let on : mark r t a b ≡ p → ((p ≤ t) ⊎ (a ≢ b)) → IsMarked r t a b (q + mark r t a b) q = λ e why.
+    record {
+      pair = ap (λ m. (q + m) % p) e ∙ add-mod_right q p ∙ mod-eq_of_lt {n = q} h;
+      mark = (λ l. why, λ w. omega arith);
+    } in
+    ⊎_elim (λ l. ⊎_elim
+    (λ e. let none : mark r t a b ≡ 0 = mark_none p t a b l e in
+    record {
+      pair = ap (λ m. m % p) (let same : q + mark r t a b ≡ q = omega arith in same) ∙ mod-eq_of_lt {n = q} h;
+      mark = (λ k. absurd (omega arith), λ w. absurd (⊎_elim (λ k. omega arith) (λ n. n e) w));
+    })
+    (λ n. on (mark_set p t a b n) (inr n)) (cases_eq a b))
+    (λ l. on (mark_kept p t a b l) (inl l)) (cases_lt t p)
+
+-- a walk of pairs, which ends with the mark exactly if it begins with it or two letters have differed
+pub record IsMarkedWalk (r : LocalRule) (t : ℕ) (abs : List (ℕ × ℕ)) (s : ℕ) : Type 0 where
+  pub pairs : PairLeads r (t % pair_count r) abs (s % pair_count r)
+  pub mark : (pair_count r ≤ s) ↔ ((pair_count r ≤ t) ⊎ HasOther abs)
+
+-- that is what a walk of the marked graph is
+pub IsMarkedWalk-leads : {r : LocalRule} → IsRule r → (abs : List (ℕ × ℕ)) (t s : ℕ) → MarkedLeads r t abs s → IsMarkedWalk r t abs s
+IsMarkedWalk-leads {r} rule [] t s h = record { pairs = ap (λ n. n % pair_count r) h; mark = (λ l. inl (rw h l), λ w. rw (← h) (⊎_elim (λ l. l) (λ n. absurd n) w)) }
+IsMarkedWalk-leads {r} rule (ab ∷ rest) t s h =
+    let p : ℕ = pair_count r in
+    let step = follow-marked rule t ab.0 ab.1 h.0 h.1 in
+    let m : IsMarked r t ab.0 ab.1 h.0 step.0 = subst (λ n. IsMarked r t ab.0 ab.1 n step.0) (sym step.3) (marked_step r t ab.0 ab.1 step.0 step.2) in
+    let w : IsMarkedWalk r h.0 rest s = IsMarkedWalk-leads rule rest h.0 s h.2 in
+    record {
+      pairs = (step.0, step.1, subst (λ n. PairLeads r n rest (s % p)) m.pair w.pairs);
+      mark = (
+        λ l. ⊎_elim (λ k. ⊎_elim (λ a. inl a) (λ n. inr (inl n)) (m.mark.0 k)) (λ o. inr (inr o)) (w.mark.0 l),
+        λ v. w.mark.1 (⊎_elim (λ l. inl (m.mark.1 (inl l))) (λ o. ⊎_elim (λ n. inl (m.mark.1 (inr n))) (λ k. inr k) o) v),
+      );
+    }
+
+-- and each walk of pairs is one of the marked graph
+pub leads-marked : {r : LocalRule} → IsRule r → (abs : List (ℕ × ℕ)) (t q : ℕ) → PairLeads r (t % pair_count r) abs q → (s : ℕ) × MarkedLeads r t abs s × (s % pair_count r ≡ q)
+leads-marked {r} rule [] t q h = (t, refl, h)
+leads-marked {r} rule (ab ∷ rest) t q h =
+    let next : ℕ = h.0 + mark r t ab.0 ab.1 in
+    let step = marked-follow r t ab.0 ab.1 h.0 h.1 in
+    let back = follow-marked rule t ab.0 ab.1 next step in
+    let same : h.0 ≡ back.0 = some_same h.0 back.0 (sym h.1 ∙ back.1) in
+    let below : h.0 < pair_count r = rw same back.2 in
+    let pair : next % pair_count r ≡ h.0 = (marked_step r t ab.0 ab.1 h.0 below).pair in
+    let on = leads-marked rule rest next q (subst (λ n. PairLeads r n rest q) (sym pair) h.2) in
+    (on.0, (next, step, on.1), on.2)

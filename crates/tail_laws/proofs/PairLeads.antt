@@ -1,0 +1,150 @@
+-- Two configurations in step, as a walk in the graph of pairs of nodes.
+use Rattle.std.proofs.Common.{◌≡◌, ℕ, zero, suc, ◌+◌, ◌-◌, ◌<◌, List, [], ◌∷◌, ◌++◌, length, ℤ, pos, ◌+ℤ◌, Option, Some, None, if◌then◌else◌, ◌==◌, refl, sym, ap, ap₂, ◌∙◌, subst, subst₂, ⊎_elim, arith}
+use Rattle.std.specs.List.{zip}
+use Rattle.std.proofs.lemmas.Bool.{cases_lt}
+use Rattle.std.proofs.lemmas.Bool.Decides.{nat_tests}
+use Rattle.std.proofs.lemmas.Nat.{div-mul-add, mod-mul-add, same_from_place}
+use Rattle.std.proofs.lemmas.Int.{ints}
+use Rattle.word_image.specs.LocalRules.{LocalRule, IsRule, node_count}
+use Rattle.word_image.specs.Graphs.{next, label, pair_of, first_of, second_of, follow}
+use Rattle.tail_config.specs.Tails.{TailConfig, IsTail, ShareImage, cell, cells}
+use Rattle.tail_config.proofs.laws.Cells.{cells-cons, cells-middle, cells-right, same_left_part}
+use Rattle.tail_laws.proofs.Nodes.{node_at, label_at, node_at-below, label-node_at, next-node_at, labels-ShareImage}
+use Rattle.tail_laws.proofs.Loops.{IsLooped, IsInStep, labels-left, ShareImage-in_step}
+
+-- from state p along a list of letter pairs to state q, each pair to where `go` leads, if it does
+abbrev pub Follows : (ℕ → ℕ → ℕ → Option ℕ) → ℕ → List (ℕ × ℕ) → ℕ → Type 0
+Follows go p [] q = p ≡ q
+Follows go p (ab ∷ rest) q = (s : ℕ) × (go p ab.0 ab.1 ≡ Some s) × Follows go s rest q
+
+-- in the graph of pairs of nodes: at each step the two labels are equal
+abbrev pub PairLeads : LocalRule → ℕ → List (ℕ × ℕ) → ℕ → Type 0
+PairLeads r = Follows (follow r)
+
+-- a walk that goes on where another one ends
+pub Follows-join : (go : ℕ → ℕ → ℕ → Option ℕ) (a b : List (ℕ × ℕ)) (p s q : ℕ) → Follows go p a s → Follows go s b q → Follows go p (a ++ b) q
+Follows-join go [] b p s q h g = subst (λ n. Follows go n b q) (sym h) g
+Follows-join go (ab ∷ rest) b p s q h g = (h.0, h.1, Follows-join go rest b h.0 s q h.2 g)
+
+-- and a walk that is cut in two
+pub Follows-cut : (go : ℕ → ℕ → ℕ → Option ℕ) (a b : List (ℕ × ℕ)) (p q : ℕ) → Follows go p (a ++ b) q → (s : ℕ) × Follows go p a s × Follows go s b q
+Follows-cut go [] b p q h = (p, refl, h)
+Follows-cut go (ab ∷ rest) b p q h = let cut = Follows-cut go rest b h.0 q h.2 in (cut.0, (h.0, h.1, cut.1), cut.2)
+
+-- a value that stands under a test is there only if the test holds
+if_some : (c d s t : ℕ) → (if c == d then Some s else None) ≡ Some t → (c ≡ d) × (s ≡ t)
+if_some c d s t e = (grind (arith, nat_tests), grind (arith, nat_tests))
+
+-- a step from a pair of nodes with two equal labels
+pub follow-equal : (r : LocalRule) (u v a b : ℕ) → v < node_count r → label r u a ≡ label r v b → follow r (pair_of r u v) a b ≡ Some (pair_of r (next r u a) (next r v b))
+follow-equal r u v a b h e =
+    let first : first_of r (pair_of r u v) ≡ u = div-mul-add u (node_count r) v h in
+    let second : second_of r (pair_of r u v) ≡ v = mod-mul-add u (node_count r) v h in
+    rw (first, second) (grind (arith, nat_tests))
+
+-- a step from a pair of nodes has two equal labels, and this is where it leads
+pub follow-back : (r : LocalRule) (u v a b s : ℕ) → v < node_count r → follow r (pair_of r u v) a b ≡ Some s → (label r u a ≡ label r v b) × (pair_of r (next r u a) (next r v b) ≡ s)
+follow-back r u v a b s h e =
+    let first : first_of r (pair_of r u v) ≡ u = div-mul-add u (node_count r) v h in
+    let second : second_of r (pair_of r u v) ≡ v = mod-mul-add u (node_count r) v h in
+    if_some (label r u a) (label r v b) (pair_of r (next r u a) (next r v b)) s (rw (first, second) at e)
+
+-- the pair of the nodes before place i
+abbrev pub pair_at : LocalRule → TailConfig → TailConfig → ℤ → ℕ
+pair_at r x y i = pair_of r (node_at r x i) (node_at r y i)
+
+-- a step over a place with equal labels leads to the pair before the next place
+step_over : {r : LocalRule} {x y : TailConfig} → IsRule r → IsTail r.states x → IsTail r.states y → (i : ℤ) → label_at r x i ≡ label_at r y i
+    → follow r (pair_at r x y i) (cell x i) (cell y i) ≡ Some (pair_at r x y (i +ℤ pos 1))
+step_over {r} {x} {y} rule hx hy i e =
+    follow-equal r (node_at r x i) (node_at r y i) (cell x i) (cell y i) (node_at-below rule hy i) (label-node_at rule x i ∙ e ∙ sym (label-node_at rule y i))
+    ∙ ap₂ (λ u v. Some (pair_of r u v)) (next-node_at rule hx i) (next-node_at rule hy i)
+
+-- and a step over a place has equal labels, and leads there
+over_step : {r : LocalRule} {x y : TailConfig} → IsRule r → IsTail r.states x → IsTail r.states y → (i : ℤ) (s : ℕ) → follow r (pair_at r x y i) (cell x i) (cell y i) ≡ Some s
+    → (label_at r x i ≡ label_at r y i) × (pair_at r x y (i +ℤ pos 1) ≡ s)
+over_step {r} {x} {y} rule hx hy i s e =
+    let back = follow-back r (node_at r x i) (node_at r y i) (cell x i) (cell y i) s (node_at-below rule hy i) e in
+    (sym (label-node_at rule x i) ∙ back.0 ∙ label-node_at rule y i, ap₂ (pair_of r) (sym (next-node_at rule hx i)) (sym (next-node_at rule hy i)) ∙ back.1)
+
+-- the letter pairs of two runs begin with the pair of their first cells
+zip-cells : (x y : TailConfig) (i : ℤ) (n : ℕ) → zip (cells x i (suc n)) (cells y i (suc n)) ≡ (cell x i, cell y i) ∷ zip (cells x (i +ℤ pos 1) n) (cells y (i +ℤ pos 1) n)
+zip-cells x y i n = ap₂ (λ (u v : List ℕ). zip u v) (cells-cons x i n) (cells-cons y i n)
+
+-- two runs whose labels are equal lead from the pair before them to the pair behind them
+pub PairLeads-cells : {r : LocalRule} {x y : TailConfig} → IsRule r → IsTail r.states x → IsTail r.states y → (n : ℕ) (i j : ℤ) → i +ℤ pos n ≡ j
+    → ((d : ℕ) → d < n → label_at r x (i +ℤ pos d) ≡ label_at r y (i +ℤ pos d)) → PairLeads r (pair_at r x y i) (zip (cells x i n) (cells y i n)) (pair_at r x y j)
+PairLeads-cells {r} {x} {y} rule hx hy zero i j e h = ap (pair_at r x y) (let place : i ≡ j = omega (arith, ints) in place)
+PairLeads-cells {r} {x} {y} rule hx hy (suc n) i j e h =
+    let here : i +ℤ pos 0 ≡ i = omega (arith, ints) in
+    let after : i +ℤ pos 1 +ℤ pos n ≡ j = omega (arith, ints) in
+    let rest = PairLeads-cells rule hx hy n (i +ℤ pos 1) j after (λ d l.
+    let place : i +ℤ pos (suc d) ≡ i +ℤ pos 1 +ℤ pos d = omega (arith, ints) in
+    subst (λ p. label_at r x p ≡ label_at r y p) place (h (suc d) (omega arith))) in
+    subst (λ abs. PairLeads r (pair_at r x y i) abs (pair_at r x y j)) (sym (zip-cells x y i n))
+    (pair_at r x y (i +ℤ pos 1), step_over rule hx hy i (subst (λ p. label_at r x p ≡ label_at r y p) here (h 0 (omega arith))), rest)
+
+-- what holds at a place and at n places behind it holds at n + 1 places
+at_places : (P : ℤ → Type 0) (i : ℤ) (n : ℕ) → P i → ((d : ℕ) → d < n → P (i +ℤ pos 1 +ℤ pos d)) → (d : ℕ) → d < suc n → P (i +ℤ pos d)
+at_places P i n here after zero l = subst P (let place : i ≡ i +ℤ pos 0 = omega (arith, ints) in place) here
+at_places P i n here after (suc d) l = subst P (let place : i +ℤ pos 1 +ℤ pos d ≡ i +ℤ pos (suc d) = omega (arith, ints) in place) (after d (omega arith))
+
+-- and where two runs lead, their labels are equal, and it is to the pair behind them
+pub cells-PairLeads : {r : LocalRule} {x y : TailConfig} → IsRule r → IsTail r.states x → IsTail r.states y → (n : ℕ) (i j : ℤ) (q : ℕ) → i +ℤ pos n ≡ j
+    → PairLeads r (pair_at r x y i) (zip (cells x i n) (cells y i n)) q → ((d : ℕ) → d < n → label_at r x (i +ℤ pos d) ≡ label_at r y (i +ℤ pos d)) × (pair_at r x y j ≡ q)
+cells-PairLeads {r} {x} {y} rule hx hy zero i j q e h = (λ d l. absurd (omega arith), ap (pair_at r x y) (let place : j ≡ i = omega (arith, ints) in place) ∙ h)
+cells-PairLeads {r} {x} {y} rule hx hy (suc n) i j q e h =
+    let after : i +ℤ pos 1 +ℤ pos n ≡ j = omega (arith, ints) in
+    let run : List (ℕ × ℕ) = zip (cells x (i +ℤ pos 1) n) (cells y (i +ℤ pos 1) n) in
+    let g : PairLeads r (pair_at r x y i) ((cell x i, cell y i) ∷ run) q = subst (λ abs. PairLeads r (pair_at r x y i) abs q) (zip-cells x y i n) h in
+    let over = over_step rule hx hy i g.0 g.1 in
+    let rest = cells-PairLeads rule hx hy n (i +ℤ pos 1) j q after (subst (λ p. PairLeads r p run q) (sym over.1) g.2) in
+    (at_places (λ p. label_at r x p ≡ label_at r y p) i n over.0 rest.0, rest.1)
+
+-- two configurations go in step if their middles lead to a pair of nodes from which their right periods lead back to it
+pub IsInStep-walk : {r : LocalRule} {x y : TailConfig} → IsRule r → IsTail r.states x → IsTail r.states y → length x.middle ≡ length y.middle → length x.right ≡ length y.right
+    → (q : ℕ) → PairLeads r (pair_at r x y (pos 0)) (zip x.middle y.middle) q → PairLeads r q (zip x.right y.right) q → IsInStep r x y
+IsInStep-walk {r} {x} {y} rule hx hy middles rights q reach loop =
+    let m : ℕ = length x.middle in
+    let n : ℕ = length x.right in
+    let through : PairLeads r (pair_at r x y (pos 0)) (zip (cells x (pos 0) m) (cells y (pos 0) m)) q =
+    subst₂ (λ (u v : List ℕ). PairLeads r (pair_at r x y (pos 0)) (zip u v) q) (sym (cells-middle x)) (sym (ap (cells y (pos 0)) middles ∙ cells-middle y)) reach in
+    let first = cells-PairLeads rule hx hy m (pos 0) (pos m) q (omega (arith, ints)) through in
+    let round : PairLeads r q (zip (cells x (pos m) n) (cells y (pos m) n)) q =
+    subst₂ (λ (u v : List ℕ). PairLeads r q (zip u v) q) (sym (cells-right hx)) (sym (ap₂ (λ a b. cells y (pos a) b) middles rights ∙ cells-right hy)) loop in
+    let second = cells-PairLeads rule hx hy n (pos m) (pos (m + n)) q (omega (arith, ints)) (subst (λ p. PairLeads r p (zip (cells x (pos m) n) (cells y (pos m) n)) q) (sym first.1) round) in
+    let back = same_from_place (node_at r x (pos m)) (node_at r y (pos m)) (node_at r x (pos (m + n))) (node_at r y (pos (m + n))) (node_count r)
+    (node_at-below rule hy (pos m)) (node_at-below rule hy (pos (m + n))) (first.1 ∙ sym second.1) in
+    let same : ℤ → Type 0 = λ p. label_at r x p ≡ label_at r y p in
+    record {
+      labels = λ d l.
+          ⊎_elim (λ k. subst same (let place : pos 0 +ℤ pos d ≡ pos d = omega (arith, ints) in place) (first.0 d k))
+          (λ k. subst same (let place : pos m +ℤ pos (d - m) ≡ pos d = omega (arith, ints) in place) (second.0 (d - m) (omega arith)))
+          (cases_lt d m);
+      first = back.0;
+      second = ap (λ a. node_at r y (pos a)) (sym middles) ∙ back.1 ∙ ap₂ (λ a b. node_at r y (pos (a + b))) middles rights;
+    }
+
+-- if they have one left part too they share an image
+pub ShareImage-walk : {r : LocalRule} {x y : TailConfig} → IsRule r → IsTail r.states x → IsTail r.states y → x.left ≡ y.left → length x.middle ≡ length y.middle → length x.right ≡ length y.right
+    → (q : ℕ) → PairLeads r (pair_at r x y (pos 0)) (zip x.middle y.middle) q → PairLeads r q (zip x.right y.right) q → ShareImage r x y
+ShareImage-walk {r} {x} {y} rule hx hy left middles rights q reach loop =
+    ShareImage-in_step rule hx hy (labels-left r x y (same_left_part x y left)) middles rights (IsInStep-walk rule hx hy middles rights q reach loop)
+
+-- and configurations that share an image, with periods that lead back to their nodes, are such walks
+pub walk-ShareImage : {r : LocalRule} {x y : TailConfig} → IsRule r → IsTail r.states x → IsTail r.states y → length x.middle ≡ length y.middle → length x.right ≡ length y.right
+    → IsLooped r x → IsLooped r y → ShareImage r x y → (q : ℕ) × PairLeads r (pair_at r x y (pos 0)) (zip x.middle y.middle) q × PairLeads r q (zip x.right y.right) q
+walk-ShareImage {r} {x} {y} rule hx hy middles rights loop_x loop_y share =
+    let m : ℕ = length x.middle in
+    let n : ℕ = length x.right in
+    let labels = labels-ShareImage r x y share in
+    let through = PairLeads-cells rule hx hy m (pos 0) (pos m) (omega (arith, ints)) (λ d l. labels (pos 0 +ℤ pos d)) in
+    let round = PairLeads-cells rule hx hy n (pos m) (pos (m + n)) (omega (arith, ints)) (λ d l. labels (pos m +ℤ pos d)) in
+    let back_y : node_at r y (pos m) ≡ node_at r y (pos (m + n)) =
+    ap (λ a. node_at r y (pos a)) middles ∙ loop_y ∙ ap₂ (λ a b. node_at r y (pos (a + b))) (sym middles) (sym rights) in
+    let back : pair_at r x y (pos (m + n)) ≡ pair_at r x y (pos m) = ap₂ (pair_of r) (sym loop_x) (sym back_y) in (
+      pair_at r x y (pos m),
+      subst₂ (λ (u v : List ℕ). PairLeads r (pair_at r x y (pos 0)) (zip u v) (pair_at r x y (pos m))) (cells-middle x) (ap (cells y (pos 0)) middles ∙ cells-middle y) through,
+      subst₂ (λ (u v : List ℕ). PairLeads r (pair_at r x y (pos m)) (zip u v) (pair_at r x y (pos m))) (cells-right hx) (ap₂ (λ a b. cells y (pos a) b) middles rights ∙ cells-right hy)
+          (subst (λ p. PairLeads r (pair_at r x y (pos m)) (zip (cells x (pos m) n) (cells y (pos m) n)) p) back round),
+    )

@@ -1,0 +1,156 @@
+-- Twins are the closed walks in the graph of pairs of nodes whose letters differ somewhere.
+use Rattle.std.proofs.Common.{◌≡◌, ◌≢◌, ℕ, ◌+◌, ◌-◌, ◌<◌, ◌≤◌, List, [], length, ℤ, pos, negsuc, ◌+ℤ◌, ◌-ℤ◌, neg_ℤ, refl, sym, ap, ap₂, ◌∙◌, subst, arith, ◌*◌}
+use Rattle.std.proofs.lemmas.Nat.{mul-le}
+use Rattle.std.specs.Prelude.{◌≤ℤ◌, ◌↔◌}
+use Rattle.std.specs.List.{zip}
+use Rattle.std.proofs.lemmas.Int.{ints}
+use Rattle.word_image.specs.LocalRules.{LocalRule, IsRule, value, word_of, local_map, node_count}
+use Rattle.word_image.specs.Rings.{IsRing, IsTwins}
+use Rattle.word_image.specs.Graphs.{pair_of}
+use Rattle.word_image.proofs.laws.Values.{length-word_of, IsWord-word_of, value-word_of}
+use Rattle.tail_config.specs.Tails.{TailConfig, IsTail, ShareImage, cell, cells, image_cell}
+use Rattle.tail_config.proofs.laws.Cells.{cells-same, cells-left, cells-right}
+use Rattle.tail_config.proofs.laws.Periods.{RepeatsRight, same_right-period, RepeatsRight-times}
+use Rattle.tail_laws.proofs.TwinTails.{round, IsTail-round, cell-round_period, ShareImage-turn, ShareImage-rings, ring_image-shared}
+use Rattle.tail_laws.proofs.Nodes.{node_at, label_at, node_at-below, labels-ShareImage}
+use Rattle.tail_laws.proofs.Loops.{IsInStep, looped-labels, IsLooped, looped-cells}
+use Rattle.tail_laws.proofs.PairLeads.{PairLeads, pair_at, IsInStep-walk, PairLeads-cells}
+
+-- node u stands before place 0, and from there on the ring p repeats
+abbrev pub from_node : LocalRule → ℕ → List ℕ → TailConfig
+from_node r u p = record { left = word_of r.states (r.width - 1) u; middle = []; right = p }
+
+-- it is a configuration over the rule's letters
+IsTail-from_node : {r : LocalRule} {p : List ℕ} → IsRule r → (u : ℕ) → u < node_count r → IsRing r.states p → IsTail r.states (from_node r u p)
+IsTail-from_node {r} {p} rule u h ring =
+    record {
+      left_some = omega (arith, length-word_of r.states (r.width - 1) u, rule.shape.least_width);
+      right_some = ring.some;
+      left_word = IsWord-word_of r.states (r.width - 1) u h;
+      middle_word = λ i d l. absurd (omega arith);
+      right_word = ring.word;
+    }
+
+-- and that is its node there
+node_at-from_node : (r : LocalRule) (u : ℕ) (p : List ℕ) → u < node_count r → node_at r (from_node r u p) (pos 0) ≡ u
+node_at-from_node r u p h =
+    let m : ℕ = r.width - 1 in
+    let long : length (word_of r.states m u) ≡ m = length-word_of r.states m u in
+    let place : pos 0 -ℤ pos m ≡ neg_ℤ (pos m) = omega (arith, ints) in
+    ap (λ i. value r.states (cells (from_node r u p) i m)) place
+    ∙ ap (λ n. value r.states (cells (from_node r u p) (neg_ℤ (pos n)) n)) (sym long)
+    ∙ ap (value r.states) (cells-left (from_node r u p)) ∙ value-word_of r.states m u h
+
+-- right of place 0 the node is of no account
+cell-from_node : (r : LocalRule) (u : ℕ) (p : List ℕ) (i : ℤ) → pos 0 ≤ℤ i → cell (round p) i ≡ cell (from_node r u p) i
+cell-from_node r u p (pos i) l = refl
+cell-from_node r u p (negsuc i) l = absurd (omega (arith, ints))
+
+-- there the ring's image cells are the labels of the walk
+image_cell-from_node : {r : LocalRule} → IsRule r → (u : ℕ) (p : List ℕ) (d : ℕ) → image_cell r (round p) (neg_ℤ r.offset +ℤ pos d) ≡ label_at r (from_node r u p) (pos 0 +ℤ pos (d + (r.width - 1)))
+image_cell-from_node {r} rule u p d =
+    let start : ℤ = neg_ℤ r.offset +ℤ pos d +ℤ r.offset in
+    let place : ℤ = pos 0 +ℤ pos (d + (r.width - 1)) -ℤ pos (r.width - 1) in
+    ap (local_map r) (cells-same (round p) (from_node r u p) start place r.width (λ a l.
+    let at : start +ℤ pos a ≡ place +ℤ pos a = omega (arith, ints) in
+    ap (cell (round p)) at ∙ cell-from_node r u p (place +ℤ pos a) (omega (arith, ints))))
+
+-- along a closed walk of pairs the configurations from its nodes go in step
+loop_steps : {r : LocalRule} {x y : List ℕ} → IsRule r → IsRing r.states x → IsRing r.states y → length x ≡ length y → (u v : ℕ) → u < node_count r → v < node_count r
+    → PairLeads r (pair_of r u v) (zip x y) (pair_of r u v) → IsInStep r (from_node r u x) (from_node r v y)
+loop_steps {r} {x} {y} rule hx hy long u v hu hv loop =
+    let start : pair_at r (from_node r u x) (from_node r v y) (pos 0) ≡ pair_of r u v = ap₂ (pair_of r) (node_at-from_node r u x hu) (node_at-from_node r v y hv) in
+    IsInStep-walk rule (IsTail-from_node rule u hu hx) (IsTail-from_node rule v hv hy) refl long (pair_of r u v) start loop
+
+-- a closed walk of pairs is two rings whose configurations share an image
+pub ShareImage-loop : {r : LocalRule} {x y : List ℕ} → IsRule r → IsRing r.states x → IsRing r.states y → length x ≡ length y → (u v : ℕ) → u < node_count r → v < node_count r
+    → PairLeads r (pair_of r u v) (zip x y) (pair_of r u v) → ShareImage r (round x) (round y)
+ShareImage-loop {r} {x} {y} rule hx hy long u v hu hv loop =
+    let n : ℕ = length x in
+    let tx : TailConfig = from_node r u x in
+    let ty : TailConfig = from_node r v y in
+    let steps : IsInStep r tx ty = loop_steps rule hx hy long u v hu hv loop in
+    let again : RepeatsRight n (label_at r ty) (pos 0) = subst (λ p. RepeatsRight p (label_at r ty) (pos 0)) (sym long) (looped-labels rule (IsTail-from_node rule v hv hy) steps.second) in
+    let labels : (i : ℤ) → pos 0 ≤ℤ i → label_at r tx i ≡ label_at r ty i =
+    same_right-period (label_at r tx) (label_at r ty) n (pos 0) hx.some (looped-labels rule (IsTail-from_node rule u hu hx) steps.first) again (λ d l.
+    let place : pos 0 +ℤ pos d ≡ pos d = omega (arith, ints) in
+    subst (λ i. label_at r tx i ≡ label_at r ty i) (sym place) (steps.labels d (omega arith))) in
+    ShareImage-turn r x y hx.some long (neg_ℤ r.offset) (λ d l.
+    image_cell-from_node rule u x d ∙ labels (pos 0 +ℤ pos (d + (r.width - 1))) (omega (arith, ints)) ∙ sym (image_cell-from_node rule v y d))
+
+-- where the walk from a node comes back to it, it is the node before the ring
+looped_node : {r : LocalRule} {p : List ℕ} → IsRule r → IsRing r.states p → (u : ℕ) → u < node_count r → IsLooped r (from_node r u p) → node_at r (round p) (pos 0) ≡ u
+looped_node {r} {p} rule ring u h loop =
+    let m : ℕ = r.width - 1 in
+    let n : ℕ = length p in
+    let t : TailConfig = from_node r u p in
+    let start : ℤ = pos 0 -ℤ pos m in
+    let long : m * 1 ≤ m * n = mul-le m 1 m n (omega arith) ring.some in
+    let again : RepeatsRight (m * n) (cell t) start = RepeatsRight-times m n (cell t) start (looped-cells r (IsTail-from_node rule u h ring) loop) in
+    let round_again : RepeatsRight (m * n) (cell (round p)) start = RepeatsRight-times m n (cell (round p)) start (λ i l. cell-round_period p ring.some i) in
+    ap (value r.states) (cells-same (round p) t start start m (λ a l.
+    let place : ℤ = start +ℤ pos a in
+    sym (round_again place (omega (arith, ints))) ∙ cell-from_node r u p (place +ℤ pos (m * n)) (omega (arith, ints)) ∙ again place (omega (arith, ints))))
+    ∙ node_at-from_node r u p h
+
+-- so the pair of a closed walk is that of the nodes before its rings
+pub loop_nodes : {r : LocalRule} {x y : List ℕ} → IsRule r → IsRing r.states x → IsRing r.states y → length x ≡ length y → (u v : ℕ) → u < node_count r → v < node_count r
+    → PairLeads r (pair_of r u v) (zip x y) (pair_of r u v) → pair_at r (round x) (round y) (pos 0) ≡ pair_of r u v
+loop_nodes {r} {x} {y} rule hx hy long u v hu hv loop =
+    let steps = loop_steps rule hx hy long u v hu hv loop in
+    ap₂ (pair_of r) (looped_node rule hx u hu steps.first) (looped_node rule hy v hv steps.second)
+
+-- the node before a ring is the node before its next turn
+node_at-round : (r : LocalRule) (p : List ℕ) → 1 ≤ length p → node_at r (round p) (pos (length p)) ≡ node_at r (round p) (pos 0)
+node_at-round r p some =
+    let m : ℕ = r.width - 1 in
+    ap (value r.states) (cells-same (round p) (round p) (pos (length p) -ℤ pos m) (pos 0 -ℤ pos m) m (λ a l.
+    let place : pos (length p) -ℤ pos m +ℤ pos a ≡ pos 0 -ℤ pos m +ℤ pos a +ℤ pos (length p) = omega (arith, ints) in
+    ap (cell (round p)) place ∙ cell-round_period p some (pos 0 -ℤ pos m +ℤ pos a)))
+
+-- and two rings whose configurations share an image are a closed walk of pairs
+pub loop-ShareImage : {r : LocalRule} {x y : List ℕ} → IsRule r → IsRing r.states x → IsRing r.states y → length x ≡ length y → ShareImage r (round x) (round y)
+    → PairLeads r (pair_at r (round x) (round y) (pos 0)) (zip x y) (pair_at r (round x) (round y) (pos 0))
+loop-ShareImage {r} {x} {y} rule hx hy long share =
+    let first : IsTail r.states (round x) = IsTail-round hx in
+    let second : IsTail r.states (round y) = IsTail-round hy in
+    let n : ℕ = length x in
+    let turn = PairLeads-cells rule first second n (pos 0) (pos n) (omega (arith, ints)) (λ d l. labels-ShareImage r (round x) (round y) share (pos 0 +ℤ pos d)) in
+    let back : pair_at r (round x) (round y) (pos n) ≡ pair_at r (round x) (round y) (pos 0) =
+    ap₂ (pair_of r) (node_at-round r x hx.some) (ap (λ m. node_at r (round y) (pos m)) long ∙ node_at-round r y hy.some) in
+    subst (PairLeads r (pair_at r (round x) (round y) (pos 0)) (zip x y)) back
+    (subst (λ ab. PairLeads r (pair_at r (round x) (round y) (pos 0)) ab (pair_at r (round x) (round y) (pos n)))
+    (ap₂ (λ (a b : List ℕ). zip a b) (cells-right first) (ap (cells (round y) (pos 0)) long ∙ cells-right second)) turn)
+
+-- two different rings of one length that are a closed walk of pairs
+pub record IsTwinWalk (r : LocalRule) (x y : List ℕ) : Type 0 where
+  pub first : IsRing r.states x
+  pub second : IsRing r.states y
+  pub one_length : length x ≡ length y
+  pub different : x ≢ y
+  pub u : ℕ
+  pub v : ℕ
+  pub in_nodes : (u < node_count r) × (v < node_count r)
+  pub loop : PairLeads r (pair_of r u v) (zip x y) (pair_of r u v)
+
+-- these are the twins
+pub IsTwins-walk : {r : LocalRule} {x y : List ℕ} → IsRule r → IsTwins r x y ↔ IsTwinWalk r x y
+IsTwins-walk {r} {x} {y} rule = (
+  λ t. record {
+    first = t.first;
+    second = t.second;
+    one_length = t.one_length;
+    different = t.different;
+    u = node_at r (round x) (pos 0);
+    v = node_at r (round y) (pos 0);
+    in_nodes = (node_at-below rule (IsTail-round t.first) (pos 0), node_at-below rule (IsTail-round t.second) (pos 0));
+    loop = loop-ShareImage rule t.first t.second t.one_length (ShareImage-rings r x y t.first.some t.one_length t.one_image);
+  },
+  λ w. record {
+    first = w.first;
+    second = w.second;
+    one_length = w.one_length;
+    different = w.different;
+    one_image = ring_image-shared r x y w.one_length (ShareImage-loop rule w.first w.second w.one_length w.u w.v w.in_nodes.0 w.in_nodes.1 w.loop);
+  },
+)
