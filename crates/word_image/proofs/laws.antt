@@ -1,3 +1,5 @@
+pub mod Places
+pub mod Prefixes
 pub mod Values
 pub mod Words
 pub mod Images
@@ -8,3 +10,4 @@ pub mod LastNodes
 pub mod LastSets
 pub mod RuleFaults
 pub mod Searches
+pub mod SameRules

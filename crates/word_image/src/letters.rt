@@ -1,6 +1,9 @@
-//! Letters and their digits.
-ghost use Rattle.std.specs.Prelude.{◌≡◌, ◌<◌};
-ghost use Rattle.word_image.specs.Digits.{lower_digit, hex_value};
+//! Letters and words, and how they are written.
+ghost use Rattle.std.specs.Prelude.{◌≡◌, ◌<◌, IfOk};
+ghost use Rattle.word_image.specs.LocalRules.{IsWord};
+ghost use Rattle.word_image.specs.Digits.{lower_digit, hex_value, word_text};
+
+use std::alloc::{AllocError, Global};
 
 /// The ASCII byte of the lower-case hexadecimal digit of a letter below 16.
 pub fn digit(letter: u8) -> u8
@@ -24,6 +27,19 @@ pub fn letter(byte: u8) -> Option<u8>
         b'a'..=b'f' => Some(byte - b'a' + 10),
         _ => None,
     }
+}
+
+/// The text of a word: the lower-case digit of each letter, which is below 16. The only error is
+/// want of memory.
+pub fn word_text(alloc: Global, word: &[u8]) -> Result<Vec<u8>, AllocError>
+    requires { IsWord 16 word.now }
+    ensures { IfOk result (λ text. text.items ≡ word_text word.now) }
+{
+    let mut text = Vec::with_capacity(alloc, word.len())?;
+    for letter in word {
+        text.push(digit(*letter))?;
+    }
+    Ok(text)
 }
 
 #[cfg(test)]

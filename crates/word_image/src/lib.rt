@@ -24,6 +24,6 @@ mod lists;
 mod local_rule;
 
 pub use images::{ImageFault, image};
-pub use letters::{digit, letter};
+pub use letters::{digit, letter, word_text};
 pub use lists::{FluxRow, RankRow, SetList, Word};
 pub use local_rule::{MOST_ENTRIES, Rule, RuleFault, check_shape};

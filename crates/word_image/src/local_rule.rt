@@ -1,7 +1,9 @@
 //! A rule, and what it gives on a window.
-ghost use Rattle.std.specs.Prelude.{◌≡◌, ◌^◌, ◌<◌, ◌≤◌, ◌↔◌, length, nat_le, position, slice_index, IfOk, IfSome, IsOk};
+ghost use Rattle.std.specs.Prelude.{◌≡◌, ◌^◌, ◌<◌, ◌≤◌, ◌↔◌, length, nat_le, position, slice_index, IfOk, IfSome, IsOk, IsTrue};
+ghost use Rattle.std.specs.Cmp.Rules.{comparing};
+ghost use Rattle.std.proofs.Common.{rules};
 ghost use Rattle.std.specs.Result.{result_err};
-ghost use Rattle.word_image.specs.LocalRules.{IsWord, value};
+ghost use Rattle.word_image.specs.LocalRules.{IsWord, value, same_rule};
 ghost use Rattle.word_image.specs.RuleFaults.{shape_fault, table_fault};
 ghost use Rattle.word_image.specs.Storage.{padded};
 
@@ -28,12 +30,15 @@ pub enum RuleFault {
 }
 
 /// An accepted local rule, as `LocalRule` says it: its states, width, offset and table.
-#[derive(Clone, Copy, Debug, PartialEq, Eq)]
+#[derive(Clone, Copy, Debug)]
 pub struct Rule {
+    // How many states there are.
     k: u8,
+    // How many letters a window has.
     m: u8,
+    // Where the window of cell 0 begins.
     o: i8,
-    // The letters of the table, and zeros behind them.
+    // The letters of the table, and zeros after them.
     entries: [u8; MOST_ENTRIES],
 }
 
@@ -140,7 +145,25 @@ impl Rule {
     }
 }
 
-/// The letters of a table, and zeros behind them.
+impl PartialEq for Rule {
+    ghost eq = { same_rule };
+
+    ghost laws = { Prim.search (comparing, rules) depth 9 };
+
+    /// Two rules are equal exactly where their states, widths, offsets and tables are.
+    fn eq(&self, other: &Rule) -> bool
+        ensures parts { result ≡ same_rule self.now other.now }
+        ensures same { IsTrue result ↔ (self.now ≡ other.now) }
+    {
+        self.k == other.k && self.m == other.m && self.o == other.o && self.entries == other.entries
+    }
+}
+
+impl Eq for Rule {
+    ghost laws = { Prim.search (comparing, rules) depth 9 };
+}
+
+/// The letters of a table, and zeros after them.
 fn in_memory(table: &[u8]) -> [u8; MOST_ENTRIES]
     requires { length table.now ≤ 256 }
     ensures { result ≡ padded table.now }

@@ -21,6 +21,10 @@ entry-below {r} rule v =
     (λ l. let past : get_or r.table v 0 ≡ 0 = get_or_past r.table v 0 l in omega arith)
     (cases_lt v (length r.table))
 
+-- a word over k letters is a word over more
+pub IsWord-le : (j k : ℕ) (w : List ℕ) → j ≤ k → IsWord j w → IsWord k w
+IsWord-le j k w h word = λ i d within. omega (arith, word i d within)
+
 -- an image is a word
 pub IsWord-image : {r : LocalRule} → IsRule r → (x : List ℕ) → IsWord r.states (image r x)
 IsWord-image {r} rule x =
