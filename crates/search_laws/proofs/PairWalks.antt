@@ -70,7 +70,7 @@ pair_cmp-code n p q small_p small_q =
     ∙ ap₂ nat_cmp (value-pair n p.0 p.1) (value-pair n q.0 q.1)
 
 -- and lists of letter pairs in dictionary order as those of their numbers
-slice_cmp-codes : (n : ℕ) (p q : List (ℕ × ℕ)) → ArePairs n p → ArePairs n q → slice_cmp pair_cmp p q ≡ slice_cmp nat_cmp (map (code n) p) (map (code n) q)
+pub slice_cmp-codes : (n : ℕ) (p q : List (ℕ × ℕ)) → ArePairs n p → ArePairs n q → slice_cmp pair_cmp p q ≡ slice_cmp nat_cmp (map (code n) p) (map (code n) q)
 slice_cmp-codes n [] [] small_p small_q = refl
 slice_cmp-codes n [] (b ∷ q) small_p small_q = refl
 slice_cmp-codes n (a ∷ p) [] small_p small_q = refl
@@ -86,7 +86,7 @@ pairs_cmp-codes n p q small_p small_q =
     ap₂ ordering_then (ap₂ nat_cmp (sym (length-map p (code n))) (sym (length-map q (code n)))) (slice_cmp-codes n p q small_p small_q)
 
 -- the letters of a walk are below k, and so below n
-ArePairs-walk : {follow : ℕ → ℕ → ℕ → Option ℕ} {k start t : ℕ} {w : List (ℕ × ℕ)} (n : ℕ) → k ≤ n → PairWalk follow k start w t → ArePairs n w
+pub ArePairs-walk : {follow : ℕ → ℕ → ℕ → Option ℕ} {k start t : ℕ} {w : List (ℕ × ℕ)} (n : ℕ) → k ≤ n → PairWalk follow k start w t → ArePairs n w
 ArePairs-walk n le Stay = All-nil (λ p. (p.0 < n) × (p.1 < n))
 ArePairs-walk n le (Go w a b s t before first second follows) =
     All-push (λ p. (p.0 < n) × (p.1 < n)) w (a, b) (ArePairs-walk n le before) (omega arith, omega arith)
@@ -132,7 +132,7 @@ CodeStep-follows {follow} {k} {n} {s} a b below step =
     ap₂ (follow s) (sym parts.0) (sym parts.1) ∙ step.follows
 
 -- the numbers of the letter pairs of numbers
-codes-uncode : (n : ℕ) (w : List ℕ) → map (code n) (map (uncode n) w) ≡ w
+pub codes-uncode : (n : ℕ) (w : List ℕ) → map (code n) (map (uncode n) w) ≡ w
 codes-uncode n [] = refl
 codes-uncode n (c ∷ w) = ap₂ (λ (d : ℕ) (v : List ℕ). d ∷ v) (div-add-mod' c n) (codes-uncode n w)
 

@@ -18,3 +18,4 @@ pub mod FirstPairs
 pub mod EndlessPairs
 pub mod Certainty
 pub mod BreadthFirst
+pub mod SplitWalks

@@ -1,0 +1,155 @@
+-- Normal right splits as two walks in the marked graph: the one spells the middles, the other the right periods.
+use Rattle.std.proofs.Common.{◌≡◌, ◌≢◌, ◌⊎◌, ℕ, ◌+◌, ◌-◌, ◌%◌, ◌<◌, ◌≤◌, List, [], ◌∷◌, length, map, Some, if◌then◌else◌, ◌==◌, ◌||◌, not, inl, inr, refl, sym, ap, ap₂, ◌∙◌, subst, ⊎_elim, arith, mul-pos, mod-lt, mod-eq_of_lt}
+use Rattle.std.specs.Prelude.{nat_le}
+use Rattle.std.specs.List.{zip}
+use Rattle.std.proofs.Math.Nat.{add-mod_right, zero-mod, mod-mod}
+use Rattle.std.proofs.lemmas.Bool.Decides.{nat_tests}
+use Rattle.std.proofs.lemmas.List.{length-map}
+use Rattle.std.proofs.lemmas.Slice.Zip.{length-zip}
+use Rattle.std.proofs.lemmas.List.Elements.{All-nil, All-cons, All-head, All-tail, All-map}
+use Rattle.word_image.specs.LocalRules.{LocalRule, IsRule, IsWord}
+use Rattle.word_image.specs.Graphs.{pair_count, marked}
+use Rattle.word_image.proofs.laws.Graphs.{node_count_pos}
+use Rattle.search_laws.proofs.PairWalks.{PairWalk, ArePairs, ArePairs-walk}
+use Rattle.tail_config.specs.Tails.{TailConfig, IsTail}
+use Rattle.tail_config.specs.Splits.{IsNormalRightSplit}
+use Rattle.tail_config.proofs.laws.Cells.{IsWord-zero}
+use Rattle.tail_config.proofs.laws.Differences.{same_or_differ, DifferAt-different}
+use Rattle.tail_laws.proofs.PairLeads.{Follows, PairLeads}
+use Rattle.tail_laws.proofs.MarkedWalks.{MarkedLeads, HasOther, HasOther-zip, HasOther-different, follow-marked, IsMarkedWalk-leads, leads-marked}
+use Rattle.tail_laws.proofs.BreadthFirst.{Follows-walk, PairWalk-follows}
+use Rattle.tail_laws.proofs.Settled.{IsNormalRightSplit-walk, IsSplitWalk-normal}
+
+-- the pair of a state of the marked graph, with the mark
+abbrev pub with_mark : LocalRule → ℕ → ℕ
+with_mark r t = t % pair_count r + pair_count r
+
+-- letter pairs w that lead from the pair of the nodes of zeros to the state t, and at least one that lead from t round to its pair, with the mark
+pub record IsSplitAt (r : LocalRule) (t : ℕ) (w v : List (ℕ × ℕ)) : Type 0 where
+  pub reach : PairWalk (marked r) r.states 0 w t
+  pub some : 0 < length v
+  pub round : PairWalk (marked r) r.states t v (with_mark r t)
+
+-- the configuration of one side of these letter pairs: the letter 0 for ever, then the letters of w, and those of v for ever
+abbrev pub tail_of : (ℕ × ℕ → ℕ) → List (ℕ × ℕ) → List (ℕ × ℕ) → TailConfig
+tail_of side w v = record { left = 0 ∷ []; middle = map side w; right = map side v }
+
+-- the first configuration, and the second
+abbrev pub first_tail : List (ℕ × ℕ) → List (ℕ × ℕ) → TailConfig
+first_tail = tail_of (λ p. p.0)
+
+abbrev pub second_tail : List (ℕ × ℕ) → List (ℕ × ℕ) → TailConfig
+second_tail = tail_of (λ p. p.1)
+
+-- letter pairs are those of their first letters and their second letters
+pub zip-sides : (w : List (ℕ × ℕ)) → zip (map (λ p. p.0) w) (map (λ p. p.1) w) ≡ w
+zip-sides [] = refl
+zip-sides (ab ∷ w) = ap (λ v. ab ∷ v) (zip-sides w)
+
+-- the letter pairs of two words
+pub ArePairs-zip : (k : ℕ) (x y : List ℕ) → IsWord k x → IsWord k y → ArePairs k (zip x y)
+ArePairs-zip k [] y hx hy = All-nil (λ p. (p.0 < k) × (p.1 < k))
+ArePairs-zip k (a ∷ x) [] hx hy = All-nil (λ p. (p.0 < k) × (p.1 < k))
+ArePairs-zip k (a ∷ x) (b ∷ y) hx hy =
+    let Below : ℕ → Type 0 = λ c. c < k in
+    All-cons (λ p. (p.0 < k) × (p.1 < k)) (a, b) (zip x y) (All-head Below a x hx, All-head Below b y hy)
+    (ArePairs-zip k x y (All-tail Below a x hx) (All-tail Below b y hy))
+
+-- some letters differ in one of two lists if the words are not the same
+HasOther-some : (x y : List ℕ) → length x ≡ length y → (x ≡ y) ⊎ HasOther (zip x y)
+HasOther-some x y e = ⊎_elim (λ same. inl same) (λ d. inr (HasOther-zip x y e (DifferAt-different d))) (same_or_differ x y e)
+
+-- there are pairs
+pair_count_pos : {r : LocalRule} → IsRule r → 0 < pair_count r
+pair_count_pos rule = mul-pos (node_count_pos rule) (node_count_pos rule)
+
+-- a step of the marked graph leads to one of its states
+mark-below : (p t a b : ℕ) → (if nat_le p t || not (a == b) then p else 0) ≤ p
+mark-below p t a b = grind (arith, nat_tests)
+
+-- and so does a walk from one
+MarkedLeads-below : {r : LocalRule} → IsRule r → (abs : List (ℕ × ℕ)) (t s : ℕ) → t < pair_count r + pair_count r → MarkedLeads r t abs s → s < pair_count r + pair_count r
+MarkedLeads-below {r} rule [] t s below h = omega (arith, h)
+MarkedLeads-below {r} rule (ab ∷ rest) t s below h =
+    let step = follow-marked rule t ab.0 ab.1 h.0 h.1 in
+    MarkedLeads-below rule rest h.0 s (omega (arith, step.2, step.3, mark-below (pair_count r) t ab.0 ab.1)) h.2
+
+-- a marked state is its pair with the mark
+with_mark-marked : {r : LocalRule} → IsRule r → (t q : ℕ) → t < pair_count r + pair_count r → pair_count r ≤ t → t % pair_count r ≡ q → t ≡ q + pair_count r
+with_mark-marked {r} rule t q below marked e =
+    let p : ℕ = pair_count r in
+    let rest : ℕ = t - p in
+    let split : t ≡ rest + p = omega arith in
+    let same : t % p ≡ rest = ap (λ n. n % p) split ∙ add-mod_right rest p ∙ mod-eq_of_lt {n = rest} (omega arith) in
+    omega (arith, same)
+
+-- one side of the letter pairs is a configuration over the rule's letters
+IsTail-tail_of : {r : LocalRule} {t : ℕ} {w v : List (ℕ × ℕ)} → IsRule r → IsSplitAt r t w v → (side : ℕ × ℕ → ℕ)
+    → ((p : ℕ × ℕ) → (p.0 < r.states) × (p.1 < r.states) → side p < r.states) → IsTail r.states (tail_of side w v)
+IsTail-tail_of {r} {t} {w} {v} rule h side small =
+    let word : (u : List (ℕ × ℕ)) → ArePairs r.states u → IsWord r.states (map side u) = λ u pairs. All-map (λ c. c < r.states) side u (λ i d l. small _ (pairs i d l)) in
+    record {
+      left_some = omega arith;
+      right_some = omega (arith, h.some, length-map v side);
+      left_word = IsWord-zero (omega (arith, rule.shape.least_states));
+      middle_word = word w (ArePairs-walk r.states (omega arith) h.reach);
+      right_word = word v (ArePairs-walk r.states (omega arith) h.round);
+    }
+
+-- two such walks are a normal right split
+pub IsNormalRightSplit-walks : {r : LocalRule} {t : ℕ} {w v : List (ℕ × ℕ)} → IsRule r → IsSplitAt r t w v → IsNormalRightSplit r (first_tail w v) (second_tail w v)
+IsNormalRightSplit-walks {r} {t} {w} {v} rule h =
+    let p : ℕ = pair_count r in
+    let some : 0 < p = pair_count_pos rule in
+    let reach = IsMarkedWalk-leads rule w 0 t (Follows-walk h.reach) in
+    let round = IsMarkedWalk-leads rule v t (with_mark r t) (Follows-walk h.round) in
+    let back : with_mark r t % p ≡ t % p = add-mod_right (t % p) p ∙ mod-mod t p in
+    let sides : (u : List (ℕ × ℕ)) → HasOther u → map (λ a. a.0) u ≢ map (λ a. a.1) u = λ u other. HasOther-different _ _ (subst HasOther (sym (zip-sides u)) other) in
+    IsNormalRightSplit-walk rule (record {
+      first = IsTail-tail_of rule h (λ a. a.0) (λ a l. l.0);
+      second = IsTail-tail_of rule h (λ a. a.1) (λ a l. l.1);
+      first_left = refl;
+      second_left = refl;
+      middles = length-map w (λ a. a.0) ∙ sym (length-map w (λ a. a.1));
+      rights = length-map v (λ a. a.0) ∙ sym (length-map v (λ a. a.1));
+      pair = t % p;
+      reach = subst (λ u. PairLeads r 0 u (t % p)) (sym (zip-sides w)) (subst (λ n. PairLeads r n w (t % p)) (zero-mod p) reach.pairs);
+      loop = subst (λ u. PairLeads r (t % p) u (t % p)) (sym (zip-sides v)) (subst (λ n. PairLeads r (t % p) v n) back round.pairs);
+      different = λ e. ⊎_elim
+          (λ l. ⊎_elim (λ none. omega arith) (λ other. sides w other e.0) (reach.mark.0 l))
+          (λ other. sides v other e.1)
+          (round.mark.0 (omega arith));
+    })
+
+-- and a normal right split is two such walks, at some state
+pub normal_split-at : {r : LocalRule} {x y : TailConfig} → IsRule r → IsNormalRightSplit r x y
+    → (t : ℕ) × (t < pair_count r + pair_count r) × IsSplitAt r t (zip x.middle y.middle) (zip x.right y.right)
+normal_split-at {r} {x} {y} rule n =
+    let p : ℕ = pair_count r in
+    let some : 0 < p = pair_count_pos rule in
+    let walk = IsSplitWalk-normal rule n in
+    let middles : List (ℕ × ℕ) = zip x.middle y.middle in
+    let rights : List (ℕ × ℕ) = zip x.right y.right in
+    let reach = leads-marked rule middles 0 walk.pair (subst (λ q. PairLeads r q middles walk.pair) (sym (zero-mod p)) walk.reach) in
+    let t : ℕ = reach.0 in
+    let round = leads-marked rule rights t walk.pair (subst (λ q. PairLeads r q rights walk.pair) (sym reach.2) walk.loop) in
+    let s : ℕ = round.0 in
+    let within : t < p + p = MarkedLeads-below rule middles 0 t (omega arith) reach.1 in
+    let on = (IsMarkedWalk-leads rule middles 0 t reach.1).mark in
+    let after = (IsMarkedWalk-leads rule rights t s round.1).mark in
+    let marked_end : p ≤ s =
+    ⊎_elim
+    (λ same. ⊎_elim (λ rest. absurd (walk.different (same, rest))) (λ other. after.1 (inr other)) (HasOther-some x.right y.right walk.rights))
+    (λ other. after.1 (inl (on.1 (inr other))))
+    (HasOther-some x.middle y.middle walk.middles) in
+    let there : s ≡ with_mark r t = with_mark-marked rule s walk.pair (MarkedLeads-below rule rights t s within round.1) marked_end round.2 ∙ ap (λ q. q + p) (sym reach.2) in
+    let long : 0 < length x.right = walk.first.right_some in (
+      t,
+      within,
+      record {
+        reach = PairWalk-follows (marked r) r.states 0 middles t (ArePairs-zip r.states x.middle y.middle walk.first.middle_word walk.second.middle_word) reach.1;
+        some = omega (arith, length-zip x.right y.right, walk.rights);
+        round = PairWalk-follows (marked r) r.states t rights (with_mark r t) (ArePairs-zip r.states x.right y.right walk.first.right_word walk.second.right_word)
+            (subst (λ n. MarkedLeads r t rights n) there round.1);
+      },
+    )
