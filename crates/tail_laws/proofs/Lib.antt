@@ -19,3 +19,4 @@ pub mod EndlessPairs
 pub mod Certainty
 pub mod BreadthFirst
 pub mod SplitWalks
+pub mod LeastSplits

@@ -1,5 +1,5 @@
 -- Normal right splits as two walks in the marked graph: the one spells the middles, the other the right periods.
-use Rattle.std.proofs.Common.{◌≡◌, ◌≢◌, ◌⊎◌, ℕ, ◌+◌, ◌-◌, ◌%◌, ◌<◌, ◌≤◌, List, [], ◌∷◌, length, map, Some, if◌then◌else◌, ◌==◌, ◌||◌, not, inl, inr, refl, sym, ap, ap₂, ◌∙◌, subst, ⊎_elim, arith, mul-pos, mod-lt, mod-eq_of_lt}
+use Rattle.std.proofs.Common.{◌≡◌, ◌≢◌, ◌⊎◌, ℕ, ◌+◌, ◌-◌, ◌%◌, ◌<◌, ◌≤◌, List, [], ◌∷◌, length, map, if◌then◌else◌, ◌==◌, ◌||◌, not, inl, inr, refl, sym, ap, ◌∙◌, subst, ⊎_elim, arith, mul-pos, mod-eq_of_lt}
 use Rattle.std.specs.Prelude.{nat_le}
 use Rattle.std.specs.List.{zip}
 use Rattle.std.proofs.Math.Nat.{add-mod_right, zero-mod, mod-mod}
@@ -15,7 +15,7 @@ use Rattle.tail_config.specs.Tails.{TailConfig, IsTail}
 use Rattle.tail_config.specs.Splits.{IsNormalRightSplit}
 use Rattle.tail_config.proofs.laws.Cells.{IsWord-zero}
 use Rattle.tail_config.proofs.laws.Differences.{same_or_differ, DifferAt-different}
-use Rattle.tail_laws.proofs.PairLeads.{Follows, PairLeads}
+use Rattle.tail_laws.proofs.PairLeads.{PairLeads}
 use Rattle.tail_laws.proofs.MarkedWalks.{MarkedLeads, HasOther, HasOther-zip, HasOther-different, follow-marked, IsMarkedWalk-leads, leads-marked}
 use Rattle.tail_laws.proofs.BreadthFirst.{Follows-walk, PairWalk-follows}
 use Rattle.tail_laws.proofs.Settled.{IsNormalRightSplit-walk, IsSplitWalk-normal}

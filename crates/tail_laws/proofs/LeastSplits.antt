@@ -1,0 +1,238 @@
+-- The least normal right split: the least of at most one candidate for each state of the marked graph, made of two least walks.
+use Rattle.std.proofs.Common.{◌≡◌, ◌≢◌, ℕ, ◌+◌, ◌<◌, ◌≤◌, List, [], ◌∷◌, length, map, Option, false, refl, sym, ap, ap₂, ◌∙◌, subst, ⊎_elim, arith, true≢false}
+use Rattle.std.specs.List.{zip}
+use Rattle.std.specs.Ordering.{ordering_then, ordering_reverse, nat_cmp, is_gt, MatchOrdering}
+use Rattle.std.specs.Cmp.{IsTotalOrder, nat_cmp_is, upto}
+use Rattle.std.specs.Cmp.Lexicographic.{slice_cmp}
+use Rattle.std.specs.declared.cmp.Ordering.{Ordering}
+use Rattle.std.specs.declared.cmp.Ordering.TheVariants.{Less, Equal, Greater}
+use Rattle.std.proofs.lemmas.Bool.{cases_lt, cases_eq}
+use Rattle.std.proofs.lemmas.Cmp.{then_total, on_total, lists_total, nat_cmp_total, ranked}
+use Rattle.std.proofs.lemmas.List.{length-map, length_push}
+use Rattle.std.proofs.lemmas.Slice.Zip.{firsts-zip, seconds-zip}
+use Rattle.word_image.specs.LocalRules.{LocalRule, IsRule}
+use Rattle.word_image.specs.Graphs.{pair_count, marked}
+use Rattle.word_image.specs.Rings.{pair_cmp, pairs_cmp}
+use Rattle.search_laws.proofs.PairWalks.{PairWalk, IsLeastWalk}
+use Rattle.search_laws.proofs.PairWalks.PairWalk.{Stay, Go}
+use Rattle.tail_config.specs.Tails.{TailConfig}
+use Rattle.tail_config.specs.Splits.{IsNormalRightSplit, IsLeastRightSplit, splits_cmp}
+use Rattle.tail_laws.proofs.SplitWalks.{IsSplitAt, with_mark, first_tail, second_tail, zip-sides, IsNormalRightSplit-walks, normal_split-at}
+
+-- the order of two comparisons that follow one another: neither is greater, if the second one isn't where the first one tells nothing
+then_not_greater : (a b : Ordering) → a ≢ Greater → (a ≡ Equal → b ≢ Greater) → ordering_then a b ≢ Greater
+then_not_greater Less b first second = first
+then_not_greater Equal b first second = second refl
+then_not_greater Greater b first second = first
+
+-- what isn't greater, as a test
+is_gt_false : (o : Ordering) → o ≢ Greater → is_gt o ≡ false
+is_gt_false Less h = refl
+is_gt_false Equal h = refl
+is_gt_false Greater h = absurd (h refl)
+
+-- and back
+not_greater : (o : Ordering) → is_gt o ≡ false → o ≢ Greater
+not_greater o h e = true≢false (sym (ap is_gt e) ∙ h)
+
+-- a number that is at most another one isn't greater
+nat_cmp-le : (m n : ℕ) → m ≤ n → nat_cmp m n ≢ Greater
+nat_cmp-le m n l e = let above : n < m = subst (λ o. MatchOrdering o (m < n) (m ≡ n) (n < m)) e (ranked m n (nat_cmp m n) refl) in omega arith
+
+-- and is it, if they are compared as equal
+nat_cmp-equal : (m n : ℕ) → nat_cmp m n ≡ Equal → m ≡ n
+nat_cmp-equal m n e = subst (λ o. MatchOrdering o (m < n) (m ≡ n) (n < m)) e (ranked m n (nat_cmp m n) refl)
+
+-- splits are in a total order
+splits_cmp_total : IsTotalOrder splits_cmp
+splits_cmp_total =
+    let pair_cmp_total : IsTotalOrder pair_cmp = then_total (on_total (λ p. p.0) nat_cmp_total) (on_total (λ p. p.1) nat_cmp_total) in
+    then_total (on_total (λ p. length (p.0).middle + length (p.0).right) nat_cmp_total)
+    (then_total (on_total (λ p. length (p.0).middle) nat_cmp_total)
+    (then_total (on_total (λ p. zip (p.0).middle (p.1).middle) (lists_total pair_cmp_total))
+    (on_total (λ p. zip (p.0).right (p.1).right) (lists_total pair_cmp_total))))
+
+-- of three splits the first comes no later than the last
+splits_cmp-trans : (p q s : TailConfig × TailConfig) → splits_cmp p q ≢ Greater → splits_cmp q s ≢ Greater → splits_cmp p s ≢ Greater
+splits_cmp-trans p q s h g = not_greater _ (upto splits_cmp_total p q s (is_gt_false _ h) (is_gt_false _ g))
+
+-- of two splits one comes no later
+splits_cmp-back : (p q : TailConfig × TailConfig) → splits_cmp p q ≡ Greater → splits_cmp q p ≢ Greater
+splits_cmp-back p q h g = true≢false (ap is_gt (sym h ∙ splits_cmp_total.antisymm p q ∙ ap ordering_reverse g))
+
+-- two configurations that are made of two walks
+abbrev pub split_of : List (ℕ × ℕ) → List (ℕ × ℕ) → TailConfig × TailConfig
+split_of w v = (first_tail w v, second_tail w v)
+
+-- the order of such splits, said of the walks
+abbrev pub walks_cmp : List (ℕ × ℕ) → List (ℕ × ℕ) → List (ℕ × ℕ) → List (ℕ × ℕ) → Ordering
+walks_cmp w v w' v' =
+    ordering_then (nat_cmp (length w + length v) (length w' + length v'))
+    (ordering_then (nat_cmp (length w) (length w'))
+    (ordering_then (slice_cmp pair_cmp w w')
+    (slice_cmp pair_cmp v v')))
+
+-- both orders are one
+pub splits_cmp-walks : (w v w' v' : List (ℕ × ℕ)) → splits_cmp (split_of w v) (split_of w' v') ≡ walks_cmp w v w' v'
+splits_cmp-walks w v w' v' =
+    let long : (u : List (ℕ × ℕ)) → length (map (λ p. p.0) u) ≡ length u = λ u. length-map u (λ p. p.0) in
+    ap₂ ordering_then (ap₂ nat_cmp (ap₂ (λ a b. a + b) (long w) (long v)) (ap₂ (λ a b. a + b) (long w') (long v')))
+    (ap₂ ordering_then (ap₂ nat_cmp (long w) (long w'))
+    (ap₂ ordering_then (ap₂ (slice_cmp pair_cmp) (zip-sides w) (zip-sides w'))
+    (ap₂ (slice_cmp pair_cmp) (zip-sides v) (zip-sides v'))))
+
+-- letter pairs that come no later than others are no more, and where they are as many come no later in dictionary order
+pairs_cmp-parts : (w v : List (ℕ × ℕ)) → pairs_cmp w v ≢ Greater → (length w ≤ length v) × (length w ≡ length v → slice_cmp pair_cmp w v ≢ Greater)
+pairs_cmp-parts w v h =
+    let after = λ (o : Ordering). ordering_then o (slice_cmp pair_cmp w v) in (
+      ⊎_elim (λ above. absurd (h (ap after (sym (nat_cmp_is (length w) (length v) Greater above))))) (λ l. l) (cases_lt (length v) (length w)),
+      λ e greater. h (ap after (sym (nat_cmp_is (length w) (length v) Equal e)) ∙ greater),
+    )
+
+-- walks of which neither comes later make a split that comes no later
+walks_cmp-not_greater : (w v w' v' : List (ℕ × ℕ)) → pairs_cmp w w' ≢ Greater → pairs_cmp v v' ≢ Greater → walks_cmp w v w' v' ≢ Greater
+walks_cmp-not_greater w v w' v' h g =
+    let first = pairs_cmp-parts w w' h in
+    let second = pairs_cmp-parts v v' g in
+    then_not_greater _ _ (nat_cmp-le (length w + length v) (length w' + length v') (omega (arith, first.0, second.0)))
+    (λ tie. let sums : length w + length v ≡ length w' + length v' = nat_cmp-equal _ _ tie in
+    then_not_greater _ _ (nat_cmp-le (length w) (length w') first.0)
+    (λ _. then_not_greater _ _ (first.1 (omega (arith, first.0, second.0))) (λ _. second.1 (omega (arith, first.0, second.0)))))
+
+-- nor do walks of fewer letters together
+walks_cmp-fewer : (w v w' v' : List (ℕ × ℕ)) → length w + length v < length w' + length v' → walks_cmp w v w' v' ≢ Greater
+walks_cmp-fewer w v w' v' less =
+    then_not_greater _ _ (nat_cmp-le (length w + length v) (length w' + length v') (omega arith))
+    (λ tie. let sums : length w + length v ≡ length w' + length v' = nat_cmp-equal _ _ tie in absurd (omega arith))
+
+-- Candidates
+
+-- no letter pairs come first in dictionary order
+slice_cmp-none : (v : List (ℕ × ℕ)) → slice_cmp pair_cmp [] v ≢ Greater
+slice_cmp-none [] e = true≢false (ap is_gt (sym e))
+slice_cmp-none (ab ∷ v) e = true≢false (ap is_gt (sym e))
+
+-- the first walk of any number of steps from the pair of the nodes of zeros to a state
+pub record IsLeastReach (r : LocalRule) (t : ℕ) (w : List (ℕ × ℕ)) : Type 0 where
+  pub walk : PairWalk (marked r) r.states 0 w t
+  pub least : (v : List (ℕ × ℕ)) → PairWalk (marked r) r.states 0 v t → pairs_cmp w v ≢ Greater
+
+-- to that pair itself, without a mark, it is the walk of no step
+pub IsLeastReach-none : (r : LocalRule) → IsLeastReach r 0 []
+IsLeastReach-none r = record { walk = Stay; least = λ v walk. then_not_greater _ _ (nat_cmp-le 0 (length v) (omega arith)) (λ tie. slice_cmp-none v) }
+
+-- to each other state a walk has some steps
+some_steps : (go : ℕ → ℕ → ℕ → Option ℕ) (k start t : ℕ) (w : List (ℕ × ℕ)) → start ≢ t → PairWalk go k start w t → 0 < length w
+some_steps go k start _ [] other Stay = absurd (other refl)
+some_steps go k start t _ other (Go w a b s _ before first second follows) = omega (arith, length_push w (a, b))
+
+-- so the first one of at least one step is the first one
+pub IsLeastReach-walk : {r : LocalRule} {t : ℕ} {w : List (ℕ × ℕ)} → 0 < t → IsLeastWalk (marked r) r.states 0 t w → IsLeastReach r t w
+IsLeastReach-walk {r} {t} other h = record { walk = h.walk; least = λ v walk. h.least v (some_steps (marked r) r.states 0 t v (omega arith) walk) walk }
+
+-- no normal split goes round at a state
+abbrev pub IsNoSplitAt : LocalRule → ℕ → Type 0
+IsNoSplitAt r t = (w v : List (ℕ × ℕ)) → ¬ IsSplitAt r t w v
+
+-- where no walk leads to it
+pub IsNoSplitAt-reach : {r : LocalRule} {t : ℕ} → 0 < t → ((w : List (ℕ × ℕ)) → 0 < length w → ¬ PairWalk (marked r) r.states 0 w t) → IsNoSplitAt r t
+IsNoSplitAt-reach {r} {t} other none w v h = none w (some_steps (marked r) r.states 0 t w (omega arith) h.reach) h.reach
+
+-- or none leads round it
+pub IsNoSplitAt-round : {r : LocalRule} {t : ℕ} → ((v : List (ℕ × ℕ)) → 0 < length v → ¬ PairWalk (marked r) r.states t v (with_mark r t)) → IsNoSplitAt r t
+IsNoSplitAt-round none w v h = none v h.some h.round
+
+-- the least normal split that goes round at a state
+pub record IsLeastSplitAt (r : LocalRule) (t : ℕ) (w v : List (ℕ × ℕ)) : Type 0 where
+  pub split : IsSplitAt r t w v
+  pub least : (w' v' : List (ℕ × ℕ)) → IsSplitAt r t w' v' → splits_cmp (split_of w v) (split_of w' v') ≢ Greater
+
+-- is made of the first walk to it and of the first one round
+pub IsLeastSplitAt-walks : {r : LocalRule} {t : ℕ} {w v : List (ℕ × ℕ)} → IsLeastReach r t w → IsLeastWalk (marked r) r.states t (with_mark r t) v → IsLeastSplitAt r t w v
+IsLeastSplitAt-walks {r} {t} {w} {v} reach round =
+    record {
+      split = record { reach = reach.walk; some = round.some; round = round.walk };
+      least = λ w' v' h greater. walks_cmp-not_greater w v w' v' (reach.least w' h.reach) (round.least v' h.some h.round) (sym (splits_cmp-walks w v w' v') ∙ greater);
+    }
+
+-- The search, state by state
+
+-- none of the normal splits that go round at states below t comes before the one that these walks make
+pub record IsLeastBelow (r : LocalRule) (t : ℕ) (w v : List (ℕ × ℕ)) : Type 0 where
+  pub split : IsNormalRightSplit r (first_tail w v) (second_tail w v)
+  pub least : (s : ℕ) (w' v' : List (ℕ × ℕ)) → s < t → IsSplitAt r s w' v' → splits_cmp (split_of w v) (split_of w' v') ≢ Greater
+
+-- one state more, at which none comes before it
+IsLeastBelow-next : {r : LocalRule} {t : ℕ} {w v : List (ℕ × ℕ)} → IsLeastBelow r t w v
+    → ((w' v' : List (ℕ × ℕ)) → IsSplitAt r t w' v' → splits_cmp (split_of w v) (split_of w' v') ≢ Greater) → IsLeastBelow r (t + 1) w v
+IsLeastBelow-next {r} {t} {w} {v} h here =
+    record {
+      split = h.split;
+      least = λ s w' v' l at. ⊎_elim (λ e. here w' v' (subst (λ u. IsSplitAt r u w' v') e at)) (λ other. h.least s w' v' (omega arith) at) (cases_eq s t);
+    }
+
+-- at which there is none
+pub IsLeastBelow-none : {r : LocalRule} {t : ℕ} {w v : List (ℕ × ℕ)} → IsLeastBelow r t w v → IsNoSplitAt r t → IsLeastBelow r (t + 1) w v
+IsLeastBelow-none h none = IsLeastBelow-next h (λ w' v' at. absurd (none w' v' at))
+
+-- or to which the first walk has as many letters as both walks of the split
+pub IsLeastBelow-long : {r : LocalRule} {t : ℕ} {w v u : List (ℕ × ℕ)} → IsLeastBelow r t w v → IsLeastReach r t u → length w + length v ≤ length u → IsLeastBelow r (t + 1) w v
+IsLeastBelow-long {w = w} {v} {u} h reach long =
+    IsLeastBelow-next h (λ w' v' at greater.
+    let more = (pairs_cmp-parts u w' (reach.least w' at.reach)).0 in
+    let less : length w + length v < length w' + length v' = omega (arith, more, at.some) in
+    walks_cmp-fewer w v w' v' less (sym (splits_cmp-walks w v w' v') ∙ greater))
+
+-- or whose least one doesn't come before it
+pub IsLeastBelow-kept : {r : LocalRule} {t : ℕ} {w v w' v' : List (ℕ × ℕ)} → IsLeastBelow r t w v → IsLeastSplitAt r t w' v' → splits_cmp (split_of w v) (split_of w' v') ≢ Greater
+    → IsLeastBelow r (t + 1) w v
+IsLeastBelow-kept {w = w} {v} {w'} {v'} h here first =
+    IsLeastBelow-next h (λ a b at. splits_cmp-trans (split_of w v) (split_of w' v') (split_of a b) first (here.least a b at))
+
+-- where it does, it takes its place
+pub IsLeastBelow-taken : {r : LocalRule} {t : ℕ} {w v w' v' : List (ℕ × ℕ)} → IsRule r → IsLeastBelow r t w v → IsLeastSplitAt r t w' v' → splits_cmp (split_of w v) (split_of w' v') ≡ Greater
+    → IsLeastBelow r (t + 1) w' v'
+IsLeastBelow-taken {r} {t} {w} {v} {w'} {v'} rule h here after =
+    IsLeastBelow-next
+    (record {
+      split = IsNormalRightSplit-walks rule here.split;
+      least = λ s a b l at. splits_cmp-trans (split_of w' v') (split_of w v) (split_of a b) (splits_cmp-back (split_of w v) (split_of w' v') after) (h.least s a b l at);
+    })
+    here.least
+
+-- no normal split goes round at a state below t
+abbrev pub IsNoSplitBelow : LocalRule → ℕ → Type 0
+IsNoSplitBelow r t = (s : ℕ) → s < t → IsNoSplitAt r s
+
+-- nor at one more
+pub IsNoSplitBelow-next : {r : LocalRule} {t : ℕ} → IsNoSplitBelow r t → IsNoSplitAt r t → IsNoSplitBelow r (t + 1)
+IsNoSplitBelow-next {r} {t} h here s l = ⊎_elim (λ e. subst (IsNoSplitAt r) (sym e) here) (λ other. h s (omega arith)) (cases_eq s t)
+
+-- the first one that is found is the least so far
+pub IsLeastBelow-first : {r : LocalRule} {t : ℕ} {w v : List (ℕ × ℕ)} → IsRule r → IsNoSplitBelow r t → IsLeastSplitAt r t w v → IsLeastBelow r (t + 1) w v
+IsLeastBelow-first rule none here =
+    IsLeastBelow-next (record { split = IsNormalRightSplit-walks rule here.split; least = λ s a b l at. absurd (none s l a b at) }) here.least
+
+-- a configuration with zeros on its left is made of its middle and its right period
+tail_of-parts : (t : TailConfig) (middle right : List ℕ) → t.left ≡ 0 ∷ [] → middle ≡ t.middle → right ≡ t.right → record { left = 0 ∷ []; middle = middle; right = right } ≡ t
+tail_of-parts t middle right left same_middle same_right =
+    ap₂ (λ (m p : List ℕ). record { left = 0 ∷ []; middle = m; right = p }) same_middle same_right ∙ ap (λ (l : List ℕ). record { left = l; middle = t.middle; right = t.right }) (sym left)
+
+-- over all states it is the least normal right split
+pub IsLeastRightSplit-below : {r : LocalRule} {w v : List (ℕ × ℕ)} → IsRule r → IsLeastBelow r (pair_count r + pair_count r) w v → IsLeastRightSplit r (first_tail w v) (second_tail w v)
+IsLeastRightSplit-below {r} {w} {v} rule h =
+    record {
+      split = h.split;
+      least = λ x y n.
+          let found = normal_split-at rule n in
+          let first : first_tail (zip x.middle y.middle) (zip x.right y.right) ≡ x =
+          tail_of-parts x _ _ n.first.left (firsts-zip x.middle y.middle (sym n.middles)) (firsts-zip x.right y.right (sym n.rights)) in
+          let second : second_tail (zip x.middle y.middle) (zip x.right y.right) ≡ y =
+          tail_of-parts y _ _ n.second.left (seconds-zip x.middle y.middle (sym n.middles)) (seconds-zip x.right y.right (sym n.rights)) in
+          let same : split_of (zip x.middle y.middle) (zip x.right y.right) ≡ (x, y) = ap₂ (λ (a b : TailConfig). (a, b)) first second in
+          subst (λ p. splits_cmp (split_of w v) p ≢ Greater) same (h.least found.0 (zip x.middle y.middle) (zip x.right y.right) found.1 found.2);
+    }
+
+-- and where there is none, there is no normal right split
+pub no_normal_split : {r : LocalRule} → IsRule r → IsNoSplitBelow r (pair_count r + pair_count r) → (x y : TailConfig) → ¬ IsNormalRightSplit r x y
+no_normal_split rule none x y n = let found = normal_split-at rule n in none found.0 found.1 _ _ found.2
