@@ -20,3 +20,6 @@ pub mod Certainty
 pub mod BreadthFirst
 pub mod SplitWalks
 pub mod LeastSplits
+pub mod MarkedTurns
+pub mod ShortWalks
+pub mod LeastTwins

@@ -60,22 +60,22 @@ HasOther-some : (x y : List ℕ) → length x ≡ length y → (x ≡ y) ⊎ Has
 HasOther-some x y e = ⊎_elim (λ same. inl same) (λ d. inr (HasOther-zip x y e (DifferAt-different d))) (same_or_differ x y e)
 
 -- there are pairs
-pair_count_pos : {r : LocalRule} → IsRule r → 0 < pair_count r
+pub pair_count_pos : {r : LocalRule} → IsRule r → 0 < pair_count r
 pair_count_pos rule = mul-pos (node_count_pos rule) (node_count_pos rule)
 
 -- a step of the marked graph leads to one of its states
-mark-below : (p t a b : ℕ) → (if nat_le p t || not (a == b) then p else 0) ≤ p
+pub mark-below : (p t a b : ℕ) → (if nat_le p t || not (a == b) then p else 0) ≤ p
 mark-below p t a b = grind (arith, nat_tests)
 
 -- and so does a walk from one
-MarkedLeads-below : {r : LocalRule} → IsRule r → (abs : List (ℕ × ℕ)) (t s : ℕ) → t < pair_count r + pair_count r → MarkedLeads r t abs s → s < pair_count r + pair_count r
+pub MarkedLeads-below : {r : LocalRule} → IsRule r → (abs : List (ℕ × ℕ)) (t s : ℕ) → t < pair_count r + pair_count r → MarkedLeads r t abs s → s < pair_count r + pair_count r
 MarkedLeads-below {r} rule [] t s below h = omega (arith, h)
 MarkedLeads-below {r} rule (ab ∷ rest) t s below h =
     let step = follow-marked rule t ab.0 ab.1 h.0 h.1 in
     MarkedLeads-below rule rest h.0 s (omega (arith, step.2, step.3, mark-below (pair_count r) t ab.0 ab.1)) h.2
 
 -- a marked state is its pair with the mark
-with_mark-marked : {r : LocalRule} → IsRule r → (t q : ℕ) → t < pair_count r + pair_count r → pair_count r ≤ t → t % pair_count r ≡ q → t ≡ q + pair_count r
+pub with_mark-marked : {r : LocalRule} → IsRule r → (t q : ℕ) → t < pair_count r + pair_count r → pair_count r ≤ t → t % pair_count r ≡ q → t ≡ q + pair_count r
 with_mark-marked {r} rule t q below marked e =
     let p : ℕ = pair_count r in
     let rest : ℕ = t - p in
