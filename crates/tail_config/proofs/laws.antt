@@ -5,3 +5,4 @@ pub mod Repeats
 pub mod Spans
 pub mod Decisions
 pub mod Mirror
+pub mod TailFaults

@@ -1,3 +1,5 @@
 pub mod Tails
 pub mod Splits
 pub mod TailTexts
+pub mod TailValues
+pub mod TailFaults

@@ -1,0 +1,15 @@
+-- What a Tail is seen as: a configuration, and how many letters it is over.
+use Rattle.std.specs.Prelude.{ℕ, ◌≤◌}
+use Rattle.tail_config.specs.Tails.{TailConfig}
+use Rattle.tail_config.specs.TailTexts.{IsShortTail}
+
+-- a configuration over the letters 0 to states - 1
+pub record TailOver : Type 0 where
+  pub states : ℕ
+  pub config : TailConfig
+
+-- there are 2 to 16 letters, and each part has at most 1,024
+pub record IsAccepted (t : TailOver) : Type 0 where
+  pub least_states : 2 ≤ t.states
+  pub most_states : t.states ≤ 16
+  pub short : IsShortTail t.states t.config

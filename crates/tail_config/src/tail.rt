@@ -1,0 +1,201 @@
+//! A Tail, its cells, its image cells and its mirror.
+ghost use Rattle.std.specs.Prelude.{◌≡◌, ◌^◌, ◌<◌, ◌≤◌, ◌↔◌, IfOk, IfErr, IsOk, length, unsigned_abs, ℤ, pos, ◌+ℤ◌, ◌-ℤ◌, ◌<ℤ◌};
+ghost use Rattle.std.specs.Option.{option_map};
+ghost use Rattle.std.specs.Result.{result_err};
+ghost use Rattle.word_image.specs.LocalRules.{LocalRule, IsRule, mirrored};
+ghost use Rattle.tail_config.specs.Tails.{TailConfig, IsTail, cell, cells, image_cell, mirror_of};
+ghost use Rattle.tail_config.specs.TailTexts.{IsShortTail};
+ghost use Rattle.tail_config.specs.TailValues.{IsAccepted};
+ghost use Rattle.tail_config.specs.TailFaults.{tail_fault};
+
+use crate::faults::{TailRefusal, check_parts};
+use std::marker::Model;
+use word_image::Rule;
+
+/// The greatest width of a rule.
+const MOST_WIDTH: usize = 5;
+
+/// A configuration over the letters below k: a left period, a middle and a right period of at most
+/// 1,024 letters each.
+#[derive(Debug, Drop)]
+pub struct Tail {
+    // From 2 to 16.
+    k: u8,
+    // Not empty; its last letter stands at place -1.
+    left: Vec<u8>,
+    // Its first letter stands at place 0.
+    middle: Vec<u8>,
+    // Not empty; its first letter stands where the middle ends.
+    right: Vec<u8>,
+}
+
+impl Model for Tail {
+    ghost use Rattle.tail_config.specs.TailValues.{TailOver, IsAccepted};
+
+    ghost Value = { TailOver };
+
+    ghost view = { λ t. record { states = t.k; config = record { left = t.left.items; middle = t.middle.items; right = t.right.items } } };
+
+    ghost invariant = { λ t. IsAccepted (record { states = t.k; config = record { left = t.left.items; middle = t.middle.items; right = t.right.items } }) };
+}
+
+impl Tail {
+    /// The Tail of exactly these parts over the letters below k, from 2 to 16; else the first fault,
+    /// in the order of `TailFault`, with the parts as they were.
+    pub fn new(k: u8, left: Vec<u8>, middle: Vec<u8>, right: Vec<u8>) -> Result<Tail, TailRefusal>
+        requires least { 2 ≤ k }
+        requires most { k ≤ 16 }
+        ensures tail { IfOk result (λ t. t ≡ record { states = k; config = record { left = left.items; middle = middle.items; right = right.items } }) }
+        ensures handed_back { IfErr result (λ r. (r.left ≡ left) × (r.middle ≡ middle) × (r.right ≡ right)) }
+        ensures fault { option_map (λ r. r.fault) (result_err result) ≡ tail_fault k (record { left = left.items; middle = middle.items; right = right.items }) }
+        ensures accepted { IsOk result ↔ IsShortTail k (record { left = left.items; middle = middle.items; right = right.items }) }
+    {
+        match check_parts(k, &left, &middle, &right) {
+            Ok(()) => Ok(Tail {
+                k,
+                left,
+                middle,
+                right,
+            }),
+            Err(fault) => Err(TailRefusal {
+                fault,
+                left,
+                middle,
+                right,
+            }),
+        }
+    }
+
+    /// How many letters there are, from 2 to 16.
+    pub fn k(&self) -> u8
+        ensures states { result ≡ self.now.states }
+        ensures tail { IsAccepted self.now }
+    {
+        self.k
+    }
+
+    /// The left period, which has a letter.
+    pub fn left(&self) -> &[u8]
+        ensures left { result.now ≡ self.now.config.left }
+        ensures tail { IsAccepted self.now }
+    {
+        &self.left
+    }
+
+    /// The middle, which begins at place 0.
+    pub fn middle(&self) -> &[u8]
+        ensures middle { result.now ≡ self.now.config.middle }
+        ensures tail { IsAccepted self.now }
+    {
+        &self.middle
+    }
+
+    /// The right period, which has a letter.
+    pub fn right(&self) -> &[u8]
+        ensures right { result.now ≡ self.now.config.right }
+        ensures tail { IsAccepted self.now }
+    {
+        &self.right
+    }
+
+    /// The letter at a place.
+    pub fn cell(&self, i: i64) -> u8
+        ensures cell { result ≡ cell self.now.config i }
+        ensures letter { result < self.now.states }
+    {
+        if i < 0 {
+            let back = (-1 - i) as usize % self.left.len();
+            return self.left[self.left.len() - 1 - back];
+        }
+        let place = i as usize;
+        match self.middle.get(place) {
+            Some(letter) => *letter,
+            None => self.right[(place - self.middle.len()) % self.right.len()],
+        }
+    }
+
+    /// The letter of the image under a rule over the same letters, at a place of absolute value at
+    /// most `2^61`.
+    pub fn image_cell(&self, rule: &Rule, i: i64) -> u8
+        requires place { unsigned_abs i ≤ 2 ^ 61 }
+        requires one_k { rule.now.states ≡ self.now.states }
+        ensures cell { result ≡ image_cell rule.now self.now.config i }
+        ensures letter { result < self.now.states }
+    {
+        prove!(rule.k() == self.k);
+        let mut window = [0; MOST_WIDTH];
+        let window = &mut window[..usize::from(rule.m())];
+        self.write_cells(i + i64::from(rule.o()), window);
+        rule.apply(window)
+    }
+
+    /// Writes the letters from a place on.
+    fn write_cells(&self, start: i64, row: &mut [u8])
+        requires { (start +ℤ pos (length row.old)) <ℤ pos (2 ^ 63) }
+        ensures { row.new ≡ cells self.now.config start (length row.old) }
+    {
+        for (j, letter) in row.iter_mut().enumerate() {
+            *letter = self.cell(start + j as i64);
+        }
+    }
+
+    /// The Tail read backwards: its middle begins at place 0 again.
+    pub fn mirror(self) -> Tail
+        ensures states { result.states ≡ self.states }
+        ensures config { result.config ≡ mirror_of self.config }
+    {
+        let Tail {
+            k,
+            mut left,
+            mut middle,
+            mut right,
+        } = self;
+        left.reverse();
+        middle.reverse();
+        right.reverse();
+        Tail {
+            k,
+            left: right,
+            middle,
+            right: left,
+        }
+    }
+}
+
+/// With s = |M| - 1, the mirrored rule's image cell at i of a mirrored Tail is the rule's image cell
+/// at s - i of the Tail.
+pub fn mirrored_image_cell()
+    ensures { (r : LocalRule) (t : TailConfig) (i : ℤ) → IsRule r → IsTail r.states t
+        → image_cell (mirrored r) (mirror_of t) i ≡ image_cell r t (pos (length t.middle) -ℤ pos 1 -ℤ i) }
+{}
+
+#[cfg(test)]
+mod tests {
+    use super::*;
+    use crate::faults::{Part, TailFault};
+    use std::test::Fail;
+
+    fn tail_of(rt: &HostRuntime, left: &[u8], middle: &[u8], right: &[u8]) -> Result<Tail, Fail> {
+        let alloc = rt.alloc();
+        let made = Tail::new(
+            2,
+            left.to_vec(alloc)?,
+            middle.to_vec(alloc)?,
+            right.to_vec(alloc)?,
+        );
+        Ok(made.ok().ok_or("refused")?)
+    }
+
+    #[test]
+    fn cells_stand_on_both_sides_of_place_0(rt: HostRuntime) -> Result<(), Fail> {
+        let tail = tail_of(&rt, &[0, 1, 1], &[0, 1], &[0])?;
+        assert_eq!(rt; tail.k(), 2);
+        assert_eq!(rt; tail.left(), [0, 1, 1].as_slice());
+        assert_eq!(rt; tail.middle(), [0, 1].as_slice());
+        assert_eq!(rt; tail.right(), [0].as_slice());
+        for (place, want) in [0, 1, 1, 0, 1, 0].into_iter().enumerate() {
+            assert_eq!(rt; tail.cell(place as i64 - 3), want);
+        }
+        Ok(())
+    }
+}
