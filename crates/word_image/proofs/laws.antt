@@ -6,6 +6,7 @@ pub mod Images
 pub mod Orders
 pub mod Graphs
 pub mod Bits
+pub mod Unions
 pub mod LastNodes
 pub mod LastSets
 pub mod RuleFaults
