@@ -3,3 +3,4 @@ pub mod Splits
 pub mod TailTexts
 pub mod TailValues
 pub mod TailFaults
+pub mod Differences

@@ -9,7 +9,8 @@ use Rattle.tail_config.specs.Tails.{TailConfig, IsTail, Same, Different, ShareIm
 use Rattle.tail_config.proofs.laws.Cells.{length-cells, get_or-cells, IsWord-cells, cells-same}
 use Rattle.tail_config.proofs.laws.Decisions.{Different-from_not_same, agree_left_or_not, agree_right_or_not}
 use Rattle.tail_config.proofs.laws.Periods.{RepeatsLeft, RepeatsRight, repeats-mod, right_from, left_from}
-use Rattle.tail_config.proofs.laws.Spans.{most_middle, left_turn, right_turn, left_turn-some, right_turn-some, left_turns, right_turns, agree_left_of_0, agree_right_of_middle}
+use Rattle.tail_config.specs.Differences.{most_middle}
+use Rattle.tail_config.proofs.laws.Spans.{left_turn, right_turn, left_turn-some, right_turn-some, left_turns, right_turns, agree_left_of_0, agree_right_of_middle}
 use Rattle.tail_laws.proofs.TwinTails.{round, cell-round, cell-round_period, IsTail-round, ShareImage-turn, ring_image-shared, no_twins}
 use Rattle.tail_laws.proofs.Verdicts.{IsInjective-none}
 

@@ -10,7 +10,8 @@ use Rattle.tail_config.proofs.laws.Cells.{IsWord-zero, length-cells, cells-same,
 use Rattle.tail_laws.proofs.Middles.{recut, IsTail-recut, cell-recut}
 use Rattle.tail_laws.proofs.Sides.{IsLeftClosing-mirrored}
 use Rattle.tail_config.proofs.laws.Periods.{RepeatsRight}
-use Rattle.tail_config.proofs.laws.Spans.{most_middle, right_turn, right_turn-some, right_turns, agree_left_of_0}
+use Rattle.tail_config.specs.Differences.{most_middle}
+use Rattle.tail_config.proofs.laws.Spans.{right_turn, right_turn-some, right_turns, agree_left_of_0}
 use Rattle.tail_laws.proofs.Nodes.{label_at, ShareImage-labels, labels-ShareImage}
 use Rattle.tail_laws.proofs.Loops.{IsLooped, IsLooped-cells}
 use Rattle.tail_laws.proofs.Settled.{IsSettled-looped}

@@ -1,6 +1,6 @@
-use Rattle.std.proofs.Common.{pos, ◌+ℤ◌, ap, ◌∙◌, arith, w64}
+use Rattle.std.proofs.Common.{ap, ◌∙◌, arith, w64}
 use Rattle.std.proofs.lemmas.Int.{to_z-of_z}
-use Rattle.tail_config.specs.Tails.{cell, cells}
+use Rattle.tail_config.specs.Tails.{cells}
 use Rattle.tail_config.proofs.laws.Cells.{cells-by_letters}
 use Rattle.tail_config.proofs.tail.Tail.write_cells.Goals as goal
 
@@ -8,5 +8,4 @@ pub returns : goal.returns
 returns c =
     let t = c.args.self.now.config in
     let passed = to_z-of_z w64 c.args.start c.ranges.start in
-    cells-by_letters t c.args.start c.loop-j.row (λ a l. c.loop-j.invariant a (omega arith) ∙ ap (λ i. cell t (i +ℤ pos a)) passed)
-    ∙ ap (cells t c.args.start) c.loop-j.auto.row
+    cells-by_letters t c.args.start c.loop-j.row (λ a l. rw passed at (c.loop-j.invariant a (omega arith))) ∙ ap (cells t c.args.start) c.loop-j.auto.row

@@ -1,0 +1,48 @@
+use Rattle.std.proofs.Common.{◌≡◌, ℕ, suc, unsigned_abs, ◌+◌, ◌<◌, ◌≤◌, ℤ, pos, negsuc, subst, sym, ⊎_elim, arith}
+use Rattle.std.proofs.lemmas.Bool.{cases_lt}
+use Rattle.std.proofs.lemmas.Int.{ints}
+use Rattle.tail_config.specs.Tails.{TailConfig, cell}
+use Rattle.tail_config.specs.Differences.{IsNearestDifference, IsFirstDifference, left_cells, right_cells}
+use Rattle.tail_config.proofs.compare.differ.Goals as goal
+
+-- the first difference right of place -1 is the nearest where there is none nearer on the left
+nearest_right : (x y : TailConfig) (i : ℕ) (place : ℤ) → place ≡ pos i → IsFirstDifference (right_cells x) (right_cells y) 0 i
+    → ((j : ℕ) → j + 1 < i → left_cells x j ≡ left_cells y j) → IsNearestDifference x y place
+nearest_right x y i place at first left = subst (IsNearestDifference x y) (sym at) (record {
+  other = first.other;
+  nearest = λ j less. elim j as (λ z. unsigned_abs z < i → cell x z ≡ cell y z) [ pos n ↦ λ l. first.before n (omega arith) l | negsuc n ↦ λ l. left n (omega arith) ] less;
+  tie = λ negative. absurd (omega (arith, ints));
+})
+
+-- the first difference left of place 0 is the nearest where there is none as near on the right
+nearest_left : (x y : TailConfig) (i : ℕ) (place : ℤ) → place ≡ negsuc i → IsFirstDifference (left_cells x) (left_cells y) 0 i
+    → ((j : ℕ) → j ≤ i + 1 → right_cells x j ≡ right_cells y j) → IsNearestDifference x y place
+nearest_left x y i place at first right = subst (IsNearestDifference x y) (sym at) (record {
+  other = first.other;
+  nearest = λ j less. elim j as (λ z. unsigned_abs z < suc i → cell x z ≡ cell y z) [ pos n ↦ λ l. right n (omega arith) | negsuc n ↦ λ l. first.before n (omega arith) (omega arith) ] less;
+  tie = λ negative. right (suc i) (omega arith);
+})
+
+pub returns-in-None-Some-clause-same : goal.returns-in-None-Some-clause-same
+returns-in-None-Some-clause-same c = (λ e. absurd (cc), λ same. absurd (c.in-None-Some.ensures.first.other (same (negsuc c.in-None-Some.left))))
+
+pub returns-in-None-Some-clause-nearest : goal.returns-in-None-Some-clause-nearest
+returns-in-None-Some-clause-nearest c =
+    let right = rw c.in-None-Some.is-0 at c.first_right.ensures.none in
+    let near = c.in-None-Some.ensures.near in
+    nearest_left _ _ c.in-None-Some.left _ (omega (arith, ints)) c.in-None-Some.ensures.first (λ j l. right j (omega arith))
+
+pub returns-in-Some-None-clause-same : goal.returns-in-Some-None-clause-same
+returns-in-Some-None-clause-same c = (λ e. absurd (cc), λ same. absurd (c.in-Some-None.ensures.first.other (same (pos c.in-Some-None.right))))
+
+pub returns-in-Some-Some-clause-nearest : goal.returns-in-Some-Some-clause-nearest
+returns-in-Some-Some-clause-nearest c =
+    let i : ℕ = c.in-Some-Some.right in
+    let j : ℕ = c.in-Some-Some.left in
+    let right = c.in-Some-Some.ensures.first in
+    let left = c.in-Some-Some.ensures'.first in
+    let near_right = c.in-Some-Some.ensures.near in
+    let near_left = c.in-Some-Some.ensures'.near in
+    ⊎_elim (λ less. let at = c.nearer.ensures.left less in nearest_left _ _ j _ (omega (arith, ints, at)) left (λ n l. right.before n (omega arith) (omega arith)))
+    (λ more. let at = c.nearer.ensures.right more in nearest_right _ _ i _ (omega (arith, ints, at)) right (λ n l. left.before n (omega arith) (omega arith)))
+    (cases_lt (j + 1) i)

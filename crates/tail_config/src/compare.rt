@@ -1,0 +1,121 @@
+//! Where two Tails differ, and whether they share an image or agree on a side.
+ghost use Rattle.std.specs.Prelude.{◌≡◌, ◌^◌, ◌<◌, ◌≤◌, ◌+◌, ◌↔◌, ℕ, length, IsTrue, IsNone, IfNone, IfSome, OnSome, unsigned_abs, pos, negsuc, ◌+ℤ◌};
+ghost use Rattle.tail_config.specs.Tails.{Same, ShareImage, AgreeLeft, AgreeRight, cell, image_cell};
+ghost use Rattle.tail_config.specs.Differences.{IsFirstDifference, IsNearestDifference, left_cells, right_cells, most_middle};
+
+use crate::tail::Tail;
+use word_image::Rule;
+
+/// The place of least absolute value at which two Tails differ, the non-negative one of two; `None`
+/// exactly where all their cells agree.
+pub fn differ(a: &Tail, b: &Tail) -> Option<i64>
+    ensures same { IsNone result ↔ Same a.now.config b.now.config }
+    ensures nearest { IfSome result (IsNearestDifference a.now.config b.now.config) }
+    ensures near { IfSome result (λ i. unsigned_abs i ≤ 2 ^ 22) }
+{
+    match (first_right(a, b, 0), first_left(a, b)) {
+        (None, None) => None,
+        (Some(right), None) => Some(right as i64),
+        (None, Some(left)) => Some(-1 - left as i64),
+        (Some(right), Some(left)) => Some(nearer(right, left)),
+    }
+}
+
+/// The place `right`, or `left` places left of -1 where that is nearer to place 0.
+fn nearer(right: usize, left: usize) -> i64
+    requires near_right { right ≤ 2 ^ 12 }
+    requires near_left { left ≤ 2 ^ 12 }
+    ensures left { left + 1 < right → result ≡ negsuc left }
+    ensures right { right ≤ left + 1 → result ≡ pos right }
+{
+    if left + 1 < right {
+        -1 - left as i64
+    } else {
+        right as i64
+    }
+}
+
+/// Whether the image cells of two Tails under a rule are equal at every integer; all three have one k.
+pub fn share(rule: &Rule, a: &Tail, b: &Tail) -> bool
+    requires first { rule.now.states ≡ a.now.states }
+    requires second { rule.now.states ≡ b.now.states }
+    ensures { IsTrue result ↔ ShareImage rule.now a.now.config b.now.config }
+{
+    let lefts = a.left().len() + b.left().len() + usize::from(rule.m()) - 1;
+    let rights = a.right().len() + b.right().len();
+    let start = -(lefts as i64) - i64::from(rule.o());
+    share_run(rule, a, b, start, lefts + longer(a, b) + rights)
+}
+
+/// Whether a place exists with equal cells at all places left of it.
+pub fn agree_left(a: &Tail, b: &Tail) -> bool
+    ensures { IsTrue result ↔ AgreeLeft a.now.config b.now.config }
+{
+    first_left(a, b).is_none()
+}
+
+/// Whether a place exists with equal cells at all places right of it.
+pub fn agree_right(a: &Tail, b: &Tail) -> bool
+    ensures { IsTrue result ↔ AgreeRight a.now.config b.now.config }
+{
+    first_right(a, b, longer(a, b)).is_none()
+}
+
+/// How many letters the longer middle has.
+fn longer(a: &Tail, b: &Tail) -> usize
+    ensures longer { result ≡ most_middle a.now.config b.now.config }
+    ensures short { result ≤ 1024 }
+{
+    a.middle().len().max(b.middle().len())
+}
+
+/// The first place from `start` on at which two Tails differ. Those up to both right periods right
+/// of the longer middle decide.
+fn first_right(a: &Tail, b: &Tail, start: usize) -> Option<usize>
+    requires { start ≤ most_middle a.now.config b.now.config }
+    ensures none { IfNone result ((i : ℕ) → start ≤ i → cell a.now.config (pos i) ≡ cell b.now.config (pos i)) }
+    ensures first { IfSome result (IsFirstDifference (right_cells a.now.config) (right_cells b.now.config) start) }
+    ensures apart { IfSome result (λ i. most_middle a.now.config b.now.config ≤ i → ¬ AgreeRight a.now.config b.now.config) }
+    ensures near { IfSome result (λ i. i ≤ 2 ^ 12) }
+{
+    for i in start..longer(a, b) + a.right().len() + b.right().len() {
+        if a.cell(i as i64) != b.cell(i as i64) {
+            return Some(i);
+        }
+    }
+    None
+}
+
+/// How far left of place -1 two Tails first differ. The places of both left periods left of place 0
+/// decide.
+fn first_left(a: &Tail, b: &Tail) -> Option<usize>
+    ensures none { IfNone result ((i : ℕ) → cell a.now.config (negsuc i) ≡ cell b.now.config (negsuc i)) }
+    ensures first { IfSome result (IsFirstDifference (left_cells a.now.config) (left_cells b.now.config) 0) }
+    ensures apart { OnSome result (¬ AgreeLeft a.now.config b.now.config) }
+    ensures near { IfSome result (λ i. i ≤ 2 ^ 12) }
+{
+    for i in 0..a.left().len() + b.left().len() {
+        if a.cell(-1 - i as i64) != b.cell(-1 - i as i64) {
+            return Some(i);
+        }
+    }
+    None
+}
+
+/// Whether two Tails have equal image cells at so many places from `start` on.
+fn share_run(rule: &Rule, a: &Tail, b: &Tail, start: i64, count: usize) -> bool
+    requires first { rule.now.states ≡ a.now.states }
+    requires second { rule.now.states ≡ b.now.states }
+    requires near { unsigned_abs start ≤ 2 ^ 16 }
+    requires few { count ≤ 2 ^ 16 }
+    ensures { IsTrue result ↔ ((d : ℕ) → d < count
+        → image_cell rule.now a.now.config (start +ℤ pos d) ≡ image_cell rule.now b.now.config (start +ℤ pos d)) }
+{
+    for d in 0..count {
+        let i = start + d as i64;
+        if a.image_cell(rule, i) != b.image_cell(rule, i) {
+            return false;
+        }
+    }
+    true
+}
