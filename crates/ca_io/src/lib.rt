@@ -19,14 +19,18 @@
 //! its f listed calls. No call but [`MemSink::with_room`] takes memory.
 #![tactic(auto)]
 
+mod input;
 mod mem_sink;
+mod mem_source;
 mod null_sink;
 mod plain_source;
 mod sinks;
 mod sources;
 mod standard;
 
+pub use input::{InputFault, read_up_to};
 pub use mem_sink::{MemSink, RoomRefusal};
+pub use mem_source::MemSource;
 pub use null_sink::NullSink;
 pub use plain_source::PlainSource;
 pub use sinks::{Sink, write_all};

@@ -1,6 +1,9 @@
 //! What no clause can say: that memory is there, and what a reader and a writer of std do.
 
-use crate::{Failed, MemSink, NullSink, PlainSource, Sink, Source, StdSink, StdSource, write_all};
+use crate::{
+    Failed, InputFault, MemSink, MemSource, NullSink, PlainSource, Sink, Source, StdSink,
+    StdSource, read_up_to, write_all,
+};
 use std::io;
 use std::io::{ErrorKind, Read, Write};
 use std::test::Fail;
@@ -123,4 +126,42 @@ fn std_sink_counts_errors_of_write_and_flush_and_empty_writes(rt: HostRuntime) {
     assert_eq!(rt; faulty.write(b"ab"), Ok(1));
     assert_eq!(rt; faulty.write(b"ab"), Err(Failed), "the write failed");
     assert_eq!(rt; faulty.write(b"ab"), Ok(1));
+}
+
+#[test]
+fn mem_source_fails_at_listed_calls_and_gives_short_pieces(rt: HostRuntime) -> Result<(), Fail> {
+    let failing = [1u64].to_vec(rt.alloc())?;
+    let mut source = MemSource::new(b"abc".to_vec(rt.alloc())?, 1, failing);
+    assert_eq!(rt; next(&mut source), Ok((*b"a\0", 1)));
+    assert_eq!(rt; next(&mut source), Err(Failed));
+    assert_eq!(rt; next(&mut source), Ok((*b"b\0", 1)));
+    assert_eq!(rt; next(&mut source), Ok((*b"c\0", 1)));
+    assert_eq!(rt; next(&mut source), Ok((*b"\0\0", 0)));
+    Ok(())
+}
+
+#[test]
+fn input_is_read_to_its_end_or_limit(rt: HostRuntime) -> Result<(), Fail> {
+    let cases: [(usize, &[u64], usize, Option<&[u8]>); 6] = [
+        (1, &[], 9, Some(b"hello")),
+        (3, &[], 5, Some(b"hello")),
+        (3, &[2, 3], 4, Some(b"hell")),
+        (5, &[1], 5, Some(b"hello")),
+        (5, &[1], 6, None),
+        (2, &[0], 0, Some(b"")),
+    ];
+    for (piece, failing, most, want) in cases {
+        let failing = failing.to_vec(rt.alloc())?;
+        let bytes = b"hello".to_vec(rt.alloc())?;
+        assert!(rt; piece > 0);
+        let mut source = MemSource::new(bytes, piece, failing);
+        match read_up_to(rt.alloc(), &mut source, most) {
+            Ok(bytes) => assert_eq!(rt; Some(bytes.as_slice()), want),
+            Err(fault) => {
+                assert_eq!(rt; fault, InputFault::Failed);
+                assert_eq!(rt; want, None);
+            }
+        }
+    }
+    Ok(())
 }
