@@ -1,0 +1,179 @@
+//! The pairs of a rule.
+
+ghost use Rattle.std.specs.Prelude.{◌≡◌, ◌+◌, ◌*◌, ◌/◌, ◌^◌, ◌<◌, ◌↔◌, ℕ, Some, slice_index, IfSome};
+ghost use Rattle.word_image.specs.LocalRules.{IsRule, node_count};
+ghost use Rattle.word_image.specs.Graphs.{first_of, second_of, pair_of, pair_count};
+
+use debruijn::Graph;
+use std::marker::Model;
+use word_image::Rule;
+
+/// The pairs of nodes of a rule's de Bruijn graph, seen as that rule. The pair of u and v has the
+/// number u * N + v, for the N nodes.
+#[derive(Clone, Copy, Debug)]
+pub struct Pairs {
+    // The rule.
+    rule: Rule,
+    // Its de Bruijn graph.
+    graph: Graph,
+}
+
+impl Model for Pairs {
+    ghost use Rattle.std.specs.Prelude.{◌≡◌};
+    ghost use Rattle.std.proofs.Common.{sym};
+    ghost use Rattle.word_image.specs.LocalRules.{LocalRule};
+
+    ghost Value = { LocalRule };
+
+    ghost view = { λ p. p.rule };
+
+    ghost invariant = { λ p. p.graph ≡ p.rule };
+
+    ghost inverse = { λ r. record { rule = r; graph = r } };
+
+    ghost inverse_ok = { λ p h i. record { rule = p.rule; graph = sym h i } };
+}
+
+impl Pairs {
+    ghost use Rattle.word_image.specs.Graphs.{follow, marked};
+    ghost use Rattle.pair_graph.specs.BackSteps.{LeadsBack};
+
+    /// The pairs of this rule.
+    pub fn of(rule: &Rule) -> Pairs
+        ensures { result ≡ rule.now }
+    {
+        Pairs {
+            rule: *rule,
+            graph: Graph::of(rule),
+        }
+    }
+
+    /// The rule that they are of.
+    pub fn rule(&self) -> &Rule
+        ensures { result.now ≡ self.now }
+    {
+        &self.rule
+    }
+
+    /// How many pairs there are: N * N, from 4 to 256.
+    pub fn count(&self) -> u16
+        ensures count { result ≡ pair_count self.now }
+        ensures rule { IsRule self.now }
+    {
+        let nodes = self.nodes();
+        nodes * nodes
+    }
+
+    /// The pair to which the letters a and b lead from the nodes of p; `None` exactly where the labels
+    /// of the two edges differ.
+    pub fn follow(&self, p: u16, a: u8, b: u8) -> Option<u16>
+        requires pair { p < pair_count self.now }
+        requires first { a < self.now.states }
+        requires second { b < self.now.states }
+        ensures pair { result ≡ follow self.now p a b }
+        ensures below { IfSome result (λ q. q < pair_count self.now) }
+    {
+        let (u, v) = (self.first(p), self.second(p));
+        if self.graph.label(u, a) != self.graph.label(v, b) {
+            return None;
+        }
+        Some(self.pair_of(self.graph.next(u, a), self.graph.next(v, b)))
+    }
+
+    /// The pair whose nodes begin with the letters a and b, and from which an edge each leads to the
+    /// nodes of q, with equal labels; `None` exactly where the labels of these edges differ.
+    pub fn back(&self, q: u16, a: u8, b: u8) -> Option<u16>
+        requires pair { q < pair_count self.now }
+        requires first { a < self.now.states }
+        requires second { b < self.now.states }
+        ensures exactly { (p : ℕ) → (result ≡ Some p) ↔ LeadsBack self.now q a b p }
+    {
+        let first = self.window_before(a, self.first(q));
+        let second = self.window_before(b, self.second(q));
+        if self.at(first) != self.at(second) {
+            return None;
+        }
+        Some(self.pair_of(self.beginning(first), self.beginning(second)))
+    }
+
+    /// The step of `follow` in the marked graph, where t is p or, with the mark, p + N * N. The mark
+    /// stays, and comes where a and b differ.
+    pub fn marked(&self, t: u16, a: u8, b: u8) -> Option<u16>
+        requires pair { t < 2 * pair_count self.now }
+        requires first { a < self.now.states }
+        requires second { b < self.now.states }
+        ensures pair { result ≡ marked self.now t a b }
+        ensures below { IfSome result (λ q. q < 2 * pair_count self.now) }
+    {
+        let count = self.count();
+        let q = self.follow(t % count, a, b)?;
+        if t >= count || a != b {
+            Some(q + count)
+        } else {
+            Some(q)
+        }
+    }
+
+    /// How many nodes there are.
+    fn nodes(&self) -> u16
+        ensures nodes { result ≡ node_count self.now }
+        ensures rule { IsRule self.now }
+    {
+        u16::from(self.graph.nodes())
+    }
+
+    /// The first node of a pair.
+    fn first(&self, p: u16) -> u8
+        requires { p < pair_count self.now }
+        ensures node { result ≡ first_of self.now p }
+        ensures below { result < node_count self.now }
+    {
+        (p / self.nodes()) as u8
+    }
+
+    /// The second node of a pair.
+    fn second(&self, p: u16) -> u8
+        ensures node { result ≡ second_of self.now p }
+        ensures below { result < node_count self.now }
+    {
+        (p % self.nodes()) as u8
+    }
+
+    /// The pair of two nodes.
+    fn pair_of(&self, u: u8, v: u8) -> u16
+        requires first { u < node_count self.now }
+        requires second { v < node_count self.now }
+        ensures pair { result ≡ pair_of self.now u v }
+        ensures below { result < pair_count self.now }
+    {
+        u16::from(u) * self.nodes() + u16::from(v)
+    }
+
+    /// The value of the window of letter a before node s.
+    fn window_before(&self, a: u8, s: u8) -> u16
+        requires letter { a < self.now.states }
+        requires node { s < node_count self.now }
+        ensures window { result ≡ a * node_count self.now + s }
+        ensures within { result < self.now.states ^ self.now.width }
+        ensures rule { IsRule self.now }
+    {
+        u16::from(a) * self.nodes() + u16::from(s)
+    }
+
+    /// What the rule gives on the window of this value.
+    fn at(&self, window: u16) -> u8
+        requires { window < self.now.states ^ self.now.width }
+        ensures { result ≡ slice_index self.now.table window }
+    {
+        self.rule.at(window)
+    }
+
+    /// The node with which the window of this value begins.
+    fn beginning(&self, window: u16) -> u8
+        requires { window < self.now.states ^ self.now.width }
+        ensures node { result ≡ window / self.now.states }
+        ensures below { result < node_count self.now }
+    {
+        (window / u16::from(self.rule.k())) as u8
+    }
+}

@@ -1,0 +1,74 @@
+//! Steps forth and back on every pair and all letters, and marks.
+
+use crate::Pairs;
+use std::process::Abort;
+use std::test::Fail;
+use word_image::Rule;
+
+/// Undoes each step: back by the letters with which the nodes of p begin, and forth by those with
+/// which the nodes of q end.
+fn undoes_steps(rt: &impl Abort, pairs: &Pairs, first_letters: &[u8]) {
+    let k = pairs.rule().k();
+    let nodes = u16::from(pairs.rule().nodes());
+    assert_eq!(rt; first_letters.len(), usize::from(nodes));
+    for p in 0..pairs.count() {
+        let begins = (
+            first_letters[usize::from(p / nodes)],
+            first_letters[usize::from(p % nodes)],
+        );
+        let ends = (
+            (p / nodes % u16::from(k)) as u8,
+            (p % nodes % u16::from(k)) as u8,
+        );
+        assert!(rt; begins.0 < k && begins.1 < k);
+        for a in 0..k {
+            for b in 0..k {
+                if let Some(q) = pairs.follow(p, a, b) {
+                    assert_eq!(rt;
+                        pairs.back(q, begins.0, begins.1),
+                        Some(p),
+                        "at {p}, {a} and {b}"
+                    );
+                }
+                if let Some(q) = pairs.back(p, a, b) {
+                    assert!(rt; q < pairs.count());
+                    assert_eq!(rt;
+                        pairs.follow(q, ends.0, ends.1),
+                        Some(p),
+                        "back at {p}, {a} and {b}"
+                    );
+                }
+            }
+        }
+    }
+}
+
+#[test]
+fn every_step_is_undone(rt: HostRuntime) -> Result<(), Fail> {
+    let rule_110 = Rule::new(2, 3, -1, &[0, 1, 1, 1, 0, 1, 1, 0])?;
+    undoes_steps(&rt, &Pairs::of(&rule_110), &[0, 0, 1, 1]);
+    let sums = Rule::new(3, 2, 0, &[0, 1, 2, 1, 2, 0, 2, 0, 1])?;
+    undoes_steps(&rt, &Pairs::of(&sums), &[0, 1, 2]);
+    Ok(())
+}
+
+#[test]
+fn rule_110_has_these_steps(rt: HostRuntime) -> Result<(), Fail> {
+    let pairs = Pairs::of(&Rule::new(2, 3, -1, &[0, 1, 1, 1, 0, 1, 1, 0])?);
+    assert_eq!(rt; pairs.count(), 16);
+    // Pair, letters, and the steps without a mark and with it.
+    let cases = [
+        (9, 1, 0, Some(6), Some(22)),
+        (9, 0, 0, None, None),
+        (0, 1, 1, Some(5), Some(5)),
+        (16, 1, 1, None, Some(21)),
+    ];
+    for (t, a, b, plain, marked) in cases {
+        assert!(rt; t < 32 && a < 2 && b < 2);
+        assert_eq!(rt; pairs.marked(t, a, b), marked, "at {t}, {a} and {b}");
+        if t < 16 {
+            assert_eq!(rt; pairs.follow(t, a, b), plain, "at {t}, {a} and {b}");
+        }
+    }
+    Ok(())
+}
