@@ -1,8 +1,10 @@
 pub mod Places
 pub mod Prefixes
+pub mod Lists
 pub mod Values
 pub mod Words
 pub mod Images
+pub mod Rings
 pub mod Orders
 pub mod Graphs
 pub mod Bits

@@ -7,6 +7,7 @@ pub mod Ranks
 pub mod Erasure
 pub mod RuleFaults
 pub mod ImageFaults
+pub mod RingFaults
 pub mod Families
 pub mod Digits
 pub mod Grammars

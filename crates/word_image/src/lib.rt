@@ -22,8 +22,10 @@ mod images;
 mod letters;
 mod lists;
 mod local_rule;
+mod rings;
 
 pub use images::{ImageFault, image};
 pub use letters::{digit, letter, word_text};
 pub use lists::{FluxRow, RankRow, SetList, Word};
 pub use local_rule::{MOST_ENTRIES, Rule, RuleFault, check_shape};
+pub use rings::{RingFault, ring_image};

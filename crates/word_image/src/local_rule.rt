@@ -1,9 +1,9 @@
 //! A rule, and what it gives on a window.
-ghost use Rattle.std.specs.Prelude.{◌≡◌, ◌^◌, ◌<◌, ◌≤◌, ◌↔◌, length, nat_le, position, slice_index, IfOk, IfSome, IsOk, IsTrue};
+ghost use Rattle.std.specs.Prelude.{◌≡◌, ℕ, ◌^◌, ◌<◌, ◌≤◌, ◌↔◌, List, length, reverse, nat_le, position, slice_index, IfOk, IfSome, IsOk, IsTrue};
 ghost use Rattle.std.specs.Cmp.Rules.{comparing};
 ghost use Rattle.std.proofs.Common.{rules};
 ghost use Rattle.std.specs.Result.{result_err};
-ghost use Rattle.word_image.specs.LocalRules.{IsWord, value, same_rule};
+ghost use Rattle.word_image.specs.LocalRules.{IsWord, value, word_of, same_rule};
 ghost use Rattle.word_image.specs.RuleFaults.{shape_fault, table_fault};
 ghost use Rattle.word_image.specs.Storage.{padded};
 
@@ -65,8 +65,9 @@ impl Model for Rule {
 }
 
 impl Rule {
-    ghost use Rattle.word_image.specs.LocalRules.{IsRule, local_map, node_count};
+    ghost use Rattle.word_image.specs.LocalRules.{IsRule, local_map, mirrored, node_count};
     ghost use Rattle.word_image.specs.RuleFaults.{rule_fault};
+    ghost use Rattle.word_image.specs.Words.{image};
 
     /// The rule of exactly these states, width, offset and table, whose letters stand in the order
     /// of the values of their windows; else the first fault, in the order of `RuleFault`.
@@ -142,6 +143,38 @@ impl Rule {
         ensures letter { result < self.now.states }
     {
         self.at(value_of(self.k, window))
+    }
+
+    /// The mirrored rule: it gives on a window what this one gives on the window read backwards, and
+    /// its window lies as far on the other side of the cell.
+    pub fn reflect(&self) -> Rule
+        ensures mirrored { result ≡ mirrored self.now }
+        ensures image { (x : List ℕ) → IsWord self.now.states x → image result (reverse x) ≡ reverse (image self.now x) }
+    {
+        Rule {
+            k: self.k(),
+            m: self.m(),
+            o: self.mirrored_offset(),
+            entries: self.backward_entries(),
+        }
+    }
+
+    /// The offset of a window that lies as far on the other side of the cell.
+    fn mirrored_offset(&self) -> i8
+        ensures { result ≡ (mirrored self.now).offset }
+    {
+        -(self.o() + (self.m() as i8 - 1))
+    }
+
+    /// The letters that the rule gives on the windows read backwards, and zeros after them.
+    fn backward_entries(&self) -> [u8; MOST_ENTRIES]
+        ensures { result ≡ padded (mirrored self.now).table }
+    {
+        let mut entries = [0; MOST_ENTRIES];
+        for window in 0..self.size() {
+            entries[usize::from(window)] = self.at(backwards(self.k(), self.m(), window));
+        }
+        entries
     }
 }
 
@@ -229,6 +262,24 @@ fn value_of(k: u8, window: &[u8]) -> u16
     value
 }
 
+/// The value of a window, read backwards.
+fn backwards(k: u8, m: u8, window: u16) -> u16
+    requires states { 0 < k }
+    requires fits { k ^ m ≤ 256 }
+    requires window { window < k ^ m }
+    ensures value { result ≡ value k (reverse (word_of k m window)) }
+    ensures below { result < k ^ m }
+{
+    let k = u16::from(k);
+    let mut left = window;
+    let mut read = 0;
+    for _ in 0..m {
+        read = read * k + left % k;
+        left /= k;
+    }
+    read
+}
+
 #[cfg(test)]
 mod tests {
     use super::*;
@@ -294,6 +345,19 @@ mod tests {
             assert!(rt; a < 2 && b < 2 && c < 2);
             assert_eq!(rt; rule.apply(&[a, b, c]), letter);
             assert_eq!(rt; rule.at(value as u16), letter);
+        }
+    }
+
+    #[test]
+    fn mirrored_rules_read_their_windows_backwards(rt: HostRuntime) {
+        let cases: [(u8, u8, i8, &[u8], i8, &[u8]); 3] = [
+            (2, 3, -1, &RULE_110, -1, &[0, 0, 1, 1, 1, 1, 1, 0]),
+            (2, 2, 0, &[0, 0, 1, 1], -1, &[0, 1, 0, 1]),
+            (3, 2, -16, &[0, 1, 2, 0, 0, 1, 2, 2, 1], 15, &[0, 0, 2, 1, 0, 2, 2, 1, 1]),
+        ];
+        for (case, (k, m, o, table, offset, backwards)) in cases.into_iter().enumerate() {
+            let rule = Rule::new(k, m, o, table).map(|rule| rule.reflect());
+            assert_eq!(rt; rule, Rule::new(k, m, offset, backwards), "case {case}");
         }
     }
 }

@@ -1,9 +1,9 @@
 -- Words and their values: each word of n letters is one number below k ^ n.
-use Rattle.std.proofs.Common.{◌≡◌, ℕ, zero, suc, ◌+◌, ◌*◌, ◌/◌, ◌%◌, ◌^◌, ◌<◌, List, [], ◌∷◌, ◌++◌, length, refl, sym, ap, ap₂, ◌∙◌, arith, length-append, add-mul, mul_assoc, mul_comm, mul-one, zero-mul, one-mul, pow-suc, mod-lt}
-use Rattle.std.proofs.Math.Nat.{pow-zero, pos_of_ne-zero}
+use Rattle.std.proofs.Common.{◌≡◌, ℕ, zero, suc, ◌+◌, ◌*◌, ◌/◌, ◌%◌, ◌^◌, ◌<◌, ◌≤◌, List, [], ◌∷◌, ◌++◌, length, take, get_or, refl, sym, ap, ap₂, ◌∙◌, arith, length-append, add-mul, mul_assoc, mul_comm, mul-one, zero-mul, one-mul, pow-suc, mod-lt, length-take-le}
+use Rattle.std.proofs.Math.Nat.{pow-zero, pow-le-pow_right, pos_of_ne-zero}
 use Rattle.std.proofs.lemmas.Nat.{pow-add, mul-add-lt, same_from_place, div_below, div-add-mod', div-mul-add, mod-mul-add}
-use Rattle.std.proofs.lemmas.List.{nil_from_length}
-use Rattle.std.proofs.lemmas.List.Elements.{All-nil, All-cons, All-head, All-tail}
+use Rattle.std.proofs.lemmas.List.{nil_from_length, take_more}
+use Rattle.std.proofs.lemmas.List.Elements.{All-nil, All-cons, All-head, All-tail, All-take}
 use Rattle.word_image.specs.LocalRules.{IsWord, value, word_of}
 
 -- the value of two words in a row
@@ -87,3 +87,17 @@ word_of-value k (a ∷ w) h =
     let first : (a * k ^ length w + value k w) / k ^ length w ≡ a = div-mul-add a (k ^ length w) (value k w) below in
     let rest : (a * k ^ length w + value k w) % k ^ length w ≡ value k w = mod-mul-add a (k ^ length w) (value k w) below in
     ap₂ (λ (c : ℕ) (v : ℕ). c ∷ word_of k (length w) v) first rest ∙ ap (λ z. a ∷ z) (word_of-value k w tail)
+
+-- the first letters of a word, with one letter more
+pub value-take_more : (k : ℕ) (w : List ℕ) (i : ℕ) → i < length w → value k (take (i + 1) w) ≡ value k (take i w) * k + get_or w i 0
+value-take_more k w i h = ap (value k) (take_more w i 0 h) ∙ value-snoc k (take i w) (get_or w i 0)
+
+-- its value is below what bounds those of words as long as the whole
+pub value-take-below : (k : ℕ) (w : List ℕ) (i n : ℕ) → IsWord k w → i < length w → k ^ length w ≤ n → value k (take i w) * k + get_or w i 0 < n
+value-take-below k w i n word h fits =
+    let letter : get_or w i 0 < k = word i 0 h in
+    let positive : 0 < k = omega arith in
+    let long : length (take (i + 1) w) ≡ i + 1 = length-take-le (i + 1) w (omega arith) in
+    let below : value k (take (i + 1) w) < k ^ (i + 1) = rw long at (value-below k (take (i + 1) w) (All-take (λ a. a < k) (i + 1) w word)) in
+    let grows : k ^ (i + 1) ≤ k ^ length w = pow-le-pow_right positive (omega arith) in
+    omega (arith, value-take_more k w i h)

@@ -1,0 +1,62 @@
+-- Rings read from any place on: the letters come again after a full turn.
+use Rattle.std.proofs.Common.{◌≡◌, ℕ, zero, suc, ◌+◌, ◌-◌, ◌*◌, ◌/◌, ◌%◌, ◌<◌, ◌≤◌, List, length, map, slice_index, ℤ, pos, negsuc, ◌+ℤ◌, refl, sym, ap, ◌∙◌, ⊎_elim, arith, suc-mul, zero-mul, div-add-mod', mod-lt}
+use mathlib.Core.Path.{fun_ext}
+use Rattle.std.specs.Int.{int_rem_euclid}
+use Rattle.std.specs.List.{range_with_len}
+use Rattle.std.proofs.Math.Nat.{add-mod_right, mod-add-mod, mod-eq_of_lt, mod-eq-sub-mod}
+use Rattle.std.proofs.lemmas.Bool.{cases_lt}
+use Rattle.std.proofs.lemmas.Int.{ints}
+use Rattle.std.proofs.lemmas.List.Elements.{All-map}
+use Rattle.word_image.specs.LocalRules.{IsWord}
+use Rattle.word_image.specs.Rings.{IsRing, ring_letter, ring_letters}
+
+-- the letters of a ring come again after a full turn
+pub ring_letter-turn : (p : List ℕ) (i : ℤ) → 0 < length p → ring_letter p (i +ℤ pos (length p)) ≡ ring_letter p i
+ring_letter-turn p (pos i) some = ap (slice_index p) (add-mod_right i (length p))
+ring_letter-turn p (negsuc i) some = ⊎_elim
+    (λ (l : i < length p).
+    let place : negsuc i +ℤ pos (length p) ≡ pos (length p - 1 - i) = omega (arith, ints) in
+    ap (ring_letter p) place ∙ ap (slice_index p) (mod-eq_of_lt (omega arith) ∙ ap (λ j. length p - 1 - j) (sym (mod-eq_of_lt l))))
+    (λ (l : length p ≤ i).
+    let place : negsuc i +ℤ pos (length p) ≡ negsuc (i - length p) = omega (arith, ints) in
+    ap (ring_letter p) place ∙ ap (λ j. slice_index p (length p - 1 - j)) (sym (mod-eq-sub-mod l)))
+    (cases_lt i (length p))
+
+-- and after some turns
+ring_letter-turns : (p : List ℕ) (i : ℤ) (n : ℕ) → 0 < length p → ring_letter p (i +ℤ pos (n * length p)) ≡ ring_letter p i
+ring_letter-turns p i zero some =
+    let e : i +ℤ pos (zero * length p) ≡ i = omega (arith, ints, zero-mul (length p)) in ap (ring_letter p) e
+ring_letter-turns p i (suc n) some =
+    let e : i +ℤ pos (suc n * length p) ≡ (i +ℤ pos (n * length p)) +ℤ pos (length p) = omega (arith, ints, suc-mul n (length p)) in
+    ap (ring_letter p) e ∙ ring_letter-turn p (i +ℤ pos (n * length p)) some ∙ ring_letter-turns p i n some
+
+-- the letter at j places after i stands j places after the remainder of i
+ring_letter-rem : (p : List ℕ) (i : ℤ) (t j : ℕ) → 0 < length p → int_rem_euclid i (pos (length p)) ≡ pos t → ring_letter p (i +ℤ pos j) ≡ ring_letter p (pos (t + j))
+ring_letter-rem p (pos i) t j some e =
+    let rest : i % length p ≡ t = omega (arith, ints) in
+    ap (slice_index p) (sym (mod-add-mod i (length p) j) ∙ ap (λ s. (s + j) % length p) rest)
+ring_letter-rem p (negsuc i) t j some e =
+    let turns : ℕ = suc (i / length p) in
+    let whole : (negsuc i +ℤ pos j) +ℤ pos (turns * length p) ≡ pos (t + j) = omega (arith, ints, suc-mul (i / length p) (length p)) in
+    sym (ring_letter-turns p (negsuc i +ℤ pos j) turns some) ∙ ap (ring_letter p) whole
+
+-- so the letters from i places after a place on are those from a place of the ring on
+pub ring_letters-rem : (p : List ℕ) (o : ℤ) (t i n : ℕ) → 0 < length p → int_rem_euclid o (pos (length p)) ≡ pos t
+    → ring_letters p (pos i +ℤ o) n ≡ ring_letters p (pos ((t + i) % length p)) n
+ring_letters-rem p o t i n some e = ap (λ f. map f (range_with_len 0 n)) (fun_ext (λ j.
+    let place : (pos i +ℤ o) +ℤ pos j ≡ o +ℤ pos (i + j) = omega (arith, ints) in
+    let sum : t + (i + j) ≡ t + i + j = omega arith in
+    ap (ring_letter p) place
+    ∙ ring_letter-rem p o t (i + j) some e
+    ∙ ap (λ s. slice_index p (s % length p)) sum
+    ∙ sym (ap (slice_index p) (mod-add-mod (t + i) (length p) j))))
+
+-- the letters of a ring are letters
+pub ring_letter-below : {k : ℕ} {p : List ℕ} → IsRing k p → (i : ℤ) → ring_letter p i < k
+ring_letter-below {k} {p} ring (pos i) = ring.word (i % length p) 0 (mod-lt i ring.some)
+ring_letter-below {k} {p} ring (negsuc i) = let some = ring.some in ring.word (length p - 1 - i % length p) 0 (omega arith)
+
+-- a ring read from any place on is a word
+pub IsWord-ring_letters : {k : ℕ} {p : List ℕ} → IsRing k p → (o : ℤ) (n : ℕ) → IsWord k (ring_letters p o n)
+IsWord-ring_letters {k} {p} ring o n =
+    All-map (λ a. a < k) (λ j. ring_letter p (o +ℤ pos j)) (range_with_len 0 n) (λ i d l. ring_letter-below ring _)

@@ -1,0 +1,23 @@
+use Rattle.std.proofs.Common.{◌≡◌, ℕ, ◌+◌, ◌%◌, ℤ, pos, ◌+ℤ◌, length, map, w8, to_z, of_z, sym, ap, ◌∙◌, arith}
+use Rattle.std.specs.Int.{int_rem_euclid}
+use Rattle.std.specs.List.{range_with_len}
+use Rattle.std.proofs.lemmas.Int.{to_z-of_z}
+use Rattle.word_image.specs.LocalRules.{local_map}
+use Rattle.word_image.specs.Rings.{ring_letters}
+use Rattle.word_image.proofs.laws.Lists.{letters_more}
+use Rattle.word_image.proofs.laws.Rings.{ring_letters-rem}
+use Rattle.word_image.proofs.rings.new_letters.Goals as goal
+
+pub loop-place-preserved : goal.loop-place-preserved
+loop-place-preserved c =
+    let r = c.args.rule.now in
+    let p = c.args.ring.now in
+    let window = ring_letters-rem p r.offset _ c.loop-place.place r.width c.requires.ring.some (sym c.first_place-first.ensures) in
+    letters_more _ _ _ _ _ c.loop-place.invariant (c.letter_from.ensures ∙ sym (ap (local_map r) window)) c.in_ok-push.ensures.items
+
+pub returns : goal.returns
+returns c =
+    let r = c.args.rule.now in
+    let p = c.args.ring.now in
+    let whole : c.loop-place.place ≡ length p = omega arith in
+    c.loop-place.invariant ∙ ap (λ n. map (λ i. local_map r (ring_letters p (pos i +ℤ r.offset) r.width)) (range_with_len 0 n)) whole

@@ -1,0 +1,112 @@
+//! The image of a ring.
+ghost use Rattle.std.specs.Prelude.{◌≡◌, ◌^◌, ◌<◌, length, pos, alloc_error, IfOk, IfSome, IfNone, IsOkUnless};
+ghost use Rattle.std.specs.Int.{int_rem_euclid};
+ghost use Rattle.word_image.specs.LocalRules.{IsRule, local_map};
+ghost use Rattle.word_image.specs.Rings.{IsRing, ring_letters, ring_image};
+ghost use Rattle.word_image.specs.RingFaults.{ring_fault};
+
+use crate::local_rule::{Rule, first_foreign};
+use std::alloc::{AllocError, Global};
+
+/// The most letters that a window has.
+const WIDEST: usize = 5;
+
+/// Why a ring gets no image.
+#[derive(Clone, Copy, Debug, PartialEq, Eq)]
+pub enum RingFault {
+    /// The letter at this place of the ring, the first such one, is not below k.
+    Letter(usize),
+    /// The ring has no letter.
+    Empty,
+    /// There is not enough memory.
+    Memory(AllocError),
+}
+
+/// The image of a ring of at least one letter below k: a ring of as many letters, each of them what
+/// the rule gives on the window of its place, counted round the ring.
+///
+/// `Letter` and `Empty` come exactly where they are the first fault of the ring, in this order, and
+/// `Memory` only where the ring has neither.
+pub fn ring_image(alloc: Global, rule: &Rule, ring: &[u8]) -> Result<Vec<u8>, RingFault>
+    ensures image { IfOk result (λ v. v.items ≡ ring_image rule.now ring.now) }
+    ensures refused { IfSome (ring_fault rule.now ring.now) (λ fault. result ≡ Err fault) }
+    ensures accepted { IfNone (ring_fault rule.now ring.now) (IsOkUnless result (RingFault.Memory alloc_error)) }
+{
+    if let Some(place) = first_foreign(rule.k(), ring) {
+        return Err(RingFault::Letter(place));
+    }
+    if ring.is_empty() {
+        return Err(RingFault::Empty);
+    }
+    new_letters(alloc, rule, ring).map_err(RingFault::Memory)
+}
+
+/// What the rule gives on the window of each place of a ring.
+fn new_letters(alloc: Global, rule: &Rule, ring: &[u8]) -> Result<Vec<u8>, AllocError>
+    requires rule { IsRule rule.now }
+    requires ring { IsRing rule.now.states ring.now }
+    ensures { IfOk result (λ v. v.items ≡ ring_image rule.now ring.now) }
+{
+    let count = ring.len();
+    let first = first_place(rule, count);
+    let mut letters = Vec::with_capacity(alloc, count)?;
+    for place in 0..count {
+        letters.push(letter_from(rule, ring, (first + place) % count))?;
+    }
+    Ok(letters)
+}
+
+/// Where the window of place 0 begins, on a ring of this many letters.
+fn first_place(rule: &Rule, count: usize) -> usize
+    requires some { 0 < count }
+    requires fits { count < 2 ^ 63 }
+    ensures { pos result ≡ int_rem_euclid rule.now.offset (pos count) }
+{
+    i64::from(rule.o()).rem_euclid(count as i64) as usize
+}
+
+/// What the rule gives on the window that begins at a place of a ring.
+fn letter_from(rule: &Rule, ring: &[u8], first: usize) -> u8
+    requires rule { IsRule rule.now }
+    requires ring { IsRing rule.now.states ring.now }
+    requires first { first < length ring.now }
+    ensures { result ≡ local_map rule.now (ring_letters ring.now (pos first) rule.now.width) }
+{
+    let width = usize::from(rule.m());
+    let mut window = [0; WIDEST];
+    for i in 0..width {
+        window[i] = ring[(first + i) % ring.len()];
+    }
+    rule.apply(&window[..width])
+}
+
+#[cfg(test)]
+mod tests {
+    use super::*;
+
+    #[test]
+    fn rings_are_read_on_from_their_end(rt: HostRuntime) {
+        let table: [u8; 8] = [0, 0, 0, 1, 1, 1, 0, 1];
+        // The offset, the ring and its image under the table of rule 184.
+        let cases: [(i8, &[u8], Result<&[u8], RingFault>); 9] = [
+            (-1, &[0, 0, 1, 1], Ok(&[1, 0, 1, 0])),
+            (0, &[0, 0, 1, 1], Ok(&[0, 1, 0, 1])),
+            (-16, &[0, 0, 1, 1], Ok(&[0, 1, 0, 1])),
+            (14, &[0, 0, 1, 1], Ok(&[0, 1, 0, 1])),
+            (-3, &[1, 0], Ok(&[0, 1])),
+            (5, &[1], Ok(&[1])),
+            (-1, &[], Err(RingFault::Empty)),
+            (-1, &[0, 1, 2, 3], Err(RingFault::Letter(2))),
+            (-1, &[9], Err(RingFault::Letter(0))),
+        ];
+        for (o, ring, want) in cases {
+            let Ok(rule) = Rule::new(2, 3, o, &table) else {
+                return assert!(rt; false, "the rule is refused");
+            };
+            match ring_image(rt.alloc(), &rule, ring) {
+                Ok(found) => assert_eq!(rt; Ok(found.as_slice()), want),
+                Err(fault) => assert_eq!(rt; Err(fault), want),
+            }
+        }
+    }
+}
