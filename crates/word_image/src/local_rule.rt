@@ -353,7 +353,14 @@ mod tests {
         let cases: [(u8, u8, i8, &[u8], i8, &[u8]); 3] = [
             (2, 3, -1, &RULE_110, -1, &[0, 0, 1, 1, 1, 1, 1, 0]),
             (2, 2, 0, &[0, 0, 1, 1], -1, &[0, 1, 0, 1]),
-            (3, 2, -16, &[0, 1, 2, 0, 0, 1, 2, 2, 1], 15, &[0, 0, 2, 1, 0, 2, 2, 1, 1]),
+            (
+                3,
+                2,
+                -16,
+                &[0, 1, 2, 0, 0, 1, 2, 2, 1],
+                15,
+                &[0, 0, 2, 1, 0, 2, 2, 1, 1],
+            ),
         ];
         for (case, (k, m, o, table, offset, backwards)) in cases.into_iter().enumerate() {
             let rule = Rule::new(k, m, o, table).map(|rule| rule.reflect());

@@ -1,5 +1,5 @@
 -- Rings read from any place on: the letters come again after a full turn.
-use Rattle.std.proofs.Common.{◌≡◌, ℕ, zero, suc, ◌+◌, ◌-◌, ◌*◌, ◌/◌, ◌%◌, ◌<◌, ◌≤◌, List, length, map, slice_index, ℤ, pos, negsuc, ◌+ℤ◌, refl, sym, ap, ◌∙◌, ⊎_elim, arith, suc-mul, zero-mul, div-add-mod', mod-lt}
+use Rattle.std.proofs.Common.{◌≡◌, ℕ, zero, suc, ◌+◌, ◌-◌, ◌*◌, ◌/◌, ◌%◌, ◌<◌, ◌≤◌, List, length, map, slice_index, ℤ, pos, negsuc, ◌+ℤ◌, sym, ap, ◌∙◌, ⊎_elim, arith, suc-mul, zero-mul, mod-lt}
 use mathlib.Core.Path.{fun_ext}
 use Rattle.std.specs.Int.{int_rem_euclid}
 use Rattle.std.specs.List.{range_with_len}

@@ -1,8 +1,4 @@
-use Rattle.std.proofs.Common.{◌≡◌, ℕ, ◌+◌, ◌*◌, ◌^◌, ◌<◌, ◌≤◌, List, length, take, get_or, ap, ◌∙◌, arith, length-take-le}
-use Rattle.std.proofs.Math.Nat.{pow-le-pow_right}
-use Rattle.std.proofs.lemmas.List.{take_more}
-use Rattle.std.proofs.lemmas.List.Elements.{All-take}
-use Rattle.word_image.specs.LocalRules.{IsWord, value}
+use Rattle.std.proofs.Common.{arith}
 use Rattle.word_image.proofs.laws.Values.{value-take_more, value-take-below}
 use Rattle.word_image.proofs.local_rule.value_of.Goals as goal
 

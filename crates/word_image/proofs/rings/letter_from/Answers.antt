@@ -1,7 +1,7 @@
-use Rattle.std.proofs.Common.{◌≡◌, ◌+◌, ◌%◌, length, take, slice_index, slice_set, pos, refl, sym, ap, subst, ◌∙◌, arith}
+use Rattle.std.proofs.Common.{◌≡◌, ◌+◌, ◌%◌, length, take, slice_index, pos, refl, sym, subst, ◌∙◌, arith}
 use Rattle.std.proofs.lemmas.List.{length-set, take_more_set}
-use Rattle.word_image.specs.LocalRules.{IsWord, local_map}
-use Rattle.word_image.specs.Rings.{ring_letter, ring_letters}
+use Rattle.word_image.specs.LocalRules.{IsWord}
+use Rattle.word_image.specs.Rings.{ring_letter}
 use Rattle.word_image.proofs.laws.Lists.{letters_more}
 use Rattle.word_image.proofs.laws.Rings.{IsWord-ring_letters}
 use Rattle.word_image.proofs.rings.letter_from.Goals as goal

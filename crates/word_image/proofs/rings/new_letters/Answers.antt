@@ -1,7 +1,5 @@
-use Rattle.std.proofs.Common.{◌≡◌, ℕ, ◌+◌, ◌%◌, ℤ, pos, ◌+ℤ◌, length, map, w8, to_z, of_z, sym, ap, ◌∙◌, arith}
-use Rattle.std.specs.Int.{int_rem_euclid}
+use Rattle.std.proofs.Common.{◌≡◌, pos, ◌+ℤ◌, length, map, sym, ap, ◌∙◌, arith}
 use Rattle.std.specs.List.{range_with_len}
-use Rattle.std.proofs.lemmas.Int.{to_z-of_z}
 use Rattle.word_image.specs.LocalRules.{local_map}
 use Rattle.word_image.specs.Rings.{ring_letters}
 use Rattle.word_image.proofs.laws.Lists.{letters_more}

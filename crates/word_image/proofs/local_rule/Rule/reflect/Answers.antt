@@ -1,7 +1,7 @@
-use Rattle.std.proofs.Common.{◌≡◌, ℕ, ◌^◌, List, length, take, drop, replicate, reverse, ◌-◌, sym, ap, ap₂, subst, ◌∙◌, w8, FitsSigned, to_z, of_z, arith}
+use Rattle.std.proofs.Common.{◌≡◌, ℕ, ◌^◌, List, take, drop, replicate, reverse, ◌-◌, sym, ap, ap₂, subst, ◌∙◌, w8, FitsSigned, to_z, of_z, arith}
 use Rattle.std.specs.Prelude.{ℤ}
 use Rattle.std.proofs.lemmas.Int.{to_z-of_z, ints}
-use Rattle.word_image.specs.LocalRules.{LocalRule, IsRule, IsWord, mirrored}
+use Rattle.word_image.specs.LocalRules.{LocalRule, IsRule, mirrored}
 use Rattle.word_image.specs.Storage.{padded}
 use Rattle.word_image.specs.Words.{image}
 use Rattle.word_image.proofs.laws.Images.{image-mirrored, IsRule-mirrored}
