@@ -1,9 +1,9 @@
--- The commands of the program, and the words of each.
-use Rattle.std.specs.Prelude.{ℕ, List, [], ◌∷◌, codes}
+-- The commands of the program, the words of each, and the form of their operands.
+use Rattle.std.specs.Prelude.{◌≡◌, ℕ, List, [], ◌∷◌, codes, Option, Some, ⊤}
 use Rattle.ca_cli.specs.declared.request.Request.{Request}
 use Rattle.ca_cli.specs.declared.request.Request.TheVariants as request
 
--- a command with its operands, each of which may be any word
+-- a command with its operands as they stand on the command line; a rule may be any word
 pub data Command : Type 0 where
   Orphan : (rule : List ℕ) → Command
   Number : (rule : List ℕ) → Command
@@ -13,10 +13,25 @@ abbrev pub words_of : Command → List (List ℕ)
 words_of (Orphan rule) = codes "orphan" ∷ rule ∷ []
 words_of (Number rule) = codes "number" ∷ rule ∷ []
 
--- the operand that is to be a rule text
-abbrev pub rule_operand : Command → List ℕ
-rule_operand (Orphan rule) = rule
-rule_operand (Number rule) = rule
+-- the operands that aren't rules have the form that is asked of them
+abbrev pub IsWellFormed : Command → Type 0
+IsWellFormed (Orphan rule) = ⊤
+IsWellFormed (Number rule) = ⊤
+
+-- the words are those of the command, and its operands are well formed
+pub record IsCommand (words : List (List ℕ)) (c : Command) : Type 0 where
+  pub words_are : words ≡ words_of c
+  pub well_formed : IsWellFormed c
+
+-- the first operand that is to be a rule text
+abbrev pub first_rule : Command → Option (List ℕ)
+first_rule (Orphan rule) = Some rule
+first_rule (Number rule) = Some rule
+
+-- the command reads nothing from the source
+abbrev pub ReadsNothing : Command → Type 0
+ReadsNothing (Orphan rule) = ⊤
+ReadsNothing (Number rule) = ⊤
 
 -- the command of a request
 abbrev pub command_of : Request → Command

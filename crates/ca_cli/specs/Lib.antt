@@ -1,6 +1,8 @@
 pub mod Statuses
 pub mod Commands
 pub mod Lines
+pub mod StatusLines
 pub mod Reports
-pub mod Answers
+pub mod RightAnswers
+pub mod Outcomes
 pub mod Examples

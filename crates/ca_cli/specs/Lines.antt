@@ -1,17 +1,12 @@
 -- How the program writes what it says.
-use Rattle.std.specs.Prelude.{ℕ, List, [], ◌∷◌, ◌++◌, map, codes}
+use Rattle.std.specs.Prelude.{ℕ, List, [], ◌∷◌, ◌++◌, codes}
 use Rattle.std.specs.Fmt.{decimal}
-use Rattle.word_image.specs.Digits.{lower_digit}
 use Rattle.rule_text.specs.declared.text_fault.TextFault.{TextFault}
 use Rattle.rule_text.specs.declared.text_fault.TextFault.TheVariants.{Form, States, Width, Nodes, Offset, Kind, Length, Letter, Number}
 
 -- a text, and the byte that ends a line
 abbrev pub line : List ℕ → List ℕ
 line text = text ++ 10 ∷ []
-
--- a word, by its letters' digits
-abbrev pub word_text : List ℕ → List ℕ
-word_text w = map lower_digit w
 
 -- the kind of a fault in lower case, and its place where it has one
 abbrev pub fault_text : TextFault → List ℕ
@@ -24,7 +19,3 @@ fault_text Kind = codes "kind"
 fault_text Length = codes "length"
 fault_text (Letter place) = codes "letter " ++ decimal place
 fault_text Number = codes "number"
-
--- the first operand has this fault
-abbrev pub rule_fault_line : TextFault → List ℕ
-rule_fault_line f = line (codes "rule fault 1 " ++ fault_text f)

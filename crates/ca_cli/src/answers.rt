@@ -1,78 +1,78 @@
-//! The answer to the words, made whole in memory.
-ghost use Rattle.std.specs.Prelude.{◌≡◌, ℕ, List, Option, map, IfOk, string_bytes};
-ghost use Rattle.rule_text.specs.RuleTexts.{IsTextFault};
-ghost use Rattle.ca_cli.specs.Commands.{Command, words_of, rule_operand};
-ghost use Rattle.ca_cli.specs.Answers.{IsAnswer};
+//! From the words to the answer, which is whole in memory before anything is written.
+ghost use Rattle.std.specs.Prelude.{ℕ, List, Option, map, IfOk, string_bytes};
+ghost use Rattle.ca_cli.specs.Commands.{Command, IsCommand, command_of};
+ghost use Rattle.ca_cli.specs.Outcomes.{IsOutcome, IsStop};
+ghost use Rattle.ca_cli.specs.RightAnswers.{IsAnswer};
 
-use crate::lines::{number_line, rule_fault_line, surjective_line};
+use crate::lines::{write_operand_fault, write_usage};
+use crate::output::Output;
+use crate::reports::{number, orphan};
 use crate::request::Request;
 use crate::status::Status;
-use rule_text::{TextFault, parse};
+use crate::stop::Stop;
 use std::alloc::{AllocError, Global};
 
 /// What the program answers to its words: a status, and the output that belongs to it.
 #[derive(Debug, Drop)]
 pub struct Answer {
     pub status: Status,
-    pub output: String,
+    pub output: Output,
 }
 
-/// The answer to these words.
+/// The answer to these words, whatever the source has left.
 pub fn answer_to(alloc: Global, words: &[String]) -> Result<Answer, AllocError>
     ensures { IfOk result (λ answer. (input : Option (List ℕ)) →
-        IsAnswer (map string_bytes words.now) input answer.status (string_bytes answer.output)) }
+        IsAnswer (map string_bytes words.now) input answer.status answer.output) }
 {
-    match Request::of(words) {
-        None => Ok(Answer {
-            status: Status::Usage,
-            output: String::from_str(alloc, "usage error\n")?,
-        }),
-        Some(Request::Orphan(text)) => orphan(alloc, text),
-        Some(Request::Number(text)) => number(alloc, text),
-    }
-}
-
-/// The answer to `orphan R`.
-fn orphan(alloc: Global, text: &[u8]) -> Result<Answer, AllocError>
-    ensures { IfOk result (λ answer.
-        (words : List (List ℕ)) (input : Option (List ℕ)) →
-        words ≡ words_of (Command.Orphan text.now) →
-        IsAnswer words input answer.status (string_bytes answer.output)) }
-{
-    match parse(text) {
-        Ok(rule) => Ok(Answer {
+    let Some(request) = Request::of(words) else {
+        return usage(alloc);
+    };
+    match carry_out(alloc, request) {
+        Ok(output) => Ok(Answer {
             status: Status::Done,
-            output: surjective_line(alloc, &rule)?,
+            output,
         }),
-        Err(fault) => refusal(alloc, fault),
+        Err(stop) => stopped(alloc, stop),
     }
 }
 
-/// The answer to `number R`.
-fn number(alloc: Global, text: &[u8]) -> Result<Answer, AllocError>
-    ensures { IfOk result (λ answer.
-        (words : List (List ℕ)) (input : Option (List ℕ)) →
-        words ≡ words_of (Command.Number text.now) →
-        IsAnswer words input answer.status (string_bytes answer.output)) }
+/// Carries out a command.
+fn carry_out(alloc: Global, request: Request) -> Result<Output, Stop>
+    ensures { (input : Option (List ℕ)) → IsOutcome input (command_of request.entry) result }
 {
-    match parse(text) {
-        Ok(rule) => Ok(Answer {
-            status: Status::Done,
-            output: number_line(alloc, &rule)?,
-        }),
-        Err(fault) => refusal(alloc, fault),
+    match request {
+        Request::Orphan(rule) => orphan(alloc, rule),
+        Request::Number(rule) => number(alloc, rule),
     }
 }
 
-/// The answer to every command whose rule operand has this fault.
-fn refusal(alloc: Global, fault: TextFault) -> Result<Answer, AllocError>
-    ensures { IfOk result (λ answer.
-        (c : Command) (words : List (List ℕ)) (input : Option (List ℕ)) →
-        words ≡ words_of c → IsTextFault (rule_operand c) fault →
-        IsAnswer words input answer.status (string_bytes answer.output)) }
+/// The answer to words that are no command.
+fn usage(alloc: Global) -> Result<Answer, AllocError>
+    ensures { IfOk result (λ answer. (words : List (List ℕ)) (input : Option (List ℕ)) →
+        ((c : Command) → ¬ IsCommand words c) →
+        IsAnswer words input answer.status answer.output) }
 {
+    let mut output = Output::new(alloc);
+    write_usage(&mut output)?;
     Ok(Answer {
-        status: Status::RuleFault,
-        output: rule_fault_line(alloc, fault)?,
+        status: Status::Usage,
+        output,
     })
+}
+
+/// The answer to a command that stopped.
+fn stopped(alloc: Global, stop: Stop) -> Result<Answer, AllocError>
+    ensures { IfOk result (λ answer.
+        (words : List (List ℕ)) (input : Option (List ℕ)) (c : Command) →
+        IsCommand words c → IsStop c stop → IsAnswer words input answer.status answer.output) }
+{
+    let mut output = Output::new(alloc);
+    let status = match stop {
+        Stop::RuleFault(operand, fault) => {
+            write_operand_fault(alloc, &mut output, operand, fault)?;
+            Status::RuleFault
+        }
+        Stop::Memory(fault) => return Err(fault),
+    };
+    Ok(Answer { status, output })
 }

@@ -1,55 +1,42 @@
-//! What the relation between words, status and output says, as laws: each is the contract of a
-//! function with nothing to run.
-ghost use Rattle.std.specs.Prelude.{◌≡◌, ◌≢◌, ◌↔◌, ℕ, List, Option, codes};
-ghost use Rattle.word_image.specs.LocalRules.{LocalRule};
+//! What the relation between words, status and output says, as laws for all commands together: each
+//! is the contract of a function with nothing to run.
+ghost use Rattle.std.specs.Prelude.{◌≡◌, ◌↔◌, ℕ, List, Option, Some};
 ghost use Rattle.rule_text.specs.declared.text_fault.TextFault.{TextFault};
-ghost use Rattle.rule_text.specs.RuleTexts.{IsRuleText, IsTextFault};
-ghost use Rattle.ca_cli.specs.Commands.{Command, words_of, rule_operand};
-ghost use Rattle.ca_cli.specs.Lines.{line, rule_fault_line};
-ghost use Rattle.ca_cli.specs.Reports.{IsSurjectiveLine, number_line};
-ghost use Rattle.ca_cli.specs.Answers.{IsAnswer};
+ghost use Rattle.ca_cli.specs.Commands.{Command, IsCommand, ReadsNothing};
+ghost use Rattle.ca_cli.specs.StatusLines.{operand_fault_line, usage_line};
+ghost use Rattle.ca_cli.specs.RightAnswers.{IsAnswer, IsOperandFault, IsRight};
 
 use crate::status::Status;
 
-/// The words have one right status.
+/// Words have one right status: whatever the source, where they are no command or one that reads
+/// nothing, and for all words over a source that tells what it has left.
 pub fn one_status()
-    ensures { (words : List (List ℕ)) (input : Option (List ℕ)) (s t : Status) (out other : List ℕ)
+    ensures unread { (words : List (List ℕ)) (input : Option (List ℕ)) (s t : Status) (out other : List ℕ)
+        → ((c : Command) → IsCommand words c → ReadsNothing c)
         → IsAnswer words input s out → IsAnswer words input t other → s ≡ t }
-{}
-
-/// Done is the right status of a command whose rule operand is accepted. With the clause `complete` of
-/// `run`: it then answers Done or Memory over a sink that fails no write.
-pub fn accepted_is_done()
-    ensures { (c : Command) (r : LocalRule) (input : Option (List ℕ)) (s : Status) (out : List ℕ)
-        → IsRuleText (rule_operand c) r → IsAnswer (words_of c) input s out → s ≡ Status.Done }
+    ensures told { (words : List (List ℕ)) (left : List ℕ) (s t : Status) (out other : List ℕ)
+        → IsAnswer words (Some left) s out → IsAnswer words (Some left) t other → s ≡ t }
 {}
 
 /// Usage is right exactly where the words are no command, with the line `usage error`.
 pub fn usage_exactly()
     ensures { (words : List (List ℕ)) (input : Option (List ℕ)) (out : List ℕ)
         → IsAnswer words input Status.Usage out
-        ↔ (((c : Command) → words ≢ words_of c) × (out ≡ line (codes "usage error"))) }
+        ↔ (((c : Command) → ¬ IsCommand words c) × (out ≡ usage_line)) }
 {}
 
-/// RuleFault is right exactly where the words are a command whose rule operand is refused, with the
-/// line that names its first fault.
+/// RuleFault is right exactly where the words are a command one of whose operands is refused, with
+/// the line that names the first such operand and its first fault.
 pub fn rule_fault_exactly()
     ensures { (words : List (List ℕ)) (input : Option (List ℕ)) (out : List ℕ)
         → IsAnswer words input Status.RuleFault out
-        ↔ ((c : Command) × (f : TextFault) × (words ≡ words_of c) × IsTextFault (rule_operand c) f
-        × (out ≡ rule_fault_line f)) }
+        ↔ ((c : Command) × (operand : ℕ) × (f : TextFault) × IsCommand words c
+        × IsOperandFault c operand f × (out ≡ operand_fault_line operand f)) }
 {}
 
-/// Done is right on `orphan R` exactly with a true line on the rule of which R is a text.
-pub fn orphan_exactly()
-    ensures { (text out : List ℕ) (input : Option (List ℕ))
-        → IsAnswer (words_of (Command.Orphan text)) input Status.Done out
-        ↔ ((r : LocalRule) × IsRuleText text r × IsSurjectiveLine r out) }
-{}
-
-/// Done is right on `number R` exactly with the number of the rule of which R is a text.
-pub fn number_exactly()
-    ensures { (text out : List ℕ) (input : Option (List ℕ))
-        → IsAnswer (words_of (Command.Number text)) input Status.Done out
-        ↔ ((r : LocalRule) × IsRuleText text r × (out ≡ number_line r)) }
+/// Of a command none of whose operands is refused, exactly what `IsRight` says is a right answer.
+pub fn right_exactly()
+    ensures { (words : List (List ℕ)) (input : Option (List ℕ)) (c : Command) (s : Status) (out : List ℕ)
+        → IsCommand words c → ((operand : ℕ) (f : TextFault) → ¬ IsOperandFault c operand f)
+        → IsAnswer words input s out ↔ IsRight input c s out }
 {}

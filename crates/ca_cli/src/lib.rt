@@ -27,13 +27,15 @@
 mod answers;
 mod exactness;
 mod lines;
+mod operands;
+mod output;
+mod reports;
 mod request;
 mod status;
+mod stop;
 mod top_call;
 
-pub use exactness::{
-    accepted_is_done, number_exactly, one_status, orphan_exactly, rule_fault_exactly, usage_exactly,
-};
+pub use exactness::{one_status, right_exactly, rule_fault_exactly, usage_exactly};
 pub use status::Status;
 pub use top_call::run;
 

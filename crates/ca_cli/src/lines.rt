@@ -1,19 +1,34 @@
-//! The lines that the program writes.
-ghost use Rattle.std.specs.Prelude.{◌≡◌, ◌<◌, ◌++◌, codes, All, IfOk, string_bytes};
-ghost use Rattle.ca_cli.specs.Lines.{line, word_text, fault_text, rule_fault_line as fault_line};
-ghost use Rattle.ca_cli.specs.Reports.{IsSurjectiveLine, number_line as rule_number_line};
+//! The lines that the program writes. Each is made of values that are there: no line decides anything.
+ghost use Rattle.std.specs.Prelude.{◌≡◌, ◌<◌, ◌++◌, All, IfOk, OnOk, string_bytes};
+ghost use Rattle.word_image.specs.Digits.{word_text};
+ghost use Rattle.ca_cli.specs.Lines.{fault_text};
+ghost use Rattle.ca_cli.specs.StatusLines.{operand_fault_line, usage_line};
+ghost use Rattle.ca_cli.specs.Reports.{number_line, surjective_line};
 
-use orphan_search::{Outcome, Search};
+use crate::output::Output;
+use orphan_search::Outcome;
 use rule_text::{TextFault, number};
 use std::alloc::{AllocError, Global};
 use word_image::{Rule, digit};
 
-/// The line that says which fault the first operand has.
-pub fn rule_fault_line(alloc: Global, fault: TextFault) -> Result<String, AllocError>
-    ensures { IfOk result (λ text. string_bytes text ≡ fault_line fault) }
+/// Appends the line of words that are no command.
+pub fn write_usage(output: &mut Output) -> Result<(), AllocError>
+    ensures { OnOk result (output.new ≡ output.old ++ usage_line) }
+{
+    output.push_line("usage error")
+}
+
+/// Appends the line that says which fault the operand with this number has.
+pub fn write_operand_fault(
+    alloc: Global,
+    output: &mut Output,
+    operand: u8,
+    fault: TextFault,
+) -> Result<(), AllocError>
+    ensures { OnOk result (output.new ≡ output.old ++ operand_fault_line operand fault) }
 {
     let kind = fault_kind(alloc, fault)?;
-    format!(in alloc; "rule fault 1 {kind}\n")
+    output.push_line(&format!(in alloc; "rule fault {operand} {kind}")?)
 }
 
 /// The kind of a fault, and its place where it has one.
@@ -33,37 +48,34 @@ fn fault_kind(alloc: Global, fault: TextFault) -> Result<String, AllocError>
     }
 }
 
-/// The line that says the Wolfram number of the rule, where it has at most six states.
-pub fn number_line(alloc: Global, rule: &Rule) -> Result<String, AllocError>
-    ensures { IfOk result (λ text. string_bytes text ≡ rule_number_line rule.now) }
+/// Appends the line that says the Wolfram number of the rule, where it has at most six states.
+pub fn write_number(alloc: Global, output: &mut Output, rule: &Rule) -> Result<(), AllocError>
+    ensures { OnOk result (output.new ≡ output.old ++ number_line rule.now) }
 {
     match number(rule) {
-        Some(number) => format!(in alloc; "number {number}\n"),
-        None => String::from_str(alloc, "number none\n"),
+        Some(number) => output.push_line(&format!(in alloc; "number {number}")?),
+        None => output.push_line("number none"),
     }
 }
 
-/// The line that says whether the rule is surjective, with an orphan where it isn't.
-pub fn surjective_line(alloc: Global, rule: &Rule) -> Result<String, AllocError>
-    ensures { IfOk result (λ text. IsSurjectiveLine rule.now (string_bytes text)) }
-{
-    // A letter is below k, so it has one digit.
-    prove!(rule.k() <= 16);
-    let mut search = Search::new(alloc)?;
-    match search.run(alloc, rule)? {
-        Outcome::Closed => String::from_str(alloc, "surjective yes\n"),
-        Outcome::Orphan => orphan_line(alloc, search.word()),
-    }
-}
-
-/// The line that names an orphan, whose letters are below 16.
-fn orphan_line(alloc: Global, word: &[u8]) -> Result<String, AllocError>
+/// Appends the line that says whether the rule is surjective: what a search came to, with the word
+/// that it left, whose letters are below 16.
+pub fn write_surjective(
+    alloc: Global,
+    output: &mut Output,
+    outcome: Outcome,
+    word: &[u8],
+) -> Result<(), AllocError>
     requires { All (λ letter. letter < 16) word.now }
-    ensures { IfOk result (λ text.
-        string_bytes text ≡ line (codes "surjective no orphan " ++ word_text word.now)) }
+    ensures { OnOk result (output.new ≡ output.old ++ surjective_line outcome word.now) }
 {
-    let word = digits(alloc, word)?;
-    format!(in alloc; "surjective no orphan {word}\n")
+    match outcome {
+        Outcome::Closed => output.push_line("surjective yes"),
+        Outcome::Orphan => {
+            let word = digits(alloc, word)?;
+            output.push_line(&format!(in alloc; "surjective no orphan {word}")?)
+        }
+    }
 }
 
 /// The digits of a word, whose letters are below 16.

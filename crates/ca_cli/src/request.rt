@@ -1,6 +1,6 @@
 //! What the words ask for.
-ghost use Rattle.std.specs.Prelude.{◌≡◌, ◌≢◌, map, MatchOption, string_bytes};
-ghost use Rattle.ca_cli.specs.Commands.{Command, words_of, command_of};
+ghost use Rattle.std.specs.Prelude.{map, MatchOption, string_bytes};
+ghost use Rattle.ca_cli.specs.Commands.{Command, IsCommand, command_of};
 
 /// A command, with its operands as they stand on the command line.
 #[derive(Clone, Copy, Debug)]
@@ -15,8 +15,8 @@ impl<'a> Request<'a> {
     /// The request that the words are, if they are a command.
     pub fn of(words: &'a [String]) -> Option<Request<'a>>
         ensures { MatchOption result
-            ((c : Command) → map string_bytes words.now ≢ words_of c)
-            (λ request. map string_bytes words.now ≡ words_of (command_of request)) }
+            ((c : Command) → ¬ IsCommand (map string_bytes words.now) c)
+            (λ request. IsCommand (map string_bytes words.now) (command_of request)) }
     {
         match words {
             [name, rule] => match name.as_str() {

@@ -1,8 +1,8 @@
 //! The top call.
-ghost use Rattle.std.specs.Prelude.{◌≡◌, ◌≢◌, ℕ, ◌-◌, ◌^◌, ◌<◌, List, length, take, map, string_bytes};
+ghost use Rattle.std.specs.Prelude.{◌≡◌, ◌≢◌, ℕ, ◌-◌, ◌^◌, ◌<◌, List, length, take, map, is_some, string_bytes};
 ghost use Rattle.std.specs.Io.KnownBytes.{Appends};
 ghost use Rattle.ca_io.specs.Faults.{Rose};
-ghost use Rattle.ca_cli.specs.Answers.{IsAnswer};
+ghost use Rattle.ca_cli.specs.RightAnswers.{IsAnswer};
 ghost use Rattle.ca_cli.specs.Statuses.{IsAnswered};
 
 use crate::answers::answer_to;
@@ -42,6 +42,10 @@ pub fn run<S: Source, T: Sink>(
     ensures unread { source.new ≡ source.old }
     ensures faults { result ≢ Status.WriteFault → T.faults sink.new ≡ T.faults sink.old }
 
+    // Neither begins or ceases to tell its bytes.
+    ensures source_telling { is_some (S.left source.new) ≡ is_some (S.left source.old) }
+    ensures sink_telling { is_some (T.taken sink.new) ≡ is_some (T.taken sink.old) }
+
     // Where the sink's count neither rose nor stood at its end, no write failed: the answer is right,
     // or there was no memory.
     ensures complete { T.faults sink.new ≡ T.faults sink.old → T.faults sink.old < 2 ^ 64 - 1 →
@@ -50,7 +54,7 @@ pub fn run<S: Source, T: Sink>(
     let Ok(answer) = answer_to(alloc, words) else {
         return Status::Memory;
     };
-    match write_all(sink, answer.output.as_bytes()) {
+    match write_all(sink, answer.output.as_slice()) {
         Ok(()) => answer.status,
         Err(Failed) => Status::WriteFault,
     }

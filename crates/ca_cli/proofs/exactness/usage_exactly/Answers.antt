@@ -1,8 +1,8 @@
 use Rattle.std.proofs.Common.{sym, subst}
 use Rattle.ca_cli.specs.declared.status.Status.TheVariants as status
-use Rattle.ca_cli.specs.Answers.{IsAnswer}
-use Rattle.ca_cli.specs.Answers.IsAnswer.{Usage}
-use Rattle.ca_cli.proofs.laws.Answers.{usage_says}
+use Rattle.ca_cli.specs.RightAnswers.{IsAnswer}
+use Rattle.ca_cli.specs.RightAnswers.IsAnswer.{Usage}
+use Rattle.ca_cli.proofs.laws.RightAnswers.{usage_says}
 use Rattle.ca_cli.proofs.exactness.usage_exactly.Goals as goal
 
 pub returns : goal.returns

@@ -1,6 +1,6 @@
 use Rattle.std.proofs.Common.{◌≡◌, take}
 use Rattle.std.specs.Prelude.{string_bytes}
-use Rattle.ca_cli.specs.Lines.{word_text}
+use Rattle.word_image.specs.Digits.{word_text}
 use Rattle.ca_cli.proofs.lines.digits.Given as goal
 
 -- the digits of the letters so far

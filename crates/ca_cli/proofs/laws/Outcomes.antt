@@ -1,0 +1,28 @@
+-- What a command comes to: lines that are true, and operands that are refused.
+use Rattle.std.proofs.Common.{◌≡◌, ℕ, List, [], ◌++◌, ap, ◌∙◌, sym, subst}
+use Rattle.std.specs.Prelude.{Option, Some, Result}
+use Rattle.std.specs.Result.{IsErrAnd}
+use Rattle.std.proofs.lemmas.Result.{err_from_is_err_and}
+use Rattle.word_image.specs.LocalRules.{LocalRule}
+use Rattle.orphan_search.specs.declared.search.Outcome.{Outcome}
+use Rattle.orphan_search.specs.declared.search.Outcome.TheVariants as outcome
+use Rattle.orphan_search.specs.Verdicts.{IsVerdict}
+use Rattle.ca_cli.specs.declared.stop.Stop.{Stop}
+use Rattle.ca_cli.specs.Commands.{Command, first_rule}
+use Rattle.ca_cli.specs.Reports.{IsSurjectiveLine, surjective_line}
+use Rattle.ca_cli.specs.Reports.IsSurjectiveLine.{Yes, No}
+use Rattle.ca_cli.specs.RightAnswers.IsOperandFault.{First}
+use Rattle.ca_cli.specs.Outcomes.{IsOutcome, IsStop, IsRefusal}
+
+-- what is appended to an empty output is all of it
+pub appended_to_nothing : {before after text : List ℕ} → before ≡ [] → after ≡ before ++ text → after ≡ text
+appended_to_nothing {text = text} empty appended = appended ∙ ap (λ o. o ++ text) empty
+
+-- the line of a verdict is true
+pub IsSurjectiveLine-verdict : (r : LocalRule) (o : Outcome) (w : List ℕ) → IsVerdict r o w → IsSurjectiveLine r (surjective_line o w)
+IsSurjectiveLine-verdict r outcome.Closed w verdict = Yes verdict.0
+IsSurjectiveLine-verdict r outcome.Orphan w verdict = No w verdict
+
+-- a command stops where its first rule is refused
+pub IsStop-first : (c : Command) {text : List ℕ} {s : Stop} → first_rule c ≡ Some text → IsRefusal 1 text s → IsStop c s
+IsStop-first c {text = text} rule refusal = subst (IsStop c) (sym refusal.is) (First c text refusal.fault rule refusal.first)

@@ -1,0 +1,47 @@
+//! The output of a command.
+ghost use Rattle.std.specs.Prelude.{◌≡◌, [], ◌++◌, OnOk};
+ghost use Rattle.ca_cli.specs.Lines.{line};
+
+use std::alloc::{AllocError, Global};
+use std::marker::Model;
+
+/// The bytes that go to the sink. Lines are appended to it, and it is seen as the list of its bytes.
+#[derive(Debug, Drop)]
+pub struct Output {
+    bytes: Vec<u8>,
+}
+
+impl Model for Output {
+    ghost use Rattle.std.specs.Prelude.{ℕ, List};
+
+    ghost Value = { List ℕ };
+
+    ghost view = { λ o. o.bytes.items };
+}
+
+impl Output {
+    /// An output of no bytes.
+    pub fn new(alloc: Global) -> Output
+        ensures { result ≡ [] }
+    {
+        Output {
+            bytes: Vec::new(alloc),
+        }
+    }
+
+    /// Appends the text as a line.
+    pub fn push_line(&mut self, text: &str) -> Result<(), AllocError>
+        ensures { OnOk result (self.new ≡ self.old ++ line text.now) }
+    {
+        self.bytes.extend_from_slice(text.as_bytes())?;
+        self.bytes.push(b'\n')?;
+        Ok(())
+    }
+
+    /// The bytes so far.
+    pub fn as_slice(&self) -> &[u8]
+        ensures { result.now ≡ self.now }
+    {
+        &self.bytes
+    }
+}
