@@ -1,7 +1,6 @@
 -- Lines worked by hand, which the check computes.
 use Rattle.std.specs.Prelude.{◌≡◌, refl, ◌∷◌, [], codes}
 use Rattle.std.specs.Fmt.{digits}
-use Rattle.word_image.specs.Digits.{word_text}
 use Rattle.word_image.specs.Examples.{rule110}
 use Rattle.orphan_search.specs.declared.search.Outcome.TheVariants as outcome
 use Rattle.rule_text.specs.declared.text_fault.TextFault.TheVariants as fault

@@ -1,6 +1,6 @@
 //! The lines that the program writes. Each is made of values that are there: no line decides anything.
-ghost use Rattle.std.specs.Prelude.{◌≡◌, ◌<◌, ◌++◌, All, IfOk, OnOk, string_bytes};
-ghost use Rattle.word_image.specs.Digits.{word_text};
+ghost use Rattle.std.specs.Prelude.{◌≡◌, ◌++◌, IfOk, OnOk, string_bytes};
+ghost use Rattle.word_image.specs.LocalRules.{IsWord};
 ghost use Rattle.ca_cli.specs.Lines.{fault_text};
 ghost use Rattle.ca_cli.specs.StatusLines.{operand_fault_line, usage_line};
 ghost use Rattle.ca_cli.specs.Reports.{number_line, surjective_line};
@@ -9,7 +9,7 @@ use crate::output::Output;
 use orphan_search::Outcome;
 use rule_text::{TextFault, number};
 use std::alloc::{AllocError, Global};
-use word_image::{Rule, digit};
+use word_image::Rule;
 
 /// Appends the line of words that are no command.
 pub fn write_usage(output: &mut Output) -> Result<(), AllocError>
@@ -58,34 +58,23 @@ pub fn write_number(alloc: Global, output: &mut Output, rule: &Rule) -> Result<(
     }
 }
 
-/// Appends the line that says whether the rule is surjective: what a search came to, with the word
-/// that it left, whose letters are below 16.
+/// Appends the line that says whether the rule is surjective: what a search came to, and the word
+/// that it left.
 pub fn write_surjective(
     alloc: Global,
     output: &mut Output,
     outcome: Outcome,
     word: &[u8],
 ) -> Result<(), AllocError>
-    requires { All (λ letter. letter < 16) word.now }
+    requires { IsWord 16 word.now }
     ensures { OnOk result (output.new ≡ output.old ++ surjective_line outcome word.now) }
 {
     match outcome {
         Outcome::Closed => output.push_line("surjective yes"),
         Outcome::Orphan => {
-            let word = digits(alloc, word)?;
-            output.push_line(&format!(in alloc; "surjective no orphan {word}")?)
+            output.push(b"surjective no orphan ")?;
+            output.push_word(alloc, word)?;
+            output.push(b"\n")
         }
     }
-}
-
-/// The digits of a word, whose letters are below 16.
-fn digits(alloc: Global, word: &[u8]) -> Result<String, AllocError>
-    requires { All (λ letter. letter < 16) word.now }
-    ensures { IfOk result (λ text. string_bytes text ≡ word_text word.now) }
-{
-    let mut text = String::new(alloc);
-    for letter in word {
-        text.push(char::from(digit(*letter)))?;
-    }
-    Ok(text)
 }

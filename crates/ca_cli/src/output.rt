@@ -1,9 +1,12 @@
 //! The output of a command.
 ghost use Rattle.std.specs.Prelude.{◌≡◌, [], ◌++◌, OnOk};
+ghost use Rattle.word_image.specs.LocalRules.{IsWord};
+ghost use Rattle.word_image.specs.Digits.{word_text};
 ghost use Rattle.ca_cli.specs.Lines.{line};
 
 use std::alloc::{AllocError, Global};
 use std::marker::Model;
+use word_image::word_text;
 
 /// The bytes that go to the sink. Lines are appended to it, and it is seen as the list of its bytes.
 #[derive(Debug, Drop)]
@@ -29,13 +32,27 @@ impl Output {
         }
     }
 
+    /// Appends these bytes.
+    pub fn push(&mut self, bytes: &[u8]) -> Result<(), AllocError>
+        ensures { OnOk result (self.new ≡ self.old ++ bytes.now) }
+    {
+        self.bytes.extend_from_slice(bytes)
+    }
+
+    /// Appends the digits of a word.
+    pub fn push_word(&mut self, alloc: Global, word: &[u8]) -> Result<(), AllocError>
+        requires { IsWord 16 word.now }
+        ensures { OnOk result (self.new ≡ self.old ++ word_text word.now) }
+    {
+        self.push(&word_text(alloc, word)?)
+    }
+
     /// Appends the text as a line.
     pub fn push_line(&mut self, text: &str) -> Result<(), AllocError>
         ensures { OnOk result (self.new ≡ self.old ++ line text.now) }
     {
-        self.bytes.extend_from_slice(text.as_bytes())?;
-        self.bytes.push(b'\n')?;
-        Ok(())
+        self.push(text.as_bytes())?;
+        self.push(b"\n")
     }
 
     /// The bytes so far.

@@ -1,6 +1,6 @@
 //! Sinks that fail in the middle of an output.
 
-use crate::top_call::{call, sink};
+use crate::rows::{call, sink};
 use ca_cli::Status;
 use ca_io::MemSink;
 use std::alloc::{AllocError, Global};

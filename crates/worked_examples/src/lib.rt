@@ -9,6 +9,6 @@ mod numbers;
 #[cfg(test)]
 mod orphans;
 #[cfg(test)]
-mod rule_faults;
+mod rows;
 #[cfg(test)]
-mod top_call;
+mod rule_faults;

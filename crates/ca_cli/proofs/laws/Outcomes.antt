@@ -1,8 +1,6 @@
 -- What a command comes to: lines that are true, and operands that are refused.
-use Rattle.std.proofs.Common.{◌≡◌, ℕ, List, [], ◌++◌, ap, ◌∙◌, sym, subst}
-use Rattle.std.specs.Prelude.{Option, Some, Result}
-use Rattle.std.specs.Result.{IsErrAnd}
-use Rattle.std.proofs.lemmas.Result.{err_from_is_err_and}
+use Rattle.std.proofs.Common.{◌≡◌, ℕ, List, [], ◌++◌, append_assoc, ap, ◌∙◌, sym, subst}
+use Rattle.std.specs.Prelude.{Some}
 use Rattle.word_image.specs.LocalRules.{LocalRule}
 use Rattle.orphan_search.specs.declared.search.Outcome.{Outcome}
 use Rattle.orphan_search.specs.declared.search.Outcome.TheVariants as outcome
@@ -12,11 +10,15 @@ use Rattle.ca_cli.specs.Commands.{Command, first_rule}
 use Rattle.ca_cli.specs.Reports.{IsSurjectiveLine, surjective_line}
 use Rattle.ca_cli.specs.Reports.IsSurjectiveLine.{Yes, No}
 use Rattle.ca_cli.specs.RightAnswers.IsOperandFault.{First}
-use Rattle.ca_cli.specs.Outcomes.{IsOutcome, IsStop, IsRefusal}
+use Rattle.ca_cli.specs.Outcomes.{IsStop, IsRefusal}
 
 -- what is appended to an empty output is all of it
 pub appended_to_nothing : {before after text : List ℕ} → before ≡ [] → after ≡ before ++ text → after ≡ text
 appended_to_nothing {text = text} empty appended = appended ∙ ap (λ o. o ++ text) empty
+
+-- what is appended in two steps is appended as one
+pub appended_twice : (before first second : List ℕ) {between after : List ℕ} → between ≡ before ++ first → after ≡ between ++ second → after ≡ before ++ (first ++ second)
+appended_twice before first second one two = two ∙ ap (λ o. o ++ second) one ∙ append_assoc before first second
 
 -- the line of a verdict is true
 pub IsSurjectiveLine-verdict : (r : LocalRule) (o : Outcome) (w : List ℕ) → IsVerdict r o w → IsSurjectiveLine r (surjective_line o w)

@@ -1,12 +1,14 @@
-use Rattle.std.proofs.Common.{◌≡◌, ◌++◌, sym, subst, ◌∙◌, ap}
-use Rattle.std.specs.Prelude.{codes, OnOk}
+use Rattle.std.proofs.Common.{◌++◌}
+use Rattle.std.specs.Prelude.{codes}
+use Rattle.std.proofs.lemmas.Result.{on_ok_weaker}
 use Rattle.word_image.specs.Digits.{word_text}
-use Rattle.ca_cli.specs.Lines.{line}
-use Rattle.ca_cli.specs.Reports.{surjective_line}
+use Rattle.ca_cli.proofs.laws.Outcomes.{appended_twice}
 use Rattle.ca_cli.proofs.lines.write_surjective.Goals as goal
 
-pub returns-in_ok-format-in-Orphan : goal.returns-in_ok-format-in-Orphan
-returns-in_ok-format-in-Orphan c =
-    let named : c.deref.result.now ≡ codes "surjective no orphan " ++ word_text c.args.word.now = c.deref.ensures ∙ c.in_ok-format-in-Orphan.ensures.ok ∙ ap (λ w. codes "surjective no orphan " ++ w) c.in_ok-word-in-Orphan.ensures in
-    subst (λ o. OnOk c.push_line-in-Orphan.result (c.push_line-in-Orphan.new.self ≡ c.args.output.now ++ surjective_line o c.args.word.now)) (sym c.in-Orphan.is)
-    (subst (λ text. OnOk c.push_line-in-Orphan.result (c.push_line-in-Orphan.new.self ≡ c.args.output.now ++ line text)) named c.push_line-in-Orphan.ensures)
+pub returns-in_ok-push_word-in-Orphan : goal.returns-in_ok-push_word-in-Orphan
+returns-in_ok-push_word-in-Orphan c =
+    let before = c.args.output.now in
+    let no = codes "surjective no orphan " in
+    let word = word_text c.args.word.now in
+    let named = appended_twice before no word c.in_ok-push-in-Orphan.ensures c.in_ok-push_word-in-Orphan.ensures in
+    rw c.in-Orphan.is (on_ok_weaker c.push-in-Orphan.result (appended_twice before (no ++ word) (codes "\n") named) c.push-in-Orphan.ensures)

@@ -1,9 +1,24 @@
-//! How the tests call the program.
+//! How the tests call the program, and tables of calls.
 ghost use Rattle.std.specs.Prelude.{◌≤◌};
 
 use ca_cli::{Status, run};
 use ca_io::{MemSink, PlainSource};
 use std::alloc::{AllocError, Global};
+use std::process::Abort;
+
+/// Calls the program on the command line of each row, over an ample sink, and compares the status and
+/// what the sink has taken.
+pub fn rows(
+    rt: &(impl Abort + AllocGlobal),
+    rows: &[(&str, Status, &str)],
+) -> Result<(), AllocError> {
+    for (line, status, output) in rows {
+        let outcome = call(rt.alloc(), line, ample(rt.alloc())?)?;
+        assert_eq!(rt; outcome.status, *status, "{line:?}");
+        assert_eq!(rt; outcome.output.bytes(), output.as_bytes(), "{line:?}");
+    }
+    Ok(())
+}
 
 /// What a call left: its status and the bytes that the sink has taken.
 #[derive(Drop)]
