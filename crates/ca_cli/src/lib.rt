@@ -1,14 +1,18 @@
 //! The program, but for its `main`: what it answers to the words of its command line.
 //!
 //! A command is a name and its operands, each of which may be any word. An answer is a [`Status`],
-//! which says how the program ended, and an output, the bytes that go to the sink. The output is
-//! made whole in memory before the first write, so the sink takes all of it, or a part before a
-//! fault of its own, or nothing.
+//! which says how the program ended, and an output, the bytes that go to the sink. [`run`] goes from
+//! the words to the bytes in four steps:
 //!
-//! [`run`] is the program. Its contract cites one relation, `IsAnswer` of specs/Answers.antt: which
-//! status and which output are right for the words. [`one_status`], [`accepted_is_done`],
-//! [`usage_exactly`], [`rule_fault_exactly`], [`orphan_exactly`] and [`number_exactly`] are its laws.
-//! By them:
+//! 1. the words become a `Request`, a command with its operands as they stand, or are no command;
+//! 2. one function a command, of the file of its family, makes the output, or a `Stop` that says why
+//!    there is none;
+//! 3. either becomes an `Answer`, whole in memory;
+//! 4. its output is written, so that the sink takes all of it, or a part of it and not the whole.
+//!
+//! The contract of [`run`] cites one relation, `IsAnswer` of specs/RightAnswers.antt: which status and
+//! which output are right for the words. [`one_status`], [`usage_exactly`], [`rule_fault_exactly`] and
+//! [`right_exactly`] are its laws, for all commands together. By them:
 //!
 //! | Words | Status | Code | Output |
 //! |---|---|---|---|

@@ -42,7 +42,7 @@ pub fn run<S: Source, T: Sink>(
     ensures unread { source.new ≡ source.old }
     ensures faults { result ≢ Status.WriteFault → T.faults sink.new ≡ T.faults sink.old }
 
-    // Neither begins or ceases to tell its bytes.
+    // Neither the source nor the sink begins or ceases to tell its bytes.
     ensures source_telling { is_some (S.left source.new) ≡ is_some (S.left source.old) }
     ensures sink_telling { is_some (T.taken sink.new) ≡ is_some (T.taken sink.old) }
 
