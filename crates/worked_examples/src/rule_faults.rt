@@ -27,7 +27,11 @@ fn first_faults(rt: HostRuntime) -> Result<(), Fail> {
             ("orphan 17:2:0:t0", RuleFault, "rule fault 1 states\n"),
             ("orphan 2:6:0:t0", RuleFault, "rule fault 1 width\n"),
             ("orphan 3:4:0:t0", RuleFault, "rule fault 1 nodes\n"),
-            ("orphan 2:3:15:t01110110", RuleFault, "rule fault 1 offset\n"),
+            (
+                "orphan 2:3:15:t01110110",
+                RuleFault,
+                "rule fault 1 offset\n",
+            ),
             ("orphan 7:2:0:w5", RuleFault, "rule fault 1 kind\n"),
             ("orphan 2:3:-1:t0111", RuleFault, "rule fault 1 length\n"),
             (
