@@ -9,13 +9,13 @@ use Rattle.ca_cli.specs.Commands.{Command}
 use Rattle.ca_cli.specs.RightAnswers.{IsOperandFault, IsRight}
 
 -- the command has to stop for this; want of memory may always be
-abbrev pub IsStop : Command → Stop → Type 0
-IsStop c (stop.RuleFault operand f) = IsOperandFault c operand f
-IsStop c (stop.Memory _) = ⊤
+abbrev pub IsStop : Option (List ℕ) → Command → Stop → Type 0
+IsStop input c (stop.RuleFault operand f) = IsOperandFault c operand f
+IsStop input c (stop.Memory _) = ⊤
 
 -- the output is right, or the command has to stop
 abbrev pub IsOutcome : Option (List ℕ) → Command → Result (List ℕ) Stop → Type 0
-IsOutcome input c result = MatchResult result (IsRight input c status.Done) (IsStop c)
+IsOutcome input c result = MatchResult result (IsRight input c status.Done) (IsStop input c)
 
 -- the text, the operand with this number, isn't one of a rule
 pub record IsRefusal (operand : ℕ) (text : List ℕ) (s : Stop) : Type 0 where

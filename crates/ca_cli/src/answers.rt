@@ -64,7 +64,7 @@ fn usage(alloc: Global) -> Result<Answer, AllocError>
 fn stopped(alloc: Global, stop: Stop) -> Result<Answer, AllocError>
     ensures { IfOk result (λ answer.
         (words : List (List ℕ)) (input : Option (List ℕ)) (c : Command) →
-        IsCommand words c → IsStop c stop → IsAnswer words input answer.status answer.output) }
+        IsCommand words c → IsStop input c stop → IsAnswer words input answer.status answer.output) }
 {
     let mut output = Output::new(alloc);
     let status = match stop {

@@ -1,6 +1,8 @@
 -- What a command comes to: lines that are true, and operands that are refused.
-use Rattle.std.proofs.Common.{◌≡◌, ℕ, List, [], ◌++◌, append_assoc, ap, ◌∙◌, sym, subst}
-use Rattle.std.specs.Prelude.{Some}
+use Rattle.std.proofs.Common.{◌≡◌, ℕ, List, [], ◌++◌, append_assoc, ap, ◌∙◌}
+use Rattle.std.specs.Prelude.{Option, Some, Result}
+use Rattle.std.specs.Result.{IsErrAnd}
+use Rattle.std.proofs.lemmas.Result.{err_from_is_err_and}
 use Rattle.word_image.specs.LocalRules.{LocalRule}
 use Rattle.orphan_search.specs.declared.search.Outcome.{Outcome}
 use Rattle.orphan_search.specs.declared.search.Outcome.TheVariants as outcome
@@ -10,7 +12,7 @@ use Rattle.ca_cli.specs.Commands.{Command, first_rule}
 use Rattle.ca_cli.specs.Reports.{IsSurjectiveLine, surjective_line}
 use Rattle.ca_cli.specs.Reports.IsSurjectiveLine.{Yes, No}
 use Rattle.ca_cli.specs.RightAnswers.IsOperandFault.{First}
-use Rattle.ca_cli.specs.Outcomes.{IsStop, IsRefusal}
+use Rattle.ca_cli.specs.Outcomes.{IsOutcome, IsRefusal}
 
 -- what is appended to an empty output is all of it
 pub appended_to_nothing : {before after text : List ℕ} → before ≡ [] → after ≡ before ++ text → after ≡ text
@@ -25,6 +27,9 @@ pub IsSurjectiveLine-verdict : (r : LocalRule) (o : Outcome) (w : List ℕ) → 
 IsSurjectiveLine-verdict r outcome.Closed w verdict = Yes verdict.0
 IsSurjectiveLine-verdict r outcome.Orphan w verdict = No w verdict
 
--- a command stops where its first rule is refused
-pub IsStop-first : (c : Command) {text : List ℕ} {s : Stop} → first_rule c ≡ Some text → IsRefusal 1 text s → IsStop c s
-IsStop-first c {text = text} rule refusal = subst (IsStop c) (sym refusal.is) (First c text refusal.fault rule refusal.first)
+-- a command whose first rule is refused stops
+pub first_refused : (input : Option (List ℕ)) (c : Command) {text : List ℕ} {s : Stop} (result : Result (List ℕ) Stop)
+    → first_rule c ≡ Some text → IsRefusal 1 text s → IsErrAnd result (λ e. e ≡ s) → IsOutcome input c result
+first_refused input c {text = text} result rule refusal is =
+    let err = err_from_is_err_and result is in
+    rw (err.1, err.2, refusal.is) (First c text refusal.fault rule refusal.first)

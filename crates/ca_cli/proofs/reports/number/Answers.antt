@@ -1,16 +1,13 @@
 use Rattle.std.proofs.Common.{refl, sym, subst}
-use Rattle.std.proofs.lemmas.Result.{err_from_is_err_and}
 use Rattle.ca_cli.specs.declared.status.Status.TheVariants as status
 use Rattle.ca_cli.specs.Commands as commands
 use Rattle.ca_cli.specs.RightAnswers.{IsRight}
 use Rattle.ca_cli.specs.RightAnswers.IsRight.{Number}
-use Rattle.ca_cli.proofs.laws.Outcomes.{IsStop-first, appended_to_nothing}
+use Rattle.ca_cli.proofs.laws.Outcomes.{first_refused, appended_to_nothing}
 use Rattle.ca_cli.proofs.reports.number.Goals as goal
 
 pub returns-in_err-rule : goal.returns-in_err-rule
-returns-in_err-rule c input =
-    let p = err_from_is_err_and c.from_residual.result c.from_residual.ensures.1 in
-    rw (p.1, p.2) (IsStop-first (commands.Number c.args.text.now) refl c.in_err-rule.ensures)
+returns-in_err-rule c input = first_refused input (commands.Number c.args.text.now) c.from_residual.result refl c.in_err-rule.ensures c.from_residual.ensures.1
 
 pub returns : goal.returns
 returns c input =

@@ -1,17 +1,14 @@
 use Rattle.std.proofs.Common.{refl, sym, subst}
-use Rattle.std.proofs.lemmas.Result.{err_from_is_err_and}
 use Rattle.ca_cli.specs.declared.status.Status.TheVariants as status
 use Rattle.orphan_search.specs.Verdicts.{IsVerdict}
 use Rattle.ca_cli.specs.Commands as commands
 use Rattle.ca_cli.specs.RightAnswers.{IsRight}
 use Rattle.ca_cli.specs.RightAnswers.IsRight.{Orphan}
-use Rattle.ca_cli.proofs.laws.Outcomes.{IsStop-first, IsSurjectiveLine-verdict, appended_to_nothing}
+use Rattle.ca_cli.proofs.laws.Outcomes.{first_refused, IsSurjectiveLine-verdict, appended_to_nothing}
 use Rattle.ca_cli.proofs.reports.orphan.Goals as goal
 
 pub returns-in_err-rule : goal.returns-in_err-rule
-returns-in_err-rule c input =
-    let p = err_from_is_err_and c.from_residual.result c.from_residual.ensures.1 in
-    rw (p.1, p.2) (IsStop-first (commands.Orphan c.args.text.now) refl c.in_err-rule.ensures)
+returns-in_err-rule c input = first_refused input (commands.Orphan c.args.text.now) c.from_residual.result refl c.in_err-rule.ensures c.from_residual.ensures.1
 
 pub returns : goal.returns
 returns c input =
