@@ -1,0 +1,6 @@
+mod Sides
+mod MostRank
+mod Sets
+mod EdgeRows
+mod Rows
+mod Tables

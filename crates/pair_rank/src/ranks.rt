@@ -1,0 +1,76 @@
+//! The exact ranks of a rule.
+
+ghost use Rattle.std.specs.Prelude.{◌≡◌, ◌<◌, ◌≤◌, IfSome, MatchOption};
+ghost use Rattle.word_image.specs.LocalRules.{IsRule, node_count};
+ghost use Rattle.word_image.specs.Ranks.{BeginTogether, EndTogether, IsRank, IsEndless};
+
+use crate::edges::{MOST, Side};
+use crate::rounds::{RankTable, exact_ranks};
+use std::marker::Model;
+use word_image::Rule;
+
+/// The forward and backward ranks of all pairs of nodes of a rule, seen as that rule.
+#[derive(Drop)]
+pub struct Ranks {
+    // The rule.
+    rule: Rule,
+    // The forward rank of each two nodes.
+    forward: RankTable,
+    // The backward rank of each two nodes.
+    backward: RankTable,
+}
+
+impl Model for Ranks {
+    ghost use Rattle.word_image.specs.LocalRules.{LocalRule, IsRule};
+    ghost use Rattle.pair_rank.specs.Sides.{AreRanks};
+    ghost use Rattle.pair_rank.specs.declared.edges.Side.TheVariants.{Forward, Backward};
+
+    ghost Value = { LocalRule };
+
+    ghost view = { λ r. r.rule };
+
+    ghost invariant = { λ r. IsRule r.rule × AreRanks Forward r.rule r.forward × AreRanks Backward r.rule r.backward };
+}
+
+impl Ranks {
+    /// The ranks of this rule.
+    pub fn of(rule: &Rule) -> Ranks
+        ensures { result ≡ rule.now }
+    {
+        Ranks {
+            rule: *rule,
+            forward: exact_ranks(rule, Side::Forward),
+            backward: exact_ranks(rule, Side::Backward),
+        }
+    }
+
+    /// The rule that they are of.
+    pub fn rule(&self) -> &Rule
+        ensures value { result.now ≡ self.now }
+        ensures rule { IsRule self.now }
+    {
+        &self.rule
+    }
+
+    /// For how long two nodes begin together: the greatest n such that two words of n + m - 1 letters
+    /// with one image begin with u and v; `None` exactly where there are such words for every n.
+    pub fn forward(&self, u: u8, v: u8) -> Option<u16>
+        requires first { u < node_count self.now }
+        requires second { v < node_count self.now }
+        ensures rank { MatchOption result (IsEndless (BeginTogether self.now u v)) (IsRank (BeginTogether self.now u v)) }
+        ensures most { IfSome result (λ n. n ≤ 239) }
+    {
+        self.forward[MOST * usize::from(u) + usize::from(v)]
+    }
+
+    /// For how long two nodes end together: the greatest n such that two words of n + m - 1 letters
+    /// with one image end with u and v; `None` exactly where there are such words for every n.
+    pub fn backward(&self, u: u8, v: u8) -> Option<u16>
+        requires first { u < node_count self.now }
+        requires second { v < node_count self.now }
+        ensures rank { MatchOption result (IsEndless (EndTogether self.now u v)) (IsRank (EndTogether self.now u v)) }
+        ensures most { IfSome result (λ n. n ≤ 239) }
+    {
+        self.backward[MOST * usize::from(u) + usize::from(v)]
+    }
+}
