@@ -18,7 +18,7 @@ abbrev pub IsOutcome : Option (List ℕ) → Command → Result (List ℕ) Stop 
 IsOutcome input c result = MatchResult result (IsRight input c status.Done) (IsStop input c)
 
 -- the text, the operand with this number, isn't one of a rule
-pub record IsRefusal (operand : ℕ) (text : List ℕ) (s : Stop) : Type 0 where
+pub record IsRuleFault (operand : ℕ) (text : List ℕ) (s : Stop) : Type 0 where
   pub fault : TextFault
   pub is : s ≡ stop.RuleFault operand fault
   pub first : IsTextFault text fault

@@ -1,7 +1,7 @@
 //! Operands that are read before the command is carried out.
 ghost use Rattle.std.specs.Prelude.{MatchResult};
 ghost use Rattle.rule_text.specs.RuleTexts.{IsRuleText};
-ghost use Rattle.ca_cli.specs.Outcomes.{IsRefusal};
+ghost use Rattle.ca_cli.specs.Outcomes.{IsRuleFault};
 
 use crate::stop::Stop;
 use rule_text::parse;
@@ -9,7 +9,7 @@ use word_image::Rule;
 
 /// The rule of which the operand with this number is a text.
 pub fn rule_operand(number: u8, text: &[u8]) -> Result<Rule, Stop>
-    ensures { MatchResult result (IsRuleText text.now) (IsRefusal number text.now) }
+    ensures { MatchResult result (IsRuleText text.now) (IsRuleFault number text.now) }
 {
     parse(text).map_err(|fault| Stop::RuleFault(number, fault))
 }

@@ -12,7 +12,7 @@ use Rattle.ca_cli.specs.Commands.{Command, first_rule}
 use Rattle.ca_cli.specs.Reports.{IsSurjectiveLine, surjective_line}
 use Rattle.ca_cli.specs.Reports.IsSurjectiveLine.{Yes, No}
 use Rattle.ca_cli.specs.RightAnswers.IsOperandFault.{First}
-use Rattle.ca_cli.specs.Outcomes.{IsOutcome, IsRefusal}
+use Rattle.ca_cli.specs.Outcomes.{IsOutcome, IsRuleFault}
 
 -- what is appended to an empty output is all of it
 pub appended_to_nothing : {before after text : List ℕ} → before ≡ [] → after ≡ before ++ text → after ≡ text
@@ -29,7 +29,7 @@ IsSurjectiveLine-verdict r outcome.Orphan w verdict = No w verdict
 
 -- a command whose first rule is refused stops
 pub first_refused : (input : Option (List ℕ)) (c : Command) {text : List ℕ} {s : Stop} (result : Result (List ℕ) Stop)
-    → first_rule c ≡ Some text → IsRefusal 1 text s → IsErrAnd result (λ e. e ≡ s) → IsOutcome input c result
+    → first_rule c ≡ Some text → IsRuleFault 1 text s → IsErrAnd result (λ e. e ≡ s) → IsOutcome input c result
 first_refused input c {text = text} result rule refusal is =
     let err = err_from_is_err_and result is in
     rw (err.1, err.2, refusal.is) (First c text refusal.fault rule refusal.first)
