@@ -6,3 +6,5 @@ pub mod Spans
 pub mod Decisions
 pub mod Mirror
 pub mod TailFaults
+pub mod TailTexts
+pub mod TailAnswers

@@ -4,3 +4,4 @@ pub mod TailTexts
 pub mod TailValues
 pub mod TailFaults
 pub mod Differences
+pub mod TailTextFaults

@@ -1,5 +1,5 @@
 -- Which fault of the three parts of a configuration is the first.
-use Rattle.std.specs.Prelude.{ℕ, List, [], ◌∷◌, length, Option, Some, None, nat_lt, nat_le, ◌==◌, if◌then◌else◌, position}
+use Rattle.std.specs.Prelude.{ℕ, List, [], ◌∷◌, ◌++◌, length, Option, Some, None, nat_lt, nat_le, ◌==◌, if◌then◌else◌, position}
 use Rattle.std.specs.Option.{option_map, option_or}
 use Rattle.tail_config.specs.Tails.{TailConfig}
 use Rattle.tail_config.specs.declared.faults.Part.{Part}
@@ -24,13 +24,16 @@ long_fault p w = if nat_lt 1024 (length w) then Some (fault.Long p) else None
 abbrev pub letter_fault : ℕ → Part → List ℕ → Option TailFault
 letter_fault k p w = option_map (fault.Letter p) (position (λ a. nat_le k a) w)
 
--- what may be wrong: an empty period, then a part that is too long, then a letter that is none, each from left to right
-abbrev pub faults_of : ℕ → TailConfig → List (Option TailFault)
-faults_of k t =
-    empty_fault fault.LeftEmpty t.left ∷ empty_fault fault.RightEmpty t.right
-    ∷ long_fault part.Left t.left ∷ long_fault part.Middle t.middle ∷ long_fault part.Right t.right
-    ∷ letter_fault k part.Left t.left ∷ letter_fault k part.Middle t.middle ∷ letter_fault k part.Right t.right ∷ []
+-- an empty period, then a part that is too long, each from left to right
+abbrev pub length_faults : List ℕ → List ℕ → List ℕ → List (Option TailFault)
+length_faults left middle right =
+    empty_fault fault.LeftEmpty left ∷ empty_fault fault.RightEmpty right
+    ∷ long_fault part.Left left ∷ long_fault part.Middle middle ∷ long_fault part.Right right ∷ []
+
+-- the first letter that is none, the parts from left to right
+abbrev pub letter_faults : ℕ → TailConfig → List (Option TailFault)
+letter_faults k t = letter_fault k part.Left t.left ∷ letter_fault k part.Middle t.middle ∷ letter_fault k part.Right t.right ∷ []
 
 -- the first fault of three parts over the letters below k
 abbrev pub tail_fault : ℕ → TailConfig → Option TailFault
-tail_fault k t = first_fault (faults_of k t)
+tail_fault k t = first_fault (length_faults t.left t.middle t.right ++ letter_faults k t)

@@ -1,7 +1,7 @@
 //! Why three parts make no Tail.
 ghost use Rattle.std.specs.Prelude.{◌≡◌, nat_le, position};
 ghost use Rattle.std.specs.Result.{result_err};
-ghost use Rattle.tail_config.specs.TailFaults.{long_fault, letter_fault, tail_fault};
+ghost use Rattle.tail_config.specs.TailFaults.{first_fault, length_faults, long_fault, letter_fault, tail_fault};
 
 /// The most letters that a part has.
 pub const MOST_LETTERS: usize = 1024;
@@ -48,6 +48,16 @@ pub struct TailRefusal {
 pub fn check_parts(k: u8, left: &[u8], middle: &[u8], right: &[u8]) -> Result<(), TailFault>
     ensures { result_err result ≡ tail_fault k (record { left = left.now; middle = middle.now; right = right.now }) }
 {
+    check_lengths(left, middle, right)?;
+    check_letters(k, Part::Left, left)?;
+    check_letters(k, Part::Middle, middle)?;
+    check_letters(k, Part::Right, right)
+}
+
+/// Whether both periods have a letter, and no part is too long.
+pub fn check_lengths(left: &[u8], middle: &[u8], right: &[u8]) -> Result<(), TailFault>
+    ensures { result_err result ≡ first_fault (length_faults left.now middle.now right.now) }
+{
     if left.is_empty() {
         return Err(TailFault::LeftEmpty);
     }
@@ -56,10 +66,7 @@ pub fn check_parts(k: u8, left: &[u8], middle: &[u8], right: &[u8]) -> Result<()
     }
     check_length(Part::Left, left)?;
     check_length(Part::Middle, middle)?;
-    check_length(Part::Right, right)?;
-    check_letters(k, Part::Left, left)?;
-    check_letters(k, Part::Middle, middle)?;
-    check_letters(k, Part::Right, right)
+    check_length(Part::Right, right)
 }
 
 /// Whether a part is not too long.

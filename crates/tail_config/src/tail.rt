@@ -168,34 +168,3 @@ pub fn mirrored_image_cell()
     ensures { (r : LocalRule) (t : TailConfig) (i : ℤ) → IsRule r → IsTail r.states t
         → image_cell (mirrored r) (mirror_of t) i ≡ image_cell r t (pos (length t.middle) -ℤ pos 1 -ℤ i) }
 {}
-
-#[cfg(test)]
-mod tests {
-    use super::*;
-    use crate::faults::{Part, TailFault};
-    use std::test::Fail;
-
-    fn tail_of(rt: &HostRuntime, left: &[u8], middle: &[u8], right: &[u8]) -> Result<Tail, Fail> {
-        let alloc = rt.alloc();
-        let made = Tail::new(
-            2,
-            left.to_vec(alloc)?,
-            middle.to_vec(alloc)?,
-            right.to_vec(alloc)?,
-        );
-        Ok(made.ok().ok_or("refused")?)
-    }
-
-    #[test]
-    fn cells_stand_on_both_sides_of_place_0(rt: HostRuntime) -> Result<(), Fail> {
-        let tail = tail_of(&rt, &[0, 1, 1], &[0, 1], &[0])?;
-        assert_eq!(rt; tail.k(), 2);
-        assert_eq!(rt; tail.left(), [0, 1, 1].as_slice());
-        assert_eq!(rt; tail.middle(), [0, 1].as_slice());
-        assert_eq!(rt; tail.right(), [0].as_slice());
-        for (place, want) in [0, 1, 1, 0, 1, 0].into_iter().enumerate() {
-            assert_eq!(rt; tail.cell(place as i64 - 3), want);
-        }
-        Ok(())
-    }
-}

@@ -1,5 +1,5 @@
 -- Three parts have no fault exactly where they are a configuration with short parts.
-use Rattle.std.proofs.Common.{◌≡◌, ℕ, ◌≤◌, List, [], ◌∷◌, length, leb, Option, None, Some, refl, arith}
+use Rattle.std.proofs.Common.{◌≡◌, ℕ, ◌≤◌, List, [], ◌∷◌, ◌++◌, length, leb, Option, None, Some, refl, arith}
 use Rattle.std.specs.Prelude.{nat_le, position, ◌↔◌}
 use Rattle.std.specs.Option.{option_map}
 use Rattle.std.specs.List.{position_or_len}
@@ -9,7 +9,7 @@ use Rattle.word_image.specs.LocalRules.{IsWord}
 use Rattle.word_image.proofs.laws.RuleFaults.{IsWord-position}
 use Rattle.tail_config.specs.Tails.{TailConfig}
 use Rattle.tail_config.specs.TailTexts.{IsShortTail}
-use Rattle.tail_config.specs.TailFaults.{first_fault, empty_fault, long_fault, letter_fault, faults_of, tail_fault}
+use Rattle.tail_config.specs.TailFaults.{first_fault, empty_fault, long_fault, letter_fault, length_faults, letter_faults, tail_fault}
 use Rattle.tail_config.specs.declared.faults.Part.{Part}
 use Rattle.tail_config.specs.declared.faults.TailFault.{TailFault}
 use Rattle.tail_config.specs.declared.faults.TailFault.TheVariants as fault
@@ -55,7 +55,7 @@ letter_fault-none k p w =
 pub tail_fault-none : (k : ℕ) (t : TailConfig) → (tail_fault k t ≡ None) ↔ IsShortTail k t
 tail_fault-none k t = (
   λ none.
-      let (left_some, (right_some, (left, (middle, (right, (left_word, (middle_word, (right_word, _)))))))) = (first_fault-none (faults_of k t)).0 none in
+      let (left_some, (right_some, (left, (middle, (right, (left_word, (middle_word, (right_word, _)))))))) = (first_fault-none (length_faults t.left t.middle t.right ++ letter_faults k t)).0 none in
       record {
         tail = record {
           left_some = (empty_fault-none _ t.left).0 left_some;
@@ -68,7 +68,7 @@ tail_fault-none k t = (
         middle = (long_fault-none _ t.middle).0 middle;
         right = (long_fault-none _ t.right).0 right;
       },
-  λ short. (first_fault-none (faults_of k t)).1 (
+  λ short. (first_fault-none (length_faults t.left t.middle t.right ++ letter_faults k t)).1 (
     (empty_fault-none _ t.left).1 short.tail.left_some,
     (
       (empty_fault-none _ t.right).1 short.tail.right_some,

@@ -1,0 +1,37 @@
+-- Which fault of a text comes first, and how a text is cut into three parts.
+use Rattle.std.specs.Prelude.{◌≡◌, ℕ, ◌<◌, ◌≤◌, List, ◌++◌, length, map, codes, slice_index, slice_range, Some, All}
+use Rattle.word_image.specs.Digits.{IsHexDigit, letter_at}
+use Rattle.word_image.specs.Grammars.{IsFormFault}
+use Rattle.tail_config.specs.Tails.{TailConfig}
+use Rattle.tail_config.specs.TailTexts.{HasParts, HasForm}
+use Rattle.tail_config.specs.TailFaults.{tail_fault}
+use Rattle.tail_config.specs.declared.faults.TailFault.{TailFault}
+use Rattle.tail_config.specs.declared.texts.TailTextFault.{TailTextFault}
+use Rattle.tail_config.specs.declared.texts.TailTextFault.TheVariants as fault
+
+-- the fault is the first one of the text over the letters below k: the text has no form, or its parts have a fault
+pub data IsTailTextFault (k : ℕ) (text : List ℕ) : TailTextFault → Type 0 where
+  NoForm : (place : ℕ) → IsFormFault HasForm text place → IsTailTextFault k text (fault.Form place)
+  Refused : (t : TailConfig) (f : TailFault) → HasParts text t → tail_fault k t ≡ Some f → IsTailTextFault k text (fault.Tail f)
+
+-- from start up to end there are hexadecimal digits, and not any further
+pub record IsDigitsEnd (text : List ℕ) (start end : ℕ) : Type 0 where
+  pub from : start ≤ end
+  pub within : end ≤ length text
+  pub digits : All IsHexDigit (slice_range text start end)
+  pub stop : end < length text → ¬ IsHexDigit (slice_index text end)
+
+-- the byte of a bar
+abbrev pub bar : ℕ
+bar = 124
+
+-- the text is three rows of digits with bars between
+pub record IsCut (text left middle right : List ℕ) : Type 0 where
+  pub parts : text ≡ left ++ codes "|" ++ middle ++ codes "|" ++ right
+  pub left_digits : All IsHexDigit left
+  pub middle_digits : All IsHexDigit middle
+  pub right_digits : All IsHexDigit right
+
+-- the configuration that three rows of digits stand for
+abbrev pub letters_of : List ℕ → List ℕ → List ℕ → TailConfig
+letters_of left middle right = record { left = map letter_at left; middle = map letter_at middle; right = map letter_at right }

@@ -1,0 +1,173 @@
+//! The texts of Tails: `L|M|R`, each part a row of hexadecimal digits.
+ghost use Rattle.std.specs.Prelude.{◌≡◌, ◌≢◌, ℕ, ◌<◌, ◌≤◌, ◌⊎◌, length, map, slice_index, slice_range, nat_le, position, alloc_error, IfOk, IfErr, MatchOption, All};
+ghost use Rattle.std.specs.Result.{result_err};
+ghost use Rattle.word_image.specs.Digits.{IsHexDigit, letter_at};
+ghost use Rattle.word_image.specs.Grammars.{IsFormFault};
+ghost use Rattle.tail_config.specs.Tails.{TailConfig};
+ghost use Rattle.tail_config.specs.TailTexts.{HasForm, IsShortTail, IsTailText, printed};
+ghost use Rattle.tail_config.specs.TailFaults.{letter_fault, tail_fault};
+ghost use Rattle.tail_config.specs.TailTextFaults.{IsTailTextFault, IsDigitsEnd, IsCut, letters_of, bar};
+
+use crate::faults::{Part, TailFault, check_lengths};
+use crate::tail::Tail;
+use std::alloc::{AllocError, Global};
+use word_image::{letter, word_text};
+
+/// Why a text gives no Tail.
+#[derive(Clone, Copy, Debug, PartialEq, Eq)]
+pub enum TailTextFault {
+    /// The text isn't in the grammar. Its longest prefix that begins some text of the grammar has
+    /// this length.
+    Form(usize),
+    /// The parts make no Tail.
+    Tail(TailFault),
+    /// There is not enough memory.
+    Memory(AllocError),
+}
+
+/// Three rows of hexadecimal digits.
+#[derive(Drop)]
+struct Parts<'a> {
+    // The digits of the left period.
+    left: &'a [u8],
+    // The digits of the middle.
+    middle: &'a [u8],
+    // The digits of the right period.
+    right: &'a [u8],
+}
+
+/// The Tail over the letters below k, from 2 to 16, that a text stands for; else the first fault, in
+/// the order of `TailTextFault`.
+pub fn parse(alloc: Global, k: u8, text: &[u8]) -> Result<Tail, TailTextFault>
+    requires least { 2 ≤ k }
+    requires most { k ≤ 16 }
+    ensures tail { IfOk result (λ t. (t.states ≡ k) × IsTailText k text.now t.config) }
+    ensures fault { IfErr result (λ f. (f ≡ TailTextFault.Memory alloc_error) ⊎ IsTailTextFault k text.now f) }
+    ensures every_tail { (t : TailConfig) → IsTailText k text.now t
+        → (result ≡ Ok (record { states = k; config = t })) ⊎ (result ≡ Err (TailTextFault.Memory alloc_error)) }
+    ensures every_fault { (f : TailTextFault) → IsTailTextFault k text.now f → result ≡ Err f }
+{
+    let parts = split(text)?;
+    if let Err(fault) = check_parts(k, &parts) {
+        return Err(TailTextFault::Tail(fault));
+    }
+    tail_of(alloc, k, &parts).map_err(TailTextFault::Memory)
+}
+
+/// The text of a Tail, in lower case. The only error is want of memory.
+pub fn print(alloc: Global, tail: &Tail) -> Result<Vec<u8>, AllocError>
+    ensures { IfOk result (λ text. text.items ≡ printed tail.now.config) }
+{
+    let mut text = word_text(alloc, tail.left())?;
+    text.push(b'|')?;
+    text.extend_from_slice(&word_text(alloc, tail.middle())?)?;
+    text.push(b'|')?;
+    text.extend_from_slice(&word_text(alloc, tail.right())?)?;
+    Ok(text)
+}
+
+/// The printed text of every Tail is a text of that Tail.
+pub fn printed_text_is_read()
+    ensures { (k : ℕ) (t : TailConfig) → k ≤ 16 → IsShortTail k t → IsTailText k (printed t) t }
+{}
+
+/// The parts of a text of the grammar.
+fn split(text: &[u8]) -> Result<Parts<'_>, TailTextFault>
+    ensures parts { IfOk result (λ p. IsCut text.now p.left.now p.middle.now p.right.now) }
+    ensures fault { IfErr result (λ f. (place : ℕ) × (f ≡ TailTextFault.Form place) × IsFormFault HasForm text.now place) }
+{
+    let first = bar_after(text, 0)?;
+    let second = bar_after(text, first + 1)?;
+    let end = digits_end(text, second + 1);
+    if end < text.len() {
+        return Err(TailTextFault::Form(end));
+    }
+    Ok(Parts {
+        left: &text[..first],
+        middle: &text[first + 1..second],
+        right: &text[second + 1..],
+    })
+}
+
+/// The place of the bar that ends the digits from a place on.
+fn bar_after(text: &[u8], start: usize) -> Result<usize, TailTextFault>
+    requires { start ≤ length text.now }
+    ensures bar { IfOk result (λ end. IsDigitsEnd text.now start end × (end < length text.now) × (slice_index text.now end ≡ bar)) }
+    ensures fault { IfErr result (λ f. (end : ℕ) × (f ≡ TailTextFault.Form end) × IsDigitsEnd text.now start end
+        × (end < length text.now → slice_index text.now end ≢ bar)) }
+{
+    let end = digits_end(text, start);
+    if text.get(end) == Some(&b'|') {
+        Ok(end)
+    } else {
+        Err(TailTextFault::Form(end))
+    }
+}
+
+/// Where the digits from a place on end.
+fn digits_end(text: &[u8], start: usize) -> usize
+    requires { start ≤ length text.now }
+    ensures { IsDigitsEnd text.now start result }
+{
+    for place in start..text.len() {
+        if letter(text[place]).is_none() {
+            return place;
+        }
+    }
+    text.len()
+}
+
+/// Whether rows of digits stand for a Tail; else the first fault of its parts.
+fn check_parts(k: u8, parts: &Parts) -> Result<(), TailFault>
+    ensures { result_err result ≡ tail_fault k (letters_of parts.now.left.now parts.now.middle.now parts.now.right.now) }
+{
+    check_lengths(parts.left, parts.middle, parts.right)?;
+    check_digits(k, Part::Left, parts.left)?;
+    check_digits(k, Part::Middle, parts.middle)?;
+    check_digits(k, Part::Right, parts.right)
+}
+
+/// Whether all letters of a row of digits are below k; else the first that is not.
+fn check_digits(k: u8, part: Part, digits: &[u8]) -> Result<(), TailFault>
+    ensures { result_err result ≡ letter_fault k part (map letter_at digits.now) }
+{
+    match first_foreign(k, digits) {
+        Some(place) => Err(TailFault::Letter(part, place)),
+        None => Ok(()),
+    }
+}
+
+/// The place of the first digit whose letter is not below k.
+fn first_foreign(k: u8, digits: &[u8]) -> Option<usize>
+    ensures { result ≡ position (λ b. nat_le k (letter_at b)) digits.now }
+{
+    digits
+        .iter()
+        .position(|byte| letter(*byte).unwrap_or(0) >= k)
+}
+
+/// The Tail that rows of digits stand for.
+fn tail_of(alloc: Global, k: u8, parts: &Parts) -> Result<Tail, AllocError>
+    requires least { 2 ≤ k }
+    requires most { k ≤ 16 }
+    requires parts { IsShortTail k (letters_of parts.now.left.now parts.now.middle.now parts.now.right.now) }
+    ensures { IfOk result (λ t. t ≡ record { states = k; config = letters_of parts.now.left.now parts.now.middle.now parts.now.right.now }) }
+{
+    let left = letters(alloc, parts.left)?;
+    let middle = letters(alloc, parts.middle)?;
+    let right = letters(alloc, parts.right)?;
+    match Tail::new(k, left, middle, right) {
+        Ok(tail) => Ok(tail),
+        Err(_) => unreachable!(),
+    }
+}
+
+/// The letters that digits stand for.
+fn letters(alloc: Global, digits: &[u8]) -> Result<Vec<u8>, AllocError>
+    ensures { IfOk result (λ v. v.items ≡ map letter_at digits.now) }
+{
+    digits
+        .iter()
+        .map(|byte| letter(*byte).unwrap_or(0))
+        .collect(alloc)
+}
