@@ -1,0 +1,4 @@
+pub mod Unions
+pub mod Inserts
+pub mod Searches
+pub mod LeastWords

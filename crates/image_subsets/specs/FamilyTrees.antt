@@ -1,0 +1,32 @@
+-- The family of a rule, and from where each set is reached first.
+use Rattle.std.specs.Prelude.{◌≡◌, ℕ, ◌<◌, ◌≤◌, List, length, slice_index, slice_get, Option, Some, MatchOption}
+use Rattle.word_image.specs.LocalRules.{LocalRule, IsRule}
+use Rattle.word_image.specs.Graphs.{full_set, IsStep}
+use Rattle.word_image.specs.Families.{IsFamily}
+
+-- sets in their order, and for each the place and the letter of a step that leads to it, if it has one
+pub record FamilyTree : Type 0 where
+  pub sets : List ℕ
+  pub parents : List (Option (ℕ × ℕ))
+
+-- there are 1 to 65,536 sets; the first alone has no parent, and each parent stands before its set
+pub record IsTree (tree : FamilyTree) : Type 0 where
+  pub some : 1 ≤ length tree.sets
+  pub most : length tree.sets ≤ 65536
+  pub one_each : length tree.parents ≡ length tree.sets
+  pub earlier : (i : ℕ) (way : Option (ℕ × ℕ)) → slice_get tree.parents i ≡ Some way → MatchOption way (i ≡ 0) (λ (p, a). p < i)
+
+-- p is the least place from which a step leads to the set at place i, and a the least letter on which one does from there
+pub record IsLeastParent (r : LocalRule) (sets : List ℕ) (i p a : ℕ) : Type 0 where
+  pub earlier : p < i
+  pub letter : a < r.states
+  pub step : IsStep r (slice_index sets p) a (slice_index sets i)
+  pub least_place : (q b : ℕ) → q < length sets → b < r.states → IsStep r (slice_index sets q) b (slice_index sets i) → p ≤ q
+  pub least_letter : (b : ℕ) → b < r.states → IsStep r (slice_index sets p) b (slice_index sets i) → a ≤ b
+
+-- the family of an accepted rule, the full set first; each set but the first has its least parent
+pub record IsFamilyTree (r : LocalRule) (tree : FamilyTree) : Type 0 where
+  pub rule : IsRule r
+  pub family : IsFamily r tree.sets
+  pub starts : slice_get tree.sets 0 ≡ Some (full_set r)
+  pub parents : (i : ℕ) (way : Option (ℕ × ℕ)) → slice_get tree.parents i ≡ Some way → MatchOption way (i ≡ 0) (λ (p, a). IsLeastParent r tree.sets i p a)

@@ -1,0 +1,2 @@
+pub mod FamilyTrees
+pub mod Searches

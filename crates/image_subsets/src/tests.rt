@@ -1,0 +1,47 @@
+//! The graph of rule 110, and the family of rule 106, done by hand.
+
+use crate::{Family, full, step};
+use debruijn::Graph;
+use std::test::Fail;
+use word_image::Rule;
+
+#[test]
+fn the_word_01010_empties_the_sets_of_rule_110(rt: HostRuntime) -> Result<(), Fail> {
+    let graph = Graph::of(&Rule::new(2, 3, -1, &[0, 1, 1, 1, 0, 1, 1, 0])?);
+    let mut set = full(&graph);
+    assert_eq!(rt; set, 15);
+    for (letter, after) in [(0, 9), (1, 6), (0, 1), (1, 2), (0, 0)] {
+        assert!(rt; set < 16 && letter < 2);
+        set = step(&graph, set, letter);
+        assert_eq!(rt; set, after);
+    }
+    Ok(())
+}
+
+#[test]
+fn rule_106_has_twelve_sets(rt: HostRuntime) -> Result<(), Fail> {
+    let graph = Graph::of(&Rule::new(2, 3, -1, &[0, 1, 0, 1, 0, 1, 1, 0])?);
+    let family = Family::of(rt.alloc(), &graph)?;
+    // Each set with its parent.
+    let want = [
+        (15, None),
+        (13, Some((0, 0))),
+        (14, Some((0, 1))),
+        (9, Some((1, 0))),
+        (6, Some((1, 1))),
+        (5, Some((4, 0))),
+        (10, Some((4, 1))),
+        (1, Some((5, 0))),
+        (2, Some((5, 1))),
+        (12, Some((6, 0))),
+        (4, Some((8, 0))),
+        (8, Some((8, 1))),
+    ];
+    assert_eq!(rt; family.len(), 12);
+    for (i, (set, parent)) in want.into_iter().enumerate() {
+        let i = i as u32;
+        assert!(rt; i < family.len());
+        assert_eq!(rt; (family.set(i), family.parent(i)), (set, parent), "at {i}");
+    }
+    Ok(())
+}
