@@ -10,7 +10,7 @@ use crate::stop::Stop;
 use orphan_search::Search;
 use std::alloc::Global;
 
-/// `orphan R`: whether the rule is surjective, with an orphan where it isn't.
+/// `orphan R`: whether the rule is surjective, with its least orphan where it isn't.
 pub fn orphan(alloc: Global, text: &[u8]) -> Result<Output, Stop>
     ensures { (input : Option (List ℕ)) → IsOutcome input (Command.Orphan text.now) result }
 {

@@ -5,7 +5,7 @@ ghost use Rattle.ca_cli.specs.Commands.{Command, IsCommand, command_of};
 /// A command, with its operands as they stand on the command line.
 #[derive(Clone, Copy, Debug)]
 pub enum Request<'a> {
-    /// `orphan R`: whether the rule is surjective, with an orphan where it isn't.
+    /// `orphan R`: whether the rule is surjective, with its least orphan where it isn't.
     Orphan(&'a [u8]),
     /// `number R`: the Wolfram number of the rule.
     Number(&'a [u8]),

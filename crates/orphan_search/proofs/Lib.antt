@@ -1,3 +1,1 @@
-pub mod NodeSets
-pub mod Places
-pub mod SearchTrees
+pub mod Verdicts

@@ -1,11 +1,21 @@
 -- What a search says of a rule.
-use Rattle.std.specs.Prelude.{◌≡◌, ℕ, List, []}
+use Rattle.std.specs.Prelude.{◌≡◌, ◌≤◌, ℕ, List, [], length}
 use Rattle.word_image.specs.LocalRules.{LocalRule}
-use Rattle.word_image.specs.Words.{IsSurjective, IsOrphan}
+use Rattle.word_image.specs.Words.{IsSurjective, IsLeastOrphan}
+use Rattle.word_image.specs.Families.{IsFamily}
 use Rattle.orphan_search.specs.declared.search.Outcome.{Outcome}
 use Rattle.orphan_search.specs.declared.search.Outcome.TheVariants.{Closed, Orphan}
 
--- either every word has a preimage, or the word has none
-abbrev pub IsVerdict : LocalRule → Outcome → List ℕ → Type 0
-IsVerdict r Closed word = IsSurjective r × (word ≡ [])
-IsVerdict r Orphan word = IsOrphan r word
+-- what a run leaves
+pub record Found : Type 0 where
+  pub word : List ℕ
+  pub sets : List ℕ
+
+-- nothing
+abbrev pub IsNothing : Found → Type 0
+IsNothing found = (found.word ≡ []) × (found.sets ≡ [])
+
+-- either every word has a preimage and the family of the rule is found, or its least orphan
+abbrev pub IsVerdict : LocalRule → Outcome → Found → Type 0
+IsVerdict r Closed found = IsSurjective r × IsFamily r found.sets × (found.word ≡ [])
+IsVerdict r Orphan found = IsLeastOrphan r found.word × (length found.word ≤ 65535) × (found.sets ≡ [])

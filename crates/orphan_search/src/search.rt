@@ -1,8 +1,9 @@
-//! The verdict, and the word that proves it where it is no.
+//! The verdict, and what proves it.
 
-ghost use Rattle.std.specs.Prelude.{◌≡◌, [], ◌↔◌, IfOk, OnErr};
+ghost use Rattle.std.specs.Prelude.{◌≡◌, ◌+◌, ◌≤◌, ◌<◌, ◌↔◌, [], length, slice_index, IfOk, OnErr};
 
-use crate::search_tree::{Reached, explore, spelled};
+use debruijn::Graph;
+use image_subsets::Family;
 use std::alloc::{AllocError, Global};
 use std::marker::Model;
 use word_image::Rule;
@@ -12,65 +13,108 @@ use word_image::Rule;
 pub enum Outcome {
     /// Every word has a preimage.
     Closed,
-    /// A word was found that has none.
+    /// Some word has none.
     Orphan,
 }
 
-/// A search through the sets of last nodes, breadth first from the full set with letters ascending:
-/// the subset construction on the de Bruijn graph. It lists each set once, and looks through the list
-/// for each step. A run that lists s sets takes **O(k·s·(k^m + s))** time and **O(s)** memory; a flag
-/// for each possible set would spare the last s, and take `2^N` bits.
+/// A search for the least orphan, by the subset construction: breadth first through the sets of last
+/// nodes, with letters ascending. It is seen as what its last run left.
 ///
-/// It is seen as the word that its last run left.
+/// A run whose family has s sets takes **O(s k N)** time for the N nodes and **O(s)** space; s is at
+/// most 2^N, so 65,536.
 #[derive(Debug, Drop)]
 pub struct Search {
-    // The sets that the last run reached; kept for its room.
-    tree: Vec<Reached>,
-    // The word that it found; empty where it found none.
+    // The least orphan of the last run; empty where it found none.
     word: Vec<u8>,
+    // The family of the last run; empty where it has the empty set.
+    sets: Vec<u16>,
 }
 
 impl Model for Search {
-    ghost use Rattle.std.specs.Prelude.{List, ℕ};
+    ghost use Rattle.orphan_search.specs.Verdicts.{Found};
 
-    ghost Value = { List ℕ };
+    ghost Value = { Found };
 
-    ghost view = { λ s. s.word.items };
+    ghost view = { λ s. record { word = s.word.items; sets = s.sets.items } };
 }
 
 impl Search {
     ghost use Rattle.word_image.specs.Words.{IsSurjective};
-    ghost use Rattle.orphan_search.specs.Verdicts.{IsVerdict};
+    ghost use Rattle.orphan_search.specs.Verdicts.{IsNothing, IsVerdict};
 
-    /// A search that has not run: its word is empty.
+    /// A search that has not run: its word and its sets are empty.
     pub fn new(alloc: Global) -> Result<Search, AllocError>
-        ensures { IfOk result (λ search. search ≡ []) }
+        ensures { IfOk result IsNothing }
     {
         Ok(Search {
-            tree: Vec::new(alloc),
             word: Vec::new(alloc),
+            sets: Vec::new(alloc),
         })
     }
 
     /// Decides whether every word has a preimage under the rule. Each run starts anew, whatever an
-    /// earlier one left.
+    /// earlier one left; where there is not enough memory, word and sets are empty after it.
     pub fn run(&mut self, alloc: Global, rule: &Rule) -> Result<Outcome, AllocError>
         ensures verdict { IfOk result (λ outcome. IsVerdict rule.now outcome self.new) }
         ensures exactly { IfOk result (λ outcome. (outcome ≡ Outcome.Closed) ↔ IsSurjective rule.now) }
-        ensures refused { OnErr result (self.new ≡ []) }
+        ensures refused { OnErr result (IsNothing self.new) }
     {
         self.word.clear();
-        if !explore(rule, &mut self.tree)? {
-            return Ok(Outcome::Closed);
+        self.sets.clear();
+        let family = Family::of(alloc, &Graph::of(rule))?;
+        let last = family.len() - 1;
+        if family.set(last) == 0 {
+            self.word = least_word(alloc, &family, last)?;
+            return Ok(Outcome::Orphan);
         }
-        self.word = spelled(alloc, &self.tree, self.tree.len() - 1)?;
-        Ok(Outcome::Orphan)
+        self.sets = all_sets(alloc, &family)?;
+        Ok(Outcome::Closed)
     }
 
-    /// After a run that answered `Orphan` a word without a preimage, in letters below k; else empty.
+    /// After a run that answered `Orphan` the least orphan in the order of words, of at most 65,535
+    /// letters; else empty.
     pub fn word(&self) -> &[u8]
-        ensures { result.now ≡ self.now }
+        ensures { result.now ≡ self.now.word }
     {
         &self.word
     }
+
+    /// After a run that answered `Closed` the family of the rule in its order; else empty.
+    pub fn sets(&self) -> &[u16]
+        ensures { result.now ≡ self.now.sets }
+    {
+        &self.sets
+    }
+}
+
+ghost use Rattle.word_image.specs.LocalRules.{LocalRule};
+ghost use Rattle.word_image.specs.Families.{IsLeastWordOf};
+ghost use Rattle.image_subsets.specs.FamilyTrees.{IsFamilyTree};
+
+/// The least word of the set at this place: the letters on the way to it from parent to child.
+fn least_word(alloc: Global, family: &Family, at: u32) -> Result<Vec<u8>, AllocError>
+    requires { at < length family.now.sets }
+    ensures least { IfOk result (λ word. (r : LocalRule) → IsFamilyTree r family.now →
+        IsLeastWordOf r (slice_index family.now.sets at) word.items) }
+    ensures short { IfOk result (λ word. length word.items ≤ at) }
+{
+    let mut letters = Vec::new(alloc);
+    let mut place = at;
+    while let Some((parent, letter)) = family.parent(place) {
+        letters.push(letter)?;
+        place = parent;
+    }
+    letters.reverse();
+    Ok(letters)
+}
+
+/// The sets of the family, in its order.
+fn all_sets(alloc: Global, family: &Family) -> Result<Vec<u16>, AllocError>
+    ensures { IfOk result (λ sets. sets.items ≡ family.now.sets) }
+{
+    let mut sets = Vec::new(alloc);
+    for i in 0..family.len() {
+        sets.push(family.set(i))?;
+    }
+    Ok(sets)
 }

@@ -1,17 +1,15 @@
-//! What no clause says: that a run comes to a verdict where there is memory, how many sets it lists, and
-//! which orphan it finds.
+//! That a run comes to a verdict where there is memory, which no clause says, and what it leaves.
 //! The verdicts are well known or follow by hand; the orphans come from a listing of all words, the
 //! shorter ones first.
 
-use crate::search_tree::explore;
 use crate::{Outcome, Search};
 use std::alloc::{AllocError, Global};
 use std::test::Fail;
 use word_image::Rule;
 
-// States, width, offset and table of a rule, and the least of its shortest orphans; none where every
-// word has a preimage.
-const CASES: [(u8, u8, i8, &[u8], &[u8]); 17] = [
+// States, width, offset and table of a rule, and its least orphan; none where every word has a
+// preimage.
+const CASES: [(u8, u8, i8, &[u8], &[u8]); 18] = [
     // The elementary rules 110, 106, 110 again, 0, 30, 184, 232, 204 and 170.
     (2, 3, -1, b"01110110", b"01010"),
     (2, 3, -1, b"01010110", b""),
@@ -38,6 +36,13 @@ const CASES: [(u8, u8, i8, &[u8], &[u8]); 17] = [
     ),
     (5, 2, 0, b"0000011111222223333344444", b""),
     (5, 2, 0, b"2222222222222222222222222", b"0"),
+    (
+        2,
+        5,
+        0,
+        b"10101001101001010101011001011011",
+        b"0100101101010011010100100110110101011010",
+    ),
     (
         4,
         3,
@@ -66,6 +71,7 @@ fn outcome_at(orphan: &[u8]) -> Outcome {
 fn one_search_decides_rule_after_rule(rt: HostRuntime) -> Result<(), Fail> {
     let mut search = Search::new(rt.alloc())?;
     assert_eq!(rt; search.word(), [].as_slice());
+    assert_eq!(rt; search.sets(), [].as_slice());
     for (k, m, o, digits, orphan) in CASES {
         let table = letters(rt.alloc(), digits)?;
         let orphan = letters(rt.alloc(), orphan)?;
@@ -76,6 +82,11 @@ fn one_search_decides_rule_after_rule(rt: HostRuntime) -> Result<(), Fail> {
             "at {table:?}"
         );
         assert_eq!(rt; search.word(), orphan.as_slice(), "at {table:?}");
+        assert_eq!(rt;
+            search.sets().is_empty(),
+            !orphan.is_empty(),
+            "at {table:?}"
+        );
     }
     Ok(())
 }
@@ -93,8 +104,11 @@ fn shift_of_sixteen_states_is_surjective(rt: HostRuntime) -> Result<(), Fail> {
 #[test]
 fn rule_106_reaches_twelve_sets(rt: HostRuntime) -> Result<(), Fail> {
     let rule = Rule::new(2, 3, -1, &[0, 1, 0, 1, 0, 1, 1, 0])?;
-    let mut tree = Vec::new(rt.alloc());
-    assert!(rt; !explore(&rule, &mut tree)?);
-    assert_eq!(rt; tree.len(), 12);
+    let mut search = Search::new(rt.alloc())?;
+    assert_eq!(rt; search.run(rt.alloc(), &rule)?, Outcome::Closed);
+    assert_eq!(rt;
+        search.sets(),
+        [15, 13, 14, 9, 6, 5, 10, 1, 2, 12, 4, 8].as_slice()
+    );
     Ok(())
 }

@@ -6,7 +6,7 @@ use Rattle.std.proofs.lemmas.Result.{err_from_is_err_and}
 use Rattle.word_image.specs.LocalRules.{LocalRule}
 use Rattle.orphan_search.specs.declared.search.Outcome.{Outcome}
 use Rattle.orphan_search.specs.declared.search.Outcome.TheVariants as outcome
-use Rattle.orphan_search.specs.Verdicts.{IsVerdict}
+use Rattle.orphan_search.specs.Verdicts.{Found, IsVerdict}
 use Rattle.ca_cli.specs.declared.stop.Stop.{Stop}
 use Rattle.ca_cli.specs.Commands.{Command, first_rule}
 use Rattle.ca_cli.specs.Reports.{IsSurjectiveLine, surjective_line}
@@ -23,9 +23,9 @@ pub appended_twice : (before first second : List ℕ) {between after : List ℕ}
 appended_twice before first second one two = two ∙ ap (λ o. o ++ second) one ∙ append_assoc before first second
 
 -- the line of a verdict is true
-pub IsSurjectiveLine-verdict : (r : LocalRule) (o : Outcome) (w : List ℕ) → IsVerdict r o w → IsSurjectiveLine r (surjective_line o w)
-IsSurjectiveLine-verdict r outcome.Closed w verdict = Yes verdict.0
-IsSurjectiveLine-verdict r outcome.Orphan w verdict = No w verdict
+pub IsSurjectiveLine-verdict : (r : LocalRule) (o : Outcome) (found : Found) → IsVerdict r o found → IsSurjectiveLine r (surjective_line o found.word)
+IsSurjectiveLine-verdict r outcome.Closed found verdict = Yes verdict.0
+IsSurjectiveLine-verdict r outcome.Orphan found verdict = No found.word verdict.0
 
 -- a command whose first rule is refused stops
 pub first_refused : (input : Option (List ℕ)) (c : Command) {text : List ℕ} {s : Stop} (result : Result (List ℕ) Stop)

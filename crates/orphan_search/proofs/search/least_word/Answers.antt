@@ -1,0 +1,35 @@
+use Rattle.std.proofs.Common.{◌≡◌, ℕ, ◌<◌, List, [], ◌∷◌, ◌++◌, length, slice_index, reverse, Some, sym, ap, ◌∙◌, subst, arith, append_assoc}
+use Rattle.std.proofs.lemmas.List.{length_push, reverse-append}
+use Rattle.std.proofs.lemmas.Option.{get_or_from_slice_get}
+use Rattle.word_image.specs.Graphs.{full_set}
+use Rattle.word_image.specs.Families.{IsLeastWordOf}
+use Rattle.image_subsets.proofs.LeastWords.{IsLeastWordOf-parent, IsLeastWordOf-full}
+use Rattle.orphan_search.proofs.search.least_word.Goals as goal
+
+-- one letter more, before the others
+letter_before : (v letters longer : List ℕ) (a : ℕ) → longer ≡ letters ++ a ∷ [] → (v ++ a ∷ []) ++ reverse letters ≡ v ++ reverse longer
+letter_before v letters longer a more =
+    append_assoc v (a ∷ []) (reverse letters) ∙ ap (λ w. v ++ w) (sym (ap reverse more ∙ reverse-append letters (a ∷ [])))
+
+pub loop-parent-preserved : goal.loop-parent-preserved
+loop-parent-preserved c =
+    let letters = c.loop-parent.letters.items in
+    let place = c.loop-parent.place in
+    let more = c.in_ok-push.ensures.items in
+    let earlier : c.in-Some.parent < place = c.in-Some.ensures.earlier in
+    let within : place < length c.args.family.now.sets = omega (arith, c.loop-parent.invariant.short) in
+    record {
+      short = omega (arith, c.loop-parent.invariant.short, ap length more, length_push letters c.in-Some.letter);
+      least = λ r tree v first.
+          let parent = tree.parents place (Some (c.in-Some.parent, c.in-Some.letter)) c.in-Some.ensures.parent in
+          subst (IsLeastWordOf r (slice_index c.args.family.now.sets c.args.at)) (letter_before v letters _ c.in-Some.letter more)
+          (c.loop-parent.invariant.least r tree (v ++ c.in-Some.letter ∷ []) (IsLeastWordOf-parent tree.rule tree.family within parent v first));
+    }
+
+pub returns-clause-least : goal.returns-clause-least
+returns-clause-least c r tree =
+    let sets = c.args.family.now.sets in
+    let root : c.loop-parent.place ≡ 0 = c.in_default.ensures.earlier in
+    let full : slice_index sets c.loop-parent.place ≡ full_set r = ap (slice_index sets) root ∙ get_or_from_slice_get sets 0 (full_set r) 0 tree.starts in
+    subst (IsLeastWordOf r (slice_index sets c.args.at)) (sym c.reverse.ensures.items)
+    (c.loop-parent.invariant.least r tree [] (subst (λ set. IsLeastWordOf r set []) (sym full) (IsLeastWordOf-full r)))
