@@ -2,7 +2,7 @@
 use Rattle.std.specs.Prelude.{◌≡◌, ℕ, ◌<◌, ◌≤◌, List, ◌++◌, length, map, codes, slice_index, slice_range, Some, All}
 use Rattle.word_image.specs.Digits.{IsHexDigit, letter_at}
 use Rattle.word_image.specs.Grammars.{IsFormFault}
-use Rattle.tail_config.specs.Tails.{TailConfig}
+use Rattle.tail_config.specs.Tails.{TailConfig, config_of}
 use Rattle.tail_config.specs.TailTexts.{HasParts, HasForm}
 use Rattle.tail_config.specs.TailFaults.{tail_fault}
 use Rattle.tail_config.specs.declared.faults.TailFault.{TailFault}
@@ -34,4 +34,4 @@ pub record IsCut (text left middle right : List ℕ) : Type 0 where
 
 -- the configuration that three rows of digits stand for
 abbrev pub letters_of : List ℕ → List ℕ → List ℕ → TailConfig
-letters_of left middle right = record { left = map letter_at left; middle = map letter_at middle; right = map letter_at right }
+letters_of left middle right = config_of (map letter_at left) (map letter_at middle) (map letter_at right)

@@ -1,6 +1,7 @@
 //! Why three parts make no Tail.
 ghost use Rattle.std.specs.Prelude.{◌≡◌, nat_le, position};
 ghost use Rattle.std.specs.Result.{result_err};
+ghost use Rattle.tail_config.specs.Tails.{config_of};
 ghost use Rattle.tail_config.specs.TailFaults.{first_fault, length_faults, long_fault, letter_fault, tail_fault};
 
 /// The most letters that a part has.
@@ -46,7 +47,7 @@ pub struct TailRefusal {
 /// Whether three parts make a Tail over the letters below k; else their first fault, in the order
 /// of `TailFault`, and of the parts from left to right.
 pub fn check_parts(k: u8, left: &[u8], middle: &[u8], right: &[u8]) -> Result<(), TailFault>
-    ensures { result_err result ≡ tail_fault k (record { left = left.now; middle = middle.now; right = right.now }) }
+    ensures { result_err result ≡ tail_fault k (config_of left.now middle.now right.now) }
 {
     check_lengths(left, middle, right)?;
     check_letters(k, Part::Left, left)?;

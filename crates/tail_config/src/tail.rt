@@ -3,7 +3,7 @@ ghost use Rattle.std.specs.Prelude.{◌≡◌, ◌^◌, ◌<◌, ◌≤◌, ◌�
 ghost use Rattle.std.specs.Option.{option_map};
 ghost use Rattle.std.specs.Result.{result_err};
 ghost use Rattle.word_image.specs.LocalRules.{LocalRule, IsRule, mirrored};
-ghost use Rattle.tail_config.specs.Tails.{TailConfig, IsTail, cell, cells, image_cell, mirror_of};
+ghost use Rattle.tail_config.specs.Tails.{TailConfig, IsTail, config_of, cell, cells, image_cell, mirror_of};
 ghost use Rattle.tail_config.specs.TailTexts.{IsShortTail};
 ghost use Rattle.tail_config.specs.TailValues.{IsAccepted};
 ghost use Rattle.tail_config.specs.TailFaults.{tail_fault};
@@ -30,13 +30,14 @@ pub struct Tail {
 }
 
 impl Model for Tail {
+    ghost use Rattle.tail_config.specs.Tails.{config_of};
     ghost use Rattle.tail_config.specs.TailValues.{TailOver, IsAccepted};
 
     ghost Value = { TailOver };
 
-    ghost view = { λ t. record { states = t.k; config = record { left = t.left.items; middle = t.middle.items; right = t.right.items } } };
+    ghost view = { λ t. record { states = t.k; config = config_of t.left.items t.middle.items t.right.items } };
 
-    ghost invariant = { λ t. IsAccepted (record { states = t.k; config = record { left = t.left.items; middle = t.middle.items; right = t.right.items } }) };
+    ghost invariant = { λ t. IsAccepted (record { states = t.k; config = config_of t.left.items t.middle.items t.right.items }) };
 }
 
 impl Tail {
@@ -45,10 +46,13 @@ impl Tail {
     pub fn new(k: u8, left: Vec<u8>, middle: Vec<u8>, right: Vec<u8>) -> Result<Tail, TailRefusal>
         requires least { 2 ≤ k }
         requires most { k ≤ 16 }
-        ensures tail { IfOk result (λ t. t ≡ record { states = k; config = record { left = left.items; middle = middle.items; right = right.items } }) }
+        ensures tail { IfOk result (λ t.
+            t ≡ record { states = k; config = config_of left.items middle.items right.items }) }
+        ensures accepted { IsOk result ↔ IsShortTail k (config_of left.items middle.items right.items) }
+
+        ensures fault { option_map (λ r. r.fault) (result_err result)
+            ≡ tail_fault k (config_of left.items middle.items right.items) }
         ensures handed_back { IfErr result (λ r. (r.left ≡ left) × (r.middle ≡ middle) × (r.right ≡ right)) }
-        ensures fault { option_map (λ r. r.fault) (result_err result) ≡ tail_fault k (record { left = left.items; middle = middle.items; right = right.items }) }
-        ensures accepted { IsOk result ↔ IsShortTail k (record { left = left.items; middle = middle.items; right = right.items }) }
     {
         match check_parts(k, &left, &middle, &right) {
             Ok(()) => Ok(Tail {

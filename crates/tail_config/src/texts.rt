@@ -48,7 +48,7 @@ pub fn parse(alloc: Global, k: u8, text: &[u8]) -> Result<Tail, TailTextFault>
     ensures every_fault { (f : TailTextFault) → IsTailTextFault k text.now f → result ≡ Err f }
 {
     let parts = split(text)?;
-    if let Err(fault) = check_parts(k, &parts) {
+    if let Err(fault) = check_digits(k, &parts) {
         return Err(TailTextFault::Tail(fault));
     }
     tail_of(alloc, k, &parts).map_err(TailTextFault::Memory)
@@ -118,17 +118,17 @@ fn digits_end(text: &[u8], start: usize) -> usize
 }
 
 /// Whether rows of digits stand for a Tail; else the first fault of its parts.
-fn check_parts(k: u8, parts: &Parts) -> Result<(), TailFault>
+fn check_digits(k: u8, parts: &Parts) -> Result<(), TailFault>
     ensures { result_err result ≡ tail_fault k (letters_of parts.now.left.now parts.now.middle.now parts.now.right.now) }
 {
     check_lengths(parts.left, parts.middle, parts.right)?;
-    check_digits(k, Part::Left, parts.left)?;
-    check_digits(k, Part::Middle, parts.middle)?;
-    check_digits(k, Part::Right, parts.right)
+    check_row(k, Part::Left, parts.left)?;
+    check_row(k, Part::Middle, parts.middle)?;
+    check_row(k, Part::Right, parts.right)
 }
 
 /// Whether all letters of a row of digits are below k; else the first that is not.
-fn check_digits(k: u8, part: Part, digits: &[u8]) -> Result<(), TailFault>
+fn check_row(k: u8, part: Part, digits: &[u8]) -> Result<(), TailFault>
     ensures { result_err result ≡ letter_fault k part (map letter_at digits.now) }
 {
     match first_foreign(k, digits) {

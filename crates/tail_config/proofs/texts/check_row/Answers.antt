@@ -5,7 +5,7 @@ use Rattle.std.specs.Option.{option_map}
 use Rattle.std.proofs.lemmas.List.{length-map}
 use Rattle.word_image.specs.Digits.{letter_at}
 use Rattle.tail_config.specs.declared.faults.TailFault.TheVariants as fault
-use Rattle.tail_config.proofs.texts.check_digits.Goals as goal
+use Rattle.tail_config.proofs.texts.check_row.Goals as goal
 
 -- as many values pass from the front on as numbers whose values do
 prefix_len-map : (p : ℕ → Bool) (f : ℕ → ℕ) (xs : List ℕ) → prefix_len p (map f xs) ≡ prefix_len (λ x. p (f x)) xs
