@@ -54,7 +54,7 @@ abbrev pub IsLeastTurn : LocalRule → ℕ → List (ℕ × ℕ) → Type 0
 IsLeastTurn r p w = IsLeastWalk (marked r) r.states p (p + pair_count r) w
 
 -- such a walk has a step
-turn-some : {r : LocalRule} → IsRule r → (p : ℕ) (w : List (ℕ × ℕ)) → IsTurn r p w → 0 < length w
+pub turn-some : {r : LocalRule} → IsRule r → (p : ℕ) (w : List (ℕ × ℕ)) → IsTurn r p w → 0 < length w
 turn-some {r} rule p [] turn =
     let here : p ≡ p + pair_count r = Follows-walk turn in
     let pairs : 0 < pair_count r = pair_count_pos rule in

@@ -1,0 +1,43 @@
+-- The first of all windows inside their words is the least determined one.
+use Rattle.std.proofs.Common.{◌≡◌, ℕ, ◌+◌, ◌-◌, ◌<◌, ◌↔◌, inl, inr, Option, Some, None, true, false, refl, sym, subst, ⊎_elim, arith}
+use Rattle.std.specs.Prelude.{MatchOption, IsSome}
+use Rattle.std.specs.Option.{option_map}
+use Rattle.std.proofs.lemmas.Bool.{cases_eq}
+use Rattle.word_image.specs.LocalRules.{LocalRule, IsRule}
+use Rattle.word_image.specs.Windows.{IsDetermined, IsLeastDetermined}
+use Rattle.tail_config.specs.Tails.{IsInjective}
+use Rattle.tail_laws.proofs.Certainty.{IsInjective-window}
+use Rattle.inverse_window.specs.declared.windows.WindowAt.{WindowAt}
+use Rattle.inverse_window.specs.Starts.{HoldsFrom}
+use Rattle.inverse_window.specs.FirstWindows.{IsFirstOf, IsEarlier}
+use Rattle.inverse_window.proofs.FirstWindowLaws.{IsFirstOf-earlier, IsFirstOf-past}
+
+-- the windows whose letter stands before place i of the last node
+abbrev pub IsBefore : ℕ → ℕ → ℕ → Type 0
+IsBefore i n c = c < n + i
+
+-- one place more
+pub IsFirstOf-next : (r : LocalRule) (i : ℕ) (start : Option ℕ) (found made next : Option WindowAt) → HoldsFrom start (λ n. IsDetermined r n (n + i)) → made ≡ option_map (λ n. record { n = n; c = n + i }) start
+    → IsEarlier found made next → IsFirstOf r (IsBefore i) found → IsFirstOf r (IsBefore (i + 1)) next
+IsFirstOf-next r i start found made next from made_is earlier before =
+    IsFirstOf-earlier r (IsBefore i) (λ n c. c ≡ n + i) (IsBefore (i + 1))
+    (λ n c among. ⊎_elim (λ same. inr same) (λ other. inl (omega (arith, other))) (cases_eq c (n + i)))
+    found made next earlier before (subst (IsFirstOf r (λ n c. c ≡ n + i)) (sym made_is) (IsFirstOf-past r i start from))
+
+-- the last place is that of the last letter of the word
+pub IsLeastDetermined-first : {r : LocalRule} → IsRule r → (found : Option WindowAt) → IsFirstOf r (IsBefore (r.width - 1)) found
+    → MatchOption found ((n c : ℕ) → ¬ IsDetermined r n c) (λ w. IsLeastDetermined r w.n w.c)
+IsLeastDetermined-first rule None first = λ n c determined. first n c (omega (arith, determined.some, determined.inside, rule.shape.least_width)) determined
+IsLeastDetermined-first rule (Some w) first = record {
+  determined = first.determined;
+  least = λ n c before determined. first.least n c (omega (arith, determined.some, determined.inside, rule.shape.least_width)) before determined;
+}
+
+-- there is one exactly where the rule is injective
+pub IsInjective-least : {r : LocalRule} → IsRule r → (found : Option WindowAt) → MatchOption found ((n c : ℕ) → ¬ IsDetermined r n c) (λ w. IsLeastDetermined r w.n w.c)
+    → IsSome found ↔ IsInjective r
+IsInjective-least rule None none = (
+  λ some. let not : false ≡ true = some in cc,
+  λ injective. let window = (IsInjective-window rule).0 injective in absurd (none window.0 window.1 window.2),
+)
+IsInjective-least rule (Some w) least = (λ some. (IsInjective-window rule).1 (w.n, w.c, least.determined), λ injective. refl)

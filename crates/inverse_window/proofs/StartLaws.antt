@@ -1,0 +1,58 @@
+-- From which number on facts hold.
+use Rattle.std.proofs.Common.{ℕ, ◌+◌, ◌≤◌, ◌↔◌, Option, Some, None, subst, ⊎_elim, arith}
+use Rattle.std.specs.Prelude.{IfSome}
+use Rattle.std.proofs.lemmas.Bool.{cases_eq, cases_lt}
+use Rattle.word_image.specs.Ranks.{IsRank}
+use Rattle.inverse_window.specs.Starts.{HoldsFrom, later}
+use Rattle.inverse_window.specs.FirstWindows.{NoneHolds}
+
+-- a fact that is the same as one
+pub HoldsFrom-same : (start : Option ℕ) (P Q : ℕ → Type 0) → ((n : ℕ) → Q n ↔ P n) → HoldsFrom start P → HoldsFrom start Q
+HoldsFrom-same None P Q same none = λ n q. none n ((same n).0 q)
+HoldsFrom-same (Some a) P Q same from = λ n. (λ q. (from n).0 ((same n).0 q), λ l. (same n).1 ((from n).1 l))
+
+-- a fact that is the same as two holds from the later start on
+pub HoldsFrom-later : (a b : Option ℕ) (P Q R : ℕ → Type 0) → ((n : ℕ) → R n ↔ (P n × Q n)) → HoldsFrom a P → HoldsFrom b Q → HoldsFrom (later a b) R
+HoldsFrom-later None b P Q R both none from = λ n h. none n ((both n).0 h).0
+HoldsFrom-later (Some a) None P Q R both from none = λ n h. none n ((both n).0 h).1
+HoldsFrom-later (Some a) (Some b) P Q R both first second = λ n. (
+  λ h. let l = (first n).0 ((both n).0 h).0 in let g = (second n).0 ((both n).0 h).1 in omega arith,
+  λ l. (both n).1 ((first n).1 (omega arith), (second n).1 (omega arith)),
+)
+
+-- the later of two starts is within a bound that they are within
+pub later-most : (a b : Option ℕ) (k : ℕ) → IfSome a (λ n. n ≤ k) → IfSome b (λ n. n ≤ k) → IfSome (later a b) (λ n. n ≤ k)
+later-most None b k first second = tt
+later-most (Some a) None k first second = tt
+later-most (Some a) (Some b) k first second = omega arith
+
+-- what holds for less too no longer holds past its rank
+pub HoldsFrom-rank : (P : ℕ → Type 0) (a : ℕ) → ((i n : ℕ) → i ≤ n → P n → P i) → IsRank P a → HoldsFrom (Some (a + 1)) (λ n. ¬ P n)
+HoldsFrom-rank P a less rank = λ n. (
+  λ none. ⊎_elim (λ l. absurd (none (less n a (omega arith) rank.holds))) (λ l. l) (cases_lt n (a + 1)),
+  λ l h. rank.no_more (less (a + 1) n l h),
+)
+
+-- with no pair all hold
+pub HoldsFrom-first : (Of : ℕ → Type 0) (P : ℕ → ℕ → Type 0) → HoldsFrom (Some 0) (NoneHolds 0 Of P)
+HoldsFrom-first Of P = λ n. (λ none. omega arith, λ l p below. absurd (omega arith))
+
+-- one more pair of them
+pub HoldsFrom-next : (a b : Option ℕ) (p : ℕ) (Of : ℕ → Type 0) (P : ℕ → ℕ → Type 0) → Of p → HoldsFrom a (NoneHolds p Of P) → HoldsFrom b (λ n. ¬ P p n) → HoldsFrom (later a b) (NoneHolds (p + 1) Of P)
+HoldsFrom-next a b p Of P of before here =
+    HoldsFrom-later a b (NoneHolds p Of P) (λ n. ¬ P p n) (NoneHolds (p + 1) Of P)
+    (λ n. (
+      λ none. (λ q l of_q. none q (omega arith) of_q, none p (omega arith) of),
+      λ both q l of_q. ⊎_elim (λ same h. both.1 (subst (λ s. P s n) same h)) (λ other. both.0 q (omega (arith, other)) of_q) (cases_eq q p),
+    ))
+    before here
+
+-- and one that is none of them
+pub HoldsFrom-other : (a : Option ℕ) (p : ℕ) (Of : ℕ → Type 0) (P : ℕ → ℕ → Type 0) → ¬ Of p → HoldsFrom a (NoneHolds p Of P) → HoldsFrom a (NoneHolds (p + 1) Of P)
+HoldsFrom-other a p Of P not_of before =
+    HoldsFrom-same a (NoneHolds p Of P) (NoneHolds (p + 1) Of P)
+    (λ n. (
+      λ none q l of_q. none q (omega arith) of_q,
+      λ none q l of_q. ⊎_elim (λ same. absurd (not_of (subst Of same of_q))) (λ other. none q (omega (arith, other)) of_q) (cases_eq q p),
+    ))
+    before

@@ -1,0 +1,83 @@
+-- Which windows are determined, by pairs of nodes: with c letters of the image before the letter c of the word, and with all of them before it.
+use Rattle.std.proofs.Common.{◌≡◌, ◌≢◌, ℕ, ◌+◌, ◌-◌, ◌<◌, ◌≤◌, ◌↔◌, min, ◌⊎◌, inl, inr, sym, subst, ⊎_elim, arith}
+use Rattle.std.proofs.lemmas.Bool.{cases_lt}
+use Rattle.word_image.specs.LocalRules.{LocalRule, IsRule}
+use Rattle.word_image.specs.Graphs.{first_of, second_of, pair_count, node_letter}
+use Rattle.word_image.specs.Ranks.{BeginTogether, EndTogether, IsRank}
+use Rattle.word_image.specs.Windows.{IsDetermined}
+use Rattle.pair_laws.proofs.Ranks.{BeginTogether-zero, EndTogether-zero, EndTogether-less}
+use Rattle.pair_laws.proofs.Pairs.{first_of-below, second_of-below}
+use Rattle.pair_laws.proofs.Decisions.{EndTogether-decide}
+use Rattle.pair_laws.proofs.Windows.{IsDetermined-pairs}
+use Rattle.inverse_window.specs.FirstWindows.{DifferAt, Begins, Ends, EndsFor, NoneHolds}
+use Rattle.inverse_window.proofs.Letters.{DifferAt-some}
+
+-- a pair ends together for n, counted to 240, or doesn't
+EndsFor-decide : {r : LocalRule} → IsRule r → (p n : ℕ) → p < pair_count r → EndsFor r p n ⊎ ¬ EndsFor r p n
+EndsFor-decide {r} rule p n l =
+    ⊎_elim (λ long. inr (λ ends. let most : n ≤ 240 = ends.0 in absurd (omega arith)))
+    (λ most. ⊎_elim (λ ends. inl (most, ends)) (λ none. inr (λ ends. none ends.1)) (EndTogether-decide rule n (first_of r p) (second_of r p) (first_of-below rule p l) (second_of-below rule p)))
+    (cases_lt 240 n)
+
+-- no pair differs at letter i, ends together for j and begins together for l
+abbrev pub AreApart : LocalRule → ℕ → ℕ → ℕ → Type 0
+AreApart r i j l = (p : ℕ) → p < pair_count r → DifferAt r i p → Ends r p j → ¬ Begins r p l
+
+-- some pair differs at a letter, and every pair ends and begins together for 0
+AreApart-some : {r : LocalRule} → IsRule r → (i j l : ℕ) → i < r.width - 1 → AreApart r i j l → 1 ≤ j + l
+AreApart-some {r} rule i j l within apart =
+    let p = DifferAt-some rule i within in
+    let u : first_of r p.0 < _ = first_of-below rule p.0 p.1 in
+    let v = second_of-below rule p.0 in
+    ⊎_elim
+    (λ none.
+    let e : 0 ≡ j = omega arith in
+    let d : 0 ≡ l = omega arith in
+    absurd (apart p.0 p.1 p.2 (subst (Ends r p.0) e (EndTogether-zero r _ _ u v)) (subst (Begins r p.0) d (BeginTogether-zero r _ _ u v))))
+    (λ some. some)
+    (cases_lt (j + l) 1)
+
+-- where j is the lesser of n and c, and the letter c of a word is letter i of its node at j, this says that (n, c) is determined
+pub IsDetermined-parts : {r : LocalRule} → IsRule r → (i j l n c : ℕ) → j + i ≡ c → j + l ≡ n → min c n ≡ j → i < r.width - 1 → IsDetermined r n c ↔ AreApart r i j l
+IsDetermined-parts {r} rule i j l n c place long least within =
+    let letter : c - min c n ≡ i = omega arith in
+    let rest : n - min c n ≡ l = omega arith in
+    let inside : c < n + (r.width - 1) = omega arith in
+    let pairs = IsDetermined-pairs rule n c in
+    let At : ℕ → ℕ → ℕ → Type 0 = λ a b d. (p : ℕ) → p < pair_count r → node_letter r (first_of r p) a ≢ node_letter r (second_of r p) a
+    → EndTogether r (first_of r p) (second_of r p) b → ¬ BeginTogether r (first_of r p) (second_of r p) d in (
+      λ h. subst (λ a. At a j l) letter (subst (λ b. At (c - min c n) b l) least (subst (At (c - min c n) (min c n)) rest ((pairs.0 h).2))),
+      λ apart. pairs.1 (
+        omega (arith, AreApart-some rule i j l within apart),
+        omega (arith, AreApart-some rule i j l within apart),
+        subst (At (c - min c n) (min c n)) (sym rest) (subst (λ b. At (c - min c n) b l) (sym least) (subst (λ a. At a j l) (sym letter) apart)),
+      ),
+    )
+
+-- n letters of the image past the letter c of the word, and c before it: no pair that differs at its first letter ends together for c and begins together for n
+pub IsDetermined-within : {r : LocalRule} → IsRule r → (c n : ℕ) → IsDetermined r (c + n) c ↔ NoneHolds (pair_count r) (λ p. DifferAt r 0 p × Ends r p c) (Begins r) n
+IsDetermined-within {r} rule c n =
+    let wide : 2 ≤ r.width = rule.shape.least_width in
+    let parts = IsDetermined-parts rule 0 c n (c + n) c (omega arith) (omega arith) (omega arith) (omega arith) in
+    (λ h p l of. parts.0 h p l of.0 of.1, λ none. parts.1 (λ p l differ ends. none p l (differ, ends)))
+
+-- all letters of the image before a letter of the last node: no pair that differs at it ends together for them
+pub IsDetermined-past : {r : LocalRule} → IsRule r → (i n : ℕ) → i < r.width - 1 → IsDetermined r n (n + i) ↔ NoneHolds (pair_count r) (DifferAt r i) (Ends r) n
+IsDetermined-past {r} rule i n within =
+    let parts = IsDetermined-parts rule i n 0 n (n + i) (omega arith) (omega arith) (omega arith) within in (
+      λ h p l differ ends. parts.0 h p l differ ends (BeginTogether-zero r _ _ (first_of-below rule p l) (second_of-below rule p)),
+      λ none. parts.1 (λ p l differ ends begins. none p l differ ends),
+    )
+
+-- the pairs that end together for c, counted to 240, are those that do for c and no more, and those that do for more
+pub NoneHolds-split : {r : LocalRule} → IsRule r → (i c n : ℕ) (P : ℕ → ℕ → Type 0) → NoneHolds (pair_count r) (λ p. DifferAt r i p × EndsFor r p c) P n
+    ↔ (NoneHolds (pair_count r) (λ p. DifferAt r i p × IsRank (EndsFor r p) c) P n × NoneHolds (pair_count r) (λ p. DifferAt r i p × EndsFor r p (c + 1)) P n)
+NoneHolds-split {r} rule i c n P = (
+  λ none. (
+    λ p l of. none p l (of.0, of.1.holds),
+    λ p l of. none p l (of.0, (omega (arith, of.1.0), EndTogether-less rule c (omega arith) of.1.1)),
+  ),
+  λ none p l of.
+      ⊎_elim (λ more. none.1 p l (of.0, more)) (λ last. none.0 p l (of.0, record { holds = of.1; no_more = last }))
+      (EndsFor-decide rule p (c + 1) l),
+)

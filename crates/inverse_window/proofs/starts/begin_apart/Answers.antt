@@ -1,0 +1,7 @@
+use Rattle.word_image.specs.Ranks.{BeginTogether}
+use Rattle.pair_laws.proofs.Ranks.{BeginTogether-less}
+use Rattle.inverse_window.proofs.StartLaws.{HoldsFrom-rank}
+use Rattle.inverse_window.proofs.starts.begin_apart.Goals as goal
+
+pub returns-clause-start : goal.returns-clause-start
+returns-clause-start c = HoldsFrom-rank (BeginTogether c.args.ranks.now c.args.u c.args.v) c.in_ok-forward.field-0 (λ i n l h. BeginTogether-less c.requires.rule i l h) c.in_ok-forward.ensures.rank

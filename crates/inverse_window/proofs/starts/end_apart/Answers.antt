@@ -1,0 +1,7 @@
+use Rattle.word_image.specs.Ranks.{EndTogether}
+use Rattle.pair_laws.proofs.Ranks.{EndTogether-less}
+use Rattle.inverse_window.proofs.StartLaws.{HoldsFrom-rank}
+use Rattle.inverse_window.proofs.starts.end_apart.Goals as goal
+
+pub returns-clause-start : goal.returns-clause-start
+returns-clause-start c = HoldsFrom-rank (EndTogether c.args.ranks.now c.args.u c.args.v) c.in_ok-backward.field-0 (λ i n l h. EndTogether-less c.requires.rule i l h) c.in_ok-backward.ensures.rank

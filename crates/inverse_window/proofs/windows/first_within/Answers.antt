@@ -1,0 +1,17 @@
+use Rattle.std.proofs.Common.{◌≡◌, ◌+◌, ◌-◌, subst, arith}
+use Rattle.inverse_window.proofs.FirstSearches.{IsSearched, IsSearched-next, IsFirstOf-searched}
+use Rattle.inverse_window.proofs.windows.first_within.Goals as goal
+
+pub loop-c-preserved : goal.loop-c-preserved
+loop-c-preserved c =
+    let rest : c.loop-c.c ≡ c.loop-c.c - 1 + 1 = omega arith in
+    subst (λ n. IsSearched c.args.rule.now n c.later-start.result c.earlier-first.result) rest
+    (IsSearched-next c.starts_by_rank-starts.ensures.rule c.loop-c.c c.from.result c.starts_by_rank-starts.result c.loop-c.start c.later-start.result c.loop-c.first c.window_within.result c.earlier-first.result
+    c.loop-c.auto.c c.from.ensures c.starts_by_rank-starts.ensures.starts c.later-start.ensures c.window_within.ensures.window c.window_within.ensures.most c.earlier-first.ensures c.loop-c.invariant)
+
+pub returns-2-clause-first : goal.returns-2-clause-first
+returns-2-clause-first c =
+    let none : c.loop-c.c ≡ 0 = omega arith in
+    IsFirstOf-searched c.starts_by_rank-starts.ensures.rule c.starts_by_rank-starts.ensures.starts c.later-start.result c.earlier-first.result (subst (λ n. IsSearched c.args.rule.now n c.later-start.result c.earlier-first.result) none
+    (IsSearched-next c.starts_by_rank-starts.ensures.rule c.loop-c.c c.from.result c.starts_by_rank-starts.result c.loop-c.start c.later-start.result c.loop-c.first c.window_within.result c.earlier-first.result
+    c.loop-c.auto.c c.from.ensures c.starts_by_rank-starts.ensures.starts c.later-start.ensures c.window_within.ensures.window c.window_within.ensures.most c.earlier-first.ensures c.loop-c.invariant))

@@ -1,0 +1,29 @@
+//! Decides whether a cellular automaton is injective (Amoroso and Patt 1972), with the least window of
+//! an inverse.
+//!
+//! A window (n, c) is determined if any two words of n + m - 1 letters with one image, which has n
+//! letters, have the same letter at place c. So an inverse rule may read the letter c of a word from n
+//! letters of its image. Windows are ordered by n, then by c.
+//!
+//! Rule 170 copies the right cell: the image of abc is c, so the window (1, 2) is determined. The
+//! windows (1, 0) and (1, 1) are not, since 001 and 111 have the image 1.
+//!
+//! A node is a word of m - 1 letters, of which there are N = k^(m - 1). Cut two words with one image at
+//! j = min(c, n): they end with two nodes there for j letters of the image, and begin with them for the
+//! other n - j. So (n, c) is determined exactly where no two nodes that differ at letter c - j end
+//! together for j and begin together for n - j. The exact ranks say for how many letters two nodes do,
+//! at most 239 if not for all. For c ≤ n the letter is the node's first, and one pass over the pairs
+//! finds for each rank backward the greatest rank forward; one pass over these ranks, from the greatest
+//! on, then finds the least c + rank + 1. For c > n the letter stands inside the last node, and n is one
+//! more than the greatest rank backward. Some window is determined exactly where no two different nodes
+//! are endless both ways.
+//!
+//! [`window`] takes time **O(m·N^2)** and no memory.
+#![tactic(auto)]
+
+mod starts;
+#[cfg(test)]
+mod tests;
+mod windows;
+
+pub use windows::{WindowAt, window};

@@ -1,0 +1,86 @@
+//! The least determined window.
+ghost use Rattle.std.specs.Prelude.{◌≡◌, ◌+◌, ◌<◌, ◌≤◌, ◌↔◌, ℕ, IfSome, IsSome, MatchOption};
+ghost use Rattle.std.specs.Option.{option_map};
+ghost use Rattle.word_image.specs.Windows.{IsDetermined, IsLeastDetermined};
+ghost use Rattle.tail_config.specs.Tails.{IsInjective};
+ghost use Rattle.inverse_window.specs.FirstWindows.{IsEarlier, IsFirstOf};
+
+use crate::starts::{ENDLESS, later, start_past, starts_by_rank};
+use pair_rank::Ranks;
+use word_image::Rule;
+
+/// A window of an inverse rule: n letters of the image, and the letter of the word that they
+/// determine. Windows are ordered by n, then by c.
+#[derive(Clone, Copy, Debug, PartialEq, Eq, PartialOrd, Ord)]
+pub struct WindowAt {
+    /// How many letters of the image are read.
+    pub n: u16,
+    /// The place of the letter among the n + m - 1 letters of the word.
+    pub c: u16,
+}
+
+/// The least determined window of a rule; `None` exactly where no window is determined, which is
+/// exactly where the rule is not injective. Its n is at most 480. It takes no memory.
+pub fn window(rule: &Rule, ranks: &Ranks) -> Option<WindowAt>
+    requires of_rule { ranks.now ≡ rule.now }
+    ensures injective { IsSome result ↔ IsInjective rule.now }
+    ensures least { MatchOption result ((n c : ℕ) → ¬ IsDetermined rule.now n c) (λ w. IsLeastDetermined rule.now w.n w.c) }
+    ensures most { IfSome result (λ w. w.n ≤ 480) }
+{
+    let mut first = first_within(rule, ranks);
+    for place in 1..rule.m() - 1 {
+        let start = start_past(rule, ranks, place);
+        first = earlier(first, window_past(place, start));
+    }
+    first
+}
+
+/// The first determined window of those with c ≤ n.
+fn first_within(rule: &Rule, ranks: &Ranks) -> Option<WindowAt>
+    requires of_rule { ranks.now ≡ rule.now }
+    ensures first { IsFirstOf rule.now (λ n c. c < n + 1) result }
+    ensures most { IfSome result (λ w. w.n ≤ 480) }
+{
+    let starts = starts_by_rank(rule, ranks);
+    let mut start = Some(0);
+    let mut first = None;
+    for c in (0..=ENDLESS).rev() {
+        start = later(start, starts[usize::from(c)]);
+        first = earlier(first, window_within(c, start));
+    }
+    first
+}
+
+/// The window with c letters of the image before the letter of the word, and `start` of them from it
+/// on.
+fn window_within(c: u16, start: Option<u16>) -> Option<WindowAt>
+    requires place { c ≤ 240 }
+    requires most { IfSome start (λ n. n ≤ 240) }
+    ensures window { result ≡ option_map (λ n. record { n = c + n; c = c }) start }
+    ensures most { IfSome result (λ w. w.n ≤ 480) }
+{
+    Some(WindowAt { n: c + start?, c })
+}
+
+/// The window with `start` letters of the image, all before the letter at this place of the last node.
+fn window_past(place: u8, start: Option<u16>) -> Option<WindowAt>
+    requires most { IfSome start (λ n. n ≤ 240) }
+    ensures window { result ≡ option_map (λ n. record { n = n; c = n + place }) start }
+    ensures most { IfSome result (λ w. w.n ≤ 480) }
+{
+    let n = start?;
+    Some(WindowAt {
+        n,
+        c: n + u16::from(place),
+    })
+}
+
+/// The earlier of two windows, where there are any.
+fn earlier(a: Option<WindowAt>, b: Option<WindowAt>) -> Option<WindowAt>
+    ensures { IsEarlier a b result }
+{
+    match (a, b) {
+        (Some(a), Some(b)) => Some(a.min(b)),
+        (a, b) => a.or(b),
+    }
+}
