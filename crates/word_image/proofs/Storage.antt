@@ -1,4 +1,4 @@
--- A table and the zeros after it can be told apart, and a table grows over the zeros.
+-- The table and the zeros after it, as parts of the row in memory, and a table that grows over the zeros.
 use Rattle.std.proofs.Common.{◌≡◌, ℕ, suc, ◌+◌, ◌-◌, ◌<◌, List, [], ◌∷◌, ◌++◌, length, take, drop, set, map, replicate, sym, ap, ◌∙◌, arith, append_assoc}
 use Rattle.std.proofs.Math.Seq.{take-append_seam, drop-append_seam, set-append_seam}
 use Rattle.std.specs.List.{range_with_len}
@@ -6,11 +6,11 @@ use Rattle.std.proofs.lemmas.List.{length_push}
 use Rattle.std.proofs.lemmas.List.FromFn.{length-map-range_with_len, map-range_with_len_more}
 use Rattle.word_image.specs.Storage.{padded}
 
--- the table stands at the front
+-- the table comes first
 pub take-padded : (n : ℕ) (table : List ℕ) → length table ≡ n → take n (padded table) ≡ table
 take-padded n table long = ap (λ j. take j (padded table)) (sym long) ∙ take-append_seam table (replicate (256 - length table) 0)
 
--- and zeros stand behind it
+-- and zeros come after it
 pub drop-padded : (n : ℕ) (table : List ℕ) → length table ≡ n → drop n (padded table) ≡ replicate (256 - n) 0
 drop-padded n table long =
     ap (λ j. drop j (padded table)) (sym long) ∙ drop-append_seam table (replicate (256 - length table) 0) ∙ ap (λ j. replicate (256 - j) 0) long

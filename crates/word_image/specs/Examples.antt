@@ -1,12 +1,13 @@
 -- Worked examples: rules, numbers, words, images, rings and pairs done by hand, which the check computes.
-use Rattle.std.specs.Prelude.{◌≡◌, [], ◌∷◌, length, map, codes, refl, pos, negsuc, Some, None}
+-- What needs a proof, as twins and windows, stands in proofs/Examples.antt.
+use Rattle.std.specs.Prelude.{◌≡◌, true, false, [], ◌∷◌, length, map, sum_by, codes, refl, pos, negsuc, Some, None}
 use Rattle.std.specs.List.{range_with_len, zip}
 use Rattle.std.specs.declared.cmp.Ordering.TheVariants.{Less, Equal, Greater}
-use Rattle.word_image.specs.LocalRules.{LocalRule, value, word_of, local_map, node_count, wolfram_number, mirrored}
+use Rattle.word_image.specs.LocalRules.{LocalRule, value, word_of, local_map, node_count, wolfram_number, mirrored, same_rule}
 use Rattle.word_image.specs.Words.{image, word_cmp}
 use Rattle.word_image.specs.Rings.{ring_letter, ring_letters, ring_image, pair_cmp, pairs_cmp}
-use Rattle.word_image.specs.Graphs.{next, label, pair_of, first_of, second_of, follow, pair_count, marked}
-use Rattle.word_image.specs.Digits.{lower_digit, hex_value}
+use Rattle.word_image.specs.Graphs.{next, label, node_letter, full_set, pair_of, first_of, second_of, follow, pair_count, marked}
+use Rattle.word_image.specs.Digits.{lower_digit, hex_value, letter_at, word_text}
 use Rattle.word_image.specs.RuleFaults.{shape_fault, table_fault, rule_fault}
 use Rattle.word_image.specs.ImageFaults.{image_fault}
 use Rattle.word_image.specs.Storage.{padded}
@@ -20,6 +21,22 @@ rule110 = record { states = 2; width = 3; offset = negsuc 0; table = 0 ∷ 1 ∷
 -- the sum of two letters modulo 3: the text 3:2:0:t012120201
 abbrev pub sum_mod_three : LocalRule
 sum_mod_three = record { states = 3; width = 2; offset = pos 0; table = 0 ∷ 1 ∷ 2 ∷ 1 ∷ 2 ∷ 0 ∷ 2 ∷ 0 ∷ 1 ∷ [] }
+
+-- the shift: each cell takes the letter to its right: the text 2:2:0:t0101
+abbrev pub shift : LocalRule
+shift = record { states = 2; width = 2; offset = pos 0; table = 0 ∷ 1 ∷ 0 ∷ 1 ∷ [] }
+
+-- each cell keeps its letter, and ignores the one to its right: the text 2:2:0:t0011
+abbrev pub stay : LocalRule
+stay = record { states = 2; width = 2; offset = pos 0; table = 0 ∷ 0 ∷ 1 ∷ 1 ∷ [] }
+
+-- 1 where both cells are 1: the text 2:2:0:t0001
+abbrev pub both : LocalRule
+both = record { states = 2; width = 2; offset = pos 0; table = 0 ∷ 0 ∷ 0 ∷ 1 ∷ [] }
+
+-- 0 everywhere: the text 2:2:0:t0000
+abbrev pub zero_rule : LocalRule
+zero_rule = record { states = 2; width = 2; offset = pos 0; table = 0 ∷ 0 ∷ 0 ∷ 0 ∷ [] }
 
 -- each 1 moves one cell to the right where a 0 stands there: the text 2:3:-1:t00011101
 abbrev pub rule184 : LocalRule
@@ -54,6 +71,17 @@ wolfram_number-110 = refl
 wolfram_number-sum_mod_three : wolfram_number sum_mod_three ≡ 8229
 wolfram_number-sum_mod_three = refl
 
+-- Two rules are the same where all four parts are
+
+same_rule-110 : same_rule rule110 rule110 ≡ true
+same_rule-110 = refl
+
+same_rule-table : same_rule shift stay ≡ false
+same_rule-table = refl
+
+same_rule-offset : same_rule stay (record stay { offset = negsuc 0 }) ≡ false
+same_rule-offset = refl
+
 -- The mirrored rule: 110 becomes 124, and the offset of a rule that reads the cell and the one to its right becomes -1
 
 mirrored-table : (mirrored rule110).table ≡ 0 ∷ 0 ∷ 1 ∷ 1 ∷ 1 ∷ 1 ∷ 1 ∷ 0 ∷ []
@@ -64,6 +92,9 @@ mirrored-number = refl
 
 mirrored-offset : (mirrored sum_mod_three).offset ≡ negsuc 0
 mirrored-offset = refl
+
+mirrored-stay : mirrored stay ≡ record { states = 2; width = 2; offset = negsuc 0; table = 0 ∷ 1 ∷ 0 ∷ 1 ∷ [] }
+mirrored-stay = refl
 
 -- Images
 
@@ -86,8 +117,8 @@ word_cmp-same = refl
 
 -- Rings: the letters of a ring are counted round it, on both sides of place 0
 
-ring_letter-behind : ring_letter (0 ∷ 1 ∷ 2 ∷ []) (negsuc 0) ≡ 2
-ring_letter-behind = refl
+ring_letter-before_0 : ring_letter (0 ∷ 1 ∷ 2 ∷ []) (negsuc 0) ≡ 2
+ring_letter-before_0 = refl
 
 ring_letters-round : ring_letters (0 ∷ 1 ∷ 2 ∷ []) (negsuc 1) 6 ≡ 1 ∷ 2 ∷ 0 ∷ 1 ∷ 2 ∷ 0 ∷ []
 ring_letters-round = refl
@@ -104,6 +135,12 @@ ring_image-0101 = refl
 
 ring_image-012 : ring_image lossy_at_three (0 ∷ 1 ∷ 2 ∷ []) ≡ 0 ∷ 1 ∷ 0 ∷ []
 ring_image-012 = refl
+
+sum-012 : sum_by (λ a. a) (0 ∷ 1 ∷ 2 ∷ []) ≡ 3
+sum-012 = refl
+
+sum-ring_image-012 : sum_by (λ a. a) (ring_image lossy_at_three (0 ∷ 1 ∷ 2 ∷ [])) ≡ 1
+sum-ring_image-012 = refl
 
 -- The order of pairs of words
 
@@ -129,6 +166,12 @@ next-110 = refl
 
 label-110 : label rule110 2 1 ≡ 1
 label-110 = refl
+
+node_letter-110 : node_letter rule110 2 0 ≡ 1
+node_letter-110 = refl
+
+full_set-110 : full_set rule110 ≡ 15
+full_set-110 = refl
 
 -- Pairs of nodes of rule 110. The pair of 10 and 01 has the number 9. The letters 1 and 0 lead from it along the
 -- windows 101 and 010, which both give 1, to the nodes 01 and 10. The window 100 gives 0.
@@ -165,7 +208,7 @@ marked-stays = refl
 marked-unequal : marked rule110 9 0 0 ≡ None
 marked-unequal = refl
 
--- How letters are written and read
+-- How letters and words are written and read
 
 lower_digit-all : map lower_digit (range_with_len 0 16) ≡ codes "0123456789abcdef"
 lower_digit-all = refl
@@ -175,6 +218,12 @@ hex_value-digits = refl
 
 hex_value-none : map hex_value (codes "/:@G`g") ≡ None ∷ None ∷ None ∷ None ∷ None ∷ None ∷ []
 hex_value-none = refl
+
+letter_at-digits : map letter_at (codes "07aF") ≡ 0 ∷ 7 ∷ 10 ∷ 15 ∷ []
+letter_at-digits = refl
+
+word_text-letters : word_text (0 ∷ 7 ∷ 10 ∷ 15 ∷ []) ≡ codes "07af"
+word_text-letters = refl
 
 -- First faults
 

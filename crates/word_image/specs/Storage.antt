@@ -1,4 +1,4 @@
--- How the table of a rule lies in memory: its letters, and zeros behind them.
+-- How the table of a rule lies in memory: its letters, and zeros after them.
 use Rattle.std.specs.Prelude.{◌≡◌, ℕ, ◌-◌, List, ◌++◌, length, take, drop, replicate}
 use Rattle.std.proofs.Common.{ap, ◌∙◌, sym, take-append-drop}
 
@@ -6,7 +6,7 @@ use Rattle.std.proofs.Common.{ap, ◌∙◌, sym, take-append-drop}
 abbrev pub padded : List ℕ → List ℕ
 padded table = table ++ replicate (256 - length table) 0
 
--- entries that are zero behind the first n are these n, padded
+-- entries that are zero after the first n are these n, padded
 pub padded-take : (n : ℕ) (entries : List ℕ) → length (take n entries) ≡ n → drop n entries ≡ replicate (256 - n) 0
     → padded (take n entries) ≡ entries
 padded-take n entries long zeros =

@@ -52,30 +52,3 @@ fn windows_image(alloc: Global, rule: &Rule, word: &[u8]) -> Result<Vec<u8>, All
     }
     Ok(letters)
 }
-
-#[cfg(test)]
-mod tests {
-    use super::*;
-
-    #[test]
-    fn rule_110_has_these_images(rt: HostRuntime) {
-        let Ok(rule) = Rule::new(2, 3, -1, &[0, 1, 1, 1, 0, 1, 1, 0]) else {
-            return assert!(rt; false, "rule 110 is refused");
-        };
-        let cases: [(&[u8], Result<&[u8], ImageFault>); 7] = [
-            (&[0, 1, 1, 0, 0], Ok(&[1, 1, 0])),
-            (&[0, 1], Ok(&[])),
-            (&[0], Err(ImageFault::Short)),
-            (&[], Err(ImageFault::Short)),
-            (&[0, 1, 2], Err(ImageFault::Letter(2))),
-            (&[0, 3, 2, 0], Err(ImageFault::Letter(1))),
-            (&[2], Err(ImageFault::Letter(0))),
-        ];
-        for (word, want) in cases {
-            match image(rt.alloc(), &rule, word) {
-                Ok(found) => assert_eq!(rt; Ok(found.as_slice()), want),
-                Err(fault) => assert_eq!(rt; Err(fault), want),
-            }
-        }
-    }
-}

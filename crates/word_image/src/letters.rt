@@ -41,26 +41,3 @@ pub fn word_text(alloc: Global, word: &[u8]) -> Result<Vec<u8>, AllocError>
     }
     Ok(text)
 }
-
-#[cfg(test)]
-mod tests {
-    use super::*;
-
-    #[test]
-    fn the_digits_are_those_of_lower_case(rt: HostRuntime) {
-        for (letter, want) in b"0123456789abcdef".iter().enumerate() {
-            assert_eq!(rt; digit(letter as u8), *want);
-        }
-    }
-
-    #[test]
-    fn digits_of_both_cases_are_read(rt: HostRuntime) {
-        for (value, digit) in b"0123456789abcdef".iter().enumerate() {
-            assert_eq!(rt; letter(*digit), Some(value as u8));
-            assert_eq!(rt; letter(digit.to_ascii_uppercase()), Some(value as u8));
-        }
-        for byte in b"/:@G`g " {
-            assert_eq!(rt; letter(*byte), None);
-        }
-    }
-}

@@ -29,3 +29,6 @@ pub use letters::{digit, letter, word_text};
 pub use lists::{FluxRow, RankRow, SetList, Word};
 pub use local_rule::{MOST_ENTRIES, Rule, RuleFault, check_shape};
 pub use rings::{RingFault, ring_image};
+
+#[cfg(test)]
+mod tests;

@@ -122,22 +122,3 @@ impl FluxRow {
         &self.flows
     }
 }
-
-#[cfg(test)]
-mod tests {
-    use super::*;
-    use std::test::Fail;
-
-    #[test]
-    fn lists_keep_their_items(rt: HostRuntime) -> Result<(), Fail> {
-        let word = Word::of([0, 1, 2].to_vec(rt.alloc())?);
-        assert_eq!(rt; word.as_slice(), [0, 1, 2].as_slice());
-        let sets = SetList::of([15, 13].to_vec(rt.alloc())?);
-        assert_eq!(rt; sets.as_slice(), [15, 13].as_slice());
-        let ranks = RankRow::of([None, Some(3)].to_vec(rt.alloc())?);
-        assert_eq!(rt; ranks.as_slice(), [None, Some(3)].as_slice());
-        let flows = FluxRow::of([0, -1].to_vec(rt.alloc())?);
-        assert_eq!(rt; flows.as_slice(), [0, -1].as_slice());
-        Ok(())
-    }
-}

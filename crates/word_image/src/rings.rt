@@ -79,34 +79,3 @@ fn letter_from(rule: &Rule, ring: &[u8], first: usize) -> u8
     }
     rule.apply(&window[..width])
 }
-
-#[cfg(test)]
-mod tests {
-    use super::*;
-
-    #[test]
-    fn rings_are_read_on_from_their_end(rt: HostRuntime) {
-        let table: [u8; 8] = [0, 0, 0, 1, 1, 1, 0, 1];
-        // The offset, the ring and its image under the table of rule 184.
-        let cases: [(i8, &[u8], Result<&[u8], RingFault>); 9] = [
-            (-1, &[0, 0, 1, 1], Ok(&[1, 0, 1, 0])),
-            (0, &[0, 0, 1, 1], Ok(&[0, 1, 0, 1])),
-            (-16, &[0, 0, 1, 1], Ok(&[0, 1, 0, 1])),
-            (14, &[0, 0, 1, 1], Ok(&[0, 1, 0, 1])),
-            (-3, &[1, 0], Ok(&[0, 1])),
-            (5, &[1], Ok(&[1])),
-            (-1, &[], Err(RingFault::Empty)),
-            (-1, &[0, 1, 2, 3], Err(RingFault::Letter(2))),
-            (-1, &[9], Err(RingFault::Letter(0))),
-        ];
-        for (o, ring, want) in cases {
-            let Ok(rule) = Rule::new(2, 3, o, &table) else {
-                return assert!(rt; false, "the rule is refused");
-            };
-            match ring_image(rt.alloc(), &rule, ring) {
-                Ok(found) => assert_eq!(rt; Ok(found.as_slice()), want),
-                Err(fault) => assert_eq!(rt; Err(fault), want),
-            }
-        }
-    }
-}

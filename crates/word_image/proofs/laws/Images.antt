@@ -32,7 +32,7 @@ image-drop r n x =
     let within : n + i < length x - (r.width - 1) = omega (arith, length-drop n x) in
     get_or-drop n (image r x) i 0 ∙ get_or-image r x (n + i) within ∙ ap (local_map r) (window i))
 
--- the image of the first n letters of a word is the front of its image
+-- the image of the first n letters of a word is the beginning of its image
 pub image-take : {r : LocalRule} → IsRule r → (n : ℕ) (x : List ℕ) → image r (take n x) ≡ take (n - (r.width - 1)) (image r x)
 image-take {r} rule n x =
     let wide : 2 ≤ r.width = rule.shape.least_width in
@@ -83,13 +83,13 @@ image-mirrored {r} rule x h =
     image-by_letters (mirrored r) (reverse x) (reverse (image r x)) long (λ i l.
     let within : i < length (image r x) = omega (arith, length-reverse (image r x)) in
     let j : ℕ = length (image r x) - 1 - i in
-    let behind : i + r.width + j ≡ length x = omega (arith, length-image r x) in
+    let rest : i + r.width + j ≡ length x = omega (arith, length-image r x) in
     let window : List ℕ = slice_range (reverse x) i (i + r.width) in
     let word : IsWord r.states window = All-take (λ a. a < r.states) (i + r.width - i) (drop i (reverse x)) (All-drop (λ a. a < r.states) i (reverse x) (IsWord-reverse r.states x h)) in
     let window_long : length window ≡ r.width = length-take-le (i + r.width - i) (drop i (reverse x)) (omega (arith, length-drop i (reverse x), length-reverse x)) ∙ omega arith in
     get_or-reverse (image r x) i 0 within
     ∙ get_or-image r x j (omega (arith, length-image r x))
-    ∙ ap (local_map r) (sym (slice_range-reverse x i j r.width behind))
+    ∙ ap (local_map r) (sym (slice_range-reverse x i j r.width rest))
     ∙ sym (local_map-mirrored r window word window_long))
 
 -- the mirrored rule of an accepted rule is accepted

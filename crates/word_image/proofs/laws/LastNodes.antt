@@ -43,15 +43,15 @@ pub IsLastNode-snoc : {r : LocalRule} → IsRule r → (w : List ℕ) (a v : ℕ
     → (u : ℕ) × (b : ℕ) × (u < node_count r) × (b < r.states) × IsLastNode r w u × (label r u b ≡ a) × (next r u b ≡ v)
 IsLastNode-snoc {r} rule w a v h =
     let p : IsLongerPreimage r w a h.x = IsPreimage-snoc rule w a h.x h.preimage in
-    let at : IsLastNode r w (value r.states (drop (length w) p.front)) = IsLastNode-preimage p.preimage in (
-      value r.states (drop (length w) p.front),
+    let at : IsLastNode r w (value r.states (drop (length w) p.before)) = IsLastNode-preimage p.preimage in (
+      value r.states (drop (length w) p.before),
       p.letter,
       IsLastNode-below at,
       p.within,
       at,
-      sym (local_map-label r (drop (length w) p.front) p.letter) ∙ p.gives,
-      sym (value-next rule (length w) p.front p.letter p.preimage.word p.preimage.long p.within)
-          ∙ ap (λ n. value r.states (drop n (p.front ++ p.letter ∷ []))) (sym (length_push w a))
+      sym (local_map-label r (drop (length w) p.before) p.letter) ∙ p.gives,
+      sym (value-next rule (length w) p.before p.letter p.preimage.word p.preimage.long p.within)
+          ∙ ap (λ n. value r.states (drop n (p.before ++ p.letter ∷ []))) (sym (length_push w a))
           ∙ ap (λ y. value r.states (drop (length (w ++ a ∷ [])) y)) (sym p.splits)
           ∙ h.last,
     )

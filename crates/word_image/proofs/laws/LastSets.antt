@@ -62,13 +62,13 @@ last_set_of_length : {r : LocalRule} {sets : List ℕ} → IsRule r → Contains
 last_set_of_length {r} {sets} rule full closed zero w e h =
     subst (λ v. (set : ℕ) × IsLastSet r v set × Contains sets set) (sym (nil_from_length w e)) (full_set r, IsLastSet-full r, full)
 last_set_of_length {r} {sets} rule full closed (suc n) w e h =
-    let front : List ℕ = take (length w - 1) w in
+    let before : List ℕ = take (length w - 1) w in
     let a : ℕ = get_or w (length w - 1) 0 in
-    let split : w ≡ front ++ a ∷ [] = split_last w (omega arith) in
+    let split : w ≡ before ++ a ∷ [] = split_last w (omega arith) in
     let letter : a < r.states = h (length w - 1) 0 (omega arith) in
-    let before = last_set_of_length rule full closed n front (omega (arith, length-take-le (length w - 1) w (omega arith))) (All-take (λ b. b < r.states) (length w - 1) w h) in
-    let after = closed.step before.0 a before.2 letter in
-    subst (λ v. (set : ℕ) × IsLastSet r v set × Contains sets set) (sym split) (after.0, IsLastSet-step {set = before.0} {after = after.0} rule before.1 letter after.1, after.2)
+    let earlier = last_set_of_length rule full closed n before (omega (arith, length-take-le (length w - 1) w (omega arith))) (All-take (λ b. b < r.states) (length w - 1) w h) in
+    let after = closed.step earlier.0 a earlier.2 letter in
+    subst (λ v. (set : ℕ) × IsLastSet r v set × Contains sets set) (sym split) (after.0, IsLastSet-step {set = earlier.0} {after = after.0} rule earlier.1 letter after.1, after.2)
 
 -- the last nodes of each word are a set of a list that has the full set and is closed under steps
 pub IsLastSet-closed : {r : LocalRule} {sets : List ℕ} → IsRule r → Contains sets (full_set r) → IsClosedUnderSteps r sets

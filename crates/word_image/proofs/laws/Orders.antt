@@ -15,7 +15,7 @@ use Rattle.word_image.proofs.laws.Values.{value-below}
 digits-lt : (a b u v n : ℕ) → u < n → a < b → a * n + u < b * n + v
 digits-lt a b u v n h l =
     let below : a * n + u < n * b = mul-add-lt a n u b l h in
-    let turned : n * b ≡ b * n = mul_comm n b in
+    let swapped : n * b ≡ b * n = mul_comm n b in
     omega arith
 
 -- two numbers with one first digit are compared by the last one

@@ -66,7 +66,7 @@ IsWord-word_of k zero v l = All-nil (λ a. a < k)
 IsWord-word_of k (suc n) v l =
     let positive : 0 < k ^ n = power_positive k n v l in
     let power : k ^ suc n ≡ k ^ n * k = pow-suc k n in
-    let turned : k ^ n * k ≡ k * k ^ n = mul_comm (k ^ n) k in
+    let swapped : k ^ n * k ≡ k * k ^ n = mul_comm (k ^ n) k in
     All-cons (λ a. a < k) (v / k ^ n) (word_of k n (v % k ^ n)) (div_below v (k ^ n) k positive (omega arith)) (IsWord-word_of k n (v % k ^ n) (mod-lt v positive))
 
 -- the word of a number has that number for its value

@@ -8,7 +8,7 @@ use Rattle.std.proofs.lemmas.List.Elements.{All-push, All-take, All-map}
 use Rattle.word_image.specs.LocalRules.{LocalRule, IsRule, IsWord, local_map}
 use Rattle.word_image.specs.Words.{image, IsPreimage}
 
--- a list that is not empty is its front and its last element
+-- a list that is not empty is what stands before its last element, and that element
 pub split_last : (y : List ℕ) → 0 < length y → y ≡ take (length y - 1) y ++ get_or y (length y - 1) 0 ∷ []
 split_last y h =
     let all : take (length y - 1 + 1) y ≡ y = take_all (length y - 1 + 1) y (omega arith) in
@@ -50,14 +50,14 @@ image-snoc {r} rule x a h =
     let window : (i : ℕ) → i + r.width ≤ length x → slice_range (x ++ a ∷ []) i (i + r.width) ≡ slice_range x i (i + r.width) = λ i l.
     ap (take (i + r.width - i)) (drop-append-le i x (a ∷ []) (omega arith))
     ∙ take-append-le (i + r.width - i) (drop i x) (a ∷ []) (omega (arith, length-drop i x)) in
-    let front : image r x ≡ map new (range_with_len 0 n) = fill_by_all new (image r x) n 0 (length-image r x)
+    let before : image r x ≡ map new (range_with_len 0 n) = fill_by_all new (image r x) n 0 (length-image r x)
     (λ i l. get_or-map-range_with_len old 0 n i i 0 l (omega arith) ∙ ap (local_map r) (sym (window i (omega arith)))) in
     let last : slice_range (x ++ a ∷ []) n (n + r.width) ≡ drop n x ++ a ∷ [] =
     ap (take (n + r.width - n)) (drop-append-le n x (a ∷ []) (omega arith))
     ∙ take_all (n + r.width - n) (drop n x ++ a ∷ []) (omega (arith, length_push (drop n x) a, length-drop n x)) in
     ap (λ j. map new (range_with_len 0 j)) more
     ∙ map-range_with_len_more new 0 n n (omega arith)
-    ∙ ap₂ (λ (u : List ℕ) (c : ℕ). u ++ c ∷ []) (sym front) (ap (local_map r) last)
+    ∙ ap₂ (λ (u : List ℕ) (c : ℕ). u ++ c ∷ []) (sym before) (ap (local_map r) last)
 
 -- each word of m - 1 letters is a preimage of the empty word
 pub IsPreimage-empty : (r : LocalRule) (x : List ℕ) → IsWord r.states x → length x ≡ r.width - 1 → IsPreimage r [] x
@@ -65,12 +65,12 @@ IsPreimage-empty r x h e = record { word = h; long = omega arith; maps = image-s
 
 -- y is a preimage of w and one more letter, and its last window gives a
 pub record IsLongerPreimage (r : LocalRule) (w : List ℕ) (a : ℕ) (y : List ℕ) : Type 0 where
-  pub front : List ℕ
+  pub before : List ℕ
   pub letter : ℕ
-  pub splits : y ≡ front ++ letter ∷ []
-  pub preimage : IsPreimage r w front
+  pub splits : y ≡ before ++ letter ∷ []
+  pub preimage : IsPreimage r w before
   pub within : letter < r.states
-  pub gives : local_map r (drop (length w) front ++ letter ∷ []) ≡ a
+  pub gives : local_map r (drop (length w) before ++ letter ∷ []) ≡ a
 
 -- a preimage of a longer word is a preimage of the word and one more letter
 pub IsPreimage-snoc : {r : LocalRule} → IsRule r → (w : List ℕ) (a : ℕ) (y : List ℕ) → IsPreimage r (w ++ a ∷ []) y → IsLongerPreimage r w a y
@@ -78,13 +78,13 @@ IsPreimage-snoc {r} rule w a y p =
     let n : ℕ = length y - 1 in
     let long : length y ≡ length w + 1 + (r.width - 1) = p.long ∙ ap (λ j. j + (r.width - 1)) (length_push w a) in
     let splits : y ≡ take n y ++ get_or y n 0 ∷ [] = split_last y (omega arith) in
-    let front_long : length (take n y) ≡ n = length-take-le n y (omega arith) in
+    let before_long : length (take n y) ≡ n = length-take-le n y (omega arith) in
     let start : length (take n y) - (r.width - 1) ≡ length w = omega arith in
     let ends : image r (take n y) ++ local_map r (drop (length (take n y) - (r.width - 1)) (take n y) ++ get_or y n 0 ∷ []) ∷ [] ≡ w ++ a ∷ [] =
     sym (image-snoc rule (take n y) (get_or y n 0) (omega arith)) ∙ ap (image r) (sym splits) ∙ p.maps in
     let parts : (image r (take n y) ≡ w) × (local_map r (drop (length (take n y) - (r.width - 1)) (take n y) ++ get_or y n 0 ∷ []) ≡ a) = same_from_push _ _ _ _ ends in
     record {
-      front = take n y;
+      before = take n y;
       letter = get_or y n 0;
       splits = splits;
       preimage = record { word = All-take (λ b. b < r.states) n y p.word; long = omega arith; maps = parts.0 };
