@@ -3,7 +3,8 @@ use Rattle.std.proofs.Common.{◌≡◌, refl, [], ◌∷◌, pos, negsuc, Some,
 use Rattle.std.specs.Prelude.{codes}
 use Rattle.std.specs.Fmt.{digits}
 use Rattle.rule_text.specs.declared.text_fault.TextFault.TheVariants as fault
-use Rattle.rule_text.specs.RuleTexts.{Table, Number, bare, decimal_value, fault_of, letter_at, printed, rule_of}
+use Rattle.word_image.specs.Digits.{letter_at}
+use Rattle.rule_text.specs.RuleTexts.{Table, Number, bare, decimal_value, fault_of, printed, rule_of}
 
 -- the digits 110
 value_110 : decimal_value (codes "110") ≡ 110

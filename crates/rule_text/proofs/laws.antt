@@ -1,8 +1,7 @@
-pub mod Scanner
+pub mod Parts
+pub mod Heads
+pub mod Leads
 pub mod Texts
-pub mod FormFaults
-pub mod FrontFaults
-pub mod Fronts
 pub mod Decimals
 pub mod Letters
 pub mod Numbers

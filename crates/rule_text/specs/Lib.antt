@@ -1,2 +1,2 @@
 pub mod RuleTexts
-pub mod Fronts
+pub mod Heads

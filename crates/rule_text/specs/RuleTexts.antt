@@ -1,22 +1,15 @@
 -- The texts of a rule: their grammar, what each means, and which fault comes first.
-use Rattle.std.specs.Prelude.{◌≡◌, ◌≢◌, ℕ, ◌+◌, ◌-◌, ◌^◌, ◌<◌, ◌≤◌, List, ◌++◌, length, map, take, codes, Option, Some, None, Result, Ok, Err, All, nat_lt, nat_le, unwrap_or, if◌then◌else◌, ℤ, pos, negsuc, neg_ℤ, reverse}
+use Rattle.std.specs.Prelude.{◌≡◌, ℕ, ◌+◌, ◌-◌, ◌^◌, ◌≤◌, List, ◌++◌, length, map, codes, Option, Some, None, Result, Ok, Err, All, nat_lt, nat_le, if◌then◌else◌, ℤ, pos, negsuc, neg_ℤ, reverse}
 use Rattle.std.specs.Option.{option_map, option_or}
 use Rattle.std.specs.Fmt.{decimal}
 use Rattle.word_image.specs.LocalRules.{LocalRule, value, word_of}
-use Rattle.word_image.specs.Digits.{lower_digit, hex_value}
+use Rattle.word_image.specs.Digits.{lower_digit, IsHexDigit, letter_at}
+use Rattle.word_image.specs.Grammars.{IsFormFault}
 use Rattle.word_image.specs.RuleFaults.{shape_fault, table_fault}
 use Rattle.word_image.specs.declared.local_rule.RuleFault.{RuleFault}
 use Rattle.word_image.specs.declared.local_rule.RuleFault.TheVariants as limit
 use Rattle.rule_text.specs.declared.text_fault.TextFault.{TextFault}
 use Rattle.rule_text.specs.declared.text_fault.TextFault.TheVariants as fault
-
--- a hexadecimal digit of either case
-abbrev pub IsHexDigit : ℕ → Type 0
-IsHexDigit b = hex_value b ≢ None
-
--- the letter that a byte of a table stands for
-abbrev pub letter_at : ℕ → ℕ
-letter_at b = unwrap_or (hex_value b) 0
 
 -- a decimal digit
 abbrev pub IsDigit : ℕ → Type 0
@@ -32,12 +25,12 @@ pub record IsDecimal (low high : ℕ) (text : List ℕ) : Type 0 where
 abbrev pub decimal_value : List ℕ → ℕ
 decimal_value text = value 10 (map (λ b. b - 48) text)
 
--- one or two decimal digits, behind a minus sign or not, and the offset that they name
+-- one or two decimal digits, after a minus sign or none, and the offset that they name
 pub data IsOffset : List ℕ → ℤ → Type 0 where
   Plain : (digits : List ℕ) → IsDecimal 1 2 digits → IsOffset digits (pos (decimal_value digits))
   Minus : (digits : List ℕ) → IsDecimal 1 2 digits → IsOffset (codes "-" ++ digits) (neg_ℤ (pos (decimal_value digits)))
 
--- what stands behind the colon: the table's letters, or the number
+-- what comes after the kind: the table's letters, or the number
 pub data Entries : Type 0 where
   Table : (letters : List ℕ) → Entries
   Number : (number : ℕ) → Entries
@@ -50,7 +43,7 @@ pub record Said : Type 0 where
   pub entries : Entries
   pub place : ℕ
 
--- what stands in front of the entries: K:M:O: and their kind
+-- the head of a text, what stands before its entries: K:M:O: and their kind
 abbrev pub head : List ℕ → List ℕ → List ℕ → List ℕ → List ℕ
 head k m o kind = k ++ codes ":" ++ m ++ codes ":" ++ o ++ codes ":" ++ kind
 
@@ -68,18 +61,9 @@ pub data Says : List ℕ → Said → Type 0 where
       → Says (head k m o (codes "w") ++ digits)
       (record { states = decimal_value k; width = decimal_value m; offset = offset; entries = Entries.Number (decimal_value digits); place = length (head k m o (codes "w")) })
 
--- some text of the grammar begins so
-pub record Begins (text : List ℕ) : Type 0 where
-  pub more : List ℕ
-  pub said : Said
-  pub says : Says (text ++ more) said
-
--- the text isn't in the grammar, and its longest front that begins some text of the grammar has this length
-pub record IsFormFault (text : List ℕ) (place : ℕ) : Type 0 where
-  pub outside : (said : Said) → ¬ Says text said
-  pub within : place ≤ length text
-  pub begins : Begins (take place text)
-  pub longest : (n : ℕ) → place < n → n ≤ length text → ¬ Begins (take n text)
+-- the grammar says something with this text
+abbrev pub IsSaid : List ℕ → Type 0
+IsSaid text = (said : Said) × Says text said
 
 -- the fault of a rule whose table begins at this place of the text
 abbrev pub in_text : ℕ → RuleFault → TextFault
@@ -126,7 +110,7 @@ pub record IsRuleText (text : List ℕ) (r : LocalRule) : Type 0 where
 
 -- the fault is the first one of the text
 pub data IsTextFault (text : List ℕ) : TextFault → Type 0 where
-  NoForm : (place : ℕ) → IsFormFault text place → IsTextFault text (fault.Form place)
+  NoForm : (place : ℕ) → IsFormFault IsSaid text place → IsTextFault text (fault.Form place)
   Refused : (said : Said) (f : TextFault) → Says text said → fault_of said ≡ Some f → IsTextFault text f
 
 -- an offset, with a minus sign exactly where it is negative

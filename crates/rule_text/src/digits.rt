@@ -3,10 +3,12 @@ ghost use Rattle.std.specs.Prelude.{◌≡◌, ℕ, ◌+◌, ◌*◌, ◌/◌, �
 ghost use Rattle.std.specs.Bool.{OnTrue};
 ghost use Rattle.std.specs.Option.{SomeIff};
 ghost use Rattle.word_image.specs.LocalRules.{word_of};
-ghost use Rattle.rule_text.specs.RuleTexts.{IsDigit, IsHexDigit, IsDecimal, letter_at, decimal_value};
-ghost use Rattle.rule_text.specs.Fronts.{IsEntries, IsStop, IsDecimalStop, IsHexStop};
+ghost use Rattle.word_image.specs.Grammars.{IsFormFault};
+ghost use Rattle.word_image.specs.Digits.{IsHexDigit, letter_at};
+ghost use Rattle.rule_text.specs.RuleTexts.{IsDigit, IsDecimal, decimal_value};
+ghost use Rattle.rule_text.specs.Heads.{IsEntries};
 
-use crate::front::Kind;
+use crate::head::Kind;
 use word_image::letter;
 
 /// The most digits that a number has in a text.
@@ -14,7 +16,7 @@ const MOST_DIGITS: usize = 39;
 
 /// Where the digits of a table or of a number go wrong, if they do.
 pub fn first_stop(kind: Kind, digits: &[u8]) -> Option<usize>
-    ensures some { IfSome result (λ place. IsStop kind digits.now place) }
+    ensures some { IfSome result (λ place. IsFormFault (IsEntries kind) digits.now place) }
     ensures none { IfNone result (IsEntries kind digits.now) }
 {
     match kind {
@@ -25,7 +27,7 @@ pub fn first_stop(kind: Kind, digits: &[u8]) -> Option<usize>
 
 /// The place of the first byte that is no hexadecimal digit.
 fn hex_stop(digits: &[u8]) -> Option<usize>
-    ensures some { IfSome result (λ place. IsHexStop digits.now place) }
+    ensures some { IfSome result (λ place. IsFormFault (All IsHexDigit) digits.now place) }
     ensures none { IfNone result (All IsHexDigit digits.now) }
 {
     for (place, byte) in digits.iter().enumerate() {
@@ -39,7 +41,7 @@ fn hex_stop(digits: &[u8]) -> Option<usize>
 /// Where 1 to 39 decimal digits go wrong: at another byte, at the fortieth, or at once where there
 /// is none.
 fn decimal_stop(digits: &[u8]) -> Option<usize>
-    ensures some { IfSome result (λ place. IsDecimalStop digits.now place) }
+    ensures some { IfSome result (λ place. IsFormFault (IsDecimal 1 39) digits.now place) }
     ensures none { IfNone result (IsDecimal 1 39 digits.now) }
 {
     for (place, byte) in digits.iter().enumerate() {
@@ -62,7 +64,7 @@ pub fn decimal_number(digits: &[u8]) -> Option<u128>
     number
 }
 
-/// The number with one more decimal digit behind it; None stands for those from `2^128` on.
+/// The number with one more decimal digit after it; None stands for those from `2^128` on.
 fn with_digit(number: Option<u128>, digit: u8) -> Option<u128>
     ensures { (n : ℕ) → SomeIff number (n < 2 ^ 128) n
         → SomeIff result (n * 10 + digit < 2 ^ 128) (n * 10 + digit) }

@@ -8,20 +8,20 @@
 //! | table | `K:M:O:t` and hexadecimal digits of either case | the table's letters, by the value of their window |
 //! | number | `K:M:O:w` and 1 to 39 decimal digits | the Wolfram number |
 //!
-//! K and M are one or two decimal digits, O is one or two behind a minus sign or none. The Wolfram
+//! K and M are one or two decimal digits, O is one or two after a minus sign or none. The Wolfram
 //! number is the sum over all windows of the letter there times k to the window's value. So `110`,
 //! `2:3:-1:w110` and `2:3:-1:t01110110` are one rule.
 //!
-//! `parse` reads what stands in front of the entries by a small reader, part by part. The entries
-//! are checked for what the front says that they are, and then taken for it. So a call takes
+//! `parse` reads what stands in head of the entries by a small reader, part by part. The entries
+//! are checked for what the head says that they are, and then taken for it. So a call takes
 //! **O(n + k^m)** time for a text of n bytes, and no memory; `print` makes the text of its rule.
 #![tactic(auto)]
 
 mod digits;
-mod front;
+mod head;
 mod parsing;
+mod parts;
 mod printing;
-mod reader;
 mod text_fault;
 
 pub use parsing::parse;

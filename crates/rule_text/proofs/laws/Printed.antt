@@ -11,10 +11,11 @@ use Rattle.std.proofs.lemmas.Option.{none-some}
 use Rattle.std.proofs.lemmas.Fmt.{decimal_digit, decimal_step}
 use Rattle.std.proofs.lemmas.List.Elements.{All-nil, All-cons, All-head, All-tail, All-map, All-weaker}
 use Rattle.word_image.specs.LocalRules.{LocalRule, IsShape, IsRule}
-use Rattle.word_image.specs.Digits.{lower_digit, hex_value}
+use Rattle.word_image.specs.Digits.{lower_digit, hex_value, IsHexDigit, letter_at}
 use Rattle.word_image.proofs.laws.RuleFaults.{table_fault-IsWord}
-use Rattle.rule_text.specs.RuleTexts.{IsDigit, IsHexDigit, IsDecimal, IsOffset, Plain, Minus, Says, InTable, Table, IsRuleText, letter_at, decimal_value, in_text, offset_text, printed, head}
-use Rattle.rule_text.proofs.laws.Fronts.{saying, Says-same}
+use Rattle.rule_text.specs.RuleTexts.{IsDigit, IsDecimal, IsOffset, Plain, Minus, Says, InTable, Table, IsRuleText, decimal_value, in_text, offset_text, printed, head}
+use Rattle.rule_text.proofs.laws.Parts.{saying}
+use Rattle.rule_text.proofs.laws.Heads.{Says-same}
 use Rattle.rule_text.proofs.laws.Numbers.{fault_of-shape}
 
 -- a text of one or two digits for a number
@@ -94,15 +95,15 @@ IsRuleText-printed r rule =
     let m = Writes-decimal r.width (omega arith) in
     let small : All (λ a. a < 16) r.table = All-weaker (λ a. a < r.states) (λ a. a < 16) (λ a h. omega arith) r.table rule.letters in
     let digits : All IsHexDigit (map lower_digit r.table) = All-map IsHexDigit lower_digit r.table (All-weaker (λ a. a < 16) (λ a. IsHexDigit (lower_digit a)) IsHexDigit-lower_digit r.table small) in
-    let front = head (decimal r.states) (decimal r.width) (offset_text r.offset) (codes "t") in
+    let begin = head (decimal r.states) (decimal r.width) (offset_text r.offset) (codes "t") in
     let told = InTable (decimal r.states) (decimal r.width) (offset_text r.offset) (map lower_digit r.table) r.offset k.decimal m.decimal
     (IsOffset-offset_text r.states r.width r.offset shape) digits in
-    let says : Says (printed r) (saying r.states r.width r.offset (Table (map letter_at (map lower_digit r.table))) (length front)) =
+    let says : Says (printed r) (saying r.states r.width r.offset (Table (map letter_at (map lower_digit r.table))) (length begin)) =
     Says-same told refl (sym k.value) (sym m.value) refl in
     record {
-      said = saying r.states r.width r.offset (Table r.table) (length front);
-      says = subst (λ (t : List ℕ). Says (printed r) (saying r.states r.width r.offset (Table t) (length front))) (letters-lower_digits r.table small) says;
-      accepted = fault_of-shape (saying r.states r.width r.offset (Table r.table) (length front)) shape
-          ∙ ap (option_map (in_text (length front))) (table_fault-IsWord r.states r.width r.table rule.entries rule.letters);
+      said = saying r.states r.width r.offset (Table r.table) (length begin);
+      says = subst (λ (t : List ℕ). Says (printed r) (saying r.states r.width r.offset (Table t) (length begin))) (letters-lower_digits r.table small) says;
+      accepted = fault_of-shape (saying r.states r.width r.offset (Table r.table) (length begin)) shape
+          ∙ ap (option_map (in_text (length begin))) (table_fault-IsWord r.states r.width r.table rule.entries rule.letters);
       rule = refl;
     }

@@ -1,31 +1,12 @@
--- A text says one thing, and has one rule or one first fault.
-use Rattle.std.proofs.Common.{◌≡◌, ℕ, List, Ok, Err, Result, sym, ap, ◌∙◌, inl, inr}
+-- A text has one rule, or one first fault.
+use Rattle.std.proofs.Common.{◌≡◌, ℕ, List, Ok, Err, Result, sym, ap, ◌∙◌}
 use Rattle.std.specs.Prelude.{IfOk, IfErr}
-use Rattle.std.proofs.lemmas.Bool.{cases_order}
 use Rattle.word_image.specs.LocalRules.{LocalRule}
 use Rattle.rule_text.specs.declared.text_fault.TextFault.{TextFault}
 use Rattle.rule_text.specs.declared.text_fault.TextFault.TheVariants as fault
-use Rattle.rule_text.specs.RuleTexts.{Said, Says, IsFormFault, IsRuleText, IsTextFault, NoForm, Refused, IsReading, fault_of, rule_of}
-use Rattle.rule_text.proofs.laws.Scanner.{finish, Finishes-Says, Reaches-unique}
-
--- the grammar gives a text one meaning
-pub Says-unique : {text : List ℕ} {s t : Said} → Says text s → Says text t → s ≡ t
-Says-unique f g =
-    let a = Finishes-Says f in
-    let b = Finishes-Says g in
-    let same : finish a.state ≡ finish b.state = ap finish (Reaches-unique a.reaches b.reaches) in
-    let first = a.finish in
-    let second = b.finish in
-    cc
-
--- a text has one longest front that begins a text of the grammar
-pub IsFormFault-unique : {text : List ℕ} {p q : ℕ} → IsFormFault text p → IsFormFault text q → p ≡ q
-IsFormFault-unique {p = p} {q = q} f g =
-    elim (cases_order p q) [
-      | inl same ↦ same
-      | inr (inl less) ↦ absurd (f.longest q less g.within g.begins)
-      | inr (inr more) ↦ absurd (g.longest p more f.within f.begins)
-    ]
+use Rattle.rule_text.specs.RuleTexts.{Said, Says, IsRuleText, IsTextFault, NoForm, Refused, IsReading, fault_of, rule_of}
+use Rattle.word_image.proofs.laws.Prefixes.{IsFormFault-unique}
+use Rattle.rule_text.proofs.laws.Heads.{Says-unique}
 
 -- a text is a text of one rule
 pub IsRuleText-unique : {text : List ℕ} {r s : LocalRule} → IsRuleText text r → IsRuleText text s → r ≡ s
@@ -34,13 +15,13 @@ IsRuleText-unique f g = f.rule ∙ ap rule_of (Says-unique f.says g.says) ∙ sy
 -- a text has one first fault
 pub IsTextFault-unique : {text : List ℕ} {f g : TextFault} → IsTextFault text f → IsTextFault text g → f ≡ g
 IsTextFault-unique (NoForm p h) (NoForm q g) = ap fault.Form (IsFormFault-unique h g)
-IsTextFault-unique (NoForm p h) (Refused s f says is) = absurd (h.outside s says)
-IsTextFault-unique (Refused s f says is) (NoForm q g) = absurd (g.outside s says)
+IsTextFault-unique (NoForm p h) (Refused s f says is) = absurd (h.outside (s, says))
+IsTextFault-unique (Refused s f says is) (NoForm q g) = absurd (g.outside (s, says))
 IsTextFault-unique (Refused s f says is) (Refused t g says' is') = let same : fault_of s ≡ fault_of t = ap fault_of (Says-unique says says') in cc
 
 -- a text of a rule has no fault
 pub IsRuleText-no_fault : {text : List ℕ} {r : LocalRule} {f : TextFault} → IsRuleText text r → IsTextFault text f → ⊥
-IsRuleText-no_fault rule (NoForm p h) = h.outside rule.said rule.says
+IsRuleText-no_fault rule (NoForm p h) = h.outside (rule.said, rule.says)
 IsRuleText-no_fault rule (Refused s f says is) = let same : fault_of rule.said ≡ fault_of s = ap fault_of (Says-unique rule.says says) in let accepted = rule.accepted in cc
 
 -- an answer to what the text says has the rule of the text

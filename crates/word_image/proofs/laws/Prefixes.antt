@@ -1,7 +1,10 @@
 -- The prefixes that begin a text of a grammar, whatever the grammar is.
-use Rattle.std.proofs.Common.{◌≡◌, ℕ, ◌+◌, ◌<◌, ◌≤◌, List, ◌++◌, length, take, drop, inl, inr, sym, ap, subst, ◌∙◌, arith, append_assoc, take-append-drop}
+use Rattle.std.proofs.Common.{◌≡◌, ℕ, ◌+◌, ◌-◌, ◌<◌, ◌≤◌, List, [], ◌∷◌, ◌++◌, length, take, drop, get_or, inl, inr, sym, ap, subst, ◌∙◌, arith, append_assoc, append-nil, take-append-drop, length-drop}
+use Rattle.std.proofs.Math.Seq.{take-add}
 use Rattle.std.proofs.lemmas.Bool.{cases_order, cases_lt}
-use Rattle.std.proofs.lemmas.List.{take-take}
+use Rattle.std.specs.List.{slice_get}
+use Rattle.std.proofs.lemmas.Option.{slice_get-get_or, slice_get_past}
+use Rattle.std.proofs.lemmas.List.{take-take, take_more, take_all}
 use Rattle.word_image.specs.Grammars.{Begins, IsFormFault}
 
 -- a text of the grammar begins one
@@ -40,3 +43,35 @@ IsFormFault-stuck {IsText} text place within begins stuck unfinished = record {
   begins = begins;
   longest = λ n past inside longer. stuck (omega arith) (Begins-take text (place + 1) n (omega arith) longer);
 }
+
+-- a text goes wrong where no text of the grammar goes on as it does: with its next byte, or with its end
+pub IsFormFault-next : {IsText : List ℕ → Type 0} (text : List ℕ) (place : ℕ) → place ≤ length text → Begins IsText (take place text)
+    → ((rest : List ℕ) → slice_get rest 0 ≡ slice_get text place → ¬ IsText (take place text ++ rest)) → IsFormFault IsText text place
+IsFormFault-next {IsText} text place within begins none =
+    let b = get_or text place 0 in
+    IsFormFault-stuck text place within begins
+    (λ more longer.
+      let cut : take (place + 1) text ++ longer.more ≡ take place text ++ b ∷ longer.more =
+      ap (λ x. x ++ longer.more) (take_more text place 0 more) ∙ append_assoc (take place text) (b ∷ []) longer.more in
+      none (b ∷ longer.more) (sym (slice_get-get_or text place 0 more)) (subst IsText cut longer.whole))
+    (λ end whole. none [] (sym (slice_get_past text place end)) (subst IsText (sym (append-nil (take place text) ∙ take_all place text end)) whole))
+
+-- where the rest of a text goes wrong, the text does
+pub IsFormFault-rest : {IsText IsRest : List ℕ → Type 0} (text : List ℕ) (i n : ℕ) → i ≤ length text
+    → ((rest : List ℕ) → IsRest rest → IsText (take i text ++ rest)) → ((rest : List ℕ) → IsText (take i text ++ rest) → IsRest rest)
+    → IsFormFault IsRest (drop i text) n → IsFormFault IsText text (i + n)
+IsFormFault-rest {IsText} {IsRest} text i n inside whole only f =
+    let first = take i text in
+    let rest = drop i text in
+    let left = length-drop i text in
+    let cut : (m : ℕ) (more : List ℕ) → take (i + m) text ++ more ≡ first ++ (take m rest ++ more) = λ m more.
+    ap (λ x. x ++ more) (take-add i m text) ∙ append_assoc first (take m rest) more in
+    record {
+      outside = λ text_is. f.outside (only rest (subst IsText (sym (take-append-drop i text)) text_is));
+      within = omega (arith, f.within);
+      begins = record { more = f.begins.more; whole = subst IsText (sym (cut n f.begins.more)) (whole _ f.begins.whole) };
+      longest = λ m past within longer.
+          let split : m ≡ i + (m - i) = omega arith in
+          let there = subst IsText (ap (λ j. take j text ++ longer.more) split ∙ cut (m - i) longer.more) longer.whole in
+          f.longest (m - i) (omega arith) (omega arith) (record { more = longer.more; whole = only _ there });
+    }

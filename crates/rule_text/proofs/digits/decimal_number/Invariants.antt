@@ -6,5 +6,5 @@ use Rattle.rule_text.proofs.digits.decimal_number.Given as goal
 -- the number of the digits so far
 abbrev pub invariant-loop-byte : goal.invariant-loop-byte
 invariant-loop-byte l =
-    let front = take l.byte-index l.digits in
-    SomeIff l.number (decimal_value front < 2 ^ 128) (decimal_value front)
+    let first = take l.byte-index l.digits in
+    SomeIff l.number (decimal_value first < 2 ^ 128) (decimal_value first)

@@ -1,8 +1,10 @@
-use Rattle.std.proofs.Common.{◌≢◌, length, arith, subst}
+use Rattle.std.proofs.Common.{◌≢◌, length, arith, rules, subst}
 use Rattle.std.specs.Prelude.{List, All}
 use Rattle.std.proofs.lemmas.List.{take_all}
 use Rattle.std.proofs.lemmas.List.Elements.{All-more}
 use Rattle.rule_text.specs.RuleTexts.{IsDigit}
+use Rattle.rule_text.specs.Heads.{IsDecimalStop}
+use Rattle.rule_text.proofs.laws.Leads.{IsFormFault-decimal}
 use Rattle.rule_text.proofs.digits.decimal_stop.Goals as goal
 
 pub loop-place-preserved : goal.loop-place-preserved
@@ -20,3 +22,13 @@ returns-else-is_empty-clause-none c =
       least = omega arith;
       most = omega arith;
     }
+
+pub returns-then-place-eq-MOST_DIGITS-clause-some : goal.returns-then-place-eq-MOST_DIGITS-clause-some
+returns-then-place-eq-MOST_DIGITS-clause-some c =
+    let stop : IsDecimalStop c.args.digits.now c.loop-place.place = search rules in
+    IsFormFault-decimal c.args.digits.now c.loop-place.place stop
+
+pub returns-then-is_empty-clause-some : goal.returns-then-is_empty-clause-some
+returns-then-is_empty-clause-some c =
+    let stop : IsDecimalStop c.args.digits.now 0 = search rules in
+    IsFormFault-decimal c.args.digits.now 0 stop

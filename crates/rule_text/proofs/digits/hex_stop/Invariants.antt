@@ -1,6 +1,6 @@
 use Rattle.std.proofs.Common.{take}
 use Rattle.std.specs.Prelude.{All}
-use Rattle.rule_text.specs.RuleTexts.{IsHexDigit}
+use Rattle.word_image.specs.Digits.{IsHexDigit}
 use Rattle.rule_text.proofs.digits.hex_stop.Given as goal
 
 -- the bytes so far are hexadecimal digits

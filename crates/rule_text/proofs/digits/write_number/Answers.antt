@@ -15,7 +15,7 @@ loop-letter-preserved c =
     let letter = ap₂ (λ (a b : ℕ). a % b) c.loop-letter.invariant.left c.from.ensures in
     record {
       letters = take_more_set c.loop-letter.table i _ (omega arith)
-          ∙ ap₂ (λ (front : List ℕ) (a : ℕ). front ++ a ∷ []) c.loop-letter.invariant.letters letter ∙ sym (reverse-word_of-more k n i base);
+          ∙ ap₂ (λ (x : List ℕ) (a : ℕ). x ++ a ∷ []) c.loop-letter.invariant.letters letter ∙ sym (reverse-word_of-more k n i base);
       left = ap₂ (λ (a b : ℕ). a / b) c.loop-letter.invariant.left c.from-rest.ensures ∙ sym (div-pow-more k n i);
     }
 

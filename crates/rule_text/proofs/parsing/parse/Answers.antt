@@ -2,44 +2,35 @@ use Rattle.std.proofs.Common.{ℕ, ◌+◌, ◌-◌, List, take, drop, length, l
 use Rattle.std.specs.Prelude.{IfOk, IfErr}
 use Rattle.std.proofs.lemmas.List.{take_rest}
 use Rattle.word_image.specs.LocalRules.{LocalRule}
-use Rattle.rule_text.specs.declared.front.Front.{Front}
+use Rattle.word_image.specs.Grammars.{IsFormFault}
+use Rattle.rule_text.specs.declared.head.Head.{Head}
 use Rattle.rule_text.specs.declared.text_fault.TextFault.{TextFault}
+use Rattle.rule_text.specs.declared.text_fault.TextFault.TheVariants as fault
 use Rattle.rule_text.specs.RuleTexts.{IsRuleText, IsTextFault, IsReading, NoForm}
-use Rattle.rule_text.specs.Fronts.{IsFront, IsEntries, IsStop, said_of}
+use Rattle.rule_text.specs.Heads.{IsHead, IsEntries, said_of}
 use Rattle.rule_text.proofs.laws.Texts.{IsReading-rule, IsReading-fault, every_rule, every_fault}
-use Rattle.rule_text.proofs.laws.Fronts.{Says-front, IsFormFault-front, IsFront-within, IsStop-within}
 use Rattle.rule_text.proofs.parsing.parse.Goals as goal
 
-pub returns-in_err-front-clause-every_rule : goal.returns-in_err-front-clause-every_rule
-returns-in_err-front-clause-every_rule c =
+pub returns-in_err-head-clause-every_rule : goal.returns-in_err-head-clause-every_rule
+returns-in_err-head-clause-every_rule c =
     let text = c.args.text.now in
     let rule : IfOk c.from_residual.result (λ r. IsRuleText text r) = search rules in
     let fault : IfErr c.from_residual.result (λ f. IsTextFault text f) = search rules in
     every_rule text c.from_residual.result rule fault
 
-pub returns-in_err-front-clause-every_fault : goal.returns-in_err-front-clause-every_fault
-returns-in_err-front-clause-every_fault c =
+pub returns-in_err-head-clause-every_fault : goal.returns-in_err-head-clause-every_fault
+returns-in_err-head-clause-every_fault c =
     let text = c.args.text.now in
     let rule : IfOk c.from_residual.result (λ r. IsRuleText text r) = search rules in
     let fault : IfErr c.from_residual.result (λ f. IsTextFault text f) = search rules in
     every_fault text c.from_residual.result rule fault
 
--- the digits behind a front, as the code takes them
-stop_of : (text : List ℕ) (f : Front) (n : ℕ) → IsStop f.kind (take (length text - f.place) (drop f.place text)) n → IsStop f.kind (drop f.place text) n
-stop_of text f n stop = subst (λ (x : List ℕ). IsStop f.kind x n) (take_rest text f.place) stop
-
-pub overflow_add-place : goal.overflow_add-place
-overflow_add-place c =
-    let text = c.args.text.now in
-    let f = c.in_ok-front.front in
-    let inside = IsStop-within f.kind (drop f.place text) c.in-Some.stop (stop_of text f c.in-Some.stop c.in-Some.ensures.some) in
-    omega (arith, inside, length-drop f.place text, IsFront-within c.in_ok-front.ensures.front)
+-- the place where the digits stop, as the code takes them, is where the text goes wrong
+stop_of : (text : List ℕ) (h : Head) (n : ℕ) → IsHead text h → IsFormFault (IsEntries h.kind) (take (length text - h.place) (drop h.place text)) n → IsTextFault text (fault.Form (h.place + n))
+stop_of text h n head stop = NoForm (h.place + n) (head.stops n (subst (λ (x : List ℕ). IsFormFault (IsEntries h.kind) x n) (take_rest text h.place) stop))
 
 pub returns-in-Some-clause-fault : goal.returns-in-Some-clause-fault
-returns-in-Some-clause-fault c =
-    let text = c.args.text.now in
-    let f = c.in_ok-front.front in
-    NoForm (f.place + c.in-Some.stop) (IsFormFault-front text f c.in-Some.stop c.in_ok-front.ensures.front (stop_of text f c.in-Some.stop c.in-Some.ensures.some))
+returns-in-Some-clause-fault c = stop_of c.args.text.now c.in_ok-head.head c.in-Some.stop c.in_ok-head.ensures.head c.in-Some.ensures.some
 
 pub returns-in-Some-clause-every_rule : goal.returns-in-Some-clause-every_rule
 returns-in-Some-clause-every_rule c = every_rule c.args.text.now (Err _) tt (returns-in-Some-clause-fault c)
@@ -47,19 +38,19 @@ returns-in-Some-clause-every_rule c = every_rule c.args.text.now (Err _) tt (ret
 pub returns-in-Some-clause-every_fault : goal.returns-in-Some-clause-every_fault
 returns-in-Some-clause-every_fault c = every_fault c.args.text.now (Err _) tt (returns-in-Some-clause-fault c)
 
--- what is read behind a front is the rule of the text, or its fault
-read_behind : (text : List ℕ) (f : Front) (a : Result LocalRule TextFault) → IsFront text f → IsEntries f.kind (take (length text - f.place) (drop f.place text))
-    → IsReading (said_of f (take (length text - f.place) (drop f.place text))) a → IfOk a (λ r. IsRuleText text r) × IfErr a (λ g. IsTextFault text g)
-read_behind text f a front entries reading =
-    let says = Says-front text f front (subst (λ (x : List ℕ). IsEntries f.kind x) (take_rest text f.place) entries) in
-    let told = subst (λ (x : List ℕ). IsReading (said_of f x) a) (take_rest text f.place) reading in
-    (IsReading-rule says a told, IsReading-fault says a told)
+-- what is read after a head is the rule of the text, or its fault
+read_after : (text : List ℕ) (h : Head) (a : Result LocalRule TextFault) → IsHead text h → IsEntries h.kind (take (length text - h.place) (drop h.place text))
+    → IsReading (said_of h (take (length text - h.place) (drop h.place text))) a → IfOk a (λ r. IsRuleText text r) × IfErr a (λ g. IsTextFault text g)
+read_after text h a head entries reading =
+    let says = head.says (subst (λ (x : List ℕ). IsEntries h.kind x) (take_rest text h.place) entries) in
+    let answer = subst (λ (x : List ℕ). IsReading (said_of h x) a) (take_rest text h.place) reading in
+    (IsReading-rule says a answer, IsReading-fault says a answer)
 
 pub returns-clause-rule : goal.returns-clause-rule
-returns-clause-rule c = (read_behind c.args.text.now c.in_ok-front.front c.accept.result c.in_ok-front.ensures.front c.in_default.ensures.none c.accept.ensures).0
+returns-clause-rule c = (read_after c.args.text.now c.in_ok-head.head c.accept.result c.in_ok-head.ensures.head c.in_default.ensures.none c.accept.ensures).0
 
 pub returns-clause-fault : goal.returns-clause-fault
-returns-clause-fault c = (read_behind c.args.text.now c.in_ok-front.front c.accept.result c.in_ok-front.ensures.front c.in_default.ensures.none c.accept.ensures).1
+returns-clause-fault c = (read_after c.args.text.now c.in_ok-head.head c.accept.result c.in_ok-head.ensures.head c.in_default.ensures.none c.accept.ensures).1
 
 pub returns-clause-every_rule : goal.returns-clause-every_rule
 returns-clause-every_rule c = every_rule c.args.text.now c.accept.result (returns-clause-rule c) (returns-clause-fault c)

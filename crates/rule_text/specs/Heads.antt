@@ -1,11 +1,13 @@
--- How a reader goes over the parts of a text that stand in front of its entries.
-use Rattle.std.specs.Prelude.{◌≡◌, ◌≢◌, ℕ, ◌<◌, ◌≤◌, ◌⊎◌, Bool, true, false, List, [], ◌++◌, length, map, take, codes, slice_index, All, ℤ, pos, neg_ℤ}
+-- How a reader goes over the head of a text, what stands before its entries.
+use Rattle.std.specs.Prelude.{◌≡◌, ◌≢◌, ℕ, ◌+◌, ◌<◌, ◌≤◌, ◌⊎◌, Bool, true, false, List, [], ◌++◌, length, map, take, drop, codes, slice_index, All, ℤ, pos, neg_ℤ}
 use Rattle.rule_text.specs.declared.text_fault.TextFault.{TextFault}
 use Rattle.rule_text.specs.declared.text_fault.TextFault.TheVariants as fault
-use Rattle.rule_text.specs.declared.front.Kind.{Kind}
-use Rattle.rule_text.specs.declared.front.Kind.TheVariants as kind
-use Rattle.rule_text.specs.declared.front.Front.{Front}
-use Rattle.rule_text.specs.RuleTexts.{IsDigit, IsHexDigit, IsDecimal, IsOffset, Entries, Said, Table, Number, letter_at, decimal_value, head}
+use Rattle.rule_text.specs.declared.head.Kind.{Kind}
+use Rattle.rule_text.specs.declared.head.Kind.TheVariants as kind
+use Rattle.rule_text.specs.declared.head.Head.{Head}
+use Rattle.word_image.specs.Digits.{IsHexDigit, letter_at}
+use Rattle.word_image.specs.Grammars.{IsFormFault}
+use Rattle.rule_text.specs.RuleTexts.{IsDigit, IsDecimal, Entries, Said, Says, IsSaid, Table, Number, decimal_value}
 
 -- the byte of a colon
 abbrev pub colon : ℕ
@@ -34,11 +36,14 @@ pub record GoesOverField (text : List ℕ) (from to number : ℕ) : Type 0 where
   pub decimal : IsDecimal 1 2 digits
   pub value : number ≡ decimal_value digits
 
--- instead, no digit comes, or no colon behind all digits
-pub data LacksField (text : List ℕ) (from : ℕ) : ℕ → Type 0 where
-  NoDigit : ¬ IsDigit (slice_index text from) → LacksField text from from
-  NoColon : (place : ℕ) (digits : List ℕ) → GoesOver text from place digits → IsDecimal 1 2 digits
-      → (length digits ≡ 2) ⊎ ¬ IsDigit (slice_index text place) → slice_index text place ≢ colon → LacksField text from place
+-- instead, too few digits come, or no colon after all of them
+pub record LacksField (text : List ℕ) (from place : ℕ) : Type 0 where
+  pub digits : List ℕ
+  pub over : GoesOver text from place digits
+  pub decimal : IsDecimal 0 2 digits
+  pub longest : (length digits ≡ 2) ⊎ ¬ IsDigit (slice_index text place)
+  pub no_colon : 1 ≤ length digits → slice_index text place ≢ colon
+  pub stays : length digits ≡ 0 → place ≡ from
 
 -- a minus sign or none
 abbrev pub sign : Bool → List ℕ
@@ -58,13 +63,13 @@ pub record GoesOverOffset (text : List ℕ) (from to : ℕ) (offset : ℤ) : Typ
   pub decimal : IsDecimal 1 2 digits
   pub value : offset ≡ signed minus (decimal_value digits)
 
--- instead, the field behind the sign is lacking, or no field comes and no sign
+-- instead, the field after the sign is lacking, or no field comes and no sign
 pub record LacksOffset (text : List ℕ) (from place : ℕ) : Type 0 where
   pub minus : Bool
-  pub behind : ℕ
-  pub over : GoesOver text from behind (sign minus)
-  pub field : LacksField text behind place
-  pub no_sign : minus ≡ false → slice_index text behind ≢ minus_sign
+  pub start : ℕ
+  pub over : GoesOver text from start (sign minus)
+  pub field : LacksField text start place
+  pub no_sign : minus ≡ false → slice_index text start ≢ minus_sign
 
 -- how a kind is written
 abbrev pub kind_text : Kind → List ℕ
@@ -79,16 +84,6 @@ IsNoKind b = (b ≢ 116) × (b ≢ 119)
 abbrev pub IsFormAt : List ℕ → TextFault → (ℕ → Type 0) → Type 0
 IsFormAt text f P = (place : ℕ) × (f ≡ fault.Form place) × (place ≤ length text) × P place
 
--- a colon is the second or the third byte: no text of the bare form has one
-abbrev pub IsHeaded : List ℕ → Type 0
-IsHeaded text = (slice_index text 1 ≡ colon) ⊎ (slice_index text 2 ≡ colon)
-
--- what stands in front of the entries: nothing, or K:M:O: and the kind
-pub data IsFront (text : List ℕ) : Front → Type 0 where
-  NoHead : ¬ IsHeaded text → IsFront text (record { k = 2; m = 3; o = neg_ℤ (pos 1); kind = kind.Number; place = 0 })
-  Head : (k m o : List ℕ) (f : Front) → IsDecimal 1 2 k → IsDecimal 1 2 m → IsOffset o f.o → f.k ≡ decimal_value k → f.m ≡ decimal_value m
-      → take f.place text ≡ head k m o (kind_text f.kind) → f.place ≤ length text → IsFront text f
-
 -- the entries that digits of this kind make
 abbrev pub entries_of : Kind → List ℕ → Entries
 entries_of kind.Table digits = Table (map letter_at digits)
@@ -99,12 +94,12 @@ abbrev pub IsEntries : Kind → List ℕ → Type 0
 IsEntries kind.Table digits = All IsHexDigit digits
 IsEntries kind.Number digits = IsDecimal 1 39 digits
 
--- what is said by a front with these entries
-abbrev pub said_with : Front → Entries → Said
+-- what a head says with these entries
+abbrev pub said_with : Head → Entries → Said
 said_with f entries = record { states = f.k; width = f.m; offset = f.o; entries = entries; place = f.place }
 
--- and what is said with digits of its kind behind it
-abbrev pub said_of : Front → List ℕ → Said
+-- and with digits of its kind
+abbrev pub said_of : Head → List ℕ → Said
 said_of f digits = said_with f (entries_of f.kind digits)
 
 -- at this place the digits of a number end too early, or something else than digits comes
@@ -120,7 +115,8 @@ pub record IsHexStop (digits : List ℕ) (place : ℕ) : Type 0 where
   pub within : place < length digits
   pub stop : ¬ IsHexDigit (slice_index digits place)
 
--- at this place digits of this kind go wrong
-abbrev pub IsStop : Kind → List ℕ → ℕ → Type 0
-IsStop kind.Table = IsHexStop
-IsStop kind.Number = IsDecimalStop
+-- the head of a text and where the entries begin: what the text says with entries of its kind, and that it goes wrong where others do
+pub record IsHead (text : List ℕ) (h : Head) : Type 0 where
+  pub within : h.place ≤ length text
+  pub says : IsEntries h.kind (drop h.place text) → Says text (said_of h (drop h.place text))
+  pub stops : (n : ℕ) → IsFormFault (IsEntries h.kind) (drop h.place text) n → IsFormFault IsSaid text (h.place + n)

@@ -1,0 +1,246 @@
+-- From the parts of a text to the whole: what its beginning leads to, and where it goes wrong.
+use Rattle.std.proofs.Common.{◌≡◌, ◌≢◌, ℕ, ◌+◌, ◌-◌, ◌<◌, ◌≤◌, ◌⊎◌, inl, inr, Bool, false, List, [], ◌∷◌, ◌++◌, length, take, drop, get_or, Some, None, refl, sym, ap, subst, ◌∙◌, arith, append_assoc, take-append-drop, length-append, length-drop, length-take-le, get_or-take, get_or-drop}
+use Rattle.std.specs.Prelude.{All, ℤ, codes, unwrap_or}
+use Rattle.std.specs.List.{slice_get}
+use Rattle.std.proofs.lemmas.Bool.{cases_eq, cases_lt, cases_order}
+use Rattle.std.proofs.lemmas.Option.{none-some, slice_get-get_or, unwrap_or-slice_get}
+use Rattle.std.proofs.lemmas.List.{get_or_past, get_or-append-add, get_or_append_left, take-take, take-append-le}
+use Rattle.std.proofs.lemmas.List.Elements.{All-append, All-nil}
+use Rattle.std.proofs.Math.Seq.{take-add, get_or-append_seam}
+use Rattle.word_image.specs.Digits.{IsHexDigit}
+use Rattle.word_image.specs.Grammars.{Begins, IsFormFault}
+use Rattle.word_image.proofs.laws.Prefixes.{IsFormFault-next, IsFormFault-rest}
+use Rattle.rule_text.specs.declared.text_fault.TextFault.{TextFault}
+use Rattle.rule_text.specs.declared.text_fault.TextFault.TheVariants as fault
+use Rattle.rule_text.specs.declared.head.Kind.{Kind}
+use Rattle.rule_text.specs.declared.head.Kind.TheVariants as kind
+use Rattle.rule_text.specs.RuleTexts.{IsDigit, IsDecimal, Said, Says, Bare, IsSaid, IsTextFault, NoForm}
+use Rattle.rule_text.specs.Heads.{GoesOver, GoesOverField, GoesOverOffset, LacksField, LacksOffset, IsFormAt, IsNoKind, IsEntries, IsDecimalStop, IsHexStop, colon, entries_of, kind_text, sign}
+use Rattle.rule_text.proofs.laws.Parts.{Field, Signed, Kinds, Tells, AfterStates, saying, Field-after, Field-lacks, Field-more, Signed-after, Signed-lacks, Signed-more, Kinds-after, Kinds-lacks, Kinds-more, zero_digit}
+use Rattle.rule_text.proofs.laws.Heads.{Says-parts, parts-Says, no_colon}
+
+-- the text was gone over up to this place: with what may come after, and with nothing else, it is a text of the grammar
+pub record Leads (text : List ℕ) (from : ℕ) (After : ℕ → List ℕ → Said → Type 0) : Type 0 where
+  pub whole : (y : List ℕ) (s : Said) → After (length (take from text)) y s → Says (take from text ++ y) s
+  pub only : (y : List ℕ) (s : Said) → Says (take from text ++ y) s → After (length (take from text)) y s
+
+-- one part more: y comes after it where `join y` comes before it
+Leads-part : {text : List ℕ} {from to : ℕ} {After Next : ℕ → List ℕ → Said → Type 0} → Leads text from After → (join : List ℕ → List ℕ) (step : ℕ → ℕ)
+    → ((y : List ℕ) → take to text ++ y ≡ take from text ++ join y) → length (take to text) ≡ step (length (take from text))
+    → ((p : ℕ) (y : List ℕ) (s : Said) → Next (step p) y s → After p (join y) s) → ((p : ℕ) (y : List ℕ) (s : Said) → After p (join y) s → Next (step p) y s)
+    → Leads text to Next
+Leads-part {text} {from} {to} {After} {Next} l join step cut long before after = record {
+  whole = λ y s next. subst (λ z. Says z s) (sym (cut y)) (l.whole (join y) s (before _ y s (subst (λ p. Next p y s) long next)));
+  only = λ y s says. subst (λ p. Next p y s) (sym long) (after _ y s (l.only (join y) s (subst (λ z. Says z s) (cut y) says)));
+}
+
+-- a text goes wrong where what the beginning leads to doesn't go on
+Leads-stuck : {text : List ℕ} {from : ℕ} {After : ℕ → List ℕ → Said → Type 0} → Leads text from After → (join : List ℕ → List ℕ) (place : ℕ) → place ≤ length text
+    → ((y : List ℕ) → take place text ++ y ≡ take from text ++ join y) → ((p : ℕ) → (y : List ℕ) × (s : Said) × After p (join y) s)
+    → ((p : ℕ) (y : List ℕ) (s : Said) → slice_get y 0 ≡ slice_get text place → ¬ After p (join y) s) → IsFormFault IsSaid text place
+Leads-stuck {text} l join place within cut more none =
+    let next = more _ in
+    IsFormFault-next text place within
+    (record { more = next.0; whole = (next.1, subst (λ z. Says z next.1) (sym (cut next.0)) (l.whole (join next.0) next.1 next.2)) })
+    (λ y same said. none _ y said.0 same (l.only (join y) said.0 (subst (λ z. Says z said.0) (cut y) said.1)))
+
+-- K and its colon
+pub Leads-states : {text : List ℕ} {to n : ℕ} → GoesOverField text 0 to n → Leads text to (AfterStates n)
+Leads-states {text} {to} {n} h =
+    let d = h.digits in
+    let cut : (y : List ℕ) → take to text ++ y ≡ d ++ colon ∷ y = λ y. ap (λ z. z ++ y) h.over ∙ append_assoc d (codes ":") y in
+    let long : length (take to text) ≡ 0 + length d + 1 = ap length h.over ∙ omega (arith, length-append d (codes ":")) in
+    record {
+      whole = λ y s after.
+          let place = subst (λ p. AfterStates n p y s) long after in
+          Says-parts _ s (record { digits = d; rest = y; decimal = h.decimal; parts = cut y; after = subst (λ j. AfterStates j (0 + length d + 1) y s) h.value place });
+      only = λ y s says. elim (parts-Says (subst (λ z. Says z s) (cut y) says)) [
+        | inl bare ↦ absurd (no_colon (d ++ colon ∷ y) bare.0.digits (length d) (get_or-append_seam d colon y 0))
+        | inr f ↦
+            subst (λ p. AfterStates n p y s) (sym long)
+            (subst (λ j. AfterStates j (0 + length d + 1) y s) (sym h.value) (Field-after {After = AfterStates} d y h.decimal f))
+      ];
+    }
+
+-- M and its colon
+pub Leads-field : {text : List ℕ} {from to n : ℕ} {After : ℕ → ℕ → List ℕ → Said → Type 0} → Leads text from (Field After) → GoesOverField text from to n
+    → Leads text to (After n)
+Leads-field {text} {from} {to} {n} {After} l h =
+    let d = h.digits in
+    let t = take from text in
+    Leads-part l (λ y. d ++ colon ∷ y) (λ p. p + length d + 1)
+    (λ y. ap (λ z. z ++ y) h.over ∙ append_assoc (t ++ d) (codes ":") y ∙ append_assoc t d (colon ∷ y))
+    (ap length h.over ∙ omega (arith, length-append (t ++ d) (codes ":"), length-append t d))
+    (λ p y s next. record { digits = d; rest = y; decimal = h.decimal; parts = refl; after = subst (λ j. After j (p + length d + 1) y s) h.value next })
+    (λ p y s field. subst (λ j. After j (p + length d + 1) y s) (sym h.value) (Field-after {After = After} d y h.decimal field))
+
+-- O and its colon
+pub Leads-offset : {text : List ℕ} {from to : ℕ} {z : ℤ} {After : ℤ → ℕ → List ℕ → Said → Type 0} → Leads text from (Signed After) → GoesOverOffset text from to z
+    → Leads text to (After z)
+Leads-offset {text} {from} {to} {z} {After} l h =
+    let d = h.digits in
+    let g = sign h.minus in
+    let t = take from text in
+    Leads-part l (λ y. g ++ (d ++ colon ∷ y)) (λ p. p + length g + length d + 1)
+    (λ y. ap (λ x. x ++ y) h.over ∙ append_assoc (t ++ g ++ d) (codes ":") y ∙ append_assoc (t ++ g) d (colon ∷ y) ∙ append_assoc t g (d ++ colon ∷ y))
+    (ap length h.over ∙ omega (arith, length-append (t ++ g ++ d) (codes ":"), length-append (t ++ g) d, length-append t g))
+    (λ p y s next. record {
+      minus = h.minus;
+      rest = d ++ colon ∷ y;
+      parts = refl;
+      field = record { digits = d; rest = y; decimal = h.decimal; parts = refl; after = subst (λ o. After o (p + length g + length d + 1) y s) h.value next };
+    })
+    (λ p y s signed. subst (λ o. After o (p + length g + length d + 1) y s) (sym h.value) (Signed-after {After = After} h.minus d y h.decimal signed))
+
+-- a kind
+pub Leads-kind : {text : List ℕ} {from to k m : ℕ} {o : ℤ} → Leads text from (Kinds k m o) → (kd : Kind) → GoesOver text from to (kind_text kd)
+    → Leads text to (Tells k m o kd)
+Leads-kind {text} {from} {to} {k} {m} {o} l kd over =
+    let t = take from text in
+    Leads-part l (λ y. kind_text kd ++ y) (λ p. p + 1) (λ y. ap (λ x. x ++ y) over ∙ append_assoc t (kind_text kd) y)
+    (ap length over ∙ omega (arith, length-append t (kind_text kd), one kd))
+    (λ p y s tells. record { kd = kd; rest = y; parts = refl; tells = tells })
+    (λ p y s kinds. Kinds-after kd y kinds)
+  where
+  one : (c : Kind) → length (kind_text c) ≡ 1
+  one kind.Table = refl
+  one kind.Number = refl
+
+-- the byte with which a text goes on at a place
+byte_at : (y text : List ℕ) (place : ℕ) → slice_get y 0 ≡ slice_get text place → get_or y 0 0 ≡ get_or text place 0
+byte_at y text place same = sym (unwrap_or-slice_get y 0 0) ∙ ap (λ b. unwrap_or b 0) same ∙ unwrap_or-slice_get text place 0
+
+-- where nothing comes, the text has ended
+end_at : (y text : List ℕ) (place : ℕ) → slice_get y 0 ≡ slice_get text place → length y ≡ 0 → length text ≤ place
+end_at y text place same empty = elim (cases_lt place (length text)) [
+  | inl within ↦ absurd (none-some _ (sym (past y empty) ∙ same ∙ slice_get-get_or text place 0 within))
+  | inr end ↦ end
+]
+  where
+  past : (w : List ℕ) → length w ≡ 0 → slice_get w 0 ≡ None
+  past [] e = refl
+  past (b ∷ w) e = absurd (omega arith)
+
+-- the fault of a form, by another name
+named : {text : List ℕ} {f : TextFault} {place : ℕ} → f ≡ fault.Form place → IsFormFault IsSaid text place → IsTextFault text f
+named {text} {f} {place} is form = subst (λ (g : TextFault). IsTextFault text g) (sym is) (NoForm place form)
+
+-- M or its colon is lacking
+pub Leads-lacks_field : {text : List ℕ} {from : ℕ} {f : TextFault} {After : ℕ → ℕ → List ℕ → Said → Type 0} → Leads text from (Field After)
+    → ((n p : ℕ) → (y : List ℕ) × (s : Said) × After n p y s) → IsFormAt text f (LacksField text from) → IsTextFault text f
+Leads-lacks_field {text} {from} {f} {After} l more (place, is, within, h) =
+    named is (Leads-stuck l (λ y. h.digits ++ y) place within (λ y. ap (λ x. x ++ y) h.over ∙ append_assoc (take from text) h.digits y)
+    (λ p. Field-more {After = After} more p h.digits h.decimal)
+    (λ p y s same. Field-lacks {After = After} h.digits y (get_or text place 0) (byte_at y text place same) h.decimal h.longest h.no_colon))
+
+-- O or its colon is lacking
+pub Leads-lacks_offset : {text : List ℕ} {from : ℕ} {e : TextFault} {After : ℤ → ℕ → List ℕ → Said → Type 0} → Leads text from (Signed After)
+    → ((z : ℤ) (p : ℕ) → (y : List ℕ) × (s : Said) × After z p y s) → IsFormAt text e (LacksOffset text from) → IsTextFault text e
+Leads-lacks_offset {text} {from} {e} {After} l more (place, is, within, h) =
+    let f = h.field in
+    let g = sign h.minus in
+    let t = take from text in
+    named is (Leads-stuck l (λ y. g ++ (f.digits ++ y)) place within
+    (λ y. ap (λ x. x ++ y) (f.over ∙ ap (λ x. x ++ f.digits) h.over) ∙ append_assoc (t ++ g) f.digits y ∙ append_assoc t g (f.digits ++ y))
+    (λ p. Signed-more {After = After} more p h.minus f.digits f.decimal)
+    (λ p y s same. Signed-lacks {After = After} h.minus f.digits y (get_or text place 0) (byte_at y text place same) f.decimal f.longest f.no_colon
+    (λ plain none minus. h.no_sign plain (ap (λ i. get_or text i 0) (sym (f.stays none)) ∙ minus))))
+
+-- neither kind comes
+pub Leads-lacks_kind : {text : List ℕ} {from k m : ℕ} {o : ℤ} {f : TextFault} → Leads text from (Kinds k m o)
+    → IsFormAt text f (λ place. (place ≡ from) × IsNoKind (get_or text place 0)) → IsTextFault text f
+Leads-lacks_kind {text} {from} {k} {m} {o} {f} l (place, is, within, at_none) =
+    named is (Leads-stuck l (λ y. y) place within (λ y. ap (λ j. take j text ++ y) at_none.0) (λ p. Kinds-more k m o p)
+    (λ p y s same. Kinds-lacks y (subst IsNoKind (sym (byte_at y text place same)) at_none.1)))
+
+-- what a head leads to is what it says, and it goes wrong where its entries do
+pub Leads-head : {text : List ℕ} {from k m : ℕ} {z : ℤ} (kd : Kind) (o : ℤ) → o ≡ z → Leads text from (Tells k m z kd) → from ≤ length text
+    → (IsEntries kd (drop from text) → Says text (saying k m o (entries_of kd (drop from text)) from))
+    × ((n : ℕ) → IsFormFault (IsEntries kd) (drop from text) n → IsFormFault IsSaid text (from + n))
+Leads-head {text} {from} {k} {m} {z} kd o is leads within =
+    let l = subst (λ (y : ℤ). Leads text from (Tells k m y kd)) (sym is) leads in
+    let long : length (take from text) ≡ from = length-take-le from text within in
+    let says : (y : List ℕ) → IsEntries kd y → Says (take from text ++ y) (saying k m o (entries_of kd y) from) = λ y entries.
+    l.whole y _ (entries, ap (saying k m o (entries_of kd y)) (sym long)) in
+    (
+      λ entries. subst (λ x. Says x (saying k m o (entries_of kd (drop from text)) from)) (take-append-drop from text) (says (drop from text) entries),
+      λ n f. IsFormFault-rest text from n within (λ y entries. (_, says y entries)) (λ y said. (l.only y said.0 said.1).0) f,
+    )
+
+-- the byte after a row
+at_seam : (x y : List ℕ) (n : ℕ) → length x ≡ n → get_or (x ++ y) n 0 ≡ get_or y 0 0
+at_seam x y n long = let whole : n ≡ length x + 0 = omega arith in ap (λ i. get_or (x ++ y) i 0) whole ∙ get_or-append-add x y 0 0
+
+-- a row of at most 39 digits goes on to one of 1 to 39
+row_with : (x : List ℕ) → All IsDigit x → length x ≤ 39 → Begins (IsDecimal 1 39) x
+row_with [] digits few = record { more = codes "0"; whole = record { digits = zero_digit.digits; least = omega arith; most = omega arith } }
+row_with (b ∷ x) digits few = record {
+  more = [];
+  whole = record {
+    digits = All-append IsDigit (b ∷ x) [] digits (All-nil IsDigit);
+    least = omega (arith, length-append (b ∷ x) []);
+    most = omega (arith, length-append (b ∷ x) []);
+  };
+}
+
+-- the digits of a number go wrong at the first that may not come
+pub IsFormFault-decimal : (digits : List ℕ) (n : ℕ) → IsDecimalStop digits n → IsFormFault (IsDecimal 1 39) digits n
+IsFormFault-decimal digits n stop =
+    let x = take n digits in
+    let long : length x ≡ n = length-take-le n digits stop.within in
+    IsFormFault-next digits n stop.within (row_with x stop.before (omega (arith, stop.few))) (λ y same d.
+      let whole = length-append x y in
+      let least = d.least in
+      let most = d.most in
+      elim (cases_eq (length y) 0) [
+        | inl none ↦
+            let end = end_at y digits n same none in
+            elim stop.stop [ inl empty ↦ omega (arith, stop.within) | inr other ↦ omega (arith, other.0) ]
+        | inr some ↦
+            let digit : IsDigit (get_or digits n 0) = subst IsDigit (at_seam x y n long ∙ byte_at y digits n same) (d.digits n 0 (omega arith)) in
+            elim stop.stop [
+              | inl empty ↦ let none : get_or digits n 0 ≡ 0 = get_or_past digits n 0 (omega arith) in omega (arith, digit.0)
+              | inr other ↦ elim other.1 [ inl full ↦ omega arith | inr no_digit ↦ no_digit digit ]
+            ]
+      ])
+
+-- those of a table at the first that is no hexadecimal one
+pub IsFormFault-hex : (digits : List ℕ) (n : ℕ) → IsHexStop digits n → IsFormFault (All IsHexDigit) digits n
+IsFormFault-hex digits n stop =
+    let x = take n digits in
+    let inside = stop.within in
+    let long : length x ≡ n = length-take-le n digits (omega arith) in
+    IsFormFault-next digits n (omega arith) (record { more = []; whole = All-append IsHexDigit x [] stop.before (All-nil IsHexDigit) }) (λ y same all.
+      elim (cases_eq (length y) 0) [
+        | inl none ↦ omega (arith, end_at y digits n same none)
+        | inr some ↦ stop.stop (subst IsHexDigit (at_seam x y n long ∙ byte_at y digits n same) (all n 0 (omega (arith, length-append x y))))
+      ])
+
+-- a text that begins with no field is of the bare form, or goes wrong where a row of digits does
+pub IsFormFault-bare : (text : List ℕ) (place n : ℕ) → place ≤ length text → LacksField text 0 place → IsFormFault (IsDecimal 1 39) text n → IsFormFault IsSaid text n
+IsFormFault-bare text place n inside h f =
+    let first : take place text ≡ h.digits = h.over in
+    let few = h.decimal.most in
+    let long : length h.digits ≡ place = sym (ap length first) ∙ length-take-le place text inside in
+    let early : place ≤ n = elim (cases_lt n place) [
+      | inl late ↦ absurd (f.longest place late inside (subst (Begins (IsDecimal 1 39)) (sym first) (row_with h.digits h.decimal.digits (omega arith))))
+      | inr early ↦ early
+    ] in
+    let no_field : (z : List ℕ) → take place z ≡ take place text → get_or z place 0 ≡ get_or text place 0 → (s : Said) → ¬ Field AfterStates 0 z s = λ z same byte s field.
+    let split : z ≡ h.digits ++ drop place z = sym (take-append-drop place z) ∙ ap (λ x. x ++ drop place z) (same ∙ first) in
+    let here : place + 0 ≡ place = omega arith in
+    let next : get_or (drop place z) 0 0 ≡ get_or text place 0 = get_or-drop place z 0 0 ∙ ap (λ i. get_or z i 0) here ∙ byte in
+    Field-lacks {After = AfterStates} h.digits (drop place z) _ next h.decimal h.longest h.no_colon (subst (λ x. Field AfterStates 0 x s) split field) in
+    record {
+      outside = λ said. elim (parts-Says said.1) [ inl bare ↦ f.outside bare.0 | inr field ↦ no_field text refl refl said.0 field ];
+      within = f.within;
+      begins = record { more = f.begins.more; whole = (_, Bare _ f.begins.whole) };
+      longest = λ m past within longer. elim (parts-Says longer.whole.1) [
+        | inl bare ↦ f.longest m past within (record { more = longer.more; whole = bare.0 })
+        | inr field ↦
+            let x = take m text in
+            let wide : length x ≡ m = length-take-le m text within in
+            no_field (x ++ longer.more) (take-append-le place x longer.more (omega arith) ∙ take-take place m text (omega arith))
+            (get_or_append_left x longer.more 0 place (omega arith) ∙ get_or-take m text place 0 (omega arith)) longer.whole.0 field
+      ];
+    }

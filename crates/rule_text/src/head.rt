@@ -1,0 +1,57 @@
+//! The head of a text: what stands before its entries.
+ghost use Rattle.std.specs.Prelude.{IfOk, IfErr};
+ghost use Rattle.rule_text.specs.RuleTexts.{IsTextFault};
+ghost use Rattle.rule_text.specs.Heads.{IsHead};
+
+use crate::parts::{field, kind, offset};
+use crate::text_fault::TextFault;
+
+/// What the entries of a text are: the letters of the table, or the digits of its number.
+#[derive(Clone, Copy)]
+pub enum Kind {
+    /// Hexadecimal digits, one for each window.
+    Table,
+    /// The decimal digits of the Wolfram number.
+    Number,
+}
+
+/// The head of a text, and where the entries begin.
+#[derive(Clone, Copy)]
+pub struct Head {
+    // How many states there are, below 100.
+    pub k: u8,
+    // The width, below 100.
+    pub m: u8,
+    // The offset, from -99 to 99.
+    pub o: i8,
+    // What the entries are.
+    pub kind: Kind,
+    // Where they begin.
+    pub place: usize,
+}
+
+/// Reads the head of a text. A text that doesn't begin with a field has none: it is of the bare form.
+pub fn read_head(text: &[u8]) -> Result<Head, TextFault>
+    ensures head { IfOk result (λ h. IsHead text.now h) }
+    ensures fault { IfErr result (λ f. IsTextFault text.now f) }
+{
+    let Ok((k, place)) = field(text, 0) else {
+        return Ok(Head {
+            k: 2,
+            m: 3,
+            o: -1,
+            kind: Kind::Number,
+            place: 0,
+        });
+    };
+    let (m, place) = field(text, place)?;
+    let (o, place) = offset(text, place)?;
+    let (kind, place) = kind(text, place)?;
+    Ok(Head {
+        k,
+        m,
+        o,
+        kind,
+        place,
+    })
+}

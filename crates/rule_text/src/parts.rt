@@ -1,0 +1,109 @@
+//! The parts of a head, each read from a place of a text on.
+ghost use Rattle.std.specs.Prelude.{◌≡◌, ◌≢◌, false, ◌+◌, ◌<◌, ◌≤◌, ◌∷◌, [], ◌↔◌, IfOk, IfErr, IfSome, IfNone, IsTrue, length, slice_index};
+ghost use Rattle.std.specs.Bool.{OnTrue};
+ghost use Rattle.rule_text.specs.RuleTexts.{IsDigit};
+ghost use Rattle.rule_text.specs.Heads.{GoesOver, GoesOverSmall, GoesOverField, GoesOverOffset, LacksField, LacksOffset, IsFormAt, IsNoKind, kind_text, minus_sign, sign};
+
+use crate::head::Kind;
+use crate::text_fault::TextFault;
+
+/// One or two digits and the colon after them: their number, and the place after the colon.
+pub fn field(text: &[u8], from: usize) -> Result<(u8, usize), TextFault>
+    requires { from ≤ length text.now }
+    ensures number { IfOk result (λ r. GoesOverField text.now from r.1 r.0) }
+    ensures below { IfOk result (λ r. r.0 < 100) }
+    ensures within { IfOk result (λ r. r.1 ≤ length text.now) }
+    ensures fault { IfErr result (λ f. IsFormAt text.now f (LacksField text.now from)) }
+{
+    let Some((number, end)) = small(text, from) else {
+        return Err(TextFault::Form(from));
+    };
+    if !stands(text, end, b':') {
+        return Err(TextFault::Form(end));
+    }
+    Ok((number, end + 1))
+}
+
+/// A minus sign or none, a field after it: its number with that sign, and the place after the colon.
+pub fn offset(text: &[u8], from: usize) -> Result<(i8, usize), TextFault>
+    requires { from ≤ length text.now }
+    ensures offset { IfOk result (λ r. GoesOverOffset text.now from r.1 r.0) }
+    ensures within { IfOk result (λ r. r.1 ≤ length text.now) }
+    ensures fault { IfErr result (λ f. IsFormAt text.now f (LacksOffset text.now from)) }
+{
+    let (minus, start) = minus(text, from);
+    let (number, end) = field(text, start)?;
+    let number = number as i8;
+    Ok((if minus { -number } else { number }, end))
+}
+
+/// The letter of a kind, and the place after it.
+pub fn kind(text: &[u8], from: usize) -> Result<(Kind, usize), TextFault>
+    requires { from ≤ length text.now }
+    ensures over { IfOk result (λ r. GoesOver text.now from r.1 (kind_text r.0)) }
+    ensures within { IfOk result (λ r. r.1 ≤ length text.now) }
+    ensures fault { IfErr result (λ f. IsFormAt text.now f (λ place. (place ≡ from) × IsNoKind (slice_index text.now place))) }
+{
+    if stands(text, from, b't') {
+        Ok((Kind::Table, from + 1))
+    } else if stands(text, from, b'w') {
+        Ok((Kind::Number, from + 1))
+    } else {
+        Err(TextFault::Form(from))
+    }
+}
+
+/// One or two digits, two where there are two: their number, and the place after them.
+fn small(text: &[u8], from: usize) -> Option<(u8, usize)>
+    requires { from ≤ length text.now }
+    ensures number { IfSome result (λ r. GoesOverSmall text.now from r.1 r.0) }
+    ensures below { IfSome result (λ r. r.0 < 100) }
+    ensures within { IfSome result (λ r. r.1 ≤ length text.now) }
+    ensures none { IfNone result (¬ IsDigit (slice_index text.now from)) }
+{
+    let first = digit(text, from)?;
+    match digit(text, from + 1) {
+        Some(second) => Some((first * 10 + second, from + 2)),
+        None => Some((first, from + 1)),
+    }
+}
+
+/// Whether a minus sign comes, and the place after it if one does.
+fn minus(text: &[u8], from: usize) -> (bool, usize)
+    requires { from ≤ length text.now }
+    ensures over { GoesOver text.now from result.1 (sign result.0) }
+    ensures within { result.1 ≤ length text.now }
+    ensures none { result.0 ≡ false → slice_index text.now result.1 ≢ minus_sign }
+{
+    if stands(text, from, b'-') {
+        (true, from + 1)
+    } else {
+        (false, from)
+    }
+}
+
+/// The decimal digit at a place, if one stands there.
+fn digit(text: &[u8], place: usize) -> Option<u8>
+    requires { place ≤ length text.now }
+    ensures below { IfSome result (λ d. d < 10) }
+    ensures within { IfSome result (λ d. place < length text.now) }
+    ensures over { IfSome result (λ d. GoesOver text.now place (place + 1) ((d + 48) ∷ [])) }
+    ensures none { IfNone result (¬ IsDigit (slice_index text.now place)) }
+{
+    let byte = *text.get(place)?;
+    if byte.is_ascii_digit() {
+        Some(byte - b'0')
+    } else {
+        None
+    }
+}
+
+/// Whether a byte stands at a place.
+fn stands(text: &[u8], place: usize, byte: u8) -> bool
+    requires { 0 < byte }
+    ensures within { OnTrue result (place < length text.now) }
+    ensures over { OnTrue result (GoesOver text.now place (place + 1) (byte ∷ [])) }
+    ensures next { IsTrue result ↔ (slice_index text.now place ≡ byte) }
+{
+    text.get(place) == Some(&byte)
+}
