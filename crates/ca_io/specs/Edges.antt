@@ -3,7 +3,7 @@ use Rattle.std.specs.Prelude.{ℕ}
 use Rattle.ca_io.specs.declared.standard.StdSource.{StdSource}
 use Rattle.ca_io.specs.declared.standard.StdSink.{StdSink}
 
--- the reader behind a source
+-- the reader that a source stands over
 abbrev pub source_reader : {R : Type 0} → StdSource R → R
 source_reader s = s.inner
 
@@ -11,7 +11,7 @@ source_reader s = s.inner
 abbrev pub source_faults : {R : Type 0} → StdSource R → ℕ
 source_faults s = s.faults
 
--- the writer behind a sink
+-- the writer that a sink stands over
 abbrev pub sink_writer : {W : Type 0} → StdSink W → W
 sink_writer s = s.inner
 

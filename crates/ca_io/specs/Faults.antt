@@ -1,11 +1,11 @@
--- What a call does to an object's count of faults.
+-- What a call does to the count of faults of a source or a sink.
 use Rattle.std.specs.Prelude.{◌≡◌, ℕ, ◌+◌, ◌-◌, ◌^◌, ◌<◌, ◌≤◌, min, Result, OnOk, OnErr}
 
 -- one more, where a 64-bit count has room for it
 abbrev pub count_up : ℕ → ℕ
 count_up n = min (n + 1) (2 ^ 64 - 1)
 
--- a 64-bit count rose in a call, or stands at its end
+-- a 64-bit count rose in a call, or stands at its greatest
 pub record Rose (before now : ℕ) : Type 0 where
   pub higher : count_up before ≤ now
   pub fits : now < 2 ^ 64

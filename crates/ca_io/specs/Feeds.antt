@@ -1,5 +1,5 @@
 -- What a source in memory has left, and what its next call does.
-use Rattle.std.specs.Prelude.{◌≡◌, refl, ℕ, ◌==◌, min, Bool, true, List, [], ◌∷◌, length, drop}
+use Rattle.std.specs.Prelude.{ℕ, ◌==◌, min, Bool, List, length, drop}
 use Rattle.std.specs.List.{list_any}
 use Rattle.ca_io.specs.Faults.{count_up}
 
@@ -24,7 +24,7 @@ whole_feed bytes piece failing = record { piece = piece; failing = failing; call
 abbrev pub fails_next : Feed → Bool
 fails_next f = list_any (λ n. n == f.calls) f.failing
 
--- the most bytes that a buffer of this length, the longest piece and the bytes left allow
+-- how many bytes the next call gives into a buffer of this length if it doesn't fail: the most that the longest piece and the bytes left allow
 abbrev pub count_to_give : Feed → ℕ → ℕ
 count_to_give f len = min len (min f.piece (length f.left))
 
@@ -35,15 +35,3 @@ after_giving f n = record f { calls = count_up f.calls; left = drop n f.left }
 -- the feed after a call that failed
 abbrev pub after_failing : Feed → Feed
 after_failing f = record f { calls = count_up f.calls; faults = count_up f.faults }
-
--- three bytes, two in a call, and the call 1 fails
-abbrev pub example : Feed
-example = whole_feed (97 ∷ 98 ∷ 99 ∷ []) 2 (1 ∷ [])
-
--- its first call gives two of them
-pub count_to_give-example : count_to_give example 8 ≡ 2
-count_to_give-example = refl
-
--- and then its next call fails
-pub fails_next-example : fails_next (after_giving example 2) ≡ true
-fails_next-example = refl

@@ -1,5 +1,5 @@
 -- What a sink in memory holds, and what its next call does.
-use Rattle.std.specs.Prelude.{◌≡◌, refl, ℕ, ◌-◌, ◌==◌, nat_le, min, Bool, true, ◌||◌, List, [], ◌∷◌, ◌++◌, length}
+use Rattle.std.specs.Prelude.{ℕ, ◌-◌, ◌==◌, nat_le, min, Bool, ◌||◌, List, [], ◌++◌, length}
 use Rattle.std.specs.List.{list_any}
 use Rattle.ca_io.specs.Faults.{count_up}
 
@@ -27,7 +27,7 @@ empty_tray room piece failing =
 abbrev pub fails_next : Tray → Bool
 fails_next t = list_any (λ n. n == t.calls) t.failing || nat_le t.room (length t.taken)
 
--- of so many bytes the most that the longest piece and the rest of the room allow
+-- how many bytes of this length the next call takes if it doesn't fail: the most that the longest piece and the rest of the room allow
 abbrev pub count_to_take : Tray → ℕ → ℕ
 count_to_take t len = min len (min t.piece (t.room - length t.taken))
 
@@ -38,15 +38,3 @@ after_taking t bytes = record t { calls = count_up t.calls; taken = t.taken ++ b
 -- the tray after a call that failed
 abbrev pub after_fault : Tray → Tray
 after_fault t = record t { calls = count_up t.calls; faults = count_up t.faults }
-
--- room for three bytes, one in a call, and the call 1 fails
-abbrev pub example : Tray
-example = empty_tray 3 1 (1 ∷ [])
-
--- its first call takes one of two bytes
-pub count_to_take-example : count_to_take example 2 ≡ 1
-count_to_take-example = refl
-
--- and then its next call fails
-pub fails_next-example : fails_next (after_taking example (97 ∷ [])) ≡ true
-fails_next-example = refl

@@ -4,7 +4,8 @@ ghost use Rattle.std.specs.Prelude.{◌≡◌, min, ◌++◌, Some, length, take
 use crate::sources::{Failed, Source};
 use std::marker::Model;
 
-/// Bytes in memory, read from the front. No read fails, and a contract sees the bytes that are left.
+/// Bytes in memory, read from the first one on. No read fails, and a contract sees the bytes that are
+/// left.
 #[derive(Drop)]
 pub struct PlainSource {
     bytes: Vec<u8>,
@@ -39,7 +40,7 @@ impl Source for PlainSource {
     /// Gives the most bytes that `buf` has places for and that are left.
     fn read(&mut self, buf: &mut [u8]) -> Result<usize, Failed>
         ensures count { result ≡ Ok (min (length buf.old) (length self.old)) }
-        ensures front { let n = min (length buf.old) (length self.old) in
+        ensures first { let n = min (length buf.old) (length self.old) in
             buf.new ≡ take n self.old ++ drop n buf.old }
         ensures rest { self.new ≡ drop (min (length buf.old) (length self.old)) self.old }
     {

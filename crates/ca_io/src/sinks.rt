@@ -6,17 +6,17 @@ ghost use Rattle.ca_io.specs.Faults.{CountsFaults};
 
 use crate::sources::Failed;
 
-/// An object that takes bytes.
+/// Takes bytes.
 pub trait Sink {
     // The bytes taken so far, where the sink tells them.
     ghost taken: { Self → Option (List ℕ) };
 
-    // How many writes have failed. The count stands still at 2^64 - 1.
+    // How many writes have failed. The count stops at 2^64 - 1.
     ghost faults: { Self → ℕ };
 
-    /// Takes at least one byte from the front of `piece`, which isn't empty, and answers how many it
-    /// took. `Failed` comes only where a fault was counted, and a sink that tells its bytes has taken
-    /// none then.
+    /// Takes the first bytes of `piece`, which isn't empty, at least one of them, and answers how many.
+    /// `Failed` comes only where this call was counted as a fault. A sink that tells its bytes has then
+    /// taken none.
     fn write(&mut self, piece: &[u8]) -> Result<usize, Failed>
         requires { 0 < length piece.now }
         ensures bound { WritesAtMost result piece.now }
@@ -26,8 +26,8 @@ pub trait Sink {
         ensures counted { CountsFaults (faults self.old) (faults self.new) result };
 }
 
-/// Writes all of `bytes`, in as many calls as the sink needs, and none for the empty output. After
-/// `Failed`, which the sink gave and has counted, a part of `bytes` is taken and not the whole.
+/// Writes all of `bytes`, in as many calls as the sink needs; an empty output needs none. After
+/// `Failed` the sink has counted the fault, and has taken a part of `bytes` and not the whole.
 #[tactic(auto, using(crate::proofs::laws::Pieces::piece_steps))]
 pub fn write_all<T: Sink>(sink: &mut T, bytes: &[u8]) -> Result<(), Failed>
     ensures written { OnOk result (Appends (T.taken sink.old) (T.taken sink.new) bytes.now) }

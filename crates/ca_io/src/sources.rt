@@ -1,25 +1,25 @@
-//! What reads bytes.
+//! What gives bytes.
 ghost use Rattle.std.specs.Prelude.{◌≡◌, ◌↔◌, ℕ, ◌<◌, List, [], Option, length, is_some, IfOk, IfSome};
 ghost use Rattle.std.specs.Io.{ReadsAtMost};
 ghost use Rattle.std.specs.Io.KnownBytes.{ReadConsumes};
 ghost use Rattle.ca_io.specs.Faults.{CountsFaults};
 
-/// What a call answers that the object's count of faults has counted. No byte has moved, where the
-/// object tells its bytes.
+/// The answer of a call that failed and was counted as a fault. A source or a sink that tells its
+/// bytes has moved none in it.
 #[derive(Clone, Copy, Debug, PartialEq, Eq)]
 pub struct Failed;
 
-/// An object that gives bytes.
+/// Gives bytes.
 pub trait Source {
     // The bytes that are still to come, where the source tells them.
     ghost left: { Self → Option (List ℕ) };
 
-    // How many reads have failed. The count stands still at 2^64 - 1.
+    // How many reads have failed. The count stops at 2^64 - 1.
     ghost faults: { Self → ℕ };
 
-    /// Puts the next bytes at the front of `buf`, which isn't empty, and answers how many they are.
-    /// `Ok(0)` is the end of the input. `Failed` comes only where a fault was counted, and a source that
-    /// tells its bytes has lost none then.
+    /// Reads the next bytes into the first places of `buf`, which isn't empty, and answers how many
+    /// they are: `Ok(0)` at the end of the input. `Failed` comes only where this call was counted as a
+    /// fault. A source that tells its bytes has then lost none.
     fn read(&mut self, buf: &mut [u8]) -> Result<usize, Failed>
         requires { 0 < length buf.old }
         ensures bound { ReadsAtMost result buf.new }

@@ -1,5 +1,5 @@
-//! A source over a reader of std, and a sink over a writer. What the world behind them gave or got, no
-//! contract can say, so they tell no bytes.
+//! A source over a reader of std, and a sink over a writer. No contract can say which bytes came from
+//! outside and which got there, so they tell none.
 ghost use Rattle.std.specs.Prelude.{◌≡◌, ℕ, ◌≤◌, None, length, take, IfOk, OnErr};
 ghost use Rattle.std.specs.Io.{ReadsAtMost, WritesAtMost};
 ghost use Rattle.std.specs.Io.KnownBytes.{Appends, ReadConsumes, WriteAppends};

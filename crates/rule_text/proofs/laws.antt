@@ -6,3 +6,4 @@ pub mod Decimals
 pub mod Letters
 pub mod Numbers
 pub mod Printed
+pub mod AcceptedRules

@@ -1,2 +1,3 @@
 pub mod RuleTexts
 pub mod Heads
+pub mod Examples

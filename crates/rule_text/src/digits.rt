@@ -52,26 +52,6 @@ fn decimal_stop(digits: &[u8]) -> Option<usize>
     if digits.is_empty() { Some(0) } else { None }
 }
 
-/// The number of a row of decimal digits; None where it is `2^128` or more.
-pub fn decimal_number(digits: &[u8]) -> Option<u128>
-    requires { All IsDigit digits.now }
-    ensures { SomeIff result (decimal_value digits.now < 2 ^ 128) (decimal_value digits.now) }
-{
-    let mut number = Some(0);
-    for byte in digits {
-        number = with_digit(number, *byte - b'0');
-    }
-    number
-}
-
-/// The number with one more decimal digit after it; None stands for those from `2^128` on.
-fn with_digit(number: Option<u128>, digit: u8) -> Option<u128>
-    ensures { (n : ℕ) → SomeIff number (n < 2 ^ 128) n
-        → SomeIff result (n * 10 + digit < 2 ^ 128) (n * 10 + digit) }
-{
-    number?.checked_mul(10)?.checked_add(u128::from(digit))
-}
-
 /// Writes the letters that hexadecimal digits stand for; those of other bytes are 0.
 pub fn write_letters(table: &mut [u8], digits: &[u8])
     requires { length table.old ≡ length digits.now }

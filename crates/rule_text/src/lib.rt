@@ -17,6 +17,7 @@
 //! **O(n + k^m)** time for a text of n bytes, and no memory; `print` makes the text of its rule.
 #![tactic(auto)]
 
+mod decimals;
 mod digits;
 mod head;
 mod parsing;
@@ -24,6 +25,7 @@ mod parts;
 mod printing;
 mod text_fault;
 
+pub use decimals::{decimal_number, is_decimal};
 pub use parsing::parse;
 pub use printing::{number, print, printed_text_is_read};
 pub use text_fault::TextFault;

@@ -6,7 +6,8 @@ ghost use Rattle.word_image.specs.Digits.{IsHexDigit, letter_at};
 ghost use Rattle.rule_text.specs.RuleTexts.{IsRuleText, IsTextFault, IsReading, IsDecimal, Table, Number, decimal_value};
 ghost use Rattle.rule_text.specs.Heads.{IsEntries, said_of, said_with};
 
-use crate::digits::{decimal_number, first_stop, write_letters, write_number};
+use crate::decimals::decimal_number;
+use crate::digits::{first_stop, write_letters, write_number};
 use crate::head::{Head, Kind, read_head};
 use crate::text_fault::{TextFault, in_text};
 use word_image::{MOST_ENTRIES, Rule, check_shape};

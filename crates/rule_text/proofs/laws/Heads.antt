@@ -139,7 +139,7 @@ pub Says-unique : {text : List ℕ} {s t : Said} → Says text s → Says text t
 Says-unique {text} {s} {t} f g = elim (parts-Says f) [
   | inl a ↦ elim (parts-Says g) [ inl b ↦ a.1 ∙ sym b.1 | inr b ↦ absurd (no_digits a.0.digits b) ]
   | inr a ↦ elim (parts-Says g) [
-      | inl b ↦ absurd (no_digits b.0.digits a)
-      | inr b ↦ Field-unique (λ k. Field-unique (λ m. Signed-unique (λ o. Kinds-unique))) 0 text s t a b
-    ]
+    | inl b ↦ absurd (no_digits b.0.digits a)
+    | inr b ↦ Field-unique (λ k. Field-unique (λ m. Signed-unique (λ o. Kinds-unique))) 0 text s t a b
+  ]
 ]

@@ -102,9 +102,9 @@ Leads-kind {text} {from} {to} {k} {m} {o} l kd over =
     (λ p y s tells. record { kd = kd; rest = y; parts = refl; tells = tells })
     (λ p y s kinds. Kinds-after kd y kinds)
   where
-  one : (c : Kind) → length (kind_text c) ≡ 1
-  one kind.Table = refl
-  one kind.Number = refl
+    one : (c : Kind) → length (kind_text c) ≡ 1
+    one kind.Table = refl
+    one kind.Number = refl
 
 -- the byte with which a text goes on at a place
 byte_at : (y text : List ℕ) (place : ℕ) → slice_get y 0 ≡ slice_get text place → get_or y 0 0 ≡ get_or text place 0
@@ -117,9 +117,9 @@ end_at y text place same empty = elim (cases_lt place (length text)) [
   | inr end ↦ end
 ]
   where
-  past : (w : List ℕ) → length w ≡ 0 → slice_get w 0 ≡ None
-  past [] e = refl
-  past (b ∷ w) e = absurd (omega arith)
+    past : (w : List ℕ) → length w ≡ 0 → slice_get w 0 ≡ None
+    past [] e = refl
+    past (b ∷ w) e = absurd (omega arith)
 
 -- the fault of a form, by another name
 named : {text : List ℕ} {f : TextFault} {place : ℕ} → f ≡ fault.Form place → IsFormFault IsSaid text place → IsTextFault text f
@@ -161,8 +161,7 @@ Leads-head {text} {from} {k} {m} {z} kd o is leads within =
     let l = subst (λ (y : ℤ). Leads text from (Tells k m y kd)) (sym is) leads in
     let long : length (take from text) ≡ from = length-take-le from text within in
     let says : (y : List ℕ) → IsEntries kd y → Says (take from text ++ y) (saying k m o (entries_of kd y) from) = λ y entries.
-    l.whole y _ (entries, ap (saying k m o (entries_of kd y)) (sym long)) in
-    (
+    l.whole y _ (entries, ap (saying k m o (entries_of kd y)) (sym long)) in (
       λ entries. subst (λ x. Says x (saying k m o (entries_of kd (drop from text)) from)) (take-append-drop from text) (says (drop from text) entries),
       λ n f. IsFormFault-rest text from n within (λ y entries. (_, says y entries)) (λ y said. (l.only y said.0 said.1).0) f,
     )
@@ -189,20 +188,20 @@ IsFormFault-decimal digits n stop =
     let x = take n digits in
     let long : length x ≡ n = length-take-le n digits stop.within in
     IsFormFault-next digits n stop.within (row_with x stop.before (omega (arith, stop.few))) (λ y same d.
-      let whole = length-append x y in
-      let least = d.least in
-      let most = d.most in
-      elim (cases_eq (length y) 0) [
-        | inl none ↦
-            let end = end_at y digits n same none in
-            elim stop.stop [ inl empty ↦ omega (arith, stop.within) | inr other ↦ omega (arith, other.0) ]
-        | inr some ↦
-            let digit : IsDigit (get_or digits n 0) = subst IsDigit (at_seam x y n long ∙ byte_at y digits n same) (d.digits n 0 (omega arith)) in
-            elim stop.stop [
-              | inl empty ↦ let none : get_or digits n 0 ≡ 0 = get_or_past digits n 0 (omega arith) in omega (arith, digit.0)
-              | inr other ↦ elim other.1 [ inl full ↦ omega arith | inr no_digit ↦ no_digit digit ]
-            ]
-      ])
+    let whole = length-append x y in
+    let least = d.least in
+    let most = d.most in
+    elim (cases_eq (length y) 0) [
+      | inl none ↦
+          let end = end_at y digits n same none in
+          elim stop.stop [ inl empty ↦ omega (arith, stop.within) | inr other ↦ omega (arith, other.0) ]
+      | inr some ↦
+          let digit : IsDigit (get_or digits n 0) = subst IsDigit (at_seam x y n long ∙ byte_at y digits n same) (d.digits n 0 (omega arith)) in
+          elim stop.stop [
+            | inl empty ↦ let none : get_or digits n 0 ≡ 0 = get_or_past digits n 0 (omega arith) in omega (arith, digit.0)
+            | inr other ↦ elim other.1 [ inl full ↦ omega arith | inr no_digit ↦ no_digit digit ]
+          ]
+    ])
 
 -- those of a table at the first that is no hexadecimal one
 pub IsFormFault-hex : (digits : List ℕ) (n : ℕ) → IsHexStop digits n → IsFormFault (All IsHexDigit) digits n
@@ -211,10 +210,10 @@ IsFormFault-hex digits n stop =
     let inside = stop.within in
     let long : length x ≡ n = length-take-le n digits (omega arith) in
     IsFormFault-next digits n (omega arith) (record { more = []; whole = All-append IsHexDigit x [] stop.before (All-nil IsHexDigit) }) (λ y same all.
-      elim (cases_eq (length y) 0) [
-        | inl none ↦ omega (arith, end_at y digits n same none)
-        | inr some ↦ stop.stop (subst IsHexDigit (at_seam x y n long ∙ byte_at y digits n same) (all n 0 (omega (arith, length-append x y))))
-      ])
+    elim (cases_eq (length y) 0) [
+      | inl none ↦ omega (arith, end_at y digits n same none)
+      | inr some ↦ stop.stop (subst IsHexDigit (at_seam x y n long ∙ byte_at y digits n same) (all n 0 (omega (arith, length-append x y))))
+    ])
 
 -- a text that begins with no field is of the bare form, or goes wrong where a row of digits does
 pub IsFormFault-bare : (text : List ℕ) (place n : ℕ) → place ≤ length text → LacksField text 0 place → IsFormFault (IsDecimal 1 39) text n → IsFormFault IsSaid text n

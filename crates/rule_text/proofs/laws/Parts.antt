@@ -102,14 +102,17 @@ Field-more {After} more place [] decimal =
     let next = more (decimal_value (48 ∷ [])) (place + 1 + 1) in
     (48 ∷ colon ∷ next.0, next.1, record { digits = 48 ∷ []; rest = next.0; decimal = zero_digit; parts = refl; after = next.2 })
 Field-more {After} more place (b ∷ x) decimal =
-    let next = more (decimal_value (b ∷ x)) (place + length (b ∷ x) + 1) in
-    (colon ∷ next.0, next.1, record {
-      digits = b ∷ x;
-      rest = next.0;
-      decimal = record { digits = decimal.digits; least = omega arith; most = decimal.most };
-      parts = refl;
-      after = next.2;
-    })
+    let next = more (decimal_value (b ∷ x)) (place + length (b ∷ x) + 1) in (
+      colon ∷ next.0,
+      next.1,
+      record {
+        digits = b ∷ x;
+        rest = next.0;
+        decimal = record { digits = decimal.digits; least = omega arith; most = decimal.most };
+        parts = refl;
+        after = next.2;
+      },
+    )
 
 -- a text of fields says one thing where what comes after does
 pub Field-unique : {After : ℕ → ℕ → List ℕ → Said → Type 0} → ((n place : ℕ) (y : List ℕ) (s t : Said) → After n place y s → After n place y t → s ≡ t)
@@ -154,9 +157,9 @@ Signed-lacks {After} {place} {said} minus x y b next decimal longest no_colon un
       | inr (inr other) ↦ begins x decimal (unsigned other.0) other.1
     ]
   where
-  begins : (w : List ℕ) → IsDecimal 0 2 w → (length w ≡ 0 → b ≢ 45) → get_or (w ++ y) 0 0 ≢ 45
-  begins [] few none minus = none refl (sym next ∙ minus)
-  begins (a ∷ w) few none minus = let digit : IsDigit a = few.digits 0 0 (omega arith) in omega (arith, digit.0)
+    begins : (w : List ℕ) → IsDecimal 0 2 w → (length w ≡ 0 → b ≢ 45) → get_or (w ++ y) 0 0 ≢ 45
+    begins [] few none minus = none refl (sym next ∙ minus)
+    begins (a ∷ w) few none minus = let digit : IsDigit a = few.digits 0 0 (omega arith) in omega (arith, digit.0)
 
 -- each sign and row of at most two digits goes on to an offset
 pub Signed-more : {After : ℤ → ℕ → List ℕ → Said → Type 0} → ((z : ℤ) (place : ℕ) → (y : List ℕ) × (s : Said) × After z place y s)
@@ -189,9 +192,9 @@ Kinds-after {k} {m} {place} {o} {said} kd y h =
 pub Kinds-lacks : {k m place : ℕ} {o : ℤ} {said : Said} (y : List ℕ) → IsNoKind (get_or y 0 0) → ¬ Kinds k m o place y said
 Kinds-lacks y none h = first h.kd h.rest h.parts
   where
-  first : (kd : Kind) (rest : List ℕ) → y ≡ kind_text kd ++ rest → ⊥
-  first kind.Table rest p = none.0 (ap (λ x. get_or x 0 0) p)
-  first kind.Number rest p = none.1 (ap (λ x. get_or x 0 0) p)
+    first : (kd : Kind) (rest : List ℕ) → y ≡ kind_text kd ++ rest → ⊥
+    first kind.Table rest p = none.0 (ap (λ x. get_or x 0 0) p)
+    first kind.Number rest p = none.1 (ap (λ x. get_or x 0 0) p)
 
 -- an empty table may come
 pub Kinds-more : (k m : ℕ) (o : ℤ) (place : ℕ) → (y : List ℕ) × (s : Said) × Kinds k m o place y s

@@ -41,10 +41,10 @@ returns-in_err-kind-clause-fault c =
 
 pub returns-clause-head : goal.returns-clause-head
 returns-clause-head c =
+    let fits : FitsSigned w8 c.in_ok-o.o = search rules in
     let k = Leads-states c.in-Ok.ensures.number in
     let m = Leads-field {After = λ j. Signed (λ o. Kinds c.in-Ok.k j o)} k c.in_ok-m.ensures.number in
     let o = Leads-offset {After = λ o. Kinds c.in-Ok.k c.in_ok-m.m o} m c.in_ok-o.ensures.offset in
     let kind = Leads-kind o c.in_ok-kind.kind c.in_ok-kind.ensures.over in
-    let fits : FitsSigned w8 c.in_ok-o.o = search rules in
     let head = Leads-head c.in_ok-kind.kind (to_z w8 (of_z w8 c.in_ok-o.o)) (to_z-of_z w8 c.in_ok-o.o fits) kind c.in_ok-kind.ensures.within in
     record { within = c.in_ok-kind.ensures.within; says = head.0; stops = head.1 }

@@ -11,5 +11,5 @@ returns-clause-gave c =
     let left = c.self.inside.plain in
     let given : n ≡ min (length (take most buf)) (length left) = (let same = c.in_ok-n.ensures.count in cc) in
     let fits : length (take most buf) ≡ most = length-take-le most buf (omega arith) in
-    let front : c.read.new.buf ≡ take n left ++ drop n (take most buf) = c.read.ensures.front ∙ ap (λ (k : ℕ). take k left ++ drop k (take most buf)) (sym given) in
-    ap (λ x. x ++ drop most buf) front ∙ drop-cut n most (take n left) buf (omega arith) ∙ ap (λ feed. take n feed.left ++ drop n buf) c.self.view_is
+    let first : c.read.new.buf ≡ take n left ++ drop n (take most buf) = c.read.ensures.first ∙ ap (λ (k : ℕ). take k left ++ drop k (take most buf)) (sym given) in
+    ap (λ x. x ++ drop most buf) first ∙ drop-cut n most (take n left) buf (omega arith) ∙ ap (λ feed. take n feed.left ++ drop n buf) c.self.view_is

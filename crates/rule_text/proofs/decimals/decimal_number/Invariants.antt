@@ -1,7 +1,7 @@
 use Rattle.std.proofs.Common.{◌^◌, ◌<◌, take}
 use Rattle.std.specs.Option.{SomeIff}
 use Rattle.rule_text.specs.RuleTexts.{decimal_value}
-use Rattle.rule_text.proofs.digits.decimal_number.Given as goal
+use Rattle.rule_text.proofs.decimals.decimal_number.Given as goal
 
 -- the number of the digits so far
 abbrev pub invariant-loop-byte : goal.invariant-loop-byte

@@ -1,7 +1,7 @@
 use Rattle.std.proofs.Common.{take}
 use Rattle.rule_text.specs.RuleTexts.{decimal_value}
 use Rattle.rule_text.proofs.laws.Decimals.{decimal_value-more}
-use Rattle.rule_text.proofs.digits.decimal_number.Goals as goal
+use Rattle.rule_text.proofs.decimals.decimal_number.Goals as goal
 
 pub loop-byte-preserved : goal.loop-byte-preserved
 loop-byte-preserved c =

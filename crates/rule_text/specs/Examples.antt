@@ -1,6 +1,5 @@
--- What the definitions give at some texts.
-use Rattle.std.proofs.Common.{◌≡◌, refl, [], ◌∷◌, pos, negsuc, Some, None, map}
-use Rattle.std.specs.Prelude.{codes}
+-- What some texts say, which the check computes.
+use Rattle.std.specs.Prelude.{◌≡◌, refl, [], ◌∷◌, pos, negsuc, Some, None, map, codes}
 use Rattle.std.specs.Fmt.{digits}
 use Rattle.rule_text.specs.declared.text_fault.TextFault.TheVariants as fault
 use Rattle.word_image.specs.Digits.{letter_at}
