@@ -1,7 +1,10 @@
-//! Decimal numbers.
-ghost use Rattle.std.specs.Prelude.{◌≡◌, ℕ, ◌+◌, ◌*◌, ◌^◌, ◌<◌, All, IsTrue, ◌↔◌};
+//! Decimal numbers, and offsets.
+ghost use Rattle.std.specs.Prelude.{◌≡◌, ℕ, ℤ, ◌+◌, ◌*◌, ◌^◌, ◌<◌, All, IfSome, IsTrue, ◌↔◌};
 ghost use Rattle.std.specs.Option.{SomeIff};
-ghost use Rattle.rule_text.specs.RuleTexts.{IsDigit, IsDecimal, decimal_value};
+ghost use Rattle.rule_text.specs.RuleTexts.{IsDigit, IsDecimal, IsOffset, decimal_value};
+ghost use Rattle.rule_text.specs.Heads.{signed};
+
+use crate::parts::minus;
 
 /// Whether a text is 1 to `most` decimal digits.
 pub fn is_decimal(text: &[u8], most: usize) -> bool
@@ -28,4 +31,28 @@ fn with_digit(number: Option<u128>, digit: u8) -> Option<u128>
         → SomeIff result (n * 10 + digit < 2 ^ 128) (n * 10 + digit) }
 {
     number?.checked_mul(10)?.checked_add(u128::from(digit))
+}
+
+/// The offset that one or two decimal digits name, after a minus sign or none; None for any other
+/// text.
+pub fn decimal_offset(text: &[u8]) -> Option<i8>
+    ensures offset { IfSome result (λ o. IsOffset text.now o) }
+    ensures every { (o : ℤ) → IsOffset text.now o → result ≡ Some o }
+{
+    let (minus, start) = minus(text, 0);
+    let digits = &text[start..];
+    if !is_decimal(digits, 2) {
+        return None;
+    }
+    let number = decimal_number(digits)? as u8;
+    Some(with_sign(minus, number))
+}
+
+/// A number below 100 with a minus sign or none.
+pub fn with_sign(minus: bool, number: u8) -> i8
+    requires { number < 100 }
+    ensures { result ≡ signed minus number }
+{
+    let number = number as i8;
+    if minus { -number } else { number }
 }

@@ -12,9 +12,12 @@
 //! number is the sum over all windows of the letter there times k to the window's value. So `110`,
 //! `2:3:-1:w110` and `2:3:-1:t01110110` are one rule.
 //!
-//! `parse` reads what stands in head of the entries by a small reader, part by part. The entries
-//! are checked for what the head says that they are, and then taken for it. So a call takes
-//! **O(n + k^m)** time for a text of n bytes, and no memory; `print` makes the text of its rule.
+//! What stands before the entries of a text, `K:M:O:` and `t` or `w`, is its head. `parse` reads the
+//! head part by part. It then checks that the entries are what the head says, and takes them for it.
+//! So a call takes **O(n + k^m)** time for a text of n bytes, and no memory; `print` makes the text of
+//! its rule.
+//!
+//! `is_decimal`, `decimal_number` and `decimal_offset` read the decimal operands of commands.
 #![tactic(auto)]
 
 mod decimals;
@@ -25,7 +28,7 @@ mod parts;
 mod printing;
 mod text_fault;
 
-pub use decimals::{decimal_number, is_decimal};
+pub use decimals::{decimal_number, decimal_offset, is_decimal};
 pub use parsing::parse;
 pub use printing::{number, print, printed_text_is_read};
 pub use text_fault::TextFault;

@@ -4,6 +4,7 @@ ghost use Rattle.std.specs.Bool.{OnTrue};
 ghost use Rattle.rule_text.specs.RuleTexts.{IsDigit};
 ghost use Rattle.rule_text.specs.Heads.{GoesOver, GoesOverSmall, GoesOverField, GoesOverOffset, LacksField, LacksOffset, IsFormAt, IsNoKind, kind_text, minus_sign, sign};
 
+use crate::decimals::with_sign;
 use crate::head::Kind;
 use crate::text_fault::TextFault;
 
@@ -33,8 +34,7 @@ pub fn offset(text: &[u8], from: usize) -> Result<(i8, usize), TextFault>
 {
     let (minus, start) = minus(text, from);
     let (number, end) = field(text, start)?;
-    let number = number as i8;
-    Ok((if minus { -number } else { number }, end))
+    Ok((with_sign(minus, number), end))
 }
 
 /// The letter of a kind, and the place after it.
@@ -69,7 +69,7 @@ fn small(text: &[u8], from: usize) -> Option<(u8, usize)>
 }
 
 /// Whether a minus sign comes, and the place after it if one does.
-fn minus(text: &[u8], from: usize) -> (bool, usize)
+pub fn minus(text: &[u8], from: usize) -> (bool, usize)
     requires { from ≤ length text.now }
     ensures over { GoesOver text.now from result.1 (sign result.0) }
     ensures within { result.1 ≤ length text.now }

@@ -1,5 +1,5 @@
-//! Texts with their rules and faults, from outside.
-use super::{TextFault, number, parse, print};
+//! Texts with their rules and faults by hand, from the table of forms in the module's doc.
+use super::{TextFault, decimal_number, decimal_offset, is_decimal, number, parse, print};
 use word_image::Rule;
 
 #[test]
@@ -102,4 +102,43 @@ fn digits_of_both_cases_are_read_and_lower_ones_printed(rt: HostRuntime) {
     let rule = parse(&upper).expect(&rt, "a rule");
     let printed = print(rt.alloc(), &rule).expect(&rt, "memory");
     assert_eq!(rt; printed.as_slice(), lower.as_slice());
+}
+
+#[test]
+fn decimal_operands_are_read(rt: HostRuntime) {
+    let numbers: [(&[u8], usize, Option<u128>); 8] = [
+        (b"0", 1, Some(0)),
+        (b"0042", 4, Some(42)),
+        (b"0042", 3, None),
+        (b"", 3, None),
+        (b"4x", 3, None),
+        (b"-1", 3, None),
+        (
+            b"340282366920938463463374607431768211455",
+            39,
+            Some(u128::MAX),
+        ),
+        (b"340282366920938463463374607431768211456", 39, None),
+    ];
+    for (text, most, wanted) in numbers {
+        let found = if is_decimal(text, most) {
+            decimal_number(text)
+        } else {
+            None
+        };
+        assert_eq!(rt; found, wanted);
+    }
+    let offsets: [(&[u8], Option<i8>); 8] = [
+        (b"0", Some(0)),
+        (b"-0", Some(0)),
+        (b"07", Some(7)),
+        (b"-99", Some(-99)),
+        (b"", None),
+        (b"-", None),
+        (b"+1", None),
+        (b"100", None),
+    ];
+    for (text, wanted) in offsets {
+        assert_eq!(rt; decimal_offset(text), wanted);
+    }
 }

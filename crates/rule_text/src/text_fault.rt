@@ -7,7 +7,7 @@ use word_image::RuleFault;
 /// Why a text is no text of an accepted rule.
 #[derive(Clone, Copy, Debug, PartialEq, Eq)]
 pub enum TextFault {
-    /// The text isn't in the grammar. Its longest head that begins some text of the grammar has
+    /// The text isn't in the grammar. Its longest prefix that begins some text of the grammar has
     /// this length.
     Form(usize),
     /// There are not 2 to 16 states.

@@ -1,6 +1,6 @@
 -- The texts of the grammar by their parts: each is a row of digits, or a head and its entries.
-use Rattle.std.proofs.Common.{◌≡◌, ◌≢◌, ℕ, ◌+◌, ◌<◌, ◌≤◌, ◌⊎◌, inl, inr, Bool, true, false, List, [], ◌∷◌, ◌++◌, length, get_or, refl, sym, ap, ap₂, subst, ◌∙◌, arith, append_assoc, length-append}
-use Rattle.std.specs.Prelude.{All, ℤ, codes}
+use Rattle.std.proofs.Common.{◌≡◌, ◌≢◌, ℕ, ◌+◌, ◌⊎◌, inl, inr, Bool, true, false, List, ◌∷◌, ◌++◌, length, take, drop, get_or, get_or-drop, take-append-drop, refl, sym, ap, ap₂, subst, ◌∙◌, arith, append_assoc, length-append}
+use Rattle.std.specs.Prelude.{All, ℤ}
 use Rattle.std.proofs.lemmas.Bool.{cases_lt}
 use Rattle.std.proofs.lemmas.List.{get_or_past}
 use Rattle.std.proofs.Math.Seq.{get_or-append_seam}
@@ -8,7 +8,7 @@ use Rattle.rule_text.specs.declared.head.Kind.{Kind}
 use Rattle.rule_text.specs.declared.head.Kind.TheVariants as kind
 use Rattle.rule_text.specs.RuleTexts.{IsDigit, IsDecimal, IsOffset, Plain, Minus, Entries, Said, Says, Bare, InTable, InNumber, bare, decimal_value, head}
 use Rattle.rule_text.specs.Heads.{IsEntries, colon, entries_of, kind_text, sign, signed}
-use Rattle.rule_text.proofs.laws.Parts.{Field, Signed, Kinds, AfterStates, saying, Field-unique, Signed-unique, Kinds-unique}
+use Rattle.rule_text.proofs.laws.Parts.{Field, AfterStates, saying, same_signed, Field-unique, Signed-unique, Kinds-unique}
 
 -- the same said with parts that are known by other names
 pub Says-same : {x text : List ℕ} {a b p states width place : ℕ} {z : ℤ} {entries : Entries} → Says x (saying a b z entries p)
@@ -36,6 +36,37 @@ IsSigned-IsOffset (Minus digits d) = record { minus = true; digits = digits; dec
 IsOffset-signed : (minus : Bool) (digits : List ℕ) → IsDecimal 1 2 digits → IsOffset (sign minus ++ digits) (signed minus (decimal_value digits))
 IsOffset-signed true digits d = Minus digits d
 IsOffset-signed false digits d = Plain digits d
+
+-- an offset's text after its sign, or after none where it doesn't begin with one, is digits
+IsOffset-after : (minus : Bool) (digits : List ℕ) (z : ℤ) → (minus ≡ false → get_or digits 0 0 ≢ 45) → IsOffset (sign minus ++ digits) z
+    → IsDecimal 1 2 digits × (signed minus (decimal_value digits) ≡ z)
+IsOffset-after minus digits z plain offset =
+    let p = IsSigned-IsOffset offset in
+    elim (same_signed minus p.minus digits p.digits p.text) [
+      | inl same ↦ (subst (IsDecimal 1 2) (sym same.1) p.decimal, ap₂ (λ (b : Bool) (x : List ℕ). signed b (decimal_value x)) same.0 same.1 ∙ sym p.value)
+      | inr (inl other) ↦
+          let digit : IsDigit (get_or p.digits 0 0) = p.decimal.digits 0 0 (omega (arith, p.decimal.least)) in
+          absurd (omega (arith, digit.0, other.1))
+      | inr (inr other) ↦ absurd (plain other.0 other.1)
+    ]
+
+-- a text by its sign, or none, and what comes after it
+by_sign : (text : List ℕ) (start : ℕ) (minus : Bool) → take start text ≡ sign minus → text ≡ sign minus ++ drop start text
+by_sign text start minus over = sym (take-append-drop start text) ∙ ap (λ x. x ++ drop start text) over
+
+-- digits after a sign or none are an offset
+pub IsOffset-at : (text : List ℕ) (start : ℕ) (minus : Bool) → take start text ≡ sign minus → IsDecimal 1 2 (drop start text)
+    → IsOffset text (signed minus (decimal_value (drop start text)))
+IsOffset-at text start minus over decimal =
+    subst (λ x. IsOffset x (signed minus (decimal_value (drop start text)))) (sym (by_sign text start minus over)) (IsOffset-signed minus (drop start text) decimal)
+
+-- and an offset is nothing else
+pub IsOffset-only : (text : List ℕ) (start : ℕ) (minus : Bool) (z : ℤ) → take start text ≡ sign minus → (minus ≡ false → get_or text start 0 ≢ 45) → IsOffset text z
+    → IsDecimal 1 2 (drop start text) × (signed minus (decimal_value (drop start text)) ≡ z)
+IsOffset-only text start minus z over plain offset =
+    let here : start + 0 ≡ start = omega arith in
+    IsOffset-after minus (drop start text) z (λ none first. plain none (ap (λ i. get_or text i 0) (sym here) ∙ sym (get_or-drop start text 0 0) ∙ first))
+    (subst (λ x. IsOffset x z) (by_sign text start minus over) offset)
 
 -- a head and its entries, part by part
 parts_of : List ℕ → List ℕ → Bool → List ℕ → Kind → List ℕ → List ℕ

@@ -102,24 +102,24 @@ value-reverse_drop-below {r = r} rule few i =
     omega (arith, below, grows, number_limit k r.width r.offset rule.shape (omega arith))
 
 -- the sum over the first windows is the number of the first letters
-sum_by-front : (k : ℕ) (t : List ℕ) (n : ℕ) → n ≤ length t → sum_by (λ v. get_or t v 0 * k ^ v) (range_with_len 0 n) ≡ value k (reverse (take n t))
-sum_by-front k t zero within = refl
-sum_by-front k t (suc n) within =
+sum_by-first : (k : ℕ) (t : List ℕ) (n : ℕ) → n ≤ length t → sum_by (λ v. get_or t v 0 * k ^ v) (range_with_len 0 n) ≡ value k (reverse (take n t))
+sum_by-first k t zero within = refl
+sum_by-first k t (suc n) within =
     let term = λ (v : ℕ). get_or t v 0 * k ^ v in
-    let front = reverse (take n t) in
+    let first = reverse (take n t) in
     let a = get_or t n 0 in
     let more : range_with_len 0 (n + 1) ≡ range_with_len 0 n ++ n ∷ [] =
     sym (map-id (range_with_len 0 (n + 1))) ∙ map-range_with_len_more (λ (v : ℕ). v) 0 n n (zero-add n)
     ∙ ap (λ x. x ++ n ∷ []) (map-id (range_with_len 0 n)) in
-    let long : length front ≡ n = length-reverse (take n t) ∙ length-take-le n t (omega arith) in
-    let turned : reverse (take (suc n) t) ≡ a ∷ front =
+    let long : length first ≡ n = length-reverse (take n t) ∙ length-take-le n t (omega arith) in
+    let backwards : reverse (take (suc n) t) ≡ a ∷ first =
     ap (λ j. reverse (take j t)) (sym (add-one n)) ∙ ap reverse (take_more t n 0 (omega arith)) ∙ reverse-append (take n t) (a ∷ []) in
-    let whole : value k (reverse (take (suc n) t)) ≡ a * k ^ n + value k front = ap (value k) turned ∙ ap (λ j. a * k ^ j + value k front) long in
+    let whole : value k (reverse (take (suc n) t)) ≡ a * k ^ n + value k first = ap (value k) backwards ∙ ap (λ j. a * k ^ j + value k first) long in
     let sum : sum_by term (range_with_len 0 (suc n)) ≡ sum_by term (range_with_len 0 n) + term n =
     ap (λ j. sum_by term (range_with_len 0 j)) (sym (add-one n)) ∙ ap (sum_by term) more ∙ sum_by_push term (range_with_len 0 n) n in
-    omega (arith, sum, whole, sum_by-front k t n (omega arith))
+    omega (arith, sum, whole, sum_by-first k t n (omega arith))
 
 -- the Wolfram number is the number whose digits are the table, the last letter the most significant
 pub wolfram_number-value : {r : LocalRule} → IsRule r → wolfram_number r ≡ value r.states (reverse r.table)
 wolfram_number-value {r = r} rule =
-    sum_by-front r.states r.table (r.states ^ r.width) (omega (arith, rule.entries)) ∙ ap (λ x. value r.states (reverse x)) (take_all (r.states ^ r.width) r.table (omega (arith, rule.entries)))
+    sum_by-first r.states r.table (r.states ^ r.width) (omega (arith, rule.entries)) ∙ ap (λ x. value r.states (reverse x)) (take_all (r.states ^ r.width) r.table (omega (arith, rule.entries)))

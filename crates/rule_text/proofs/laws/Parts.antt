@@ -1,5 +1,5 @@
 -- The grammar of a head part by part: a field, an offset and a kind, and what may come after each.
-use Rattle.std.proofs.Common.{◌≡◌, ◌≢◌, ℕ, ◌+◌, ◌<◌, ◌≤◌, ◌⊎◌, inl, inr, Bool, true, false, List, [], ◌∷◌, ◌++◌, length, drop, get_or, refl, sym, ap, ap₂, subst, ◌∙◌, arith}
+use Rattle.std.proofs.Common.{◌≡◌, ◌≢◌, ℕ, ◌+◌, ◌≤◌, ◌⊎◌, inl, inr, Bool, true, false, List, [], ◌∷◌, ◌++◌, length, drop, get_or, refl, sym, ap, ap₂, subst, ◌∙◌, arith}
 use Rattle.std.specs.Prelude.{All, ℤ, codes}
 use Rattle.std.proofs.lemmas.Bool.{cases_order}
 use Rattle.std.proofs.lemmas.List.{get_or-append-add, get_or_append_left}
@@ -121,7 +121,7 @@ Field-unique {After} unique place x s t f g =
     unique _ _ f.rest s t f.after (Field-after f.digits f.rest f.decimal (subst (λ z. Field After place z t) f.parts g))
 
 -- two texts after a sign or none are one, or one of them begins with a minus sign
-same_signed : (a b : Bool) (y z : List ℕ) → sign a ++ y ≡ sign b ++ z
+pub same_signed : (a b : Bool) (y z : List ℕ) → sign a ++ y ≡ sign b ++ z
     → ((a ≡ b) × (y ≡ z)) ⊎ ((b ≡ false) × (get_or z 0 0 ≡ 45)) ⊎ ((a ≡ false) × (get_or y 0 0 ≡ 45))
 same_signed true true y z p = inl (refl, ap (drop 1) p)
 same_signed true false y z p = inr (inl (refl, ap (λ x. get_or x 0 0) (sym p)))

@@ -96,10 +96,10 @@ IsRuleText-printed r rule =
     let small : All (λ a. a < 16) r.table = All-weaker (λ a. a < r.states) (λ a. a < 16) (λ a h. omega arith) r.table rule.letters in
     let digits : All IsHexDigit (map lower_digit r.table) = All-map IsHexDigit lower_digit r.table (All-weaker (λ a. a < 16) (λ a. IsHexDigit (lower_digit a)) IsHexDigit-lower_digit r.table small) in
     let begin = head (decimal r.states) (decimal r.width) (offset_text r.offset) (codes "t") in
-    let told = InTable (decimal r.states) (decimal r.width) (offset_text r.offset) (map lower_digit r.table) r.offset k.decimal m.decimal
+    let in_table = InTable (decimal r.states) (decimal r.width) (offset_text r.offset) (map lower_digit r.table) r.offset k.decimal m.decimal
     (IsOffset-offset_text r.states r.width r.offset shape) digits in
     let says : Says (printed r) (saying r.states r.width r.offset (Table (map letter_at (map lower_digit r.table))) (length begin)) =
-    Says-same told refl (sym k.value) (sym m.value) refl in
+    Says-same in_table refl (sym k.value) (sym m.value) refl in
     record {
       said = saying r.states r.width r.offset (Table r.table) (length begin);
       says = subst (λ (t : List ℕ). Says (printed r) (saying r.states r.width r.offset (Table t) (length begin))) (letters-lower_digits r.table small) says;

@@ -1,4 +1,4 @@
-use Rattle.std.proofs.Common.{◌≡◌, ℕ, zero-add, subst, sym, arith, rules, FitsSigned, w8, to_z, of_z}
+use Rattle.std.proofs.Common.{ℕ, zero-add, subst, sym, arith, rules, FitsSigned, w8, to_z, of_z}
 use Rattle.std.proofs.lemmas.Int.{to_z-of_z}
 use Rattle.word_image.specs.Grammars.{IsFormFault}
 use Rattle.rule_text.specs.RuleTexts.{IsSaid, IsTextFault, Bare}
