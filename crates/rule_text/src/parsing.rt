@@ -12,6 +12,9 @@ use crate::head::{Head, Kind, read_head};
 use crate::text_fault::{TextFault, in_text};
 use word_image::{MOST_ENTRIES, Rule, check_shape};
 
+/// The most states of a rule that has a number.
+const MOST_STATES: u8 = 6;
+
 /// The rule that a text says; else the text's first fault, in the order of `TextFault`.
 pub fn parse(text: &[u8]) -> Result<Rule, TextFault>
     ensures rule { IfOk result (λ r. IsRuleText text.now r) }
@@ -69,7 +72,7 @@ fn accept_number(head: &Head, digits: &[u8]) -> Result<Rule, TextFault>
     requires digits { IsDecimal 1 39 digits.now }
     ensures { IsReading (said_with head.now (Number (decimal_value digits.now))) result }
 {
-    if head.k > 6 {
+    if head.k > MOST_STATES {
         return Err(TextFault::Kind);
     }
     let Some(number) = decimal_number(digits) else {

@@ -17,8 +17,8 @@ not_below n v p q same limit none = elim (cases_lt n p) [ inl below ↦ absurd (
 pub returns-in_default : goal.returns-in_default
 returns-in_default c =
     let f = c.args.head.now in
-    let limit = number_limit f.k f.m f.o c.requires.shape c.if-head-gt6.false in
-    fault_of-beyond f.k f.m f.o f.place _ c.requires.shape c.if-head-gt6.false (omega (arith, c.in_default.ensures))
+    let limit = number_limit f.k f.m f.o c.requires.shape c.if-head-gt-MOST_STATES.false in
+    fault_of-beyond f.k f.m f.o f.place _ c.requires.shape c.if-head-gt-MOST_STATES.false (omega (arith, c.in_default.ensures))
 
 pub returns-then-not-write_number : goal.returns-then-not-write_number
 returns-then-not-write_number c =
@@ -27,7 +27,7 @@ returns-then-not-write_number c =
     let size : c.pow-size.result ≡ f.k ^ f.m = search rules in
     let long = part_long c.pow-size.result (f.k ^ f.m) _ refl size (window_count-le f.k f.m f.o c.requires.shape) in
     let beyond = not_below _ _ _ _ c.in-Some.ensures.1 (ap (λ j. f.k ^ j) long) (λ below. false≢true (e.fits.1 below)) in
-    fault_of-beyond f.k f.m f.o f.place _ c.requires.shape c.if-head-gt6.false beyond
+    fault_of-beyond f.k f.m f.o f.place _ c.requires.shape c.if-head-gt-MOST_STATES.false beyond
 
 pub unreachable-requires : goal.unreachable-requires
 unreachable-requires c =
