@@ -51,9 +51,9 @@ IsFormFault-next {IsText} text place within begins none =
     let b = get_or text place 0 in
     IsFormFault-stuck text place within begins
     (λ more longer.
-      let cut : take (place + 1) text ++ longer.more ≡ take place text ++ b ∷ longer.more =
-      ap (λ x. x ++ longer.more) (take_more text place 0 more) ∙ append_assoc (take place text) (b ∷ []) longer.more in
-      none (b ∷ longer.more) (sym (slice_get-get_or text place 0 more)) (subst IsText cut longer.whole))
+    let cut : take (place + 1) text ++ longer.more ≡ take place text ++ b ∷ longer.more =
+    ap (λ x. x ++ longer.more) (take_more text place 0 more) ∙ append_assoc (take place text) (b ∷ []) longer.more in
+    none (b ∷ longer.more) (sym (slice_get-get_or text place 0 more)) (subst IsText cut longer.whole))
     (λ end whole. none [] (sym (slice_get_past text place end)) (subst IsText (sym (append-nil (take place text) ∙ take_all place text end)) whole))
 
 -- where the rest of a text goes wrong, the text does
