@@ -24,7 +24,7 @@ use Rattle.tail_laws.proofs.TwoLoops.{pair_at-loop, has_twins-loops}
 use Rattle.tail_laws.proofs.NoTwins.{HasTwins}
 
 -- the letters of a walk of n steps from the nodes u and v to the nodes s and t
-pub record IsLetterWalk (r : LocalRule) (u v n s t : ℕ) : Type 0 where
+record IsLetterWalk (r : LocalRule) (u v n s t : ℕ) : Type 0 where
   pub a : List ℕ
   pub b : List ℕ
   pub a_word : IsWord r.states a
@@ -34,7 +34,7 @@ pub record IsLetterWalk (r : LocalRule) (u v n s t : ℕ) : Type 0 where
   pub leads : PairLeads r (pair_of r u v) (zip a b) (pair_of r s t)
 
 -- a walk has letters
-pub IsLetterWalk-walk : {r : LocalRule} {u v n s t : ℕ} → IsRule r → LeadTogether r u v n s t → IsLetterWalk r u v n s t
+IsLetterWalk-walk : {r : LocalRule} {u v n s t : ℕ} → IsRule r → LeadTogether r u v n s t → IsLetterWalk r u v n s t
 IsLetterWalk-walk {r} {u} {v} {n} {s} {t} rule h =
     let m : ℕ = r.width - 1 in
     record {
@@ -120,11 +120,11 @@ has_twins-both_ways {r} {u} {v} rule other back on =
     let reach : PairLeads r (pair_of r from.s from.t) (zip (way.a ++ out.a) (way.b ++ out.b)) (pair_of r to.s to.t) =
     subst (λ ab. PairLeads r (pair_of r from.s from.t) ab (pair_of r to.s to.t)) (sym (zip-append way.a out.a way.b out.b ins))
     (Follows-join (follow r) (zip way.a way.b) (zip out.a out.b) (pair_of r from.s from.t) (pair_of r u v) (pair_of r to.s to.t) way.leads out.leads) in
-    let front : (t : TailConfig) (a c : List ℕ) → t.middle ≡ a ++ c → length a ≡ from.k → cells t (pos 0) from.k ≡ a = λ t a c e long.
+    let prefix : (t : TailConfig) (a c : List ℕ) → t.middle ≡ a ++ c → length a ≡ from.k → cells t (pos 0) from.k ≡ a = λ t a c e long.
     sym (take-cells t (pos 0) (length t.middle) from.k (omega (arith, ap length e, length-append a c))) ∙ ap (take from.k) (cells-middle t ∙ e) ∙ take_at a c from.k long in
     let inside : PairLeads r (pair_at r x y (pos 0)) (zip (cells x (pos 0) from.k) (cells y (pos 0) from.k)) (pair_of r u v) =
     subst₂ (λ p ab. PairLeads r p ab (pair_of r u v)) (sym (pair_at-loop rule hx hy lefts from.s from.t start.0 start.1 before.leads))
-    (sym (ap₂ (λ (a b : List ℕ). zip a b) (front x way.a out.a refl way.a_long) (front y way.b out.b refl way.b_long))) way.leads in
+    (sym (ap₂ (λ (a b : List ℕ). zip a b) (prefix x way.a out.a refl way.a_long) (prefix y way.b out.b refl way.b_long))) way.leads in
     let there = cells-PairLeads rule hx hy from.k (pos 0) (pos from.k) (pair_of r u v) (omega (arith, ints)) inside in
     has_twins-loops rule hx hy lefts middles (after.a_long ∙ sym after.b_long) from.s from.t (pair_of r to.s to.t) start.0 start.1 before.leads reach after.leads
     (Different-nodes rule hx hy (pos from.k) u v nodes.1 other there.1)

@@ -13,7 +13,8 @@ use Rattle.word_image.proofs.laws.Graphs.{node_count_pos}
 use Rattle.tail_config.specs.Tails.{TailConfig, IsTail}
 use Rattle.tail_config.specs.Splits.{IsNormalRightSplit}
 use Rattle.tail_config.proofs.laws.Cells.{IsWord-zero}
-use Rattle.tail_laws.proofs.PairLeads.{PairLeads, Follows-join, follow-equal}
+use Rattle.pair_laws.proofs.Pairs.{follow-pair_of}
+use Rattle.tail_laws.proofs.PairLeads.{PairLeads, Follows-join}
 use Rattle.tail_laws.proofs.WordWalks.{PairLeads-words, zip-append}
 use Rattle.tail_laws.proofs.Settled.{IsNormalRightSplit-walk}
 
@@ -77,7 +78,7 @@ normal_split-loop {r} {p} rule f w =
     let twice : ℕ = pair_of r f.node f.node in
     let none : pair_of r 0 0 ≡ 0 = omega arith in
     let there : PairLeads r 0 (zip z z) twice = subst (λ q. PairLeads r q (zip z z) twice) none (PairLeads-diagonal rule 0 f.node (node_count_pos rule) f.in_nodes) in
-    let step : follow r twice f.a f.b ≡ Some p = follow-equal r f.node f.node f.a f.b f.in_nodes f.one_label ∙ ap (λ q. Some q) (sym f.pair) in
+    let step : follow r twice f.a f.b ≡ Some p = follow-pair_of r f.node f.node f.a f.b f.in_nodes f.one_label ∙ ap (λ q. Some q) (sym f.pair) in
     let whole : PairLeads r 0 (zip z z ++ (f.a, f.b) ∷ zip w.first w.second) w.pair = Follows-join (follow r) (zip z z) ((f.a, f.b) ∷ zip w.first w.second) 0 twice w.pair there (p, step, w.reach) in
     let letter : (a : ℕ) (walk : List ℕ) → get_or (z ++ a ∷ walk) m 0 ≡ a = λ a walk. get_or_at z a walk 0 m long in
     IsNormalRightSplit-walk rule (record {

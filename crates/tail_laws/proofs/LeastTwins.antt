@@ -62,7 +62,7 @@ turn-some {r} rule p [] turn =
 turn-some rule p (ab ∷ w) turn = omega arith
 
 -- the least walk of the pair n is the first up to n if it comes after no walk before
-pub IsFirstTurn-least : {r : LocalRule} {n : ℕ} {u : List (ℕ × ℕ)} → IsRule r → IsLeastTurn r n u
+IsFirstTurn-least : {r : LocalRule} {n : ℕ} {u : List (ℕ × ℕ)} → IsRule r → IsLeastTurn r n u
     → ((p : ℕ) (v : List (ℕ × ℕ)) → p < n → IsTurn r p v → pairs_cmp u v ≢ Greater) → IsFirstTurn r (n + 1) u
 IsFirstTurn-least {r} {n} {u} rule first before = record {
   pair = n;

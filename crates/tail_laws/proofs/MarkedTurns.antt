@@ -23,7 +23,7 @@ pub marked-below : {r : LocalRule} → IsRule r → (t a b s : ℕ) → marked r
 marked-below {r} rule t a b s e = let step = follow-marked rule t a b s e in omega (arith, step.2, step.3, mark-below (pair_count r) t a b)
 
 -- letter pairs below k are made of two words over k letters
-pub IsWord-zip : (k : ℕ) (x y : List ℕ) → length x ≡ length y → ArePairs k (zip x y) → IsWord k x × IsWord k y
+IsWord-zip : (k : ℕ) (x y : List ℕ) → length x ≡ length y → ArePairs k (zip x y) → IsWord k x × IsWord k y
 IsWord-zip k [] [] e h = (All-nil (λ c. c < k), All-nil (λ c. c < k))
 IsWord-zip k [] (b ∷ y) e h = absurd (omega arith)
 IsWord-zip k (a ∷ x) [] e h = absurd (omega arith)

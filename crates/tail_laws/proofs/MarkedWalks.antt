@@ -5,10 +5,10 @@ use Rattle.std.specs.List.{zip}
 use Rattle.std.proofs.Math.Nat.{add-mod_right}
 use Rattle.std.proofs.lemmas.Bool.{cases_lt, cases_eq}
 use Rattle.std.proofs.lemmas.Bool.Decides.{nat_tests}
-use Rattle.std.proofs.lemmas.Nat.{mul-add-lt}
-use Rattle.word_image.specs.LocalRules.{LocalRule, IsRule, node_count}
+use Rattle.word_image.specs.LocalRules.{LocalRule, IsRule}
 use Rattle.word_image.specs.Graphs.{next, label, pair_of, first_of, second_of, follow, pair_count, marked}
 use Rattle.word_image.proofs.laws.Graphs.{next-below}
+use Rattle.pair_laws.proofs.Pairs.{pair_of-below}
 use Rattle.tail_laws.proofs.PairLeads.{Follows, PairLeads}
 
 -- from state t of the marked graph along a list of letter pairs to state s
@@ -52,12 +52,8 @@ some_same : (m n : ℕ) → Some m ≡ Some n → m ≡ n
 some_same m n e = grind arith
 
 -- a step of the marked graph is a step of the pair, and adds the mark
-pub marked-follow : (r : LocalRule) (t a b q : ℕ) → follow r (t % pair_count r) a b ≡ Some q → marked r t a b ≡ Some (q + mark r t a b)
+marked-follow : (r : LocalRule) (t a b q : ℕ) → follow r (t % pair_count r) a b ≡ Some q → marked r t a b ≡ Some (q + mark r t a b)
 marked-follow r t a b q e = marked_value _ _ _ (mark r t a b) q e
-
--- what follows a pair is a pair
-follow-below : {r : LocalRule} → IsRule r → (p a b : ℕ) → pair_of r (next r (first_of r p) a) (next r (second_of r p) b) < pair_count r
-follow-below {r} rule p a b = mul-add-lt (next r (first_of r p) a) (node_count r) (next r (second_of r p) b) (node_count r) (next-below rule (first_of r p) a) (next-below rule (second_of r p) b)
 
 -- and nothing else is one
 pub follow-marked : {r : LocalRule} → IsRule r → (t a b s : ℕ) → marked r t a b ≡ Some s → (q : ℕ) × (follow r (t % pair_count r) a b ≡ Some q) × (q < pair_count r) × (s ≡ q + mark r t a b)
@@ -65,7 +61,7 @@ follow-marked {r} rule t a b s e =
     let p : ℕ = t % pair_count r in
     let q : ℕ = pair_of r (next r (first_of r p) a) (next r (second_of r p) b) in
     let both = value_marked (label r (first_of r p) a) (label r (second_of r p) b) q (mark r t a b) s e in
-    (q, both.0, follow-below rule p a b, both.1)
+    (q, both.0, pair_of-below r _ _ (next-below rule (first_of r p) a) (next-below rule (second_of r p) b), both.1)
 
 -- a mark is kept
 mark_kept : (p t a b : ℕ) → p ≤ t → (if nat_le p t || not (a == b) then p else 0) ≡ p
@@ -79,12 +75,12 @@ mark_set p t a b n = grind (arith, nat_tests)
 mark_none : (p t a b : ℕ) → t < p → a ≡ b → (if nat_le p t || not (a == b) then p else 0) ≡ 0
 mark_none p t a b l e = grind (arith, nat_tests)
 
--- the state behind a step is the pair, and has the mark exactly if the state before it has or the letters differ
+-- the state after a step is the pair, and has the mark exactly if the state before it has or the letters differ
 record IsMarked (r : LocalRule) (t a b s q : ℕ) : Type 0 where
   pub pair : s % pair_count r ≡ q
   pub mark : (pair_count r ≤ s) ↔ ((pair_count r ≤ t) ⊎ (a ≢ b))
 
--- so is each state behind a step
+-- so is each state after a step
 marked_step : (r : LocalRule) (t a b q : ℕ) → q < pair_count r → IsMarked r t a b (q + mark r t a b) q
 marked_step r t a b q h =
     let p : ℕ = pair_count r in

@@ -117,7 +117,7 @@ record HaveEqualEnds (x y : TailConfig) (i : ℤ) (n d : ℕ) : Type 0 where
   pub first : (a : ℕ) → a < d → cell x (i +ℤ pos a) ≡ cell y (i +ℤ pos a)
   pub last : (a : ℕ) → a < n → n ≤ a + d → cell x (i +ℤ pos a) ≡ cell y (i +ℤ pos a)
 
--- behind its n places a ring begins again
+-- after its n places a ring begins again
 cell-seam : (t : TailConfig) (i : ℤ) (n a : ℕ) → n ≤ a → a < n + n → cell (round (cells t i n)) (pos a) ≡ cell t (i +ℤ pos (a - n))
 cell-seam t i n a low high =
     let w : List ℕ = cells t i n in
@@ -125,7 +125,7 @@ cell-seam t i n a low high =
     let place : pos a ≡ pos (a - n) +ℤ pos (length w) = omega (arith, ints) in
     ap (cell (round w)) place ∙ cell-round_period w (omega arith) (pos (a - n)) ∙ cell-run t i n (a - n) (omega arith)
 
--- the rings of such runs are equal on the d places before and the d places behind the seam
+-- the rings of such runs are equal on the d places before and the d places after the seam
 seam_cells : (x y : TailConfig) (i : ℤ) (n d : ℕ) → HaveEqualEnds x y i n d → (a : ℕ) → n ≤ a + d → a < n + d → cell (round (cells x i n)) (pos a) ≡ cell (round (cells y i n)) (pos a)
 seam_cells x y i n d ends a low high =
     let long : d ≤ n = ends.long in

@@ -1,14 +1,14 @@
 -- Two configurations in step, as a walk in the graph of pairs of nodes.
-use Rattle.std.proofs.Common.{◌≡◌, ℕ, zero, suc, ◌+◌, ◌-◌, ◌<◌, List, [], ◌∷◌, ◌++◌, length, ℤ, pos, ◌+ℤ◌, Option, Some, None, if◌then◌else◌, ◌==◌, refl, sym, ap, ap₂, ◌∙◌, subst, subst₂, ⊎_elim, arith}
+use Rattle.std.proofs.Common.{◌≡◌, ℕ, zero, suc, ◌+◌, ◌-◌, ◌<◌, List, [], ◌∷◌, ◌++◌, length, ℤ, pos, ◌+ℤ◌, Option, Some, refl, sym, ap, ap₂, ◌∙◌, subst, subst₂, ⊎_elim, arith}
 use Rattle.std.specs.List.{zip}
 use Rattle.std.proofs.lemmas.Bool.{cases_lt}
-use Rattle.std.proofs.lemmas.Bool.Decides.{nat_tests}
-use Rattle.std.proofs.lemmas.Nat.{div-mul-add, mod-mul-add, same_from_place}
+use Rattle.std.proofs.lemmas.Nat.{same_from_place}
 use Rattle.std.proofs.lemmas.Int.{ints}
 use Rattle.word_image.specs.LocalRules.{LocalRule, IsRule, node_count}
-use Rattle.word_image.specs.Graphs.{next, label, pair_of, first_of, second_of, follow}
+use Rattle.word_image.specs.Graphs.{next, label, pair_of, follow}
 use Rattle.tail_config.specs.Tails.{TailConfig, IsTail, ShareImage, cell, cells}
 use Rattle.tail_config.proofs.laws.Cells.{cells-cons, cells-middle, cells-right, same_left_part}
+use Rattle.pair_laws.proofs.Pairs.{first_of-pair_of, second_of-pair_of, follow-pair_of, follow-some}
 use Rattle.tail_laws.proofs.Nodes.{node_at, label_at, node_at-below, label-node_at, next-node_at, labels-ShareImage}
 use Rattle.tail_laws.proofs.Loops.{IsLooped, IsInStep, labels-left, ShareImage-in_step}
 
@@ -31,23 +31,9 @@ pub Follows-cut : (go : ℕ → ℕ → ℕ → Option ℕ) (a b : List (ℕ × 
 Follows-cut go [] b p q h = (p, refl, h)
 Follows-cut go (ab ∷ rest) b p q h = let cut = Follows-cut go rest b h.0 q h.2 in (cut.0, (h.0, h.1, cut.1), cut.2)
 
--- a value that stands under a test is there only if the test holds
-if_some : (c d s t : ℕ) → (if c == d then Some s else None) ≡ Some t → (c ≡ d) × (s ≡ t)
-if_some c d s t e = (grind (arith, nat_tests), grind (arith, nat_tests))
-
--- a step from a pair of nodes with two equal labels
-pub follow-equal : (r : LocalRule) (u v a b : ℕ) → v < node_count r → label r u a ≡ label r v b → follow r (pair_of r u v) a b ≡ Some (pair_of r (next r u a) (next r v b))
-follow-equal r u v a b h e =
-    let first : first_of r (pair_of r u v) ≡ u = div-mul-add u (node_count r) v h in
-    let second : second_of r (pair_of r u v) ≡ v = mod-mul-add u (node_count r) v h in
-    rw (first, second) (grind (arith, nat_tests))
-
 -- a step from a pair of nodes has two equal labels, and this is where it leads
-pub follow-back : (r : LocalRule) (u v a b s : ℕ) → v < node_count r → follow r (pair_of r u v) a b ≡ Some s → (label r u a ≡ label r v b) × (pair_of r (next r u a) (next r v b) ≡ s)
-follow-back r u v a b s h e =
-    let first : first_of r (pair_of r u v) ≡ u = div-mul-add u (node_count r) v h in
-    let second : second_of r (pair_of r u v) ≡ v = mod-mul-add u (node_count r) v h in
-    if_some (label r u a) (label r v b) (pair_of r (next r u a) (next r v b)) s (rw (first, second) at e)
+follow-back : (r : LocalRule) (u v a b s : ℕ) → v < node_count r → follow r (pair_of r u v) a b ≡ Some s → (label r u a ≡ label r v b) × (pair_of r (next r u a) (next r v b) ≡ s)
+follow-back r u v a b s h e = rw (first_of-pair_of r u v h, second_of-pair_of r u v h) at (follow-some r (pair_of r u v) a b s e)
 
 -- the pair of the nodes before place i
 abbrev pub pair_at : LocalRule → TailConfig → TailConfig → ℤ → ℕ
@@ -57,7 +43,7 @@ pair_at r x y i = pair_of r (node_at r x i) (node_at r y i)
 step_over : {r : LocalRule} {x y : TailConfig} → IsRule r → IsTail r.states x → IsTail r.states y → (i : ℤ) → label_at r x i ≡ label_at r y i
     → follow r (pair_at r x y i) (cell x i) (cell y i) ≡ Some (pair_at r x y (i +ℤ pos 1))
 step_over {r} {x} {y} rule hx hy i e =
-    follow-equal r (node_at r x i) (node_at r y i) (cell x i) (cell y i) (node_at-below rule hy i) (label-node_at rule x i ∙ e ∙ sym (label-node_at rule y i))
+    follow-pair_of r (node_at r x i) (node_at r y i) (cell x i) (cell y i) (node_at-below rule hy i) (label-node_at rule x i ∙ e ∙ sym (label-node_at rule y i))
     ∙ ap₂ (λ u v. Some (pair_of r u v)) (next-node_at rule hx i) (next-node_at rule hy i)
 
 -- and a step over a place has equal labels, and leads there
@@ -71,7 +57,7 @@ over_step {r} {x} {y} rule hx hy i s e =
 zip-cells : (x y : TailConfig) (i : ℤ) (n : ℕ) → zip (cells x i (suc n)) (cells y i (suc n)) ≡ (cell x i, cell y i) ∷ zip (cells x (i +ℤ pos 1) n) (cells y (i +ℤ pos 1) n)
 zip-cells x y i n = ap₂ (λ (u v : List ℕ). zip u v) (cells-cons x i n) (cells-cons y i n)
 
--- two runs whose labels are equal lead from the pair before them to the pair behind them
+-- two runs whose labels are equal lead from the pair before them to the pair after them
 pub PairLeads-cells : {r : LocalRule} {x y : TailConfig} → IsRule r → IsTail r.states x → IsTail r.states y → (n : ℕ) (i j : ℤ) → i +ℤ pos n ≡ j
     → ((d : ℕ) → d < n → label_at r x (i +ℤ pos d) ≡ label_at r y (i +ℤ pos d)) → PairLeads r (pair_at r x y i) (zip (cells x i n) (cells y i n)) (pair_at r x y j)
 PairLeads-cells {r} {x} {y} rule hx hy zero i j e h = ap (pair_at r x y) (let place : i ≡ j = omega (arith, ints) in place)
@@ -84,12 +70,12 @@ PairLeads-cells {r} {x} {y} rule hx hy (suc n) i j e h =
     subst (λ abs. PairLeads r (pair_at r x y i) abs (pair_at r x y j)) (sym (zip-cells x y i n))
     (pair_at r x y (i +ℤ pos 1), step_over rule hx hy i (subst (λ p. label_at r x p ≡ label_at r y p) here (h 0 (omega arith))), rest)
 
--- what holds at a place and at n places behind it holds at n + 1 places
+-- what holds at a place and at the n places after it holds at n + 1 places
 at_places : (P : ℤ → Type 0) (i : ℤ) (n : ℕ) → P i → ((d : ℕ) → d < n → P (i +ℤ pos 1 +ℤ pos d)) → (d : ℕ) → d < suc n → P (i +ℤ pos d)
 at_places P i n here after zero l = subst P (let place : i ≡ i +ℤ pos 0 = omega (arith, ints) in place) here
 at_places P i n here after (suc d) l = subst P (let place : i +ℤ pos 1 +ℤ pos d ≡ i +ℤ pos (suc d) = omega (arith, ints) in place) (after d (omega arith))
 
--- and where two runs lead, their labels are equal, and it is to the pair behind them
+-- and where two runs lead, their labels are equal, and it is to the pair after them
 pub cells-PairLeads : {r : LocalRule} {x y : TailConfig} → IsRule r → IsTail r.states x → IsTail r.states y → (n : ℕ) (i j : ℤ) (q : ℕ) → i +ℤ pos n ≡ j
     → PairLeads r (pair_at r x y i) (zip (cells x i n) (cells y i n)) q → ((d : ℕ) → d < n → label_at r x (i +ℤ pos d) ≡ label_at r y (i +ℤ pos d)) × (pair_at r x y j ≡ q)
 cells-PairLeads {r} {x} {y} rule hx hy zero i j q e h = (λ d l. absurd (omega arith), ap (pair_at r x y) (let place : j ≡ i = omega (arith, ints) in place) ∙ h)

@@ -24,27 +24,37 @@ Follows-below step (ab ∷ bc ∷ w) p q some h = Follows-below step (bc ∷ w) 
 pairs_cmp-longer : (v w : List (ℕ × ℕ)) → length v < length w → pairs_cmp w v ≡ Greater
 pairs_cmp-longer v w l = ap (λ (o : Ordering). ordering_then o (slice_cmp pair_cmp w v)) (sym (nat_cmp_is (length w) (length v) Greater l))
 
+-- a walk after its first i steps
+record IsCut (go : ℕ → ℕ → ℕ → Option ℕ) (w : List (ℕ × ℕ)) (p q i : ℕ) : Type 0 where
+  state : ℕ
+  before : Follows go p (take i w) state
+  after : Follows go state (drop i w) q
+
+-- it is at some state
+cut_at : (go : ℕ → ℕ → ℕ → Option ℕ) (w : List (ℕ × ℕ)) (p q : ℕ) → Follows go p w q → (i : ℕ) → IsCut go w p q i
+cut_at go w p q h i =
+    let cut = Follows-cut go (take i w) (drop i w) p q (subst (λ v. Follows go p v q) (sym (take-append-drop i w)) h) in
+    record { state = cut.0; before = cut.1; after = cut.2 }
+
 -- so a least walk has at most n steps
 pub length-IsLeastWalk : {go : ℕ → ℕ → ℕ → Option ℕ} {k start t n : ℕ} {w : List (ℕ × ℕ)} → ((s a b u : ℕ) → go s a b ≡ Some u → u < n) → IsLeastWalk go k start t w → length w ≤ n
 length-IsLeastWalk {go} {k} {start} {t} {n} {w} step first =
     let Small : ℕ × ℕ → Type 0 = λ p. (p.0 < k) × (p.1 < k) in
     let small : ArePairs k w = ArePairs-walk k (omega arith) first.walk in
-    let cut = λ (i : ℕ). Follows-cut go (take i w) (drop i w) start t (subst (λ v. Follows go start v t) (sym (take-append-drop i w)) (Follows-walk first.walk)) in
+    let cut : (i : ℕ) → IsCut go w start t i = cut_at go w start t (Follows-walk first.walk) in
     ⊎_elim
     (λ long.
-    let twice = twice_below n (λ i. (cut (i + 1)).0) (λ i l. Follows-below step (take (i + 1) w) start (cut (i + 1)).0 (omega (arith, length-take-le (i + 1) w (omega arith))) (cut (i + 1)).1) in
+    let twice = twice_below n (λ i. (cut (i + 1)).state) (λ i l. Follows-below step (take (i + 1) w) start (cut (i + 1)).state (omega (arith, length-take-le (i + 1) w (omega arith))) (cut (i + 1)).before) in
     let i : ℕ = twice.0 + 1 in
     let j : ℕ = twice.1 + 1 in
     let earlier : i < j = omega (arith, twice.2) in
     let inside : j ≤ length w = omega (arith, twice.3) in
     let v : List (ℕ × ℕ) = take i w ++ drop j w in
     let shorter : length v + j ≡ i + length w = omega (arith, length-append (take i w) (drop j w), length-take-le i w (omega arith), length-drop j w) in
-    let there : ℕ = (cut i).0 in
-    let again : ℕ = (cut j).0 in
-    let same : again ≡ there = sym twice.4 in
-    let walk : Follows go start v t = Follows-join go (take i w) (drop j w) start there t (cut i).1 (subst (λ s. Follows go s (drop j w) t) same (cut j).2) in
+    let again : Follows go (cut i).state (drop j w) t = subst (λ s. Follows go s (drop j w) t) (sym twice.4) (cut j).after in
     absurd (first.least v (omega arith)
-    (PairWalk-follows go k start v t (All-append Small (take i w) (drop j w) (All-take Small i w small) (All-drop Small j w small)) walk)
+    (PairWalk-follows go k start v t (All-append Small (take i w) (drop j w) (All-take Small i w small) (All-drop Small j w small))
+    (Follows-join go (take i w) (drop j w) start (cut i).state t (cut i).before again))
     (pairs_cmp-longer v w (omega arith))))
     (λ l. l)
     (cases_lt n (length w))

@@ -109,7 +109,7 @@ node_at-round r p some =
     ap (cell (round p)) place ∙ cell-round_period p some (pos 0 -ℤ pos m +ℤ pos a)))
 
 -- and two rings whose configurations share an image are a closed walk of pairs
-pub loop-ShareImage : {r : LocalRule} {x y : List ℕ} → IsRule r → IsRing r.states x → IsRing r.states y → length x ≡ length y → ShareImage r (round x) (round y)
+loop-ShareImage : {r : LocalRule} {x y : List ℕ} → IsRule r → IsRing r.states x → IsRing r.states y → length x ≡ length y → ShareImage r (round x) (round y)
     → PairLeads r (pair_at r (round x) (round y) (pos 0)) (zip x y) (pair_at r (round x) (round y) (pos 0))
 loop-ShareImage {r} {x} {y} rule hx hy long share =
     let first : IsTail r.states (round x) = IsTail-round hx in

@@ -32,7 +32,7 @@ pair_at-loop {r} {x} {y} rule hx hy lefts u v hu hv before =
     ap₂ (pair_of r) (node_at-left r x) (node_at-left r y) ∙ loop_nodes rule (IsRing-left hx) (IsRing-left hy) lefts u v hu hv before
 
 -- left periods that lead from a pair back to it, middles that lead from there to a pair, and right periods that lead from that back to it: these share an image
-pub ShareImage-loops : {r : LocalRule} {x y : TailConfig} → IsRule r → IsTail r.states x → IsTail r.states y
+ShareImage-loops : {r : LocalRule} {x y : TailConfig} → IsRule r → IsTail r.states x → IsTail r.states y
     → length x.left ≡ length y.left → length x.middle ≡ length y.middle → length x.right ≡ length y.right → (u v q : ℕ) → u < node_count r → v < node_count r
     → PairLeads r (pair_of r u v) (zip x.left y.left) (pair_of r u v) → PairLeads r (pair_of r u v) (zip x.middle y.middle) q → PairLeads r q (zip x.right y.right) q → ShareImage r x y
 ShareImage-loops {r} {x} {y} rule hx hy lefts middles rights u v q hu hv before reach after =

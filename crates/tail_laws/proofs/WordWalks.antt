@@ -7,11 +7,11 @@ use Rattle.word_image.specs.Words.{image}
 use Rattle.word_image.specs.Windows.{HaveOneImage}
 use Rattle.word_image.specs.Graphs.{pair_of}
 use Rattle.tail_config.specs.Tails.{TailConfig, IsTail, cells, image_cell}
-use Rattle.tail_config.proofs.laws.Cells.{IsWord-zero, cells-middle, take-cells, drop-cells, image_cells, image-cells, image_cells-same, same-image_cells, HaveOneImage-cells}
+use Rattle.tail_config.proofs.laws.Cells.{IsWord-zero, cells-middle, take-cells, drop-cells, image_cells, image-cells, same-image_cells}
 use Rattle.tail_laws.proofs.Nodes.{node_at, label_at, image_cell-label}
-use Rattle.tail_laws.proofs.PairLeads.{PairLeads, pair_at, PairLeads-cells, cells-PairLeads}
+use Rattle.tail_laws.proofs.PairLeads.{PairLeads, pair_at, PairLeads-cells}
 
--- the letter pairs of two words are those of their fronts and those of their rests
+-- the letter pairs of two words in a row are those of the first parts and then those of the second
 pub zip-append : (a b c d : List ℕ) → length a ≡ length c → zip (a ++ b) (c ++ d) ≡ zip a c ++ zip b d
 zip-append [] b [] d e = refl
 zip-append [] b (v ∷ c) d e = absurd (omega arith)
@@ -30,35 +30,35 @@ IsTail-inside_zeros {k} {w} some h = record { left_some = omega arith; right_som
 run-all : (w : List ℕ) (n m : ℕ) → length w ≡ n + m → cells (inside_zeros w) (pos 0) (n + m) ≡ w
 run-all w n m long = ap (cells (inside_zeros w) (pos 0)) (sym long) ∙ cells-middle (inside_zeros w)
 
--- and so is what stands behind its first m letters
+-- and so is what stands after its first m letters
 run-back : (w : List ℕ) (n m : ℕ) → length w ≡ n + m → cells (inside_zeros w) (pos m) n ≡ drop m w
 run-back w n m long =
-    let turned : m + n ≡ n + m = omega arith in
-    sym (drop-cells (inside_zeros w) (pos 0) (pos m) m n (omega (arith, ints))) ∙ ap (drop m) (ap (cells (inside_zeros w) (pos 0)) turned ∙ run-all w n m long)
+    let swap : m + n ≡ n + m = omega arith in
+    sym (drop-cells (inside_zeros w) (pos 0) (pos m) m n (omega (arith, ints))) ∙ ap (drop m) (ap (cells (inside_zeros w) (pos 0)) swap ∙ run-all w n m long)
 
--- the node behind its first m - 1 letters is their value
-node-front : (r : LocalRule) (w : List ℕ) (n : ℕ) → length w ≡ n + (r.width - 1) → node_at r (inside_zeros w) (pos (r.width - 1)) ≡ value r.states (take (r.width - 1) w)
-node-front r w n long =
+-- the node after its first m - 1 letters is their value
+node-first : (r : LocalRule) (w : List ℕ) (n : ℕ) → length w ≡ n + (r.width - 1) → node_at r (inside_zeros w) (pos (r.width - 1)) ≡ value r.states (take (r.width - 1) w)
+node-first r w n long =
     let m : ℕ = r.width - 1 in
     let place : pos m -ℤ pos m ≡ pos 0 = omega (arith, ints) in
     ap (λ i. value r.states (cells (inside_zeros w) i m)) place
     ∙ ap (value r.states) (sym (take-cells (inside_zeros w) (pos 0) (n + m) m (omega arith)) ∙ ap (take m) (run-all w n m long))
 
--- and the node behind all is that of the last
-node-back : (r : LocalRule) (w : List ℕ) (n : ℕ) → length w ≡ n + (r.width - 1) → node_at r (inside_zeros w) (pos (r.width - 1 + n)) ≡ value r.states (drop n w)
-node-back r w n long =
+-- and the node after all is that of the last
+node-last : (r : LocalRule) (w : List ℕ) (n : ℕ) → length w ≡ n + (r.width - 1) → node_at r (inside_zeros w) (pos (r.width - 1 + n)) ≡ value r.states (drop n w)
+node-last r w n long =
     let m : ℕ = r.width - 1 in
     let place : pos (m + n) -ℤ pos m ≡ pos n = omega (arith, ints) in
     ap (λ i. value r.states (cells (inside_zeros w) i m)) place
     ∙ ap (value r.states) (sym (drop-cells (inside_zeros w) (pos 0) (pos n) n m (omega (arith, ints))) ∙ ap (drop n) (run-all w n m long))
 
--- the label behind the first node at which the image begins
+-- the labels after the first node are the image
 label-start : (r : LocalRule) (t : TailConfig) (d : ℕ) → image_cell r t (neg_ℤ r.offset +ℤ pos d) ≡ label_at r t (pos (r.width - 1) +ℤ pos d)
 label-start r t d =
     let place : neg_ℤ r.offset +ℤ pos d +ℤ r.offset +ℤ pos (r.width - 1) ≡ pos (r.width - 1) +ℤ pos d = omega (arith, ints) in
     image_cell-label r t (neg_ℤ r.offset +ℤ pos d) ∙ ap (label_at r t) place
 
--- two words with one image have equal labels behind their first nodes
+-- two words with one image have equal labels after their first nodes
 labels-words : {r : LocalRule} {n : ℕ} {x y : List ℕ} → IsRule r → HaveOneImage r n x y → (d : ℕ) → d < n
     → label_at r (inside_zeros x) (pos (r.width - 1) +ℤ pos d) ≡ label_at r (inside_zeros y) (pos (r.width - 1) +ℤ pos d)
 labels-words {r} {n} {x} {y} rule h d l =
@@ -71,7 +71,7 @@ labels-words {r} {n} {x} {y} rule h d l =
     sym (image-cells rule tx i (pos 0) n place) ∙ ap (image r) (run-all x n m h.first_long) ∙ h.one_image ∙ sym (ap (image r) (run-all y n m h.second_long)) ∙ image-cells rule ty i (pos 0) n place in
     sym (label-start r tx d) ∙ same-image_cells r tx ty i n same d l ∙ label-start r ty d
 
--- two words with one image lead from their first nodes to their last along the letters behind the first
+-- two words with one image lead from their first nodes to their last along the letters after the first
 pub PairLeads-words : {r : LocalRule} {n : ℕ} {x y : List ℕ} → IsRule r → HaveOneImage r n x y
     → PairLeads r (pair_of r (value r.states (take (r.width - 1) x)) (value r.states (take (r.width - 1) y))) (zip (drop (r.width - 1) x) (drop (r.width - 1) y)) (pair_of r (value r.states (drop n x)) (value r.states (drop n y)))
 PairLeads-words {r} {n} {x} {y} rule h =
@@ -79,35 +79,9 @@ PairLeads-words {r} {n} {x} {y} rule h =
     let some : 0 < r.states = omega (arith, rule.shape.least_states) in
     let tx : TailConfig = inside_zeros x in
     let ty : TailConfig = inside_zeros y in
-    let start : pair_at r tx ty (pos m) ≡ pair_of r (value r.states (take m x)) (value r.states (take m y)) = ap₂ (pair_of r) (node-front r x n h.first_long) (node-front r y n h.second_long) in
-    let end : pair_at r tx ty (pos (m + n)) ≡ pair_of r (value r.states (drop n x)) (value r.states (drop n y)) = ap₂ (pair_of r) (node-back r x n h.first_long) (node-back r y n h.second_long) in
+    let start : pair_at r tx ty (pos m) ≡ pair_of r (value r.states (take m x)) (value r.states (take m y)) = ap₂ (pair_of r) (node-first r x n h.first_long) (node-first r y n h.second_long) in
+    let end : pair_at r tx ty (pos (m + n)) ≡ pair_of r (value r.states (drop n x)) (value r.states (drop n y)) = ap₂ (pair_of r) (node-last r x n h.first_long) (node-last r y n h.second_long) in
     let letters : zip (cells tx (pos m) n) (cells ty (pos m) n) ≡ zip (drop m x) (drop m y) = ap₂ (λ (a b : List ℕ). zip a b) (run-back x n m h.first_long) (run-back y n m h.second_long) in
     subst (λ ab. PairLeads r (pair_of r (value r.states (take m x)) (value r.states (take m y))) ab (pair_of r (value r.states (drop n x)) (value r.states (drop n y)))) letters
     (subst₂ (λ p q. PairLeads r p (zip (cells tx (pos m) n) (cells ty (pos m) n)) q) start end
     (PairLeads-cells rule (IsTail-inside_zeros some h.first) (IsTail-inside_zeros some h.second) n (pos m) (pos (m + n)) refl (labels-words rule h)))
-
--- two words with one image, which lead to the pair of their last nodes
-pub record IsWordWalk (r : LocalRule) (n : ℕ) (x y : List ℕ) (q : ℕ) : Type 0 where
-  pub one_image : HaveOneImage r n x y
-  pub last : pair_of r (value r.states (drop n x)) (value r.states (drop n y)) ≡ q
-
--- words whose letters behind the first m - 1 lead to a pair from that of their first nodes are such words
-pub IsWordWalk-leads : {r : LocalRule} {n : ℕ} {x y : List ℕ} → IsRule r → IsWord r.states x → IsWord r.states y → length x ≡ n + (r.width - 1) → length y ≡ n + (r.width - 1) → (q : ℕ)
-    → PairLeads r (pair_of r (value r.states (take (r.width - 1) x)) (value r.states (take (r.width - 1) y))) (zip (drop (r.width - 1) x) (drop (r.width - 1) y)) q → IsWordWalk r n x y q
-IsWordWalk-leads {r} {n} {x} {y} rule hx hy long_x long_y q walk =
-    let m : ℕ = r.width - 1 in
-    let some : 0 < r.states = omega (arith, rule.shape.least_states) in
-    let tx : TailConfig = inside_zeros x in
-    let ty : TailConfig = inside_zeros y in
-    let first : IsTail r.states tx = IsTail-inside_zeros some hx in
-    let second : IsTail r.states ty = IsTail-inside_zeros some hy in
-    let i : ℤ = neg_ℤ r.offset in
-    let place : i +ℤ r.offset ≡ pos 0 = omega (arith, ints) in
-    let start : pair_of r (value r.states (take m x)) (value r.states (take m y)) ≡ pair_at r tx ty (pos m) = sym (ap₂ (pair_of r) (node-front r x n long_x) (node-front r y n long_y)) in
-    let letters : zip (drop m x) (drop m y) ≡ zip (cells tx (pos m) n) (cells ty (pos m) n) = sym (ap₂ (λ (a b : List ℕ). zip a b) (run-back x n m long_x) (run-back y n m long_y)) in
-    let along = cells-PairLeads rule first second n (pos m) (pos (m + n)) q refl (subst (λ ab. PairLeads r (pair_at r tx ty (pos m)) ab q) letters (subst (λ p. PairLeads r p (zip (drop m x) (drop m y)) q) start walk)) in
-    let same = image_cells-same r tx ty i n (λ d l. label-start r tx d ∙ along.0 d l ∙ sym (label-start r ty d)) in
-    record {
-      one_image = subst₂ (λ (u v : List ℕ). HaveOneImage r n u v) (run-all x n m long_x) (run-all y n m long_y) (HaveOneImage-cells rule first second i (pos 0) n place same);
-      last = ap₂ (pair_of r) (sym (node-back r x n long_x)) (sym (node-back r y n long_y)) ∙ along.1;
-    }
