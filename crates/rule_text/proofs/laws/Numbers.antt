@@ -1,11 +1,10 @@
 -- Wolfram numbers and the rules that they stand for.
-use Rattle.std.proofs.Common.{◌≡◌, ℕ, zero, suc, ◌+◌, ◌-◌, ◌*◌, ◌/◌, ◌^◌, ◌<◌, ◌≤◌, Bool, ◌&&◌, ◌||◌, List, [], ◌∷◌, ◌++◌, length, reverse, take, drop, map-id, add-one, zero-add, length-drop, length-take-le, Some, get_or, inl, inr, refl, sym, ap, subst, ◌∙◌, arith, true, false, mod-lt, zero-mul}
+use Rattle.std.proofs.Common.{◌≡◌, ℕ, zero, suc, ◌+◌, ◌-◌, ◌*◌, ◌/◌, ◌^◌, ◌<◌, ◌≤◌, Bool, ◌&&◌, ◌||◌, List, [], ◌∷◌, ◌++◌, length, reverse, take, drop, map-id, add-one, zero-add, length-drop, length-take-le, Some, get_or, refl, sym, ap, subst, ◌∙◌, arith, true, mod-lt, zero-mul}
 use Rattle.std.specs.Prelude.{ℤ, nat_lt, nat_le, ◌↔◌, sum_by}
 use Rattle.std.specs.List.{range_with_len}
 use Rattle.std.proofs.Math.Nat.{div-eq_of_lt, pow-le-pow_right}
 use Rattle.std.proofs.lemmas.Nat.{div-add-mod'}
-use Rattle.std.proofs.lemmas.Bool.{cases_eq, false≢true}
-use Rattle.std.proofs.lemmas.Bool.Decides.{nat_tests}
+use Rattle.std.proofs.lemmas.Bool.Decides.{nat_tests, Decides-below_and}
 use Rattle.std.proofs.lemmas.List.{length-reverse, reverse-append, drop_more, take_more, take_all}
 use Rattle.std.proofs.lemmas.List.FromFn.{map-range_with_len_more}
 use Rattle.std.proofs.lemmas.List.Sums.{sum_by_push}
@@ -23,20 +22,9 @@ abbrev all_below : (ℕ → Bool) → ℕ → Bool
 all_below p zero = true
 all_below p (suc n) = p n && all_below p n
 
--- both sides of a true `&&`
-both : (a b : Bool) → (a && b) ≡ true → (a ≡ true) × (b ≡ true)
-both true b h = (refl, h)
-both false b h = absurd (false≢true h)
-
 -- the test passes at each number below
 all_below-is : (p : ℕ → Bool) (n : ℕ) → all_below p n ≡ true → (i : ℕ) → i < n → p i ≡ true
-all_below-is p zero all i h = absurd (omega arith)
-all_below-is p (suc n) all i h =
-    let parts = both (p n) (all_below p n) all in
-    elim (cases_eq i n) [
-      | inl last ↦ ap p last ∙ parts.0
-      | inr other ↦ all_below-is p n parts.1 i (omega arith)
-    ]
+all_below-is p n = (Decides-below_and p (λ i. p i ≡ true) (all_below p) (λ i. (λ e. e, λ e. e)) refl (λ m. refl) n).0
 
 -- the limit of a shape fits 128 bits, or the shape isn't accepted
 abbrev fits : ℕ → ℕ → Bool
