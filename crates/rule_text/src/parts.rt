@@ -25,7 +25,8 @@ pub fn field(text: &[u8], from: usize) -> Result<(u8, usize), TextFault>
     Ok((number, end + 1))
 }
 
-/// A minus sign or none, a field after it: its number with that sign, and the place after the colon.
+/// A minus sign or none and a field after it: its number with that sign, and the place after the
+/// colon.
 pub fn offset(text: &[u8], from: usize) -> Result<(i8, usize), TextFault>
     requires { from ≤ length text.now }
     ensures offset { IfOk result (λ r. GoesOverOffset text.now from r.1 r.0) }

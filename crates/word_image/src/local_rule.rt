@@ -249,7 +249,7 @@ pub(crate) fn first_foreign(k: u8, word: &[u8]) -> Option<usize>
     word.iter().position(|letter| *letter >= k)
 }
 
-/// The value of a window of letters below k, of which there are few enough that it fits.
+/// The value of a window of letters below k, short enough for its value to fit.
 fn value_of(k: u8, window: &[u8]) -> u16
     requires word { IsWord k window.now }
     requires fits { k ^ length window.now ≤ 256 }
