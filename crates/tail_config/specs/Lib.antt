@@ -5,3 +5,4 @@ pub mod TailValues
 pub mod TailFaults
 pub mod Differences
 pub mod TailTextFaults
+pub mod Examples

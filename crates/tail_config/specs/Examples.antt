@@ -1,0 +1,75 @@
+-- Worked examples: cells, image cells, mirrors, texts and faults done by hand, which the check computes.
+use Rattle.std.specs.Prelude.{◌≡◌, ℕ, List, [], ◌∷◌, map, codes, replicate, refl, pos, negsuc, ◌+ℤ◌, Some, None}
+use Rattle.std.specs.List.{range_with_len}
+use Rattle.word_image.specs.LocalRules.{LocalRule}
+use Rattle.tail_config.specs.Tails.{TailConfig, config_of, cell, cells, image_cell, mirror_of}
+use Rattle.tail_config.specs.TailTexts.{printed}
+use Rattle.tail_config.specs.TailFaults.{tail_fault}
+use Rattle.tail_config.specs.declared.faults.Part.TheVariants as part
+use Rattle.tail_config.specs.declared.faults.TailFault.TheVariants as fault
+
+-- the text 2:3:-1:t01111000
+abbrev rule30 : LocalRule
+rule30 = record { states = 2; width = 3; offset = negsuc 0; table = 0 ∷ 1 ∷ 1 ∷ 1 ∷ 1 ∷ 0 ∷ 0 ∷ 0 ∷ [] }
+
+-- the sum of both neighbours modulo 2: the text 2:3:-1:t01011010
+abbrev rule90 : LocalRule
+rule90 = record { states = 2; width = 3; offset = negsuc 0; table = 0 ∷ 1 ∷ 0 ∷ 1 ∷ 1 ∷ 0 ∷ 1 ∷ 0 ∷ [] }
+
+-- the cells of 011|01|0 at the places -3 to 2
+
+cells-row : cells (config_of (0 ∷ 1 ∷ 1 ∷ []) (0 ∷ 1 ∷ []) (0 ∷ [])) (negsuc 2) 6 ≡ 0 ∷ 1 ∷ 1 ∷ 0 ∷ 1 ∷ 0 ∷ []
+cells-row = refl
+
+-- 0|1011|1 and 0|1100|0, the least normal right split of rule 30: their cells differ at place 1 first, and under rule 90
+-- the image cells at place 0 do
+
+abbrev a : TailConfig
+a = config_of (0 ∷ []) (1 ∷ 0 ∷ 1 ∷ 1 ∷ []) (1 ∷ [])
+
+abbrev b : TailConfig
+b = config_of (0 ∷ []) (1 ∷ 1 ∷ 0 ∷ 0 ∷ []) (0 ∷ [])
+
+cells-before : cells a (negsuc 9) 11 ≡ cells b (negsuc 9) 11
+cells-before = refl
+
+cell-a : cell a (pos 1) ≡ 0
+cell-a = refl
+
+cell-b : cell b (pos 1) ≡ 1
+cell-b = refl
+
+-- the image cells at the places -6 to 7
+abbrev image_row : LocalRule → TailConfig → List ℕ
+image_row r t = map (λ j. image_cell r t (negsuc 5 +ℤ pos j)) (range_with_len 0 14)
+
+image_row-30 : image_row rule30 a ≡ image_row rule30 b
+image_row-30 = refl
+
+image_cell-a : image_cell rule90 a (pos 0) ≡ 0
+image_cell-a = refl
+
+image_cell-b : image_cell rule90 b (pos 0) ≡ 1
+image_cell-b = refl
+
+printed-a : printed a ≡ codes "0|1011|1"
+printed-a = refl
+
+-- The mirror of 0|100|1 is 1|001|0
+
+mirror_of-row : mirror_of (config_of (0 ∷ []) (1 ∷ 0 ∷ 0 ∷ []) (1 ∷ [])) ≡ config_of (1 ∷ []) (0 ∷ 0 ∷ 1 ∷ []) (0 ∷ [])
+mirror_of-row = refl
+
+-- First faults: |0|1, 0|2|1, a part of 1,025 letters before a letter that is none, and a part of 1,024
+
+tail_fault-empty : tail_fault 2 (config_of [] (0 ∷ []) (1 ∷ [])) ≡ Some fault.LeftEmpty
+tail_fault-empty = refl
+
+tail_fault-letter : tail_fault 2 (config_of (0 ∷ []) (2 ∷ []) (1 ∷ [])) ≡ Some (fault.Letter part.Middle 0)
+tail_fault-letter = refl
+
+tail_fault-long : tail_fault 2 (config_of (2 ∷ []) (replicate 1025 0) (1 ∷ [])) ≡ Some (fault.Long part.Middle)
+tail_fault-long = refl
+
+tail_fault-none : tail_fault 2 (config_of (1 ∷ []) (replicate 1024 0) (1 ∷ [])) ≡ None
+tail_fault-none = refl
