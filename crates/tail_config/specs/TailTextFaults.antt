@@ -1,5 +1,5 @@
 -- Which fault of a text comes first, and how a text is cut into three parts.
-use Rattle.std.specs.Prelude.{◌≡◌, ℕ, ◌<◌, ◌≤◌, List, ◌++◌, length, map, codes, slice_index, slice_range, Some, All}
+use Rattle.std.specs.Prelude.{◌≡◌, ◌≢◌, ℕ, ◌<◌, ◌≤◌, List, ◌++◌, length, map, codes, slice_index, slice_range, Some, All}
 use Rattle.word_image.specs.Digits.{IsHexDigit, letter_at}
 use Rattle.word_image.specs.Grammars.{IsFormFault}
 use Rattle.tail_config.specs.Tails.{TailConfig, config_of}
@@ -24,6 +24,21 @@ pub record IsDigitsEnd (text : List ℕ) (start end : ℕ) : Type 0 where
 -- the byte of a bar
 abbrev pub bar : ℕ
 bar = 124
+
+-- from start on there are digits and then a bar
+pub record IsBarAfter (text : List ℕ) (start place : ℕ) : Type 0 where
+  pub digits : IsDigitsEnd text start place
+  pub inside : place < length text
+  pub byte : slice_index text place ≡ bar
+
+-- from start on there are digits, and then no bar
+pub record LacksBar (text : List ℕ) (start place : ℕ) : Type 0 where
+  pub digits : IsDigitsEnd text start place
+  pub other : place < length text → slice_index text place ≢ bar
+
+-- the fault is one of form, at a place of which this is true
+abbrev pub IsFormAt : TailTextFault → (ℕ → Type 0) → Type 0
+IsFormAt f P = (place : ℕ) × (f ≡ fault.Form place) × P place
 
 -- the text is three rows of digits with bars between
 pub record IsCut (text left middle right : List ℕ) : Type 0 where

@@ -1,6 +1,6 @@
 //! Where two Tails differ, and whether they share an image or agree on a side.
 ghost use Rattle.std.specs.Prelude.{◌≡◌, ◌^◌, ◌<◌, ◌≤◌, ◌+◌, ◌↔◌, ℕ, length, IsTrue, IsNone, IfNone, IfSome, OnSome, unsigned_abs, pos, negsuc, ◌+ℤ◌};
-ghost use Rattle.tail_config.specs.Tails.{Same, ShareImage, AgreeLeft, AgreeRight, cell, image_cell};
+ghost use Rattle.tail_config.specs.Tails.{Same, ShareImage, AgreeLeft, AgreeRight, image_cell};
 ghost use Rattle.tail_config.specs.Differences.{IsFirstDifference, IsNearestDifference, left_cells, right_cells, most_middle};
 
 use crate::tail::Tail;
@@ -35,7 +35,8 @@ fn nearer(right: usize, left: usize) -> i64
     }
 }
 
-/// Whether the image cells of two Tails under a rule are equal at every integer; all three have one k.
+/// Whether the image cells of two Tails under a rule are equal at every integer; all three have
+/// one k.
 pub fn share(rule: &Rule, a: &Tail, b: &Tail) -> bool
     requires first { rule.now.states ≡ a.now.states }
     requires second { rule.now.states ≡ b.now.states }
@@ -73,9 +74,12 @@ fn longer(a: &Tail, b: &Tail) -> usize
 /// of the longer middle decide.
 fn first_right(a: &Tail, b: &Tail, start: usize) -> Option<usize>
     requires { start ≤ most_middle a.now.config b.now.config }
-    ensures none { IfNone result ((i : ℕ) → start ≤ i → cell a.now.config (pos i) ≡ cell b.now.config (pos i)) }
-    ensures first { IfSome result (IsFirstDifference (right_cells a.now.config) (right_cells b.now.config) start) }
-    ensures apart { IfSome result (λ i. most_middle a.now.config b.now.config ≤ i → ¬ AgreeRight a.now.config b.now.config) }
+    ensures none { IfNone result ((i : ℕ)
+        → start ≤ i → right_cells a.now.config i ≡ right_cells b.now.config i) }
+    ensures first { IfSome result
+        (IsFirstDifference (right_cells a.now.config) (right_cells b.now.config) start) }
+    ensures apart { IfSome result (λ i.
+        most_middle a.now.config b.now.config ≤ i → ¬ AgreeRight a.now.config b.now.config) }
     ensures near { IfSome result (λ i. i ≤ 2 ^ 12) }
 {
     for i in start..longer(a, b) + a.right().len() + b.right().len() {
@@ -89,8 +93,10 @@ fn first_right(a: &Tail, b: &Tail, start: usize) -> Option<usize>
 /// How far left of place -1 two Tails first differ. The places of both left periods left of place 0
 /// decide.
 fn first_left(a: &Tail, b: &Tail) -> Option<usize>
-    ensures none { IfNone result ((i : ℕ) → cell a.now.config (negsuc i) ≡ cell b.now.config (negsuc i)) }
-    ensures first { IfSome result (IsFirstDifference (left_cells a.now.config) (left_cells b.now.config) 0) }
+    ensures none { IfNone result ((i : ℕ)
+        → left_cells a.now.config i ≡ left_cells b.now.config i) }
+    ensures first { IfSome result
+        (IsFirstDifference (left_cells a.now.config) (left_cells b.now.config) 0) }
     ensures apart { OnSome result (¬ AgreeLeft a.now.config b.now.config) }
     ensures near { IfSome result (λ i. i ≤ 2 ^ 12) }
 {
@@ -109,7 +115,8 @@ fn share_run(rule: &Rule, a: &Tail, b: &Tail, start: i64, count: usize) -> bool
     requires near { unsigned_abs start ≤ 2 ^ 16 }
     requires few { count ≤ 2 ^ 16 }
     ensures { IsTrue result ↔ ((d : ℕ) → d < count
-        → image_cell rule.now a.now.config (start +ℤ pos d) ≡ image_cell rule.now b.now.config (start +ℤ pos d)) }
+        → image_cell rule.now a.now.config (start +ℤ pos d)
+        ≡ image_cell rule.now b.now.config (start +ℤ pos d)) }
 {
     for d in 0..count {
         let i = start + d as i64;

@@ -35,24 +35,28 @@ impl Model for Tail {
 
     ghost Value = { TailOver };
 
-    ghost view = { λ t. record { states = t.k; config = config_of t.left.items t.middle.items t.right.items } };
+    ghost view = { λ t.
+        record { states = t.k; config = config_of t.left.items t.middle.items t.right.items } };
 
-    ghost invariant = { λ t. IsAccepted (record { states = t.k; config = config_of t.left.items t.middle.items t.right.items }) };
+    ghost invariant = { λ t.
+        IsAccepted (record { states = t.k; config = config_of t.left.items t.middle.items t.right.items }) };
 }
 
 impl Tail {
-    /// The Tail of exactly these parts over the letters below k, from 2 to 16; else the first fault,
-    /// in the order of `TailFault`, with the parts as they were.
+    /// The Tail of exactly these parts over the letters below k, from 2 to 16; else the first
+    /// fault, in the order of `TailFault`, with the parts as they were.
     pub fn new(k: u8, left: Vec<u8>, middle: Vec<u8>, right: Vec<u8>) -> Result<Tail, TailRefusal>
         requires least { 2 ≤ k }
         requires most { k ≤ 16 }
         ensures tail { IfOk result (λ t.
             t ≡ record { states = k; config = config_of left.items middle.items right.items }) }
-        ensures accepted { IsOk result ↔ IsShortTail k (config_of left.items middle.items right.items) }
+        ensures accepted { IsOk result
+            ↔ IsShortTail k (config_of left.items middle.items right.items) }
 
         ensures fault { option_map (λ r. r.fault) (result_err result)
             ≡ tail_fault k (config_of left.items middle.items right.items) }
-        ensures handed_back { IfErr result (λ r. (r.left ≡ left) × (r.middle ≡ middle) × (r.right ≡ right)) }
+        ensures handed_back { IfErr result (λ r.
+            (r.left ≡ left) × (r.middle ≡ middle) × (r.right ≡ right)) }
     {
         match check_parts(k, &left, &middle, &right) {
             Ok(()) => Ok(Tail {
@@ -166,9 +170,10 @@ impl Tail {
     }
 }
 
-/// With s = |M| - 1, the mirrored rule's image cell at i of a mirrored Tail is the rule's image cell
-/// at s - i of the Tail.
+/// With s = |M| - 1, the mirrored rule's image cell at i of a mirrored Tail is the rule's image
+/// cell at s - i of the Tail.
 pub fn mirrored_image_cell()
     ensures { (r : LocalRule) (t : TailConfig) (i : ℤ) → IsRule r → IsTail r.states t
-        → image_cell (mirrored r) (mirror_of t) i ≡ image_cell r t (pos (length t.middle) -ℤ pos 1 -ℤ i) }
+        → image_cell (mirrored r) (mirror_of t) i
+        ≡ image_cell r t (pos (length t.middle) -ℤ pos 1 -ℤ i) }
 {}

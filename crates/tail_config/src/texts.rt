@@ -1,12 +1,13 @@
 //! The texts of Tails: `L|M|R`, each part a row of hexadecimal digits.
-ghost use Rattle.std.specs.Prelude.{◌≡◌, ◌≢◌, ℕ, ◌<◌, ◌≤◌, ◌⊎◌, length, map, slice_index, slice_range, nat_le, position, alloc_error, IfOk, IfErr, MatchOption, All};
+ghost use Rattle.std.specs.Prelude.{◌≡◌, ◌≤◌, ◌⊎◌, length, map, nat_le, position, alloc_error, IfOk, IfErr};
 ghost use Rattle.std.specs.Result.{result_err};
-ghost use Rattle.word_image.specs.Digits.{IsHexDigit, letter_at};
+ghost use Rattle.word_image.specs.Digits.{letter_at};
 ghost use Rattle.word_image.specs.Grammars.{IsFormFault};
 ghost use Rattle.tail_config.specs.Tails.{TailConfig};
 ghost use Rattle.tail_config.specs.TailTexts.{HasForm, IsShortTail, IsTailText, printed};
 ghost use Rattle.tail_config.specs.TailFaults.{letter_fault, tail_fault};
-ghost use Rattle.tail_config.specs.TailTextFaults.{IsTailTextFault, IsDigitsEnd, IsCut, letters_of, bar};
+ghost use Rattle.tail_config.specs.TailValues.{TailOver, IsAccepted};
+ghost use Rattle.tail_config.specs.TailTextFaults.{IsTailTextFault, IsDigitsEnd, IsBarAfter, LacksBar, IsFormAt, IsCut, letters_of};
 
 use crate::faults::{Part, TailFault, check_lengths};
 use crate::tail::Tail;
@@ -36,15 +37,17 @@ struct Parts<'a> {
     right: &'a [u8],
 }
 
-/// The Tail over the letters below k, from 2 to 16, that a text stands for; else the first fault, in
-/// the order of `TailTextFault`.
+/// The Tail over the letters below k, from 2 to 16, that a text stands for; else the first fault,
+/// in the order of `TailTextFault`.
 pub fn parse(alloc: Global, k: u8, text: &[u8]) -> Result<Tail, TailTextFault>
     requires least { 2 ≤ k }
     requires most { k ≤ 16 }
     ensures tail { IfOk result (λ t. (t.states ≡ k) × IsTailText k text.now t.config) }
-    ensures fault { IfErr result (λ f. (f ≡ TailTextFault.Memory alloc_error) ⊎ IsTailTextFault k text.now f) }
+    ensures fault { IfErr result (λ f.
+        (f ≡ TailTextFault.Memory alloc_error) ⊎ IsTailTextFault k text.now f) }
     ensures every_tail { (t : TailConfig) → IsTailText k text.now t
-        → (result ≡ Ok (record { states = k; config = t })) ⊎ (result ≡ Err (TailTextFault.Memory alloc_error)) }
+        → (result ≡ Ok (record { states = k; config = t }))
+        ⊎ (result ≡ Err (TailTextFault.Memory alloc_error)) }
     ensures every_fault { (f : TailTextFault) → IsTailTextFault k text.now f → result ≡ Err f }
 {
     let parts = split(text)?;
@@ -68,13 +71,13 @@ pub fn print(alloc: Global, tail: &Tail) -> Result<Vec<u8>, AllocError>
 
 /// The printed text of every Tail is a text of that Tail.
 pub fn printed_text_is_read()
-    ensures { (k : ℕ) (t : TailConfig) → k ≤ 16 → IsShortTail k t → IsTailText k (printed t) t }
+    ensures { (t : TailOver) → IsAccepted t → IsTailText t.states (printed t.config) t.config }
 {}
 
 /// The parts of a text of the grammar.
 fn split(text: &[u8]) -> Result<Parts<'_>, TailTextFault>
     ensures parts { IfOk result (λ p. IsCut text.now p.left.now p.middle.now p.right.now) }
-    ensures fault { IfErr result (λ f. (place : ℕ) × (f ≡ TailTextFault.Form place) × IsFormFault HasForm text.now place) }
+    ensures fault { IfErr result (λ f. IsFormAt f (IsFormFault HasForm text.now)) }
 {
     let first = bar_after(text, 0)?;
     let second = bar_after(text, first + 1)?;
@@ -92,9 +95,8 @@ fn split(text: &[u8]) -> Result<Parts<'_>, TailTextFault>
 /// The place of the bar that ends the digits from a place on.
 fn bar_after(text: &[u8], start: usize) -> Result<usize, TailTextFault>
     requires { start ≤ length text.now }
-    ensures bar { IfOk result (λ end. IsDigitsEnd text.now start end × (end < length text.now) × (slice_index text.now end ≡ bar)) }
-    ensures fault { IfErr result (λ f. (end : ℕ) × (f ≡ TailTextFault.Form end) × IsDigitsEnd text.now start end
-        × (end < length text.now → slice_index text.now end ≢ bar)) }
+    ensures bar { IfOk result (IsBarAfter text.now start) }
+    ensures fault { IfErr result (λ f. IsFormAt f (LacksBar text.now start)) }
 {
     let end = digits_end(text, start);
     if text.get(end) == Some(&b'|') {
@@ -119,7 +121,8 @@ fn digits_end(text: &[u8], start: usize) -> usize
 
 /// Whether rows of digits stand for a Tail; else the first fault of its parts.
 fn check_digits(k: u8, parts: &Parts) -> Result<(), TailFault>
-    ensures { result_err result ≡ tail_fault k (letters_of parts.now.left.now parts.now.middle.now parts.now.right.now) }
+    ensures { let p = parts.now in
+        result_err result ≡ tail_fault k (letters_of p.left.now p.middle.now p.right.now) }
 {
     check_lengths(parts.left, parts.middle, parts.right)?;
     check_row(k, Part::Left, parts.left)?;
@@ -150,8 +153,10 @@ fn first_foreign(k: u8, digits: &[u8]) -> Option<usize>
 fn tail_of(alloc: Global, k: u8, parts: &Parts) -> Result<Tail, AllocError>
     requires least { 2 ≤ k }
     requires most { k ≤ 16 }
-    requires parts { IsShortTail k (letters_of parts.now.left.now parts.now.middle.now parts.now.right.now) }
-    ensures { IfOk result (λ t. t ≡ record { states = k; config = letters_of parts.now.left.now parts.now.middle.now parts.now.right.now }) }
+    requires parts { let p = parts.now in
+        IsShortTail k (letters_of p.left.now p.middle.now p.right.now) }
+    ensures { let p = parts.now in IfOk result (λ t.
+        t ≡ record { states = k; config = letters_of p.left.now p.middle.now p.right.now }) }
 {
     let left = letters(alloc, parts.left)?;
     let middle = letters(alloc, parts.middle)?;

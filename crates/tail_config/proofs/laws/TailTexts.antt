@@ -11,7 +11,7 @@ use Rattle.word_image.specs.Grammars.{Begins, IsFormFault}
 use Rattle.word_image.proofs.laws.Prefixes.{Begins-text, Begins-prefix, IsFormFault-stuck}
 use Rattle.tail_config.specs.Tails.{TailConfig}
 use Rattle.tail_config.specs.TailTexts.{Spells, HasParts, HasForm}
-use Rattle.tail_config.specs.TailTextFaults.{IsDigitsEnd, IsCut, letters_of, bar}
+use Rattle.tail_config.specs.TailTextFaults.{IsDigitsEnd, IsBarAfter, LacksBar, IsCut, letters_of, bar}
 
 -- what is some value is its value
 some_value : (o : Option ℕ) → o ≢ None → o ≡ Some (unwrap_or o 0)
@@ -195,66 +195,55 @@ Begins-one : (l : List ℕ) → All IsHexDigit l → Begins HasForm l
 Begins-one l hl = Begins-prefix l (codes "|" ++ []) (subst (Begins HasForm) (append_assoc l (codes "|") []) (Begins-two l [] hl (All-nil IsHexDigit)))
 
 -- a text that goes wrong in its left period
-pub IsFormFault-left : {text : List ℕ} {end : ℕ} → IsDigitsEnd text 0 end → (end < length text → get_or text end 0 ≢ bar) → IsFormFault HasForm text end
-IsFormFault-left {text} {end} d other =
-    IsFormFault-bars text end 0 d.within (Begins-one (take end text) (take-digits d)) (bars-digits 0 (take end text) (take-digits d)) d.stop (λ h e. absurd (other h e)) (λ h. omega arith)
+pub IsFormFault-left : {text : List ℕ} {end : ℕ} → LacksBar text 0 end → IsFormFault HasForm text end
+IsFormFault-left {text} {end} lacks =
+    let d = lacks.digits in
+    IsFormFault-bars text end 0 d.within (Begins-one (take end text) (take-digits d)) (bars-digits 0 (take end text) (take-digits d)) d.stop
+    (λ h e. absurd (lacks.other h e)) (λ h. omega arith)
 
--- a text whose left period ends with the bar at this place
-pub record HasLeft (text : List ℕ) (place : ℕ) : Type 0 where
-  pub digits : IsDigitsEnd text 0 place
-  pub inside : place < length text
-  pub bar_there : get_or text place 0 ≡ bar
-
--- its left period and middle
-take-middle : {text : List ℕ} {place end : ℕ} → HasLeft text place → IsDigitsEnd text (place + 1) end
-    → (take end text ≡ take place text ++ codes "|" ++ slice_range text (place + 1) end) × (bars 0 (take end text) ≡ Some 1)
-take-middle {text} {place} {end} left d =
-    let parts = take-bar text place end left.inside left.bar_there d.from in
-    (parts, ap (bars 0) parts ∙ bars-more 0 (take place text) (slice_range text (place + 1) end) (omega arith) d.digits (bars-digits 0 (take place text) (take-digits left.digits)))
+-- the left period and the middle of a text
+take-middle : {text : List ℕ} {first end : ℕ} → IsBarAfter text 0 first → IsDigitsEnd text (first + 1) end
+    → (take end text ≡ take first text ++ codes "|" ++ slice_range text (first + 1) end) × (bars 0 (take end text) ≡ Some 1)
+take-middle {text} {first} {end} left d =
+    let parts = take-bar text first end left.inside left.byte d.from in
+    (parts, ap (bars 0) parts ∙ bars-more 0 (take first text) (slice_range text (first + 1) end) (omega arith) d.digits (bars-digits 0 (take first text) (take-digits left.digits)))
 
 -- a text that goes wrong in its middle
-pub IsFormFault-middle : {text : List ℕ} {place end : ℕ} → HasLeft text place → IsDigitsEnd text (place + 1) end → (end < length text → get_or text end 0 ≢ bar)
-    → IsFormFault HasForm text end
-IsFormFault-middle {text} {place} {end} left d other =
+pub IsFormFault-middle : {text : List ℕ} {first end : ℕ} → IsBarAfter text 0 first → LacksBar text (first + 1) end → IsFormFault HasForm text end
+IsFormFault-middle {text} {first} {end} left lacks =
+    let d = lacks.digits in
     let parts = take-middle left d in
     IsFormFault-bars text end 1 d.within (subst (Begins HasForm) (sym parts.0) (Begins-two _ _ (take-digits left.digits) d.digits)) parts.1
-    d.stop (λ h e. absurd (other h e)) (λ h. omega arith)
+    d.stop (λ h e. absurd (lacks.other h e)) (λ h. omega arith)
 
--- a text whose left period and middle end with the bars at these places
-pub record HasMiddle (text : List ℕ) (first second : ℕ) : Type 0 where
-  pub left : HasLeft text first
-  pub digits : IsDigitsEnd text (first + 1) second
-  pub inside : second < length text
-  pub bar_there : get_or text second 0 ≡ bar
-
--- its three parts
-take-right : {text : List ℕ} {first second end : ℕ} → HasMiddle text first second → IsDigitsEnd text (second + 1) end
+-- the three parts of a text
+take-right : {text : List ℕ} {first second end : ℕ} → IsBarAfter text 0 first → IsBarAfter text (first + 1) second → IsDigitsEnd text (second + 1) end
     → (take end text ≡ take first text ++ codes "|" ++ slice_range text (first + 1) second ++ codes "|" ++ slice_range text (second + 1) end)
     × (bars 0 (take end text) ≡ Some 2)
-take-right {text} {first} {second} {end} m d =
-    let before = take-middle m.left m.digits in
-    let parts = take-bar text second end m.inside m.bar_there d.from in (
+take-right {text} {first} {second} {end} left middle d =
+    let before = take-middle left middle.digits in
+    let parts = take-bar text second end middle.inside middle.byte d.from in (
       parts ∙ ap (λ x. x ++ codes "|" ++ slice_range text (second + 1) end) before.0,
       ap (bars 0) parts ∙ bars-more 1 (take second text) (slice_range text (second + 1) end) (omega arith) d.digits before.1,
     )
 
 -- a text that goes wrong in its right period
-pub IsFormFault-right : {text : List ℕ} {first second end : ℕ} → HasMiddle text first second → IsDigitsEnd text (second + 1) end → end < length text
-    → IsFormFault HasForm text end
-IsFormFault-right {text} {first} {second} {end} m d inside =
-    let parts = take-right m d in
-    IsFormFault-bars text end 2 d.within (subst (Begins HasForm) (sym parts.0) (Begins-three _ _ _ (take-digits m.left.digits) m.digits.digits d.digits)) parts.1
+pub IsFormFault-right : {text : List ℕ} {first second end : ℕ} → IsBarAfter text 0 first → IsBarAfter text (first + 1) second → IsDigitsEnd text (second + 1) end
+    → end < length text → IsFormFault HasForm text end
+IsFormFault-right {text} {first} {second} {end} left middle d inside =
+    let parts = take-right left middle d in
+    IsFormFault-bars text end 2 d.within (subst (Begins HasForm) (sym parts.0) (Begins-three _ _ _ (take-digits left.digits) middle.digits.digits d.digits)) parts.1
     d.stop (λ h e. omega arith) (λ h. absurd (omega arith))
 
 -- a text that doesn't
-pub IsCut-right : {text : List ℕ} {first second end : ℕ} → HasMiddle text first second → IsDigitsEnd text (second + 1) end → length text ≤ end
-    → IsCut text (take first text) (slice_range text (first + 1) second) (slice_range text (second + 1) (length text))
-IsCut-right {text} {first} {second} {end} m d past =
+pub IsCut-right : {text : List ℕ} {first second end : ℕ} → IsBarAfter text 0 first → IsBarAfter text (first + 1) second → IsDigitsEnd text (second + 1) end
+    → length text ≤ end → IsCut text (take first text) (slice_range text (first + 1) second) (slice_range text (second + 1) (length text))
+IsCut-right {text} {first} {second} {end} left middle d past =
     let all : end ≡ length text = omega (arith, d.within) in
     record {
-      parts = sym (take_all end text past) ∙ (take-right m d).0
+      parts = sym (take_all end text past) ∙ (take-right left middle d).0
           ∙ ap (λ n. take first text ++ codes "|" ++ slice_range text (first + 1) second ++ codes "|" ++ slice_range text (second + 1) n) all;
-      left_digits = take-digits m.left.digits;
-      middle_digits = m.digits.digits;
+      left_digits = take-digits left.digits;
+      middle_digits = middle.digits.digits;
       right_digits = subst (λ n. All IsHexDigit (slice_range text (second + 1) n)) all d.digits;
     }

@@ -2,7 +2,7 @@ use Rattle.std.proofs.Common.{◌≡◌, ℕ, List, Err, IfOk, IfErr, alloc_erro
 use Rattle.std.proofs.lemmas.Result.{err_from_is_err_and}
 use Rattle.word_image.specs.Grammars.{IsFormFault}
 use Rattle.tail_config.specs.TailTexts.{HasForm}
-use Rattle.tail_config.specs.TailTextFaults.{IsTailTextFault, NoForm, Refused, letters_of}
+use Rattle.tail_config.specs.TailTextFaults.{IsTailTextFault, NoForm, Refused, IsFormAt, letters_of}
 use Rattle.tail_config.specs.declared.texts.TailTextFault.{TailTextFault}
 use Rattle.tail_config.specs.declared.texts.TailTextFault.TheVariants as fault
 use Rattle.tail_config.proofs.laws.TailFaults.{tail_fault-none}
@@ -11,7 +11,7 @@ use Rattle.tail_config.proofs.laws.TailAnswers.{IsAnswer, IsAnswer-made, IsAnswe
 use Rattle.tail_config.proofs.texts.parse.Goals as goal
 
 -- the fault of a text that isn't in the grammar
-form_fault : {k : ℕ} {text : List ℕ} {f : TailTextFault} → (place : ℕ) × (f ≡ fault.Form place) × IsFormFault HasForm text place → IsTailTextFault k text f
+form_fault : {k : ℕ} {text : List ℕ} {f : TailTextFault} → IsFormAt f (IsFormFault HasForm text) → IsTailTextFault k text f
 form_fault {k} {text} h = subst (IsTailTextFault k text) (sym h.1) (NoForm h.0 h.2)
 
 -- so the answer is right

@@ -1,5 +1,5 @@
-use Rattle.std.proofs.lemmas.Result.{err_from_is_err_and}
 use Rattle.std.proofs.Common.{refl}
+use Rattle.std.proofs.lemmas.Result.{err_from_is_err_and}
 use Rattle.tail_config.proofs.laws.TailTexts.{IsFormFault-left, IsFormFault-middle, IsFormFault-right, IsCut-right}
 use Rattle.tail_config.proofs.texts.split.Goals as goal
 
@@ -7,23 +7,17 @@ pub returns-in_err-first-clause-fault : goal.returns-in_err-first-clause-fault
 returns-in_err-first-clause-fault c =
     let p = err_from_is_err_and c.from_residual.result c.from_residual.ensures.1 in
     let f = c.in_err-first.ensures.fault in
-    rw (p.1, p.2) (f.0, f.1, IsFormFault-left f.2 f.3)
+    rw (p.1, p.2) (f.0, f.1, IsFormFault-left f.2)
 
 pub returns-in_err-second-clause-fault : goal.returns-in_err-second-clause-fault
 returns-in_err-second-clause-fault c =
     let p = err_from_is_err_and c.from_residual-in_err-second.result c.from_residual-in_err-second.ensures.1 in
-    let b = c.in_ok-first.ensures.bar in
     let f = c.in_err-second.ensures.fault in
-    rw (p.1, p.2) (f.0, f.1, IsFormFault-middle (record { digits = b.0; inside = b.1; bar_there = b.2 }) f.2 f.3)
+    rw (p.1, p.2) (f.0, f.1, IsFormFault-middle c.in_ok-first.ensures.bar f.2)
 
 pub returns-then-end-text-clause-fault : goal.returns-then-end-text-clause-fault
 returns-then-end-text-clause-fault c =
-    let a = c.in_ok-first.ensures.bar in
-    let b = c.in_ok-second.ensures.bar in
-    (_, refl, IsFormFault-right (record { left = record { digits = a.0; inside = a.1; bar_there = a.2 }; digits = b.0; inside = b.1; bar_there = b.2 }) c.digits_end-end.ensures c.if-end-text.true)
+    (_, refl, IsFormFault-right c.in_ok-first.ensures.bar c.in_ok-second.ensures.bar c.digits_end-end.ensures c.if-end-text.true)
 
 pub returns-clause-parts : goal.returns-clause-parts
-returns-clause-parts c =
-    let a = c.in_ok-first.ensures.bar in
-    let b = c.in_ok-second.ensures.bar in
-    IsCut-right (record { left = record { digits = a.0; inside = a.1; bar_there = a.2 }; digits = b.0; inside = b.1; bar_there = b.2 }) c.digits_end-end.ensures c.if-end-text.false
+returns-clause-parts c = IsCut-right c.in_ok-first.ensures.bar c.in_ok-second.ensures.bar c.digits_end-end.ensures c.if-end-text.false
