@@ -17,7 +17,8 @@ use Rattle.search_laws.proofs.PairWalks.{PairWalk, IsLeastWalk}
 use Rattle.search_laws.proofs.PairWalks.PairWalk.{Stay, Go}
 use Rattle.tail_config.specs.Tails.{TailConfig}
 use Rattle.tail_config.specs.Splits.{IsNormalRightSplit, IsLeastRightSplit, splits_cmp}
-use Rattle.tail_laws.proofs.SplitWalks.{IsSplitAt, with_mark, first_tail, second_tail, zip-sides, IsNormalRightSplit-walks, normal_split-at}
+use Rattle.tail_laws.specs.SplitWalks.{IsSplitAt, IsNoSplitAt, IsNoSplitBelow, IsLeastReach, IsLeastSplitAt, IsLeastBelow, with_mark, first_tail, second_tail, split_of}
+use Rattle.tail_laws.proofs.SplitWalks.{zip-sides, IsNormalRightSplit-walks, normal_split-at}
 
 -- the order of two comparisons that follow one another: neither is greater, if the second one isn't where the first one tells nothing
 then_not_greater : (a b : Ordering) → a ≢ Greater → (a ≡ Equal → b ≢ Greater) → ordering_then a b ≢ Greater
@@ -59,10 +60,6 @@ splits_cmp-trans p q s h g = not_greater _ (upto splits_cmp_total p q s (is_gt_f
 -- of two splits one comes no later
 splits_cmp-back : (p q : TailConfig × TailConfig) → splits_cmp p q ≡ Greater → splits_cmp q p ≢ Greater
 splits_cmp-back p q h g = true≢false (ap is_gt (sym h ∙ splits_cmp_total.antisymm p q ∙ ap ordering_reverse g))
-
--- two configurations that are made of two walks
-abbrev pub split_of : List (ℕ × ℕ) → List (ℕ × ℕ) → TailConfig × TailConfig
-split_of w v = (first_tail w v, second_tail w v)
 
 -- the order of such splits, said of the walks
 abbrev pub walks_cmp : List (ℕ × ℕ) → List (ℕ × ℕ) → List (ℕ × ℕ) → List (ℕ × ℕ) → Ordering
@@ -112,11 +109,6 @@ slice_cmp-none : (v : List (ℕ × ℕ)) → slice_cmp pair_cmp [] v ≢ Greater
 slice_cmp-none [] e = true≢false (ap is_gt (sym e))
 slice_cmp-none (ab ∷ v) e = true≢false (ap is_gt (sym e))
 
--- the first walk of any number of steps from the pair of the nodes of zeros to a state
-pub record IsLeastReach (r : LocalRule) (t : ℕ) (w : List (ℕ × ℕ)) : Type 0 where
-  pub walk : PairWalk (marked r) r.states 0 w t
-  pub least : (v : List (ℕ × ℕ)) → PairWalk (marked r) r.states 0 v t → pairs_cmp w v ≢ Greater
-
 -- to that pair itself, without a mark, it is the walk of no step
 pub IsLeastReach-none : (r : LocalRule) → IsLeastReach r 0 []
 IsLeastReach-none r = record { walk = Stay; least = λ v walk. then_not_greater _ _ (nat_cmp-le 0 (length v) (omega arith)) (λ tie. slice_cmp-none v) }
@@ -130,10 +122,6 @@ some_steps go k start t _ other (Go w a b s _ before first second follows) = ome
 pub IsLeastReach-walk : {r : LocalRule} {t : ℕ} {w : List (ℕ × ℕ)} → 0 < t → IsLeastWalk (marked r) r.states 0 t w → IsLeastReach r t w
 IsLeastReach-walk {r} {t} other h = record { walk = h.walk; least = λ v walk. h.least v (some_steps (marked r) r.states 0 t v (omega arith) walk) walk }
 
--- no normal split goes round at a state
-abbrev pub IsNoSplitAt : LocalRule → ℕ → Type 0
-IsNoSplitAt r t = (w v : List (ℕ × ℕ)) → ¬ IsSplitAt r t w v
-
 -- where no walk leads to it
 pub IsNoSplitAt-reach : {r : LocalRule} {t : ℕ} → 0 < t → ((w : List (ℕ × ℕ)) → 0 < length w → ¬ PairWalk (marked r) r.states 0 w t) → IsNoSplitAt r t
 IsNoSplitAt-reach {r} {t} other none w v h = none w (some_steps (marked r) r.states 0 t w (omega arith) h.reach) h.reach
@@ -141,11 +129,6 @@ IsNoSplitAt-reach {r} {t} other none w v h = none w (some_steps (marked r) r.sta
 -- or none leads round it
 pub IsNoSplitAt-round : {r : LocalRule} {t : ℕ} → ((v : List (ℕ × ℕ)) → 0 < length v → ¬ PairWalk (marked r) r.states t v (with_mark r t)) → IsNoSplitAt r t
 IsNoSplitAt-round none w v h = none v h.some h.round
-
--- the least normal split that goes round at a state
-pub record IsLeastSplitAt (r : LocalRule) (t : ℕ) (w v : List (ℕ × ℕ)) : Type 0 where
-  pub split : IsSplitAt r t w v
-  pub least : (w' v' : List (ℕ × ℕ)) → IsSplitAt r t w' v' → splits_cmp (split_of w v) (split_of w' v') ≢ Greater
 
 -- is made of the first walk to it and of the first one round
 pub IsLeastSplitAt-walks : {r : LocalRule} {t : ℕ} {w v : List (ℕ × ℕ)} → IsLeastReach r t w → IsLeastWalk (marked r) r.states t (with_mark r t) v → IsLeastSplitAt r t w v
@@ -157,13 +140,21 @@ IsLeastSplitAt-walks {r} {t} {w} {v} reach round =
 
 -- The search, state by state
 
--- none of the normal splits that go round at states below t comes before the one that these walks make
-pub record IsLeastBelow (r : LocalRule) (t : ℕ) (w v : List (ℕ × ℕ)) : Type 0 where
-  pub split : IsNormalRightSplit r (first_tail w v) (second_tail w v)
-  pub least : (s : ℕ) (w' v' : List (ℕ × ℕ)) → s < t → IsSplitAt r s w' v' → splits_cmp (split_of w v) (split_of w' v') ≢ Greater
+-- it comes no later than each split at a state to which the first walk has as many letters as both of its walks
+pub no_earlier-long : {r : LocalRule} {t : ℕ} {u w' v' : List (ℕ × ℕ)} → IsLeastReach r t u → (w v : List (ℕ × ℕ)) → length w + length v ≤ length u → IsSplitAt r t w' v'
+    → splits_cmp (split_of w v) (split_of w' v') ≢ Greater
+no_earlier-long {u = u} {w'} {v'} reach w v long at greater =
+    let more = (pairs_cmp-parts u w' (reach.least w' at.reach)).0 in
+    let less : length w + length v < length w' + length v' = omega (arith, more, at.some) in
+    walks_cmp-fewer w v w' v' less (sym (splits_cmp-walks w v w' v') ∙ greater)
 
--- one state more, at which none comes before it
-IsLeastBelow-next : {r : LocalRule} {t : ℕ} {w v : List (ℕ × ℕ)} → IsLeastBelow r t w v
+-- and where it comes no later than the least one
+pub no_earlier-least : {r : LocalRule} {t : ℕ} {a b w' v' : List (ℕ × ℕ)} → IsLeastSplitAt r t a b → (w v : List (ℕ × ℕ)) → splits_cmp (split_of w v) (split_of a b) ≢ Greater → IsSplitAt r t w' v'
+    → splits_cmp (split_of w v) (split_of w' v') ≢ Greater
+no_earlier-least {a = a} {b} {w'} {v'} here w v first at = splits_cmp-trans (split_of w v) (split_of a b) (split_of w' v') first (here.least w' v' at)
+
+-- then it stays the least with one state more
+pub IsLeastBelow-next : {r : LocalRule} {t : ℕ} {w v : List (ℕ × ℕ)} → IsLeastBelow r t w v
     → ((w' v' : List (ℕ × ℕ)) → IsSplitAt r t w' v' → splits_cmp (split_of w v) (split_of w' v') ≢ Greater) → IsLeastBelow r (t + 1) w v
 IsLeastBelow-next {r} {t} {w} {v} h here =
     record {
@@ -171,25 +162,7 @@ IsLeastBelow-next {r} {t} {w} {v} h here =
       least = λ s w' v' l at. ⊎_elim (λ e. here w' v' (subst (λ u. IsSplitAt r u w' v') e at)) (λ other. h.least s w' v' (omega arith) at) (cases_eq s t);
     }
 
--- at which there is none
-pub IsLeastBelow-none : {r : LocalRule} {t : ℕ} {w v : List (ℕ × ℕ)} → IsLeastBelow r t w v → IsNoSplitAt r t → IsLeastBelow r (t + 1) w v
-IsLeastBelow-none h none = IsLeastBelow-next h (λ w' v' at. absurd (none w' v' at))
-
--- or to which the first walk has as many letters as both walks of the split
-pub IsLeastBelow-long : {r : LocalRule} {t : ℕ} {w v u : List (ℕ × ℕ)} → IsLeastBelow r t w v → IsLeastReach r t u → length w + length v ≤ length u → IsLeastBelow r (t + 1) w v
-IsLeastBelow-long {w = w} {v} {u} h reach long =
-    IsLeastBelow-next h (λ w' v' at greater.
-    let more = (pairs_cmp-parts u w' (reach.least w' at.reach)).0 in
-    let less : length w + length v < length w' + length v' = omega (arith, more, at.some) in
-    walks_cmp-fewer w v w' v' less (sym (splits_cmp-walks w v w' v') ∙ greater))
-
--- or whose least one doesn't come before it
-pub IsLeastBelow-kept : {r : LocalRule} {t : ℕ} {w v w' v' : List (ℕ × ℕ)} → IsLeastBelow r t w v → IsLeastSplitAt r t w' v' → splits_cmp (split_of w v) (split_of w' v') ≢ Greater
-    → IsLeastBelow r (t + 1) w v
-IsLeastBelow-kept {w = w} {v} {w'} {v'} h here first =
-    IsLeastBelow-next h (λ a b at. splits_cmp-trans (split_of w v) (split_of w' v') (split_of a b) first (here.least a b at))
-
--- where it does, it takes its place
+-- where the least one there comes before it, that takes its place
 pub IsLeastBelow-taken : {r : LocalRule} {t : ℕ} {w v w' v' : List (ℕ × ℕ)} → IsRule r → IsLeastBelow r t w v → IsLeastSplitAt r t w' v' → splits_cmp (split_of w v) (split_of w' v') ≡ Greater
     → IsLeastBelow r (t + 1) w' v'
 IsLeastBelow-taken {r} {t} {w} {v} {w'} {v'} rule h here after =
@@ -199,10 +172,6 @@ IsLeastBelow-taken {r} {t} {w} {v} {w'} {v'} rule h here after =
       least = λ s a b l at. splits_cmp-trans (split_of w' v') (split_of w v) (split_of a b) (splits_cmp-back (split_of w v) (split_of w' v') after) (h.least s a b l at);
     })
     here.least
-
--- no normal split goes round at a state below t
-abbrev pub IsNoSplitBelow : LocalRule → ℕ → Type 0
-IsNoSplitBelow r t = (s : ℕ) → s < t → IsNoSplitAt r s
 
 -- nor at one more
 pub IsNoSplitBelow-next : {r : LocalRule} {t : ℕ} → IsNoSplitBelow r t → IsNoSplitAt r t → IsNoSplitBelow r (t + 1)

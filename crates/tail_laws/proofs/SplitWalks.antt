@@ -10,36 +10,16 @@ use Rattle.std.proofs.lemmas.List.Elements.{All-nil, All-cons, All-head, All-tai
 use Rattle.word_image.specs.LocalRules.{LocalRule, IsRule, IsWord}
 use Rattle.word_image.specs.Graphs.{pair_count, marked}
 use Rattle.word_image.proofs.laws.Graphs.{node_count_pos}
-use Rattle.search_laws.proofs.PairWalks.{PairWalk, ArePairs, ArePairs-walk}
+use Rattle.search_laws.proofs.PairWalks.{ArePairs, ArePairs-walk}
 use Rattle.tail_config.specs.Tails.{TailConfig, IsTail}
 use Rattle.tail_config.specs.Splits.{IsNormalRightSplit}
 use Rattle.tail_config.proofs.laws.Cells.{IsWord-zero}
 use Rattle.tail_config.proofs.laws.Differences.{same_or_differ, DifferAt-different}
+use Rattle.tail_laws.specs.SplitWalks.{IsSplitAt, with_mark, tail_of, first_tail, second_tail}
 use Rattle.tail_laws.proofs.PairLeads.{PairLeads}
 use Rattle.tail_laws.proofs.MarkedWalks.{MarkedLeads, HasOther, HasOther-zip, HasOther-different, follow-marked, IsMarkedWalk-leads, leads-marked}
 use Rattle.tail_laws.proofs.BreadthFirst.{Follows-walk, PairWalk-follows}
 use Rattle.tail_laws.proofs.Settled.{IsNormalRightSplit-walk, IsSplitWalk-normal}
-
--- the pair of a state of the marked graph, with the mark
-abbrev pub with_mark : LocalRule → ℕ → ℕ
-with_mark r t = t % pair_count r + pair_count r
-
--- letter pairs w that lead from the pair of the nodes of zeros to the state t, and at least one that lead from t round to its pair, with the mark
-pub record IsSplitAt (r : LocalRule) (t : ℕ) (w v : List (ℕ × ℕ)) : Type 0 where
-  pub reach : PairWalk (marked r) r.states 0 w t
-  pub some : 0 < length v
-  pub round : PairWalk (marked r) r.states t v (with_mark r t)
-
--- the configuration of one side of these letter pairs: the letter 0 for ever, then the letters of w, and those of v for ever
-abbrev pub tail_of : (ℕ × ℕ → ℕ) → List (ℕ × ℕ) → List (ℕ × ℕ) → TailConfig
-tail_of side w v = record { left = 0 ∷ []; middle = map side w; right = map side v }
-
--- the first configuration, and the second
-abbrev pub first_tail : List (ℕ × ℕ) → List (ℕ × ℕ) → TailConfig
-first_tail = tail_of (λ p. p.0)
-
-abbrev pub second_tail : List (ℕ × ℕ) → List (ℕ × ℕ) → TailConfig
-second_tail = tail_of (λ p. p.1)
 
 -- letter pairs are those of their first letters and their second letters
 pub zip-sides : (w : List (ℕ × ℕ)) → zip (map (λ p. p.0) w) (map (λ p. p.1) w) ≡ w

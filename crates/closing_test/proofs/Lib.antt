@@ -1,0 +1,2 @@
+pub mod FirstWindows
+pub mod LookAheads

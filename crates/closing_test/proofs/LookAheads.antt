@@ -1,0 +1,186 @@
+-- The least look-ahead on a side is 2 more than the greatest rank of a first pair, or 1 where there is none.
+use Rattle.std.proofs.Common.{◌≡◌, ◌≢◌, ◌⊎◌, ℕ, ◌+◌, ◌-◌, ◌<◌, ◌≤◌, ◌^◌, max, inl, inr, refl, sym, ap, ap₂, ◌∙◌, subst, ⊎_elim, arith}
+use Rattle.std.specs.Prelude.{◌↔◌, if◌then◌else◌, slice_index}
+use Rattle.std.specs.Ordering.{ord_max, nat_cmp, is_lt}
+use Rattle.std.proofs.lemmas.Bool.{cases_lt, cases_eq}
+use Rattle.std.proofs.lemmas.Cmp.{ranked, by_ranked}
+use Rattle.word_image.specs.LocalRules.{LocalRule, IsRule, node_count}
+use Rattle.word_image.specs.Windows.{IsRightAhead, IsLeastRightAhead}
+use Rattle.word_image.specs.Graphs.{pair_of}
+use Rattle.word_image.specs.Ranks.{IsRank, IsEndless}
+use Rattle.pair_laws.proofs.Ranks.{BeginTogether-less, EndTogether-less}
+use Rattle.pair_laws.proofs.Pairs.{PairBegins-pair_of, PairEnds-pair_of}
+use Rattle.pair_laws.proofs.Aheads.{IsRightAhead-pairs}
+use Rattle.pair_laws.proofs.LeftAheads.{IsLeftAhead-pairs}
+use Rattle.tail_laws.proofs.Certainty.{IsRightClosing-window, IsLeftClosing-window}
+use Rattle.closing_test.specs.declared.side.Side.{Side}
+use Rattle.closing_test.specs.declared.side.Side.TheVariants.{Right, Left}
+use Rattle.closing_test.specs.Sides.{seen_from, end_node, with_end, end_pair, IsFirst, AreFirst, GoTogether, PairGoes, IsClosing}
+use Rattle.closing_test.specs.LeastAheads.{IsLeastFor, IsFirstWith, IsFirstAt, HasEndlessFirst}
+use Rattle.closing_test.proofs.FirstWindows.{IsFirst-ends, first_ends}
+
+-- What holds on each side
+
+-- a rule looks ahead for n exactly where no first pair goes on together for n - 1
+ahead_pairs : (side : Side) {r : LocalRule} → IsRule r → (n : ℕ) → IsRightAhead (seen_from side r) n ↔ ((1 ≤ n) × ((p : ℕ) → IsFirst side r p → ¬ PairGoes side r p (n - 1)))
+ahead_pairs Right rule n = IsRightAhead-pairs rule n
+ahead_pairs Left rule n = IsLeftAhead-pairs rule n
+
+-- and closes exactly where it looks ahead
+closing_ahead : (side : Side) {r : LocalRule} → IsRule r → IsClosing side r ↔ ((n : ℕ) × IsRightAhead (seen_from side r) n)
+closing_ahead Right rule = IsRightClosing-window rule
+closing_ahead Left rule = IsLeftClosing-window rule
+
+-- a pair that goes on together does for less
+go_less : (side : Side) {r : LocalRule} → IsRule r → (p k n : ℕ) → k ≤ n → PairGoes side r p n → PairGoes side r p k
+go_less Right rule p k n l h = BeginTogether-less rule k l h
+go_less Left rule p k n l h = EndTogether-less rule k l h
+
+-- two nodes go on together exactly where their pair does
+pair_goes : (side : Side) (r : LocalRule) (u v n : ℕ) → v < node_count r → PairGoes side r (pair_of r u v) n ↔ GoTogether side r u v n
+pair_goes Right r u v n h = PairBegins-pair_of r u v n h
+pair_goes Left r u v n h = PairEnds-pair_of r u v n h
+
+-- The least number for some pairs
+
+-- without a pair it is 1
+pub IsLeastFor-none : (Among : ℕ → Type 0) (Goes : ℕ → ℕ → Type 0) → ((p : ℕ) → ¬ Among p) → IsLeastFor Among Goes 1
+IsLeastFor-none Among Goes none = record { some = omega arith; apart = λ p here. absurd (none p here); needed = λ j e. absurd (omega arith) }
+
+-- of one pair it is 2 more than its rank
+pub IsLeastFor-rank : (Goes : ℕ → ℕ → Type 0) (p n : ℕ) → IsRank (Goes p) n → IsLeastFor (λ q. q ≡ p) Goes (n + 2)
+IsLeastFor-rank Goes p n rank =
+    let less : n + 2 - 1 ≡ n + 1 = omega arith in
+    record {
+      some = omega arith;
+      apart = λ q e goes. rank.no_more (subst (Goes p) less (subst (λ s. Goes s (n + 2 - 1)) e goes));
+      needed = λ j e. let same : n ≡ j = omega arith in (p, refl, subst (Goes p) same rank.holds);
+    }
+
+-- it goes by which pairs there are
+pub IsLeastFor-same : {A B : ℕ → Type 0} {Goes : ℕ → ℕ → Type 0} {n : ℕ} → ((p : ℕ) → A p ↔ B p) → IsLeastFor A Goes n → IsLeastFor B Goes n
+IsLeastFor-same same h = record {
+  some = h.some;
+  apart = λ p here. h.apart p ((same p).1 here);
+  needed = λ j e. let found = h.needed j e in (found.0, (same found.0).0 found.1, found.2);
+}
+
+-- the greater one, as `max` of two numbers gives it
+ord_max-max : (m n : ℕ) → ord_max nat_cmp m n ≡ max m n
+ord_max-max m n =
+    by_ranked (n < m) (n ≡ m) (m < n) (nat_cmp n m) (ranked n m (nat_cmp n m) refl)
+    (λ is l. ap (λ o. if is_lt o then m else n) is ∙ omega arith)
+    (λ is l. ap (λ o. if is_lt o then m else n) is ∙ omega arith)
+    (λ is l. ap (λ o. if is_lt o then m else n) is ∙ omega arith)
+
+-- and it is at most what both are
+pub ord_max-le : {m n k : ℕ} (bound : ℕ) → k ≡ ord_max nat_cmp m n → m ≤ bound → n ≤ bound → k ≤ bound
+ord_max-le {m} {n} bound e l h = omega (arith, e, ord_max-max m n)
+
+-- of pairs of two kinds it is the greater one
+pub IsLeastFor-max : (side : Side) {r : LocalRule} {A B : ℕ → Type 0} {m n : ℕ} → IsRule r → IsLeastFor A (PairGoes side r) m → IsLeastFor B (PairGoes side r) n
+    → IsLeastFor (λ p. A p ⊎ B p) (PairGoes side r) (max m n)
+IsLeastFor-max side {r} {A} {B} {m} {n} rule g h = record {
+  some = omega (arith, g.some);
+  apart = λ p here goes. ⊎_elim
+      (λ a. g.apart p a (go_less side rule p (m - 1) (max m n - 1) (omega arith) goes))
+      (λ b. h.apart p b (go_less side rule p (n - 1) (max m n - 1) (omega arith) goes))
+      here;
+  needed = λ j e. ⊎_elim
+      (λ l. let found = h.needed j (omega arith) in (found.0, inr found.1, found.2))
+      (λ l. let found = g.needed j (omega arith) in (found.0, inl found.1, found.2))
+      (cases_lt m n);
+}
+
+-- the pairs of the numbers below i
+abbrev pub Below : (ℕ → ℕ → Type 0) → ℕ → ℕ → Type 0
+Below Of i p = (j : ℕ) × (j < i) × Of j p
+
+-- those of one number more
+below_next : (Of : ℕ → ℕ → Type 0) (i p : ℕ) → (Below Of i p ⊎ Of i p) ↔ Below Of (i + 1) p
+below_next Of i p = (
+  λ here. ⊎_elim (λ before. (before.0, omega (arith, before.1), before.2)) (λ last. (i, omega arith, last)) here,
+  λ (j, l, here). ⊎_elim (λ same. inr (subst (λ n. Of n p) same here)) (λ other. inl (j, omega arith, here)) (cases_eq j i),
+)
+
+-- so far no number has been passed
+pub IsLeastFor-start : (Of : ℕ → ℕ → Type 0) (Goes : ℕ → ℕ → Type 0) → IsLeastFor (Below Of 0) Goes 1
+IsLeastFor-start Of Goes = IsLeastFor-none (Below Of 0) Goes (λ p (j, l, here). omega arith)
+
+-- one number more
+pub IsLeastFor-next : (side : Side) {r : LocalRule} {Of : ℕ → ℕ → Type 0} {i m n k : ℕ} → IsRule r → IsLeastFor (Below Of i) (PairGoes side r) m → IsLeastFor (Of i) (PairGoes side r) n
+    → k ≡ ord_max nat_cmp m n → IsLeastFor (Below Of (i + 1)) (PairGoes side r) k
+IsLeastFor-next side {r} {Of} {i} {m} {n} rule before here e =
+    subst (IsLeastFor (Below Of (i + 1)) (PairGoes side r)) (sym (e ∙ ord_max-max m n)) (IsLeastFor-same (below_next Of i) (IsLeastFor-max side rule before here))
+
+-- the two nodes at these ends
+pub record AreEnds (side : Side) (r : LocalRule) (w a u v : ℕ) : Type 0 where
+  pub first : u ≡ end_node side r w
+  pub second : v ≡ end_node side r (with_end side r w a)
+  pub node : v < node_count r
+
+-- their pair goes on together as they do
+end_pair-goes : (side : Side) (r : LocalRule) (w a u v n : ℕ) → AreEnds side r w a u v → PairGoes side r (end_pair side r w a) n ↔ GoTogether side r u v n
+end_pair-goes side r w a u v n ends =
+    subst (λ p. PairGoes side r p n ↔ GoTogether side r u v n) (ap₂ (pair_of r) ends.first ends.second) (pair_goes side r u v n ends.node)
+
+-- what was found of a window and of one with another letter at its end, which has the same label
+pub record IsFound (side : Side) (r : LocalRule) (w a u v : ℕ) : Type 0 where
+  pub first : AreFirst side r w a
+  pub ends : AreEnds side r w a u v
+
+pub found : (side : Side) (r : LocalRule) (w a other u v : ℕ) → w < r.states ^ r.width → a < r.states → other ≡ with_end side r w a → other ≢ w
+    → slice_index r.table other ≡ slice_index r.table w → u ≡ end_node side r w → v ≡ end_node side r other → v < node_count r → IsFound side r w a u v
+found side r w a other u v window letter is different label first second node = record {
+  first = record { window = window; letter = letter; different = λ e. different (is ∙ sym e); one_label = sym label ∙ ap (slice_index r.table) is };
+  ends = record { first = first; second = second ∙ ap (end_node side r) is; node = node };
+}
+
+-- the rank of the nodes tells the number
+pub IsLeastFor-with : (side : Side) (r : LocalRule) (w a u v n : ℕ) → IsFound side r w a u v → IsRank (GoTogether side r u v) n → IsLeastFor (IsFirstWith side r w a) (PairGoes side r) (n + 2)
+IsLeastFor-with side r w a u v n found rank =
+    let goes = λ (j : ℕ). end_pair-goes side r w a u v j found.ends in
+    IsLeastFor-same (λ p. (λ e. (found.first, e), λ here. here.1))
+    (IsLeastFor-rank (PairGoes side r) (end_pair side r w a) n (record { holds = (goes n).1 rank.holds; no_more = λ h. rank.no_more ((goes (n + 1)).0 h) }))
+
+-- and where it is endless, an endless first pair has been found
+pub HasEndlessFirst-with : (side : Side) (r : LocalRule) (w a u v : ℕ) → IsRule r → IsFound side r w a u v → IsEndless (GoTogether side r u v) → HasEndlessFirst side r
+HasEndlessFirst-with side r w a u v rule found endless =
+    (end_pair side r w a, IsFirst-ends side rule w a found.first, λ n. (end_pair-goes side r w a u v n found.ends).1 (endless n))
+
+-- over all letters
+pub IsLeastFor-letters : (side : Side) (r : LocalRule) (w n : ℕ) → IsLeastFor (Below (IsFirstWith side r w) r.states) (PairGoes side r) n → IsLeastFor (IsFirstAt side r w) (PairGoes side r) n
+IsLeastFor-letters side r w n h = IsLeastFor-same (λ p. (λ (a, l, here). (a, here), λ (a, here). (a, here.0.letter, here))) h
+
+-- over all windows
+pub IsLeastFor-windows : (side : Side) {r : LocalRule} (n : ℕ) → IsRule r → IsLeastFor (Below (IsFirstAt side r) (r.states ^ r.width)) (PairGoes side r) n
+    → IsLeastFor (IsFirst side r) (PairGoes side r) n
+IsLeastFor-windows side {r} n rule h =
+    IsLeastFor-same (λ p. (
+      λ (w, l, (a, here)). subst (IsFirst side r) (sym here.1) (IsFirst-ends side rule w a here.0),
+      λ first. let ends = first_ends side rule first in (ends.0, ends.2.window, (ends.1, (ends.2, ends.3))),
+    )) h
+
+-- What the number says of the rule
+
+-- for all first pairs it is the least look-ahead
+pub IsLeastRightAhead-first : (side : Side) {r : LocalRule} {n : ℕ} → IsRule r → IsLeastFor (IsFirst side r) (PairGoes side r) n → IsLeastRightAhead (seen_from side r) n
+IsLeastRightAhead-first side {r} {n} rule h = record {
+  ahead = (ahead_pairs side rule n).1 (h.some, h.apart);
+  least = λ k l ahead.
+      let pairs = (ahead_pairs side rule k).0 ahead in
+      let found = h.needed (n - 2) (omega (arith, pairs.0)) in
+      pairs.1 found.0 found.1 (go_less side rule found.0 (k - 1) (n - 2) (omega arith) found.2);
+}
+
+-- then the rule closes
+pub IsClosing-first : (side : Side) {r : LocalRule} {n : ℕ} → IsRule r → IsLeastFor (IsFirst side r) (PairGoes side r) n → IsClosing side r
+IsClosing-first side {n = n} rule h = (closing_ahead side rule).1 (n, (IsLeastRightAhead-first side rule h).ahead)
+
+-- with an endless first pair it doesn't look ahead
+pub no_ahead : (side : Side) {r : LocalRule} → IsRule r → HasEndlessFirst side r → (n : ℕ) → ¬ IsRightAhead (seen_from side r) n
+no_ahead side rule h n ahead = ((ahead_pairs side rule n).0 ahead).1 h.0 h.1 (h.2 (n - 1))
+
+-- so it doesn't close
+pub not_closing : (side : Side) {r : LocalRule} → IsRule r → HasEndlessFirst side r → ¬ IsClosing side r
+not_closing side rule h closing = let ahead = (closing_ahead side rule).0 closing in no_ahead side rule h ahead.0 ahead.1

@@ -1,0 +1,24 @@
+-- The least look-ahead, said of the first pairs of a side.
+use Rattle.std.specs.Prelude.{◌≡◌, ℕ, ◌+◌, ◌-◌, ◌≤◌}
+use Rattle.word_image.specs.LocalRules.{LocalRule}
+use Rattle.word_image.specs.Ranks.{IsEndless}
+use Rattle.closing_test.specs.declared.side.Side.{Side}
+use Rattle.closing_test.specs.Sides.{IsFirst, AreFirst, PairGoes, end_pair}
+
+-- n is the least number from 1 on for which none of these pairs goes on together for n - 1
+pub record IsLeastFor (Among : ℕ → Type 0) (Goes : ℕ → ℕ → Type 0) (n : ℕ) : Type 0 where
+  pub some : 1 ≤ n
+  pub apart : (p : ℕ) → Among p → ¬ Goes p (n - 1)
+  pub needed : (j : ℕ) → j + 2 ≡ n → (p : ℕ) × Among p × Goes p j
+
+-- the pair at the ends of this window and of that with this letter at its end, if it is a first pair
+abbrev pub IsFirstWith : Side → LocalRule → ℕ → ℕ → ℕ → Type 0
+IsFirstWith side r w a p = AreFirst side r w a × (p ≡ end_pair side r w a)
+
+-- one of these pairs, for some letter
+abbrev pub IsFirstAt : Side → LocalRule → ℕ → ℕ → Type 0
+IsFirstAt side r w p = (a : ℕ) × IsFirstWith side r w a p
+
+-- a first pair goes on together for ever
+abbrev pub HasEndlessFirst : Side → LocalRule → Type 0
+HasEndlessFirst side r = (p : ℕ) × IsFirst side r p × IsEndless (PairGoes side r p)

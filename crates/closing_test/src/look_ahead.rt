@@ -1,0 +1,92 @@
+//! The least look-aheads.
+
+ghost use Rattle.std.specs.Prelude.{◌≡◌, ◌^◌, ◌<◌, ◌≤◌, ◌↔◌, ℕ, IsSome, IfSome, IfNone, MatchOption};
+ghost use Rattle.word_image.specs.LocalRules.{IsRule, mirrored};
+ghost use Rattle.word_image.specs.Windows.{IsRightAhead, IsLeftAhead, IsLeastRightAhead};
+ghost use Rattle.tail_config.specs.Tails.{IsRightClosing, IsLeftClosing};
+ghost use Rattle.closing_test.specs.Sides.{PairGoes, IsClosing, seen_from};
+ghost use Rattle.closing_test.specs.LeastAheads.{IsLeastFor, IsFirstAt, IsFirstWith, HasEndlessFirst};
+
+use crate::side::Side;
+use pair_rank::Ranks;
+use word_image::Rule;
+
+/// The least right look-ahead, at most 241, by the ranks of the rule; `None` exactly where there is
+/// none, and so exactly where the rule isn't right-closing.
+pub fn ahead_right(rule: &Rule, ranks: &Ranks) -> Option<u16>
+    requires { ranks.now ≡ rule.now }
+    ensures closing { IsSome result ↔ IsRightClosing rule.now }
+    ensures least { IfSome result (IsLeastRightAhead rule.now) }
+    ensures none { IfNone result ((n : ℕ) → ¬ IsRightAhead rule.now n) }
+    ensures most { IfSome result (λ n. n ≤ 241) }
+    ensures rule { IsRule rule.now }
+{
+    least_ahead(Side::Right, rule, ranks)
+}
+
+/// The least left look-ahead, at most 241, by the ranks of the rule: the least right one of the
+/// mirrored rule. `None` exactly where there is none, and so exactly where the rule isn't
+/// left-closing.
+pub fn ahead_left(rule: &Rule, ranks: &Ranks) -> Option<u16>
+    requires { ranks.now ≡ rule.now }
+    ensures closing { IsSome result ↔ IsLeftClosing rule.now }
+    ensures least { IfSome result (IsLeastRightAhead (mirrored rule.now)) }
+    ensures none { IfNone result ((n : ℕ) → ¬ IsLeftAhead rule.now n) }
+    ensures most { IfSome result (λ n. n ≤ 241) }
+    ensures rule { IsRule rule.now }
+{
+    least_ahead(Side::Left, rule, ranks)
+}
+
+/// The least look-ahead on a side: 2 more than the greatest rank of a first pair, or 1 where there
+/// is no first pair.
+fn least_ahead(side: Side, rule: &Rule, ranks: &Ranks) -> Option<u16>
+    requires { ranks.now ≡ rule.now }
+    ensures closing { IsSome result ↔ IsClosing side rule.now }
+    ensures least { IfSome result (IsLeastRightAhead (seen_from side rule.now)) }
+    ensures none { IfNone result ((n : ℕ) → ¬ IsRightAhead (seen_from side rule.now) n) }
+    ensures most { IfSome result (λ n. n ≤ 241) }
+    ensures rule { IsRule rule.now }
+{
+    let mut ahead = 1;
+    for window in 0..rule.size() {
+        ahead = ahead.max(ahead_at(side, rule, ranks, window)?);
+    }
+    Some(ahead)
+}
+
+/// The least number for the first pairs at the ends of this window and another one; `None` where one
+/// of them is endless.
+fn ahead_at(side: Side, rule: &Rule, ranks: &Ranks, window: u16) -> Option<u16>
+    requires ranks { ranks.now ≡ rule.now }
+    requires window { window < rule.now.states ^ rule.now.width }
+    ensures least { MatchOption result (HasEndlessFirst side rule.now) (IsLeastFor (IsFirstAt side rule.now window) (PairGoes side rule.now)) }
+    ensures most { IfSome result (λ n. n ≤ 241) }
+{
+    let mut ahead = 1;
+    for letter in 0..rule.k() {
+        ahead = ahead.max(ahead_with(side, rule, ranks, window, letter)?);
+    }
+    Some(ahead)
+}
+
+/// The same for the pair at the ends of this window and of that with this letter at its end, if it
+/// is a first pair.
+fn ahead_with(side: Side, rule: &Rule, ranks: &Ranks, window: u16, letter: u8) -> Option<u16>
+    requires ranks { ranks.now ≡ rule.now }
+    requires window { window < rule.now.states ^ rule.now.width }
+    requires letter { letter < rule.now.states }
+    ensures least { MatchOption result (HasEndlessFirst side rule.now) (IsLeastFor (IsFirstWith side rule.now window letter) (PairGoes side rule.now)) }
+    ensures most { IfSome result (λ n. n ≤ 241) }
+{
+    let other = side.with_end(rule, window, letter);
+    if other == window || rule.at(other) != rule.at(window) {
+        return Some(1);
+    }
+    let rank = side.rank(
+        ranks,
+        side.end_node(rule, window),
+        side.end_node(rule, other),
+    )?;
+    Some(rank + 2)
+}
