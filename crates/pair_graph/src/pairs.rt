@@ -55,6 +55,13 @@ impl Pairs {
         &self.rule
     }
 
+    /// The de Bruijn graph of that rule.
+    pub fn graph(&self) -> &Graph
+        ensures { result.now ≡ self.now }
+    {
+        &self.graph
+    }
+
     /// How many pairs there are: N * N, from 4 to 256.
     pub fn count(&self) -> u16
         ensures count { result ≡ pair_count self.now }

@@ -1,3 +1,4 @@
+pub mod Sets
 pub mod Edges
 pub mod Joins
 pub mod Walks

@@ -38,7 +38,7 @@ pub second_of-below : {r : LocalRule} → IsRule r → (p : ℕ) → second_of r
 second_of-below {r} rule p = mod-lt p (node_count_pos rule)
 
 -- where something is given only if two numbers are equal, and it is given, they are, and it is this
-some_if_equal : (m n s q : ℕ) → (if m == n then Some s else None) ≡ Some q → (m ≡ n) × (s ≡ q)
+pub some_if_equal : (m n s q : ℕ) → (if m == n then Some s else None) ≡ Some q → (m ≡ n) × (s ≡ q)
 some_if_equal m n s q e =
     ⊎_elim (λ same. let some : (if m == n then Some s else None) ≡ Some s = cond-true (m == n) (Some s) None (eq-eqb m n same) in (same, cc))
     (λ other. let none : (if m == n then Some s else None) ≡ None = cond-false (m == n) (Some s) None (ne_eqb m n other) in absurd cc)

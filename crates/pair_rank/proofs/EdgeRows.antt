@@ -8,7 +8,7 @@ use Rattle.word_image.proofs.laws.Bits.{IsBitSet-zero, IsBitSet-or}
 use Rattle.pair_rank.specs.declared.edges.Side.{Side}
 use Rattle.pair_rank.specs.Sides.{IsEdge, from_node, to_node}
 use Rattle.pair_rank.specs.Rounds.{AreEdges, ends_at}
-use Rattle.pair_rank.proofs.Sets.{IsBitSet-shl}
+use Rattle.pair_laws.proofs.Sets.{IsBitSet-shl}
 
 -- 16 rows of 16
 pub record IsSquare (ends : List (List ℕ)) : Type 0 where

@@ -1,6 +1,5 @@
 mod Sides
 mod MostRank
-mod Sets
 mod EdgeRows
 mod Rows
 mod Tables

@@ -10,7 +10,7 @@ use Rattle.pair_rank.specs.declared.edges.Side.{Side}
 use Rattle.pair_rank.specs.Sides.{Together}
 use Rattle.pair_rank.specs.Rounds.{AreEdges, GoesOnBy, GoesOn, ends_at}
 use Rattle.pair_rank.proofs.Sides.{window_count, IsEdge-below, IsEdge-label, Together-zero, Together-step, Together-push}
-use Rattle.pair_rank.proofs.Sets.{IsBitSet-below}
+use Rattle.pair_laws.proofs.Sets.{IsBitSet-below}
 
 -- s is in the set, and its pair with t is in the rows
 abbrev pub PairedBy : List ℕ → ℕ → ℕ → ℕ → Type 0

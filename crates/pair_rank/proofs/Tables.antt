@@ -13,7 +13,7 @@ use Rattle.pair_rank.specs.Sides.{Together, AreRanks, rank_at}
 use Rattle.pair_rank.specs.Rounds.{HasFallen}
 use Rattle.pair_rank.proofs.Sides.{Together-below, Together-less, Together-zero, Together-rank, IsStable, IsStable-endless}
 use Rattle.pair_rank.proofs.MostRank.{IsRank-most}
-use Rattle.pair_rank.proofs.Sets.{IsBitSet-minus}
+use Rattle.pair_laws.proofs.Sets.{IsBitSet-minus}
 use Rattle.pair_rank.proofs.Rows.{AreRows}
 
 -- of the first w nodes those of the set have the rank n with u, and no other rank has changed

@@ -1,7 +1,7 @@
 use Rattle.std.proofs.Common.{◌≡◌, ℕ, ◌+◌, ◌*◌, ◌%◌, ◌^◌, ◌<◌, ◌↔◌, IsBitSet, bit_and, slice_index, sym, subst, arith, mod-lt, lit<}
 use Rattle.std.specs.Int.Bits.{and_lt}
 use Rattle.word_image.proofs.laws.Unions.{IsUnion, IsUnion-skip, IsUnion-take}
-use Rattle.pair_rank.proofs.Sets.{IsBitSet-meet, IsBitSet-apart, IsBitSet-shl}
+use Rattle.pair_laws.proofs.Sets.{IsBitSet-meet, IsBitSet-apart, IsBitSet-shl}
 use Rattle.pair_rank.proofs.Rows.{LeadsTo}
 use Rattle.pair_rank.proofs.rounds.leading_to.Goals as goal
 use Rattle.pair_rank.proofs.rounds.leading_to.Goals.{then-end-set-ne0, else-end-set-ne0}

@@ -1,8 +1,9 @@
 -- Sets of nodes as bits: what two have both, and what one has more than another.
-use Rattle.std.proofs.Common.{◌≡◌, ℕ, ◌-◌, ◌*◌, ◌%◌, ◌^◌, ◌<◌, ◌↔◌, IsBitSet, bit_and, sym, subst, arith, ⊎_elim}
+use Rattle.std.proofs.Common.{◌≡◌, ℕ, ◌+◌, ◌-◌, ◌*◌, ◌/◌, ◌%◌, ◌^◌, ◌<◌, ◌↔◌, ◌⊎◌, inl, inr, IsBitSet, bit_and, sym, ap, ◌∙◌, subst, arith, ⊎_elim}
 use Rattle.std.specs.Int.{bit_at, w16}
-use Rattle.std.proofs.lemmas.Bool.{cases_lt}
-use Rattle.std.proofs.lemmas.Nat.{one_shl}
+use Rattle.std.proofs.lemmas.Bool.{cases_eq, cases_lt}
+use Rattle.std.proofs.lemmas.Nat.{one_shl, pow-add}
+use Rattle.std.proofs.Math.Nat.{div-div-eq-div-mul}
 use Rattle.std.proofs.lemmas.Nat.Bits.{bit_at_and, bit_at_not, bit_at_above, bit_at-lt}
 use Rattle.word_image.proofs.laws.Bits.{bit_at-IsBitSet, IsBitSet-some, IsBitSet-zero, IsBitSet-pow}
 
@@ -54,3 +55,15 @@ IsBitSet-minus a b i small inside =
 -- one node as a set, as a shift makes it
 pub IsBitSet-shl : (k i : ℕ) → k < 16 → IsBitSet (1 * 2 ^ k % 2 ^ 16) i ↔ (i ≡ k)
 IsBitSet-shl k i small = subst (λ a. IsBitSet a i ↔ (i ≡ k)) (sym (one_shl k 16 small)) (IsBitSet-pow k i)
+
+-- a set moved down by some places
+pub IsBitSet-shr : (a k i : ℕ) → IsBitSet (a / 2 ^ k) i ↔ IsBitSet a (k + i)
+IsBitSet-shr a k i =
+    let same : bit_at (a / 2 ^ k) i ≡ bit_at a (k + i) = ap (λ q. q % 2) (div-div-eq-div-mul a (2 ^ k) (2 ^ i) ∙ ap (λ p. a / p) (sym (pow-add 2 k i))) in (
+      (λ some. (bit_at-IsBitSet a (k + i)).1 (sym same ∙ (bit_at-IsBitSet (a / 2 ^ k) i).0 some)),
+      (λ some. (bit_at-IsBitSet (a / 2 ^ k) i).1 (same ∙ (bit_at-IsBitSet a (k + i)).0 some)),
+    )
+
+-- a place is in a set or isn't
+pub IsBitSet-decide : (a i : ℕ) → IsBitSet a i ⊎ ¬ IsBitSet a i
+IsBitSet-decide a i = ⊎_elim (λ one. inl ((bit_at-IsBitSet a i).1 one)) (λ other. inr (λ some. other ((bit_at-IsBitSet a i).0 some))) (cases_eq (bit_at a i) 1)

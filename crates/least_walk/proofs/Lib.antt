@@ -1,0 +1,2 @@
+mod MarkedRows
+mod Walking

@@ -1,0 +1,214 @@
+-- Steps of the marked graph, and rows that have marked pairs.
+use Rattle.std.proofs.Common.{◌≡◌, ◌≢◌, ℕ, zero, suc, ◌+◌, ◌-◌, ◌*◌, ◌/◌, ◌%◌, ◌^◌, ◌<◌, ◌≤◌, ◌↔◌, ◌⊎◌, inl, inr, List, Some, None, cond, true, false, length, replicate, IsBitSet, IsTrue, bit_and, bit_or, slice_index, slice_set, refl, sym, ap, ap₂, ◌∙◌, subst, subst₂, arith, ⊎_elim, mod-lt, lit<}
+use Rattle.std.specs.Prelude.{◌==◌, ◌||◌, not, nat_le}
+use Rattle.std.proofs.lemmas.Bool.{cases_eq, eq-eqb, ne_eqb}
+use Rattle.std.proofs.lemmas.Bool.Decides.{Decides-eqb, leb_tells}
+use Rattle.std.proofs.lemmas.List.{get_or-set_other}
+use Rattle.std.proofs.lemmas.Grind.{get_or-set_at}
+use Rattle.std.proofs.lemmas.Nat.{div-mul-add, mod-mul-add, div-add-mod', same_from_place, mul-add-lt, div_below}
+use Rattle.std.proofs.lemmas.Nat.Bits.{shr_and_one}
+use Rattle.std.proofs.Math.Nat.{pow-succ', one-le-pow}
+use Rattle.word_image.specs.LocalRules.{LocalRule, IsRule, node_count}
+use Rattle.word_image.specs.Graphs.{next, label, first_of, second_of, pair_of, pair_count, marked}
+use Rattle.word_image.proofs.laws.Bits.{bit_at-IsBitSet, IsBitSet-or, IsBitSet-zero}
+use Rattle.word_image.proofs.laws.Graphs.{next-below, node_count_pos}
+use Rattle.pair_laws.proofs.Sets.{IsBitSet-shl, IsBitSet-shr, IsBitSet-and, IsBitSet-minus, IsBitSet-decide}
+use Rattle.pair_laws.proofs.Pairs.{some_if_equal, first_of-pair_of, second_of-pair_of, pair_of-first_of, pair_of-below, first_of-below, second_of-below}
+use Rattle.debruijn.specs.Ends.{IsEnds}
+use Rattle.least_walk.specs.declared.marks.Parts.{Parts}
+use Rattle.least_walk.specs.Marks.{pair_part, row_of, HasPair, ArePartsOf}
+
+-- there are pairs
+pub pair_count-pos : {r : LocalRule} → IsRule r → 0 < pair_count r
+pair_count-pos {r} rule = omega (arith, pair_of-below r 0 0 (node_count_pos rule) (node_count_pos rule))
+
+-- a step of the marked graph is two edges with one label, and the mark stays, and comes where the letters differ
+pub record IsMarkedStep (r : LocalRule) (t a b q : ℕ) : Type 0 where
+  pub one_label : label r (first_of r (pair_part r t)) a ≡ label r (second_of r (pair_part r t)) b
+  pub mark : ℕ
+  pub leads : q ≡ mark * pair_count r + pair_of r (next r (first_of r (pair_part r t)) a) (next r (second_of r (pair_part r t)) b)
+  pub small : mark < 2
+  pub stays : pair_count r ≤ t → mark ≡ 1
+  pub comes : a ≢ b → mark ≡ 1
+  pub none : t < pair_count r → a ≡ b → mark ≡ 0
+
+pub marked-step : (r : LocalRule) (t a b q : ℕ) → marked r t a b ≡ Some q → IsMarkedStep r t a b q
+marked-step r t a b q e =
+    let c : ℕ = pair_count r in
+    let u : ℕ = first_of r (pair_part r t) in
+    let v : ℕ = second_of r (pair_part r t) in
+    let p : ℕ = pair_of r (next r u a) (next r v b) in
+    let step = some_if_equal (label r u a) (label r v b) (p + cond (nat_le c t || not (a == b)) c 0) q e in
+    ⊎_elim
+    (λ (test, holds).
+    let with : cond (nat_le c t || not (a == b)) c 0 ≡ c = ap (λ x. cond (x || not (a == b)) c 0) test in
+    record { one_label = step.0; mark = 1; leads = omega (arith, step.1, with); small = omega arith; stays = λ _. refl; comes = λ _. refl; none = λ less _. absurd (omega (arith, holds)) })
+    (λ (test, fails). ⊎_elim
+    (λ same.
+    let without : cond (nat_le c t || not (a == b)) c 0 ≡ 0 = ap (λ x. cond (x || not (a == b)) c 0) test ∙ ap (λ x. cond (not x) c 0) (eq-eqb a b same) in
+    record { one_label = step.0; mark = 0; leads = omega (arith, step.1, without); small = omega arith; stays = λ past. absurd (omega (arith, fails)); comes = λ other. absurd (other same); none = λ _ _. refl })
+    (λ other.
+    let with : cond (nat_le c t || not (a == b)) c 0 ≡ c = ap (λ x. cond (x || not (a == b)) c 0) test ∙ ap (λ x. cond (not x) c 0) (ne_eqb a b other) in
+    record { one_label = step.0; mark = 1; leads = omega (arith, step.1, with); small = omega arith; stays = λ _. refl; comes = λ _. refl; none = λ _ same. absurd (other same) })
+    (cases_eq a b))
+    (leb_tells c t)
+
+-- it leads to a marked pair
+pub marked-below : {r : LocalRule} → IsRule r → (t a b q : ℕ) → marked r t a b ≡ Some q → q < 2 * pair_count r
+marked-below {r} rule t a b q e =
+    let step = marked-step r t a b q e in
+    omega (
+      arith,
+      step.leads,
+      mul-add-lt step.mark (pair_count r) _ 2 step.small
+          (pair_of-below r (next r (first_of r (pair_part r t)) a) (next r (second_of r (pair_part r t)) b) (next-below rule _ a) (next-below rule _ b)),
+    )
+
+-- the bit of the pair of u and v with this mark
+pub HasPair-bit : {r : LocalRule} → IsRule r → (rows : List ℕ) (q mark u v : ℕ) → u < node_count r → v < node_count r → q ≡ mark * pair_count r + pair_of r u v
+    → IsBitSet (slice_index rows (16 * mark + u)) v → HasPair r rows q
+HasPair-bit {r} rule rows q mark u v in_u in_v e some =
+    let below = pair_of-below r u v in_u in_v in
+    let half : q / pair_count r ≡ mark = ap (λ z. z / pair_count r) e ∙ div-mul-add mark (pair_count r) (pair_of r u v) below in
+    let part : pair_part r q ≡ pair_of r u v = ap (λ z. z % pair_count r) e ∙ mod-mul-add mark (pair_count r) (pair_of r u v) below in
+    let first : first_of r (pair_part r q) ≡ u = ap (first_of r) part ∙ first_of-pair_of r u v in_v in
+    let second : second_of r (pair_part r q) ≡ v = ap (second_of r) part ∙ second_of-pair_of r u v in_v in
+    subst₂ (λ (i j : ℕ). IsBitSet (slice_index rows i) j) (sym (ap₂ (λ (m n : ℕ). 16 * m + n) half first)) (sym second) some
+
+-- the ends of a node's edges stand one after the other
+pub next-plus : {r : LocalRule} → IsRule r → (v b : ℕ) → b < r.states → next r v b ≡ next r v 0 + b
+next-plus {r} rule v b letter =
+    let wide : 2 ≤ r.width = rule.shape.least_width in
+    let least : 2 ≤ r.states = rule.shape.least_states in
+    let long : r.width - 1 ≡ suc (r.width - 2) = omega arith in
+    let m : ℕ = r.states ^ (r.width - 2) in
+    let nodes : node_count r ≡ r.states * m = ap (λ n. r.states ^ n) long ∙ pow-succ' r.states (r.width - 2) in
+    let positive : 0 < m = one-le-pow (r.width - 2) r.states (omega arith) in
+    let end : (c : ℕ) → c < r.states → next r v c ≡ (v % m) * r.states + c = λ c small.
+    let within : (v % m) * r.states + c < r.states * m = mul-add-lt (v % m) r.states c m (mod-lt v positive) small in
+    let split : v * r.states + c ≡ (v / m) * (r.states * m) + ((v % m) * r.states + c) = let whole = ap (λ z. z * r.states + c) (div-add-mod' v m) in omega arith in
+    ap (λ n. (v * r.states + c) % n) nodes ∙ ap (λ z. z % (r.states * m)) split ∙ mod-mul-add (v / m) (r.states * m) ((v % m) * r.states + c) within in
+    omega (arith, end b letter, end 0 (omega arith))
+
+-- a marked pair is known by its row and its place in the row
+pub row_of-injective : {r : LocalRule} → IsRule r → (s t : ℕ) → s < 2 * pair_count r → t < 2 * pair_count r → row_of r s ≡ row_of r t
+    → second_of r (pair_part r s) ≡ second_of r (pair_part r t) → s ≡ t
+row_of-injective {r} rule s t in_s in_t rows seconds =
+    let few : node_count r ≤ 16 = rule.shape.most_nodes in
+    let small : (q : ℕ) → first_of r (pair_part r q) < 16 = λ q. omega (arith, first_of-below rule (pair_part r q) (mod-lt q (pair_count-pos rule))) in
+    let same = same_from_place (s / pair_count r) (first_of r (pair_part r s)) (t / pair_count r) (first_of r (pair_part r t)) 16 (small s) (small t) (omega arith) in
+    let parts : pair_part r s ≡ pair_part r t = sym (pair_of-first_of r (pair_part r s)) ∙ ap₂ (pair_of r) same.1 seconds ∙ pair_of-first_of r (pair_part r t) in
+    sym (div-add-mod' s (pair_count r)) ∙ ap₂ (λ (h p : ℕ). h * pair_count r + p) same.0 parts ∙ div-add-mod' t (pair_count r)
+
+-- one marked pair more
+pub HasPair-add : {r : LocalRule} → IsRule r → (rows : List ℕ) (t i j : ℕ) → length rows ≡ 32 → t < 2 * pair_count r → i ≡ row_of r t → j ≡ second_of r (pair_part r t)
+    → (s : ℕ) → s < 2 * pair_count r → HasPair r (slice_set rows i (bit_or (slice_index rows i) (1 * 2 ^ j % 2 ^ 16))) s ↔ ((s ≡ t) ⊎ HasPair r rows s)
+HasPair-add {r} rule rows t i j long in_t row place s in_s =
+    let few : node_count r ≤ 16 = rule.shape.most_nodes in
+    let half : t / pair_count r < 2 = div_below t (pair_count r) 2 (pair_count-pos rule) in_t in
+    let first = first_of-below rule (pair_part r t) (mod-lt t (pair_count-pos rule)) in
+    let second = second_of-below rule (pair_part r t) in
+    let bit : ℕ = 1 * 2 ^ j % 2 ^ 16 in
+    let here : IsBitSet bit (second_of r (pair_part r s)) ↔ (second_of r (pair_part r s) ≡ j) = IsBitSet-shl j (second_of r (pair_part r s)) (omega arith) in
+    ⊎_elim
+    (λ same.
+    let found : slice_index (slice_set rows i (bit_or (slice_index rows i) bit)) (row_of r s) ≡ bit_or (slice_index rows (row_of r s)) bit =
+    get_or-set_at rows i (row_of r s) (bit_or (slice_index rows i) bit) 0 same (omega arith) ∙ ap (λ x. bit_or (slice_index rows x) bit) (sym same) in
+    let union = IsBitSet-or (slice_index rows (row_of r s)) bit (second_of r (pair_part r s)) in (
+      (λ some. ⊎_elim
+          (λ old. inr old)
+          (λ new. inl (row_of-injective rule s t in_s in_t (same ∙ row) (here.0 new ∙ place)))
+          (union.0 (subst (λ a. IsBitSet a (second_of r (pair_part r s))) found some))),
+      (λ either. subst (λ a. IsBitSet a (second_of r (pair_part r s))) (sym found) (union.1 (⊎_elim
+          (λ one. inr (here.1 (ap (λ q. second_of r (pair_part r q)) one ∙ sym place)))
+          (λ old. inl old)
+          either))),
+    ))
+    (λ other.
+    let kept : slice_index (slice_set rows i (bit_or (slice_index rows i) bit)) (row_of r s) ≡ slice_index rows (row_of r s) =
+    get_or-set_other rows i (row_of r s) (bit_or (slice_index rows i) bit) 0 other in (
+      (λ some. inr (subst (λ a. IsBitSet a (second_of r (pair_part r s))) kept some)),
+      (λ either. subst (λ a. IsBitSet a (second_of r (pair_part r s))) (sym kept) (⊎_elim
+          (λ one. absurd (other (ap (row_of r) one ∙ sym row)))
+          (λ old. old)
+          either)),
+    ))
+    (cases_eq (row_of r s) i)
+
+-- the test of a bit
+pub HasPair-test : (r : LocalRule) (rows : List ℕ) (t i j : ℕ) → i ≡ row_of r t → j ≡ second_of r (pair_part r t)
+    → IsTrue (bit_and (slice_index rows i / 2 ^ j) 1 == 1) ↔ HasPair r rows t
+HasPair-test r rows t i j row place =
+    let bit = bit_at-IsBitSet (slice_index rows i) j in
+    let test = Decides-eqb (bit_and (slice_index rows i / 2 ^ j) 1) 1 in (
+      (λ yes. subst₂ (λ (x y : ℕ). IsBitSet (slice_index rows x) y) row place (bit.1 (sym (shr_and_one (slice_index rows i) j) ∙ test.0 yes))),
+      (λ some. test.1 (shr_and_one (slice_index rows i) j ∙ bit.0 (subst₂ (λ (x y : ℕ). IsBitSet (slice_index rows x) y) (sym row) (sym place) some))),
+    )
+
+-- zeros at every place
+zeros : (n i : ℕ) → slice_index (replicate n 0) i ≡ 0
+zeros zero i = refl
+zeros (suc n) zero = refl
+zeros (suc n) (suc i) = zeros n i
+
+-- no marked pair is in rows of zeros
+pub HasPair-none : (r : LocalRule) (t : ℕ) → ¬ HasPair r (replicate 32 0) t
+HasPair-none r t some = IsBitSet-zero (second_of r (pair_part r t)) (subst (λ a. IsBitSet a (second_of r (pair_part r t))) (zeros 32 (row_of r t)) some)
+
+-- of the ends of v's edges, moved down to the first of them, and without those of a row: where the bit of letter b is missing, the row has that end
+end-old : {r : LocalRule} → IsRule r → (v b ends row end : ℕ) → b < r.states → row < 2 ^ 16 → end ≡ next r v 0 → IsBitSet ends (next r v b)
+    → ¬ IsBitSet (bit_and ends (65535 - row) / 2 ^ end) b → IsBitSet row (next r v b)
+end-old {r} rule v b ends row end letter small first leads old =
+    let few : node_count r ≤ 16 = rule.shape.most_nodes in
+    let place : end + b ≡ next r v b = omega (arith, next-plus rule v b letter) in
+    ⊎_elim
+    (λ present. present)
+    (λ absent. absurd (old ((IsBitSet-shr (bit_and ends (65535 - row)) end b).1
+    (subst (IsBitSet (bit_and ends (65535 - row))) (sym place) ((IsBitSet-minus ends row (next r v b) small (omega (arith, next-below rule v b))).1 (leads, absent))))))
+    (IsBitSet-decide row (next r v b))
+
+-- so the rows have the marked pair where the letters a and b lead, if its bit is missing in the ends without its row
+step-old : {r : LocalRule} → IsRule r → (rows : List ℕ) (t a b q u v mark ends row end : ℕ) → (step : IsMarkedStep r t a b q) → step.mark ≡ mark
+    → first_of r (pair_part r t) ≡ u → second_of r (pair_part r t) ≡ v → b < r.states
+    → IsEnds r v (label r u a) ends → end ≡ next r v 0 → row ≡ slice_index rows (16 * mark + next r u a) → row < 2 ^ 16
+    → ¬ IsBitSet (bit_and ends (65535 - row) / 2 ^ end) b → HasPair r rows q
+step-old {r} rule rows t a b q u v mark ends row end step with first second letter leads start here small old =
+    let labels : label r v b ≡ label r u a = ap (λ x. label r x b) (sym second) ∙ sym step.one_label ∙ ap (λ x. label r x a) first in
+    let present : IsBitSet ends (next r v b) = (leads.nodes (next r v b) (next-below rule v b)).1 (b, letter, labels, refl) in
+    HasPair-bit rule rows q mark (next r u a) (next r v b) (next-below rule u a) (next-below rule v b)
+    (step.leads ∙ ap₂ (λ (m p : ℕ). m * pair_count r + p) with (ap₂ (λ (x y : ℕ). pair_of r (next r x a) (next r y b)) first second))
+    (subst (λ c. IsBitSet c (next r v b)) here (end-old rule v b ends row end letter small start present old))
+
+-- from a marked pair with the mark
+pub fresh-with_mark : {r : LocalRule} → IsRule r → (rows : List ℕ) (parts : Parts) (t a b q ends row end : ℕ) → ArePartsOf r parts t → parts.mark ≡ 1 → b < r.states
+    → IsEnds r parts.second (label r parts.first a) ends → end ≡ next r parts.second 0 → row ≡ slice_index rows (16 + next r parts.first a) → row < 2 ^ 16
+    → ¬ IsBitSet (bit_and ends (65535 - row) / 2 ^ end) b → marked r t a b ≡ Some q → HasPair r rows q
+fresh-with_mark {r} rule rows parts t a b q ends row end of with letter leads start here small old e =
+    let step = marked-step r t a b q e in
+    let split = div-add-mod' t (pair_count r) in
+    let half : (t / pair_count r) * pair_count r ≡ 1 * pair_count r = ap (λ h. h * pair_count r) (sym of.mark ∙ with) in
+    step-old rule rows t a b q parts.first parts.second 1 ends row end step (step.stays (omega arith)) (sym of.first) (sym of.second) letter leads start here small old
+
+-- from one without it, the mark stays away where the letters are the same
+pub fresh-without : {r : LocalRule} → IsRule r → (rows : List ℕ) (parts : Parts) (t a b q ends row plain end same : ℕ) → ArePartsOf r parts t → parts.mark ≡ 0 → b < r.states → a < 16
+    → IsEnds r parts.second (label r parts.first a) ends → end ≡ next r parts.second 0
+    → row ≡ slice_index rows (16 + next r parts.first a) → row < 2 ^ 16 → plain ≡ slice_index rows (next r parts.first a) → plain < 2 ^ 16 → same ≡ 1 * 2 ^ a % 2 ^ 16
+    → ¬ IsBitSet (bit_or (bit_and (bit_and ends (65535 - row) / 2 ^ end) (65535 - same)) (bit_and (bit_and ends (65535 - plain) / 2 ^ end) same)) b
+    → marked r t a b ≡ Some q → HasPair r rows q
+fresh-without {r} rule rows parts t a b q ends row plain end same of without letter first leads start here small also little shift old e =
+    let states : r.states ≤ 16 = rule.shape.most_states in
+    let step = marked-step r t a b q e in
+    let split = div-add-mod' t (pair_count r) in
+    let half : (t / pair_count r) * pair_count r ≡ 0 * pair_count r = ap (λ h. h * pair_count r) (sym of.mark ∙ without) in
+    let below : t < pair_count r = omega (arith, mod-lt t (pair_count-pos rule)) in
+    let with_mark : ℕ = bit_and ends (65535 - row) / 2 ^ end in
+    let without_mark : ℕ = bit_and ends (65535 - plain) / 2 ^ end in
+    let is_same : IsBitSet same b ↔ (b ≡ a) = subst (λ x. IsBitSet x b ↔ (b ≡ a)) (sym shift) (IsBitSet-shl a b first) in
+    let place : next r parts.first a ≡ 16 * 0 + next r parts.first a = omega arith in
+    let either = IsBitSet-or (bit_and with_mark (65535 - same)) (bit_and without_mark same) b in
+    ⊎_elim
+    (λ equal. step-old rule rows t a b q parts.first parts.second 0 ends plain end step (step.none below equal) (sym of.first) (sym of.second) letter leads start (also ∙ ap (slice_index rows) place) little
+    (λ some. old (either.1 (inr ((IsBitSet-and without_mark same b).1 (some, is_same.1 (sym equal)))))))
+    (λ other. step-old rule rows t a b q parts.first parts.second 1 ends row end step (step.comes other) (sym of.first) (sym of.second) letter leads start here small
+    (λ some. old (either.1 (inl ((IsBitSet-minus with_mark same b (omega (arith, mod-lt (1 * 2 ^ a) {m = 2 ^ 16} (lit< tt))) (omega arith)).1 (some, λ one. other (sym (is_same.0 one))))))))
+    (cases_eq a b)

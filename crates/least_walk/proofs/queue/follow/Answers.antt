@@ -1,0 +1,60 @@
+use Rattle.std.proofs.Common.{◌≡◌, ℕ, ◌+◌, ◌*◌, ◌<◌, ◌≤◌, List, length, vec_capacity, get_or, Some, IsBitSet, sym, ap, ◌∙◌, subst, subst₂, arith}
+use Rattle.std.specs.List.{slice_get}
+use Rattle.std.proofs.lemmas.Option.{slice_get-get_or, slice_get_within}
+use Rattle.word_image.specs.LocalRules.{LocalRule}
+use Rattle.word_image.proofs.laws.Bits.{IsBitSet-zero}
+use Rattle.word_image.proofs.laws.Places.{slice_get-unique}
+use Rattle.least_walk.specs.Marks.{ArePartsOf}
+use Rattle.least_walk.specs.declared.queue.Reached.{Reached}
+use Rattle.least_walk.specs.Queues.{IsSearch, step_count}
+use Rattle.least_walk.proofs.Walking.{state-in, IsSearch-rest, IsSearch-next}
+use Rattle.least_walk.proofs.queue.follow.Goals as goal
+use Rattle.least_walk.proofs.queue.follow.Goals.{then-letters-ne0+in_default, else-letters-ne0}
+
+pub parts_of-from-requires : goal.parts_of-from-requires
+parts_of-from-requires c =
+    state-in c.requires.search c.args.head c.index.result.now
+    (slice_get-get_or c.args.queue.now.items c.args.head c.index.result.now (omega (arith, c.args.queue.now.ok)) ∙ ap Some (sym c.index.ensures))
+
+pub follow_letter-requires-clause-head : goal.follow_letter-requires-clause-head
+follow_letter-requires-clause-head c =
+    let at = c.loop-a.invariant.same ∙ slice_get-get_or c.args.queue.now.items c.args.head c.index.result.now (omega (arith, c.args.queue.now.ok)) in
+    omega (arith, slice_get_within c.loop-a.queue.items c.args.head _ at, c.loop-a.queue.ok)
+
+pub follow_letter-requires-clause-old : goal.follow_letter-requires-clause-old
+follow_letter-requires-clause-old c x b q at letter absent step =
+    let here = c.loop-a.invariant.same ∙ slice_get-get_or c.args.queue.now.items c.args.head c.index.result.now (omega (arith, c.args.queue.now.ok)) ∙ ap Some (sym c.index.ensures) in
+    let same : c.index.result.now ≡ x = slice_get-unique c.loop-a.queue.items c.args.head c.index.result.now x here at in
+    c.fresh-letters.ensures x.pair b q (subst (λ (y : Reached). ArePartsOf c.args.pairs.now c.parts_of-from.result y.pair) same c.parts_of-from.ensures.parts) letter absent step
+
+pub loop-a-preserved : goal.loop-a-preserved
+loop-a-preserved c =
+    let r = c.args.pairs.now in
+    let inv = c.loop-a.invariant in
+    let at : slice_get c.loop-a.queue.items c.args.head ≡ Some c.index.result.now =
+    inv.same ∙ slice_get-get_or c.args.queue.now.items c.args.head c.index.result.now (omega (arith, c.args.queue.now.ok)) ∙ ap Some (sym c.index.ensures) in
+    elim c.if-letters-ne0.branch [
+      | then-letters-ne0+in_default w ↦
+          let done = w.in_default.ensures in
+          let stays : c.if-letters-ne0.queue.items ≡ w.follow_letter.new.queue.items = ap (λ v. v.items) w.queue-is in
+          record {
+            room = omega (arith, done.room, ap (λ v. vec_capacity v) w.queue-is);
+            search = subst₂ (λ (q : List Reached) (rows : List ℕ). IsSearch r c.args.ends q rows (c.args.head * step_count r + (c.loop-a.a + 1) * 16)) (sym stays) (sym w.rows-is) done.none;
+            same = ap (λ q. slice_get q c.args.head) stays ∙ done.same ∙ inv.same;
+          }
+      | else-letters-ne0 w ↦
+          let stays : c.if-letters-ne0.queue.items ≡ c.loop-a.queue.items = ap (λ v. v.items) w.queue-is in
+          let letter : c.loop-a.a < r.states = omega (arith, ap (λ (z : LocalRule). z.states) c.rule.ensures) in
+          let start : c.args.head * step_count r + c.loop-a.a * 16 ≡ c.args.head * step_count r + (c.loop-a.a * 16 + 0) = omega arith in
+          record {
+            room = omega (arith, inv.room, ap (λ v. vec_capacity v) w.queue-is);
+            search = subst₂ (λ (q : List Reached) (rows : List ℕ). IsSearch r c.args.ends q rows (c.args.head * step_count r + (c.loop-a.a + 1) * 16)) (sym stays) (sym w.rows-is)
+                (IsSearch-rest c.args.head c.loop-a.a 0 (subst (IsSearch r c.args.ends c.loop-a.queue.items c.loop-a.rows) start inv.search) c.index.result.now at letter (omega arith)
+                (λ b q least below leads. c.fresh-letters.ensures c.index.result.now.pair b q c.parts_of-from.ensures.parts below
+                (λ some. IsBitSet-zero b (subst (λ n. IsBitSet n b) w.if-letters-ne0.false some)) leads));
+            same = ap (λ q. slice_get q c.args.head) stays ∙ inv.same;
+          }
+    ]
+
+pub returns-clause-none : goal.returns-clause-none
+returns-clause-none c = IsSearch-next c.args.head c.loop-a.a (omega (arith, ap (λ (z : LocalRule). z.states) c.rule.ensures)) c.loop-a.invariant.search

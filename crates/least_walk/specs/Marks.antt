@@ -1,0 +1,23 @@
+-- Sets of marked pairs as rows of bits.
+use Rattle.std.specs.Prelude.{◌≡◌, ℕ, ◌+◌, ◌*◌, ◌/◌, ◌%◌, List, slice_index, IsBitSet}
+use Rattle.word_image.specs.LocalRules.{LocalRule}
+use Rattle.least_walk.specs.declared.marks.Parts.{Parts}
+use Rattle.word_image.specs.Graphs.{first_of, second_of, pair_count}
+
+-- the pair of nodes of a marked pair
+abbrev pub pair_part : LocalRule → ℕ → ℕ
+pair_part r t = t % pair_count r
+
+-- the row of a marked pair: that of its first node, in the second half if it has the mark
+abbrev pub row_of : LocalRule → ℕ → ℕ
+row_of r t = 16 * (t / pair_count r) + first_of r (pair_part r t)
+
+-- the rows have this marked pair
+abbrev pub HasPair : LocalRule → List ℕ → ℕ → Type 0
+HasPair r rows t = IsBitSet (slice_index rows (row_of r t)) (second_of r (pair_part r t))
+
+-- the mark and the nodes of a marked pair
+pub record ArePartsOf (r : LocalRule) (parts : Parts) (t : ℕ) : Type 0 where
+  pub mark : parts.mark ≡ t / pair_count r
+  pub first : parts.first ≡ first_of r (pair_part r t)
+  pub second : parts.second ≡ second_of r (pair_part r t)

@@ -1,0 +1,169 @@
+//! A breadth first search through the marked pairs.
+
+ghost use Rattle.std.specs.Prelude.{◌≡◌, ℕ, ◌+◌, ◌*◌, ◌<◌, ◌≤◌, [], ◌∷◌, ◌++◌, length, vec_len, vec_capacity, IfSome, IfNone, IsBitSet, Some, slice_get};
+ghost use Rattle.word_image.specs.LocalRules.{IsRule};
+ghost use Rattle.word_image.specs.Graphs.{marked, pair_count};
+ghost use Rattle.least_walk.specs.Marks.{HasPair};
+ghost use Rattle.least_walk.specs.Queues.{IsSearch, IsArrival, IsExhausted, IsOldBut};
+
+use crate::marks::{Rows, add, fresh, has, parts_of};
+use pair_graph::Pairs;
+
+/// The most marked pairs.
+pub const MOST_STATES: usize = 512;
+
+/// A marked pair that was reached, and how first: from that at place `parent`, by `step`, a letter
+/// pair (a, b) as 16 a + b. For the start, which stands first, these two say nothing.
+#[derive(Clone, Copy, Debug)]
+pub struct Reached {
+    /// The marked pair.
+    pub pair: u16,
+    /// The place from which it was reached.
+    pub parent: u16,
+    /// The letter pair by which it was reached.
+    pub step: u8,
+}
+
+/// From which marked pair to which one a walk leads.
+#[derive(Clone, Copy)]
+pub struct Ends {
+    /// Where it starts.
+    pub start: u16,
+    /// Where it is to arrive.
+    pub goal: u16,
+}
+
+/// The step with which a walk arrives at its goal, and the place from which it is made.
+#[derive(Clone, Copy, Debug)]
+pub struct Arrival {
+    /// The place in the queue.
+    pub place: u16,
+    /// The letter pair.
+    pub step: u8,
+}
+
+/// Lists the marked pairs that are reached from the start, breadth first with letter pairs ascending.
+/// Stops where a step leads to the goal, and answers with that step.
+pub fn search(queue: &mut Vec<Reached>, pairs: &Pairs, ends: Ends) -> Option<Arrival>
+    requires room { 512 ≤ vec_capacity queue.old }
+    requires start { ends.start < 2 * pair_count pairs.now }
+    requires goal { ends.goal < 2 * pair_count pairs.now }
+    ensures room { 512 ≤ vec_capacity queue.new }
+    ensures found { IfSome result (λ a. IsArrival pairs.now ends queue.new.items a.place a.step) }
+    ensures none { IfNone result (IsExhausted pairs.now ends queue.new.items) }
+{
+    queue.clear();
+    list(queue, ends.start, 0, 0);
+    let mut rows = [0; 32];
+    add(pairs, &mut rows, ends.start);
+    if ends.start == ends.goal {
+        rows = [0; 32];
+    }
+    let mut head = 0;
+    while head < queue.len() {
+        if let Some(step) = follow(queue, &mut rows, pairs, ends, head) {
+            return Some(Arrival {
+                place: head as u16,
+                step,
+            });
+        }
+        head += 1;
+    }
+    None
+}
+
+/// Follows the steps from the marked pair at `head`. Stops where one leads to the goal, and answers with
+/// it.
+fn follow(
+    queue: &mut Vec<Reached>,
+    rows: &mut Rows,
+    pairs: &Pairs,
+    ends: Ends,
+    head: usize,
+) -> Option<u8>
+    requires room { 512 ≤ vec_capacity queue.old }
+    requires head { head < vec_len queue.old }
+    requires search { IsSearch pairs.now ends queue.old.items rows.old (head * (pairs.now.states * 16)) }
+    ensures room { 512 ≤ vec_capacity queue.new }
+    ensures found { IfSome result (IsArrival pairs.now ends queue.new.items head) }
+    ensures none { IfNone result (IsSearch pairs.now ends queue.new.items rows.new ((head + 1) * (pairs.now.states * 16))) }
+{
+    let t = queue[head].pair;
+    let from = parts_of(pairs, t);
+    for a in 0..pairs.rule().k() {
+        let letters = fresh(pairs, rows, from, a);
+        if letters != 0 {
+            if let Some(step) = follow_letter(queue, rows, pairs, ends, head, a, letters) {
+                return Some(step);
+            }
+        }
+    }
+    None
+}
+
+/// Follows the steps from the marked pair at `head` with first letter a, of which those with a second
+/// letter outside `letters` lead to nothing new.
+fn follow_letter(
+    queue: &mut Vec<Reached>,
+    rows: &mut Rows,
+    pairs: &Pairs,
+    ends: Ends,
+    head: usize,
+    a: u8,
+    letters: u16,
+) -> Option<u8>
+    requires room { 512 ≤ vec_capacity queue.old }
+    requires head { head < vec_len queue.old }
+    requires letter { a < pairs.now.states }
+    requires search { IsSearch pairs.now ends queue.old.items rows.old (head * (pairs.now.states * 16) + a * 16) }
+    requires old { IsOldBut pairs.now queue.old.items rows.old head a letters }
+    ensures room { 512 ≤ vec_capacity queue.new }
+    ensures found { IfSome result (IsArrival pairs.now ends queue.new.items head) }
+    ensures none { IfNone result (IsSearch pairs.now ends queue.new.items rows.new (head * (pairs.now.states * 16) + (a + 1) * 16)) }
+    ensures same { slice_get queue.new.items head ≡ slice_get queue.old.items head }
+{
+    let t = queue[head].pair;
+    for b in 0..pairs.rule().k() {
+        if let Some(q) = new_step(pairs, rows, t, a, b, letters) {
+            let step = 16 * a + b;
+            if q == ends.goal {
+                return Some(step);
+            }
+            add(pairs, rows, q);
+            list(queue, q, head as u16, step);
+        }
+    }
+    None
+}
+
+/// Where the letters lead, if that is not in the rows.
+fn new_step(pairs: &Pairs, rows: &Rows, t: u16, a: u8, b: u8, letters: u16) -> Option<u16>
+    requires rule { IsRule pairs.now }
+    requires pair { t < 2 * pair_count pairs.now }
+    requires first { a < pairs.now.states }
+    requires second { b < pairs.now.states }
+    requires old { (q : ℕ) → ¬ IsBitSet letters b → marked pairs.now t a b ≡ Some q → HasPair pairs.now rows.now q }
+    ensures below { IfSome result (λ q. q < 2 * pair_count pairs.now) }
+    ensures step { IfSome result (λ q. marked pairs.now t a b ≡ Some q) }
+    ensures new { IfSome result (λ q. ¬ HasPair pairs.now rows.now q) }
+    ensures none { IfNone result ((q : ℕ) → marked pairs.now t a b ≡ Some q → HasPair pairs.now rows.now q) }
+{
+    if letters >> b & 1 == 0 {
+        return None;
+    }
+    let q = pairs.marked(t, a, b)?;
+    if has(pairs, rows, q) { None } else { Some(q) }
+}
+
+/// Adds to a queue with room for it.
+fn list(queue: &mut Vec<Reached>, pair: u16, parent: u16, step: u8)
+    requires { vec_len queue.old < vec_capacity queue.old }
+    ensures items { queue.new.items ≡ queue.old.items ++ record { pair = pair; parent = parent; step = step } ∷ [] }
+    ensures room { vec_capacity queue.old ≤ vec_capacity queue.new }
+{
+    let reached = Reached { pair, parent, step };
+    match queue.push(reached) {
+        Ok(()) => (),
+        Err(_) => unreachable!(),
+    }
+}

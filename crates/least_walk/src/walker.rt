@@ -1,0 +1,100 @@
+//! The searches for walks, and their room.
+
+ghost use Rattle.std.specs.Prelude.{◌≡◌, ℕ, ◌*◌, ◌<◌, ◌≤◌, List, [], ◌∷◌, ◌++◌, length, map, vec_len, vec_capacity, IfOk, IfSome, IfNone};
+ghost use Rattle.least_walk.specs.Queues.{IsBackward, SpellsWalk};
+
+use crate::queue::{Arrival, Ends, MOST_STATES, Reached, search};
+use pair_graph::Pairs;
+use std::alloc::{AllocError, Global};
+use std::marker::Model;
+
+/// Searches for least walks. It is seen as the walk that it found last, and reuses its room.
+#[derive(Debug, Drop)]
+pub struct Walker {
+    // The marked pairs that the last search reached, with room for all.
+    queue: Vec<Reached>,
+    // The steps of the walk that it found, with room for the longest.
+    steps: Vec<u8>,
+}
+
+impl Model for Walker {
+    ghost use Rattle.std.specs.Prelude.{List, ℕ, ◌≤◌, vec_capacity};
+
+    ghost Value = { List ℕ };
+
+    ghost view = { λ w. w.steps.items };
+
+    ghost invariant = { λ w. (512 ≤ vec_capacity w.queue) × (512 ≤ vec_capacity w.steps) };
+}
+
+impl Walker {
+    ghost use Rattle.word_image.specs.Graphs.{marked, pair_count};
+    ghost use Rattle.search_laws.proofs.PairWalks.{IsLeastWalk, PairWalk, uncode};
+
+    /// A walker that has found no walk. It takes all the memory that it needs.
+    pub fn new(alloc: Global) -> Result<Walker, AllocError>
+        ensures { IfOk result (λ walker. walker ≡ []) }
+    {
+        Ok(Walker {
+            queue: Vec::with_capacity(alloc, MOST_STATES)?,
+            steps: Vec::with_capacity(alloc, MOST_STATES)?,
+        })
+    }
+
+    /// Among the walks of at least one step from one marked pair to another the shortest, and among
+    /// these the first in the dictionary order of their letter pairs; `None` exactly where no walk
+    /// exists. A letter pair (a, b) is given as 16 a + b.
+    pub fn walk(&mut self, pairs: &Pairs, from: u16, to: u16) -> Option<&[u8]>
+        requires from { from < 2 * pair_count pairs.now }
+        requires to { to < 2 * pair_count pairs.now }
+        ensures least { IfSome result (λ steps. IsLeastWalk (marked pairs.now) pairs.now.states from to (map (uncode 16) steps.now)) }
+        ensures most { IfSome result (λ steps. length steps.now ≤ 512) }
+        ensures none { IfNone result ((w : List (ℕ × ℕ)) → 0 < length w → ¬ PairWalk (marked pairs.now) pairs.now.states from w to) }
+    {
+        let ends = Ends {
+            start: from,
+            goal: to,
+        };
+        match search(&mut self.queue, pairs, ends) {
+            Some(arrival) => {
+                spell(&self.queue, arrival, &mut self.steps);
+                Some(&self.steps)
+            }
+            None => None,
+        }
+    }
+}
+
+/// Writes the steps of the walk that arrives so: those by which each marked pair on its way was
+/// reached, and then the last one.
+fn spell(queue: &[Reached], arrival: Arrival, steps: &mut Vec<u8>)
+    requires room { 512 ≤ vec_capacity steps.old }
+    requires place { arrival.place < length queue.now }
+    requires most { length queue.now ≤ 512 }
+    requires backward { IsBackward queue.now }
+    ensures room { 512 ≤ vec_capacity steps.new }
+    ensures spelled { SpellsWalk queue.now arrival.place arrival.step steps.new.items }
+    ensures most { length steps.new.items ≤ 512 }
+{
+    steps.clear();
+    put(steps, arrival.step);
+    let mut place = usize::from(arrival.place);
+    while place > 0 {
+        let reached = queue[place];
+        put(steps, reached.step);
+        place = usize::from(reached.parent);
+    }
+    steps.reverse();
+}
+
+/// Adds a step where there is room for it.
+fn put(steps: &mut Vec<u8>, step: u8)
+    requires { vec_len steps.old < vec_capacity steps.old }
+    ensures items { steps.new.items ≡ steps.old.items ++ step ∷ [] }
+    ensures room { vec_capacity steps.old ≤ vec_capacity steps.new }
+{
+    match steps.push(step) {
+        Ok(()) => (),
+        Err(_) => unreachable!(),
+    }
+}
