@@ -1,2 +1,4 @@
 pub mod FirstWindows
 pub mod LookAheads
+pub mod LeastWalks
+pub mod SplitTails

@@ -1,2 +1,4 @@
 pub mod Sides
 pub mod LeastAheads
+pub mod Walks
+pub mod Closing

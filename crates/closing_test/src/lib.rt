@@ -16,12 +16,24 @@
 //! other node, and the least right look-ahead is 2. Two windows that differ in their first letter alone
 //! have different labels, so the least left look-ahead is 1.
 //!
-//! A look-ahead takes time **O(k·k^m)** and no memory.
+//! A normal right split is two walks in the marked graph of pairs: one from the pair of the nodes of
+//! zeros to a state, which spells the middles, and one from that state round to its pair with the mark,
+//! which spells the right periods. For each of the 2 N² states the least walks make the least split, and
+//! the least of these is the least of all. Under rule 110 the letter pairs (1, 1), (0, 1), (0, 1) lead
+//! from the pair of 00 with itself to that of 00 and 11, with the mark, and (0, 1) leads round it. The
+//! images of `0|100|0` and `0|111|1` are both 1 at the places -1 and 0 alone.
+//!
+//! For N = k^(m - 1) nodes a look-ahead takes time **O(k·k^m)** and no memory. A split takes two walks
+//! for each state, time **O(k·N⁴)** in operations on rows, and the memory of two splits.
 #![tactic(auto)]
 
+mod closing;
 mod look_ahead;
 mod side;
+mod split;
 #[cfg(test)]
 mod tests;
+mod walks;
 
+pub use closing::{Closing, left, right};
 pub use look_ahead::{ahead_left, ahead_right};

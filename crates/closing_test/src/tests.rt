@@ -1,9 +1,18 @@
 //! Rules whose closings were worked out from the definitions, by a program that goes through words.
 
 use super::*;
+use least_walk::Walker;
 use pair_rank::Ranks;
 use std::test::Fail;
+use tail_config::Tail;
 use word_image::Rule;
+
+/// The left period, the middle and the right period of a Tail.
+type Parts<'a> = (&'a [u8], &'a [u8], &'a [u8]);
+
+fn parts(tail: &Tail) -> Parts<'_> {
+    (tail.left(), tail.middle(), tail.right())
+}
 
 /// The elementary rule of a number: two states, and windows of a cell and its two neighbours.
 fn elementary(number: u8) -> Result<Rule, Fail> {
@@ -54,23 +63,90 @@ fn wider_rules_and_more_states(rt: HostRuntime) -> Result<(), Fail> {
 }
 
 #[test]
-fn elementary_rules_close_on_these_sides(rt: HostRuntime) -> Result<(), Fail> {
-    let right = [
-        15, 51, 60, 85, 86, 89, 90, 101, 102, 105, 106, 149, 150, 153, 154, 165, 166, 169, 170,
-        195, 204, 240,
-    ];
-    let left = [
-        15, 30, 45, 51, 60, 75, 85, 90, 102, 105, 120, 135, 150, 153, 165, 170, 180, 195, 204, 210,
-        225, 240,
-    ];
-    for number in 0..=255 {
+fn of_the_elementary_rules_so_many_close(rt: HostRuntime) -> Result<(), Fail> {
+    let mut right = 0;
+    let mut left = 0;
+    let mut both = 0;
+    for number in 0..=255u8 {
         let (to_right, to_left) = aheads(&elementary(number)?);
-        assert_eq!(rt;
-            to_right.is_some(),
-            right.contains(&number),
-            "rule {number}"
-        );
-        assert_eq!(rt; to_left.is_some(), left.contains(&number), "rule {number}");
+        right += u16::from(to_right.is_some());
+        left += u16::from(to_left.is_some());
+        both += u16::from(to_right.is_some() && to_left.is_some());
+    }
+    assert_eq!(rt; (right, left, both), (22, 22, 14));
+    Ok(())
+}
+
+#[test]
+fn right_splits_are_least(rt: HostRuntime) -> Result<(), Fail> {
+    let cases: [(u8, Parts, Parts); 4] = [
+        (30, (&[0], &[1, 0, 1, 1], &[1]), (&[0], &[1, 1, 0, 0], &[0])),
+        (110, (&[0], &[1, 0, 0], &[0]), (&[0], &[1, 1, 1], &[1])),
+        (
+            184,
+            (&[0], &[], &[0, 1, 1, 0, 0]),
+            (&[0], &[], &[1, 0, 1, 0, 0]),
+        ),
+        (0, (&[0], &[], &[0, 0, 0]), (&[0], &[], &[1, 0, 0])),
+    ];
+    let mut walker = Walker::new(rt.alloc())?;
+    for (number, first, second) in cases {
+        let rule = elementary(number)?;
+        match right(rt.alloc(), &rule, &Ranks::of(&rule), &mut walker)? {
+            Closing::Split(x, y) => {
+                assert_eq!(rt; parts(&x), first, "rule {number}");
+                assert_eq!(rt; parts(&y), second, "rule {number}");
+            }
+            Closing::Ahead(n) => assert!(rt; false, "rule {number} looks ahead {n}"),
+        }
+    }
+    Ok(())
+}
+
+#[test]
+fn left_splits_are_least(rt: HostRuntime) -> Result<(), Fail> {
+    let cases: [(u8, Parts, Parts); 3] = [
+        (
+            110,
+            (&[0, 1, 1], &[0, 1], &[0]),
+            (&[1, 1, 0], &[1, 1], &[0]),
+        ),
+        (
+            184,
+            (&[0, 0, 1, 0, 1], &[], &[0]),
+            (&[0, 0, 0, 1, 1], &[], &[0]),
+        ),
+        (0, (&[0, 0, 0], &[], &[0]), (&[0, 0, 1], &[], &[0])),
+    ];
+    let mut walker = Walker::new(rt.alloc())?;
+    for (number, first, second) in cases {
+        let rule = elementary(number)?;
+        match left(rt.alloc(), &rule, &Ranks::of(&rule), &mut walker)? {
+            Closing::Split(x, y) => {
+                assert_eq!(rt; parts(&x), first, "rule {number}");
+                assert_eq!(rt; parts(&y), second, "rule {number}");
+            }
+            Closing::Ahead(n) => assert!(rt; false, "rule {number} looks ahead {n}"),
+        }
+    }
+    Ok(())
+}
+
+#[test]
+fn closing_rules_have_no_split(rt: HostRuntime) -> Result<(), Fail> {
+    let mut walker = Walker::new(rt.alloc())?;
+    for number in [60, 90, 170, 204] {
+        let rule = elementary(number)?;
+        let ranks = Ranks::of(&rule);
+        let (to_right, to_left) = aheads(&rule);
+        match right(rt.alloc(), &rule, &ranks, &mut walker)? {
+            Closing::Ahead(n) => assert_eq!(rt; Some(n), to_right, "rule {number}"),
+            Closing::Split(_, _) => assert!(rt; false, "rule {number} splits"),
+        }
+        match left(rt.alloc(), &rule, &ranks, &mut walker)? {
+            Closing::Ahead(n) => assert_eq!(rt; Some(n), to_left, "rule {number}"),
+            Closing::Split(_, _) => assert!(rt; false, "rule {number} splits"),
+        }
     }
     Ok(())
 }

@@ -1,0 +1,38 @@
+-- What the answers of `right` and `left` say.
+use Rattle.std.specs.Prelude.{◌≡◌, ◌≤◌, length}
+use Rattle.word_image.specs.LocalRules.{LocalRule, mirrored}
+use Rattle.word_image.specs.Windows.{IsLeastRightAhead}
+use Rattle.tail_config.specs.Tails.{IsRightClosing, IsLeftClosing}
+use Rattle.tail_config.specs.Splits.{IsLeastRightSplit, IsLeastLeftSplit}
+use Rattle.tail_config.specs.TailValues.{TailOver}
+use Rattle.closing_test.specs.declared.closing.Closing.{Closing}
+use Rattle.closing_test.specs.declared.closing.Closing.TheVariants.{Ahead, Split}
+
+-- a configuration over the rule's letters whose parts have at most 512 letters each
+pub record IsShortOver (r : LocalRule) (t : TailOver) : Type 0 where
+  pub states : t.states ≡ r.states
+  pub left : length t.config.left ≤ 512
+  pub middle : length t.config.middle ≤ 512
+  pub right : length t.config.right ≤ 512
+
+-- the least normal right split, in such configurations
+pub record IsLeastSplitOf (r : LocalRule) (x y : TailOver) : Type 0 where
+  pub least : IsLeastRightSplit r x.config y.config
+  pub first : IsShortOver r x
+  pub second : IsShortOver r y
+
+-- the least normal left split, in such configurations
+pub record IsLeastLeftSplitOf (r : LocalRule) (x y : TailOver) : Type 0 where
+  pub least : IsLeastLeftSplit r x.config y.config
+  pub first : IsShortOver r x
+  pub second : IsShortOver r y
+
+-- the least right look-ahead of a right-closing rule, or the least normal right split of one that isn't
+abbrev pub IsRightAnswer : LocalRule → Closing → Type 0
+IsRightAnswer r (Ahead n) = IsRightClosing r × IsLeastRightAhead r n × (n ≤ 241)
+IsRightAnswer r (Split x y) = ¬ IsRightClosing r × IsLeastSplitOf r x y
+
+-- the same of the left side
+abbrev pub IsLeftAnswer : LocalRule → Closing → Type 0
+IsLeftAnswer r (Ahead n) = IsLeftClosing r × IsLeastRightAhead (mirrored r) n × (n ≤ 241)
+IsLeftAnswer r (Split x y) = ¬ IsLeftClosing r × IsLeastLeftSplitOf r x y

@@ -1,0 +1,51 @@
+-- Two walks of pairs that make a normal split, each letter pair (a, b) written as a * 16 + b.
+use Rattle.std.specs.Prelude.{◌≡◌, ℕ, ◌/◌, ◌%◌, List, [], ◌∷◌, map, Option, Some, None}
+use Rattle.std.specs.declared.cmp.Ordering.TheVariants.{Greater}
+use Rattle.word_image.specs.LocalRules.{LocalRule}
+use Rattle.search_laws.proofs.PairWalks.{uncode}
+use Rattle.tail_config.specs.Tails.{TailConfig}
+use Rattle.tail_config.specs.Splits.{splits_cmp}
+use Rattle.tail_laws.specs.SplitWalks.{IsNoSplitBelow, IsLeastSplitAt, IsLeastBelow, IsSplitAt, split_of}
+use Rattle.closing_test.specs.declared.split.Letter.{Letter}
+use Rattle.closing_test.specs.declared.split.Letter.TheVariants.{First, Second}
+use Rattle.closing_test.specs.declared.walks.Walks.{Walks}
+
+-- the letter pairs of the middles
+abbrev pub middle_pairs : Walks → List (ℕ × ℕ)
+middle_pairs w = map (uncode 16) w.middle.items
+
+-- and those of the right periods
+abbrev pub period_pairs : Walks → List (ℕ × ℕ)
+period_pairs w = map (uncode 16) w.period.items
+
+-- one letter of a letter pair
+abbrev pub letter_of : Letter → ℕ → ℕ
+letter_of First step = step / 16
+letter_of Second step = step % 16
+
+-- the configuration of one letter of each letter pair, with the letter 0 for ever on its left
+abbrev pub tail_by : Letter → Walks → TailConfig
+tail_by letter w = record { left = 0 ∷ []; middle = map (letter_of letter) w.middle.items; right = map (letter_of letter) w.period.items }
+
+-- the split that they make
+abbrev pub split_by : Walks → TailConfig × TailConfig
+split_by w = split_of (middle_pairs w) (period_pairs w)
+
+-- a split comes before the one that is made by these walks, if any
+abbrev pub ComesBefore : TailConfig × TailConfig → Option Walks → Type 0
+ComesBefore split None = Unit {0}
+ComesBefore split (Some best) = splits_cmp (split_by best) split ≡ Greater
+
+-- no normal split at state t comes before that one
+abbrev pub IsNoneBefore : LocalRule → ℕ → Option Walks → Type 0
+IsNoneBefore r t best = (w v : List (ℕ × ℕ)) → IsSplitAt r t w v → ¬ ComesBefore (split_of w v) best
+
+-- these walks make the least normal split at state t, which comes before that one
+pub record AreEarlier (r : LocalRule) (t : ℕ) (best : Option Walks) (found : Walks) : Type 0 where
+  pub least : IsLeastSplitAt r t (middle_pairs found) (period_pairs found)
+  pub before : ComesBefore (split_by found) best
+
+-- of the normal splits at states below t these walks make the least one, and there is one if there are any walks
+abbrev pub IsLeastSoFar : LocalRule → ℕ → Option Walks → Type 0
+IsLeastSoFar r t None = IsNoSplitBelow r t
+IsLeastSoFar r t (Some best) = IsLeastBelow r t (middle_pairs best) (period_pairs best)

@@ -1,0 +1,78 @@
+//! The least normal right split.
+
+ghost use Rattle.std.specs.Prelude.{◌≡◌, ◌+◌, ◌≤◌, IfOk, map};
+ghost use Rattle.word_image.specs.Graphs.{pair_count};
+ghost use Rattle.tail_config.specs.Tails.{IsTail, IsRightClosing};
+ghost use Rattle.closing_test.specs.Walks.{IsLeastSoFar, letter_of, tail_by};
+ghost use Rattle.closing_test.specs.Closing.{IsLeastSplitOf};
+
+use crate::walks::Walks;
+use least_walk::Walker;
+use pair_graph::Pairs;
+use std::alloc::{AllocError, Global};
+use tail_config::Tail;
+use word_image::Rule;
+
+/// One of the letters of a letter pair.
+#[derive(Clone, Copy)]
+pub enum Letter {
+    First,
+    Second,
+}
+
+/// The least normal right split of a rule that isn't right-closing.
+pub fn least_split(
+    alloc: Global,
+    rule: &Rule,
+    walker: &mut Walker,
+) -> Result<(Tail, Tail), AllocError>
+    requires { ¬ IsRightClosing rule.now }
+    ensures { IfOk result (λ split. IsLeastSplitOf rule.now split.0 split.1) }
+{
+    let k = rule.k();
+    let Some(walks) = least_walks(alloc, rule, walker)? else {
+        unreachable!()
+    };
+    let first = tail_of(alloc, k, &walks, Letter::First)?;
+    let second = tail_of(alloc, k, &walks, Letter::Second)?;
+    Ok((first, second))
+}
+
+/// The walks of the least normal right split, if there is one: the earliest of at most one candidate
+/// for each state of the marked graph.
+fn least_walks(alloc: Global, rule: &Rule, walker: &mut Walker) -> Result<Option<Walks>, AllocError>
+    ensures { IfOk result (IsLeastSoFar rule.now (pair_count rule.now + pair_count rule.now)) }
+{
+    let pairs = Pairs::of(rule);
+    let mut best = None;
+    for state in 0..2 * pairs.count() {
+        best = Walks::earlier(alloc, &pairs, walker, state, &best)?.or(best);
+    }
+    Ok(best)
+}
+
+/// The Tail of one letter of each letter pair of two walks, with the letter 0 for ever on its left.
+fn tail_of(alloc: Global, k: u8, walks: &Walks, letter: Letter) -> Result<Tail, AllocError>
+    requires least { 2 ≤ k }
+    requires most { k ≤ 16 }
+    requires tail { IsTail k (tail_by letter walks.now) }
+    ensures { IfOk result (λ tail. tail ≡ record { states = k; config = tail_by letter walks.now }) }
+{
+    let left = vec![in alloc; 0]?;
+    let middle = letters(alloc, &walks.middle, letter)?;
+    let right = letters(alloc, &walks.period, letter)?;
+    match Tail::new(k, left, middle, right) {
+        Ok(tail) => Ok(tail),
+        Err(_) => unreachable!(),
+    }
+}
+
+/// One letter of each letter pair.
+fn letters(alloc: Global, steps: &[u8], letter: Letter) -> Result<Vec<u8>, AllocError>
+    ensures { IfOk result (λ letters. letters.items ≡ map (letter_of letter) steps.now) }
+{
+    match letter {
+        Letter::First => steps.iter().map(|step| step / 16).collect(alloc),
+        Letter::Second => steps.iter().map(|step| step % 16).collect(alloc),
+    }
+}

@@ -1,0 +1,109 @@
+//! Splits as two walks of pairs.
+
+ghost use Rattle.std.specs.Prelude.{◌≡◌, ◌*◌, ◌+◌, ◌<◌, ◌≤◌, ◌↔◌, IfOk, IfSome, IsTrue, MatchOption, length, map};
+ghost use Rattle.std.specs.Option.{SomeIff};
+ghost use Rattle.std.specs.declared.cmp.Ordering.TheVariants.{Greater};
+ghost use Rattle.word_image.specs.Graphs.{pair_count};
+ghost use Rattle.search_laws.proofs.PairWalks.{uncode};
+ghost use Rattle.tail_config.specs.Splits.{splits_cmp};
+ghost use Rattle.tail_laws.specs.SplitWalks.{IsLeastReach, IsNoSplitAt};
+
+use least_walk::Walker;
+use pair_graph::Pairs;
+use std::alloc::{AllocError, Global};
+
+/// Two walks of letter pairs, each pair (a, b) written as a * 16 + b, that make two Tails which share
+/// an image: the letter 0 for ever, the letters of the first walk, and those of the second one for ever.
+#[derive(Debug, Drop)]
+pub struct Walks {
+    /// From the pair of the nodes of zeros, without a mark, to a state of the marked graph.
+    pub middle: Vec<u8>,
+    /// From that state round to its pair with the mark.
+    pub period: Vec<u8>,
+    ghost short_middle: { length middle.items ≤ 512 },
+    ghost short_period: { length period.items ≤ 512 },
+}
+
+impl Walks {
+    ghost use Rattle.closing_test.specs.Walks.{ComesBefore, IsNoneBefore, AreEarlier, split_by};
+
+    /// How many letters both walks have.
+    fn letters(&self) -> usize
+        ensures { result ≡ length self.now.middle.items + length self.now.period.items }
+    {
+        self.middle.len() + self.period.len()
+    }
+
+    /// Whether the split that these walks make comes after that of others.
+    fn is_after(&self, other: &Walks) -> bool
+        ensures { IsTrue result ↔ (splits_cmp (split_by self.now) (split_by other.now) ≡ Greater) }
+    {
+        let (middle, other_middle) = (self.middle.as_slice(), other.middle.as_slice());
+        self.letters()
+            .cmp(&other.letters())
+            .then(middle.len().cmp(&other_middle.len()))
+            .then(middle.cmp(other_middle))
+            .then(self.period.cmp(&other.period))
+            .is_gt()
+    }
+
+    /// The walks of the least normal split at a state, if it comes before the best one so far.
+    pub fn earlier(
+        alloc: Global,
+        pairs: &Pairs,
+        walker: &mut Walker,
+        state: u16,
+        best: &Option<Walks>,
+    ) -> Result<Option<Walks>, AllocError>
+        requires { state < 2 * pair_count pairs.now }
+        ensures { IfOk result (λ found. MatchOption found (IsNoneBefore pairs.now state best.now) (AreEarlier pairs.now state best.now)) }
+    {
+        let Some(middle) = reach(alloc, pairs, walker, state)? else {
+            return Ok(None);
+        };
+        if let Some(best) = best
+            && middle.len() >= best.letters()
+        {
+            return Ok(None);
+        }
+        let count = pairs.count();
+        let Some(period) = walker.walk(pairs, state, state % count + count) else {
+            return Ok(None);
+        };
+        let found = Walks {
+            middle,
+            period: period.to_vec(alloc)?,
+        };
+        Ok(found.if_before(best))
+    }
+
+    /// These walks, if their split comes before the best one so far.
+    fn if_before(self, best: &Option<Walks>) -> Option<Walks>
+        ensures { SomeIff result (ComesBefore (split_by self) best.now) self }
+    {
+        match best {
+            Some(best) if !best.is_after(&self) => None,
+            _ => Some(self),
+        }
+    }
+}
+
+/// The first walk from the pair of the nodes of zeros to a state, of no step if it is that pair.
+fn reach(
+    alloc: Global,
+    pairs: &Pairs,
+    walker: &mut Walker,
+    state: u16,
+) -> Result<Option<Vec<u8>>, AllocError>
+    requires { state < 2 * pair_count pairs.now }
+    ensures walk { IfOk result (λ found. MatchOption found (IsNoSplitAt pairs.now state) (λ steps. IsLeastReach pairs.now state (map (uncode 16) steps.items))) }
+    ensures most { IfOk result (λ found. IfSome found (λ steps. length steps.items ≤ 512)) }
+{
+    if state == 0 {
+        return Ok(Some(Vec::new(alloc)));
+    }
+    match walker.walk(pairs, 0, state) {
+        Some(steps) => Ok(Some(steps.to_vec(alloc)?)),
+        None => Ok(None),
+    }
+}
