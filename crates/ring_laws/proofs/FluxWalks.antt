@@ -105,7 +105,7 @@ IsFlux-rings {r} rule weight keep = record {
 }
 
 -- a word of letters 0 has the value 0
-value-replicate : (k n : ℕ) → value k (replicate n 0) ≡ 0
+pub value-replicate : (k n : ℕ) → value k (replicate n 0) ≡ 0
 value-replicate k zero = refl
 value-replicate k (suc n) = let w : List ℕ = replicate n 0 in omega (arith, value-replicate k n, zero-mul (k ^ length w))
 

@@ -3,4 +3,4 @@ pub mod Gains
 pub mod Fluxes
 pub mod FluxWalks
 pub mod LossyRings
-pub mod FluxNodes
+pub mod FluxWindows

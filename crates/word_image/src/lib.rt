@@ -28,7 +28,7 @@ pub use images::{ImageFault, image};
 pub use letters::{digit, letter, word_text};
 pub use lists::{FluxRow, RankRow, SetList, Word};
 pub use local_rule::{MOST_ENTRIES, Rule, RuleFault, check_shape};
-pub use rings::{RingFault, ring_image};
+pub use rings::{RingFault, ring_apply, ring_image};
 
 #[cfg(test)]
 mod tests;

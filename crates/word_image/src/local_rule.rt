@@ -126,6 +126,13 @@ impl Rule {
         self.k.pow(u32::from(self.m - 1))
     }
 
+    /// The table: the letter for each window, in the order of the values of the windows.
+    pub fn table(&self) -> &[u8]
+        ensures table { result.now ≡ self.now.table }
+    {
+        &self.entries[..usize::from(self.size())]
+    }
+
     /// The table's letter for the window of this value, which is below `k^m`.
     pub fn at(&self, value: u16) -> u8
         requires { value < self.now.states ^ self.now.width }

@@ -51,7 +51,7 @@ fn new_letters(alloc: Global, rule: &Rule, ring: &[u8]) -> Result<Vec<u8>, Alloc
     let first = first_place(rule, count);
     let mut letters = Vec::with_capacity(alloc, count)?;
     for place in 0..count {
-        letters.push(letter_from(rule, ring, (first + place) % count))?;
+        letters.push(ring_apply(rule, ring, (first + place) % count))?;
     }
     Ok(letters)
 }
@@ -65,12 +65,12 @@ fn first_place(rule: &Rule, count: usize) -> usize
     i64::from(rule.o()).rem_euclid(count as i64) as usize
 }
 
-/// What the rule gives on the window that begins at a place of a ring.
-fn letter_from(rule: &Rule, ring: &[u8], first: usize) -> u8
-    requires rule { IsRule rule.now }
+/// What the rule gives on the window of m letters that begins at a place of a ring.
+pub fn ring_apply(rule: &Rule, ring: &[u8], first: usize) -> u8
     requires ring { IsRing rule.now.states ring.now }
     requires first { first < length ring.now }
-    ensures { result ≡ local_map rule.now (ring_letters ring.now (pos first) rule.now.width) }
+    ensures value { result ≡ local_map rule.now (ring_letters ring.now (pos first) rule.now.width) }
+    ensures letter { result < rule.now.states }
 {
     let width = usize::from(rule.m());
     let mut window = [0; WIDEST];

@@ -11,7 +11,7 @@ loop-place-preserved c =
     let r = c.args.rule.now in
     let p = c.args.ring.now in
     let window = ring_letters-rem p r.offset _ c.loop-place.place r.width c.requires.ring.some (sym c.first_place-first.ensures) in
-    letters_more _ _ _ _ _ c.loop-place.invariant (c.letter_from.ensures ∙ sym (ap (local_map r) window)) c.in_ok-push.ensures.items
+    letters_more _ _ _ _ _ c.loop-place.invariant (c.ring_apply.ensures.value ∙ sym (ap (local_map r) window)) c.in_ok-push.ensures.items
 
 pub returns : goal.returns
 returns c =

@@ -4,7 +4,7 @@ use Rattle.word_image.specs.LocalRules.{IsWord}
 use Rattle.word_image.specs.Rings.{ring_letter}
 use Rattle.word_image.proofs.laws.Lists.{letters_more}
 use Rattle.word_image.proofs.laws.Rings.{IsWord-ring_letters}
-use Rattle.word_image.proofs.rings.letter_from.Goals as goal
+use Rattle.word_image.proofs.rings.ring_apply.Goals as goal
 
 pub loop-i-preserved : goal.loop-i-preserved
 loop-i-preserved c =

@@ -1,0 +1,10 @@
+use Rattle.std.proofs.Common.{◌≡◌, ℕ, ◌^◌, ◌<◌, List, length, take}
+use Rattle.word_image.specs.LocalRules.{IsWord, value}
+use Rattle.word_image.specs.Rings.{IsRing, KeepsSum}
+use Rattle.flux_conserve.proofs.rings.first_lossy_of.Given as goal
+
+-- the letters are the word whose turn it is, and the rings of the words before it keep their sums
+abbrev pub invariant-loop : goal.invariant-loop
+invariant-loop l = (length l.letters ≡ 9) × IsWord l.rule.states (take l.count l.letters)
+    × (l.counter < l.rule.states ^ l.count → value l.rule.states (take l.count l.letters) ≡ l.counter)
+    × ((q : List ℕ) → IsRing l.rule.states q → length q ≡ l.count → value l.rule.states q < l.counter → KeepsSum (λ a. a) l.rule q)

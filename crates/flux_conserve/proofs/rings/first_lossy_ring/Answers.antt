@@ -1,0 +1,13 @@
+use Rattle.std.proofs.Common.{length, refl, arith}
+use Rattle.ring_laws.proofs.LossyRings.{IsFlux-short_rings}
+use Rattle.ring_laws.proofs.Fluxes.{IsConserving-flux}
+use Rattle.flux_conserve.proofs.LeastRings.{IsLeastLossyRing-first}
+use Rattle.flux_conserve.proofs.rings.first_lossy_ring.Goals as goal
+
+pub returns-in-Some : goal.returns-in-Some
+returns-in-Some c = IsLeastLossyRing-first c.loop-count.invariant c.in-Some.ensures.first
+
+pub unreachable-requires : goal.unreachable-requires
+unreachable-requires c =
+    let rule = c.m-count-end.ensures.rule in
+    c.requires (IsConserving-flux rule (IsFlux-short_rings rule (λ a. a) (λ p ring short. c.loop-count.invariant (length p) (omega arith) p ring refl)))

@@ -1,0 +1,106 @@
+//! The first ring that doesn't keep its sum.
+ghost use Rattle.std.specs.Prelude.{◌≡◌, ℕ, ◌+◌, ◌-◌, ◌*◌, ◌^◌, ◌<◌, ◌≤◌, ◌↔◌, length, IsTrue, IfSome, IfNone};
+ghost use Rattle.word_image.specs.LocalRules.{IsRule, IsWord, value};
+ghost use Rattle.word_image.specs.Rings.{IsRing, IsConserving, KeepsSum, IsLeastLossyRing};
+ghost use Rattle.flux_conserve.specs.LeastRings.{IsFirstLossyRing, KeepSumAt};
+
+use std::marker::Model;
+use word_image::{Rule, ring_apply};
+
+/// The most letters that the first ring has that doesn't keep its sum: 2m - 1 at width 5.
+pub const LONGEST_RING: usize = 9;
+
+/// A ring of 1 to 9 letters, seen as the list of its letters.
+#[derive(Debug, Drop)]
+pub struct SmallRing {
+    // How many letters the ring has.
+    count: u8,
+    // Its letters, and others after them.
+    letters: [u8; LONGEST_RING],
+}
+
+impl Model for SmallRing {
+    ghost use Rattle.std.specs.Prelude.{ℕ, ◌≤◌, List, take};
+
+    ghost Value = { List ℕ };
+
+    ghost view = { λ r. take r.count r.letters };
+
+    ghost invariant = { λ r. (1 ≤ r.count) × (r.count ≤ 9) };
+}
+
+impl SmallRing {
+    /// The letters, the first one first.
+    pub fn letters(&self) -> &[u8]
+        ensures letters { result.now ≡ self.now }
+        ensures some { 1 ≤ length result.now }
+        ensures short { length result.now ≤ 9 }
+    {
+        &self.letters[..usize::from(self.count)]
+    }
+}
+
+/// The first ring in the order of words that doesn't keep its sum, of a rule that has one.
+pub(crate) fn first_lossy_ring(rule: &Rule) -> SmallRing
+    requires { ¬ IsConserving (λ a. a) rule.now }
+    ensures { IsLeastLossyRing (λ a. a) rule.now result }
+{
+    for count in 1..2 * rule.m() {
+        if let Some(ring) = first_lossy_of(rule, count) {
+            return ring;
+        }
+    }
+    unreachable!()
+}
+
+/// The first ring of this many letters that doesn't keep its sum.
+fn first_lossy_of(rule: &Rule, count: u8) -> Option<SmallRing>
+    requires some { 1 ≤ count }
+    requires short { count ≤ 9 }
+    ensures first { IfSome result (IsFirstLossyRing rule.now count) }
+    ensures none { IfNone result (KeepSumAt rule.now count) }
+{
+    let k = rule.k();
+    let long = usize::from(count);
+    let mut letters = [0; LONGEST_RING];
+    for _ in 0..u64::from(k).pow(u32::from(count)) {
+        if !keeps_sum(rule, &letters[..long]) {
+            return Some(SmallRing { count, letters });
+        }
+        advance(k, &mut letters[..long]);
+    }
+    None
+}
+
+/// Whether a ring and its image have one sum.
+fn keeps_sum(rule: &Rule, ring: &[u8]) -> bool
+    requires rule { IsRule rule.now }
+    requires ring { IsRing rule.now.states ring.now }
+    requires short { length ring.now ≤ 9 }
+    ensures { IsTrue result ↔ KeepsSum (λ a. a) rule.now ring.now }
+{
+    let mut before = 0u16;
+    let mut after = 0u16;
+    for place in 0..ring.len() {
+        before += u16::from(ring[place]);
+        after += u16::from(ring_apply(rule, ring, place));
+    }
+    before == after
+}
+
+/// The next word of the same length in dictionary order; after the last one, the first.
+fn advance(k: u8, word: &mut [u8])
+    requires { IsWord k word.old }
+    ensures word { IsWord k word.new }
+    ensures next { value k word.old + 1 < k ^ length word.old → value k word.new ≡ value k word.old + 1 }
+{
+    let mut place = word.len();
+    while place > 0 {
+        place -= 1;
+        if word[place] + 1 < k {
+            word[place] += 1;
+            return;
+        }
+        word[place] = 0;
+    }
+}

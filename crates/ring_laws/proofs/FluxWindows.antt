@@ -1,0 +1,130 @@
+-- A flux by the values of the windows: what a decider computes and a checker tests.
+use Rattle.std.proofs.Common.{◌≡◌, ℕ, zero, suc, ◌+◌, ◌-◌, ◌*◌, ◌/◌, ◌%◌, ◌^◌, ◌<◌, List, [], ◌∷◌, ◌++◌, length, take, drop, get_or, slice_index, replicate, ℤ, pos, ◌+ℤ◌, ◌-ℤ◌, sym, ap, ap₂, subst, ◌∙◌, arith, length-drop, length-append, append_assoc, pow-suc, mod-lt}
+use Rattle.std.proofs.lemmas.Nat.{div-mul-add, div_below}
+use Rattle.std.proofs.lemmas.List.{length_push, take-append-drop}
+use Rattle.std.proofs.lemmas.List.Elements.{All-push, All-drop, All-tail}
+use Rattle.std.proofs.lemmas.Option.{get_or_from_slice_get}
+use Rattle.word_image.specs.LocalRules.{LocalRule, IsRule, IsWord, local_map, value, word_of, node_count}
+use Rattle.word_image.specs.Rings.{IsFlux}
+use Rattle.word_image.proofs.laws.Values.{value-below, value-snoc, length-word_of, IsWord-word_of, value-word_of}
+use Rattle.word_image.proofs.laws.Words.{split_last}
+use Rattle.word_image.proofs.laws.Graphs.{value-tail, node_count_pos}
+use Rattle.ring_laws.proofs.Gains.{gain, gain-short, gain-window, gain-append}
+use Rattle.ring_laws.proofs.Fluxes.{flow_at, window-flux}
+use Rattle.ring_laws.proofs.FluxWalks.{walk_gain}
+
+-- what the window of this value gains: the weight of its new letter, less that of its first letter
+abbrev pub window_gain : (ℕ → ℕ) → LocalRule → ℕ → ℤ
+window_gain weight r v = pos (weight (slice_index r.table v)) -ℤ pos (weight (v / node_count r))
+
+-- what n windows gain that read letters 0 from node u on
+abbrev pub walk_sum : (ℕ → ℕ) → LocalRule → ℕ → ℕ → ℤ
+walk_sum weight r u zero = pos 0
+walk_sum weight r u (suc n) = window_gain weight r (u * r.states) +ℤ walk_sum weight r (u * r.states % node_count r) n
+
+-- the first letter of a window, by its value
+first_letter : (k : ℕ) (w : List ℕ) → 0 < length w → IsWord k w → slice_index w 0 ≡ value k w / k ^ (length w - 1)
+first_letter k [] some word = absurd (omega arith)
+first_letter k (a ∷ w) some word =
+    let long : length w ≡ length (a ∷ w) - 1 = omega arith in
+    sym (div-mul-add a (k ^ length w) (value k w) (value-below k w (All-tail (λ b. b < k) a w word)))
+    ∙ ap (λ n. (a * k ^ length w + value k w) / k ^ n) long
+
+-- so what a window gains
+window_gain-value : {r : LocalRule} → IsRule r → (weight : ℕ → ℕ) (w : List ℕ) → IsWord r.states w → length w ≡ r.width
+    → (pos (weight (local_map r w)) -ℤ pos (weight (slice_index w 0))) ≡ window_gain weight r (value r.states w)
+window_gain-value {r} rule weight w word e =
+    let wide = rule.shape.least_width in
+    let begins : slice_index w 0 ≡ value r.states w / node_count r =
+    first_letter r.states w (omega arith) word ∙ ap (λ n. value r.states w / r.states ^ (n - 1)) e in
+    ap (λ a. pos (weight (local_map r w)) -ℤ pos (weight a)) begins
+
+-- its first node, by its value
+value-first : {r : LocalRule} → IsRule r → (w : List ℕ) → IsWord r.states w → length w ≡ r.width → value r.states (take (r.width - 1) w) ≡ value r.states w / r.states
+value-first {r} rule w word e =
+    let wide = rule.shape.least_width in
+    let front : List ℕ = take (length w - 1) w in
+    let a : ℕ = get_or w (length w - 1) 0 in
+    let letter : a < r.states = word (length w - 1) 0 (omega arith) in
+    let split : value r.states w ≡ value r.states front * r.states + a = ap (value r.states) (split_last w (omega arith)) ∙ value-snoc r.states front a in
+    ap (λ n. value r.states (take (n - 1) w)) (sym e)
+    ∙ sym (ap (λ v. v / r.states) split ∙ div-mul-add (value r.states front) r.states a letter)
+
+-- and its last one
+value-last : {r : LocalRule} → IsRule r → (w : List ℕ) → IsWord r.states w → length w ≡ r.width → value r.states (drop 1 w) ≡ value r.states w % node_count r
+value-last {r} rule w word e = let wide = rule.shape.least_width in value-tail r.states (r.width - 1) w word (omega arith)
+
+-- the walk from a word of m - 1 letters that reads n letters 0
+gain-walk_sum : {r : LocalRule} → IsRule r → (weight : ℕ → ℕ) (n : ℕ) (z : List ℕ) → IsWord r.states z → length z ≡ r.width - 1
+    → gain weight r (z ++ replicate n 0) ≡ walk_sum weight r (value r.states z) n
+gain-walk_sum {r} rule weight zero z word e = gain-short weight r (z ++ []) (omega (arith, length-append z []))
+gain-walk_sum {r} rule weight (suc n) z word e =
+    let wide = rule.shape.least_width in
+    let states = rule.shape.least_states in
+    let window : List ℕ = z ++ 0 ∷ [] in
+    let after : List ℕ = drop 1 window in
+    let letters : IsWord r.states window = All-push (λ a. a < r.states) z 0 word (omega arith) in
+    let long : length window ≡ r.width = omega (arith, length_push z 0) in
+    let after_long : length after ≡ r.width - 1 = omega (arith, length-drop 1 window) in
+    let parts : z ++ replicate (suc n) 0 ≡ take 1 window ++ (after ++ replicate n 0) =
+    sym (append_assoc z (0 ∷ []) (replicate n 0)) ∙ ap (λ y. y ++ replicate n 0) (sym (take-append-drop 1 window)) ∙ append_assoc (take 1 window) after (replicate n 0) in
+    let both : gain weight r (z ++ replicate (suc n) 0) ≡ gain weight r window +ℤ gain weight r (after ++ replicate n 0) =
+    ap (gain weight r) parts
+    ∙ gain-append rule weight (take 1 window) after (replicate n 0) after_long
+    ∙ ap (λ y. gain weight r y +ℤ gain weight r (after ++ replicate n 0)) (take-append-drop 1 window) in
+    let number : value r.states window ≡ value r.states z * r.states = omega (arith, value-snoc r.states z 0) in
+    let one : gain weight r window ≡ window_gain weight r (value r.states z * r.states) =
+    gain-window rule weight window long ∙ window_gain-value rule weight window letters long ∙ ap (window_gain weight r) number in
+    let node : value r.states after ≡ value r.states z * r.states % node_count r = value-last rule window letters long ∙ ap (λ v. v % node_count r) number in
+    let rest : gain weight r (after ++ replicate n 0) ≡ walk_sum weight r (value r.states z * r.states % node_count r) n =
+    gain-walk_sum rule weight n after (All-drop (λ a. a < r.states) 1 window letters) after_long ∙ ap (λ u. walk_sum weight r u n) node in
+    both ∙ ap₂ (λ (i j : ℤ). i +ℤ j) one rest
+
+-- the walk's gain of a node is what m - 1 windows gain
+pub walk_gain-sum : {r : LocalRule} → IsRule r → (weight : ℕ → ℕ) (u : ℕ) → u < node_count r → walk_gain weight r u ≡ walk_sum weight r u (r.width - 1)
+walk_gain-sum {r} rule weight u l =
+    gain-walk_sum rule weight (r.width - 1) (word_of r.states (r.width - 1) u) (IsWord-word_of r.states (r.width - 1) u l) (length-word_of r.states (r.width - 1) u)
+    ∙ ap (λ v. walk_sum weight r v (r.width - 1)) (value-word_of r.states (r.width - 1) u l)
+
+-- the window of this value gains the difference of a list at its two nodes
+abbrev pub Flows : (ℕ → ℕ) → LocalRule → List ℤ → ℕ → Type 0
+Flows weight r phi v = window_gain weight r v ≡ get_or phi (v / r.states) (pos 0) -ℤ get_or phi (v % node_count r) (pos 0)
+
+-- a list is a flux if each window does
+pub IsFlux-windows : {weight : ℕ → ℕ} {r : LocalRule} {phi : List ℤ} → IsRule r → length phi ≡ node_count r → ((v : ℕ) → v < r.states ^ r.width → Flows weight r phi v)
+    → IsFlux weight r phi
+IsFlux-windows {weight} {r} {phi} rule entries each = record {
+  entries = entries;
+  flows = λ w first last word e at_first at_last.
+      let v : ℕ = value r.states w in
+      let below : v < r.states ^ r.width = subst (λ n. v < r.states ^ n) e (value-below r.states w word) in
+      let begins : get_or phi (v / r.states) (pos 0) ≡ first =
+      ap (λ u. get_or phi u (pos 0)) (sym (value-first rule w word e)) ∙ get_or_from_slice_get phi (value r.states (take (r.width - 1) w)) first (pos 0) at_first in
+      let ends : get_or phi (v % node_count r) (pos 0) ≡ last =
+      ap (λ u. get_or phi u (pos 0)) (sym (value-last rule w word e)) ∙ get_or_from_slice_get phi (value r.states (drop 1 w)) last (pos 0) at_last in
+      window_gain-value rule weight w word e ∙ each v below ∙ ap₂ (λ (i j : ℤ). i -ℤ j) begins ends;
+}
+
+-- and under a flux each window does
+pub Flows-flux : {weight : ℕ → ℕ} {r : LocalRule} {phi : List ℤ} → IsRule r → IsFlux weight r phi → (v : ℕ) → v < r.states ^ r.width → Flows weight r phi v
+Flows-flux {weight} {r} {phi} rule flux v l =
+    let w : List ℕ = word_of r.states r.width v in
+    let word : IsWord r.states w = IsWord-word_of r.states r.width v l in
+    let long : length w ≡ r.width = length-word_of r.states r.width v in
+    let number : value r.states w ≡ v = value-word_of r.states r.width v l in
+    let begins : flow_at r phi (take (r.width - 1) w) ≡ get_or phi (v / r.states) (pos 0) =
+    ap (λ u. get_or phi u (pos 0)) (value-first rule w word long ∙ ap (λ x. x / r.states) number) in
+    let ends : flow_at r phi (drop 1 w) ≡ get_or phi (v % node_count r) (pos 0) =
+    ap (λ u. get_or phi u (pos 0)) (value-last rule w word long ∙ ap (λ x. x % node_count r) number) in
+    ap (window_gain weight r) (sym number)
+    ∙ sym (window_gain-value rule weight w word long)
+    ∙ window-flux rule flux w word long
+    ∙ ap₂ (λ (i j : ℤ). i -ℤ j) begins ends
+
+-- the nodes of a window are nodes
+pub window-nodes : {r : LocalRule} → IsRule r → (v : ℕ) → v < r.states ^ r.width → (v / r.states < node_count r) × (v % node_count r < node_count r)
+window-nodes {r} rule v l =
+    let wide = rule.shape.least_width in
+    let states = rule.shape.least_states in
+    let power : r.states ^ r.width ≡ node_count r * r.states = let e : r.width ≡ suc (r.width - 1) = omega arith in ap (λ n. r.states ^ n) e ∙ pow-suc r.states (r.width - 1) in
+    (div_below v r.states (node_count r) (omega arith) (omega arith), mod-lt v (node_count_pos rule))
