@@ -1,6 +1,5 @@
 -- The least word of each set of a family: the empty word for the full set, and that of the parent followed by its letter.
 use Rattle.std.proofs.Common.{◌≡◌, ℕ, zero, suc, ◌+◌, ◌-◌, ◌*◌, ◌<◌, ◌≤◌, List, [], ◌∷◌, ◌++◌, length, get_or, slice_index, refl, sym, ap, ◌∙◌, subst, arith, ⊎_elim}
-use Rattle.std.specs.List.{AllZip}
 use Rattle.std.proofs.Math.Nat.{mul-le-mul_left, mul-le-mul_right, suc-mul, mul-one}
 use Rattle.std.proofs.lemmas.Bool.{cases_eq, cases_lt}
 use Rattle.std.proofs.lemmas.List.{get_or_default}
@@ -9,25 +8,12 @@ use Rattle.word_image.specs.LocalRules.{LocalRule, IsRule}
 use Rattle.word_image.specs.Graphs.{full_set, IsStep}
 use Rattle.word_image.specs.Ranks.{IsLastSet}
 use Rattle.word_image.specs.Families.{IsLeastWordOf, IsFamily}
+use Rattle.word_image.proofs.laws.Lists.{paired_at, paired_length}
 use Rattle.word_image.proofs.laws.LastSets.{IsLastSet-full, IsLastSet-step}
 use Rattle.search_laws.proofs.WordOrder.{word_number, word_number-snoc, word_cmp-not_greater, word_number-le, word_number-less}
 use Rattle.search_laws.specs.SearchQueues.Leads.{Here, On}
 use Rattle.search_laws.proofs.StepSets.{LeadsToSet, LeadsToSet-last, IsLastSet-leads}
 use Rattle.image_subsets.specs.FamilyTrees.{IsLeastParent}
-
--- what holds of each pair of two lists holds of the pair at a place
-paired_at : {X Y : Type 0} (R : X → Y → Type 0) (xs : List X) (ys : List Y) (i : ℕ) (d : X) (e : Y) → AllZip R xs ys → i < length xs → R (get_or xs i d) (get_or ys i e)
-paired_at R [] ys i d e all below = absurd (omega arith)
-paired_at R (x ∷ xs) [] i d e all below = absurd all
-paired_at R (x ∷ xs) (y ∷ ys) zero d e all below = all.0
-paired_at R (x ∷ xs) (y ∷ ys) (suc i) d e all below = paired_at R xs ys i d e all.1 (omega arith)
-
--- and the lists are of one length
-paired_length : {X Y : Type 0} (R : X → Y → Type 0) (xs : List X) (ys : List Y) → AllZip R xs ys → length xs ≡ length ys
-paired_length R [] [] all = refl
-paired_length R [] (y ∷ ys) all = absurd all
-paired_length R (x ∷ xs) [] all = absurd all
-paired_length R (x ∷ xs) (y ∷ ys) all = ap suc (paired_length R xs ys all.1)
 
 -- the word that a family has for the set at a place
 abbrev word_at : {r : LocalRule} {sets : List ℕ} → IsFamily r sets → ℕ → List ℕ

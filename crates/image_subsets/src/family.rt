@@ -1,7 +1,6 @@
 //! The sets that are reached from the full one, in the order in which they are found.
 
 ghost use Rattle.std.specs.Prelude.{◌≡◌, ◌+◌, ◌*◌, ◌≤◌, ◌<◌, length, slice_index, slice_get, Some, MatchOption, false, IfOk};
-ghost use Rattle.word_image.specs.LocalRules.{IsRule};
 ghost use Rattle.image_subsets.specs.FamilyTrees.{IsFamilyTree};
 ghost use Rattle.image_subsets.specs.Searches.{IsExpanded};
 

@@ -1,6 +1,6 @@
 //! The verdict, and what proves it.
 
-ghost use Rattle.std.specs.Prelude.{◌≡◌, ◌+◌, ◌≤◌, ◌<◌, ◌↔◌, [], length, slice_index, IfOk, OnErr};
+ghost use Rattle.std.specs.Prelude.{◌≡◌, ◌≤◌, ◌<◌, ◌↔◌, [], length, slice_index, IfOk, OnErr};
 
 use debruijn::Graph;
 use image_subsets::Family;

@@ -1,24 +1,31 @@
 -- The sets that a breadth first queue lists from the full set are the family of last sets, in the order of their least words.
 use Rattle.std.proofs.Common.{◌≡◌, ◌≢◌, ℕ, zero, suc, ◌+◌, ◌*◌, ◌<◌, ◌≤◌, ◌⊎◌, inl, inr, List, [], ◌∷◌, length, get_or, Some, Contains, refl, sym, ap, ◌∙◌, subst, arith, ⊎_elim}
-use Rattle.std.specs.List.{AllZip, slice_get}
+use Rattle.std.specs.List.{slice_get}
 use Rattle.std.proofs.lemmas.List.{length-map}
 use Rattle.std.proofs.lemmas.Option.{slice_get_within, slice_get-get_or, get_or_from_slice_get, none-some}
 use Rattle.std.specs.declared.cmp.Ordering.TheVariants.{Less}
 use Rattle.word_image.specs.LocalRules.{LocalRule, IsRule}
 use Rattle.word_image.specs.Words.{word_cmp}
+use Rattle.word_image.specs.Graphs.{full_set, IsStep}
 use Rattle.word_image.specs.Ranks.{IsLastSet}
 use Rattle.word_image.specs.Families.{IsLeastWordOf, IsFamily}
-use Rattle.search_laws.specs.SearchQueues.{Place, Spells}
+use Rattle.word_image.proofs.laws.Lists.{paired}
+use Rattle.search_laws.specs.SearchQueues.{Place, Spells, IsQueue}
 use Rattle.search_laws.proofs.QueueStates.{states_of, place_of_state, state_of_place, Contains-state}
 use Rattle.search_laws.proofs.SpelledWords.{Spells-some, Spells-ascending}
-use Rattle.search_laws.proofs.LeastFirst.{reached_all, reached_or_after}
-use Rattle.search_laws.proofs.StepSets.{LeadsToSet-last}
-use Rattle.search_laws.proofs.LeastOrphans.{IsSetQueue, IsLastSet-spelled}
+use Rattle.search_laws.proofs.LeastFirst.{IsLeastTo-spelled, reached_all, reached_or_after}
+use Rattle.search_laws.proofs.StepSets.{IsLastSet-leads, LeadsToSet-last}
+
+-- a queue of sets, from the full one on
+abbrev pub IsSetQueue : LocalRule → List Place → ℕ → Type 0
+IsSetQueue r = IsQueue (IsStep r) r.states (full_set r)
 
 -- the word that is spelled to a place is the least one of its set
-pub IsLeastWordOf-spelled : {r : LocalRule} {tree : List Place} {e i : ℕ} {w : List ℕ} → IsRule r → IsSetQueue r tree e
+IsLeastWordOf-spelled : {r : LocalRule} {tree : List Place} {e i : ℕ} {w : List ℕ} → IsRule r → IsSetQueue r tree e
     → Spells tree i w → (x : Place) → slice_get tree i ≡ Some x → IsLeastWordOf r x.state w
-IsLeastWordOf-spelled rule q s x at = let first = IsLastSet-spelled rule q s x at in record { set_of = first.0; least = first.1 }
+IsLeastWordOf-spelled rule q s x at =
+    let first = IsLeastTo-spelled q s x at in
+    record { set_of = IsLastSet-leads rule first.leads; least = λ v last. first.least v (LeadsToSet-last rule last) }
 
 -- a fact of each place of a longer list
 chosen_cons : {Y : Type 0} (P : ℕ → Y → Type 0) (y : Y) → P 0 y → (ys : List Y) → ((i : ℕ) (z : Y) → slice_get ys i ≡ Some z → P (suc i) z)
@@ -34,14 +41,6 @@ chosen {Y = Y} (x ∷ xs) P find =
     let first = find 0 x refl in
     let rest = chosen xs (λ i. P (suc i)) (λ i z at. find (suc i) z at) in
     (first.0 ∷ rest.0, ap suc rest.1, chosen_cons P first.0 first.1 rest.0 rest.2)
-
--- two lists of one length, paired place by place
-paired : {X Y : Type 0} (R : X → Y → Type 0) (xs : List X) (ys : List Y) → length xs ≡ length ys
-    → ((i : ℕ) (x : X) (y : Y) → slice_get xs i ≡ Some x → slice_get ys i ≡ Some y → R x y) → AllZip R xs ys
-paired R [] [] long each = tt
-paired R [] (y ∷ ys) long each = absurd (omega arith)
-paired R (x ∷ xs) [] long each = absurd (omega arith)
-paired R (x ∷ xs) (y ∷ ys) long each = (each 0 x y refl refl, paired R xs ys (omega arith) (λ i z w at also. each (suc i) z w at also))
 
 -- something stands at each place below the length
 stands_at : (tree : List Place) (i : ℕ) → i < length tree → (x : Place) × (slice_get tree i ≡ Some x)

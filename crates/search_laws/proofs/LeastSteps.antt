@@ -10,7 +10,8 @@ use Rattle.std.specs.declared.cmp.Ordering.TheVariants.{Greater}
 use Rattle.word_image.specs.Words.{word_cmp}
 use Rattle.search_laws.specs.SearchQueues.{Place, Spells, Leads, IsQueue, filled}
 use Rattle.search_laws.specs.SearchQueues.Leads.{Here, On}
-use Rattle.search_laws.proofs.QueueSteps.{slice_get-push_cases, filled-later}
+use Rattle.word_image.proofs.laws.Places.{slice_get-push_cases}
+use Rattle.search_laws.proofs.QueueSteps.{filled-later}
 use Rattle.search_laws.proofs.WordOrder.{word_number, word_number-snoc, word_cmp-not_greater}
 use Rattle.search_laws.proofs.SpelledWords.{Spells-unique, Leads-spelled, IsWord-leads, spelled-ascending}
 use Rattle.search_laws.proofs.LeastFirst.{reached_or_late, reached_all}

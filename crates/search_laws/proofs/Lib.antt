@@ -4,7 +4,6 @@ pub mod QueueStates
 pub mod SpelledWords
 pub mod LeastFirst
 pub mod StepSets
-pub mod LeastOrphans
 pub mod Families
 pub mod LeastSteps
 pub mod PairWalks

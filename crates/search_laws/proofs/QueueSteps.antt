@@ -1,36 +1,12 @@
 -- A breadth first queue, one edge more at a time.
-use Rattle.std.proofs.Common.{◌≡◌, ◌≢◌, ℕ, zero, suc, ◌+◌, ◌*◌, ◌<◌, ◌≤◌, ◌⊎◌, inl, inr, List, [], ◌∷◌, ◌++◌, length, Some, refl, sym, ap, ap₂, ◌∙◌, subst, arith, ⊎_elim}
+use Rattle.std.proofs.Common.{◌≡◌, ◌≢◌, ℕ, zero, suc, ◌+◌, ◌*◌, ◌<◌, ◌≤◌, List, [], ◌∷◌, ◌++◌, length, Some, refl, sym, ap, ap₂, ◌∙◌, subst, arith, ⊎_elim}
 use Rattle.std.specs.List.{slice_get}
 use Rattle.std.proofs.lemmas.Bool.{cases_eq}
 use Rattle.std.proofs.lemmas.Nat.{same_from_place}
-use Rattle.std.proofs.lemmas.Option.{slice_get_within, none-some}
+use Rattle.std.proofs.lemmas.Option.{slice_get_within}
 use Rattle.std.proofs.Math.Nat.{mul-le-mul_right, suc-mul}
+use Rattle.word_image.proofs.laws.Places.{slice_get-append, slice_get-push, slice_get-push_cases, only_place}
 use Rattle.search_laws.specs.SearchQueues.{Place, IsBranch, IsQueue, HasPlace, filled}
-
--- a place keeps its element where the list grows
-pub slice_get-append : {X : Type 0} (xs ys : List X) (i : ℕ) (x : X) → slice_get xs i ≡ Some x → slice_get (xs ++ ys) i ≡ Some x
-slice_get-append [] ys i x at = absurd (none-some x at)
-slice_get-append (y ∷ xs) ys zero x at = at
-slice_get-append (y ∷ xs) ys (suc i) x at = slice_get-append xs ys i x at
-
--- the new element stands last
-pub slice_get-push : {X : Type 0} (xs : List X) (y : X) → slice_get (xs ++ y ∷ []) (length xs) ≡ Some y
-slice_get-push [] y = refl
-slice_get-push (x ∷ xs) y = slice_get-push xs y
-
--- an element of the longer list stood there before, or is the new one
-pub slice_get-push_cases : {X : Type 0} (xs : List X) (y : X) (i : ℕ) (x : X) → slice_get (xs ++ y ∷ []) i ≡ Some x
-    → (slice_get xs i ≡ Some x) ⊎ ((i ≡ length xs) × (y ≡ x))
-slice_get-push_cases [] y zero x at = inr (refl, cc)
-slice_get-push_cases [] y (suc i) x at = absurd (none-some x at)
-slice_get-push_cases (z ∷ xs) y zero x at = inl at
-slice_get-push_cases (z ∷ xs) y (suc i) x at =
-    ⊎_elim (λ before. inl before) (λ last. inr (ap suc last.0, last.1)) (slice_get-push_cases xs y i x at)
-
--- a list of one has one place
-only_place : {X : Type 0} (x y : X) (i : ℕ) → slice_get (x ∷ []) i ≡ Some y → (i ≡ 0) × (x ≡ y)
-only_place x y zero at = (refl, cc)
-only_place x y (suc i) at = absurd (none-some y at)
 
 -- when a place that isn't the first was filled
 pub filled-later : (k i : ℕ) (x : Place) → 0 < i → filled k i x ≡ x.parent * k + x.letter + 1

@@ -1,16 +1,18 @@
 -- Each step leads to one set of nodes, each word has one set of last nodes, and steps lead along words from set to set.
-use Rattle.std.proofs.Common.{◌≡◌, ℕ, zero, suc, ◌-◌, ◌*◌, ◌^◌, ◌<◌, ◌⊎◌, ◌↔◌, inl, inr, List, [], ◌∷◌, ◌++◌, length, take, get_or, IsBitSet, bit_or, refl, sym, ◌∙◌, subst, arith, ⊎_elim, pow-suc}
+use Rattle.std.proofs.Common.{◌≡◌, ℕ, zero, suc, ◌-◌, ◌^◌, ◌<◌, ◌≤◌, ◌⊎◌, ◌↔◌, inl, inr, List, [], ◌∷◌, ◌++◌, length, take, get_or, IsBitSet, bit_or, refl, sym, ◌∙◌, subst, arith, add-one, ⊎_elim}
 use Rattle.std.specs.Int.{bit_at}
 use Rattle.std.proofs.lemmas.Bool.{cases_eq}
-use Rattle.std.proofs.lemmas.Nat.{pow_pos, or_lt}
+use Rattle.std.proofs.Math.Pow.{pow-lt}
+use Rattle.std.proofs.lemmas.Nat.{pow_pos}
 use Rattle.std.proofs.lemmas.List.{nil_from_length, length-take-le}
 use Rattle.std.proofs.lemmas.List.Elements.{All-take}
-use Rattle.std.proofs.lemmas.Nat.Bits.{bit_at_above, bit_at-lt, same_from_bits_below}
+use Rattle.std.proofs.lemmas.Nat.Bits.{bit_at-lt, same_from_bits_below}
 use Rattle.word_image.specs.LocalRules.{LocalRule, IsRule, IsWord, node_count}
 use Rattle.word_image.specs.Words.{IsOrphan}
 use Rattle.word_image.specs.Graphs.{full_set, IsStep, next, label}
 use Rattle.word_image.specs.Ranks.{IsLastSet}
-use Rattle.word_image.proofs.laws.Bits.{bit_at-IsBitSet, IsBitSet-pow, IsBitSet-or}
+use Rattle.word_image.proofs.laws.Bits.{bit_at-IsBitSet, IsBitSet-pow, IsBitSet-zero}
+use Rattle.word_image.proofs.laws.Unions.{IsUnion, IsUnion-skip, IsUnion-take}
 use Rattle.word_image.proofs.laws.Words.{split_last}
 use Rattle.word_image.proofs.laws.LastSets.{IsLastSet-full, IsLastSet-step, IsPreimage-nonempty_set}
 use Rattle.search_laws.specs.SearchQueues.{Leads}
@@ -18,7 +20,7 @@ use Rattle.search_laws.specs.SearchQueues.Leads.{Here, On}
 use Rattle.word_image.proofs.laws.Searches.{some_below}
 
 -- two sets of n nodes with the same nodes are one
-pub same_set : (n a b : ℕ) → a < 2 ^ n → b < 2 ^ n → ((i : ℕ) → i < n → (IsBitSet a i ↔ IsBitSet b i)) → a ≡ b
+same_set : (n a b : ℕ) → a < 2 ^ n → b < 2 ^ n → ((i : ℕ) → i < n → (IsBitSet a i ↔ IsBitSet b i)) → a ≡ b
 same_set n a b small_a small_b same = same_from_bits_below n a b small_a small_b (λ i l.
     ⊎_elim
     (λ one. one ∙ sym ((bit_at-IsBitSet b i).0 ((same i l).0 ((bit_at-IsBitSet a i).1 one))))
@@ -28,49 +30,29 @@ same_set n a b small_a small_b same = same_from_bits_below n a b small_a small_b
     (cases_eq (bit_at b i) 1))
     (cases_eq (bit_at a i) 1))
 
--- a set below 2 ^ n has no node n
-IsBitSet-above : (n a : ℕ) → a < 2 ^ n → ¬ IsBitSet a n
-IsBitSet-above n a small some = let one = (bit_at-IsBitSet a n).0 some in let none = bit_at_above a n n small (omega arith) in omega arith
+-- the numbers below n of which something that can be decided holds, as a union
+some_union : (Has : ℕ → Type 0) → ((v : ℕ) → Has v ⊎ ¬ Has v) → (count n : ℕ) → n ≤ count → (set : ℕ) × IsUnion count (λ i v. (v ≡ i) × Has i) n set
+some_union Has decide count zero within = (0, record { within = pow_pos count; nodes = λ v l. ((λ some. absurd (IsBitSet-zero v some)), (λ one. absurd (omega (arith, one.1)))) })
+some_union Has decide count (suc n) within =
+    let before = some_union Has decide count n (omega arith) in
+    let there = IsBitSet-pow n in
+    subst (λ m. (set : ℕ) × IsUnion count (λ i v. (v ≡ i) × Has i) m set) (add-one n)
+    (⊎_elim
+    (λ has. (bit_or before.0 (2 ^ n), IsUnion-take before.1 (pow-lt (omega arith)) (λ v l. ((λ some. ((there v).0 some, has)), (λ one. (there v).1 one.0)))))
+    (λ none. (before.0, IsUnion-skip before.1 (λ v one. none one.1)))
+    (decide n))
 
--- the nodes below n of which something that can be decided holds are a set
-pub some_set : (Has : ℕ → Type 0) → ((v : ℕ) → Has v ⊎ ¬ Has v) → (n : ℕ) → (set : ℕ) × (set < 2 ^ n) × ((v : ℕ) → v < n → (IsBitSet set v ↔ Has v))
-some_set Has decide zero = (0, pow_pos 0, λ v l. absurd (omega arith))
-some_set Has decide (suc n) =
-    let before = some_set Has decide n in
-    let more : 2 ^ suc n ≡ 2 ^ n * 2 = pow-suc 2 n in
-    ⊎_elim
-    (λ has. (
-      bit_or before.0 (2 ^ n),
-      or_lt (suc n) before.0 (2 ^ n) (omega (arith, before.1)) (omega (arith, pow_pos n)),
+-- so they are a set
+some_set : (Has : ℕ → Type 0) → ((v : ℕ) → Has v ⊎ ¬ Has v) → (n : ℕ) → (set : ℕ) × (set < 2 ^ n) × ((v : ℕ) → v < n → (IsBitSet set v ↔ Has v))
+some_set Has decide n =
+    let union = some_union Has decide n n (omega arith) in (
+      union.0,
+      union.1.within,
       λ v l. (
-        (λ some. ⊎_elim
-            (λ old. ⊎_elim
-            (λ same. subst Has (sym same) has)
-            (λ other. (before.2 v (omega (arith, other))).0 old)
-            (cases_eq v n))
-            (λ new. subst Has (sym ((IsBitSet-pow n v).0 new)) has)
-            ((IsBitSet-or before.0 (2 ^ n) v).0 some)),
-        (λ holds. (IsBitSet-or before.0 (2 ^ n) v).1 (⊎_elim
-            (λ same. inr ((IsBitSet-pow n v).1 same))
-            (λ other. inl ((before.2 v (omega (arith, other))).1 holds))
-            (cases_eq v n))),
+        (λ some. let (i, below, (same, has)) = (union.1.nodes v l).0 some in subst Has (sym same) has),
+        (λ has. (union.1.nodes v l).1 (v, l, (refl, has))),
       ),
-    ))
-    (λ none. (
-      before.0,
-      omega (arith, before.1),
-      λ v l. (
-        (λ some. ⊎_elim
-            (λ same. absurd (IsBitSet-above n before.0 before.1 (subst (IsBitSet before.0) same some)))
-            (λ other. (before.2 v (omega (arith, other))).0 some)
-            (cases_eq v n)),
-        (λ holds. ⊎_elim
-            (λ same. absurd (none (subst Has same holds)))
-            (λ other. (before.2 v (omega (arith, other))).1 holds)
-            (cases_eq v n)),
-      ),
-    ))
-    (decide n)
+    )
 
 -- an edge from the set, labelled a, leads from node u to v on letter b
 abbrev pub IsEdgeFrom : LocalRule → ℕ → ℕ → ℕ → ℕ → ℕ → Type 0

@@ -1,6 +1,6 @@
--- Lists that know no rule: what a function gives at each place, one place after the other.
-use Rattle.std.proofs.Common.{◌≡◌, ℕ, suc, ◌+◌, ◌-◌, ◌<◌, List, [], ◌∷◌, ◌++◌, length, map, set, replicate, sym, ap, ap₂, ◌∙◌, arith, append_assoc}
-use Rattle.std.specs.List.{range_with_len}
+-- Lists that know no rule: a list that grows by what a function gives at each place, and two lists that are paired.
+use Rattle.std.proofs.Common.{◌≡◌, ℕ, zero, suc, ◌+◌, ◌-◌, ◌<◌, List, [], ◌∷◌, ◌++◌, length, get_or, map, set, replicate, Some, refl, sym, ap, ap₂, ◌∙◌, arith, append_assoc}
+use Rattle.std.specs.List.{AllZip, range_with_len, slice_get}
 use Rattle.std.proofs.lemmas.List.FromFn.{length-map-range_with_len, map-range_with_len_more}
 use Rattle.std.proofs.Math.Seq.{set-append_seam}
 
@@ -23,3 +23,25 @@ filled_more {X} f d n i y l e =
     ∙ ap (λ a. before ++ a ∷ others) e
     ∙ sym (append_assoc before (f i ∷ []) others)
     ∙ ap (λ xs. xs ++ others) (sym (map-range_with_len_more f 0 i i (omega arith)))
+
+-- two lists of one length are paired if their elements at each place are
+pub paired : {X Y : Type 0} (R : X → Y → Type 0) (xs : List X) (ys : List Y) → length xs ≡ length ys
+    → ((i : ℕ) (x : X) (y : Y) → slice_get xs i ≡ Some x → slice_get ys i ≡ Some y → R x y) → AllZip R xs ys
+paired R [] [] long each = tt
+paired R [] (y ∷ ys) long each = absurd (omega arith)
+paired R (x ∷ xs) [] long each = absurd (omega arith)
+paired R (x ∷ xs) (y ∷ ys) long each = (each 0 x y refl refl, paired R xs ys (omega arith) (λ i z w at also. each (suc i) z w at also))
+
+-- of two lists that are paired the elements at a place are
+pub paired_at : {X Y : Type 0} (R : X → Y → Type 0) (xs : List X) (ys : List Y) (i : ℕ) (d : X) (e : Y) → AllZip R xs ys → i < length xs → R (get_or xs i d) (get_or ys i e)
+paired_at R [] ys i d e all below = absurd (omega arith)
+paired_at R (x ∷ xs) [] i d e all below = absurd all
+paired_at R (x ∷ xs) (y ∷ ys) zero d e all below = all.0
+paired_at R (x ∷ xs) (y ∷ ys) (suc i) d e all below = paired_at R xs ys i d e all.1 (omega arith)
+
+-- and they are of one length
+pub paired_length : {X Y : Type 0} (R : X → Y → Type 0) (xs : List X) (ys : List Y) → AllZip R xs ys → length xs ≡ length ys
+paired_length R [] [] all = refl
+paired_length R [] (y ∷ ys) all = absurd all
+paired_length R (x ∷ xs) [] all = absurd all
+paired_length R (x ∷ xs) (y ∷ ys) all = ap suc (paired_length R xs ys all.1)
