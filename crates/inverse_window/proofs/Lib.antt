@@ -5,3 +5,5 @@ pub mod FirstWindowLaws
 pub mod RankStarts
 pub mod FirstSearches
 pub mod LeastWindows
+pub mod TurnSteps
+pub mod SpelledTwins

@@ -1,12 +1,14 @@
-//! Decides whether a cellular automaton is injective (Amoroso and Patt 1972), with the least window of
-//! an inverse.
+//! Decides whether a cellular automaton is injective (Amoroso and Patt 1972): a yes comes with the
+//! least window of an inverse, a no with the least twins.
 //!
 //! A window (n, c) is determined if any two words of n + m - 1 letters with one image, which has n
 //! letters, have the same letter at place c. So an inverse rule may read the letter c of a word from n
-//! letters of its image. Windows are ordered by n, then by c.
+//! letters of its image. Windows are ordered by n, then by c. Twins are two different words of one
+//! length whose rings have one image, ordered by their length, then letter pair by letter pair.
 //!
 //! Rule 170 copies the right cell: the image of abc is c, so the window (1, 2) is determined. The
-//! windows (1, 0) and (1, 1) are not, since 001 and 111 have the image 1.
+//! windows (1, 0) and (1, 1) are not, since 001 and 111 have the image 1. Rule 184 is not injective:
+//! the rings 0011 and 0101 both become 1010, and no rings before them have one image.
 //!
 //! A node is a word of m - 1 letters, of which there are N = k^(m - 1). Cut two words with one image at
 //! j = min(c, n): they end with two nodes there for j letters of the image, and begin with them for the
@@ -18,12 +20,20 @@
 //! more than the greatest rank backward. Some window is determined exactly where no two different nodes
 //! are endless both ways.
 //!
-//! [`window`] takes time **O(m·N^2)** and no memory.
+//! Twins are the closed walks in the graph of pairs of nodes on which some two letters differ (Sutner
+//! 1991): in the marked graph they lead from a pair without the mark to the same pair with it. The least
+//! twins are the first of the least of these walks, over all pairs. A least walk visits no state of the
+//! marked graph twice, so twins have at most 512 letters each.
+//!
+//! [`window`] takes time **O(m·N^2)** and no memory, [`twins`] time **O(N^4·k^2)**, N^2 walks in a
+//! graph of 2·N^2 states, and memory for its words.
 #![tactic(auto)]
 
 mod starts;
 #[cfg(test)]
 mod tests;
+mod twin_pairs;
 mod windows;
 
+pub use twin_pairs::{TwinPair, twins};
 pub use windows::{WindowAt, window};

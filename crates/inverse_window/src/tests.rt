@@ -1,6 +1,7 @@
-//! Windows of rules, whose words were listed by hand and by a program of its own.
+//! Windows and twins as a listing of words gives them.
 
-use crate::{WindowAt, window};
+use crate::{TwinPair, WindowAt, twins, window};
+use least_walk::Walker;
 use pair_rank::Ranks;
 use std::alloc::{AllocError, Global};
 use std::process::Abort;
@@ -18,8 +19,19 @@ fn elementary(number: u8) -> Result<Rule, RuleFault> {
     Rule::new(2, 3, -1, &table)
 }
 
+// The letters that these digits name.
+fn letters(alloc: Global, digits: &[u8]) -> Result<Vec<u8>, AllocError> {
+    digits
+        .iter()
+        .map(|digit| digit.wrapping_sub(b'0'))
+        .collect(alloc)
+}
+
 #[test]
-fn six_elementary_rules_have_a_window(rt: HostRuntime) -> Result<(), Fail> {
+fn six_elementary_rules_are_injective(rt: HostRuntime) -> Result<(), Fail> {
+    let mut walker = Walker::new(rt.alloc())?;
+    // How many rules have least twins of 0, 1, 2, 3 and 4 letters.
+    let mut counts = [0; 5];
     for number in 0..=255 {
         let want = match number {
             15 | 240 => Some(WindowAt { n: 1, c: 0 }),
@@ -29,7 +41,14 @@ fn six_elementary_rules_have_a_window(rt: HostRuntime) -> Result<(), Fail> {
         };
         let rule = elementary(number)?;
         assert_eq!(rt; window(&rule, &Ranks::of(&rule)), want, "rule {number}");
+        let length = match twins(rt.alloc(), &rule, &mut walker)? {
+            Some(pair) => pair.x.as_slice().len(),
+            None => 0,
+        };
+        assert!(rt; length < 5 && counts[length] < 256);
+        counts[length] += 1;
     }
+    assert_eq!(rt; counts, [6, 128, 64, 44, 14]);
     Ok(())
 }
 
@@ -41,17 +60,13 @@ fn wider_rules_have_these_windows(rt: HostRuntime) -> Result<(), Fail> {
         // The left cell of two, and the right one.
         (2, 2, b"0011", Some(WindowAt { n: 1, c: 0 })),
         (2, 2, b"0101", Some(WindowAt { n: 1, c: 1 })),
-        // Two sums of pairs, of which the second is undone by the first.
+        // Pairs of bits: (a, b) becomes (a + b + c, a) where the next one is (c, d).
         (4, 2, b"0022220033111133", Some(WindowAt { n: 2, c: 0 })),
         // The sum modulo 3.
         (3, 2, b"012120201", None),
     ];
     for (case, (k, m, digits, want)) in cases.into_iter().enumerate() {
-        let table: Vec<u8> = digits
-            .iter()
-            .map(|digit| digit.wrapping_sub(b'0'))
-            .collect(rt.alloc())?;
-        let rule = Rule::new(k, m, 0, &table)?;
+        let rule = Rule::new(k, m, 0, &letters(rt.alloc(), digits)?)?;
         assert_eq!(rt; window(&rule, &Ranks::of(&rule)), want, "case {case}");
     }
     Ok(())
@@ -64,9 +79,39 @@ fn the_shift_of_sixteen_letters_has_a_window(rt: HostRuntime) -> Result<(), Fail
         *letter = (value % 16) as u8;
     }
     let rule = Rule::new(16, 2, 0, &table)?;
-    assert_eq!(rt;
-        window(&rule, &Ranks::of(&rule)),
-        Some(WindowAt { n: 1, c: 1 })
-    );
+    assert_eq!(rt; window(&rule, &Ranks::of(&rule)), Some(WindowAt { n: 1, c: 1 }));
+    Ok(())
+}
+
+#[test]
+fn these_rules_have_these_twins(rt: HostRuntime) -> Result<(), Fail> {
+    let cases: [(u8, u8, &[u8], &[u8], &[u8]); 11] = [
+        // Rules 110, 30, 90, 60 and 0.
+        (2, 3, b"01110110", b"0", b"1"),
+        (2, 3, b"01111000", b"0", b"1"),
+        (2, 3, b"01011010", b"0", b"1"),
+        (2, 3, b"00111100", b"0", b"1"),
+        (2, 3, b"00000000", b"0", b"1"),
+        // Rules 184, 232, 1 and 29.
+        (2, 3, b"00011101", b"0011", b"0101"),
+        (2, 3, b"00010111", b"000", b"001"),
+        (2, 3, b"10000000", b"01", b"10"),
+        (2, 3, b"10111000", b"0101", b"0110"),
+        // The sum modulo 3.
+        (3, 2, b"012120201", b"00", b"12"),
+        // One more than the sum of the first, third and fourth of four cells, modulo 2.
+        (2, 4, b"1001100101100110", b"0000000", b"0011101"),
+    ];
+    let mut walker = Walker::new(rt.alloc())?;
+    for (case, (k, m, digits, x, y)) in cases.into_iter().enumerate() {
+        let rule = Rule::new(k, m, 0, &letters(rt.alloc(), digits)?)?;
+        match twins(rt.alloc(), &rule, &mut walker)? {
+            Some(pair) => {
+                assert_eq!(rt; pair.x.as_slice(), letters(rt.alloc(), x)?.as_slice(), "case {case}");
+                assert_eq!(rt; pair.y.as_slice(), letters(rt.alloc(), y)?.as_slice(), "case {case}");
+            }
+            None => assert!(rt; false, "case {case} has no twins"),
+        }
+    }
     Ok(())
 }

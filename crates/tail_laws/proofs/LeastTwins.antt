@@ -12,10 +12,11 @@ use Rattle.word_image.specs.LocalRules.{LocalRule, IsRule, node_count}
 use Rattle.word_image.specs.Graphs.{pair_count, marked}
 use Rattle.word_image.specs.Rings.{IsTwins, IsLeastTwins, pairs_cmp}
 use Rattle.search_laws.proofs.PairWalks.{IsLeastWalk}
+use Rattle.tail_laws.specs.Turns.{IsTurn, NoTurnBelow, IsFirstTurn}
 use Rattle.tail_laws.proofs.BreadthFirst.{Follows-walk}
 use Rattle.tail_laws.proofs.ShortWalks.{length-IsLeastWalk}
 use Rattle.tail_laws.proofs.SplitWalks.{pair_count_pos}
-use Rattle.tail_laws.proofs.MarkedTurns.{IsTurn, marked-below, twins-turn, turn-twins}
+use Rattle.tail_laws.proofs.MarkedTurns.{marked-below, twins-turn, turn-twins}
 
 -- pairs of words are in a total order
 pairs_cmp_total : IsTotalOrder pairs_cmp
@@ -37,17 +38,6 @@ no_later {R = R} order x y z first second greater =
 -- what doesn't come before x is no later than x the other way round
 not_before : {K : Type 0} {R : K → K → Ordering} → IsTotalOrder R → (x y : K) → R x y ≢ Less → R y x ≢ Greater
 not_before {R = R} order x y other greater = other (order.antisymm x y ∙ ap ordering_reverse greater)
-
--- no walk leads from a pair below n to the same pair with the mark
-abbrev pub NoTurnBelow : LocalRule → ℕ → Type 0
-NoTurnBelow r n = (p : ℕ) → p < n → (w : List (ℕ × ℕ)) → ¬ IsTurn r p w
-
--- the first of the walks from a pair below n to the same pair with the mark
-pub record IsFirstTurn (r : LocalRule) (n : ℕ) (w : List (ℕ × ℕ)) : Type 0 where
-  pub pair : ℕ
-  pub below : pair < n
-  pub turn : IsTurn r pair w
-  pub least : (p : ℕ) (v : List (ℕ × ℕ)) → p < n → IsTurn r p v → pairs_cmp w v ≢ Greater
 
 -- the least walk from the pair p to p with the mark
 abbrev pub IsLeastTurn : LocalRule → ℕ → List (ℕ × ℕ) → Type 0

@@ -6,17 +6,14 @@ use Rattle.std.proofs.lemmas.List.Elements.{All-nil, All-cons, All-head, All-tai
 use Rattle.word_image.specs.LocalRules.{LocalRule, IsRule, IsWord}
 use Rattle.word_image.specs.Graphs.{pair_of, first_of, second_of, pair_count, marked}
 use Rattle.word_image.specs.Rings.{IsTwins}
-use Rattle.search_laws.proofs.PairWalks.{PairWalk, ArePairs, ArePairs-walk}
+use Rattle.search_laws.proofs.PairWalks.{ArePairs, ArePairs-walk}
 use Rattle.pair_laws.proofs.Pairs.{pair_of-below, pair_of-first_of, first_of-below, second_of-below}
+use Rattle.tail_laws.specs.Turns.{IsTurn}
 use Rattle.tail_laws.proofs.PairLeads.{PairLeads}
 use Rattle.tail_laws.proofs.TwinWalks.{IsTwinWalk, IsTwins-walk}
 use Rattle.tail_laws.proofs.MarkedWalks.{MarkedLeads, HasOther, HasOther-zip, HasOther-different, follow-marked, IsMarkedWalk-leads, leads-marked}
 use Rattle.tail_laws.proofs.SplitWalks.{ArePairs-zip, mark-below, MarkedLeads-below, with_mark-marked}
 use Rattle.tail_laws.proofs.BreadthFirst.{Follows-walk, PairWalk-follows}
-
--- a walk in the marked graph from a pair without the mark to the same pair with it
-abbrev pub IsTurn : LocalRule → ℕ → List (ℕ × ℕ) → Type 0
-IsTurn r p w = PairWalk (marked r) r.states p w (p + pair_count r)
 
 -- each step of the marked graph ends at one of twice as many states as there are pairs
 pub marked-below : {r : LocalRule} → IsRule r → (t a b s : ℕ) → marked r t a b ≡ Some s → s < pair_count r + pair_count r

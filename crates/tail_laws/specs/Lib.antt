@@ -1,1 +1,2 @@
 pub mod SplitWalks
+pub mod Turns

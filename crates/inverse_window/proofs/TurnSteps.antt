@@ -1,0 +1,45 @@
+-- The search for the first walk from a pair without the mark to the same pair with it, pair by pair.
+use Rattle.std.proofs.Common.{◌≡◌, ℕ, ◌+◌, ◌<◌, List, length, map, Option, Some, None, Vec, Global, if◌then◌else◌, refl, sym, ap₂, ◌∙◌, subst, ⊎_elim, arith}
+use Rattle.std.specs.Prelude.{MatchOption}
+use Rattle.std.specs.Ordering.{is_lt}
+use Rattle.std.specs.declared.cmp.Ordering.{Ordering}
+use Rattle.std.specs.declared.cmp.Ordering.TheVariants.{Less, Equal, Greater}
+use Rattle.std.proofs.lemmas.Bool.{cases_eq}
+use Rattle.word_image.specs.LocalRules.{LocalRule, IsRule}
+use Rattle.word_image.specs.Words.{word_cmp}
+use Rattle.word_image.specs.Rings.{pairs_cmp}
+use Rattle.search_laws.proofs.PairWalks.{uncode, pairs_cmp-codes, codes-uncode, ArePairs-walk}
+use Rattle.tail_laws.proofs.LeastTwins.{IsLeastTurn, IsFirstTurn-only, IsFirstTurn-before, IsFirstTurn-after, IsFirstTurn-none, turn-some}
+use Rattle.tail_laws.specs.Turns.{IsTurn, IsFirstTurn, NoTurnBelow}
+
+-- the first of these walks from a pair below n, in the bytes of its steps, where there is one
+abbrev pub IsFirstFound : LocalRule → ℕ → Option (Vec ℕ Global) → Type 0
+IsFirstFound r n found = MatchOption found (NoTurnBelow r n) (λ steps. IsFirstTurn r n (map (uncode 16) steps.items))
+
+-- the order of two walks is that of their bytes
+pairs_cmp-steps : {r : LocalRule} → IsRule r → (p q : ℕ) (v w : List ℕ) → IsTurn r p (map (uncode 16) v) → IsTurn r q (map (uncode 16) w)
+    → pairs_cmp (map (uncode 16) v) (map (uncode 16) w) ≡ word_cmp v w
+pairs_cmp-steps rule p q v w first second =
+    pairs_cmp-codes 16 (map (uncode 16) v) (map (uncode 16) w) (ArePairs-walk 16 rule.shape.most_states first) (ArePairs-walk 16 rule.shape.most_states second)
+    ∙ ap₂ word_cmp (codes-uncode 16 v) (codes-uncode 16 w)
+
+-- the earlier of the first walk so far and the least one of the pair n is the first up to n
+IsFirstTurn-earlier : {r : LocalRule} {n : ℕ} → IsRule r → (old other : List ℕ) → IsFirstTurn r n (map (uncode 16) old) → IsLeastTurn r n (map (uncode 16) other)
+    → (o : Ordering) → word_cmp other old ≡ o → IsFirstTurn r (n + 1) (map (uncode 16) (if is_lt o then other else old))
+IsFirstTurn-earlier {n = n} rule old other best least Less is = IsFirstTurn-before rule best least (pairs_cmp-steps rule n best.pair other old least.walk best.turn ∙ is)
+IsFirstTurn-earlier {n = n} rule old other best least Equal is = IsFirstTurn-after rule best least (λ less. let same = pairs_cmp-steps rule n best.pair other old least.walk best.turn in cc)
+IsFirstTurn-earlier {n = n} rule old other best least Greater is = IsFirstTurn-after rule best least (λ less. let same = pairs_cmp-steps rule n best.pair other old least.walk best.turn in cc)
+
+-- one more pair, with a walk
+pub IsFirstFound-next : {r : LocalRule} {n : ℕ} → IsRule r → (found : Option (Vec ℕ Global)) (other steps : List ℕ)
+    → MatchOption found (steps ≡ other) (λ old. steps ≡ (if is_lt (word_cmp other old.items) then other else old.items))
+    → IsFirstFound r n found → IsLeastTurn r n (map (uncode 16) other) → IsFirstTurn r (n + 1) (map (uncode 16) steps)
+IsFirstFound-next {r} {n} rule None other steps is none least = subst (λ s. IsFirstTurn r (n + 1) (map (uncode 16) s)) (sym is) (IsFirstTurn-only rule none least)
+IsFirstFound-next {r} {n} rule (Some old) other steps is best least =
+    subst (λ s. IsFirstTurn r (n + 1) (map (uncode 16) s)) (sym is) (IsFirstTurn-earlier rule old.items other best least (word_cmp other old.items) refl)
+
+-- one more pair, without one
+pub IsFirstFound-none : {r : LocalRule} → IsRule r → (n : ℕ) (found : Option (Vec ℕ Global)) → IsFirstFound r n found → ((w : List (ℕ × ℕ)) → 0 < length w → ¬ IsTurn r n w) → IsFirstFound r (n + 1) found
+IsFirstFound-none {r} rule n None none no_turn = λ p l w turn.
+    ⊎_elim (λ same. let here : IsTurn r n w = subst (λ q. IsTurn r q w) same turn in no_turn w (turn-some rule n w here) here) (λ other. none p (omega (arith, other)) w turn) (cases_eq p n)
+IsFirstFound-none rule n (Some old) best no_turn = IsFirstTurn-none best (λ w turn. no_turn w (turn-some rule n w turn) turn)

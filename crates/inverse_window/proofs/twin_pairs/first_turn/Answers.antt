@@ -1,0 +1,21 @@
+use Rattle.std.proofs.Common.{ℕ, ◌+◌, ◌<◌, List, length, map, sym, subst}
+use Rattle.word_image.specs.LocalRules.{LocalRule}
+use Rattle.search_laws.proofs.PairWalks.{uncode}
+use Rattle.tail_laws.specs.Turns.{IsTurn}
+use Rattle.tail_laws.proofs.LeastTwins.{IsLeastTurn}
+use Rattle.inverse_window.proofs.TurnSteps.{IsFirstFound, IsFirstFound-next, IsFirstFound-none}
+use Rattle.inverse_window.proofs.twin_pairs.first_turn.Goals as goal
+use Rattle.inverse_window.proofs.twin_pairs.first_turn.Goals.{in-Some+in_ok-earlier_walk, in_default}
+
+pub loop-p-preserved : goal.loop-p-preserved
+loop-p-preserved c =
+    let r : LocalRule = c.args.pairs.now in
+    elim c.match-walk.branch [
+      | in-Some+in_ok-earlier_walk w ↦
+          let turn : IsLeastTurn r c.loop-p.p (map (uncode 16) w.in-Some.turn.now) = rw c.count-count.ensures.count at w.in-Some.ensures.least in
+          subst (IsFirstFound r (c.loop-p.p + 1)) (sym w.first-is)
+          (IsFirstFound-next c.count-count.ensures.rule c.loop-p.first w.in-Some.turn.now w.in_ok-earlier_walk.field-0.items w.in_ok-earlier_walk.ensures c.loop-p.invariant turn)
+      | in_default w ↦
+          let none : (v : List (ℕ × ℕ)) → 0 < length v → ¬ IsTurn r c.loop-p.p v = rw c.count-count.ensures.count at w.in_default.ensures.none in
+          subst (IsFirstFound r (c.loop-p.p + 1)) (sym w.first-is) (IsFirstFound-none c.count-count.ensures.rule c.loop-p.p c.loop-p.first c.loop-p.invariant none)
+    ]

@@ -1,0 +1,40 @@
+use Rattle.std.proofs.Common.{◌≡◌, map, true, false, refl, ap, ◌∙◌, subst}
+use Rattle.word_image.specs.LocalRules.{IsRule}
+use Rattle.word_image.specs.Graphs.{pair_count}
+use Rattle.search_laws.proofs.PairWalks.{uncode}
+use Rattle.tail_laws.proofs.TwinTails.{no_twins}
+use Rattle.tail_laws.proofs.NoTwins.{IsInjective-no_twins}
+use Rattle.tail_laws.specs.Turns.{IsFirstTurn, NoTurnBelow}
+use Rattle.tail_laws.proofs.LeastTwins.{no_twins-none}
+use Rattle.inverse_window.proofs.SpelledTwins.{first_word, second_word, IsLeastTwins-spelled, length-spelled}
+use Rattle.inverse_window.proofs.twin_pairs.twins.Goals as goal
+
+pub returns-in_ok-spelled-in-Some-clause-least : goal.returns-in_ok-spelled-in-Some-clause-least
+returns-in_ok-spelled-in-Some-clause-least c =
+    let rule : IsRule c.args.rule.now = subst IsRule c.of.ensures c.in_ok-steps.ensures.rule in
+    let turn : IsFirstTurn c.args.rule.now (pair_count c.args.rule.now) (map (uncode 16) c.in-Some.steps.items) = rw (c.of.ensures, c.in-Some.is) at c.in_ok-steps.ensures.turn in
+    IsLeastTwins-spelled rule c.in-Some.steps.items c.in_ok-spelled-in-Some.field-0.x c.in_ok-spelled-in-Some.field-0.y
+    (c.in_ok-spelled-in-Some.ensures.first ∙ ap first_word c.deref.ensures.value) (c.in_ok-spelled-in-Some.ensures.second ∙ ap second_word c.deref.ensures.value) turn
+
+pub returns-in_ok-spelled-in-Some-clause-injective : goal.returns-in_ok-spelled-in-Some-clause-injective
+returns-in_ok-spelled-in-Some-clause-injective c = (
+  λ none. let not : true ≡ false = none in cc,
+  λ injective. absurd (no_twins (returns-in_ok-spelled-in-Some-clause-least c).twins injective),
+)
+
+pub returns-in_ok-spelled-in-Some-clause-most : goal.returns-in_ok-spelled-in-Some-clause-most
+returns-in_ok-spelled-in-Some-clause-most c =
+    let rule : IsRule c.args.rule.now = subst IsRule c.of.ensures c.in_ok-steps.ensures.rule in
+    let turn : IsFirstTurn c.args.rule.now (pair_count c.args.rule.now) (map (uncode 16) c.in-Some.steps.items) = rw (c.of.ensures, c.in-Some.is) at c.in_ok-steps.ensures.turn in
+    length-spelled rule c.in-Some.steps.items c.in_ok-spelled-in-Some.field-0.x c.in_ok-spelled-in-Some.field-0.y
+    (c.in_ok-spelled-in-Some.ensures.first ∙ ap first_word c.deref.ensures.value) (c.in_ok-spelled-in-Some.ensures.second ∙ ap second_word c.deref.ensures.value) turn
+
+pub returns-in-None-clause-least : goal.returns-in-None-clause-least
+returns-in-None-clause-least c =
+    let rule : IsRule c.args.rule.now = subst IsRule c.of.ensures c.in_ok-steps.ensures.rule in
+    let none : NoTurnBelow c.args.rule.now (pair_count c.args.rule.now) = rw (c.of.ensures, c.in-None.is) at c.in_ok-steps.ensures.turn in
+    no_twins-none rule none
+
+pub returns-in-None-clause-injective : goal.returns-in-None-clause-injective
+returns-in-None-clause-injective c =
+    (λ none. (IsInjective-no_twins (subst IsRule c.of.ensures c.in_ok-steps.ensures.rule)).1 (returns-in-None-clause-least c), λ injective. refl)

@@ -1,0 +1,84 @@
+//! The least twins.
+ghost use Rattle.std.specs.Prelude.{◌≡◌, ◌/◌, ◌%◌, ◌≤◌, ◌↔◌, ℕ, List, length, map, IfOk, IfSome, IsNone, MatchOption, if◌then◌else◌};
+ghost use Rattle.std.specs.Ordering.{is_lt};
+ghost use Rattle.word_image.specs.LocalRules.{IsRule};
+ghost use Rattle.word_image.specs.Words.{word_cmp};
+ghost use Rattle.word_image.specs.Rings.{IsTwins, IsLeastTwins};
+ghost use Rattle.word_image.specs.Graphs.{pair_count};
+ghost use Rattle.tail_config.specs.Tails.{IsInjective};
+
+use least_walk::Walker;
+use pair_graph::Pairs;
+use std::alloc::{AllocError, Global};
+use word_image::{Rule, Word};
+
+/// Two different words of one length whose rings have one image.
+#[derive(Debug, Drop)]
+pub struct TwinPair {
+    /// The first of the two words.
+    pub x: Word,
+    /// The second one.
+    pub y: Word,
+}
+
+/// The least twins; `None` exactly where there are none, which is exactly where the rule is
+/// injective. Each has at most 512 letters.
+pub fn twins(alloc: Global, rule: &Rule, walker: &mut Walker) -> Result<Option<TwinPair>, AllocError>
+    ensures injective { IfOk result (λ found. IsNone found ↔ IsInjective rule.now) }
+    ensures least { IfOk result (λ found. MatchOption found ((x y : List ℕ) → ¬ IsTwins rule.now x y) (λ pair. IsLeastTwins rule.now pair.x pair.y)) }
+    ensures most { IfOk result (λ found. IfSome found (λ pair. (length pair.x ≤ 512) × (length pair.y ≤ 512))) }
+{
+    match first_turn(alloc, &Pairs::of(rule), walker)? {
+        Some(steps) => Ok(Some(spelled(alloc, &steps)?)),
+        None => Ok(None),
+    }
+}
+
+/// The two words that a walk spells: the first letters of its steps, and the second ones.
+fn spelled(alloc: Global, steps: &[u8]) -> Result<TwinPair, AllocError>
+    ensures first { IfOk result (λ pair. pair.x ≡ map (λ step. step / 16) steps.now) }
+    ensures second { IfOk result (λ pair. pair.y ≡ map (λ step. step % 16) steps.now) }
+{
+    Ok(TwinPair {
+        x: Word::of(steps.iter().map(|step| *step / 16).collect(alloc)?),
+        y: Word::of(steps.iter().map(|step| *step % 16).collect(alloc)?),
+    })
+}
+
+// The search for them.
+ghost use Rattle.search_laws.proofs.PairWalks.{uncode};
+ghost use Rattle.tail_laws.specs.Turns.{IsFirstTurn, NoTurnBelow};
+
+/// The first of the least walks in the marked graph from a pair without the mark to the same pair
+/// with it.
+fn first_turn(alloc: Global, pairs: &Pairs, walker: &mut Walker) -> Result<Option<Vec<u8>>, AllocError>
+    ensures turn { IfOk result (λ found. MatchOption found (NoTurnBelow pairs.now (pair_count pairs.now)) (λ steps. IsFirstTurn pairs.now (pair_count pairs.now) (map (uncode 16) steps.items))) }
+    ensures rule { IsRule pairs.now }
+{
+    let count = pairs.count();
+    let mut first = None;
+    for p in 0..count {
+        if let Some(turn) = walker.walk(pairs, p, p + count) {
+            first = Some(earlier_walk(alloc, first, turn)?);
+        }
+    }
+    Ok(first)
+}
+
+/// The earlier of the first walk so far, if there is one, and another one.
+fn earlier_walk(alloc: Global, first: Option<Vec<u8>>, other: &[u8]) -> Result<Vec<u8>, AllocError>
+    ensures { IfOk result (λ steps. MatchOption first (steps.items ≡ other.now) (λ old. steps.items ≡ (if is_lt (word_cmp other.now old.items) then other.now else old.items))) }
+{
+    match first {
+        Some(steps) if !is_before(other, &steps) => Ok(steps),
+        _ => other.to_vec(alloc),
+    }
+}
+
+/// Whether a walk comes before another one: the shorter one, and of two of one length the first in
+/// the order of their letter pairs.
+fn is_before(walk: &[u8], other: &[u8]) -> bool
+    ensures { result ≡ is_lt (word_cmp walk.now other.now) }
+{
+    walk.len().cmp(&other.len()).then_with(|| walk.cmp(other)).is_lt()
+}
