@@ -3,54 +3,47 @@
 
 use crate::Walker;
 use pair_graph::Pairs;
-use std::process::Abort;
 use std::test::Fail;
 use word_image::Rule;
 
-// From which marked pair, to which one, and the steps.
-type Case = (u16, u16, Option<&'static [u8]>);
+const RULE_184: [u8; 8] = [0, 0, 0, 1, 1, 1, 0, 1];
 
-const OF_184: [Case; 5] = [
+const RULE_110: [u8; 8] = [0, 1, 1, 1, 0, 1, 1, 0];
+
+const RULE_170: [u8; 8] = [0, 1, 0, 1, 0, 1, 0, 1];
+
+const SUM_OF_TWO: [u8; 9] = [0, 1, 2, 1, 2, 0, 2, 0, 1];
+
+// States, width and table of a rule, from which marked pair to which one, and the steps: none where
+// there is no walk.
+const CASES: [(u8, u8, &[u8], u16, u16, &[u8]); 14] = [
     // The letter pairs 00, 01, 10 and 11 spell 0011 and 0101.
-    (13, 29, Some(&[0, 1, 16, 17])),
-    (29, 13, None),
-    (0, 0, Some(&[0])),
-    (0, 16, Some(&[1, 16, 17, 0, 0])),
-    (13, 13, None),
+    (2, 3, &RULE_184, 13, 29, &[0, 1, 16, 17]),
+    (2, 3, &RULE_184, 29, 13, &[]),
+    (2, 3, &RULE_184, 0, 0, &[0]),
+    (2, 3, &RULE_184, 0, 16, &[1, 16, 17, 0, 0]),
+    (2, 3, &RULE_184, 13, 13, &[]),
+    (2, 3, &RULE_110, 9, 22, &[16]),
+    (2, 3, &RULE_110, 0, 16, &[17, 1, 16, 17, 0, 0]),
+    (2, 3, &RULE_110, 6, 25, &[1]),
+    (3, 2, &SUM_OF_TWO, 0, 9, &[]),
+    (3, 2, &SUM_OF_TWO, 1, 10, &[2, 1]),
+    (3, 2, &SUM_OF_TWO, 5, 5, &[]),
+    (2, 3, &RULE_170, 0, 16, &[]),
+    (2, 3, &RULE_170, 6, 6, &[]),
+    (2, 3, &RULE_170, 0, 10, &[17, 0]),
 ];
-
-const OF_110: [Case; 3] = [
-    (9, 22, Some(&[16])),
-    (0, 16, Some(&[17, 1, 16, 17, 0, 0])),
-    (6, 25, Some(&[1])),
-];
-
-const OF_SUMS: [Case; 3] = [(0, 9, None), (1, 10, Some(&[2, 1])), (5, 5, None)];
-
-const OF_170: [Case; 3] = [(0, 16, None), (6, 6, None), (0, 10, Some(&[17, 0]))];
-
-fn has_walks(rt: &impl Abort, walker: &mut Walker, rule: &Rule, cases: &[Case]) {
-    let pairs = Pairs::of(rule);
-    for (from, to, steps) in cases {
-        assert!(rt; *from < 2 * pairs.count() && *to < 2 * pairs.count());
-        assert_eq!(rt;
-            walker.walk(&pairs, *from, *to),
-            *steps,
-            "from {from} to {to}"
-        );
-    }
-}
 
 #[test]
 fn rules_have_these_least_walks(rt: HostRuntime) -> Result<(), Fail> {
     let mut walker = Walker::new(rt.alloc())?;
-    let rule_184 = Rule::new(2, 3, -1, &[0, 0, 0, 1, 1, 1, 0, 1])?;
-    has_walks(&rt, &mut walker, &rule_184, &OF_184);
-    let rule_110 = Rule::new(2, 3, -1, &[0, 1, 1, 1, 0, 1, 1, 0])?;
-    has_walks(&rt, &mut walker, &rule_110, &OF_110);
-    let sums = Rule::new(3, 2, 0, &[0, 1, 2, 1, 2, 0, 2, 0, 1])?;
-    has_walks(&rt, &mut walker, &sums, &OF_SUMS);
-    let rule_170 = Rule::new(2, 3, -1, &[0, 1, 0, 1, 0, 1, 0, 1])?;
-    has_walks(&rt, &mut walker, &rule_170, &OF_170);
+    for (k, m, table, from, to, steps) in CASES {
+        let pairs = Pairs::of(&Rule::new(k, m, 0, table)?);
+        assert!(rt; from < 2 * pairs.count() && to < 2 * pairs.count());
+        match walker.walk(&pairs, from, to) {
+            Some(found) => assert_eq!(rt; found, steps, "from {from} to {to}"),
+            None => assert!(rt; steps.is_empty(), "from {from} to {to}"),
+        }
+    }
     Ok(())
 }
