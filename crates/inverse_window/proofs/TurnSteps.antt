@@ -10,11 +10,8 @@ use Rattle.word_image.specs.Words.{word_cmp}
 use Rattle.word_image.specs.Rings.{pairs_cmp}
 use Rattle.search_laws.proofs.PairWalks.{uncode, pairs_cmp-codes, codes-uncode, ArePairs-walk}
 use Rattle.tail_laws.proofs.LeastTwins.{IsLeastTurn, IsFirstTurn-only, IsFirstTurn-before, IsFirstTurn-after, IsFirstTurn-none, turn-some}
-use Rattle.tail_laws.specs.Turns.{IsTurn, IsFirstTurn, NoTurnBelow}
-
--- the first of these walks from a pair below n, in the bytes of its steps, where there is one
-abbrev pub IsFirstFound : LocalRule → ℕ → Option (Vec ℕ Global) → Type 0
-IsFirstFound r n found = MatchOption found (NoTurnBelow r n) (λ steps. IsFirstTurn r n (map (uncode 16) steps.items))
+use Rattle.inverse_window.specs.FirstTurns.{IsFirstFound}
+use Rattle.tail_laws.specs.Turns.{IsTurn, IsFirstTurn}
 
 -- the order of two walks is that of their bytes
 pairs_cmp-steps : {r : LocalRule} → IsRule r → (p q : ℕ) (v w : List ℕ) → IsTurn r p (map (uncode 16) v) → IsTurn r q (map (uncode 16) w)

@@ -2,10 +2,11 @@
 ghost use Rattle.std.specs.Prelude.{◌≡◌, ◌/◌, ◌%◌, ◌≤◌, ◌↔◌, ℕ, List, length, map, IfOk, IfSome, IsNone, MatchOption, if◌then◌else◌};
 ghost use Rattle.std.specs.Ordering.{is_lt};
 ghost use Rattle.word_image.specs.LocalRules.{IsRule};
+ghost use Rattle.word_image.specs.Graphs.{pair_count};
 ghost use Rattle.word_image.specs.Words.{word_cmp};
 ghost use Rattle.word_image.specs.Rings.{IsTwins, IsLeastTwins};
-ghost use Rattle.word_image.specs.Graphs.{pair_count};
 ghost use Rattle.tail_config.specs.Tails.{IsInjective};
+ghost use Rattle.inverse_window.specs.FirstTurns.{IsFirstFound};
 
 use least_walk::Walker;
 use pair_graph::Pairs;
@@ -23,11 +24,7 @@ pub struct TwinPair {
 
 /// The least twins; `None` exactly where there are none, which is exactly where the rule is
 /// injective. Each has at most 512 letters.
-pub fn twins(
-    alloc: Global,
-    rule: &Rule,
-    walker: &mut Walker,
-) -> Result<Option<TwinPair>, AllocError>
+pub fn twins(alloc: Global, rule: &Rule, walker: &mut Walker) -> Result<Option<TwinPair>, AllocError>
     ensures injective { IfOk result (λ found. IsNone found ↔ IsInjective rule.now) }
     ensures least { IfOk result (λ found. MatchOption found ((x y : List ℕ) → ¬ IsTwins rule.now x y) (λ pair. IsLeastTwins rule.now pair.x pair.y)) }
     ensures most { IfOk result (λ found. IfSome found (λ pair. (length pair.x ≤ 512) × (length pair.y ≤ 512))) }
@@ -49,18 +46,9 @@ fn spelled(alloc: Global, steps: &[u8]) -> Result<TwinPair, AllocError>
     })
 }
 
-// The search for them.
-ghost use Rattle.search_laws.proofs.PairWalks.{uncode};
-ghost use Rattle.tail_laws.specs.Turns.{IsFirstTurn, NoTurnBelow};
-
-/// The first of the least walks in the marked graph from a pair without the mark to the same pair
-/// with it.
-fn first_turn(
-    alloc: Global,
-    pairs: &Pairs,
-    walker: &mut Walker,
-) -> Result<Option<Vec<u8>>, AllocError>
-    ensures turn { IfOk result (λ found. MatchOption found (NoTurnBelow pairs.now (pair_count pairs.now)) (λ steps. IsFirstTurn pairs.now (pair_count pairs.now) (map (uncode 16) steps.items))) }
+/// The first of the walks in the marked graph from a pair without the mark to the same pair with it.
+fn first_turn(alloc: Global, pairs: &Pairs, walker: &mut Walker) -> Result<Option<Vec<u8>>, AllocError>
+    ensures turn { IfOk result (IsFirstFound pairs.now (pair_count pairs.now)) }
     ensures rule { IsRule pairs.now }
 {
     let count = pairs.count();
@@ -88,8 +76,5 @@ fn earlier_walk(alloc: Global, first: Option<Vec<u8>>, other: &[u8]) -> Result<V
 fn is_before(walk: &[u8], other: &[u8]) -> bool
     ensures { result ≡ is_lt (word_cmp walk.now other.now) }
 {
-    walk.len()
-        .cmp(&other.len())
-        .then_with(|| walk.cmp(other))
-        .is_lt()
+    walk.len().cmp(&other.len()).then_with(|| walk.cmp(other)).is_lt()
 }

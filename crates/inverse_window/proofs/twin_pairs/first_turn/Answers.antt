@@ -3,7 +3,8 @@ use Rattle.word_image.specs.LocalRules.{LocalRule}
 use Rattle.search_laws.proofs.PairWalks.{uncode}
 use Rattle.tail_laws.specs.Turns.{IsTurn}
 use Rattle.tail_laws.proofs.LeastTwins.{IsLeastTurn}
-use Rattle.inverse_window.proofs.TurnSteps.{IsFirstFound, IsFirstFound-next, IsFirstFound-none}
+use Rattle.inverse_window.specs.FirstTurns.{IsFirstFound}
+use Rattle.inverse_window.proofs.TurnSteps.{IsFirstFound-next, IsFirstFound-none}
 use Rattle.inverse_window.proofs.twin_pairs.first_turn.Goals as goal
 use Rattle.inverse_window.proofs.twin_pairs.first_turn.Goals.{in-Some+in_ok-earlier_walk, in_default}
 

@@ -1,4 +1,4 @@
-use Rattle.inverse_window.proofs.TurnSteps.{IsFirstFound}
+use Rattle.inverse_window.specs.FirstTurns.{IsFirstFound}
 use Rattle.inverse_window.proofs.twin_pairs.first_turn.Given as goal
 
 abbrev pub invariant-loop-p : goal.invariant-loop-p
