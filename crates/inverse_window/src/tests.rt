@@ -79,7 +79,10 @@ fn the_shift_of_sixteen_letters_has_a_window(rt: HostRuntime) -> Result<(), Fail
         *letter = (value % 16) as u8;
     }
     let rule = Rule::new(16, 2, 0, &table)?;
-    assert_eq!(rt; window(&rule, &Ranks::of(&rule)), Some(WindowAt { n: 1, c: 1 }));
+    assert_eq!(rt;
+        window(&rule, &Ranks::of(&rule)),
+        Some(WindowAt { n: 1, c: 1 })
+    );
     Ok(())
 }
 
@@ -107,8 +110,16 @@ fn these_rules_have_these_twins(rt: HostRuntime) -> Result<(), Fail> {
         let rule = Rule::new(k, m, 0, &letters(rt.alloc(), digits)?)?;
         match twins(rt.alloc(), &rule, &mut walker)? {
             Some(pair) => {
-                assert_eq!(rt; pair.x.as_slice(), letters(rt.alloc(), x)?.as_slice(), "case {case}");
-                assert_eq!(rt; pair.y.as_slice(), letters(rt.alloc(), y)?.as_slice(), "case {case}");
+                assert_eq!(rt;
+                    pair.x.as_slice(),
+                    letters(rt.alloc(), x)?.as_slice(),
+                    "case {case}"
+                );
+                assert_eq!(rt;
+                    pair.y.as_slice(),
+                    letters(rt.alloc(), y)?.as_slice(),
+                    "case {case}"
+                );
             }
             None => assert!(rt; false, "case {case} has no twins"),
         }

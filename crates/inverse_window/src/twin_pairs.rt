@@ -24,7 +24,11 @@ pub struct TwinPair {
 
 /// The least twins; `None` exactly where there are none, which is exactly where the rule is
 /// injective. Each has at most 512 letters.
-pub fn twins(alloc: Global, rule: &Rule, walker: &mut Walker) -> Result<Option<TwinPair>, AllocError>
+pub fn twins(
+    alloc: Global,
+    rule: &Rule,
+    walker: &mut Walker,
+) -> Result<Option<TwinPair>, AllocError>
     ensures injective { IfOk result (λ found. IsNone found ↔ IsInjective rule.now) }
     ensures least { IfOk result (λ found. MatchOption found ((x y : List ℕ) → ¬ IsTwins rule.now x y) (λ pair. IsLeastTwins rule.now pair.x pair.y)) }
     ensures most { IfOk result (λ found. IfSome found (λ pair. (length pair.x ≤ 512) × (length pair.y ≤ 512))) }
@@ -47,7 +51,11 @@ fn spelled(alloc: Global, steps: &[u8]) -> Result<TwinPair, AllocError>
 }
 
 /// The first of the walks in the marked graph from a pair without the mark to the same pair with it.
-fn first_turn(alloc: Global, pairs: &Pairs, walker: &mut Walker) -> Result<Option<Vec<u8>>, AllocError>
+fn first_turn(
+    alloc: Global,
+    pairs: &Pairs,
+    walker: &mut Walker,
+) -> Result<Option<Vec<u8>>, AllocError>
     ensures turn { IfOk result (IsFirstFound pairs.now (pair_count pairs.now)) }
     ensures rule { IsRule pairs.now }
 {
@@ -76,5 +84,8 @@ fn earlier_walk(alloc: Global, first: Option<Vec<u8>>, other: &[u8]) -> Result<V
 fn is_before(walk: &[u8], other: &[u8]) -> bool
     ensures { result ≡ is_lt (word_cmp walk.now other.now) }
 {
-    walk.len().cmp(&other.len()).then_with(|| walk.cmp(other)).is_lt()
+    walk.len()
+        .cmp(&other.len())
+        .then_with(|| walk.cmp(other))
+        .is_lt()
 }
