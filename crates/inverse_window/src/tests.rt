@@ -1,6 +1,6 @@
 //! Windows and twins as a listing of words gives them.
 
-use crate::{TwinPair, WindowAt, twins, window};
+use crate::{WindowAt, twins, window};
 use least_walk::Walker;
 use pair_rank::Ranks;
 use std::alloc::{AllocError, Global};
@@ -83,47 +83,6 @@ fn the_shift_of_sixteen_letters_has_a_window(rt: HostRuntime) -> Result<(), Fail
         window(&rule, &Ranks::of(&rule)),
         Some(WindowAt { n: 1, c: 1 })
     );
-    Ok(())
-}
-
-#[test]
-fn these_rules_have_these_twins(rt: HostRuntime) -> Result<(), Fail> {
-    let cases: [(u8, u8, &[u8], &[u8], &[u8]); 11] = [
-        // Rules 110, 30, 90, 60 and 0.
-        (2, 3, b"01110110", b"0", b"1"),
-        (2, 3, b"01111000", b"0", b"1"),
-        (2, 3, b"01011010", b"0", b"1"),
-        (2, 3, b"00111100", b"0", b"1"),
-        (2, 3, b"00000000", b"0", b"1"),
-        // Rules 184, 232, 1 and 29.
-        (2, 3, b"00011101", b"0011", b"0101"),
-        (2, 3, b"00010111", b"000", b"001"),
-        (2, 3, b"10000000", b"01", b"10"),
-        (2, 3, b"10111000", b"0101", b"0110"),
-        // The sum modulo 3.
-        (3, 2, b"012120201", b"00", b"12"),
-        // One more than the sum of the first, third and fourth of four cells, modulo 2.
-        (2, 4, b"1001100101100110", b"0000000", b"0011101"),
-    ];
-    let mut walker = Walker::new(rt.alloc())?;
-    for (case, (k, m, digits, x, y)) in cases.into_iter().enumerate() {
-        let rule = Rule::new(k, m, 0, &letters(rt.alloc(), digits)?)?;
-        match twins(rt.alloc(), &rule, &mut walker)? {
-            Some(pair) => {
-                assert_eq!(rt;
-                    pair.x.as_slice(),
-                    letters(rt.alloc(), x)?.as_slice(),
-                    "case {case}"
-                );
-                assert_eq!(rt;
-                    pair.y.as_slice(),
-                    letters(rt.alloc(), y)?.as_slice(),
-                    "case {case}"
-                );
-            }
-            None => assert!(rt; false, "case {case} has no twins"),
-        }
-    }
     Ok(())
 }
 
