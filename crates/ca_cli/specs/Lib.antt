@@ -3,6 +3,7 @@ pub mod Commands
 pub mod Lines
 pub mod StatusLines
 pub mod Reports
+pub mod Findings
 pub mod RightAnswers
 pub mod Outcomes
 pub mod Examples

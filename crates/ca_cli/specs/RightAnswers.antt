@@ -7,7 +7,7 @@ use Rattle.ca_cli.specs.declared.status.Status.{Status}
 use Rattle.ca_cli.specs.declared.status.Status.TheVariants as status
 use Rattle.ca_cli.specs.Commands.{Command, IsCommand, first_rule}
 use Rattle.ca_cli.specs.StatusLines.{usage_line, operand_fault_line}
-use Rattle.ca_cli.specs.Reports.{IsSurjectiveLine, number_line}
+use Rattle.ca_cli.specs.Reports.{IsSurjectiveLine, number_line, IsReport}
 
 -- the operand with this number is the first with a fault, and this is its first fault
 pub data IsOperandFault : Command → ℕ → TextFault → Type 0 where
@@ -15,6 +15,7 @@ pub data IsOperandFault : Command → ℕ → TextFault → Type 0 where
 
 -- what is right for a command whose operands are accepted: what it says of the rule is true
 pub data IsRight (input : Option (List ℕ)) : Command → Status → List ℕ → Type 0 where
+  Decide : (text : List ℕ) (r : LocalRule) (out : List ℕ) → IsRuleText text r → IsReport (λ a. a) r out → IsRight input (Command.Decide text) status.Done out
   Orphan : (text : List ℕ) (r : LocalRule) (out : List ℕ) → IsRuleText text r → IsSurjectiveLine r out → IsRight input (Command.Orphan text) status.Done out
   Number : (text : List ℕ) (r : LocalRule) → IsRuleText text r → IsRight input (Command.Number text) status.Done (number_line r)
 

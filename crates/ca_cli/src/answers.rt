@@ -6,7 +6,7 @@ ghost use Rattle.ca_cli.specs.RightAnswers.{IsAnswer};
 
 use crate::lines::{write_operand_fault, write_usage};
 use crate::output::Output;
-use crate::reports::{number, orphan};
+use crate::reports::{decide, number, orphan};
 use crate::request::Request;
 use crate::status::Status;
 use crate::stop::Stop;
@@ -41,6 +41,7 @@ fn carry_out(alloc: Global, request: Request) -> Result<Output, Stop>
     ensures { (input : Option (List ℕ)) → IsOutcome input (command_of request.entry) result }
 {
     match request {
+        Request::Decide(rule) => decide(alloc, rule),
         Request::Orphan(rule) => orphan(alloc, rule),
         Request::Number(rule) => number(alloc, rule),
     }

@@ -16,23 +16,26 @@
 //!
 //! | Words | Status | Code | Output |
 //! |---|---|---|---|
-//! | `orphan 110` | Done | 0 | `surjective no orphan 01010`, or another word without a preimage |
+//! | `decide 110` | Done | 0 | the eight lines of the report |
+//! | `orphan 110` | Done | 0 | `surjective no orphan 01010` |
 //! | `orphan 90` | Done | 0 | `surjective yes` |
 //! | `number 2:3:-1:t01110110` | Done | 0 | `number 110` |
 //! | `orphan 256` | RuleFault | 3 | `rule fault 1 number` |
 //! | `orphan 1x` | RuleFault | 3 | `rule fault 1 form 1` |
 //! | `110` | Usage | 2 | `usage error` |
 //!
-//! Each output is one line. A call takes the time and the memory of its search, and besides **O(n)**
-//! of both for n bytes of words and output. A search lists at most `2^N` sets of nodes, where a rule
+//! A report has eight lines, and every other output has one. A call takes the time and the memory of
+//! its deciders, and besides **O(n)** of both for n bytes of words and output. A search lists at most `2^N` sets of nodes, where a rule
 //! with k states and width m has `N = k^(m-1)`, so 16 for each rule of this table.
 #![tactic(auto)]
 
 mod answers;
 mod exactness;
+mod findings;
 mod lines;
 mod operands;
 mod output;
+mod report;
 mod reports;
 mod request;
 mod status;

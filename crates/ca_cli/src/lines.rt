@@ -1,12 +1,10 @@
 //! The lines that the program writes. Each is made of values that are there: no line decides anything.
 ghost use Rattle.std.specs.Prelude.{◌≡◌, ◌++◌, IfOk, OnOk, string_bytes};
-ghost use Rattle.word_image.specs.LocalRules.{IsWord};
 ghost use Rattle.ca_cli.specs.Lines.{fault_text};
 ghost use Rattle.ca_cli.specs.StatusLines.{operand_fault_line, usage_line};
-ghost use Rattle.ca_cli.specs.Reports.{number_line, surjective_line};
+ghost use Rattle.ca_cli.specs.Reports.{number_line};
 
 use crate::output::Output;
-use orphan_search::Outcome;
 use rule_text::{TextFault, number};
 use std::alloc::{AllocError, Global};
 use word_image::Rule;
@@ -55,26 +53,5 @@ pub fn write_number(alloc: Global, output: &mut Output, rule: &Rule) -> Result<(
     match number(rule) {
         Some(number) => output.push_line(&format!(in alloc; "number {number}")?),
         None => output.push_line("number none"),
-    }
-}
-
-/// Appends the line that says whether the rule is surjective: what a search came to, and the word
-/// that it left.
-pub fn write_surjective(
-    alloc: Global,
-    output: &mut Output,
-    outcome: Outcome,
-    word: &[u8],
-) -> Result<(), AllocError>
-    requires { IsWord 16 word.now }
-    ensures { OnOk result (output.new ≡ output.old ++ surjective_line outcome word.now) }
-{
-    match outcome {
-        Outcome::Closed => output.push_line("surjective yes"),
-        Outcome::Orphan => {
-            output.push(b"surjective no orphan ")?;
-            output.push_word(alloc, word)?;
-            output.push(b"\n")
-        }
     }
 }

@@ -5,6 +5,8 @@ ghost use Rattle.ca_cli.specs.Commands.{Command, IsCommand, command_of};
 /// A command, with its operands as they stand on the command line.
 #[derive(Clone, Copy, Debug)]
 pub enum Request<'a> {
+    /// `decide R`: the report of the rule.
+    Decide(&'a [u8]),
     /// `orphan R`: whether the rule is surjective, with its least orphan where it isn't.
     Orphan(&'a [u8]),
     /// `number R`: the Wolfram number of the rule.
@@ -20,6 +22,7 @@ impl<'a> Request<'a> {
     {
         match words {
             [name, rule] => match name.as_str() {
+                "decide" => Some(Request::Decide(rule.as_bytes())),
                 "orphan" => Some(Request::Orphan(rule.as_bytes())),
                 "number" => Some(Request::Number(rule.as_bytes())),
                 _ => None,

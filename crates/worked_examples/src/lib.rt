@@ -9,6 +9,8 @@ mod numbers;
 #[cfg(test)]
 mod orphans;
 #[cfg(test)]
+mod reports;
+#[cfg(test)]
 mod rows;
 #[cfg(test)]
 mod rule_faults;

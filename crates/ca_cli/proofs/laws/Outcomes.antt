@@ -3,14 +3,8 @@ use Rattle.std.proofs.Common.{◌≡◌, ℕ, List, [], ◌++◌, append_assoc, 
 use Rattle.std.specs.Prelude.{Option, Some, Result}
 use Rattle.std.specs.Result.{IsErrAnd}
 use Rattle.std.proofs.lemmas.Result.{err_from_is_err_and}
-use Rattle.word_image.specs.LocalRules.{LocalRule}
-use Rattle.orphan_search.specs.declared.search.Outcome.{Outcome}
-use Rattle.orphan_search.specs.declared.search.Outcome.TheVariants as outcome
-use Rattle.orphan_search.specs.Verdicts.{Found, IsVerdict}
 use Rattle.ca_cli.specs.declared.stop.Stop.{Stop}
 use Rattle.ca_cli.specs.Commands.{Command, first_rule}
-use Rattle.ca_cli.specs.Reports.{IsSurjectiveLine, surjective_line}
-use Rattle.ca_cli.specs.Reports.IsSurjectiveLine.{Yes, No}
 use Rattle.ca_cli.specs.RightAnswers.IsOperandFault.{First}
 use Rattle.ca_cli.specs.Outcomes.{IsOutcome, IsRuleFault}
 
@@ -21,11 +15,6 @@ appended_to_nothing {text = text} empty appended = appended ∙ ap (λ o. o ++ t
 -- what is appended in two steps is appended as one
 pub appended_twice : (before first second : List ℕ) {between after : List ℕ} → between ≡ before ++ first → after ≡ between ++ second → after ≡ before ++ (first ++ second)
 appended_twice before first second one two = two ∙ ap (λ o. o ++ second) one ∙ append_assoc before first second
-
--- the line of a verdict is true
-pub IsSurjectiveLine-verdict : (r : LocalRule) (o : Outcome) (found : Found) → IsVerdict r o found → IsSurjectiveLine r (surjective_line o found.word)
-IsSurjectiveLine-verdict r outcome.Closed found verdict = Yes verdict.0
-IsSurjectiveLine-verdict r outcome.Orphan found verdict = No found.word verdict.0
 
 -- a command whose first rule is refused stops
 pub first_refused : (input : Option (List ℕ)) (c : Command) {text : List ℕ} {s : Stop} (result : Result (List ℕ) Stop)

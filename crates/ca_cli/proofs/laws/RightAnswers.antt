@@ -14,7 +14,7 @@ use Rattle.ca_cli.specs.Statuses.{IsAnswered}
 use Rattle.ca_cli.specs.StatusLines.{usage_line, operand_fault_line}
 use Rattle.ca_cli.specs.RightAnswers.{IsAnswer, IsOperandFault, IsRight}
 use Rattle.ca_cli.specs.RightAnswers.IsAnswer.{Usage, RuleFault, Right}
-use Rattle.ca_cli.specs.RightAnswers.IsRight.{Orphan, Number}
+use Rattle.ca_cli.specs.RightAnswers.IsRight.{Decide, Orphan, Number}
 use Rattle.ca_cli.specs.RightAnswers.IsOperandFault.{First}
 
 -- the word with this number, from 0 on
@@ -23,11 +23,15 @@ word words i = unwrap_or (slice_get words i) []
 
 -- the command that the words are, if they are one: what undoes words_of
 read : List (List ℕ) → Command
-read words = if pointwise nat_eq (word words 0) (codes "orphan") then commands.Orphan (word words 1) else commands.Number (word words 1)
+read words =
+    if pointwise nat_eq (word words 0) (codes "decide") then commands.Decide (word words 1)
+    else (if pointwise nat_eq (word words 0) (codes "orphan") then commands.Orphan (word words 1)
+    else commands.Number (word words 1))
 
 -- each command is read from its words
 read-words_of : (c : Command) → read (words_of c) ≡ c
 unfolding read word
+read-words_of (commands.Decide rule) = refl
 read-words_of (commands.Orphan rule) = refl
 read-words_of (commands.Number rule) = refl
 
@@ -41,11 +45,13 @@ IsCommand-unique {c = c} {d = d} here also = words_of-injective c d (sym here.wo
 
 -- what is right for a command is Done
 IsRight-done : {input : Option (List ℕ)} {c : Command} {s : Status} {out : List ℕ} → IsRight input c s out → s ≡ status.Done
+IsRight-done (Decide text r out says true_report) = refl
 IsRight-done (Orphan text r out says true_line) = refl
 IsRight-done (Number text r says) = refl
 
 -- a command with a right answer has no operand with a fault
 IsRight-no_fault : {input : Option (List ℕ)} {c : Command} {s : Status} {out : List ℕ} {operand : ℕ} {f : TextFault} → IsRight input c s out → IsOperandFault c operand f → ⊥
+IsRight-no_fault (Decide text r out says true_report) (First c rule f is fault) = IsRuleText-no_fault says (subst (λ t. IsTextFault t f) (sym (same_Some text rule is)) fault)
 IsRight-no_fault (Orphan text r out says true_line) (First c rule f is fault) = IsRuleText-no_fault says (subst (λ t. IsTextFault t f) (sym (same_Some text rule is)) fault)
 IsRight-no_fault (Number text r says) (First c rule f is fault) = IsRuleText-no_fault says (subst (λ t. IsTextFault t f) (sym (same_Some text rule is)) fault)
 

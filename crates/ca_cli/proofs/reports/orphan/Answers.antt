@@ -1,10 +1,10 @@
 use Rattle.std.proofs.Common.{refl, sym, subst}
 use Rattle.ca_cli.specs.declared.status.Status.TheVariants as status
-use Rattle.ca_cli.specs.Reports.{IsSurjectiveLine, surjective_line}
 use Rattle.ca_cli.specs.Commands as commands
 use Rattle.ca_cli.specs.RightAnswers.{IsRight}
 use Rattle.ca_cli.specs.RightAnswers.IsRight.{Orphan}
-use Rattle.ca_cli.proofs.laws.Outcomes.{first_refused, IsSurjectiveLine-verdict, appended_to_nothing}
+use Rattle.ca_cli.proofs.laws.Outcomes.{first_refused, appended_to_nothing}
+use Rattle.ca_cli.proofs.laws.Findings.{IsSurjectiveLine-found}
 use Rattle.ca_cli.proofs.reports.orphan.Goals as goal
 
 pub returns-in_err-rule : goal.returns-in_err-rule
@@ -12,7 +12,5 @@ returns-in_err-rule c input = first_refused input (commands.Orphan c.args.text.n
 
 pub returns : goal.returns
 returns c input =
-    let r = c.in_ok-rule.rule in
-    let o = c.in_ok-outcome.outcome in
-    let line = subst (λ w. IsSurjectiveLine r (surjective_line o w)) (sym c.word.ensures) (IsSurjectiveLine-verdict r o _ c.in_ok-outcome.ensures.verdict) in
-    subst (IsRight input (commands.Orphan c.args.text.now) status.Done) (sym (appended_to_nothing c.new-output.ensures c.in_ok-write_surjective.ensures)) (Orphan c.args.text.now c.in_ok-rule.rule _ c.in_ok-rule.ensures line)
+    let line = IsSurjectiveLine-found c.in_ok-rule.rule c.in_ok-found.found c.in_ok-found.ensures in
+    subst (IsRight input (commands.Orphan c.args.text.now) status.Done) (sym (appended_to_nothing c.new-output.ensures c.in_ok-write_surjectivity.ensures)) (Orphan c.args.text.now c.in_ok-rule.rule _ c.in_ok-rule.ensures line)

@@ -1,0 +1,89 @@
+//! What holds of a rule, with the evidence for it.
+ghost use Rattle.std.specs.Prelude.{◌≡◌, IfOk};
+ghost use Rattle.ca_cli.specs.Findings.{IsSurjectivity, IsInjectivity, AreFound};
+
+use closing_test::{Closing, left, right};
+use flux_conserve::{Keeping, conserve};
+use inverse_window::{TwinPair, WindowAt, twins, window};
+use least_walk::Walker;
+use orphan_search::{Outcome, Search};
+use pair_rank::Ranks;
+use std::alloc::{AllocError, Global};
+use word_image::{Rule, SetList, Word};
+
+/// Whether every word has a preimage.
+#[derive(Debug, Drop)]
+pub enum Surjectivity {
+    /// It has, by these sets of last nodes, in the order of their least words.
+    Sets(SetList),
+    /// This word, the least of them, has none.
+    Orphan(Word),
+}
+
+/// Whether two different configurations never share an image.
+#[derive(Debug, Drop)]
+pub enum Injectivity {
+    /// They never do, by this window, the least determined one.
+    Window(WindowAt),
+    /// These two words, the least twins, closed to rings have one image.
+    Twins(TwinPair),
+}
+
+/// The verdicts of a rule, each with the least evidence.
+#[derive(Debug, Drop)]
+pub struct Findings {
+    pub rule: Rule,
+    pub surjective: Surjectivity,
+    pub injective: Injectivity,
+    pub right: Closing,
+    pub left: Closing,
+    pub conserving: Keeping,
+}
+
+impl Findings {
+    /// Decides all questions about a rule.
+    pub fn of(alloc: Global, rule: &Rule) -> Result<Findings, AllocError>
+        ensures { IfOk result (AreFound rule.now) }
+    {
+        let ranks = Ranks::of(rule);
+        let mut walker = Walker::new(alloc)?;
+        Ok(Findings {
+            rule: *rule,
+            surjective: surjective(alloc, rule)?,
+            injective: injective(alloc, rule, &ranks, &mut walker)?,
+            right: right(alloc, rule, &ranks, &mut walker)?,
+            left: left(alloc, rule, &ranks, &mut walker)?,
+            conserving: conserve(rule),
+        })
+    }
+}
+
+/// Whether a rule is surjective.
+pub fn surjective(alloc: Global, rule: &Rule) -> Result<Surjectivity, AllocError>
+    ensures { IfOk result (IsSurjectivity rule.now) }
+{
+    let mut search = Search::new(alloc)?;
+    match search.run(alloc, rule)? {
+        Outcome::Closed => Ok(Surjectivity::Sets(SetList::of(search.sets().to_vec(alloc)?))),
+        Outcome::Orphan => Ok(Surjectivity::Orphan(Word::of(search.word().to_vec(alloc)?))),
+    }
+}
+
+/// Whether a rule is injective, by its ranks.
+fn injective(
+    alloc: Global,
+    rule: &Rule,
+    ranks: &Ranks,
+    walker: &mut Walker,
+) -> Result<Injectivity, AllocError>
+    requires { ranks.now ≡ rule.now }
+    ensures { IfOk result (IsInjectivity rule.now) }
+{
+    if let Some(at) = window(rule, ranks) {
+        return Ok(Injectivity::Window(at));
+    }
+    match twins(alloc, rule, walker)? {
+        Some(pair) => Ok(Injectivity::Twins(pair)),
+        None => unreachable!(),
+    }
+}
