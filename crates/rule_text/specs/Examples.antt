@@ -3,7 +3,7 @@ use Rattle.std.specs.Prelude.{◌≡◌, refl, [], ◌∷◌, pos, negsuc, Some,
 use Rattle.std.specs.Fmt.{digits}
 use Rattle.rule_text.specs.declared.text_fault.TextFault.TheVariants as fault
 use Rattle.word_image.specs.Digits.{letter_at}
-use Rattle.rule_text.specs.RuleTexts.{Table, Number, bare, decimal_value, fault_of, printed, rule_of}
+use Rattle.rule_text.specs.RuleTexts.{Table, Number, bare, by_number, decimal_value, fault_of, printed, rule_of}
 
 -- the digits 110
 value_110 : decimal_value (codes "110") ≡ 110
@@ -62,3 +62,8 @@ first_fault_states = refl
 -- 2:6:0:t0
 first_fault_width : fault_of (record { states = 2; width = 6; offset = pos 0; entries = Table (0 ∷ []); place = 7 }) ≡ Some fault.Width
 first_fault_width = refl
+
+-- number 6 of two states and width 2
+numbered_6 : printed (rule_of (by_number 2 2 (pos 0) 6)) ≡ codes "2:2:0:t0110"
+unfolding digits
+numbered_6 = refl

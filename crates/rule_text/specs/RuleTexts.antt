@@ -47,9 +47,13 @@ pub record Said : Type 0 where
 abbrev pub head : List ℕ → List ℕ → List ℕ → List ℕ → List ℕ
 head k m o kind = k ++ codes ":" ++ m ++ codes ":" ++ o ++ codes ":" ++ kind
 
+-- the rule of this shape and offset with this number, by no text
+abbrev pub by_number : ℕ → ℕ → ℤ → ℕ → Said
+by_number k m o n = record { states = k; width = m; offset = o; entries = Entries.Number n; place = 0 }
+
 -- the rule of two states, width 3 and offset -1 with this number
 abbrev pub bare : ℕ → Said
-bare n = record { states = 2; width = 3; offset = negsuc 0; entries = Entries.Number n; place = 0 }
+bare n = by_number 2 3 (negsuc 0) n
 
 -- the grammar: the bare form, the table form and the number form
 pub data Says : List ℕ → Said → Type 0 where

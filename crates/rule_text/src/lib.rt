@@ -17,7 +17,9 @@
 //! So a call takes **O(n + k^m)** time for a text of n bytes, and no memory; `print` makes the text of
 //! its rule.
 //!
-//! `is_decimal`, `decimal_number` and `decimal_offset` read the decimal operands of commands.
+//! `numbered` makes the rule of a shape and a number that are no text, and `check_shape` has the faults
+//! of the shape alone. `is_decimal`, `decimal_number` and `decimal_offset` read the decimal operands of
+//! commands.
 #![tactic(auto)]
 
 mod decimals;
@@ -27,11 +29,13 @@ mod parsing;
 mod parts;
 mod printing;
 mod text_fault;
+mod wolfram_numbers;
 
 pub use decimals::{decimal_number, decimal_offset, is_decimal};
 pub use parsing::parse;
 pub use printing::{number, print, printed_text_is_read};
 pub use text_fault::TextFault;
+pub use wolfram_numbers::{check_shape, numbered};
 
 #[cfg(test)]
 mod tests;

@@ -7,13 +7,11 @@ ghost use Rattle.rule_text.specs.RuleTexts.{IsRuleText, IsTextFault, IsReading, 
 ghost use Rattle.rule_text.specs.Heads.{IsEntries, said_of, said_with};
 
 use crate::decimals::decimal_number;
-use crate::digits::{first_stop, write_letters, write_number};
+use crate::digits::{first_stop, write_letters};
 use crate::head::{Head, Kind, read_head};
 use crate::text_fault::{TextFault, in_text};
+use crate::wolfram_numbers::{MOST_STATES, rule_of_number};
 use word_image::{MOST_ENTRIES, Rule, check_shape};
-
-/// The most states of a rule that has a number.
-const MOST_STATES: u8 = 6;
 
 /// The rule that a text says; else the text's first fault, in the order of `TextFault`.
 pub fn parse(text: &[u8]) -> Result<Rule, TextFault>
@@ -78,14 +76,5 @@ fn accept_number(head: &Head, digits: &[u8]) -> Result<Rule, TextFault>
     let Some(number) = decimal_number(digits) else {
         return Err(TextFault::Number);
     };
-    let size = usize::from(head.k).pow(u32::from(head.m));
-    let mut table = [0; MOST_ENTRIES];
-    let table = &mut table[..size];
-    if !write_number(table, head.k, number) {
-        return Err(TextFault::Number);
-    }
-    match Rule::new(head.k, head.m, head.o, table) {
-        Ok(rule) => Ok(rule),
-        Err(_) => unreachable!(),
-    }
+    rule_of_number(head.k, head.m, head.o, number).ok_or(TextFault::Number)
 }

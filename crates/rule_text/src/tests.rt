@@ -1,5 +1,8 @@
 //! Texts with their rules and faults by hand, from the table of forms in the module's doc.
-use super::{TextFault, decimal_number, decimal_offset, is_decimal, number, parse, print};
+use super::{
+    TextFault, check_shape, decimal_number, decimal_offset, is_decimal, number, numbered, parse,
+    print,
+};
 use word_image::Rule;
 
 #[test]
@@ -83,6 +86,37 @@ fn printed_texts_and_numbers_are_those_of_the_rule(rt: HostRuntime) {
         assert_eq!(rt; again.as_slice(), *printed);
         assert_eq!(rt; number(&rule), *wanted);
     }
+}
+
+#[test]
+fn shapes_and_numbers_have_their_rules(rt: HostRuntime) {
+    let rows: [(u8, u8, i8, u128, &[u8]); 3] = [
+        (2, 3, -1, 110, b"110"),
+        (3, 2, 0, 8229, b"3:2:0:t012120201"),
+        (
+            4,
+            3,
+            -1,
+            u128::MAX,
+            b"4:3:-1:t3333333333333333333333333333333333333333333333333333333333333333",
+        ),
+    ];
+    for (k, m, o, number, text) in rows {
+        assert_eq!(rt; numbered(k, m, o, number).ok(), parse(text).ok());
+        assert_eq!(rt; check_shape(k, m, o), Ok(()));
+    }
+    let faults = [
+        (17, 6, 0, 0, TextFault::States),
+        (3, 6, 0, 0, TextFault::Width),
+        (7, 3, 0, 0, TextFault::Nodes),
+        (7, 2, 16, 0, TextFault::Offset),
+        (7, 2, 0, 0, TextFault::Kind),
+        (2, 2, 0, 16, TextFault::Number),
+    ];
+    for (k, m, o, number, fault) in faults {
+        assert_eq!(rt; numbered(k, m, o, number).err(), Some(fault));
+    }
+    assert_eq!(rt; check_shape(7, 3, 0), Err(TextFault::Nodes));
 }
 
 #[test]

@@ -1,0 +1,54 @@
+//! From a shape and a Wolfram number to the rule.
+ghost use Rattle.std.specs.Prelude.{◌≡◌, ◌^◌, ◌<◌};
+ghost use Rattle.std.specs.Option.{SomeIff, option_map};
+ghost use Rattle.std.specs.Result.{result_err};
+ghost use Rattle.word_image.specs.LocalRules.{IsShape};
+ghost use Rattle.word_image.specs.RuleFaults.{shape_fault};
+ghost use Rattle.rule_text.specs.RuleTexts.{IsReading, by_number, in_text, rule_of};
+
+use crate::digits::write_number;
+use crate::text_fault::{TextFault, in_text};
+use word_image::{MOST_ENTRIES, Rule};
+
+/// The most states of a rule that has a number.
+pub const MOST_STATES: u8 = 6;
+
+/// The first fault of k states, width m and offset o, if they are no shape of a rule: `States`,
+/// `Width`, `Nodes` or `Offset`, tried in this order.
+pub fn check_shape(k: u8, m: u8, o: i8) -> Result<(), TextFault>
+    ensures { result_err result ≡ option_map (in_text 0) (shape_fault k m o) }
+{
+    match word_image::check_shape(k, m, o) {
+        Ok(()) => Ok(()),
+        Err(fault) => Err(in_text(fault, 0)),
+    }
+}
+
+/// The rule of k states, width m and offset o with this Wolfram number; else the first fault: one of
+/// the shape, then `Kind` from 7 states on, then `Number` where the number is at least `k^(k^m)`.
+pub fn numbered(k: u8, m: u8, o: i8, number: u128) -> Result<Rule, TextFault>
+    ensures { IsReading (by_number k m o number) result }
+{
+    check_shape(k, m, o)?;
+    if k > MOST_STATES {
+        return Err(TextFault::Kind);
+    }
+    rule_of_number(k, m, o, number).ok_or(TextFault::Number)
+}
+
+/// The rule of an accepted shape with this number; None where no table has it.
+pub fn rule_of_number(k: u8, m: u8, o: i8, number: u128) -> Option<Rule>
+    requires { IsShape k m o }
+    ensures { SomeIff result (number < k ^ (k ^ m)) (rule_of (by_number k m o number)) }
+{
+    let size = usize::from(k).pow(u32::from(m));
+    let mut table = [0; MOST_ENTRIES];
+    let table = &mut table[..size];
+    if !write_number(table, k, number) {
+        return None;
+    }
+    match Rule::new(k, m, o, table) {
+        Ok(rule) => Some(rule),
+        Err(_) => unreachable!(),
+    }
+}
