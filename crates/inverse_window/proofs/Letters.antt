@@ -12,7 +12,7 @@ use Rattle.pair_laws.proofs.Pairs.{first_of-pair_of, second_of-pair_of, pair_of-
 use Rattle.inverse_window.specs.FirstWindows.{DifferAt}
 
 -- a letter of a word, as a digit of its value
-letter-value : (k : ℕ) (w : List ℕ) (i j : ℕ) → IsWord k w → i + j + 1 ≡ length w → value k w / k ^ j % k ≡ slice_index w i
+pub letter-value : (k : ℕ) (w : List ℕ) (i j : ℕ) → IsWord k w → i + j + 1 ≡ length w → value k w / k ^ j % k ≡ slice_index w i
 letter-value k [] i j h e = absurd (omega arith)
 letter-value k (a ∷ w) zero j h e =
     let letter : a < k = All-head (λ c. c < k) a w h in

@@ -2,6 +2,7 @@
 ghost use Rattle.std.specs.Prelude.{◌≡◌, ◌+◌, ◌<◌, ◌≤◌, ◌↔◌, ℕ, IfSome, IsSome, MatchOption};
 ghost use Rattle.std.specs.Option.{option_map};
 ghost use Rattle.word_image.specs.Windows.{IsDetermined, IsLeastDetermined};
+ghost use Rattle.word_image.specs.Words.{IsSurjective};
 ghost use Rattle.tail_config.specs.Tails.{IsInjective};
 ghost use Rattle.inverse_window.specs.FirstWindows.{IsEarlier, IsFirstOf};
 
@@ -20,10 +21,12 @@ pub struct WindowAt {
 }
 
 /// The least determined window of a rule; `None` exactly where no window is determined, which is
-/// exactly where the rule is not injective. Its n is at most 480. It takes no memory.
+/// exactly where the rule is not injective. A rule that has one is surjective. Its n is at most 480.
+/// It takes no memory.
 pub fn window(rule: &Rule, ranks: &Ranks) -> Option<WindowAt>
     requires of_rule { ranks.now ≡ rule.now }
     ensures injective { IsSome result ↔ IsInjective rule.now }
+    ensures surjective { IsSome result → IsSurjective rule.now }
     ensures least { MatchOption result ((n c : ℕ) → ¬ IsDetermined rule.now n c) (λ w. IsLeastDetermined rule.now w.n w.c) }
     ensures most { IfSome result (λ w. w.n ≤ 480) }
 {

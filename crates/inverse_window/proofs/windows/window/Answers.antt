@@ -1,4 +1,5 @@
 use Rattle.std.proofs.Common.{◌≡◌, ◌-◌, subst, arith}
+use Rattle.counting_laws.proofs.InjectiveRules.{IsSurjective-injective}
 use Rattle.inverse_window.specs.FirstWindows.{IsFirstOf}
 use Rattle.inverse_window.proofs.FirstSearches.{earlier-most}
 use Rattle.inverse_window.proofs.LeastWindows.{IsBefore, IsFirstOf-next, IsLeastDetermined-first, IsInjective-least}
@@ -18,3 +19,6 @@ returns-clause-least c =
 
 pub returns-clause-injective : goal.returns-clause-injective
 returns-clause-injective c = IsInjective-least c.m-place-end.ensures.rule c.loop-place.first (returns-clause-least c)
+
+pub returns-clause-surjective : goal.returns-clause-surjective
+returns-clause-surjective c = λ some. IsSurjective-injective c.m-place-end.ensures.rule ((returns-clause-injective c).0 some)
