@@ -1,0 +1,22 @@
+-- The image cells under a shifted rule.
+use Rattle.std.proofs.Common.{◌≡◌, None, ℤ, ◌+ℤ◌, ap, arith}
+use Rattle.std.proofs.lemmas.Int.{ints}
+use Rattle.word_image.specs.LocalRules.{LocalRule, IsRule, local_map}
+use Rattle.tail_config.specs.Tails.{cells}
+use Rattle.rule_algebra.specs.Algebra.{shifted, ShiftsImages}
+use Rattle.rule_algebra.specs.AlgebraFaults.{offset_fault}
+use Rattle.rule_algebra.proofs.laws.Limits.{IsShape-offset_fault}
+
+-- are the old ones further to the right
+pub ShiftsImages-shifted : (r : LocalRule) (by : ℤ) → ShiftsImages r by (shifted r by)
+ShiftsImages-shifted r by = λ t i.
+    let place : i +ℤ (r.offset +ℤ by) ≡ i +ℤ by +ℤ r.offset = omega (arith, ints) in
+    ap (λ j. local_map r (cells t j r.width)) place
+
+-- a shifted rule is accepted if its windows may lie there
+pub IsRule-shifted : {r : LocalRule} → IsRule r → (by : ℤ) → offset_fault r.width (r.offset +ℤ by) ≡ None → IsRule (shifted r by)
+IsRule-shifted {r} rule by none = record {
+  shape = IsShape-offset_fault r.states r.width r.offset (r.offset +ℤ by) rule.shape none;
+  entries = rule.entries;
+  letters = rule.letters;
+}

@@ -1,0 +1,178 @@
+-- Cells that a rule ignores, and the rule without them.
+use Rattle.std.proofs.Common.{◌≡◌, ℕ, ◌+◌, ◌-◌, ◌%◌, ◌^◌, ◌<◌, ◌≤◌, List, ◌∷◌, ◌++◌, length, take, drop, replicate, slice_index, refl, sym, ap, subst, ◌∙◌, ⊎_elim, arith, length-append, length-drop, zero-mul, ℤ, pos, ◌+ℤ◌}
+use Rattle.std.proofs.Math.Nat.{pow-le-pow_right}
+use Rattle.std.proofs.Math.Seq.{drop-append_seam}
+use Rattle.std.proofs.lemmas.Bool.{cases_lt}
+use Rattle.std.proofs.lemmas.Int.{ints}
+use Rattle.std.proofs.lemmas.List.{take_all, length-take-le, length-replicate, drop-drop, get_or-take}
+use Rattle.std.proofs.lemmas.List.Elements.{All-cons, All-take, All-drop, All-append, All-replicate}
+use Rattle.word_image.specs.LocalRules.{LocalRule, IsRule, IsWord, value, word_of, local_map, node_count}
+use Rattle.word_image.proofs.laws.Values.{value-below, value-word_of, length-word_of, IsWord-word_of}
+use Rattle.tail_config.specs.Tails.{cells}
+use Rattle.tail_config.proofs.laws.Cells.{length-cells, IsWord-cells, drop-cells}
+use Rattle.rule_algebra.specs.Algebra.{KeepsImages, Ignores}
+use Rattle.rule_algebra.specs.Tables.{without_first, IsRest, DropsFirsts}
+use Rattle.rule_algebra.proofs.laws.WindowValues.{value-drop}
+
+-- the whole window is left where no last letter is
+whole : (d n : ℕ) (v : List ℕ) → length v ≡ n → drop d (take (n - 0) v) ≡ drop d v
+whole d n v long = ap (drop d) (take_all (n - 0) v (omega arith))
+
+-- ignored first cells, said of what is left
+pub Ignores-firsts : (r : LocalRule) (d : ℕ)
+    → ((v w : List ℕ) → IsWord r.states v → IsWord r.states w → length v ≡ r.width → length w ≡ r.width → drop d v ≡ drop d w → local_map r v ≡ local_map r w) → Ignores r d 0
+Ignores-firsts r d same = λ v w hv hw lv lw e. same v w hv hw lv lw (sym (whole d r.width v lv) ∙ e ∙ whole d r.width w lw)
+
+-- and the other way round
+pub firsts_ignored : (r : LocalRule) (d : ℕ) → Ignores r d 0
+    → (v w : List ℕ) → IsWord r.states v → IsWord r.states w → length v ≡ r.width → length w ≡ r.width → drop d v ≡ drop d w → local_map r v ≡ local_map r w
+firsts_ignored r d h v w hv hw lv lw e = h v w hv hw lv lw (whole d r.width v lv ∙ e ∙ sym (whole d r.width w lw))
+
+-- fewer first cells are ignored too
+pub Ignores-fewer : (r : LocalRule) (c d : ℕ) → c ≤ d → Ignores r d 0 → Ignores r c 0
+Ignores-fewer r c d h ignored = Ignores-firsts r c (λ v w hv hw lv lw e.
+    let split : d - c + c ≡ d = omega arith in
+    let deeper : (x : List ℕ) → drop d x ≡ drop (d - c) (drop c x) = λ x. ap (λ j. drop j x) (let other : d ≡ c + (d - c) = omega arith in other) ∙ sym (drop-drop (d - c) c x) in
+    firsts_ignored r d ignored v w hv hw lv lw (deeper v ∙ ap (drop (d - c)) e ∙ sym (deeper w)))
+
+-- the value without the first letter
+value-rest : (r : LocalRule) (v : List ℕ) → IsRule r → IsWord r.states v → length v ≡ r.width → value r.states (drop 1 v) ≡ value r.states v % node_count r
+value-rest r v rule word long =
+    value-drop r.states 1 v word (omega (arith, rule.shape.least_width)) ∙ ap (λ n. value r.states v % r.states ^ (n - 1)) long
+
+-- the table's rows for the first letters are equal, as far as value n
+abbrev pub SameRows : LocalRule → ℕ → Type 0
+SameRows r n = (v : ℕ) → v < n → slice_index r.table v ≡ slice_index r.table (v % node_count r)
+
+-- then the first cell is ignored
+pub Ignores-same_rows : {r : LocalRule} → IsRule r → SameRows r (r.states ^ r.width) → Ignores r 1 0
+Ignores-same_rows {r} rule rows = Ignores-firsts r 1 (λ v w hv hw lv lw e.
+    let row : (x : List ℕ) → IsWord r.states x → length x ≡ r.width → local_map r x ≡ slice_index r.table (value r.states (drop 1 x)) = λ x word long.
+    rows (value r.states x) (subst (λ n. value r.states x < r.states ^ n) long (value-below r.states x word)) ∙ ap (slice_index r.table) (sym (value-rest r x rule word long)) in
+    row v hv lv ∙ ap (λ y. slice_index r.table (value r.states y)) e ∙ sym (row w hw lw))
+
+-- a word that begins with the letter 0 has the value of its rest
+value-zero : (k : ℕ) (w : List ℕ) → value k (0 ∷ w) ≡ value k w
+value-zero k w = omega (arith, zero-mul (k ^ length w))
+
+-- what a rule that ignores its first cell gives is in the first row
+pub first_row : {r : LocalRule} → IsRule r → Ignores r 1 0 → (w : List ℕ) → IsWord r.states w → length w ≡ r.width → slice_index r.table (value r.states (drop 1 w)) ≡ local_map r w
+first_row {r} rule ignored w word long =
+    let some : 0 < r.states = omega (arith, rule.shape.least_states) in
+    let wide : 2 ≤ r.width = rule.shape.least_width in
+    let z : List ℕ = 0 ∷ drop 1 w in
+    let letters : IsWord r.states z = All-cons (λ a. a < r.states) 0 (drop 1 w) some (All-drop (λ a. a < r.states) 1 w word) in
+    ap (slice_index r.table) (sym (value-zero r.states (drop 1 w)))
+    ∙ firsts_ignored r 1 ignored z w letters word (omega (arith, length-drop 1 w)) long refl
+
+-- and the rows are equal
+pub same_rows-Ignores : {r : LocalRule} → IsRule r → Ignores r 1 0 → SameRows r (r.states ^ r.width)
+same_rows-Ignores {r} rule ignored = λ v l.
+    let w : List ℕ = word_of r.states r.width v in
+    let word = IsWord-word_of r.states r.width v l in
+    let long = length-word_of r.states r.width v in
+    let back = value-word_of r.states r.width v l in
+    ap (slice_index r.table) (sym back)
+    ∙ sym (first_row rule ignored w word long)
+    ∙ ap (slice_index r.table) (value-rest r w rule word long ∙ ap (λ u. u % node_count r) back)
+
+-- there are at least as many windows as rows
+nodes_within : {r : LocalRule} → IsRule r → node_count r ≤ r.states ^ r.width
+nodes_within {r} rule = pow-le-pow_right (omega (arith, rule.shape.least_states)) {i = r.width - 1} {j = r.width} (omega arith)
+
+-- the rule without its first cell is accepted
+pub IsRule-without_first : {r : LocalRule} → IsRule r → 2 < r.width → IsRule (without_first r)
+IsRule-without_first {r} rule wide =
+    let shape = rule.shape in
+    let some : 1 ≤ r.states = omega (arith, shape.least_states) in
+    let fewer : r.states ^ (r.width - 1 - 1) ≤ r.states ^ (r.width - 1) = pow-le-pow_right some (omega arith) in
+    record {
+      shape = record {
+        least_states = shape.least_states;
+        most_states = shape.most_states;
+        least_width = omega arith;
+        most_width = omega (arith, shape.most_width);
+        most_nodes = omega (arith, shape.most_nodes);
+        least_offset = omega (arith, ints, shape.least_offset);
+        most_offset = omega (arith, ints, shape.most_offset);
+      };
+      entries = length-take-le (node_count r) r.table (omega (arith, rule.entries, nodes_within rule));
+      letters = All-take (λ a. a < r.states) (node_count r) r.table rule.letters;
+    }
+
+-- a rule is what is left of it without any first cell
+pub IsRest-none : (r : LocalRule) → IsRest r 0 r
+IsRest-none r = record {
+  states = refl;
+  width = omega arith;
+  offset = omega (arith, ints);
+  letters = λ w word long. refl;
+}
+
+-- one first cell more
+pub IsRest-more : {r g : LocalRule} {n : ℕ} → IsRest r n g → IsRule g → 2 < g.width → Ignores g 1 0 → IsRest r (n + 1) (without_first g)
+IsRest-more {r} {g} {n} rest rule wide ignored = record {
+  states = rest.states;
+  width = omega (arith, rest.width);
+  offset = omega (arith, ints, rest.offset);
+  letters = λ w word long.
+      let u : List ℕ = drop n w in
+      let letters : IsWord g.states u = subst (λ k. IsWord k u) (sym rest.states) (All-drop (λ a. a < r.states) n w word) in
+      let there : length u ≡ g.width = omega (arith, length-drop n w, rest.width) in
+      let shorter : length (drop 1 u) ≡ g.width - 1 = omega (arith, length-drop 1 u) in
+      let below : value g.states (drop 1 u) < node_count g = subst (λ j. value g.states (drop 1 u) < g.states ^ j) shorter (value-below g.states (drop 1 u) (All-drop (λ a. a < g.states) 1 u letters)) in
+      let deeper : drop (n + 1) w ≡ drop 1 u = sym (drop-drop 1 n w) in
+      ap (λ y. slice_index (take (node_count g) g.table) (value g.states y)) deeper
+      ∙ get_or-take (node_count g) g.table (value g.states (drop 1 u)) 0 below
+      ∙ first_row rule ignored u letters there
+      ∙ rest.letters w word long;
+}
+
+-- what is dropped is ignored
+pub Ignores-rest : {r g : LocalRule} {n : ℕ} → IsRest r n g → Ignores r n 0
+Ignores-rest {r} {g} {n} rest = Ignores-firsts r n (λ v w hv hw lv lw e. sym (rest.letters v hv lv) ∙ ap (local_map g) e ∙ rest.letters w hw lw)
+
+-- what the rest gives on a word, by any letters before it
+pub rest_letters : {r g : LocalRule} {n : ℕ} → IsRule r → IsRest r n g → (v : List ℕ) → IsWord r.states v → length v ≡ g.width → local_map r (replicate n 0 ++ v) ≡ local_map g v
+rest_letters {r} {g} {n} rule rest v word long =
+    let some : 0 < r.states = omega (arith, rule.shape.least_states) in
+    let zeros : List ℕ = replicate n 0 in
+    let fore : length zeros ≡ n = length-replicate n 0 in
+    let letters : IsWord r.states (zeros ++ v) = All-append (λ a. a < r.states) zeros v (All-replicate (λ a. a < r.states) n 0 some) word in
+    let there : length (zeros ++ v) ≡ r.width = omega (arith, length-append zeros v, rest.width) in
+    let cut : drop n (zeros ++ v) ≡ v = ap (λ j. drop j (zeros ++ v)) (sym fore) ∙ drop-append_seam zeros v in
+    sym (rest.letters (zeros ++ v) letters there) ∙ ap (local_map g) cut
+
+-- a rest that ignores its first cell is no whole rest
+pub Ignores-of_rest : {r g : LocalRule} {n : ℕ} → IsRule r → IsRest r n g → Ignores r (n + 1) 0 → Ignores g 1 0
+Ignores-of_rest {r} {g} {n} rule rest ignored = Ignores-firsts g 1 (λ v w hv hw lv lw e.
+    let some : 0 < r.states = omega (arith, rule.shape.least_states) in
+    let zeros : List ℕ = replicate n 0 in
+    let fore : length zeros ≡ n = length-replicate n 0 in
+    let letters : (x : List ℕ) → IsWord g.states x → IsWord r.states (zeros ++ x) = λ x word.
+    All-append (λ a. a < r.states) zeros x (All-replicate (λ a. a < r.states) n 0 some) (subst (λ k. IsWord k x) rest.states word) in
+    let there : (x : List ℕ) → length x ≡ g.width → length (zeros ++ x) ≡ r.width = λ x long. omega (arith, length-append zeros x, rest.width) in
+    let cut : (x : List ℕ) → drop (n + 1) (zeros ++ x) ≡ drop 1 x = λ x.
+    sym (drop-drop 1 n (zeros ++ x)) ∙ ap (drop 1) (ap (λ j. drop j (zeros ++ x)) (sym fore) ∙ drop-append_seam zeros x) in
+    sym (rest_letters rule rest v (subst (λ k. IsWord k v) rest.states hv) lv)
+    ∙ firsts_ignored r (n + 1) ignored (zeros ++ v) (zeros ++ w) (letters v hv) (letters w hw) (there v lv) (there w lw) (cut v ∙ e ∙ sym (cut w))
+    ∙ rest_letters rule rest w (subst (λ k. IsWord k w) rest.states hw) lw)
+
+-- a rest of which no first cell may be dropped is the rest without all that are ignored
+pub DropsFirsts-rest : {r g : LocalRule} {n : ℕ} → IsRule r → IsRest r n g → ¬ ((2 < g.width) × Ignores g 1 0) → DropsFirsts r g
+DropsFirsts-rest {r} {g} {n} rule rest none = record {
+  count = n;
+  rest = rest;
+  most = λ d wide ignored. ⊎_elim
+      (λ more. absurd (none (omega (arith, rest.width), Ignores-of_rest rule rest (Ignores-fewer r (n + 1) d (omega arith) ignored))))
+      (λ l. l)
+      (cases_lt n d);
+}
+
+-- the image cells of the rest are the old ones
+pub KeepsImages-rest : {r g : LocalRule} {n : ℕ} → IsRest r n g → KeepsImages r g
+KeepsImages-rest {r} {g} {n} rest = λ t i tail.
+    let j : ℤ = i +ℤ r.offset in
+    let place : j +ℤ pos n ≡ i +ℤ g.offset = omega (arith, ints, rest.offset) in
+    ap (local_map g) (sym (ap (λ m. drop n (cells t j m)) (sym rest.width) ∙ drop-cells t j (i +ℤ g.offset) n g.width place))
+    ∙ rest.letters (cells t j r.width) (IsWord-cells tail j r.width) (length-cells t j r.width)

@@ -1,0 +1,76 @@
+-- The values of the parts of a window.
+use Rattle.std.proofs.Common.{◌≡◌, ℕ, ◌+◌, ◌-◌, ◌*◌, ◌/◌, ◌%◌, ◌^◌, ◌<◌, ◌≤◌, List, length, take, drop, get_or, slice_index, slice_range, sym, ap, ap₂, ◌∙◌, arith, length-drop, take-append-drop}
+use Rattle.std.proofs.lemmas.Nat.{div-mul-add, mod-mul-add}
+use Rattle.std.proofs.lemmas.List.{length-take-le, drop-take}
+use Rattle.std.proofs.lemmas.List.Elements.{All-take, All-drop}
+use Rattle.word_image.specs.LocalRules.{LocalRule, IsRule, IsWord, value, word_of}
+use Rattle.word_image.specs.Words.{image}
+use Rattle.word_image.proofs.laws.Values.{value-append, value-below, length-word_of, IsWord-word_of, value-word_of}
+use Rattle.word_image.proofs.laws.Words.{length-image}
+use Rattle.word_image.proofs.laws.Images.{get_or-image}
+
+-- a word is its first n letters and the others
+cut : (k n : ℕ) (w : List ℕ) → n ≤ length w → value k w ≡ value k (take n w) * k ^ (length w - n) + value k (drop n w)
+cut k n w h =
+    ap (value k) (sym (take-append-drop n w))
+    ∙ value-append k (take n w) (drop n w)
+    ∙ ap (λ j. value k (take n w) * k ^ j + value k (drop n w)) (length-drop n w)
+
+-- the others are fewer
+rest_below : (k n : ℕ) (w : List ℕ) → IsWord k w → value k (drop n w) < k ^ (length w - n)
+rest_below k n w word =
+    let below : value k (drop n w) < k ^ length (drop n w) = value-below k (drop n w) (All-drop (λ a. a < k) n w word) in
+    rw length-drop at below
+
+-- the value of the first n letters
+pub value-take : (k n : ℕ) (w : List ℕ) → IsWord k w → n ≤ length w → value k (take n w) ≡ value k w / k ^ (length w - n)
+value-take k n w word h =
+    sym (ap (λ v. v / k ^ (length w - n)) (cut k n w h) ∙ div-mul-add (value k (take n w)) (k ^ (length w - n)) (value k (drop n w)) (rest_below k n w word))
+
+-- the value without them
+pub value-drop : (k n : ℕ) (w : List ℕ) → IsWord k w → n ≤ length w → value k (drop n w) ≡ value k w % k ^ (length w - n)
+value-drop k n w word h =
+    sym (ap (λ v. v % k ^ (length w - n)) (cut k n w h) ∙ mod-mul-add (value k (take n w)) (k ^ (length w - n)) (value k (drop n w)) (rest_below k n w word))
+
+-- the value of n letters from place i on
+pub value-slice_range : (k i n : ℕ) (w : List ℕ) → IsWord k w → i + n ≤ length w → value k (slice_range w i (i + n)) ≡ value k w / k ^ (length w - (i + n)) % k ^ n
+value-slice_range k i n w word h =
+    let long : length (take (i + n) w) ≡ i + n = length-take-le (i + n) w h in
+    let wide : i + n - i ≡ n = omega arith in
+    let left : length (take (i + n) w) - i ≡ n = omega arith in
+    ap (λ j. value k (take j (drop i w))) wide
+    ∙ ap (value k) (sym (drop-take i n w))
+    ∙ value-drop k i (take (i + n) w) (All-take (λ a. a < k) (i + n) w word) (omega arith)
+    ∙ ap₂ (λ (v j : ℕ). v % k ^ j) (value-take k (i + n) w word h) left
+
+-- the first n letters of the word of a number
+pub value-take-word_of : (k n m v : ℕ) → n ≤ m → v < k ^ m → value k (take n (word_of k m v)) ≡ v / k ^ (m - n)
+value-take-word_of k n m v h below =
+    let long : length (word_of k m v) ≡ m = length-word_of k m v in
+    value-take k n (word_of k m v) (IsWord-word_of k m v below) (omega arith)
+    ∙ ap₂ (λ (a j : ℕ). a / k ^ (j - n)) (value-word_of k m v below) long
+
+-- n letters from place i on
+pub value-slice_range-word_of : (k i n m v : ℕ) → i + n ≤ m → v < k ^ m → value k (slice_range (word_of k m v) i (i + n)) ≡ v / k ^ (m - (i + n)) % k ^ n
+value-slice_range-word_of k i n m v h below =
+    let long : length (word_of k m v) ≡ m = length-word_of k m v in
+    value-slice_range k i n (word_of k m v) (IsWord-word_of k m v below) (omega arith)
+    ∙ ap₂ (λ (a j : ℕ). a / k ^ (j - (i + n)) % k ^ n) (value-word_of k m v below) long
+
+-- the image of a window of so many letters has n letters
+pub length-image-word_of : {r : LocalRule} → IsRule r → (n v : ℕ) → length (image r (word_of r.states (r.width + n - 1) v)) ≡ n
+length-image-word_of {r} rule n v =
+    let wide : 2 ≤ r.width = rule.shape.least_width in
+    omega (arith, length-image r (word_of r.states (r.width + n - 1) v), length-word_of r.states (r.width + n - 1) v)
+
+-- letter i of it
+pub get_or-image-word_of : {r : LocalRule} → IsRule r → (n i v : ℕ) → i < n → v < r.states ^ (r.width + n - 1)
+    → slice_index r.table (v / r.states ^ (n - 1 - i) % r.states ^ r.width) ≡ get_or (image r (word_of r.states (r.width + n - 1) v)) i 0
+get_or-image-word_of {r} rule n i v l below =
+    let wide : 2 ≤ r.width = rule.shape.least_width in
+    let m : ℕ = r.width + n - 1 in
+    let after : n - 1 - i ≡ m - (i + r.width) = omega arith in
+    let long : length (word_of r.states m v) ≡ m = length-word_of r.states m v in
+    ap (λ j. slice_index r.table (v / r.states ^ j % r.states ^ r.width)) after
+    ∙ ap (slice_index r.table) (sym (value-slice_range-word_of r.states i r.width m v (omega arith) below))
+    ∙ sym (get_or-image r (word_of r.states m v) i (omega arith))

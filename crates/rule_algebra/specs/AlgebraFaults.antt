@@ -1,0 +1,30 @@
+-- The first condition that is broken where a rule is made of rules.
+use Rattle.std.specs.Prelude.{ℕ, ◌+◌, ◌-◌, ◌^◌, Option, Some, None, nat_lt, ◌==◌, ◌||◌, not, if◌then◌else◌, ℤ, pos, negsuc, ◌+ℤ◌, int_lt}
+use Rattle.word_image.specs.LocalRules.{LocalRule}
+use Rattle.rule_algebra.specs.declared.fault.AlgebraFault.{AlgebraFault}
+use Rattle.rule_algebra.specs.declared.fault.AlgebraFault.TheVariants.{States, Width, Nodes, Offset}
+
+-- of a window of m cells at offset o
+abbrev pub offset_fault : ℕ → ℤ → Option AlgebraFault
+offset_fault m o = if int_lt o (negsuc 15) || int_lt (pos 16) (o +ℤ pos (m - 1)) then Some Offset else None
+
+-- of k states, of which a rule stands, at width m and offset o
+abbrev pub limit_fault : ℕ → ℕ → ℤ → Option AlgebraFault
+limit_fault k m o =
+    if nat_lt 5 m then Some Width
+    else (if nat_lt 16 (k ^ (m - 1)) then Some Nodes
+    else offset_fault m o)
+
+-- of a rule that is shifted
+abbrev pub shift_fault : LocalRule → ℤ → Option AlgebraFault
+shift_fault r by = offset_fault r.width (r.offset +ℤ by)
+
+-- of two rules, the second after the first
+abbrev pub compose_fault : LocalRule → LocalRule → Option AlgebraFault
+compose_fault first second =
+    if not (first.states == second.states) then Some States
+    else limit_fault first.states (first.width + second.width - 1) (first.offset +ℤ second.offset)
+
+-- of a rule that is widened to m cells
+abbrev pub widen_fault : LocalRule → ℕ → Option AlgebraFault
+widen_fault r m = if nat_lt m r.width then Some Width else limit_fault r.states m r.offset

@@ -1,0 +1,63 @@
+-- Worked examples that compute.
+use Rattle.std.specs.Prelude.{◌≡◌, refl, Some, None, ◌∷◌, [], pos, negsuc}
+use Rattle.word_image.specs.LocalRules.{LocalRule}
+use Rattle.word_image.specs.Words.{image}
+use Rattle.rule_algebra.specs.Algebra.{shifted, recoloured}
+use Rattle.rule_algebra.specs.AlgebraFaults.{shift_fault, compose_fault, widen_fault}
+use Rattle.rule_algebra.specs.Tables.{composed, widened, without_first}
+use Rattle.rule_algebra.specs.declared.fault.AlgebraFault.TheVariants.{Width, Nodes, Offset}
+
+-- rule 204 copies the cell
+abbrev pub rule204 : LocalRule
+rule204 = record { states = 2; width = 3; offset = negsuc 0; table = 0 ∷ 0 ∷ 1 ∷ 1 ∷ 0 ∷ 0 ∷ 1 ∷ 1 ∷ [] }
+
+-- the product of two cells
+abbrev pub product_rule : LocalRule
+product_rule = record { states = 2; width = 2; offset = pos 0; table = 0 ∷ 0 ∷ 0 ∷ 1 ∷ [] }
+
+-- their sum modulo 2
+abbrev pub sum_rule : LocalRule
+sum_rule = record { states = 2; width = 2; offset = pos 0; table = 0 ∷ 1 ∷ 1 ∷ 0 ∷ [] }
+
+-- shifted by one, rule 204 copies the right cell
+shifted-204 : shifted rule204 (pos 1) ≡ record { states = 2; width = 3; offset = pos 0; table = 0 ∷ 0 ∷ 1 ∷ 1 ∷ 0 ∷ 0 ∷ 1 ∷ 1 ∷ [] }
+shifted-204 = refl
+
+-- the sum of products
+sum_of_products : composed product_rule sum_rule ≡ record { states = 2; width = 3; offset = pos 0; table = 0 ∷ 0 ∷ 0 ∷ 1 ∷ 0 ∷ 0 ∷ 1 ∷ 0 ∷ [] }
+sum_of_products = refl
+
+-- is not the product of sums
+product_of_sums : composed sum_rule product_rule ≡ record { states = 2; width = 3; offset = pos 0; table = 0 ∷ 0 ∷ 1 ∷ 0 ∷ 0 ∷ 1 ∷ 0 ∷ 0 ∷ [] }
+product_of_sums = refl
+
+-- on a word, the image of its image
+sum_of_products-image : image (composed product_rule sum_rule) (1 ∷ 1 ∷ 0 ∷ 1 ∷ []) ≡ image sum_rule (image product_rule (1 ∷ 1 ∷ 0 ∷ 1 ∷ []))
+sum_of_products-image = refl
+
+-- the sum, with a third cell that is ignored
+widened-sum : widened sum_rule 3 ≡ record { states = 2; width = 3; offset = pos 0; table = 0 ∷ 0 ∷ 1 ∷ 1 ∷ 1 ∷ 1 ∷ 0 ∷ 0 ∷ [] }
+widened-sum = refl
+
+-- rule 204 without its first cell
+without_first-204 : without_first rule204 ≡ record { states = 2; width = 2; offset = pos 0; table = 0 ∷ 0 ∷ 1 ∷ 1 ∷ [] }
+without_first-204 = refl
+
+-- each letter in its new colour
+recoloured-word : recoloured (1 ∷ 2 ∷ 0 ∷ []) (0 ∷ 0 ∷ 2 ∷ 1 ∷ []) ≡ 1 ∷ 1 ∷ 0 ∷ 2 ∷ []
+recoloured-word = refl
+
+-- from place -1 on, three cells may be shifted by 15 and not by 16
+shift_fault-204 : shift_fault rule204 (pos 15) ≡ None
+shift_fault-204 = refl
+
+shift_fault-204_far : shift_fault rule204 (pos 16) ≡ Some Offset
+shift_fault-204_far = refl
+
+-- three states at width 3 have 9 words of two letters, and one after the other 81 of four
+composed_nodes : compose_fault (record { states = 3; width = 3; offset = pos 0; table = [] }) (record { states = 3; width = 3; offset = pos 0; table = [] }) ≡ Some Nodes
+composed_nodes = refl
+
+-- no rule is widened to fewer cells
+widen_fault-204 : widen_fault rule204 2 ≡ Some Width
+widen_fault-204 = refl

@@ -1,0 +1,4 @@
+pub mod Algebra
+pub mod AlgebraFaults
+pub mod Tables
+pub mod Examples

@@ -1,0 +1,56 @@
+-- The composed, the widened and the narrower rule, by their tables.
+use Rattle.std.specs.Prelude.{◌≡◌, ℕ, ◌+◌, ◌-◌, ◌^◌, ◌<◌, ◌≤◌, List, length, map, take, drop, slice_index, pos, ◌+ℤ◌}
+use Rattle.std.specs.List.{range_with_len}
+use Rattle.word_image.specs.LocalRules.{LocalRule, IsWord, value, word_of, local_map, node_count}
+use Rattle.word_image.specs.Words.{image}
+use Rattle.rule_algebra.specs.Algebra.{recoloured, Ignores}
+
+-- the table with the letters that a function gives on the windows of m letters below k
+abbrev pub table_by : ℕ → ℕ → (List ℕ → ℕ) → List ℕ
+table_by k m f = map (λ v. f (word_of k m v)) (range_with_len 0 (k ^ m))
+
+-- the second rule after the first
+abbrev pub composed : LocalRule → LocalRule → LocalRule
+composed first second = record {
+  states = first.states;
+  width = first.width + second.width - 1;
+  offset = first.offset +ℤ second.offset;
+  table = table_by first.states (first.width + second.width - 1) (λ w. local_map second (image first w));
+}
+
+-- the rule at width m, whose last cells are ignored
+abbrev pub widened : LocalRule → ℕ → LocalRule
+widened r m = record {
+  states = r.states;
+  width = m;
+  offset = r.offset;
+  table = table_by r.states m (λ w. local_map r (take r.width w));
+}
+
+-- the rule without its first cell, as it is where that is the letter 0
+abbrev pub without_first : LocalRule → LocalRule
+without_first r = record {
+  states = r.states;
+  width = r.width - 1;
+  offset = r.offset +ℤ pos 1;
+  table = take (node_count r) r.table;
+}
+
+-- entries with the new colour of what the rule gives on a window, at the value of the recoloured window, for the windows of a value below n
+pub record IsRecolouredTable (colours : List ℕ) (r : LocalRule) (n : ℕ) (entries : List ℕ) : Type 0 where
+  pub long : length entries ≡ 256
+  pub letters : IsWord r.states entries
+  pub at : (v : ℕ) → v < n → slice_index entries (value r.states (recoloured colours (word_of r.states r.width v))) ≡ slice_index colours (slice_index r.table v)
+
+-- g gives on a window without its first n letters what r gives on the window
+pub record IsRest (r : LocalRule) (n : ℕ) (g : LocalRule) : Type 0 where
+  pub states : g.states ≡ r.states
+  pub width : n + g.width ≡ r.width
+  pub offset : g.offset ≡ r.offset +ℤ pos n
+  pub letters : (w : List ℕ) → IsWord r.states w → length w ≡ r.width → local_map g (drop n w) ≡ local_map r w
+
+-- g is r without as many first cells as are ignored, where two are left
+pub record DropsFirsts (r g : LocalRule) : Type 0 where
+  pub count : ℕ
+  pub rest : IsRest r count g
+  pub most : (d : ℕ) → d + 2 ≤ r.width → Ignores r d 0 → d ≤ count

@@ -1,0 +1,81 @@
+//! One rule after another.
+ghost use Rattle.std.specs.Prelude.{◌≡◌, ◌≤◌, ◌+◌, ◌-◌, ◌<◌, ◌^◌, IfOk};
+ghost use Rattle.std.specs.Result.{result_err};
+ghost use Rattle.word_image.specs.LocalRules.{IsRule, value, word_of};
+ghost use Rattle.word_image.specs.Words.{image};
+ghost use Rattle.word_image.specs.Storage.{padded};
+ghost use Rattle.rule_algebra.specs.Algebra.{IsComposed, ComposesCells};
+ghost use Rattle.rule_algebra.specs.AlgebraFaults.{compose_fault};
+ghost use Rattle.rule_algebra.specs.Tables.{composed};
+
+use crate::fault::{AlgebraFault, check_limits};
+use crate::parts::accepted_front;
+use word_image::{MOST_ENTRIES, Rule};
+
+/// The second rule after the first: its image is the second rule's image of the first rule's image.
+/// Its width is the sum of the widths less 1, its offset the sum of the offsets.
+///
+/// `States` comes exactly where the two rules have not one number of states; then `Width`, `Nodes`
+/// and `Offset`, in this order, where that limit is broken.
+pub fn compose(first: &Rule, second: &Rule) -> Result<Rule, AlgebraFault>
+    ensures fault { result_err result ≡ compose_fault first.now second.now }
+    ensures composed { IfOk result (IsComposed first.now second.now) }
+    ensures cells { IfOk result (ComposesCells first.now second.now) }
+{
+    check_composed(first, second)?;
+    Ok(composed_rule(first, second))
+}
+
+/// The offset of the second rule after the first, if there is such a rule; else the first fault.
+fn check_composed(first: &Rule, second: &Rule) -> Result<i8, AlgebraFault>
+    ensures fault { result_err result ≡ compose_fault first.now second.now }
+    ensures rules { IsRule first.now × IsRule second.now }
+{
+    if first.k() != second.k() {
+        return Err(AlgebraFault::States);
+    }
+    let m = first.m() + second.m() - 1;
+    check_limits(first.k(), m, i16::from(first.o()) + i16::from(second.o()))
+}
+
+/// The second rule after the first, where there is such a rule.
+fn composed_rule(first: &Rule, second: &Rule) -> Rule
+    requires { compose_fault first.now second.now ≡ None }
+    ensures { result ≡ composed first.now second.now }
+{
+    let m = first.m() + second.m() - 1;
+    let o = first.o() + second.o();
+    accepted_front(first.k(), m, o, &composed_entries(first, second))
+}
+
+/// The letters of the second rule after the first, and zeros after them.
+fn composed_entries(first: &Rule, second: &Rule) -> [u8; MOST_ENTRIES]
+    requires same { first.now.states ≡ second.now.states }
+    requires fits { first.now.states ^ (first.now.width + second.now.width - 1) ≤ 256 }
+    ensures { result ≡ padded (composed first.now second.now).table }
+{
+    let size = u16::from(first.k()).pow(u32::from(first.m() + second.m() - 1));
+    let mut entries = [0; MOST_ENTRIES];
+    for window in 0..size {
+        entries[usize::from(window)] = second.at(image_value(first, second.m(), window));
+    }
+    entries
+}
+
+/// The value of the image of a window, of which n letters are the image.
+fn image_value(rule: &Rule, n: u8, window: u16) -> u16
+    requires some { 1 ≤ n }
+    requires fits { rule.now.states ^ (rule.now.width + n - 1) ≤ 256 }
+    requires window { window < rule.now.states ^ (rule.now.width + n - 1) }
+    ensures value { result ≡ value rule.now.states (image rule.now
+        (word_of rule.now.states (rule.now.width + n - 1) window)) }
+    ensures within { result < rule.now.states ^ n }
+{
+    let k = u16::from(rule.k());
+    let mut value = 0;
+    for start in 0..n {
+        let part = window / k.pow(u32::from(n - 1 - start)) % rule.size();
+        value = value * k + u16::from(rule.at(part));
+    }
+    value
+}

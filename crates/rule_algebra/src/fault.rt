@@ -1,0 +1,48 @@
+//! Why rules make no rule, and the limits that a rule keeps.
+ghost use Rattle.std.specs.Prelude.{◌≡◌, ◌≤◌, IfOk};
+ghost use Rattle.std.specs.Result.{result_err};
+ghost use Rattle.rule_algebra.specs.AlgebraFaults.{offset_fault, limit_fault};
+
+/// Why rules make no rule: the first of these that holds.
+#[derive(Clone, Copy, Debug, PartialEq, Eq)]
+pub enum AlgebraFault {
+    /// The two rules have not one number of states.
+    States,
+    /// The colours are not k different letters below k.
+    NotPermutation,
+    /// The width would be above 5, or below that of the rule.
+    Width,
+    /// There would be more than 16 words of m - 1 letters.
+    Nodes,
+    /// A window would reach further than 16 cells to the left or to the right.
+    Offset,
+}
+
+/// The offset, if a window of m cells may have it.
+pub(crate) fn check_offset(m: u8, o: i16) -> Result<i8, AlgebraFault>
+    requires { 1 ≤ m }
+    ensures fault { result_err result ≡ offset_fault m o }
+    ensures offset { IfOk result (λ p. p ≡ o) }
+{
+    if o < -16 || o > 17 - i16::from(m) {
+        return Err(AlgebraFault::Offset);
+    }
+    Ok(o as i8)
+}
+
+/// The offset, if a rule of k states may have width m and this offset; else the first of `Width`,
+/// `Nodes` and `Offset` that holds.
+pub(crate) fn check_limits(k: u8, m: u8, o: i16) -> Result<i8, AlgebraFault>
+    requires states { k ≤ 16 }
+    requires width { 1 ≤ m }
+    ensures fault { result_err result ≡ limit_fault k m o }
+    ensures offset { IfOk result (λ p. p ≡ o) }
+{
+    if m > 5 {
+        return Err(AlgebraFault::Width);
+    }
+    if u32::from(k).pow(u32::from(m - 1)) > 16 {
+        return Err(AlgebraFault::Nodes);
+    }
+    check_offset(m, o)
+}

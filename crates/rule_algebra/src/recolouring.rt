@@ -1,0 +1,73 @@
+//! Rules with other names for their letters.
+ghost use Rattle.std.specs.Prelude.{◌≡◌, ◌<◌, ◌^◌, ◌↔◌, IfOk, IfErr, IsOk, IsTrue};
+ghost use Rattle.word_image.specs.LocalRules.{value, word_of};
+ghost use Rattle.rule_algebra.specs.Algebra.{IsRecolouring, IsRecoloured, RecoloursImages, recoloured};
+ghost use Rattle.rule_algebra.specs.Tables.{IsRecolouredTable};
+
+use crate::fault::AlgebraFault;
+use crate::parts::accepted_front;
+use word_image::{MOST_ENTRIES, Rule};
+
+/// The rule g of the same width and offset with g(colours of w) = colours[f(w)] for every window w,
+/// so that the image of every recoloured word is the recoloured image; `NotPermutation` exactly
+/// where the colours are not k different letters below k.
+pub fn permute(rule: &Rule, colours: &[u8]) -> Result<Rule, AlgebraFault>
+    ensures accepted { IsOk result ↔ IsRecolouring rule.now.states colours.now }
+    ensures refused { IfErr result (λ fault. fault ≡ AlgebraFault.NotPermutation) }
+
+    ensures recoloured { IfOk result (IsRecoloured colours.now rule.now) }
+    ensures offset { IfOk result (λ g. g.offset ≡ rule.now.offset) }
+    ensures images { IfOk result (RecoloursImages colours.now rule.now) }
+{
+    if !is_recolouring(rule.k(), colours) {
+        return Err(AlgebraFault::NotPermutation);
+    }
+    let entries = recoloured_entries(rule, colours);
+    Ok(accepted_front(rule.k(), rule.m(), rule.o(), &entries))
+}
+
+/// Whether the colours are k different letters below k.
+fn is_recolouring(k: u8, colours: &[u8]) -> bool
+    ensures { IsTrue result ↔ IsRecolouring k colours.now }
+{
+    if colours.len() != usize::from(k) {
+        return false;
+    }
+    for (place, colour) in colours.iter().enumerate() {
+        if *colour >= k || colours[..place].contains(colour) {
+            return false;
+        }
+    }
+    true
+}
+
+/// At the value of each recoloured window the new colour of the old letter.
+fn recoloured_entries(rule: &Rule, colours: &[u8]) -> [u8; MOST_ENTRIES]
+    requires { IsRecolouring rule.now.states colours.now }
+    ensures { IsRecolouredTable colours.now rule.now
+        (rule.now.states ^ rule.now.width) result }
+{
+    let mut entries = [0; MOST_ENTRIES];
+    for window in 0..rule.size() {
+        let place = recoloured_value(rule, colours, window);
+        entries[usize::from(place)] = colours[usize::from(rule.at(window))];
+    }
+    entries
+}
+
+/// The value of a window in the new colours.
+fn recoloured_value(rule: &Rule, colours: &[u8], window: u16) -> u16
+    requires colours { IsRecolouring rule.now.states colours.now }
+    requires window { window < rule.now.states ^ rule.now.width }
+    ensures value { result ≡ value rule.now.states (recoloured colours.now
+        (word_of rule.now.states rule.now.width window)) }
+    ensures within { result < rule.now.states ^ rule.now.width }
+{
+    let k = u16::from(rule.k());
+    let mut value = 0;
+    for place in 0..rule.m() {
+        let letter = window / k.pow(u32::from(rule.m() - 1 - place)) % k;
+        value = value * k + u16::from(colours[usize::from(letter)]);
+    }
+    value
+}

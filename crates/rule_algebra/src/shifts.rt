@@ -1,0 +1,20 @@
+//! Rules whose windows lie elsewhere.
+ghost use Rattle.std.specs.Prelude.{◌≡◌, IfOk};
+ghost use Rattle.std.specs.Result.{result_err};
+ghost use Rattle.rule_algebra.specs.Algebra.{shifted, ShiftsImages};
+ghost use Rattle.rule_algebra.specs.AlgebraFaults.{shift_fault};
+
+use crate::fault::{AlgebraFault, check_offset};
+use crate::parts::accepted;
+use word_image::Rule;
+
+/// The rule with the same table at the offset o + by, so that image cell i is the old image cell
+/// i + by; `Offset` exactly where no window may lie there.
+pub fn shift(rule: &Rule, by: i8) -> Result<Rule, AlgebraFault>
+    ensures fault { result_err result ≡ shift_fault rule.now by }
+    ensures shifted { IfOk result (λ g. g ≡ shifted rule.now by) }
+    ensures images { IfOk result (ShiftsImages rule.now by) }
+{
+    let o = check_offset(rule.m(), i16::from(rule.o()) + i16::from(by))?;
+    Ok(accepted(rule.k(), rule.m(), o, rule.table()))
+}

@@ -1,0 +1,52 @@
+//! Rules with cells on the right that are ignored.
+ghost use Rattle.std.specs.Prelude.{◌≡◌, ◌≤◌, ◌^◌, IfOk};
+ghost use Rattle.std.specs.Result.{result_err};
+ghost use Rattle.word_image.specs.LocalRules.{IsShape};
+ghost use Rattle.word_image.specs.Storage.{padded};
+ghost use Rattle.rule_algebra.specs.Algebra.{IsWidened};
+ghost use Rattle.rule_algebra.specs.AlgebraFaults.{widen_fault};
+ghost use Rattle.rule_algebra.specs.Tables.{widened};
+
+use crate::fault::{AlgebraFault, check_limits};
+use crate::parts::accepted_front;
+use word_image::{MOST_ENTRIES, Rule};
+
+/// The rule at width m, with cells on the right that are ignored: its image cells are the old ones.
+///
+/// `Width` comes exactly where m is below the rule's width or above 5, then `Nodes` where there are
+/// more than 16 words of m - 1 letters, then `Offset` where the last cell lies too far to the right.
+pub fn widen(rule: &Rule, m: u8) -> Result<Rule, AlgebraFault>
+    ensures fault { result_err result ≡ widen_fault rule.now m }
+    ensures widened { IfOk result (IsWidened rule.now m) }
+{
+    if m < rule.m() {
+        return Err(AlgebraFault::Width);
+    }
+    check_limits(rule.k(), m, i16::from(rule.o()))?;
+    Ok(widened_rule(rule, m))
+}
+
+/// The rule at a width that it may have.
+fn widened_rule(rule: &Rule, m: u8) -> Rule
+    requires wider { rule.now.width ≤ m }
+    requires shape { IsShape rule.now.states m rule.now.offset }
+    ensures { result ≡ widened rule.now m }
+{
+    accepted_front(rule.k(), m, rule.o(), &widened_entries(rule, m))
+}
+
+/// The letters of the table at width m, and zeros after them: the last digits of a window are left
+/// out.
+fn widened_entries(rule: &Rule, m: u8) -> [u8; MOST_ENTRIES]
+    requires wider { rule.now.width ≤ m }
+    requires fits { rule.now.states ^ m ≤ 256 }
+    ensures { result ≡ padded (widened rule.now m).table }
+{
+    let k = u16::from(rule.k());
+    let ignored = k.pow(u32::from(m - rule.m()));
+    let mut entries = [0; MOST_ENTRIES];
+    for window in 0..k.pow(u32::from(m)) {
+        entries[usize::from(window)] = rule.at(window / ignored);
+    }
+    entries
+}
