@@ -1,0 +1,230 @@
+-- From the letters that are read back from images to the inverse map, and what the map does.
+use Rattle.std.proofs.Common.{◌≡◌, ◌≢◌, ℕ, ◌+◌, ◌-◌, ◌/◌, ◌%◌, ◌^◌, ◌<◌, ◌≤◌, List, length, map, take, drop, slice_index, slice_range, ℤ, pos, neg_ℤ, ◌+ℤ◌, ◌-ℤ◌, refl, sym, ap, subst, ◌∙◌, ⊎_elim, arith, length-drop}
+use Rattle.std.specs.List.{range_with_len}
+use Rattle.std.proofs.lemmas.Int.{ints}
+use Rattle.std.proofs.lemmas.List.{length-take-le, get_or-take, get_or-drop}
+use Rattle.std.proofs.lemmas.List.FromFn.{fill_by_all, length-map-range_with_len}
+use Rattle.std.proofs.lemmas.List.Elements.{All-from_get_or, All-take, All-drop}
+use Rattle.word_image.specs.LocalRules.{LocalRule, IsRule, IsWord, value, word_of, local_map}
+use Rattle.word_image.specs.Words.{image, IsPreimage, IsSurjective}
+use Rattle.word_image.specs.Windows.{IsDetermined}
+use Rattle.word_image.proofs.laws.Values.{value-below, value-injective, length-word_of, IsWord-word_of, value-word_of}
+use Rattle.word_image.proofs.laws.Words.{IsWord-image, length-image}
+use Rattle.word_image.proofs.laws.Images.{get_or-image, image-drop, image-take}
+use Rattle.tail_config.specs.Tails.{TailConfig, IsTail, cell, cells, image_cell}
+use Rattle.tail_config.proofs.laws.Cells.{length-cells, get_or-cells, IsWord-cells, image_cells, image-cells}
+use Rattle.tail_laws.proofs.Injective.{IsInjective-determined}
+use Rattle.counting_laws.proofs.InjectiveRules.{IsSurjective-injective}
+use Rattle.inverse_window.proofs.Letters.{letter-value}
+use Rattle.inverse_table.specs.InverseMaps.{WindowMap, IsWindowMap, IsInverseMap, GivesBack, map_letter, map_image}
+use Rattle.inverse_table.specs.InverseFaults.{IsApartAt}
+use Rattle.inverse_table.specs.ImageValues.{AreImageValues, AreLettersBack, AreReadBack, AreApart, letter_at}
+use Rattle.inverse_table.proofs.ImageLaws.{image-at}
+use Rattle.inverse_table.proofs.WordCounts.{length-most}
+
+-- the images of all words of n + m - 1 letters, the letter c of each word, and the letters that are read back
+pub record IsReading (r : LocalRule) (n c : ℕ) (letter : ℕ → ℕ) (images letters : List ℕ) : Type 0 where
+  pub some : 1 ≤ n
+  pub inside : c ≤ n + r.width - 2
+  pub values : AreImageValues r n images
+  pub reads : (x : List ℕ) → IsWord r.states x → length x ≡ n + (r.width - 1) → letter (value r.states x) ≡ slice_index x c
+  pub long : length letters ≡ r.states ^ n
+  pub back : AreLettersBack letter images (length images) letters
+
+-- the letter at c, by the value of a word
+pub letter_at-place : {r : LocalRule} → IsRule r → (n c k unit : ℕ) → 1 ≤ n → c ≤ n + r.width - 2 → k ≡ r.states → unit ≡ r.states ^ (n + (r.width - 1) - 1 - c)
+    → (x : List ℕ) → IsWord r.states x → length x ≡ n + (r.width - 1) → letter_at k unit (value r.states x) ≡ slice_index x c
+letter_at-place {r} rule n c k unit some inside same behind x h long =
+    let wide = rule.shape.least_width in
+    ap (λ j. value r.states x / unit % j) same ∙ ap (λ u. value r.states x / u % r.states) behind
+    ∙ letter-value r.states x c (n + (r.width - 1) - 1 - c) h (omega arith)
+
+-- letters that are read back at that place
+pub IsReading-place : {r : LocalRule} {n c k unit : ℕ} {images letters : List ℕ} → IsRule r → 1 ≤ n → c ≤ n + r.width - 2 → k ≡ r.states
+    → unit ≡ r.states ^ (n + (r.width - 1) - 1 - c) → AreImageValues r n images → length letters ≡ r.states ^ n
+    → AreLettersBack (letter_at k unit) images (length images) letters → IsReading r n c (letter_at k unit) images letters
+IsReading-place {r} {n} {c} {k} {unit} rule some inside same behind values long back =
+    record { some = some; inside = inside; values = values; reads = letter_at-place rule n c k unit some inside same behind; long = long; back = back }
+
+-- the word of n + m - 1 letters with this value
+abbrev pub word_at : LocalRule → ℕ → ℕ → List ℕ
+word_at r n v = word_of r.states (n + (r.width - 1)) v
+
+-- for a value that a word has, its letter is the word's
+letter-word_at : {r : LocalRule} {n c : ℕ} {letter : ℕ → ℕ} {images letters : List ℕ} → IsReading r n c letter images letters → (v : ℕ) → v < length images
+    → IsWord r.states (word_at r n v) × (letter v ≡ slice_index (word_at r n v) c)
+letter-word_at {r} {n} {c} {letter} h v l =
+    let below : v < r.states ^ (n + (r.width - 1)) = omega (arith, h.values.long) in
+    let word = IsWord-word_of r.states (n + (r.width - 1)) v below in
+    (word, ap letter (sym (value-word_of r.states (n + (r.width - 1)) v below)) ∙ h.reads (word_at r n v) word (length-word_of r.states (n + (r.width - 1)) v))
+
+-- the image of that word has n letters
+length-image-word_at : (r : LocalRule) (n v : ℕ) → length (image r (word_at r n v)) ≡ n
+length-image-word_at r n v = length-image r (word_at r n v) ∙ ap (λ j. j - (r.width - 1)) (length-word_of r.states (n + (r.width - 1)) v) ∙ omega arith
+
+-- two values of words that are apart: the words show that the window isn't determined
+pub IsApartAt-apart : {r : LocalRule} {n c : ℕ} {letter : ℕ → ℕ} {images letters : List ℕ} → IsRule r → IsReading r n c letter images letters → (u v : ℕ)
+    → AreApart letter images u v → IsApartAt r n c (word_at r n u) (word_at r n v)
+IsApartAt-apart {r} {n} rule h u v apart =
+    let first = letter-word_at h u apart.first in
+    let second = letter-word_at h v apart.second in
+    record {
+      one_image = record {
+        first = first.0;
+        second = second.0;
+        first_long = length-word_of r.states (n + (r.width - 1)) u;
+        second_long = length-word_of r.states (n + (r.width - 1)) v;
+        one_image = value-injective r.states (image r (word_at r n u)) (image r (word_at r n v)) (IsWord-image rule (word_at r n u)) (IsWord-image rule (word_at r n v))
+            (length-image-word_at r n u ∙ sym (length-image-word_at r n v)) (sym (image-at h.values u apart.first) ∙ apart.one_image ∙ image-at h.values v apart.second);
+      };
+      differ = λ same. apart.differ (first.1 ∙ same ∙ sym second.1);
+    }
+
+-- where the letter of each word is read back, the letter at the image of a word is its letter c
+read_back : {r : LocalRule} {n c : ℕ} {letter : ℕ → ℕ} {images letters : List ℕ} → IsReading r n c letter images letters → AreReadBack letter images letters
+    → (x : List ℕ) → IsWord r.states x → length x ≡ n + (r.width - 1) → slice_index letters (value r.states (image r x)) ≡ slice_index x c
+read_back {r} {images = images} {letters = letters} h all x word long =
+    let below : value r.states x < length images = subst (λ j. value r.states x < j) (ap (λ j. r.states ^ j) long ∙ sym h.values.long) (value-below r.states x word) in
+    ap (slice_index letters) (sym (h.values.each x word long)) ∙ all (value r.states x) below ∙ h.reads x word long
+
+-- so the window is determined
+pub IsDetermined-read : {r : LocalRule} {n c : ℕ} {letter : ℕ → ℕ} {images letters : List ℕ} → IsReading r n c letter images letters → AreReadBack letter images letters
+    → IsDetermined r n c
+IsDetermined-read {r} {letters = letters} h all = record {
+  some = h.some;
+  inside = h.inside;
+  letter = λ x y g. sym (read_back h all x g.first g.first_long) ∙ ap (λ w. slice_index letters (value r.states w)) g.one_image ∙ read_back h all y g.second g.second_long;
+}
+
+-- the map of these letters
+abbrev pub map_of : LocalRule → ℕ → ℕ → List ℕ → WindowMap
+map_of r n c letters = record { states = r.states; width = n; offset = neg_ℤ r.offset -ℤ pos c; table = letters }
+
+-- is the inverse map
+pub IsInverseMap-read : {r : LocalRule} {n c : ℕ} {letter : ℕ → ℕ} {images letters : List ℕ} → IsRule r → IsReading r n c letter images letters → AreReadBack letter images letters
+    → IsInverseMap r n c (map_of r n c letters)
+IsInverseMap-read {r} {n} {c} {letter} {images} {letters} rule h all =
+    let k : ℕ = r.states in
+    record {
+      states = refl;
+      width = refl;
+      offset = refl;
+      entries = h.long;
+      letter = λ w x long p. ap (λ v. slice_index letters (value k v)) (sym p.maps) ∙ read_back h all x p.word (p.long ∙ ap (λ j. j + (r.width - 1)) long);
+      none = λ w word long none.
+          let below : value k w < length letters = subst (λ j. value k w < j) (ap (λ j. k ^ j) long ∙ sym h.long) (value-below k w word) in
+          ⊎_elim (λ found. absurd (none (word_at r n found.0) (record {
+            word = (letter-word_at h found.0 found.1).0;
+            long = length-word_of k (n + (r.width - 1)) found.0 ∙ ap (λ j. j + (r.width - 1)) (sym long);
+            maps = value-injective k (image r (word_at r n found.0)) w (IsWord-image rule (word_at r n found.0)) word (length-image-word_at r n found.0 ∙ sym long)
+                (sym (image-at h.values found.0 found.1) ∙ found.2);
+          })))
+          (λ (past : ((v : ℕ) → v < length images → slice_index images v ≢ value k w) × (slice_index letters (value k w) ≡ 0)). past.1)
+          (h.back (value k w) below);
+    }
+
+-- one of the maps that there are
+pub IsWindowMap-read : {r : LocalRule} {n c : ℕ} {letter : ℕ → ℕ} {images letters : List ℕ} → IsRule r → IsReading r n c letter images letters → r.states ^ n ≤ 65536
+    → IsWindowMap (map_of r n c letters)
+IsWindowMap-read {r} {n} {c} {letter} {images} {letters} rule h few =
+    let shape = rule.shape in
+    let most = length-most rule n few in
+    let inside = h.inside in
+    record {
+      least_states = shape.least_states;
+      most_states = shape.most_states;
+      least_width = h.some;
+      most_width = most;
+      least_offset = omega (arith, ints, shape.most_offset);
+      most_offset = omega (arith, ints, shape.least_offset);
+      entries = h.long;
+      most_entries = few;
+      letters = All-from_get_or (λ a. a < r.states) letters 0 (λ e l.
+          ⊎_elim (λ found.
+          let letter = letter-word_at h found.0 found.1 in
+          let within : c < length (word_at r n found.0) = omega (arith, h.some, shape.least_width, length-word_of r.states (n + (r.width - 1)) found.0) in
+          omega (arith, found.3, letter.1, letter.0 c 0 within))
+          (λ (past : ((v : ℕ) → v < length images → slice_index images v ≢ e) × (slice_index letters e ≡ 0)). omega (arith, past.1, shape.least_states))
+          (h.back e l));
+    }
+
+-- a determined window makes a rule surjective
+IsSurjective-determined : {r : LocalRule} {n c : ℕ} → IsRule r → IsDetermined r n c → IsSurjective r
+IsSurjective-determined rule window = IsSurjective-injective rule (IsInjective-determined rule window)
+
+-- the image of a word gives its letter c back
+map_letter-image : {r : LocalRule} {n c : ℕ} {g : WindowMap} → IsInverseMap r n c g → (x : List ℕ) → IsWord r.states x → length x ≡ n + (r.width - 1)
+    → map_letter g (image r x) ≡ slice_index x c
+map_letter-image {r} {n} h x word long =
+    let fewer : length (image r x) ≡ n = length-image r x ∙ ap (λ j. j - (r.width - 1)) long ∙ omega arith in
+    h.letter (image r x) x fewer (record { word = word; long = omega (arith, fewer, long); maps = refl })
+
+-- so n cells of the image of a configuration give a cell back
+map_letter-cells : {r : LocalRule} {n c : ℕ} {g : WindowMap} → IsRule r → c ≤ n + r.width - 2 → 1 ≤ n → IsInverseMap r n c g → (t : TailConfig) → IsTail r.states t → (i : ℤ)
+    → map_letter g (image_cells r t (i +ℤ g.offset) n) ≡ cell t i
+map_letter-cells {r} {n} {c} {g} rule inside some h t tail i =
+    let wide = rule.shape.least_width in
+    let start : ℤ = i -ℤ pos c in
+    let before : i +ℤ g.offset +ℤ r.offset ≡ start = omega (arith, ints, h.offset) in
+    let long : length (image_cells r t (i +ℤ g.offset) n) ≡ n = length-map-range_with_len (λ j. image_cell r t (i +ℤ g.offset +ℤ pos j)) 0 n in
+    h.letter (image_cells r t (i +ℤ g.offset) n) (cells t start (n + (r.width - 1))) long (record {
+      word = IsWord-cells tail start (n + (r.width - 1));
+      long = length-cells t start (n + (r.width - 1)) ∙ ap (λ j. j + (r.width - 1)) (sym long);
+      maps = image-cells rule t (i +ℤ g.offset) start n before;
+    })
+    ∙ get_or-cells t start i (n + (r.width - 1)) c (omega arith) (omega (arith, ints))
+
+-- n letters of a word from place i on are the image of n + m - 1 letters of a preimage of the word
+IsPreimage-part : {r : LocalRule} {w x : List ℕ} → IsRule r → IsPreimage r w x → (i n : ℕ) → i + n ≤ length w
+    → IsPreimage r (slice_range w i (i + n)) (take (n + (r.width - 1)) (drop i x))
+IsPreimage-part {r} {w} {x} rule p i n l =
+    let d : ℕ = r.width - 1 in
+    let part : i + n - i ≡ n = omega arith in
+    let rest : n + d - d ≡ n = omega arith in
+    record {
+      word = All-take (λ a. a < r.states) (n + d) (drop i x) (All-drop (λ a. a < r.states) i x p.word);
+      long = length-take-le (n + d) (drop i x) (omega (arith, length-drop i x, p.long))
+          ∙ ap (λ j. j + d) (sym (length-take-le (i + n - i) (drop i w) (omega (arith, length-drop i w)) ∙ part));
+      maps = image-take rule (n + d) (drop i x) ∙ ap (λ j. take j (image r (drop i x))) (rest ∙ sym part)
+          ∙ ap (take (i + n - i)) (image-drop r i x ∙ ap (drop i) p.maps);
+    }
+
+-- what the map makes of a word is the part of its preimage from c on
+map_image-part : {r : LocalRule} {n c : ℕ} {g : WindowMap} {x z : List ℕ} → IsRule r → 1 ≤ n → c ≤ n + r.width - 2 → IsInverseMap r n c g → length x ≡ n + (r.width - 1) → IsPreimage r x z
+    → map_image g x ≡ slice_range z c (c + r.width)
+map_image-part {r} {n} {c} {g} {x} {z} rule some inside h long p =
+    let wide = rule.shape.least_width in
+    let few : length x + 1 - n ≡ r.width = omega arith in
+    let count : c + r.width - c ≡ r.width = omega arith in
+    let letter : ℕ → ℕ = λ i. map_letter g (slice_range x i (i + n)) in
+    let part_long : length (slice_range z c (c + r.width)) ≡ r.width = length-take-le (c + r.width - c) (drop c z) (omega (arith, length-drop c z, p.long)) ∙ count in
+    ap (λ j. map (λ i. map_letter g (slice_range x i (i + j))) (range_with_len 0 (length x + 1 - j))) h.width
+    ∙ ap (λ j. map letter (range_with_len 0 j)) few
+    ∙ sym (fill_by_all letter (slice_range z c (c + r.width)) r.width 0 part_long (λ i l.
+    let place : c + i ≡ i + c = omega arith in
+    get_or-take (c + r.width - c) (drop c z) i 0 (omega arith) ∙ get_or-drop c z i 0 ∙ ap (slice_index z) place
+    ∙ sym (h.letter (slice_range x i (i + n)) (take (n + (r.width - 1)) (drop i z))
+    (length-take-le (i + n - i) (drop i x) (omega (arith, length-drop i x)) ∙ omega arith)
+    (IsPreimage-part rule p i n (omega arith))
+    ∙ get_or-take (n + (r.width - 1)) (drop i z) c 0 (omega arith) ∙ get_or-drop i z c 0)))
+
+-- so the rule gives letter c of a word back from what the map makes of the word
+local_map-map_image : {r : LocalRule} {n c : ℕ} {g : WindowMap} → IsRule r → IsDetermined r n c → IsInverseMap r n c g
+    → (x : List ℕ) → IsWord r.states x → length x ≡ n + (r.width - 1) → local_map r (map_image g x) ≡ slice_index x c
+local_map-map_image {r} {n} {c} {g} rule window h x word long =
+    let wide = rule.shape.least_width in
+    let found = IsSurjective-determined rule window x word in
+    let z : List ℕ = found.0 in
+    let p : IsPreimage r x z = found.1 in
+    let some : 1 ≤ n = window.some in
+    let inside : c ≤ n + r.width - 2 = window.inside in
+    ap (local_map r) (map_image-part rule some inside h long p) ∙ sym (get_or-image r z c (omega (arith, p.long))) ∙ ap (λ w. slice_index w c) p.maps
+
+-- what the map of a determined window does
+pub GivesBack-determined : {r : LocalRule} {n c : ℕ} {g : WindowMap} → IsRule r → IsDetermined r n c → IsInverseMap r n c g → GivesBack r n c g
+GivesBack-determined rule window h = record {
+  cells = map_letter-cells rule window.inside window.some h;
+  back = map_letter-image h;
+  forth = local_map-map_image rule window h;
+  onto = λ w word long. IsSurjective-determined rule window w word;
+}

@@ -1,0 +1,4 @@
+pub mod WordCounts
+pub mod ImageLaws
+pub mod InverseLaws
+pub mod MapRules

@@ -1,0 +1,25 @@
+-- How many words of one length there are, where at most 65,536 words have n letters.
+use Rattle.std.proofs.Common.{◌≡◌, ℕ, ◌+◌, ◌-◌, ◌*◌, ◌^◌, ◌<◌, ◌≤◌, ap, ◌∙◌, ⊎_elim, arith, mul-le-mul}
+use Rattle.std.proofs.Math.Nat.{one-le-pow, pow-le-pow_left, pow-le-pow_right}
+use Rattle.std.proofs.lemmas.Bool.{cases_lt}
+use Rattle.std.proofs.lemmas.Nat.{pow-add}
+use Rattle.word_image.specs.LocalRules.{LocalRule, IsRule}
+
+-- at most 2^20 words of n + m - 1 letters, and less where they have fewer
+pub power-most : {r : LocalRule} → IsRule r → (n j k : ℕ) → r.states ^ n ≤ 65536 → k ≡ r.states → j ≤ n + (r.width - 1) → (0 < k ^ j) × (k ^ j ≤ 1048576)
+power-most {r} rule n j k few e l =
+    let some : 0 < k = omega (arith, rule.shape.least_states) in
+    let grows : k ^ j ≤ k ^ (n + (r.width - 1)) = pow-le-pow_right some l in
+    let same : k ^ (n + (r.width - 1)) ≡ r.states ^ n * r.states ^ (r.width - 1) = ap (λ i. i ^ (n + (r.width - 1))) e ∙ pow-add r.states n (r.width - 1) in
+    let most : r.states ^ n * r.states ^ (r.width - 1) ≤ 65536 * 16 = mul-le-mul few rule.shape.most_nodes in
+    (one-le-pow j k some, omega arith)
+
+-- n is at most 16
+pub length-most : {r : LocalRule} → IsRule r → (n : ℕ) → r.states ^ n ≤ 65536 → n ≤ 16
+length-most {r} rule n few =
+    ⊎_elim (λ l. omega arith)
+    (λ l.
+    let twos : 2 ^ n ≤ r.states ^ n = pow-le-pow_left rule.shape.least_states n in
+    let more : 2 ^ 17 ≤ 2 ^ n = pow-le-pow_right (omega arith) {i = 17} {j = n} (omega arith) in
+    absurd (omega arith))
+    (cases_lt n 17)

@@ -1,0 +1,17 @@
+-- When a window of a rule has no inverse map.
+use Rattle.std.specs.Prelude.{◌≢◌, ℕ, ◌^◌, ◌<◌, ◌≤◌, List, slice_index}
+use Rattle.word_image.specs.LocalRules.{LocalRule}
+use Rattle.word_image.specs.Windows.{HaveOneImage}
+use Rattle.inverse_table.specs.declared.tables.InvFault.{InvFault}
+use Rattle.inverse_table.specs.declared.tables.InvFault.TheVariants.{Wide, NotDetermined, Memory}
+
+-- two words with one image that differ at c: the window (n, c) isn't determined
+pub record IsApartAt (r : LocalRule) (n c : ℕ) (x y : List ℕ) : Type 0 where
+  pub one_image : HaveOneImage r n x y
+  pub differ : slice_index x c ≢ slice_index y c
+
+-- when each fault comes: a map of more than 65,536 letters is refused first
+abbrev pub IsInvFault : LocalRule → ℕ → ℕ → InvFault → Type 0
+IsInvFault r n c Wide = 65536 < r.states ^ n
+IsInvFault r n c (NotDetermined x y) = (r.states ^ n ≤ 65536) × IsApartAt r n c x y
+IsInvFault r n c (Memory e) = r.states ^ n ≤ 65536

@@ -1,0 +1,3 @@
+pub mod InverseMaps
+pub mod ImageValues
+pub mod InverseFaults

@@ -1,0 +1,120 @@
+//! The inverse map as a value, and as a rule.
+ghost use Rattle.std.specs.Prelude.{◌≡◌, ◌*◌, ◌↔◌, take, IfOk, IsOk};
+ghost use Rattle.std.specs.Result.{result_err};
+ghost use Rattle.word_image.specs.LocalRules.{IsRule};
+ghost use Rattle.inverse_table.specs.InverseMaps.{IsWindowMap, rule_of, limit_fault};
+
+use std::marker::Model;
+use word_image::{MOST_ENTRIES, Rule, RuleFault};
+
+/// What gives a letter of a word back from n letters of its image: a letter for each word of n
+/// letters, in the order of their values.
+#[derive(Debug, Drop)]
+pub struct InverseMap {
+    // How many letters there are.
+    k: u8,
+    // How many letters of the image are read.
+    n: u16,
+    // Where they begin, for cell 0.
+    offset: i32,
+    // The letter for each of the k^n words of n letters.
+    letters: Vec<u8>,
+}
+
+impl Model for InverseMap {
+    ghost use Rattle.inverse_table.specs.InverseMaps.{WindowMap, IsWindowMap};
+
+    ghost Value = { WindowMap };
+
+    ghost view = { λ g. record { states = g.k; width = g.n; offset = g.offset; table = g.letters.items } };
+
+    ghost invariant = { λ g. IsWindowMap (record { states = g.k; width = g.n; offset = g.offset; table = g.letters.items }) };
+}
+
+impl InverseMap {
+    /// The map of these letters.
+    pub(crate) fn of(k: u8, n: u16, offset: i32, letters: Vec<u8>) -> Self
+        requires { IsWindowMap (record { states = k; width = n; offset = offset; table = letters.items }) }
+        ensures { result ≡ record { states = k; width = n; offset = offset; table = letters.items } }
+    {
+        InverseMap {
+            k,
+            n,
+            offset,
+            letters,
+        }
+    }
+
+    /// How many letters there are, from 2 to 16.
+    pub fn k(&self) -> u8
+        ensures states { result ≡ self.now.states }
+        ensures map { IsWindowMap self.now }
+    {
+        self.k
+    }
+
+    /// How many letters of the image are read, from 1 to 16.
+    pub fn n(&self) -> u16
+        ensures width { result ≡ self.now.width }
+        ensures map { IsWindowMap self.now }
+    {
+        self.n
+    }
+
+    /// Where they begin: the letter of cell i is read from the cells of the image from i + offset on.
+    pub fn offset(&self) -> i32
+        ensures offset { result ≡ self.now.offset }
+        ensures map { IsWindowMap self.now }
+    {
+        self.offset
+    }
+
+    /// The letter for each of the k^n words of n letters, in the order of their values.
+    pub fn table(&self) -> &[u8]
+        ensures table { result.now ≡ self.now.table }
+        ensures map { IsWindowMap self.now }
+    {
+        &self.letters
+    }
+}
+
+/// The map as a rule of width n, which gives on a window the map's letter for it. A map with n = 1
+/// is written at width 2, and its second cell is ignored.
+///
+/// `Width`, `Nodes` and `Offset` come exactly where they are the first limit of a rule, in this order,
+/// that is broken. No other fault comes. It takes no memory.
+pub fn as_rule(map: &InverseMap) -> Result<Rule, RuleFault>
+    ensures rule { IfOk result (λ r. r ≡ rule_of map.now) }
+    ensures fault { result_err result ≡ limit_fault (rule_of map.now) }
+    ensures accepted { IsOk result ↔ IsRule (rule_of map.now) }
+{
+    if map.n() == 1 {
+        let k = usize::from(map.k());
+        return rule_with(map, 2, &twice_as_wide(map)[..k * k]);
+    }
+    rule_with(map, map.n() as u8, map.table())
+}
+
+/// The map as a rule, whose width and table are known.
+fn rule_with(map: &InverseMap, width: u8, table: &[u8]) -> Result<Rule, RuleFault>
+    requires width { width ≡ (rule_of map.now).width }
+    requires table { table.now ≡ (rule_of map.now).table }
+    ensures rule { IfOk result (λ r. r ≡ rule_of map.now) }
+    ensures fault { result_err result ≡ limit_fault (rule_of map.now) }
+    ensures accepted { IsOk result ↔ IsRule (rule_of map.now) }
+{
+    Rule::new(map.k(), width, map.offset() as i8, table)
+}
+
+/// The letters for the words of two letters, of which a map that reads one letter reads the first.
+fn twice_as_wide(map: &InverseMap) -> [u8; MOST_ENTRIES]
+    requires { map.now.width ≡ 1 }
+    ensures { take (map.now.states * map.now.states) result ≡ (rule_of map.now).table }
+{
+    let k = usize::from(map.k());
+    let mut entries = [0; MOST_ENTRIES];
+    for window in 0..k * k {
+        entries[window] = map.table()[window / k];
+    }
+    entries
+}

@@ -1,0 +1,138 @@
+//! The inverse map of a rule over a window.
+ghost use Rattle.std.specs.Prelude.{◌≡◌, ◌+◌, ◌-◌, ◌^◌, ◌<◌, ◌≤◌, neg_ℤ, ◌-ℤ◌, pos, IfOk, IsOk, MatchResult, SomeIff};
+ghost use Rattle.word_image.specs.LocalRules.{IsRule, word_of};
+ghost use Rattle.word_image.specs.Windows.{IsDetermined};
+ghost use Rattle.inverse_table.specs.InverseMaps.{IsInverseMap, GivesBack};
+ghost use Rattle.inverse_table.specs.InverseFaults.{IsInvFault};
+ghost use Rattle.inverse_table.specs.ImageValues.{AreImageValues};
+ghost use Rattle.inverse_table.specs.declared.tables.InvFault.TheVariants.{Memory};
+
+use crate::image_values::image_values;
+use crate::inverse_map::InverseMap;
+use crate::letters::{Place, letters_back, two_apart};
+use inverse_window::WindowAt;
+use std::alloc::{AllocError, Global};
+use word_image::{Rule, Word};
+
+/// The most letters that a map has.
+const MOST_LETTERS: u64 = 65536;
+
+/// Why a window has no inverse map.
+#[derive(Debug, Drop)]
+pub enum InvFault {
+    /// There are more than 65,536 words of n letters.
+    Wide,
+    /// These two words of n + m - 1 letters have one image and differ at c: the window is not
+    /// determined.
+    NotDetermined { x: Word, y: Word },
+    /// There is not enough memory.
+    Memory(AllocError),
+}
+
+impl From<AllocError> for InvFault {
+    ghost from_gives = { λ e fault. fault ≡ Memory e };
+
+    fn from(e: AllocError) -> InvFault {
+        InvFault::Memory(e)
+    }
+}
+
+/// The inverse map of a rule over the window (n, c), for 1 ≤ n ≤ 480 and c ≤ n + m - 2. It has a
+/// letter for each word of n letters: letter c of every preimage of the word, and 0 where it has none.
+///
+/// `Wide` comes exactly where there are more than 65,536 such words. Else the window is determined
+/// where there is a map, it is not where `NotDetermined` comes, and `Memory` says nothing of it.
+pub fn table(alloc: Global, rule: &Rule, at: WindowAt) -> Result<InverseMap, InvFault>
+    requires some { 1 ≤ at.n }
+    requires most { at.n ≤ 480 }
+    requires inside { at.c ≤ at.n + rule.now.width - 2 }
+    ensures map { IfOk result (IsInverseMap rule.now at.n at.c) }
+    ensures gives_back { IfOk result (GivesBack rule.now at.n at.c) }
+    ensures determined { IsOk result → IsDetermined rule.now at.n at.c }
+    ensures fault { MatchResult result (λ _. rule.now.states ^ at.n ≤ 65536) (IsInvFault rule.now at.n at.c) }
+{
+    let Some(count) = letter_count(rule, at.n) else {
+        return Err(InvFault::Wide);
+    };
+    let images = image_values(alloc, rule, at.n)?;
+    read_back(alloc, rule, at, count, &images)
+}
+
+/// The inverse map over a window, from the images of all words of n + m - 1 letters.
+fn read_back(
+    alloc: Global,
+    rule: &Rule,
+    at: WindowAt,
+    count: usize,
+    images: &[u16],
+) -> Result<InverseMap, InvFault>
+    requires some { 1 ≤ at.n }
+    requires inside { at.c ≤ at.n + rule.now.width - 2 }
+    requires few { rule.now.states ^ at.n ≤ 65536 }
+    requires count { count ≡ rule.now.states ^ at.n }
+    requires images { AreImageValues rule.now at.n images.now }
+    ensures map { IfOk result (IsInverseMap rule.now at.n at.c) }
+    ensures gives_back { IfOk result (GivesBack rule.now at.n at.c) }
+    ensures determined { IsOk result → IsDetermined rule.now at.n at.c }
+    ensures fault { MatchResult result (λ _. rule.now.states ^ at.n ≤ 65536) (IsInvFault rule.now at.n at.c) }
+{
+    let place = place_of(rule, at);
+    let letters = letters_back(alloc, images, count, place)?;
+    if let Some(words) = two_apart(images, &letters, place) {
+        return Err(InvFault::NotDetermined {
+            x: word_at(alloc, rule, at.n, words.0)?,
+            y: word_at(alloc, rule, at.n, words.1)?,
+        });
+    }
+    Ok(InverseMap::of(rule.k(), at.n, map_offset(rule, at.c), letters))
+}
+
+/// Where the letters of the image begin from which letter c of a word is read: the image of a word
+/// begins o cells before the word, and letter c stands c cells behind the word's first letter.
+fn map_offset(rule: &Rule, c: u16) -> i32
+    ensures { result ≡ neg_ℤ rule.now.offset -ℤ pos c }
+{
+    -i32::from(rule.o()) - i32::from(c)
+}
+
+/// How many words of n letters there are, where there are at most 65,536.
+fn letter_count(rule: &Rule, n: u16) -> Option<usize>
+    ensures { SomeIff result (rule.now.states ^ n ≤ 65536) (rule.now.states ^ n) }
+{
+    match u64::from(rule.k()).checked_pow(u32::from(n)) {
+        Some(count) if count <= MOST_LETTERS => Some(count as usize),
+        _ => None,
+    }
+}
+
+/// The place of letter c in words of n + m - 1 letters.
+fn place_of(rule: &Rule, at: WindowAt) -> Place
+    requires inside { at.c ≤ at.n + rule.now.width - 2 }
+    requires fits { rule.now.states ^ at.n ≤ 65536 }
+    ensures rule { IsRule rule.now }
+    ensures states { result.k ≡ rule.now.states }
+    ensures unit { result.unit ≡ rule.now.states ^ (at.n + (rule.now.width - 1) - 1 - at.c) }
+{
+    let behind = u32::from(at.n) + u32::from(rule.m()) - 2 - u32::from(at.c);
+    let k = usize::from(rule.k());
+    Place {
+        k,
+        unit: k.pow(behind),
+    }
+}
+
+/// The word of n + m - 1 letters that has this value.
+fn word_at(alloc: Global, rule: &Rule, n: u16, value: usize) -> Result<Word, AllocError>
+    requires some { 1 ≤ n }
+    requires fits { rule.now.states ^ n ≤ 65536 }
+    requires value { value < rule.now.states ^ (n + (rule.now.width - 1)) }
+    ensures { IfOk result (λ w. w ≡ word_of rule.now.states (n + (rule.now.width - 1)) value) }
+{
+    let k = usize::from(rule.k());
+    let long = u32::from(n) + u32::from(rule.m()) - 1;
+    let mut letters = Vec::with_capacity(alloc, long as usize)?;
+    for place in 0..long {
+        letters.push((value / k.pow(long - 1 - place) % k) as u8)?;
+    }
+    Ok(Word::of(letters))
+}

@@ -1,0 +1,103 @@
+//! Maps and rules that are known from elsewhere.
+
+use crate::{InvFault, InverseMap, as_rule, table};
+use inverse_window::WindowAt;
+use std::alloc::{AllocError, Global};
+use std::process::Abort;
+use std::test::Fail;
+use word_image::{Rule, RuleFault};
+
+// The letters that these digits name.
+fn letters(alloc: Global, digits: &[u8]) -> Result<Vec<u8>, AllocError> {
+    digits
+        .iter()
+        .map(|digit| digit.wrapping_sub(b'0'))
+        .collect(alloc)
+}
+
+// The rule over the letters 0 and 1 with this table.
+fn binary(alloc: Global, m: u8, o: i8, digits: &[u8]) -> Result<Rule, Fail> {
+    Ok(Rule::new(2, m, o, &letters(alloc, digits)?)?)
+}
+
+// What `table` answers for a window that the rule has.
+fn answer(
+    alloc: Global,
+    rule: &Rule,
+    n: u16,
+    c: u16,
+) -> Result<Result<InverseMap, InvFault>, Fail> {
+    let letters = u32::from(n) + u32::from(rule.m());
+    if n < 1 || n > 480 || u32::from(c) + 2 > letters {
+        return Err(Fail::new("no window of this rule"));
+    }
+    Ok(table(alloc, rule, WindowAt { n, c }))
+}
+
+// The map of a window that is determined.
+fn map_of(alloc: Global, rule: &Rule, n: u16, c: u16) -> Result<InverseMap, Fail> {
+    match answer(alloc, rule, n, c)? {
+        Ok(map) => Ok(map),
+        Err(_) => Err(Fail::new("no map")),
+    }
+}
+
+#[test]
+fn maps_as_rules(rt: HostRuntime) -> Result<(), Fail> {
+    let cases: [(u8, i8, &[u8], u16, u16, i32, &[u8]); 4] = [
+        // The right cell of three.
+        (3, -1, b"01010101", 1, 2, -1, b"01"),
+        (3, -1, b"01010101", 2, 2, -1, b"0011"),
+        // The second of four cells, changed where the others are 0, 1 and 0: its own inverse.
+        (4, -1, b"0010110100001111", 4, 2, -1, b"0010110100001111"),
+        // The cell 16 places to the left.
+        (2, -16, b"0011", 1, 0, 16, b"01"),
+    ];
+    for (m, o, digits, n, c, offset, want) in cases {
+        let rule = binary(rt.alloc(), m, o, digits)?;
+        let map = map_of(rt.alloc(), &rule, n, c)?;
+        assert_eq!(rt; map.k(), 2);
+        assert_eq!(rt; map.n(), n);
+        assert_eq!(rt; map.offset(), offset);
+        assert_eq!(rt; map.table(), &letters(rt.alloc(), want)?[..]);
+    }
+    Ok(())
+}
+
+#[test]
+fn rules_of_maps(rt: HostRuntime) -> Result<(), Fail> {
+    let right = binary(rt.alloc(), 3, -1, b"01010101")?;
+    let narrow = as_rule(&map_of(rt.alloc(), &right, 1, 2)?)?;
+    assert!(rt; narrow == binary(rt.alloc(), 2, -1, b"0011")?);
+    let own = binary(rt.alloc(), 4, -1, b"0010110100001111")?;
+    assert!(rt; as_rule(&map_of(rt.alloc(), &own, 4, 2)?)? == own);
+    let far = binary(rt.alloc(), 2, -16, b"0011")?;
+    let refused = as_rule(&map_of(rt.alloc(), &far, 1, 0)?);
+    assert!(rt; matches!(&refused, Err(RuleFault::Offset)));
+    Ok(())
+}
+
+#[test]
+fn windows_without_a_map(rt: HostRuntime) -> Result<(), Fail> {
+    let middle = binary(rt.alloc(), 3, -1, b"00110011")?;
+    let Err(InvFault::NotDetermined { x, y }) = answer(rt.alloc(), &middle, 1, 0)? else {
+        return Err(Fail::new("not refused"));
+    };
+    let (x, y) = (x.as_slice(), y.as_slice());
+    assert!(rt; x.len() == 3 && y.len() == 3 && x[0] != y[0] && x[1] == y[1]);
+    let right = binary(rt.alloc(), 3, -1, b"01010101")?;
+    let wide = answer(rt.alloc(), &right, 17, 2)?;
+    assert!(rt; matches!(&wide, Err(InvFault::Wide)));
+    Ok(())
+}
+
+#[test]
+fn the_longest_map(rt: HostRuntime) -> Result<(), Fail> {
+    let right = binary(rt.alloc(), 3, -1, b"01010101")?;
+    let map = map_of(rt.alloc(), &right, 16, 2)?;
+    assert_eq!(rt; map.offset(), -1);
+    assert_eq!(rt; map.table().len(), 65536);
+    assert!(rt; map.table().iter().take(32768).all(|letter| *letter == 0));
+    assert!(rt; map.table().iter().skip(32768).all(|letter| *letter == 1));
+    Ok(())
+}
