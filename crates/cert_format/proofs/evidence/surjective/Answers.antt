@@ -1,0 +1,14 @@
+use Rattle.std.proofs.lemmas.Result.{err_from_is_err_and}
+use Rattle.serde_json.specs.View.{view}
+use Rattle.cert_format.proofs.laws.Evidence.{no_sets, no_orphan}
+use Rattle.cert_format.proofs.evidence.surjective.Goals as goal
+
+pub returns-in_err-sets-clause-none : goal.returns-in_err-sets-clause-none
+returns-in_err-sets-clause-none c =
+    let p = err_from_is_err_and c.from_residual.result c.from_residual.ensures.1 in
+    rw (p.1, p.2) (λ shape. no_sets c.args.rule.now (view c.args.value.now) c.in-Some.ensures.some (c.in_err-sets.ensures.none shape))
+
+pub returns-in_err-word-clause-none : goal.returns-in_err-word-clause-none
+returns-in_err-word-clause-none c =
+    let p = err_from_is_err_and c.from_residual-in_err-word.result c.from_residual-in_err-word.ensures.1 in
+    rw (p.1, p.2) (λ shape. no_orphan c.args.rule.now (view c.args.value.now) c.in-Some-only.ensures.some (λ w h. c.in_err-word.ensures.none shape w (rw c.k.ensures.states h)))

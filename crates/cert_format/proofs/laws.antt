@@ -1,0 +1,10 @@
+pub mod Objects
+pub mod Arrays
+pub mod Spellings
+pub mod Uniqueness
+pub mod Evidence
+pub mod ShapeFaults
+pub mod Steps
+pub mod AsciiTexts
+pub mod PlainValues
+pub mod Written

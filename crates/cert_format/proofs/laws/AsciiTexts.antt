@@ -1,0 +1,77 @@
+-- The printed texts of words, configurations and rules are ASCII, and so UTF-8.
+use Rattle.std.proofs.Common.{ℕ, ◌+◌, ◌<◌, ◌≤◌, List, [], ◌∷◌, ◌++◌, arith, lit<, lit≤}
+use Rattle.std.specs.Prelude.{ℤ, pos, negsuc, IsUtf8}
+use Rattle.std.specs.Str.{IsAscii}
+use Rattle.std.specs.Fmt.{decimal}
+use Rattle.std.proofs.lemmas.Bool.Decides.{nat_tests}
+use Rattle.std.proofs.lemmas.Int.{ints}
+use Rattle.std.proofs.lemmas.Str.{IsAscii-append, IsUtf8-from_ascii}
+use Rattle.std.proofs.lemmas.Str.Ascii.{IsAscii-nil, IsAscii-cons}
+use Rattle.std.proofs.lemmas.Fmt.{IsAscii-decimal}
+use Rattle.std.proofs.lemmas.List.Elements.{All-head, All-tail}
+use Rattle.word_image.specs.LocalRules.{LocalRule, IsShape, IsRule, IsWord}
+use Rattle.word_image.specs.Digits.{lower_digit, word_text}
+use Rattle.tail_config.specs.TailTexts as tail
+use Rattle.tail_config.specs.TailValues.{TailOver, IsAccepted}
+use Rattle.rule_text.specs.RuleTexts.{offset_text, printed}
+
+-- a text of bytes below 128
+record Ascii (text : List ℕ) : Type 0 where
+  bytes : IsAscii text
+
+-- one text and another one after it
+both : {x y : List ℕ} → Ascii x → Ascii y → Ascii (x ++ y)
+both {x} {y} h g = record { bytes = IsAscii-append x y h.bytes g.bytes }
+
+-- a text of one byte
+one : (b : ℕ) → b < 128 → Ascii (b ∷ [])
+one b h = record { bytes = IsAscii-cons b [] h IsAscii-nil }
+
+-- a number below 100
+Ascii-decimal : (n : ℕ) → n < 100 → Ascii (decimal n)
+Ascii-decimal n h = record { bytes = IsAscii-decimal n (omega arith) }
+
+-- an offset of an accepted shape
+Ascii-offset : (k m : ℕ) (o : ℤ) → IsShape k m o → Ascii (offset_text o)
+Ascii-offset k m (pos n) shape =
+    let most = shape.most_offset in
+    Ascii-decimal n (grind (arith, ints))
+Ascii-offset k m (negsuc n) shape =
+    let least = shape.least_offset in
+    both (one 45 (lit< tt)) (Ascii-decimal (n + 1) (grind (arith, ints)))
+
+-- a word over at most 16 letters
+Ascii-word : (k : ℕ) (w : List ℕ) → k ≤ 16 → IsWord k w → Ascii (word_text w)
+Ascii-word k [] few word = record { bytes = IsAscii-nil }
+Ascii-word k (a ∷ w) few word =
+    let below : a < k = All-head (λ a. a < k) a w word in
+    let rest = Ascii-word k w few (All-tail (λ a. a < k) a w word) in
+    record { bytes = IsAscii-cons (lower_digit a) (word_text w) (grind (arith, nat_tests)) rest.bytes }
+
+-- the text of a word
+pub IsUtf8-word : (w : List ℕ) → IsWord 16 w → IsUtf8 (word_text w)
+IsUtf8-word w word = IsUtf8-from_ascii (word_text w) (Ascii-word 16 w (lit≤ tt) word).bytes
+
+-- the text of a configuration
+pub IsUtf8-tail : (t : TailOver) → IsAccepted t → IsUtf8 (tail.printed t.config)
+IsUtf8-tail t accepted =
+    let few = accepted.most_states in
+    let words = accepted.short.tail in
+    let left = Ascii-word t.states (t.config).left few words.left_word in
+    let middle = Ascii-word t.states (t.config).middle few words.middle_word in
+    let right = Ascii-word t.states (t.config).right few words.right_word in
+    let bar = one 124 (lit< tt) in
+    IsUtf8-from_ascii (tail.printed t.config) (both (both (both (both left bar) middle) bar) right).bytes
+
+-- the text of a rule
+pub IsUtf8-rule : (r : LocalRule) → IsRule r → IsUtf8 (printed r)
+IsUtf8-rule r rule =
+    let shape = rule.shape in
+    let few = shape.most_states in
+    let short = shape.most_width in
+    let states = Ascii-decimal r.states (omega arith) in
+    let width = Ascii-decimal r.width (omega arith) in
+    let offset = Ascii-offset r.states r.width r.offset shape in
+    let table = Ascii-word r.states r.table few rule.letters in
+    let colon = one 58 (lit< tt) in
+    IsUtf8-from_ascii (printed r) (both (both (both (both (both (both (both states colon) width) colon) offset) colon) (one 116 (lit< tt))) table).bytes

@@ -1,0 +1,115 @@
+-- Where a JSON value is no evidence.
+use Rattle.std.proofs.Common.{◌≡◌, ◌≢◌, sym, ap, ◌∙◌, subst, List, [], ◌∷◌, length, ℕ, ◌≤◌, ℤ, Option, slice_index, arith}
+use Rattle.std.specs.Prelude.{codes, All}
+use Rattle.std.specs.List.{AllZip}
+use Rattle.std.proofs.lemmas.List.Elements.{All-nil, All-cons, All-head, All-tail, All-weaker}
+use Rattle.serde_json.specs.Data.{Data}
+use Rattle.word_image.specs.LocalRules.{LocalRule, node_count}
+use Rattle.word_image.specs.Graphs.{full_set, pair_count}
+use Rattle.cert_format.specs.Certificates.{SurjectiveEvidence, InjectiveEvidence, SumEvidence, IsClaim}
+use Rattle.cert_format.specs.Certificates.SurjectiveEvidence.{Sets, Orphan}
+use Rattle.cert_format.specs.Certificates.InjectiveEvidence.{Window, Twins}
+use Rattle.cert_format.specs.Certificates.SumEvidence.{Flux, Ring}
+use Rattle.cert_format.specs.CertificateTexts.{IsWhole, IsSigned, IsDigits, IsClaimValue, IsArrayOf, HasOnly, list_of}
+use Rattle.cert_format.specs.Readings.{IsWordValue, IsWordsValue, IsShort, IsRank, IsNear, IsFlow, IsSetsFor, IsFluxFor, IsRowFor, IsSurjectiveFor, IsInjectiveFor, IsSumFor}
+use Rattle.cert_format.proofs.laws.Uniqueness.{HasOnly-unique, not_both, IsArrayOf-unique, IsWhole-unique, IsSigned-unique, IsClaimValue-unique}
+
+-- the values of one key are one
+at_key : (d : Data) {v u : Data} {k : List ℕ} (P : Data → Type 0) → HasOnly k v d → HasOnly k u d → P u → P v
+at_key d P p q h = subst P (sym (HasOnly-unique d p q).1) h
+
+-- an object with the one key has not the other
+
+sets_or_orphan : (d : Data) {v u : Data} → HasOnly (codes "sets") v d → ¬ HasOnly (codes "orphan") u d
+sets_or_orphan d p q = absurd (omega (arith, ap length (HasOnly-unique d p q).0))
+
+flux_or_ring : (d : Data) {v u : Data} → HasOnly (codes "flux") v d → ¬ HasOnly (codes "ring") u d
+flux_or_ring d p q = absurd (omega (arith, ap (λ k. slice_index k 0) (HasOnly-unique d p q).0))
+
+-- no evidence for surjective: the sets are none, or the orphan is
+
+pub no_sets : (r : LocalRule) (d : Data) {v : Data} → HasOnly (codes "sets") v d → ((sets : List ℕ) → ¬ IsSetsFor r v sets) → (e : SurjectiveEvidence) → ¬ IsSurjectiveFor r d e
+no_sets r d only none (Sets sets) h = none sets (at_key d (λ v. IsArrayOf IsWhole v sets) only h.0.1 h.0.2, h.1)
+no_sets r d only none (Orphan w) h = sets_or_orphan d only h.0.1
+
+pub no_orphan : (r : LocalRule) (d : Data) {v : Data} → HasOnly (codes "orphan") v d → ((w : List ℕ) → ¬ IsWordValue r.states v w) → (e : SurjectiveEvidence) → ¬ IsSurjectiveFor r d e
+no_orphan r d only none (Sets sets) h = sets_or_orphan d h.0.1 only
+no_orphan r d only none (Orphan w) h = none w (at_key d (λ v. IsDigits v w) only h.0.1 h.0.2, h.1)
+
+-- none for injective: the twins are none
+pub no_twins : (r : LocalRule) (d : Data) {v : Data} → HasOnly (codes "twins") v d → ((x y : List ℕ) → ¬ IsWordsValue r.states v x y) → (e : InjectiveEvidence) → ¬ IsInjectiveFor r d e
+no_twins r d only none (Window n c) h = not_both d only h.0.2
+no_twins r d only none (Twins x y) h = none x y (at_key d (λ v. IsArrayOf IsDigits v (x ∷ y ∷ [])) only h.0.1 h.0.2, h.1.0, h.1.1)
+
+-- none for conserving: the ring is none
+pub no_ring : (r : LocalRule) (d : Data) {v : Data} → HasOnly (codes "ring") v d → ((w : List ℕ) → ¬ IsWordValue r.states v w) → (e : SumEvidence) → ¬ IsSumFor r d e
+no_ring r d only none (Flux phi) h = flux_or_ring d h.0.1 only
+no_ring r d only none (Ring p) h = none p (at_key d (λ v. IsDigits v p) only h.0.1 h.0.2, h.1)
+
+-- Arrays whose elements have a limit
+
+both_zip : {A : Type 0} (R : Data → A → Type 0) (P : A → Type 0) (ds : List Data) (xs : List A) → AllZip R ds xs → All P xs → AllZip (λ d x. R d x × P x) ds xs
+both_zip R P [] [] h all = tt
+both_zip R P [] (x ∷ xs) h all = absurd h
+both_zip R P (d ∷ ds) [] h all = absurd h
+both_zip R P (d ∷ ds) (x ∷ xs) h all = ((h.0, All-head P x xs all), both_zip R P ds xs h.1 (All-tail P x xs all))
+
+first_zip : {A : Type 0} (R : Data → A → Type 0) (P : A → Type 0) (ds : List Data) (xs : List A) → AllZip (λ d x. R d x × P x) ds xs → AllZip R ds xs
+first_zip R P [] [] h = tt
+first_zip R P [] (x ∷ xs) h = absurd h
+first_zip R P (d ∷ ds) [] h = absurd h
+first_zip R P (d ∷ ds) (x ∷ xs) h = (h.0.0, first_zip R P ds xs h.1)
+
+second_zip : {A : Type 0} (R : Data → A → Type 0) (P : A → Type 0) (ds : List Data) (xs : List A) → AllZip (λ d x. R d x × P x) ds xs → All P xs
+second_zip R P [] [] h = All-nil P
+second_zip R P [] (x ∷ xs) h = absurd h
+second_zip R P (d ∷ ds) [] h = absurd h
+second_zip R P (d ∷ ds) (x ∷ xs) h = All-cons P x xs h.0.1 (second_zip R P ds xs h.1)
+
+-- an array within the limit
+pub IsArrayOf-within : {A : Type 0} (R : Data → A → Type 0) (P : A → Type 0) (d : Data) (xs : List A) → IsArrayOf R d xs → All P xs → IsArrayOf (λ d x. R d x × P x) d xs
+IsArrayOf-within R P d xs h all = (h.0, h.1, both_zip R P (list_of h.0) xs h.2 all)
+
+-- is an array, and its elements are within it
+pub within-IsArrayOf : {A : Type 0} (R : Data → A → Type 0) (P : A → Type 0) (d : Data) (xs : List A) → IsArrayOf (λ d x. R d x × P x) d xs → IsArrayOf R d xs × All P xs
+within-IsArrayOf R P d xs h = ((h.0, h.1, first_zip R P (list_of h.0) xs h.2), second_zip R P (list_of h.0) xs h.2)
+
+-- Arrays of numbers whose limits the machine's numbers keep
+
+-- sets are those of an array of short numbers that are within the set of all nodes
+pub IsSetsFor-array : (r : LocalRule) (d : Data) (most : ℕ) (xs : List ℕ) → most ≡ full_set r → IsArrayOf IsShort d xs → All (λ n. n ≤ most) xs → IsSetsFor r d xs
+IsSetsFor-array r d most xs full array all = ((within-IsArrayOf IsWhole (λ n. n ≤ 65535) d xs array).0, subst (λ m. All (λ n. n ≤ m) xs) full all)
+
+pub no_sets_array : (r : LocalRule) (d : Data) (most : ℕ) → most ≡ full_set r → most ≤ 65535 → ((xs : List ℕ) → ¬ IsArrayOf IsShort d xs) → (sets : List ℕ) → ¬ IsSetsFor r d sets
+no_sets_array r d most full short none sets h =
+    let all : All (λ n. n ≤ most) sets = subst (λ m. All (λ n. n ≤ m) sets) (sym full) h.1 in
+    none sets (IsArrayOf-within IsWhole (λ n. n ≤ 65535) d sets h.0 (All-weaker (λ n. n ≤ most) (λ n. n ≤ 65535) (λ n le. omega (arith, le, short)) sets all))
+
+pub no_sets_above : (r : LocalRule) (d : Data) (most : ℕ) (xs : List ℕ) → most ≡ full_set r → IsArrayOf IsShort d xs → ¬ All (λ n. n ≤ most) xs → (sets : List ℕ) → ¬ IsSetsFor r d sets
+no_sets_above r d most xs full array above sets h =
+    let same : xs ≡ sets = IsArrayOf-unique IsWhole IsWhole-unique d xs sets (within-IsArrayOf IsWhole (λ n. n ≤ 65535) d xs array).0 h.0 in
+    above (subst (All (λ n. n ≤ most)) (sym same) (subst (λ m. All (λ n. n ≤ m) sets) (sym full) h.1))
+
+-- a flux is an array with a flow for each node
+pub IsFluxFor-array : (r : LocalRule) (d : Data) (xs : List ℤ) → IsArrayOf IsFlow d xs → length xs ≡ node_count r → IsFluxFor r d xs
+IsFluxFor-array r d xs array long = let parts = within-IsArrayOf IsSigned IsNear d xs array in (parts.0, long, parts.1)
+
+pub no_flux_array : (r : LocalRule) (d : Data) → ((xs : List ℤ) → ¬ IsArrayOf IsFlow d xs) → (phi : List ℤ) → ¬ IsFluxFor r d phi
+no_flux_array r d none phi h = none phi (IsArrayOf-within IsSigned IsNear d phi h.0 h.2)
+
+pub no_flux_long : (r : LocalRule) (d : Data) (xs : List ℤ) → IsArrayOf IsFlow d xs → length xs ≢ node_count r → (phi : List ℤ) → ¬ IsFluxFor r d phi
+no_flux_long r d xs array long phi h =
+    let same : xs ≡ phi = IsArrayOf-unique IsSigned IsSigned-unique d xs phi (within-IsArrayOf IsSigned IsNear d xs array).0 h.0 in
+    long (ap length same ∙ h.1)
+
+-- a row is an array with a claim for each pair
+pub IsRowFor-array : (r : LocalRule) (d : Data) (xs : List (Option ℕ)) → IsArrayOf IsRank d xs → length xs ≡ pair_count r → IsRowFor r d xs
+IsRowFor-array r d xs array long = let parts = within-IsArrayOf IsClaimValue IsClaim d xs array in (parts.0, record { each_pair = long; claims = parts.1 })
+
+pub no_row_array : (r : LocalRule) (d : Data) → ((xs : List (Option ℕ)) → ¬ IsArrayOf IsRank d xs) → (row : List (Option ℕ)) → ¬ IsRowFor r d row
+no_row_array r d none row h = none row (IsArrayOf-within IsClaimValue IsClaim d row h.0 h.1.claims)
+
+pub no_row_long : (r : LocalRule) (d : Data) (xs : List (Option ℕ)) → IsArrayOf IsRank d xs → length xs ≢ pair_count r → (row : List (Option ℕ)) → ¬ IsRowFor r d row
+no_row_long r d xs array long row h =
+    let same : xs ≡ row = IsArrayOf-unique IsClaimValue IsClaimValue-unique d xs row (within-IsArrayOf IsClaimValue IsClaim d xs array).0 h.0 in
+    long (ap length same ∙ h.1.each_pair)

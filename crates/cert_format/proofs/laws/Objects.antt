@@ -1,0 +1,121 @@
+-- The members of an object, beside the entries of the map that holds them.
+use Rattle.std.proofs.Common.{◌≡◌, ℕ, zero, suc, List, [], ◌∷◌, length, map, Option, Some, Ordering, Less, Equal, Greater, String, Global, string_bytes, nat_cmp, is_eq, All, Contains, slice_get, Bool, true, false, ◌||◌, bytes_eq, IsTrue, ◌↔◌, refl, sym, ap, ◌∙◌, arith}
+use Rattle.std.specs.List.{list_any}
+use Rattle.std.specs.Map.{keys_of}
+use Rattle.std.specs.Ordering.{match_ordering}
+use Rattle.std.specs.Cmp.Lexicographic.{slice_cmp}
+use Rattle.std.proofs.lemmas.Cmp.{nat_list_cmp_total, tied_itself}
+use Rattle.std.proofs.lemmas.Map.Text.{is_eq-slice_cmp}
+use Rattle.std.proofs.lemmas.Slice.Eq.{bytes_eq-Decides}
+use Rattle.std.proofs.lemmas.Option.{none-some, same_Some}
+use Rattle.std.proofs.lemmas.List.Elements.{All-contains, All-map}
+use Rattle.serde_json.specs.Data.{Data, null, boolean, number, string, array, object}
+use Rattle.serde_json.specs.Find.{get_member, as_object}
+use Rattle.serde_json.specs.Events.{members_len}
+use Rattle.serde_json.specs.View.{view, members_view}
+use Rattle.serde_json.specs.declared.value.Value.{Value}
+use Rattle.serde_json.proofs.Views.{Entry, members_len-members_view}
+use Rattle.cert_format.specs.CertificateTexts.{HasOnly, HasOnlyBoth, HasNoOther, keys}
+use Rattle.cert_format.specs.Readings.{members_in}
+
+-- how many members an object has, where it has this many keys alone
+
+pub length-HasOnly : {k : List ℕ} {v : Data} (d : Data) (es : List Entry) → Some (members_view es) ≡ as_object d → HasOnly k v d → length es ≡ 1
+length-HasOnly d es is only = sym (members_len-members_view es) ∙ ap members_len (same_Some _ _ (is ∙ only))
+
+pub length-HasOnlyBoth : {k l : List ℕ} {v u : Data} (d : Data) (es : List Entry) → Some (members_view es) ≡ as_object d → HasOnlyBoth k v l u d → length es ≡ 2
+length-HasOnlyBoth d es is both = sym (members_len-members_view es) ∙ ap members_len (same_Some _ _ (is ∙ both))
+
+-- the name of the one member
+pub key-HasOnly : {k : List ℕ} {v : Data} (d : Data) (es : List Entry) (name : String Global) (u : Value) → Some (members_view es) ≡ as_object d → slice_get es 0 ≡ Some (name, u) → HasOnly k v d → string_bytes name ≡ k
+key-HasOnly d [] name u is first only = absurd (none-some _ first)
+key-HasOnly d (e ∷ es) name u is first only = cc
+
+-- of two
+pub keys-HasOnlyBoth : {k l : List ℕ} {v w : Data} (d : Data) (es : List Entry) (name other : String Global) (u x : Value) → Some (members_view es) ≡ as_object d
+    → slice_get es 0 ≡ Some (name, u) → slice_get es 1 ≡ Some (other, x) → HasOnlyBoth k v l w d → (string_bytes name ≡ k) × (string_bytes other ≡ l)
+keys-HasOnlyBoth d [] name other u x is first second both = absurd (none-some _ first)
+keys-HasOnlyBoth d (e ∷ []) name other u x is first second both = absurd (none-some _ second)
+keys-HasOnlyBoth d (e ∷ f ∷ es) name other u x is first second both = (cc, cc)
+
+-- the one entry is the one member
+pub HasOnly-entry : {k : List ℕ} (d : Data) (es : List Entry) (name : String Global) (u : Value) → Some (members_view es) ≡ as_object d → length es ≡ 1 → slice_get es 0 ≡ Some (name, u)
+    → string_bytes name ≡ k → HasOnly k (view u) d
+HasOnly-entry d [] name u is long first key = absurd (none-some _ first)
+HasOnly-entry d (e ∷ []) name u is long first key = let same : e ≡ (name, u) = same_Some _ _ first in sym is ∙ cc
+HasOnly-entry d (e ∷ f ∷ es) name u is long first key = absurd (omega (arith, long))
+
+-- two entries
+pub HasOnlyBoth-entries : {k l : List ℕ} (d : Data) (es : List Entry) (name other : String Global) (u x : Value) → Some (members_view es) ≡ as_object d → length es ≡ 2
+    → slice_get es 0 ≡ Some (name, u) → slice_get es 1 ≡ Some (other, x) → string_bytes name ≡ k → string_bytes other ≡ l → HasOnlyBoth k (view u) l (view x) d
+HasOnlyBoth-entries d [] name other u x is long first second key last = absurd (none-some _ first)
+HasOnlyBoth-entries d (e ∷ []) name other u x is long first second key last = absurd (none-some _ second)
+HasOnlyBoth-entries d (e ∷ f ∷ []) name other u x is long first second key last =
+    let same : e ≡ (name, u) = same_Some _ _ first in let same' : f ≡ (other, x) = same_Some _ _ second in sym is ∙ cc
+HasOnlyBoth-entries d (e ∷ f ∷ g ∷ es) name other u x is long first second key last = absurd (omega (arith, long))
+
+-- a member that is found has one of the keys
+found_at : (o : Ordering) (k l : List ℕ) (e d : Data) (rest : Option Data) (ks : List (List ℕ)) → slice_cmp nat_cmp k l ≡ o → (rest ≡ Some d → Contains ks k)
+    → match_ordering o rest (Some e) rest ≡ Some d → Contains (l ∷ ks) k
+found_at Less k l e d rest ks is later found = let c = later found in (suc c.0, omega (arith, c.1), c.2)
+found_at Equal k l e d rest ks is later found = (0, omega arith, sym ((bytes_eq-Decides k l).0 (sym (is_eq-slice_cmp k l) ∙ ap is_eq is)))
+found_at Greater k l e d rest ks is later found = let c = later found in (suc c.0, omega (arith, c.1), c.2)
+
+found_key : (es : List Entry) (k : List ℕ) (d : Data) → get_member k (members_view es) ≡ Some d → Contains (map string_bytes (keys_of es)) k
+found_key [] k d found = absurd (none-some d found)
+found_key (e ∷ es) k d found = found_at (slice_cmp nat_cmp k (string_bytes e.0)) k (string_bytes e.0) (view e.1) d _ _ refl (found_key es k d) found
+
+-- where each key is a certificate's there is no other
+pub HasNoOther-entries : (es : List Entry) → All (λ name. Contains keys (string_bytes name)) (keys_of es) → HasNoOther (members_view es)
+HasNoOther-entries es all k d found =
+    All-contains (Contains keys) (map string_bytes (keys_of es)) k (All-map (Contains keys) string_bytes (keys_of es) all) (found_key es k d found)
+
+-- each key has a member
+member_at : (o : Ordering) (k : List ℕ) (e d : Data) (rest : Option Data) → rest ≡ Some d → (v : Data) × (match_ordering o rest (Some e) rest ≡ Some v)
+member_at Less k e d rest is = (d, is)
+member_at Equal k e d rest is = (e, refl)
+member_at Greater k e d rest is = (d, is)
+
+same_key : (k l : List ℕ) → k ≡ l → slice_cmp nat_cmp k l ≡ Equal
+same_key k l same = ap (slice_cmp nat_cmp k) (sym same) ∙ tied_itself nat_list_cmp_total k
+
+member_of_key : (es : List Entry) (i : ℕ) (name : String Global) → slice_get (keys_of es) i ≡ Some name → (d : Data) × (get_member (string_bytes name) (members_view es) ≡ Some d)
+member_of_key [] i name is = absurd (none-some name is)
+member_of_key (e ∷ es) zero name is =
+    (view e.1, ap (λ o. match_ordering o (get_member (string_bytes name) (members_view es)) (Some (view e.1)) (get_member (string_bytes name) (members_view es))) (same_key (string_bytes name) (string_bytes e.0) (ap string_bytes (sym (same_Some _ _ is)))))
+member_of_key (e ∷ es) (suc i) name is = let later = member_of_key es i name is in member_at (slice_cmp nat_cmp (string_bytes name) (string_bytes e.0)) (string_bytes name) (view e.1) later.0 _ later.1
+
+-- where some key is no certificate's, there is another
+pub other_key : (es : List Entry) (i : ℕ) (name : String Global) → slice_get (keys_of es) i ≡ Some name → ¬ Contains keys (string_bytes name) → ¬ HasNoOther (members_view es)
+other_key es i name is other none = let found = member_of_key es i name is in other (none (string_bytes name) found.0 found.1)
+
+-- a test of each of a list's elements finds a name exactly where it is one of them
+
+from_any : (b : Bool) (x name : List ℕ) (xs : List (List ℕ)) (later : Bool) → bytes_eq x name ≡ b → (later ≡ true → Contains xs name) → b || later ≡ true → Contains (x ∷ xs) name
+from_any true x name xs later is rest found = (0, omega arith, (bytes_eq-Decides x name).0 is)
+from_any false x name xs later is rest found = let c = rest found in (suc c.0, omega (arith, c.1), c.2)
+
+Contains-list_any : (xs : List (List ℕ)) (name : List ℕ) → list_any (λ key. bytes_eq key name) xs ≡ true → Contains xs name
+Contains-list_any [] name found = absurd (cc)
+Contains-list_any (x ∷ xs) name found = from_any (bytes_eq x name) x name xs _ refl (Contains-list_any xs name) found
+
+or_true : (b later : Bool) → later ≡ true → b || later ≡ true
+or_true true later is = refl
+or_true false later is = is
+
+list_any-Contains : (xs : List (List ℕ)) (name : List ℕ) → Contains xs name → list_any (λ key. bytes_eq key name) xs ≡ true
+list_any-Contains [] name (i, lt, same) = absurd (omega arith)
+list_any-Contains (x ∷ xs) name (zero, lt, same) = ap (λ b. b || list_any (λ key. bytes_eq key name) xs) ((bytes_eq-Decides x name).1 same)
+list_any-Contains (x ∷ xs) name (suc i, lt, same) = or_true (bytes_eq x name) _ (list_any-Contains xs name (i, omega (arith, lt), same))
+
+pub list_any-keys : (name : List ℕ) (r : Bool) → r ≡ list_any (λ key. bytes_eq key name) keys → IsTrue r ↔ Contains keys name
+list_any-keys name r is = ((λ found. Contains-list_any keys name (sym is ∙ found)), λ one. is ∙ list_any-Contains keys name one)
+
+-- the members of an object are its entries
+pub members_in-entries : (d : Data) (es : List Entry) → Some (members_view es) ≡ as_object d → members_in d ≡ members_view es
+members_in-entries null es is = absurd (none-some (members_view es) (sym is))
+members_in-entries (boolean b) es is = absurd (none-some (members_view es) (sym is))
+members_in-entries (number n) es is = absurd (none-some (members_view es) (sym is))
+members_in-entries (string s) es is = absurd (none-some (members_view es) (sym is))
+members_in-entries (array ds) es is = absurd (none-some (members_view es) (sym is))
+members_in-entries (object ms) es is = sym (same_Some _ _ is)

@@ -1,0 +1,84 @@
+-- Which step of reading a certificate fails.
+use Rattle.std.proofs.Common.{◌≡◌, refl, sym, ◌∙◌, subst, List, ◌∷◌, ◌++◌, ℕ, inl, inr, Result, Ok, Err, Option, Some, None, false, is_some}
+use Rattle.std.specs.Prelude.{codes, alloc_error, IsUtf8, IfOk, IfErr}
+use Rattle.std.specs.List.{AllByRecursion}
+use Rattle.std.proofs.lemmas.List.Elements.{All-from_recursion}
+use Rattle.std.proofs.lemmas.Option.{none-some}
+use Rattle.serde_json.specs.Data.{Data, null, boolean, number, string, array, object, Members}
+use Rattle.serde_json.specs.Read.{read}
+use Rattle.serde_json.specs.Find.{get_member, as_object}
+use Rattle.word_image.specs.LocalRules.{LocalRule}
+use Rattle.rule_text.specs.RuleTexts.{IsRuleText}
+use Rattle.cert_format.specs.declared.misread.Misread.{Misread}
+use Rattle.cert_format.specs.declared.misread.Misread.TheVariants as misread
+use Rattle.cert_format.specs.declared.shape_fault.Key.{Key}
+use Rattle.cert_format.specs.declared.shape_fault.Key.TheVariants as key
+use Rattle.cert_format.specs.declared.shape_fault.ShapeFault.TheVariants as shape
+use Rattle.cert_format.specs.declared.shape_fault.CertFault.{CertFault}
+use Rattle.cert_format.specs.declared.shape_fault.CertFault.TheVariants as fault
+use Rattle.cert_format.specs.Certificates.{Certificate}
+use Rattle.cert_format.specs.CertificateTexts.{IsCertificateText, IsObject, IsRanksValue, HasVersion, HasRuleText}
+use Rattle.cert_format.specs.ShapeFaults.{IsCertFault, Passes, part_steps}
+use Rattle.cert_format.specs.ShapeFaults.IsShapeFault.{NoJson, NoObject, BadPart}
+use Rattle.cert_format.specs.Readings.{AreParts, AreRanksFor, IsStepFault, IsPartFault}
+use Rattle.cert_format.proofs.laws.Uniqueness.{one_some}
+
+-- the step of the ranks fails where the member is no ranks
+pub no_ranks : (r : LocalRule) (ms : Members) (d : Data) → get_member (codes "ranks") ms ≡ Some d → ((forward backward : List (Option ℕ)) → ¬ AreRanksFor r d forward backward) → ¬ Passes r ms key.Ranks
+no_ranks r ms d is none h = none h.0 h.1 (subst (λ d. IsRanksValue d h.0 h.1) (one_some h.2.0.1 is) h.2.0.2, h.2.1, h.2.2)
+
+-- the fault of a step, by what isn't read
+pub IsStepFault-at : (m : Misread) (k : Key) (f : CertFault) (P : Type 0) → (m ≡ misread.Shape → f ≡ fault.Format (shape.Shape k)) → (m ≡ misread.Memory alloc_error → f ≡ fault.Memory alloc_error)
+    → (m ≡ misread.Shape → ¬ P) → IsStepFault k P f
+IsStepFault-at misread.Shape k f P shape memory fails = inr (shape refl, fails refl)
+IsStepFault-at (misread.Memory e) k f P shape memory fails = inl (memory refl)
+
+-- where the steps before pass, it is the fault of the parts
+pub IsPartFault-step : (r : LocalRule) (ms : Members) (before after : List Key) (k : Key) (f : CertFault) → part_steps ≡ before ++ k ∷ after → AllByRecursion (Passes r ms) before
+    → IsStepFault k (Passes r ms k) f → IsPartFault r ms f
+IsPartFault-step r ms before after k f list earlier (inl memory) = inl memory
+IsPartFault-step r ms before after k f list earlier (inr (is, fails)) =
+    inr (k, is, record { before = before; after = after; list = list; earlier = All-from_recursion (Passes r ms) before earlier; fails = fails })
+
+-- the head and the parts make a certificate
+pub IsCertificateText-parts : (bytes : List ℕ) (ms : Members) (r : LocalRule) (answer : Result Certificate CertFault) → IsObject bytes ms → HasVersion ms 1 → (text : List ℕ) × HasRuleText ms text × IsRuleText text r
+    → IfOk answer (λ c. c.rule ≡ r) → IfOk answer (AreParts ms) → IfOk answer (IsCertificateText bytes)
+IsCertificateText-parts bytes ms r (Ok c) json version head same parts = record {
+  members = ms;
+  text = head.0;
+  json = json;
+  version = version;
+  rule_text = head.1;
+  rule = subst (IsRuleText head.0) (sym same) head.2;
+  surjective = parts.surjective;
+  injective = parts.injective;
+  right = parts.right;
+  left = parts.left;
+  conserving = parts.conserving;
+  ranks = parts.ranks;
+  no_other = parts.no_other;
+}
+IsCertificateText-parts bytes ms r (Err f) json version head same parts = tt
+
+-- and the fault of the parts is that of the bytes
+pub IsCertFault-parts : (bytes : List ℕ) (ms : Members) (r : LocalRule) (answer : Result Certificate CertFault) → IsObject bytes ms → HasVersion ms 1 → (text : List ℕ) × HasRuleText ms text × IsRuleText text r
+    → IfErr answer (IsPartFault r ms) → IfErr answer (IsCertFault bytes)
+IsCertFault-parts bytes ms r (Ok c) json version head wrong = tt
+IsCertFault-parts bytes ms r (Err f) json version head (inl memory) = inl memory
+IsCertFault-parts bytes ms r (Err f) json version head (inr (k, is, first)) = inr (shape.Shape k, is, BadPart ms head.0 r k json version head.1 head.2 first)
+
+-- the faults before an object
+
+as_object-None : (d : Data) → is_some (as_object d) ≡ false → as_object d ≡ None
+as_object-None null is = refl
+as_object-None (boolean b) is = refl
+as_object-None (number n) is = refl
+as_object-None (string s) is = refl
+as_object-None (array ds) is = refl
+as_object-None (object ms) is = absurd (cc)
+
+pub IsCertFault-json : (bytes : List ℕ) → (IsUtf8 bytes → read bytes ≡ None) → IsCertFault bytes (fault.Format shape.NotJson)
+IsCertFault-json bytes none = inr (shape.NotJson, refl, NoJson (λ d json. none-some d (sym (none json.0) ∙ json.1)))
+
+pub IsCertFault-top : (bytes : List ℕ) (d : Data) → IsUtf8 bytes → read bytes ≡ Some d → is_some (as_object d) ≡ false → IsCertFault bytes (fault.Format (shape.Shape key.Top))
+IsCertFault-top bytes d utf8 is none = inr (shape.Shape key.Top, refl, NoObject d (utf8, is) (as_object-None d none))

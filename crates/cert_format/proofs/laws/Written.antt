@@ -1,0 +1,149 @@
+-- What is written for a certificate within its limits is read back as it.
+use Rattle.std.proofs.Common.{◌≡◌, ℕ, suc, ◌-◌, ◌^◌, ◌≤◌, List, [], ◌∷◌, map, Option, Some, None, All, Ordering, Less, Equal, Greater, is_eq, nat_cmp, Contains, refl, sym, ap, ◌∙◌, arith}
+use Rattle.std.specs.Prelude.{ℤ, pos, negsuc, ◌≤ℤ◌}
+use Rattle.std.specs.List.{AllZip}
+use Rattle.std.specs.Ordering.{match_ordering}
+use Rattle.std.specs.Cmp.Lexicographic.{slice_cmp}
+use Rattle.std.proofs.lemmas.Bool.Decides.{nat_tests}
+use Rattle.std.proofs.lemmas.Int.{ints}
+use Rattle.std.proofs.lemmas.List.Elements.{All-head, All-tail}
+use Rattle.std.proofs.lemmas.Map.Text.{is_eq-slice_cmp}
+use Rattle.std.proofs.lemmas.Option.{none-some}
+use Rattle.std.proofs.lemmas.Slice.Eq.{bytes_eq-Decides}
+use Rattle.serde_json.specs.Data.{Data, string, Members, no_members, member}
+use Rattle.serde_json.specs.Find.{get_member}
+use Rattle.serde_json.specs.View.{items_of}
+use Rattle.word_image.specs.LocalRules.{LocalRule, IsRule, IsWord, node_count}
+use Rattle.word_image.specs.Digits.{word_text}
+use Rattle.word_image.proofs.laws.Words.{IsWord-le}
+use Rattle.tail_config.specs.Tails.{TailConfig}
+use Rattle.tail_config.specs.TailTexts.{HasParts, IsShortTail}
+use Rattle.tail_config.specs.TailTexts as tail
+use Rattle.tail_config.proofs.laws.TailTexts.{Spells-word_text}
+use Rattle.rule_text.specs.RuleTexts.{printed}
+use Rattle.rule_text.proofs.laws.Printed.{IsRuleText-printed}
+use Rattle.cert_format.specs.Certificates.{Certificate, SurjectiveEvidence, InjectiveEvidence, SideEvidence, SumEvidence, IsClaim, IsSurjectiveShape, IsInjectiveShape, IsSideShape, IsSumShape, IsRankShape, IsShaped}
+use Rattle.cert_format.specs.Certificates.SurjectiveEvidence.{Sets, Orphan}
+use Rattle.cert_format.specs.Certificates.InjectiveEvidence.{Window, Twins}
+use Rattle.cert_format.specs.Certificates.SideEvidence.{Ahead, Split}
+use Rattle.cert_format.specs.Certificates.SumEvidence.{Flux, Ring}
+use Rattle.cert_format.specs.CertificateTexts.{IsJson, IsWhole, IsSigned, IsDigits, IsTailString, IsClaimValue, IsArrayOf, IsSurjectiveValue, IsInjectiveValue, IsSideValue, IsSumValue, IsRanksValue, IsCertificateText, list_of}
+use Rattle.cert_format.specs.WrittenTexts.{array_from, whole_value, signed_value, word_value, tail_value, claim_value, surjective_value, injective_value, side_value, sum_value, ranks_value, certificate_members, certificate_value}
+
+-- the keys of an object
+abbrev keys_of : Members → List (List ℕ)
+keys_of no_members = []
+keys_of (member k d ms) = k ∷ keys_of ms
+
+-- what is found has one of them
+found_at : (o : Ordering) (k l : List ℕ) (e d : Data) (ms : Members) → slice_cmp nat_cmp k l ≡ o → (get_member k ms ≡ Some d → Contains (keys_of ms) k)
+    → match_ordering o (get_member k ms) (Some e) (get_member k ms) ≡ Some d → Contains (l ∷ keys_of ms) k
+found_at Less k l e d ms is rest found = let c = rest found in (suc c.0, omega (arith, c.1), c.2)
+found_at Equal k l e d ms is rest found = (0, omega arith, sym ((bytes_eq-Decides k l).0 (sym (is_eq-slice_cmp k l) ∙ ap is_eq is)))
+found_at Greater k l e d ms is rest found = let c = rest found in (suc c.0, omega (arith, c.1), c.2)
+
+-- and so it is in an object
+Contains-found : (ms : Members) (k : List ℕ) (d : Data) → get_member k ms ≡ Some d → Contains (keys_of ms) k
+Contains-found no_members k d found = absurd (none-some d found)
+Contains-found (member l e ms) k d found = found_at (slice_cmp nat_cmp k l) k l e d ms refl (Contains-found ms k d) found
+
+-- the values of a list's elements, of which all are within a limit
+AllZip-values : {A : Type 0} (R : Data → A → Type 0) (P : A → Type 0) (f : A → Data) → ((x : A) → P x → R (f x) x) → (xs : List A) → All P xs
+    → AllZip R (list_of (items_of (map f xs))) xs
+AllZip-values R P f each [] all = tt
+AllZip-values R P f each (x ∷ xs) all = (each x (All-head P x xs all), AllZip-values R P f each xs (All-tail P x xs all))
+
+-- an array of them
+IsArrayOf-values : {A : Type 0} (R : Data → A → Type 0) (P : A → Type 0) (f : A → Data) → ((x : A) → P x → R (f x) x) → (xs : List A) → All P xs
+    → IsArrayOf R (array_from (map f xs)) xs
+IsArrayOf-values R P f each xs all = (items_of (map f xs), refl, AllZip-values R P f each xs all)
+
+-- a word's digits are read as the word
+IsDigits-word : (k : ℕ) (w : List ℕ) → k ≤ 16 → IsWord k w → IsDigits (word_value w) w
+IsDigits-word k w few word = (word_text w, refl, Spells-word_text w (IsWord-le k 16 w few word))
+
+-- a configuration's text is read as the configuration
+IsTailString-tail : {k : ℕ} {t : TailConfig} → k ≤ 16 → IsShortTail k t → IsTailString (tail_value t) t
+IsTailString-tail {k} {t} few short =
+    let spells = λ (w : List ℕ) (word : IsWord k w). Spells-word_text w (IsWord-le k 16 w few word) in (
+      tail.printed t,
+      refl,
+      record {
+        left = word_text t.left;
+        middle = word_text t.middle;
+        right = word_text t.right;
+        parts = refl;
+        left_spells = spells t.left (short.tail).left_word;
+        middle_spells = spells t.middle (short.tail).middle_word;
+        right_spells = spells t.right (short.tail).right_word;
+      },
+    )
+
+-- a claim's value is read as the claim
+IsClaimValue-claim : (o : Option ℕ) → IsClaim o → IsClaimValue (claim_value o) o
+IsClaimValue-claim None claim = refl
+IsClaimValue-claim (Some n) claim = refl
+
+-- a number of a flux
+abbrev IsSmall : ℤ → Type 0
+IsSmall z = (negsuc 999999 ≤ℤ z) × (z ≤ℤ pos 1000000)
+
+-- and it is read as the number
+IsSigned-signed : (z : ℤ) → IsSmall z → IsSigned (signed_value z) z
+IsSigned-signed (pos n) limits =
+    let most : pos n ≤ℤ pos 1000000 = limits.1 in
+    let small : n ≤ 1000000 = omega (arith, ints) in
+    grind (arith, nat_tests)
+IsSigned-signed (negsuc n) limits = refl
+
+-- the parts of a certificate are read from their values: of surjective
+IsSurjectiveValue-written : {r : LocalRule} → IsRule r → (e : SurjectiveEvidence) → IsSurjectiveShape r e → IsSurjectiveValue (surjective_value e) e
+IsSurjectiveValue-written {r} rule (Sets sets) shape =
+    (array_from (map whole_value sets), refl, IsArrayOf-values IsWhole (λ set. set ≤ 2 ^ node_count r - 1) whole_value (λ n h. refl) sets shape)
+IsSurjectiveValue-written {r} rule (Orphan w) shape = (word_value w, refl, IsDigits-word r.states w (rule.shape).most_states shape)
+
+-- of injective
+IsInjectiveValue-written : {r : LocalRule} → IsRule r → (e : InjectiveEvidence) → IsInjectiveShape r e → IsInjectiveValue (injective_value e) e
+IsInjectiveValue-written rule (Window n c) shape = (whole_value c, whole_value n, refl, refl, refl)
+IsInjectiveValue-written {r} rule (Twins x y) shape =
+    let few = (rule.shape).most_states in
+    (array_from (word_value x ∷ word_value y ∷ []), refl, (items_of (word_value x ∷ word_value y ∷ []), refl, (IsDigits-word r.states x few shape.0, (IsDigits-word r.states y few shape.1, tt))))
+
+-- of a side
+IsSideValue-written : {r : LocalRule} → IsRule r → (e : SideEvidence) → IsSideShape r e → IsSideValue (side_value e) e
+IsSideValue-written rule (Ahead n) shape = (whole_value n, refl, refl)
+IsSideValue-written rule (Split x y) shape =
+    let few = (rule.shape).most_states in
+    (array_from (tail_value x ∷ tail_value y ∷ []), refl, (items_of (tail_value x ∷ tail_value y ∷ []), refl, (IsTailString-tail few shape.0, (IsTailString-tail few shape.1, tt))))
+
+-- of conserving
+IsSumValue-written : {r : LocalRule} → IsRule r → (e : SumEvidence) → IsSumShape r e → IsSumValue (sum_value e) e
+IsSumValue-written rule (Flux phi) shape = (array_from (map signed_value phi), refl, IsArrayOf-values IsSigned IsSmall signed_value IsSigned-signed phi shape.1)
+IsSumValue-written {r} rule (Ring p) shape = (word_value p, refl, IsDigits-word r.states p (rule.shape).most_states shape)
+
+-- of the ranks
+IsRanksValue-written : {r : LocalRule} {forward backward : List (Option ℕ)} → IsRankShape r forward → IsRankShape r backward
+    → IsRanksValue (ranks_value forward backward) forward backward
+IsRanksValue-written {r} {forward} {backward} ahead back =
+    let claims = λ (row : List (Option ℕ)) (shape : IsRankShape r row). IsArrayOf-values IsClaimValue IsClaim claim_value IsClaimValue-claim row shape.claims in
+    (array_from (map claim_value backward), array_from (map claim_value forward), refl, claims backward back, claims forward ahead)
+
+-- bytes that read as the value of a certificate within its limits are a text of it
+pub IsCertificateText-written : {bytes : List ℕ} {c : Certificate} → IsJson bytes (certificate_value c) → IsShaped c → IsCertificateText bytes c
+IsCertificateText-written {bytes} {c} json shaped =
+    let rule = shaped.rule in
+    record {
+      members = certificate_members c;
+      text = printed c.rule;
+      json = json;
+      version = (whole_value 1, refl, refl);
+      rule_text = (string (printed c.rule), refl, refl);
+      rule = IsRuleText-printed c.rule rule;
+      surjective = ((surjective_value c.surjective, refl, IsSurjectiveValue-written rule c.surjective shaped.surjective), shaped.surjective);
+      injective = ((injective_value c.injective, refl, IsInjectiveValue-written rule c.injective shaped.injective), shaped.injective);
+      right = ((side_value c.right, refl, IsSideValue-written rule c.right shaped.right), shaped.right);
+      left = ((side_value c.left, refl, IsSideValue-written rule c.left shaped.left), shaped.left);
+      conserving = ((sum_value c.conserving, refl, IsSumValue-written rule c.conserving shaped.conserving), shaped.conserving);
+      ranks = ((ranks_value c.forward c.backward, refl, IsRanksValue-written shaped.forward shaped.backward), shaped.forward, shaped.backward);
+      no_other = Contains-found (certificate_members c);
+    }

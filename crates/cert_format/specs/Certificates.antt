@@ -1,0 +1,82 @@
+-- What a certificate of a rule says, and the limits of each part.
+use Rattle.std.specs.Prelude.{◌≡◌, ℕ, ◌+◌, ◌-◌, ◌^◌, ◌≤◌, List, length, Option, Some, None, All, ℤ, pos, negsuc, ◌≤ℤ◌, ⊤}
+use Rattle.word_image.specs.LocalRules.{LocalRule, IsRule, IsWord, node_count}
+use Rattle.word_image.specs.Graphs.{pair_count}
+use Rattle.tail_config.specs.Tails.{TailConfig}
+use Rattle.tail_config.specs.TailTexts.{IsShortTail}
+
+-- What a certificate says
+
+-- for surjective a list of sets of nodes, each a number, and for not surjective a word
+pub data SurjectiveEvidence : Type 0 where
+  Sets : (sets : List ℕ) → SurjectiveEvidence
+  Orphan : (w : List ℕ) → SurjectiveEvidence
+
+-- for injective a window, and for not injective two words
+pub data InjectiveEvidence : Type 0 where
+  Window : (n c : ℕ) → InjectiveEvidence
+  Twins : (x y : List ℕ) → InjectiveEvidence
+
+-- for closing on a side a look-ahead, and for not closing there two configurations
+pub data SideEvidence : Type 0 where
+  Ahead : (n : ℕ) → SideEvidence
+  Split : (x y : TailConfig) → SideEvidence
+
+-- for conserving a number for each node, and for not conserving a ring
+pub data SumEvidence : Type 0 where
+  Flux : (phi : List ℤ) → SumEvidence
+  Ring : (p : List ℕ) → SumEvidence
+
+-- the claims are a bound of the rank of each pair, or None where nothing is claimed
+pub record Certificate : Type 0 where
+  pub rule : LocalRule
+  pub surjective : SurjectiveEvidence
+  pub injective : InjectiveEvidence
+  pub right : SideEvidence
+  pub left : SideEvidence
+  pub conserving : SumEvidence
+  pub forward : List (Option ℕ)
+  pub backward : List (Option ℕ)
+
+-- The limits of each part, for its rule
+
+-- sets of the rule's nodes, or a word
+abbrev pub IsSurjectiveShape : LocalRule → SurjectiveEvidence → Type 0
+IsSurjectiveShape r (Sets sets) = All (λ set. set ≤ 2 ^ node_count r - 1) sets
+IsSurjectiveShape r (Orphan w) = IsWord r.states w
+
+-- n letters of an image with a place among the n + m - 1 letters behind them, or two words
+abbrev pub IsInjectiveShape : LocalRule → InjectiveEvidence → Type 0
+IsInjectiveShape r (Window n c) = (1 ≤ n) × (n ≤ 65535) × (c ≤ n + r.width - 2) × (c ≤ 65535)
+IsInjectiveShape r (Twins x y) = IsWord r.states x × IsWord r.states y
+
+-- a look-ahead of at least 1, or two configurations
+abbrev pub IsSideShape : LocalRule → SideEvidence → Type 0
+IsSideShape r (Ahead n) = (1 ≤ n) × (n ≤ 65535)
+IsSideShape r (Split x y) = IsShortTail r.states x × IsShortTail r.states y
+
+-- a number for each node, or a word
+abbrev pub IsSumShape : LocalRule → SumEvidence → Type 0
+IsSumShape r (Flux phi) = (length phi ≡ node_count r) × All (λ z. (negsuc 999999 ≤ℤ z) × (z ≤ℤ pos 1000000)) phi
+IsSumShape r (Ring p) = IsWord r.states p
+
+-- a claim is nothing or a number of sixteen bits
+abbrev pub IsClaim : Option ℕ → Type 0
+IsClaim None = ⊤
+IsClaim (Some n) = n ≤ 65535
+
+-- a claim for each pair
+pub record IsRankShape (r : LocalRule) (row : List (Option ℕ)) : Type 0 where
+  pub each_pair : length row ≡ pair_count r
+  pub claims : All IsClaim row
+
+-- all limits
+pub record IsShaped (c : Certificate) : Type 0 where
+  pub rule : IsRule c.rule
+  pub surjective : IsSurjectiveShape c.rule c.surjective
+  pub injective : IsInjectiveShape c.rule c.injective
+  pub right : IsSideShape c.rule c.right
+  pub left : IsSideShape c.rule c.left
+  pub conserving : IsSumShape c.rule c.conserving
+  pub forward : IsRankShape c.rule c.forward
+  pub backward : IsRankShape c.rule c.backward

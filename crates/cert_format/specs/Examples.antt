@@ -1,0 +1,74 @@
+-- Worked examples: the texts of three certificates done by hand, which the check computes.
+use Rattle.std.specs.Prelude.{◌≡◌, ℕ, List, [], ◌∷◌, codes, refl, pos, negsuc, Option, Some, None}
+use Rattle.std.specs.Fmt.{digits}
+use Rattle.serde_json.proofs.OnLiterals.{serde_json_on_literals}
+use Rattle.word_image.specs.LocalRules.{LocalRule}
+use Rattle.tail_config.specs.Tails.{config_of}
+use Rattle.cert_format.specs.Certificates.{Certificate}
+use Rattle.cert_format.specs.Certificates.SurjectiveEvidence.{Sets, Orphan}
+use Rattle.cert_format.specs.Certificates.InjectiveEvidence.{Window, Twins}
+use Rattle.cert_format.specs.Certificates.SideEvidence.{Ahead, Split}
+use Rattle.cert_format.specs.Certificates.SumEvidence.{Flux, Ring}
+use Rattle.cert_format.specs.WrittenTexts.{certificate_text}
+
+-- a rule of two states and width 2, whose windows begin at the cell
+abbrev rule_of : List ℕ → LocalRule
+rule_of table = record { states = 2; width = 2; offset = pos 0; table = table }
+
+-- no claim for any of four pairs
+abbrev no_claims : List (Option ℕ)
+no_claims = None ∷ None ∷ None ∷ None ∷ []
+
+-- the shift to the left by one cell
+
+abbrev shift : Certificate
+shift = record {
+  rule = rule_of (0 ∷ 1 ∷ 0 ∷ 1 ∷ []);
+  surjective = Sets (3 ∷ 1 ∷ 2 ∷ []);
+  injective = Window 1 1;
+  right = Ahead 1;
+  left = Ahead 2;
+  conserving = Flux (pos 0 ∷ negsuc 0 ∷ []);
+  forward = no_claims;
+  backward = None ∷ Some 0 ∷ Some 0 ∷ None ∷ [];
+}
+
+certificate_text-shift : certificate_text shift ≡ codes "{\"conserving\":{\"flux\":[0,-1]},\"injective\":{\"c\":1,\"n\":1},\"left\":{\"ahead\":2},\"ranks\":{\"backward\":[null,0,0,null],\"forward\":[null,null,null,null]},\"right\":{\"ahead\":1},\"rule\":\"2:2:0:t0101\",\"surjective\":{\"sets\":[3,1,2]},\"version\":1}"
+unfolding digits serde_json_on_literals
+certificate_text-shift = refl
+
+-- both cells are 1
+
+abbrev both : Certificate
+both = record {
+  rule = rule_of (0 ∷ 0 ∷ 0 ∷ 1 ∷ []);
+  surjective = Orphan (1 ∷ 0 ∷ 1 ∷ []);
+  injective = Twins (0 ∷ 0 ∷ []) (0 ∷ 1 ∷ []);
+  right = Split (config_of (0 ∷ []) [] (0 ∷ 0 ∷ [])) (config_of (0 ∷ []) [] (1 ∷ 0 ∷ []));
+  left = Split (config_of (0 ∷ 0 ∷ []) [] (0 ∷ [])) (config_of (0 ∷ 1 ∷ []) [] (0 ∷ []));
+  conserving = Ring (0 ∷ 1 ∷ []);
+  forward = no_claims;
+  backward = no_claims;
+}
+
+certificate_text-both : certificate_text both ≡ codes "{\"conserving\":{\"ring\":\"01\"},\"injective\":{\"twins\":[\"00\",\"01\"]},\"left\":{\"split\":[\"00||0\",\"01||0\"]},\"ranks\":{\"backward\":[null,null,null,null],\"forward\":[null,null,null,null]},\"right\":{\"split\":[\"0||00\",\"0||10\"]},\"rule\":\"2:2:0:t0001\",\"surjective\":{\"orphan\":\"101\"},\"version\":1}"
+unfolding digits serde_json_on_literals
+certificate_text-both = refl
+
+-- the sum of two cells modulo 2
+
+abbrev sum : Certificate
+sum = record {
+  rule = rule_of (0 ∷ 1 ∷ 1 ∷ 0 ∷ []);
+  surjective = Sets (3 ∷ []);
+  injective = Twins (0 ∷ []) (1 ∷ []);
+  right = Ahead 1;
+  left = Ahead 1;
+  conserving = Ring (1 ∷ []);
+  forward = no_claims;
+  backward = no_claims;
+}
+
+certificate_text-sum : certificate_text sum ≡ codes "{\"conserving\":{\"ring\":\"1\"},\"injective\":{\"twins\":[\"0\",\"1\"]},\"left\":{\"ahead\":1},\"ranks\":{\"backward\":[null,null,null,null],\"forward\":[null,null,null,null]},\"right\":{\"ahead\":1},\"rule\":\"2:2:0:t0110\",\"surjective\":{\"sets\":[3]},\"version\":1}"
+unfolding digits serde_json_on_literals
+certificate_text-sum = refl

@@ -1,0 +1,33 @@
+-- What the parts of a certificate are seen as.
+use Rattle.std.specs.Prelude.{◌≡◌, ℕ, ⊤}
+use Rattle.cert_format.specs.declared.parts.SurjectivePart.{SurjectivePart}
+use Rattle.cert_format.specs.declared.parts.SurjectivePart.TheVariants.{Sets, Orphan}
+use Rattle.cert_format.specs.declared.parts.InjectivePart.{InjectivePart}
+use Rattle.cert_format.specs.declared.parts.InjectivePart.TheVariants.{Window, Twins}
+use Rattle.cert_format.specs.declared.parts.SidePart.{SidePart}
+use Rattle.cert_format.specs.declared.parts.SidePart.TheVariants.{Ahead, Split}
+use Rattle.cert_format.specs.declared.parts.SumPart.{SumPart}
+use Rattle.cert_format.specs.declared.parts.SumPart.TheVariants.{Flux, Ring}
+use Rattle.cert_format.specs.Certificates.{SurjectiveEvidence, InjectiveEvidence, SideEvidence, SumEvidence}
+
+-- the evidence of a part
+abbrev pub surjective_of : SurjectivePart → SurjectiveEvidence
+surjective_of (Sets sets) = SurjectiveEvidence.Sets sets
+surjective_of (Orphan w) = SurjectiveEvidence.Orphan w
+
+abbrev pub injective_of : InjectivePart → InjectiveEvidence
+injective_of (Window n c) = InjectiveEvidence.Window n c
+injective_of (Twins x y) = InjectiveEvidence.Twins x y
+
+abbrev pub side_of : SidePart → SideEvidence
+side_of (Ahead n) = SideEvidence.Ahead n
+side_of (Split x y) = SideEvidence.Split x.config y.config
+
+abbrev pub sum_of : SumPart → SumEvidence
+sum_of (Flux phi) = SumEvidence.Flux phi
+sum_of (Ring p) = SumEvidence.Ring p
+
+-- the configurations of a part are over this many letters
+abbrev pub IsOver : ℕ → SidePart → Type 0
+IsOver k (Ahead n) = ⊤
+IsOver k (Split x y) = (x.states ≡ k) × (y.states ≡ k)

@@ -1,0 +1,117 @@
+-- What reading a part of a certificate asks of its JSON value.
+use Rattle.std.specs.Prelude.{◌≡◌, ℕ, ◌⊎◌, ◌+◌, ◌-◌, ◌≤◌, length, All, ◌≤ℤ◌, ℤ, pos, negsuc, List, [], ◌∷◌, Option, codes, alloc_error}
+use Rattle.serde_json.specs.Data.{Data, null, boolean, number, string, array, object, Members, no_members}
+use Rattle.word_image.specs.LocalRules.{LocalRule, IsWord, node_count}
+use Rattle.word_image.specs.Graphs.{full_set}
+use Rattle.tail_config.specs.Tails.{TailConfig}
+use Rattle.tail_config.specs.TailTexts.{Spells, IsShortTail}
+use Rattle.cert_format.specs.declared.shape_fault.Key.{Key}
+use Rattle.cert_format.specs.declared.shape_fault.ShapeFault.TheVariants as shape
+use Rattle.cert_format.specs.declared.shape_fault.CertFault.{CertFault}
+use Rattle.cert_format.specs.declared.shape_fault.CertFault.TheVariants as fault
+use Rattle.cert_format.specs.Certificates.{Certificate, SurjectiveEvidence, InjectiveEvidence, SideEvidence, SumEvidence, IsSurjectiveShape, IsInjectiveShape, IsSideShape, IsSumShape, IsRankShape, IsClaim}
+use Rattle.cert_format.specs.CertificateTexts.{IsWhole, IsSigned, IsDigits, IsTailString, IsClaimValue, IsArrayOf, IsSurjectiveValue, IsInjectiveValue, IsSideValue, IsSumValue, IsRanksValue, HasSurjective, HasInjective, HasSide, HasConserving, HasRanks, HasNoOther}
+use Rattle.cert_format.specs.ShapeFaults.{IsFirstWithout, Passes, part_steps}
+
+-- the members of a value; one that is no object has none
+abbrev pub members_in : Data → Members
+members_in null = no_members
+members_in (boolean b) = no_members
+members_in (number n) = no_members
+members_in (string s) = no_members
+members_in (array ds) = no_members
+members_in (object ms) = ms
+
+-- letters below k by their digits
+abbrev pub IsLetters : ℕ → List ℕ → List ℕ → Type 0
+IsLetters k text w = Spells text w × IsWord k w
+
+-- a string of them
+abbrev pub IsWordValue : ℕ → Data → List ℕ → Type 0
+IsWordValue k d w = IsDigits d w × IsWord k w
+
+-- an array of two such strings
+abbrev pub IsWordsValue : ℕ → Data → List ℕ → List ℕ → Type 0
+IsWordsValue k d x y = IsArrayOf IsDigits d (x ∷ y ∷ []) × IsWord k x × IsWord k y
+
+-- a string of a short configuration over the letters below k
+abbrev pub IsTailValue : ℕ → Data → TailConfig → Type 0
+IsTailValue k d t = IsTailString d t × IsShortTail k t
+
+-- an array of two such strings
+abbrev pub IsTailsValue : ℕ → Data → TailConfig → TailConfig → Type 0
+IsTailsValue k d x y = IsArrayOf IsTailString d (x ∷ y ∷ []) × IsShortTail k x × IsShortTail k y
+
+-- a whole number of sixteen bits
+abbrev pub IsShort : Data → ℕ → Type 0
+IsShort d n = IsWhole d n × (n ≤ 65535)
+
+-- null, or a whole number of sixteen bits
+abbrev pub IsRank : Data → Option ℕ → Type 0
+IsRank d o = IsClaimValue d o × IsClaim o
+
+-- at most a million either way
+abbrev pub IsNear : ℤ → Type 0
+IsNear z = (negsuc 999999 ≤ℤ z) × (z ≤ℤ pos 1000000)
+
+-- a signed whole number of that size
+abbrev pub IsFlow : Data → ℤ → Type 0
+IsFlow d z = IsSigned d z × IsNear z
+
+-- an array of sets of the rule's nodes
+abbrev pub IsSetsFor : LocalRule → Data → List ℕ → Type 0
+IsSetsFor r d sets = IsArrayOf IsWhole d sets × All (λ set. set ≤ full_set r) sets
+
+-- the number n of a window and its place c
+abbrev pub IsWindowFor : LocalRule → Data → Data → ℕ → ℕ → Type 0
+IsWindowFor r d e n c = IsWhole d n × IsWhole e c × (1 ≤ n) × (n ≤ 65535) × (c ≤ n + r.width - 2) × (c ≤ 65535)
+
+-- a look-ahead
+abbrev pub IsAhead : Data → ℕ → Type 0
+IsAhead d n = IsWhole d n × (1 ≤ n) × (n ≤ 65535)
+
+-- an array with a flow for each node
+abbrev pub IsFluxFor : LocalRule → Data → List ℤ → Type 0
+IsFluxFor r d phi = IsArrayOf IsSigned d phi × (length phi ≡ node_count r) × All IsNear phi
+
+-- evidence within its limits: for surjective
+abbrev pub IsSurjectiveFor : LocalRule → Data → SurjectiveEvidence → Type 0
+IsSurjectiveFor r d e = IsSurjectiveValue d e × IsSurjectiveShape r e
+
+-- for injective
+abbrev pub IsInjectiveFor : LocalRule → Data → InjectiveEvidence → Type 0
+IsInjectiveFor r d e = IsInjectiveValue d e × IsInjectiveShape r e
+
+-- for closing on a side
+abbrev pub IsSideFor : LocalRule → Data → SideEvidence → Type 0
+IsSideFor r d e = IsSideValue d e × IsSideShape r e
+
+-- for conserving
+abbrev pub IsSumFor : LocalRule → Data → SumEvidence → Type 0
+IsSumFor r d e = IsSumValue d e × IsSumShape r e
+
+-- claims for each pair
+abbrev pub IsRowFor : LocalRule → Data → List (Option ℕ) → Type 0
+IsRowFor r d row = IsArrayOf IsClaimValue d row × IsRankShape r row
+
+-- in both directions
+abbrev pub AreRanksFor : LocalRule → Data → List (Option ℕ) → List (Option ℕ) → Type 0
+AreRanksFor r d forward backward = IsRanksValue d forward backward × IsRankShape r forward × IsRankShape r backward
+
+-- the step of a key fails, of which P is asked, or there is not enough memory
+abbrev pub IsStepFault : Key → Type 0 → CertFault → Type 0
+IsStepFault k P f = (f ≡ fault.Memory alloc_error) ⊎ ((f ≡ fault.Format (shape.Shape k)) × ¬ P)
+
+-- what the members say of each part of a certificate
+pub record AreParts (ms : Members) (c : Certificate) : Type 0 where
+  pub surjective : HasSurjective c.rule ms c.surjective
+  pub injective : HasInjective c.rule ms c.injective
+  pub right : HasSide (codes "right") c.rule ms c.right
+  pub left : HasSide (codes "left") c.rule ms c.left
+  pub conserving : HasConserving c.rule ms c.conserving
+  pub ranks : HasRanks c.rule ms c.forward c.backward
+  pub no_other : HasNoOther ms
+
+-- the first of the steps that fails, or there is not enough memory
+abbrev pub IsPartFault : LocalRule → Members → CertFault → Type 0
+IsPartFault r ms f = (f ≡ fault.Memory alloc_error) ⊎ ((k : Key) × (f ≡ fault.Format (shape.Shape k)) × IsFirstWithout (Passes r ms) part_steps k)

@@ -1,0 +1,89 @@
+-- The text that is written for a certificate.
+use Rattle.std.specs.Prelude.{ℕ, List, [], ◌∷◌, map, codes, Option, Some, None, ℤ}
+use Rattle.serde_json.specs.Data.{Data, null, number, string, array, object, unsigned, Members, no_members, member}
+use Rattle.serde_json.specs.Find.{of_integer}
+use Rattle.serde_json.specs.View.{items_of}
+use Rattle.serde_json.specs.Written.{compact_text}
+use Rattle.word_image.specs.Digits.{lower_digit}
+use Rattle.tail_config.specs.Tails.{TailConfig}
+use Rattle.tail_config.specs.TailTexts as tail
+use Rattle.rule_text.specs.RuleTexts.{printed}
+use Rattle.cert_format.specs.Certificates.{Certificate, SurjectiveEvidence, InjectiveEvidence, SideEvidence, SumEvidence}
+use Rattle.cert_format.specs.Certificates.SurjectiveEvidence.{Sets, Orphan}
+use Rattle.cert_format.specs.Certificates.InjectiveEvidence.{Window, Twins}
+use Rattle.cert_format.specs.Certificates.SideEvidence.{Ahead, Split}
+use Rattle.cert_format.specs.Certificates.SumEvidence.{Flux, Ring}
+
+-- values as an array
+abbrev pub array_from : List Data → Data
+array_from ds = array (items_of ds)
+
+-- a whole number in decimal
+abbrev pub whole_value : ℕ → Data
+whole_value n = number (unsigned n)
+
+-- the same with a minus sign where it is negative
+abbrev pub signed_value : ℤ → Data
+signed_value z = number (of_integer z)
+
+-- a word's digits in lower case
+abbrev pub word_value : List ℕ → Data
+word_value w = string (map lower_digit w)
+
+-- a configuration's text
+abbrev pub tail_value : TailConfig → Data
+tail_value t = string (tail.printed t)
+
+-- null where nothing is claimed
+abbrev pub claim_value : Option ℕ → Data
+claim_value None = null
+claim_value (Some n) = whole_value n
+
+-- an object with one member
+abbrev pub only : List ℕ → Data → Data
+only k d = object (member k d no_members)
+
+-- {"sets":[..]} or {"orphan":".."}
+abbrev pub surjective_value : SurjectiveEvidence → Data
+surjective_value (Sets sets) = only (codes "sets") (array_from (map whole_value sets))
+surjective_value (Orphan w) = only (codes "orphan") (word_value w)
+
+-- {"c":C,"n":N} or {"twins":["..",".."]}
+abbrev pub injective_value : InjectiveEvidence → Data
+injective_value (Window n c) = object (member (codes "c") (whole_value c) (member (codes "n") (whole_value n) no_members))
+injective_value (Twins x y) = only (codes "twins") (array_from (word_value x ∷ word_value y ∷ []))
+
+-- {"ahead":A} or {"split":["..",".."]}
+abbrev pub side_value : SideEvidence → Data
+side_value (Ahead n) = only (codes "ahead") (whole_value n)
+side_value (Split x y) = only (codes "split") (array_from (tail_value x ∷ tail_value y ∷ []))
+
+-- {"flux":[..]} or {"ring":".."}
+abbrev pub sum_value : SumEvidence → Data
+sum_value (Flux phi) = only (codes "flux") (array_from (map signed_value phi))
+sum_value (Ring p) = only (codes "ring") (word_value p)
+
+-- {"backward":[..],"forward":[..]}
+abbrev pub ranks_value : List (Option ℕ) → List (Option ℕ) → Data
+ranks_value forward backward =
+    object (member (codes "backward") (array_from (map claim_value backward)) (member (codes "forward") (array_from (map claim_value forward)) no_members))
+
+-- the members that are written for a certificate
+abbrev pub certificate_members : Certificate → Members
+certificate_members c =
+    member (codes "conserving") (sum_value c.conserving)
+    (member (codes "injective") (injective_value c.injective)
+    (member (codes "left") (side_value c.left)
+    (member (codes "ranks") (ranks_value c.forward c.backward)
+    (member (codes "right") (side_value c.right)
+    (member (codes "rule") (string (printed c.rule))
+    (member (codes "surjective") (surjective_value c.surjective)
+    (member (codes "version") (whole_value 1) no_members)))))))
+
+-- the value that is written for a certificate
+abbrev pub certificate_value : Certificate → Data
+certificate_value c = object (certificate_members c)
+
+-- the text that is written: keys ascending, and no blanks
+abbrev pub certificate_text : Certificate → List ℕ
+certificate_text c = compact_text (certificate_value c)

@@ -1,0 +1,188 @@
+//! The evidence of each question, which is an object.
+ghost use Rattle.std.specs.Prelude.{◌≡◌, ℕ, ◌-◌, ◌^◌, ◌≤◌, ◌↔◌, List, Option, ℤ, codes, length, All, IfOk, IfErr, IfSome, IfNone, IsTrue};
+ghost use Rattle.serde_json.specs.View.{view};
+ghost use Rattle.word_image.specs.LocalRules.{node_count};
+ghost use Rattle.word_image.specs.Graphs.{full_set};
+ghost use Rattle.cert_format.specs.Certificates.{SurjectiveEvidence, InjectiveEvidence, SideEvidence, SumEvidence};
+ghost use Rattle.cert_format.specs.Parts.{surjective_of, injective_of, side_of, sum_of, IsOver};
+ghost use Rattle.cert_format.specs.Readings.{IsSetsFor, IsWindowFor, IsAhead, IsFluxFor, IsRowFor, IsSurjectiveFor, IsInjectiveFor, IsSideFor, IsSumFor, AreRanksFor};
+
+use crate::items::{Item, array};
+use crate::members::{only, only_both};
+use crate::misread::Misread;
+use crate::parts::{InjectivePart, SidePart, SumPart, SurjectivePart};
+use crate::words::{tails, word, words};
+use serde_json::Value;
+use std::alloc::Global;
+use word_image::{FluxRow, RankRow, Rule, SetList};
+
+/// The evidence of `{"sets":[..]}` or `{"orphan":".."}`.
+pub fn surjective(alloc: Global, rule: &Rule, value: &Value) -> Result<SurjectivePart, Misread>
+    ensures part { IfOk result (λ p. IsSurjectiveFor rule.now (view value.now) (surjective_of p)) }
+    ensures none { IfErr result (λ f. f ≡ Misread.Shape
+        → (e : SurjectiveEvidence) → ¬ IsSurjectiveFor rule.now (view value.now) e) }
+{
+    if let Some(listed) = only(value, "sets") {
+        return Ok(SurjectivePart::Sets(sets(alloc, rule, listed)?));
+    }
+    let Some(orphan) = only(value, "orphan") else {
+        return Err(Misread::Shape);
+    };
+    Ok(SurjectivePart::Orphan(word(alloc, rule.k(), orphan)?))
+}
+
+/// The sets of the rule's nodes that an array lists.
+fn sets(alloc: Global, rule: &Rule, value: &Value) -> Result<SetList, Misread>
+    ensures sets { IfOk result (IsSetsFor rule.now (view value.now)) }
+    ensures none { IfErr result (λ f. f ≡ Misread.Shape
+        → (sets : List ℕ) → ¬ IsSetsFor rule.now (view value.now) sets) }
+{
+    let most = full(rule);
+    let sets: Vec<u16> = array(alloc, value)?;
+    if !are_within(most, &sets) {
+        return Err(Misread::Shape);
+    }
+    Ok(SetList::of(sets))
+}
+
+/// The set of all nodes of a rule.
+fn full(rule: &Rule) -> u16
+    ensures set { result ≡ full_set rule.now }
+    ensures short { result ≤ 65535 }
+{
+    u16::MAX >> (16 - rule.nodes())
+}
+
+/// Whether no number is above the most.
+fn are_within(most: u16, numbers: &[u16]) -> bool
+    ensures { IsTrue result ↔ All (λ n. n ≤ most) numbers.now }
+{
+    for number in numbers {
+        if *number > most {
+            return false;
+        }
+    }
+    true
+}
+
+/// The evidence of `{"c":C,"n":N}` or `{"twins":["..",".."]}`.
+pub fn injective(alloc: Global, rule: &Rule, value: &Value) -> Result<InjectivePart, Misread>
+    ensures part { IfOk result (λ p. IsInjectiveFor rule.now (view value.now) (injective_of p)) }
+    ensures none { IfErr result (λ f. f ≡ Misread.Shape
+        → (e : InjectiveEvidence) → ¬ IsInjectiveFor rule.now (view value.now) e) }
+{
+    if let Some((place, length)) = only_both(value, "c", "n") {
+        let Some((n, c)) = window(rule, length, place) else {
+            return Err(Misread::Shape);
+        };
+        return Ok(InjectivePart::Window { n, c });
+    }
+    let Some(twins) = only(value, "twins") else {
+        return Err(Misread::Shape);
+    };
+    let (x, y) = words(alloc, rule.k(), twins)?;
+    Ok(InjectivePart::Twins { x, y })
+}
+
+/// A window of n letters of an image, from 1 on, with a place c among the n + m - 1 letters behind
+/// them.
+fn window(rule: &Rule, length: &Value, place: &Value) -> Option<(u16, u16)>
+    ensures some { IfSome result (λ w.
+        IsWindowFor rule.now (view length.now) (view place.now) w.0 w.1) }
+    ensures none { IfNone result ((n c : ℕ)
+        → ¬ IsWindowFor rule.now (view length.now) (view place.now) n c) }
+{
+    let n = u16::read(length)?;
+    let c = u16::read(place)?;
+    if n == 0 || u32::from(c) > u32::from(n) + u32::from(rule.m()) - 2 {
+        return None;
+    }
+    Some((n, c))
+}
+
+/// The evidence of `{"ahead":A}` or `{"split":["..",".."]}`.
+pub fn side(alloc: Global, rule: &Rule, value: &Value) -> Result<SidePart, Misread>
+    ensures states { IfOk result (IsOver (rule.now).states) }
+    ensures part { IfOk result (λ p. IsSideFor rule.now (view value.now) (side_of p)) }
+    ensures none { IfErr result (λ f. f ≡ Misread.Shape
+        → (e : SideEvidence) → ¬ IsSideFor rule.now (view value.now) e) }
+{
+    if let Some(distance) = only(value, "ahead") {
+        let Some(n) = ahead(distance) else {
+            return Err(Misread::Shape);
+        };
+        return Ok(SidePart::Ahead(n));
+    }
+    let Some(split) = only(value, "split") else {
+        return Err(Misread::Shape);
+    };
+    let (x, y) = tails(alloc, rule.k(), split)?;
+    Ok(SidePart::Split(x, y))
+}
+
+/// A look-ahead, from 1 on.
+fn ahead(value: &Value) -> Option<u16>
+    ensures some { IfSome result (IsAhead (view value.now)) }
+    ensures none { IfNone result ((n : ℕ) → ¬ IsAhead (view value.now) n) }
+{
+    let n = u16::read(value)?;
+    if n == 0 {
+        return None;
+    }
+    Some(n)
+}
+
+/// The evidence of `{"flux":[..]}` or `{"ring":".."}`.
+pub fn conserving(alloc: Global, rule: &Rule, value: &Value) -> Result<SumPart, Misread>
+    ensures part { IfOk result (λ p. IsSumFor rule.now (view value.now) (sum_of p)) }
+    ensures none { IfErr result (λ f. f ≡ Misread.Shape
+        → (e : SumEvidence) → ¬ IsSumFor rule.now (view value.now) e) }
+{
+    if let Some(flows) = only(value, "flux") {
+        return Ok(SumPart::Flux(flux(alloc, rule, flows)?));
+    }
+    let Some(ring) = only(value, "ring") else {
+        return Err(Misread::Shape);
+    };
+    Ok(SumPart::Ring(word(alloc, rule.k(), ring)?))
+}
+
+/// A flow for each node of a rule.
+fn flux(alloc: Global, rule: &Rule, value: &Value) -> Result<FluxRow, Misread>
+    ensures flux { IfOk result (IsFluxFor rule.now (view value.now)) }
+    ensures none { IfErr result (λ f. f ≡ Misread.Shape
+        → (phi : List ℤ) → ¬ IsFluxFor rule.now (view value.now) phi) }
+{
+    let flows: Vec<i32> = array(alloc, value)?;
+    if flows.len() != usize::from(rule.nodes()) {
+        return Err(Misread::Shape);
+    }
+    Ok(FluxRow::of(flows))
+}
+
+/// The claims of `{"backward":[..],"forward":[..]}`, the forward ones first.
+pub fn ranks(alloc: Global, rule: &Rule, value: &Value) -> Result<(RankRow, RankRow), Misread>
+    ensures rows { IfOk result (λ p. AreRanksFor rule.now (view value.now) p.0 p.1) }
+    ensures none { IfErr result (λ f. f ≡ Misread.Shape → (forward backward : List (Option ℕ))
+        → ¬ AreRanksFor rule.now (view value.now) forward backward) }
+{
+    let Some((backward, forward)) = only_both(value, "backward", "forward") else {
+        return Err(Misread::Shape);
+    };
+    let backward = row(alloc, rule, backward)?;
+    let forward = row(alloc, rule, forward)?;
+    Ok((forward, backward))
+}
+
+/// A claim for each pair of nodes of a rule.
+fn row(alloc: Global, rule: &Rule, value: &Value) -> Result<RankRow, Misread>
+    ensures row { IfOk result (IsRowFor rule.now (view value.now)) }
+    ensures none { IfErr result (λ f. f ≡ Misread.Shape
+        → (row : List (Option ℕ)) → ¬ IsRowFor rule.now (view value.now) row) }
+{
+    let claims: Vec<Option<u16>> = array(alloc, value)?;
+    if claims.len() != usize::from(rule.nodes()) * usize::from(rule.nodes()) {
+        return Err(Misread::Shape);
+    }
+    Ok(RankRow::of(claims))
+}

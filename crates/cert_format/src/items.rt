@@ -1,0 +1,89 @@
+//! Arrays of numbers.
+ghost use Rattle.std.specs.Prelude.{◌≡◌, ◌≢◌, List, IfOk, IfErr, IfSome, IfNone};
+ghost use Rattle.serde_json.specs.Data.{Data, array, item, no_items};
+ghost use Rattle.serde_json.specs.View.{view};
+ghost use Rattle.cert_format.specs.CertificateTexts.{IsArrayOf};
+ghost use Rattle.cert_format.specs.Readings.{IsShort, IsRank, IsFlow};
+
+use crate::misread::Misread;
+use serde_json::Value;
+use std::alloc::Global;
+
+/// What stands in an array.
+pub trait Item: Sized {
+    ghost is_item: { Data → Self → Type 0 };
+
+    /// The item that a value is; `None` exactly where it is none.
+    fn read(value: &Value) -> Option<Self>
+        ensures some { IfSome result (is_item (view value.now)) }
+        ensures none { IfNone result ((x : Self) → ¬ is_item (view value.now) x) };
+}
+
+impl Item for u16 {
+    ghost is_item = { IsShort };
+
+    fn read(value: &Value) -> Option<u16> {
+        match value.as_u64() {
+            Some(number) if number <= 65_535 => Some(number as u16),
+            _ => None,
+        }
+    }
+}
+
+impl Item for Option<u16> {
+    ghost is_item = { IsRank };
+
+    fn read(value: &Value) -> Option<Option<u16>> {
+        if value.is_null() {
+            return Some(None);
+        }
+        match value.as_u64() {
+            Some(number) if number <= 65_535 => Some(Some(number as u16)),
+            _ => None,
+        }
+    }
+}
+
+impl Item for i32 {
+    ghost is_item = { IsFlow };
+
+    fn read(value: &Value) -> Option<i32> {
+        match value.as_i64() {
+            Some(number) if -1_000_000 <= number && number <= 1_000_000 => Some(number as i32),
+            _ => None,
+        }
+    }
+}
+
+/// The items of an array, in their order.
+pub fn array<T: Item + Drop>(alloc: Global, value: &Value) -> Result<Vec<T>, Misread>
+    ensures items { IfOk result (λ v. IsArrayOf T.is_item (view value.now) v.items) }
+    ensures none { IfErr result (λ e. e ≡ Misread.Shape
+        → (xs : List T) → ¬ IsArrayOf T.is_item (view value.now) xs) }
+{
+    let Some(values) = value.as_array() else {
+        return Err(Misread::Shape);
+    };
+    let mut items = Vec::with_capacity(alloc, values.len())?;
+    for entry in values {
+        let Some(item) = T::read(entry) else {
+            return Err(Misread::Shape);
+        };
+        items.push(item)?;
+    }
+    Ok(items)
+}
+
+/// The two items of an array.
+pub fn pair(value: &Value) -> Option<(&Value, &Value)>
+    ensures some { IfSome result (λ p. view value.now
+        ≡ array (item (view p.0.now) (item (view p.1.now) no_items))) }
+    ensures none { IfNone result ((d e : Data)
+        → view value.now ≢ array (item d (item e no_items))) }
+{
+    let items = value.as_array()?;
+    if items.len() != 2 {
+        return None;
+    }
+    Some((&items[0], &items[1]))
+}

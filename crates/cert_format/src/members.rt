@@ -1,0 +1,94 @@
+//! The members of a JSON object.
+ghost use Rattle.std.specs.Prelude.{◌≡◌, ◌↔◌, Contains, IfSome, IfNone, IsTrue, string_bytes};
+ghost use Rattle.std.specs.Option.{option_map};
+ghost use Rattle.serde_json.specs.Data.{Data};
+ghost use Rattle.serde_json.specs.Find.{get_member};
+ghost use Rattle.serde_json.specs.View.{view};
+ghost use Rattle.cert_format.specs.CertificateTexts.{HasOnly, HasOnlyBoth, HasNoOther, keys};
+ghost use Rattle.cert_format.specs.Readings.{members_in};
+
+use serde_json::Value;
+
+/// The keys of a certificate.
+const KEYS: [&str; 8] = [
+    "conserving",
+    "injective",
+    "left",
+    "ranks",
+    "right",
+    "rule",
+    "surjective",
+    "version",
+];
+
+/// The member of a key.
+pub fn member<'a>(value: &'a Value, key: &str) -> Option<&'a Value>
+    ensures { option_map (λ v. view v.now) result
+        ≡ get_member key.now (members_in (view value.now)) }
+{
+    value.get(key)
+}
+
+/// The member of a key, where the object has no other.
+pub fn only<'a>(value: &'a Value, key: &str) -> Option<&'a Value>
+    ensures some { IfSome result (λ v. HasOnly key.now (view v.now) (view value.now)) }
+    ensures none { IfNone result ((d : Data) → ¬ HasOnly key.now d (view value.now)) }
+{
+    let members = value.as_object()?;
+    if members.len() != 1 {
+        return None;
+    }
+    let (name, member) = members.first_key_value()?;
+    if !is_named(name, key) {
+        return None;
+    }
+    Some(member)
+}
+
+/// The members of two keys, the lesser first, where the object has no other.
+pub fn only_both<'a>(value: &'a Value, first: &str, second: &str) -> Option<(&'a Value, &'a Value)>
+    ensures some { IfSome result (λ p.
+        HasOnlyBoth first.now (view p.0.now) second.now (view p.1.now) (view value.now)) }
+    ensures none { IfNone result ((d e : Data)
+        → ¬ HasOnlyBoth first.now d second.now e (view value.now)) }
+{
+    let members = value.as_object()?;
+    if members.len() != 2 {
+        return None;
+    }
+    let (lesser, member) = members.first_key_value()?;
+    let (greater, other) = members.last_key_value()?;
+    if is_named(lesser, first) && is_named(greater, second) {
+        return Some((member, other));
+    }
+    None
+}
+
+/// Whether an object has no other keys than those of a certificate.
+pub fn has_no_other(value: &Value) -> bool
+    ensures { IsTrue result ↔ HasNoOther (members_in (view value.now)) }
+{
+    let Some(members) = value.as_object() else {
+        return true;
+    };
+    for key in members.keys() {
+        if !is_key(key) {
+            return false;
+        }
+    }
+    true
+}
+
+/// Whether a name is this one.
+fn is_named(name: &String, key: &str) -> bool
+    ensures { IsTrue result ↔ (string_bytes name.now ≡ key.now) }
+{
+    name.as_str() == key
+}
+
+/// Whether a name is a key of a certificate.
+fn is_key(name: &String) -> bool
+    ensures { IsTrue result ↔ Contains keys (string_bytes name.now) }
+{
+    KEYS.contains(&name.as_str())
+}

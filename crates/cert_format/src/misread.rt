@@ -1,0 +1,44 @@
+//! Why a value isn't read.
+ghost use Rattle.std.specs.Prelude.{◌≡◌, alloc_error};
+ghost use Rattle.cert_format.specs.declared.misread.Misread.TheVariants as misread;
+
+use crate::shape_fault::{CertFault, Key, ShapeFault};
+use std::alloc::{AllocError, AllocFailed};
+
+/// Why a value isn't read.
+#[derive(Clone, Copy, Debug, PartialEq, Eq)]
+pub enum Misread {
+    /// It has another shape.
+    Shape,
+    /// There is not enough memory.
+    Memory(AllocError),
+}
+
+impl Misread {
+    /// The fault of the step in which a value isn't read.
+    pub fn at(self, key: Key) -> CertFault
+        ensures shape { self ≡ Misread.Shape → result ≡ CertFault.Format (ShapeFault.Shape key) }
+        ensures memory { self ≡ Misread.Memory alloc_error → result ≡ CertFault.Memory alloc_error }
+    {
+        match self {
+            Misread::Shape => CertFault::Format(ShapeFault::Shape(key)),
+            Misread::Memory(fault) => CertFault::Memory(fault),
+        }
+    }
+}
+
+impl From<AllocError> for Misread {
+    ghost from_gives = { λ e m. m ≡ misread.Memory e };
+
+    fn from(fault: AllocError) -> Misread {
+        Misread::Memory(fault)
+    }
+}
+
+impl<T: Drop> From<AllocFailed<T>> for Misread {
+    ghost from_gives = { λ _ m. m ≡ misread.Memory alloc_error };
+
+    fn from(_: AllocFailed<T>) -> Misread {
+        Misread::Memory(AllocError)
+    }
+}

@@ -1,0 +1,143 @@
+//! From bytes to the certificate that they are.
+ghost use Rattle.std.specs.Prelude.{◌≡◌, ℕ, ◌⊎◌, List, alloc_error, codes, IfOk, IfErr, IfSome, IfNone, OnOk, OnErr};
+ghost use Rattle.serde_json.specs.View.{view};
+ghost use Rattle.word_image.specs.LocalRules.{IsRule};
+ghost use Rattle.rule_text.specs.RuleTexts.{IsRuleText};
+ghost use Rattle.cert_format.specs.Certificates.{Certificate};
+ghost use Rattle.cert_format.specs.CertificateTexts.{IsCertificateText, IsObject, HasVersion, HasRuleText};
+ghost use Rattle.cert_format.specs.declared.shape_fault.ShapeFault.{ShapeFault};
+ghost use Rattle.cert_format.specs.ShapeFaults.{IsShapeFault, IsCertFault};
+ghost use Rattle.cert_format.specs.Readings.{members_in, AreParts, IsPartFault};
+
+use crate::cert::Cert;
+use crate::members::{has_no_other, member};
+use crate::shape_fault::{CertFault, Key, ShapeFault};
+use crate::steps::{conserving_step, injective_step, ranks_step, side_step, surjective_step};
+use rule_text::parse;
+use serde_json::Value;
+use std::alloc::{AllocError, Global};
+use word_image::Rule;
+
+/// The version of the certificates that are read.
+const VERSION: u64 = 1;
+
+/// The certificate that bytes are the text of; else the first fault of their shape. The bytes are
+/// any that `serde_json` reads as the certificate's value: with blanks, the keys in any order, and
+/// of members with one key the last.
+pub fn from_bytes(alloc: Global, bytes: &[u8]) -> Result<Cert, CertFault>
+    ensures cert { IfOk result (IsCertificateText bytes.now) }
+    ensures fault { IfErr result (IsCertFault bytes.now) }
+    ensures every_cert { (c : Certificate) → IsCertificateText bytes.now c
+        → (result ≡ Ok c) ⊎ (result ≡ Err (CertFault.Memory alloc_error)) }
+    ensures every_fault { (s : ShapeFault) → IsShapeFault bytes.now s
+        → (result ≡ Err (CertFault.Format s)) ⊎ (result ≡ Err (CertFault.Memory alloc_error)) }
+{
+    read_certificate(alloc, bytes)
+}
+
+/// The certificate that bytes are the text of, or their fault.
+fn read_certificate(alloc: Global, bytes: &[u8]) -> Result<Cert, CertFault>
+    ensures cert { IfOk result (IsCertificateText bytes.now) }
+    ensures fault { IfErr result (IsCertFault bytes.now) }
+{
+    let value = read_object(alloc, bytes)?;
+    let rule = match read_rule(&value) {
+        Ok(rule) => rule,
+        Err(fault) => return Err(CertFault::Format(fault)),
+    };
+    read_parts(alloc, rule, &value)
+}
+
+/// The JSON object that bytes are.
+fn read_object(alloc: Global, bytes: &[u8]) -> Result<Value, CertFault>
+    ensures object { IfOk result (λ v. IsObject bytes.now (members_in (view v))) }
+    ensures fault { IfErr result (IsCertFault bytes.now) }
+{
+    let value = match Value::from_slice(alloc, bytes) {
+        Ok(value) => value,
+        Err(fault) if fault.is_memory() => return Err(CertFault::Memory(AllocError)),
+        Err(_) => return Err(CertFault::Format(ShapeFault::NotJson)),
+    };
+    if !value.is_object() {
+        return Err(CertFault::Format(ShapeFault::Shape(Key::Top)));
+    }
+    Ok(value)
+}
+
+/// The rule of a certificate of the first version.
+fn read_rule(value: &Value) -> Result<Rule, ShapeFault>
+    ensures version { OnOk result (HasVersion (members_in (view value.now)) 1) }
+    ensures rule { IfOk result (λ r. (text : List ℕ)
+        × HasRuleText (members_in (view value.now)) text × IsRuleText text r) }
+    ensures fault { (bytes : List ℕ) → IsObject bytes (members_in (view value.now))
+        → IfErr result (IsShapeFault bytes) }
+{
+    check_version(value)?;
+    let Some(text) = rule_text(value) else {
+        return Err(ShapeFault::Shape(Key::Rule));
+    };
+    match parse(text.as_bytes()) {
+        Ok(rule) => Ok(rule),
+        Err(fault) => Err(ShapeFault::Rule(fault)),
+    }
+}
+
+/// Whether the version is the one that is read.
+fn check_version(value: &Value) -> Result<(), ShapeFault>
+    ensures version { OnOk result (HasVersion (members_in (view value.now)) 1) }
+    ensures fault { (bytes : List ℕ) → IsObject bytes (members_in (view value.now))
+        → IfErr result (IsShapeFault bytes) }
+{
+    let Some(version) = version(value) else {
+        return Err(ShapeFault::Shape(Key::Version));
+    };
+    if version != VERSION {
+        return Err(ShapeFault::Version(version));
+    }
+    Ok(())
+}
+
+/// The version, where it is a whole number.
+fn version(value: &Value) -> Option<u64>
+    ensures some { IfSome result (HasVersion (members_in (view value.now))) }
+    ensures none { IfNone result ((v : ℕ) → ¬ HasVersion (members_in (view value.now)) v) }
+{
+    member(value, "version")?.as_u64()
+}
+
+/// The rule's text, where it is a string.
+fn rule_text(value: &Value) -> Option<&str>
+    ensures some { IfSome result (λ t. HasRuleText (members_in (view value.now)) t.now) }
+    ensures none { IfNone result ((text : List ℕ)
+        → ¬ HasRuleText (members_in (view value.now)) text) }
+{
+    member(value, "rule")?.as_str()
+}
+
+/// The certificate with the parts of an object, step by step.
+fn read_parts(alloc: Global, rule: Rule, value: &Value) -> Result<Cert, CertFault>
+    requires { IsRule rule }
+    ensures rule { IfOk result (λ c. c.rule ≡ rule) }
+    ensures parts { IfOk result (AreParts (members_in (view value.now))) }
+    ensures fault { IfErr result (IsPartFault rule (members_in (view value.now))) }
+{
+    let surjective = surjective_step(alloc, &rule, value)?;
+    let injective = injective_step(alloc, &rule, value)?;
+    let right = side_step(alloc, &rule, value, Key::Right, "right")?;
+    let left = side_step(alloc, &rule, value, Key::Left, "left")?;
+    let conserving = conserving_step(alloc, &rule, value)?;
+    let (forward, backward) = ranks_step(alloc, &rule, value)?;
+    if !has_no_other(value) {
+        return Err(CertFault::Format(ShapeFault::Shape(Key::Unknown)));
+    }
+    Ok(Cert {
+        rule,
+        surjective,
+        injective,
+        right,
+        left,
+        conserving,
+        forward,
+        backward,
+    })
+}

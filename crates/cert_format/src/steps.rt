@@ -1,0 +1,112 @@
+//! The steps of reading a certificate's parts: the member of a key, and the evidence that it is.
+ghost use Rattle.std.specs.Prelude.{◌≡◌, ℕ, codes, IfOk, IfErr};
+ghost use Rattle.serde_json.specs.View.{view};
+ghost use Rattle.cert_format.specs.Certificates.{SideEvidence};
+ghost use Rattle.cert_format.specs.CertificateTexts.{HasSurjective, HasInjective, HasSide, HasConserving, HasRanks};
+ghost use Rattle.cert_format.specs.ShapeFaults.{Passes};
+ghost use Rattle.cert_format.specs.Parts.{surjective_of, injective_of, side_of, sum_of, IsOver};
+ghost use Rattle.cert_format.specs.Readings.{members_in, IsStepFault};
+
+use crate::evidence::{conserving, injective, ranks, side, surjective};
+use crate::members::member;
+use crate::misread::Misread;
+use crate::parts::{InjectivePart, SidePart, SumPart, SurjectivePart};
+use crate::shape_fault::{CertFault, Key};
+use serde_json::Value;
+use std::alloc::Global;
+use word_image::{RankRow, Rule};
+
+/// Whether the rule is surjective.
+pub fn surjective_step(
+    alloc: Global,
+    rule: &Rule,
+    value: &Value,
+) -> Result<SurjectivePart, CertFault>
+    ensures part { IfOk result (λ p.
+        HasSurjective rule.now (members_in (view value.now)) (surjective_of p)) }
+    ensures fault { IfErr result (IsStepFault Key.Surjective
+        (Passes rule.now (members_in (view value.now)) Key.Surjective)) }
+{
+    let Some(part) = member(value, "surjective") else {
+        return Err(Misread::Shape.at(Key::Surjective));
+    };
+    match surjective(alloc, rule, part) {
+        Ok(part) => Ok(part),
+        Err(fault) => Err(fault.at(Key::Surjective)),
+    }
+}
+
+/// Whether it is injective.
+pub fn injective_step(alloc: Global, rule: &Rule, value: &Value) -> Result<InjectivePart, CertFault>
+    ensures part { IfOk result (λ p.
+        HasInjective rule.now (members_in (view value.now)) (injective_of p)) }
+    ensures fault { IfErr result (IsStepFault Key.Injective
+        (Passes rule.now (members_in (view value.now)) Key.Injective)) }
+{
+    let Some(part) = member(value, "injective") else {
+        return Err(Misread::Shape.at(Key::Injective));
+    };
+    match injective(alloc, rule, part) {
+        Ok(part) => Ok(part),
+        Err(fault) => Err(fault.at(Key::Injective)),
+    }
+}
+
+/// Whether it closes on the side of a key with this name.
+pub fn side_step(
+    alloc: Global,
+    rule: &Rule,
+    value: &Value,
+    key: Key,
+    name: &str,
+) -> Result<SidePart, CertFault>
+    ensures states { IfOk result (IsOver (rule.now).states) }
+    ensures part { IfOk result (λ p.
+        HasSide name.now rule.now (members_in (view value.now)) (side_of p)) }
+    ensures fault { IfErr result (IsStepFault key
+        ((e : SideEvidence) × HasSide name.now rule.now (members_in (view value.now)) e)) }
+{
+    let Some(part) = member(value, name) else {
+        return Err(Misread::Shape.at(key));
+    };
+    match side(alloc, rule, part) {
+        Ok(part) => Ok(part),
+        Err(fault) => Err(fault.at(key)),
+    }
+}
+
+/// Whether it conserves the sum of its cells.
+pub fn conserving_step(alloc: Global, rule: &Rule, value: &Value) -> Result<SumPart, CertFault>
+    ensures part { IfOk result (λ p.
+        HasConserving rule.now (members_in (view value.now)) (sum_of p)) }
+    ensures fault { IfErr result (IsStepFault Key.Conserving
+        (Passes rule.now (members_in (view value.now)) Key.Conserving)) }
+{
+    let Some(part) = member(value, "conserving") else {
+        return Err(Misread::Shape.at(Key::Conserving));
+    };
+    match conserving(alloc, rule, part) {
+        Ok(part) => Ok(part),
+        Err(fault) => Err(fault.at(Key::Conserving)),
+    }
+}
+
+/// The ranks of its pairs of nodes, the forward ones first.
+pub fn ranks_step(
+    alloc: Global,
+    rule: &Rule,
+    value: &Value,
+) -> Result<(RankRow, RankRow), CertFault>
+    ensures rows { IfOk result (λ p.
+        HasRanks rule.now (members_in (view value.now)) p.0 p.1) }
+    ensures fault { IfErr result (IsStepFault Key.Ranks
+        (Passes rule.now (members_in (view value.now)) Key.Ranks)) }
+{
+    let Some(rows) = member(value, "ranks") else {
+        return Err(Misread::Shape.at(Key::Ranks));
+    };
+    match ranks(alloc, rule, rows) {
+        Ok(rows) => Ok(rows),
+        Err(fault) => Err(fault.at(Key::Ranks)),
+    }
+}

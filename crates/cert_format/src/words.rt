@@ -1,0 +1,102 @@
+//! Words and Tails, which are strings.
+ghost use Rattle.std.specs.Prelude.{◌≡◌, ℕ, ◌<◌, ◌≤◌, List, Some, IfOk, IfErr, IfSome, IfNone};
+ghost use Rattle.serde_json.specs.View.{view};
+ghost use Rattle.word_image.specs.Digits.{hex_value};
+ghost use Rattle.tail_config.specs.Tails.{TailConfig};
+ghost use Rattle.cert_format.specs.Readings.{IsLetters, IsWordValue, IsWordsValue, IsTailValue, IsTailsValue};
+
+use crate::items::pair;
+use crate::misread::Misread;
+use serde_json::Value;
+use std::alloc::Global;
+use tail_config::{Tail, TailTextFault, parse};
+use word_image::{Word, letter};
+
+/// The word that a string of digits is, with letters below k.
+pub fn word(alloc: Global, k: u8, value: &Value) -> Result<Word, Misread>
+    ensures word { IfOk result (IsWordValue k (view value.now)) }
+    ensures none { IfErr result (λ e. e ≡ Misread.Shape
+        → (w : List ℕ) → ¬ IsWordValue k (view value.now) w) }
+{
+    let Some(text) = value.as_str() else {
+        return Err(Misread::Shape);
+    };
+    Ok(Word::of(letters(alloc, k, text.as_bytes())?))
+}
+
+/// The letters below k that digits stand for.
+fn letters(alloc: Global, k: u8, digits: &[u8]) -> Result<Vec<u8>, Misread>
+    ensures letters { IfOk result (λ v. IsLetters k digits.now v.items) }
+    ensures none { IfErr result (λ e. e ≡ Misread.Shape
+        → (w : List ℕ) → ¬ IsLetters k digits.now w) }
+{
+    let mut word = Vec::with_capacity(alloc, digits.len())?;
+    for digit in digits {
+        let Some(letter) = letter_below(k, *digit) else {
+            return Err(Misread::Shape);
+        };
+        word.push(letter)?;
+    }
+    Ok(word)
+}
+
+/// The letter below k that a digit stands for.
+fn letter_below(k: u8, digit: u8) -> Option<u8>
+    ensures some { IfSome result (λ a. (hex_value digit ≡ Some a) × (a < k)) }
+    ensures none { IfNone result ((a : ℕ) → hex_value digit ≡ Some a → ¬ (a < k)) }
+{
+    match letter(digit) {
+        Some(letter) if letter < k => Some(letter),
+        _ => None,
+    }
+}
+
+/// The two words of an array of two strings.
+pub fn words(alloc: Global, k: u8, value: &Value) -> Result<(Word, Word), Misread>
+    ensures words { IfOk result (λ p. IsWordsValue k (view value.now) p.0 p.1) }
+    ensures none { IfErr result (λ e. e ≡ Misread.Shape
+        → (x y : List ℕ) → ¬ IsWordsValue k (view value.now) x y) }
+{
+    let Some((first, second)) = pair(value) else {
+        return Err(Misread::Shape);
+    };
+    let x = word(alloc, k, first)?;
+    let y = word(alloc, k, second)?;
+    Ok((x, y))
+}
+
+/// The Tail over the letters below k, from 2 to 16, that a string is the text of.
+pub fn tail(alloc: Global, k: u8, value: &Value) -> Result<Tail, Misread>
+    requires least { 2 ≤ k }
+    requires most { k ≤ 16 }
+    ensures states { IfOk result (λ t. t.states ≡ k) }
+    ensures tail { IfOk result (λ t. IsTailValue k (view value.now) t.config) }
+    ensures none { IfErr result (λ e. e ≡ Misread.Shape
+        → (t : TailConfig) → ¬ IsTailValue k (view value.now) t) }
+{
+    let Some(text) = value.as_str() else {
+        return Err(Misread::Shape);
+    };
+    match parse(alloc, k, text.as_bytes()) {
+        Ok(tail) => Ok(tail),
+        Err(TailTextFault::Memory(fault)) => Err(Misread::Memory(fault)),
+        Err(_) => Err(Misread::Shape),
+    }
+}
+
+/// The two Tails of an array of two strings.
+pub fn tails(alloc: Global, k: u8, value: &Value) -> Result<(Tail, Tail), Misread>
+    requires least { 2 ≤ k }
+    requires most { k ≤ 16 }
+    ensures states { IfOk result (λ p. (p.0.states ≡ k) × (p.1.states ≡ k)) }
+    ensures tails { IfOk result (λ p. IsTailsValue k (view value.now) p.0.config p.1.config) }
+    ensures none { IfErr result (λ e. e ≡ Misread.Shape
+        → (x y : TailConfig) → ¬ IsTailsValue k (view value.now) x y) }
+{
+    let Some((first, second)) = pair(value) else {
+        return Err(Misread::Shape);
+    };
+    let x = tail(alloc, k, first)?;
+    let y = tail(alloc, k, second)?;
+    Ok((x, y))
+}

@@ -1,0 +1,189 @@
+//! From a certificate to its text.
+ghost use Rattle.std.specs.Prelude.{◌≡◌, ℕ, List, codes, map, IfOk, OnOk, IsUtf8};
+ghost use Rattle.serde_json.specs.Data.{string};
+ghost use Rattle.serde_json.specs.View.{view};
+ghost use Rattle.word_image.specs.LocalRules.{IsWord};
+ghost use Rattle.rule_text.specs.RuleTexts.{printed};
+ghost use Rattle.cert_format.specs.Certificates.{Certificate, IsShaped};
+ghost use Rattle.cert_format.specs.CertificateTexts.{IsCertificateText};
+ghost use Rattle.cert_format.specs.Parts.{side_of};
+ghost use Rattle.cert_format.specs.WrittenTexts as written;
+ghost use Rattle.cert_format.specs.WrittenTexts.{array_from, certificate_text};
+
+use crate::cert::Cert;
+use crate::parts::{InjectivePart, SidePart, SumPart, SurjectivePart};
+use serde_json::{Map, Value, json, put};
+use std::alloc::{AllocError, Global};
+use tail_config::Tail;
+use word_image::{FluxRow, RankRow, Rule, SetList, Word, word_text};
+
+/// The text of a certificate: compact JSON with ascending keys. The only error is want of memory.
+pub fn to_bytes(alloc: Global, cert: &Cert) -> Result<Vec<u8>, AllocError>
+    ensures text { IfOk result (λ text. text.items ≡ certificate_text cert.now) }
+    ensures read_back { IfOk result (λ text. IsCertificateText text.items cert.now) }
+{
+    certificate_value(alloc, cert)?.to_vec(alloc)
+}
+
+/// Bytes are the text of at most one certificate. So from what `to_bytes` gives for a certificate
+/// `from_bytes` gives that certificate again, unless memory runs out.
+pub fn text_has_one_certificate()
+    ensures { (bytes : List ℕ) (c d : Certificate)
+        → IsCertificateText bytes c → IsCertificateText bytes d → c ≡ d }
+{}
+
+/// The whole of a certificate as one object.
+fn certificate_value(alloc: Global, cert: &Cert) -> Result<Value, AllocError>
+    ensures value { IfOk result (λ v. view v ≡ written.certificate_value cert.now) }
+    ensures shaped { OnOk result (IsShaped cert.now) }
+{
+    let conserving = sum_value(alloc, cert)?;
+    let injective = injective_value(alloc, cert)?;
+    let left = side_value(alloc, &cert.left)?;
+    let ranks = ranks_value(alloc, cert)?;
+    let right = side_value(alloc, &cert.right)?;
+    let rule = rule_value(alloc, &cert.rule)?;
+    let surjective = surjective_value(alloc, cert)?;
+    let mut members = Map::new(alloc);
+    put(&mut members, alloc, "conserving", conserving)?;
+    put(&mut members, alloc, "injective", injective)?;
+    put(&mut members, alloc, "left", left)?;
+    put(&mut members, alloc, "ranks", ranks)?;
+    put(&mut members, alloc, "right", right)?;
+    put(&mut members, alloc, "rule", rule)?;
+    put(&mut members, alloc, "surjective", surjective)?;
+    put(&mut members, alloc, "version", Value::from(1u64))?;
+    Ok(Value::from(members))
+}
+
+/// The sets, or the word without a preimage.
+fn surjective_value(alloc: Global, cert: &Cert) -> Result<Value, AllocError>
+    ensures { IfOk result (λ v. view v ≡ written.surjective_value (cert.now).surjective) }
+{
+    match &cert.surjective {
+        SurjectivePart::Sets(sets) => {
+            let sets = sets_value(alloc, sets)?;
+            json!(in alloc; {"sets": sets})
+        }
+        SurjectivePart::Orphan(word) => {
+            let word = word_value(alloc, word)?;
+            json!(in alloc; {"orphan": word})
+        }
+    }
+}
+
+/// The window, or the two rings with one image.
+fn injective_value(alloc: Global, cert: &Cert) -> Result<Value, AllocError>
+    ensures { IfOk result (λ v. view v ≡ written.injective_value (cert.now).injective) }
+{
+    match &cert.injective {
+        InjectivePart::Window { n, c } => json!(in alloc; {"c": *c, "n": *n}),
+        InjectivePart::Twins { x, y } => {
+            let x = word_value(alloc, x)?;
+            let y = word_value(alloc, y)?;
+            json!(in alloc; {"twins": [x, y]})
+        }
+    }
+}
+
+/// The look-ahead of a side, or its two Tails with one image.
+fn side_value(alloc: Global, side: &SidePart) -> Result<Value, AllocError>
+    ensures { IfOk result (λ v. view v ≡ written.side_value (side_of side.now)) }
+{
+    match side {
+        SidePart::Ahead(n) => json!(in alloc; {"ahead": *n}),
+        SidePart::Split(x, y) => {
+            let x = tail_value(alloc, x)?;
+            let y = tail_value(alloc, y)?;
+            json!(in alloc; {"split": [x, y]})
+        }
+    }
+}
+
+/// The flux, or the ring whose image has another sum.
+fn sum_value(alloc: Global, cert: &Cert) -> Result<Value, AllocError>
+    ensures { IfOk result (λ v. view v ≡ written.sum_value (cert.now).conserving) }
+{
+    match &cert.conserving {
+        SumPart::Flux(flux) => {
+            let flux = flux_value(alloc, flux)?;
+            json!(in alloc; {"flux": flux})
+        }
+        SumPart::Ring(ring) => {
+            let ring = word_value(alloc, ring)?;
+            json!(in alloc; {"ring": ring})
+        }
+    }
+}
+
+/// The claims of both directions.
+fn ranks_value(alloc: Global, cert: &Cert) -> Result<Value, AllocError>
+    ensures { IfOk result (λ v. view v
+        ≡ written.ranks_value (cert.now).forward (cert.now).backward) }
+{
+    let backward = claims_value(alloc, &cert.backward)?;
+    let forward = claims_value(alloc, &cert.forward)?;
+    json!(in alloc; {"backward": backward, "forward": forward})
+}
+
+/// Sets as numbers.
+fn sets_value(alloc: Global, sets: &SetList) -> Result<Value, AllocError>
+    ensures { IfOk result (λ v. view v ≡ array_from (map written.whole_value sets.now)) }
+{
+    let sets = sets.as_slice().iter();
+    let values: Vec<Value> = sets.map(|set| Value::from(*set)).collect(alloc)?;
+    Ok(Value::from(values))
+}
+
+/// Claims as numbers, and null where nothing is claimed.
+fn claims_value(alloc: Global, claims: &RankRow) -> Result<Value, AllocError>
+    ensures { IfOk result (λ v. view v ≡ array_from (map written.claim_value claims.now)) }
+{
+    let claims = claims.as_slice().iter();
+    let values: Vec<Value> = claims.map(|claim| Value::from(*claim)).collect(alloc)?;
+    Ok(Value::from(values))
+}
+
+/// Flows as numbers.
+fn flux_value(alloc: Global, flux: &FluxRow) -> Result<Value, AllocError>
+    ensures { IfOk result (λ v. view v ≡ array_from (map written.signed_value flux.now)) }
+{
+    let flows = flux.as_slice().iter();
+    let values: Vec<Value> = flows.map(|flow| Value::from(*flow)).collect(alloc)?;
+    Ok(Value::from(values))
+}
+
+/// A word's text.
+fn word_value(alloc: Global, word: &Word) -> Result<Value, AllocError>
+    requires { IsWord 16 word.now }
+    ensures { IfOk result (λ v. view v ≡ written.word_value word.now) }
+{
+    Ok(text_value(word_text(alloc, word.as_slice())?))
+}
+
+/// A Tail's text.
+fn tail_value(alloc: Global, tail: &Tail) -> Result<Value, AllocError>
+    ensures { IfOk result (λ v. view v ≡ written.tail_value (tail.now).config) }
+{
+    prove!(tail.k() <= 16);
+    Ok(text_value(tail_config::print(alloc, tail)?))
+}
+
+/// A rule's text.
+fn rule_value(alloc: Global, rule: &Rule) -> Result<Value, AllocError>
+    ensures { IfOk result (λ v. view v ≡ string (printed rule.now)) }
+{
+    prove!(rule.k() <= 16);
+    Ok(text_value(rule_text::print(alloc, rule)?))
+}
+
+/// A text as a string of JSON.
+fn text_value(text: Vec<u8>) -> Value
+    requires { IsUtf8 text.items }
+    ensures { view result ≡ string text.items }
+{
+    match String::from_utf8(text) {
+        Ok(text) => Value::from(text),
+        Err(_) => unreachable!(),
+    }
+}
