@@ -1,0 +1,8 @@
+use Rattle.cert_check.specs.Breaches.{EachBelow}
+use Rattle.cert_check.specs.Sides.{IsFirstOf}
+use Rattle.cert_check.specs.Windows.{IsAheadPair}
+use Rattle.cert_check.proofs.aheads.first_too_far.Given as goal
+
+-- less than n - 1 is claimed of each first pair so far
+abbrev pub invariant-loop-pair : goal.invariant-loop-pair
+invariant-loop-pair l = EachBelow l.pair (IsAheadPair (IsFirstOf l.side l.rule) l.claims l.n)

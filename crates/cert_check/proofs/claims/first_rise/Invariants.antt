@@ -1,0 +1,7 @@
+use Rattle.cert_check.specs.Breaches.{EachBelow}
+use Rattle.cert_check.specs.Claims.{Falls}
+use Rattle.cert_check.proofs.claims.first_rise.Given as goal
+
+-- the claims of the pairs so far fall
+abbrev pub invariant-loop-pair : goal.invariant-loop-pair
+invariant-loop-pair l = EachBelow l.pair (Falls l.side l.rule l.claims)

@@ -1,0 +1,22 @@
+use Rattle.std.proofs.Common.{subst}
+use Rattle.std.specs.Prelude.{All}
+use Rattle.std.proofs.lemmas.List.{take_all}
+use Rattle.std.proofs.lemmas.Result.{err_from_is_err_and}
+use Rattle.cert_check.specs.Conditions.{conditions, Holds}
+use Rattle.cert_check.proofs.laws.Breaches.{IsFirstUnmet-at, All-more, MeetsConditions-all}
+use Rattle.cert_check.proofs.conditions.check_all.Goals as goal
+
+pub returns-in_err-check : goal.returns-in_err-check
+returns-in_err-check c =
+    let p = err_from_is_err_and c.from_residual.result c.from_residual.ensures.1 in
+    rw (p.1, p.2)
+    (IsFirstUnmet-at c.loop-condition.condition-index _ c.loop-condition-test.true c.loop-condition.invariant c.in_err-check.ensures)
+
+pub loop-condition-preserved : goal.loop-condition-preserved
+loop-condition-preserved c =
+    All-more (Holds c.args.cert.now) conditions c.loop-condition.condition-index _ c.loop-condition-test.true c.loop-condition.invariant c.in_ok-check.ensures
+
+pub returns : goal.returns
+returns c =
+    MeetsConditions-all c.args.cert.now
+    (subst (All (Holds c.args.cert.now)) (take_all c.loop-condition.condition-index conditions c.loop-condition-test.false) c.loop-condition.invariant)

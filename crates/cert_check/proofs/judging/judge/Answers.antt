@@ -1,0 +1,57 @@
+use Rattle.std.proofs.Common.{◌≡◌, Ok, Err, inl, inr, sym, ap, ◌∙◌, subst, ⊎_elim}
+use Rattle.std.proofs.lemmas.Result.{err_from_is_err_and}
+use Rattle.cert_format.specs.declared.shape_fault.CertFault.TheVariants as cert_fault
+use Rattle.cert_check.specs.declared.refusal.Refusal.TheVariants as refusal
+use Rattle.cert_check.specs.Refusals.{IsRefusal}
+use Rattle.cert_check.specs.Refusals.IsRefusal.{NoShape, Unmet}
+use Rattle.cert_check.proofs.laws.Breaches.{unmet_fails}
+use Rattle.cert_check.proofs.laws.OneBreach.{one_unmet}
+use Rattle.cert_check.proofs.laws.Judging.{accepted-read, refusal-read, accepted-named, refusal-named}
+use Rattle.cert_check.proofs.laws.Soundness.{AreTrue-accepted}
+use Rattle.cert_check.proofs.judging.judge.Goals as goal
+
+pub returns-in_err-check_all-in-Ok-clause-refused : goal.returns-in_err-check_all-in-Ok-clause-refused
+returns-in_err-check_all-in-Ok-clause-refused c =
+    let p = err_from_is_err_and c.from_residual.result c.from_residual.ensures.1 in
+    rw (p.1, p.2) (inr (Unmet c.in-Ok.cert c.in_err-check_all-in-Ok.field-0.0 c.in-Ok.ensures.cert c.in_err-check_all-in-Ok.ensures))
+
+pub returns-in_err-check_all-in-Ok-clause-every_accepted : goal.returns-in_err-check_all-in-Ok-clause-every_accepted
+returns-in_err-check_all-in-Ok-clause-every_accepted c = λ v h.
+    absurd (unmet_fails c.in_err-check_all-in-Ok.ensures (accepted-read c.from_bytes.ensures.every_cert c.in-Ok.is h).1)
+
+pub returns-in_err-check_all-in-Ok-clause-every_refusal : goal.returns-in_err-check_all-in-Ok-clause-every_refusal
+returns-in_err-check_all-in-Ok-clause-every_refusal c = λ f h.
+    let p = err_from_is_err_and c.from_residual.result c.from_residual.ensures.1 in
+    rw (p.1, p.2) (inl (ap Err (one_unmet c.in_err-check_all-in-Ok.ensures (refusal-read c.from_bytes.ensures.every_cert c.from_bytes.ensures.every_fault c.in-Ok.is h))))
+
+pub returns-in_ok-check_all-in-Ok-clause-verdicts : goal.returns-in_ok-check_all-in-Ok-clause-verdicts
+returns-in_ok-check_all-in-Ok-clause-verdicts c =
+    AreTrue-accepted (record { certificate = c.in-Ok.cert; text = c.in-Ok.ensures.cert; meets = c.in_ok-check_all-in-Ok.ensures; verdicts = c.of.ensures })
+
+pub returns-in_ok-check_all-in-Ok-clause-every_accepted : goal.returns-in_ok-check_all-in-Ok-clause-every_accepted
+returns-in_ok-check_all-in-Ok-clause-every_accepted c = λ v h.
+    let same : c.of.result ≡ v = c.of.ensures ∙ sym (accepted-read c.from_bytes.ensures.every_cert c.in-Ok.is h).0 in
+    inl (ap Ok same)
+
+pub returns-in_ok-check_all-in-Ok-clause-every_refusal : goal.returns-in_ok-check_all-in-Ok-clause-every_refusal
+returns-in_ok-check_all-in-Ok-clause-every_refusal c = λ f h.
+    absurd (unmet_fails (refusal-read c.from_bytes.ensures.every_cert c.from_bytes.ensures.every_fault c.in-Ok.is h) c.in_ok-check_all-in-Ok.ensures)
+
+pub returns-in-Err-Format-clause-refused : goal.returns-in-Err-Format-clause-refused
+returns-in-Err-Format-clause-refused c =
+    ⊎_elim
+    (λ memory. absurd (cc))
+    (λ (s, same, fault).
+    let named : s ≡ c.in-Err-Format.fault = cc in
+    inr (subst (λ t. IsRefusal c.args.bytes.now (refusal.Format t)) named (NoShape s fault)))
+    c.in-Err-Format.ensures.fault
+
+pub returns-in-Err-Format-clause-every_accepted : goal.returns-in-Err-Format-clause-every_accepted
+returns-in-Err-Format-clause-every_accepted c = λ v h.
+    let named : c.from_bytes.result ≡ Err (cert_fault.Format c.in-Err-Format.fault) = cc in
+    absurd (accepted-named c.from_bytes.ensures.every_cert named h)
+
+pub returns-in-Err-Format-clause-every_refusal : goal.returns-in-Err-Format-clause-every_refusal
+returns-in-Err-Format-clause-every_refusal c = λ f h.
+    let named : c.from_bytes.result ≡ Err (cert_fault.Format c.in-Err-Format.fault) = cc in
+    inl (ap Err (refusal-named c.from_bytes.ensures.every_cert c.from_bytes.ensures.every_fault named h))

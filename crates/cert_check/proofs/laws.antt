@@ -1,0 +1,17 @@
+pub mod Steps
+pub mod Claims
+pub mod Rows
+pub mod Breaches
+pub mod OneBreach
+pub mod Judging
+pub mod OneAnswer
+pub mod FirstPairs
+pub mod NodeLetters
+pub mod RingWindows
+pub mod WindowFlows
+pub mod StepConditions
+pub mod SurjectiveConditions
+pub mod ClaimConditions
+pub mod SumConditions
+pub mod Soundness
+pub mod ExactEvidence

@@ -1,0 +1,109 @@
+-- True evidence meets the conditions: the sets of last nodes, an orphan, the exact ranks, and with them each window and look-ahead, twins, splits, a flux, and a lossy ring.
+use Rattle.std.proofs.Common.{◌≢◌, ℕ, ◌^◌, List, [], ◌∷◌, ◌++◌, length, slice_index, Contains, Option, ℤ, subst}
+use Rattle.std.proofs.lemmas.List.Elements.{Contains-get_or}
+use Rattle.word_image.specs.LocalRules.{LocalRule, IsRule, word_of}
+use Rattle.word_image.specs.Words.{IsSurjective, IsOrphan}
+use Rattle.word_image.specs.Rings.{IsTwins, IsFlux, IsLossyRing}
+use Rattle.word_image.specs.Windows.{IsDetermined, IsRightAhead, IsLeftAhead}
+use Rattle.word_image.specs.Graphs.{IsStep, full_set, pair_count}
+use Rattle.word_image.specs.Erasure.{IsFirstOfRight, IsFirstOfLeft}
+use Rattle.word_image.specs.Ranks.{IsLastSet}
+use Rattle.word_image.proofs.laws.LastSets.{IsLastSet-full, IsLastSet-step, IsOrphan-empty_set, IsOrphan-not_surjective}
+use Rattle.search_laws.specs.SearchQueues.Leads.{Here, On}
+use Rattle.search_laws.proofs.StepSets.{LeadsToSet, LeadsToSet-last, IsLastSet-orphan, IsStep-some}
+use Rattle.pair_laws.proofs.Pairs.{PairBegins, PairEnds}
+use Rattle.pair_laws.proofs.Claims.{ClaimsRanks, FallsForward-ranks, FallsBackward-ranks}
+use Rattle.pair_laws.proofs.Evidence.{IsClaimedApart-ranks, IsRightAhead-ranks, IsLeftAhead-ranks}
+use Rattle.ring_laws.proofs.FluxWindows.{Flows-flux}
+use Rattle.tail_config.specs.Tails.{TailConfig, AgreeLeft, AgreeRight, IsRightSplit, IsLeftSplit}
+use Rattle.cert_check.specs.Breaches.{EachBelow}
+use Rattle.cert_check.specs.Claims.{claim}
+use Rattle.cert_check.specs.Sets.{StepIsListed, LeadsTo}
+use Rattle.cert_check.specs.Sets.LeadsTo.{Stays, Steps}
+use Rattle.cert_check.specs.Sums.{Flows, IsLossy}
+use Rattle.cert_check.specs.Windows.{IsWindowPair, IsAheadPair}
+use Rattle.cert_check.proofs.laws.ClaimConditions.{ClaimForward, ClaimBackward, AreApart, AreAlike}
+use Rattle.cert_check.proofs.laws.WindowFlows.{Flows-value}
+
+-- the list has the last nodes of each word, and no other set
+pub record AreLastSets (r : LocalRule) (sets : List ℕ) : Type 0 where
+  pub each : (set : ℕ) → Contains sets set → (w : List ℕ) × IsLastSet r w set
+  pub all : (w : List ℕ) (set : ℕ) → IsLastSet r w set → Contains sets set
+
+-- it has the full set
+pub Contains-full : {r : LocalRule} {sets : List ℕ} → AreLastSets r sets → Contains sets (full_set r)
+Contains-full {r} last = last.all [] (full_set r) (IsLastSet-full r)
+
+-- it has no empty set where the rule is surjective
+pub nonempty-last_sets : {r : LocalRule} {sets : List ℕ} → IsSurjective r → AreLastSets r sets → EachBelow (length sets) (λ i. slice_index sets i ≢ 0)
+nonempty-last_sets {r} {sets} surjective last i l empty =
+    let found = last.each (slice_index sets i) (Contains-get_or sets i 0 l) in
+    IsOrphan-not_surjective (IsOrphan-empty_set (subst (IsLastSet r found.0) empty found.1)) surjective
+
+-- it has each step from one of its sets
+pub StepIsListed-last_sets : {r : LocalRule} {sets : List ℕ} → IsRule r → AreLastSets r sets → EachBelow (length sets) (λ i. EachBelow r.states (StepIsListed r sets (slice_index sets i)))
+StepIsListed-last_sets {r} {sets} rule last i l a letter =
+    let found = last.each (slice_index sets i) (Contains-get_or sets i 0 l) in
+    let step = IsStep-some r (slice_index sets i) a in
+    (step.0, step.1, last.all (found.0 ++ a ∷ []) step.0 (IsLastSet-step {set = slice_index sets i} {after = step.0} rule found.1 letter step.1))
+
+-- one more step at the end
+pub LeadsTo-push : {r : LocalRule} {set middle end a : ℕ} {w : List ℕ} → LeadsTo r set w middle → IsStep r middle a end → LeadsTo r set (w ++ a ∷ []) end
+LeadsTo-push {end} {a} (Stays set) step = Steps set a end [] end step (Stays end)
+LeadsTo-push {end} {a} (Steps set b next w middle first leads) step = Steps set b next (w ++ a ∷ []) end first (LeadsTo-push leads step)
+
+-- steps one behind another lead on letter by letter
+pub LeadsTo-leads : {r : LocalRule} {w : List ℕ} {set : ℕ} → LeadsToSet r w set → LeadsTo r (full_set r) w set
+LeadsTo-leads {r} Here = Stays (full_set r)
+LeadsTo-leads (On w a s t before letter step) = LeadsTo-push (LeadsTo-leads before) step
+
+-- from the full set a word leads to its last nodes
+pub LeadsTo-last : {r : LocalRule} {w : List ℕ} {set : ℕ} → IsRule r → IsLastSet r w set → LeadsTo r (full_set r) w set
+LeadsTo-last rule last = LeadsTo-leads (LeadsToSet-last rule last)
+
+-- an orphan leads to the empty set
+pub LeadsTo-orphan : {r : LocalRule} {w : List ℕ} → IsRule r → IsOrphan r w → LeadsTo r (full_set r) w 0
+LeadsTo-orphan rule orphan = LeadsTo-last rule (IsLastSet-orphan rule orphan)
+
+-- the exact ranks fall forward
+pub ClaimForward-ranks : {r : LocalRule} → IsRule r → (row : List (Option ℕ)) → ClaimsRanks r (PairBegins r) (claim row) → ClaimForward r row
+ClaimForward-ranks rule row ranks = FallsForward-ranks rule (claim row) ranks
+
+-- and backward
+pub ClaimBackward-ranks : {r : LocalRule} → IsRule r → (row : List (Option ℕ)) → ClaimsRanks r (PairEnds r) (claim row) → ClaimBackward r row
+ClaimBackward-ranks rule row ranks = FallsBackward-ranks rule (claim row) ranks
+
+-- with the exact ranks a determined window is claimed
+pub IsWindowPair-determined : {r : LocalRule} → IsRule r → (forward backward : List (Option ℕ)) → ClaimsRanks r (PairBegins r) (claim forward) → ClaimsRanks r (PairEnds r) (claim backward)
+    → (n c : ℕ) → IsDetermined r n c → EachBelow (pair_count r) (IsWindowPair r forward backward n c)
+IsWindowPair-determined rule forward backward ranks back n c determined = IsClaimedApart-ranks rule (claim forward) (claim backward) ranks back n c determined
+
+-- so is a right look-ahead
+pub IsAheadPair-right : {r : LocalRule} → IsRule r → (forward : List (Option ℕ)) → ClaimsRanks r (PairBegins r) (claim forward) → (n : ℕ) → IsRightAhead r n
+    → EachBelow (pair_count r) (IsAheadPair (IsFirstOfRight r) forward n)
+IsAheadPair-right rule forward ranks n ahead p l first = IsRightAhead-ranks rule (claim forward) ranks n ahead p first
+
+-- and a left one
+pub IsAheadPair-left : {r : LocalRule} → IsRule r → (backward : List (Option ℕ)) → ClaimsRanks r (PairEnds r) (claim backward) → (n : ℕ) → IsLeftAhead r n
+    → EachBelow (pair_count r) (IsAheadPair (IsFirstOfLeft r) backward n)
+IsAheadPair-left rule backward back n ahead p l first = IsLeftAhead-ranks rule (claim backward) back n ahead p first
+
+-- twins are alike
+pub AreAlike-twins : {r : LocalRule} {x y : List ℕ} → IsTwins r x y → AreAlike r x y
+AreAlike-twins twins = ((twins.one_length, twins.first.some), twins.different, twins.one_image)
+
+-- a right split agrees on the left
+pub AreApart-right : {r : LocalRule} {x y : TailConfig} → IsRightSplit r x y → AreApart AgreeLeft r x y
+AreApart-right split = (split.different, split.agree, split.share)
+
+-- and a left split on the right
+pub AreApart-left : {r : LocalRule} {x y : TailConfig} → IsLeftSplit r x y → AreApart AgreeRight r x y
+AreApart-left split = (split.different, split.agree, split.share)
+
+-- a flux flows on the word of each number
+pub Flows-exact : {r : LocalRule} {phi : List ℤ} → IsRule r → IsFlux (λ a. a) r phi → EachBelow (r.states ^ r.width) (λ v. Flows r phi (word_of r.states r.width v))
+Flows-exact {phi} rule flux v l = (Flows-value rule phi v l).0 (Flows-flux rule flux v l)
+
+-- a lossy ring has letters, and its image another sum
+pub IsLossy-ring : {r : LocalRule} {p : List ℕ} → IsLossyRing (λ a. a) r p → IsLossy r p
+IsLossy-ring lossy = (lossy.ring.some, lossy.loses)

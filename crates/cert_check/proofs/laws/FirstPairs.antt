@@ -1,0 +1,148 @@
+-- The first pairs of a side, told by the letters of their nodes.
+use Rattle.std.proofs.Common.{◌≡◌, ◌≢◌, ℕ, suc, ◌+◌, ◌-◌, ◌*◌, ◌/◌, ◌%◌, ◌^◌, ◌<◌, ◌≤◌, drop, slice_index, refl, sym, ap, ap₂, ◌∙◌, subst, arith, pow-suc, mul_assoc, mul_comm, mod-lt}
+use Rattle.std.proofs.Math.Nat.{one-le-pow, pow-le-pow_right}
+use Rattle.std.proofs.lemmas.Nat.{mul-add-lt, div_below, div-mul-add, mod-mul-add, div-add-mod'}
+use Rattle.word_image.specs.LocalRules.{LocalRule, IsRule, node_count, value, word_of}
+use Rattle.word_image.specs.Graphs.{next, node_letter, pair_of, first_of, second_of, pair_count}
+use Rattle.word_image.specs.Erasure.{IsFirstOfRight, IsFirstOfLeft}
+use Rattle.word_image.proofs.laws.Values.{value-word_of}
+use Rattle.word_image.proofs.laws.Graphs.{next-below}
+use Rattle.pair_laws.proofs.Pairs.{first_of-pair_of, second_of-pair_of, pair_of-first_of, first_of-below, second_of-below}
+use Rattle.cert_check.specs.declared.refusal.Side.{Side}
+use Rattle.cert_check.specs.declared.refusal.Side.TheVariants.{Right, Left}
+use Rattle.cert_check.specs.Claims.{window_with}
+use Rattle.cert_check.specs.Sides.{IsFirstOf, other, rest_of}
+
+-- some letter on this side of two nodes makes windows with one label of them
+abbrev pub HaveOneLabel : Side → LocalRule → ℕ → ℕ → Type 0
+HaveOneLabel side r u v = (a : ℕ) × (a < r.states) × (slice_index r.table (window_with side r u a) ≡ slice_index r.table (window_with side r v a))
+
+-- the nodes differ in their letter on this side alone, and a letter on the other side makes windows with one label of them
+abbrev pub DifferAtEnd : Side → LocalRule → ℕ → ℕ → Type 0
+DifferAtEnd side r u v = (u ≢ v) × (rest_of side r u ≡ rest_of side r v) × HaveOneLabel (other side) r u v
+
+-- how many words of m - 2 letters there are
+abbrev rest_count : LocalRule → ℕ
+rest_count r = r.states ^ (r.width - 2)
+
+-- a power of k that is no more than there are nodes
+pub power-below : {r : LocalRule} → IsRule r → (j : ℕ) → j ≤ r.width - 1 → (1 ≤ r.states ^ j) × (r.states ^ j ≤ 16)
+power-below {r} rule j l =
+    let some : 0 < r.states = omega (arith, rule.shape.least_states) in
+    let few : r.states ^ j ≤ node_count r = pow-le-pow_right some l in
+    (one-le-pow j r.states some, omega (arith, few, rule.shape.most_nodes))
+
+-- a node is a letter and a word of m - 2 letters
+node_count-rest : {r : LocalRule} → IsRule r → node_count r ≡ rest_count r * r.states
+node_count-rest {r} rule =
+    let wide : 2 ≤ r.width = rule.shape.least_width in
+    let long : r.width - 1 ≡ suc (r.width - 2) = omega arith in
+    ap (λ n. r.states ^ n) long ∙ pow-suc r.states (r.width - 2)
+
+-- the window of a letter, such a word and a letter, read from either end
+window_parts : {r : LocalRule} → IsRule r → (c s a : ℕ) → c * node_count r + (s * r.states + a) ≡ (c * rest_count r + s) * r.states + a
+window_parts {r} rule c s a =
+    let inner : c * node_count r ≡ c * rest_count r * r.states = ap (λ n. c * n) (node_count-rest rule) ∙ sym (mul_assoc c (rest_count r) r.states) in
+    omega (arith, inner)
+
+-- the first letter of a node, and the word of its other letters
+node_parts : {r : LocalRule} → IsRule r → (u : ℕ) → (node_letter r u 0 ≡ u / rest_count r) × (drop 1 (word_of r.states (r.width - 1) u) ≡ word_of r.states (r.width - 2) (u % rest_count r))
+node_parts {r} rule u =
+    let wide : 2 ≤ r.width = rule.shape.least_width in
+    let long : r.width - 1 ≡ suc (r.width - 2) = omega arith in
+    (ap (λ n. slice_index (word_of r.states n u) 0) long, ap (λ n. drop 1 (word_of r.states n u)) long)
+
+-- the node to which a letter leads: its last letter, its other letters, and the window that ends with it
+next_parts : {r : LocalRule} → IsRule r → (w a : ℕ) → a < r.states
+    → (next r w a % r.states ≡ a) × (next r w a / r.states ≡ w % rest_count r) × (w / rest_count r * node_count r + next r w a ≡ w * r.states + a)
+next_parts {r} rule w a letter =
+    let k : ℕ = r.states in
+    let some = power-below rule (r.width - 2) (omega arith) in
+    let s : ℕ = w % rest_count r in
+    let inside : s * k + a < node_count r = subst (λ n. s * k + a < n) (mul_comm k (rest_count r) ∙ sym (node_count-rest rule)) (mul-add-lt s k a (rest_count r) (mod-lt w some.0) letter) in
+    let window : w / rest_count r * node_count r + (s * k + a) ≡ w * k + a = window_parts rule (w / rest_count r) s a ∙ ap (λ z. z * k + a) (div-add-mod' w (rest_count r)) in
+    let node : next r w a ≡ s * k + a = ap (λ z. z % node_count r) (sym window) ∙ mod-mul-add (w / rest_count r) (node_count r) (s * k + a) inside in
+    (ap (λ z. z % k) node ∙ mod-mul-add s k a letter, ap (λ z. z / k) node ∙ div-mul-add s k a letter, ap (λ z. w / rest_count r * node_count r + z) node ∙ window)
+
+-- the nodes of a first pair of the right differ in their last letter alone
+DifferAtEnd-right : {r : LocalRule} {p : ℕ} → IsRule r → IsFirstOfRight r p → DifferAtEnd Right r (first_of r p) (second_of r p)
+DifferAtEnd-right {r} {p} rule f =
+    let k : ℕ = r.states in
+    let some = power-below rule (r.width - 2) (omega arith) in
+    let c : ℕ = f.node / rest_count r in
+    let first : first_of r p ≡ next r f.node f.a = ap (first_of r) f.pair ∙ first_of-pair_of r _ _ (next-below rule f.node f.b) in
+    let second : second_of r p ≡ next r f.node f.b = ap (second_of r) f.pair ∙ second_of-pair_of r _ _ (next-below rule f.node f.b) in
+    let one = next_parts rule f.node f.a f.a_letter in
+    let two = next_parts rule f.node f.b f.b_letter in
+    let letter : c < k = div_below f.node (rest_count r) k some.0 (subst (λ n. f.node < n) (node_count-rest rule ∙ mul_comm (rest_count r) k) f.in_nodes) in (
+      λ e. f.different (sym one.0 ∙ ap (λ z. z % k) (sym first ∙ e ∙ second) ∙ two.0),
+      ap (λ z. z / k) first ∙ one.1 ∙ sym (ap (λ z. z / k) second ∙ two.1),
+      (
+        c,
+        letter,
+        ap (λ z. slice_index r.table (c * node_count r + z)) first ∙ ap (slice_index r.table) one.2 ∙ f.one_label
+            ∙ ap (slice_index r.table) (sym two.2) ∙ ap (λ z. slice_index r.table (c * node_count r + z)) (sym second),
+      ),
+    )
+
+-- and two nodes that do are one
+IsFirstOfRight-differ : {r : LocalRule} {p : ℕ} → IsRule r → p < pair_count r → DifferAtEnd Right r (first_of r p) (second_of r p) → IsFirstOfRight r p
+IsFirstOfRight-differ {r} {p} rule in_pairs (apart, rest, (c, letter, one_label)) =
+    let k : ℕ = r.states in
+    let u : ℕ = first_of r p in
+    let v : ℕ = second_of r p in
+    let some : 0 < k = omega (arith, rule.shape.least_states) in
+    let hu : u < node_count r = first_of-below rule p in_pairs in
+    let node : ℕ = c * rest_count r + u / k in
+    let from : (x : ℕ) → u / k ≡ x / k → node * k + x % k ≡ c * node_count r + x = λ x same.
+    ap (λ s. (c * rest_count r + s) * k + x % k) same ∙ sym (window_parts rule c (x / k) (x % k)) ∙ ap (λ z. c * node_count r + z) (div-add-mod' x k) in
+    let leads : (x : ℕ) → u / k ≡ x / k → x < node_count r → next r node (x % k) ≡ x = λ x same h. ap (λ z. z % node_count r) (from x same) ∙ mod-mul-add c (node_count r) x h in
+    let below : u / k < rest_count r = div_below u k (rest_count r) some (subst (λ n. u < n) (node_count-rest rule) hu) in
+    record {
+      node = node;
+      a = u % k;
+      b = v % k;
+      in_nodes = subst (λ n. node < n) (sym (node_count-rest rule)) (mul-add-lt c (rest_count r) (u / k) k letter below);
+      a_letter = mod-lt u some;
+      b_letter = mod-lt v some;
+      different = λ e. apart (sym (div-add-mod' u k) ∙ ap₂ (λ (i j : ℕ). i * k + j) rest e ∙ div-add-mod' v k);
+      one_label = ap (slice_index r.table) (from u refl) ∙ one_label ∙ ap (slice_index r.table) (sym (from v rest));
+      pair = sym (pair_of-first_of r p) ∙ ap₂ (pair_of r) (sym (leads u refl hu)) (sym (leads v rest (second_of-below rule p)));
+    }
+
+-- the nodes of a first pair of the left differ in their first letter alone
+DifferAtEnd-left : {r : LocalRule} {p : ℕ} → IsRule r → IsFirstOfLeft r p → DifferAtEnd Left r (first_of r p) (second_of r p)
+DifferAtEnd-left {r} {p} rule f =
+    let some = power-below rule (r.width - 2) (omega arith) in
+    let at : (u : ℕ) → value r.states (word_of r.states (r.width - 2) (u % rest_count r)) ≡ u % rest_count r = λ u. value-word_of r.states (r.width - 2) (u % rest_count r) (mod-lt u some.0) in
+    let words = sym (node_parts rule (first_of r p)).1 ∙ f.same_rest ∙ (node_parts rule (second_of r p)).1 in (
+      λ e. f.different (ap (λ u. node_letter r u 0) e),
+      sym (at (first_of r p)) ∙ ap (value r.states) words ∙ at (second_of r p),
+      (f.letter, f.in_letters, f.one_label),
+    )
+
+-- and two nodes that do are one
+IsFirstOfLeft-differ : {r : LocalRule} {p : ℕ} → IsRule r → p < pair_count r → DifferAtEnd Left r (first_of r p) (second_of r p) → IsFirstOfLeft r p
+IsFirstOfLeft-differ {r} {p} rule in_pairs (apart, rest, (c, letter, one_label)) =
+    let u : ℕ = first_of r p in
+    let v : ℕ = second_of r p in
+    record {
+      letter = c;
+      in_pairs = in_pairs;
+      in_letters = letter;
+      different = λ same.
+          let first : u / rest_count r ≡ v / rest_count r = sym (node_parts rule u).0 ∙ same ∙ (node_parts rule v).0 in
+          apart (sym (div-add-mod' u (rest_count r)) ∙ ap₂ (λ (i j : ℕ). i * rest_count r + j) first rest ∙ div-add-mod' v (rest_count r));
+      same_rest = (node_parts rule u).1 ∙ ap (word_of r.states (r.width - 2)) rest ∙ sym (node_parts rule v).1;
+      one_label = one_label;
+    }
+
+-- a pair is a first one of a side exactly where its nodes differ in their letter on that side alone
+pub IsFirstOf-differ : (side : Side) {r : LocalRule} (p : ℕ) → IsRule r → p < pair_count r → DifferAtEnd side r (first_of r p) (second_of r p) → IsFirstOf side r p
+IsFirstOf-differ Right p rule in_pairs h = IsFirstOfRight-differ rule in_pairs h
+IsFirstOf-differ Left p rule in_pairs h = IsFirstOfLeft-differ rule in_pairs h
+
+-- and its nodes do
+pub DifferAtEnd-first : (side : Side) {r : LocalRule} (p : ℕ) → IsRule r → IsFirstOf side r p → DifferAtEnd side r (first_of r p) (second_of r p)
+DifferAtEnd-first Right p rule f = DifferAtEnd-right rule f
+DifferAtEnd-first Left p rule f = DifferAtEnd-left rule f

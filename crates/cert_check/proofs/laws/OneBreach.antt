@@ -1,0 +1,107 @@
+-- A certificate has at most one first condition that it doesn't meet, and one thing is said of it.
+use Rattle.std.proofs.Common.{◌≡◌, ◌≢◌, refl, ap, ap₂, subst, subst₂, List, length, slice_index, ℕ, ◌^◌, ⊎_elim, arith}
+use Rattle.std.proofs.lemmas.Bool.{cases_lt}
+use Rattle.word_image.specs.LocalRules.{LocalRule, word_of}
+use Rattle.word_image.specs.Graphs.{pair_count}
+use Rattle.word_image.specs.Erasure.{IsFirstOfRight, IsFirstOfLeft}
+use Rattle.tail_config.specs.Tails.{TailConfig, AgreeLeft, AgreeRight}
+use Rattle.cert_format.specs.Certificates.{Certificate}
+use Rattle.cert_format.proofs.laws.ShapeFaults.{IsFirstWithout-unique}
+use Rattle.cert_check.specs.declared.conditions.Condition.{Condition}
+use Rattle.cert_check.specs.declared.refusal.Side.TheVariants as side
+use Rattle.cert_check.specs.declared.refusal.TwinCause.{TwinCause}
+use Rattle.cert_check.specs.declared.refusal.SplitCause.{SplitCause}
+use Rattle.cert_check.specs.declared.refusal.Refusal.{Refusal}
+use Rattle.cert_check.specs.declared.refusal.Refusal.TheVariants as refusal
+use Rattle.cert_check.specs.Breaches.{EachBelow, IsFirstBreach}
+use Rattle.cert_check.specs.Claims.{IsForwardClaim, IsBackwardClaim}
+use Rattle.cert_check.specs.Sets.{StepIsListed}
+use Rattle.cert_check.specs.Windows.{IsWindowPair, IsAheadPair}
+use Rattle.cert_check.specs.Sums.{Flows}
+use Rattle.cert_check.specs.Refusals.{IsBreach, IsTwinsBreach, IsSplitBreach, IsFirstUnmet}
+use Rattle.cert_check.specs.Refusals.IsBreach.{Forward, Backward, NoFull, Empty, NotClosed, NoOrphan, NoWindow, NoTwins, NoRightAhead, NoRightSplit, NoLeftAhead, NoLeftSplit, NoFlux, NoRing}
+use Rattle.cert_check.specs.Refusals.IsTwinsBreach.{Length, Same as SameWords, Image as OtherRings}
+use Rattle.cert_check.specs.Refusals.IsSplitBreach.{Same as SameCells, Apart, Image as OtherImages}
+
+-- the first number is one
+one_breach : (n : ℕ) (P : ℕ → Type 0) (i j : ℕ) → IsFirstBreach n P i → IsFirstBreach n P j → i ≡ j
+one_breach n P i j h k =
+    ⊎_elim
+    (λ before. absurd (h.fails (k.earlier i before)))
+    (λ not_before. ⊎_elim (λ after. absurd (k.fails (h.earlier j after))) (λ not_after. omega arith) (cases_lt j i))
+    (cases_lt i j)
+
+-- the cause of two words is one
+one_twin_cause : {r : LocalRule} {x y : List ℕ} {a b : TwinCause} → IsTwinsBreach r x y a → IsTwinsBreach r x y b → a ≡ b
+one_twin_cause (Length _) (Length _) = refl
+one_twin_cause (Length none) (SameWords one some _) = absurd (none (one, some))
+one_twin_cause (Length none) (OtherRings one some _ _) = absurd (none (one, some))
+one_twin_cause (SameWords one some _) (Length none) = absurd (none (one, some))
+one_twin_cause (SameWords _ _ _) (SameWords _ _ _) = refl
+one_twin_cause (SameWords _ _ same) (OtherRings _ _ other _) = absurd (other same)
+one_twin_cause (OtherRings one some _ _) (Length none) = absurd (none (one, some))
+one_twin_cause (OtherRings _ _ other _) (SameWords _ _ same) = absurd (other same)
+one_twin_cause (OtherRings _ _ _ _) (OtherRings _ _ _ _) = refl
+
+-- that of two configurations is one
+one_split_cause : {r : LocalRule} {Agree : TailConfig → TailConfig → Type 0} {x y : TailConfig} {a b : SplitCause} → IsSplitBreach r Agree x y a → IsSplitBreach r Agree x y b → a ≡ b
+one_split_cause (SameCells _) (SameCells _) = refl
+one_split_cause (SameCells none) (Apart other _) = absurd (none other)
+one_split_cause (SameCells none) (OtherImages other _ _) = absurd (none other)
+one_split_cause (Apart other _) (SameCells none) = absurd (none other)
+one_split_cause (Apart _ _) (Apart _ _) = refl
+one_split_cause (Apart _ none) (OtherImages _ agree _) = absurd (none agree)
+one_split_cause (OtherImages other _ _) (SameCells none) = absurd (none other)
+one_split_cause (OtherImages _ agree _) (Apart _ none) = absurd (none agree)
+one_split_cause (OtherImages _ _ _) (OtherImages _ _ _) = refl
+
+-- what is said of a condition is one
+one_said : {c : Certificate} {one : Condition} {f g : Refusal} → IsBreach c one f → IsBreach c one g → f ≡ g
+one_said {c} (Forward p h) (Forward q k) = ap (refusal.Rank side.Right) (one_breach (pair_count c.rule) (IsForwardClaim c.rule c.forward) p q h k)
+one_said {c} (Backward p h) (Backward q k) = ap (refusal.Rank side.Left) (one_breach (pair_count c.rule) (IsBackwardClaim c.rule c.backward) p q h k)
+one_said (NoFull _ _ _) (NoFull _ _ _) = refl
+one_said {c} (Empty s i p h) (Empty t j q k) =
+    let same : s ≡ t = cc in
+    ap refusal.EmptySet (one_breach (length t) (λ i. slice_index t i ≢ 0) i j (subst (λ s. IsFirstBreach (length s) (λ i. slice_index s i ≢ 0) i) same h) k)
+one_said {c} (NotClosed s i a p h u) (NotClosed t j b q k v) =
+    let same : s ≡ t = cc in
+    let places : i ≡ j = one_breach (length t) (λ i. EachBelow c.rule.states (StepIsListed c.rule t (slice_index t i))) i j
+    (subst (λ s. IsFirstBreach (length s) (λ i. EachBelow c.rule.states (StepIsListed c.rule s (slice_index s i))) i) same h) k in
+    let letters : a ≡ b = one_breach c.rule.states (StepIsListed c.rule t (slice_index t j)) a b
+    (subst (λ i. IsFirstBreach c.rule.states (StepIsListed c.rule t (slice_index t i)) a) places (subst (λ s. IsFirstBreach c.rule.states (StepIsListed c.rule s (slice_index s i)) a) same u)) v in
+    ap₂ (λ (i a : ℕ). refusal.NotClosed i a) places letters
+one_said (NoOrphan _ _ _) (NoOrphan _ _ _) = refl
+one_said {c} (NoWindow n a p s h) (NoWindow m b q t k) =
+    let same_n : n ≡ m = cc in
+    let same_a : a ≡ b = cc in
+    ap refusal.Window (one_breach (pair_count c.rule) (IsWindowPair c.rule c.forward c.backward m b) p q
+    (subst (λ a. IsFirstBreach (pair_count c.rule) (IsWindowPair c.rule c.forward c.backward m a) p) same_a (subst (λ n. IsFirstBreach (pair_count c.rule) (IsWindowPair c.rule c.forward c.backward n a) p) same_n h)) k)
+one_said {c} (NoTwins x y a s h) (NoTwins u v b t k) =
+    let first : x ≡ u = cc in
+    let second : y ≡ v = cc in
+    ap refusal.Twins (one_twin_cause (subst₂ (λ (x y : List ℕ). IsTwinsBreach c.rule x y a) first second h) k)
+one_said {c} (NoRightAhead n p s h) (NoRightAhead m q t k) =
+    let same : n ≡ m = cc in
+    ap (refusal.Ahead side.Right)
+    (one_breach (pair_count c.rule) (IsAheadPair (IsFirstOfRight c.rule) c.forward m) p q (subst (λ n. IsFirstBreach (pair_count c.rule) (IsAheadPair (IsFirstOfRight c.rule) c.forward n) p) same h) k)
+one_said {c} (NoRightSplit x y a s h) (NoRightSplit u v b t k) =
+    let first : x ≡ u = cc in
+    let second : y ≡ v = cc in
+    ap (refusal.Split side.Right) (one_split_cause (subst₂ (λ (x y : TailConfig). IsSplitBreach c.rule AgreeLeft x y a) first second h) k)
+one_said {c} (NoLeftAhead n p s h) (NoLeftAhead m q t k) =
+    let same : n ≡ m = cc in
+    ap (refusal.Ahead side.Left)
+    (one_breach (pair_count c.rule) (IsAheadPair (IsFirstOfLeft c.rule) c.backward m) p q (subst (λ n. IsFirstBreach (pair_count c.rule) (IsAheadPair (IsFirstOfLeft c.rule) c.backward n) p) same h) k)
+one_said {c} (NoLeftSplit x y a s h) (NoLeftSplit u v b t k) =
+    let first : x ≡ u = cc in
+    let second : y ≡ v = cc in
+    ap (refusal.Split side.Left) (one_split_cause (subst₂ (λ (x y : TailConfig). IsSplitBreach c.rule AgreeRight x y a) first second h) k)
+one_said {c} (NoFlux phi v s h) (NoFlux psi w t k) =
+    let same : phi ≡ psi = cc in
+    ap refusal.Flux (one_breach (c.rule.states ^ c.rule.width) (λ v. Flows c.rule psi (word_of c.rule.states c.rule.width v)) v w
+    (subst (λ phi. IsFirstBreach (c.rule.states ^ c.rule.width) (λ v. Flows c.rule phi (word_of c.rule.states c.rule.width v)) v) same h) k)
+one_said (NoRing _ _ _) (NoRing _ _ _) = refl
+
+-- a certificate has at most one first breach
+pub one_unmet : {c : Certificate} {f g : Refusal} → IsFirstUnmet c f → IsFirstUnmet c g → f ≡ g
+one_unmet {c} {f} h k = one_said (subst (λ one. IsBreach c one f) (IsFirstWithout-unique h.first k.first) h.breach) k.breach

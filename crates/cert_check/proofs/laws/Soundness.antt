@@ -1,0 +1,52 @@
+-- What the judge accepts is true: each verdict of a certificate that meets the conditions, a yes and a no alike.
+use Rattle.std.proofs.Common.{Bool, true, false, refl, sym, subst}
+use Rattle.std.specs.Prelude.{List, ℕ, ◌↔◌, ◌&&◌, IsTrue}
+use Rattle.std.proofs.lemmas.Bool.{false≢true}
+use Rattle.rule_text.proofs.laws.AcceptedRules.{IsRule-text}
+use Rattle.cert_format.specs.Certificates.{Certificate, IsShaped}
+use Rattle.cert_format.specs.CertificateTexts.{IsCertificateText}
+use Rattle.cert_check.specs.declared.conditions.Condition.TheVariants.{ForwardClaims, BackwardClaims, FullListed, NoneEmpty, Closed, OrphanRead, WindowClaims, TwinsAlike, RightAhead, RightSplit, LeftAhead, LeftSplit, FluxFlows, RingLossy}
+use Rattle.cert_check.specs.declared.verdicts.Verdicts.{Verdicts}
+use Rattle.cert_check.specs.Conditions.{MeetsConditions}
+use Rattle.cert_check.specs.Accepted.{IsAccepted, AreTrue, verdicts_of}
+use Rattle.cert_check.proofs.laws.SurjectiveConditions.{IsSurjective-said}
+use Rattle.cert_check.proofs.laws.ClaimConditions.{IsInjective-said, IsRightClosing-said, IsLeftClosing-said}
+use Rattle.cert_check.proofs.laws.SumConditions.{IsConserving-said}
+
+-- both are yes exactly where both are true
+both_true : {A B : Type 0} (a b : Bool) → IsTrue a ↔ A → IsTrue b ↔ B → IsTrue (a && b) ↔ (A × B)
+both_true true true first second = ((λ _. (first.0 refl, second.0 refl)), (λ _. refl))
+both_true true false first second = ((λ no. absurd (false≢true no)), (λ both. second.1 both.1))
+both_true false b first second = ((λ no. absurd (false≢true no)), (λ both. first.1 both.0))
+
+-- the verdicts of a certificate within its limits that meets the conditions are true of its rule
+pub AreTrue-meets : {c : Certificate} → IsShaped c → MeetsConditions c → AreTrue (verdicts_of c)
+AreTrue-meets {c} shaped meets =
+    let right = IsRightClosing-said shaped.rule c.forward (meets ForwardClaims) c.right shaped.right (meets RightAhead) (meets RightSplit) in
+    let left = IsLeftClosing-said shaped.rule c.backward (meets BackwardClaims) c.left shaped.left (meets LeftAhead) (meets LeftSplit) in
+    record {
+      surjective = IsSurjective-said shaped.rule c.surjective shaped.surjective (meets FullListed) (meets NoneEmpty) (meets Closed) (meets OrphanRead);
+      injective = IsInjective-said shaped.rule c.forward c.backward (meets ForwardClaims) (meets BackwardClaims) c.injective shaped.injective (meets WindowClaims) (meets TwinsAlike);
+      right = right;
+      left = left;
+      open_ = both_true _ _ right left;
+      conserving = IsConserving-said shaped.rule c.conserving shaped.conserving (meets FluxFlows) (meets RingLossy);
+    }
+
+-- what bytes say as a certificate is within its limits
+pub IsShaped-text : {bytes : List ℕ} {c : Certificate} → IsCertificateText bytes c → IsShaped c
+IsShaped-text h =
+    record {
+      rule = IsRule-text h.rule;
+      surjective = h.surjective.1;
+      injective = h.injective.1;
+      right = h.right.1;
+      left = h.left.1;
+      conserving = h.conserving.1;
+      forward = h.ranks.1;
+      backward = h.ranks.2;
+    }
+
+-- what is accepted is true
+pub AreTrue-accepted : {bytes : List ℕ} {v : Verdicts} → IsAccepted bytes v → AreTrue v
+AreTrue-accepted h = subst AreTrue (sym h.verdicts) (AreTrue-meets (IsShaped-text h.text) h.meets)

@@ -1,0 +1,86 @@
+-- Steps of sets, as the ends of edges give them, and the set to which a word leads.
+use Rattle.std.proofs.Common.{◌≡◌, ℕ, suc, ◌+◌, ◌-◌, ◌*◌, ◌/◌, ◌%◌, ◌^◌, ◌<◌, ◌≤◌, ◌↔◌, List, [], ◌∷◌, ◌++◌, IsBitSet, slice_index, refl, sym, ap, subst, ◌∙◌, arith, mod-lt, ⊎_elim}
+use Rattle.std.proofs.Math.Nat.{pow-suc, div-le_self}
+use Rattle.std.proofs.lemmas.Bool.{cases_lt}
+use Rattle.std.proofs.lemmas.Nat.{pow_pos, le-div, div_below, div-mul-add, div-add-mod', mul-add-lt}
+use Rattle.word_image.specs.LocalRules.{LocalRule, IsRule, node_count}
+use Rattle.word_image.specs.Graphs.{next, IsStep}
+use Rattle.word_image.proofs.laws.Bits.{IsBitSet-some}
+use Rattle.word_image.proofs.laws.Graphs.{node_count_pos}
+use Rattle.pair_laws.proofs.Sets.{IsBitSet-below, IsBitSet-shr}
+use Rattle.search_laws.proofs.StepSets.{IsStep-unique}
+use Rattle.cert_check.specs.Sets.{HasBit, AreEnds, LeadsTo}
+use Rattle.cert_check.specs.Sets.LeadsTo.{Stays, Steps}
+
+-- a number whose bits are all below n is a set of n nodes
+small_set : (n a : ℕ) → a < 2 ^ 16 → ((i : ℕ) → IsBitSet a i → i < n) → a < 2 ^ n
+small_set n a small within =
+    ⊎_elim
+    (λ l. l)
+    (λ past.
+    let some : 1 ≤ a / 2 ^ n = le-div 1 a (2 ^ n) (pow_pos n) (omega arith) in
+    let few : a / 2 ^ n ≤ a = div-le_self a (2 ^ n) in
+    let (i, _, bit) = IsBitSet-some 16 (a / 2 ^ n) (omega arith) (λ zeroth. omega (arith, zeroth)) in
+    let low = within (n + i) ((IsBitSet-shr a n i).0 bit) in
+    absurd (omega arith))
+    (cases_lt a (2 ^ n))
+
+-- there are letters
+pub some_letter : {r : LocalRule} → IsRule r → 0 < r.states
+some_letter {r} rule = let least : 2 ≤ r.states = rule.shape.least_states in omega arith
+
+-- there is a window for each node and letter
+windows : {r : LocalRule} → IsRule r → node_count r * r.states ≡ r.states ^ r.width
+windows {r} rule =
+    let wide : 2 ≤ r.width = rule.shape.least_width in
+    let long : suc (r.width - 1) ≡ r.width = omega arith in
+    sym (pow-suc r.states (r.width - 1)) ∙ ap (λ n. r.states ^ n) long
+
+-- a window begins with a node
+pub node-below : {r : LocalRule} → IsRule r → (w : ℕ) → w < r.states ^ r.width → w / r.states < node_count r
+node-below {r} rule w l = div_below w r.states (node_count r) (some_letter rule) (omega (arith, windows rule))
+
+-- the ends of the nodes of a set are its step
+pub IsStep-ends : {r : LocalRule} → IsRule r → (ends : List ℕ) → AreEnds r (r.states ^ r.width) ends → (set a after : ℕ) → a < r.states → after < 2 ^ 16
+    → ((v : ℕ) → v < 16 → (IsBitSet after v ↔ ((u : ℕ) × (u < node_count r) × IsBitSet set u × HasBit ends (16 * a + u) v))) → IsStep r set a after
+IsStep-ends {r} rule ends are set a after letter small made =
+    let most : r.states ≤ 16 = rule.shape.most_states in
+    let few : node_count r ≤ 16 = rule.shape.most_nodes in
+    record {
+      within = small_set (node_count r) after small (λ v some.
+          let (u, node, present, bit) = (made v (IsBitSet-below 16 after v small some)).0 some in
+          let (w, first, at_w, to_w) = (are (16 * a + u) v (omega arith)).0 bit in
+          subst (λ x. x < node_count r) (sym to_w) (mod-lt w (node_count_pos rule)));
+      nodes = λ v inside. (
+        (λ some.
+            let (u, node, present, bit) = (made v (omega arith)).0 some in
+            let (w, first, at_w, to_w) = (are (16 * a + u) v (omega arith)).0 bit in
+            let from : w / r.states < node_count r = node-below rule w first in
+            let labelled : a ≡ slice_index r.table w = omega arith in
+            let leaves : u ≡ w / r.states = omega arith in
+            let window : u * r.states + w % r.states ≡ w = ap (λ x. x * r.states + w % r.states) leaves ∙ div-add-mod' w r.states in
+            (u, w % r.states, node, mod-lt w (some_letter rule), present, ap (slice_index r.table) window ∙ sym labelled, ap (λ x. x % node_count r) window ∙ sym to_w)),
+        (λ (u, b, node, in_letters, present, labelled, leads). (made v (omega arith)).1 (
+          u,
+          node,
+          present,
+          (are (16 * a + u) v (omega arith)).1 (
+            u * r.states + b,
+            omega (arith, windows rule, mul-add-lt u r.states b (node_count r) node in_letters),
+            omega (arith, labelled, div-mul-add u r.states b in_letters),
+            sym leads,
+          ),
+        )),
+      );
+    }
+
+-- one more step at the end
+pub LeadsTo-push : {r : LocalRule} {set middle end a : ℕ} {w : List ℕ} → LeadsTo r set w middle → IsStep r middle a end → LeadsTo r set (w ++ a ∷ []) end
+LeadsTo-push {end} {a} (Stays set) step = Steps set a end [] end step (Stays end)
+LeadsTo-push {end} {a} (Steps set b next w middle first leads) step = Steps set b next (w ++ a ∷ []) end first (LeadsTo-push leads step)
+
+-- a word leads from a set to one set
+pub LeadsTo-unique : {r : LocalRule} {set end other : ℕ} {w : List ℕ} → LeadsTo r set w end → LeadsTo r set w other → end ≡ other
+LeadsTo-unique (Stays set) (Stays _) = refl
+LeadsTo-unique {r} {other = other} (Steps set a next w end step leads) (Steps _ _ next' _ _ step' leads') =
+    LeadsTo-unique leads (subst (λ s. LeadsTo r s w other) (IsStep-unique step' step) leads')

@@ -1,0 +1,33 @@
+-- What a flux and a lossy ring say of conservation, and what says so of every rule (Hattori and Takesue 1991).
+use Rattle.std.proofs.Common.{◌≡◌, ℕ, ◌^◌, List, length, refl}
+use Rattle.std.specs.Prelude.{ℤ, ◌↔◌, IsTrue}
+use Rattle.std.proofs.lemmas.Bool.{false≢true}
+use Rattle.word_image.specs.LocalRules.{LocalRule, IsRule, IsWord, word_of, node_count}
+use Rattle.word_image.specs.Rings.{IsFlux, IsLossyRing, IsConserving}
+use Rattle.ring_laws.proofs.Fluxes.{IsConserving-flux}
+use Rattle.ring_laws.proofs.FluxWindows.{IsFlux-windows}
+use Rattle.cert_format.specs.Certificates.{SumEvidence, IsSumShape}
+use Rattle.cert_format.specs.Certificates.SumEvidence.{Flux, Ring}
+use Rattle.cert_check.specs.Breaches.{EachBelow}
+use Rattle.cert_check.specs.Sums.{Flows, IsLossy}
+use Rattle.cert_check.specs.Conditions.{OfFlux, OfRing}
+use Rattle.cert_check.specs.Accepted.{says_conserving}
+use Rattle.cert_check.proofs.laws.WindowFlows.{Flows-value}
+
+-- numbers of the nodes that flow on each window are a flux
+pub IsFlux-flows : {r : LocalRule} {phi : List ℤ} → IsRule r → length phi ≡ node_count r → EachBelow (r.states ^ r.width) (λ v. Flows r phi (word_of r.states r.width v)) → IsFlux (λ a. a) r phi
+IsFlux-flows {phi} rule entries flows = IsFlux-windows rule entries (λ v l. (Flows-value rule phi v l).1 (flows v l))
+
+-- a word that is a lossy ring for the judge is one
+pub IsLossyRing-lossy : {r : LocalRule} {p : List ℕ} → IsWord r.states p → IsLossy r p → IsLossyRing (λ a. a) r p
+IsLossyRing-lossy word lossy = record { ring = record { word = word; some = lossy.0 }; loses = lossy.1 }
+
+-- a rule with a lossy ring doesn't conserve the sum
+pub IsLossyRing-not_conserving : {weight : ℕ → ℕ} {r : LocalRule} {p : List ℕ} → IsLossyRing weight r p → ¬ IsConserving weight r
+IsLossyRing-not_conserving {p} lossy conserving = lossy.loses (conserving p lossy.ring)
+
+-- what is said of conservation is true where its conditions are met
+pub IsConserving-said : {r : LocalRule} → IsRule r → (e : SumEvidence) → IsSumShape r e → OfFlux e (λ phi. EachBelow (r.states ^ r.width) (λ v. Flows r phi (word_of r.states r.width v)))
+    → OfRing e (IsLossy r) → IsTrue (says_conserving e) ↔ IsConserving (λ a. a) r
+IsConserving-said rule (Flux phi) shape flows lossy = ((λ _. IsConserving-flux rule (IsFlux-flows rule shape.0 flows)), (λ _. refl))
+IsConserving-said {r} rule (Ring p) shape flows lossy = ((λ no. absurd (false≢true no)), (λ conserving. absurd (IsLossyRing-not_conserving (IsLossyRing-lossy {r = r} shape lossy) conserving)))

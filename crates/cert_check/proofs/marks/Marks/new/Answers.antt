@@ -1,0 +1,6 @@
+use Rattle.std.proofs.Common.{◌/◌, ◌%◌}
+use Rattle.cert_check.proofs.laws.Rows.{HasBit-none}
+use Rattle.cert_check.proofs.marks.Marks.new.Goals as goal
+
+pub returns : goal.returns
+returns c = λ s. HasBit-none 4096 (s / 16) (s % 16)

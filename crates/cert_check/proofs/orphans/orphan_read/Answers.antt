@@ -1,0 +1,18 @@
+use Rattle.std.proofs.Common.{ℕ, List, ap, subst, subst₂}
+use Rattle.word_image.specs.LocalRules.{LocalRule}
+use Rattle.word_image.specs.Graphs.{full_set}
+use Rattle.cert_format.specs.Certificates.{Certificate}
+use Rattle.cert_format.specs.Parts.{surjective_of}
+use Rattle.cert_check.specs.declared.conditions.Condition.TheVariants as condition
+use Rattle.cert_check.specs.declared.refusal.Refusal.TheVariants as refusal
+use Rattle.cert_check.specs.Sets.{LeadsTo}
+use Rattle.cert_check.specs.Refusals.{IsBreach}
+use Rattle.cert_check.specs.Refusals.IsBreach.{NoOrphan}
+use Rattle.cert_check.proofs.laws.Steps.{LeadsTo-unique}
+use Rattle.cert_check.proofs.orphans.orphan_read.Goals as goal
+
+pub returns-else-reached-eq0 : goal.returns-else-reached-eq0
+returns-else-reached-eq0 c =
+    let leads = subst₂ (λ (r : LocalRule) (w : List ℕ). LeadsTo r (full_set r) w c.reached.result) c.of.ensures c.as_slice.ensures c.reached.ensures in
+    subst (λ (x : Certificate). IsBreach x condition.OrphanRead refusal.Orphan) c.cert.view_is
+    (NoOrphan c.in-Orphan.word (ap surjective_of c.in-Orphan.is) (λ empty. c.if-reached-eq0.false (LeadsTo-unique leads empty)))

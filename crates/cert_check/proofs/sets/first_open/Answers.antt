@@ -1,0 +1,28 @@
+use Rattle.std.proofs.Common.{slice_index, sym, subst, ⊎_elim, arith, below_more}
+use Rattle.cert_check.specs.Breaches.{EachBelow}
+use Rattle.cert_check.specs.Sets.{StepIsListed}
+use Rattle.cert_check.proofs.sets.first_open.Goals as goal
+
+pub loop-place-preserved-then-has : goal.loop-place-preserved-then-has
+loop-place-preserved-then-has c =
+    let r = c.args.steps.now in
+    let sets = c.args.sets.now in
+    let inv = c.loop-place.invariant in
+    record {
+      so_far = below_more (λ i. EachBelow r.states (StepIsListed r sets (slice_index sets i))) c.loop-place.place inv.so_far (inv.marked _ (c.has.ensures.0 c.if-has.true));
+      marked = inv.marked;
+    }
+
+pub loop-place-preserved : goal.loop-place-preserved
+loop-place-preserved c =
+    let r = c.args.steps.now in
+    let sets = c.args.sets.now in
+    let inv = c.loop-place.invariant in
+    let here : EachBelow r.states (StepIsListed r sets (slice_index sets c.loop-place.place)) = c.in_default.ensures sets c.of-listed.ensures in
+    record {
+      so_far = below_more (λ i. EachBelow r.states (StepIsListed r sets (slice_index sets i))) c.loop-place.place inv.so_far here;
+      marked = λ s some. ⊎_elim (λ same. subst (λ x. EachBelow r.states (StepIsListed r sets x)) (sym same) here) (λ old. inv.marked s old) ((c.mark.ensures s).0 some);
+    }
+
+pub returns : goal.returns
+returns c i within = c.loop-place.invariant.so_far i (omega arith)

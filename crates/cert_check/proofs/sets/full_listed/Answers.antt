@@ -1,0 +1,17 @@
+use Rattle.std.proofs.Common.{◌≡◌, ℕ, List, Contains, true≢false, eq-eqb, sym, ap, ◌∙◌, subst, subst₂, arith}
+use Rattle.word_image.specs.Graphs.{full_set}
+use Rattle.cert_format.specs.Certificates.{Certificate}
+use Rattle.cert_format.specs.Parts.{surjective_of}
+use Rattle.cert_check.specs.declared.conditions.Condition.TheVariants as condition
+use Rattle.cert_check.specs.declared.refusal.Refusal.TheVariants as refusal
+use Rattle.cert_check.specs.Refusals.{IsBreach}
+use Rattle.cert_check.specs.Refusals.IsBreach.{NoFull}
+use Rattle.cert_check.proofs.sets.full_listed.Goals as goal
+
+pub returns-else-contains : goal.returns-else-contains
+returns-else-contains c =
+    let full : c.full.result ≡ full_set c.cert.inside.rule = c.full.ensures.set ∙ ap full_set c.of.ensures in
+    let none : ¬ Contains c.as_slice.result.now c.full.result = λ (i, inside, same).
+    true≢false (sym (eq-eqb _ _ same) ∙ c.if-contains.ensures.cases i c.full.result (omega arith) inside) in
+    subst (λ (x : Certificate). IsBreach x condition.FullListed refusal.NoFull) c.cert.view_is
+    (NoFull c.in-Sets.sets (ap surjective_of c.in-Sets.is) (subst₂ (λ (l : List ℕ) (s : ℕ). ¬ Contains l s) c.as_slice.ensures full none))

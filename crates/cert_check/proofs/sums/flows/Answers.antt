@@ -1,0 +1,52 @@
+use Rattle.std.proofs.Common.{◌≡◌, ℕ, ◌/◌, ◌%◌, ◌-ℤ◌, ◌↔◌, get_or, nat_eq, IsTrue, ℤ, pos, w32, w64, FitsSigned, of_z, to_z, sym, ap, ap₂, ◌∙◌, rules}
+use Rattle.std.proofs.lemmas.Int.{to_z-of_z}
+use Rattle.std.proofs.lemmas.Bool.Decides.{Decides-eqb}
+use Rattle.word_image.specs.LocalRules.{node_count}
+use Rattle.cert_check.proofs.laws.WindowFlows.{Flows-value}
+use Rattle.cert_check.proofs.sums.flows.Goals as goal
+
+-- the test of two numbers of 64 bits
+one_number : (p q : ℤ) → FitsSigned w64 p → FitsSigned w64 q → IsTrue (nat_eq (of_z w64 p) (of_z w64 q)) ↔ (p ≡ q)
+one_number p q f g = (
+  λ yes. sym (to_z-of_z w64 p f) ∙ ap (to_z w64) ((Decides-eqb (of_z w64 p) (of_z w64 q)).0 yes) ∙ to_z-of_z w64 q g,
+  λ e. (Decides-eqb (of_z w64 p) (of_z w64 q)).1 (ap (of_z w64) e),
+)
+
+-- numbers of 32 bits, and so their differences, are numbers of 64
+wide : (g : ℤ) → FitsSigned w32 g → FitsSigned w64 g
+wide g f = search rules
+
+wide_difference : (g h : ℤ) → FitsSigned w32 g → FitsSigned w32 h → FitsSigned w64 (g -ℤ h)
+wide_difference g h f e = search rules
+
+-- the test of two differences
+one_difference : (g h x y : ℤ) → FitsSigned w32 g → FitsSigned w32 h → FitsSigned w32 x → FitsSigned w32 y
+    → IsTrue (nat_eq (of_z w64 (to_z w64 (of_z w64 g) -ℤ to_z w64 (of_z w64 h))) (of_z w64 (to_z w64 (of_z w64 x) -ℤ to_z w64 (of_z w64 y)))) ↔ ((g -ℤ h) ≡ (x -ℤ y))
+one_difference g h x y fit_g fit_h fit_x fit_y =
+    rw (to_z-of_z w64 g (wide g fit_g), to_z-of_z w64 h (wide h fit_h), to_z-of_z w64 x (wide x fit_x), to_z-of_z w64 y (wide y fit_y))
+    (one_number (g -ℤ h) (x -ℤ y) (wide_difference g h fit_g fit_h) (wide_difference x y fit_x fit_y))
+
+pub returns : goal.returns
+returns c =
+    let r = c.args.rule.now in
+    let v = c.args.window in
+    let number = λ (i : ℕ). get_or c.args.flux.now i (pos 0) in
+    let k : c.from-k.result ≡ r.states = c.from-k.ensures ∙ c.k.ensures.states in
+    let nodes : c.from-nodes.result ≡ node_count r = c.from-nodes.ensures ∙ c.nodes.ensures.nodes in
+    let new : c.from.result ≡ pos (get_or r.table v 0) = c.from.ensures ∙ ap pos c.at.ensures.entry in
+    let old : c.from-2.result ≡ pos (v / node_count r) = c.from-2.ensures ∙ ap (λ n. pos (v / n)) nodes in
+    let fit_first : FitsSigned w32 (number c.from-3.result) = search rules in
+    let fit_last : FitsSigned w32 (number c.from-4.result) = search rules in
+    let first : c.from-first.result ≡ number (v / r.states) =
+    c.from-first.ensures ∙ to_z-of_z w32 (number c.from-3.result) fit_first ∙ ap number (c.from-3.ensures ∙ ap (λ n. v / n) k) in
+    let last : c.from-last.result ≡ number (v % node_count r) =
+    c.from-last.ensures ∙ to_z-of_z w32 (number c.from-4.result) fit_last ∙ ap number (c.from-4.ensures ∙ ap (λ n. v % n) nodes) in
+    let fit_new : FitsSigned w32 c.from.result = search rules in
+    let fit_old : FitsSigned w32 c.from-2.result = search rules in
+    let fit_f : FitsSigned w32 c.from-first.result = search rules in
+    let fit_l : FitsSigned w32 c.from-last.result = search rules in
+    let test = one_difference c.from.result c.from-2.result c.from-first.result c.from-last.result fit_new fit_old fit_f fit_l in
+    let gain = ap₂ (λ (i j : ℤ). i -ℤ j) new old in
+    let flow = ap₂ (λ (i j : ℤ). i -ℤ j) first last in
+    let value = Flows-value c.k.ensures.rule c.args.flux.now v c.requires.window in
+    (λ yes. value.0 (sym gain ∙ test.0 yes ∙ flow), λ flows. test.1 (gain ∙ value.1 flows ∙ sym flow))

@@ -1,0 +1,18 @@
+use Rattle.std.proofs.Common.{◌^◌, List, ℤ, ap, subst}
+use Rattle.word_image.specs.LocalRules.{word_of}
+use Rattle.cert_format.specs.Certificates.{Certificate}
+use Rattle.cert_format.specs.Parts.{sum_of}
+use Rattle.cert_check.specs.declared.conditions.Condition.TheVariants.{FluxFlows}
+use Rattle.cert_check.specs.declared.refusal.Refusal.TheVariants as refusal
+use Rattle.cert_check.specs.Breaches.{IsFirstBreach}
+use Rattle.cert_check.specs.Sums.{Flows}
+use Rattle.cert_check.specs.Refusals.{IsBreach}
+use Rattle.cert_check.specs.Refusals.IsBreach.{NoFlux}
+use Rattle.cert_check.proofs.sums.flux_flows.Goals as goal
+
+pub returns-in-Some : goal.returns-in-Some
+returns-in-Some c =
+    let r = c.cert.inside.rule in
+    let Breach = λ (phi : List ℤ). IsFirstBreach (r.states ^ r.width) (λ v. Flows r phi (word_of r.states r.width v)) c.in-Some.window in
+    subst (λ (z : Certificate). IsBreach z FluxFlows (refusal.Flux c.in-Some.window)) c.cert.view_is
+    (NoFlux c.in-Flux.flux c.in-Some.window (ap sum_of c.in-Flux.is) (subst Breach c.as_slice.ensures c.in-Some.ensures))

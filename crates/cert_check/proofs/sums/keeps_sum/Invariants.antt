@@ -1,0 +1,10 @@
+use Rattle.std.proofs.Common.{◌≡◌, ◌*◌, ◌≤◌, map, take, sum_by, pos}
+use Rattle.std.specs.List.{range_with_len}
+use Rattle.word_image.specs.LocalRules.{local_map}
+use Rattle.word_image.specs.Rings.{ring_letters}
+use Rattle.cert_check.proofs.sums.keeps_sum.Given as goal
+
+-- the sums of the letters and of the new letters so far
+abbrev pub invariant-loop-place : goal.invariant-loop-place
+invariant-loop-place l = (l.before ≡ sum_by (λ a. a) (take l.place l.ring)) × (l.before ≤ 255 * l.place)
+    × (l.after ≡ sum_by (λ a. a) (map (λ i. local_map l.rule (ring_letters l.ring (pos i) l.rule.width)) (range_with_len 0 l.place))) × (l.after ≤ 255 * l.place)

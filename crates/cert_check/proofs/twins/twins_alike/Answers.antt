@@ -1,0 +1,15 @@
+use Rattle.std.proofs.Common.{ℕ, List, sym, ap, ap₂, subst, ◌∙◌}
+use Rattle.cert_format.specs.Certificates.{Certificate}
+use Rattle.cert_format.specs.Certificates.InjectiveEvidence.{Twins}
+use Rattle.cert_format.specs.Parts.{injective_of}
+use Rattle.cert_check.specs.declared.conditions.Condition.TheVariants.{TwinsAlike}
+use Rattle.cert_check.specs.declared.refusal.Refusal.TheVariants as refusal
+use Rattle.cert_check.specs.Refusals.{IsBreach}
+use Rattle.cert_check.specs.Refusals.IsBreach.{NoTwins}
+use Rattle.cert_check.proofs.twins.twins_alike.Goals as goal
+
+pub returns-in-Some : goal.returns-in-Some
+returns-in-Some c =
+    let words = ap₂ (λ (x y : List ℕ). Twins x y) (sym c.as_slice.ensures) (sym c.as_slice-2.ensures) in
+    subst (λ (z : Certificate). IsBreach z TwinsAlike (refusal.Twins c.in-Some.cause)) c.cert.view_is
+    (NoTwins c.as_slice.result.now c.as_slice-2.result.now c.in-Some.cause (ap injective_of c.in-Twins.is ∙ words) c.in-Some.ensures)

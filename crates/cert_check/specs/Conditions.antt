@@ -1,0 +1,85 @@
+-- What a certificate must meet so that each of its verdicts is true.
+use Rattle.std.specs.Prelude.{◌≡◌, ◌≢◌, ℕ, ◌^◌, ◌≤◌, List, [], ◌∷◌, length, slice_index, Contains, ℤ, ⊤}
+use Rattle.word_image.specs.LocalRules.{word_of}
+use Rattle.word_image.specs.Rings.{ring_image}
+use Rattle.word_image.specs.Graphs.{full_set, pair_count}
+use Rattle.word_image.specs.Erasure.{IsFirstOfRight, IsFirstOfLeft}
+use Rattle.tail_config.specs.Tails.{TailConfig, Different, ShareImage, AgreeLeft, AgreeRight}
+use Rattle.cert_format.specs.Certificates.{Certificate, SurjectiveEvidence, InjectiveEvidence, SideEvidence, SumEvidence}
+use Rattle.cert_format.specs.Certificates.SurjectiveEvidence.{Sets, Orphan}
+use Rattle.cert_format.specs.Certificates.InjectiveEvidence.{Window, Twins}
+use Rattle.cert_format.specs.Certificates.SideEvidence.{Ahead, Split}
+use Rattle.cert_format.specs.Certificates.SumEvidence.{Flux, Ring}
+use Rattle.cert_check.specs.declared.conditions.Condition.{Condition}
+use Rattle.cert_check.specs.declared.conditions.Condition.TheVariants.{ForwardClaims, BackwardClaims, FullListed, NoneEmpty, Closed, OrphanRead, WindowClaims, TwinsAlike, RightAhead, RightSplit, LeftAhead, LeftSplit, FluxFlows, RingLossy}
+use Rattle.cert_check.specs.Breaches.{EachBelow}
+use Rattle.cert_check.specs.Claims.{IsForwardClaim, IsBackwardClaim}
+use Rattle.cert_check.specs.Sets.{StepIsListed, LeadsTo}
+use Rattle.cert_check.specs.Windows.{IsWindowPair, IsAheadPair}
+use Rattle.cert_check.specs.Sums.{Flows, IsLossy}
+
+-- the conditions in the order in which they are checked
+abbrev pub conditions : List Condition
+conditions =
+    ForwardClaims ∷ BackwardClaims ∷ FullListed ∷ NoneEmpty ∷ Closed ∷ OrphanRead ∷ WindowClaims ∷ TwinsAlike ∷ RightAhead ∷ RightSplit ∷ LeftAhead ∷ LeftSplit ∷ FluxFlows ∷ RingLossy ∷ []
+
+-- what is asked of listed sets, where the part has them
+abbrev pub OfSets : SurjectiveEvidence → (List ℕ → Type 0) → Type 0
+OfSets (Sets sets) P = P sets
+OfSets (Orphan w) P = ⊤
+
+-- of an orphan
+abbrev pub OfOrphan : SurjectiveEvidence → (List ℕ → Type 0) → Type 0
+OfOrphan (Sets sets) P = ⊤
+OfOrphan (Orphan w) P = P w
+
+-- of a window
+abbrev pub OfWindow : InjectiveEvidence → (ℕ → ℕ → Type 0) → Type 0
+OfWindow (Window n c) P = P n c
+OfWindow (Twins x y) P = ⊤
+
+-- of twins
+abbrev pub OfTwins : InjectiveEvidence → (List ℕ → List ℕ → Type 0) → Type 0
+OfTwins (Window n c) P = ⊤
+OfTwins (Twins x y) P = P x y
+
+-- of a look-ahead
+abbrev pub OfAhead : SideEvidence → (ℕ → Type 0) → Type 0
+OfAhead (Ahead n) P = P n
+OfAhead (Split x y) P = ⊤
+
+-- of a split
+abbrev pub OfSplit : SideEvidence → (TailConfig → TailConfig → Type 0) → Type 0
+OfSplit (Ahead n) P = ⊤
+OfSplit (Split x y) P = P x y
+
+-- of a flux
+abbrev pub OfFlux : SumEvidence → (List ℤ → Type 0) → Type 0
+OfFlux (Flux phi) P = P phi
+OfFlux (Ring p) P = ⊤
+
+-- of a ring
+abbrev pub OfRing : SumEvidence → (List ℕ → Type 0) → Type 0
+OfRing (Flux phi) P = ⊤
+OfRing (Ring p) P = P p
+
+-- what each condition asks
+abbrev pub Holds : Certificate → Condition → Type 0
+Holds c ForwardClaims = EachBelow (pair_count c.rule) (IsForwardClaim c.rule c.forward)
+Holds c BackwardClaims = EachBelow (pair_count c.rule) (IsBackwardClaim c.rule c.backward)
+Holds c FullListed = OfSets c.surjective (λ sets. Contains sets (full_set c.rule))
+Holds c NoneEmpty = OfSets c.surjective (λ sets. EachBelow (length sets) (λ i. slice_index sets i ≢ 0))
+Holds c Closed = OfSets c.surjective (λ sets. EachBelow (length sets) (λ i. EachBelow c.rule.states (StepIsListed c.rule sets (slice_index sets i))))
+Holds c OrphanRead = OfOrphan c.surjective (λ w. LeadsTo c.rule (full_set c.rule) w 0)
+Holds c WindowClaims = OfWindow c.injective (λ n at. EachBelow (pair_count c.rule) (IsWindowPair c.rule c.forward c.backward n at))
+Holds c TwinsAlike = OfTwins c.injective (λ x y. ((length x ≡ length y) × (1 ≤ length x)) × (x ≢ y) × (ring_image c.rule x ≡ ring_image c.rule y))
+Holds c RightAhead = OfAhead c.right (λ n. EachBelow (pair_count c.rule) (IsAheadPair (IsFirstOfRight c.rule) c.forward n))
+Holds c RightSplit = OfSplit c.right (λ x y. Different x y × AgreeLeft x y × ShareImage c.rule x y)
+Holds c LeftAhead = OfAhead c.left (λ n. EachBelow (pair_count c.rule) (IsAheadPair (IsFirstOfLeft c.rule) c.backward n))
+Holds c LeftSplit = OfSplit c.left (λ x y. Different x y × AgreeRight x y × ShareImage c.rule x y)
+Holds c FluxFlows = OfFlux c.conserving (λ phi. EachBelow (c.rule.states ^ c.rule.width) (λ v. Flows c.rule phi (word_of c.rule.states c.rule.width v)))
+Holds c RingLossy = OfRing c.conserving (IsLossy c.rule)
+
+-- the certificate meets all of them
+abbrev pub MeetsConditions : Certificate → Type 0
+MeetsConditions c = (condition : Condition) → Holds c condition

@@ -1,0 +1,9 @@
+pub mod Breaches
+pub mod Claims
+pub mod Sets
+pub mod Windows
+pub mod Sides
+pub mod Sums
+pub mod Conditions
+pub mod Refusals
+pub mod Accepted

@@ -1,0 +1,82 @@
+-- Why bytes are refused: the first fault of their shape, or the first condition that isn't met, with what is said of it.
+use Rattle.std.specs.Prelude.{◌≡◌, ◌≢◌, ℕ, ◌^◌, ◌≤◌, List, length, slice_index, Contains, ℤ, Result, MatchResult}
+use Rattle.word_image.specs.LocalRules.{LocalRule, word_of}
+use Rattle.word_image.specs.Rings.{ring_image}
+use Rattle.word_image.specs.Graphs.{full_set, pair_count}
+use Rattle.word_image.specs.Erasure.{IsFirstOfRight, IsFirstOfLeft}
+use Rattle.tail_config.specs.Tails.{TailConfig, Different, ShareImage, AgreeLeft, AgreeRight}
+use Rattle.cert_format.specs.Certificates.{Certificate}
+use Rattle.cert_format.specs.Certificates.SurjectiveEvidence.{Sets, Orphan}
+use Rattle.cert_format.specs.Certificates.InjectiveEvidence.{Window, Twins}
+use Rattle.cert_format.specs.Certificates.SideEvidence.{Ahead, Split}
+use Rattle.cert_format.specs.Certificates.SumEvidence.{Flux, Ring}
+use Rattle.cert_format.specs.CertificateTexts.{IsCertificateText}
+use Rattle.cert_format.specs.ShapeFaults.{IsShapeFault, IsFirstWithout}
+use Rattle.cert_format.specs.declared.shape_fault.ShapeFault.{ShapeFault}
+use Rattle.cert_check.specs.declared.conditions.Condition.{Condition}
+use Rattle.cert_check.specs.declared.conditions.Condition.TheVariants as condition
+use Rattle.cert_check.specs.declared.refusal.Side.TheVariants as side
+use Rattle.cert_check.specs.declared.refusal.TwinCause.{TwinCause}
+use Rattle.cert_check.specs.declared.refusal.TwinCause.TheVariants as twin
+use Rattle.cert_check.specs.declared.refusal.SplitCause.{SplitCause}
+use Rattle.cert_check.specs.declared.refusal.SplitCause.TheVariants as split
+use Rattle.cert_check.specs.declared.refusal.Refusal.{Refusal}
+use Rattle.cert_check.specs.declared.refusal.Refusal.TheVariants as refusal
+use Rattle.cert_check.specs.Breaches.{EachBelow, IsFirstBreach}
+use Rattle.cert_check.specs.Claims.{IsForwardClaim, IsBackwardClaim}
+use Rattle.cert_check.specs.Sets.{StepIsListed, LeadsTo}
+use Rattle.cert_check.specs.Windows.{IsWindowPair, IsAheadPair}
+use Rattle.cert_check.specs.Sums.{Flows, IsLossy}
+use Rattle.cert_check.specs.Conditions.{conditions, Holds}
+
+-- the words aren't of one length of at least 1; or they are equal; or their rings have different images
+pub data IsTwinsBreach (r : LocalRule) (x y : List ℕ) : TwinCause → Type 0 where
+  Length : ¬ ((length x ≡ length y) × (1 ≤ length x)) → IsTwinsBreach r x y twin.Length
+  Same : length x ≡ length y → 1 ≤ length x → x ≡ y → IsTwinsBreach r x y twin.Same
+  Image : length x ≡ length y → 1 ≤ length x → x ≢ y → ring_image r x ≢ ring_image r y → IsTwinsBreach r x y twin.Image
+
+-- the configurations don't differ; or they don't agree on the side; or they share no image
+pub data IsSplitBreach (r : LocalRule) (Agree : TailConfig → TailConfig → Type 0) (x y : TailConfig) : SplitCause → Type 0 where
+  Same : ¬ Different x y → IsSplitBreach r Agree x y split.Same
+  Apart : Different x y → ¬ Agree x y → IsSplitBreach r Agree x y split.Apart
+  Image : Different x y → Agree x y → ¬ ShareImage r x y → IsSplitBreach r Agree x y split.Image
+
+-- a condition isn't met, and this is said of it: the first pair, place, letter, window or cause
+pub data IsBreach (c : Certificate) : Condition → Refusal → Type 0 where
+  Forward : (p : ℕ) → IsFirstBreach (pair_count c.rule) (IsForwardClaim c.rule c.forward) p → IsBreach c condition.ForwardClaims (refusal.Rank side.Right p)
+  Backward : (p : ℕ) → IsFirstBreach (pair_count c.rule) (IsBackwardClaim c.rule c.backward) p → IsBreach c condition.BackwardClaims (refusal.Rank side.Left p)
+  NoFull : (sets : List ℕ) → c.surjective ≡ Sets sets → ¬ Contains sets (full_set c.rule) → IsBreach c condition.FullListed refusal.NoFull
+  Empty : (sets : List ℕ) (i : ℕ) → c.surjective ≡ Sets sets → IsFirstBreach (length sets) (λ i. slice_index sets i ≢ 0) i → IsBreach c condition.NoneEmpty (refusal.EmptySet i)
+  NotClosed : (sets : List ℕ) (i a : ℕ) → c.surjective ≡ Sets sets
+      → IsFirstBreach (length sets) (λ i. EachBelow c.rule.states (StepIsListed c.rule sets (slice_index sets i))) i
+      → IsFirstBreach c.rule.states (StepIsListed c.rule sets (slice_index sets i)) a → IsBreach c condition.Closed (refusal.NotClosed i a)
+  NoOrphan : (w : List ℕ) → c.surjective ≡ Orphan w → ¬ LeadsTo c.rule (full_set c.rule) w 0 → IsBreach c condition.OrphanRead refusal.Orphan
+  NoWindow : (n at p : ℕ) → c.injective ≡ Window n at → IsFirstBreach (pair_count c.rule) (IsWindowPair c.rule c.forward c.backward n at) p
+      → IsBreach c condition.WindowClaims (refusal.Window p)
+  NoTwins : (x y : List ℕ) (cause : TwinCause) → c.injective ≡ Twins x y → IsTwinsBreach c.rule x y cause → IsBreach c condition.TwinsAlike (refusal.Twins cause)
+  NoRightAhead : (n p : ℕ) → c.right ≡ Ahead n → IsFirstBreach (pair_count c.rule) (IsAheadPair (IsFirstOfRight c.rule) c.forward n) p
+      → IsBreach c condition.RightAhead (refusal.Ahead side.Right p)
+  NoRightSplit : (x y : TailConfig) (cause : SplitCause) → c.right ≡ Split x y → IsSplitBreach c.rule AgreeLeft x y cause
+      → IsBreach c condition.RightSplit (refusal.Split side.Right cause)
+  NoLeftAhead : (n p : ℕ) → c.left ≡ Ahead n → IsFirstBreach (pair_count c.rule) (IsAheadPair (IsFirstOfLeft c.rule) c.backward n) p
+      → IsBreach c condition.LeftAhead (refusal.Ahead side.Left p)
+  NoLeftSplit : (x y : TailConfig) (cause : SplitCause) → c.left ≡ Split x y → IsSplitBreach c.rule AgreeRight x y cause
+      → IsBreach c condition.LeftSplit (refusal.Split side.Left cause)
+  NoFlux : (phi : List ℤ) (v : ℕ) → c.conserving ≡ Flux phi
+      → IsFirstBreach (c.rule.states ^ c.rule.width) (λ v. Flows c.rule phi (word_of c.rule.states c.rule.width v)) v → IsBreach c condition.FluxFlows (refusal.Flux v)
+  NoRing : (p : List ℕ) → c.conserving ≡ Ring p → ¬ IsLossy c.rule p → IsBreach c condition.RingLossy refusal.Ring
+
+-- what the check of one condition answers: it is met, or this is said of it
+abbrev pub IsChecked : Certificate → Condition → Result Unit Refusal → Type 0
+IsChecked c one result = MatchResult result (λ _. Holds c one) (IsBreach c one)
+
+-- the first condition that isn't met, and what is said of it
+pub record IsFirstUnmet (c : Certificate) (f : Refusal) : Type 0 where
+  pub unmet : Condition
+  pub first : IsFirstWithout (Holds c) conditions unmet
+  pub breach : IsBreach c unmet f
+
+-- why bytes are refused: they have no shape of a certificate, or theirs doesn't meet the conditions
+pub data IsRefusal (bytes : List ℕ) : Refusal → Type 0 where
+  NoShape : (f : ShapeFault) → IsShapeFault bytes f → IsRefusal bytes (refusal.Format f)
+  Unmet : (c : Certificate) (f : Refusal) → IsCertificateText bytes c → IsFirstUnmet c f → IsRefusal bytes f

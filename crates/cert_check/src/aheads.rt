@@ -1,0 +1,113 @@
+//! Look-aheads that the claims of ranks allow.
+
+ghost use Rattle.std.specs.Prelude.{◌≡◌, ◌↔◌, ◌<◌, ◌≤◌, ℕ, length, slice_index, IsTrue};
+ghost use Rattle.word_image.specs.LocalRules.{node_count};
+ghost use Rattle.word_image.specs.Graphs.{pair_count};
+ghost use Rattle.cert_check.specs.Breaches.{FirstBreach};
+ghost use Rattle.cert_check.specs.Claims.{window_with};
+ghost use Rattle.cert_check.specs.Refusals.{IsChecked};
+ghost use Rattle.cert_check.specs.Sides.{IsFirstOf, other, rest_of};
+ghost use Rattle.cert_check.specs.Windows.{IsAheadPair};
+
+use crate::claims::{claims_below, window_with};
+use crate::conditions::Condition;
+use crate::refusal::{Refusal, Side};
+use cert_format::{Cert, SidePart};
+use word_image::Rule;
+
+/// Whether the claims of the first pairs of the right are less than the look-ahead allows; else the least
+/// pair whose claim isn't.
+pub fn right_ahead(cert: &Cert) -> Result<(), Refusal>
+    ensures { IsChecked cert.now Condition.RightAhead result }
+{
+    let SidePart::Ahead(n) = &cert.right else {
+        return Ok(());
+    };
+    match first_too_far(&cert.rule, Side::Right, cert.forward.as_slice(), *n) {
+        Some(pair) => Err(Refusal::Ahead(Side::Right, pair)),
+        None => Ok(()),
+    }
+}
+
+/// The same of the first pairs of the left.
+pub fn left_ahead(cert: &Cert) -> Result<(), Refusal>
+    ensures { IsChecked cert.now Condition.LeftAhead result }
+{
+    let SidePart::Ahead(n) = &cert.left else {
+        return Ok(());
+    };
+    match first_too_far(&cert.rule, Side::Left, cert.backward.as_slice(), *n) {
+        Some(pair) => Err(Refusal::Ahead(Side::Left, pair)),
+        None => Ok(()),
+    }
+}
+
+/// The least first pair of this side of which not less than n - 1 is claimed.
+fn first_too_far(rule: &Rule, side: Side, claims: &[Option<u16>], n: u16) -> Option<u16>
+    requires row { length claims.now ≡ pair_count rule.now }
+    requires some { 1 ≤ n }
+    ensures { FirstBreach (pair_count rule.now) (IsAheadPair (IsFirstOf side rule.now) claims.now n) result }
+{
+    let nodes = u16::from(rule.nodes());
+    for pair in 0..nodes * nodes {
+        if is_first(rule, side, pair) && !claims_below(claims, pair, n - 1) {
+            return Some(pair);
+        }
+    }
+    None
+}
+
+/// Whether a pair is a first pair of this side: its nodes differ in the letter at their end on this
+/// side alone, and some letter at their other end makes windows with one label of them.
+fn is_first(rule: &Rule, side: Side, pair: u16) -> bool
+    requires { pair < pair_count rule.now }
+    ensures { IsTrue result ↔ IsFirstOf side rule.now pair }
+{
+    let nodes = u16::from(rule.nodes());
+    let (u, v) = (pair / nodes, pair % nodes);
+    if u == v || rest_of(rule, side, u) != rest_of(rule, side, v) {
+        return false;
+    }
+    some_label(rule, other(side), u, v)
+}
+
+/// A node without the letter at its end on this side.
+fn rest_of(rule: &Rule, side: Side, node: u16) -> u16
+    ensures { result ≡ rest_of side rule.now node }
+{
+    let k = u16::from(rule.k());
+    match side {
+        Side::Right => node / k,
+        Side::Left => node % k.pow(u32::from(rule.m()) - 2),
+    }
+}
+
+/// Whether some letter on this side of two nodes makes windows with one label of them.
+fn some_label(rule: &Rule, side: Side, u: u16, v: u16) -> bool
+    requires first { u < node_count rule.now }
+    requires second { v < node_count rule.now }
+    ensures { IsTrue result ↔ ((a : ℕ) × (a < rule.now.states)
+        × (slice_index rule.now.table (window_with side rule.now u a)
+        ≡ slice_index rule.now.table (window_with side rule.now v a))) }
+{
+    for letter in 0..rule.k() {
+        let (first, second) = (
+            window_with(rule, side, u, letter),
+            window_with(rule, side, v, letter),
+        );
+        if rule.at(first) == rule.at(second) {
+            return true;
+        }
+    }
+    false
+}
+
+/// The other side.
+fn other(side: Side) -> Side
+    ensures { result ≡ other side }
+{
+    match side {
+        Side::Right => Side::Left,
+        Side::Left => Side::Right,
+    }
+}

@@ -1,0 +1,99 @@
+//! The conditions on a certificate, in their order.
+
+ghost use Rattle.std.specs.Prelude.{MatchResult};
+ghost use Rattle.cert_check.specs.Conditions.{MeetsConditions};
+ghost use Rattle.cert_check.specs.Refusals.{IsChecked, IsFirstUnmet};
+
+use crate::aheads::{left_ahead, right_ahead};
+use crate::claims::{backward_claims, forward_claims};
+use crate::orphans::orphan_read;
+use crate::refusal::Refusal;
+use crate::sets::{closed, full_listed, none_empty};
+use crate::splits::{left_split, right_split};
+use crate::sums::{flux_flows, ring_lossy};
+use crate::twins::twins_alike;
+use crate::windows::window_claims;
+use cert_format::Cert;
+
+/// What is asked of a certificate, most of it of evidence of one kind alone.
+#[derive(Clone, Copy, Debug)]
+pub enum Condition {
+    /// What is claimed of a pair forward is more than what is claimed of each pair to which it leads.
+    ForwardClaims,
+    /// What is claimed of a pair backward is more than what is claimed of each pair that leads to it.
+    BackwardClaims,
+    /// The full set is listed.
+    FullListed,
+    /// No listed set is empty.
+    NoneEmpty,
+    /// Each step of a listed set is listed.
+    Closed,
+    /// The orphan leads from the full set to the empty one.
+    OrphanRead,
+    /// The claims determine the letter of the window.
+    WindowClaims,
+    /// The twins have one length and differ, and their rings have one image.
+    TwinsAlike,
+    /// The claims of the first pairs of the right are less than the look-ahead allows.
+    RightAhead,
+    /// The configurations differ, agree on the left and share an image.
+    RightSplit,
+    /// The claims of the first pairs of the left are less than the look-ahead allows.
+    LeftAhead,
+    /// The configurations differ, agree on the right and share an image.
+    LeftSplit,
+    /// The flux balances what each window gains.
+    FluxFlows,
+    /// The ring has letters, and its image has another sum.
+    RingLossy,
+}
+
+/// All of them, the one that is checked first at the front.
+const CONDITIONS: [Condition; 14] = [
+    Condition::ForwardClaims,
+    Condition::BackwardClaims,
+    Condition::FullListed,
+    Condition::NoneEmpty,
+    Condition::Closed,
+    Condition::OrphanRead,
+    Condition::WindowClaims,
+    Condition::TwinsAlike,
+    Condition::RightAhead,
+    Condition::RightSplit,
+    Condition::LeftAhead,
+    Condition::LeftSplit,
+    Condition::FluxFlows,
+    Condition::RingLossy,
+];
+
+/// Whether a certificate meets all conditions; else what is said of the first that it doesn't meet.
+pub fn check_all(cert: &Cert) -> Result<(), Refusal>
+    ensures { MatchResult result (λ _. MeetsConditions cert.now) (IsFirstUnmet cert.now) }
+{
+    for condition in &CONDITIONS {
+        check(*condition, cert)?;
+    }
+    Ok(())
+}
+
+/// Whether a certificate meets one condition; else what is said of it.
+fn check(condition: Condition, cert: &Cert) -> Result<(), Refusal>
+    ensures { IsChecked cert.now condition result }
+{
+    match condition {
+        Condition::ForwardClaims => forward_claims(cert),
+        Condition::BackwardClaims => backward_claims(cert),
+        Condition::FullListed => full_listed(cert),
+        Condition::NoneEmpty => none_empty(cert),
+        Condition::Closed => closed(cert),
+        Condition::OrphanRead => orphan_read(cert),
+        Condition::WindowClaims => window_claims(cert),
+        Condition::TwinsAlike => twins_alike(cert),
+        Condition::RightAhead => right_ahead(cert),
+        Condition::RightSplit => right_split(cert),
+        Condition::LeftAhead => left_ahead(cert),
+        Condition::LeftSplit => left_split(cert),
+        Condition::FluxFlows => flux_flows(cert),
+        Condition::RingLossy => ring_lossy(cert),
+    }
+}

@@ -1,0 +1,100 @@
+//! Listed sets that prove a rule surjective.
+
+ghost use Rattle.std.specs.Prelude.{◌≢◌, ◌^◌, ◌<◌, ℕ, List, length, slice_index, Contains, IsTrue, MatchOption};
+ghost use Rattle.cert_check.specs.Breaches.{EachBelow, IsFirstBreach, FirstBreach};
+ghost use Rattle.cert_check.specs.Sets.{StepIsListed, AreMarked};
+ghost use Rattle.cert_check.specs.Refusals.{IsChecked};
+
+use crate::conditions::Condition;
+use crate::marks::Marks;
+use crate::refusal::Refusal;
+use crate::steps::Steps;
+use cert_format::{Cert, SurjectivePart};
+
+/// Whether the full set is listed.
+pub fn full_listed(cert: &Cert) -> Result<(), Refusal>
+    ensures { IsChecked cert.now Condition.FullListed result }
+{
+    match &cert.surjective {
+        SurjectivePart::Sets(sets) => {
+            if sets.as_slice().contains(&Steps::of(&cert.rule).full()) {
+                Ok(())
+            } else {
+                Err(Refusal::NoFull)
+            }
+        }
+        SurjectivePart::Orphan(_) => Ok(()),
+    }
+}
+
+/// Whether no listed set is empty; else the first place of an empty one.
+pub fn none_empty(cert: &Cert) -> Result<(), Refusal>
+    ensures { IsChecked cert.now Condition.NoneEmpty result }
+{
+    match &cert.surjective {
+        SurjectivePart::Sets(sets) => match first_empty(sets.as_slice()) {
+            Some(place) => Err(Refusal::EmptySet(place)),
+            None => Ok(()),
+        },
+        SurjectivePart::Orphan(_) => Ok(()),
+    }
+}
+
+/// Whether the steps of each listed set are listed; else the first place of a set with one that isn't,
+/// and the first letter on which it isn't.
+pub fn closed(cert: &Cert) -> Result<(), Refusal>
+    ensures { IsChecked cert.now Condition.Closed result }
+{
+    match &cert.surjective {
+        SurjectivePart::Sets(sets) => match first_open(&Steps::of(&cert.rule), sets.as_slice()) {
+            Some((place, letter)) => Err(Refusal::NotClosed(place, letter)),
+            None => Ok(()),
+        },
+        SurjectivePart::Orphan(_) => Ok(()),
+    }
+}
+
+/// The place of the first empty set.
+fn first_empty(sets: &[u16]) -> Option<usize>
+    ensures { FirstBreach (length sets.now) (λ i. slice_index sets.now i ≢ 0) result }
+{
+    for (place, set) in sets.iter().enumerate() {
+        if *set == 0 {
+            return Some(place);
+        }
+    }
+    None
+}
+
+/// The place of the first set with a step that isn't listed, and the first letter of such a step.
+fn first_open(steps: &Steps, sets: &[u16]) -> Option<(usize, u8)>
+    ensures { MatchOption result
+        (EachBelow (length sets.now) (λ i. EachBelow steps.now.states (StepIsListed steps.now sets.now (slice_index sets.now i))))
+        (λ (i, a). IsFirstBreach (length sets.now) (λ i. EachBelow steps.now.states (StepIsListed steps.now sets.now (slice_index sets.now i))) i
+        × IsFirstBreach steps.now.states (StepIsListed steps.now sets.now (slice_index sets.now i)) a) }
+{
+    let listed = Marks::of(sets);
+    let mut closed = Marks::new();
+    for (place, set) in sets.iter().enumerate() {
+        if closed.has(*set) {
+            continue;
+        }
+        if let Some(letter) = first_unlisted(steps, &listed, *set) {
+            return Some((place, letter));
+        }
+        closed.mark(*set);
+    }
+    None
+}
+
+/// The first letter on which the step of a set isn't listed.
+fn first_unlisted(steps: &Steps, listed: &Marks, set: u16) -> Option<u8>
+    ensures { (sets : List ℕ) → AreMarked listed.now.rows sets → FirstBreach steps.now.states (StepIsListed steps.now sets set) result }
+{
+    for letter in 0..steps.k() {
+        if !listed.has(steps.step(set, letter)) {
+            return Some(letter);
+        }
+    }
+    None
+}

@@ -1,0 +1,69 @@
+//! Two configurations that share an image and agree on a side.
+
+ghost use Rattle.std.specs.Prelude.{◌≡◌, ◌↔◌, IsTrue, MatchOption};
+ghost use Rattle.tail_config.specs.Tails.{Different, ShareImage};
+ghost use Rattle.cert_check.specs.Refusals.{IsChecked, IsSplitBreach};
+ghost use Rattle.cert_check.specs.Sides.{AgreeBehind};
+
+use crate::conditions::Condition;
+use crate::refusal::{Refusal, Side, SplitCause};
+use cert_format::{Cert, SidePart};
+use tail_config::{Tail, agree_left, agree_right, differ, share};
+use word_image::Rule;
+
+/// Whether the configurations differ, agree on the left and share an image; else the first of these that
+/// fails.
+pub fn right_split(cert: &Cert) -> Result<(), Refusal>
+    ensures { IsChecked cert.now Condition.RightSplit result }
+{
+    let SidePart::Split(x, y) = &cert.right else {
+        return Ok(());
+    };
+    match lacks(&cert.rule, Side::Right, x, y) {
+        Some(cause) => Err(Refusal::Split(Side::Right, cause)),
+        None => Ok(()),
+    }
+}
+
+/// The same where they agree on the right.
+pub fn left_split(cert: &Cert) -> Result<(), Refusal>
+    ensures { IsChecked cert.now Condition.LeftSplit result }
+{
+    let SidePart::Split(x, y) = &cert.left else {
+        return Ok(());
+    };
+    match lacks(&cert.rule, Side::Left, x, y) {
+        Some(cause) => Err(Refusal::Split(Side::Left, cause)),
+        None => Ok(()),
+    }
+}
+
+/// What two configurations lack that are no split of this side.
+fn lacks(rule: &Rule, side: Side, x: &Tail, y: &Tail) -> Option<SplitCause>
+    requires first { x.now.states ≡ rule.now.states }
+    requires second { y.now.states ≡ rule.now.states }
+    ensures { MatchOption result
+        (Different x.now.config y.now.config × AgreeBehind side x.now.config y.now.config × ShareImage rule.now x.now.config y.now.config)
+        (IsSplitBreach rule.now (AgreeBehind side) x.now.config y.now.config) }
+{
+    if differ(x, y).is_none() {
+        return Some(SplitCause::Same);
+    }
+    if !agree_behind(side, x, y) {
+        return Some(SplitCause::Apart);
+    }
+    if !share(rule, x, y) {
+        return Some(SplitCause::Image);
+    }
+    None
+}
+
+/// Whether two configurations are equal far on the other side.
+fn agree_behind(side: Side, x: &Tail, y: &Tail) -> bool
+    ensures { IsTrue result ↔ AgreeBehind side x.now.config y.now.config }
+{
+    match side {
+        Side::Right => agree_left(x, y),
+        Side::Left => agree_right(x, y),
+    }
+}

@@ -1,0 +1,61 @@
+//! Two words whose rings have one image.
+
+ghost use Rattle.std.specs.Prelude.{◌≡◌, ◌≢◌, ◌↔◌, ◌≤◌, length, IsTrue, MatchOption};
+ghost use Rattle.word_image.specs.LocalRules.{IsWord};
+ghost use Rattle.word_image.specs.Rings.{IsRing, ring_image};
+ghost use Rattle.cert_check.specs.Refusals.{IsChecked, IsTwinsBreach};
+
+use crate::conditions::Condition;
+use crate::refusal::{Refusal, TwinCause};
+use cert_format::{Cert, InjectivePart};
+use word_image::{Rule, ring_apply};
+
+/// Whether the twins have one length and letters, differ, and have rings with one image; else the first of
+/// these that fails.
+pub fn twins_alike(cert: &Cert) -> Result<(), Refusal>
+    ensures { IsChecked cert.now Condition.TwinsAlike result }
+{
+    let InjectivePart::Twins { x, y } = &cert.injective else {
+        return Ok(());
+    };
+    match lacks(&cert.rule, x.as_slice(), y.as_slice()) {
+        Some(cause) => Err(Refusal::Twins(cause)),
+        None => Ok(()),
+    }
+}
+
+/// What two words of letters lack that are no twins.
+fn lacks(rule: &Rule, x: &[u8], y: &[u8]) -> Option<TwinCause>
+    requires first { IsWord rule.now.states x.now }
+    requires second { IsWord rule.now.states y.now }
+    ensures { MatchOption result
+        (((length x.now ≡ length y.now) × (1 ≤ length x.now)) × (x.now ≢ y.now) × (ring_image rule.now x.now ≡ ring_image rule.now y.now))
+        (IsTwinsBreach rule.now x.now y.now) }
+{
+    if x.len() != y.len() || x.is_empty() {
+        return Some(TwinCause::Length);
+    }
+    if x == y {
+        return Some(TwinCause::Same);
+    }
+    if !have_one_image(rule, x, y) {
+        return Some(TwinCause::Image);
+    }
+    None
+}
+
+/// Whether two rings of one length have one image: the rule gives one letter on their windows at each
+/// place.
+fn have_one_image(rule: &Rule, x: &[u8], y: &[u8]) -> bool
+    requires first { IsRing rule.now.states x.now }
+    requires second { IsRing rule.now.states y.now }
+    requires one_length { length x.now ≡ length y.now }
+    ensures { IsTrue result ↔ (ring_image rule.now x.now ≡ ring_image rule.now y.now) }
+{
+    for place in 0..x.len() {
+        if ring_apply(rule, x, place) != ring_apply(rule, y, place) {
+            return false;
+        }
+    }
+    true
+}

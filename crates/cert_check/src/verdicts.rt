@@ -1,0 +1,41 @@
+//! The verdicts of a certificate.
+
+ghost use Rattle.std.specs.Prelude.{◌≡◌};
+ghost use Rattle.cert_check.specs.Accepted.{verdicts_of};
+
+use cert_format::{Cert, InjectivePart, SidePart, SumPart, SurjectivePart};
+use word_image::Rule;
+
+/// What an accepted certificate says of its rule, and what is true of it. The rule is open exactly where
+/// it closes on both sides.
+#[derive(Clone, Copy, Debug, PartialEq, Eq)]
+pub struct Verdicts {
+    /// The rule.
+    pub rule: Rule,
+    /// Whether every word has a preimage.
+    pub surjective: bool,
+    /// Whether no two different configurations share an image.
+    pub injective: bool,
+    /// Whether no two that agree on the left do.
+    pub right: bool,
+    /// Whether no two that agree on the right do.
+    pub left: bool,
+    /// Whether every ring keeps the sum of its letters.
+    pub conserving: bool,
+}
+
+impl Verdicts {
+    /// What a certificate says: yes exactly where its part has sets, a window, look-aheads, a flux.
+    pub fn of(cert: &Cert) -> Verdicts
+        ensures { result ≡ verdicts_of cert.now }
+    {
+        Verdicts {
+            rule: cert.rule,
+            surjective: matches!(&cert.surjective, SurjectivePart::Sets(_)),
+            injective: matches!(&cert.injective, InjectivePart::Window { .. }),
+            right: matches!(&cert.right, SidePart::Ahead(_)),
+            left: matches!(&cert.left, SidePart::Ahead(_)),
+            conserving: matches!(&cert.conserving, SumPart::Flux(_)),
+        }
+    }
+}

@@ -1,0 +1,85 @@
+//! Windows whose letter the claims of ranks determine.
+
+ghost use Rattle.std.specs.Prelude.{◌≡◌, ◌↔◌, ◌+◌, ◌-◌, ◌<◌, ◌≤◌, length, IsTrue};
+ghost use Rattle.word_image.specs.LocalRules.{node_count};
+ghost use Rattle.word_image.specs.Graphs.{node_letter, pair_count};
+ghost use Rattle.cert_check.specs.Breaches.{FirstBreach};
+ghost use Rattle.cert_check.specs.Refusals.{IsChecked};
+ghost use Rattle.cert_check.specs.Windows.{IsWindowPair};
+
+use crate::claims::claims_below;
+use crate::conditions::Condition;
+use crate::refusal::Refusal;
+use cert_format::{Cert, InjectivePart};
+use word_image::Rule;
+
+/// Whether the claims of ranks determine the letter of the window; else the first pair whose claims don't.
+pub fn window_claims(cert: &Cert) -> Result<(), Refusal>
+    ensures { IsChecked cert.now Condition.WindowClaims result }
+{
+    let InjectivePart::Window { n, c } = &cert.injective else {
+        return Ok(());
+    };
+    let (forward, backward) = (cert.forward.as_slice(), cert.backward.as_slice());
+    match first_not_told(&cert.rule, forward, backward, *n, *c) {
+        Some(pair) => Err(Refusal::Window(pair)),
+        None => Ok(()),
+    }
+}
+
+/// The first pair whose nodes differ where the window (n, c) reads them, and that the claims don't
+/// tell apart.
+fn first_not_told(
+    rule: &Rule,
+    forward: &[Option<u16>],
+    backward: &[Option<u16>],
+    n: u16,
+    c: u16,
+) -> Option<u16>
+    requires forward { length forward.now ≡ pair_count rule.now }
+    requires backward { length backward.now ≡ pair_count rule.now }
+    requires inside { c ≤ n + rule.now.width - 2 }
+    ensures { FirstBreach (pair_count rule.now) (IsWindowPair rule.now forward.now backward.now n c) result }
+{
+    let nodes = u16::from(rule.nodes());
+    for pair in 0..nodes * nodes {
+        if !is_told(rule, forward, backward, n, c, pair) {
+            return Some(pair);
+        }
+    }
+    None
+}
+
+/// Whether the nodes of a pair have one letter where the window (n, c) reads them, or the claims tell
+/// them apart: j = min(c, n) letters of the image are read before these nodes, and n - j behind.
+fn is_told(
+    rule: &Rule,
+    forward: &[Option<u16>],
+    backward: &[Option<u16>],
+    n: u16,
+    c: u16,
+    pair: u16,
+) -> bool
+    requires forward { length forward.now ≡ pair_count rule.now }
+    requires backward { length backward.now ≡ pair_count rule.now }
+    requires inside { c ≤ n + rule.now.width - 2 }
+    requires pair { pair < pair_count rule.now }
+    ensures { IsTrue result ↔ IsWindowPair rule.now forward.now backward.now n c pair }
+{
+    let j = c.min(n);
+    let nodes = u16::from(rule.nodes());
+    letter_at(rule, pair / nodes, c - j) == letter_at(rule, pair % nodes, c - j)
+        || claims_below(backward, pair, j)
+        || claims_below(forward, pair, n - j)
+}
+
+/// The letter of a node at a place.
+fn letter_at(rule: &Rule, node: u16, place: u16) -> u16
+    requires node { node < node_count rule.now }
+    requires place { place < rule.now.width - 1 }
+    ensures { result ≡ node_letter rule.now node place }
+{
+    let k = u16::from(rule.k());
+    let behind = u32::from(rule.m()) - 2 - u32::from(place);
+    node / k.pow(behind) % k
+}
