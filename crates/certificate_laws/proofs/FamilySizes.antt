@@ -1,0 +1,56 @@
+-- The sets of a family are different, so there are at most as many as sets of nodes.
+use Rattle.std.proofs.Common.{◌≡◌, ◌≢◌, ℕ, zero, suc, ◌+◌, ◌-◌, ◌^◌, ◌<◌, ◌≤◌, List, [], length, get_or, AllPairs, refl, subst, arith}
+use Rattle.std.proofs.lemmas.Bool.Decides.{Decides-eqb}
+use Rattle.std.proofs.lemmas.Map.Made.{IsDistinct-from_AllPairs}
+use Rattle.std.proofs.lemmas.Map.Steps.{length-le_from_distinct_below}
+use Rattle.std.proofs.lemmas.Map.Views.{Contains-from_any}
+use Rattle.std.proofs.lemmas.Option.{slice_get-get_or}
+use Rattle.std.proofs.Math.Nat.{pow-le-pow_right}
+use Rattle.word_image.specs.LocalRules.{LocalRule, IsRule, IsWord, node_count}
+use Rattle.word_image.specs.Ranks.{IsLastSet}
+use Rattle.word_image.specs.Families.{IsFamily, IsAscending, IsLeastWordOf}
+use Rattle.word_image.proofs.laws.Lists.{paired_at, paired_length}
+use Rattle.search_laws.proofs.WordOrder.{word_number, word_number-le, word_number-less}
+use Rattle.certificate_laws.proofs.MetConditions.{IsLastSet-each}
+
+-- each word of the list is one over k letters
+abbrev AreWords : ℕ → List (List ℕ) → Type 0
+AreWords k ws = (i : ℕ) → i < length ws → IsWord k (get_or ws i [])
+
+-- in ascending words the next one has a greater number
+word_number-next : {k : ℕ} (ws : List (List ℕ)) → IsAscending ws → AreWords k ws → (i : ℕ) → i + 1 < length ws → word_number k (get_or ws i []) < word_number k (get_or ws (i + 1) [])
+word_number-next {k} ws ascending words i l =
+    word_number-less k (get_or ws i []) (get_or ws (i + 1) []) (words i (omega arith)) (words (i + 1) l)
+    (ascending i (get_or ws i []) (get_or ws (i + 1) []) (slice_get-get_or ws i [] (omega arith)) (slice_get-get_or ws (i + 1) [] l))
+
+-- and so has each later one
+word_number-later : {k : ℕ} (ws : List (List ℕ)) → IsAscending ws → AreWords k ws → (i g j : ℕ) → i + g + 1 ≡ j → j < length ws → word_number k (get_or ws i []) < word_number k (get_or ws j [])
+word_number-later {k} ws ascending words i zero j e l =
+    let place : i + 1 ≡ j = omega arith in
+    subst (λ (n : ℕ). word_number k (get_or ws i []) < word_number k (get_or ws n [])) place (word_number-next ws ascending words i (omega arith))
+word_number-later {k} ws ascending words i (suc g) j e l =
+    let m : ℕ = i + g + 1 in
+    let place : m + 1 ≡ j = omega arith in
+    let next = subst (λ (n : ℕ). word_number k (get_or ws m []) < word_number k (get_or ws n [])) place (word_number-next ws ascending words m (omega arith)) in
+    omega (arith, word_number-later ws ascending words i g m refl (omega arith), next)
+
+-- the sets of a family are different
+sets-apart : {r : LocalRule} {sets : List ℕ} → IsFamily r sets → AllPairs (λ s t. s ≢ t) sets
+sets-apart {r} {sets} family i j d less within same =
+    let ws : List (List ℕ) = family.words in
+    let long : length sets ≡ length ws = paired_length (IsLeastWordOf r) sets ws family.each in
+    let at : (n : ℕ) → n < length sets → IsLeastWordOf r (get_or sets n d) (get_or ws n []) = λ n l. paired_at (IsLeastWordOf r) sets ws n d [] family.each l in
+    let first = at i (omega arith) in
+    let second = at j within in
+    let after = word_number-later ws family.ascending (λ n l. (at n (omega arith)).set_of.word) i (j - i - 1) j (omega arith) (omega arith) in
+    let before = word_number-le r.states (get_or ws j []) (get_or ws i []) second.set_of.word first.set_of.word
+    (second.least (get_or ws i []) (subst (IsLastSet r (get_or ws i [])) same first.set_of)) in
+    omega (arith, after, before)
+
+-- so there are at most 65,536
+pub length-family : {r : LocalRule} {sets : List ℕ} → IsRule r → IsFamily r sets → length sets ≤ 65536
+length-family {r} {sets} rule family =
+    let few = length-le_from_distinct_below sets (2 ^ node_count r) (IsDistinct-from_AllPairs Decides-eqb sets (sets-apart family)) (λ s any.
+    (IsLastSet-each r sets family.words family.each s (Contains-from_any (λ x y same. (Decides-eqb x y).0 same) s sets any)).1.within) in
+    let most : 2 ^ node_count r ≤ 2 ^ 16 = pow-le-pow_right (omega arith) rule.shape.most_nodes in
+    omega (arith, few, most)

@@ -1,0 +1,11 @@
+pub mod MetConditions
+pub mod LongerWords
+pub mod ShortSplits
+pub mod Limits
+pub mod WrittenShapes
+pub mod TextLengths
+pub mod FamilySizes
+pub mod ShortOrphans
+pub mod ShortWords
+pub mod ShortTexts
+pub mod Accepted

@@ -1,0 +1,109 @@
+-- The least normal right split is short: its middle and right period have together at most as many letters as there are pairs, and m more.
+use Rattle.std.proofs.Common.{◌≡◌, ℕ, ◌+◌, ◌-◌, ◌<◌, ◌≤◌, List, ◌∷◌, length, drop, sym, ap₂, subst, subst₂, ◌∙◌, ⊎_elim, arith, length-append, length-drop}
+use Rattle.std.specs.List.{zip}
+use Rattle.std.specs.declared.cmp.Ordering.TheVariants.{Greater}
+use Rattle.std.proofs.lemmas.Bool.{cases_lt}
+use Rattle.std.proofs.lemmas.List.Elements.{All-drop}
+use Rattle.word_image.specs.LocalRules.{LocalRule, IsRule, IsWord, word_of}
+use Rattle.word_image.specs.Windows.{IsRightAhead}
+use Rattle.word_image.specs.Rings.{IsRing}
+use Rattle.word_image.specs.Graphs.{pair_of, pair_count}
+use Rattle.word_image.specs.Erasure.{IsFirstOfRight}
+use Rattle.word_image.proofs.laws.Values.{length-word_of}
+use Rattle.pair_laws.proofs.Walks.{LeadTogether}
+use Rattle.pair_laws.proofs.Ranks.{BeginTogether-walk}
+use Rattle.pair_laws.proofs.Pairs.{PairBegins, pair_of-first_of}
+use Rattle.pair_laws.proofs.Aheads.{IsRightAhead-pairs}
+use Rattle.pair_laws.proofs.Endless.{Loops-long, BeginTogether-endless}
+use Rattle.tail_config.specs.Tails.{TailConfig}
+use Rattle.tail_config.specs.Splits.{IsNormalRightSplit, IsLeastRightSplit, splits_cmp}
+use Rattle.tail_laws.proofs.PairLeads.{PairLeads}
+use Rattle.tail_laws.proofs.WordWalks.{PairLeads-words}
+use Rattle.tail_laws.proofs.FirstPairs.{LeadsToLoop, split_of, normal_split-loop}
+use Rattle.tail_laws.proofs.Closing.{IsRightClosing-ahead}
+use Rattle.tail_laws.proofs.Verdicts.{no_right_closing}
+use Rattle.certificate_laws.proofs.LongerWords.{later_by_number}
+
+-- the letters of a walk of n steps from the nodes u and v to the nodes s and t
+record HasLetters (r : LocalRule) (u v n s t : ℕ) : Type 0 where
+  pub a : List ℕ
+  pub b : List ℕ
+  pub a_word : IsWord r.states a
+  pub b_word : IsWord r.states b
+  pub a_long : length a ≡ n
+  pub b_long : length b ≡ n
+  pub leads : PairLeads r (pair_of r u v) (zip a b) (pair_of r s t)
+
+-- a walk has letters
+HasLetters-walk : {r : LocalRule} {u v n s t : ℕ} → IsRule r → LeadTogether r u v n s t → HasLetters r u v n s t
+HasLetters-walk {r} {u} {v} {n} {s} {t} rule h =
+    let m : ℕ = r.width - 1 in
+    record {
+      a = drop m h.x;
+      b = drop m h.y;
+      a_word = All-drop (λ c. c < r.states) m h.x h.one_image.first;
+      b_word = All-drop (λ c. c < r.states) m h.y h.one_image.second;
+      a_long = omega (arith, length-drop m h.x, h.one_image.first_long);
+      b_long = omega (arith, length-drop m h.y, h.one_image.second_long);
+      leads = subst₂ (λ p q. PairLeads r p (zip (drop m h.x) (drop m h.y)) q) (ap₂ (pair_of r) h.first h.second) (ap₂ (pair_of r) h.first_last h.second_last) (PairLeads-words rule h.one_image);
+    }
+
+-- a normal right split with few letters
+record HasShortSplit (r : LocalRule) : Type 0 where
+  pub x : TailConfig
+  pub y : TailConfig
+  pub split : IsNormalRightSplit r x y
+  pub short : length x.middle + length x.right ≤ r.width - 1 + 1 + pair_count r
+
+-- the middle of the configuration of a node, a letter, a walk and a loop
+length-split_of : (r : LocalRule) (node a : ℕ) (walk turn : List ℕ) → length (split_of r node a walk turn).middle ≡ r.width - 1 + 1 + length walk
+length-split_of r node a walk turn = omega (arith, length-append (word_of r.states (r.width - 1) node) (a ∷ walk), length-word_of r.states (r.width - 1) node)
+
+-- a first pair that begins together for as long as there are pairs gives one
+HasShortSplit-begins : {r : LocalRule} {p : ℕ} → IsRule r → IsFirstOfRight r p → PairBegins r p (pair_count r) → HasShortSplit r
+HasShortSplit-begins {r} {p} rule f begins =
+    let loops = Loops-long rule (omega arith) (BeginTogether-walk begins).2 in
+    let before = HasLetters-walk rule loops.before in
+    let loop = HasLetters-walk rule loops.loop in
+    let first_turn : IsRing r.states loop.a = record { word = loop.a_word; some = omega (arith, loop.a_long) } in
+    let second_turn : IsRing r.states loop.b = record { word = loop.b_word; some = omega (arith, loop.b_long) } in
+    let way : LeadsToLoop r p = record {
+      first = before.a;
+      second = before.b;
+      first_word = before.a_word;
+      second_word = before.b_word;
+      one_length = before.a_long ∙ sym before.b_long;
+      first_turn = loop.a;
+      second_turn = loop.b;
+      first_ring = first_turn;
+      second_ring = second_turn;
+      one_turn = loop.a_long ∙ sym loop.b_long;
+      pair = pair_of r loops.s loops.t;
+      reach = subst (λ q. PairLeads r q (zip before.a before.b) (pair_of r loops.s loops.t)) (pair_of-first_of r p) before.leads;
+      loop = loop.leads;
+    } in
+    record {
+      x = split_of r f.node f.a before.a loop.a;
+      y = split_of r f.node f.b before.b loop.b;
+      split = normal_split-loop rule f way;
+      short = omega (arith, length-split_of r f.node f.a before.a loop.a, before.a_long, loop.a_long, loops.within);
+    }
+
+-- a split with more letters of middle and period together comes later
+splits_cmp-longer : (x y u v : TailConfig) → length u.middle + length u.right < length x.middle + length x.right → splits_cmp (x, y) (u, v) ≡ Greater
+splits_cmp-longer x y u v less = later_by_number (length x.middle + length x.right) (length u.middle + length u.right) _ less
+
+-- so the least one is short
+pub IsLeastRightSplit-le : {r : LocalRule} {x y : TailConfig} → IsRule r → IsLeastRightSplit r x y → length x.middle + length x.right ≤ r.width - 1 + 1 + pair_count r
+IsLeastRightSplit-le {r} {x} {y} rule least =
+    ⊎_elim
+    (λ long.
+    let ahead : IsRightAhead r (pair_count r + 1) = (IsRightAhead-pairs rule (pair_count r + 1)).1 (
+      omega arith,
+      (λ p first begins.
+          let other = HasShortSplit-begins rule first (BeginTogether-endless rule (omega arith) begins (pair_count r)) in
+          least.least other.x other.y other.split (splits_cmp-longer x y other.x other.y (omega (arith, other.short)))),
+    ) in
+    absurd (no_right_closing least (IsRightClosing-ahead rule ahead)))
+    (λ short. short)
+    (cases_lt (r.width - 1 + 1 + pair_count r) (length x.middle + length x.right))

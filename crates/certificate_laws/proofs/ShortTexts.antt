@@ -1,0 +1,145 @@
+-- The text that is written for a rule has fewer than 450,000 bytes.
+use Rattle.std.proofs.Common.{◌≡◌, ℕ, ◌+◌, ◌-◌, ◌^◌, ◌<◌, ◌≤◌, true, false, List, [], ◌∷◌, length, map, Option, Some, None, arith, length-append}
+use Rattle.std.specs.Prelude.{ℤ, pos, negsuc, ◌≤ℤ◌, codes}
+use Rattle.std.proofs.Math.Nat.{pow-le-pow_right}
+use Rattle.std.proofs.lemmas.Fmt.{length-decimal-le, length_signed_le}
+use Rattle.std.proofs.lemmas.Int.{ints}
+use Rattle.std.proofs.lemmas.List.{length-map}
+use Rattle.std.proofs.lemmas.List.Elements.{All-weaker}
+use Rattle.serde_json.specs.Data.{Data, Members, no_members, member, string}
+use Rattle.serde_json.specs.Written.{compact_text}
+use Rattle.word_image.specs.LocalRules.{LocalRule, IsRule, node_count}
+use Rattle.word_image.proofs.laws.RuleFaults.{window_count-le}
+use Rattle.tail_config.specs.TailTexts.{IsShortTail}
+use Rattle.rule_text.specs.RuleTexts.{offset_text, printed}
+use Rattle.cert_format.specs.Certificates.{Certificate, SurjectiveEvidence, InjectiveEvidence, SideEvidence, SumEvidence, IsSurjectiveShape, IsInjectiveShape, IsSideShape, IsSumShape, IsClaim, IsRankShape, IsShaped}
+use Rattle.cert_format.specs.Certificates.SideEvidence.{Ahead, Split}
+use Rattle.cert_format.specs.Readings.{IsNear}
+use Rattle.cert_format.specs.WrittenTexts.{array_from, whole_value, signed_value, word_value, tail_value, claim_value, surjective_value, injective_value, side_value, sum_value, ranks_value, certificate_text}
+use Rattle.certificate_laws.specs.WrittenCertificates.{IsSurjectivePart, IsInjectivePart, IsConservingPart, HasWrittenParts}
+use Rattle.certificate_laws.specs.WrittenCertificates.IsSurjectivePart.{Yes as Onto, No as NotOnto}
+use Rattle.certificate_laws.specs.WrittenCertificates.IsInjectivePart.{Yes as OneToOne, No as NotOneToOne}
+use Rattle.certificate_laws.specs.WrittenCertificates.IsConservingPart.{Yes as Keeps, No as Loses}
+use Rattle.certificate_laws.proofs.MetConditions.{own_parts}
+use Rattle.certificate_laws.proofs.Limits.{pair_count-le}
+use Rattle.certificate_laws.proofs.WrittenShapes.{IsShaped-written}
+use Rattle.certificate_laws.proofs.FamilySizes.{length-family}
+use Rattle.certificate_laws.proofs.ShortOrphans.{length-IsLeastOrphan}
+use Rattle.certificate_laws.proofs.ShortWords.{length-IsLeastTwins, length-IsLeastLossyRing}
+use Rattle.certificate_laws.proofs.TextLengths.{length-quoted, length-word_value, length-tail_value, length-values, length-pair, length-member, length-only}
+
+-- a number of sixteen bits has at most five digits
+length-whole_value : (n : ℕ) → n ≤ 65535 → length (compact_text (whole_value n)) ≤ 5
+length-whole_value n small = length-decimal-le 5 n (omega arith) (omega arith) (omega arith)
+
+-- a number of at most a million either way has at most eight characters
+length-signed_value : (z : ℤ) → IsNear z → length (compact_text (signed_value z)) ≤ 8
+length-signed_value (pos n) near = length_signed_le 7 (pos n) (omega (arith, ints, near.1)) (omega (arith, ints, near.1))
+length-signed_value (negsuc n) near = length_signed_le 7 (negsuc n) (omega (arith, ints, near.0)) (omega (arith, ints, near.0))
+
+-- a claim has at most five
+length-claim_value : (o : Option ℕ) → IsClaim o → length (compact_text (claim_value o)) ≤ 5
+length-claim_value None claim = omega arith
+length-claim_value (Some n) claim = length-whole_value n claim
+
+-- an offset has at most three
+length-offset_text : (z : ℤ) → negsuc 15 ≤ℤ z → z ≤ℤ pos 16 → length (offset_text z) ≤ 3
+length-offset_text (pos n) low high = let small : n ≤ 16 = omega (arith, ints) in omega (arith, length-decimal-le 2 n (omega arith) (omega arith) (omega arith))
+length-offset_text (negsuc n) low high = let small : n ≤ 15 = omega (arith, ints) in omega (arith, length-decimal-le 2 (n + 1) (omega arith) (omega arith) (omega arith))
+
+-- the printed form of a rule has at most 267
+length-printed : {r : LocalRule} → IsRule r → length (printed r) ≤ 267
+length-printed {r} rule =
+    let shape = rule.shape in
+    let k = length-decimal-le 2 r.states (omega arith) (omega (arith, shape.most_states)) (omega (arith, shape.most_states)) in
+    let m = length-decimal-le 2 r.width (omega arith) (omega (arith, shape.most_width)) (omega (arith, shape.most_width)) in
+    let o = length-offset_text r.offset shape.least_offset (omega (arith, ints, shape.most_offset)) in
+    let entries = window_count-le r.states r.width r.offset shape in
+    let table = rule.entries in
+    simp (length-append, length-map) (omega arith)
+
+-- the sets of a family, or an orphan
+length-surjective_value : {r : LocalRule} {e : SurjectiveEvidence} → IsRule r → IsSurjectiveShape r e → IsSurjectivePart r e → length (compact_text (surjective_value e)) ≤ 393248
+length-surjective_value {r} rule shape (Onto sets surjective family) =
+    let most : 2 ^ node_count r ≤ 2 ^ 16 = pow-le-pow_right (omega arith) rule.shape.most_nodes in
+    let small = All-weaker (λ s. s ≤ 2 ^ node_count r - 1) (λ s. length (compact_text (whole_value s)) ≤ 5) (λ s l. length-whole_value s (omega (arith, l, most))) sets shape in
+    omega (arith, length-only (codes "sets") (array_from (map whole_value sets)), length-values whole_value 5 sets small, length-family rule family)
+length-surjective_value rule shape (NotOnto w least) = omega (arith, length-IsLeastOrphan rule least, length-only (codes "orphan") (word_value w), length-word_value w)
+
+-- a window or twins
+length-injective_value : {r : LocalRule} {e : InjectiveEvidence} → IsRule r → IsInjectiveShape r e → IsInjectivePart r e → length (compact_text (injective_value e)) ≤ 1100
+length-injective_value rule shape (OneToOne n c injective least) =
+    omega (
+      arith,
+      length-member false (codes "c") (whole_value c) (member (codes "n") (whole_value n) no_members),
+      length-member true (codes "n") (whole_value n) no_members,
+      length-whole_value n shape.1,
+      length-whole_value c shape.3,
+    )
+length-injective_value rule shape (NotOneToOne x y least) =
+    let brief = length-IsLeastTwins rule least in
+    omega (arith, brief.0, brief.1, length-only (codes "twins") (array_from (word_value x ∷ word_value y ∷ [])), length-pair (word_value x) (word_value y), length-word_value x, length-word_value y)
+
+-- a look-ahead or a split
+length-side_value : (r : LocalRule) (e : SideEvidence) → IsSideShape r e → length (compact_text (side_value e)) ≤ 6300
+length-side_value r (Ahead n) shape = omega (arith, length-only (codes "ahead") (whole_value n), length-whole_value n shape.1)
+length-side_value r (Split x y) shape =
+    let first : IsShortTail r.states x = shape.0 in
+    let second : IsShortTail r.states y = shape.1 in
+    omega (arith, length-only (codes "split") (array_from (tail_value x ∷ tail_value y ∷ [])), length-pair (tail_value x) (tail_value y), length-tail_value x, length-tail_value y)
+
+-- a flux or a ring
+length-sum_value : {r : LocalRule} {e : SumEvidence} → IsRule r → IsSumShape r e → IsConservingPart (λ a. a) r e → length (compact_text (sum_value e)) ≤ 200
+length-sum_value rule shape (Keeps phi conserving flux zeroth) =
+    let small = All-weaker IsNear (λ z. length (compact_text (signed_value z)) ≤ 8) length-signed_value phi shape.1 in
+    omega (arith, length-only (codes "flux") (array_from (map signed_value phi)), length-values signed_value 8 phi small, shape.0, rule.shape.most_nodes)
+length-sum_value rule shape (Loses p least) = omega (arith, length-IsLeastLossyRing rule least, rule.shape.most_width, length-only (codes "ring") (word_value p), length-word_value p)
+
+-- the ranks of one direction
+length-row : {r : LocalRule} {row : List (Option ℕ)} → IsRule r → IsRankShape r row → length (compact_text (array_from (map claim_value row))) ≤ 1538
+length-row {r} {row} rule shape =
+    let small = All-weaker IsClaim (λ o. length (compact_text (claim_value o)) ≤ 5) length-claim_value row shape.claims in
+    omega (arith, length-values claim_value 5 row small, shape.each_pair, pair_count-le rule)
+
+-- and of both
+length-ranks_value : {r : LocalRule} {forward backward : List (Option ℕ)} → IsRule r → IsRankShape r forward → IsRankShape r backward → length (compact_text (ranks_value forward backward)) ≤ 3200
+length-ranks_value {r} {forward} {backward} rule ahead back =
+    let front : Data = array_from (map claim_value forward) in
+    let behind : Data = array_from (map claim_value backward) in
+    omega (arith, length-member false (codes "backward") behind (member (codes "forward") front no_members), length-member true (codes "forward") front no_members, length-row rule ahead, length-row rule back)
+
+-- what is written for its own rule has a short text
+short-own : {c : Certificate} → IsShaped c → HasWrittenParts c.rule c → length (certificate_text c) < 450000
+short-own {c} shaped parts =
+    let rule = shaped.rule in
+    let version : Members = member (codes "version") (whole_value 1) no_members in
+    let surjective : Members = member (codes "surjective") (surjective_value c.surjective) version in
+    let text : Members = member (codes "rule") (string (printed c.rule)) surjective in
+    let right : Members = member (codes "right") (side_value c.right) text in
+    let ranks : Members = member (codes "ranks") (ranks_value c.forward c.backward) right in
+    let left : Members = member (codes "left") (side_value c.left) ranks in
+    let injective : Members = member (codes "injective") (injective_value c.injective) left in
+    omega (
+      arith,
+      length-member false (codes "conserving") (sum_value c.conserving) injective,
+      length-member true (codes "injective") (injective_value c.injective) left,
+      length-member true (codes "left") (side_value c.left) ranks,
+      length-member true (codes "ranks") (ranks_value c.forward c.backward) right,
+      length-member true (codes "right") (side_value c.right) text,
+      length-member true (codes "rule") (string (printed c.rule)) surjective,
+      length-member true (codes "surjective") (surjective_value c.surjective) version,
+      length-member true (codes "version") (whole_value 1) no_members,
+      length-sum_value rule shaped.conserving parts.conserving,
+      length-injective_value rule shaped.injective parts.injective,
+      length-side_value c.rule c.left shaped.left,
+      length-ranks_value rule shaped.forward shaped.backward,
+      length-side_value c.rule c.right shaped.right,
+      length-quoted (printed c.rule),
+      length-printed rule,
+      length-surjective_value rule shaped.surjective parts.surjective,
+      length-whole_value 1 (omega arith),
+    )
+
+-- the text that is written for a rule is short
+pub short-written : {r : LocalRule} {c : Certificate} → IsRule r → c.rule ≡ r → HasWrittenParts r c → length (certificate_text c) < 450000
+short-written rule same parts = short-own (IsShaped-written rule same parts) (own_parts same parts)

@@ -1,0 +1,70 @@
+-- What is written for a rule has the shape of a certificate.
+use Rattle.std.proofs.Common.{◌≡◌, ℕ, length, sym, ap, subst, arith}
+use Rattle.std.proofs.lemmas.List.{length-reverse}
+use Rattle.word_image.specs.LocalRules.{LocalRule, IsRule}
+use Rattle.word_image.specs.Ranks.{BeginTogether, EndTogether}
+use Rattle.word_image.proofs.laws.Images.{IsRule-mirrored}
+use Rattle.pair_laws.proofs.Endless.{IsRank-begin, IsRank-end}
+use Rattle.tail_config.specs.Tails.{TailConfig, mirror_of}
+use Rattle.tail_config.specs.TailTexts.{IsShortTail}
+use Rattle.tail_config.specs.Splits.{IsLeastRightSplit}
+use Rattle.tail_config.proofs.laws.Mirror.{IsTail-mirror}
+use Rattle.cert_format.specs.Certificates.{Certificate, SideEvidence, IsSideShape, IsShaped}
+use Rattle.cert_format.specs.Certificates.SideEvidence.{Split}
+use Rattle.certificate_laws.specs.WrittenCertificates.{IsRightPart, IsLeftPart, HasWrittenParts}
+use Rattle.certificate_laws.specs.WrittenCertificates.IsRightPart.{Yes as ClosesRight, No as SplitsRight}
+use Rattle.certificate_laws.specs.WrittenCertificates.IsLeftPart.{Yes as ClosesLeft, No as SplitsLeft}
+use Rattle.certificate_laws.proofs.MetConditions.{own_parts}
+use Rattle.certificate_laws.proofs.ShortSplits.{IsLeastRightSplit-le}
+use Rattle.certificate_laws.proofs.Limits.{pair_count-le, IsSurjectiveShape-written, IsInjectiveShape-written, IsSideShape-ahead, IsSumShape-written, IsRankShape-exact}
+
+-- the least normal right split is of short configurations
+IsSideShape-split : {r : LocalRule} {x y : TailConfig} → IsRule r → IsLeastRightSplit r x y → IsSideShape r (Split x y)
+IsSideShape-split {r} {x} {y} rule least =
+    let few = IsLeastRightSplit-le rule least in
+    let pairs = pair_count-le rule in
+    let width = rule.shape.most_width in
+    let split = least.split in (
+      record { tail = split.split.first; left = omega (arith, ap length split.first.left); middle = omega arith; right = omega arith },
+      record { tail = split.split.second; left = omega (arith, ap length split.second.left); middle = omega (arith, split.middles); right = omega (arith, split.rights) },
+    )
+
+-- read backwards a short configuration is short
+IsShortTail-mirror : {k : ℕ} {t : TailConfig} → IsShortTail k t → IsShortTail k (mirror_of t)
+IsShortTail-mirror {k} {t} short =
+    record {
+      tail = IsTail-mirror short.tail;
+      left = omega (arith, length-reverse t.right);
+      middle = omega (arith, length-reverse t.middle);
+      right = omega (arith, length-reverse t.left);
+    }
+
+-- the part of the right is within its limits
+IsSideShape-right : {r : LocalRule} {e : SideEvidence} → IsRule r → IsRightPart r e → IsSideShape r e
+IsSideShape-right rule (ClosesRight n closing least) = IsSideShape-ahead rule least
+IsSideShape-right rule (SplitsRight x y least) = IsSideShape-split rule least
+
+-- and that of the left
+IsSideShape-left : {r : LocalRule} {e : SideEvidence} → IsRule r → IsLeftPart r e → IsSideShape r e
+IsSideShape-left rule (ClosesLeft n closing least) = IsSideShape-ahead (IsRule-mirrored rule) least
+IsSideShape-left {r} rule (SplitsLeft x y least) =
+    let shape = IsSideShape-split {x = least.first} {y = least.second} (IsRule-mirrored rule) least.right in
+    (subst (IsShortTail r.states) (sym least.x_is) (IsShortTail-mirror shape.0), subst (IsShortTail r.states) (sym least.y_is) (IsShortTail-mirror shape.1))
+
+-- with the evidence that is written for its own rule it has the shape of a certificate
+IsShaped-own : {c : Certificate} → IsRule c.rule → HasWrittenParts c.rule c → IsShaped c
+IsShaped-own {c} rule parts =
+    record {
+      rule = rule;
+      surjective = IsSurjectiveShape-written parts.surjective;
+      injective = IsInjectiveShape-written rule parts.injective;
+      right = IsSideShape-right rule parts.right;
+      left = IsSideShape-left rule parts.left;
+      conserving = IsSumShape-written rule parts.conserving;
+      forward = IsRankShape-exact (BeginTogether c.rule) rule (λ u v n rank. IsRank-begin rule rank) parts.forward;
+      backward = IsRankShape-exact (EndTogether c.rule) rule (λ u v n rank. IsRank-end rule rank) parts.backward;
+    }
+
+-- what is written for a rule has the shape of a certificate
+pub IsShaped-written : {r : LocalRule} {c : Certificate} → IsRule r → c.rule ≡ r → HasWrittenParts r c → IsShaped c
+IsShaped-written rule same parts = IsShaped-own (subst IsRule (sym same) rule) (own_parts same parts)
