@@ -1,3 +1,10 @@
 pub mod Outcomes
+pub mod Inputs
+pub mod MadeRules
 pub mod RightAnswers
+pub mod Certified
+pub mod Operands
+pub mod Requests
 pub mod Findings
+pub mod Summaries
+pub mod Samples

@@ -1,5 +1,5 @@
 -- What the deciders find of a rule: when it is true and the least evidence, and the lines that say it.
-use Rattle.std.specs.Prelude.{◌≡◌, ℕ, List, ◌++◌, take, codes, Bool, true, false, if◌then◌else◌, IsTrue, ◌↔◌, ⊤}
+use Rattle.std.specs.Prelude.{◌≡◌, ℕ, ◌≤◌, List, ◌++◌, take, codes, Bool, true, false, if◌then◌else◌, IsTrue, ◌↔◌, ⊤}
 use Rattle.std.specs.Fmt.{decimal}
 use Rattle.word_image.specs.Digits.{word_text}
 use Rattle.word_image.specs.LocalRules.{LocalRule, IsRule, IsWord, node_count}
@@ -32,6 +32,11 @@ IsSurjectivity r (surjectivity.Orphan w) = IsLeastOrphan r w
 abbrev pub IsInjectivity : LocalRule → Injectivity → Type 0
 IsInjectivity r (injectivity.Window at) = IsInjective r × IsLeastDetermined r at.n at.c
 IsInjectivity r (injectivity.Twins pair) = ¬ IsInjective r × IsLeastTwins r pair.x pair.y
+
+-- its window has at most 480 letters of the image
+abbrev pub HasShortWindow : Injectivity → Type 0
+HasShortWindow (injectivity.Window at) = at.n ≤ 480
+HasShortWindow (injectivity.Twins pair) = ⊤
 
 -- the rule conserves the sum of its letters, with its flux; or it doesn't, with the least ring
 pub record IsConservation (r : LocalRule) (k : Keeping) : Type 0 where

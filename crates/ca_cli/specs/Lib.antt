@@ -1,9 +1,14 @@
 pub mod Statuses
 pub mod Commands
+pub mod Inputs
 pub mod Lines
 pub mod StatusLines
 pub mod Reports
 pub mod Findings
+pub mod RankRows
+pub mod MadeRules
+pub mod Samples
+pub mod Summaries
 pub mod RightAnswers
 pub mod Outcomes
 pub mod Examples

@@ -1,16 +1,36 @@
 -- What a command comes to: its output, or why it stopped.
-use Rattle.std.specs.Prelude.{◌≡◌, ℕ, List, Option, Result, MatchResult, ⊤}
+use Rattle.std.specs.Prelude.{◌≡◌, ℕ, List, Option, Result, Ok, Err, MatchResult, ⊤}
 use Rattle.rule_text.specs.declared.text_fault.TextFault.{TextFault}
 use Rattle.rule_text.specs.RuleTexts.{IsTextFault}
+use Rattle.ca_cli.specs.declared.status.Status.{Status}
 use Rattle.ca_cli.specs.declared.status.Status.TheVariants as status
 use Rattle.ca_cli.specs.declared.stop.Stop.{Stop}
 use Rattle.ca_cli.specs.declared.stop.Stop.TheVariants as stop
 use Rattle.ca_cli.specs.Commands.{Command}
+use Rattle.ca_cli.specs.StatusLines.{refused_line, too_long_line}
 use Rattle.ca_cli.specs.RightAnswers.{IsOperandFault, IsRight}
 
--- the command has to stop for this; want of memory may always be
+-- the status of a command that stopped
+abbrev pub status_of : Stop → Status
+status_of (stop.RuleFault operand f) = status.RuleFault
+status_of (stop.NotFit out) = status.NotFit
+status_of stop.TooLong = status.TooLong
+status_of stop.ReadFault = status.ReadFault
+status_of (stop.Refused f) = status.Refused
+status_of (stop.Memory _) = status.Memory
+
+-- the status of an outcome
+abbrev pub outcome_status : Result (List ℕ) Stop → Status
+outcome_status (Ok out) = status.Done
+outcome_status (Err s) = status_of s
+
+-- the command has to stop for this; want of memory may always be, and a failed read where the command reads
 abbrev pub IsStop : Option (List ℕ) → Command → Stop → Type 0
 IsStop input c (stop.RuleFault operand f) = IsOperandFault c operand f
+IsStop input c (stop.NotFit out) = IsRight input c status.NotFit out
+IsStop input c stop.TooLong = IsRight input c status.TooLong too_long_line
+IsStop input c stop.ReadFault = c ≡ Command.Check
+IsStop input c (stop.Refused f) = IsRight input c status.Refused (refused_line f)
 IsStop input c (stop.Memory _) = ⊤
 
 -- the output is right, or the command has to stop

@@ -1,7 +1,25 @@
--- The lines of the statuses: what is said of words and of operands.
-use Rattle.std.specs.Prelude.{ℕ, List, ◌++◌, codes}
+-- The lines of the statuses: what is said of words, operands, inputs and certificates.
+use Rattle.std.specs.Prelude.{ℕ, Bool, List, [], ◌++◌, codes, if◌then◌else◌}
 use Rattle.std.specs.Fmt.{decimal}
+use Rattle.word_image.specs.Digits.{word_text}
+use Rattle.rule_text.specs.RuleTexts.{printed}
 use Rattle.rule_text.specs.declared.text_fault.TextFault.{TextFault}
+use Rattle.rule_algebra.specs.declared.fault.AlgebraFault.{AlgebraFault}
+use Rattle.rule_algebra.specs.declared.fault.AlgebraFault.TheVariants as algebra
+use Rattle.cert_format.specs.declared.shape_fault.Key.{Key}
+use Rattle.cert_format.specs.declared.shape_fault.Key.TheVariants as key
+use Rattle.cert_format.specs.declared.shape_fault.ShapeFault.{ShapeFault}
+use Rattle.cert_format.specs.declared.shape_fault.ShapeFault.TheVariants as shape
+use Rattle.cert_check.specs.declared.refusal.Side.{Side}
+use Rattle.cert_check.specs.declared.refusal.Side.TheVariants as side
+use Rattle.cert_check.specs.declared.refusal.TwinCause.{TwinCause}
+use Rattle.cert_check.specs.declared.refusal.TwinCause.TheVariants as twin
+use Rattle.cert_check.specs.declared.refusal.SplitCause.{SplitCause}
+use Rattle.cert_check.specs.declared.refusal.SplitCause.TheVariants as split
+use Rattle.cert_check.specs.declared.refusal.Refusal.{Refusal}
+use Rattle.cert_check.specs.declared.refusal.Refusal.TheVariants as refusal
+use Rattle.cert_check.specs.declared.verdicts.Verdicts.{Verdicts}
+use Rattle.cert_check.specs.Accepted.{is_open}
 use Rattle.ca_cli.specs.Lines.{line, fault_text}
 
 -- the words are no command
@@ -11,3 +29,105 @@ usage_line = line (codes "usage error")
 -- the operand with this number has this fault
 abbrev pub operand_fault_line : ℕ → TextFault → List ℕ
 operand_fault_line operand f = line (codes "rule fault " ++ decimal operand ++ codes " " ++ fault_text f)
+
+-- the input is too long
+abbrev pub too_long_line : List ℕ
+too_long_line = line (codes "too long")
+
+-- Of rules that can't be made
+
+-- why rules make no rule
+abbrev pub algebra_text : AlgebraFault → List ℕ
+algebra_text algebra.States = codes "states"
+algebra_text algebra.NotPermutation = codes "permutation"
+algebra_text algebra.Width = codes "width"
+algebra_text algebra.Nodes = codes "nodes"
+algebra_text algebra.Offset = codes "offset"
+
+-- the rule has these twins, and so no inverse
+abbrev pub twins_text : List ℕ → List ℕ → List ℕ
+twins_text x y = codes "twins " ++ word_text x ++ codes " " ++ word_text y
+
+-- its inverse reads this many letters, which are too many
+abbrev pub wide_text : ℕ → List ℕ
+wide_text n = codes "wide " ++ decimal n
+
+-- the line
+abbrev pub unfit_line : List ℕ → List ℕ
+unfit_line text = line (codes "notfit " ++ text)
+
+-- Of an accepted certificate
+
+-- yes or no, behind a blank
+abbrev pub verdict_text : Bool → List ℕ
+verdict_text verdict = if verdict then codes " yes" else codes " no"
+
+-- a verdict by its name
+abbrev pub verdict_line : List ℕ → Bool → List ℕ
+verdict_line name verdict = line (name ++ verdict_text verdict)
+
+-- the seven lines
+abbrev pub accepted_lines : Verdicts → List ℕ
+accepted_lines v =
+    line (codes "accepted " ++ printed v.rule) ++ verdict_line (codes "surjective") v.surjective ++ verdict_line (codes "injective") v.injective
+    ++ verdict_line (codes "right") v.right ++ verdict_line (codes "left") v.left ++ verdict_line (codes "open") (is_open v)
+    ++ verdict_line (codes "conserving") v.conserving
+
+-- Of a refused one
+
+-- the part that has no right shape
+abbrev pub key_text : Key → List ℕ
+key_text key.Top = codes "top"
+key_text key.Version = codes "version"
+key_text key.Rule = codes "rule"
+key_text key.Surjective = codes "surjective"
+key_text key.Injective = codes "injective"
+key_text key.Right = codes "right"
+key_text key.Left = codes "left"
+key_text key.Conserving = codes "conserving"
+key_text key.Ranks = codes "ranks"
+key_text key.Unknown = codes "unknown"
+
+-- the first fault of its shape
+abbrev pub shape_text : ShapeFault → List ℕ
+shape_text shape.NotJson = codes "notjson"
+shape_text (shape.Version v) = codes "version " ++ decimal v
+shape_text (shape.Shape k) = codes "shape " ++ key_text k
+shape_text (shape.Rule f) = codes "rule " ++ fault_text f
+
+-- a side
+abbrev pub side_text : Side → List ℕ
+side_text side.Right = codes "right"
+side_text side.Left = codes "left"
+
+-- why two words are no twins
+abbrev pub twin_text : TwinCause → List ℕ
+twin_text twin.Length = codes "length"
+twin_text twin.Same = codes "same"
+twin_text twin.Image = codes "image"
+
+-- why two configurations are no split
+abbrev pub split_text : SplitCause → List ℕ
+split_text split.Same = codes "same"
+split_text split.Apart = codes "apart"
+split_text split.Image = codes "image"
+
+-- the first condition that isn't met, and what is said of it; want of memory isn't one
+abbrev pub refusal_text : Refusal → List ℕ
+refusal_text (refusal.Format f) = codes "format " ++ shape_text f
+refusal_text (refusal.Rank s p) = codes "rank " ++ (side_text s ++ (codes " " ++ decimal p))
+refusal_text refusal.NoFull = codes "nofull"
+refusal_text (refusal.EmptySet i) = codes "emptyset " ++ decimal i
+refusal_text (refusal.NotClosed i a) = codes "notclosed " ++ (decimal i ++ (codes " " ++ decimal a))
+refusal_text refusal.Orphan = codes "orphan"
+refusal_text (refusal.Window p) = codes "window " ++ decimal p
+refusal_text (refusal.Twins cause) = codes "twins " ++ twin_text cause
+refusal_text (refusal.Ahead s p) = codes "ahead " ++ (side_text s ++ (codes " " ++ decimal p))
+refusal_text (refusal.Split s cause) = codes "split " ++ (side_text s ++ (codes " " ++ split_text cause))
+refusal_text (refusal.Flux w) = codes "flux " ++ decimal w
+refusal_text refusal.Ring = codes "ring"
+refusal_text (refusal.Memory _) = []
+
+-- the line
+abbrev pub refused_line : Refusal → List ℕ
+refused_line f = line (codes "refused " ++ refusal_text f)

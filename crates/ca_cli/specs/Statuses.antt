@@ -1,20 +1,28 @@
 -- The statuses with which the program ends.
 use Rattle.std.specs.Prelude.{ℕ, ⊤}
 use Rattle.ca_cli.specs.declared.status.Status.{Status}
-use Rattle.ca_cli.specs.declared.status.Status.TheVariants.{Done, Usage, RuleFault, WriteFault, Memory}
+use Rattle.ca_cli.specs.declared.status.Status.TheVariants.{Done, Refused, Usage, RuleFault, NotFit, TooLong, ReadFault, WriteFault, Memory}
 
 -- the exit status of the program
 abbrev pub code_of : Status → ℕ
 code_of Done = 0
+code_of Refused = 1
 code_of Usage = 2
 code_of RuleFault = 3
+code_of NotFit = 4
+code_of TooLong = 5
+code_of ReadFault = 6
 code_of WriteFault = 7
 code_of Memory = 8
 
 -- the status says what came of the words, and not what failed on the way
 abbrev pub IsAnswered : Status → Type 0
 IsAnswered Done = ⊤
+IsAnswered Refused = ⊤
 IsAnswered Usage = ⊤
 IsAnswered RuleFault = ⊤
+IsAnswered NotFit = ⊤
+IsAnswered TooLong = ⊤
+IsAnswered ReadFault = ⊥
 IsAnswered WriteFault = ⊥
 IsAnswered Memory = ⊥

@@ -1,9 +1,12 @@
 //! What the relation between words, status and output says, as laws for all commands together: each
 //! is the contract of a function with nothing to run.
 ghost use Rattle.std.specs.Prelude.{◌≡◌, ◌↔◌, ℕ, List, Option, Some};
+ghost use Rattle.cert_check.specs.Accepted.{AreTrue};
+ghost use Rattle.cert_check.specs.declared.verdicts.Verdicts.{Verdicts};
+ghost use Rattle.rule_text.specs.RuleTexts.{IsRuleText};
 ghost use Rattle.rule_text.specs.declared.text_fault.TextFault.{TextFault};
 ghost use Rattle.ca_cli.specs.Commands.{Command, IsCommand, ReadsNothing};
-ghost use Rattle.ca_cli.specs.StatusLines.{operand_fault_line, usage_line};
+ghost use Rattle.ca_cli.specs.StatusLines.{accepted_lines, operand_fault_line, usage_line};
 ghost use Rattle.ca_cli.specs.RightAnswers.{IsAnswer, IsOperandFault, IsRight};
 
 use crate::status::Status;
@@ -39,4 +42,14 @@ pub fn right_exactly()
     ensures { (words : List (List ℕ)) (input : Option (List ℕ)) (c : Command) (s : Status) (out : List ℕ)
         → IsCommand words c → ((operand : ℕ) (f : TextFault) → ¬ IsOperandFault c operand f)
         → IsAnswer words input s out ↔ IsRight input c s out }
+{}
+
+/// What `certify` writes for a rule, `check` accepts: over a source that tells exactly these bytes,
+/// Done is right with the lines of true verdicts on that rule, and nothing else is.
+pub fn certified_is_accepted()
+    ensures { (text out : List ℕ) (input : Option (List ℕ))
+        → IsRight input (Command.Certify text) Status.Done out
+        → (v : Verdicts) × IsRuleText text v.rule × AreTrue v
+        × ((s : Status) (lines : List ℕ) → IsRight (Some out) Command.Check s lines
+        ↔ ((s ≡ Status.Done) × (lines ≡ accepted_lines v))) }
 {}

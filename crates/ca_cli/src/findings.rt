@@ -1,6 +1,6 @@
 //! What holds of a rule, with the evidence for it.
 ghost use Rattle.std.specs.Prelude.{◌≡◌, IfOk};
-ghost use Rattle.ca_cli.specs.Findings.{IsSurjectivity, IsInjectivity, AreFound};
+ghost use Rattle.ca_cli.specs.Findings.{IsSurjectivity, IsInjectivity, HasShortWindow, AreFound};
 
 use closing_test::{Closing, left, right};
 use flux_conserve::{Keeping, conserve};
@@ -70,14 +70,15 @@ pub fn surjective(alloc: Global, rule: &Rule) -> Result<Surjectivity, AllocError
 }
 
 /// Whether a rule is injective, by its ranks.
-fn injective(
+pub fn injective(
     alloc: Global,
     rule: &Rule,
     ranks: &Ranks,
     walker: &mut Walker,
 ) -> Result<Injectivity, AllocError>
     requires { ranks.now ≡ rule.now }
-    ensures { IfOk result (IsInjectivity rule.now) }
+    ensures found { IfOk result (IsInjectivity rule.now) }
+    ensures most { IfOk result HasShortWindow }
 {
     if let Some(at) = window(rule, ranks) {
         return Ok(Injectivity::Window(at));

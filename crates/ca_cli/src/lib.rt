@@ -1,8 +1,9 @@
 //! The program, but for its `main`: what it answers to the words of its command line.
 //!
 //! A command is a name and its operands, each of which may be any word. An answer is a [`Status`],
-//! which says how the program ended, and an output, the bytes that go to the sink. [`run`] goes from
-//! the words to the bytes in four steps:
+//! which says how the program ended, and an output, the bytes that go to the sink. One command, `check`,
+//! reads: it takes the whole input, or one byte more than is judged. [`run`] goes from the words to the
+//! bytes in four steps:
 //!
 //! 1. the words become a `Request`, a command with its operands as they stand, or are no command;
 //! 2. one function a command, of the file of its family, makes the output, or a `Stop` that says why
@@ -11,8 +12,9 @@
 //! 4. its output is written, so that the sink takes all of it, or a part of it and not the whole.
 //!
 //! The contract of [`run`] cites one relation, `IsAnswer` of specs/RightAnswers.antt: which status and
-//! which output are right for the words. [`one_status`], [`usage_exactly`], [`rule_fault_exactly`] and
-//! [`right_exactly`] are its laws, for all commands together. By them:
+//! which output are right for the words and for what the source had left. [`one_status`],
+//! [`usage_exactly`], [`rule_fault_exactly`] and [`right_exactly`] are its laws, for all commands
+//! together, and [`certified_is_accepted`] joins `certify` and `check`. By them:
 //!
 //! | Words | Status | Code | Output |
 //! |---|---|---|---|
@@ -20,29 +22,52 @@
 //! | `orphan 110` | Done | 0 | `surjective no orphan 01010` |
 //! | `orphan 90` | Done | 0 | `surjective yes` |
 //! | `number 2:3:-1:t01110110` | Done | 0 | `number 110` |
+//! | `certify 90` | Done | 0 | the certificate of the rule |
+//! | `compose 90 90` | Done | 0 | `2:5:-2:t01010101010101011010101010101010` |
+//! | `compose 110 3:2:0:w0` | NotFit | 4 | `notfit states` |
+//! | `inverse 170` | Done | 0 | `window 1 2`, `offset -1`, `map 01`, `rule 2:2:-1:t0011` |
+//! | `inverse 90` | NotFit | 4 | `notfit twins 0 1` |
+//! | `survey 2 3 0 256` | Done | 0 | the seven lines of the summary |
+//! | `survey 7 2 0 1` | RuleFault | 3 | `rule fault 1 kind` |
 //! | `orphan 256` | RuleFault | 3 | `rule fault 1 number` |
 //! | `orphan 1x` | RuleFault | 3 | `rule fault 1 form 1` |
 //! | `110` | Usage | 2 | `usage error` |
+//! | `check`, of no input | Refused | 1 | `refused format notjson` |
+//! | `check`, of 4,194,305 bytes | TooLong | 5 | `too long` |
 //!
-//! A report has eight lines, and every other output has one. A call takes the time and the memory of
-//! its deciders, and besides **O(n)** of both for n bytes of words and output. A search lists at most `2^N` sets of nodes, where a rule
-//! with k states and width m has `N = k^(m-1)`, so 16 for each rule of this table.
+//! A report has eight lines, a summary and the verdicts of a certificate have seven, an inverse has four,
+//! a certificate is a text without a line end, and every other output has one line. A call takes the time
+//! and the memory of its deciders, and besides **O(n)** of both for n bytes of words, input and output. A
+//! search lists at most `2^N` sets of nodes, where a rule with k states and width m has `N = k^(m-1)`; a
+//! summary does it once for each of at most 4,096 rules.
 #![tactic(auto)]
 
+mod algebra;
 mod answers;
+mod certificates;
+mod checks;
 mod exactness;
 mod findings;
+mod generator;
+mod inverses;
 mod lines;
 mod operands;
 mod output;
+mod rank_rows;
 mod report;
 mod reports;
 mod request;
 mod status;
 mod stop;
+mod summaries;
+mod tally;
 mod top_call;
+mod verdict_lines;
+mod verdicts;
 
-pub use exactness::{one_status, right_exactly, rule_fault_exactly, usage_exactly};
+pub use exactness::{
+    certified_is_accepted, one_status, right_exactly, rule_fault_exactly, usage_exactly,
+};
 pub use status::Status;
 pub use top_call::run;
 

@@ -1,10 +1,11 @@
 //! The lines that the program writes. Each is made of values that are there: no line decides anything.
 ghost use Rattle.std.specs.Prelude.{◌≡◌, ◌++◌, IfOk, OnOk, string_bytes};
 ghost use Rattle.ca_cli.specs.Lines.{fault_text};
-ghost use Rattle.ca_cli.specs.StatusLines.{operand_fault_line, usage_line};
+ghost use Rattle.ca_cli.specs.StatusLines.{operand_fault_line, usage_line, too_long_line, algebra_text, unfit_line};
 ghost use Rattle.ca_cli.specs.Reports.{number_line};
 
 use crate::output::Output;
+use rule_algebra::AlgebraFault;
 use rule_text::{TextFault, number};
 use std::alloc::{AllocError, Global};
 use word_image::Rule;
@@ -14,6 +15,13 @@ pub fn write_usage(output: &mut Output) -> Result<(), AllocError>
     ensures { OnOk result (output.new ≡ output.old ++ usage_line) }
 {
     output.push_line("usage error")
+}
+
+/// Appends the line of an input that is too long.
+pub fn write_too_long(output: &mut Output) -> Result<(), AllocError>
+    ensures { OnOk result (output.new ≡ output.old ++ too_long_line) }
+{
+    output.push_line("too long")
 }
 
 /// Appends the line that says which fault the operand with this number has.
@@ -30,7 +38,7 @@ pub fn write_operand_fault(
 }
 
 /// The kind of a fault, and its place where it has one.
-fn fault_kind(alloc: Global, fault: TextFault) -> Result<String, AllocError>
+pub fn fault_kind(alloc: Global, fault: TextFault) -> Result<String, AllocError>
     ensures { IfOk result (λ text. string_bytes text ≡ fault_text fault) }
 {
     match fault {
@@ -43,6 +51,26 @@ fn fault_kind(alloc: Global, fault: TextFault) -> Result<String, AllocError>
         TextFault::Length => String::from_str(alloc, "length"),
         TextFault::Letter(place) => format!(in alloc; "letter {place}"),
         TextFault::Number => String::from_str(alloc, "number"),
+    }
+}
+
+/// Appends the line that says why rules make no rule.
+pub fn write_unfit(output: &mut Output, fault: AlgebraFault) -> Result<(), AllocError>
+    ensures { OnOk result (output.new ≡ output.old ++ unfit_line (algebra_text fault)) }
+{
+    output.push(b"notfit ")?;
+    output.push_line(algebra_name(fault))
+}
+
+fn algebra_name(fault: AlgebraFault) -> &'static str
+    ensures { result.now ≡ algebra_text fault }
+{
+    match fault {
+        AlgebraFault::States => "states",
+        AlgebraFault::NotPermutation => "permutation",
+        AlgebraFault::Width => "width",
+        AlgebraFault::Nodes => "nodes",
+        AlgebraFault::Offset => "offset",
     }
 }
 

@@ -38,7 +38,7 @@ pub fn write_report(
 }
 
 /// Appends the printed rule.
-fn write_rule(alloc: Global, output: &mut Output, rule: &Rule) -> Result<(), AllocError>
+pub fn write_rule(alloc: Global, output: &mut Output, rule: &Rule) -> Result<(), AllocError>
     ensures { OnOk result (output.new ≡ output.old ++ rule_line rule.now) }
 {
     output.push(b"rule ")?;

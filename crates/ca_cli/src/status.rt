@@ -7,10 +7,18 @@ ghost use Rattle.ca_cli.specs.Statuses.{code_of};
 pub enum Status {
     /// The command was carried out and its output taken whole.
     Done,
+    /// The input was judged and refused.
+    Refused,
     /// The words are no command.
     Usage,
     /// A rule operand was refused.
     RuleFault,
+    /// No rule can be made as the words ask.
+    NotFit,
+    /// The input was longer than any that is judged.
+    TooLong,
+    /// A read of the input failed.
+    ReadFault,
     /// A write of the output failed.
     WriteFault,
     /// There was no memory.
@@ -24,8 +32,12 @@ impl Status {
     {
         match self {
             Status::Done => 0,
+            Status::Refused => 1,
             Status::Usage => 2,
             Status::RuleFault => 3,
+            Status::NotFit => 4,
+            Status::TooLong => 5,
+            Status::ReadFault => 6,
             Status::WriteFault => 7,
             Status::Memory => 8,
         }

@@ -6,8 +6,12 @@ use crate::Status;
 fn each_status_has_its_code(rt: HostRuntime) {
     let codes = [
         (Status::Done, 0),
+        (Status::Refused, 1),
         (Status::Usage, 2),
         (Status::RuleFault, 3),
+        (Status::NotFit, 4),
+        (Status::TooLong, 5),
+        (Status::ReadFault, 6),
         (Status::WriteFault, 7),
         (Status::Memory, 8),
     ];

@@ -1,28 +1,32 @@
 //! The top call.
-ghost use Rattle.std.specs.Prelude.{◌≡◌, ◌≢◌, ℕ, ◌-◌, ◌^◌, ◌<◌, List, length, take, map, is_some, string_bytes};
+ghost use Rattle.std.specs.Prelude.{◌≡◌, ◌≢◌, ℕ, ◌+◌, ◌-◌, ◌^◌, ◌<◌, List, length, take, map, is_some, string_bytes};
 ghost use Rattle.std.specs.Io.KnownBytes.{Appends};
 ghost use Rattle.ca_io.specs.Faults.{Rose};
+ghost use Rattle.ca_cli.specs.Commands.{Command, IsCommand};
+ghost use Rattle.ca_cli.specs.Inputs.{most_input, IsReadFor, TakesAtMost};
 ghost use Rattle.ca_cli.specs.RightAnswers.{IsAnswer};
 ghost use Rattle.ca_cli.specs.Statuses.{IsAnswered};
 
 use crate::answers::answer_to;
 use crate::status::Status;
-use ca_io::{Failed, Sink, Source, write_all};
+use ca_io::{Failed, InputFault, Sink, Source, write_all};
 use std::alloc::Global;
 
 /// Carries out the command that the words are, and writes its output to the sink. `words` are those
-/// of the command line without the program's name. Nothing is read from the source.
+/// of the command line without the program's name. Only `check` reads from the source: to its end, or
+/// one byte more than is judged.
 ///
-/// `WriteFault` comes where a write of the output failed, in place of the status to which the output
-/// belongs; `Memory` where memory was refused, before the first write.
+/// `ReadFault` comes where a read failed, before the first write; `WriteFault` where a write of the
+/// output failed, in place of the status to which the output belongs; `Memory` where memory was
+/// refused, before the first write.
 pub fn run<S: Source, T: Sink>(
     alloc: Global,
     words: &[String],
     source: &mut S,
     sink: &mut T,
 ) -> Status
-    // Every status but WriteFault and Memory is right for the words. The sink took exactly an output
-    // that is right with it, where it tells its bytes.
+    // Every status but ReadFault, WriteFault and Memory is right for the words and for what the source
+    // had left. The sink took exactly an output that is right with it, where it tells its bytes.
     ensures answer { IsAnswered result → (out : List ℕ)
         × IsAnswer (map string_bytes words.now) (S.left source.old) result out
         × Appends (T.taken sink.old) (T.taken sink.new) out }
@@ -35,27 +39,43 @@ pub fn run<S: Source, T: Sink>(
         × IsAnswer (map string_bytes words.now) (S.left source.old) status out × (n < length out)
         × Appends (T.taken sink.old) (T.taken sink.new) (take n out) }
 
-    // Where there was no memory, nothing was written.
+    // A failed read is one of `check`, which the source has counted.
+    ensures read_counted { result ≡ Status.ReadFault →
+        IsCommand (map string_bytes words.now) Command.Check
+        × Rose (S.faults source.old) (S.faults source.new) }
+
+    // Where a read failed, or there was no memory, nothing was written.
+    ensures read_fault { result ≡ Status.ReadFault → sink.new ≡ sink.old }
     ensures memory { result ≡ Status.Memory → sink.new ≡ sink.old }
 
-    // The source is as it was, and so is the sink's count of faults but after WriteFault.
-    ensures unread { source.new ≡ source.old }
-    ensures faults { result ≢ Status.WriteFault → T.faults sink.new ≡ T.faults sink.old }
+    // Of the source `check` takes what it needs: all that there is where it is judged, and one byte more
+    // than is judged where it is too long. On other words the source is as it was.
+    ensures unread { ¬ IsCommand (map string_bytes words.now) Command.Check → source.new ≡ source.old }
+    ensures read { IsCommand (map string_bytes words.now) Command.Check →
+        IsReadFor result (S.left source.old) (S.left source.new) }
+    ensures most { TakesAtMost (most_input + 1) (S.left source.old) (S.left source.new) }
+
+    // A count of faults is as it was, but the source's after ReadFault and the sink's after WriteFault.
+    ensures source_faults { result ≢ Status.ReadFault → S.faults source.new ≡ S.faults source.old }
+    ensures sink_faults { result ≢ Status.WriteFault → T.faults sink.new ≡ T.faults sink.old }
 
     // Neither the source nor the sink begins or ceases to tell its bytes.
     ensures source_telling { is_some (S.left source.new) ≡ is_some (S.left source.old) }
     ensures sink_telling { is_some (T.taken sink.new) ≡ is_some (T.taken sink.old) }
 
-    // Where the sink's count neither rose nor stood at its end, no write failed: the answer is right,
-    // or there was no memory.
-    ensures complete { T.faults sink.new ≡ T.faults sink.old → T.faults sink.old < 2 ^ 64 - 1 →
+    // Where a count neither rose nor stood at its end, no call that it counts failed. Where this holds of
+    // both, the answer is right, or there was no memory.
+    ensures complete_write { T.faults sink.new ≡ T.faults sink.old → T.faults sink.old < 2 ^ 64 - 1 →
         result ≢ Status.WriteFault }
+    ensures complete_read { S.faults source.new ≡ S.faults source.old → S.faults source.old < 2 ^ 64 - 1 →
+        result ≢ Status.ReadFault }
 {
-    let Ok(answer) = answer_to(alloc, words) else {
-        return Status::Memory;
-    };
-    match write_all(sink, answer.output.as_slice()) {
-        Ok(()) => answer.status,
-        Err(Failed) => Status::WriteFault,
+    match answer_to(alloc, words, source) {
+        Ok(answer) => match write_all(sink, answer.output.as_slice()) {
+            Ok(()) => answer.status,
+            Err(Failed) => Status::WriteFault,
+        },
+        Err(InputFault::Failed) => Status::ReadFault,
+        Err(InputFault::Memory(_)) => Status::Memory,
     }
 }

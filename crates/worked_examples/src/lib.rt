@@ -3,7 +3,15 @@
 #![tactic(auto)]
 
 #[cfg(test)]
+mod algebra;
+#[cfg(test)]
+mod certificates;
+#[cfg(test)]
+mod checks;
+#[cfg(test)]
 mod faulty_sinks;
+#[cfg(test)]
+mod inverses;
 #[cfg(test)]
 mod numbers;
 #[cfg(test)]
@@ -14,3 +22,5 @@ mod reports;
 mod rows;
 #[cfg(test)]
 mod rule_faults;
+#[cfg(test)]
+mod summaries;

@@ -2,7 +2,7 @@
 ghost use Rattle.std.specs.Prelude.{◌≤◌};
 
 use ca_cli::{Status, run};
-use ca_io::{MemSink, PlainSource};
+use ca_io::{MemSink, PlainSource, Source};
 use std::alloc::{AllocError, Global};
 use std::process::Abort;
 
@@ -27,18 +27,28 @@ pub struct Outcome {
     pub output: MemSink,
 }
 
-/// A call with the words of this command line, one blank between two, an empty input and this sink.
-/// The empty line has no words, and a word between two blanks or behind the last is empty.
+/// A call with the words of this command line, an empty input and this sink.
 pub fn call(alloc: Global, line: &str, sink: MemSink) -> Result<Outcome, AllocError> {
+    let mut source = PlainSource::new(Vec::new(alloc));
+    call_over(alloc, line, &mut source, sink)
+}
+
+/// A call with the words of this command line, one blank between two, this input and this sink. The
+/// empty line has no words, and a word between two blanks or behind the last is empty.
+pub fn call_over<S: Source>(
+    alloc: Global,
+    line: &str,
+    source: &mut S,
+    sink: MemSink,
+) -> Result<Outcome, AllocError> {
     let mut words = Vec::new(alloc);
     if !line.is_empty() {
         for word in line.split(' ') {
             words.push(String::from_str(alloc, word)?)?;
         }
     }
-    let mut source = PlainSource::new(Vec::new(alloc));
     let mut output = sink;
-    let status = run(alloc, &words, &mut source, &mut output);
+    let status = run(alloc, &words, source, &mut output);
     Ok(Outcome { status, output })
 }
 

@@ -45,7 +45,7 @@ IsOpenLine-found r (closing.Ahead n) (closing.Split x y) h g = IsOpenLine.No (λ
 IsOpenLine-found r (closing.Split x y) left h g = IsOpenLine.No (λ both. h.0 both.0)
 
 -- a list begins with the first of its first items
-first_of_take : {A : Type 0} (n : ℕ) (xs : List A) (x : A) → 0 < n → slice_get xs 0 ≡ Some x → slice_get (take n xs) 0 ≡ Some x
+pub first_of_take : {A : Type 0} (n : ℕ) (xs : List A) (x : A) → 0 < n → slice_get xs 0 ≡ Some x → slice_get (take n xs) 0 ≡ Some x
 first_of_take zero xs x some first = absurd (omega arith)
 first_of_take (suc n) [] x some first = first
 first_of_take (suc n) (y ∷ xs) x some first = first

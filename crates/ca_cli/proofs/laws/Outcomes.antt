@@ -3,9 +3,12 @@ use Rattle.std.proofs.Common.{◌≡◌, ℕ, List, [], ◌++◌, append_assoc, 
 use Rattle.std.specs.Prelude.{Option, Some, Result}
 use Rattle.std.specs.Result.{IsErrAnd}
 use Rattle.std.proofs.lemmas.Result.{err_from_is_err_and}
+use Rattle.word_image.specs.LocalRules.{LocalRule}
+use Rattle.rule_text.specs.RuleTexts.{IsRuleText}
 use Rattle.ca_cli.specs.declared.stop.Stop.{Stop}
 use Rattle.ca_cli.specs.Commands.{Command, first_rule}
-use Rattle.ca_cli.specs.RightAnswers.IsOperandFault.{First}
+use Rattle.ca_cli.specs.Commands as commands
+use Rattle.ca_cli.specs.RightAnswers.IsOperandFault.{First, OfSecond}
 use Rattle.ca_cli.specs.Outcomes.{IsOutcome, IsRuleFault}
 
 -- what is appended to an empty output is all of it
@@ -22,3 +25,10 @@ pub first_refused : (input : Option (List ℕ)) (c : Command) {text : List ℕ} 
 first_refused input c {text = text} result rule refusal is =
     let err = err_from_is_err_and result is in
     rw (err.1, err.2, refusal.is) (First c text refusal.fault rule refusal.first)
+
+-- a composition whose second rule is refused stops
+pub second_refused : (input : Option (List ℕ)) {first second : List ℕ} {r : LocalRule} {s : Stop} (result : Result (List ℕ) Stop)
+    → IsRuleText first r → IsRuleFault 2 second s → IsErrAnd result (λ e. e ≡ s) → IsOutcome input (commands.Compose first second) result
+second_refused input {first = first} {second = second} {r = r} result says refusal is =
+    let err = err_from_is_err_and result is in
+    rw (err.1, err.2, refusal.is) (OfSecond first second r refusal.fault says refusal.first)

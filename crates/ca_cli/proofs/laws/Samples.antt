@@ -1,0 +1,152 @@
+-- The rules of a survey and of a sample, one by one.
+use Rattle.std.proofs.Common.{◌≡◌, ℕ, suc, ◌+◌, ◌-◌, ◌*◌, ◌/◌, ◌%◌, ◌^◌, ◌<◌, ◌≤◌, List, [], ◌∷◌, ◌++◌, map, None, refl, sym, ap, ap₂, ◌∙◌, arith, add-one, mod-lt, get_or, append_assoc, append-nil}
+use Rattle.std.specs.List.{range_with_len}
+use Rattle.std.specs.Prelude.{Option, Some, pos}
+use Rattle.std.specs.Option.{option_or, option_map}
+use Rattle.std.proofs.lemmas.List.FromFn.{map-range_with_len_more, length-map-range_with_len}
+use Rattle.std.proofs.lemmas.Bool.Decides.{nat_tests}
+use Rattle.std.proofs.lemmas.Option.{none-some}
+use Rattle.std.proofs.lemmas.Nat.{div-add-mod'}
+use Rattle.std.proofs.Math.Nat.{add-mul-mod_self_right}
+use Rattle.std.proofs.lemmas.List.Elements.{All-map, All-from_get_or}
+use Rattle.word_image.specs.LocalRules.{LocalRule, IsShape, IsRule}
+use Rattle.word_image.specs.RuleFaults.{shape_fault}
+use Rattle.word_image.proofs.laws.RuleFaults.{IsShape-shape_fault}
+use Rattle.rule_text.specs.RuleTexts.{in_text, number_fault}
+use Rattle.rule_text.specs.declared.text_fault.TextFault.{TextFault}
+use Rattle.rule_text.specs.declared.text_fault.TextFault.TheVariants as fault
+use Rattle.rule_text.proofs.laws.Numbers.{number_limit}
+use Rattle.ca_cli.specs.Samples.{numbered_rule, survey_rules, next_state, state_after, drawn, drawn_rule, sample_rules, sample_fault, survey_fault}
+
+-- a survey of one rule more
+pub survey_rules-more : (k m first i : ℕ) → survey_rules k m first (i + 1) ≡ survey_rules k m first i ++ numbered_rule k m (first + i) ∷ []
+survey_rules-more k m first i = map-range_with_len_more (numbered_rule k m) first i (first + i) refl
+
+-- one draw more
+pub draws-more : (k s i : ℕ) → map (drawn k s) (range_with_len 0 (i + 1)) ≡ map (drawn k s) (range_with_len 0 i) ++ drawn k s i ∷ []
+draws-more k s i = map-range_with_len_more (drawn k s) 0 i i (omega arith)
+
+-- what a draw makes of the state, in two steps
+mod-add : (x c m : ℕ) → (x % m + c) % m ≡ (x + c) % m
+mod-add x c m =
+    let whole = div-add-mod' x m in
+    let split : (x % m + c) + x / m * m ≡ x + c = omega (arith, whole) in
+    sym (add-mul-mod_self_right (x % m + c) (x / m) m) ∙ ap (λ y. y % m) split
+
+pub next_state-is : (s t : ℕ) → s ≡ t → (s * 6364136223846793005 % 18446744073709551616 + 1442695040888963407) % 18446744073709551616 ≡ next_state t
+unfolding next_state
+next_state-is s t same = mod-add (s * 6364136223846793005) 1442695040888963407 18446744073709551616 ∙ ap next_state same
+
+-- the state after no draw, and after one more
+pub state_after-none : (s : ℕ) → s ≡ state_after s 0
+unfolding state_after
+state_after-none s = refl
+
+pub state_after-more : (s i : ℕ) → state_after s (i + 1) ≡ next_state (state_after s i)
+unfolding state_after
+state_after-more s i = ap (state_after s) (add-one i)
+
+-- a letter by the state that its draw leaves
+pub drawn-is : (k s i t : ℕ) → t ≡ state_after s (i + 1) → t / 8589934592 % k ≡ drawn k s i
+unfolding drawn
+drawn-is k s i t is = ap (λ j. j / 8589934592 % k) is
+
+drawn-below : (k s i : ℕ) → 0 < k → drawn k s i < k
+unfolding drawn
+drawn-below k s i some = mod-lt (state_after s (i + 1) / 2 ^ 33) some
+
+-- what is drawn is an accepted rule
+pub IsRule-drawn : (k m s : ℕ) → IsShape k m (pos 0) → IsRule (drawn_rule k m s)
+IsRule-drawn k m s shape =
+    let windows = range_with_len 0 (k ^ m) in
+    let least = shape.least_states in
+    record {
+      shape = shape;
+      entries = length-map-range_with_len (drawn k s) 0 (k ^ m);
+      letters = All-map (λ a. a < k) (drawn k s) windows (All-from_get_or (λ v. drawn k s v < k) windows 0 (λ i h. drawn-below k s (get_or windows i 0) (omega arith)));
+    }
+
+-- the first rule of a sample, and the others
+sample_rules-first : (k m s count i : ℕ) → i < count → sample_rules k m s (count - i) ≡ drawn_rule k m s ∷ sample_rules k m (state_after s (k ^ m)) (count - (i + 1))
+unfolding sample_rules
+sample_rules-first k m s count i some = let left : count - i ≡ suc (count - (i + 1)) = omega arith in ap (sample_rules k m s) left
+
+-- a sample of no rules
+sample_rules-none : (k m s count i : ℕ) → count ≤ i → sample_rules k m s (count - i) ≡ []
+unfolding sample_rules
+sample_rules-none k m s count i all = let left : count - i ≡ 0 = omega arith in ap (sample_rules k m s) left
+
+-- before the first rule all are to be drawn
+pub sample-begin : (k m count : ℕ) {s t : ℕ} → t ≡ s → sample_rules k m s count ≡ [] ++ sample_rules k m t (count - 0)
+sample-begin k m count same = let all : count ≡ count - 0 = omega arith in ap₂ (sample_rules k m) (sym same) all
+
+-- of a sample that goes on from a state, one rule more is drawn
+pub sample-step : (k m s count i t : ℕ) (r : LocalRule) (done : List LocalRule) {whole : List LocalRule} → i < count → r ≡ drawn_rule k m s → t ≡ state_after s (k ^ m)
+    → whole ≡ done ++ sample_rules k m s (count - i) → whole ≡ (done ++ r ∷ []) ++ sample_rules k m t (count - (i + 1))
+sample-step k m s count i t r done some rule state split =
+    split ∙ ap (λ x. done ++ x) (sample_rules-first k m s count i some) ∙ sym (append_assoc done (drawn_rule k m s ∷ []) (sample_rules k m (state_after s (k ^ m)) (count - (i + 1))))
+    ∙ ap₂ (λ (q : LocalRule) (u : ℕ). (done ++ q ∷ []) ++ sample_rules k m u (count - (i + 1))) (sym rule) (sym state)
+
+-- and where all are drawn, these are all
+pub sample-end : (k m s count i : ℕ) (done : List LocalRule) {whole : List LocalRule} → count ≤ i → whole ≡ done ++ sample_rules k m s (count - i) → done ≡ whole
+sample-end k m s count i done all split = sym (split ∙ ap (λ x. done ++ x) (sample_rules-none k m s count i all) ∙ append-nil done)
+
+-- where neither of two options is there, both are missing
+none_or : {A : Type 0} (a b : Option A) → option_or a b ≡ None → (a ≡ None) × (b ≡ None)
+none_or None b e = (refl, e)
+none_or (Some x) b e = absurd (none-some x (sym e))
+
+-- the fault of an accepted shape is that of its number
+sample_fault-none : (k m n : ℕ) → sample_fault k m ≡ None → option_or (sample_fault k m) (number_fault k m n) ≡ number_fault k m n
+sample_fault-none k m n none = ap (λ f. option_or f (number_fault k m n)) none
+
+-- numbers below one without a fault have none
+number_fault-below : (k m n i : ℕ) → number_fault k m n ≡ None → i ≤ n → number_fault k m i ≡ None
+number_fault-below k m n i none below = grind (arith, nat_tests)
+
+-- each number of an accepted survey has a rule
+pub survey-accepted : (k m first count i : ℕ) → survey_fault k m first count ≡ None → i < count → option_or (sample_fault k m) (number_fault k m (first + i)) ≡ None
+survey-accepted k m first count i none below =
+    let parts = none_or (sample_fault k m) (number_fault k m (first + count - 1)) none in
+    sample_fault-none k m (first + i) parts.0 ∙ number_fault-below k m (first + count - 1) (first + i) parts.1 (omega arith)
+
+-- what the last number of a survey comes to is the survey's fault
+pub survey_fault-last : (k m first count : ℕ) {last : ℕ} {f : Option TextFault} → last ≡ first + count - 1 → option_or (sample_fault k m) (number_fault k m last) ≡ f
+    → survey_fault k m first count ≡ f
+survey_fault-last k m first count is fault = ap (λ n. option_or (sample_fault k m) (number_fault k m n)) (sym is) ∙ fault
+
+-- what is missing was missing before it was changed
+none_map : {A B : Type 0} (f : A → B) (a : Option A) → option_map f a ≡ None → a ≡ None
+none_map f None e = refl
+none_map f (Some x) e = absurd (none-some (f x) (sym e))
+
+-- a shape without a fault is accepted
+pub IsShape-sample_fault : (k m : ℕ) → sample_fault k m ≡ None → IsShape k m (pos 0)
+IsShape-sample_fault k m none = IsShape-shape_fault k m (pos 0) (none_map (in_text 0) (shape_fault k m (pos 0)) none)
+
+-- a number with no fault is below the limit of its shape
+number-below : (k m n : ℕ) → number_fault k m n ≡ None → n < k ^ (k ^ m)
+number-below k m n none = grind (arith, nat_tests)
+
+few_states : (k m n : ℕ) → number_fault k m n ≡ None → k ≤ 6
+few_states k m n none = grind (arith, nat_tests)
+
+-- and fits 128 bits
+pub survey-fits : (k m first count i : ℕ) → survey_fault k m first count ≡ None → i < count → first + i < 2 ^ 128
+survey-fits k m first count i none below =
+    let parts = none_or (sample_fault k m) (number_fault k m (first + count - 1)) none in
+    let shape = IsShape-sample_fault k m parts.0 in
+    let limit = number_limit k m (pos 0) shape (few_states k m (first + count - 1) parts.1) in
+    let last = number-below k m (first + count - 1) parts.1 in
+    omega arith
+
+-- a number that no shape has, where number 0 has a rule
+pub past_all-fault : (k m n : ℕ) → option_or (sample_fault k m) (number_fault k m 0) ≡ None → 2 ^ 128 ≤ n → option_or (sample_fault k m) (number_fault k m n) ≡ Some fault.Number
+past_all-fault k m n none beyond =
+    let parts = none_or (sample_fault k m) (number_fault k m 0) none in
+    let few = few_states k m 0 parts.1 in
+    let limit = number_limit k m (pos 0) (IsShape-sample_fault k m parts.0) few in
+    let past : k ^ (k ^ m) ≤ n = omega arith in
+    sample_fault-none k m n parts.0 ∙ number_fault-past k m n few past where
+      number_fault-past : (k m n : ℕ) → k ≤ 6 → k ^ (k ^ m) ≤ n → number_fault k m n ≡ Some fault.Number
+      number_fault-past k m n few past = grind (arith, nat_tests)

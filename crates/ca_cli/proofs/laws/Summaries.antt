@@ -1,0 +1,59 @@
+-- Counts of rules, and the summary that they make.
+use Rattle.std.proofs.Common.{◌≡◌, ℕ, Bool, true, false, ◌+◌, ◌≤◌, List, [], ◌∷◌, ◌++◌, length, refl, sym, subst, ◌∙◌, arith}
+use Rattle.std.specs.Prelude.{◌↔◌, IsTrue}
+use Rattle.std.specs.Int.{from_bool}
+use Rattle.std.proofs.lemmas.Bool.{false≢true}
+use Rattle.word_image.specs.LocalRules.{LocalRule}
+use Rattle.ca_cli.specs.declared.tally.Tally.{Tally}
+use Rattle.ca_cli.specs.Summaries.{AreMany, IsSummary, IsTally, summary_of}
+use Rattle.ca_cli.specs.Summaries.AreMany.{None, One, Other}
+
+-- no more rules have a property than there are
+pub AreMany-le : {Has : LocalRule → Type 0} {rules : List LocalRule} {n : ℕ} → AreMany Has rules n → n ≤ length rules
+AreMany-le None = omega arith
+AreMany-le (One r rules n has rest) = let few = AreMany-le rest in omega arith
+AreMany-le (Other r rules n lacks rest) = let few = AreMany-le rest in omega arith
+
+-- of one rule
+one_rule : {Has : LocalRule → Type 0} (r : LocalRule) (b : Bool) → (IsTrue b ↔ Has r) → AreMany Has (r ∷ []) (from_bool b)
+one_rule r true is = One r [] 0 (is.0 refl) None
+one_rule r false is = Other r [] 0 (λ has. false≢true (is.1 has)) None
+
+-- of rules and more rules
+AreMany-append : {Has : LocalRule → Type 0} {rules more : List LocalRule} {n j : ℕ} → AreMany Has rules n → AreMany Has more j → AreMany Has (rules ++ more) (n + j)
+AreMany-append {Has = Has} {more = more} {j = j} None others = subst (AreMany Has more) (omega arith) others
+AreMany-append {Has = Has} {more = more} {j = j} (One r rules n has rest) others =
+    subst (AreMany Has (r ∷ (rules ++ more))) (omega arith) (One r (rules ++ more) (n + j) has (AreMany-append rest others))
+AreMany-append (Other r rules n lacks rest) others = Other r _ _ lacks (AreMany-append rest others)
+
+-- of one rule more
+pub AreMany-push : {Has : LocalRule → Type 0} {rules : List LocalRule} {n : ℕ} (r : LocalRule) {b : Bool} {j : ℕ} → j ≡ from_bool b → (IsTrue b ↔ Has r)
+    → AreMany Has rules n → AreMany Has (rules ++ r ∷ []) (n + j)
+AreMany-push {Has = Has} {rules = rules} {n = n} r {b = b} one is many =
+    subst (λ j. AreMany Has (rules ++ r ∷ []) (n + j)) (sym one) (AreMany-append many (one_rule r b is))
+
+-- the lines of the counts of some rules are their summary
+pub IsSummary-tally : {rules : List LocalRule} (t : Tally) → IsTally rules t → IsSummary rules (summary_of t)
+IsSummary-tally t is = record {
+  surjective = t.surjective;
+  injective = t.injective;
+  right = t.right;
+  left = t.left;
+  open_ = t.both;
+  conserving = t.conserving;
+  surjective_true = is.surjective_true;
+  injective_true = is.injective_true;
+  right_true = is.right_true;
+  left_true = is.left_true;
+  open_true = is.open_true;
+  conserving_true = is.conserving_true;
+  lines = rw is.rules_true;
+}
+
+-- a rule that closes on the right is open where it closes on the left
+pub open_where_right : {a b both : Bool} {P Q : Type 0} → (IsTrue a ↔ P) → (IsTrue b ↔ Q) → a ≡ true → both ≡ b → IsTrue both ↔ (P × Q)
+open_where_right right left closes is = ((λ t. (right.0 closes, left.0 (sym is ∙ t))), (λ (p, q). is ∙ left.1 q))
+
+-- one that doesn't isn't open
+pub open_where_not_right : {a both : Bool} {P Q : Type 0} → (IsTrue a ↔ P) → a ≡ false → both ≡ false → IsTrue both ↔ (P × Q)
+open_where_not_right right fails is = ((λ t. absurd (false≢true (sym is ∙ t))), (λ (p, q). absurd (false≢true (sym fails ∙ right.1 p))))

@@ -1,0 +1,63 @@
+-- What a summary says of some rules, and what is counted for it.
+use Rattle.std.specs.Prelude.{◌≡◌, ℕ, ◌+◌, List, [], ◌∷◌, ◌++◌, length, codes, IsTrue, ◌↔◌}
+use Rattle.std.specs.Fmt.{decimal}
+use Rattle.word_image.specs.LocalRules.{LocalRule}
+use Rattle.word_image.specs.Words.{IsSurjective}
+use Rattle.word_image.specs.Rings.{IsConserving}
+use Rattle.tail_config.specs.Tails.{IsInjective, IsRightClosing, IsLeftClosing, IsOpen}
+use Rattle.ca_cli.specs.declared.verdicts.Verdicts.{Verdicts}
+use Rattle.ca_cli.specs.declared.tally.Tally.{Tally}
+use Rattle.ca_cli.specs.Lines.{line}
+
+-- so many of the rules have the property
+pub data AreMany (Has : LocalRule → Type 0) : List LocalRule → ℕ → Type 0 where
+  None : AreMany Has [] 0
+  One : (r : LocalRule) (rules : List LocalRule) (n : ℕ) → Has r → AreMany Has rules n → AreMany Has (r ∷ rules) (n + 1)
+  Other : (r : LocalRule) (rules : List LocalRule) (n : ℕ) → ¬ Has r → AreMany Has rules n → AreMany Has (r ∷ rules) n
+
+-- a name and a count
+abbrev pub count_line : List ℕ → ℕ → List ℕ
+count_line name n = line (name ++ codes " " ++ decimal n)
+
+-- the seven lines of a summary, each with its true count
+pub record IsSummary (rules : List LocalRule) (out : List ℕ) : Type 0 where
+  pub surjective : ℕ
+  pub injective : ℕ
+  pub right : ℕ
+  pub left : ℕ
+  pub open_ : ℕ
+  pub conserving : ℕ
+  pub surjective_true : AreMany IsSurjective rules surjective
+  pub injective_true : AreMany IsInjective rules injective
+  pub right_true : AreMany IsRightClosing rules right
+  pub left_true : AreMany IsLeftClosing rules left
+  pub open_true : AreMany IsOpen rules open_
+  pub conserving_true : AreMany (IsConserving (λ a. a)) rules conserving
+  pub lines : out ≡ count_line (codes "rules") (length rules) ++ count_line (codes "surjective") surjective
+      ++ count_line (codes "injective") injective ++ count_line (codes "right") right ++ count_line (codes "left") left
+      ++ count_line (codes "open") open_ ++ count_line (codes "conserving") conserving
+
+-- each verdict is true of the rule
+pub record AreVerdicts (r : LocalRule) (v : Verdicts) : Type 0 where
+  pub surjective : IsTrue v.surjective ↔ IsSurjective r
+  pub injective : IsTrue v.injective ↔ IsInjective r
+  pub right : IsTrue v.right ↔ IsRightClosing r
+  pub left : IsTrue v.left ↔ IsLeftClosing r
+  pub open_ : IsTrue v.both ↔ IsOpen r
+  pub conserving : IsTrue v.conserving ↔ IsConserving (λ a. a) r
+
+-- the counts are those of these rules
+pub record IsTally (rules : List LocalRule) (t : Tally) : Type 0 where
+  pub rules_true : t.rules ≡ length rules
+  pub surjective_true : AreMany IsSurjective rules t.surjective
+  pub injective_true : AreMany IsInjective rules t.injective
+  pub right_true : AreMany IsRightClosing rules t.right
+  pub left_true : AreMany IsLeftClosing rules t.left
+  pub open_true : AreMany IsOpen rules t.both
+  pub conserving_true : AreMany (IsConserving (λ a. a)) rules t.conserving
+
+-- the seven lines of some counts
+abbrev pub summary_of : Tally → List ℕ
+summary_of t =
+    count_line (codes "rules") t.rules ++ count_line (codes "surjective") t.surjective ++ count_line (codes "injective") t.injective
+    ++ count_line (codes "right") t.right ++ count_line (codes "left") t.left ++ count_line (codes "open") t.both ++ count_line (codes "conserving") t.conserving

@@ -1,0 +1,126 @@
+//! The command that inverts a rule.
+ghost use Rattle.std.specs.Prelude.{◌≡◌, ◌≤◌, ◌++◌, ℕ, List, Option, IfOk, OnOk};
+ghost use Rattle.word_image.specs.LocalRules.{LocalRule, IsWord};
+ghost use Rattle.word_image.specs.Windows.{IsLeastDetermined};
+ghost use Rattle.tail_config.specs.Tails.{IsInjective};
+ghost use Rattle.rule_text.specs.RuleTexts.{IsRuleText};
+ghost use Rattle.ca_cli.specs.Commands.{Command};
+ghost use Rattle.ca_cli.specs.Lines.{line};
+ghost use Rattle.ca_cli.specs.MadeRules.{IsMapRule, window_text, offset_line, map_line, map_rule_line};
+ghost use Rattle.ca_cli.specs.Outcomes.{IsOutcome};
+ghost use Rattle.ca_cli.specs.StatusLines.{twins_text, wide_text, unfit_line};
+
+use crate::findings::{Injectivity, injective};
+use crate::operands::rule_operand;
+use crate::output::Output;
+use crate::report::write_rule;
+use crate::stop::Stop;
+use inverse_table::{InvFault, InverseMap, as_rule, table};
+use inverse_window::{TwinPair, WindowAt};
+use least_walk::Walker;
+use pair_rank::Ranks;
+use std::alloc::{AllocError, Global};
+use word_image::Rule;
+
+/// `inverse R`: the map that gives the cells of a configuration back from its image, over the least
+/// determined window.
+pub fn inverse(alloc: Global, text: &[u8]) -> Result<Output, Stop>
+    ensures { (input : Option (List ℕ)) → IsOutcome input (Command.Inverse text.now) result }
+{
+    let rule = rule_operand(1, text)?;
+    let ranks = Ranks::of(&rule);
+    let mut walker = Walker::new(alloc)?;
+    match injective(alloc, &rule, &ranks, &mut walker)? {
+        Injectivity::Window(at) => inverse_over(alloc, &rule, at),
+        Injectivity::Twins(pair) => Err(Stop::NotFit(twins_output(alloc, &pair)?)),
+    }
+}
+
+/// The inverse of a rule over its least determined window.
+fn inverse_over(alloc: Global, rule: &Rule, at: WindowAt) -> Result<Output, Stop>
+    requires injective { IsInjective rule.now }
+    requires least { IsLeastDetermined rule.now at.n at.c }
+    requires most { at.n ≤ 480 }
+    ensures { (text : List ℕ) (input : Option (List ℕ)) → IsRuleText text rule.now →
+        IsOutcome input (Command.Inverse text) result }
+{
+    match table(alloc, rule, at) {
+        Ok(map) => Ok(map_output(alloc, at, &map)?),
+        Err(InvFault::Wide) => Err(Stop::NotFit(wide_output(alloc, at.n)?)),
+        Err(InvFault::NotDetermined { .. }) => unreachable!(),
+        Err(InvFault::Memory(fault)) => Err(Stop::Memory(fault)),
+    }
+}
+
+/// The four lines of an inverse map over a window.
+fn map_output(alloc: Global, at: WindowAt, map: &InverseMap) -> Result<Output, AllocError>
+    ensures { IfOk result (λ output. (rule : List ℕ) × IsMapRule map.now rule
+        × (output ≡ line (window_text at.n at.c) ++ offset_line map.now ++ map_line map.now ++ map_rule_line rule)) }
+{
+    let mut output = Output::new(alloc);
+    write_window(alloc, &mut output, at)?;
+    write_offset(alloc, &mut output, map)?;
+    write_map(alloc, &mut output, map)?;
+    write_map_rule(alloc, &mut output, map)?;
+    Ok(output)
+}
+
+/// Appends the line that names the window.
+fn write_window(alloc: Global, output: &mut Output, at: WindowAt) -> Result<(), AllocError>
+    ensures { OnOk result (output.new ≡ output.old ++ line (window_text at.n at.c)) }
+{
+    let (n, c) = (at.n, at.c);
+    output.push_line(&format!(in alloc; "window {n} {c}")?)
+}
+
+/// Appends the line that says where the window lies.
+fn write_offset(alloc: Global, output: &mut Output, map: &InverseMap) -> Result<(), AllocError>
+    ensures { OnOk result (output.new ≡ output.old ++ offset_line map.now) }
+{
+    let offset = map.offset();
+    output.push_line(&format!(in alloc; "offset {offset}")?)
+}
+
+/// Appends the line of the letters.
+fn write_map(alloc: Global, output: &mut Output, map: &InverseMap) -> Result<(), AllocError>
+    ensures { OnOk result (output.new ≡ output.old ++ map_line map.now) }
+{
+    output.push(b"map ")?;
+    output.push_word(alloc, map.table())?;
+    output.push(b"\n")
+}
+
+/// Appends the line of the map as a rule.
+fn write_map_rule(alloc: Global, output: &mut Output, map: &InverseMap) -> Result<(), AllocError>
+    ensures { OnOk result ((rule : List ℕ) × IsMapRule map.now rule
+        × (output.new ≡ output.old ++ map_rule_line rule)) }
+{
+    match as_rule(map) {
+        Ok(rule) => write_rule(alloc, output, &rule),
+        Err(_) => output.push_line("rule none"),
+    }
+}
+
+/// The line that names the least twins.
+fn twins_output(alloc: Global, pair: &TwinPair) -> Result<Output, AllocError>
+    requires first { IsWord 16 pair.now.x }
+    requires second { IsWord 16 pair.now.y }
+    ensures { IfOk result (λ output. output ≡ unfit_line (twins_text pair.now.x pair.now.y)) }
+{
+    let mut output = Output::new(alloc);
+    output.push(b"notfit twins ")?;
+    output.push_word(alloc, pair.x.as_slice())?;
+    output.push(b" ")?;
+    output.push_word(alloc, pair.y.as_slice())?;
+    output.push(b"\n")?;
+    Ok(output)
+}
+
+/// The line of a window that is too wide.
+fn wide_output(alloc: Global, n: u16) -> Result<Output, AllocError>
+    ensures { IfOk result (λ output. output ≡ unfit_line (wide_text n)) }
+{
+    let mut output = Output::new(alloc);
+    output.push_line(&format!(in alloc; "notfit wide {n}")?)?;
+    Ok(output)
+}

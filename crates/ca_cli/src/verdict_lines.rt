@@ -1,0 +1,189 @@
+//! What is said of a certificate: its verdicts, or why it is refused.
+ghost use Rattle.std.specs.Prelude.{◌≡◌, ◌++◌, codes, IfOk, OnOk, string_bytes};
+ghost use Rattle.std.specs.Fmt.{decimal};
+ghost use Rattle.rule_text.specs.RuleTexts.{printed};
+ghost use Rattle.ca_cli.specs.Lines.{line, fault_text};
+ghost use Rattle.ca_cli.specs.StatusLines.{accepted_lines, verdict_line, verdict_text, refused_line, refusal_text, shape_text, key_text, side_text, twin_text, split_text};
+
+use crate::lines::fault_kind;
+use crate::output::Output;
+use cert_check::{Refusal, Side, SplitCause, TwinCause, Verdicts};
+use cert_format::{Key, ShapeFault};
+use rule_text::{TextFault, print};
+use std::alloc::{AllocError, Global};
+use word_image::Rule;
+
+/// Appends the seven lines of an accepted certificate.
+pub fn write_accepted(
+    alloc: Global,
+    output: &mut Output,
+    verdicts: &Verdicts,
+) -> Result<(), AllocError>
+    ensures { OnOk result (output.new ≡ output.old ++ accepted_lines verdicts.now) }
+{
+    write_rule(alloc, output, &verdicts.rule)?;
+    write_verdict(output, "surjective", verdicts.surjective)?;
+    write_verdict(output, "injective", verdicts.injective)?;
+    write_verdict(output, "right", verdicts.right)?;
+    write_verdict(output, "left", verdicts.left)?;
+    write_verdict(output, "open", verdicts.right && verdicts.left)?;
+    write_verdict(output, "conserving", verdicts.conserving)
+}
+
+/// Appends the line that names the rule.
+fn write_rule(alloc: Global, output: &mut Output, rule: &Rule) -> Result<(), AllocError>
+    ensures { OnOk result (output.new ≡ output.old ++ line (codes "accepted " ++ printed rule.now)) }
+{
+    output.push(b"accepted ")?;
+    output.push(&print(alloc, rule)?)?;
+    output.push(b"\n")
+}
+
+/// Appends the line of a verdict.
+fn write_verdict(output: &mut Output, name: &str, yes: bool) -> Result<(), AllocError>
+    ensures { OnOk result (output.new ≡ output.old ++ verdict_line name.now yes) }
+{
+    output.push(name.as_bytes())?;
+    output.push_line(verdict_name(yes))
+}
+
+fn verdict_name(yes: bool) -> &'static str
+    ensures { result.now ≡ verdict_text yes }
+{
+    if yes { " yes" } else { " no" }
+}
+
+/// Appends the line of a refused certificate. Want of memory has none, and is handed on.
+pub fn write_refused(alloc: Global, output: &mut Output, refusal: Refusal) -> Result<(), AllocError>
+    ensures { OnOk result (output.new ≡ output.old ++ refused_line refusal) }
+{
+    let words = refusal_words(alloc, refusal)?;
+    output.push_line(&format!(in alloc; "refused {words}")?)
+}
+
+/// Which condition isn't met, and what is said of it.
+fn refusal_words(alloc: Global, refusal: Refusal) -> Result<String, AllocError>
+    ensures { IfOk result (λ text. string_bytes text ≡ refusal_text refusal) }
+{
+    match refusal {
+        Refusal::Format(fault) => shape_words(alloc, fault),
+        Refusal::Rank(side, pair) => side_words(alloc, "rank", side, pair),
+        Refusal::NoFull => String::from_str(alloc, "nofull"),
+        Refusal::EmptySet(index) => format!(in alloc; "emptyset {index}"),
+        Refusal::NotClosed(index, letter) => closing_words(alloc, index, letter),
+        Refusal::Orphan => String::from_str(alloc, "orphan"),
+        Refusal::Window(pair) => format!(in alloc; "window {pair}"),
+        Refusal::Twins(cause) => twin_words(alloc, cause),
+        Refusal::Ahead(side, pair) => side_words(alloc, "ahead", side, pair),
+        Refusal::Split(side, cause) => split_words(alloc, side, cause),
+        Refusal::Flux(window) => format!(in alloc; "flux {window}"),
+        Refusal::Ring => String::from_str(alloc, "ring"),
+        Refusal::Memory(fault) => Err(fault),
+    }
+}
+
+/// The first fault of the shape.
+fn shape_words(alloc: Global, fault: ShapeFault) -> Result<String, AllocError>
+    ensures { IfOk result (λ text. string_bytes text ≡ codes "format " ++ shape_text fault) }
+{
+    match fault {
+        ShapeFault::NotJson => String::from_str(alloc, "format notjson"),
+        ShapeFault::Version(version) => format!(in alloc; "format version {version}"),
+        ShapeFault::Shape(key) => key_words(alloc, key),
+        ShapeFault::Rule(fault) => rule_words(alloc, fault),
+    }
+}
+
+/// The part that has no right shape.
+fn key_words(alloc: Global, key: Key) -> Result<String, AllocError>
+    ensures { IfOk result (λ text. string_bytes text ≡ codes "format shape " ++ key_text key) }
+{
+    let name = key_name(key);
+    format!(in alloc; "format shape {name}")
+}
+
+/// The fault of the rule's text.
+fn rule_words(alloc: Global, fault: TextFault) -> Result<String, AllocError>
+    ensures { IfOk result (λ text. string_bytes text ≡ codes "format rule " ++ fault_text fault) }
+{
+    let kind = fault_kind(alloc, fault)?;
+    format!(in alloc; "format rule {kind}")
+}
+
+/// What isn't right of a pair, on which side, and of which pair.
+fn side_words(alloc: Global, what: &str, side: Side, pair: u16) -> Result<String, AllocError>
+    ensures { IfOk result (λ text. string_bytes text ≡ what.now ++ (codes " " ++ (side_text side ++ (codes " " ++ decimal pair)))) }
+{
+    let side = side_name(side);
+    format!(in alloc; "{what} {side} {pair}")
+}
+
+/// Which set isn't closed, and on which letter.
+fn closing_words(alloc: Global, index: usize, letter: u8) -> Result<String, AllocError>
+    ensures { IfOk result (λ text. string_bytes text ≡ codes "notclosed " ++ (decimal index ++ (codes " " ++ decimal letter))) }
+{
+    format!(in alloc; "notclosed {index} {letter}")
+}
+
+/// Which words aren't twins, and why.
+fn twin_words(alloc: Global, cause: TwinCause) -> Result<String, AllocError>
+    ensures { IfOk result (λ text. string_bytes text ≡ codes "twins " ++ twin_text cause) }
+{
+    let cause = twin_name(cause);
+    format!(in alloc; "twins {cause}")
+}
+
+/// On which side there is no split, and why.
+fn split_words(alloc: Global, side: Side, cause: SplitCause) -> Result<String, AllocError>
+    ensures { IfOk result (λ text. string_bytes text ≡ codes "split " ++ (side_text side ++ (codes " " ++ split_text cause))) }
+{
+    let side = side_name(side);
+    let cause = split_name(cause);
+    format!(in alloc; "split {side} {cause}")
+}
+
+fn key_name(key: Key) -> &'static str
+    ensures { result.now ≡ key_text key }
+{
+    match key {
+        Key::Top => "top",
+        Key::Version => "version",
+        Key::Rule => "rule",
+        Key::Surjective => "surjective",
+        Key::Injective => "injective",
+        Key::Right => "right",
+        Key::Left => "left",
+        Key::Conserving => "conserving",
+        Key::Ranks => "ranks",
+        Key::Unknown => "unknown",
+    }
+}
+
+fn side_name(side: Side) -> &'static str
+    ensures { result.now ≡ side_text side }
+{
+    match side {
+        Side::Right => "right",
+        Side::Left => "left",
+    }
+}
+
+fn twin_name(cause: TwinCause) -> &'static str
+    ensures { result.now ≡ twin_text cause }
+{
+    match cause {
+        TwinCause::Length => "length",
+        TwinCause::Same => "same",
+        TwinCause::Image => "image",
+    }
+}
+
+fn split_name(cause: SplitCause) -> &'static str
+    ensures { result.now ≡ split_text cause }
+{
+    match cause {
+        SplitCause::Same => "same",
+        SplitCause::Apart => "apart",
+        SplitCause::Image => "image",
+    }
+}

@@ -1,0 +1,110 @@
+//! The command `certify`: certificates worked by hand, and that `check` accepts what is written.
+
+use crate::checks::{BOTH, SHIFT};
+use crate::rows::{ample, call, call_over, rows};
+use ca_cli::Status::{Done, RuleFault, Usage};
+use ca_io::MemSource;
+use std::alloc::{AllocError, Global};
+use std::process::Abort;
+use std::test::Fail;
+
+#[test]
+fn certificates_are_written(rt: HostRuntime) -> Result<(), Fail> {
+    rows(
+        &rt,
+        &[
+            ("certify 2:2:0:t0101", Done, SHIFT),
+            ("certify 2:2:0:t0001", Done, BOTH),
+            ("certify 256", RuleFault, "rule fault 1 number\n"),
+            ("certify", Usage, "usage error\n"),
+            ("certify 90 90", Usage, "usage error\n"),
+        ],
+    )?;
+    Ok(())
+}
+
+/// Each elementary rule.
+#[test]
+fn certificates_of_elementary_rules_are_accepted(rt: HostRuntime) -> Result<(), Fail> {
+    for number in 0..256u16 {
+        accepted(&rt, rt.alloc(), &format!(in rt.alloc(); "{number}")?)?;
+    }
+    Ok(())
+}
+
+/// Each rule of two states and width 2.
+#[test]
+fn certificates_of_small_rules_are_accepted(rt: HostRuntime) -> Result<(), Fail> {
+    for number in 0..16u8 {
+        let (a, b, c, d) = (number / 8, number / 4 % 2, number / 2 % 2, number % 2);
+        accepted(
+            &rt,
+            rt.alloc(),
+            &format!(in rt.alloc(); "2:2:0:t{a}{b}{c}{d}")?,
+        )?;
+    }
+    Ok(())
+}
+
+#[test]
+fn certificates_of_other_shapes_are_accepted(rt: HostRuntime) -> Result<(), Fail> {
+    let texts = [
+        "3:2:0:t002111022",
+        "3:2:0:t012120201",
+        "3:3:-1:t012012012012012012012012012",
+        "4:2:0:t0123123023013012",
+        "5:2:-1:t0123412340234013401240123",
+        "2:2:-16:t0011",
+        "2:3:5:t01111000",
+        "2:4:-1:t0010110100001111",
+        "2:4:-1:t0101000101110101",
+        "2:5:-2:t01010101010101011010101010101010",
+    ];
+    for text in &texts {
+        accepted(&rt, rt.alloc(), text)?;
+    }
+    let row = "0123456789abcdef".repeat(rt.alloc(), 16)?;
+    accepted(&rt, rt.alloc(), &format!(in rt.alloc(); "16:2:0:t{row}")?)?;
+    Ok(())
+}
+
+/// What `certify` writes for a rule, `check` accepts with the verdicts that `decide` prints.
+fn accepted(rt: &impl Abort, alloc: Global, rule: &str) -> Result<(), AllocError> {
+    let line = format!(in alloc; "certify {rule}")?;
+    let written = call(alloc, &line, ample(alloc)?)?;
+    assert_eq!(rt; written.status, Done, "{rule}");
+    let mut source = MemSource::new(
+        written.output.bytes().to_vec(alloc)?,
+        1 << 16,
+        Vec::new(alloc),
+    );
+    let judged = call_over(alloc, "check", &mut source, ample(alloc)?)?;
+    assert_eq!(rt; judged.status, Done, "{rule}");
+    let verdicts = decided(alloc, rule)?;
+    assert_eq!(rt; judged.output.bytes(), verdicts.as_bytes(), "{rule}");
+    Ok(())
+}
+
+/// The lines of `check` for the verdicts that `decide` prints.
+fn decided(alloc: Global, rule: &str) -> Result<String, AllocError> {
+    let line = format!(in alloc; "decide {rule}")?;
+    let outcome = call(alloc, &line, ample(alloc)?)?;
+    let mut verdicts = String::new(alloc);
+    for line in std::str::from_utf8(outcome.output.bytes())
+        .unwrap_or("")
+        .lines()
+    {
+        let mut words = line.split(' ');
+        match (words.next(), words.next()) {
+            (Some("rule"), Some(text)) => {
+                verdicts.push_str(&format!(in alloc; "accepted {text}\n")?)?;
+            }
+            (Some("number"), _) => {}
+            (Some(name), Some(verdict)) => {
+                verdicts.push_str(&format!(in alloc; "{name} {verdict}\n")?)?;
+            }
+            _ => {}
+        }
+    }
+    Ok(verdicts)
+}
