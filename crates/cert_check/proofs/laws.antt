@@ -6,7 +6,6 @@ pub mod OneBreach
 pub mod Judging
 pub mod OneAnswer
 pub mod FirstPairs
-pub mod NodeLetters
 pub mod RingWindows
 pub mod WindowFlows
 pub mod StepConditions

@@ -1,8 +1,7 @@
 //! Windows whose letter the claims of ranks determine.
 
 ghost use Rattle.std.specs.Prelude.{◌≡◌, ◌↔◌, ◌+◌, ◌-◌, ◌<◌, ◌≤◌, length, IsTrue};
-ghost use Rattle.word_image.specs.LocalRules.{node_count};
-ghost use Rattle.word_image.specs.Graphs.{node_letter, pair_count};
+ghost use Rattle.word_image.specs.Graphs.{pair_count};
 ghost use Rattle.cert_check.specs.Breaches.{FirstBreach};
 ghost use Rattle.cert_check.specs.Refusals.{IsChecked};
 ghost use Rattle.cert_check.specs.Windows.{IsWindowPair};
@@ -68,18 +67,8 @@ fn is_told(
 {
     let j = c.min(n);
     let nodes = u16::from(rule.nodes());
-    letter_at(rule, pair / nodes, c - j) == letter_at(rule, pair % nodes, c - j)
+    let (first, second, place) = ((pair / nodes) as u8, (pair % nodes) as u8, (c - j) as u8);
+    rule.node_letter(first, place) == rule.node_letter(second, place)
         || claims_below(backward, pair, j)
         || claims_below(forward, pair, n - j)
-}
-
-/// The letter of a node at a place.
-fn letter_at(rule: &Rule, node: u16, place: u16) -> u16
-    requires node { node < node_count rule.now }
-    requires place { place < rule.now.width - 1 }
-    ensures { result ≡ node_letter rule.now node place }
-{
-    let k = u16::from(rule.k());
-    let behind = u32::from(rule.m()) - 2 - u32::from(place);
-    node / k.pow(behind) % k
 }

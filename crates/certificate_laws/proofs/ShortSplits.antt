@@ -1,16 +1,14 @@
 -- The least normal right split is short: its middle and right period have together at most as many letters as there are pairs, and m more.
-use Rattle.std.proofs.Common.{◌≡◌, ℕ, ◌+◌, ◌-◌, ◌<◌, ◌≤◌, List, ◌∷◌, length, drop, sym, ap₂, subst, subst₂, ◌∙◌, ⊎_elim, arith, length-append, length-drop}
+use Rattle.std.proofs.Common.{◌≡◌, ℕ, ◌+◌, ◌-◌, ◌<◌, ◌≤◌, List, ◌∷◌, length, sym, subst, ◌∙◌, ⊎_elim, arith, length-append}
 use Rattle.std.specs.List.{zip}
 use Rattle.std.specs.declared.cmp.Ordering.TheVariants.{Greater}
 use Rattle.std.proofs.lemmas.Bool.{cases_lt}
-use Rattle.std.proofs.lemmas.List.Elements.{All-drop}
-use Rattle.word_image.specs.LocalRules.{LocalRule, IsRule, IsWord, word_of}
+use Rattle.word_image.specs.LocalRules.{LocalRule, IsRule, word_of}
 use Rattle.word_image.specs.Windows.{IsRightAhead}
 use Rattle.word_image.specs.Rings.{IsRing}
 use Rattle.word_image.specs.Graphs.{pair_of, pair_count}
 use Rattle.word_image.specs.Erasure.{IsFirstOfRight}
 use Rattle.word_image.proofs.laws.Values.{length-word_of}
-use Rattle.pair_laws.proofs.Walks.{LeadTogether}
 use Rattle.pair_laws.proofs.Ranks.{BeginTogether-walk}
 use Rattle.pair_laws.proofs.Pairs.{PairBegins, pair_of-first_of}
 use Rattle.pair_laws.proofs.Aheads.{IsRightAhead-pairs}
@@ -18,35 +16,11 @@ use Rattle.pair_laws.proofs.Endless.{Loops-long, BeginTogether-endless}
 use Rattle.tail_config.specs.Tails.{TailConfig}
 use Rattle.tail_config.specs.Splits.{IsNormalRightSplit, IsLeastRightSplit, splits_cmp}
 use Rattle.tail_laws.proofs.PairLeads.{PairLeads}
-use Rattle.tail_laws.proofs.WordWalks.{PairLeads-words}
 use Rattle.tail_laws.proofs.FirstPairs.{LeadsToLoop, split_of, normal_split-loop}
+use Rattle.tail_laws.proofs.EndlessPairs.{IsLetterWalk-walk}
 use Rattle.tail_laws.proofs.Closing.{IsRightClosing-ahead}
 use Rattle.tail_laws.proofs.Verdicts.{no_right_closing}
 use Rattle.certificate_laws.proofs.LongerWords.{later_by_number}
-
--- the letters of a walk of n steps from the nodes u and v to the nodes s and t
-record HasLetters (r : LocalRule) (u v n s t : ℕ) : Type 0 where
-  pub a : List ℕ
-  pub b : List ℕ
-  pub a_word : IsWord r.states a
-  pub b_word : IsWord r.states b
-  pub a_long : length a ≡ n
-  pub b_long : length b ≡ n
-  pub leads : PairLeads r (pair_of r u v) (zip a b) (pair_of r s t)
-
--- a walk has letters
-HasLetters-walk : {r : LocalRule} {u v n s t : ℕ} → IsRule r → LeadTogether r u v n s t → HasLetters r u v n s t
-HasLetters-walk {r} {u} {v} {n} {s} {t} rule h =
-    let m : ℕ = r.width - 1 in
-    record {
-      a = drop m h.x;
-      b = drop m h.y;
-      a_word = All-drop (λ c. c < r.states) m h.x h.one_image.first;
-      b_word = All-drop (λ c. c < r.states) m h.y h.one_image.second;
-      a_long = omega (arith, length-drop m h.x, h.one_image.first_long);
-      b_long = omega (arith, length-drop m h.y, h.one_image.second_long);
-      leads = subst₂ (λ p q. PairLeads r p (zip (drop m h.x) (drop m h.y)) q) (ap₂ (pair_of r) h.first h.second) (ap₂ (pair_of r) h.first_last h.second_last) (PairLeads-words rule h.one_image);
-    }
 
 -- a normal right split with few letters
 record HasShortSplit (r : LocalRule) : Type 0 where
@@ -63,8 +37,8 @@ length-split_of r node a walk turn = omega (arith, length-append (word_of r.stat
 HasShortSplit-begins : {r : LocalRule} {p : ℕ} → IsRule r → IsFirstOfRight r p → PairBegins r p (pair_count r) → HasShortSplit r
 HasShortSplit-begins {r} {p} rule f begins =
     let loops = Loops-long rule (omega arith) (BeginTogether-walk begins).2 in
-    let before = HasLetters-walk rule loops.before in
-    let loop = HasLetters-walk rule loops.loop in
+    let before = IsLetterWalk-walk rule loops.before in
+    let loop = IsLetterWalk-walk rule loops.loop in
     let first_turn : IsRing r.states loop.a = record { word = loop.a_word; some = omega (arith, loop.a_long) } in
     let second_turn : IsRing r.states loop.b = record { word = loop.b_word; some = omega (arith, loop.b_long) } in
     let way : LeadsToLoop r p = record {

@@ -1,5 +1,5 @@
 -- The first pairs of a side are the ends of two windows that differ in their last letter on that side alone and have one label.
-use Rattle.std.proofs.Common.{◌≡◌, ℕ, suc, ◌+◌, ◌-◌, ◌*◌, ◌/◌, ◌%◌, ◌^◌, ◌<◌, ◌≤◌, drop, slice_index, sym, ap, ap₂, ◌∙◌, subst, arith, pow-suc, mul_assoc, mul_comm, mod-lt}
+use Rattle.std.proofs.Common.{◌≡◌, ℕ, ◌+◌, ◌-◌, ◌*◌, ◌/◌, ◌%◌, ◌^◌, ◌<◌, drop, slice_index, sym, ap, ap₂, ◌∙◌, subst, arith, mul_comm, mod-lt}
 use Rattle.std.proofs.Math.Nat.{one-le-pow}
 use Rattle.std.proofs.lemmas.Nat.{mul-add-lt, div_below, div-mul-add, mod-mul-add, div-add-mod'}
 use Rattle.word_image.specs.LocalRules.{LocalRule, IsRule, node_count, value, word_of}
@@ -7,45 +7,15 @@ use Rattle.word_image.specs.Graphs.{next, label, node_letter, pair_of, first_of,
 use Rattle.word_image.specs.Erasure.{IsFirstOfRight, IsFirstOfLeft}
 use Rattle.word_image.proofs.laws.Values.{value-word_of}
 use Rattle.word_image.proofs.laws.Graphs.{node_count_pos}
+use Rattle.word_image.proofs.laws.WindowParts.{windows-nodes, rest_count, node_count-rest, window_parts, node_parts}
 use Rattle.pair_laws.proofs.Pairs.{first_of-pair_of, second_of-pair_of, pair_of-below, pair_of-first_of, first_of-below, second_of-below}
 use Rattle.closing_test.specs.declared.side.Side.{Side}
 use Rattle.closing_test.specs.declared.side.Side.TheVariants.{Right, Left}
 use Rattle.closing_test.specs.Sides.{with_end, end_node, end_pair, IsFirst, AreFirst}
 
--- how many words of m - 2 letters there are
-abbrev rest_count : LocalRule → ℕ
-rest_count r = r.states ^ (r.width - 2)
-
--- there are some
+-- there are words of m - 2 letters
 rest_count_pos : {r : LocalRule} → IsRule r → 0 < rest_count r
 rest_count_pos {r} rule = one-le-pow (r.width - 2) r.states (omega (arith, rule.shape.least_states))
-
--- a node is a letter and such a word
-node_count-rest : {r : LocalRule} → IsRule r → node_count r ≡ rest_count r * r.states
-node_count-rest {r} rule =
-    let wide : 2 ≤ r.width = rule.shape.least_width in
-    let long : r.width - 1 ≡ suc (r.width - 2) = omega arith in
-    ap (λ n. r.states ^ n) long ∙ pow-suc r.states (r.width - 2)
-
--- and a window is a node and a letter
-window_count : {r : LocalRule} → IsRule r → r.states ^ r.width ≡ node_count r * r.states
-window_count {r} rule =
-    let wide : 2 ≤ r.width = rule.shape.least_width in
-    let long : r.width ≡ suc (r.width - 1) = omega arith in
-    ap (λ n. r.states ^ n) long ∙ pow-suc r.states (r.width - 1)
-
--- the first letter of a node, and the word of its other letters
-node_parts : {r : LocalRule} → IsRule r → (u : ℕ) → (node_letter r u 0 ≡ u / rest_count r) × (drop 1 (word_of r.states (r.width - 1) u) ≡ word_of r.states (r.width - 2) (u % rest_count r))
-node_parts {r} rule u =
-    let wide : 2 ≤ r.width = rule.shape.least_width in
-    let long : r.width - 1 ≡ suc (r.width - 2) = omega arith in
-    (ap (λ n. slice_index (word_of r.states n u) 0) long, ap (λ n. drop 1 (word_of r.states n u)) long)
-
--- the window of a letter, a word of m - 2 letters and a letter, read from either end
-window_parts : {r : LocalRule} → IsRule r → (a y e : ℕ) → a * node_count r + (y * r.states + e) ≡ (a * rest_count r + y) * r.states + e
-window_parts {r} rule a y e =
-    let inner : a * node_count r ≡ a * rest_count r * r.states = ap (λ n. a * n) (node_count-rest rule) ∙ sym (mul_assoc a (rest_count r) r.states) in
-    omega (arith, inner)
 
 -- two windows that differ in their last letter alone lead to a first pair of the right
 right-first : {r : LocalRule} → IsRule r → (w a : ℕ) → AreFirst Right r w a → IsFirstOfRight r (end_pair Right r w a)
@@ -57,7 +27,7 @@ right-first {r} rule w a h =
       node = w / k;
       a = w % k;
       b = a;
-      in_nodes = div_below w k (node_count r) some (subst (λ n. w < n) (window_count rule) h.window);
+      in_nodes = div_below w k (node_count r) some (subst (λ n. w < n) (windows-nodes rule) h.window);
       a_letter = mod-lt w some;
       b_letter = h.letter;
       different = λ e. h.different (sym split ∙ ap (λ b. w / k * k + b) e);
@@ -75,7 +45,7 @@ first-right {r} {p} rule f =
       w,
       f.b,
       record {
-        window = subst (λ n. w < n) (mul_comm k (node_count r) ∙ sym (window_count rule)) (mul-add-lt f.node k f.a (node_count r) f.in_nodes f.a_letter);
+        window = subst (λ n. w < n) (mul_comm k (node_count r) ∙ sym (windows-nodes rule)) (mul-add-lt f.node k f.a (node_count r) f.in_nodes f.a_letter);
         letter = f.b_letter;
         different = λ e. f.different (let same : f.node * k + f.a ≡ f.node * k + f.b = e ∙ other in omega arith);
         one_label = f.one_label ∙ ap (slice_index r.table) (sym other);
@@ -107,7 +77,7 @@ parts_of {r} rule w below =
       first = w / node_count r;
       rest = x / k;
       last = x % k;
-      first_letter = div_below w (node_count r) k (node_count_pos rule) (subst (λ n. w < n) (window_count rule ∙ mul_comm (node_count r) k) below);
+      first_letter = div_below w (node_count r) k (node_count_pos rule) (subst (λ n. w < n) (windows-nodes rule ∙ mul_comm (node_count r) k) below);
       word = div_below x k (rest_count r) some (subst (λ n. x < n) (node_count-rest rule) inside);
       last_letter = mod-lt x some;
       window = sym whole ∙ ap (λ n. w / node_count r * node_count r + n) (sym split) ∙ window_parts rule (w / node_count r) (x / k) (x % k);
@@ -172,7 +142,7 @@ first-left {r} {p} rule f =
       w,
       a,
       record {
-        window = subst (λ c. w < c) (mul_comm k n ∙ sym (window_count rule)) (mul-add-lt u k f.letter n hu f.in_letters);
+        window = subst (λ c. w < c) (mul_comm k n ∙ sym (windows-nodes rule)) (mul-add-lt u k f.letter n hu f.in_letters);
         letter = div_below v d k some (subst (λ c. v < c) (node_count-rest rule ∙ mul_comm d k) hv);
         different = λ e. f.different
             (let same : u * k + f.letter ≡ v * k + f.letter = e ∙ other in

@@ -1,14 +1,14 @@
 -- The values of the images of all words of one length.
-use Rattle.std.proofs.Common.{◌≡◌, ℕ, suc, ◌+◌, ◌-◌, ◌*◌, ◌/◌, ◌%◌, ◌^◌, ◌<◌, ◌≤◌, List, [], ◌∷◌, ◌++◌, All, length, map, take, drop, get_or, slice_index, replicate, sym, ap, ap₂, subst, ◌∙◌, arith, length-drop, pow-suc, take-append-drop}
+use Rattle.std.proofs.Common.{◌≡◌, ℕ, suc, ◌+◌, ◌-◌, ◌*◌, ◌/◌, ◌%◌, ◌^◌, ◌<◌, ◌≤◌, List, [], ◌∷◌, ◌++◌, All, length, map, take, drop, get_or, slice_index, replicate, sym, ap, ap₂, subst, ◌∙◌, arith, pow-suc}
 use Rattle.std.specs.List.{range_with_len}
 use Rattle.std.proofs.Math.Nat.{mul-le-mul_right, pow-le-pow_right}
-use Rattle.std.proofs.lemmas.Nat.{div-mul-add, mod-mul-add}
+use Rattle.std.proofs.lemmas.Nat.{div-mul-add}
 use Rattle.std.proofs.lemmas.List.{length-take-le, length-replicate, get_or-replicate, drop-append-le}
 use Rattle.std.proofs.lemmas.List.FromFn.{length-map-range_with_len, get_or-map-range_with_len}
-use Rattle.std.proofs.lemmas.List.Elements.{All-take, All-drop, All-from_get_or}
+use Rattle.std.proofs.lemmas.List.Elements.{All-take, All-from_get_or}
 use Rattle.word_image.specs.LocalRules.{LocalRule, IsRule, IsWord, value, word_of, local_map, node_count}
 use Rattle.word_image.specs.Words.{image}
-use Rattle.word_image.proofs.laws.Values.{value-append, value-snoc, value-below, length-word_of, IsWord-word_of, value-word_of}
+use Rattle.word_image.proofs.laws.Values.{value-drop, value-snoc, value-below, length-word_of, IsWord-word_of, value-word_of}
 use Rattle.word_image.proofs.laws.Words.{split_last, IsWord-image, length-image, image-short, image-snoc}
 use Rattle.word_image.proofs.laws.Graphs.{value-node}
 use Rattle.inverse_table.specs.ImageValues.{AreImageValues}
@@ -23,13 +23,6 @@ AreImageValues-none {r} rule =
           let below : value r.states x < node_count r = value-node r x h (e ∙ none) in
           get_or-replicate (node_count r) (value r.states x) 0 0 below ∙ sym (ap (value r.states) (image-short r x (omega arith)));
     }
-
--- the value of what stands behind the first letters of a word
-value-drop : (k n : ℕ) (x : List ℕ) → IsWord k x → value k x % k ^ (length (drop n x)) ≡ value k (drop n x)
-value-drop k n x h =
-    ap (λ y. value k y % k ^ (length (drop n x))) (sym (take-append-drop n x))
-    ∙ ap (λ v. v % k ^ (length (drop n x))) (value-append k (take n x) (drop n x))
-    ∙ mod-mul-add (value k (take n x)) (k ^ (length (drop n x))) (value k (drop n x)) (value-below k (drop n x) (All-drop (λ a. a < k) n x h))
 
 -- what stands at the value of a word one letter longer: the image of the word without it, and what the rule gives on the last window
 abbrev pub value_after : LocalRule → List ℕ → ℕ → ℕ
@@ -57,8 +50,8 @@ AreImageValues-longer {r} rule n images values is before =
           let first : value k y / k ≡ value k x = ap (λ v. v / k) number ∙ div-mul-add (value k x) k a letter in
           let window : drop n y ≡ drop (length x - d) x ++ a ∷ [] =
           ap (drop n) splits ∙ drop-append-le n x (a ∷ []) (omega arith) ∙ ap (λ j. drop j x ++ a ∷ []) (let same : n ≡ length x - d = omega arith in same) in
-          let wide : length (drop n y) ≡ r.width = let m = rule.shape.least_width in length-drop n y ∙ omega arith in
-          let last : value k y % k ^ r.width ≡ value k (drop (length x - d) x ++ a ∷ []) = ap (λ j. value k y % k ^ j) (sym wide) ∙ value-drop k n y h ∙ ap (value k) window in
+          let wide : length y - n ≡ r.width = let m = rule.shape.least_width in omega arith in
+          let last : value k y % k ^ r.width ≡ value k (drop (length x - d) x ++ a ∷ []) = ap (λ j. value k y % k ^ j) (sym wide) ∙ sym (value-drop k n y h (omega arith)) ∙ ap (value k) window in
           ap (λ v. slice_index v (value k y)) is
           ∙ get_or-map-range_with_len (value_after r images) 0 count (value k y) (value k y) 0 below (omega arith)
           ∙ ap₂ (λ (i j : ℕ). slice_index images i * k + slice_index r.table j) first last

@@ -15,7 +15,7 @@ use Rattle.tail_config.specs.Tails.{TailConfig, IsTail, cell, cells, image_cell}
 use Rattle.tail_config.proofs.laws.Cells.{length-cells, get_or-cells, IsWord-cells, image_cells, image-cells}
 use Rattle.tail_laws.proofs.Injective.{IsInjective-determined}
 use Rattle.counting_laws.proofs.InjectiveRules.{IsSurjective-injective}
-use Rattle.inverse_window.proofs.Letters.{letter-value}
+use Rattle.word_image.proofs.laws.WindowParts.{letter-value}
 use Rattle.inverse_table.specs.InverseMaps.{WindowMap, IsWindowMap, IsInverseMap, GivesBack, map_letter, map_image}
 use Rattle.inverse_table.specs.InverseFaults.{IsApartAt}
 use Rattle.inverse_table.specs.ImageValues.{AreImageValues, AreLettersBack, AreReadBack, AreApart, letter_at}

@@ -1,7 +1,7 @@
 //! From how many letters of the image on pairs of nodes are told apart, by their ranks.
 ghost use Rattle.std.specs.Prelude.{◌≡◌, ◌+◌, ◌-◌, ◌<◌, ◌≤◌, ◌↔◌, ℕ, Option, IfSome, IsSome};
 ghost use Rattle.word_image.specs.LocalRules.{IsRule, node_count};
-ghost use Rattle.word_image.specs.Graphs.{first_of, second_of, node_letter, pair_count};
+ghost use Rattle.word_image.specs.Graphs.{first_of, second_of, pair_count};
 ghost use Rattle.word_image.specs.Ranks.{BeginTogether, EndTogether, IsRank, IsEndless};
 ghost use Rattle.word_image.specs.Windows.{IsDetermined};
 ghost use Rattle.inverse_window.specs.Starts.{HoldsFrom, later};
@@ -111,18 +111,8 @@ fn differing(rule: &Rule, p: u16, place: u8) -> Option<(u8, u8)>
 {
     let nodes = u16::from(rule.nodes());
     let (u, v) = ((p / nodes) as u8, (p % nodes) as u8);
-    if letter_at(rule, u, place) == letter_at(rule, v, place) {
+    if rule.node_letter(u, place) == rule.node_letter(v, place) {
         return None;
     }
     Some((u, v))
-}
-
-/// The letter of a node at a place.
-fn letter_at(rule: &Rule, node: u8, place: u8) -> u8
-    requires node { node < node_count rule.now }
-    requires place { place < rule.now.width - 1 }
-    ensures { result ≡ node_letter rule.now node place }
-{
-    let after = rule.m() - 2 - place;
-    node / rule.k().pow(u32::from(after)) % rule.k()
 }

@@ -1,7 +1,7 @@
 -- A window is a node and the letter after it, and also the letter before a node and that node: so a step leads back from a pair along the windows that its nodes end.
 use Rattle.std.proofs.Common.{◌≡◌, ℕ, suc, ◌+◌, ◌-◌, ◌*◌, ◌/◌, ◌%◌, ◌^◌, ◌<◌, ◌≤◌, ◌↔◌, Some, slice_index, sym, ap, ap₂, ◌∙◌, subst, arith, mod-lt}
 use Rattle.std.proofs.lemmas.Nat.{div-mul-add, mod-mul-add, div-add-mod', div_below, mul-add-lt}
-use Rattle.std.proofs.Math.Nat.{div-div-eq-div-mul, pow-succ', pow-suc}
+use Rattle.std.proofs.Math.Nat.{div-div-eq-div-mul, pow-succ'}
 use Rattle.word_image.specs.LocalRules.{LocalRule, IsRule, node_count, word_of}
 use Rattle.word_image.specs.Graphs.{next, label, node_letter, first_of, second_of, pair_of, pair_count}
 use Rattle.pair_laws.proofs.Pairs.{first_of-pair_of, second_of-pair_of, pair_of-first_of, pair_of-below, first_of-below, second_of-below, follow-pair_of, follow-some}
@@ -15,13 +15,6 @@ window_before r a s = a * node_count r + s
 -- it is one of the windows
 pub window_before-below : {r : LocalRule} → IsRule r → (a s : ℕ) → a < r.states → s < node_count r → window_before r a s < node_count r * r.states
 window_before-below {r} rule a s letter node = mul-add-lt a (node_count r) s r.states letter node
-
--- there are as many windows as nodes and letters
-pub windows : {r : LocalRule} → IsRule r → node_count r * r.states ≡ r.states ^ r.width
-windows {r} rule =
-    let wide : 2 ≤ r.width = rule.shape.least_width in
-    let long : suc (r.width - 1) ≡ r.width = omega arith in
-    sym (pow-suc r.states (r.width - 1)) ∙ ap (λ n. r.states ^ n) long
 
 -- the first letter of a node is that of its windows
 first_letter : {r : LocalRule} → IsRule r → (u c : ℕ) → c < r.states → (u * r.states + c) / node_count r ≡ node_letter r u 0

@@ -1,11 +1,11 @@
 -- Steps of two nodes that go on together, in either direction.
-use Rattle.std.proofs.Common.{◌≡◌, ℕ, zero, suc, ◌+◌, ◌-◌, ◌*◌, ◌/◌, ◌%◌, ◌^◌, ◌<◌, ◌≤◌, ◌⊎◌, slice_index, refl, sym, ap, subst, subst₂, ◌∙◌, arith, mod-lt}
+use Rattle.std.proofs.Common.{◌≡◌, ℕ, zero, suc, ◌+◌, ◌*◌, ◌/◌, ◌%◌, ◌^◌, ◌<◌, ◌≤◌, ◌⊎◌, slice_index, refl, sym, ap, subst, subst₂, ◌∙◌, arith, mod-lt}
 use Rattle.std.proofs.lemmas.Nat.{div-mul-add, div-add-mod', div_below, mul-add-lt}
-use Rattle.std.proofs.Math.Nat.{pow-suc}
 use Rattle.word_image.specs.LocalRules.{LocalRule, IsRule, node_count}
 use Rattle.word_image.specs.Graphs.{next, label}
 use Rattle.word_image.specs.Ranks.{IsRank, IsEndless}
 use Rattle.word_image.proofs.laws.Graphs.{node_count_pos}
+use Rattle.word_image.proofs.laws.WindowParts.{some_letter, windows-nodes}
 use Rattle.pair_laws.proofs.Ranks.{BeginTogether-zero, EndTogether-zero, BeginTogether-below, EndTogether-below, BeginTogether-less, EndTogether-less, BeginTogether-step, EndTogether-step, BeginTogether-push, EndTogether-push, BeginTogether-same}
 use Rattle.pair_laws.proofs.Mirrors.{EndTogether-same}
 use Rattle.pair_laws.proofs.Decisions.{BeginTogether-rank, EndTogether-rank}
@@ -52,22 +52,11 @@ pub record LeadsOn (side : Side) (r : LocalRule) (u v n : ℕ) : Type 0 where
   pub second : IsEdge side r (window_count r) label v t
   pub pair : Together side r s t n
 
--- there is a window for each node and letter
-windows : {r : LocalRule} → IsRule r → node_count r * r.states ≡ window_count r
-windows {r} rule =
-    let wide : 2 ≤ r.width = rule.shape.least_width in
-    let long : suc (r.width - 1) ≡ r.width = omega arith in
-    sym (pow-suc r.states (r.width - 1)) ∙ ap (λ n. r.states ^ n) long
-
--- there are letters
-some_letter : {r : LocalRule} → IsRule r → 0 < r.states
-some_letter {r} rule = let least : 2 ≤ r.states = rule.shape.least_states in omega arith
-
 -- letter a leads from node u along an edge
 edge_forward : {r : LocalRule} → IsRule r → (l u a s : ℕ) → u < node_count r → a < r.states → label r u a ≡ l → next r u a ≡ s → IsEdge Forward r (window_count r) l u s
 edge_forward {r} rule l u a s node letter labelled arrives = record {
   window = u * r.states + a;
-  within = omega (arith, mul-add-lt u r.states a (node_count r) node letter, windows rule);
+  within = omega (arith, mul-add-lt u r.states a (node_count r) node letter, windows-nodes rule);
   labelled = labelled;
   leaves = div-mul-add u r.states a letter;
   arrives = arrives;
@@ -94,7 +83,7 @@ window_of {r} rule l w within labelled =
     record {
       letter = w % r.states;
       in_letters = mod-lt w (some_letter rule);
-      node = div_below w r.states (node_count r) (some_letter rule) (omega (arith, windows rule));
+      node = div_below w r.states (node_count r) (some_letter rule) (omega (arith, windows-nodes rule));
       labelled = ap (slice_index r.table) split ∙ labelled;
       arrives = ap (λ x. x % node_count r) split;
     }

@@ -1,14 +1,15 @@
 -- A flux by the values of the windows: what a decider computes and a checker tests.
 use Rattle.std.proofs.Common.{◌≡◌, ℕ, zero, suc, ◌+◌, ◌-◌, ◌*◌, ◌/◌, ◌%◌, ◌^◌, ◌<◌, List, [], ◌∷◌, ◌++◌, length, take, drop, get_or, slice_index, replicate, ℤ, pos, ◌+ℤ◌, ◌-ℤ◌, sym, ap, ap₂, subst, ◌∙◌, arith, length-drop, length-append, append_assoc, pow-suc, mod-lt}
+use Rattle.std.proofs.Math.Nat.{pow-zero}
 use Rattle.std.proofs.lemmas.Nat.{div-mul-add, div_below}
 use Rattle.std.proofs.lemmas.List.{length_push, take-append-drop}
 use Rattle.std.proofs.lemmas.List.Elements.{All-push, All-drop, All-tail}
 use Rattle.std.proofs.lemmas.Option.{get_or_from_slice_get}
 use Rattle.word_image.specs.LocalRules.{LocalRule, IsRule, IsWord, local_map, value, word_of, node_count}
 use Rattle.word_image.specs.Rings.{IsFlux}
-use Rattle.word_image.proofs.laws.Values.{value-below, value-snoc, length-word_of, IsWord-word_of, value-word_of}
-use Rattle.word_image.proofs.laws.Words.{split_last}
+use Rattle.word_image.proofs.laws.Values.{value-below, value-snoc, value-take, length-word_of, IsWord-word_of, value-word_of}
 use Rattle.word_image.proofs.laws.Graphs.{value-tail, node_count_pos}
+use Rattle.word_image.proofs.laws.WindowParts.{windows-nodes}
 use Rattle.ring_laws.proofs.Gains.{gain, gain-short, gain-window, gain-append}
 use Rattle.ring_laws.proofs.Fluxes.{flow_at, window-flux}
 use Rattle.ring_laws.proofs.FluxWalks.{walk_gain}
@@ -40,18 +41,15 @@ window_gain-value {r} rule weight w word e =
     ap (λ a. pos (weight (local_map r w)) -ℤ pos (weight a)) begins
 
 -- its first node, by its value
-value-first : {r : LocalRule} → IsRule r → (w : List ℕ) → IsWord r.states w → length w ≡ r.width → value r.states (take (r.width - 1) w) ≡ value r.states w / r.states
+pub value-first : {r : LocalRule} → IsRule r → (w : List ℕ) → IsWord r.states w → length w ≡ r.width → value r.states (take (r.width - 1) w) ≡ value r.states w / r.states
 value-first {r} rule w word e =
     let wide = rule.shape.least_width in
-    let front : List ℕ = take (length w - 1) w in
-    let a : ℕ = get_or w (length w - 1) 0 in
-    let letter : a < r.states = word (length w - 1) 0 (omega arith) in
-    let split : value r.states w ≡ value r.states front * r.states + a = ap (value r.states) (split_last w (omega arith)) ∙ value-snoc r.states front a in
-    ap (λ n. value r.states (take (n - 1) w)) (sym e)
-    ∙ sym (ap (λ v. v / r.states) split ∙ div-mul-add (value r.states front) r.states a letter)
+    let one : length w - (r.width - 1) ≡ 1 = omega arith in
+    let letters : r.states ^ 1 ≡ r.states = omega (arith, pow-suc r.states 0, ap (λ n. n * r.states) (pow-zero r.states)) in
+    value-take r.states (r.width - 1) w word (omega arith) ∙ ap (λ n. value r.states w / r.states ^ n) one ∙ ap (λ n. value r.states w / n) letters
 
 -- and its last one
-value-last : {r : LocalRule} → IsRule r → (w : List ℕ) → IsWord r.states w → length w ≡ r.width → value r.states (drop 1 w) ≡ value r.states w % node_count r
+pub value-last : {r : LocalRule} → IsRule r → (w : List ℕ) → IsWord r.states w → length w ≡ r.width → value r.states (drop 1 w) ≡ value r.states w % node_count r
 value-last {r} rule w word e = let wide = rule.shape.least_width in value-tail r.states (r.width - 1) w word (omega arith)
 
 -- the walk from a word of m - 1 letters that reads n letters 0
@@ -124,7 +122,6 @@ Flows-flux {weight} {r} {phi} rule flux v l =
 -- the nodes of a window are nodes
 pub window-nodes : {r : LocalRule} → IsRule r → (v : ℕ) → v < r.states ^ r.width → (v / r.states < node_count r) × (v % node_count r < node_count r)
 window-nodes {r} rule v l =
-    let wide = rule.shape.least_width in
     let states = rule.shape.least_states in
-    let power : r.states ^ r.width ≡ node_count r * r.states = let e : r.width ≡ suc (r.width - 1) = omega arith in ap (λ n. r.states ^ n) e ∙ pow-suc r.states (r.width - 1) in
+    let power = windows-nodes rule in
     (div_below v r.states (node_count r) (omega arith) (omega arith), mod-lt v (node_count_pos rule))

@@ -24,7 +24,7 @@ use Rattle.tail_laws.proofs.TwoLoops.{pair_at-loop, has_twins-loops}
 use Rattle.tail_laws.proofs.NoTwins.{HasTwins}
 
 -- the letters of a walk of n steps from the nodes u and v to the nodes s and t
-record IsLetterWalk (r : LocalRule) (u v n s t : ℕ) : Type 0 where
+pub record IsLetterWalk (r : LocalRule) (u v n s t : ℕ) : Type 0 where
   pub a : List ℕ
   pub b : List ℕ
   pub a_word : IsWord r.states a
@@ -34,7 +34,7 @@ record IsLetterWalk (r : LocalRule) (u v n s t : ℕ) : Type 0 where
   pub leads : PairLeads r (pair_of r u v) (zip a b) (pair_of r s t)
 
 -- a walk has letters
-IsLetterWalk-walk : {r : LocalRule} {u v n s t : ℕ} → IsRule r → LeadTogether r u v n s t → IsLetterWalk r u v n s t
+pub IsLetterWalk-walk : {r : LocalRule} {u v n s t : ℕ} → IsRule r → LeadTogether r u v n s t → IsLetterWalk r u v n s t
 IsLetterWalk-walk {r} {u} {v} {n} {s} {t} rule h =
     let m : ℕ = r.width - 1 in
     record {

@@ -7,6 +7,7 @@ pub mod Images
 pub mod Rings
 pub mod Orders
 pub mod Graphs
+pub mod WindowParts
 pub mod Bits
 pub mod Unions
 pub mod LastNodes

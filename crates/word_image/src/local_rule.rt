@@ -1,5 +1,5 @@
 //! A rule, and what it gives on a window.
-ghost use Rattle.std.specs.Prelude.{◌≡◌, ℕ, ◌^◌, ◌<◌, ◌≤◌, ◌↔◌, List, length, reverse, nat_le, position, slice_index, IfOk, IfSome, IsOk, IsTrue};
+ghost use Rattle.std.specs.Prelude.{◌≡◌, ℕ, ◌-◌, ◌^◌, ◌<◌, ◌≤◌, ◌↔◌, List, length, reverse, nat_le, position, slice_index, IfOk, IfSome, IsOk, IsTrue};
 ghost use Rattle.std.specs.Cmp.Rules.{comparing};
 ghost use Rattle.std.proofs.Common.{rules};
 ghost use Rattle.std.specs.Result.{result_err};
@@ -67,6 +67,7 @@ impl Model for Rule {
 impl Rule {
     ghost use Rattle.word_image.specs.LocalRules.{IsRule, local_map, mirrored, node_count};
     ghost use Rattle.word_image.specs.RuleFaults.{rule_fault};
+    ghost use Rattle.word_image.specs.Graphs.{node_letter};
     ghost use Rattle.word_image.specs.Words.{image};
 
     /// The rule of exactly these states, width, offset and table, whose letters stand in the order
@@ -140,6 +141,16 @@ impl Rule {
         ensures letter { result < self.now.states }
     {
         self.entries[usize::from(value)]
+    }
+
+    /// The letter at a place of a node: of the word of m - 1 letters that has this value.
+    pub fn node_letter(&self, node: u8, place: u8) -> u8
+        requires node { node < node_count self.now }
+        requires place { place < self.now.width - 1 }
+        ensures letter { result ≡ node_letter self.now node place }
+    {
+        let after = self.m() - 2 - place;
+        node / self.k().pow(u32::from(after)) % self.k()
     }
 
     /// The letter that the rule gives on a window of m letters below k.

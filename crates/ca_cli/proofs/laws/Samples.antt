@@ -2,10 +2,9 @@
 use Rattle.std.proofs.Common.{◌≡◌, ℕ, suc, ◌+◌, ◌-◌, ◌*◌, ◌/◌, ◌%◌, ◌^◌, ◌<◌, ◌≤◌, List, [], ◌∷◌, ◌++◌, map, None, refl, sym, ap, ap₂, ◌∙◌, arith, add-one, mod-lt, get_or, append_assoc, append-nil}
 use Rattle.std.specs.List.{range_with_len}
 use Rattle.std.specs.Prelude.{Option, Some, pos}
-use Rattle.std.specs.Option.{option_or, option_map}
+use Rattle.std.specs.Option.{option_or}
 use Rattle.std.proofs.lemmas.List.FromFn.{map-range_with_len_more, length-map-range_with_len}
 use Rattle.std.proofs.lemmas.Bool.Decides.{nat_tests}
-use Rattle.std.proofs.lemmas.Option.{none-some}
 use Rattle.std.proofs.lemmas.Nat.{div-add-mod'}
 use Rattle.std.proofs.Math.Nat.{add-mul-mod_self_right}
 use Rattle.std.proofs.lemmas.List.Elements.{All-map, All-from_get_or}
@@ -16,6 +15,7 @@ use Rattle.rule_text.specs.RuleTexts.{in_text, number_fault}
 use Rattle.rule_text.specs.declared.text_fault.TextFault.{TextFault}
 use Rattle.rule_text.specs.declared.text_fault.TextFault.TheVariants as fault
 use Rattle.rule_text.proofs.laws.Numbers.{number_limit}
+use Rattle.rule_text.proofs.laws.AcceptedRules.{none_or, none_map, number-below}
 use Rattle.ca_cli.specs.Samples.{numbered_rule, survey_rules, next_state, state_after, drawn, drawn_rule, sample_rules, sample_fault, survey_fault}
 
 -- a survey of one rule more
@@ -91,11 +91,6 @@ sample-step k m s count i t r done some rule state split =
 pub sample-end : (k m s count i : ℕ) (done : List LocalRule) {whole : List LocalRule} → count ≤ i → whole ≡ done ++ sample_rules k m s (count - i) → done ≡ whole
 sample-end k m s count i done all split = sym (split ∙ ap (λ x. done ++ x) (sample_rules-none k m s count i all) ∙ append-nil done)
 
--- where neither of two options is there, both are missing
-none_or : {A : Type 0} (a b : Option A) → option_or a b ≡ None → (a ≡ None) × (b ≡ None)
-none_or None b e = (refl, e)
-none_or (Some x) b e = absurd (none-some x (sym e))
-
 -- the fault of an accepted shape is that of its number
 sample_fault-none : (k m n : ℕ) → sample_fault k m ≡ None → option_or (sample_fault k m) (number_fault k m n) ≡ number_fault k m n
 sample_fault-none k m n none = ap (λ f. option_or f (number_fault k m n)) none
@@ -115,19 +110,11 @@ pub survey_fault-last : (k m first count : ℕ) {last : ℕ} {f : Option TextFau
     → survey_fault k m first count ≡ f
 survey_fault-last k m first count is fault = ap (λ n. option_or (sample_fault k m) (number_fault k m n)) (sym is) ∙ fault
 
--- what is missing was missing before it was changed
-none_map : {A B : Type 0} (f : A → B) (a : Option A) → option_map f a ≡ None → a ≡ None
-none_map f None e = refl
-none_map f (Some x) e = absurd (none-some (f x) (sym e))
-
 -- a shape without a fault is accepted
 pub IsShape-sample_fault : (k m : ℕ) → sample_fault k m ≡ None → IsShape k m (pos 0)
 IsShape-sample_fault k m none = IsShape-shape_fault k m (pos 0) (none_map (in_text 0) (shape_fault k m (pos 0)) none)
 
--- a number with no fault is below the limit of its shape
-number-below : (k m n : ℕ) → number_fault k m n ≡ None → n < k ^ (k ^ m)
-number-below k m n none = grind (arith, nat_tests)
-
+-- a shape of which some number has no fault has few states
 few_states : (k m n : ℕ) → number_fault k m n ≡ None → k ≤ 6
 few_states k m n none = grind (arith, nat_tests)
 

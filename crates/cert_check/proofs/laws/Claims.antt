@@ -5,11 +5,11 @@ use Rattle.std.proofs.lemmas.Option.{none-some, same_Some}
 use Rattle.word_image.specs.LocalRules.{LocalRule, IsRule, node_count}
 use Rattle.word_image.specs.Graphs.{next, label, follow, pair_of, first_of, second_of, pair_count}
 use Rattle.word_image.proofs.laws.Graphs.{node_count_pos, next-below}
+use Rattle.word_image.proofs.laws.WindowParts.{some_letter}
 use Rattle.pair_laws.proofs.Pairs.{first_of-pair_of, second_of-pair_of, pair_of-first_of, pair_of-below, first_of-below, second_of-below, follow-pair_of, follow-some}
 use Rattle.cert_check.specs.declared.refusal.Side.{Side}
 use Rattle.cert_check.specs.declared.refusal.Side.TheVariants.{Right, Left}
 use Rattle.cert_check.specs.Claims.{claim, IsBelow, Falls, FallsBy, window_with}
-use Rattle.cert_check.proofs.laws.Steps.{some_letter}
 
 -- on each letter of the first node and each of the second less than n is claimed
 abbrev pub FallsByAll : Side → LocalRule → List (Option ℕ) → ℕ → ℕ → Type 0

@@ -1,12 +1,12 @@
 -- The first pairs of a side, told by the letters of their nodes.
-use Rattle.std.proofs.Common.{◌≡◌, ◌≢◌, ℕ, suc, ◌+◌, ◌-◌, ◌*◌, ◌/◌, ◌%◌, ◌^◌, ◌<◌, ◌≤◌, drop, slice_index, refl, sym, ap, ap₂, ◌∙◌, subst, arith, pow-suc, mul_assoc, mul_comm, mod-lt}
-use Rattle.std.proofs.Math.Nat.{one-le-pow, pow-le-pow_right}
+use Rattle.std.proofs.Common.{◌≡◌, ◌≢◌, ℕ, ◌+◌, ◌-◌, ◌*◌, ◌/◌, ◌%◌, ◌<◌, slice_index, refl, sym, ap, ap₂, ◌∙◌, subst, arith, mul_comm, mod-lt}
 use Rattle.std.proofs.lemmas.Nat.{mul-add-lt, div_below, div-mul-add, mod-mul-add, div-add-mod'}
 use Rattle.word_image.specs.LocalRules.{LocalRule, IsRule, node_count, value, word_of}
 use Rattle.word_image.specs.Graphs.{next, node_letter, pair_of, first_of, second_of, pair_count}
 use Rattle.word_image.specs.Erasure.{IsFirstOfRight, IsFirstOfLeft}
 use Rattle.word_image.proofs.laws.Values.{value-word_of}
 use Rattle.word_image.proofs.laws.Graphs.{next-below}
+use Rattle.word_image.proofs.laws.WindowParts.{rest_count, power-below, node_count-rest, window_parts, node_parts}
 use Rattle.pair_laws.proofs.Pairs.{first_of-pair_of, second_of-pair_of, pair_of-first_of, first_of-below, second_of-below}
 use Rattle.cert_check.specs.declared.refusal.Side.{Side}
 use Rattle.cert_check.specs.declared.refusal.Side.TheVariants.{Right, Left}
@@ -20,37 +20,6 @@ HaveOneLabel side r u v = (a : ℕ) × (a < r.states) × (slice_index r.table (w
 -- the nodes differ in their letter on this side alone, and a letter on the other side makes windows with one label of them
 abbrev pub DifferAtEnd : Side → LocalRule → ℕ → ℕ → Type 0
 DifferAtEnd side r u v = (u ≢ v) × (rest_of side r u ≡ rest_of side r v) × HaveOneLabel (other side) r u v
-
--- how many words of m - 2 letters there are
-abbrev rest_count : LocalRule → ℕ
-rest_count r = r.states ^ (r.width - 2)
-
--- a power of k that is no more than there are nodes
-pub power-below : {r : LocalRule} → IsRule r → (j : ℕ) → j ≤ r.width - 1 → (1 ≤ r.states ^ j) × (r.states ^ j ≤ 16)
-power-below {r} rule j l =
-    let some : 0 < r.states = omega (arith, rule.shape.least_states) in
-    let few : r.states ^ j ≤ node_count r = pow-le-pow_right some l in
-    (one-le-pow j r.states some, omega (arith, few, rule.shape.most_nodes))
-
--- a node is a letter and a word of m - 2 letters
-node_count-rest : {r : LocalRule} → IsRule r → node_count r ≡ rest_count r * r.states
-node_count-rest {r} rule =
-    let wide : 2 ≤ r.width = rule.shape.least_width in
-    let long : r.width - 1 ≡ suc (r.width - 2) = omega arith in
-    ap (λ n. r.states ^ n) long ∙ pow-suc r.states (r.width - 2)
-
--- the window of a letter, such a word and a letter, read from either end
-window_parts : {r : LocalRule} → IsRule r → (c s a : ℕ) → c * node_count r + (s * r.states + a) ≡ (c * rest_count r + s) * r.states + a
-window_parts {r} rule c s a =
-    let inner : c * node_count r ≡ c * rest_count r * r.states = ap (λ n. c * n) (node_count-rest rule) ∙ sym (mul_assoc c (rest_count r) r.states) in
-    omega (arith, inner)
-
--- the first letter of a node, and the word of its other letters
-node_parts : {r : LocalRule} → IsRule r → (u : ℕ) → (node_letter r u 0 ≡ u / rest_count r) × (drop 1 (word_of r.states (r.width - 1) u) ≡ word_of r.states (r.width - 2) (u % rest_count r))
-node_parts {r} rule u =
-    let wide : 2 ≤ r.width = rule.shape.least_width in
-    let long : r.width - 1 ≡ suc (r.width - 2) = omega arith in
-    (ap (λ n. slice_index (word_of r.states n u) 0) long, ap (λ n. drop 1 (word_of r.states n u)) long)
 
 -- the node to which a letter leads: its last letter, its other letters, and the window that ends with it
 next_parts : {r : LocalRule} → IsRule r → (w a : ℕ) → a < r.states

@@ -1,6 +1,6 @@
 -- Steps of sets, as the ends of edges give them, and the set to which a word leads.
-use Rattle.std.proofs.Common.{◌≡◌, ℕ, suc, ◌+◌, ◌-◌, ◌*◌, ◌/◌, ◌%◌, ◌^◌, ◌<◌, ◌≤◌, ◌↔◌, List, [], ◌∷◌, ◌++◌, IsBitSet, slice_index, refl, sym, ap, subst, ◌∙◌, arith, mod-lt, ⊎_elim}
-use Rattle.std.proofs.Math.Nat.{pow-suc, div-le_self}
+use Rattle.std.proofs.Common.{◌≡◌, ℕ, ◌+◌, ◌*◌, ◌/◌, ◌%◌, ◌^◌, ◌<◌, ◌≤◌, ◌↔◌, List, [], ◌∷◌, ◌++◌, IsBitSet, slice_index, refl, sym, ap, subst, ◌∙◌, arith, mod-lt, ⊎_elim}
+use Rattle.std.proofs.Math.Nat.{div-le_self}
 use Rattle.std.proofs.lemmas.Bool.{cases_lt}
 use Rattle.std.proofs.lemmas.Nat.{pow_pos, le-div, div_below, div-mul-add, div-add-mod', mul-add-lt}
 use Rattle.word_image.specs.LocalRules.{LocalRule, IsRule, node_count}
@@ -9,6 +9,7 @@ use Rattle.word_image.proofs.laws.Bits.{IsBitSet-some}
 use Rattle.word_image.proofs.laws.Graphs.{node_count_pos}
 use Rattle.pair_laws.proofs.Sets.{IsBitSet-below, IsBitSet-shr}
 use Rattle.search_laws.proofs.StepSets.{IsStep-unique}
+use Rattle.word_image.proofs.laws.WindowParts.{some_letter, windows-nodes}
 use Rattle.cert_check.specs.Sets.{HasBit, AreEnds, LeadsTo}
 use Rattle.cert_check.specs.Sets.LeadsTo.{Stays, Steps}
 
@@ -25,20 +26,9 @@ small_set n a small within =
     absurd (omega arith))
     (cases_lt a (2 ^ n))
 
--- there are letters
-pub some_letter : {r : LocalRule} → IsRule r → 0 < r.states
-some_letter {r} rule = let least : 2 ≤ r.states = rule.shape.least_states in omega arith
-
--- there is a window for each node and letter
-windows : {r : LocalRule} → IsRule r → node_count r * r.states ≡ r.states ^ r.width
-windows {r} rule =
-    let wide : 2 ≤ r.width = rule.shape.least_width in
-    let long : suc (r.width - 1) ≡ r.width = omega arith in
-    sym (pow-suc r.states (r.width - 1)) ∙ ap (λ n. r.states ^ n) long
-
 -- a window begins with a node
 pub node-below : {r : LocalRule} → IsRule r → (w : ℕ) → w < r.states ^ r.width → w / r.states < node_count r
-node-below {r} rule w l = div_below w r.states (node_count r) (some_letter rule) (omega (arith, windows rule))
+node-below {r} rule w l = div_below w r.states (node_count r) (some_letter rule) (omega (arith, windows-nodes rule))
 
 -- the ends of the nodes of a set are its step
 pub IsStep-ends : {r : LocalRule} → IsRule r → (ends : List ℕ) → AreEnds r (r.states ^ r.width) ends → (set a after : ℕ) → a < r.states → after < 2 ^ 16
@@ -66,7 +56,7 @@ IsStep-ends {r} rule ends are set a after letter small made =
           present,
           (are (16 * a + u) v (omega arith)).1 (
             u * r.states + b,
-            omega (arith, windows rule, mul-add-lt u r.states b (node_count r) node in_letters),
+            omega (arith, windows-nodes rule, mul-add-lt u r.states b (node_count r) node in_letters),
             omega (arith, labelled, div-mul-add u r.states b in_letters),
             sym leads,
           ),

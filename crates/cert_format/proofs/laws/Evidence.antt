@@ -1,5 +1,5 @@
 -- Where a JSON value is no evidence.
-use Rattle.std.proofs.Common.{◌≡◌, ◌≢◌, sym, ap, ◌∙◌, subst, List, [], ◌∷◌, length, ℕ, ◌≤◌, ℤ, Option, slice_index, arith}
+use Rattle.std.proofs.Common.{◌≡◌, ◌≢◌, sym, ap, ◌∙◌, subst, List, [], ◌∷◌, length, ℕ, ◌≤◌, ℤ, Option, arith}
 use Rattle.std.specs.Prelude.{codes, All}
 use Rattle.std.specs.List.{AllZip}
 use Rattle.std.proofs.lemmas.List.Elements.{All-nil, All-cons, All-head, All-tail, All-weaker}
@@ -12,19 +12,11 @@ use Rattle.cert_format.specs.Certificates.InjectiveEvidence.{Window, Twins}
 use Rattle.cert_format.specs.Certificates.SumEvidence.{Flux, Ring}
 use Rattle.cert_format.specs.CertificateTexts.{IsWhole, IsSigned, IsDigits, IsClaimValue, IsArrayOf, HasOnly, list_of}
 use Rattle.cert_format.specs.Readings.{IsWordValue, IsWordsValue, IsShort, IsRank, IsNear, IsFlow, IsSetsFor, IsFluxFor, IsRowFor, IsSurjectiveFor, IsInjectiveFor, IsSumFor}
-use Rattle.cert_format.proofs.laws.Uniqueness.{HasOnly-unique, not_both, IsArrayOf-unique, IsWhole-unique, IsSigned-unique, IsClaimValue-unique}
+use Rattle.cert_format.proofs.laws.Uniqueness.{HasOnly-unique, not_both, sets_or_orphan, flux_or_ring, IsArrayOf-unique, IsWhole-unique, IsSigned-unique, IsClaimValue-unique}
 
 -- the values of one key are one
 at_key : (d : Data) {v u : Data} {k : List ℕ} (P : Data → Type 0) → HasOnly k v d → HasOnly k u d → P u → P v
 at_key d P p q h = subst P (sym (HasOnly-unique d p q).1) h
-
--- an object with the one key has not the other
-
-sets_or_orphan : (d : Data) {v u : Data} → HasOnly (codes "sets") v d → ¬ HasOnly (codes "orphan") u d
-sets_or_orphan d p q = absurd (omega (arith, ap length (HasOnly-unique d p q).0))
-
-flux_or_ring : (d : Data) {v u : Data} → HasOnly (codes "flux") v d → ¬ HasOnly (codes "ring") u d
-flux_or_ring d p q = absurd (omega (arith, ap (λ k. slice_index k 0) (HasOnly-unique d p q).0))
 
 -- no evidence for surjective: the sets are none, or the orphan is
 

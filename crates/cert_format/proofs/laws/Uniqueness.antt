@@ -81,15 +81,15 @@ HasOnlyBoth-unique d {v} {u} {w} {x} {k} {l} p q =
 pub not_both : (d : Data) {v u w : Data} {k l m : List ℕ} → HasOnly k v d → ¬ HasOnlyBoth l u m w d
 not_both d p q = absurd (omega (arith, ap members_len (one_some p q)))
 
--- Each part is one
+-- an object with the one key has not the other
 
-sets_or_orphan : (d : Data) {v u : Data} → HasOnly (codes "sets") v d → ¬ HasOnly (codes "orphan") u d
+pub sets_or_orphan : (d : Data) {v u : Data} → HasOnly (codes "sets") v d → ¬ HasOnly (codes "orphan") u d
 sets_or_orphan d p q = absurd (omega (arith, ap length (HasOnly-unique d p q).0))
 
 ahead_or_split : (d : Data) {v u : Data} → HasOnly (codes "ahead") v d → ¬ HasOnly (codes "split") u d
 ahead_or_split d p q = absurd (omega (arith, ap (λ k. slice_index k 0) (HasOnly-unique d p q).0))
 
-flux_or_ring : (d : Data) {v u : Data} → HasOnly (codes "flux") v d → ¬ HasOnly (codes "ring") u d
+pub flux_or_ring : (d : Data) {v u : Data} → HasOnly (codes "flux") v d → ¬ HasOnly (codes "ring") u d
 flux_or_ring d p q = absurd (omega (arith, ap (λ k. slice_index k 0) (HasOnly-unique d p q).0))
 
 -- an array of one value and the same of another equal one are one list

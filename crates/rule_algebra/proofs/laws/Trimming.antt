@@ -7,12 +7,11 @@ use Rattle.std.proofs.lemmas.Int.{ints}
 use Rattle.std.proofs.lemmas.List.{take_all, length-take-le, length-replicate, drop-drop, get_or-take}
 use Rattle.std.proofs.lemmas.List.Elements.{All-cons, All-take, All-drop, All-append, All-replicate}
 use Rattle.word_image.specs.LocalRules.{LocalRule, IsRule, IsWord, value, word_of, local_map, node_count}
-use Rattle.word_image.proofs.laws.Values.{value-below, value-word_of, length-word_of, IsWord-word_of}
+use Rattle.word_image.proofs.laws.Values.{value-below, value-word_of, length-word_of, IsWord-word_of, value-drop}
 use Rattle.tail_config.specs.Tails.{cells}
 use Rattle.tail_config.proofs.laws.Cells.{length-cells, IsWord-cells, drop-cells}
 use Rattle.rule_algebra.specs.Algebra.{KeepsImages, Ignores}
 use Rattle.rule_algebra.specs.Tables.{without_first, IsRest, DropsFirsts}
-use Rattle.rule_algebra.proofs.laws.WindowValues.{value-drop}
 
 -- the whole window is left where no last letter is
 whole : (d n : ℕ) (v : List ℕ) → length v ≡ n → drop d (take (n - 0) v) ≡ drop d v

@@ -1,36 +1,12 @@
 -- The values of the parts of a window.
-use Rattle.std.proofs.Common.{◌≡◌, ℕ, ◌+◌, ◌-◌, ◌*◌, ◌/◌, ◌%◌, ◌^◌, ◌<◌, ◌≤◌, List, length, take, drop, get_or, slice_index, slice_range, sym, ap, ap₂, ◌∙◌, arith, length-drop, take-append-drop}
-use Rattle.std.proofs.lemmas.Nat.{div-mul-add, mod-mul-add}
+use Rattle.std.proofs.Common.{◌≡◌, ℕ, ◌+◌, ◌-◌, ◌/◌, ◌%◌, ◌^◌, ◌<◌, ◌≤◌, List, length, take, drop, get_or, slice_index, slice_range, sym, ap, ap₂, ◌∙◌, arith}
 use Rattle.std.proofs.lemmas.List.{length-take-le, drop-take}
-use Rattle.std.proofs.lemmas.List.Elements.{All-take, All-drop}
+use Rattle.std.proofs.lemmas.List.Elements.{All-take}
 use Rattle.word_image.specs.LocalRules.{LocalRule, IsRule, IsWord, value, word_of}
 use Rattle.word_image.specs.Words.{image}
-use Rattle.word_image.proofs.laws.Values.{value-append, value-below, length-word_of, IsWord-word_of, value-word_of}
+use Rattle.word_image.proofs.laws.Values.{value-take, value-drop, length-word_of, IsWord-word_of, value-word_of}
 use Rattle.word_image.proofs.laws.Words.{length-image}
 use Rattle.word_image.proofs.laws.Images.{get_or-image}
-
--- a word is its first n letters and the others
-cut : (k n : ℕ) (w : List ℕ) → n ≤ length w → value k w ≡ value k (take n w) * k ^ (length w - n) + value k (drop n w)
-cut k n w h =
-    ap (value k) (sym (take-append-drop n w))
-    ∙ value-append k (take n w) (drop n w)
-    ∙ ap (λ j. value k (take n w) * k ^ j + value k (drop n w)) (length-drop n w)
-
--- the others are fewer
-rest_below : (k n : ℕ) (w : List ℕ) → IsWord k w → value k (drop n w) < k ^ (length w - n)
-rest_below k n w word =
-    let below : value k (drop n w) < k ^ length (drop n w) = value-below k (drop n w) (All-drop (λ a. a < k) n w word) in
-    rw length-drop at below
-
--- the value of the first n letters
-pub value-take : (k n : ℕ) (w : List ℕ) → IsWord k w → n ≤ length w → value k (take n w) ≡ value k w / k ^ (length w - n)
-value-take k n w word h =
-    sym (ap (λ v. v / k ^ (length w - n)) (cut k n w h) ∙ div-mul-add (value k (take n w)) (k ^ (length w - n)) (value k (drop n w)) (rest_below k n w word))
-
--- the value without them
-pub value-drop : (k n : ℕ) (w : List ℕ) → IsWord k w → n ≤ length w → value k (drop n w) ≡ value k w % k ^ (length w - n)
-value-drop k n w word h =
-    sym (ap (λ v. v % k ^ (length w - n)) (cut k n w h) ∙ mod-mul-add (value k (take n w)) (k ^ (length w - n)) (value k (drop n w)) (rest_below k n w word))
 
 -- the value of n letters from place i on
 pub value-slice_range : (k i n : ℕ) (w : List ℕ) → IsWord k w → i + n ≤ length w → value k (slice_range w i (i + n)) ≡ value k w / k ^ (length w - (i + n)) % k ^ n

@@ -10,17 +10,17 @@ use Rattle.rule_text.specs.RuleTexts.{Said, Entries, Table, Number, IsRuleText, 
 use Rattle.rule_text.proofs.laws.Numbers.{IsRule-number}
 
 -- where neither of two options is there, both are missing
-none_or : {A : Type 0} (a b : Option A) → option_or a b ≡ None → (a ≡ None) × (b ≡ None)
+pub none_or : {A : Type 0} (a b : Option A) → option_or a b ≡ None → (a ≡ None) × (b ≡ None)
 none_or None b e = (refl, e)
 none_or (Some x) b e = absurd (none-some x (sym e))
 
 -- what is missing was missing before it was changed
-none_map : {A B : Type 0} (f : A → B) (a : Option A) → option_map f a ≡ None → a ≡ None
+pub none_map : {A B : Type 0} (f : A → B) (a : Option A) → option_map f a ≡ None → a ≡ None
 none_map f None e = refl
 none_map f (Some x) e = absurd (none-some (f x) (sym e))
 
 -- a number with no fault belongs to a table
-number-below : (k m n : ℕ) → number_fault k m n ≡ None → n < k ^ (k ^ m)
+pub number-below : (k m n : ℕ) → number_fault k m n ≡ None → n < k ^ (k ^ m)
 number-below k m n none = grind (arith, nat_tests)
 
 -- entries with no fault make a rule of an accepted shape

@@ -1,12 +1,11 @@
 -- The de Bruijn graph of a rule read on words: nodes are ends of words, edges are windows.
 use Rattle.std.proofs.Common.{◌≡◌, ℕ, ◌+◌, ◌-◌, ◌*◌, ◌%◌, ◌^◌, ◌<◌, List, [], ◌∷◌, ◌++◌, length, drop, slice_index, sym, ap, ◌∙◌, subst, arith, length-drop, mod-lt}
 use Rattle.std.proofs.Math.Nat.{one-le-pow}
-use Rattle.std.proofs.lemmas.Nat.{mod-mul-add}
 use Rattle.std.proofs.lemmas.List.{drop-append-le, drop-drop, length_push}
-use Rattle.std.proofs.lemmas.List.Elements.{All-drop, All-push, All-tail}
+use Rattle.std.proofs.lemmas.List.Elements.{All-drop, All-push}
 use Rattle.word_image.specs.LocalRules.{LocalRule, IsRule, IsWord, value, local_map, node_count}
 use Rattle.word_image.specs.Graphs.{next, label}
-use Rattle.word_image.proofs.laws.Values.{value-below, value-snoc}
+use Rattle.word_image.proofs.laws.Values.{value-below, value-snoc, value-drop}
 
 -- there are nodes
 pub node_count_pos : {r : LocalRule} → IsRule r → 0 < node_count r
@@ -22,11 +21,9 @@ value-node r z h e = subst (λ n. value r.states z < r.states ^ n) e (value-belo
 
 -- the value of a word without its first letter
 pub value-tail : (k d : ℕ) (y : List ℕ) → IsWord k y → length y ≡ d + 1 → value k (drop 1 y) ≡ value k y % k ^ d
-value-tail k d [] h e = absurd (omega arith)
-value-tail k d (c ∷ y) h e =
-    let long : length y ≡ d = omega arith in
-    subst (λ n. value k y ≡ (c * k ^ length y + value k y) % k ^ n) long
-    (sym (mod-mul-add c (k ^ length y) (value k y) (value-below k y (All-tail (λ a. a < k) c y h))))
+value-tail k d y h e =
+    let long : length y - 1 ≡ d = omega arith in
+    value-drop k 1 y h (omega arith) ∙ ap (λ n. value k y % k ^ n) long
 
 -- where one more letter leads from a node
 pub value-next : {r : LocalRule} → IsRule r → (n : ℕ) (x : List ℕ) (b : ℕ) → IsWord r.states x → length x ≡ n + (r.width - 1) → b < r.states

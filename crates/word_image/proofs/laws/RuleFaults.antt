@@ -1,5 +1,5 @@
 -- No limit is broken exactly where the rule is accepted.
-use Rattle.std.proofs.Common.{◌≡◌, ℕ, suc, ap, pow-suc, mul-le-mul, ◌*◌, ◌-◌, ◌^◌, ◌<◌, ◌≤◌, List, length, leb, None, ℤ, arith}
+use Rattle.std.proofs.Common.{◌≡◌, ℕ, suc, ap, pow-suc, mul-le-mul, ◌*◌, ◌-◌, ◌^◌, ◌<◌, ◌≤◌, List, length, take, leb, None, ℤ, ◌∙◌, arith, length-take-le}
 use Rattle.std.specs.Prelude.{nat_le, position}
 use Rattle.std.proofs.lemmas.Bool.Decides.{nat_tests}
 use Rattle.std.proofs.lemmas.Int.{ints}
@@ -57,3 +57,7 @@ window_count-le k m o shape =
     let whole : k ^ m ≡ k ^ suc (m - 1) = let e : m ≡ suc (m - 1) = omega arith in ap (λ j. k ^ j) e in
     let few : k ^ (m - 1) * k ≤ 16 * 16 = mul-le-mul shape.most_nodes shape.most_states in
     omega arith
+
+-- a part of the room for a table
+pub part_long : (size windows : ℕ) (room : List ℕ) → length room ≡ 256 → size ≡ windows → windows ≤ 256 → length (take size room) ≡ windows
+part_long size windows room all same few = length-take-le size room (omega arith) ∙ same

@@ -1,9 +1,9 @@
 -- Words and their values: each word of n letters is one number below k ^ n.
-use Rattle.std.proofs.Common.{◌≡◌, ℕ, zero, suc, ◌+◌, ◌*◌, ◌/◌, ◌%◌, ◌^◌, ◌<◌, ◌≤◌, List, [], ◌∷◌, ◌++◌, length, take, get_or, refl, sym, ap, ap₂, ◌∙◌, arith, length-append, add-mul, mul_assoc, mul_comm, mul-one, zero-mul, one-mul, pow-suc, mod-lt, length-take-le}
+use Rattle.std.proofs.Common.{◌≡◌, ℕ, zero, suc, ◌+◌, ◌-◌, ◌*◌, ◌/◌, ◌%◌, ◌^◌, ◌<◌, ◌≤◌, List, [], ◌∷◌, ◌++◌, length, take, drop, get_or, refl, sym, ap, ap₂, ◌∙◌, arith, length-append, length-drop, take-append-drop, add-mul, mul_assoc, mul_comm, mul-one, zero-mul, one-mul, pow-suc, mod-lt, length-take-le}
 use Rattle.std.proofs.Math.Nat.{pow-zero, pow-le-pow_right, pos_of_ne-zero}
 use Rattle.std.proofs.lemmas.Nat.{pow-add, mul-add-lt, same_from_place, div_below, div-add-mod', div-mul-add, mod-mul-add}
 use Rattle.std.proofs.lemmas.List.{nil_from_length, take_more}
-use Rattle.std.proofs.lemmas.List.Elements.{All-nil, All-cons, All-head, All-tail, All-take}
+use Rattle.std.proofs.lemmas.List.Elements.{All-nil, All-cons, All-head, All-tail, All-take, All-drop}
 use Rattle.word_image.specs.LocalRules.{IsWord, value, word_of}
 
 -- the value of two words in a row
@@ -101,3 +101,26 @@ value-take-below k w i n word h fits =
     let below : value k (take (i + 1) w) < k ^ (i + 1) = rw long at (value-below k (take (i + 1) w) (All-take (λ a. a < k) (i + 1) w word)) in
     let grows : k ^ (i + 1) ≤ k ^ length w = pow-le-pow_right positive (omega arith) in
     omega (arith, value-take_more k w i h)
+
+-- a word is its first n letters and the others
+value-cut : (k n : ℕ) (w : List ℕ) → n ≤ length w → value k w ≡ value k (take n w) * k ^ (length w - n) + value k (drop n w)
+value-cut k n w h =
+    ap (value k) (sym (take-append-drop n w))
+    ∙ value-append k (take n w) (drop n w)
+    ∙ ap (λ j. value k (take n w) * k ^ j + value k (drop n w)) (length-drop n w)
+
+-- the others are fewer
+rest_below : (k n : ℕ) (w : List ℕ) → IsWord k w → value k (drop n w) < k ^ (length w - n)
+rest_below k n w word =
+    let below : value k (drop n w) < k ^ length (drop n w) = value-below k (drop n w) (All-drop (λ a. a < k) n w word) in
+    rw length-drop at below
+
+-- the value of the first n letters
+pub value-take : (k n : ℕ) (w : List ℕ) → IsWord k w → n ≤ length w → value k (take n w) ≡ value k w / k ^ (length w - n)
+value-take k n w word h =
+    sym (ap (λ v. v / k ^ (length w - n)) (value-cut k n w h) ∙ div-mul-add (value k (take n w)) (k ^ (length w - n)) (value k (drop n w)) (rest_below k n w word))
+
+-- the value without them
+pub value-drop : (k n : ℕ) (w : List ℕ) → IsWord k w → n ≤ length w → value k (drop n w) ≡ value k w % k ^ (length w - n)
+value-drop k n w word h =
+    sym (ap (λ v. v % k ^ (length w - n)) (value-cut k n w h) ∙ mod-mul-add (value k (take n w)) (k ^ (length w - n)) (value k (drop n w)) (rest_below k n w word))

@@ -1,14 +1,10 @@
-use Rattle.std.proofs.Common.{◌≡◌, ℕ, ◌^◌, ◌<◌, ◌≤◌, List, length, take, refl, sym, subst, ◌∙◌, arith, length-take-le, to_z, of_z, w8, rules}
+use Rattle.std.proofs.Common.{◌≡◌, ◌^◌, ◌<◌, refl, sym, subst, to_z, of_z, w8, rules}
 use Rattle.std.proofs.lemmas.Int.{to_z-of_z}
 use Rattle.std.proofs.lemmas.Bool.{false≢true}
 use Rattle.word_image.specs.LocalRules.{IsRule}
-use Rattle.word_image.proofs.laws.RuleFaults.{window_count-le}
+use Rattle.word_image.proofs.laws.RuleFaults.{window_count-le, part_long}
 use Rattle.rule_text.proofs.laws.Numbers.{IsRule-number}
 use Rattle.rule_text.proofs.wolfram_numbers.rule_of_number.Goals as goal
-
--- a part of the room for a table
-part_long : (size windows : ℕ) (room : List ℕ) → length room ≡ 256 → size ≡ windows → windows ≤ 256 → length (take size room) ≡ windows
-part_long size windows room all same few = length-take-le size room (omega arith) ∙ same
 
 pub returns-then-not-write_number : goal.returns-then-not-write_number
 returns-then-not-write_number c =

@@ -1,16 +1,12 @@
-use Rattle.std.proofs.Common.{◌≡◌, ℕ, ◌^◌, ◌≤◌, List, length, take, map, refl, sym, ap, subst, ◌∙◌, arith, length-take-le, rules}
+use Rattle.std.proofs.Common.{◌≡◌, ℕ, ◌^◌, List, length, take, map, refl, sym, ap, subst, ◌∙◌, rules}
 use Rattle.std.specs.Prelude.{pos}
 use Rattle.std.specs.List.{range_with_len}
 use Rattle.std.proofs.lemmas.Bool.{false≢true}
 use Rattle.word_image.specs.LocalRules.{IsRule}
-use Rattle.word_image.proofs.laws.RuleFaults.{window_count-le}
+use Rattle.word_image.proofs.laws.RuleFaults.{window_count-le, part_long}
 use Rattle.ca_cli.specs.Samples.{drawn, drawn_rule, state_after}
 use Rattle.ca_cli.proofs.laws.Samples.{IsRule-drawn}
 use Rattle.ca_cli.proofs.generator.Generator.rule.Goals as goal
-
--- a part of the room for a table
-part_long : (size windows : ℕ) (room : List ℕ) → length room ≡ 256 → size ≡ windows → windows ≤ 256 → length (take size room) ≡ windows
-part_long size windows room all same few = length-take-le size room (omega arith) ∙ same
 
 -- the rule of the letters that fill a part of the room
 of_letters : (k m s size : ℕ) (room letters : List ℕ) → length (take size room) ≡ k ^ m → letters ≡ map (drawn k s) (range_with_len 0 (length (take size room)))

@@ -1,0 +1,75 @@
+-- Windows and nodes taken apart by their values: a window is a node and a letter from either end, and a node's letters are the digits of its number.
+use Rattle.std.proofs.Common.{◌≡◌, ℕ, zero, suc, ◌+◌, ◌-◌, ◌*◌, ◌/◌, ◌%◌, ◌^◌, ◌<◌, ◌≤◌, List, [], ◌∷◌, length, drop, slice_index, sym, ap, ◌∙◌, arith, mod-eq_of_lt, pow-suc, mul_assoc}
+use Rattle.std.proofs.Math.Nat.{mul-add-div_right, mul-add-mod_self_right, one-le-pow, pow-le-pow_right}
+use Rattle.std.proofs.lemmas.Nat.{pow-add, div-mul-add}
+use Rattle.std.proofs.lemmas.List.Elements.{All-head, All-tail}
+use Rattle.word_image.specs.LocalRules.{LocalRule, IsRule, IsWord, value, word_of, node_count}
+use Rattle.word_image.specs.Graphs.{node_letter}
+use Rattle.word_image.proofs.laws.Values.{value-below, value-word_of, length-word_of, IsWord-word_of}
+
+-- there are letters
+pub some_letter : {r : LocalRule} → IsRule r → 0 < r.states
+some_letter {r} rule = let least : 2 ≤ r.states = rule.shape.least_states in omega arith
+
+-- there are as many windows as nodes with a letter
+pub windows-nodes : {r : LocalRule} → IsRule r → r.states ^ r.width ≡ node_count r * r.states
+windows-nodes {r} rule =
+    let wide : 2 ≤ r.width = rule.shape.least_width in
+    let long : r.width ≡ suc (r.width - 1) = omega arith in
+    ap (λ n. r.states ^ n) long ∙ pow-suc r.states (r.width - 1)
+
+-- how many words of m - 2 letters there are
+abbrev pub rest_count : LocalRule → ℕ
+rest_count r = r.states ^ (r.width - 2)
+
+-- a node is a letter and such a word
+pub node_count-rest : {r : LocalRule} → IsRule r → node_count r ≡ rest_count r * r.states
+node_count-rest {r} rule =
+    let wide : 2 ≤ r.width = rule.shape.least_width in
+    let long : r.width - 1 ≡ suc (r.width - 2) = omega arith in
+    ap (λ n. r.states ^ n) long ∙ pow-suc r.states (r.width - 2)
+
+-- the window of a letter, such a word and a letter, read from either end
+pub window_parts : {r : LocalRule} → IsRule r → (a s b : ℕ) → a * node_count r + (s * r.states + b) ≡ (a * rest_count r + s) * r.states + b
+window_parts {r} rule a s b =
+    let inner : a * node_count r ≡ a * rest_count r * r.states = ap (λ n. a * n) (node_count-rest rule) ∙ sym (mul_assoc a (rest_count r) r.states) in
+    omega (arith, inner)
+
+-- the first letter of a node, and the word of its other letters
+pub node_parts : {r : LocalRule} → IsRule r → (u : ℕ) → (node_letter r u 0 ≡ u / rest_count r) × (drop 1 (word_of r.states (r.width - 1) u) ≡ word_of r.states (r.width - 2) (u % rest_count r))
+node_parts {r} rule u =
+    let wide : 2 ≤ r.width = rule.shape.least_width in
+    let long : r.width - 1 ≡ suc (r.width - 2) = omega arith in
+    (ap (λ n. slice_index (word_of r.states n u) 0) long, ap (λ n. drop 1 (word_of r.states n u)) long)
+
+-- a power of k that is no more than there are nodes
+pub power-below : {r : LocalRule} → IsRule r → (j : ℕ) → j ≤ r.width - 1 → (1 ≤ r.states ^ j) × (r.states ^ j ≤ 16)
+power-below {r} rule j l =
+    let some = some_letter rule in
+    let few : r.states ^ j ≤ node_count r = pow-le-pow_right some l in
+    (one-le-pow j r.states some, omega (arith, few, rule.shape.most_nodes))
+
+-- a letter of a word, as a digit of its value
+pub letter-value : (k : ℕ) (w : List ℕ) (i j : ℕ) → IsWord k w → i + j + 1 ≡ length w → value k w / k ^ j % k ≡ slice_index w i
+letter-value k [] i j h e = absurd (omega arith)
+letter-value k (a ∷ w) zero j h e =
+    let letter : a < k = All-head (λ c. c < k) a w h in
+    let same : j ≡ length w = omega arith in
+    ap (λ n. (a * k ^ length w + value k w) / k ^ n % k) same
+    ∙ ap (λ n. n % k) (div-mul-add a (k ^ length w) (value k w) (value-below k w (All-tail (λ c. c < k) a w h))) ∙ mod-eq_of_lt {n = a} letter
+letter-value k (a ∷ w) (suc i) j h e =
+    let letter : a < k = All-head (λ c. c < k) a w h in
+    let same : length w ≡ suc i + j = omega arith in
+    let positive : 0 < k ^ j = one-le-pow j k (omega arith) in
+    let power : a * k ^ length w ≡ a * k ^ i * k * k ^ j =
+    ap (λ n. a * k ^ n) same ∙ ap (λ n. a * n) (pow-add k (suc i) j ∙ ap (λ n. n * k ^ j) (pow-suc k i))
+    ∙ sym (mul_assoc a (k ^ i * k) (k ^ j)) ∙ ap (λ n. n * k ^ j) (sym (mul_assoc a (k ^ i) k)) in
+    ap (λ n. (n + value k w) / k ^ j % k) power
+    ∙ ap (λ n. n % k) (mul-add-div_right positive (a * k ^ i * k) (value k w))
+    ∙ mul-add-mod_self_right (a * k ^ i) k (value k w / k ^ j) ∙ letter-value k w i j (All-tail (λ c. c < k) a w h) (omega arith)
+
+-- a letter of a node, as a digit of its number
+pub node_letter-digit : (r : LocalRule) (u i j : ℕ) → u < node_count r → i + j + 1 ≡ r.width - 1 → node_letter r u i ≡ u / r.states ^ j % r.states
+node_letter-digit r u i j below e =
+    sym (letter-value r.states (word_of r.states (r.width - 1) u) i j (IsWord-word_of r.states (r.width - 1) u below) (e ∙ sym (length-word_of r.states (r.width - 1) u)))
+    ∙ ap (λ v. v / r.states ^ j % r.states) (value-word_of r.states (r.width - 1) u below)
