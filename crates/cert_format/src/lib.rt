@@ -37,8 +37,6 @@ mod members;
 mod misread;
 mod parts;
 mod reading;
-#[cfg(test)]
-mod reading_tests;
 mod shape_fault;
 mod steps;
 #[cfg(test)]

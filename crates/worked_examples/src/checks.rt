@@ -91,6 +91,12 @@ fn forged_evidence_is_refused(rt: HostRuntime) -> Result<(), Fail> {
             (
                 BOTH,
                 "\"0||00\",\"0||10\"",
+                "\"0||0\",\"00||00\"",
+                "split right same",
+            ),
+            (
+                BOTH,
+                "\"0||00\",\"0||10\"",
                 "\"0||0\",\"1||0\"",
                 "split right apart",
             ),
@@ -98,6 +104,12 @@ fn forged_evidence_is_refused(rt: HostRuntime) -> Result<(), Fail> {
                 BOTH,
                 "\"0||00\",\"0||10\"",
                 "\"0||0\",\"0||1\"",
+                "split right image",
+            ),
+            (
+                BOTH,
+                "\"0||00\",\"0||10\"",
+                "\"0|1|0\",\"0||110\"",
                 "split right image",
             ),
             (
