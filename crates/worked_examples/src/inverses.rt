@@ -70,3 +70,46 @@ fn rule_and_inverse_do_nothing(rt: HostRuntime) -> Result<(), Fail> {
     )?;
     Ok(())
 }
+
+/// The hexadecimal digit of a number modulo 16.
+fn digit(number: u32) -> char {
+    char::from(b"0123456789abcdef"[(number % 16) as usize])
+}
+
+// Where the next cell is y, the states y + 1 and y + 2 change places. State x is told by x + 1 images, and
+// the last two by 15: as many as 16 states ever need (Czeizler and Kari, 2005).
+#[test]
+fn a_map_of_the_widest_window(rt: HostRuntime) -> Result<(), Fail> {
+    let mut line = String::from_str(rt.alloc(), "inverse 16:2:0:t")?;
+    for x in 0..16u32 {
+        for y in 0..16u32 {
+            let swapped = if x == y + 1 && y < 14 {
+                x + 1
+            } else if x == y + 2 {
+                x - 1
+            } else {
+                x
+            };
+            line.push(digit(swapped))?;
+        }
+    }
+    rows(&rt, &[(line.as_str(), NotFit, "notfit wide 15\n")])?;
+    Ok(())
+}
+
+// x + 2 y modulo 16 is undone by a - 2 b + 4 c - 8 d, whose map has a letter for each of the 65,536 words.
+#[test]
+fn a_map_of_the_most_letters(rt: HostRuntime) -> Result<(), Fail> {
+    let mut line = String::from_str(rt.alloc(), "inverse 16:2:0:t")?;
+    for window in 0..256u32 {
+        line.push(digit(window / 16 + 2 * (window % 16)))?;
+    }
+    let mut output = String::from_str(rt.alloc(), "window 4 0\noffset 0\nmap ")?;
+    for word in 0..65_536u32 {
+        let (a, b, c, d) = (word >> 12, word >> 8, word >> 4, word);
+        output.push(digit(a + 14 * (b % 16) + 4 * (c % 16) + 8 * (d % 16)))?;
+    }
+    output.push_str("\nrule none\n")?;
+    rows(&rt, &[(line.as_str(), Done, output.as_str())])?;
+    Ok(())
+}
