@@ -28,13 +28,13 @@ IsLeastWordOf-spelled rule q s x at =
     record { set_of = IsLastSet-leads rule first.leads; least = λ v last. first.least v (LeadsToSet-last rule last) }
 
 -- a fact of each place of a longer list
-chosen_cons : {Y : Type 0} (P : ℕ → Y → Type 0) (y : Y) → P 0 y → (ys : List Y) → ((i : ℕ) (z : Y) → slice_get ys i ≡ Some z → P (suc i) z)
+pub chosen_cons : {Y : Type 0} (P : ℕ → Y → Type 0) (y : Y) → P 0 y → (ys : List Y) → ((i : ℕ) (z : Y) → slice_get ys i ≡ Some z → P (suc i) z)
     → (i : ℕ) (z : Y) → slice_get (y ∷ ys) i ≡ Some z → P i z
 chosen_cons P y first ys rest zero z at = let same : y ≡ z = cc in subst (P 0) same first
 chosen_cons P y first ys rest (suc i) z at = rest i z at
 
 -- what can be found at each place of a list, found at all of them
-chosen : {X Y : Type 0} (xs : List X) (P : ℕ → Y → Type 0) → ((i : ℕ) (x : X) → slice_get xs i ≡ Some x → (y : Y) × P i y)
+pub chosen : {X Y : Type 0} (xs : List X) (P : ℕ → Y → Type 0) → ((i : ℕ) (x : X) → slice_get xs i ≡ Some x → (y : Y) × P i y)
     → (ys : List Y) × (length xs ≡ length ys) × ((i : ℕ) (y : Y) → slice_get ys i ≡ Some y → P i y)
 chosen [] P find = ([], refl, λ i y at. absurd (none-some y at))
 chosen {Y = Y} (x ∷ xs) P find =
@@ -43,7 +43,7 @@ chosen {Y = Y} (x ∷ xs) P find =
     (first.0 ∷ rest.0, ap suc rest.1, chosen_cons P first.0 first.1 rest.0 rest.2)
 
 -- something stands at each place below the length
-stands_at : (tree : List Place) (i : ℕ) → i < length tree → (x : Place) × (slice_get tree i ≡ Some x)
+pub stands_at : (tree : List Place) (i : ℕ) → i < length tree → (x : Place) × (slice_get tree i ≡ Some x)
 stands_at tree i l = (get_or tree i (record { state = 0; parent = 0; letter = 0 }), slice_get-get_or tree i (record { state = 0; parent = 0; letter = 0 }) l)
 
 -- no set is missing, but for those of words after a word with the empty set

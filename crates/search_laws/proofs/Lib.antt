@@ -7,3 +7,4 @@ pub mod StepSets
 pub mod Families
 pub mod LeastSteps
 pub mod PairWalks
+pub mod QueueDepths

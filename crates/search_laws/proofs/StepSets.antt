@@ -20,7 +20,7 @@ use Rattle.search_laws.specs.SearchQueues.Leads.{Here, On}
 use Rattle.word_image.proofs.laws.Searches.{some_below}
 
 -- two sets of n nodes with the same nodes are one
-same_set : (n a b : ℕ) → a < 2 ^ n → b < 2 ^ n → ((i : ℕ) → i < n → (IsBitSet a i ↔ IsBitSet b i)) → a ≡ b
+pub same_set : (n a b : ℕ) → a < 2 ^ n → b < 2 ^ n → ((i : ℕ) → i < n → (IsBitSet a i ↔ IsBitSet b i)) → a ≡ b
 same_set n a b small_a small_b same = same_from_bits_below n a b small_a small_b (λ i l.
     ⊎_elim
     (λ one. one ∙ sym ((bit_at-IsBitSet b i).0 ((same i l).0 ((bit_at-IsBitSet a i).1 one))))
@@ -43,7 +43,7 @@ some_union Has decide count (suc n) within =
     (decide n))
 
 -- so they are a set
-some_set : (Has : ℕ → Type 0) → ((v : ℕ) → Has v ⊎ ¬ Has v) → (n : ℕ) → (set : ℕ) × (set < 2 ^ n) × ((v : ℕ) → v < n → (IsBitSet set v ↔ Has v))
+pub some_set : (Has : ℕ → Type 0) → ((v : ℕ) → Has v ⊎ ¬ Has v) → (n : ℕ) → (set : ℕ) × (set < 2 ^ n) × ((v : ℕ) → v < n → (IsBitSet set v ↔ Has v))
 some_set Has decide n =
     let union = some_union Has decide n n (omega arith) in (
       union.0,

@@ -1,6 +1,7 @@
 -- The element at a place of a list, where there is one.
-use Rattle.std.proofs.Common.{◌≡◌, ℕ, zero, suc, ◌⊎◌, inl, inr, List, [], ◌∷◌, ◌++◌, length, Some, Contains, refl, ap, ◌∙◌, ⊎_elim}
+use Rattle.std.proofs.Common.{◌≡◌, ◌≢◌, ℕ, zero, suc, ◌<◌, ◌⊎◌, inl, inr, List, [], ◌∷◌, ◌++◌, length, set, Some, Contains, refl, sym, ap, ◌∙◌, ⊎_elim, arith}
 use Rattle.std.specs.List.{slice_get}
+use Rattle.std.proofs.lemmas.List.{get_or-set_same, get_or-set_other, length-set}
 use Rattle.std.proofs.lemmas.Option.{slice_get_within, slice_get-get_or, get_or_from_slice_get, none-some}
 
 -- a place keeps its element where the list grows
@@ -39,3 +40,21 @@ Contains-slice_get xs i x at = (i, slice_get_within xs i x at, get_or_from_slice
 -- what is in the list stands at some place
 pub slice_get-Contains : {X : Type 0} (xs : List X) (x : X) → Contains xs x → (i : ℕ) × (slice_get xs i ≡ Some x)
 slice_get-Contains xs x (i, below, same) = (i, slice_get-get_or xs i x below ∙ ap Some same)
+
+-- an element of a list is one of a longer list
+pub Contains-more : {X : Type 0} (xs : List X) (x y : X) → Contains xs x → Contains (xs ++ y ∷ []) x
+Contains-more xs x y has = let (i, at) = slice_get-Contains xs x has in Contains-slice_get (xs ++ y ∷ []) i x (slice_get-append xs (y ∷ []) i x at)
+
+-- what is stored at a place stands there
+pub slice_get-set_same : {X : Type 0} (xs : List X) (i : ℕ) (x : X) → i < length xs → slice_get (set xs i x) i ≡ Some x
+slice_get-set_same xs i x l = slice_get-get_or (set xs i x) i x (omega (arith, length-set xs i x)) ∙ ap Some (get_or-set_same xs i x x l)
+
+-- and nothing changes at another
+pub slice_get-set_other : {X : Type 0} (xs : List X) (i j : ℕ) (x y : X) → j ≢ i → slice_get xs j ≡ Some y → slice_get (set xs i x) j ≡ Some y
+slice_get-set_other xs i j x y other at =
+    slice_get-get_or (set xs i x) j y (omega (arith, length-set xs i x, slice_get_within xs j y at)) ∙ ap Some (get_or-set_other xs i j x y other ∙ get_or_from_slice_get xs j y y at)
+
+-- what stands at another place stood there before
+pub slice_get-set_before : {X : Type 0} (xs : List X) (i j : ℕ) (x y : X) → j ≢ i → slice_get (set xs i x) j ≡ Some y → slice_get xs j ≡ Some y
+slice_get-set_before xs i j x y other at =
+    slice_get-get_or xs j y (omega (arith, length-set xs i x, slice_get_within (set xs i x) j y at)) ∙ ap Some (sym (get_or-set_other xs i j x y other) ∙ get_or_from_slice_get (set xs i x) j y y at)
