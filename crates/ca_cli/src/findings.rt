@@ -63,7 +63,7 @@ pub fn surjective(alloc: Global, rule: &Rule) -> Result<Surjectivity, AllocError
     ensures { IfOk result (IsSurjectivity rule.now) }
 {
     let mut search = Search::new(alloc)?;
-    match search.run(alloc, rule)? {
+    match search.run(rule) {
         Outcome::Closed => Ok(Surjectivity::Sets(SetList::of(search.sets().to_vec(alloc)?))),
         Outcome::Orphan => Ok(Surjectivity::Orphan(Word::of(search.word().to_vec(alloc)?))),
     }

@@ -122,7 +122,7 @@ fn tally_of_numbers(
         let Ok(rule) = numbered(k, m, 0, first + u128::from(i)) else {
             unreachable!()
         };
-        tally.add(Verdicts::of(alloc, &mut search, &rule)?);
+        tally.add(Verdicts::of(&mut search, &rule));
     }
     Ok(tally)
 }
@@ -138,7 +138,7 @@ fn tally_of_draws(alloc: Global, k: u8, m: u8, seed: u64, count: u16) -> Result<
     let mut tally = Tally::new();
     for _i in 0..count {
         let rule = generator.rule(k, m);
-        tally.add(Verdicts::of(alloc, &mut search, &rule)?);
+        tally.add(Verdicts::of(&mut search, &rule));
     }
     Ok(tally)
 }

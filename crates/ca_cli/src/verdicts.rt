@@ -1,5 +1,5 @@
 //! What holds of a rule, without the evidence for it.
-ghost use Rattle.std.specs.Prelude.{IfOk, IsTrue, ◌↔◌};
+ghost use Rattle.std.specs.Prelude.{IsTrue, ◌↔◌};
 ghost use Rattle.word_image.specs.Rings.{IsConserving};
 ghost use Rattle.word_image.specs.Words.{IsSurjective};
 ghost use Rattle.ca_cli.specs.Summaries.{AreVerdicts};
@@ -9,7 +9,6 @@ use flux_conserve::{Keeping, conserve};
 use inverse_window::window;
 use orphan_search::{Outcome, Search};
 use pair_rank::Ranks;
-use std::alloc::{AllocError, Global};
 use word_image::Rule;
 
 /// The verdicts of a rule.
@@ -28,30 +27,30 @@ pub struct Verdicts {
 
 impl Verdicts {
     /// Decides all questions about a rule, by a search that may have run for others.
-    pub fn of(alloc: Global, search: &mut Search, rule: &Rule) -> Result<Verdicts, AllocError>
-        ensures { IfOk result (AreVerdicts rule.now) }
+    pub fn of(search: &mut Search, rule: &Rule) -> Verdicts
+        ensures { AreVerdicts rule.now result }
     {
         let ranks = Ranks::of(rule);
         let right = ahead_right(rule, &ranks).is_some();
         let left = ahead_left(rule, &ranks).is_some();
-        Ok(Verdicts {
-            surjective: is_surjective(alloc, search, rule)?,
+        Verdicts {
+            surjective: is_surjective(search, rule),
             injective: window(rule, &ranks).is_some(),
             right,
             left,
             both: right && left,
             conserving: is_conserving(rule),
-        })
+        }
     }
 }
 
 /// Whether every word has a preimage.
-fn is_surjective(alloc: Global, search: &mut Search, rule: &Rule) -> Result<bool, AllocError>
-    ensures { IfOk result (λ surjective. IsTrue surjective ↔ IsSurjective rule.now) }
+fn is_surjective(search: &mut Search, rule: &Rule) -> bool
+    ensures { IsTrue result ↔ IsSurjective rule.now }
 {
-    match search.run(alloc, rule)? {
-        Outcome::Closed => Ok(true),
-        Outcome::Orphan => Ok(false),
+    match search.run(rule) {
+        Outcome::Closed => true,
+        Outcome::Orphan => false,
     }
 }
 

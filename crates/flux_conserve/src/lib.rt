@@ -13,8 +13,8 @@
 //! which is phi(01) - phi(11). Rule 232 gives the majority of three cells. The ring 0 0 1 becomes
 //! 0 0 0, and no ring before it in the order of words loses or gains anything.
 //!
-//! [`conserve`] makes the walks' gains in time O(N m) and tests them on all windows in time O(N k).
-//! Only where they are no flux it lists rings, shorter ones first, until one doesn't keep its sum:
+//! [`conserve`] looks at the rings of one letter in time O(k m), then makes the walks' gains in time
+//! O(N m) and tests them on all windows in time O(N k). Only where they are no flux it lists rings, shorter ones first, until one doesn't keep its sum:
 //! at most 2 k^(2m-1), which is 8,192, each in time O(m^2). It takes no memory.
 #![tactic(auto)]
 

@@ -54,7 +54,7 @@ pub(crate) fn first_lossy_ring(rule: &Rule) -> SmallRing
 }
 
 /// The first ring of this many letters that doesn't keep its sum.
-fn first_lossy_of(rule: &Rule, count: u8) -> Option<SmallRing>
+pub(crate) fn first_lossy_of(rule: &Rule, count: u8) -> Option<SmallRing>
     requires some { 1 ≤ count }
     requires short { count ≤ 9 }
     ensures first { IfSome result (IsFirstLossyRing rule.now count) }

@@ -4,7 +4,7 @@ ghost use Rattle.word_image.specs.Rings.{IsConserving};
 ghost use Rattle.flux_conserve.specs.Keepings.{IsShown, has_flux};
 
 use crate::flows::{MOST_NODES, is_flux, walk_flows};
-use crate::rings::{SmallRing, first_lossy_ring};
+use crate::rings::{SmallRing, first_lossy_of, first_lossy_ring};
 use word_image::Rule;
 
 /// What shows that a rule is conserving, or that it isn't.
@@ -22,6 +22,10 @@ pub fn conserve(rule: &Rule) -> Keeping
     ensures conserving { IsTrue (has_flux result) ↔ IsConserving (λ a. a) rule.now }
     ensures shown { IsShown rule.now result }
 {
+    // Most rules change the sum of a ring of one letter.
+    if let Some(ring) = first_lossy_of(rule, 1) {
+        return Keeping::Ring(ring);
+    }
     let flows = walk_flows(rule);
     if is_flux(rule, &flows[..usize::from(rule.nodes())]) {
         Keeping::Flux(flows)

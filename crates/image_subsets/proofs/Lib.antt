@@ -1,4 +1,5 @@
 pub mod Unions
-pub mod Inserts
 pub mod Searches
 pub mod LeastWords
+pub mod MaskLists
+pub mod Steps

@@ -188,7 +188,6 @@ earlier_of h i (Some (p, a)) at = (IsLeastParent-search h i p a at).earlier
 pub IsTree-search : {r : LocalRule} {sets : List ℕ} {parents : List (Option (ℕ × ℕ))} {e : ℕ} → IsRule r → IsSearch r sets parents e
     → IsTree (record { sets = sets; parents = parents })
 IsTree-search {sets = sets} {parents = parents} rule h = record {
-  some = let root = state_at sets parents 0 h.queue.first h.queue.root in omega (arith, root.0);
   most = length-search-most rule h;
   one_each = h.one_each;
   earlier = earlier_of h;

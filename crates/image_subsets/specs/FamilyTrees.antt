@@ -9,9 +9,8 @@ pub record FamilyTree : Type 0 where
   pub sets : List ℕ
   pub parents : List (Option (ℕ × ℕ))
 
--- there are 1 to 65,536 sets; the first alone has no parent, and each parent stands before its set
+-- there are at most 65,536 sets; the first alone has no parent, and each parent stands before its set
 pub record IsTree (tree : FamilyTree) : Type 0 where
-  pub some : 1 ≤ length tree.sets
   pub most : length tree.sets ≤ 65536
   pub one_each : length tree.parents ≡ length tree.sets
   pub earlier : (i : ℕ) (way : Option (ℕ × ℕ)) → slice_get tree.parents i ≡ Some way → MatchOption way (i ≡ 0) (λ (p, a). p < i)

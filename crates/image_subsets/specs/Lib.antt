@@ -1,2 +1,4 @@
 pub mod FamilyTrees
+pub mod Masks
 pub mod Searches
+pub mod StepTables

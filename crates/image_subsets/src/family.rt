@@ -1,61 +1,86 @@
 //! The sets that are reached from the full one, in the order in which they are found.
 
-ghost use Rattle.std.specs.Prelude.{◌≡◌, ◌+◌, ◌*◌, ◌≤◌, ◌<◌, length, slice_index, slice_get, Some, MatchOption, false, IfOk};
+ghost use Rattle.std.specs.Prelude.{◌≡◌, ◌+◌, ◌*◌, ◌≤◌, ◌<◌, [], length, slice_index, slice_get, vec_len, vec_capacity, Some, MatchOption, false, IfOk};
 ghost use Rattle.image_subsets.specs.FamilyTrees.{IsFamilyTree};
 ghost use Rattle.image_subsets.specs.Searches.{IsExpanded};
+ghost use Rattle.image_subsets.specs.StepTables.{AreTables};
 
-use crate::sets::{full, step};
+use crate::masks::Masks;
+use crate::sets::full;
+use crate::step_tables::StepTables;
 use debruijn::Graph;
-use indexmap::IndexSet;
 use std::alloc::{AllocError, Global};
 use std::marker::Model;
 
-/// The family of a rule: the sets of last nodes in the order of their least words, and how each was
-/// found. It is seen as its sets and their parents.
+/// How many sets of at most 16 nodes there are.
+const SETS: usize = 65536;
+
+/// A family of sets: the sets of last nodes of a rule in the order of their least words, and how each was
+/// found. It is seen as its sets and their parents. All its room, below 1 MB, is taken when it is made.
 ///
 /// It is the subset construction, breadth first with letters ascending. One of s sets takes
-/// **O(s k N)** time for the N nodes and **O(s)** space; s is at most 2^N, so 65,536.
+/// **O(s k + 2^8 k)** time; s is at most 2^N for the N nodes, so 65,536.
 #[derive(Debug, Drop)]
 pub struct Family {
     // The sets, in the order in which they were found, with an index by set.
-    sets: IndexSet<u16>,
+    sets: Masks,
     // For each set the place and the letter from which it was found; none for the full set.
-    parents: Vec<Option<(u32, u8)>>,
+    parents: Vec<Option<(u16, u8)>>,
+    // The steps of the graph that was explored last.
+    tables: StepTables,
 }
 
 impl Model for Family {
+    ghost use Rattle.std.specs.Prelude.{◌≤◌, vec_capacity};
+    ghost use Rattle.image_subsets.specs.declared.family.TheConstants.{SETS};
     ghost use Rattle.image_subsets.specs.FamilyTrees.{FamilyTree, IsTree};
 
     ghost Value = { FamilyTree };
 
-    ghost view = { λ f. record { sets = f.sets.keys; parents = f.parents.items } };
+    ghost view = { λ f. record { sets = f.sets; parents = f.parents.items } };
 
-    ghost invariant = { λ f. IsTree (record { sets = f.sets.keys; parents = f.parents.items }) };
+    ghost invariant = { λ f. (SETS ≤ vec_capacity f.parents) × IsTree (record { sets = f.sets; parents = f.parents.items }) };
 }
 
 impl Family {
-    /// The family of the rule of this graph.
-    pub fn of(alloc: Global, graph: &Graph) -> Result<Family, AllocError>
-        ensures { IfOk result (IsFamilyTree graph.now) }
+    /// A family that has explored no graph: it has no sets.
+    pub fn new(alloc: Global) -> Result<Family, AllocError>
+        ensures { IfOk result (λ family. family.sets ≡ []) }
     {
-        let mut sets = IndexSet::new(alloc);
-        let mut parents = Vec::new(alloc);
-        sets.insert(full(graph))?;
-        parents.push(None)?;
+        Ok(Family {
+            sets: Masks::new(alloc)?,
+            parents: Vec::with_capacity(alloc, SETS)?,
+            tables: StepTables::new(alloc)?,
+        })
+    }
+
+    /// Makes it the family of the rule of this graph, whatever it was.
+    pub fn explore(&mut self, graph: &Graph)
+        ensures { IsFamilyTree graph.now self.new }
+    {
+        self.tables.fill(graph);
+        self.sets.clear();
+        self.parents.clear();
+        self.sets.insert(full(graph));
+        self.parents.push_reserved(None);
         let mut place = 0;
-        while (place as usize) < sets.len() {
-            if expand(graph, &mut sets, &mut parents, place)? {
+        while place < self.sets.len() {
+            if expand(
+                graph,
+                &self.tables,
+                &mut self.sets,
+                &mut self.parents,
+                place,
+            ) {
                 break;
             }
             place += 1;
         }
-        Ok(Family { sets, parents })
     }
 
-    /// How many sets there are, from 1 to 65,536.
+    /// How many sets there are: none before a graph is explored, and then from 1 to 65,536.
     pub fn len(&self) -> u32
         ensures len { result ≡ length self.now.sets }
-        ensures some { 1 ≤ result }
         ensures most { result ≤ 65536 }
     {
         self.sets.len() as u32
@@ -66,7 +91,14 @@ impl Family {
         requires { i < length self.now.sets }
         ensures { result ≡ slice_index self.now.sets i }
     {
-        self.sets[i as usize]
+        self.sets.at(i as usize)
+    }
+
+    /// The sets, each at its place.
+    pub fn sets(&self) -> &[u16]
+        ensures { result.now ≡ self.now.sets }
+    {
+        self.sets.as_slice()
     }
 
     /// The least place from which a step leads to the set at place i, and the least letter on which one
@@ -76,7 +108,10 @@ impl Family {
         ensures parent { slice_get self.now.parents i ≡ Some result }
         ensures earlier { MatchOption result (i ≡ 0) (λ (p, a). p < i) }
     {
-        self.parents[i as usize]
+        match self.parents[i as usize] {
+            Some((place, letter)) => Some((u32::from(place), letter)),
+            None => None,
+        }
     }
 }
 
@@ -84,23 +119,27 @@ impl Family {
 /// and answers whether it was.
 fn expand(
     graph: &Graph,
-    sets: &mut IndexSet<u16>,
-    parents: &mut Vec<Option<(u32, u8)>>,
-    place: u32,
-) -> Result<bool, AllocError>
-    requires place { place < length sets.old.keys }
-    requires search { IsExpanded graph.now sets.old.keys parents.old.items (place * graph.now.states) false }
-    ensures { IfOk result (IsExpanded graph.now sets.new.keys parents.new.items ((place + 1) * graph.now.states)) }
+    tables: &StepTables,
+    sets: &mut Masks,
+    parents: &mut Vec<Option<(u16, u8)>>,
+    place: usize,
+) -> bool
+    requires tables { AreTables graph.now tables.now }
+    requires place { place < length sets.old }
+    requires search { IsExpanded graph.now sets.old parents.old.items (place * graph.now.states) false }
+    requires room { SETS ≤ vec_capacity parents.old }
+    ensures search { IsExpanded graph.now sets.new parents.new.items ((place + 1) * graph.now.states) result }
+    ensures capacity { vec_capacity parents.new ≡ vec_capacity parents.old }
 {
-    let set = sets[place as usize];
+    let steps = tables.steps(sets.at(place));
     for letter in 0..graph.k() {
-        let after = step(graph, set, letter);
-        if sets.insert(after)? {
-            parents.push(Some((place, letter)))?;
+        let after = steps[usize::from(letter)];
+        if sets.insert(after) {
+            parents.push_reserved(Some((place as u16, letter)));
             if after == 0 {
-                return Ok(true);
+                return true;
             }
         }
     }
-    Ok(false)
+    false
 }

@@ -14,14 +14,17 @@
 //! Under rule 106 the family is 15, 13, 14, 9, 6, 5, 10, 1, 2, 12, 4, 8: no set is empty, so the rule is
 //! surjective.
 //!
-//! A family has at most 2^N sets for the N = k^(m - 1) nodes. One of s sets takes **O(s k N)** time and
-//! **O(s)** space.
+//! A family has at most 2^N sets for the N = k^(m - 1) nodes. One of s sets takes **O(s k)** time, and
+//! **O(2^8 k)** for the tables by which steps are looked up; its room is that of all 2^16 sets, taken once.
 #![tactic(auto)]
 
 mod family;
+mod masks;
 mod sets;
+mod step_tables;
 #[cfg(test)]
 mod tests;
 
 pub use family::Family;
 pub use sets::{full, step};
+pub use step_tables::StepTables;

@@ -21,7 +21,9 @@ fn the_word_01010_empties_the_sets_of_rule_110(rt: HostRuntime) -> Result<(), Fa
 #[test]
 fn rule_106_has_twelve_sets(rt: HostRuntime) -> Result<(), Fail> {
     let graph = Graph::of(&Rule::new(2, 3, -1, &[0, 1, 0, 1, 0, 1, 1, 0])?);
-    let family = Family::of(rt.alloc(), &graph)?;
+    let mut family = Family::new(rt.alloc())?;
+    assert_eq!(rt; family.len(), 0);
+    family.explore(&graph);
     // Each set with its parent.
     let want = [
         (15, None),

@@ -1,12 +1,15 @@
 //! The verdict, and what proves it.
 
-ghost use Rattle.std.specs.Prelude.{◌≡◌, ◌≤◌, ◌<◌, ◌↔◌, [], length, slice_index, IfOk, OnErr};
+ghost use Rattle.std.specs.Prelude.{◌≡◌, ◌≤◌, ◌<◌, ◌↔◌, [], length, slice_index, vec_capacity, IfOk};
 
 use debruijn::Graph;
 use image_subsets::Family;
 use std::alloc::{AllocError, Global};
 use std::marker::Model;
 use word_image::Rule;
+
+/// More letters than a least orphan has.
+const ROOM: usize = 65536;
 
 /// What a search came to.
 #[derive(Clone, Copy, Debug, PartialEq, Eq)]
@@ -18,24 +21,30 @@ pub enum Outcome {
 }
 
 /// A search for the least orphan, by the subset construction: breadth first through the sets of last
-/// nodes, with letters ascending. It is seen as what its last run left.
+/// nodes, with letters ascending. It is seen as what its last run left. All its room is taken when it is
+/// made.
 ///
-/// A run whose family has s sets takes **O(s k N)** time for the N nodes and **O(s)** space; s is at
-/// most 2^N, so 65,536.
+/// A run whose family has s sets takes **O(s k)** time; s is at most 2^N for the N nodes, so 65,536.
 #[derive(Debug, Drop)]
 pub struct Search {
+    // The family of the last run.
+    family: Family,
     // The least orphan of the last run; empty where it found none.
     word: Vec<u8>,
-    // The family of the last run; empty where it has the empty set.
-    sets: Vec<u16>,
+    // Whether the last run found every set of the family nonempty.
+    closed: bool,
 }
 
 impl Model for Search {
+    ghost use Rattle.std.specs.Prelude.{◌≤◌, [], vec_capacity, if◌then◌else◌};
+    ghost use Rattle.orphan_search.specs.declared.search.TheConstants.{ROOM};
     ghost use Rattle.orphan_search.specs.Verdicts.{Found};
 
     ghost Value = { Found };
 
-    ghost view = { λ s. record { word = s.word.items; sets = s.sets.items } };
+    ghost view = { λ s. record { word = s.word.items; sets = if s.closed then s.family.sets else [] } };
+
+    ghost invariant = { λ s. ROOM ≤ vec_capacity s.word };
 }
 
 impl Search {
@@ -47,28 +56,27 @@ impl Search {
         ensures { IfOk result IsNothing }
     {
         Ok(Search {
-            word: Vec::new(alloc),
-            sets: Vec::new(alloc),
+            family: Family::new(alloc)?,
+            word: Vec::with_capacity(alloc, ROOM)?,
+            closed: false,
         })
     }
 
     /// Decides whether every word has a preimage under the rule. Each run starts anew, whatever an
-    /// earlier one left; where there is not enough memory, word and sets are empty after it.
-    pub fn run(&mut self, alloc: Global, rule: &Rule) -> Result<Outcome, AllocError>
-        ensures verdict { IfOk result (λ outcome. IsVerdict rule.now outcome self.new) }
-        ensures exactly { IfOk result (λ outcome. (outcome ≡ Outcome.Closed) ↔ IsSurjective rule.now) }
-        ensures refused { OnErr result (IsNothing self.new) }
+    /// earlier one left.
+    pub fn run(&mut self, rule: &Rule) -> Outcome
+        ensures verdict { IsVerdict rule.now result self.new }
+        ensures exactly { (result ≡ Outcome.Closed) ↔ IsSurjective rule.now }
     {
         self.word.clear();
-        self.sets.clear();
-        let family = Family::of(alloc, &Graph::of(rule))?;
-        let last = family.len() - 1;
-        if family.set(last) == 0 {
-            self.word = least_word(alloc, &family, last)?;
-            return Ok(Outcome::Orphan);
+        self.family.explore(&Graph::of(rule));
+        let last = self.family.len() - 1;
+        self.closed = self.family.set(last) != 0;
+        if self.closed {
+            return Outcome::Closed;
         }
-        self.sets = all_sets(alloc, &family)?;
-        Ok(Outcome::Closed)
+        write_word(&self.family, last, &mut self.word);
+        Outcome::Orphan
     }
 
     /// After a run that answered `Orphan` the least orphan in the order of words, of at most 65,535
@@ -83,7 +91,7 @@ impl Search {
     pub fn sets(&self) -> &[u16]
         ensures { result.now ≡ self.now.sets }
     {
-        &self.sets
+        if self.closed { self.family.sets() } else { &[] }
     }
 }
 
@@ -91,30 +99,19 @@ ghost use Rattle.word_image.specs.LocalRules.{LocalRule};
 ghost use Rattle.word_image.specs.Families.{IsLeastWordOf};
 ghost use Rattle.image_subsets.specs.FamilyTrees.{IsFamilyTree};
 
-/// The least word of the set at this place: the letters on the way to it from parent to child.
-fn least_word(alloc: Global, family: &Family, at: u32) -> Result<Vec<u8>, AllocError>
-    requires { at < length family.now.sets }
-    ensures least { IfOk result (λ word. (r : LocalRule) → IsFamilyTree r family.now →
-        IsLeastWordOf r (slice_index family.now.sets at) word.items) }
-    ensures short { IfOk result (λ word. length word.items ≤ at) }
+/// Writes the least word of the set at this place: the letters on the way to it from parent to child.
+fn write_word(family: &Family, at: u32, word: &mut Vec<u8>)
+    requires set { at < length family.now.sets }
+    requires empty { word.old.items ≡ [] }
+    requires room { at ≤ vec_capacity word.old }
+    ensures least { (r : LocalRule) → IsFamilyTree r family.now → IsLeastWordOf r (slice_index family.now.sets at) word.new.items }
+    ensures short { length word.new.items ≤ at }
+    ensures capacity { vec_capacity word.new ≡ vec_capacity word.old }
 {
-    let mut letters = Vec::new(alloc);
     let mut place = at;
     while let Some((parent, letter)) = family.parent(place) {
-        letters.push(letter)?;
+        word.push_reserved(letter);
         place = parent;
     }
-    letters.reverse();
-    Ok(letters)
-}
-
-/// The sets of the family, in its order.
-fn all_sets(alloc: Global, family: &Family) -> Result<Vec<u16>, AllocError>
-    ensures { IfOk result (λ sets. sets.items ≡ family.now.sets) }
-{
-    let mut sets = Vec::new(alloc);
-    for i in 0..family.len() {
-        sets.push(family.set(i))?;
-    }
-    Ok(sets)
+    word.reverse();
 }

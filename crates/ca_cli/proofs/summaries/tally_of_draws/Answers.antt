@@ -9,7 +9,7 @@ loop-i-init c = ([], c.new-tally.ensures, refl, sample-begin c.args.k c.args.m c
 pub loop-i-preserved : goal.loop-i-preserved
 loop-i-preserved c =
     let sofar = c.loop-i.invariant in
-    let verdicts : AreVerdicts c.rule-rule.result c.in_ok-of.field-0 = search rules in (
+    let verdicts : AreVerdicts c.rule-rule.result c.of.result = search rules in (
       sofar.0 ++ c.rule-rule.result ∷ [],
       c.add.ensures sofar.0 c.rule-rule.result sofar.1 verdicts,
       length-append sofar.0 (c.rule-rule.result ∷ []) ∙ ap (λ n. n + 1) sofar.2,

@@ -29,7 +29,7 @@ add-requires c = (
 pub loop-i-preserved : goal.loop-i-preserved
 loop-i-preserved c =
     let sofar = survey_rules c.args.k c.args.m c.args.first c.loop-i.i in
-    let verdicts : AreVerdicts c.in-Ok.rule c.in_ok-of.field-0 = search rules in
+    let verdicts : AreVerdicts c.in-Ok.rule c.of.result = search rules in
     let rule = c.in-Ok.ensures.1 ∙ ap (λ i. numbered_rule c.args.k c.args.m (c.args.first + i)) c.from.ensures in
     let more = ap (λ (r : LocalRule). sofar ++ r ∷ []) rule ∙ sym (survey_rules-more c.args.k c.args.m c.args.first c.loop-i.i) in
     subst (λ rules. IsTally rules c.add.new.self) more (c.add.ensures sofar c.in-Ok.rule c.loop-i.invariant verdicts)

@@ -1,38 +1,71 @@
-use Rattle.std.proofs.Common.{◌^◌, ◌<◌, ap, ◌∙◌, subst, arith}
-use Rattle.word_image.specs.LocalRules.{node_count}
-use Rattle.image_subsets.proofs.Inserts.{IsInserted, IsInserted-insert_key}
-use Rattle.image_subsets.proofs.Searches.{IsSearch-expanding, IsExpanding-there, IsExpanding-new, EndsEmpty-push, set-below}
+use Rattle.std.proofs.Common.{◌≡◌, ℕ, ◌^◌, ◌<◌, List, slice_index, sym, ap, ◌∙◌, subst, subst₂, arith, vec_capacity}
+use Rattle.std.proofs.lemmas.List.{length_push}
+use Rattle.word_image.specs.LocalRules.{LocalRule, node_count}
+use Rattle.word_image.specs.Graphs.{IsStep}
+use Rattle.image_subsets.specs.Masks.{IsInserted}
+use Rattle.image_subsets.specs.StepTables.{Rows, AreTables}
+use Rattle.image_subsets.proofs.Steps.{HasRows-tables}
+use Rattle.image_subsets.proofs.Searches.{IsSearch-expanding, IsExpanding-there, IsExpanding-new, EndsEmpty-push, set-below, length-search-most}
 use Rattle.image_subsets.proofs.family.expand.Goals as goal
-use Rattle.image_subsets.proofs.family.expand.Goals.{then-branch+in_ok-push+else-after-eq0, else-branch}
+use Rattle.image_subsets.proofs.family.expand.Goals.{then-insert+else-after-eq0, else-insert}
 
-pub step-after-requires-clause-set : goal.step-after-requires-clause-set
-step-after-requires-clause-set c =
-    subst (λ s. s < 2 ^ node_count c.args.graph.now) c.loop-letter.invariant.here (set-below c.loop-letter.invariant.so_far c.args.place c.loop-letter.invariant.within)
+pub steps-steps-requires : goal.steps-steps-requires
+steps-steps-requires c =
+    HasRows-tables c.requires.tables c.at.result (subst (λ s. s < 2 ^ node_count c.args.graph.now) (sym c.at.ensures) (set-below c.requires.search.0 c.args.place c.requires.place))
 
-pub returns-then-after-eq0 : goal.returns-then-after-eq0
-returns-then-after-eq0 c =
-    let r = c.args.graph.now in
-    let sets = c.loop-letter.sets.keys in
-    let after = c.step-after.result in
-    let inserted = IsInserted-insert_key sets _ after _ c.in_ok-insert.ensures.added c.in_ok-insert.ensures.keys in
-    let new = subst (IsInserted sets c.insert.new.self.keys after) c.if-branch.true inserted in
-    let longer = IsSearch-expanding c.loop-letter.invariant after (omega arith) c.step-after.ensures.step new.0 in
-    let ways = c.in_ok-push.ensures.items in
-    rw (new.1, ways) ((_, longer), EndsEmpty-push sets after c.if-after-eq0.true)
+pub overflow_cast-place : goal.overflow_cast-place
+overflow_cast-place c = record { fits = omega (arith, length-search-most c.requires.tables.rule c.requires.search.0, c.requires.place) }
+
+-- where the next letter leads
+stepped : (r : LocalRule) (rows : Rows) (steps : List ℕ) (set here letter at end : ℕ)
+    → ((q : LocalRule) (a : ℕ) → AreTables q rows → set < 2 ^ node_count q → a < q.states → IsStep q set a (slice_index steps a))
+    → AreTables r rows → here < 2 ^ node_count r → set ≡ here → at ≡ letter → letter < end → end ≡ r.states → IsStep r here letter (slice_index steps at)
+stepped r rows steps set here letter at end leads tables within same lane before states =
+    subst₂ (λ s i. IsStep r s letter (slice_index steps i)) same (sym lane)
+    (leads r letter tables (subst (λ s. s < 2 ^ node_count r) (sym same) within) (omega (arith, before, states)))
+
+pub push_reserved-requires : goal.push_reserved-requires
+push_reserved-requires c =
+    let search = c.loop-letter.invariant.search in
+    let step = stepped _ _ _ _ _ _ _ _ c.steps-steps.ensures c.requires.tables (set-below c.requires.search.0 c.args.place c.requires.place) c.at.ensures c.from.ensures
+    c.loop-letter-test.true c.k-letter-end.ensures.states in
+    let new = subst (IsInserted c.loop-letter.sets c.insert.new.self _) c.if-insert.true c.insert.ensures in
+    let longer = IsSearch-expanding search _ (omega (arith, c.loop-letter-test.true, c.k-letter-end.ensures.states)) step new.0 in
+    omega (
+      arith,
+      length-search-most c.requires.tables.rule longer,
+      length_push c.loop-letter.sets (slice_index c.steps-steps.result c.from.result),
+      search.so_far.one_each,
+      c.loop-letter.invariant.capacity,
+      c.requires.room,
+    )
+
+pub returns-then-after-eq0-clause-search : goal.returns-then-after-eq0-clause-search
+returns-then-after-eq0-clause-search c =
+    let step = stepped _ _ _ _ _ _ _ _ c.steps-steps.ensures c.requires.tables (set-below c.requires.search.0 c.args.place c.requires.place) c.at.ensures c.from.ensures
+    c.loop-letter-test.true c.k-letter-end.ensures.states in
+    let new = subst (IsInserted c.loop-letter.sets c.insert.new.self _) c.if-insert.true c.insert.ensures in
+    let longer = IsSearch-expanding c.loop-letter.invariant.search _ (omega (arith, c.loop-letter-test.true, c.k-letter-end.ensures.states)) step new.0 in
+    rw (new.1, c.push_reserved.ensures.items) ((_, longer), EndsEmpty-push c.loop-letter.sets _ c.if-after-eq0.true)
 
 pub loop-letter-preserved : goal.loop-letter-preserved
 loop-letter-preserved c =
-    let r = c.args.graph.now in
-    let sets = c.loop-letter.sets.keys in
-    let after = c.step-after.result in
-    let inserted = IsInserted-insert_key sets _ after _ c.in_ok-insert.ensures.added c.in_ok-insert.ensures.keys in
-    elim c.if-branch.branch [
-      | then-branch+in_ok-push+else-after-eq0 w ↦
-          let new = subst (IsInserted sets c.insert.new.self.keys after) w.if-branch.true inserted in
-          let ways = ap (λ v. v.items) w.parents-is ∙ w.in_ok-push.ensures.items in
-          rw (new.1, ways) (IsExpanding-new c.loop-letter.invariant after (omega arith) c.step-after.ensures.step new.0 w.if-after-eq0.false)
-      | else-branch w ↦
-          let there = subst (IsInserted sets c.insert.new.self.keys after) w.if-branch.false inserted in
-          let ways = ap (λ v. v.items) w.parents-is in
-          rw (there.1, ways) (IsExpanding-there c.loop-letter.invariant after (omega arith) c.step-after.ensures.step there.0)
+    let search = c.loop-letter.invariant.search in
+    let step = stepped _ _ _ _ _ _ _ _ c.steps-steps.ensures c.requires.tables (set-below c.requires.search.0 c.args.place c.requires.place) c.at.ensures c.from.ensures
+    c.loop-letter-test.true c.k-letter-end.ensures.states in
+    let below : c.loop-letter.letter < c.args.graph.now.states = omega (arith, c.loop-letter-test.true, c.k-letter-end.ensures.states) in
+    elim c.if-insert.branch [
+      | then-insert+else-after-eq0 w ↦
+          let new = subst (IsInserted c.loop-letter.sets c.insert.new.self _) w.if-insert.true c.insert.ensures in
+          record {
+            search = rw (new.1, ap (λ v. v.items) w.parents-is ∙ w.push_reserved.ensures.items)
+                (IsExpanding-new search _ below step new.0 w.if-after-eq0.false);
+            capacity = ap vec_capacity w.parents-is ∙ w.push_reserved.ensures.capacity ∙ c.loop-letter.invariant.capacity;
+          }
+      | else-insert w ↦
+          let there = subst (IsInserted c.loop-letter.sets c.insert.new.self _) w.if-insert.false c.insert.ensures in
+          record {
+            search = rw (there.1, ap (λ v. v.items) w.parents-is) (IsExpanding-there search _ below step there.0);
+            capacity = ap vec_capacity w.parents-is ∙ c.loop-letter.invariant.capacity;
+          }
     ]

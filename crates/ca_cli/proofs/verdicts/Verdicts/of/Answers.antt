@@ -5,7 +5,7 @@ use Rattle.ca_cli.proofs.verdicts.Verdicts.of.Goals.{then-right, else-right}
 
 pub returns : goal.returns
 returns c = record {
-  surjective = c.in_ok-is_surjective.ensures;
+  surjective = c.is_surjective.ensures;
   injective = rw c.is_some.ensures c.window.ensures.injective;
   right = rw c.is_some-right.ensures c.ahead_right.ensures.closing;
   left = rw c.is_some-left.ensures c.ahead_left.ensures.closing;

@@ -1,9 +1,29 @@
-use Rattle.std.proofs.Common.{◌<◌, length, Some, sym, ap, ◌∙◌, arith}
+use Rattle.std.proofs.Common.{◌≡◌, ℕ, ◌<◌, length, get_or, Option, Some, None, sym, ap, ◌∙◌, subst, arith}
+use Rattle.std.specs.List.{slice_get}
 use Rattle.std.proofs.lemmas.Option.{slice_get-get_or}
+use Rattle.image_subsets.specs.FamilyTrees.{FamilyTree, IsTree}
 use Rattle.image_subsets.proofs.family.Family.parent.Goals as goal
 
-pub returns-clause-earlier : goal.returns-clause-earlier
-returns-clause-earlier c =
-    let ways = c.self.inside.parents.items in
-    let within : c.args.i < length ways = omega (arith, c.self.invariant.one_each, ap (λ tree. length tree.sets) c.self.view_is) in
-    c.self.invariant.earlier c.args.i c.index.result.now (slice_get-get_or ways c.args.i c.index.result.now within ∙ ap Some (sym c.index.ensures))
+-- what the index reads
+read : (tree now : FamilyTree) (i : ℕ) (way : Option (ℕ × ℕ)) → tree ≡ now → IsTree tree → i < length now.sets → way ≡ get_or tree.parents i way → slice_get tree.parents i ≡ Some way
+read tree now i way same h within at =
+    let inside : i < length tree.parents = omega (arith, h.one_each, ap (λ t. length t.sets) same, within) in
+    slice_get-get_or tree.parents i way inside ∙ ap Some (sym at)
+
+pub returns-in-Some-clause-earlier : goal.returns-in-Some-clause-earlier
+returns-in-Some-clause-earlier c =
+    let tree = c.self.invariant.1 in
+    let at = read _ _ c.args.i c.index.result.now c.self.view_is tree c.requires c.index.ensures in
+    let earlier : c.in-Some.place < c.args.i = tree.earlier c.args.i (Some (c.in-Some.place, c.in-Some.letter)) (at ∙ ap Some c.in-Some.is) in
+    omega (arith, c.from.ensures, earlier)
+
+pub returns-in-None-clause-parent : goal.returns-in-None-clause-parent
+returns-in-None-clause-parent c =
+    let at = read _ _ c.args.i c.index.result.now c.self.view_is c.self.invariant.1 c.requires c.index.ensures in
+    subst (λ t. slice_get t.parents c.args.i ≡ Some None) c.self.view_is (at ∙ ap Some c.in-None.is)
+
+pub returns-in-None-clause-earlier : goal.returns-in-None-clause-earlier
+returns-in-None-clause-earlier c =
+    let tree = c.self.invariant.1 in
+    let at = read _ _ c.args.i c.index.result.now c.self.view_is tree c.requires c.index.ensures in
+    tree.earlier c.args.i None (at ∙ ap Some c.in-None.is)

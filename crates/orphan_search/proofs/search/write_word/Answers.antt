@@ -4,7 +4,7 @@ use Rattle.std.proofs.lemmas.Option.{get_or_from_slice_get}
 use Rattle.word_image.specs.Graphs.{full_set}
 use Rattle.word_image.specs.Families.{IsLeastWordOf}
 use Rattle.image_subsets.proofs.LeastWords.{IsLeastWordOf-parent, IsLeastWordOf-full}
-use Rattle.orphan_search.proofs.search.least_word.Goals as goal
+use Rattle.orphan_search.proofs.search.write_word.Goals as goal
 
 -- one letter more, before the others
 letter_before : (v letters longer : List ℕ) (a : ℕ) → longer ≡ letters ++ a ∷ [] → (v ++ a ∷ []) ++ reverse letters ≡ v ++ reverse longer
@@ -13,9 +13,9 @@ letter_before v letters longer a more =
 
 pub loop-parent-preserved : goal.loop-parent-preserved
 loop-parent-preserved c =
-    let letters = c.loop-parent.letters.items in
+    let letters = c.loop-parent.word.items in
     let place = c.loop-parent.place in
-    let more = c.in_ok-push.ensures.items in
+    let more = c.push_reserved.ensures.items in
     let earlier : c.in-Some.parent < place = c.in-Some.ensures.earlier in
     let within : place < length c.args.family.now.sets = omega (arith, c.loop-parent.invariant.short) in
     record {
@@ -24,6 +24,7 @@ loop-parent-preserved c =
           let parent = tree.parents place (Some (c.in-Some.parent, c.in-Some.letter)) c.in-Some.ensures.parent in
           subst (IsLeastWordOf r (slice_index c.args.family.now.sets c.args.at)) (letter_before v letters _ c.in-Some.letter more)
           (c.loop-parent.invariant.least r tree (v ++ c.in-Some.letter ∷ []) (IsLeastWordOf-parent tree.rule tree.family within parent v first));
+      capacity = c.push_reserved.ensures.capacity ∙ c.loop-parent.invariant.capacity;
     }
 
 pub returns-clause-least : goal.returns-clause-least

@@ -1,15 +1,16 @@
-use Rattle.std.proofs.Common.{ℕ, ◌+◌, ◌≤◌, List, ◌++◌, length, slice_index, reverse}
+use Rattle.std.proofs.Common.{◌≡◌, ℕ, ◌+◌, ◌≤◌, List, ◌++◌, length, slice_index, reverse, vec_capacity}
 use Rattle.word_image.specs.LocalRules.{LocalRule}
 use Rattle.word_image.specs.Families.{IsLeastWordOf}
 use Rattle.image_subsets.specs.FamilyTrees.{IsFamilyTree}
-use Rattle.orphan_search.proofs.search.least_word.Given as goal
+use Rattle.orphan_search.proofs.search.write_word.Given as goal
 
 -- the letters so far, the last one first, complete the least word of the place
 abbrev pub invariant-loop-parent : goal.invariant-loop-parent
 invariant-loop-parent l = record {
-  short : length l.letters.items + l.place ≤ l.at;
+  short : length l.word.items + l.place ≤ l.at;
   least : (r : LocalRule) → IsFamilyTree r l.family → (v : List ℕ) → IsLeastWordOf r (slice_index l.family.sets l.place) v
-      → IsLeastWordOf r (slice_index l.family.sets l.at) (v ++ reverse l.letters.items);
+      → IsLeastWordOf r (slice_index l.family.sets l.at) (v ++ reverse l.word.items);
+  capacity : vec_capacity l.word ≡ vec_capacity l.initial.word;
 }
 
 abbrev pub decreases-loop-parent : goal.decreases-loop-parent

@@ -1,0 +1,168 @@
+-- Steps of sets, part by part, and the tables that are made of them.
+use Rattle.std.proofs.Common.{◌≡◌, ℕ, ◌+◌, ◌-◌, ◌*◌, ◌/◌, ◌%◌, ◌^◌, ◌<◌, List, [], ◌∷◌, ◌++◌, length, map, get_or, slice_index, replicate, min, inl, inr, bit_or, refl, sym, ap, ap₂, ◌∙◌, subst, subst₂, arith, ⊎_elim}
+use Rattle.std.specs.Simd.Lanes.{zip2}
+use Rattle.std.specs.Int.Bits.{or_shifted_r}
+use Rattle.std.proofs.Math.Pow.{pow_mono}
+use Rattle.std.proofs.Math.Nat.{mul-lt-mul_of_pos_right, zero-mul, one-mul, mul-one, mul_comm, add-mul, mod-add-div}
+use Rattle.std.proofs.lemmas.Bool.{cases_lt}
+use Rattle.std.proofs.lemmas.List.{get_or_append_left, get_or_default, get_or-replicate, get_or-append-add, length-append, length-map, get_or-map}
+use Rattle.std.proofs.lemmas.Nat.{pow_pos, pow-add, or_lt, div_below}
+use Rattle.std.proofs.lemmas.Simd.{get_or-zip2, length-zip2}
+use Rattle.word_image.specs.LocalRules.{LocalRule, IsRule, node_count}
+use Rattle.word_image.specs.Graphs.{IsStep, next, label}
+use Rattle.word_image.proofs.laws.Bits.{IsBitSet-or, IsBitSet-zero, IsBitSet-pow}
+use Rattle.debruijn.specs.Ends.{IsEnds}
+use Rattle.image_subsets.specs.StepTables.{AreSteps, Rows, AreTables, HasRows}
+
+-- no step leads from the empty set
+pub IsStep-empty : (r : LocalRule) (a : ℕ) → IsStep r 0 a 0
+IsStep-empty r a = record {
+  within = pow_pos (node_count r);
+  nodes = λ v inside. (
+    (λ some. absurd (IsBitSet-zero v some)),
+    (λ (u, b, node, letter, present, labelled, ends). absurd (IsBitSet-zero u present)),
+  );
+}
+
+-- a step of a union is the union of the steps
+pub IsStep-or : {r : LocalRule} {s t a p q : ℕ} → IsStep r s a p → IsStep r t a q → IsStep r (bit_or s t) a (bit_or p q)
+IsStep-or {r} {s} {t} {a} {p} {q} first second = record {
+  within = or_lt (node_count r) p q first.within second.within;
+  nodes = λ v inside. (
+    (λ some. ⊎_elim
+        (λ here. let (u, b, node, letter, present, labelled, ends) = (first.nodes v inside).0 here in
+        (u, b, node, letter, (IsBitSet-or s t u).1 (inl present), labelled, ends))
+        (λ there. let (u, b, node, letter, present, labelled, ends) = (second.nodes v inside).0 there in
+        (u, b, node, letter, (IsBitSet-or s t u).1 (inr present), labelled, ends))
+        ((IsBitSet-or p q v).0 some)),
+    (λ (u, b, node, letter, present, labelled, ends). (IsBitSet-or p q v).1 (⊎_elim
+        (λ here. inl ((first.nodes v inside).1 (u, b, node, letter, here, labelled, ends)))
+        (λ there. inr ((second.nodes v inside).1 (u, b, node, letter, there, labelled, ends)))
+        ((IsBitSet-or s t u).0 present))),
+  );
+}
+
+-- a step of one node leads to the ends of its edges
+pub IsStep-node : {r : LocalRule} {u a ends : ℕ} → u < node_count r → IsEnds r u a ends → IsStep r (2 ^ u) a ends
+IsStep-node {r} {u} {a} {ends} node h = record {
+  within = h.within;
+  nodes = λ v inside. (
+    (λ some. let (b, letter, labelled, leads) = (h.nodes v inside).0 some in (u, b, node, letter, (IsBitSet-pow u u).1 refl, labelled, leads)),
+    (λ (w, b, below, letter, present, labelled, leads).
+        let same : w ≡ u = (IsBitSet-pow u w).0 present in
+        (h.nodes v inside).1 (b, letter, subst (λ x. label r x b ≡ a) same labelled, subst (λ x. next r x b ≡ v) same leads)),
+  );
+}
+
+-- the empty set alone
+pub AreSteps-empty : {r : LocalRule} → IsRule r → (first count : ℕ) → count ≡ 0 → AreSteps r first count (replicate 16 0 ∷ [])
+AreSteps-empty {r} rule first count none =
+    let one : 2 ^ count ≡ 1 = ap (λ n. 2 ^ n) none in
+    let first_row = λ (x : ℕ) (below : x < 2 ^ count). let zeroth : x ≡ 0 = omega arith in zeroth in
+    record {
+      long = sym one;
+      wide = λ x below. ap (λ i. length {A = ℕ} (get_or (replicate 16 0 ∷ []) i [])) (first_row x below);
+      steps = λ x a below letter.
+          let zeroth : x ≡ 0 = first_row x below in
+          let set : 0 ≡ x * 2 ^ first = sym (ap (λ i. i * 2 ^ first) zeroth ∙ zero-mul (2 ^ first)) in
+          let entry : 0 ≡ slice_index (get_or (replicate 16 0 ∷ []) x []) a =
+          sym (ap (λ i. slice_index (get_or (replicate 16 0 ∷ []) i []) a) zeroth ∙ get_or-replicate 16 a 0 0 (omega (arith, rule.shape.most_states))) in
+          subst₂ (λ s t. IsStep r s a t) set entry (IsStep-empty r a);
+    }
+
+-- the set of x with one node more
+upper_set : (y count first u : ℕ) → u ≡ first + count → y < 2 ^ count → bit_or (y * 2 ^ first) (2 ^ u) ≡ (2 ^ count + y) * 2 ^ first
+upper_set y count first u last below =
+    let top : 2 ^ u ≡ 2 ^ count * 2 ^ first = ap (λ n. 2 ^ n) last ∙ pow-add 2 first count ∙ mul_comm (2 ^ first) (2 ^ count) in
+    let small : y * 2 ^ first < 2 ^ u = subst (λ n. y * 2 ^ first < n) (sym top) (mul-lt-mul_of_pos_right below (pow_pos first)) in
+    let spread : (2 ^ count + y) * 2 ^ first ≡ 2 ^ count * 2 ^ first + y * 2 ^ first = add-mul (2 ^ count) y (2 ^ first) in
+    ap (bit_or (y * 2 ^ first)) (sym (one-mul (2 ^ u))) ∙ or_shifted_r 1 u (y * 2 ^ first) small ∙ omega (arith, top, spread)
+
+-- the row of the set of x with one node more
+upper_row : (rows : List (List ℕ)) (ends : List ℕ) (x y : ℕ) → x ≡ length rows + y → y < length rows
+    → get_or (rows ++ map (λ row. zip2 bit_or row ends) rows) x [] ≡ zip2 bit_or (get_or rows y []) ends
+upper_row rows ends x y at below =
+    ap (λ i. get_or (rows ++ map (λ row. zip2 bit_or row ends) rows) i []) at
+    ∙ get_or-append-add rows (map (λ row. zip2 bit_or row ends) rows) y []
+    ∙ get_or-map (λ row. zip2 bit_or row ends) rows y [] [] below
+
+-- one node more
+pub AreSteps-double : {r : LocalRule} {first count : ℕ} {rows : List (List ℕ)} → IsRule r → AreSteps r first count rows → (u : ℕ) (ends : List ℕ) → u ≡ first + count → u < node_count r
+    → length ends ≡ 16 → ((a : ℕ) → a < r.states → IsEnds r u a (slice_index ends a))
+    → AreSteps r first (count + 1) (rows ++ map (λ row. zip2 bit_or row ends) rows)
+AreSteps-double {r} {first} {count} {rows} rule h u ends last node wide leads =
+    let more = λ (row : List ℕ). zip2 bit_or row ends in
+    let twice : 2 ^ (count + 1) ≡ 2 ^ count + 2 ^ count = pow-add 2 count 1 ∙ omega arith in
+    let long = h.long in
+    record {
+      long = length-append rows (map more rows) ∙ omega (arith, length-map rows more, long, twice);
+      wide = λ x below. ⊎_elim
+          (λ before. ap length (get_or_append_left rows (map more rows) [] x (omega (arith, before, long))) ∙ h.wide x before)
+          (λ past.
+          let y = x - 2 ^ count in
+          let inside : y < 2 ^ count = omega (arith, below, past, twice) in
+          ap length (upper_row rows ends x y (omega (arith, past, long)) (omega (arith, inside, long)))
+          ∙ length-zip2 bit_or (get_or rows y []) ends (h.wide y inside ∙ sym wide) ∙ h.wide y inside)
+          (cases_lt x (2 ^ count));
+      steps = λ x a below letter. ⊎_elim
+          (λ before. subst (λ row. IsStep r (x * 2 ^ first) a (slice_index row a))
+          (sym (get_or_append_left rows (map more rows) [] x (omega (arith, before, long)))) (h.steps x a before letter))
+          (λ past.
+          let y = x - 2 ^ count in
+          let inside : y < 2 ^ count = omega (arith, below, past, twice) in
+          let row = upper_row rows ends x y (omega (arith, past, long)) (omega (arith, inside, long)) in
+          let few : a < 16 = omega (arith, rule.shape.most_states, letter) in
+          let entry = ap (λ l. slice_index l a) row ∙ get_or-zip2 bit_or (get_or rows y []) ends a 0 0 0 (omega (arith, h.wide y inside)) (omega (arith, wide)) in
+          let set : bit_or (y * 2 ^ first) (2 ^ u) ≡ x * 2 ^ first = upper_set y count first u last inside ∙ ap (λ i. i * 2 ^ first) (omega (arith, past)) in
+          subst₂ (λ s t. IsStep r s a t) set (sym entry) (IsStep-or (h.steps y a inside letter) (IsStep-node node (leads a letter))))
+          (cases_lt x (2 ^ count));
+    }
+
+-- the places of a set in the tables
+low_below : (n set : ℕ) → set < 2 ^ n → set % 256 < 2 ^ min 8 n
+low_below n set within = ⊎_elim
+    (λ few.
+    let all : min 8 n ≡ n = omega arith in
+    subst (λ i. set % 256 < 2 ^ i) (sym all) (omega (arith, within, mod-add-div set 256)))
+    (λ many.
+    let eight : min 8 n ≡ 8 = omega arith in
+    subst (λ i. set % 256 < 2 ^ i) (sym eight) (omega arith))
+    (cases_lt n 8)
+
+high_below : (n set : ℕ) → set < 2 ^ n → set / 256 < 2 ^ (n - 8)
+high_below n set within = ⊎_elim
+    (λ few.
+    let none : n - 8 ≡ 0 = omega arith in
+    let small : set < 1 * 256 = omega (arith, within, pow_mono {i = n} {j = 8} (omega arith)) in
+    subst (λ i. set / 256 < 2 ^ i) (sym none) (div_below set 256 1 (omega arith) small))
+    (λ many.
+    let parts : 2 ^ n ≡ 2 ^ (n - 8) * 256 = ap (λ i. 2 ^ i) (omega arith) ∙ pow-add 2 (n - 8) 8 in
+    div_below set 256 (2 ^ (n - 8)) (omega arith) (subst (λ i. set < i) parts within))
+    (cases_lt n 8)
+
+-- the tables have rows for each set of nodes
+pub HasRows-tables : {r : LocalRule} {rows : Rows} → AreTables r rows → (set : ℕ) → set < 2 ^ node_count r → HasRows rows set
+HasRows-tables {r} h set within = record {
+  low = subst (λ n. set % 256 < n) (sym h.low.long) (low_below (node_count r) set within);
+  high = subst (λ n. set / 256 < n) (sym h.high.long) (high_below (node_count r) set within);
+}
+
+-- a step by two look-ups
+pub IsStep-tables : {r : LocalRule} {rows : Rows} → AreTables r rows → (set a low high : ℕ) (first second : List ℕ) → set < 2 ^ node_count r → a < r.states
+    → low ≡ set % 256 → high ≡ set / 256 → first ≡ get_or rows.low low first → second ≡ get_or rows.high high second
+    → IsStep r set a (slice_index (zip2 bit_or first second) a)
+IsStep-tables {r} {rows} h set a low high first second within letter lower upper at_first at_second =
+    let n = node_count r in
+    let below_low : low < 2 ^ min 8 n = subst (λ x. x < 2 ^ min 8 n) (sym lower) (low_below n set within) in
+    let below_high : high < 2 ^ (n - 8) = subst (λ x. x < 2 ^ (n - 8)) (sym upper) (high_below n set within) in
+    let small : low < 2 ^ 8 = omega (arith, lower) in
+    let parts : set % 256 + 256 * (set / 256) ≡ set = mod-add-div set 256 in
+    let whole : bit_or (low * 2 ^ 0) (high * 2 ^ 8) ≡ set =
+    ap (λ l. bit_or l (high * 2 ^ 8)) (mul-one low) ∙ or_shifted_r high 8 low small ∙ omega (arith, parts, lower, upper) in
+    let few : a < 16 = omega (arith, h.rule.shape.most_states, letter) in
+    let one : first ≡ get_or rows.low low [] = at_first ∙ get_or_default rows.low low first [] (omega (arith, below_low, h.low.long)) in
+    let two : second ≡ get_or rows.high high [] = at_second ∙ get_or_default rows.high high second [] (omega (arith, below_high, h.high.long)) in
+    let entry = get_or-zip2 bit_or first second a 0 0 0
+    (omega (arith, few, ap length one, h.low.wide low below_low)) (omega (arith, few, ap length two, h.high.wide high below_high)) in
+    subst₂ (λ s t. IsStep r s a t) whole (sym (entry ∙ ap₂ (λ l h. bit_or (slice_index l a) (slice_index h a)) one two))
+    (IsStep-or (h.low.steps low a below_low letter) (h.high.steps high a below_high letter))

@@ -1,0 +1,45 @@
+use Rattle.std.proofs.Common.{◌≡◌, [], ◌∷◌, ◌++◌, None, true, false, Bool, List, ℕ, ap, ◌∙◌, subst, arith, Contains}
+use Rattle.std.proofs.Math.Nat.{mul-le-mul_right}
+use Rattle.image_subsets.specs.Masks.{IsInserted}
+use Rattle.image_subsets.specs.Searches.{IsExpanded}
+use Rattle.image_subsets.proofs.Searches.{IsExpanded-start, IsFamilyTree-closed, IsFamilyTree-stopped, length-search-le, IsTree-search}
+use Rattle.image_subsets.proofs.family.Family.explore.Goals as goal
+
+-- the first set is put into an empty list
+first_set : (old new : List ℕ) (set : ℕ) (added : Bool) → old ≡ [] → IsInserted old new set added → new ≡ set ∷ []
+first_set old new set true none h = h.1 ∙ ap (λ l. l ++ set ∷ []) none
+first_set old new set false none (has, same) = absurd (let (i, below, at) = subst (λ l. Contains l set) none has in omega (arith, below))
+
+pub loop-place-init : goal.loop-place-init
+loop-place-init c =
+    let r = c.args.graph.now in
+    let sets = first_set _ _ _ _ c.clear.ensures c.insert.ensures ∙ ap (λ s. s ∷ []) c.full.ensures.set in
+    let parents = c.push_reserved.ensures.items ∙ ap (λ l. l ++ None ∷ []) c.clear-2.ensures.items in
+    record {
+      tables = c.fill.ensures;
+      search = rw (sets, parents) (IsExpanded-start c.full.ensures.rule);
+      capacity = omega (arith, c.push_reserved.ensures.capacity, c.clear-2.ensures.capacity, c.self.invariant.0);
+    }
+
+pub loop-place-smaller : goal.loop-place-smaller
+loop-place-smaller c = omega (arith, length-search-le c.loop-place.invariant.search.0, c.loop-place-test.true, c.len.ensures)
+
+pub invariant_of-self : goal.invariant_of-self
+invariant_of-self c = (c.loop-place.invariant.capacity, IsTree-search c.full.ensures.rule c.loop-place.invariant.search.0)
+
+pub returns-after-loop-place : goal.returns-after-loop-place
+returns-after-loop-place c =
+    let search = c.loop-place.invariant.search in
+    IsFamilyTree-closed c.full.ensures.rule search.0 (mul-le-mul_right c.args.graph.now.states (omega (arith, c.loop-place-test.false, c.len.ensures))) search.1
+
+pub invariant_of-self-then-expand : goal.invariant_of-self-then-expand
+invariant_of-self-then-expand c =
+    let stopped = subst (IsExpanded c.args.graph.now c.expand.new.sets c.expand.new.parents.items _) c.if-expand.true c.expand.ensures.search in (
+      omega (arith, c.expand.ensures.capacity, c.loop-place.invariant.capacity),
+      IsTree-search c.full.ensures.rule stopped.0.1,
+    )
+
+pub returns-then-expand : goal.returns-then-expand
+returns-then-expand c =
+    let stopped = subst (IsExpanded c.args.graph.now c.expand.new.sets c.expand.new.parents.items _) c.if-expand.true c.expand.ensures.search in
+    IsFamilyTree-stopped c.full.ensures.rule stopped.0.1 stopped.1

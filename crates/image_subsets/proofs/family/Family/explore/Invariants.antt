@@ -1,0 +1,18 @@
+use Rattle.std.proofs.Common.{◌≤◌, ◌-◌, ◌*◌, ◌^◌, false, vec_capacity}
+use Rattle.word_image.specs.LocalRules.{node_count}
+use Rattle.image_subsets.specs.declared.family.TheConstants.{SETS}
+use Rattle.image_subsets.specs.Searches.{IsExpanded}
+use Rattle.image_subsets.specs.StepTables.{AreTables}
+use Rattle.image_subsets.proofs.family.Family.explore.Given as goal
+
+-- the steps from the first places are followed
+abbrev pub invariant-loop-place : goal.invariant-loop-place
+invariant-loop-place l = record {
+  tables : AreTables l.graph l.self-inside.tables;
+  search : IsExpanded l.graph l.self-inside.sets l.self-inside.parents.items (l.place * l.graph.states) false;
+  capacity : SETS ≤ vec_capacity l.self-inside.parents;
+}
+
+-- how many sets may still come
+abbrev pub decreases-loop-place : goal.decreases-loop-place
+decreases-loop-place l = 2 ^ node_count l.graph - l.place

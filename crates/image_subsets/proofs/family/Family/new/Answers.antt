@@ -1,0 +1,14 @@
+use Rattle.std.proofs.Common.{[], arith, refl}
+use Rattle.std.proofs.lemmas.Option.{none-some}
+use Rattle.image_subsets.specs.FamilyTrees.{IsTree}
+use Rattle.image_subsets.proofs.family.Family.new.Goals as goal
+
+-- no set at all
+IsTree-none : IsTree (record { sets = []; parents = [] })
+IsTree-none = record { most = omega arith; one_each = refl; earlier = λ i way at. absurd (none-some way at) }
+
+pub invariant_of-result : goal.invariant_of-result
+invariant_of-result c = (
+  omega (arith, c.in_ok-with_capacity.ensures.exact),
+  rw (c.in_ok-new.ensures, c.in_ok-with_capacity.ensures.items) IsTree-none,
+)

@@ -1,0 +1,110 @@
+//! Steps of sets by two look-ups, one by the lower and one by the upper eight bits.
+
+ghost use Rattle.std.specs.Prelude.{◌≡◌, ◌+◌, ◌-◌, ◌*◌, ◌^◌, ◌<◌, ◌≤◌, ℕ, ◌++◌, map, length, slice_index, vec_len, vec_capacity, IfOk};
+ghost use Rattle.std.specs.Int.Bits.{bit_or};
+ghost use Rattle.std.specs.Simd.Lanes.{zip2};
+ghost use Rattle.word_image.specs.LocalRules.{LocalRule, IsRule, node_count};
+ghost use Rattle.word_image.specs.Graphs.{IsStep};
+ghost use Rattle.debruijn.specs.Ends.{IsEnds};
+ghost use Rattle.image_subsets.specs.StepTables.{AreSteps, AreTables, HasRows};
+
+use debruijn::Graph;
+use std::alloc::{AllocError, Global};
+use std::marker::Model;
+use std::simd::u16x16;
+
+/// How many sets of eight nodes there are.
+const ROWS: usize = 256;
+
+/// The steps of all sets of at most eight nodes on all letters, one lane a letter, so that a step of a set
+/// is the union of two rows. All room, 16 KiB, is taken when it is made.
+#[derive(Debug, Drop)]
+pub struct StepTables {
+    // The steps of the sets of the nodes 0 to 7.
+    low: Vec<u16x16>,
+    // Those of the sets of the nodes 8 to 15.
+    high: Vec<u16x16>,
+}
+
+impl Model for StepTables {
+    ghost use Rattle.std.specs.Prelude.{◌≤◌, vec_capacity};
+    ghost use Rattle.image_subsets.specs.declared.step_tables.TheConstants.{ROWS};
+    ghost use Rattle.image_subsets.specs.StepTables.{Rows};
+
+    ghost Value = { Rows };
+
+    ghost view = { λ t. record { low = t.low.items; high = t.high.items } };
+
+    ghost invariant = { λ t. (ROWS ≤ vec_capacity t.low) × (ROWS ≤ vec_capacity t.high) };
+}
+
+impl StepTables {
+    /// Tables of no graph.
+    pub fn new(alloc: Global) -> Result<StepTables, AllocError> {
+        Ok(StepTables {
+            low: Vec::with_capacity(alloc, ROWS)?,
+            high: Vec::with_capacity(alloc, ROWS)?,
+        })
+    }
+
+    /// Makes them those of this graph, in O(2^8) time.
+    pub fn fill(&mut self, graph: &Graph)
+        ensures { AreTables graph.now self.new }
+    {
+        let nodes = graph.nodes();
+        fill(&mut self.low, graph, 0, nodes.min(8));
+        fill(&mut self.high, graph, 8, nodes);
+    }
+
+    /// The steps of the set on all letters, letter by letter, where these are the tables of its graph.
+    pub fn steps(&self, set: u16) -> [u16; 16]
+        requires { HasRows self.now set }
+        ensures { (r : LocalRule) (a : ℕ) → AreTables r self.now → set < 2 ^ node_count r → a < r.states →
+            IsStep r set a (slice_index result a) }
+    {
+        let low = self.low[usize::from(set & 255)];
+        let high = self.high[usize::from(set >> 8)];
+        (low | high).to_array()
+    }
+}
+
+/// Makes the rows the steps of the sets of nodes from `first` to the one before `end`, at most eight.
+fn fill(rows: &mut Vec<u16x16>, graph: &Graph, first: u8, end: u8)
+    requires nodes { end ≤ node_count graph.now }
+    requires few { end - first ≤ 8 }
+    requires room { ROWS ≤ vec_capacity rows.old }
+    ensures steps { AreSteps graph.now first (end - first) rows.new.items }
+    ensures capacity { vec_capacity rows.new ≡ vec_capacity rows.old }
+{
+    rows.clear();
+    rows.push_reserved(u16x16::splat(0));
+    for u in first..end {
+        double(rows, ends_of(graph, u));
+    }
+}
+
+/// Adds the unions of each row with these sets.
+fn double(rows: &mut Vec<u16x16>, ends: u16x16)
+    requires { 2 * vec_len rows.old ≤ vec_capacity rows.old }
+    ensures rows { rows.new.items ≡ rows.old.items ++ map (λ row. zip2 bit_or row ends) rows.old.items }
+    ensures capacity { vec_capacity rows.new ≡ vec_capacity rows.old }
+{
+    for x in 0..rows.len() {
+        let row = rows[x];
+        rows.push_reserved(row | ends);
+    }
+}
+
+/// The nodes to which edges lead from node u, label by label.
+fn ends_of(graph: &Graph, u: u8) -> u16x16
+    requires { u < node_count graph.now }
+    ensures rule { IsRule graph.now }
+    ensures wide { length result ≡ 16 }
+    ensures ends { (a : ℕ) → a < graph.now.states → IsEnds graph.now u a (slice_index result a) }
+{
+    let mut row = [0; 16];
+    for a in 0..graph.k() {
+        row[usize::from(a)] = graph.ends(u, a);
+    }
+    u16x16::from_array(row)
+}
