@@ -1,0 +1,12 @@
+pub mod Changes
+pub mod Powers
+pub mod Blocks
+pub mod Exchange
+pub mod Orphans
+pub mod GardenOfEden
+pub mod PairEnds
+pub mod ReachedPairs
+pub mod Preinjective
+pub mod Numbered
+pub mod Balance
+mod Examples

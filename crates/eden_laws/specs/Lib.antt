@@ -1,0 +1,4 @@
+pub mod ReachedPairs
+pub mod Preinjective
+pub mod Preimages
+pub mod Examples
