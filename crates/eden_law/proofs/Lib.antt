@@ -1,0 +1,7 @@
+pub mod LetterPairs
+pub mod ErasureWalks
+pub mod FirstLists
+pub mod LeastErasures
+pub mod FoundErasures
+pub mod ReachedSearches
+pub mod ReachedRows

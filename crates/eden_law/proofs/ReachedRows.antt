@@ -1,0 +1,275 @@
+-- What a search through rows of sets of nodes has found: steps from one node at a time, and in the end whether the rule is surjective.
+use Rattle.std.proofs.Common.{◌≡◌, ◌≢◌, ℕ, suc, ◌+◌, ◌-◌, ◌*◌, ◌%◌, ◌^◌, ◌<◌, ◌≤◌, ◌⊎◌, inl, inr, ◌↔◌, List, length, Some, IsBitSet, bit_or, slice_index, slice_set, refl, sym, ap, ap₂, ◌∙◌, subst, subst₂, ⊎_elim, arith, pow-suc, mod-lt, lit<, bit_and}
+use Rattle.std.proofs.Math.Nat.{mod-mod_of_dvd, dvd-mul_left}
+use Rattle.std.proofs.lemmas.Bool.{cases_eq}
+use Rattle.std.proofs.lemmas.List.{get_or-set_other, length-set}
+use Rattle.std.proofs.lemmas.Grind.{get_or-set_at}
+use Rattle.std.proofs.lemmas.Nat.{le_or_l, or_lt, mod-mul-add}
+use Rattle.word_image.specs.LocalRules.{LocalRule, IsRule, node_count}
+use Rattle.word_image.specs.Words.{IsSurjective}
+use Rattle.word_image.specs.Graphs.{IsStep, next, label, pair_of, first_of, second_of, pair_count}
+use Rattle.word_image.proofs.laws.Bits.{IsBitSet-or, IsBitSet-zero}
+use Rattle.word_image.proofs.laws.Graphs.{next-below}
+use Rattle.pair_laws.proofs.Sets.{IsBitSet-minus, IsBitSet-shl}
+use Rattle.pair_laws.proofs.Pairs.{first_of-pair_of, second_of-pair_of, first_of-below, second_of-below, follow-pair_of, follow-some, follow-below}
+use Rattle.debruijn.specs.Ends.{IsEnds}
+use Rattle.eden_laws.specs.ReachedPairs.{IsReached}
+use Rattle.eden_laws.specs.ReachedPairs.IsReached.{First, On}
+use Rattle.eden_laws.proofs.ReachedPairs.{IsSurjective-reached, IsReached-below, holds-reached}
+use Rattle.eden_law.specs.ReachedRows.{InRows, LeadsApart, LeadsBeside, AreRows, AreAdded, IsRowSearch}
+
+-- one row is written, and the others stay
+pub row_cases : (rows : List ℕ) (i row u : ℕ) → i < length rows → ((u ≡ i) × (slice_index (slice_set rows i row) u ≡ row)) ⊎ ((u ≢ i) × (slice_index (slice_set rows i row) u ≡ slice_index rows u))
+row_cases rows i row u inside =
+    ⊎_elim (λ same. inl (same, get_or-set_at rows i u row 0 same inside)) (λ other. inr (other, get_or-set_other rows i u row 0 other)) (cases_eq u i)
+
+-- with no letter nothing is added
+pub AreAdded-start : {r : LocalRule} {node : ℕ} (Has : ℕ → ℕ → Type 0) {rows : List ℕ} → AreRows r rows → AreAdded r node Has 0 rows rows
+AreAdded-start Has h = record {
+  rows = h;
+  grown = λ u l. omega arith;
+  pairs = λ u v hu hv. (λ old. inl old, λ either. ⊎_elim (λ old. old) (λ new. absurd (omega (arith, new.1))) either);
+}
+
+-- one letter more
+pub AreAdded-step : {r : LocalRule} {node n : ℕ} {Has : ℕ → ℕ → Type 0} {old new : List ℕ} → IsRule r → (i set : ℕ) → AreAdded r node Has n old new → i ≡ next r node n → set < 2 ^ node_count r
+    → ((v : ℕ) → v < node_count r → (IsBitSet set v ↔ Has n v)) → AreAdded r node Has (n + 1) old (slice_set new i (bit_or (slice_index new i) set))
+AreAdded-step {r} {node} {n} {Has} {old} {new} rule i set h at small has =
+    let row : ℕ = bit_or (slice_index new i) set in
+    let few : node_count r ≤ 16 = rule.shape.most_nodes in
+    let below : i < node_count r = subst (λ j. j < node_count r) (sym at) (next-below rule node n) in
+    let inside : i < length new = omega (arith, h.rows.long) in
+    record {
+      rows = record {
+        long = length-set new i row ∙ h.rows.long;
+        within = λ u hu. ⊎_elim
+            (λ here. subst (λ x. x < 2 ^ node_count r) (sym here.1) (or_lt (node_count r) (slice_index new i) set (h.rows.within i below) small))
+            (λ there. subst (λ x. x < 2 ^ node_count r) (sym there.1) (h.rows.within u hu))
+            (row_cases new i row u inside);
+      };
+      grown = λ u hu. ⊎_elim
+          (λ here. omega (arith, here.1, le_or_l (slice_index new i) set, h.grown u hu, ap (slice_index new) here.0))
+          (λ there. omega (arith, there.1, h.grown u hu))
+          (row_cases new i row u inside);
+      pairs = λ u v hu hv.
+          let before = h.pairs u v hu hv in
+          ⊎_elim
+          (λ here.
+          let moved : InRows new i v ↔ InRows new u v = (subst (λ x. InRows new x v) (sym here.0), subst (λ x. InRows new x v) here.0) in
+          let union = IsBitSet-or (slice_index new i) set v in (
+            (λ some. ⊎_elim
+                (λ old. ⊎_elim (λ o. inl o) (λ (a, l, e, one). inr (a, omega (arith, l), e, one)) (before.0 (moved.0 old)))
+                (λ one. inr (n, omega arith, sym at ∙ sym here.0, (has v hv).0 one))
+                (union.0 (subst (λ x. IsBitSet x v) here.1 some))),
+            (λ either. subst (λ x. IsBitSet x v) (sym here.1) (union.1 (⊎_elim
+                (λ o. inl (moved.1 (before.1 (inl o))))
+                (λ (a, l, e, one). ⊎_elim
+                (λ last. inr ((has v hv).1 (subst (λ x. Has x v) last one)))
+                (λ less. inl (moved.1 (before.1 (inr (a, omega (arith, l, less), e, one)))))
+                (cases_eq a n))
+                either))),
+          ))
+          (λ there. (
+            (λ some. ⊎_elim (λ o. inl o) (λ (a, l, e, one). inr (a, omega (arith, l), e, one)) (before.0 (subst (λ x. IsBitSet x v) there.1 some))),
+            (λ either. subst (λ x. IsBitSet x v) (sym there.1) (before.1 (⊎_elim
+                (λ o. inl o)
+                (λ (a, l, e, one). inr (a, ⊎_elim (λ last. absurd (there.0 (sym e ∙ ap (next r node) last ∙ sym at))) (λ less. omega (arith, l, less)) (cases_eq a n), e, one))
+                either))),
+          ))
+          (row_cases new i row u inside);
+    }
+
+-- what was found stays
+pub InRows-added : {r : LocalRule} {node n : ℕ} {Has : ℕ → ℕ → Type 0} {old new : List ℕ} → AreAdded r node Has n old new → (u v : ℕ) → u < node_count r → v < node_count r → InRows old u v → InRows new u v
+InRows-added h u v hu hv old = (h.pairs u v hu hv).1 (inl old)
+
+-- two letters lead from one node to one node only if they are one
+pub next-injective : {r : LocalRule} → IsRule r → (u a b : ℕ) → a < r.states → b < r.states → next r u a ≡ next r u b → a ≡ b
+next-injective {r} rule u a b ha hb e = sym (last a ha) ∙ ap (λ n. n % r.states) e ∙ last b hb
+  where
+    last : (c : ℕ) → c < r.states → next r u c % r.states ≡ c
+    last c hc =
+        let more : suc (r.width - 2) ≡ r.width - 1 = omega (arith, rule.shape.least_width) in
+        let nodes : r.states ^ (r.width - 2) * r.states ≡ node_count r = sym (pow-suc r.states (r.width - 2)) ∙ ap (λ n. r.states ^ n) more in
+        ap (λ n. (u * r.states + c) % n % r.states) (sym nodes) ∙ mod-mod_of_dvd r.states (u * r.states + c) (dvd-mul_left r.states (r.states ^ (r.width - 2))) ∙ mod-mul-add u r.states c hc
+
+-- the ends of the edges with the label of a, but for the one of a itself
+pub LeadsApart-set : {r : LocalRule} → IsRule r → (node a label_a to ends : ℕ) → a < r.states → label_a ≡ label r node a → to ≡ next r node a → IsEnds r node label_a ends
+    → (v : ℕ) → v < node_count r → (IsBitSet (bit_and ends (65535 - 1 * 2 ^ to % 2 ^ 16)) v ↔ LeadsApart r node a v)
+LeadsApart-set {r} rule node a label_a to ends ha labelled at h v hv =
+    let few : node_count r ≤ 16 = rule.shape.most_nodes in
+    let below : to < node_count r = subst (λ i. i < node_count r) (sym at) (next-below rule node a) in
+    let one : IsBitSet (1 * 2 ^ to % 2 ^ 16) v ↔ (v ≡ to) = IsBitSet-shl to v (omega arith) in
+    let minus = IsBitSet-minus ends (1 * 2 ^ to % 2 ^ 16) v (mod-lt (1 * 2 ^ to) (lit< tt)) (omega arith) in (
+      (λ some.
+          let (there, other) = minus.0 some in
+          let (b, hb, same, leads) = (h.nodes v hv).0 there in
+          record {
+            b = b;
+            letter = hb;
+            different = λ e. other (one.1 (sym leads ∙ ap (next r node) (sym e) ∙ sym at));
+            one_label = sym labelled ∙ sym same;
+            leads = leads;
+          }),
+      (λ leads. minus.1 (
+        (h.nodes v hv).1 (leads.b, leads.letter, sym leads.one_label ∙ sym labelled, leads.leads),
+        (λ same. leads.different (next-injective rule node a leads.b ha leads.letter (sym at ∙ sym (one.0 same) ∙ sym leads.leads))),
+      )),
+    )
+
+-- a step of a set on the label of a
+pub LeadsBeside-set : {r : LocalRule} (node set a label_a others : ℕ) → label_a ≡ label r node a → IsStep r set label_a others
+    → (v : ℕ) → v < node_count r → (IsBitSet others v ↔ LeadsBeside r node set a v)
+LeadsBeside-set node set a label_a others labelled h v hv = (
+  (λ some.
+      let (u, b, hu, hb, has, same, leads) = (h.nodes v hv).0 some in
+      record { other = u; b = b; in_nodes = hu; in_set = has; letter = hb; one_label = sym labelled ∙ sym same; leads = leads }),
+  (λ leads. (h.nodes v hv).1 (leads.other, leads.b, leads.in_nodes, leads.letter, leads.in_set, sym leads.one_label ∙ sym labelled, leads.leads)),
+)
+
+-- at the beginning nothing was found
+pub IsRowSearch-start : {r : LocalRule} {rows : List ℕ} → AreRows r rows → ((u : ℕ) → u < node_count r → slice_index rows u ≡ 0) → IsRowSearch r rows rows
+IsRowSearch-start {r} {rows} h none =
+    let empty : (u v : ℕ) → u < node_count r → ¬ InRows rows u v = λ u v hu some. IsBitSet-zero v (subst (λ x. IsBitSet x v) (none u hu) some) in
+    record {
+      rows = h;
+      long = h.long;
+      behind = λ u l. omega arith;
+      reached = λ u v hu hv some. absurd (empty u v hu some);
+      apart = λ u hu some. empty u u hu some;
+      steps = λ u v a b hu hv some ha hb e. absurd (empty u v hu some);
+    }
+
+-- with the first pairs of one node more
+pub IsRowSearch-firsts : {r : LocalRule} {node : ℕ} {found followed new : List ℕ} → IsRule r → node < node_count r → IsRowSearch r found followed
+    → AreAdded r node (LeadsApart r node) r.states found new → IsRowSearch r new followed
+IsRowSearch-firsts {r} {node} rule inside h added = record {
+  rows = added.rows;
+  long = h.long;
+  behind = λ u hu. omega (arith, h.behind u hu, added.grown u hu);
+  reached = λ u v hu hv some. ⊎_elim
+      (h.reached u v hu hv)
+      (λ (a, ha, e, leads). First (pair_of r u v) (record {
+        node = node;
+        a = a;
+        b = leads.b;
+        in_nodes = inside;
+        a_letter = ha;
+        b_letter = leads.letter;
+        different = leads.different;
+        one_label = leads.one_label;
+        pair = ap₂ (pair_of r) (sym e) (sym leads.leads);
+      }))
+      ((added.pairs u v hu hv).0 some);
+  apart = λ u hu some. ⊎_elim
+      (h.apart u hu)
+      (λ (a, ha, e, leads). leads.different (next-injective rule node a leads.b ha leads.letter (e ∙ sym leads.leads)))
+      ((added.pairs u u hu hu).0 some);
+  steps = λ u v a b hu hv some ha hb e. InRows-added added (next r u a) (next r v b) (next-below rule u a) (next-below rule v b) (h.steps u v a b hu hv some ha hb e);
+}
+
+-- a step from what was found is reached
+IsReached-beside : {r : LocalRule} {node : ℕ} {found followed : List ℕ} → IsRule r → node < node_count r → IsRowSearch r found followed → (a v : ℕ) → a < r.states
+    → LeadsBeside r node (slice_index found node) a v → IsReached r (pair_of r (next r node a) v)
+IsReached-beside {r} {node} rule inside h a v ha leads =
+    On (pair_of r node leads.other) a leads.b _ (h.reached node leads.other inside leads.in_nodes leads.in_set) ha leads.letter
+    (follow-pair_of r node leads.other a leads.b leads.in_nodes leads.one_label ∙ ap (λ w. Some (pair_of r (next r node a) w)) leads.leads)
+
+-- with the steps from what was found of one node
+pub IsRowSearch-steps : {r : LocalRule} {node : ℕ} {found followed new : List ℕ} → IsRule r → node < node_count r → IsRowSearch r found followed
+    → AreAdded r node (LeadsBeside r node (slice_index found node)) r.states found new
+    → ((a : ℕ) → a < r.states → ¬ LeadsBeside r node (slice_index found node) a (next r node a)) → IsRowSearch r new (slice_set followed node (slice_index found node))
+IsRowSearch-steps {r} {node} {found} {followed} {new} rule inside h added none =
+    let row : ℕ = slice_index found node in
+    let few : node_count r ≤ 16 = rule.shape.most_nodes in
+    let written = λ (u : ℕ). row_cases followed node row u (omega (arith, h.long)) in
+    record {
+      rows = added.rows;
+      long = length-set followed node row ∙ h.long;
+      behind = λ u hu. ⊎_elim
+          (λ here. omega (arith, here.1, added.grown u hu, ap (slice_index found) here.0))
+          (λ there. omega (arith, there.1, h.behind u hu, added.grown u hu))
+          (written u);
+      reached = λ u v hu hv some. ⊎_elim
+          (h.reached u v hu hv)
+          (λ (a, ha, e, leads). subst (λ w. IsReached r (pair_of r w v)) e (IsReached-beside rule inside h a v ha leads))
+          ((added.pairs u v hu hv).0 some);
+      apart = λ u hu some. ⊎_elim
+          (h.apart u hu)
+          (λ (a, ha, e, leads). none a ha (subst (LeadsBeside r node row a) (sym e) leads))
+          ((added.pairs u u hu hu).0 some);
+      steps = λ u v a b hu hv some ha hb e. ⊎_elim
+          (λ here. (added.pairs (next r u a) (next r v b) (next-below rule u a) (next-below rule v b)).1 (inr (
+            a,
+            ha,
+            ap (λ w. next r w a) (sym here.0),
+            record {
+              other = v;
+              b = b;
+              in_nodes = hv;
+              in_set = subst (λ x. IsBitSet x v) here.1 some;
+              letter = hb;
+              one_label = ap (λ w. label r w a) (sym here.0) ∙ e;
+              leads = refl;
+            },
+          )))
+          (λ there. InRows-added added (next r u a) (next r v b) (next-below rule u a) (next-below rule v b) (h.steps u v a b hu hv (subst (λ x. IsBitSet x v) there.1 some) ha hb e))
+          (written u);
+    }
+
+-- where a step leads to a pair of two equal nodes, the rule isn't surjective
+pub not_surjective-beside : {r : LocalRule} {node : ℕ} {found followed : List ℕ} → IsRule r → node < node_count r → IsRowSearch r found followed
+    → ((a : ℕ) × (a < r.states) × LeadsBeside r node (slice_index found node) a (next r node a)) → ¬ IsSurjective r
+not_surjective-beside {r} {node} rule inside h (a, ha, leads) every =
+    let v : ℕ = next r node a in
+    let below : v < node_count r = next-below rule node a in
+    (IsSurjective-reached rule).0 every (pair_of r v v) (IsReached-beside rule inside h a v ha leads) (first_of-pair_of r v v below ∙ sym (second_of-pair_of r v v below))
+
+-- the first pairs of the first n nodes are in the rows
+abbrev pub HasFirsts : LocalRule → ℕ → List ℕ → Type 0
+HasFirsts r n rows = (u a b : ℕ) → u < n → a < r.states → b < r.states → a ≢ b → label r u a ≡ label r u b → InRows rows (next r u a) (next r u b)
+
+-- and those of one node more
+pub HasFirsts-added : {r : LocalRule} {node : ℕ} {found new : List ℕ} → IsRule r → HasFirsts r node found → AreAdded r node (LeadsApart r node) r.states found new → HasFirsts r (node + 1) new
+HasFirsts-added {r} {node} {found} {new} rule firsts added u a b hu ha hb other e =
+    let v : ℕ = next r u a in
+    let w : ℕ = next r u b in
+    let hv : v < node_count r = next-below rule u a in
+    let hw : w < node_count r = next-below rule u b in
+    ⊎_elim
+    (λ last. (added.pairs v w hv hw).1 (inr (
+      a,
+      ha,
+      ap (λ i. next r i a) (sym last),
+      record { b = b; letter = hb; different = other; one_label = ap (λ i. label r i a) (sym last) ∙ e ∙ ap (λ i. label r i b) last; leads = ap (λ i. next r i b) (sym last) },
+    )))
+    (λ less. InRows-added added v w hv hw (firsts u a b (omega (arith, hu, less)) ha hb other e))
+    (cases_eq u node)
+
+-- once the first pairs of all nodes were found, and all steps from what was found were followed, it is
+pub IsSurjective-rows : {r : LocalRule} {found followed : List ℕ} → IsRule r → IsRowSearch r found followed → ((u : ℕ) → u < node_count r → slice_index followed u ≡ slice_index found u)
+    → HasFirsts r (node_count r) found → IsSurjective r
+IsSurjective-rows {r} {found} {followed} rule h all firsts =
+    let Has : ℕ → Type 0 = λ p. InRows found (first_of r p) (second_of r p) in
+    let pair : (u v : ℕ) → v < node_count r → InRows found u v → Has (pair_of r u v) = λ u v hv some.
+    subst₂ (InRows found) (sym (first_of-pair_of r u v hv)) (sym (second_of-pair_of r u v hv)) some in
+    let has : (p : ℕ) → IsReached r p → (p < pair_count r) × Has p = λ p reached. holds-reached (λ p. (p < pair_count r) × Has p)
+    (λ q first. (
+      IsReached-below rule (First q first),
+      subst Has (sym first.pair) (pair (next r first.node first.a) (next r first.node first.b) (next-below rule first.node first.b)
+          (firsts first.node first.a first.b first.in_nodes first.a_letter first.b_letter first.different first.one_label)),
+    ))
+    (λ q a b s here ha hb f.
+    let u : ℕ = first_of r q in
+    let v : ℕ = second_of r q in
+    let hu : u < node_count r = first_of-below rule q here.0 in
+    let edges = follow-some r q a b s f in (
+      follow-below rule q a b s f,
+      subst Has edges.1 (pair (next r u a) (next r v b) (next-below rule v b)
+          (h.steps u v a b hu (second_of-below rule q) (subst (λ x. IsBitSet x v) (sym (all u hu)) here.1) ha hb edges.0)),
+    ))
+    reached in
+    (IsSurjective-reached rule).1 (λ p reached same.
+    let here = has p reached in
+    let u : ℕ = first_of r p in
+    h.apart u (first_of-below rule p here.0) (subst (InRows found u) (sym same) here.1))

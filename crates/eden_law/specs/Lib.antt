@@ -1,0 +1,4 @@
+pub mod Erasures
+pub mod FirstLists
+pub mod ReachedSearches
+pub mod ReachedRows

@@ -1,0 +1,47 @@
+-- Sets of pairs of nodes as rows: for each node u the set of the nodes v whose pair with u is in it, as a number in which node v is bit v.
+use Rattle.std.specs.Prelude.{◌≡◌, ◌≢◌, ℕ, ◌^◌, ◌<◌, ◌≤◌, ◌⊎◌, ◌↔◌, List, length, slice_index, IsBitSet}
+use Rattle.word_image.specs.LocalRules.{LocalRule, node_count}
+use Rattle.word_image.specs.Graphs.{next, label, pair_of}
+use Rattle.eden_laws.specs.ReachedPairs.{IsReached}
+
+-- the pair of u and v is in the rows
+abbrev pub InRows : List ℕ → ℕ → ℕ → Type 0
+InRows rows u v = IsBitSet (slice_index rows u) v
+
+-- another letter leads from the node to v, with the label of a
+pub record LeadsApart (r : LocalRule) (node a v : ℕ) : Type 0 where
+  pub b : ℕ
+  pub letter : b < r.states
+  pub different : a ≢ b
+  pub one_label : label r node a ≡ label r node b
+  pub leads : next r node b ≡ v
+
+-- a letter leads from a node of the set to v, with the label of a from this node
+pub record LeadsBeside (r : LocalRule) (node set a v : ℕ) : Type 0 where
+  pub other : ℕ
+  pub b : ℕ
+  pub in_nodes : other < node_count r
+  pub in_set : IsBitSet set other
+  pub letter : b < r.states
+  pub one_label : label r node a ≡ label r other b
+  pub leads : next r other b ≡ v
+
+-- rows of sets of nodes
+pub record AreRows (r : LocalRule) (rows : List ℕ) : Type 0 where
+  pub long : length rows ≡ 16
+  pub within : (u : ℕ) → u < node_count r → slice_index rows u < 2 ^ node_count r
+
+-- the pairs of where the first n letters lead from the node, each with what it has, were added
+pub record AreAdded (r : LocalRule) (node : ℕ) (Has : ℕ → ℕ → Type 0) (n : ℕ) (old new : List ℕ) : Type 0 where
+  pub rows : AreRows r new
+  pub grown : (u : ℕ) → u < node_count r → slice_index old u ≤ slice_index new u
+  pub pairs : (u v : ℕ) → u < node_count r → v < node_count r → (InRows new u v ↔ (InRows old u v ⊎ ((a : ℕ) × (a < n) × (next r node a ≡ u) × Has a v)))
+
+-- all that was found is reached and has two different nodes, and the steps from what was followed lead to what was found
+pub record IsRowSearch (r : LocalRule) (found followed : List ℕ) : Type 0 where
+  pub rows : AreRows r found
+  pub long : length followed ≡ 16
+  pub behind : (u : ℕ) → u < node_count r → slice_index followed u ≤ slice_index found u
+  pub reached : (u v : ℕ) → u < node_count r → v < node_count r → InRows found u v → IsReached r (pair_of r u v)
+  pub apart : (u : ℕ) → u < node_count r → ¬ InRows found u u
+  pub steps : (u v a b : ℕ) → u < node_count r → v < node_count r → InRows followed u v → a < r.states → b < r.states → label r u a ≡ label r v b → InRows found (next r u a) (next r v b)

@@ -1,0 +1,35 @@
+//! The Garden of Eden law for one rule (Moore 1962, Myhill 1963): the least erasable pair, and the
+//! pairs of nodes that prove that there is none.
+//!
+//! An erasable pair is two different words of one length with one image, equal first m - 1 letters and
+//! equal last m - 1 letters: either may stand for the other inside any line without a change of the
+//! image. A rule is surjective exactly where it has none. Pairs of words are ordered by their length,
+//! then letter pair by letter pair.
+//!
+//! Rule 0 gives 0 everywhere, so 00000 may stand for 00100 and back. The rule that gives 1 on the
+//! window 11 alone has the erasable pair 000 and 010. Rule 90, the sum of the two neighbours modulo 2,
+//! has none.
+//!
+//! The letter pairs of an erasable pair are a node with itself and then a walk in the marked graph, from
+//! the pair of this node with itself, without the mark, to that of some node with itself, with it. So the
+//! least one is the first of the least of these walks, each behind its first node.
+//!
+//! A pair of nodes is reached where steps of `follow` lead to it from a first pair of the right. No
+//! reached pair has two equal nodes exactly where the rule is surjective, so there the list of the reached
+//! pairs is the shortest pair list that proves it.
+//!
+//! For N = k^(m - 1) nodes [`erasable`] takes time **O(N^4·k)** in operations on rows, N^2 walks in a
+//! graph of 2·N^2 states, and memory for its words; [`reached`] takes time **O(N^2·k^2)** and memory for
+//! N^2 pairs.
+#![tactic(auto)]
+
+mod erased;
+mod nodes;
+mod reached_pairs;
+mod surjective;
+#[cfg(test)]
+mod tests;
+
+pub use erased::{Erased, erasable};
+pub use reached_pairs::reached;
+pub use surjective::is_surjective;

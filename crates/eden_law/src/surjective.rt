@@ -1,0 +1,101 @@
+//! Whether a rule is surjective, by the pairs that are reached, as rows of sets of nodes.
+ghost use Rattle.std.specs.Prelude.{◌≡◌, ◌≢◌, ◌^◌, ◌<◌, ◌≤◌, ◌↔◌, ℕ, IsTrue, IsFalse, IsBitSet, MatchOption, slice_index};
+ghost use Rattle.word_image.specs.LocalRules.{node_count};
+ghost use Rattle.word_image.specs.Graphs.{next};
+ghost use Rattle.word_image.specs.Words.{IsSurjective};
+ghost use Rattle.tail_config.specs.Tails.{IsInjective, IsRightClosing, IsLeftClosing};
+ghost use Rattle.eden_law.specs.ReachedRows.{InRows, LeadsApart, LeadsBeside, AreRows, AreAdded, IsRowSearch};
+
+use debruijn::Graph;
+use image_subsets::step;
+
+/// The most nodes of an accepted rule.
+const MOST: usize = 16;
+
+/// For each node u the set of the nodes v whose pair with u is in a set of pairs; node v is bit v.
+type Rows = [u16; MOST];
+
+/// Whether the rule of this graph is surjective: whether no reached pair has two equal nodes. Where it
+/// isn't, the rule is neither injective nor closing on a side. It takes no memory.
+pub fn is_surjective(graph: &Graph) -> bool
+    ensures surjective { IsTrue result ↔ IsSurjective graph.now }
+    ensures injective { IsInjective graph.now → IsTrue result }
+    ensures right { IsRightClosing graph.now → IsTrue result }
+    ensures left { IsLeftClosing graph.now → IsTrue result }
+{
+    let mut found = [0; MOST];
+    let mut followed = [0; MOST];
+    for node in 0..graph.nodes() {
+        add_firsts(graph, node, &mut found);
+        if !follow_all(graph, &mut found, &mut followed) {
+            return false;
+        }
+    }
+    true
+}
+
+/// Adds the first pairs of the right to which letters lead from this node.
+fn add_firsts(graph: &Graph, node: u8, found: &mut Rows)
+    requires node { node < node_count graph.now }
+    requires rows { AreRows graph.now found.old }
+    ensures { AreAdded graph.now node (LeadsApart graph.now node) graph.now.states found.old found.new }
+{
+    for a in 0..graph.k() {
+        let next = graph.next(node, a);
+        let others = graph.ends(node, graph.label(node, a)) & !(1 << next);
+        found[usize::from(next)] |= others;
+    }
+}
+
+/// Follows the steps from what was found, until all are followed, or one leads to a pair of two equal
+/// nodes; answers whether none does.
+fn follow_all(graph: &Graph, found: &mut Rows, followed: &mut Rows) -> bool
+    requires { IsRowSearch graph.now found.old followed.old }
+    ensures search { IsTrue result → IsRowSearch graph.now found.new followed.new }
+    ensures all { IsTrue result → (u : ℕ) → u < node_count graph.now → slice_index followed.new u ≡ slice_index found.new u }
+    ensures kept { IsTrue result → (u v : ℕ) → u < node_count graph.now → v < node_count graph.now → InRows found.old u v → InRows found.new u v }
+    ensures meets { IsFalse result → ¬ IsSurjective graph.now }
+{
+    while let Some(node) = open_row(graph.nodes(), found, followed) {
+        let row = found[usize::from(node)];
+        if !add_steps(graph, node, row, found) {
+            return false;
+        }
+        followed[usize::from(node)] = row;
+    }
+    true
+}
+
+/// The first node of which something was found that wasn't followed yet.
+fn open_row(nodes: u8, found: &Rows, followed: &Rows) -> Option<u8>
+    requires { nodes ≤ 16 }
+    ensures { MatchOption result ((u : ℕ) → u < nodes → slice_index followed.now u ≡ slice_index found.now u) (λ u. (u < nodes) × (slice_index followed.now u ≢ slice_index found.now u)) }
+{
+    for node in 0..nodes {
+        if followed[usize::from(node)] != found[usize::from(node)] {
+            return Some(node);
+        }
+    }
+    None
+}
+
+/// Adds the pairs to which steps lead from the pairs of a node with those of a set, unless one has two
+/// equal nodes; answers whether none has.
+fn add_steps(graph: &Graph, node: u8, set: u16, found: &mut Rows) -> bool
+    requires node { node < node_count graph.now }
+    requires set { set < 2 ^ node_count graph.now }
+    requires rows { AreRows graph.now found.old }
+    ensures added { IsTrue result → AreAdded graph.now node (LeadsBeside graph.now node set) graph.now.states found.old found.new }
+    ensures apart { IsTrue result → (a : ℕ) → a < graph.now.states → ¬ LeadsBeside graph.now node set a (next graph.now node a) }
+    ensures meets { IsFalse result → (a : ℕ) × (a < graph.now.states) × LeadsBeside graph.now node set a (next graph.now node a) }
+{
+    for a in 0..graph.k() {
+        let next = graph.next(node, a);
+        let others = step(graph, set, graph.label(node, a));
+        if others >> next & 1 == 1 {
+            return false;
+        }
+        found[usize::from(next)] |= others;
+    }
+    true
+}
