@@ -47,7 +47,7 @@ pub fn injective_or_closing_is_surjective()
     ensures left { (r : LocalRule) → IsRule r → IsLeftClosing r → IsSurjective r }
 {}
 
-/// A rule is surjective exactly where every word has k^(m - 1) preimages (Hedlund 1969).
+/// A rule is surjective exactly where every word has exactly k^(m - 1) preimages (Hedlund 1969).
 pub fn surjective_is_balanced()
     ensures { (r : LocalRule) → IsRule r → (IsSurjective r ↔ IsBalanced r) }
 {}

@@ -14,7 +14,7 @@ use Rattle.word_image.proofs.laws.Images.{get_or-image, image-drop, image-take}
 use Rattle.tail_config.specs.Tails.{TailConfig, IsTail, cell, cells, image_cell}
 use Rattle.tail_config.proofs.laws.Cells.{length-cells, get_or-cells, IsWord-cells, image_cells, image-cells}
 use Rattle.tail_laws.proofs.Injective.{IsInjective-determined}
-use Rattle.counting_laws.proofs.InjectiveRules.{IsSurjective-injective}
+use Rattle.eden_laws.proofs.Preinjective.{IsSurjective-injective}
 use Rattle.word_image.proofs.laws.WindowParts.{letter-value}
 use Rattle.inverse_table.specs.InverseMaps.{WindowMap, IsWindowMap, IsInverseMap, GivesBack, map_letter, map_image}
 use Rattle.inverse_table.specs.InverseFaults.{IsApartAt}

@@ -1,5 +1,5 @@
 use Rattle.std.proofs.Common.{◌≡◌, ◌-◌, subst, arith}
-use Rattle.counting_laws.proofs.InjectiveRules.{IsSurjective-injective}
+use Rattle.eden_laws.proofs.Preinjective.{IsSurjective-injective}
 use Rattle.inverse_window.specs.FirstWindows.{IsFirstOf}
 use Rattle.inverse_window.proofs.FirstSearches.{earlier-most}
 use Rattle.inverse_window.proofs.LeastWindows.{IsBefore, IsFirstOf-next, IsLeastDetermined-first, IsInjective-least}
