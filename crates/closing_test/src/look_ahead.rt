@@ -2,6 +2,7 @@
 
 ghost use Rattle.std.specs.Prelude.{◌≡◌, ◌^◌, ◌<◌, ◌≤◌, ◌↔◌, ℕ, IsSome, IfSome, IfNone, MatchOption};
 ghost use Rattle.word_image.specs.LocalRules.{IsRule, mirrored};
+ghost use Rattle.word_image.specs.Words.{IsSurjective};
 ghost use Rattle.word_image.specs.Windows.{IsRightAhead, IsLeftAhead, IsLeastRightAhead};
 ghost use Rattle.tail_config.specs.Tails.{IsRightClosing, IsLeftClosing};
 ghost use Rattle.closing_test.specs.Sides.{PairGoes, IsClosing, seen_from};
@@ -12,10 +13,11 @@ use pair_rank::Ranks;
 use word_image::Rule;
 
 /// The least right look-ahead, at most 241, by the ranks of the rule; `None` exactly where there is
-/// none, and so exactly where the rule isn't right-closing.
+/// none, and so exactly where the rule isn't right-closing. A rule that has one is surjective.
 pub fn ahead_right(rule: &Rule, ranks: &Ranks) -> Option<u16>
     requires { ranks.now ≡ rule.now }
     ensures closing { IsSome result ↔ IsRightClosing rule.now }
+    ensures surjective { IsSome result → IsSurjective rule.now }
     ensures least { IfSome result (IsLeastRightAhead rule.now) }
     ensures none { IfNone result ((n : ℕ) → ¬ IsRightAhead rule.now n) }
     ensures most { IfSome result (λ n. n ≤ 241) }
@@ -26,10 +28,11 @@ pub fn ahead_right(rule: &Rule, ranks: &Ranks) -> Option<u16>
 
 /// The least left look-ahead, at most 241, by the ranks of the rule: the least right one of the
 /// mirrored rule. `None` exactly where there is none, and so exactly where the rule isn't
-/// left-closing.
+/// left-closing. A rule that has one is surjective.
 pub fn ahead_left(rule: &Rule, ranks: &Ranks) -> Option<u16>
     requires { ranks.now ≡ rule.now }
     ensures closing { IsSome result ↔ IsLeftClosing rule.now }
+    ensures surjective { IsSome result → IsSurjective rule.now }
     ensures least { IfSome result (IsLeastRightAhead (mirrored rule.now)) }
     ensures none { IfNone result ((n : ℕ) → ¬ IsLeftAhead rule.now n) }
     ensures most { IfSome result (λ n. n ≤ 241) }
