@@ -1,5 +1,5 @@
 //! The least twins.
-ghost use Rattle.std.specs.Prelude.{◌≡◌, ◌/◌, ◌%◌, ◌≤◌, ◌↔◌, ℕ, List, length, map, IfOk, IfSome, IsNone, MatchOption, if◌then◌else◌};
+ghost use Rattle.std.specs.Prelude.{◌≡◌, ◌≤◌, ◌↔◌, ℕ, List, length, map, IfOk, IfSome, IsNone, MatchOption, if◌then◌else◌};
 ghost use Rattle.std.specs.Ordering.{is_lt};
 ghost use Rattle.word_image.specs.LocalRules.{IsRule};
 ghost use Rattle.word_image.specs.Graphs.{pair_count};
@@ -8,7 +8,7 @@ ghost use Rattle.word_image.specs.Rings.{IsTwins, IsLeastTwins};
 ghost use Rattle.tail_config.specs.Tails.{IsInjective};
 ghost use Rattle.inverse_window.specs.FirstTurns.{IsFirstFound};
 
-use least_walk::Walker;
+use least_walk::{Walker, is_before, spelled};
 use pair_graph::Pairs;
 use std::alloc::{AllocError, Global};
 use word_image::{Rule, Word};
@@ -34,20 +34,12 @@ pub fn twins(
     ensures most { IfOk result (λ found. IfSome found (λ pair. (length pair.x ≤ 512) × (length pair.y ≤ 512))) }
 {
     match first_turn(alloc, &Pairs::of(rule), walker)? {
-        Some(steps) => Ok(Some(spelled(alloc, &steps)?)),
+        Some(steps) => {
+            let (x, y) = spelled(alloc, &steps)?;
+            Ok(Some(TwinPair { x, y }))
+        }
         None => Ok(None),
     }
-}
-
-/// The two words that a walk spells: the first letters of its steps, and the second ones.
-fn spelled(alloc: Global, steps: &[u8]) -> Result<TwinPair, AllocError>
-    ensures first { IfOk result (λ pair. pair.x ≡ map (λ step. step / 16) steps.now) }
-    ensures second { IfOk result (λ pair. pair.y ≡ map (λ step. step % 16) steps.now) }
-{
-    Ok(TwinPair {
-        x: Word::of(steps.iter().map(|step| *step / 16).collect(alloc)?),
-        y: Word::of(steps.iter().map(|step| *step % 16).collect(alloc)?),
-    })
 }
 
 /// The first of the walks in the marked graph from a pair without the mark to the same pair with it.
@@ -77,15 +69,4 @@ fn earlier_walk(alloc: Global, first: Option<Vec<u8>>, other: &[u8]) -> Result<V
         Some(steps) if !is_before(other, &steps) => Ok(steps),
         _ => other.to_vec(alloc),
     }
-}
-
-/// Whether a walk comes before another one: the shorter one, and of two of one length the first in
-/// the order of their letter pairs.
-fn is_before(walk: &[u8], other: &[u8]) -> bool
-    ensures { result ≡ is_lt (word_cmp walk.now other.now) }
-{
-    walk.len()
-        .cmp(&other.len())
-        .then_with(|| walk.cmp(other))
-        .is_lt()
 }

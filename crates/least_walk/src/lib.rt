@@ -19,10 +19,12 @@
 //! all room.
 #![tactic(auto)]
 
+mod letter_pairs;
 mod marks;
 mod queue;
 #[cfg(test)]
 mod tests;
 mod walker;
 
+pub use letter_pairs::{is_before, spelled};
 pub use walker::Walker;

@@ -9,25 +9,25 @@ use Rattle.tail_laws.proofs.LeastTwins.{no_twins-none}
 use Rattle.inverse_window.proofs.SpelledTwins.{first_word, second_word, IsLeastTwins-spelled, length-spelled}
 use Rattle.inverse_window.proofs.twin_pairs.twins.Goals as goal
 
-pub returns-in_ok-spelled-in-Some-clause-least : goal.returns-in_ok-spelled-in-Some-clause-least
-returns-in_ok-spelled-in-Some-clause-least c =
+pub returns-in_ok-x-in-Some-clause-least : goal.returns-in_ok-x-in-Some-clause-least
+returns-in_ok-x-in-Some-clause-least c =
     let rule : IsRule c.args.rule.now = subst IsRule c.of.ensures c.in_ok-steps.ensures.rule in
     let turn : IsFirstTurn c.args.rule.now (pair_count c.args.rule.now) (map (uncode 16) c.in-Some.steps.items) = rw (c.of.ensures, c.in-Some.is) at c.in_ok-steps.ensures.turn in
-    IsLeastTwins-spelled rule c.in-Some.steps.items c.in_ok-spelled-in-Some.field-0.x c.in_ok-spelled-in-Some.field-0.y
-    (c.in_ok-spelled-in-Some.ensures.first ∙ ap first_word c.deref.ensures.value) (c.in_ok-spelled-in-Some.ensures.second ∙ ap second_word c.deref.ensures.value) turn
+    IsLeastTwins-spelled rule c.in-Some.steps.items c.in_ok-x-in-Some.x c.in_ok-x-in-Some.y
+    (c.in_ok-x-in-Some.ensures.first ∙ ap first_word c.deref.ensures.value) (c.in_ok-x-in-Some.ensures.second ∙ ap second_word c.deref.ensures.value) turn
 
-pub returns-in_ok-spelled-in-Some-clause-injective : goal.returns-in_ok-spelled-in-Some-clause-injective
-returns-in_ok-spelled-in-Some-clause-injective c = (
+pub returns-in_ok-x-in-Some-clause-injective : goal.returns-in_ok-x-in-Some-clause-injective
+returns-in_ok-x-in-Some-clause-injective c = (
   λ none. let not : true ≡ false = none in cc,
-  λ injective. absurd (no_twins (returns-in_ok-spelled-in-Some-clause-least c).twins injective),
+  λ injective. absurd (no_twins (returns-in_ok-x-in-Some-clause-least c).twins injective),
 )
 
-pub returns-in_ok-spelled-in-Some-clause-most : goal.returns-in_ok-spelled-in-Some-clause-most
-returns-in_ok-spelled-in-Some-clause-most c =
+pub returns-in_ok-x-in-Some-clause-most : goal.returns-in_ok-x-in-Some-clause-most
+returns-in_ok-x-in-Some-clause-most c =
     let rule : IsRule c.args.rule.now = subst IsRule c.of.ensures c.in_ok-steps.ensures.rule in
     let turn : IsFirstTurn c.args.rule.now (pair_count c.args.rule.now) (map (uncode 16) c.in-Some.steps.items) = rw (c.of.ensures, c.in-Some.is) at c.in_ok-steps.ensures.turn in
-    length-spelled rule c.in-Some.steps.items c.in_ok-spelled-in-Some.field-0.x c.in_ok-spelled-in-Some.field-0.y
-    (c.in_ok-spelled-in-Some.ensures.first ∙ ap first_word c.deref.ensures.value) (c.in_ok-spelled-in-Some.ensures.second ∙ ap second_word c.deref.ensures.value) turn
+    length-spelled rule c.in-Some.steps.items c.in_ok-x-in-Some.x c.in_ok-x-in-Some.y
+    (c.in_ok-x-in-Some.ensures.first ∙ ap first_word c.deref.ensures.value) (c.in_ok-x-in-Some.ensures.second ∙ ap second_word c.deref.ensures.value) turn
 
 pub returns-in-None-clause-least : goal.returns-in-None-clause-least
 returns-in-None-clause-least c =

@@ -1,0 +1,31 @@
+//! Letter pairs in bytes, as walks have them: the pair (a, b) is 16 a + b.
+
+ghost use Rattle.std.specs.Prelude.{◌≡◌, ◌/◌, ◌%◌, map, IfOk};
+ghost use Rattle.std.specs.Ordering.{is_lt};
+ghost use Rattle.word_image.specs.Words.{word_cmp};
+
+use std::alloc::{AllocError, Global};
+use word_image::Word;
+
+/// The two words that letter pairs spell: the first letters, and the second ones.
+pub fn spelled(alloc: Global, steps: &[u8]) -> Result<(Word, Word), AllocError>
+    ensures first { IfOk result (λ words. words.0 ≡ map (λ step. step / 16) steps.now) }
+    ensures second { IfOk result (λ words. words.1 ≡ map (λ step. step % 16) steps.now) }
+{
+    Ok((
+        Word::of(steps.iter().map(|step| *step / 16).collect(alloc)?),
+        Word::of(steps.iter().map(|step| *step % 16).collect(alloc)?),
+    ))
+}
+
+/// Whether letter pairs come before others: the shorter list, and of two of one length the first in
+/// dictionary order.
+pub fn is_before(steps: &[u8], other: &[u8]) -> bool
+    ensures { result ≡ is_lt (word_cmp steps.now other.now) }
+{
+    steps
+        .len()
+        .cmp(&other.len())
+        .then_with(|| steps.cmp(other))
+        .is_lt()
+}
