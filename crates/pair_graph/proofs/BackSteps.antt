@@ -67,7 +67,7 @@ leads_back {r} rule q a b pair ha hb one_label =
     }
 
 -- and no other pair does
-led_back : {r : LocalRule} → IsRule r → (q a b p : ℕ) → LeadsBack r q a b p
+pub led_back : {r : LocalRule} → IsRule r → (q a b p : ℕ) → LeadsBack r q a b p
     → let first : ℕ = window_before r a (first_of r q) in let second : ℕ = window_before r b (second_of r q) in
     (slice_index r.table first ≡ slice_index r.table second) × (pair_of r (first / r.states) (second / r.states) ≡ p)
 led_back {r} rule q a b p back =

@@ -1,1 +1,4 @@
-mod BackSteps
+pub mod BackSteps
+mod EdgeRows
+mod PairLanes
+mod PairSteps

@@ -1,1 +1,4 @@
 pub mod BackSteps
+pub mod Edges
+pub mod PairSets
+pub mod PairRows

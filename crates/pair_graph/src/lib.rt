@@ -16,8 +16,16 @@
 //! `of` takes time **O(k^m)**, and every other call **O(1)**.
 #![tactic(auto)]
 
+mod edges;
+mod pair_set;
 mod pairs;
+mod plain;
 #[cfg(test)]
 mod tests;
+#[cfg(test)]
+mod trim_tests;
 
+pub use edges::Side;
+pub use pair_set::PairSet;
 pub use pairs::Pairs;
+pub use plain::{plain_backward, plain_forward};

@@ -4,39 +4,44 @@ ghost use Rattle.std.specs.Prelude.{◌≡◌, ◌+◌, ◌*◌, ◌/◌, ◌^�
 ghost use Rattle.word_image.specs.LocalRules.{IsRule, node_count};
 ghost use Rattle.word_image.specs.Graphs.{first_of, second_of, pair_of, pair_count};
 
+use crate::edges::{Edges, Side, edges};
 use debruijn::Graph;
 use std::marker::Model;
 use word_image::Rule;
 
 /// The pairs of nodes of a rule's de Bruijn graph, seen as that rule. The pair of u and v has the
 /// number u * N + v, for the N nodes.
-#[derive(Clone, Copy, Debug)]
+#[derive(Debug, Drop)]
 pub struct Pairs {
     // The rule.
     rule: Rule,
     // Its de Bruijn graph.
     graph: Graph,
+    // For each label and node the nodes to which the edges with that label lead from it.
+    ends: Edges,
+    // And those from which they lead to it.
+    starts: Edges,
 }
 
 impl Model for Pairs {
     ghost use Rattle.std.specs.Prelude.{◌≡◌};
-    ghost use Rattle.std.proofs.Common.{sym};
     ghost use Rattle.word_image.specs.LocalRules.{LocalRule};
+    ghost use Rattle.word_image.specs.LocalRules.{node_count};
+    ghost use Rattle.pair_graph.specs.Edges.{AreEdges};
+    ghost use Rattle.pair_graph.specs.declared.edges.Side.TheVariants.{Forward, Backward};
 
     ghost Value = { LocalRule };
 
     ghost view = { λ p. p.rule };
 
-    ghost invariant = { λ p. p.graph ≡ p.rule };
-
-    ghost inverse = { λ r. record { rule = r; graph = r } };
-
-    ghost inverse_ok = { λ p h i. record { rule = p.rule; graph = sym h i } };
+    ghost invariant = { λ p. (p.graph ≡ p.rule) × AreEdges Forward p.rule (node_count p.rule) p.ends × AreEdges Backward p.rule (node_count p.rule) p.starts };
 }
 
 impl Pairs {
     ghost use Rattle.word_image.specs.Graphs.{follow, marked};
     ghost use Rattle.pair_graph.specs.BackSteps.{LeadsBack};
+    ghost use Rattle.pair_graph.specs.Edges.{AreEdges};
+    ghost use Rattle.pair_graph.specs.PairSets.{Leads};
 
     /// The pairs of this rule.
     pub fn of(rule: &Rule) -> Pairs
@@ -45,6 +50,8 @@ impl Pairs {
         Pairs {
             rule: *rule,
             graph: Graph::of(rule),
+            ends: edges(rule, Side::Forward),
+            starts: edges(rule, Side::Backward),
         }
     }
 
@@ -60,6 +67,16 @@ impl Pairs {
         ensures { result.now ≡ self.now }
     {
         &self.graph
+    }
+
+    /// For each label and node the nodes to which the edges with that label lead from it.
+    pub(crate) fn edges(&self, side: Side) -> &Edges
+        ensures { AreEdges side self.now (node_count self.now) result.now }
+    {
+        match side {
+            Side::Forward => &self.ends,
+            Side::Backward => &self.starts,
+        }
     }
 
     /// How many pairs there are: N * N, from 4 to 256.
@@ -101,6 +118,20 @@ impl Pairs {
             return None;
         }
         Some(self.pair_of(self.beginning(first), self.beginning(second)))
+    }
+
+    /// The pair to which the letters a and b lead from p: forward by `follow`, and backward by `back`.
+    pub(crate) fn step(&self, side: Side, p: u16, a: u8, b: u8) -> Option<u16>
+        requires pair { p < pair_count self.now }
+        requires first { a < self.now.states }
+        requires second { b < self.now.states }
+        ensures exactly { (q : ℕ) → (result ≡ Some q) ↔ Leads side self.now p a b q }
+        ensures below { IfSome result (λ q. q < pair_count self.now) }
+    {
+        match side {
+            Side::Forward => self.follow(p, a, b),
+            Side::Backward => self.back(p, a, b),
+        }
     }
 
     /// The step of `follow` in the marked graph, where t is p or, with the mark, p + N * N. The mark

@@ -1,0 +1,252 @@
+-- Rows of sets and lists of truth values, and the steps of pairs that they hold.
+use Rattle.std.proofs.Common.{◌≡◌, ◌≢◌, ◌==◌, ℕ, ◌+◌, ◌-◌, ◌*◌, ◌/◌, ◌%◌, ◌^◌, ◌<◌, ◌≤◌, ◌↔◌, List, length, Bool, IsTrue, slice_index, slice_set, IsBitSet, bit_and, Some, refl, sym, ap, ap₂, ◌∙◌, subst, subst₂, arith, ⊎_elim, mod-lt, eq-eqb}
+use Rattle.std.specs.Int.{bit_at}
+use Rattle.std.proofs.lemmas.Bool.{cases_eq, ne_eqb, false≢true}
+use Rattle.std.proofs.lemmas.List.{get_or-set_other, length-set}
+use Rattle.std.proofs.lemmas.Grind.{get_or-set_at}
+use Rattle.std.proofs.lemmas.Nat.{div-mul-add, mod-mul-add, div-add-mod', div_below, mul-add-lt, and_le_l}
+use Rattle.word_image.specs.LocalRules.{LocalRule, IsRule, node_count}
+use Rattle.word_image.specs.Graphs.{first_of, second_of, pair_of, pair_count}
+use Rattle.word_image.proofs.laws.Bits.{bit_at-IsBitSet}
+use Rattle.word_image.proofs.laws.Graphs.{next-below}
+use Rattle.word_image.proofs.laws.WindowParts.{some_letter, windows-nodes}
+use Rattle.pair_laws.proofs.Pairs.{first_of-pair_of, second_of-pair_of, pair_of-below, first_of-below, second_of-below, follow-edges, follow-some}
+use Rattle.pair_laws.proofs.Sets.{IsBitSet-and, IsBitSet-below, IsBitSet-minus, IsBitSet-shl}
+use Rattle.pair_graph.specs.declared.edges.Side.{Side}
+use Rattle.pair_graph.specs.declared.edges.Side.TheVariants.{Forward, Backward}
+use Rattle.pair_graph.specs.Edges.{AreEdges, window_at, label_at, end_at}
+use Rattle.pair_graph.specs.PairSets.{holds, truths, AreRows, Leads, LeadsInto, IsTrimmed, AreKept, GoesOn}
+use Rattle.pair_graph.specs.PairRows.{holds_bit, length-truths, same_nodes}
+use Rattle.pair_graph.proofs.BackSteps.{window_before, window_before-below, LeadsBack-windows, led_back}
+
+-- a test of a bit
+tests_bit : (a i : ℕ) → IsTrue (bit_at a i == 1) ↔ IsBitSet a i
+tests_bit a i = (
+  (λ t. ⊎_elim (λ one. (bit_at-IsBitSet a i).1 one) (λ other. absurd (false≢true (sym (ne_eqb (bit_at a i) 1 other) ∙ t))) (cases_eq (bit_at a i) 1)),
+  (λ some. eq-eqb (bit_at a i) 1 ((bit_at-IsBitSet a i).0 some)),
+)
+
+-- a pair is in the list exactly where its bit is 1
+pub holds-truths : (n : ℕ) (rows : List ℕ) (p : ℕ) → p < n * n → IsTrue (holds (truths n rows) p) ↔ IsBitSet (slice_index rows (p / n)) (p % n)
+holds-truths n rows p inside =
+    let at = holds_bit n rows p inside in
+    let test = tests_bit (slice_index rows (p / n)) (p % n) in (
+      (λ t. test.0 (subst (λ (b : Bool). IsTrue b) at t)),
+      (λ some. subst (λ (b : Bool). IsTrue b) (sym at) (test.1 some)),
+    )
+
+-- and so is the pair of two nodes, by the row of the first
+pub holds-place : (n : ℕ) (rows : List ℕ) (u v : ℕ) → u < n → v < n → IsTrue (holds (truths n rows) (u * n + v)) ↔ IsBitSet (slice_index rows u) v
+holds-place n rows u v first second =
+    let exact = holds-truths n rows (u * n + v) (mul-add-lt u n v n first second) in
+    subst₂ (λ (x y : ℕ). IsTrue (holds (truths n rows) (u * n + v)) ↔ IsBitSet (slice_index rows x) y) (div-mul-add u n v second) (mod-mul-add u n v second) exact
+
+-- a row has exactly the nodes whose pairs are in the set
+pub holds-row : (n : ℕ) (rows : List ℕ) (set : List Bool) (u i v : ℕ) {m : ℕ} → m ≡ n → truths m rows ≡ set → AreRows m rows → i ≡ u → u < n
+    → IsBitSet (slice_index rows i) v ↔ ((v < n) × IsTrue (holds set (u * n + v)))
+holds-row n rows set u i v {m} same seen h at node =
+    let sets : truths n rows ≡ set = subst (λ l. truths l rows ≡ set) same seen in
+    let row : slice_index rows i ≡ slice_index rows u = ap (slice_index rows) at in (
+      (λ some.
+          let bit = subst (λ x. IsBitSet x v) row some in
+          let second : v < n = IsBitSet-below n (slice_index rows u) v (subst (λ l. slice_index rows u < 2 ^ l) same (h.within u (omega (arith, same)))) bit in
+          (second, subst (λ s. IsTrue (holds s (u * n + v))) sets ((holds-place n rows u v node second).1 bit))),
+      (λ (second, there). subst (λ x. IsBitSet x v) (sym row) ((holds-place n rows u v node second).0 (subst (λ s. IsTrue (holds s (u * n + v))) (sym sets) there))),
+    )
+
+-- the window of a node and a letter is one of the windows
+pub window_at-within : (side : Side) {r : LocalRule} → IsRule r → (u a : ℕ) → u < node_count r → a < r.states → window_at side r u a < r.states ^ r.width
+window_at-within Forward {r} rule u a node letter = omega (arith, mul-add-lt u r.states a (node_count r) node letter, windows-nodes rule)
+window_at-within Backward {r} rule u a node letter = omega (arith, window_before-below rule a u letter node, windows-nodes rule)
+
+-- it leads to a node
+pub end_at-below : (side : Side) {r : LocalRule} → IsRule r → (u a : ℕ) → u < node_count r → a < r.states → end_at side r u a < node_count r
+end_at-below Forward {r} rule u a node letter = next-below rule u a
+end_at-below Backward {r} rule u a node letter =
+    div_below (window_before r a u) r.states (node_count r) (some_letter rule) (window_before-below rule a u letter node)
+
+-- letters lead from a pair to the pair of the nodes to which they lead, where their labels are equal
+leads_by : (side : Side) {r : LocalRule} → IsRule r → (p a b : ℕ) → p < pair_count r → a < r.states → b < r.states → (q : ℕ)
+    → Leads side r p a b q ↔ ((label_at side r (first_of r p) a ≡ label_at side r (second_of r p) b) × (pair_of r (end_at side r (first_of r p) a) (end_at side r (second_of r p) b) ≡ q))
+leads_by Forward {r} rule p a b inside in_a in_b q = (
+  (λ leads. follow-some r p a b q leads),
+  (λ (same, pair). follow-edges r p a b same ∙ ap Some pair),
+)
+leads_by Backward {r} rule p a b inside in_a in_b q = (
+  (λ leads. led_back rule p a b q leads),
+  (λ (same, pair). (LeadsBack-windows rule p a b (window_before r a (first_of r p)) (window_before r b (second_of r p)) inside in_a in_b refl refl same q).0 (ap Some pair)),
+)
+
+-- labels are small
+small_label : (side : Side) {r : LocalRule} → IsRule r → (u a : ℕ) → u < node_count r → a < r.states → label_at side r u a < 16
+small_label side {r} rule u a node letter =
+    let long = rule.entries in
+    let within = window_at-within side rule u a node letter in
+    omega (arith, rule.letters (window_at side r u a) 0 (omega (arith, within, long)), rule.shape.most_states)
+
+-- the pair of two nodes is in the list exactly where its bit is 1
+holds-pair_of : (r : LocalRule) (rows : List ℕ) (s t : ℕ) → s < node_count r → t < node_count r
+    → IsTrue (holds (truths (node_count r) rows) (pair_of r s t)) ↔ IsBitSet (slice_index rows s) t
+holds-pair_of r rows s t in_s in_t =
+    let exact = holds-truths (node_count r) rows (pair_of r s t) (pair_of-below r s t in_s in_t) in
+    let nodes = λ (some : IsBitSet (slice_index rows (first_of r (pair_of r s t))) (second_of r (pair_of r s t))).
+    subst₂ (λ x y. IsBitSet (slice_index rows x) y) (first_of-pair_of r s t in_t) (second_of-pair_of r s t in_t) some in (
+      (λ t. nodes (exact.0 t)),
+      (λ some. exact.1 (subst₂ (λ x y. IsBitSet (slice_index rows x) y) (sym (first_of-pair_of r s t in_t)) (sym (second_of-pair_of r s t in_t)) some)),
+    )
+
+-- the nodes of a pair go on exactly where some letters lead from it into the set
+pub GoesOn-into : (side : Side) {r : LocalRule} → IsRule r → (ends : List (List ℕ)) (rows : List ℕ) → AreEdges side r (node_count r) ends → (p : ℕ) → p < pair_count r
+    → GoesOn side r ends rows (first_of r p) (second_of r p) ↔ LeadsInto side r (truths (node_count r) rows) p
+GoesOn-into side {r} rule ends rows edges p inside =
+    let u = first_of r p in
+    let v = second_of r p in
+    let in_u : u < node_count r = first_of-below rule p inside in
+    let in_v : v < node_count r = second_of-below rule p in
+    let few : node_count r ≤ 16 = rule.shape.most_nodes in (
+      (λ (a, t, letter, goes).
+          let (b, in_b, (same, arrives)) = (edges v in_v (label_at side r u a) t (small_label side rule u a in_u letter) goes.node).0 goes.second in
+          let q = pair_of r (end_at side r u a) (end_at side r v b) in (
+            a,
+            letter,
+            record {
+              second = b;
+              letter = in_b;
+              pair = q;
+              leads = (leads_by side rule p a b inside letter in_b q).1 (sym same, refl);
+              there = (holds-pair_of r rows (end_at side r u a) (end_at side r v b) (end_at-below side rule u a in_u letter) (end_at-below side rule v b in_v in_b)).1
+                  (subst (IsBitSet (slice_index rows (end_at side r u a))) (sym arrives) goes.pair);
+            },
+          )),
+      (λ (a, letter, into).
+          let b = into.second in
+          let (same, pair) = (leads_by side rule p a b inside letter into.letter into.pair).0 into.leads in
+          let t = end_at side r v b in
+          let below = end_at-below side rule v b in_v into.letter in (
+            a,
+            t,
+            letter,
+            record {
+              node = omega (arith, below);
+              second = (edges v in_v (label_at side r u a) t (small_label side rule u a in_u letter) (omega arith)).1 (b, into.letter, (sym same, refl));
+              pair = (holds-pair_of r rows (end_at side r u a) t (end_at-below side rule u a in_u letter) below).0
+                  (subst (λ q. IsTrue (holds (truths (node_count r) rows) q)) (sym pair) into.there);
+            },
+          )),
+    )
+
+-- one row more
+pub AreKept-next : {Goes : ℕ → ℕ → Type 0} {rows : List ℕ} {n : ℕ} {kept : List ℕ} → AreKept Goes rows n kept
+    → (i j on : ℕ) → i ≡ n → j ≡ n → n < 16 → ((v : ℕ) → v < 16 → (IsBitSet on v ↔ Goes n v))
+    → AreKept Goes rows (n + 1) (slice_set kept i (bit_and (slice_index rows j) on))
+AreKept-next {Goes} {rows} {n} {kept} h i j on at also inside exact =
+    let row = bit_and (slice_index rows j) on in
+    let new = slice_set kept i row in
+    let here : (u : ℕ) → u ≡ n → slice_index new u ≡ row = λ u same. get_or-set_at kept i u row 0 (same ∙ sym at) (omega (arith, h.long, at, inside)) in
+    let there : (u : ℕ) → u ≢ n → slice_index new u ≡ slice_index kept u = λ u other. get_or-set_other kept i u row 0 (λ e. other (e ∙ at)) in
+    let source : (u : ℕ) → u ≡ n → slice_index rows j ≡ slice_index rows u = λ u same. ap (slice_index rows) (also ∙ sym same) in
+    record {
+      long = length-set kept i row ∙ h.long;
+      done = λ u v less small. ⊎_elim
+          (λ same.
+          let goes = exact v small in
+          let both = IsBitSet-and (slice_index rows j) on v in (
+            (λ some. let (first, second) = both.0 (subst (λ x. IsBitSet x v) (here u same) some) in
+                (subst (λ x. IsBitSet x v) (source u same) first, subst (λ x. Goes x v) (sym same) (goes.0 second))),
+            (λ (first, second). subst (λ x. IsBitSet x v) (sym (here u same))
+                (both.1 (subst (λ x. IsBitSet x v) (sym (source u same)) first, goes.1 (subst (λ x. Goes x v) same second)))),
+          ))
+          (λ other.
+          let before = h.done u v (omega (arith, less, other)) small in (
+            (λ some. before.0 (subst (λ x. IsBitSet x v) (there u other) some)),
+            (λ both. subst (λ x. IsBitSet x v) (sym (there u other)) (before.1 both)),
+          ))
+          (cases_eq u n);
+      smaller = λ u. ⊎_elim
+          (λ same. omega (arith, here u same, source u same, and_le_l (slice_index rows j) on))
+          (λ other. omega (arith, there u other, h.smaller u))
+          (cases_eq u n);
+      past = λ u more. there u (omega arith) ∙ h.past u (omega arith);
+    }
+
+-- the kept rows are rows again
+pub AreRows-kept : {Goes : ℕ → ℕ → Type 0} {m : ℕ} {rows kept : List ℕ} (n : ℕ) → AreKept Goes rows m kept
+    → n ≡ m → AreRows n rows → AreRows n kept
+AreRows-kept {Goes} {m} {rows} {kept} n h same rows_of = record {
+  least = rows_of.least;
+  most = rows_of.most;
+  long = h.long;
+  within = λ u less. omega (arith, h.smaller u, rows_of.within u less);
+  past = λ u more. h.past u (omega (arith, same, more));
+}
+
+-- a list of as many truth values as the rule has pairs is one of its nodes
+pub nodes_from_length : (r : LocalRule) (n : ℕ) (rows : List ℕ) (set : List Bool) → truths n rows ≡ set → length set ≡ pair_count r → n ≡ node_count r
+nodes_from_length r n rows set seen long = same_nodes n (node_count r) (sym (length-truths n rows) ∙ ap length seen ∙ long)
+
+-- so what is kept is the set trimmed
+pub IsTrimmed-kept : (side : Side) {r : LocalRule} → IsRule r → (n : ℕ) (ends : List (List ℕ)) (rows kept : List ℕ) (set : List Bool) → n ≡ node_count r → truths n rows ≡ set
+    → AreEdges side r (node_count r) ends → AreKept (GoesOn side r ends rows) rows (node_count r) kept → IsTrimmed side r set (truths n kept)
+IsTrimmed-kept side {r} rule n ends rows kept set same seen edges h =
+    let sets : truths (node_count r) rows ≡ set = subst (λ m. truths m rows ≡ set) same seen in
+    subst (λ m. IsTrimmed side r set (truths m kept)) (sym same) (subst (λ s. IsTrimmed side r s (truths (node_count r) kept)) sets (record {
+      count = length-truths (node_count r) kept;
+      pairs = λ p inside.
+          let after = holds-truths (node_count r) kept p inside in
+          let before = holds-truths (node_count r) rows p inside in
+          let goes = GoesOn-into side rule ends rows edges p inside in
+          let exact = h.done (first_of r p) (second_of r p) (first_of-below rule p inside) (omega (arith, second_of-below rule p, rule.shape.most_nodes)) in (
+            (λ t. let both = exact.0 (after.0 t) in (before.1 both.0, goes.0 both.1)),
+            (λ (there, leads). after.1 (exact.1 (before.0 there, goes.1 leads))),
+          );
+    }))
+
+-- rows without one bit of one row
+abbrev pub removed : List ℕ → ℕ → ℕ → List ℕ
+removed rows i j = slice_set rows i (bit_and (slice_index rows i) (65535 - 1 * 2 ^ j % 2 ^ 16))
+
+-- they are rows
+pub AreRows-removed : (n : ℕ) (rows : List ℕ) (i j : ℕ) → i < n → AreRows n rows → AreRows n (removed rows i j)
+AreRows-removed n rows i j inside h =
+    let row = bit_and (slice_index rows i) (65535 - 1 * 2 ^ j % 2 ^ 16) in
+    record {
+      least = h.least;
+      most = h.most;
+      long = length-set rows i row ∙ h.long;
+      within = λ u less. ⊎_elim
+          (λ same. omega (arith, get_or-set_at rows i u row 0 same (omega (arith, h.long, inside, h.most)), and_le_l (slice_index rows i) (65535 - 1 * 2 ^ j % 2 ^ 16), h.within i inside))
+          (λ other. omega (arith, get_or-set_other rows i u row 0 other, h.within u less))
+          (cases_eq u i);
+      past = λ u more. get_or-set_other rows i u row 0 (omega arith) ∙ h.past u more;
+    }
+
+-- and have every pair but one
+pub holds-removed : (n : ℕ) (rows : List ℕ) (set : List Bool) (p i m : ℕ) → truths n rows ≡ set → AreRows n rows → i ≡ p / n → m ≡ n → p < length set
+    → (q : ℕ) → q < length set → IsTrue (holds (truths n (removed rows i (p % m))) q) ↔ (IsTrue (holds set q) × (q ≢ p))
+holds-removed n rows set p i m seen h at nodes inside q within =
+    let few : length set ≡ n * n = ap length (sym seen) ∙ length-truths n rows in
+    let row = bit_and (slice_index rows i) (65535 - 1 * 2 ^ (p % m) % 2 ^ 16) in
+    let q_in : q < n * n = omega (arith, few) in
+    let place : p % m < 16 = omega (arith, subst (λ x. p % x < x) (sym nodes) (mod-lt p h.least), nodes, h.most) in
+    let after = holds-truths n (removed rows i (p % m)) q q_in in
+    let before : IsTrue (holds set q) ↔ IsBitSet (slice_index rows (q / n)) (q % n) = subst (λ s. IsTrue (holds s q) ↔ IsBitSet (slice_index rows (q / n)) (q % n)) seen (holds-truths n rows q q_in) in
+    let row_in : p / n < n = div_below p n n h.least (omega (arith, few)) in
+    ⊎_elim
+    (λ same.
+    let here : slice_index (removed rows i (p % m)) (q / n) ≡ row = get_or-set_at rows i (q / n) row 0 (same ∙ sym at) (omega (arith, h.long, at, row_in, h.most)) in
+    let both = IsBitSet-minus (slice_index rows i) (1 * 2 ^ (p % m) % 2 ^ 16) (q % n) (mod-lt (1 * 2 ^ (p % m)) {m = 2 ^ 16} (omega arith)) (omega (arith, mod-lt q h.least, h.most)) in
+    let bit = IsBitSet-shl (p % m) (q % n) place in
+    let source : slice_index rows i ≡ slice_index rows (q / n) = ap (slice_index rows) (at ∙ sym same) in (
+      (λ t. let (first, second) = both.0 (subst (λ x. IsBitSet x (q % n)) here (after.0 t)) in
+          (before.1 (subst (λ x. IsBitSet x (q % n)) source first), (λ e. second (bit.1 (ap (λ x. x % n) e ∙ ap (λ x. p % x) (sym nodes)))))),
+      (λ (there, other). after.1 (subst (λ x. IsBitSet x (q % n)) (sym here) (both.1 (
+        subst (λ x. IsBitSet x (q % n)) (sym source) (before.0 there),
+        (λ some. other (sym (div-add-mod' q n) ∙ ap₂ (λ (x y : ℕ). x * n + y) same (bit.0 some ∙ ap (λ x. p % x) nodes) ∙ div-add-mod' p n)),
+      )))),
+    ))
+    (λ no.
+    let there : slice_index (removed rows i (p % m)) (q / n) ≡ slice_index rows (q / n) = get_or-set_other rows i (q / n) row 0 (λ e. no (e ∙ at)) in (
+      (λ t. (before.1 (subst (λ x. IsBitSet x (q % n)) there (after.0 t)), (λ e. no (ap (λ x. x / n) e)))),
+      (λ (holds, other). after.1 (subst (λ x. IsBitSet x (q % n)) (sym there) (before.0 holds))),
+    ))
+    (cases_eq (q / n) (p / n))

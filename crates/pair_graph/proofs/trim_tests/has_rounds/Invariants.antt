@@ -1,0 +1,7 @@
+use Rattle.std.proofs.Common.{◌≡◌, length}
+use Rattle.word_image.specs.Graphs.{pair_count}
+use Rattle.pair_graph.proofs.trim_tests.has_rounds.Given as goal
+
+-- the set is one of the rule's pairs
+abbrev pub invariant-loop-want : goal.invariant-loop-want
+invariant-loop-want g l = length l.set ≡ pair_count l.pairs

@@ -1,0 +1,74 @@
+-- Sets of pairs of nodes: as truth values, pair by pair, and as rows of bits, one row for each first node.
+use Rattle.std.specs.Prelude.{◌≡◌, ◌==◌, ℕ, ◌*◌, ◌/◌, ◌%◌, ◌^◌, ◌<◌, ◌≤◌, List, Bool, false, map, length, Some, ◌↔◌, slice_index, slice_index_or, IsBitSet, IsTrue, count_by, nat_lt}
+use Rattle.std.specs.Simd.Lanes.{mask_l, chunk}
+use Rattle.std.specs.Int.{bit_at}
+use Rattle.std.specs.List.{range_with_len}
+use Rattle.word_image.specs.LocalRules.{LocalRule}
+use Rattle.word_image.specs.Graphs.{follow, pair_count}
+use Rattle.pair_graph.specs.BackSteps.{LeadsBack}
+use Rattle.pair_graph.specs.declared.edges.Side.{Side}
+use Rattle.pair_graph.specs.declared.edges.Side.TheVariants.{Forward, Backward}
+use Rattle.pair_graph.specs.Edges.{ends_at, label_at, end_at}
+
+-- whether a set has a pair
+abbrev pub holds : List Bool → ℕ → Bool
+holds set p = slice_index_or set p false
+
+-- whether bit v of row u is 1, for each pair of n nodes
+abbrev pub truths : ℕ → List ℕ → List Bool
+truths n rows = map (λ p. bit_at (slice_index rows (p / n)) (p % n) == 1) (range_with_len 0 (n * n))
+
+-- how many nodes have so many pairs
+abbrev pub nodes_of : ℕ → ℕ
+nodes_of count = count_by (λ i. nat_lt (i * i) count) (range_with_len 0 16)
+
+-- the rows of truth values of the pairs of n nodes
+abbrev pub rows_of : ℕ → List Bool → List ℕ
+rows_of n set = map (λ u. mask_l (chunk (u * n) n set)) (range_with_len 0 16)
+
+-- 16 rows: those of n nodes, and zeros
+pub record AreRows (n : ℕ) (rows : List ℕ) : Type 0 where
+  pub least : 1 ≤ n
+  pub most : n ≤ 16
+  pub long : length rows ≡ 16
+  pub within : (u : ℕ) → u < n → slice_index rows u < 2 ^ n
+  pub past : (u : ℕ) → n ≤ u → slice_index rows u ≡ 0
+
+-- letters a and b lead from the pair p to the pair q: forward along two edges, and backward against them
+abbrev pub Leads : Side → LocalRule → ℕ → ℕ → ℕ → ℕ → Type 0
+Leads Forward r p a b q = follow r p a b ≡ Some q
+Leads Backward r p a b q = LeadsBack r p a b q
+
+-- the letter a and another one lead from the pair into the set
+pub record LeadsIntoBy (side : Side) (r : LocalRule) (set : List Bool) (p a : ℕ) : Type 0 where
+  pub second : ℕ
+  pub letter : second < r.states
+  pub pair : ℕ
+  pub leads : Leads side r p a second pair
+  pub there : IsTrue (holds set pair)
+
+-- some letters do
+abbrev pub LeadsInto : Side → LocalRule → List Bool → ℕ → Type 0
+LeadsInto side r set p = (a : ℕ) × (a < r.states) × LeadsIntoBy side r set p a
+
+-- what is kept are exactly the pairs of the set from which some letters lead into it
+pub record IsTrimmed (side : Side) (r : LocalRule) (set kept : List Bool) : Type 0 where
+  pub count : length kept ≡ pair_count r
+  pub pairs : (p : ℕ) → p < pair_count r → (IsTrue (holds kept p) ↔ (IsTrue (holds set p) × LeadsInto side r set p))
+
+-- the edge of letter a at node u, and one with its label at node v, lead to two nodes whose pair is in the rows
+pub record GoesOnBy (side : Side) (r : LocalRule) (ends : List (List ℕ)) (rows : List ℕ) (u v a t : ℕ) : Type 0 where
+  pub node : t < 16
+  pub second : IsBitSet (ends_at ends (label_at side r u a) v) t
+  pub pair : IsBitSet (slice_index rows (end_at side r u a)) t
+
+-- some edges do
+abbrev pub GoesOn : Side → LocalRule → List (List ℕ) → List ℕ → ℕ → ℕ → Type 0
+GoesOn side r ends rows u v = (a : ℕ) × (t : ℕ) × (a < r.states) × GoesOnBy side r ends rows u v a t
+
+-- of the first n rows the nodes that go on are kept
+pub record AreKept (Goes : ℕ → ℕ → Type 0) (rows : List ℕ) (n : ℕ) (kept : List ℕ) : Type 0 where
+  pub long : length kept ≡ 16
+  pub done : (u v : ℕ) → u < n → v < 16 → (IsBitSet (slice_index kept u) v ↔ (IsBitSet (slice_index rows u) v × Goes u v))
+  pub smaller : (u : ℕ) → slice_index kept u ≤ slice_index rows u
+  pub past : (u : ℕ) → n ≤ u → slice_index kept u ≡ 0

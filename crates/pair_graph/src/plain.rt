@@ -1,0 +1,70 @@
+//! The trims by plain loops over the steps of pairs.
+
+ghost use Rattle.std.specs.Prelude.{◌≡◌, ℕ, ◌<◌, ◌↔◌, length, IsBitSet, IsTrue};
+ghost use Rattle.word_image.specs.LocalRules.{IsRule, node_count};
+ghost use Rattle.word_image.specs.Graphs.{pair_of, pair_count};
+ghost use Rattle.pair_graph.specs.PairSets.{holds, IsTrimmed, Leads, LeadsInto, LeadsIntoBy};
+
+use crate::edges::{MOST, Side};
+use crate::pair_set::PairSet;
+use crate::pairs::Pairs;
+
+/// What `trim_forward` gives.
+pub fn plain_forward(set: &PairSet, pairs: &Pairs) -> PairSet
+    requires { length set.now ≡ pair_count pairs.now }
+    ensures { IsTrimmed Side.Forward pairs.now set.now result }
+{
+    plain(set, pairs, Side::Forward)
+}
+
+/// What `trim_backward` gives.
+pub fn plain_backward(set: &PairSet, pairs: &Pairs) -> PairSet
+    requires { length set.now ≡ pair_count pairs.now }
+    ensures { IsTrimmed Side.Backward pairs.now set.now result }
+{
+    plain(set, pairs, Side::Backward)
+}
+
+fn plain(set: &PairSet, pairs: &Pairs, side: Side) -> PairSet
+    requires { length set.now ≡ pair_count pairs.now }
+    ensures { IsTrimmed side pairs.now set.now result }
+{
+    let mut kept = *set;
+    for p in 0..pairs.count() {
+        if !leads_into(set, pairs, side, p) {
+            kept.remove(p);
+        }
+    }
+    kept
+}
+
+/// Whether some letters lead from the pair into the set.
+fn leads_into(set: &PairSet, pairs: &Pairs, side: Side, p: u16) -> bool
+    requires count { length set.now ≡ pair_count pairs.now }
+    requires pair { p < pair_count pairs.now }
+    ensures { IsTrue result ↔ LeadsInto side pairs.now set.now p }
+{
+    for a in 0..pairs.rule().k() {
+        if leads_into_by(set, pairs, side, p, a) {
+            return true;
+        }
+    }
+    false
+}
+
+/// Whether the letter a and another one do.
+fn leads_into_by(set: &PairSet, pairs: &Pairs, side: Side, p: u16, a: u8) -> bool
+    requires count { length set.now ≡ pair_count pairs.now }
+    requires pair { p < pair_count pairs.now }
+    requires letter { a < pairs.now.states }
+    ensures { IsTrue result ↔ LeadsIntoBy side pairs.now set.now p a }
+{
+    for b in 0..pairs.rule().k() {
+        if let Some(q) = pairs.step(side, p, a, b) {
+            if set.holds(q) {
+                return true;
+            }
+        }
+    }
+    false
+}
