@@ -49,7 +49,8 @@ impl Model for PairSet {
 impl PairSet {
     /// All pairs.
     pub fn all(pairs: &Pairs) -> PairSet
-        ensures { result ≡ replicate (pair_count pairs.now) true }
+        ensures set { result ≡ replicate (pair_count pairs.now) true }
+        ensures rule { IsRule pairs.now }
     {
         let nodes = pairs.graph().nodes();
         let row = u16::MAX >> (16 - nodes);

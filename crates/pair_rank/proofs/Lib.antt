@@ -1,5 +1,4 @@
 mod Sides
 mod MostRank
-mod EdgeRows
-mod Rows
+mod TrimmedSets
 mod Tables

@@ -9,9 +9,9 @@ use Rattle.word_image.specs.Graphs.{pair_of, pair_count}
 use Rattle.word_image.specs.Ranks.{IsRank, IsEndless}
 use Rattle.word_image.proofs.laws.Searches.{twice_below}
 use Rattle.pair_laws.proofs.Pairs.{pair_of-below}
-use Rattle.pair_rank.specs.declared.edges.Side.{Side}
+use Rattle.pair_graph.specs.declared.edges.Side.{Side}
 use Rattle.pair_rank.specs.Sides.{Together}
-use Rattle.pair_rank.proofs.Sides.{Together-below, Together-less, Together-same, Together-step, Together-push}
+use Rattle.pair_rank.proofs.Sides.{Together-below, Together-less, Together-same, Together-step}
 
 -- there are two nodes of each rank up to that of any two
 lesser_rank : (side : Side) {r : LocalRule} → IsRule r → (n u v : ℕ) → IsRank (Together side r u v) n → (i : ℕ) → i ≤ n
@@ -25,7 +25,7 @@ lesser_rank side {r} rule (suc n) u v rank i l =
     lesser_rank side rule n on.s on.t (record {
       holds = on.pair;
       no_more = λ more. rank.no_more (Together-less side rule u v (suc n + 1) (n + 1 + 1) (omega arith)
-          (Together-push side rule (record { label = on.label; s = on.s; t = on.t; first = on.first; second = on.second; pair = more })));
+          (on.back (n + 1) more));
     }) i (omega (arith, other)))
     (cases_eq i (suc n))
 

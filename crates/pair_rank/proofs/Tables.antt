@@ -1,20 +1,19 @@
 -- Tables of ranks, one pair more at a time.
-use Rattle.std.proofs.Common.{◌≡◌, ℕ, ◌+◌, ◌-◌, ◌*◌, ◌^◌, ◌<◌, ◌≤◌, ◌↔◌, ◌⊎◌, inl, inr, List, Option, Some, None, Bool, true, IsTrue, length, IsBitSet, bit_and, slice_index, slice_set, refl, sym, ◌∙◌, subst, arith, ⊎_elim}
+use Rattle.std.proofs.Common.{◌≡◌, ℕ, ◌+◌, ◌-◌, ◌*◌, ◌^◌, ◌<◌, ◌≤◌, ◌↔◌, ◌⊎◌, inl, inr, List, Option, Some, None, Bool, true, false, IsTrue, length, IsBitSet, bit_and, slice_set, refl, sym, ap, ◌∙◌, subst, arith, ⊎_elim}
 use Rattle.std.specs.Prelude.{MatchOption}
-use Rattle.std.specs.Int.{bit_at}
-use Rattle.std.proofs.lemmas.Bool.{cases_eq}
+use Rattle.std.proofs.lemmas.Bool.{cases_eq, false≢true}
 use Rattle.std.proofs.lemmas.List.{get_or-set_other}
 use Rattle.std.proofs.lemmas.Grind.{get_or-set_at}
 use Rattle.word_image.specs.LocalRules.{LocalRule, IsRule, node_count}
+use Rattle.word_image.specs.Graphs.{pair_of}
 use Rattle.word_image.specs.Ranks.{IsRank, IsEndless}
-use Rattle.word_image.proofs.laws.Bits.{bit_at-IsBitSet}
-use Rattle.pair_rank.specs.declared.edges.Side.{Side}
-use Rattle.pair_rank.specs.Sides.{Together, AreRanks, rank_at}
-use Rattle.pair_rank.specs.Rounds.{HasFallen}
-use Rattle.pair_rank.proofs.Sides.{Together-below, Together-less, Together-zero, Together-rank, IsStable, IsStable-endless}
-use Rattle.pair_rank.proofs.MostRank.{IsRank-most}
+use Rattle.pair_graph.specs.declared.edges.Side.{Side}
+use Rattle.pair_graph.specs.PairSets.{holds}
+use Rattle.pair_rank.specs.Sides.{Together, AreRanks, HasFallen, AreEndless, rank_at}
+use Rattle.pair_rank.proofs.Sides.{Together-zero, PairGoes-pair_of}
+use Rattle.pair_laws.proofs.Pairs.{pair_of-below}
 use Rattle.pair_laws.proofs.Sets.{IsBitSet-minus}
-use Rattle.pair_rank.proofs.Rows.{AreRows}
+use Rattle.pair_rank.proofs.TrimmedSets.{AreTogether, AreTogether-nodes}
 
 -- of the first w nodes those of the set have the rank n with u, and no other rank has changed
 pub record IsGiven (set u n w : ℕ) (old new : List (Option ℕ)) : Type 0 where
@@ -44,47 +43,34 @@ IsGiven-skip {set} {u} {n} {w} {old} {new} h absent = record {
 }
 
 -- what a row has more than the one after it has fallen
-pub HasFallen-minus : (rows after : List ℕ) (u i j v : ℕ) → i ≡ u → j ≡ u → slice_index after j < 2 ^ 16 → v < 16
-    → IsBitSet (bit_and (slice_index rows i) (65535 - slice_index after j)) v ↔ HasFallen rows after u v
-HasFallen-minus rows after u i j v at also small inside =
-    let both = IsBitSet-minus (slice_index rows i) (slice_index after j) v small inside in (
-      (λ some. let (first, none) = both.0 some in record {
-        before = subst (λ x. IsBitSet (slice_index rows x) v) at first;
-        no_more = λ second. none (subst (λ x. IsBitSet (slice_index after x) v) (sym also) second);
-      }),
-      (λ falls. both.1 (
-        subst (λ x. IsBitSet (slice_index rows x) v) (sym at) falls.before,
-        (λ second. falls.no_more (subst (λ x. IsBitSet (slice_index after x) v) also second)),
-      )),
+pub HasFallen-minus : (n : ℕ) (set after : List Bool) (u row next : ℕ) → next < 2 ^ 16
+    → ((v : ℕ) → v < 16 → (IsBitSet row v ↔ ((v < n) × IsTrue (holds set (u * n + v))))) → ((v : ℕ) → v < 16 → (IsBitSet next v ↔ ((v < n) × IsTrue (holds after (u * n + v)))))
+    → (v : ℕ) → v < 16 → IsBitSet (bit_and row (65535 - next)) v ↔ HasFallen n set after u v
+HasFallen-minus n set after u row next small before later v inside =
+    let both = IsBitSet-minus row next v small inside in (
+      (λ some.
+          let (first, none) = both.0 some in
+          let (node, there) = (before v inside).0 first in
+          record { node = node; before = there; no_more = λ still. none ((later v inside).1 (node, still)) }),
+      (λ falls. both.1 ((before v inside).1 (falls.node, falls.before), (λ still. falls.no_more ((later v inside).0 still).1))),
     )
 
--- in the first w rows what has fallen has the rank n, and no other rank has changed; and whether any has fallen
-pub record IsNoted (rows after : List ℕ) (n w : ℕ) (old new : List (Option ℕ)) (any : Bool) : Type 0 where
-  pub fallen : (u v : ℕ) → u < w → v < 16 → HasFallen rows after u v → rank_at new u v ≡ Some n
-  pub kept : (u v : ℕ) → v < 16 → (u < w → ¬ HasFallen rows after u v) → rank_at new u v ≡ rank_at old u v
-  pub none : (u v : ℕ) → u < w → v < 16 → HasFallen rows after u v → IsTrue any
+-- in the first w rows what has fallen has the rank n, and no other rank has changed
+pub record IsNoted (nodes : ℕ) (set after : List Bool) (n w : ℕ) (old new : List (Option ℕ)) : Type 0 where
+  pub fallen : (u v : ℕ) → u < w → v < 16 → HasFallen nodes set after u v → rank_at new u v ≡ Some n
+  pub kept : (u v : ℕ) → v < 16 → (u < w → ¬ HasFallen nodes set after u v) → rank_at new u v ≡ rank_at old u v
 
--- some nodes of the next row have fallen
-pub IsNoted-take : {rows after : List ℕ} {n w : ℕ} {old new : List (Option ℕ)} {any : Bool} → IsNoted rows after n w old new any
-    → (set : ℕ) (next : List (Option ℕ)) → ((v : ℕ) → v < 16 → (IsBitSet set v ↔ HasFallen rows after w v)) → IsGiven set w n 16 new next → IsNoted rows after n (w + 1) old next true
-IsNoted-take {rows} {after} {n} {w} {old} {new} h set next exact given = record {
+-- the nodes of the next row that have fallen are given it
+pub IsNoted-next : {nodes : ℕ} {set after : List Bool} {n w : ℕ} {old new : List (Option ℕ)} → IsNoted nodes set after n w old new
+    → (row : ℕ) (next : List (Option ℕ)) → ((v : ℕ) → v < 16 → (IsBitSet row v ↔ HasFallen nodes set after w v)) → IsGiven row w n 16 new next → IsNoted nodes set after n (w + 1) old next
+IsNoted-next {nodes} {set} {after} {n} {w} {old} {new} h row next exact given = record {
   fallen = λ u v less small falls. ⊎_elim
-      (λ same. subst (λ x. rank_at next x v ≡ Some n) (sym same) (given.given v small ((exact v small).1 (subst (λ x. HasFallen rows after x v) same falls))))
+      (λ same. subst (λ x. rank_at next x v ≡ Some n) (sym same) (given.given v small ((exact v small).1 (subst (λ x. HasFallen nodes set after x v) same falls))))
       (λ other. given.kept u v small (λ same less. absurd (other same)) ∙ h.fallen u v (omega (arith, other)) small falls)
       (cases_eq u w);
   kept = λ u v small free.
-      given.kept u v small (λ same less some. free (omega arith) (subst (λ x. HasFallen rows after x v) (sym same) ((exact v small).0 some)))
+      given.kept u v small (λ same less some. free (omega arith) (subst (λ x. HasFallen nodes set after x v) (sym same) ((exact v small).0 some)))
       ∙ h.kept u v small (λ less. free (omega arith));
-  none = λ u v less small falls. refl;
-}
-
--- none has
-pub IsNoted-skip : {rows after : List ℕ} {n w : ℕ} {old new : List (Option ℕ)} {any : Bool} → IsNoted rows after n w old new any
-    → ((v : ℕ) → v < 16 → ¬ HasFallen rows after w v) → IsNoted rows after n (w + 1) old new any
-IsNoted-skip {rows} {after} {n} {w} {old} {new} h none = record {
-  fallen = λ u v less small falls. ⊎_elim (λ same. absurd (none v small (subst (λ x. HasFallen rows after x v) same falls))) (λ other. h.fallen u v (omega (arith, other)) small falls) (cases_eq u w);
-  kept = λ u v small free. h.kept u v small (λ less. free (omega arith));
-  none = λ u v less small falls. ⊎_elim (λ same. absurd (none v small (subst (λ x. HasFallen rows after x v) same falls))) (λ other. h.none u v (omega (arith, other)) small falls) (cases_eq u w);
 }
 
 -- each two nodes have their rank, or go on together for n
@@ -102,64 +88,44 @@ known_as : (P Q : Type 0) (R : ℕ → Type 0) (o : Option ℕ) → (P → Q) �
 known_as P Q R None f p = f p
 known_as P Q R (Some n) f rank = rank
 
--- whether a pair has fallen
-fallen_or_not : (rows after : List ℕ) (u v : ℕ) → HasFallen rows after u v ⊎ ¬ HasFallen rows after u v
-fallen_or_not rows after u v =
-    ⊎_elim
-    (λ present. ⊎_elim
-    (λ stays. inr (λ f. f.no_more ((bit_at-IsBitSet (slice_index after u) v).1 stays)))
-    (λ gone. inl (record { before = (bit_at-IsBitSet (slice_index rows u) v).1 present; no_more = λ some. gone ((bit_at-IsBitSet (slice_index after u) v).0 some) }))
-    (cases_eq (bit_at (slice_index after u) v) 1))
-    (λ absent. inr (λ f. absent ((bit_at-IsBitSet (slice_index rows u) v).0 f.before)))
-    (cases_eq (bit_at (slice_index rows u) v) 1)
+-- a test tells
+told : (b : Bool) → IsTrue b ⊎ ¬ IsTrue b
+told true = inl refl
+told false = inr false≢true
 
--- what goes on for n and hasn't fallen goes on for n + 1
-goes_on : (side : Side) (r : LocalRule) (n : ℕ) (rows after : List ℕ) → AreRows side r n rows → AreRows side r (n + 1) after → (u v : ℕ) → u < node_count r → v < node_count r
-    → ¬ HasFallen rows after u v → Together side r u v n → Together side r u v (n + 1)
-goes_on side r n rows after before next u v in_u in_v stays holds =
-    ⊎_elim
-    (λ one. (next u v in_u in_v).0 ((bit_at-IsBitSet (slice_index after u) v).1 one))
-    (λ other. absurd (stays (record {
-      before = (before u v in_u in_v).1 holds;
-      no_more = λ some. other ((bit_at-IsBitSet (slice_index after u) v).0 some);
-    })))
-    (cases_eq (bit_at (slice_index after u) v) 1)
+-- whether a pair has fallen
+fallen_or_not : (n : ℕ) (set after : List Bool) (u v : ℕ) → v < n → IsTrue (holds set (u * n + v)) → HasFallen n set after u v ⊎ IsTrue (holds after (u * n + v))
+fallen_or_not n set after u v node there =
+    ⊎_elim (λ stays. inr stays) (λ gone. inl (record { node = node; before = there; no_more = gone })) (told (holds after (u * n + v)))
 
 -- a round later the pairs that have fallen have the rank n
-pub AreRanksSoFar-next : (side : Side) {r : LocalRule} → IsRule r → (n nodes : ℕ) (rows after : List ℕ) (old new : List (Option ℕ)) → nodes ≡ node_count r → AreRows side r n rows → AreRows side r (n + 1) after
-    → AreRanksSoFar side r n old
-    → ((u v : ℕ) → u < nodes → v < 16 → HasFallen rows after u v → rank_at new u v ≡ Some n)
-    → ((u v : ℕ) → u < nodes → v < 16 → ¬ HasFallen rows after u v → rank_at new u v ≡ rank_at old u v)
+pub AreRanksSoFar-next : {side : Side} {r : LocalRule} → IsRule r → {n : ℕ} {set after : List Bool} → (nodes : ℕ) (old new : List (Option ℕ)) → nodes ≡ node_count r
+    → AreTogether side r n set → AreTogether side r (n + 1) after → AreRanksSoFar side r n old
+    → ((u v : ℕ) → u < nodes → v < 16 → HasFallen nodes set after u v → rank_at new u v ≡ Some n)
+    → ((u v : ℕ) → u < nodes → v < 16 → ¬ HasFallen nodes set after u v → rank_at new u v ≡ rank_at old u v)
     → AreRanksSoFar side r (n + 1) new
-AreRanksSoFar-next side {r} rule n nodes rows after old new count before next ranks fallen kept u v in_u in_v =
+AreRanksSoFar-next {side} {r} rule {n} {set} {after} nodes old new count before next ranks fallen kept u v in_u in_v =
     let few : node_count r ≤ 16 = rule.shape.most_nodes in
+    let now = AreTogether-nodes before u v in_u in_v in
+    let later = AreTogether-nodes next u v in_u in_v in
+    let at : pair_of r u v ≡ u * nodes + v = ap (λ m. u * m + v) (sym count) in
+    let P = λ (o : Option ℕ). MatchOption o (Together side r u v (n + 1)) (IsRank (Together side r u v)) in
+    let stays : ¬ HasFallen nodes set after u v → (Together side r u v n → Together side r u v (n + 1)) → P (rank_at new u v) = λ no on.
+    subst P (sym (kept u v (omega arith) (omega arith) no)) (known_as (Together side r u v n) (Together side r u v (n + 1)) (IsRank (Together side r u v)) (rank_at old u v) on (ranks u v in_u in_v)) in
     ⊎_elim
-    (λ falls. subst (λ (o : Option ℕ). MatchOption o (Together side r u v (n + 1)) (IsRank (Together side r u v))) (sym (fallen u v (omega arith) (omega arith) falls))
-    (record { holds = (before u v in_u in_v).0 falls.before; no_more = λ more. falls.no_more ((next u v in_u in_v).1 more) }))
-    (λ stays. subst (λ (o : Option ℕ). MatchOption o (Together side r u v (n + 1)) (IsRank (Together side r u v))) (sym (kept u v (omega arith) (omega arith) stays))
-    (known_as (Together side r u v n) (Together side r u v (n + 1)) (IsRank (Together side r u v)) (rank_at old u v) (goes_on side r n rows after before next u v in_u in_v stays) (ranks u v in_u in_v)))
-    (fallen_or_not rows after u v)
+    (λ there. ⊎_elim
+    (λ falls. subst P (sym (fallen u v (omega arith) (omega arith) falls)) (record {
+      holds = now.0 (subst (λ p. IsTrue (holds set p)) (sym at) falls.before);
+      no_more = λ more. falls.no_more (subst (λ p. IsTrue (holds after p)) at (later.1 more));
+    }))
+    (λ still. stays (λ falls. falls.no_more still) (λ goes. later.0 (subst (λ p. IsTrue (holds after p)) (sym at) still)))
+    (fallen_or_not nodes set after u v (omega arith) there))
+    (λ gone. stays (λ falls. gone falls.before) (λ goes. absurd (gone (subst (λ p. IsTrue (holds set p)) at (now.1 goes)))))
+    (told (holds set (u * nodes + v)))
 
--- where none has fallen the ranks are exact
-pub AreRanks-stable : (side : Side) {r : LocalRule} → IsRule r → (n nodes : ℕ) (rows after : List ℕ) (old new : List (Option ℕ)) → nodes ≡ node_count r → AreRows side r n rows → AreRows side r (n + 1) after
-    → AreRanksSoFar side r n old
-    → ((u v : ℕ) → u < nodes → v < 16 → ¬ HasFallen rows after u v)
-    → ((u v : ℕ) → u < nodes → v < 16 → ¬ HasFallen rows after u v → rank_at new u v ≡ rank_at old u v)
-    → AreRanks side r new
-AreRanks-stable side {r} rule n nodes rows after old new count before next ranks none kept u v in_u in_v =
-    let few : node_count r ≤ 16 = rule.shape.most_nodes in
-    let stable : IsStable side r n = λ s t holds.
-    let ends = Together-below side r s t n holds in
-    goes_on side r n rows after before next s t ends.0 ends.1 (none s t (omega (arith, ends.0)) (omega (arith, ends.1))) holds in
-    subst (λ (o : Option ℕ). MatchOption o (IsEndless (Together side r u v)) (IsRank (Together side r u v))) (sym (kept u v (omega arith) (omega arith) (none u v (omega arith) (omega arith))))
-    (known_as (Together side r u v n) (IsEndless (Together side r u v)) (IsRank (Together side r u v)) (rank_at old u v) (IsStable-endless side rule n u v stable) (ranks u v in_u in_v))
-
--- and after 240 rounds they are
-pub AreRanks-all : (side : Side) {r : LocalRule} → IsRule r → (n : ℕ) → 240 ≤ n → (ranks : List (Option ℕ)) → AreRanksSoFar side r n ranks → AreRanks side r ranks
-AreRanks-all side {r} rule n many ranks known u v in_u in_v =
+-- where the pairs that still go on are endless the ranks are exact
+pub AreRanks-endless : {side : Side} {r : LocalRule} {n : ℕ} {set : List Bool} (ranks : List (Option ℕ)) → AreTogether side r n set → AreEndless side r set → AreRanksSoFar side r n ranks → AreRanks side r ranks
+AreRanks-endless {side} {r} {n} {set} ranks now endless known u v in_u in_v =
     known_as (Together side r u v n) (IsEndless (Together side r u v)) (IsRank (Together side r u v)) (rank_at ranks u v)
-    (λ holds. ⊎_elim
-    (λ (m, rank). let few = IsRank-most side rule u v m rank in absurd (rank.no_more (Together-less side rule u v (m + 1) n (omega arith) holds)))
-    (λ endless. endless)
-    (Together-rank side rule u v in_u in_v))
+    (λ goes j. (PairGoes-pair_of side r u v j in_v).0 ((endless.pairs (pair_of r u v) (pair_of-below r u v in_u in_v)).0 ((AreTogether-nodes now u v in_u in_v).1 goes) j))
     (known u v in_u in_v)

@@ -1,32 +1,25 @@
--- Edges and ranks read in one of two directions: along the edges, or against them.
-use Rattle.std.specs.Prelude.{◌≡◌, ℕ, ◌+◌, ◌*◌, ◌/◌, ◌%◌, ◌<◌, List, None, slice_index, slice_index_or, MatchOption, Option}
+-- What ranks and endless pairs are, forward and backward.
+use Rattle.std.specs.Prelude.{◌≡◌, ℕ, ◌+◌, ◌*◌, ◌<◌, ◌↔◌, List, Bool, Option, None, IsTrue, MatchOption, length, slice_index_or}
 use Rattle.word_image.specs.LocalRules.{LocalRule, node_count}
+use Rattle.word_image.specs.Graphs.{first_of, second_of, pair_count}
 use Rattle.word_image.specs.Ranks.{BeginTogether, EndTogether, IsRank, IsEndless}
-use Rattle.pair_rank.specs.declared.edges.Side.{Side}
-use Rattle.pair_rank.specs.declared.edges.Side.TheVariants.{Forward, Backward}
+use Rattle.pair_graph.specs.declared.edges.Side.{Side}
+use Rattle.pair_graph.specs.declared.edges.Side.TheVariants.{Forward, Backward}
+use Rattle.pair_graph.specs.PairSets.{holds}
 
 -- two nodes go on together for n: forward they begin together, and backward they end together
 abbrev pub Together : Side → LocalRule → ℕ → ℕ → ℕ → Type 0
 Together Forward = BeginTogether
 Together Backward = EndTogether
 
--- the node that a window leaves: forward that of its first m - 1 letters, and backward that of its last
-abbrev pub from_node : Side → LocalRule → ℕ → ℕ
-from_node Forward r w = w / r.states
-from_node Backward r w = w % node_count r
+-- the nodes of a pair do
+abbrev pub PairGoes : Side → LocalRule → ℕ → ℕ → Type 0
+PairGoes side r p = Together side r (first_of r p) (second_of r p)
 
--- and the node where it arrives
-abbrev pub to_node : Side → LocalRule → ℕ → ℕ
-to_node Forward r w = w % node_count r
-to_node Backward r w = w / r.states
-
--- one of the first n windows has this label, leaves u and arrives at v
-pub record IsEdge (side : Side) (r : LocalRule) (n label u v : ℕ) : Type 0 where
-  pub window : ℕ
-  pub within : window < n
-  pub labelled : slice_index r.table window ≡ label
-  pub leaves : from_node side r window ≡ u
-  pub arrives : to_node side r window ≡ v
+-- the set has exactly the pairs that are endless
+pub record AreEndless (side : Side) (r : LocalRule) (set : List Bool) : Type 0 where
+  pub count : length set ≡ pair_count r
+  pub pairs : (p : ℕ) → p < pair_count r → (IsTrue (holds set p) ↔ IsEndless (PairGoes side r p))
 
 -- the rank of u and v in a table that has it at 16 * u + v
 abbrev pub rank_at : List (Option ℕ) → ℕ → ℕ → Option ℕ
@@ -36,3 +29,9 @@ rank_at ranks u v = slice_index_or ranks (16 * u + v) None
 abbrev pub AreRanks : Side → LocalRule → List (Option ℕ) → Type 0
 AreRanks side r ranks =
     (u v : ℕ) → u < node_count r → v < node_count r → MatchOption (rank_at ranks u v) (IsEndless (Together side r u v)) (IsRank (Together side r u v))
+
+-- of n nodes v is one whose pair with u is in the set, and no longer in that after it
+pub record HasFallen (n : ℕ) (set after : List Bool) (u v : ℕ) : Type 0 where
+  pub node : v < n
+  pub before : IsTrue (holds set (u * n + v))
+  pub no_more : ¬ IsTrue (holds after (u * n + v))

@@ -11,20 +11,21 @@
 //! for the last letter, which no window has in its middle: they end together for every n.
 //!
 //! The pairs that begin together for n + 1 are those from which two edges with one label lead to a
-//! pair that does for n. So rounds remove, from the set of all pairs, in round n the pairs of rank n,
-//! and stop where none is left to remove. Backward the same rounds read the edges backwards. A pair of
-//! rank n leads to pairs of each rank below n, and a pair of a node with itself is endless: so a finite
-//! rank is below N * (N - 1), at most 239.
+//! pair that does for n. So rounds trim the set of all pairs, in round n by the pairs of rank n, and
+//! stop where a round leaves all: what is left is endless. Backward the same rounds read the edges
+//! backwards. A pair of rank n leads to pairs of each rank below n, and a pair of a node with itself is
+//! endless: so a finite rank is below N * (N - 1), at most 239.
 //!
 //! For k states and N = k^(m - 1) nodes a set of pairs is N rows of bits, and a round takes time
-//! **O(k·N)** in operations on rows, `of` at most **O(k·N·N²)**, and each look-up **O(1)**. No call
+//! **O(k·N)** in operations on rows, each `of` at most **O(k·N·N²)**, and each look-up **O(1)**. No call
 //! takes memory.
 #![tactic(auto)]
 
-mod edges;
+mod endless;
 mod ranks;
 mod rounds;
 #[cfg(test)]
 mod tests;
 
+pub use endless::Endless;
 pub use ranks::Ranks;

@@ -4,16 +4,17 @@ ghost use Rattle.std.specs.Prelude.{◌≡◌, ◌<◌, ◌≤◌, IfSome, Match
 ghost use Rattle.word_image.specs.LocalRules.{IsRule, node_count};
 ghost use Rattle.word_image.specs.Ranks.{BeginTogether, EndTogether, IsRank, IsEndless};
 
-use crate::edges::{MOST, Side};
-use crate::rounds::{RankTable, exact_ranks};
+use crate::endless::Endless;
+use crate::rounds::{MOST, RankTable, exact_ranks};
+use pair_graph::{Pairs, Side};
 use std::marker::Model;
 use word_image::Rule;
 
 /// The forward and backward ranks of all pairs of nodes of a rule, seen as that rule.
 #[derive(Drop)]
 pub struct Ranks {
-    // The rule.
-    rule: Rule,
+    // The pairs that have no finite rank.
+    endless: Endless,
     // The forward rank of each two nodes.
     forward: RankTable,
     // The backward rank of each two nodes.
@@ -23,24 +24,30 @@ pub struct Ranks {
 impl Model for Ranks {
     ghost use Rattle.word_image.specs.LocalRules.{LocalRule, IsRule};
     ghost use Rattle.pair_rank.specs.Sides.{AreRanks};
-    ghost use Rattle.pair_rank.specs.declared.edges.Side.TheVariants.{Forward, Backward};
+    ghost use Rattle.pair_graph.specs.declared.edges.Side.TheVariants.{Forward, Backward};
 
     ghost Value = { LocalRule };
 
-    ghost view = { λ r. r.rule };
+    ghost view = { λ r. r.endless };
 
-    ghost invariant = { λ r. IsRule r.rule × AreRanks Forward r.rule r.forward × AreRanks Backward r.rule r.backward };
+    ghost invariant = { λ r. IsRule r.endless × AreRanks Forward r.endless r.forward × AreRanks Backward r.endless r.backward };
 }
 
 impl Ranks {
-    /// The ranks of this rule.
-    pub fn of(rule: &Rule) -> Ranks
-        ensures { result ≡ rule.now }
+    /// The ranks of the rule of these pairs.
+    pub fn of(pairs: &Pairs) -> Ranks
+        ensures { result ≡ pairs.now }
     {
+        let (forward, begins) = exact_ranks(pairs, Side::Forward);
+        let (backward, ends) = exact_ranks(pairs, Side::Backward);
         Ranks {
-            rule: *rule,
-            forward: exact_ranks(rule, Side::Forward),
-            backward: exact_ranks(rule, Side::Backward),
+            endless: Endless {
+                rule: *pairs.rule(),
+                forward: begins,
+                backward: ends,
+            },
+            forward,
+            backward,
         }
     }
 
@@ -49,7 +56,14 @@ impl Ranks {
         ensures value { result.now ≡ self.now }
         ensures rule { IsRule self.now }
     {
-        &self.rule
+        self.endless.rule()
+    }
+
+    /// The endless pairs of that rule.
+    pub fn endless(&self) -> &Endless
+        ensures { result.now ≡ self.now }
+    {
+        &self.endless
     }
 
     /// For how long two nodes begin together: the greatest n such that two words of n + m - 1 letters

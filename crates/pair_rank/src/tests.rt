@@ -1,6 +1,7 @@
 //! Ranks, as a listing of words gives them.
 
-use crate::Ranks;
+use crate::{Endless, Ranks};
+use pair_graph::Pairs;
 use std::alloc::{AllocError, Global};
 use std::process::Abort;
 use std::test::Fail;
@@ -65,10 +66,13 @@ fn rank_of(digit: u8) -> Option<u16> {
 }
 
 fn has_ranks(rt: &impl Abort, rule: &Rule, forward: &[u8], backward: &[u8]) {
-    let ranks = Ranks::of(rule);
+    let pairs = Pairs::of(rule);
+    let ranks = Ranks::of(&pairs);
+    let endless = Endless::of(&pairs);
     let nodes = rule.nodes();
-    let pairs = usize::from(nodes) * usize::from(nodes);
-    assert_eq!(rt; (forward.len(), backward.len()), (pairs, pairs));
+    let count = usize::from(nodes) * usize::from(nodes);
+    assert_eq!(rt; (forward.len(), backward.len()), (count, count));
+    assert!(rt; ranks.rule() == rule && ranks.endless().rule() == rule);
     for u in 0..nodes {
         for v in 0..nodes {
             let pair = usize::from(u) * usize::from(nodes) + usize::from(v);
@@ -83,6 +87,14 @@ fn has_ranks(rt: &impl Abort, rule: &Rule, forward: &[u8], backward: &[u8]) {
                 rank_of(backward[pair]),
                 "backward at {u} and {v}"
             );
+            assert_eq!(rt;
+                (endless.forward(u) >> v & 1, endless.backward(u) >> v & 1),
+                (
+                    u16::from(forward[pair] == b'.'),
+                    u16::from(backward[pair] == b'.')
+                ),
+                "endless at {u} and {v}"
+            );
         }
     }
 }
@@ -92,7 +104,6 @@ fn rules_have_these_ranks(rt: HostRuntime) -> Result<(), Fail> {
     for (k, m, o, digits, forward, backward) in CASES {
         let table = letters(rt.alloc(), digits)?;
         let rule = Rule::new(k, m, o, &table)?;
-        assert!(rt; *Ranks::of(&rule).rule() == rule);
         has_ranks(&rt, &rule, forward, backward);
     }
     Ok(())

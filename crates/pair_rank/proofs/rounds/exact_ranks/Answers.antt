@@ -1,34 +1,41 @@
-use Rattle.std.proofs.Common.{ℕ, ◌+◌, ◌*◌, Option, None, replicate, arith}
+use Rattle.std.proofs.Common.{ℕ, ◌≡◌, ◌+◌, ◌*◌, Option, None, replicate, ap, subst, sym, ◌∙◌, arith}
 use Rattle.std.proofs.lemmas.List.{get_or-replicate}
-use Rattle.pair_rank.proofs.Rows.{AreRows-all, AreRows-next}
-use Rattle.pair_rank.proofs.Tables.{AreRanksSoFar-none, AreRanksSoFar-next, AreRanks-stable, AreRanks-all}
+use Rattle.word_image.specs.LocalRules.{node_count}
+use Rattle.pair_graph.specs.PairSets.{IsTrimmed}
+use Rattle.pair_rank.proofs.TrimmedSets.{AreTogether, AreTogether-all, AreTogether-next, AreEndless-stable, AreEndless-all}
+use Rattle.pair_rank.proofs.Tables.{AreRanksSoFar-none, AreRanksSoFar-next, AreRanks-endless}
 use Rattle.pair_rank.proofs.rounds.exact_ranks.Goals as goal
 
 pub loop-n-init : goal.loop-n-init
 loop-n-init c = record {
-  rows = AreRows-all c.args.side c.k-k.ensures.rule (replicate 16 65535) (λ u inside. get_or-replicate 16 u 65535 0 inside);
-  ranks = AreRanksSoFar-none c.args.side c.k-k.ensures.rule (replicate {A = Option ℕ} 256 None) (λ u v in_u in_v. get_or-replicate {A = Option ℕ} 256 (16 * u + v) None None (omega arith));
+  pairs = subst (AreTogether c.args.side c.args.pairs.now 0) (sym c.all-set.ensures.set) (AreTogether-all c.args.side c.all-set.ensures.rule);
+  ranks = AreRanksSoFar-none c.args.side c.all-set.ensures.rule (replicate {A = Option ℕ} 256 None) (λ u v in_u in_v. get_or-replicate {A = Option ℕ} 256 (16 * u + v) None None (omega arith));
 }
 
 pub loop-n-preserved : goal.loop-n-preserved
 loop-n-preserved c =
-    let rule = c.k-k.ensures.rule in
-    let nodes = c.nodes-nodes.ensures.nodes in
-    let next = AreRows-next c.args.side rule c.loop-n.n _ _ _ _ _ c.k-k.ensures.states nodes c.edges-ends.ensures c.loop-n.invariant.rows c.round-after.ensures in
-    let noted = c.note_fallen.ensures in
+    let rule = c.all-set.ensures.rule in
+    let nodes : c.nodes-nodes.result ≡ node_count c.args.pairs.now = c.nodes-nodes.ensures.nodes ∙ ap node_count c.rule.ensures in
+    let h = c.loop-n.invariant in
+    let next = AreTogether-next rule h.pairs c.trim-after.ensures in
     record {
-      rows = next;
-      ranks = AreRanksSoFar-next c.args.side rule c.loop-n.n _ _ _ _ _ nodes c.loop-n.invariant.rows next c.loop-n.invariant.ranks noted.fallen noted.kept;
+      pairs = next;
+      ranks = AreRanksSoFar-next rule c.nodes-nodes.result c.loop-n.ranks c.note_fallen.new.ranks nodes h.pairs next h.ranks c.note_fallen.ensures.fallen c.note_fallen.ensures.kept;
     }
 
-pub returns-then-not-note_fallen-clause-ranks : goal.returns-then-not-note_fallen-clause-ranks
-returns-then-not-note_fallen-clause-ranks c =
-    let rule = c.k-k.ensures.rule in
-    let nodes = c.nodes-nodes.ensures.nodes in
-    let next = AreRows-next c.args.side rule c.loop-n.n _ _ _ _ _ c.k-k.ensures.states nodes c.edges-ends.ensures c.loop-n.invariant.rows c.round-after.ensures in
-    let noted = c.note_fallen.ensures in
-    AreRanks-stable c.args.side rule c.loop-n.n _ _ _ _ _ nodes c.loop-n.invariant.rows next c.loop-n.invariant.ranks
-    (λ u v in_u in_v falls. let some = noted.none u v in_u in_v falls in let no = c.if-not-note_fallen.true in cc) noted.kept
+pub returns-then-same-clause-endless : goal.returns-then-same-clause-endless
+returns-then-same-clause-endless c =
+    AreEndless-stable c.all-set.ensures.rule c.loop-n.invariant.pairs (subst (IsTrimmed c.args.side c.args.pairs.now c.loop-n.set) (c.same.ensures.0 c.if-same.true) c.trim-after.ensures)
+
+pub returns-then-same-clause-ranks : goal.returns-then-same-clause-ranks
+returns-then-same-clause-ranks c =
+    AreRanks-endless c.loop-n.ranks c.loop-n.invariant.pairs
+    (AreEndless-stable c.all-set.ensures.rule c.loop-n.invariant.pairs (subst (IsTrimmed c.args.side c.args.pairs.now c.loop-n.set) (c.same.ensures.0 c.if-same.true) c.trim-after.ensures))
+    c.loop-n.invariant.ranks
+
+pub returns-clause-endless : goal.returns-clause-endless
+returns-clause-endless c = AreEndless-all c.all-set.ensures.rule (omega (arith, c.loop-n-test.false)) c.loop-n.invariant.pairs
 
 pub returns-clause-ranks : goal.returns-clause-ranks
-returns-clause-ranks c = AreRanks-all c.args.side c.k-k.ensures.rule c.loop-n.n (omega arith) c.loop-n.ranks c.loop-n.invariant.ranks
+returns-clause-ranks c =
+    AreRanks-endless c.loop-n.ranks c.loop-n.invariant.pairs (AreEndless-all c.all-set.ensures.rule (omega (arith, c.loop-n-test.false)) c.loop-n.invariant.pairs) c.loop-n.invariant.ranks

@@ -43,8 +43,8 @@ invariant_of-result c =
       past = λ u more. c.loop-u.invariant.past u (omega (arith, more, c.loop-u.auto.u-end));
     }
 
-pub returns : goal.returns
-returns c =
+pub returns-clause-set : goal.returns-clause-set
+returns-clause-set c =
     let n = c.nodes-nodes.result in
     let few : n ≤ 16 = omega (arith, c.nodes-nodes.ensures.rule.shape.most_nodes, c.nodes-nodes.ensures.nodes) in
     let nodes : n ≡ node_count c.args.pairs.now = c.nodes-nodes.ensures.nodes ∙ ap node_count c.graph.ensures in

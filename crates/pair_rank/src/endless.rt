@@ -1,0 +1,70 @@
+//! The endless pairs of a rule.
+
+ghost use Rattle.std.specs.Prelude.{◌≡◌, ◌<◌, ◌↔◌, ℕ, IsBitSet};
+ghost use Rattle.word_image.specs.LocalRules.{IsRule, node_count};
+ghost use Rattle.word_image.specs.Ranks.{BeginTogether, EndTogether, IsEndless};
+
+use crate::rounds::endless_pairs;
+use pair_graph::{PairSet, Pairs, Side};
+use std::marker::Model;
+use word_image::Rule;
+
+/// The pairs of nodes of a rule that are endless, forward and backward, seen as that rule.
+#[derive(Debug, Drop)]
+pub struct Endless {
+    // The rule.
+    pub(crate) rule: Rule,
+    // The pairs that begin together for every n.
+    pub(crate) forward: PairSet,
+    // The pairs that end together for every n.
+    pub(crate) backward: PairSet,
+}
+
+impl Model for Endless {
+    ghost use Rattle.word_image.specs.LocalRules.{LocalRule, IsRule};
+    ghost use Rattle.pair_rank.specs.Sides.{AreEndless};
+    ghost use Rattle.pair_graph.specs.declared.edges.Side.TheVariants.{Forward, Backward};
+
+    ghost Value = { LocalRule };
+
+    ghost view = { λ e. e.rule };
+
+    ghost invariant = { λ e. IsRule e.rule × AreEndless Forward e.rule e.forward × AreEndless Backward e.rule e.backward };
+}
+
+impl Endless {
+    /// The endless pairs of this rule.
+    pub fn of(pairs: &Pairs) -> Endless
+        ensures { result ≡ pairs.now }
+    {
+        Endless {
+            rule: *pairs.rule(),
+            forward: endless_pairs(pairs, Side::Forward),
+            backward: endless_pairs(pairs, Side::Backward),
+        }
+    }
+
+    /// The rule that they are of.
+    pub fn rule(&self) -> &Rule
+        ensures value { result.now ≡ self.now }
+        ensures rule { IsRule self.now }
+    {
+        &self.rule
+    }
+
+    /// The nodes with which u begins together for every n; node v is bit v.
+    pub fn forward(&self, u: u8) -> u16
+        requires { u < node_count self.now }
+        ensures { (v : ℕ) → v < 16 → (IsBitSet result v ↔ IsEndless (BeginTogether self.now u v)) }
+    {
+        self.forward.row(u)
+    }
+
+    /// The nodes with which u ends together for every n; node v is bit v.
+    pub fn backward(&self, u: u8) -> u16
+        requires { u < node_count self.now }
+        ensures { (v : ℕ) → v < 16 → (IsBitSet result v ↔ IsEndless (EndTogether self.now u v)) }
+    {
+        self.backward.row(u)
+    }
+}
