@@ -1,2 +1,3 @@
 mod MarkedRows
 mod Walking
+mod TreeLaws

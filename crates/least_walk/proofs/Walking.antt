@@ -1,25 +1,30 @@
 -- A breadth first search through the marked pairs, one step more at a time.
-use Rattle.std.proofs.Common.{◌≡◌, ◌≢◌, ℕ, zero, suc, ◌+◌, ◌-◌, ◌*◌, ◌/◌, ◌%◌, ◌<◌, ◌≤◌, ◌↔◌, ◌⊎◌, inl, inr, List, [], ◌∷◌, ◌++◌, length, map, reverse, append_assoc, zero-mul, Option, Some, None, IsBitSet, slice_index, refl, sym, ap, ap₂, ◌∙◌, subst, subst₂, arith, ⊎_elim, option_map}
+use Rattle.std.proofs.Common.{◌≡◌, ◌≢◌, ℕ, zero, suc, ◌+◌, ◌-◌, ◌*◌, ◌/◌, ◌%◌, ◌<◌, ◌≤◌, ◌↔◌, ◌⊎◌, inl, inr, List, [], ◌∷◌, ◌++◌, length, get_or, map, reverse, append_assoc, zero-mul, Option, Some, None, Bool, true, false, true≢false, refl, sym, ap, ap₂, ◌∙◌, subst, subst₂, arith, ⊎_elim, option_map}
 use Rattle.std.specs.List.{slice_get}
-use Rattle.std.proofs.lemmas.Bool.{cases_eq, cases_lt}
+use Rattle.std.specs.Option.{option_eq}
+use Rattle.std.specs.Prelude.{◌==◌}
+use Rattle.std.proofs.lemmas.Bool.{cases_lt}
+use Rattle.std.proofs.lemmas.Bool.Decides.{Decides-eqb}
 use Rattle.std.proofs.lemmas.List.{map-append, length-map, length_push, reverse-append}
 use Rattle.std.proofs.lemmas.Nat.{div-mul-add, mod-mul-add}
-use Rattle.std.proofs.lemmas.Option.{slice_get_within, slice_get-map, none-some}
+use Rattle.std.proofs.lemmas.Option.{slice_get_within, slice_get-map, slice_get-get_or, get_or_from_slice_get, none-some, same_Some}
 use Rattle.std.proofs.Math.Nat.{mul-le-mul_right, suc-mul}
 use Rattle.word_image.specs.LocalRules.{LocalRule, IsRule, node_count}
 use Rattle.word_image.specs.Graphs.{marked, pair_count}
 use Rattle.word_image.proofs.laws.Places.{slice_get-append, slice_get-push, slice_get-push_cases, only_place}
 use Rattle.search_laws.specs.SearchQueues.{Place, Spells, IsQueue}
-use Rattle.search_laws.specs.SearchQueues.Spells.{Branch}
+use Rattle.search_laws.specs.SearchQueues.Spells.{Root, Branch}
 use Rattle.search_laws.proofs.QueueSteps.{IsQueue-start, IsQueue-there, IsQueue-new}
 use Rattle.search_laws.proofs.QueueStates.{length-queue-le, state-below}
 use Rattle.search_laws.proofs.LeastSteps.{NoEdgeBefore, NoEdgeBefore-start, NoEdgeBefore-next, NoEdgeBefore-push, edge-within, IsLeastStepsTo, IsLeastStepsTo-edge, no_steps_to}
-use Rattle.search_laws.proofs.PairWalks.{CodeStep, CodeStep-some, CodeStep-follows, PairWalk, IsLeastWalk, IsLeastWalk-steps, uncode, no_walk}
+use Rattle.search_laws.proofs.QueueDepths.{AreDepths, depths-ascending, no_word_within}
+use Rattle.search_laws.proofs.SpelledWords.{Spells-some, length-spelled-le}
+use Rattle.search_laws.proofs.PairWalks.{code, Leads-walk, CodeStep-some, CodeStep-follows, PairWalk, IsLeastWalk, IsLeastWalk-steps, uncode, no_walk}
 use Rattle.least_walk.specs.declared.queue.Reached.{Reached}
 use Rattle.least_walk.specs.declared.queue.Ends.{Ends}
 use Rattle.least_walk.specs.Marks.{HasPair}
-use Rattle.least_walk.specs.Queues.{MarkedStep, step_count, place_of, places_of, IsWalking, IsSearch, IsExhausted, IsArrival, IsOldBut, IsBackward, SpellsWalk}
-use Rattle.least_walk.proofs.MarkedRows.{marked-below, HasPair-none}
+use Rattle.least_walk.specs.Queues.{MarkedStep, step_count, place_of, places_of, HasDepths, IsWalking, IsSearch, IsEnded, IsArrival, IsNear, IsOldBut, IsBackward, SpellsBefore}
+use Rattle.least_walk.proofs.MarkedRows.{marked-below}
 
 -- the places of a longer queue
 places_of-push : (queue : List Reached) (x : Reached) → places_of (queue ++ x ∷ []) ≡ places_of queue ++ place_of x ∷ []
@@ -30,7 +35,7 @@ pub place_at : (queue : List Reached) (i : ℕ) (x : Reached) → slice_get queu
 place_at queue i x at = slice_get-map place_of queue i ∙ ap (option_map place_of) at
 
 -- and back
-reached_at : (queue : List Reached) (i : ℕ) (z : Place) → slice_get (places_of queue) i ≡ Some z → (x : Reached) × (slice_get queue i ≡ Some x) × (place_of x ≡ z)
+pub reached_at : (queue : List Reached) (i : ℕ) (z : Place) → slice_get (places_of queue) i ≡ Some z → (x : Reached) × (slice_get queue i ≡ Some x) × (place_of x ≡ z)
 reached_at [] i z at = absurd (none-some z at)
 reached_at (y ∷ queue) zero z at = (y, refl, cc)
 reached_at (y ∷ queue) (suc i) z at = reached_at queue i z at
@@ -50,14 +55,17 @@ length-walking-le {r} {queue = queue} w =
     omega (arith, length-queue-le w.filled (2 * pair_count r) w.start_in (MarkedStep-below w.rule), length-map queue place_of)
 
 -- the start alone
-pub IsWalking-start : {r : LocalRule} {ends : Ends} → IsRule r → ends.start < 2 * pair_count r → ends.goal < 2 * pair_count r
-    → (x : Reached) → x.pair ≡ ends.start → IsWalking r ends (x ∷ []) 0
-IsWalking-start {r} {ends} rule start goal x at = record {
+pub IsWalking-start : {r : LocalRule} {ends : Ends} → IsRule r → ends.start < 2 * pair_count r
+    → (x : Reached) → x.pair ≡ ends.start → x.depth ≡ 0 → IsWalking r ends (x ∷ []) 0
+IsWalking-start {r} {ends} rule start x at none = record {
   rule = rule;
   start_in = start;
-  goal_in = goal;
   filled = IsQueue-start (place_of x) at;
-  none = NoEdgeBefore-start (MarkedStep r) (step_count r) (places_of (x ∷ [])) ends.goal;
+  depths = record {
+    root = λ y there. ap (λ z. z.depth) (sym (only_place x y 0 there).1) ∙ none;
+    more = λ i y some there. absurd (omega (arith, some, (only_place x y i there).0));
+  };
+  none = λ t sought. NoEdgeBefore-start (MarkedStep r) (step_count r) (places_of (x ∷ [])) t;
 }
 
 -- a marked pair has been reached
@@ -66,23 +74,23 @@ IsListed queue t = (i : ℕ) × (x : Reached) × (slice_get queue i ≡ Some x) 
 
 -- one more edge leads nowhere, or to what has been reached and isn't the goal
 pub IsWalking-old : {r : LocalRule} {ends : Ends} {queue : List Reached} → (h n : ℕ) → IsWalking r ends queue (h * step_count r + n) → (x : Reached) → slice_get queue h ≡ Some x → n < step_count r
-    → ((t : ℕ) → MarkedStep r x.pair n t → (t ≢ ends.goal) × IsListed queue t) → IsWalking r ends queue (h * step_count r + (n + 1))
+    → ((t : ℕ) → MarkedStep r x.pair n t → (ends.goal ≢ Some t) × IsListed queue t) → IsWalking r ends queue (h * step_count r + (n + 1))
 IsWalking-old {r} {ends} {queue} h n w x at letter old =
     let more : h * step_count r + n + 1 ≡ h * step_count r + (n + 1) = omega arith in
     let there = place_at queue h x at in
     record {
       rule = w.rule;
       start_in = w.start_in;
-      goal_in = w.goal_in;
       filled = subst (IsQueue (MarkedStep r) (step_count r) ends.start (places_of queue)) more
           (IsQueue-there w.filled h n (place_of x) refl letter there (λ t step. let (i, y, here, same) = (old t step).1 in (i, place_of y, place_at queue i y here, same)));
-      none = subst (λ e. NoEdgeBefore (MarkedStep r) (step_count r) (places_of queue) e ends.goal) more
-          (NoEdgeBefore-next w.none h n (place_of x) refl letter there (λ step. (old ends.goal step).0 refl));
+      depths = w.depths;
+      none = λ t sought. subst (λ e. NoEdgeBefore (MarkedStep r) (step_count r) (places_of queue) e t) more
+          (NoEdgeBefore-next (w.none t sought) h n (place_of x) refl letter there (λ step. (old t step).0 sought));
     }
 
 -- and so do some more
 pub IsWalking-skip : {r : LocalRule} {ends : Ends} {queue : List Reached} → (h n d : ℕ) → IsWalking r ends queue (h * step_count r + n) → (x : Reached) → slice_get queue h ≡ Some x → n + d ≤ step_count r
-    → ((c t : ℕ) → n ≤ c → c < n + d → MarkedStep r x.pair c t → (t ≢ ends.goal) × IsListed queue t) → IsWalking r ends queue (h * step_count r + (n + d))
+    → ((c t : ℕ) → n ≤ c → c < n + d → MarkedStep r x.pair c t → (ends.goal ≢ Some t) × IsListed queue t) → IsWalking r ends queue (h * step_count r + (n + d))
 IsWalking-skip {r} {ends} {queue} h n zero w x at within old =
     let none : h * step_count r + n ≡ h * step_count r + (n + 0) = omega arith in subst (IsWalking r ends queue) none w
 IsWalking-skip {r} {ends} {queue} h n (suc d) w x at within old =
@@ -90,22 +98,38 @@ IsWalking-skip {r} {ends} {queue} h n (suc d) w x at within old =
     let more : h * step_count r + (n + d + 1) ≡ h * step_count r + (n + suc d) = omega arith in
     subst (IsWalking r ends queue) more (IsWalking-old h (n + d) before x at (omega arith) (λ t. old (n + d) t (omega arith) (omega arith)))
 
+-- one place more, one step further than an earlier one
+HasDepths-push : {queue : List Reached} → HasDepths queue → (x y : Reached) → slice_get queue y.parent ≡ Some x → y.depth ≡ x.depth + 1 → HasDepths (queue ++ y ∷ [])
+HasDepths-push {queue} d x y at more =
+    let stays : (i : ℕ) (z : Reached) → slice_get queue i ≡ Some z → slice_get (queue ++ y ∷ []) i ≡ Some z = λ i z there. slice_get-append queue (y ∷ []) i z there in
+    record {
+      root = λ z there. ⊎_elim
+          (λ before. d.root z before)
+          (λ last. absurd (omega (arith, last.0, slice_get_within queue y.parent x at)))
+          (slice_get-push_cases queue y 0 z there);
+      more = λ i z some there. ⊎_elim
+          (λ before. let (p, stands, deeper) = d.more i z some before in (p, stays z.parent p stands, deeper))
+          (λ last. (x, stays z.parent x (subst (λ u. slice_get queue u.parent ≡ Some x) last.1 at), ap (λ u. u.depth) (sym last.1) ∙ more))
+          (slice_get-push_cases queue y i z there);
+    }
+
 -- one more edge leads to what hasn't been reached and isn't the goal, and it is added
 pub IsWalking-new : {r : LocalRule} {ends : Ends} {queue : List Reached} → (h n : ℕ) → IsWalking r ends queue (h * step_count r + n) → (x y : Reached) → slice_get queue h ≡ Some x → n < step_count r
-    → y.parent ≡ h → y.step ≡ n → MarkedStep r x.pair n y.pair → y.pair ≢ ends.goal → ¬ IsListed queue y.pair → IsWalking r ends (queue ++ y ∷ []) (h * step_count r + (n + 1))
-IsWalking-new {r} {ends} {queue} h n w x y at letter parent by step other new =
+    → y.parent ≡ h → y.step ≡ n → y.depth ≡ x.depth + 1 → MarkedStep r x.pair n y.pair → ends.goal ≢ Some y.pair → ¬ IsListed queue y.pair
+    → IsWalking r ends (queue ++ y ∷ []) (h * step_count r + (n + 1))
+IsWalking-new {r} {ends} {queue} h n w x y at letter parent by deeper step other new =
     let more : h * step_count r + n + 1 ≡ h * step_count r + (n + 1) = omega arith in
     let there = place_at queue h x at in
     let longer = places_of-push queue y in
     record {
       rule = w.rule;
       start_in = w.start_in;
-      goal_in = w.goal_in;
       filled = subst₂ (IsQueue (MarkedStep r) (step_count r) ends.start) (sym longer) more
           (IsQueue-new w.filled h n (place_of x) (place_of y) refl letter there parent by step (λ t also. MarkedStep-unique r x.pair n t y.pair also step)
           (λ j z here same. let (x', there', alike) = reached_at queue j z here in new (j, x', there', ap (λ p. p.state) alike ∙ same)));
-      none = subst₂ (λ (tree : List Place) (e : ℕ). NoEdgeBefore (MarkedStep r) (step_count r) tree e ends.goal) (sym longer) more
-          (NoEdgeBefore-push (NoEdgeBefore-next w.none h n (place_of x) refl letter there (λ also. other (MarkedStep-unique r x.pair n y.pair ends.goal step also)))
+      depths = HasDepths-push w.depths x y (ap (slice_get queue) parent ∙ at) deeper;
+      none = λ t sought. subst₂ (λ (tree : List Place) (e : ℕ). NoEdgeBefore (MarkedStep r) (step_count r) tree e t) (sym longer) more
+          (NoEdgeBefore-push (NoEdgeBefore-next (w.none t sought) h n (place_of x) refl letter there (λ also. other (sought ∙ ap Some (MarkedStep-unique r x.pair n t y.pair also step))))
           (omega (arith, edge-within (step_count r) (places_of queue) h (n + 1) (place_of x) there (omega arith))) (place_of y));
     }
 
@@ -114,13 +138,13 @@ IsListed-push : (queue : List Reached) (y : Reached) (t : ℕ) → IsListed queu
 IsListed-push queue y t (i, x, at, same) = (i, x, slice_get-append queue (y ∷ []) i x at, same)
 
 -- what has been reached, but for the goal, is in the rows
-listed_in_rows : {r : LocalRule} {ends : Ends} {queue : List Reached} {rows : List ℕ} {e : ℕ} → IsSearch r ends queue rows e → (t : ℕ) → t ≢ ends.goal → IsListed queue t → HasPair r rows t
-listed_in_rows {r} {rows = rows} s t other (i, x, at, same) = subst (HasPair r rows) same (s.all i x at (λ e. other (sym same ∙ e)))
+listed_in_rows : {r : LocalRule} {ends : Ends} {queue : List Reached} {rows : List ℕ} {e : ℕ} → IsSearch r ends queue rows e → (t : ℕ) → ends.goal ≢ Some t → IsListed queue t → HasPair r rows t
+listed_in_rows {r} {rows = rows} s t other (i, x, at, same) = subst (HasPair r rows) same (s.all i x at (λ e. other (e ∙ ap Some same)))
 
 -- it is a marked pair
-pub state-in : {r : LocalRule} {ends : Ends} {queue : List Reached} {rows : List ℕ} {e : ℕ} → IsSearch r ends queue rows e → (i : ℕ) (x : Reached) → slice_get queue i ≡ Some x → x.pair < 2 * pair_count r
-state-in {r} {queue = queue} s i x at =
-    state-below s.walking.filled (2 * pair_count r) s.walking.start_in (MarkedStep-below s.walking.rule) i (place_of x) (place_at queue i x at)
+pub pair-below : {r : LocalRule} {ends : Ends} {queue : List Reached} {e : ℕ} → IsWalking r ends queue e → (i : ℕ) (x : Reached) → slice_get queue i ≡ Some x → x.pair < 2 * pair_count r
+pair-below {r} {queue = queue} w i x at =
+    state-below w.filled (2 * pair_count r) w.start_in (MarkedStep-below w.rule) i (place_of x) (place_at queue i x at)
 
 -- the number of two letters
 code_parts : (a b : ℕ) → b < 16 → ((a * 16 + b) / 16 ≡ a) × ((a * 16 + b) % 16 ≡ b)
@@ -164,10 +188,10 @@ MarkedStep-letters {r} rule s a b t first second leads = CodeStep-some (marked r
 
 -- the next step leads to a marked pair that the rows don't have and that isn't the goal
 pub IsSearch-new : {r : LocalRule} {ends : Ends} {queue : List Reached} {rows : List ℕ} → (h a b : ℕ) → IsSearch r ends queue rows (h * step_count r + (a * 16 + b)) → (x y : Reached) → slice_get queue h ≡ Some x
-    → a < r.states → b < r.states → y.parent ≡ h → y.step ≡ a * 16 + b → marked r x.pair a b ≡ Some y.pair → y.pair ≢ ends.goal → ¬ HasPair r rows y.pair
+    → a < r.states → b < r.states → y.parent ≡ h → y.step ≡ a * 16 + b → y.depth ≡ x.depth + 1 → marked r x.pair a b ≡ Some y.pair → ends.goal ≢ Some y.pair → ¬ HasPair r rows y.pair
     → (after : List ℕ) → ((t : ℕ) → t < 2 * pair_count r → (HasPair r after t ↔ ((t ≡ y.pair) ⊎ HasPair r rows t)))
     → IsSearch r ends (queue ++ y ∷ []) after (h * step_count r + (a * 16 + (b + 1)))
-IsSearch-new {r} {ends} {queue} {rows} h a b s x y at first second parent by leads other new after more_rows =
+IsSearch-new {r} {ends} {queue} {rows} h a b s x y at first second parent by deeper leads other new after more_rows =
     let rule = s.walking.rule in
     let states : r.states ≤ 16 = rule.shape.most_states in
     let step = MarkedStep-letters rule x.pair a b y.pair first second leads in
@@ -175,15 +199,15 @@ IsSearch-new {r} {ends} {queue} {rows} h a b s x y at first second parent by lea
     let more : h * step_count r + (a * 16 + b + 1) ≡ h * step_count r + (a * 16 + (b + 1)) = omega arith in
     record {
       walking = subst (IsWalking r ends (queue ++ y ∷ [])) more
-          (IsWalking-new h (a * 16 + b) s.walking x y at (omega arith) parent by step other (λ listed. new (listed_in_rows s y.pair other listed)));
+          (IsWalking-new h (a * 16 + b) s.walking x y at (omega arith) parent by deeper step other (λ listed. new (listed_in_rows s y.pair other listed)));
       listed = λ t inside some. ⊎_elim
-          (λ same. (λ e. other (sym same ∙ e), (length queue, y, slice_get-push queue y, sym same)))
+          (λ same. (λ e. other (e ∙ ap Some same), (length queue, y, slice_get-push queue y, sym same)))
           (λ old. let before = s.listed t inside old in (before.0, IsListed-push queue y t before.1))
           ((more_rows t inside).0 some);
       all = λ i z there apart. ⊎_elim
           (λ before.
           let in_rows = s.all i z before apart in
-          (more_rows z.pair (state-in s i z before)).1 (inr in_rows))
+          (more_rows z.pair (pair-below s.walking i z before)).1 (inr in_rows))
           (λ last. (more_rows z.pair (subst (λ w. w.pair < 2 * pair_count r) last.1 below)).1 (inl (ap (λ w. w.pair) (sym last.1))))
           (slice_get-push_cases queue y i z there);
     }
@@ -195,16 +219,22 @@ IsOldBut-more rule queue longer rows after h a letters old same more x b q at le
     more q (marked-below rule x.pair a b q leads) (old x b q (sym same ∙ at) letter absent leads)
 
 -- the start alone, which counts as reached unless it is the goal
-pub IsSearch-start : {r : LocalRule} {ends : Ends} → IsRule r → ends.start < 2 * pair_count r → ends.goal < 2 * pair_count r → (x : Reached) → x.pair ≡ ends.start → (rows : List ℕ)
-    → ((t : ℕ) → t < 2 * pair_count r → (HasPair r rows t ↔ ((t ≡ ends.start) × (ends.start ≢ ends.goal)))) → IsSearch r ends (x ∷ []) rows (0 * step_count r)
-IsSearch-start {r} {ends} rule start goal x at rows exact = record {
-  walking = subst (IsWalking r ends (x ∷ [])) (sym (zero-mul (step_count r))) (IsWalking-start rule start goal x at);
-  listed = λ t inside some. let (same, apart) = (exact t inside).0 some in ((λ e. apart (sym same ∙ e)), (0, x, refl, at ∙ sym same));
+pub IsSearch-start : {r : LocalRule} {ends : Ends} → IsRule r → ends.start < 2 * pair_count r → (x : Reached) → x.pair ≡ ends.start → x.depth ≡ 0 → (rows : List ℕ)
+    → ((t : ℕ) → t < 2 * pair_count r → (HasPair r rows t ↔ ((t ≡ ends.start) × (ends.goal ≢ Some ends.start)))) → IsSearch r ends (x ∷ []) rows (0 * step_count r)
+IsSearch-start {r} {ends} rule start x at none rows exact = record {
+  walking = subst (IsWalking r ends (x ∷ [])) (sym (zero-mul (step_count r))) (IsWalking-start rule start x at none);
+  listed = λ t inside some. let (same, apart) = (exact t inside).0 some in ((λ e. apart (e ∙ ap Some same)), (0, x, refl, at ∙ sym same));
   all = λ i y there apart.
       let alike : x ≡ y = (only_place x y i there).1 in
       let same : y.pair ≡ ends.start = ap (λ z. z.pair) (sym alike) ∙ at in
-      (exact y.pair (subst (λ t. t < 2 * pair_count r) (sym same) start)).1 (same, (λ e. apart (same ∙ e)));
+      (exact y.pair (subst (λ t. t < 2 * pair_count r) (sym same) start)).1 (same, (λ e. apart (e ∙ ap Some (sym same))));
 }
+
+-- the test whether the goal is this marked pair
+pub goal-tells : (goal : Option ℕ) (q : ℕ) (b : Bool) → b ≡ option_eq (λ x y. x == y) goal (Some q) → (b ≡ true → goal ≡ Some q) × (b ≡ false → goal ≢ Some q)
+goal-tells None q b e = (λ yes. absurd (true≢false (sym yes ∙ e)), λ no same. none-some q same)
+goal-tells (Some x) q b e =
+    let test = Decides-eqb x q in (λ yes. ap Some (test.0 (sym e ∙ yes)), λ no same. true≢false (sym (test.1 (same_Some x q same)) ∙ sym e ∙ no))
 
 -- all first letters from a place are done
 pub IsSearch-next : {r : LocalRule} {ends : Ends} {queue : List Reached} {rows : List ℕ} (h a : ℕ) → a ≡ r.states → IsSearch r ends queue rows (h * step_count r + a * 16) → IsSearch r ends queue rows ((h + 1) * step_count r)
@@ -218,24 +248,113 @@ IsSearch-next {r} {ends} {queue} {rows} h a all s =
 pub IsBackward-walking : {r : LocalRule} {ends : Ends} {queue : List Reached} {e : ℕ} → IsWalking r ends queue e → IsBackward queue
 IsBackward-walking {queue = queue} w i x positive at = (w.filled.branches i (place_of x) positive (place_at queue i x at)).earlier
 
--- the steps to the place where a search arrives, and the last one, are the least walk
-pub IsLeastWalk-arrival : {r : LocalRule} {ends : Ends} {queue : List Reached} {place step : ℕ} {steps : List ℕ} → IsArrival r ends queue place step → SpellsWalk queue place step steps
-    → IsLeastWalk (marked r) r.states ends.start ends.goal (map (uncode 16) steps)
-IsLeastWalk-arrival {r} {ends} {queue} {place} {step} {steps} a spelled =
-    let (w, spells, whole) = spelled in
-    let first = IsLeastStepsTo-edge a.walking.filled spells (place_of a.from) (place_at queue place a.from a.stands) step a.letters refl ends.goal a.walking.none a.arrives in
-    IsLeastWalk-steps a.walking.rule.shape.most_states (subst (IsLeastStepsTo (MarkedStep r) (step_count r) ends.start ends.goal) (sym whole) first)
+-- how many steps lead to a place
+abbrev depth_at : List Reached → ℕ → ℕ
+depth_at queue i = (get_or queue i (record { pair = 0; parent = 0; step = 0; depth = 0 })).depth
 
--- and where it has followed all steps there is none
-pub no_walk-exhausted : {r : LocalRule} {ends : Ends} {queue : List Reached} → IsExhausted r ends queue → (w : List (ℕ × ℕ)) → 0 < length w → ¬ PairWalk (marked r) r.states ends.start w ends.goal
-no_walk-exhausted {r} {ends} {queue} x =
-    let all : length (places_of queue) * step_count r ≤ x.edges = omega (arith, ap (λ n. n * step_count r) (length-map queue place_of), x.all) in
-    no_walk 16 ends.goal x.walking.rule.shape.most_states (no_steps_to x.walking.filled all ends.goal x.walking.none)
+depth_at-place : (queue : List Reached) (i : ℕ) (x : Reached) → slice_get queue i ≡ Some x → depth_at queue i ≡ x.depth
+depth_at-place queue i x at = ap (λ z. z.depth) (get_or_from_slice_get queue i x _ at)
+
+-- these are the depths of the places
+AreDepths-queue : {r : LocalRule} {ends : Ends} {queue : List Reached} {e : ℕ} → IsWalking r ends queue e → AreDepths (places_of queue) (depth_at queue)
+AreDepths-queue {queue = queue} w =
+    let (first, root, _) = reached_at queue 0 w.filled.first w.filled.root in
+    record {
+      root = depth_at-place queue 0 first root ∙ w.depths.root first root;
+      more = λ i z some at.
+          let (x, there, alike) = reached_at queue i z at in
+          let (p, stands, deeper) = w.depths.more i x some there in
+          let parent : x.parent ≡ z.parent = ap (λ y. y.parent) alike in
+          depth_at-place queue i x there ∙ deeper ∙ ap (λ d. d + 1) (sym (depth_at-place queue x.parent p stands)) ∙ ap (λ j. depth_at queue j + 1) parent;
+    }
+
+-- the word that is spelled to a place has as many letters as its depth
+length-spelled : {tree : List Place} {depth : ℕ → ℕ} → AreDepths tree depth → (i : ℕ) (w : List ℕ) → Spells tree i w → length w ≡ depth i
+length-spelled d _ _ Root = sym d.root
+length-spelled d _ _ (Branch i x w some at spells) = length_push w x.letter ∙ ap (λ n. n + 1) (length-spelled d x.parent w spells) ∙ sym (d.more i x some at)
+
+-- there are fewer steps to a place than places, so fewer than 512
+pub depth-below : {r : LocalRule} {ends : Ends} {queue : List Reached} {e : ℕ} → IsWalking r ends queue e → (i : ℕ) (x : Reached) → slice_get queue i ≡ Some x → x.depth < 512
+depth-below {queue = queue} w i x at =
+    let (v, spells) = Spells-some w.filled i (place_of x) (place_at queue i x at) in
+    omega (
+      arith,
+      length-spelled-le w.filled spells,
+      length-spelled (AreDepths-queue w) i v spells,
+      depth_at-place queue i x at,
+      slice_get_within queue i x at,
+      length-walking-le w,
+    )
+
+-- later places are no nearer
+pub deeper : {r : LocalRule} {ends : Ends} {queue : List Reached} {e : ℕ} → IsWalking r ends queue e
+    → (i j : ℕ) (x y : Reached) → i ≤ j → slice_get queue i ≡ Some x → slice_get queue j ≡ Some y → x.depth ≤ y.depth
+deeper {queue = queue} w i j x y le at there =
+    omega (
+      arith,
+      depths-ascending w.filled (AreDepths-queue w) j i j (place_of x) (place_of y) (omega arith) le (place_at queue i x at) (place_at queue j y there),
+      depth_at-place queue i x at,
+      depth_at-place queue j y there,
+    )
+
+-- the steps to the place where a search arrives, and the last one, are the least walk
+pub IsLeastWalk-arrival : {r : LocalRule} {ends : Ends} {queue : List Reached} {place step goal : ℕ} {steps : List ℕ} → IsArrival r ends queue place step → ends.goal ≡ Some goal
+    → SpellsBefore queue place (step ∷ []) steps → IsLeastWalk (marked r) r.states ends.start goal (map (uncode 16) steps)
+IsLeastWalk-arrival {r} {ends} {queue} {place} {step} {goal} {steps} a sought spelled =
+    let (w, spells, whole) = spelled in
+    let one : a.goal ≡ goal = same_Some a.goal goal (sym a.sought ∙ sought) in
+    let first = IsLeastStepsTo-edge a.walking.filled spells (place_of a.from) (place_at queue place a.from a.stands) step a.letters refl a.goal (a.walking.none a.goal a.sought) a.arrives in
+    IsLeastWalk-steps a.walking.rule.shape.most_states (subst₂ (IsLeastStepsTo (MarkedStep r) (step_count r) ends.start) one (sym whole) first)
+
+-- it has one step more than the place is away
+pub length-arrival : {r : LocalRule} {ends : Ends} {queue : List Reached} {place step most : ℕ} {steps : List ℕ} → IsArrival r ends queue place step → IsNear queue place most
+    → SpellsBefore queue place (step ∷ []) steps → length steps ≤ most
+length-arrival {queue = queue} {place} {step} a near (w, spells, whole) =
+    omega (
+      arith,
+      near a.from a.stands,
+      depth_at-place queue place a.from a.stands,
+      length-spelled (AreDepths-queue a.walking) place w spells,
+      length_push w step,
+      ap length whole,
+    )
+
+-- a search that stops before places that are so many steps away has not missed a walk of so many steps
+pub no_walk-ended : {r : LocalRule} {ends : Ends} {queue : List Reached} {most goal : ℕ} → IsEnded r ends queue most → ends.goal ≡ Some goal
+    → (w : List (ℕ × ℕ)) → 0 < length w → length w ≤ most → ¬ PairWalk (marked r) r.states ends.start w goal
+no_walk-ended {r} {ends} {queue} {most} {goal} x sought w some short walk =
+    let depths = AreDepths-queue x.walking in
+    no_word_within {most = most} x.walking.filled depths
+    (record {
+      followed = x.followed;
+      deep = λ i z past at. let (y, there, alike) = reached_at queue i z at in omega (arith, x.deep i y past there, depth_at-place queue i y there);
+    })
+    (x.walking.none goal sought) (map (code 16) w) (omega (arith, length-map w (code 16))) (omega (arith, length-map w (code 16)))
+    (Leads-walk 16 x.walking.rule.shape.most_states walk)
+
+-- with a bound of 512 it has followed all edges
+pub all_followed : {r : LocalRule} {ends : Ends} {queue : List Reached} {most : ℕ} → 512 ≤ most → (x : IsEnded r ends queue most) → length (places_of queue) * step_count r ≤ x.edges
+all_followed {r} {ends} {queue} large x =
+    let all : length queue ≤ x.head = ⊎_elim
+    (λ short.
+    let y = get_or queue x.head (record { pair = 0; parent = 0; step = 0; depth = 0 }) in
+    let at : slice_get queue x.head ≡ Some y = slice_get-get_or queue x.head _ short in
+    absurd (omega (arith, x.deep x.head y (omega arith) at, depth-below x.walking x.head y at)))
+    (λ l. l)
+    (cases_lt x.head (length queue)) in
+    let rows : length queue * step_count r ≤ x.head * step_count r = mul-le-mul_right (step_count r) all in
+    omega (arith, rows, ap (λ n. n * step_count r) (length-map queue place_of), x.followed)
+
+-- so there is no walk at all
+pub no_walk-all : {r : LocalRule} {ends : Ends} {queue : List Reached} {most goal : ℕ} → IsEnded r ends queue most → ends.goal ≡ Some goal → 512 ≤ most
+    → (w : List (ℕ × ℕ)) → 0 < length w → ¬ PairWalk (marked r) r.states ends.start w goal
+no_walk-all {goal = goal} x sought large =
+    no_walk 16 goal x.walking.rule.shape.most_states (no_steps_to x.walking.filled (all_followed large x) goal (x.walking.none goal sought))
 
 -- one step more, from the place of the parent
-pub SpellsWalk-before : (queue : List Reached) (at step i : ℕ) (x : Reached) (steps longer : List ℕ) → 0 < i → slice_get queue i ≡ Some x → longer ≡ steps ++ x.step ∷ []
-    → ((w : List ℕ) → Spells (places_of queue) i w → SpellsWalk queue at step (w ++ reverse steps)) → (w : List ℕ) → Spells (places_of queue) x.parent w → SpellsWalk queue at step (w ++ reverse longer)
-SpellsWalk-before queue at step i x steps longer positive here more completes w spells =
+pub SpellsBefore-parent : (queue : List Reached) (at i : ℕ) (x : Reached) (old steps longer : List ℕ) → 0 < i → slice_get queue i ≡ Some x → longer ≡ steps ++ x.step ∷ []
+    → ((w : List ℕ) → Spells (places_of queue) i w → SpellsBefore queue at old (w ++ reverse steps)) → (w : List ℕ) → Spells (places_of queue) x.parent w → SpellsBefore queue at old (w ++ reverse longer)
+SpellsBefore-parent queue at i x old steps longer positive here more completes w spells =
     let back : reverse longer ≡ x.step ∷ reverse steps = ap reverse more ∙ reverse-append steps (x.step ∷ []) in
     let joined : (w ++ x.step ∷ []) ++ reverse steps ≡ w ++ reverse longer = append_assoc w (x.step ∷ []) (reverse steps) ∙ ap (λ v. w ++ v) (sym back) in
-    subst (SpellsWalk queue at step) joined (completes (w ++ x.step ∷ []) (Branch i (place_of x) w positive (place_at queue i x here) spells))
+    subst (SpellsBefore queue at old) joined (completes (w ++ x.step ∷ []) (Branch i (place_of x) w positive (place_at queue i x here) spells))

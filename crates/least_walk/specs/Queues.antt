@@ -1,5 +1,5 @@
 -- The marked pairs that a search has reached, as a breadth first queue.
-use Rattle.std.specs.Prelude.{◌≡◌, ◌≢◌, ℕ, ◌+◌, ◌*◌, ◌<◌, ◌≤◌, List, [], ◌∷◌, ◌++◌, map, length, slice_get, Some, IsBitSet}
+use Rattle.std.specs.Prelude.{◌≡◌, ◌≢◌, ℕ, ◌+◌, ◌*◌, ◌<◌, ◌≤◌, List, ◌++◌, map, reverse, slice_get, Some, IsBitSet}
 use Rattle.word_image.specs.LocalRules.{LocalRule, IsRule}
 use Rattle.word_image.specs.Graphs.{marked, pair_count}
 use Rattle.search_laws.specs.SearchQueues.{Place, Spells, IsQueue}
@@ -24,24 +24,31 @@ place_of x = record { state = x.pair; parent = x.parent; letter = x.step }
 abbrev pub places_of : List Reached → List Place
 places_of = map place_of
 
+-- so many steps lead to each place: none to the first one, and one more than to its parent to each other
+pub record HasDepths (queue : List Reached) : Type 0 where
+  pub root : (x : Reached) → slice_get queue 0 ≡ Some x → x.depth ≡ 0
+  pub more : (i : ℕ) (x : Reached) → 0 < i → slice_get queue i ≡ Some x → (p : Reached) × (slice_get queue x.parent ≡ Some p) × (x.depth ≡ p.depth + 1)
+
 -- the first e edges from the start have been followed breadth first, and none leads to the goal
 pub record IsWalking (r : LocalRule) (ends : Ends) (queue : List Reached) (e : ℕ) : Type 0 where
   pub rule : IsRule r
   pub start_in : ends.start < 2 * pair_count r
-  pub goal_in : ends.goal < 2 * pair_count r
   pub filled : IsQueue (MarkedStep r) (step_count r) ends.start (places_of queue) e
-  pub none : NoEdgeBefore (MarkedStep r) (step_count r) (places_of queue) e ends.goal
+  pub depths : HasDepths queue
+  pub none : (t : ℕ) → ends.goal ≡ Some t → NoEdgeBefore (MarkedStep r) (step_count r) (places_of queue) e t
 
 -- and the rows have what has been reached, but for the goal
 pub record IsSearch (r : LocalRule) (ends : Ends) (queue : List Reached) (rows : List ℕ) (e : ℕ) : Type 0 where
   pub walking : IsWalking r ends queue e
-  pub listed : (t : ℕ) → t < 2 * pair_count r → HasPair r rows t → (t ≢ ends.goal) × ((i : ℕ) × (x : Reached) × (slice_get queue i ≡ Some x) × (x.pair ≡ t))
-  pub all : (i : ℕ) (x : Reached) → slice_get queue i ≡ Some x → x.pair ≢ ends.goal → HasPair r rows x.pair
+  pub listed : (t : ℕ) → t < 2 * pair_count r → HasPair r rows t → (ends.goal ≢ Some t) × ((i : ℕ) × (x : Reached) × (slice_get queue i ≡ Some x) × (x.pair ≡ t))
+  pub all : (i : ℕ) (x : Reached) → slice_get queue i ≡ Some x → ends.goal ≢ Some x.pair → HasPair r rows x.pair
 
--- all edges have been followed
-pub record IsExhausted (r : LocalRule) (ends : Ends) (queue : List Reached) : Type 0 where
+-- the edges from the places before the head have been followed, and so many steps or more lead to the others
+pub record IsEnded (r : LocalRule) (ends : Ends) (queue : List Reached) (most : ℕ) : Type 0 where
   pub edges : ℕ
-  pub all : length queue * step_count r ≤ edges
+  pub head : ℕ
+  pub followed : head * step_count r ≤ edges
+  pub deep : (i : ℕ) (x : Reached) → head ≤ i → slice_get queue i ≡ Some x → most ≤ x.depth
   pub walking : IsWalking r ends queue edges
 
 -- the first edge that leads to the goal is the step from this place
@@ -50,7 +57,13 @@ pub record IsArrival (r : LocalRule) (ends : Ends) (queue : List Reached) (place
   pub stands : slice_get queue place ≡ Some from
   pub letters : step < step_count r
   pub walking : IsWalking r ends queue (place * step_count r + step)
-  pub arrives : MarkedStep r from.pair step ends.goal
+  pub goal : ℕ
+  pub sought : ends.goal ≡ Some goal
+  pub arrives : MarkedStep r from.pair step goal
+
+-- fewer than so many steps lead to this place
+abbrev pub IsNear : List Reached → ℕ → ℕ → Type 0
+IsNear queue place most = (x : Reached) → slice_get queue place ≡ Some x → x.depth < most
 
 -- by the first letter a, and second letters outside this set, the marked pair at this place leads to nothing that the rows don't have
 abbrev pub IsOldBut : LocalRule → List Reached → List ℕ → ℕ → ℕ → ℕ → Type 0
@@ -61,6 +74,6 @@ IsOldBut r queue rows place a letters =
 abbrev pub IsBackward : List Reached → Type 0
 IsBackward queue = (i : ℕ) (x : Reached) → 0 < i → slice_get queue i ≡ Some x → x.parent < i
 
--- these are the steps to a place, and then this one
-abbrev pub SpellsWalk : List Reached → ℕ → ℕ → List ℕ → Type 0
-SpellsWalk queue place step steps = (w : List ℕ) × Spells (places_of queue) place w × (steps ≡ w ++ step ∷ [])
+-- the steps to a place stand before the old ones, which are turned round
+abbrev pub SpellsBefore : List Reached → ℕ → List ℕ → List ℕ → Type 0
+SpellsBefore queue place old steps = (w : List ℕ) × Spells (places_of queue) place w × (steps ≡ w ++ reverse old)

@@ -24,7 +24,9 @@ mod marks;
 mod queue;
 #[cfg(test)]
 mod tests;
+mod tree;
 mod walker;
 
 pub use letter_pairs::{is_before, spelled};
-pub use walker::Walker;
+pub use tree::WalkTree;
+pub use walker::{MOST_STEPS, Walker};

@@ -4,7 +4,7 @@ ghost use Rattle.std.specs.Prelude.{◌≡◌, ℕ, ◌+◌, ◌*◌, ◌<◌, �
 ghost use Rattle.word_image.specs.LocalRules.{IsRule};
 ghost use Rattle.word_image.specs.Graphs.{marked, pair_count};
 ghost use Rattle.least_walk.specs.Marks.{HasPair};
-ghost use Rattle.least_walk.specs.Queues.{IsSearch, IsArrival, IsExhausted, IsOldBut};
+ghost use Rattle.least_walk.specs.Queues.{IsSearch, IsArrival, IsNear, IsEnded, IsOldBut};
 
 use crate::marks::{Rows, add, fresh, has, parts_of};
 use pair_graph::Pairs;
@@ -22,6 +22,8 @@ pub struct Reached {
     pub parent: u16,
     /// The letter pair by which it was reached.
     pub step: u8,
+    /// How many steps lead to it from the start.
+    pub depth: u16,
 }
 
 /// From which marked pair to which one a walk leads.
@@ -29,8 +31,8 @@ pub struct Reached {
 pub struct Ends {
     /// Where it starts.
     pub start: u16,
-    /// Where it is to arrive.
-    pub goal: u16,
+    /// Where it is to arrive, if anywhere.
+    pub goal: Option<u16>,
 }
 
 /// The step with which a walk arrives at its goal, and the place from which it is made.
@@ -43,24 +45,34 @@ pub struct Arrival {
 }
 
 /// Lists the marked pairs that are reached from the start, breadth first with letter pairs ascending.
-/// Stops where a step leads to the goal, and answers with that step.
-pub fn search(queue: &mut Vec<Reached>, pairs: &Pairs, ends: Ends) -> Option<Arrival>
+/// Stops where a step leads to the goal, and answers with that step, or before the first place that is
+/// `most` steps away.
+pub fn search(queue: &mut Vec<Reached>, pairs: &Pairs, ends: Ends, most: usize) -> Option<Arrival>
     requires room { 512 ≤ vec_capacity queue.old }
     requires start { ends.start < 2 * pair_count pairs.now }
-    requires goal { ends.goal < 2 * pair_count pairs.now }
     ensures room { 512 ≤ vec_capacity queue.new }
     ensures found { IfSome result (λ a. IsArrival pairs.now ends queue.new.items a.place a.step) }
-    ensures none { IfNone result (IsExhausted pairs.now ends queue.new.items) }
+    ensures near { IfSome result (λ a. IsNear queue.new.items a.place most) }
+    ensures none { IfNone result (IsEnded pairs.now ends queue.new.items most) }
 {
     queue.clear();
-    list(queue, ends.start, 0, 0);
+    let start = Reached {
+        pair: ends.start,
+        parent: 0,
+        step: 0,
+        depth: 0,
+    };
+    list(queue, start);
     let mut rows = [0; 32];
     add(pairs, &mut rows, ends.start);
-    if ends.start == ends.goal {
+    if ends.goal == Some(ends.start) {
         rows = [0; 32];
     }
     let mut head = 0;
     while head < queue.len() {
+        if usize::from(queue[head].depth) >= most {
+            return None;
+        }
         if let Some(step) = follow(queue, &mut rows, pairs, ends, head) {
             return Some(Arrival {
                 place: head as u16,
@@ -87,6 +99,7 @@ fn follow(
     ensures room { 512 ≤ vec_capacity queue.new }
     ensures found { IfSome result (IsArrival pairs.now ends queue.new.items head) }
     ensures none { IfNone result (IsSearch pairs.now ends queue.new.items rows.new ((head + 1) * (pairs.now.states * 16))) }
+    ensures same { slice_get queue.new.items head ≡ slice_get queue.old.items head }
 {
     let t = queue[head].pair;
     let from = parts_of(pairs, t);
@@ -122,15 +135,21 @@ fn follow_letter(
     ensures none { IfNone result (IsSearch pairs.now ends queue.new.items rows.new (head * (pairs.now.states * 16) + (a + 1) * 16)) }
     ensures same { slice_get queue.new.items head ≡ slice_get queue.old.items head }
 {
-    let t = queue[head].pair;
+    let from = queue[head];
     for b in 0..pairs.rule().k() {
-        if let Some(q) = new_step(pairs, rows, t, a, b, letters) {
+        if let Some(q) = new_step(pairs, rows, from.pair, a, b, letters) {
             let step = 16 * a + b;
-            if q == ends.goal {
+            if ends.goal == Some(q) {
                 return Some(step);
             }
             add(pairs, rows, q);
-            list(queue, q, head as u16, step);
+            let reached = Reached {
+                pair: q,
+                parent: head as u16,
+                step,
+                depth: from.depth + 1,
+            };
+            list(queue, reached);
         }
     }
     None
@@ -156,12 +175,11 @@ fn new_step(pairs: &Pairs, rows: &Rows, t: u16, a: u8, b: u8, letters: u16) -> O
 }
 
 /// Adds to a queue with room for it.
-fn list(queue: &mut Vec<Reached>, pair: u16, parent: u16, step: u8)
+fn list(queue: &mut Vec<Reached>, reached: Reached)
     requires { vec_len queue.old < vec_capacity queue.old }
-    ensures items { queue.new.items ≡ queue.old.items ++ record { pair = pair; parent = parent; step = step } ∷ [] }
+    ensures items { queue.new.items ≡ queue.old.items ++ reached ∷ [] }
     ensures room { vec_capacity queue.old ≤ vec_capacity queue.new }
 {
-    let reached = Reached { pair, parent, step };
     match queue.push(reached) {
         Ok(()) => (),
         Err(_) => unreachable!(),

@@ -1,12 +1,15 @@
 //! The searches for walks, and their room.
 
-ghost use Rattle.std.specs.Prelude.{◌≡◌, ℕ, ◌*◌, ◌<◌, ◌≤◌, List, [], ◌∷◌, ◌++◌, length, map, vec_len, vec_capacity, IfOk, IfSome, IfNone};
-ghost use Rattle.least_walk.specs.Queues.{IsBackward, SpellsWalk};
+ghost use Rattle.std.specs.Prelude.{◌≡◌, ℕ, ◌+◌, ◌*◌, ◌<◌, ◌≤◌, List, [], ◌∷◌, ◌++◌, length, map, vec_len, vec_capacity, IfOk, IfSome, IfNone, Some};
+ghost use Rattle.least_walk.specs.Queues.{IsBackward, SpellsBefore};
 
-use crate::queue::{Arrival, Ends, MOST_STATES, Reached, search};
+use crate::queue::{Ends, MOST_STATES, Reached, search};
 use pair_graph::Pairs;
 use std::alloc::{AllocError, Global};
 use std::marker::Model;
+
+/// No least walk has more steps: it visits no marked pair twice.
+pub const MOST_STEPS: usize = 512;
 
 /// Searches for least walks. It is seen as the walk that it found last, and reuses its room.
 #[derive(Debug, Drop)]
@@ -37,7 +40,7 @@ impl Walker {
     {
         Ok(Walker {
             queue: Vec::with_capacity(alloc, MOST_STATES)?,
-            steps: Vec::with_capacity(alloc, MOST_STATES)?,
+            steps: Vec::with_capacity(alloc, MOST_STEPS)?,
         })
     }
 
@@ -51,13 +54,30 @@ impl Walker {
         ensures most { IfSome result (λ steps. length steps.now ≤ 512) }
         ensures none { IfNone result ((w : List (ℕ × ℕ)) → 0 < length w → ¬ PairWalk (marked pairs.now) pairs.now.states from w to) }
     {
+        self.walk_within(pairs, from, to, MOST_STEPS)
+    }
+
+    /// The walk of `walk`, if it has at most so many steps: `None` exactly where no walk of so few
+    /// steps exists. A bound of [`MOST_STEPS`] or more
+    /// excludes no walk.
+    pub fn walk_within(&mut self, pairs: &Pairs, from: u16, to: u16, most: usize) -> Option<&[u8]>
+        requires from { from < 2 * pair_count pairs.now }
+        requires to { to < 2 * pair_count pairs.now }
+        ensures least { IfSome result (λ steps. IsLeastWalk (marked pairs.now) pairs.now.states from to (map (uncode 16) steps.now)) }
+        ensures within { IfSome result (λ steps. length steps.now ≤ most) }
+        ensures most { IfSome result (λ steps. length steps.now ≤ 512) }
+        ensures none { IfNone result ((w : List (ℕ × ℕ)) → 0 < length w → length w ≤ most → ¬ PairWalk (marked pairs.now) pairs.now.states from w to) }
+        ensures all { IfNone result (512 ≤ most → (w : List (ℕ × ℕ)) → 0 < length w → ¬ PairWalk (marked pairs.now) pairs.now.states from w to) }
+    {
         let ends = Ends {
             start: from,
-            goal: to,
+            goal: Some(to),
         };
-        match search(&mut self.queue, pairs, ends) {
+        match search(&mut self.queue, pairs, ends, most) {
             Some(arrival) => {
-                spell(&self.queue, arrival, &mut self.steps);
+                self.steps.clear();
+                put(&mut self.steps, arrival.step);
+                spell(&self.queue, arrival.place, &mut self.steps);
                 Some(&self.steps)
             }
             None => None,
@@ -65,20 +85,18 @@ impl Walker {
     }
 }
 
-/// Writes the steps of the walk that arrives so: those by which each marked pair on its way was
-/// reached, and then the last one.
-fn spell(queue: &[Reached], arrival: Arrival, steps: &mut Vec<u8>)
+/// Writes the steps by which a place and those on the way to it were reached before the steps that
+/// stand there in reverse.
+pub fn spell(queue: &[Reached], place: u16, steps: &mut Vec<u8>)
     requires room { 512 ≤ vec_capacity steps.old }
-    requires place { arrival.place < length queue.now }
-    requires most { length queue.now ≤ 512 }
+    requires place { place < length queue.now }
+    requires most { length steps.old.items + place ≤ 512 }
     requires backward { IsBackward queue.now }
     ensures room { 512 ≤ vec_capacity steps.new }
-    ensures spelled { SpellsWalk queue.now arrival.place arrival.step steps.new.items }
+    ensures spelled { SpellsBefore queue.now place steps.old.items steps.new.items }
     ensures most { length steps.new.items ≤ 512 }
 {
-    steps.clear();
-    put(steps, arrival.step);
-    let mut place = usize::from(arrival.place);
+    let mut place = usize::from(place);
     while place > 0 {
         let reached = queue[place];
         put(steps, reached.step);

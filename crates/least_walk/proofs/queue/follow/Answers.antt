@@ -1,4 +1,4 @@
-use Rattle.std.proofs.Common.{◌≡◌, ℕ, ◌+◌, ◌*◌, ◌<◌, ◌≤◌, List, length, vec_capacity, get_or, Some, IsBitSet, sym, ap, ◌∙◌, subst, subst₂, arith}
+use Rattle.std.proofs.Common.{◌≡◌, ℕ, ◌+◌, ◌*◌, ◌<◌, List, vec_capacity, Some, IsBitSet, refl, sym, ap, ◌∙◌, subst, subst₂, arith}
 use Rattle.std.specs.List.{slice_get}
 use Rattle.std.proofs.lemmas.Option.{slice_get-get_or, slice_get_within}
 use Rattle.word_image.specs.LocalRules.{LocalRule}
@@ -7,14 +7,24 @@ use Rattle.word_image.proofs.laws.Places.{slice_get-unique}
 use Rattle.least_walk.specs.Marks.{ArePartsOf}
 use Rattle.least_walk.specs.declared.queue.Reached.{Reached}
 use Rattle.least_walk.specs.Queues.{IsSearch, step_count}
-use Rattle.least_walk.proofs.Walking.{state-in, IsSearch-rest, IsSearch-next}
+use Rattle.least_walk.proofs.Walking.{pair-below, IsSearch-rest, IsSearch-next}
 use Rattle.least_walk.proofs.queue.follow.Goals as goal
 use Rattle.least_walk.proofs.queue.follow.Goals.{then-letters-ne0+in_default, else-letters-ne0}
 
 pub parts_of-from-requires : goal.parts_of-from-requires
 parts_of-from-requires c =
-    state-in c.requires.search c.args.head c.index.result.now
+    pair-below c.requires.search.walking c.args.head c.index.result.now
     (slice_get-get_or c.args.queue.now.items c.args.head c.index.result.now (omega (arith, c.args.queue.now.ok)) ∙ ap Some (sym c.index.ensures))
+
+pub loop-a-init : goal.loop-a-init
+loop-a-init c =
+    let r = c.args.pairs.now in
+    let none : c.args.head * step_count r ≡ c.args.head * step_count r + 0 = omega arith in
+    record {
+      room = c.requires.room;
+      search = subst (IsSearch r c.args.ends c.args.queue.now.items c.args.rows.now) none c.requires.search;
+      same = refl;
+    }
 
 pub follow_letter-requires-clause-head : goal.follow_letter-requires-clause-head
 follow_letter-requires-clause-head c =

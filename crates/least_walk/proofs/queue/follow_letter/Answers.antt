@@ -1,16 +1,14 @@
-use Rattle.std.proofs.Common.{◌≡◌, ◌≢◌, ℕ, ◌+◌, ◌*◌, ◌<◌, ◌≤◌, inl, inr, List, [], ◌∷◌, ◌++◌, length, vec_capacity, get_or, Some, IsBitSet, refl, sym, ap, ◌∙◌, subst, subst₂, arith}
+use Rattle.std.proofs.Common.{◌≡◌, ℕ, ◌+◌, ◌*◌, ◌<◌, ◌≤◌, inr, List, [], ◌∷◌, ◌++◌, length, vec_capacity, get_or, Some, refl, sym, ap, ◌∙◌, subst, subst₂, arith}
 use Rattle.std.specs.List.{slice_get}
 use Rattle.std.proofs.lemmas.List.{length_push}
-use Rattle.std.proofs.lemmas.Option.{slice_get-get_or, slice_get_within}
+use Rattle.std.proofs.lemmas.Option.{slice_get-get_or}
 use Rattle.word_image.specs.LocalRules.{LocalRule}
-use Rattle.word_image.specs.Graphs.{marked, pair_count}
 use Rattle.word_image.proofs.laws.Places.{slice_get-append}
-use Rattle.least_walk.specs.Marks.{HasPair}
 use Rattle.least_walk.specs.declared.queue.Reached.{Reached}
-use Rattle.least_walk.specs.Queues.{MarkedStep, IsWalking, IsSearch, IsArrival, IsOldBut, step_count}
-use Rattle.least_walk.proofs.Walking.{state-in, length-walking-le, IsSearch-old, IsSearch-new, IsSearch-rest, MarkedStep-letters, IsOldBut-more}
+use Rattle.least_walk.specs.Queues.{MarkedStep, IsWalking, IsSearch, IsOldBut, step_count}
+use Rattle.least_walk.proofs.Walking.{pair-below, length-walking-le, IsSearch-old, IsSearch-new, IsSearch-rest, depth-below, goal-tells, MarkedStep-letters, IsOldBut-more}
 use Rattle.least_walk.proofs.queue.follow_letter.Goals as goal
-use Rattle.least_walk.proofs.queue.follow_letter.Goals.{in-Some+else-q-ends, in_default}
+use Rattle.least_walk.proofs.queue.follow_letter.Goals.{in-Some+else-eq, in_default}
 
 -- what stands at the head
 stands : (queue : List Reached) (head : ℕ) (x : Reached) (first : List Reached) → head < length queue → x ≡ get_or queue head x → slice_get first head ≡ slice_get queue head → slice_get first head ≡ Some x
@@ -18,60 +16,69 @@ stands queue head x first within is same = same ∙ slice_get-get_or queue head 
 
 pub new_step-requires-clause-pair : goal.new_step-requires-clause-pair
 new_step-requires-clause-pair c =
-    state-in c.loop-b.invariant.search c.args.head c.index.result.now
-    (stands c.args.queue.now.items c.args.head c.index.result.now c.loop-b.queue.items (omega (arith, c.args.queue.now.ok)) c.index.ensures c.loop-b.invariant.same)
+    pair-below c.loop-b.invariant.search.walking c.args.head c.index-from.result.now
+    (stands c.args.queue.now.items c.args.head c.index-from.result.now c.loop-b.queue.items (omega (arith, c.args.queue.now.ok)) c.index-from.ensures c.loop-b.invariant.same)
 
 pub new_step-requires-clause-old : goal.new_step-requires-clause-old
 new_step-requires-clause-old c q absent step =
-    c.loop-b.invariant.old c.index.result.now c.loop-b.b q
-    (stands c.args.queue.now.items c.args.head c.index.result.now c.loop-b.queue.items (omega (arith, c.args.queue.now.ok)) c.index.ensures c.loop-b.invariant.same)
+    c.loop-b.invariant.old c.index-from.result.now c.loop-b.b q
+    (stands c.args.queue.now.items c.args.head c.index-from.result.now c.loop-b.queue.items (omega (arith, c.args.queue.now.ok)) c.index-from.ensures c.loop-b.invariant.same)
     (omega (arith, ap (λ (z : LocalRule). z.states) c.rule.ensures)) absent step
 
-pub returns-then-q-ends-clause-found : goal.returns-then-q-ends-clause-found
-returns-then-q-ends-clause-found c =
+pub returns-then-eq-clause-found : goal.returns-then-eq-clause-found
+returns-then-eq-clause-found c =
     let r = c.args.pairs.now in
     let search = c.loop-b.invariant.search in
-    let x = c.index.result.now in
+    let x = c.index-from.result.now in
     let code : c.args.a * 16 + c.loop-b.b ≡ 16 * c.args.a + c.loop-b.b = omega arith in
     let states : r.states ≤ 16 = search.walking.rule.shape.most_states in
     record {
       from = x;
-      stands = stands c.args.queue.now.items c.args.head x c.loop-b.queue.items (omega (arith, c.args.queue.now.ok)) c.index.ensures c.loop-b.invariant.same;
+      stands = stands c.args.queue.now.items c.args.head x c.loop-b.queue.items (omega (arith, c.args.queue.now.ok)) c.index-from.ensures c.loop-b.invariant.same;
       letters = omega (arith, ap (λ (z : LocalRule). z.states) c.rule.ensures);
       walking = subst (λ n. IsWalking r c.args.ends c.loop-b.queue.items (c.args.head * step_count r + n)) code search.walking;
-      arrives = subst₂ (λ (n t : ℕ). MarkedStep r x.pair n t) code c.if-q-ends.true
+      goal = c.in-Some.q;
+      sought = (goal-tells c.args.ends.goal c.in-Some.q c.eq.result c.eq.ensures).0 c.if-eq.true;
+      arrives = subst (λ n. MarkedStep r x.pair n c.in-Some.q) code
           (MarkedStep-letters search.walking.rule x.pair c.args.a c.loop-b.b c.in-Some.q c.requires.letter (omega (arith, ap (λ (z : LocalRule). z.states) c.rule.ensures)) c.in-Some.ensures.step);
     }
 
 -- the head fits
-pub overflow_cast-head : goal.overflow_cast-head
-overflow_cast-head c = omega (arith, length-walking-le c.requires.search.walking, c.args.queue.now.ok)
+pub overflow_cast-reached : goal.overflow_cast-reached
+overflow_cast-reached c = omega (arith, length-walking-le c.requires.search.walking, c.args.queue.now.ok)
+
+-- and so does one step more
+pub overflow_add-reached : goal.overflow_add-reached
+overflow_add-reached c =
+    let search = c.loop-b.invariant.search in
+    let at = stands c.args.queue.now.items c.args.head c.index-from.result.now c.loop-b.queue.items (omega (arith, c.args.queue.now.ok)) c.index-from.ensures c.loop-b.invariant.same in
+    omega (arith, depth-below search.walking c.args.head c.index-from.result.now at)
 
 pub list-requires : goal.list-requires
 list-requires c =
-    let y : Reached = record { pair = c.in-Some.q; parent = c.args.head; step = 16 * c.args.a + c.loop-b.b } in
-    let longer = IsSearch-new c.args.head c.args.a c.loop-b.b c.loop-b.invariant.search c.index.result.now y
-    (stands c.args.queue.now.items c.args.head c.index.result.now c.loop-b.queue.items (omega (arith, c.args.queue.now.ok)) c.index.ensures c.loop-b.invariant.same)
-    c.requires.letter (omega (arith, ap (λ (z : LocalRule). z.states) c.rule.ensures)) refl (omega arith) c.in-Some.ensures.step c.if-q-ends.false c.in-Some.ensures.new c.add.new.rows c.add.ensures.pairs in
+    let y : Reached = record { pair = c.in-Some.q; parent = c.args.head; step = 16 * c.args.a + c.loop-b.b; depth = c.index-from.result.now.depth + 1 } in
+    let longer = IsSearch-new c.args.head c.args.a c.loop-b.b c.loop-b.invariant.search c.index-from.result.now y
+    (stands c.args.queue.now.items c.args.head c.index-from.result.now c.loop-b.queue.items (omega (arith, c.args.queue.now.ok)) c.index-from.ensures c.loop-b.invariant.same)
+    c.requires.letter (omega (arith, ap (λ (z : LocalRule). z.states) c.rule.ensures)) refl (omega arith) refl c.in-Some.ensures.step ((goal-tells c.args.ends.goal c.in-Some.q c.eq.result c.eq.ensures).1 c.if-eq.false) c.in-Some.ensures.new c.add.new.rows c.add.ensures.pairs in
     omega (arith, length-walking-le longer.walking, length_push c.loop-b.queue.items y, c.loop-b.queue.ok, c.loop-b.invariant.room)
 
 pub loop-b-preserved : goal.loop-b-preserved
 loop-b-preserved c =
     let r = c.args.pairs.now in
-    let x = c.index.result.now in
+    let x = c.index-from.result.now in
     let inv = c.loop-b.invariant in
     let old = c.loop-b.queue.items in
     let letter : c.loop-b.b < r.states = omega (arith, ap (λ (z : LocalRule). z.states) c.rule.ensures) in
-    let at = stands c.args.queue.now.items c.args.head x old (omega (arith, c.args.queue.now.ok)) c.index.ensures inv.same in
+    let at = stands c.args.queue.now.items c.args.head x old (omega (arith, c.args.queue.now.ok)) c.index-from.ensures inv.same in
     elim c.match-new_step.branch [
-      | in-Some+else-q-ends w ↦
-          let y : Reached = record { pair = w.in-Some.q; parent = c.args.head; step = 16 * c.args.a + c.loop-b.b } in
+      | in-Some+else-eq w ↦
+          let y : Reached = record { pair = w.in-Some.q; parent = c.args.head; step = 16 * c.args.a + c.loop-b.b; depth = c.index-from.result.now.depth + 1 } in
           let longer : c.match-new_step.queue.items ≡ old ++ y ∷ [] = ap (λ v. v.items) w.queue-is ∙ w.list.ensures.items in
           let same : slice_get (old ++ y ∷ []) c.args.head ≡ slice_get old c.args.head = slice_get-append old (y ∷ []) c.args.head x at ∙ sym at in
           record {
             room = omega (arith, inv.room, w.list.ensures.room, ap (λ v. vec_capacity v) w.queue-is);
             search = subst₂ (λ (q : List Reached) (rows : List ℕ). IsSearch r c.args.ends q rows (c.args.head * step_count r + (c.args.a * 16 + (c.loop-b.b + 1)))) (sym longer) (sym w.rows-is)
-                (IsSearch-new c.args.head c.args.a c.loop-b.b inv.search x y at c.requires.letter letter refl (omega arith) w.in-Some.ensures.step w.if-q-ends.false w.in-Some.ensures.new w.add.new.rows w.add.ensures.pairs);
+                (IsSearch-new c.args.head c.args.a c.loop-b.b inv.search x y at c.requires.letter letter refl (omega arith) refl w.in-Some.ensures.step ((goal-tells c.args.ends.goal w.in-Some.q w.eq.result w.eq.ensures).1 w.if-eq.false) w.in-Some.ensures.new w.add.new.rows w.add.ensures.pairs);
             old = subst₂ (λ (q : List Reached) (rows : List ℕ). IsOldBut r q rows c.args.head c.args.a c.args.letters) (sym longer) (sym w.rows-is)
                 (IsOldBut-more w.add.ensures.rule old (old ++ y ∷ []) c.loop-b.rows w.add.new.rows c.args.head c.args.a c.args.letters inv.old same (λ t inside has. (w.add.ensures.pairs t inside).1 (inr has)));
             same = ap (λ q. slice_get q c.args.head) longer ∙ same ∙ inv.same;
@@ -89,6 +96,6 @@ loop-b-preserved c =
 
 pub returns-clause-none : goal.returns-clause-none
 returns-clause-none c =
-    IsSearch-rest c.args.head c.args.a c.loop-b.b c.loop-b.invariant.search c.index.result.now
-    (stands c.args.queue.now.items c.args.head c.index.result.now c.loop-b.queue.items (omega (arith, c.args.queue.now.ok)) c.index.ensures c.loop-b.invariant.same)
+    IsSearch-rest c.args.head c.args.a c.loop-b.b c.loop-b.invariant.search c.index-from.result.now
+    (stands c.args.queue.now.items c.args.head c.index-from.result.now c.loop-b.queue.items (omega (arith, c.args.queue.now.ok)) c.index-from.ensures c.loop-b.invariant.same)
     c.requires.letter (omega (arith, c.loop-b.invariant.search.walking.rule.shape.most_states)) (λ d t past below leads. absurd (omega (arith, ap (λ (z : LocalRule). z.states) c.rule.ensures)))

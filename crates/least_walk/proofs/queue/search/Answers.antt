@@ -1,32 +1,68 @@
-use Rattle.std.proofs.Common.{◌≡◌, ◌≢◌, ℕ, ◌+◌, ◌-◌, ◌*◌, ◌<◌, ◌≤◌, ◌↔◌, inl, inr, List, [], ◌∷◌, ◌++◌, replicate, slice_index, refl, sym, ap, ◌∙◌, subst, subst₂, arith, ⊎_elim}
+use Rattle.std.proofs.Common.{◌≡◌, ◌≢◌, ℕ, ◌*◌, ◌<◌, ◌↔◌, inl, List, [], ◌∷◌, ◌++◌, replicate, get_or, Some, refl, sym, ap, ◌∙◌, subst, arith, ⊎_elim}
+use Rattle.std.specs.List.{slice_get}
+use Rattle.std.proofs.lemmas.Option.{slice_get_within, slice_get-get_or, get_or_from_slice_get}
 use Rattle.word_image.specs.Graphs.{pair_count}
 use Rattle.least_walk.specs.Marks.{HasPair}
 use Rattle.least_walk.specs.declared.queue.Reached.{Reached}
 use Rattle.least_walk.specs.Queues.{IsSearch, step_count}
 use Rattle.least_walk.proofs.MarkedRows.{HasPair-none}
-use Rattle.least_walk.proofs.Walking.{IsSearch-start, length-walking-le}
+use Rattle.least_walk.proofs.Walking.{IsSearch-start, length-walking-le, deeper, goal-tells}
 use Rattle.least_walk.proofs.queue.search.Goals as goal
-use Rattle.least_walk.proofs.queue.search.Goals.{then-ends, else-ends}
+use Rattle.least_walk.proofs.queue.search.Goals.{then-eq, else-eq}
 
 pub loop-head-init : goal.loop-head-init
 loop-head-init c =
     let r = c.args.pairs.now in
-    let x : Reached = record { pair = c.args.ends.start; parent = 0; step = 0 } in
+    let x : Reached = record { pair = c.args.ends.start; parent = 0; step = 0; depth = 0 } in
     let alone : c.list.new.queue.items ≡ x ∷ [] = c.list.ensures.items ∙ ap (λ q. q ++ x ∷ []) c.clear.ensures.items in
-    let first : (rows : List ℕ) → ((t : ℕ) → t < 2 * pair_count r → (HasPair r rows t ↔ ((t ≡ c.args.ends.start) × (c.args.ends.start ≢ c.args.ends.goal))))
+    let first : (rows : List ℕ) → ((t : ℕ) → t < 2 * pair_count r → (HasPair r rows t ↔ ((t ≡ c.args.ends.start) × (c.args.ends.goal ≢ Some c.args.ends.start))))
     → IsSearch r c.args.ends c.list.new.queue.items rows (0 * step_count r) = λ rows exact.
-    subst (λ q. IsSearch r c.args.ends q rows (0 * step_count r)) (sym alone) (IsSearch-start c.add.ensures.rule c.requires.start c.requires.goal x refl rows exact) in
+    subst (λ q. IsSearch r c.args.ends q rows (0 * step_count r)) (sym alone) (IsSearch-start c.add.ensures.rule c.requires.start x refl refl rows exact) in
+    let told = goal-tells c.args.ends.goal c.args.ends.start c.eq.result c.eq.ensures in
     record {
       room = omega (arith, c.requires.room, c.clear.ensures.capacity, c.list.ensures.room);
-      search = elim c.if-ends.branch [
-        | then-ends w ↦ subst (λ rows. IsSearch r c.args.ends c.list.new.queue.items rows (0 * step_count r)) (sym w.rows-is)
-            (first (replicate 32 0) (λ t inside. ((λ some. absurd (HasPair-none r t some)), (λ both. absurd (both.1 w.if-ends.true)))))
-        | else-ends w ↦ subst (λ rows. IsSearch r c.args.ends c.list.new.queue.items rows (0 * step_count r)) (sym w.rows-is)
+      search = elim c.if-eq.branch [
+        | then-eq w ↦ subst (λ rows. IsSearch r c.args.ends c.list.new.queue.items rows (0 * step_count r)) (sym w.rows-is)
+            (first (replicate 32 0) (λ t inside. ((λ some. absurd (HasPair-none r t some)), (λ both. absurd (both.1 (told.0 w.if-eq.true))))))
+        | else-eq w ↦ subst (λ rows. IsSearch r c.args.ends c.list.new.queue.items rows (0 * step_count r)) (sym w.rows-is)
             (first c.add.new.rows (λ t inside. (
-              (λ some. ⊎_elim (λ same. (same, w.if-ends.false)) (λ old. absurd (HasPair-none r t old)) ((c.add.ensures.pairs t inside).0 some)),
+              (λ some. ⊎_elim (λ same. (same, told.1 w.if-eq.false)) (λ old. absurd (HasPair-none r t old)) ((c.add.ensures.pairs t inside).0 some)),
               (λ both. (c.add.ensures.pairs t inside).1 (inl both.0)),
             )))
       ];
+    }
+
+-- what stands at the head
+at_head : (queue : List Reached) (head : ℕ) (x y : Reached) → y ≡ get_or queue head y → slice_get queue head ≡ Some x → y ≡ x
+at_head queue head x y is at = is ∙ get_or_from_slice_get queue head x y at
+
+pub returns-then-from-most-clause-none : goal.returns-then-from-most-clause-none
+returns-then-from-most-clause-none c =
+    let search = c.loop-head.invariant.search in
+    record {
+      edges = c.loop-head.head * step_count c.args.pairs.now;
+      head = c.loop-head.head;
+      followed = omega arith;
+      deep = λ i x past at.
+          let y = c.index.result.now in
+          let here = slice_get-get_or c.loop-head.queue.items c.loop-head.head y (omega (arith, c.loop-head.queue.ok)) ∙ ap Some (sym c.index.ensures) in
+          omega (arith, deeper search.walking c.loop-head.head i y x past here at, c.from.ensures);
+      walking = search.walking;
+    }
+
+pub returns-in-Some-clause-near : goal.returns-in-Some-clause-near
+returns-in-Some-clause-near c x at =
+    let same = at_head c.loop-head.queue.items c.loop-head.head x c.index.result.now c.index.ensures (sym c.in-Some.ensures.same ∙ at) in
+    omega (arith, ap (λ z. z.depth) same, c.from.ensures)
+
+pub returns-clause-none : goal.returns-clause-none
+returns-clause-none c =
+    record {
+      edges = c.loop-head.head * step_count c.args.pairs.now;
+      head = c.loop-head.head;
+      followed = omega arith;
+      deep = λ i x past at. absurd (omega (arith, slice_get_within c.loop-head.queue.items i x at, c.loop-head.queue.ok));
+      walking = c.loop-head.invariant.search.walking;
     }
 
 pub overflow_cast-result : goal.overflow_cast-result

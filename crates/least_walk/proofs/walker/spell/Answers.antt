@@ -1,29 +1,28 @@
-use Rattle.std.proofs.Common.{◌≡◌, ℕ, ◌+◌, ◌<◌, ◌≤◌, List, [], ◌++◌, length, get_or, reverse, Some, refl, sym, ap, ◌∙◌, subst, arith}
-use Rattle.std.specs.List.{slice_get}
+use Rattle.std.proofs.Common.{◌≡◌, [], length, get_or, sym, ap, subst, arith}
 use Rattle.std.proofs.lemmas.List.{length_push}
 use Rattle.std.proofs.lemmas.Option.{slice_get-get_or}
 use Rattle.search_laws.specs.SearchQueues.{Spells}
 use Rattle.search_laws.specs.SearchQueues.Spells.{Root}
 use Rattle.least_walk.specs.declared.queue.Reached.{Reached}
-use Rattle.least_walk.specs.Queues.{places_of, SpellsWalk}
-use Rattle.least_walk.proofs.Walking.{SpellsWalk-before}
+use Rattle.least_walk.specs.Queues.{places_of, SpellsBefore}
+use Rattle.least_walk.proofs.Walking.{SpellsBefore-parent}
 use Rattle.least_walk.proofs.walker.spell.Goals as goal
 
 pub loop-place-preserved : goal.loop-place-preserved
 loop-place-preserved c =
     let queue = c.args.queue.now in
     let i = c.loop-place.place in
-    let x : Reached = get_or queue i (record { pair = 0; parent = 0; step = 0 }) in
-    let here = slice_get-get_or queue i (record { pair = 0; parent = 0; step = 0 }) c.loop-place.invariant.within in
+    let x : Reached = get_or queue i (record { pair = 0; parent = 0; step = 0; depth = 0 }) in
+    let here = slice_get-get_or queue i (record { pair = 0; parent = 0; step = 0; depth = 0 }) c.loop-place.invariant.within in
     let earlier = c.requires.backward i x c.loop-place-test.true here in
     let place : c.from-place-in-loop-place.result ≡ x.parent = c.from-place-in-loop-place.ensures in
-    let longer = c.put-in-loop-place.ensures.items in
+    let longer = c.put.ensures.items in
     let inv = c.loop-place.invariant in
     record {
-      room = omega (arith, inv.room, c.put-in-loop-place.ensures.room);
+      room = omega (arith, inv.room, c.put.ensures.room);
       within = omega (arith, earlier, place, inv.within);
       few = omega (arith, earlier, place, inv.few, ap length longer, length_push c.loop-place.steps.items x.step);
-      completes = λ w spells. SpellsWalk-before queue c.args.arrival.place c.args.arrival.step i x c.loop-place.steps.items c.put-in-loop-place.new.steps.items c.loop-place-test.true here longer inv.completes w
+      completes = λ w spells. SpellsBefore-parent queue c.args.place i x c.args.steps.now.items c.loop-place.steps.items c.put.new.steps.items c.loop-place-test.true here longer inv.completes w
           (subst (λ p. Spells (places_of queue) p w) place spells);
     }
 
@@ -32,4 +31,4 @@ returns-clause-spelled c =
     let queue = c.args.queue.now in
     let root : c.loop-place.place ≡ 0 = omega arith in
     let back = c.reverse.ensures.items in
-    subst (SpellsWalk queue c.args.arrival.place c.args.arrival.step) (sym back) (c.loop-place.invariant.completes [] (subst (λ i. Spells (places_of queue) i []) (sym root) Root))
+    subst (SpellsBefore queue c.args.place c.args.steps.now.items) (sym back) (c.loop-place.invariant.completes [] (subst (λ i. Spells (places_of queue) i []) (sym root) Root))

@@ -1,0 +1,36 @@
+use Rattle.std.proofs.Common.{◌≡◌, [], ◌∷◌, ◌++◌, length, map, refl, sym, ap, ◌∙◌, subst, subst₂, arith}
+use Rattle.std.proofs.lemmas.Option.{slice_get_within}
+use Rattle.word_image.specs.Graphs.{marked}
+use Rattle.search_laws.proofs.PairWalks.{IsLeastWalk, uncode}
+use Rattle.least_walk.specs.Queues.{IsBackward, SpellsBefore}
+use Rattle.least_walk.proofs.Walking.{length-walking-le, IsBackward-walking, IsLeastWalk-arrival, length-arrival, no_walk-ended, no_walk-all}
+use Rattle.least_walk.proofs.walker.Walker.walk_within.Goals as goal
+
+pub spell-requires-clause-most : goal.spell-requires-clause-most
+spell-requires-clause-most c =
+    let found = c.in-Some.ensures.found in
+    let alone : c.put.new.steps.items ≡ c.in-Some.arrival.step ∷ [] = c.put.ensures.items ∙ ap (λ s. s ++ c.in-Some.arrival.step ∷ []) c.clear.ensures.items in
+    omega (arith, ap length alone, slice_get_within c.search.new.queue.items c.in-Some.arrival.place found.from found.stands, length-walking-le found.walking)
+
+pub spell-requires-clause-backward : goal.spell-requires-clause-backward
+spell-requires-clause-backward c = subst IsBackward (sym c.deref.ensures.value) (IsBackward-walking c.in-Some.ensures.found.walking)
+
+pub returns-in-Some : goal.returns-in-Some
+returns-in-Some c =
+    let found = c.in-Some.ensures.found in
+    let alone : c.put.new.steps.items ≡ c.in-Some.arrival.step ∷ [] = c.put.ensures.items ∙ ap (λ s. s ++ c.in-Some.arrival.step ∷ []) c.clear.ensures.items in
+    let spelled : SpellsBefore c.search.new.queue.items c.in-Some.arrival.place (c.in-Some.arrival.step ∷ []) c.spell.new.steps.items =
+    subst₂ (λ q old. SpellsBefore q c.in-Some.arrival.place old c.spell.new.steps.items) c.deref.ensures.value alone c.spell.ensures.spelled in
+    let steps = c.deref-in-Some.ensures.value in
+    record {
+      least = subst (λ w. IsLeastWalk (marked c.args.pairs.now) c.args.pairs.now.states c.args.from c.args.to (map (uncode 16) w)) (sym steps) (IsLeastWalk-arrival found refl spelled);
+      within = omega (arith, ap length steps, length-arrival found c.in-Some.ensures.near spelled);
+      most = omega (arith, ap length steps, c.spell.ensures.most);
+      none = tt;
+      all = tt;
+    }
+
+pub returns-in-None : goal.returns-in-None
+returns-in-None c =
+    let ended = c.in-None.ensures.none in
+    record { least = tt; within = tt; most = tt; none = no_walk-ended ended refl; all = λ large. no_walk-all ended refl large }

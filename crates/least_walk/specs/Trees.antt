@@ -1,0 +1,34 @@
+-- The least walks from one marked pair to all others.
+use Rattle.std.specs.Prelude.{◌≡◌, ◌≢◌, ℕ, ◌<◌, ◌≤◌, List, length, slice_get, slice_index, Some, None}
+use Rattle.std.specs.declared.cmp.Ordering.TheVariants.{Greater}
+use Rattle.word_image.specs.LocalRules.{LocalRule}
+use Rattle.word_image.specs.Graphs.{marked}
+use Rattle.word_image.specs.Rings.{pairs_cmp}
+use Rattle.search_laws.proofs.PairWalks.{PairWalk}
+use Rattle.least_walk.specs.declared.queue.Reached.{Reached}
+use Rattle.least_walk.specs.Queues.{IsEnded}
+
+-- a rule, and the marked pair where walks start
+pub record WalkSource : Type 0 where
+  pub rule : LocalRule
+  pub start : ℕ
+
+-- the first walk of any number of steps: the shortest, and of these the first in dictionary order
+pub record IsLeastWalkTo (r : LocalRule) (start t : ℕ) (w : List (ℕ × ℕ)) : Type 0 where
+  pub walk : PairWalk (marked r) r.states start w t
+  pub least : (v : List (ℕ × ℕ)) → PairWalk (marked r) r.states start v t → pairs_cmp w v ≢ Greater
+
+-- at most 512 numbers below 512 stand in the queue, each once
+pub record AreApart (queue : List Reached) : Type 0 where
+  pub few : length queue ≤ 512
+  pub below : (i : ℕ) (x : Reached) → slice_get queue i ≡ Some x → x.pair < 512
+  pub apart : (i j : ℕ) (x y : Reached) → slice_get queue i ≡ Some x → slice_get queue j ≡ Some y → x.pair ≡ y.pair → i ≡ j
+
+-- each marked pair of the queue has its place
+abbrev pub IsIndex : List Reached → List ℕ → Type 0
+IsIndex queue places = (i : ℕ) (x : Reached) → slice_get queue i ≡ Some x → slice_index places x.pair ≡ i
+
+-- a search from the start has ended with all that is reached, and these are the places
+pub record IsTree (r : LocalRule) (start : ℕ) (queue : List Reached) (places : List ℕ) : Type 0 where
+  pub ended : IsEnded r (record { start = start; goal = None }) queue 512
+  pub index : IsIndex queue places

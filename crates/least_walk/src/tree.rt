@@ -1,0 +1,100 @@
+//! The least walks from one marked pair to all others.
+
+ghost use Rattle.std.specs.Prelude.{◌≡◌, ℕ, ◌+◌, ◌*◌, ◌<◌, ◌≤◌, List, length, map, Some, slice_get, IfOk, IfSome, IfNone, MatchOption};
+ghost use Rattle.word_image.specs.Graphs.{marked, pair_count};
+ghost use Rattle.search_laws.proofs.PairWalks.{PairWalk, uncode};
+ghost use Rattle.least_walk.specs.declared.queue.Reached.{Reached};
+ghost use Rattle.least_walk.specs.Trees.{AreApart, IsIndex, IsLeastWalkTo};
+
+use crate::queue::{Ends, MOST_STATES, Reached, search};
+use crate::walker::{MOST_STEPS, spell};
+use pair_graph::Pairs;
+use std::alloc::{AllocError, Global};
+use std::marker::Model;
+use word_image::Rule;
+
+/// The least walks from one marked pair to all to which walks lead, as the tree that one search makes.
+/// It is seen as the rule and the marked pair where they start.
+#[derive(Debug, Drop)]
+pub struct WalkTree {
+    // The rule.
+    rule: Rule,
+    // Where the walks start.
+    start: u16,
+    // The marked pairs to which they lead, in the order of the walks.
+    queue: Vec<Reached>,
+    // The place of each of these; for the others any number.
+    places: [u16; MOST_STATES],
+}
+
+impl Model for WalkTree {
+    ghost use Rattle.least_walk.specs.Trees.{WalkSource, IsTree};
+
+    ghost Value = { WalkSource };
+
+    ghost view = { λ t. record { rule = t.rule; start = t.start } };
+
+    ghost invariant = { λ t. IsTree t.rule t.start t.queue.items t.places };
+}
+
+impl WalkTree {
+    /// The least walks from this marked pair.
+    pub fn of(alloc: Global, pairs: &Pairs, start: u16) -> Result<WalkTree, AllocError>
+        requires { start < 2 * pair_count pairs.now }
+        ensures { IfOk result (λ tree. tree ≡ record { rule = pairs.now; start = start }) }
+    {
+        let mut queue = Vec::with_capacity(alloc, MOST_STATES)?;
+        let ends = Ends { start, goal: None };
+        search(&mut queue, pairs, ends, MOST_STATES);
+        let places = index(&queue);
+        Ok(WalkTree {
+            rule: *pairs.rule(),
+            start,
+            queue,
+            places,
+        })
+    }
+
+    /// Among the walks to a marked pair the shortest, and among these the first in the dictionary order
+    /// of their letter pairs: to the start that of no step. `None` exactly where no walk exists.
+    pub fn walk_to(&self, alloc: Global, to: u16) -> Result<Option<Vec<u8>>, AllocError>
+        requires { to < 2 * pair_count self.now.rule }
+        ensures walk { IfOk result (λ found. MatchOption found ((w : List (ℕ × ℕ)) → ¬ PairWalk (marked self.now.rule) self.now.rule.states self.now.start w to) (λ steps. IsLeastWalkTo self.now.rule self.now.start to (map (uncode 16) steps.items))) }
+        ensures most { IfOk result (λ found. IfSome found (λ steps. length steps.items ≤ 512)) }
+    {
+        let Some(place) = place_of(&self.queue, &self.places, to) else {
+            return Ok(None);
+        };
+        let mut steps = Vec::with_capacity(alloc, MOST_STEPS)?;
+        spell(&self.queue, place, &mut steps);
+        Ok(Some(steps))
+    }
+}
+
+/// For each marked pair in the queue its place.
+fn index(queue: &[Reached]) -> [u16; MOST_STATES]
+    requires { AreApart queue.now }
+    ensures { IsIndex queue.now result }
+{
+    let mut places = [0; MOST_STATES];
+    for i in 0..queue.len() {
+        places[usize::from(queue[i].pair)] = i as u16;
+    }
+    places
+}
+
+/// Where a marked pair stands in the queue, if it does.
+fn place_of(queue: &[Reached], places: &[u16; MOST_STATES], to: u16) -> Option<u16>
+    requires pair { to < 512 }
+    requires index { IsIndex queue.now places.now }
+    ensures found { IfSome result (λ i. (x : Reached) × (slice_get queue.now i ≡ Some x) × (x.pair ≡ to)) }
+    ensures none { IfNone result ((i : ℕ) (x : Reached) → slice_get queue.now i ≡ Some x → ¬ (x.pair ≡ to)) }
+{
+    let place = places[usize::from(to)];
+    let reached = queue.get(usize::from(place))?;
+    if reached.pair == to {
+        Some(place)
+    } else {
+        None
+    }
+}
