@@ -8,7 +8,7 @@ ghost use Rattle.word_image.specs.Rings.{IsTwins, IsLeastTwins};
 ghost use Rattle.tail_config.specs.Tails.{IsInjective};
 ghost use Rattle.inverse_window.specs.FirstTurns.{IsFirstFound};
 
-use least_walk::{Walker, is_before, spelled};
+use least_walk::{MOST_STEPS, Walker, is_before, spelled};
 use pair_graph::Pairs;
 use std::alloc::{AllocError, Global};
 use word_image::{Rule, Word};
@@ -54,11 +54,22 @@ fn first_turn(
     let count = pairs.count();
     let mut first = None;
     for p in 0..count {
-        if let Some(turn) = walker.walk(pairs, p, p + count) {
+        let most = most_steps(&first);
+        if let Some(turn) = walker.walk_within(pairs, p, p + count, most) {
             first = Some(earlier_walk(alloc, first, turn)?);
         }
     }
     Ok(first)
+}
+
+/// How many steps a walk that comes before the first one so far may have.
+fn most_steps(first: &Option<Vec<u8>>) -> usize
+    ensures { MatchOption first.now (result ≡ 512) (λ steps. result ≡ length steps.items) }
+{
+    match first {
+        Some(steps) => steps.len(),
+        None => MOST_STEPS,
+    }
 }
 
 /// The earlier of the first walk so far, if there is one, and another one.

@@ -11,12 +11,13 @@ use Rattle.inverse_window.proofs.twin_pairs.first_turn.Goals.{in-Some+in_ok-earl
 pub loop-p-preserved : goal.loop-p-preserved
 loop-p-preserved c =
     let r : LocalRule = c.args.pairs.now in
-    elim c.match-walk.branch [
+    elim c.match-walk_within.branch [
       | in-Some+in_ok-earlier_walk w ↦
           let turn : IsLeastTurn r c.loop-p.p (map (uncode 16) w.in-Some.turn.now) = rw c.count-count.ensures.count at w.in-Some.ensures.least in
           subst (IsFirstFound r (c.loop-p.p + 1)) (sym w.first-is)
           (IsFirstFound-next c.count-count.ensures.rule c.loop-p.first w.in-Some.turn.now w.in_ok-earlier_walk.field-0.items w.in_ok-earlier_walk.ensures c.loop-p.invariant turn)
       | in_default w ↦
-          let none : (v : List (ℕ × ℕ)) → 0 < length v → ¬ IsTurn r c.loop-p.p v = rw c.count-count.ensures.count at w.in_default.ensures.none in
-          subst (IsFirstFound r (c.loop-p.p + 1)) (sym w.first-is) (IsFirstFound-none c.count-count.ensures.rule c.loop-p.p c.loop-p.first c.loop-p.invariant none)
+          let ends = c.count-count.ensures.count in
+          subst (IsFirstFound r (c.loop-p.p + 1)) (sym w.first-is)
+          (IsFirstFound-none c.count-count.ensures.rule c.loop-p.p c.most_steps-most.result c.loop-p.first c.most_steps-most.ensures c.loop-p.invariant (rw ends at w.in_default.ensures.none) (rw ends at w.in_default.ensures.all))
     ]
