@@ -1,5 +1,5 @@
 -- The order of splits by the numbers of their letter pairs, and the search for the least one, state by state.
-use Rattle.std.proofs.Common.{◌≡◌, ℕ, ◌+◌, ◌/◌, ◌%◌, ◌<◌, ◌≤◌, List, [], ◌∷◌, length, map, Option, Some, None, Bool, true≢false, refl, sym, ap, ap₂, ◌∙◌, subst, arith}
+use Rattle.std.proofs.Common.{◌≡◌, ◌≢◌, ℕ, ◌+◌, ◌-◌, ◌/◌, ◌%◌, ◌<◌, ◌≤◌, List, [], ◌∷◌, length, map, Option, Some, None, Bool, true≢false, refl, sym, ap, ap₂, ◌∙◌, subst, ⊎_elim, arith}
 use Rattle.std.specs.Ordering.{ordering_then, nat_cmp, is_gt}
 use Rattle.std.specs.Prelude.{◌↔◌, IsTrue, MatchOption}
 use Rattle.std.specs.Option.{SomeIff, option_or}
@@ -7,14 +7,16 @@ use Rattle.std.specs.Cmp.{nat_cmp_is}
 use Rattle.std.specs.Cmp.Lexicographic.{slice_cmp}
 use Rattle.std.specs.declared.cmp.Ordering.{Ordering}
 use Rattle.std.specs.declared.cmp.Ordering.TheVariants.{Less, Equal, Greater}
+use Rattle.std.proofs.lemmas.Bool.{cases_lt}
 use Rattle.std.proofs.lemmas.Cmp.{ranked, by_ranked}
 use Rattle.std.proofs.lemmas.List.{length-map}
 use Rattle.word_image.specs.LocalRules.{LocalRule, IsRule}
+use Rattle.word_image.specs.Graphs.{marked}
 use Rattle.word_image.specs.Rings.{pair_cmp}
-use Rattle.search_laws.proofs.PairWalks.{uncode}
+use Rattle.search_laws.proofs.PairWalks.{PairWalk, uncode}
 use Rattle.tail_config.specs.Splits.{splits_cmp}
-use Rattle.tail_laws.specs.SplitWalks.{IsLeastReach, IsLeastSplitAt, IsNoSplitAt}
-use Rattle.tail_laws.proofs.LeastSplits.{splits_cmp-walks, no_earlier-long, no_earlier-least, IsLeastBelow-next, IsLeastBelow-taken, IsLeastBelow-first, IsNoSplitBelow-next}
+use Rattle.tail_laws.specs.SplitWalks.{IsLeastReach, IsLeastSplitAt, split_of, with_mark}
+use Rattle.tail_laws.proofs.LeastSplits.{splits_cmp-walks, no_earlier-least, IsLeastBelow-next, IsLeastBelow-taken, IsLeastBelow-first, IsNoSplitBelow-next}
 use Rattle.closing_test.specs.declared.walks.Walks.{Walks}
 use Rattle.closing_test.specs.Walks.{middle_pairs, period_pairs, split_by, ComesBefore, IsNoneBefore, AreEarlier, IsLeastSoFar}
 
@@ -79,14 +81,41 @@ IsLeastSoFar-next r t (Some best) None rule h none = IsLeastBelow-next h none
 IsLeastSoFar-next r t None (Some found) rule h here = IsLeastBelow-first rule h here.least
 IsLeastSoFar-next r t (Some best) (Some found) rule h here = IsLeastBelow-taken rule h here.least here.before
 
--- none comes before it where there is none
-pub IsNoneBefore-none : {r : LocalRule} {t : ℕ} (best : Option Walks) → IsNoSplitAt r t → IsNoneBefore r t best
-IsNoneBefore-none best none w v at before = none w v at
+-- none comes before it where no walk leads to the state
+pub IsNoneBefore-none : {r : LocalRule} {t : ℕ} (best : Option Walks) → ((w : List (ℕ × ℕ)) → ¬ PairWalk (marked r) r.states 0 w t) → IsNoneBefore r t best
+IsNoneBefore-none best none w v at before = none w at.reach
 
--- or the first walk there has as many letters as both of its walks
-pub IsNoneBefore-long : {r : LocalRule} {t : ℕ} {u : List (ℕ × ℕ)} (best : Walks) → IsLeastReach r t u → length best.middle.items + length best.period.items ≤ length u → IsNoneBefore r t (Some best)
-IsNoneBefore-long best reach long w v at before =
-    no_earlier-long reach (middle_pairs best) (period_pairs best) (omega (arith, long, length-map best.middle.items (uncode 16), length-map best.period.items (uncode 16))) at before
+-- a first walk has no more letters than another one
+length-reach : {r : LocalRule} {t : ℕ} {u w : List (ℕ × ℕ)} → IsLeastReach r t u → PairWalk (marked r) r.states 0 w t → length u ≤ length w
+length-reach {u = u} {w} reach walk =
+    ⊎_elim
+    (λ above. absurd (reach.least w walk (ap (λ o. ordering_then o (slice_cmp pair_cmp u w)) (sym (nat_cmp_is (length u) (length w) Greater above)))))
+    (λ le. le)
+    (cases_lt (length w) (length u))
+
+-- a split of more letters comes later
+splits_cmp-more : (best : Walks) (w v : List (ℕ × ℕ)) → length best.middle.items + length best.period.items < length w + length v → splits_cmp (split_by best) (split_of w v) ≢ Greater
+splits_cmp-more best w v more greater =
+    let m : List (ℕ × ℕ) = middle_pairs best in
+    let p : List (ℕ × ℕ) = period_pairs best in
+    let letters : nat_cmp (length m + length p) (length w + length v) ≡ Less =
+    sym (nat_cmp_is (length m + length p) (length w + length v) Less (omega (arith, more, length-map best.middle.items (uncode 16), length-map best.period.items (uncode 16)))) in
+    let less : splits_cmp (split_by best) (split_of w v) ≡ Less =
+    splits_cmp-walks m p w v
+    ∙ ap (λ o. ordering_then o (ordering_then (nat_cmp (length m) (length w)) (ordering_then (slice_cmp pair_cmp m w) (slice_cmp pair_cmp p v)))) letters in
+    true≢false (sym (ap is_gt greater) ∙ ap is_gt less)
+
+-- or no walk leads round it in so few steps as the best one leaves
+pub IsNoneBefore-long : {r : LocalRule} {t most : ℕ} {u : List (ℕ × ℕ)} (best : Option Walks)
+    → MatchOption best (most ≡ 512) (λ walks. most ≡ length walks.middle.items + length walks.period.items - length u) → IsLeastReach r t u
+    → ((v : List (ℕ × ℕ)) → 0 < length v → length v ≤ most → ¬ PairWalk (marked r) r.states t v (with_mark r t))
+    → (512 ≤ most → (v : List (ℕ × ℕ)) → 0 < length v → ¬ PairWalk (marked r) r.states t v (with_mark r t)) → IsNoneBefore r t best
+IsNoneBefore-long None is reach short all w v at before = all (omega arith) v at.some at.round
+IsNoneBefore-long {most = most} (Some best) is reach short all w v at before =
+    ⊎_elim
+    (λ more. splits_cmp-more best w v (omega (arith, is, more, length-reach reach at.reach)) before)
+    (λ few. short v at.some few at.round)
+    (cases_lt most (length v))
 
 -- or the least one there doesn't
 IsNoneBefore-least : {r : LocalRule} {t : ℕ} (best : Option Walks) (found : Walks) → IsLeastSplitAt r t (middle_pairs found) (period_pairs found) → ¬ ComesBefore (split_by found) best → IsNoneBefore r t best

@@ -7,7 +7,7 @@ ghost use Rattle.closing_test.specs.Walks.{IsLeastSoFar, letter_of, tail_by};
 ghost use Rattle.closing_test.specs.Closing.{IsLeastSplitOf};
 
 use crate::walks::Walks;
-use least_walk::Walker;
+use least_walk::{WalkTree, Walker};
 use pair_graph::Pairs;
 use std::alloc::{AllocError, Global};
 use tail_config::Tail;
@@ -44,9 +44,11 @@ fn least_walks(alloc: Global, rule: &Rule, walker: &mut Walker) -> Result<Option
     ensures { IfOk result (IsLeastSoFar rule.now (pair_count rule.now + pair_count rule.now)) }
 {
     let pairs = Pairs::of(rule);
+    let states = 2 * pairs.count();
+    let middles = WalkTree::of(alloc, &pairs, 0)?;
     let mut best = None;
-    for state in 0..2 * pairs.count() {
-        best = Walks::earlier(alloc, &pairs, walker, state, &best)?.or(best);
+    for state in 0..states {
+        best = Walks::earlier(alloc, &pairs, walker, &middles, state, &best)?.or(best);
     }
     Ok(best)
 }

@@ -1,14 +1,12 @@
 //! Splits as two walks of pairs.
 
-ghost use Rattle.std.specs.Prelude.{◌≡◌, ◌*◌, ◌+◌, ◌<◌, ◌≤◌, ◌↔◌, IfOk, IfSome, IsTrue, MatchOption, length, map};
+ghost use Rattle.std.specs.Prelude.{◌≡◌, ◌*◌, ◌+◌, ◌-◌, ◌<◌, ◌≤◌, ◌↔◌, IfOk, IsTrue, MatchOption, length};
 ghost use Rattle.std.specs.Option.{SomeIff};
 ghost use Rattle.std.specs.declared.cmp.Ordering.TheVariants.{Greater};
 ghost use Rattle.word_image.specs.Graphs.{pair_count};
-ghost use Rattle.search_laws.proofs.PairWalks.{uncode};
 ghost use Rattle.tail_config.specs.Splits.{splits_cmp};
-ghost use Rattle.tail_laws.specs.SplitWalks.{IsLeastReach, IsNoSplitAt};
 
-use least_walk::Walker;
+use least_walk::{MOST_STEPS, WalkTree, Walker};
 use pair_graph::Pairs;
 use std::alloc::{AllocError, Global};
 
@@ -47,27 +45,26 @@ impl Walks {
             .is_gt()
     }
 
-    /// The walks of the least normal split at a state, if it comes before the best one so far.
+    /// The walks of the least normal split at a state, if it comes before the best one so far. The
+    /// middles are the least walks from the pair of the nodes of zeros.
     pub fn earlier(
         alloc: Global,
         pairs: &Pairs,
         walker: &mut Walker,
+        middles: &WalkTree,
         state: u16,
         best: &Option<Walks>,
     ) -> Result<Option<Walks>, AllocError>
-        requires { state < 2 * pair_count pairs.now }
+        requires middles { middles.now ≡ record { rule = pairs.now; start = 0 } }
+        requires state { state < 2 * pair_count pairs.now }
         ensures { IfOk result (λ found. MatchOption found (IsNoneBefore pairs.now state best.now) (AreEarlier pairs.now state best.now)) }
     {
-        let Some(middle) = reach(alloc, pairs, walker, state)? else {
+        let Some(middle) = middles.walk_to(alloc, state)? else {
             return Ok(None);
         };
-        if let Some(best) = best
-            && middle.len() >= best.letters()
-        {
-            return Ok(None);
-        }
+        let most = most_steps(best, middle.len());
         let count = pairs.count();
-        let Some(period) = walker.walk(pairs, state, state % count + count) else {
+        let Some(period) = walker.walk_within(pairs, state, state % count + count, most) else {
             return Ok(None);
         };
         let found = Walks {
@@ -88,22 +85,13 @@ impl Walks {
     }
 }
 
-/// The first walk from the pair of the nodes of zeros to a state, of no step if it is that pair.
-fn reach(
-    alloc: Global,
-    pairs: &Pairs,
-    walker: &mut Walker,
-    state: u16,
-) -> Result<Option<Vec<u8>>, AllocError>
-    requires { state < 2 * pair_count pairs.now }
-    ensures walk { IfOk result (λ found. MatchOption found (IsNoSplitAt pairs.now state) (λ steps. IsLeastReach pairs.now state (map (uncode 16) steps.items))) }
-    ensures most { IfOk result (λ found. IfSome found (λ steps. length steps.items ≤ 512)) }
+/// How many steps a period after a middle of so many may have, for the split to come before the best
+/// one so far.
+fn most_steps(best: &Option<Walks>, middle: usize) -> usize
+    ensures { MatchOption best.now (result ≡ 512) (λ walks. result ≡ length walks.middle.items + length walks.period.items - middle) }
 {
-    if state == 0 {
-        return Ok(Some(Vec::new(alloc)));
-    }
-    match walker.walk(pairs, 0, state) {
-        Some(steps) => Ok(Some(steps.to_vec(alloc)?)),
-        None => Ok(None),
+    match best {
+        Some(best) => best.letters().saturating_sub(middle),
+        None => MOST_STEPS,
     }
 }

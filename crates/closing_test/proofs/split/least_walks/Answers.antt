@@ -1,9 +1,19 @@
-use Rattle.std.proofs.Common.{◌+◌, sym, subst}
+use Rattle.std.proofs.Common.{◌≡◌, ℕ, ◌+◌, ◌*◌, ◌<◌, sym, ap, subst, subst₂, arith}
+use Rattle.word_image.specs.Graphs.{pair_count}
+use Rattle.tail_laws.proofs.SplitWalks.{pair_count_pos}
 use Rattle.closing_test.specs.Walks.{IsLeastSoFar}
 use Rattle.closing_test.proofs.LeastWalks.{IsLeastSoFar-next}
 use Rattle.closing_test.proofs.split.least_walks.Goals as goal
 
+pub of-requires : goal.of-requires
+of-requires c = let some = pair_count_pos c.count-states.ensures.rule in omega arith
+
 pub loop-state-preserved : goal.loop-state-preserved
 loop-state-preserved c =
     subst (IsLeastSoFar c.of-pairs.result (c.loop-state.state + 1)) (sym c.or-best.ensures)
-    (IsLeastSoFar-next c.of-pairs.result c.loop-state.state c.loop-state.best c.in_ok-earlier.field-0 c.count-state-end.ensures.rule c.loop-state.invariant c.in_ok-earlier.ensures)
+    (IsLeastSoFar-next c.of-pairs.result c.loop-state.state c.loop-state.best c.in_ok-earlier.field-0 c.count-states.ensures.rule c.loop-state.invariant c.in_ok-earlier.ensures)
+
+pub returns : goal.returns
+returns c =
+    let end : c.loop-state.state ≡ pair_count c.of-pairs.result + pair_count c.of-pairs.result = omega (arith, c.count-states.ensures.count) in
+    subst (λ r. IsLeastSoFar r (pair_count r + pair_count r) c.loop-state.best) c.of-pairs.ensures (subst (λ n. IsLeastSoFar c.of-pairs.result n c.loop-state.best) end c.loop-state.invariant)

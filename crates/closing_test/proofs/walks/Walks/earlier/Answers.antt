@@ -1,15 +1,38 @@
-use Rattle.std.proofs.Common.{ℕ, ◌+◌, ◌%◌, map, sym, subst₂}
+use Rattle.std.proofs.Common.{◌≡◌, ℕ, ◌+◌, ◌%◌, ◌<◌, ◌≤◌, ◌-◌, List, length, map, Some, sym, ap, ◌∙◌, subst, subst₂, arith}
+use Rattle.std.specs.Prelude.{MatchOption}
+use Rattle.std.proofs.lemmas.List.{length-map}
+use Rattle.word_image.specs.LocalRules.{LocalRule}
 use Rattle.word_image.specs.Graphs.{marked}
-use Rattle.search_laws.proofs.PairWalks.{IsLeastWalk, uncode}
+use Rattle.search_laws.proofs.PairWalks.{PairWalk, IsLeastWalk, uncode}
+use Rattle.least_walk.specs.Trees.{WalkSource, IsLeastWalkTo}
+use Rattle.tail_laws.specs.SplitWalks.{IsLeastReach}
 use Rattle.tail_laws.proofs.LeastSplits.{IsLeastSplitAt-walks}
-use Rattle.closing_test.proofs.LeastWalks.{kept_if_before}
+use Rattle.closing_test.specs.declared.walks.Walks.{Walks}
+use Rattle.closing_test.proofs.LeastWalks.{kept_if_before, IsNoneBefore-none, IsNoneBefore-long}
 use Rattle.closing_test.proofs.walks.Walks.earlier.Goals as goal
 
-pub returns-2 : goal.returns-2
-returns-2 c =
+-- the first walk from the pair of the nodes of zeros
+reach : {r : LocalRule} {t : ℕ} {w : List (ℕ × ℕ)} (s : WalkSource) → s ≡ record { rule = r; start = 0 } → IsLeastWalkTo s.rule s.start t w → IsLeastReach r t w
+reach {r} {t} {w} s same h = let first : IsLeastWalkTo r 0 t w = subst (λ z. IsLeastWalkTo z.rule z.start t w) same h in record { walk = first.walk; least = first.least }
+
+pub returns-in_default : goal.returns-in_default
+returns-in_default c =
+    IsNoneBefore-none c.args.best.now
+    (subst (λ s. (w : List (ℕ × ℕ)) → ¬ PairWalk (marked s.rule) s.rule.states s.start w c.args.state) c.requires.middles (rw c.in_default.is at c.in_ok-middle.ensures.walk))
+
+pub returns-in_default-walk_within : goal.returns-in_default-walk_within
+returns-in_default-walk_within c =
+    let count = c.count-count.ensures.count in
+    let long : c.len.result ≡ length (map (uncode 16) c.in-Some.middle.items) = omega (arith, c.len.ensures, c.in-Some.middle.ok, length-map c.in-Some.middle.items (uncode 16)) in
+    IsNoneBefore-long c.args.best.now
+    (subst (λ n. MatchOption c.args.best.now (c.most_steps-most.result ≡ 512) (λ walks. c.most_steps-most.result ≡ length walks.middle.items + length walks.period.items - n)) long c.most_steps-most.ensures)
+    (reach c.args.middles.now c.requires.middles (rw c.in-Some.is at c.in_ok-middle.ensures.walk))
+    (rw count at c.in_default-walk_within.ensures.none) (rw count at c.in_default-walk_within.ensures.all)
+
+pub returns : goal.returns
+returns c =
     let r = c.args.pairs.now in
     let t : ℕ = c.args.state in
-    let reach = rw c.in-Some.is at c.in_ok-middle.ensures.walk in
     let items = sym (c.in_ok-to_vec.ensures.items_if_clones_equal (λ x y e. e)) in
-    let round = subst₂ (λ n steps. IsLeastWalk (marked r) r.states t (t % n + n) (map (uncode 16) steps)) c.count-count.ensures.count items c.in-Some-walk.ensures.least in
-    kept_if_before c.args.best.now c.if_before.result _ (IsLeastSplitAt-walks reach round) c.if_before.ensures
+    let round = subst₂ (λ n steps. IsLeastWalk (marked r) r.states t (t % n + n) (map (uncode 16) steps)) c.count-count.ensures.count items c.in-Some-walk_within.ensures.least in
+    kept_if_before c.args.best.now c.if_before.result _ (IsLeastSplitAt-walks (reach c.args.middles.now c.requires.middles (rw c.in-Some.is at c.in_ok-middle.ensures.walk)) round) c.if_before.ensures
