@@ -2,3 +2,4 @@ pub mod FirstWindows
 pub mod LookAheads
 pub mod LeastWalks
 pub mod SplitTails
+mod EndlessFirsts

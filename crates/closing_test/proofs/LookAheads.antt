@@ -120,7 +120,7 @@ pub record AreEnds (side : Side) (r : LocalRule) (w a u v : ℕ) : Type 0 where
   pub node : v < node_count r
 
 -- their pair goes on together as they do
-end_pair-goes : (side : Side) (r : LocalRule) (w a u v n : ℕ) → AreEnds side r w a u v → PairGoes side r (end_pair side r w a) n ↔ GoTogether side r u v n
+pub end_pair-goes : (side : Side) (r : LocalRule) (w a u v n : ℕ) → AreEnds side r w a u v → PairGoes side r (end_pair side r w a) n ↔ GoTogether side r u v n
 end_pair-goes side r w a u v n ends =
     subst (λ p. PairGoes side r p n ↔ GoTogether side r u v n) (ap₂ (pair_of r) ends.first ends.second) (pair_goes side r u v n ends.node)
 

@@ -27,6 +27,7 @@
 //! for each state, time **O(k·N⁴)** in operations on rows, and the memory of two splits.
 #![tactic(auto)]
 
+mod closes;
 mod closing;
 mod look_ahead;
 mod side;
@@ -35,5 +36,6 @@ mod split;
 mod tests;
 mod walks;
 
+pub use closes::{is_left_closing, is_right_closing};
 pub use closing::{Closing, left, right};
 pub use look_ahead::{ahead_left, ahead_right};

@@ -2,6 +2,7 @@
 
 use super::*;
 use least_walk::Walker;
+use pair_graph::Pairs;
 use pair_rank::Ranks;
 use std::test::Fail;
 use tail_config::Tail;
@@ -25,7 +26,7 @@ fn elementary(number: u8) -> Result<Rule, Fail> {
 
 /// The least look-aheads of a rule, right and left.
 fn aheads(rule: &Rule) -> (Option<u16>, Option<u16>) {
-    let ranks = Ranks::of(rule);
+    let ranks = Ranks::of(&Pairs::of(rule));
     (ahead_right(rule, &ranks), ahead_left(rule, &ranks))
 }
 
@@ -99,7 +100,12 @@ fn right_splits_are_least(rt: HostRuntime) -> Result<(), Fail> {
     let mut walker = Walker::new(rt.alloc())?;
     for (number, first, second) in cases {
         let rule = elementary(number)?;
-        match right(rt.alloc(), &rule, &Ranks::of(&rule), &mut walker)? {
+        match right(
+            rt.alloc(),
+            &rule,
+            &Ranks::of(&Pairs::of(&rule)),
+            &mut walker,
+        )? {
             Closing::Split(x, y) => {
                 assert_eq!(rt; parts(&x), first, "rule {number}");
                 assert_eq!(rt; parts(&y), second, "rule {number}");
@@ -128,7 +134,12 @@ fn left_splits_are_least(rt: HostRuntime) -> Result<(), Fail> {
     let mut walker = Walker::new(rt.alloc())?;
     for (number, first, second) in cases {
         let rule = elementary(number)?;
-        match left(rt.alloc(), &rule, &Ranks::of(&rule), &mut walker)? {
+        match left(
+            rt.alloc(),
+            &rule,
+            &Ranks::of(&Pairs::of(&rule)),
+            &mut walker,
+        )? {
             Closing::Split(x, y) => {
                 assert_eq!(rt; parts(&x), first, "rule {number}");
                 assert_eq!(rt; parts(&y), second, "rule {number}");
@@ -144,7 +155,7 @@ fn closing_rules_have_no_split(rt: HostRuntime) -> Result<(), Fail> {
     let mut walker = Walker::new(rt.alloc())?;
     for number in [60, 90, 170, 204] {
         let rule = elementary(number)?;
-        let ranks = Ranks::of(&rule);
+        let ranks = Ranks::of(&Pairs::of(&rule));
         let (to_right, to_left) = aheads(&rule);
         match right(rt.alloc(), &rule, &ranks, &mut walker)? {
             Closing::Ahead(n) => assert_eq!(rt; Some(n), to_right, "rule {number}"),

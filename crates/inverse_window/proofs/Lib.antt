@@ -7,3 +7,4 @@ pub mod FirstSearches
 pub mod LeastWindows
 pub mod TurnSteps
 pub mod SpelledTwins
+mod BothWays

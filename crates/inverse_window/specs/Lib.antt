@@ -1,3 +1,4 @@
 pub mod Starts
 pub mod FirstWindows
 pub mod FirstTurns
+pub mod BothWays

@@ -33,7 +33,9 @@ mod starts;
 #[cfg(test)]
 mod tests;
 mod twin_pairs;
+mod verdicts;
 mod windows;
 
 pub use twin_pairs::{TwinPair, twins};
+pub use verdicts::is_injective;
 pub use windows::{WindowAt, window};

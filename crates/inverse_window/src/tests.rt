@@ -1,7 +1,8 @@
 //! Windows and twins as a listing of words gives them.
 
-use crate::{WindowAt, twins, window};
+use crate::{WindowAt, is_injective, twins, window};
 use least_walk::Walker;
+use pair_graph::Pairs;
 use pair_rank::Ranks;
 use std::alloc::{AllocError, Global};
 use std::process::Abort;
@@ -40,7 +41,11 @@ fn six_elementary_rules_are_injective(rt: HostRuntime) -> Result<(), Fail> {
             _ => None,
         };
         let rule = elementary(number)?;
-        assert_eq!(rt; window(&rule, &Ranks::of(&rule)), want, "rule {number}");
+        assert_eq!(rt;
+            window(&rule, &Ranks::of(&Pairs::of(&rule))),
+            want,
+            "rule {number}"
+        );
         let length = match twins(rt.alloc(), &rule, &mut walker)? {
             Some(pair) => pair.x.as_slice().len(),
             None => 0,
@@ -67,7 +72,13 @@ fn wider_rules_have_these_windows(rt: HostRuntime) -> Result<(), Fail> {
     ];
     for (case, (k, m, digits, want)) in cases.into_iter().enumerate() {
         let rule = Rule::new(k, m, 0, &letters(rt.alloc(), digits)?)?;
-        assert_eq!(rt; window(&rule, &Ranks::of(&rule)), want, "case {case}");
+        let ranks = Ranks::of(&Pairs::of(&rule));
+        assert_eq!(rt; window(&rule, &ranks), want, "case {case}");
+        assert_eq!(rt;
+            is_injective(ranks.endless()),
+            want.is_some(),
+            "case {case}"
+        );
     }
     Ok(())
 }
@@ -80,7 +91,7 @@ fn the_shift_of_sixteen_letters_has_a_window(rt: HostRuntime) -> Result<(), Fail
     }
     let rule = Rule::new(16, 2, 0, &table)?;
     assert_eq!(rt;
-        window(&rule, &Ranks::of(&rule)),
+        window(&rule, &Ranks::of(&Pairs::of(&rule))),
         Some(WindowAt { n: 1, c: 1 })
     );
     Ok(())

@@ -7,6 +7,7 @@ ghost use Rattle.tail_config.specs.Tails.{IsInjective};
 ghost use Rattle.inverse_window.specs.FirstWindows.{IsEarlier, IsFirstOf};
 
 use crate::starts::{ENDLESS, later, start_past, starts_by_rank};
+use crate::verdicts::is_injective;
 use pair_rank::Ranks;
 use word_image::Rule;
 
@@ -30,6 +31,9 @@ pub fn window(rule: &Rule, ranks: &Ranks) -> Option<WindowAt>
     ensures least { MatchOption result ((n c : ℕ) → ¬ IsDetermined rule.now n c) (λ w. IsLeastDetermined rule.now w.n w.c) }
     ensures most { IfSome result (λ w. w.n ≤ 480) }
 {
+    if !is_injective(ranks.endless()) {
+        return None;
+    }
     let mut first = first_within(rule, ranks);
     for place in 1..rule.m() - 1 {
         let start = start_past(rule, ranks, place);

@@ -1,9 +1,20 @@
-use Rattle.std.proofs.Common.{◌≡◌, ◌-◌, subst, arith}
+use Rattle.std.proofs.Common.{◌≡◌, ◌-◌, sym, ◌∙◌, subst, arith}
+use Rattle.std.proofs.lemmas.Bool.{false≢true}
+use Rattle.word_image.specs.LocalRules.{IsRule}
+use Rattle.tail_config.specs.Tails.{IsInjective}
+use Rattle.tail_laws.proofs.Certainty.{IsInjective-window}
 use Rattle.eden_laws.proofs.Preinjective.{IsSurjective-injective}
 use Rattle.inverse_window.specs.FirstWindows.{IsFirstOf}
 use Rattle.inverse_window.proofs.FirstSearches.{earlier-most}
 use Rattle.inverse_window.proofs.LeastWindows.{IsBefore, IsFirstOf-next, IsLeastDetermined-first, IsInjective-least}
 use Rattle.inverse_window.proofs.windows.window.Goals as goal
+
+-- a rule that isn't injective has no determined window
+pub returns-then-not-is_injective-clause-least : goal.returns-then-not-is_injective-clause-least
+returns-then-not-is_injective-clause-least c n place determined =
+    let rule = subst IsRule (c.endless.ensures ∙ c.requires.of_rule) c.is_injective.ensures.rule in
+    let injective = (IsInjective-window rule).1 (n, place, determined) in
+    false≢true (sym c.if-not-is_injective.true ∙ c.is_injective.ensures.injective.1 (subst IsInjective (sym (c.endless.ensures ∙ c.requires.of_rule)) injective))
 
 pub loop-place-preserved : goal.loop-place-preserved
 loop-place-preserved c = (

@@ -1,0 +1,43 @@
+-- A rule closes on a side exactly where no first pair of that side is endless.
+use Rattle.std.proofs.Common.{◌==◌, ℕ, ◌/◌, ◌^◌, ◌↔◌, IsBitSet, IsTrue, bit_and, sym, ◌∙◌, subst, eq-eqb, ⊎_elim}
+use Rattle.std.proofs.lemmas.Bool.{cases_eq, ne_eqb, false≢true}
+use Rattle.std.proofs.lemmas.Nat.Bits.{shr_and_one}
+use Rattle.word_image.specs.LocalRules.{LocalRule, IsRule}
+use Rattle.word_image.specs.Ranks.{IsEndless}
+use Rattle.word_image.proofs.laws.Bits.{bit_at-IsBitSet}
+use Rattle.pair_laws.proofs.BothWays.{IsRightAhead-some, IsLeftAhead-some}
+use Rattle.tail_laws.proofs.Certainty.{IsRightClosing-window, IsLeftClosing-window}
+use Rattle.closing_test.specs.declared.side.Side.{Side}
+use Rattle.closing_test.specs.declared.side.Side.TheVariants.{Right, Left}
+use Rattle.closing_test.specs.Sides.{GoTogether, IsClosing, IsFirst, PairGoes, end_pair}
+use Rattle.closing_test.specs.EndlessFirsts.{IsEndlessWith}
+use Rattle.closing_test.proofs.FirstWindows.{IsFirst-ends, first_ends}
+use Rattle.closing_test.proofs.LookAheads.{IsFound, end_pair-goes}
+
+closes_exactly : (side : Side) {r : LocalRule} → IsRule r → IsClosing side r ↔ ((p : ℕ) → IsFirst side r p → ¬ IsEndless (PairGoes side r p))
+closes_exactly Right rule = ((λ closing. (IsRightAhead-some rule).0 ((IsRightClosing-window rule).0 closing)), (λ none. (IsRightClosing-window rule).1 ((IsRightAhead-some rule).1 none)))
+closes_exactly Left rule = ((λ closing. (IsLeftAhead-some rule).0 ((IsLeftClosing-window rule).0 closing)), (λ none. (IsLeftClosing-window rule).1 ((IsLeftAhead-some rule).1 none)))
+
+-- an endless first pair forbids it
+pub not_closing_with : (side : Side) {r : LocalRule} → IsRule r → (w a : ℕ) → IsEndlessWith side r w a → ¬ IsClosing side r
+not_closing_with side {r} rule w a h closing = (closes_exactly side rule).0 closing (end_pair side r w a) (IsFirst-ends side rule w a h.first) h.endless
+
+-- and where no window has one, the rule closes
+pub closing_without : (side : Side) {r : LocalRule} → IsRule r → ((w a : ℕ) → ¬ IsEndlessWith side r w a) → IsClosing side r
+closing_without side {r} rule none = (closes_exactly side rule).1 (λ p first endless.
+    let (w, a, here, pair) = first_ends side rule first in
+    none w a (record { first = here; endless = subst (λ q. IsEndless (PairGoes side r q)) pair endless }))
+
+-- the bit of the second node in the row of the first tells
+pub IsEndlessWith-bit : (side : Side) (r : LocalRule) (w a u v row : ℕ) → IsFound side r w a u v → (IsBitSet row v ↔ IsEndless (GoTogether side r u v))
+    → IsTrue (bit_and (row / 2 ^ v) 1 == 1) ↔ IsEndlessWith side r w a
+IsEndlessWith-bit side r w a u v row found exact = (
+  (λ t. ⊎_elim
+      (λ one.
+      let endless = exact.0 ((bit_at-IsBitSet row v).1 (sym (shr_and_one row v) ∙ one)) in
+      record { first = found.first; endless = λ n. (end_pair-goes side r w a u v n found.ends).1 (endless n) })
+      (λ other. absurd (false≢true (sym (ne_eqb (bit_and (row / 2 ^ v) 1) 1 other) ∙ t)))
+      (cases_eq (bit_and (row / 2 ^ v) 1) 1)),
+  (λ h. eq-eqb (bit_and (row / 2 ^ v) 1) 1
+      (shr_and_one row v ∙ (bit_at-IsBitSet row v).0 (exact.1 (λ n. (end_pair-goes side r w a u v n found.ends).0 (h.endless n))))),
+)

@@ -1,0 +1,15 @@
+-- First pairs that are endless.
+use Rattle.std.specs.Prelude.{ℕ, ◌<◌}
+use Rattle.word_image.specs.LocalRules.{LocalRule}
+use Rattle.word_image.specs.Ranks.{IsEndless}
+use Rattle.closing_test.specs.declared.side.Side.{Side}
+use Rattle.closing_test.specs.Sides.{AreFirst, PairGoes, end_pair}
+
+-- the ends of this window and of that with this letter at its end are an endless first pair
+pub record IsEndlessWith (side : Side) (r : LocalRule) (w a : ℕ) : Type 0 where
+  pub first : AreFirst side r w a
+  pub endless : IsEndless (PairGoes side r (end_pair side r w a))
+
+-- for some letter they are
+abbrev pub IsEndlessAt : Side → LocalRule → ℕ → Type 0
+IsEndlessAt side r w = (a : ℕ) × (a < r.states) × IsEndlessWith side r w a

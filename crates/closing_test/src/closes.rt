@@ -1,0 +1,78 @@
+//! Whether a rule closes on a side, without the look-ahead or the split that shows it.
+
+ghost use Rattle.std.specs.Prelude.{◌≡◌, ◌^◌, ◌<◌, ◌↔◌, ℕ, IsBitSet, IsTrue};
+ghost use Rattle.word_image.specs.LocalRules.{node_count};
+ghost use Rattle.word_image.specs.Ranks.{IsEndless};
+ghost use Rattle.tail_config.specs.Tails.{IsRightClosing, IsLeftClosing};
+ghost use Rattle.closing_test.specs.Sides.{GoTogether, IsClosing};
+ghost use Rattle.closing_test.specs.EndlessFirsts.{IsEndlessAt, IsEndlessWith};
+
+use crate::side::Side;
+use pair_rank::Endless;
+
+/// Whether a rule is right-closing, by its endless pairs: no first pair of the right is endless. It
+/// takes time **O(k·k^m)** and no memory.
+pub fn is_right_closing(endless: &Endless) -> bool
+    ensures { IsTrue result ↔ IsRightClosing endless.now }
+{
+    closes(Side::Right, endless)
+}
+
+/// Whether a rule is left-closing, by its endless pairs: no first pair of the left is endless. It takes
+/// time **O(k·k^m)** and no memory.
+pub fn is_left_closing(endless: &Endless) -> bool
+    ensures { IsTrue result ↔ IsLeftClosing endless.now }
+{
+    closes(Side::Left, endless)
+}
+
+/// Whether the rule closes on this side.
+fn closes(side: Side, endless: &Endless) -> bool
+    ensures { IsTrue result ↔ IsClosing side endless.now }
+{
+    for window in 0..endless.rule().size() {
+        if is_endless_at(side, endless, window) {
+            return false;
+        }
+    }
+    true
+}
+
+/// Whether the ends of this window and another one are an endless first pair.
+fn is_endless_at(side: Side, endless: &Endless, window: u16) -> bool
+    requires { window < endless.now.states ^ endless.now.width }
+    ensures { IsTrue result ↔ IsEndlessAt side endless.now window }
+{
+    for letter in 0..endless.rule().k() {
+        if is_endless_with(side, endless, window, letter) {
+            return true;
+        }
+    }
+    false
+}
+
+/// Whether the ends of this window and of that with this letter at its end are one.
+fn is_endless_with(side: Side, endless: &Endless, window: u16, letter: u8) -> bool
+    requires window { window < endless.now.states ^ endless.now.width }
+    requires letter { letter < endless.now.states }
+    ensures { IsTrue result ↔ IsEndlessWith side endless.now window letter }
+{
+    let rule = endless.rule();
+    let other = side.with_end(rule, window, letter);
+    if other == window || rule.at(other) != rule.at(window) {
+        return false;
+    }
+    let nodes = endless_nodes(side, endless, side.end_node(rule, window));
+    nodes >> side.end_node(rule, other) & 1 == 1
+}
+
+/// The nodes with which u goes on together towards this side for ever; node v is bit v.
+fn endless_nodes(side: Side, endless: &Endless, u: u8) -> u16
+    requires { u < node_count endless.now }
+    ensures { (v : ℕ) → v < 16 → (IsBitSet result v ↔ IsEndless (GoTogether side endless.now u v)) }
+{
+    match side {
+        Side::Right => endless.forward(u),
+        Side::Left => endless.backward(u),
+    }
+}

@@ -1,0 +1,65 @@
+-- A rule is injective exactly where no two different nodes go on together for ever both ways.
+use Rattle.std.proofs.Common.{◌≡◌, ◌≢◌, ℕ, ◌+◌, ◌-◌, ◌*◌, ◌^◌, ◌%◌, ◌<◌, ◌↔◌, IsBitSet, bit_and, sym, ◌∙◌, subst, arith, mod-lt}
+use Rattle.std.proofs.lemmas.Nat.{and_le_l}
+use Rattle.word_image.specs.LocalRules.{LocalRule, IsRule, node_count}
+use Rattle.word_image.specs.Graphs.{first_of, second_of, pair_of}
+use Rattle.word_image.specs.Ranks.{BeginTogether, EndTogether, IsEndless}
+use Rattle.word_image.proofs.laws.Bits.{IsBitSet-some, IsBitSet-zero}
+use Rattle.pair_laws.proofs.Pairs.{first_of-pair_of, second_of-pair_of, first_of-below, second_of-below, PairBegins-pair_of, PairEnds-pair_of}
+use Rattle.pair_laws.proofs.Ranks.{BeginTogether-below}
+use Rattle.pair_laws.proofs.Sets.{IsBitSet-and, IsBitSet-minus, IsBitSet-shl}
+use Rattle.pair_laws.proofs.BothWays.{IsEndlessBothWays, IsDetermined-not_both_ways, IsDetermined-none_both_ways}
+use Rattle.tail_config.specs.Tails.{IsInjective}
+use Rattle.tail_laws.proofs.Injective.{IsInjective-determined}
+use Rattle.tail_laws.proofs.Certainty.{IsInjective-window}
+use Rattle.inverse_window.specs.BothWays.{GoOnBothWays}
+
+-- two different nodes that do forbid it
+pub not_injective : {r : LocalRule} → IsRule r → (u v : ℕ) → u ≢ v → GoOnBothWays r u v → ¬ IsInjective r
+not_injective {r} rule u v different goes injective =
+    let node = (BeginTogether-below (goes.begins 0)).1 in
+    let (n, c, determined) = (IsInjective-window rule).0 injective in
+    let first = first_of-pair_of r u v node in
+    let second = second_of-pair_of r u v node in
+    IsDetermined-not_both_ways rule determined (pair_of r u v) (λ same. different (sym first ∙ same ∙ second)) (record {
+      begins = λ j. (PairBegins-pair_of r u v j node).1 (goes.begins j);
+      ends = λ j. (PairEnds-pair_of r u v j node).1 (goes.ends j);
+    })
+
+-- and where none do, it is
+pub injective_where_none : {r : LocalRule} → IsRule r → ((u v : ℕ) → u < node_count r → v < node_count r → u ≢ v → ¬ GoOnBothWays r u v) → IsInjective r
+injective_where_none {r} rule none =
+    IsInjective-determined rule (IsDetermined-none_both_ways rule (λ p inside different both.
+    none (first_of r p) (second_of r p) (first_of-below rule p inside) (second_of-below rule p) different (record { begins = both.begins; ends = both.ends })))
+
+-- the nodes of two rows but one: those that go on with it both ways
+pub GoOnBothWays-rows : {r : LocalRule} → IsRule r → (u begins ends v : ℕ) → u < node_count r → v < 16
+    → (IsBitSet begins v ↔ IsEndless (BeginTogether r u v)) → (IsBitSet ends v ↔ IsEndless (EndTogether r u v))
+    → IsBitSet (bit_and (bit_and begins ends) (65535 - 1 * 2 ^ u % 2 ^ 16)) v ↔ ((u ≢ v) × GoOnBothWays r u v)
+GoOnBothWays-rows {r} rule u begins ends v first small forward backward =
+    let few : u < 16 = omega (arith, first, rule.shape.most_nodes) in
+    let rest = IsBitSet-minus (bit_and begins ends) (1 * 2 ^ u % 2 ^ 16) v (mod-lt (1 * 2 ^ u) {m = 2 ^ 16} (omega arith)) small in
+    let both = IsBitSet-and begins ends v in
+    let one = IsBitSet-shl u v few in (
+      (λ some.
+          let (here, other) = rest.0 some in
+          let (b, e) = both.0 here in
+          ((λ same. other (one.1 (sym same))), record { begins = forward.0 b; ends = backward.0 e })),
+      (λ (different, goes). rest.1 (both.1 (forward.1 goes.begins, backward.1 goes.ends), (λ here. different (sym (one.0 here))))),
+    )
+
+-- so it isn't empty exactly where another node goes on with it
+pub GoOnBothWays-some : {r : LocalRule} → IsRule r → (u begins ends : ℕ) → u < node_count r → begins < 2 ^ 16
+    → ((v : ℕ) → v < 16 → (IsBitSet begins v ↔ IsEndless (BeginTogether r u v))) → ((v : ℕ) → v < 16 → (IsBitSet ends v ↔ IsEndless (EndTogether r u v)))
+    → (bit_and (bit_and begins ends) (65535 - 1 * 2 ^ u % 2 ^ 16) ≢ 0) ↔ ((v : ℕ) × (u ≢ v) × GoOnBothWays r u v)
+GoOnBothWays-some {r} rule u begins ends first small forward backward =
+    let set = bit_and (bit_and begins ends) (65535 - 1 * 2 ^ u % 2 ^ 16) in
+    let below : set < 2 ^ 16 = omega (arith, and_le_l (bit_and begins ends) (65535 - 1 * 2 ^ u % 2 ^ 16), and_le_l begins ends) in (
+      (λ some.
+          let (v, inside, here) = IsBitSet-some 16 set below some in
+          let (different, goes) = (GoOnBothWays-rows rule u begins ends v first inside (forward v inside) (backward v inside)).0 here in
+          (v, different, goes)),
+      (λ (v, different, goes) none.
+          let inside : v < 16 = omega (arith, (BeginTogether-below (goes.begins 0)).1, rule.shape.most_nodes) in
+          IsBitSet-zero v (subst (λ a. IsBitSet a v) none ((GoOnBothWays-rows rule u begins ends v first inside (forward v inside) (backward v inside)).1 (different, goes)))),
+    )

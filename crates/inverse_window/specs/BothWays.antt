@@ -1,0 +1,8 @@
+-- Two nodes that go on together for ever both ways.
+use Rattle.std.specs.Prelude.{ℕ}
+use Rattle.word_image.specs.LocalRules.{LocalRule}
+use Rattle.word_image.specs.Ranks.{BeginTogether, EndTogether, IsEndless}
+
+pub record GoOnBothWays (r : LocalRule) (u v : ℕ) : Type 0 where
+  pub begins : IsEndless (BeginTogether r u v)
+  pub ends : IsEndless (EndTogether r u v)
