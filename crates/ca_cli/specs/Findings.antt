@@ -6,7 +6,6 @@ use Rattle.word_image.specs.LocalRules.{LocalRule, IsRule, IsWord, node_count}
 use Rattle.word_image.specs.Words.{IsSurjective, IsLeastOrphan}
 use Rattle.word_image.specs.Rings.{IsConserving, IsLeastTwins}
 use Rattle.word_image.specs.Windows.{IsLeastDetermined}
-use Rattle.word_image.specs.Families.{IsFamily}
 use Rattle.tail_config.specs.Tails.{IsInjective}
 use Rattle.inverse_window.specs.declared.windows.WindowAt.{WindowAt}
 use Rattle.closing_test.specs.Closing.{IsRightAnswer, IsLeftAnswer}
@@ -23,9 +22,9 @@ use Rattle.ca_cli.specs.declared.findings.Findings.{Findings}
 use Rattle.ca_cli.specs.Lines.{line}
 use Rattle.ca_cli.specs.Reports.{rule_line, number_line, tails_text, after_blanks}
 
--- the rule is surjective, with its family of last sets; or it isn't, with the least orphan
+-- the rule is surjective; or it isn't, with the least orphan
 abbrev pub IsSurjectivity : LocalRule → Surjectivity → Type 0
-IsSurjectivity r (surjectivity.Sets sets) = IsSurjective r × IsFamily r sets
+IsSurjectivity r surjectivity.Yes = IsSurjective r
 IsSurjectivity r (surjectivity.Orphan w) = IsLeastOrphan r w
 
 -- the rule is injective, with the least determined window; or it isn't, with the least twins
@@ -56,7 +55,7 @@ pub record AreFound (r : LocalRule) (f : Findings) : Type 0 where
 -- Letters that have one digit each
 
 abbrev pub HasOrphanDigits : Surjectivity → Type 0
-HasOrphanDigits (surjectivity.Sets sets) = ⊤
+HasOrphanDigits surjectivity.Yes = ⊤
 HasOrphanDigits (surjectivity.Orphan w) = IsWord 16 w
 
 abbrev pub HasTwinDigits : Injectivity → Type 0
@@ -70,7 +69,7 @@ HasRingDigits (keeping.Ring p) = IsWord 16 p
 -- The lines
 
 abbrev pub surjectivity_line : Surjectivity → List ℕ
-surjectivity_line (surjectivity.Sets sets) = line (codes "surjective yes")
+surjectivity_line surjectivity.Yes = line (codes "surjective yes")
 surjectivity_line (surjectivity.Orphan w) = line (codes "surjective no orphan " ++ word_text w)
 
 abbrev pub window_line : WindowAt → List ℕ

@@ -1,6 +1,8 @@
 //! The command that writes a certificate: for each question the least evidence, and the exact ranks.
 ghost use Rattle.std.specs.Prelude.{◌≡◌, ℕ, List, take, Option, IfOk, OnOk};
 ghost use Rattle.word_image.specs.LocalRules.{LocalRule, IsRule, node_count};
+ghost use Rattle.word_image.specs.Words.{IsSurjective};
+ghost use Rattle.word_image.specs.Families.{IsFamily};
 ghost use Rattle.closing_test.specs.Closing.{IsRightAnswer, IsLeftAnswer};
 ghost use Rattle.cert_format.specs.Certificates.{Certificate};
 ghost use Rattle.cert_format.specs.Parts.{surjective_of, injective_of, side_of, sum_of, IsOver};
@@ -18,9 +20,11 @@ use crate::stop::Stop;
 use cert_format::{Cert, InjectivePart, SidePart, SumPart, SurjectivePart, to_bytes};
 use closing_test::Closing;
 use flux_conserve::{Keeping, SmallRing};
+use orphan_search::Search;
+use pair_graph::Pairs;
 use pair_rank::Ranks;
 use std::alloc::{AllocError, Global};
-use word_image::{FluxRow, Rule, Word};
+use word_image::{FluxRow, Rule, SetList, Word};
 
 /// `certify R`: the certificate of the rule, with nothing after it.
 pub fn certify(alloc: Global, text: &[u8]) -> Result<Output, Stop>
@@ -48,12 +52,12 @@ fn certificate(alloc: Global, rule: &Rule) -> Result<Cert, AllocError>
     ensures parts { IfOk result (HasWrittenParts rule.now) }
 {
     let found = Findings::of(alloc, rule)?;
-    let surjective = surjective_part(found.surjective);
+    let surjective = surjective_part(alloc, rule, found.surjective)?;
     let injective = injective_part(found.injective);
     let right = side_part(found.right);
     let left = side_part(found.left);
     let conserving = sum_part(alloc, rule, found.conserving)?;
-    let ranks = Ranks::of(rule);
+    let ranks = Ranks::of(&Pairs::of(rule));
     let forward = rank_row(alloc, &ranks, Direction::Forward)?;
     let backward = rank_row(alloc, &ranks, Direction::Backward)?;
     Ok(Cert {
@@ -68,14 +72,29 @@ fn certificate(alloc: Global, rule: &Rule) -> Result<Cert, AllocError>
     })
 }
 
-/// What a certificate says of surjectivity.
-fn surjective_part(found: Surjectivity) -> SurjectivePart
-    ensures { (r : LocalRule) → IsSurjectivity r found → IsSurjectivePart r (surjective_of result) }
+/// What a certificate says of surjectivity: the family of the rule, or its least orphan.
+fn surjective_part(
+    alloc: Global,
+    rule: &Rule,
+    found: Surjectivity,
+) -> Result<SurjectivePart, AllocError>
+    requires { IsSurjectivity rule.now found }
+    ensures { IfOk result (λ part. IsSurjectivePart rule.now (surjective_of part)) }
 {
     match found {
-        Surjectivity::Sets(sets) => SurjectivePart::Sets(sets),
-        Surjectivity::Orphan(word) => SurjectivePart::Orphan(word),
+        Surjectivity::Yes => Ok(SurjectivePart::Sets(family(alloc, rule)?)),
+        Surjectivity::Orphan(word) => Ok(SurjectivePart::Orphan(word)),
     }
+}
+
+/// The family of a surjective rule.
+fn family(alloc: Global, rule: &Rule) -> Result<SetList, AllocError>
+    requires { IsSurjective rule.now }
+    ensures { IfOk result (IsFamily rule.now) }
+{
+    let mut search = Search::new(alloc)?;
+    search.run(rule);
+    Ok(SetList::of(search.sets().to_vec(alloc)?))
 }
 
 /// What a certificate says of injectivity.

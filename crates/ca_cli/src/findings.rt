@@ -3,19 +3,22 @@ ghost use Rattle.std.specs.Prelude.{◌≡◌, IfOk};
 ghost use Rattle.ca_cli.specs.Findings.{IsSurjectivity, IsInjectivity, HasShortWindow, AreFound};
 
 use closing_test::{Closing, left, right};
+use debruijn::Graph;
+use eden_law::is_surjective;
 use flux_conserve::{Keeping, conserve};
 use inverse_window::{TwinPair, WindowAt, twins, window};
 use least_walk::Walker;
-use orphan_search::{Outcome, Search};
+use orphan_search::Search;
+use pair_graph::Pairs;
 use pair_rank::Ranks;
 use std::alloc::{AllocError, Global};
-use word_image::{Rule, SetList, Word};
+use word_image::{Rule, Word};
 
 /// Whether every word has a preimage.
 #[derive(Debug, Drop)]
 pub enum Surjectivity {
-    /// It has, by these sets of last nodes, in the order of their least words.
-    Sets(SetList),
+    /// It has.
+    Yes,
     /// This word, the least of them, has none.
     Orphan(Word),
 }
@@ -45,7 +48,7 @@ impl Findings {
     pub fn of(alloc: Global, rule: &Rule) -> Result<Findings, AllocError>
         ensures { IfOk result (AreFound rule.now) }
     {
-        let ranks = Ranks::of(rule);
+        let ranks = Ranks::of(&Pairs::of(rule));
         let mut walker = Walker::new(alloc)?;
         Ok(Findings {
             rule: *rule,
@@ -62,11 +65,12 @@ impl Findings {
 pub fn surjective(alloc: Global, rule: &Rule) -> Result<Surjectivity, AllocError>
     ensures { IfOk result (IsSurjectivity rule.now) }
 {
-    let mut search = Search::new(alloc)?;
-    match search.run(rule) {
-        Outcome::Closed => Ok(Surjectivity::Sets(SetList::of(search.sets().to_vec(alloc)?))),
-        Outcome::Orphan => Ok(Surjectivity::Orphan(Word::of(search.word().to_vec(alloc)?))),
+    if is_surjective(&Graph::of(rule)) {
+        return Ok(Surjectivity::Yes);
     }
+    let mut search = Search::new(alloc)?;
+    search.run(rule);
+    Ok(Surjectivity::Orphan(Word::of(search.word().to_vec(alloc)?)))
 }
 
 /// Whether a rule is injective, by its ranks.

@@ -18,6 +18,7 @@ use crate::stop::Stop;
 use inverse_table::{InvFault, InverseMap, as_rule, table};
 use inverse_window::{TwinPair, WindowAt};
 use least_walk::Walker;
+use pair_graph::Pairs;
 use pair_rank::Ranks;
 use std::alloc::{AllocError, Global};
 use word_image::Rule;
@@ -28,7 +29,7 @@ pub fn inverse(alloc: Global, text: &[u8]) -> Result<Output, Stop>
     ensures { (input : Option (List ℕ)) → IsOutcome input (Command.Inverse text.now) result }
 {
     let rule = rule_operand(1, text)?;
-    let ranks = Ranks::of(&rule);
+    let ranks = Ranks::of(&Pairs::of(&rule));
     let mut walker = Walker::new(alloc)?;
     match injective(alloc, &rule, &ranks, &mut walker)? {
         Injectivity::Window(at) => inverse_over(alloc, &rule, at),

@@ -56,7 +56,7 @@ pub fn write_surjectivity(
     ensures { OnOk result (output.new ≡ output.old ++ surjectivity_line found.now) }
 {
     match found {
-        Surjectivity::Sets(_) => output.push_line("surjective yes"),
+        Surjectivity::Yes => output.push_line("surjective yes"),
         Surjectivity::Orphan(word) => {
             write_word(alloc, output, "surjective no orphan ", word.as_slice())
         }

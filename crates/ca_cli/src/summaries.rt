@@ -14,7 +14,6 @@ use crate::output::Output;
 use crate::stop::Stop;
 use crate::tally::Tally;
 use crate::verdicts::Verdicts;
-use orphan_search::Search;
 use rule_text::{TextFault, check_shape, decimal_number, numbered};
 use std::alloc::{AllocError, Global};
 
@@ -35,7 +34,7 @@ pub fn survey(
     let count = operands::count(count);
     match first_number(k, m, from, count) {
         Ok(first) => {
-            let tally = tally_of_numbers(alloc, k, m, first, count)?;
+            let tally = tally_of_numbers(k, m, first, count);
             Ok(summary(alloc, &tally)?)
         }
         Err(fault) => Err(Stop::RuleFault(1, fault)),
@@ -59,7 +58,7 @@ pub fn sample(
     let (seed, count) = (operands::seed(seed), operands::count(count));
     match check_shape(k, m, 0) {
         Ok(()) => {
-            let tally = tally_of_draws(alloc, k, m, seed, count)?;
+            let tally = tally_of_draws(k, m, seed, count);
             Ok(summary(alloc, &tally)?)
         }
         Err(fault) => Err(Stop::RuleFault(1, fault)),
@@ -105,40 +104,32 @@ fn fault_past_all(k: u8, m: u8) -> TextFault
 }
 
 /// Counts what holds of the rules with so many numbers from this one on.
-fn tally_of_numbers(
-    alloc: Global,
-    k: u8,
-    m: u8,
-    first: u128,
-    count: u16,
-) -> Result<Tally, AllocError>
+fn tally_of_numbers(k: u8, m: u8, first: u128, count: u16) -> Tally
     requires accepted { survey_fault k m first count ≡ None }
     requires few { count ≤ 4096 }
-    ensures { IfOk result (IsTally (survey_rules k m first count)) }
+    ensures { IsTally (survey_rules k m first count) result }
 {
-    let mut search = Search::new(alloc)?;
     let mut tally = Tally::new();
     for i in 0..count {
         let Ok(rule) = numbered(k, m, 0, first + u128::from(i)) else {
             unreachable!()
         };
-        tally.add(Verdicts::of(&mut search, &rule));
+        tally.add(Verdicts::of(&rule));
     }
-    Ok(tally)
+    tally
 }
 
 /// Counts what holds of the first rules that a seed stands for.
-fn tally_of_draws(alloc: Global, k: u8, m: u8, seed: u64, count: u16) -> Result<Tally, AllocError>
+fn tally_of_draws(k: u8, m: u8, seed: u64, count: u16) -> Tally
     requires shape { IsShape k m (pos 0) }
     requires few { count ≤ 4096 }
-    ensures { IfOk result (IsTally (sample_rules k m seed count)) }
+    ensures { IsTally (sample_rules k m seed count) result }
 {
-    let mut search = Search::new(alloc)?;
     let mut generator = Generator::from_seed(seed);
     let mut tally = Tally::new();
     for _i in 0..count {
         let rule = generator.rule(k, m);
-        tally.add(Verdicts::of(&mut search, &rule));
+        tally.add(Verdicts::of(&rule));
     }
-    Ok(tally)
+    tally
 }

@@ -1,14 +1,15 @@
 //! What holds of a rule, without the evidence for it.
 ghost use Rattle.std.specs.Prelude.{IsTrue, ◌↔◌};
 ghost use Rattle.word_image.specs.Rings.{IsConserving};
-ghost use Rattle.word_image.specs.Words.{IsSurjective};
 ghost use Rattle.ca_cli.specs.Summaries.{AreVerdicts};
 
-use closing_test::{ahead_left, ahead_right};
+use closing_test::{is_left_closing, is_right_closing};
+use debruijn::Graph;
+use eden_law::is_surjective;
 use flux_conserve::{Keeping, conserve};
-use inverse_window::window;
-use orphan_search::{Outcome, Search};
-use pair_rank::Ranks;
+use inverse_window::is_injective;
+use pair_graph::Pairs;
+use pair_rank::Endless;
 use word_image::Rule;
 
 /// The verdicts of a rule.
@@ -26,31 +27,33 @@ pub struct Verdicts {
 }
 
 impl Verdicts {
-    /// Decides all questions about a rule, by a search that may have run for others.
-    pub fn of(search: &mut Search, rule: &Rule) -> Verdicts
+    /// Decides all questions about a rule.
+    pub fn of(rule: &Rule) -> Verdicts
         ensures { AreVerdicts rule.now result }
     {
-        let ranks = Ranks::of(rule);
-        let right = ahead_right(rule, &ranks).is_some();
-        let left = ahead_left(rule, &ranks).is_some();
+        let conserving = is_conserving(rule);
+        // An injective rule is surjective, and so is one that closes on a side.
+        if !is_surjective(&Graph::of(rule)) {
+            return Verdicts {
+                surjective: false,
+                injective: false,
+                right: false,
+                left: false,
+                both: false,
+                conserving,
+            };
+        }
+        let endless = Endless::of(&Pairs::of(rule));
+        let right = is_right_closing(&endless);
+        let left = is_left_closing(&endless);
         Verdicts {
-            surjective: is_surjective(search, rule),
-            injective: window(rule, &ranks).is_some(),
+            surjective: true,
+            injective: is_injective(&endless),
             right,
             left,
             both: right && left,
-            conserving: is_conserving(rule),
+            conserving,
         }
-    }
-}
-
-/// Whether every word has a preimage.
-fn is_surjective(search: &mut Search, rule: &Rule) -> bool
-    ensures { IsTrue result ↔ IsSurjective rule.now }
-{
-    match search.run(rule) {
-        Outcome::Closed => true,
-        Outcome::Orphan => false,
     }
 }
 

@@ -16,7 +16,7 @@
 //!
 //! A pair of nodes is reached where steps of `follow` lead to it from a first pair of the right. No
 //! reached pair has two equal nodes exactly where the rule is surjective, so there the list of the reached
-//! pairs is the shortest pair list that proves it. Under the rule of the window 11 the letters 0 and 1
+//! pairs is a pair list, which proves it. Under the rule of the window 11 the letters 0 and 1
 //! lead from node 0 to the first pair of the nodes 0 and 1, and the letter 0 leads on from both to node 0,
 //! each time with the label 0: the rule is not surjective.
 //!

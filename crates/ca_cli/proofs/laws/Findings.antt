@@ -20,7 +20,7 @@ use Rattle.ca_cli.specs.Findings.{IsSurjectivity, IsInjectivity, IsConservation,
 
 -- the line on surjectivity is true
 pub IsSurjectiveLine-found : (r : LocalRule) (found : Surjectivity) → IsSurjectivity r found → IsSurjectiveLine r (surjectivity_line found)
-IsSurjectiveLine-found r (surjectivity.Sets sets) h = IsSurjectiveLine.Yes h.0
+IsSurjectiveLine-found r surjectivity.Yes h = IsSurjectiveLine.Yes h
 IsSurjectiveLine-found r (surjectivity.Orphan w) h = IsSurjectiveLine.No w h
 
 -- that on injectivity is
@@ -84,7 +84,7 @@ IsWord-16 : {r : LocalRule} (w : List ℕ) → IsRule r → IsWord r.states w �
 IsWord-16 {r = r} w rule word = let most = rule.shape.most_states in All-weaker (λ a. a < r.states) (λ a. a < 16) (λ a below. omega arith) w word
 
 pub HasOrphanDigits-found : {r : LocalRule} (found : Surjectivity) → IsRule r → IsSurjectivity r found → HasOrphanDigits found
-HasOrphanDigits-found (surjectivity.Sets sets) rule h = tt
+HasOrphanDigits-found surjectivity.Yes rule h = tt
 HasOrphanDigits-found (surjectivity.Orphan w) rule h = IsWord-16 w rule h.orphan.word
 
 pub HasTwinDigits-found : {r : LocalRule} (found : Injectivity) → IsRule r → IsInjectivity r found → HasTwinDigits found
