@@ -1,0 +1,7 @@
+pub mod laws
+pub mod Indexes
+pub mod Backs
+pub mod Searches
+pub mod ClassSearches
+pub mod Joins
+pub mod LinkSearches

@@ -1,0 +1,11 @@
+use Rattle.std.proofs.Common.{◌≡◌, ◌+◌, ◌*◌, Some}
+use Rattle.std.specs.List.{slice_get}
+use Rattle.image_minimal.specs.Searches.{IsClassSearch}
+use Rattle.image_minimal.proofs.classes.expand.Given as goal
+
+-- the steps on the first letters are followed
+abbrev pub invariant-loop-a : goal.invariant-loop-a
+invariant-loop-a l = record {
+  search : IsClassSearch l.graph l.classes l.next.items (l.place * l.graph.states + l.a);
+  here : slice_get l.classes l.place ≡ Some l.set;
+}

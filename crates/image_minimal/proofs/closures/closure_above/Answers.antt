@@ -1,0 +1,53 @@
+use Rattle.std.proofs.Common.{◌≡◌, ℕ, ◌+◌, ◌-◌, ◌*◌, ◌%◌, ◌^◌, ◌<◌, IsBitSet, bit_and, bit_or, ◌/◌, slice_index, sym, ap, ◌∙◌, subst, arith}
+use Rattle.std.proofs.Math.Pow.{pow-lt}
+use Rattle.std.proofs.lemmas.Nat.{one_shl, or_lt}
+use Rattle.std.proofs.lemmas.Nat.Bits.{shr_and_one, bit_at-lt}
+use Rattle.std.specs.Int.{bit_at}
+use Rattle.word_image.specs.LocalRules.{node_count}
+use Rattle.word_image.proofs.laws.Bits.{bit_at-IsBitSet}
+use Rattle.image_minimal.proofs.laws.ClosureTables.{with_node, with_node-greater, IsShared, IsShared-start, IsShared-skip, IsShared-take, IsClosure-shared}
+use Rattle.image_minimal.proofs.closures.closure_above.Goals as goal
+use Rattle.image_minimal.proofs.closures.closure_above.Goals.{then-set-u-eq0, else-set-u-eq0}
+
+-- what the code makes of a set and a node
+more : (set u at : ℕ) → u < 16 → at ≡ bit_or set (1 * 2 ^ u % 65536) → at ≡ with_node set u
+more set u at small is = is ∙ ap (bit_or set) (one_shl u 16 small)
+
+-- a bit that is tested
+missing : (set u : ℕ) → bit_and (set / 2 ^ u) 1 ≡ 0 → ¬ IsBitSet set u
+missing set u test some = omega (arith, (bit_at-IsBitSet set u).0 some, shr_and_one set u, test)
+
+pub loop-u-init : goal.loop-u-init
+loop-u-init c = subst (IsShared c.args.graph.now c.args.set 0 c.args.closures.now) (sym c.full-closure.ensures.set) (IsShared-start c.args.set c.args.closures.now)
+
+pub bounds-closures-from : goal.bounds-closures-from
+bounds-closures-from c =
+    let n = node_count c.args.graph.now in
+    let node : c.loop-u.u < n = omega (arith, c.nodes-u-end.ensures.nodes) in
+    let small : c.loop-u.u < 16 = omega (arith, node, c.nodes-u-end.ensures.rule.shape.most_nodes) in
+    omega (arith, more c.args.set c.loop-u.u c.from.result small c.from.ensures, or_lt n c.args.set (2 ^ c.loop-u.u) c.requires.set (pow-lt node), c.requires.closures.long)
+
+pub loop-u-preserved : goal.loop-u-preserved
+loop-u-preserved c =
+    let r = c.args.graph.now in
+    let set = c.args.set in
+    let closures = c.args.closures.now in
+    let u = c.loop-u.u in
+    let node : u < node_count r = omega (arith, c.nodes-u-end.ensures.nodes) in
+    let small : u < 16 = omega (arith, node, c.nodes-u-end.ensures.rule.shape.most_nodes) in
+    elim c.if-set-u-eq0.branch [
+      | then-set-u-eq0 w ↦
+          let at = more set u w.from.result small w.from.ensures in
+          let absent = missing set u w.if-set-u-eq0.true in
+          let part = c.requires.closures.closure (with_node set u) (omega (arith, with_node-greater set u absent)) (or_lt (node_count r) set (2 ^ u) c.requires.set (pow-lt node)) in
+          subst (IsShared r set (u + 1) closures) (sym (w.closure-is ∙ ap (λ i. bit_and c.loop-u.closure (slice_index closures i)) at)) (IsShared-take c.loop-u.invariant absent part.within)
+      | else-set-u-eq0 w ↦
+          let there : IsBitSet set u = (bit_at-IsBitSet set u).1 (omega (arith, bit_at-lt set u, shr_and_one set u, w.if-set-u-eq0.false)) in
+          subst (IsShared r set (u + 1) closures) (sym w.closure-is) (IsShared-skip c.loop-u.invariant there)
+    ]
+
+pub returns : goal.returns
+returns c =
+    let r = c.args.graph.now in
+    let all : c.loop-u.u ≡ node_count r = omega (arith, c.nodes-u-end.ensures.nodes) in
+    IsClosure-shared c.requires.set c.requires.read c.requires.closures (subst (λ n. IsShared r c.args.set n c.args.closures.now c.loop-u.closure) all c.loop-u.invariant)

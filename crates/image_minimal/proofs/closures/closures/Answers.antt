@@ -1,0 +1,33 @@
+use Rattle.std.proofs.Common.{◌≡◌, ℕ, ◌+◌, ◌-◌, ◌^◌, ◌<◌, length, set, Some, None, sym, ap, ◌∙◌, subst, arith}
+use Rattle.std.proofs.lemmas.Nat.{pow_pos}
+use Rattle.word_image.specs.LocalRules.{node_count}
+use Rattle.word_image.proofs.laws.Places.{Contains-slice_get}
+use Rattle.image_minimal.specs.Indexes.{IsPlaceOf}
+use Rattle.image_minimal.specs.Closures.{IsClosure, AreClosuresFrom}
+use Rattle.image_minimal.proofs.laws.ClosureTables.{IsClosure-unread, AreClosuresFrom-set}
+use Rattle.image_minimal.proofs.closures.closures.Goals as goal
+use Rattle.image_minimal.proofs.closures.closures.Goals.{in-Some, in-None}
+
+pub closure_above-closure-requires-clause-read : goal.closure_above-closure-requires-clause-read
+closure_above-closure-requires-clause-read c is =
+    let s = c.full-all.result - c.loop-less.less in
+    let none = subst (IsPlaceOf c.in_ok-unread.unread s) c.in-None.is c.place.ensures in
+    none ((c.in_ok-unread.ensures s).1 is)
+
+pub loop-less-preserved : goal.loop-less-preserved
+loop-less-preserved c =
+    let r = c.args.graph.now in
+    let s = c.full-all.result - c.loop-less.less in
+    let closures = c.loop-less.closures.items in
+    let inside : c.loop-less.less < 2 ^ node_count r = omega (arith, c.loop-less.invariant.long, c.in_ok-closures.ensures.len, c.len-less-end.ensures, c.from.ensures, c.full-all.ensures.set, pow_pos (node_count r)) in
+    let small : s < 2 ^ node_count r = omega (arith, c.full-all.ensures.set, pow_pos (node_count r)) in
+    let here : IsClosure r s c.match-place.closure = elim c.match-place.branch [
+      | in-Some w ↦
+          let stands = subst (IsPlaceOf c.in_ok-unread.unread s) w.in-Some.is c.place.ensures in
+          subst (IsClosure r s) (sym w.closure-is) (IsClosure-unread ((c.in_ok-unread.ensures s).0 (Contains-slice_get c.in_ok-unread.unread _ s stands)))
+      | in-None w ↦ subst (IsClosure r s) (sym w.closure-is) w.closure_above-closure.ensures
+    ] in
+    let from : 2 ^ node_count r - c.loop-less.less ≡ s + 1 = omega (arith, c.full-all.ensures.set, inside) in
+    let to : s ≡ 2 ^ node_count r - (c.loop-less.less + 1) = omega (arith, c.full-all.ensures.set, inside) in
+    let longer = AreClosuresFrom-set (subst (λ n. AreClosuresFrom r n closures) from c.loop-less.invariant) small here in
+    rw c.from-in-loop-less.ensures (subst (λ n. AreClosuresFrom r n (set closures s c.match-place.closure)) to longer)

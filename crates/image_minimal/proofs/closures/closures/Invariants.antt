@@ -1,0 +1,8 @@
+use Rattle.std.proofs.Common.{◌-◌, ◌^◌}
+use Rattle.word_image.specs.LocalRules.{node_count}
+use Rattle.image_minimal.specs.Closures.{AreClosuresFrom}
+use Rattle.image_minimal.proofs.closures.closures.Given as goal
+
+-- the closures of the last sets are there
+abbrev pub invariant-loop-less : goal.invariant-loop-less
+invariant-loop-less l = AreClosuresFrom l.graph (2 ^ node_count l.graph - l.less) l.closures.items

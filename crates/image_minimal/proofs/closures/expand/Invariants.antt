@@ -1,0 +1,12 @@
+use Rattle.std.proofs.Common.{◌≡◌, ◌+◌, ◌*◌, Some}
+use Rattle.std.specs.List.{slice_get}
+use Rattle.image_minimal.specs.Closures.{IsBack}
+use Rattle.image_minimal.specs.Searches.{IsSearch}
+use Rattle.image_minimal.proofs.closures.expand.Given as goal
+
+-- the edges on the first letters are followed
+abbrev pub invariant-loop-a : goal.invariant-loop-a
+invariant-loop-a l = record {
+  search : IsSearch (IsBack l.graph) l.graph.states 0 l.sets (l.place * l.graph.states + l.a);
+  here : slice_get l.sets l.place ≡ Some l.set;
+}

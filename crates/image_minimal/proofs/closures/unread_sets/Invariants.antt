@@ -1,0 +1,13 @@
+use Rattle.std.proofs.Common.{◌-◌, ◌*◌, ◌^◌, ◌≤◌, length}
+use Rattle.word_image.specs.LocalRules.{node_count}
+use Rattle.image_minimal.specs.Closures.{IsBack}
+use Rattle.image_minimal.specs.Searches.{IsSearch}
+use Rattle.image_minimal.proofs.closures.unread_sets.Given as goal
+
+-- the edges from the first sets are followed
+abbrev pub invariant-loop-place : goal.invariant-loop-place
+invariant-loop-place l = IsSearch (IsBack l.graph) l.graph.states 0 l.sets (l.place * l.graph.states)
+
+-- how many sets may still come
+abbrev pub decreases-loop-place : goal.decreases-loop-place
+decreases-loop-place l = 2 ^ node_count l.graph - l.place

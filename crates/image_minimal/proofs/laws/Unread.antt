@@ -1,0 +1,101 @@
+-- A word is read from a set where some node of the set isn't one of those from which it isn't read, and then it goes on from there.
+use Rattle.std.proofs.Common.{◌≡◌, ℕ, ◌^◌, ◌<◌, ◌⊎◌, ◌↔◌, inl, inr, List, [], ◌∷◌, ◌++◌, IsBitSet, refl, sym, ◌∙◌, subst, arith, ⊎_elim, append-nil, append_assoc}
+use Rattle.std.proofs.lemmas.Bool.{cases_eq}
+use Rattle.std.proofs.lemmas.Nat.{pow_pos}
+use Rattle.std.proofs.lemmas.List.Elements.{All-nil, All-cons, All-tail}
+use Rattle.word_image.specs.LocalRules.{LocalRule, IsRule, IsWord, node_count}
+use Rattle.word_image.specs.Words.{IsOrphan}
+use Rattle.word_image.specs.Graphs.{next, label, IsStep}
+use Rattle.word_image.specs.Ranks.{IsLastSet}
+use Rattle.word_image.proofs.laws.Bits.{IsBitSet-some, IsBitSet-zero}
+use Rattle.word_image.proofs.laws.Graphs.{next-below}
+use Rattle.word_image.proofs.laws.LastSets.{IsLastSet-step, IsOrphan-empty_set}
+use Rattle.word_image.proofs.laws.Searches.{some_below}
+use Rattle.pair_laws.proofs.Sets.{IsBitSet-decide}
+use Rattle.search_laws.proofs.StepSets.{same_set, some_set, IsStep-some, IsLastSet-unique, IsLastSet-orphan}
+use Rattle.image_minimal.specs.Closures.{IsWithin, IsBack, IsUnread, IsUnreadSet}
+
+-- from some nodes all edges labelled a lead into a set
+pub IsBack-some : (r : LocalRule) (set a : ℕ) → (before : ℕ) × IsBack r set a before
+IsBack-some r set a =
+    let Out : ℕ → ℕ → Type 0 = λ u b. (label r u b ≡ a) × ¬ IsBitSet set (next r u b) in
+    let out : (u b : ℕ) → Out u b ⊎ ¬ Out u b = λ u b.
+    ⊎_elim
+    (λ labelled. ⊎_elim (λ some. inr (λ (_, none). none some)) (λ none. inl (labelled, none)) (IsBitSet-decide set (next r u b)))
+    (λ other. inr (λ (labelled, _). other labelled))
+    (cases_eq (label r u b) a) in
+    let Has : ℕ → Type 0 = λ u. (b : ℕ) → b < r.states → label r u b ≡ a → IsBitSet set (next r u b) in
+    let decide : (u : ℕ) → Has u ⊎ ¬ Has u = λ u.
+    ⊎_elim
+    (λ (b, letter, (labelled, none)). inr (λ has. none (has b letter labelled)))
+    (λ none. inl (λ b letter labelled. ⊎_elim (λ some. some) (λ missing. absurd (none b letter (labelled, missing))) (IsBitSet-decide set (next r u b))))
+    (some_below (Out u) (out u) r.states) in
+    let made = some_set Has decide (node_count r) in
+    (made.0, record { within = made.1; nodes = made.2 })
+
+-- and they are one set
+pub IsBack-unique : {r : LocalRule} {set a s t : ℕ} → IsBack r set a s → IsBack r set a t → s ≡ t
+IsBack-unique {r} {set} {a} {s} {t} first second = same_set (node_count r) s t first.within second.within (λ u l. (
+  (λ some. (second.nodes u l).1 ((first.nodes u l).0 some)),
+  (λ some. (first.nodes u l).1 ((second.nodes u l).0 some)),
+))
+
+-- each word isn't read from some nodes
+pub IsUnread-some : (r : LocalRule) (z : List ℕ) → IsWord r.states z → (set : ℕ) × IsUnread r z set
+IsUnread-some r [] word = (0, refl)
+IsUnread-some r (a ∷ z) word =
+    let rest = IsUnread-some r z (All-tail (λ b. b < r.states) a z word) in
+    let back = IsBack-some r rest.0 a in
+    (back.0, (rest.0, word 0 0 (omega arith), rest.1, back.1))
+
+-- its letters are below k
+pub IsWord-unread : (r : LocalRule) (z : List ℕ) (set : ℕ) → IsUnread r z set → IsWord r.states z
+IsWord-unread r [] set unread = All-nil (λ b. b < r.states)
+IsWord-unread r (a ∷ z) set (rest, letter, unread, back) = All-cons (λ b. b < r.states) a z letter (IsWord-unread r z rest unread)
+
+-- these are nodes
+pub IsUnreadSet-below : {r : LocalRule} {set : ℕ} → IsUnreadSet r set → set < 2 ^ node_count r
+IsUnreadSet-below {r} {set} ([], none) = subst (λ n. n < 2 ^ node_count r) (sym none) (pow_pos (node_count r))
+IsUnreadSet-below (a ∷ z, (rest, letter, unread, back)) = back.within
+
+-- a step leads into a set exactly from within the nodes from which all its edges do
+pub IsWithin-back : {r : LocalRule} {s a t set before : ℕ} → IsRule r → IsStep r s a t → IsBack r set a before → (IsWithin r t set ↔ IsWithin r s before)
+IsWithin-back {r} {s} {a} {t} {set} {before} rule step back = (
+  (λ within u l in_s. (back.nodes u l).1 (λ b letter labelled.
+      within (next r u b) (next-below rule u b) ((step.nodes (next r u b) (next-below rule u b)).1 (u, b, l, letter, in_s, labelled, refl)))),
+  (λ within v l in_t.
+      let (u, b, node, letter, in_s, labelled, ends) = (step.nodes v l).0 in_t in
+      subst (IsBitSet set) ends ((back.nodes u node).0 (within u node in_s) b letter labelled)),
+)
+
+-- only the empty set is within the empty one
+pub IsWithin-zero : (r : LocalRule) (s : ℕ) → s < 2 ^ node_count r → (s ≡ 0 ↔ IsWithin r s 0)
+IsWithin-zero r s small = (
+  (λ none u l in_s. subst (λ n. IsBitSet n u) none in_s),
+  (λ within. ⊎_elim
+      (λ none. none)
+      (λ some. let (u, node, bit) = IsBitSet-some (node_count r) s small some in absurd (IsBitSet-zero u (within u node bit)))
+      (cases_eq s 0)),
+)
+
+-- a word is an orphan exactly where its last nodes are the empty set
+pub IsOrphan-last : {r : LocalRule} {w : List ℕ} {s : ℕ} → IsRule r → IsLastSet r w s → (IsOrphan r w ↔ (s ≡ 0))
+IsOrphan-last {r} {w} {s} rule last = (
+  (λ orphan. IsLastSet-unique last (IsLastSet-orphan rule orphan)),
+  (λ none. IsOrphan-empty_set (subst (IsLastSet r w) none last)),
+)
+
+-- a word followed by another is an orphan exactly where the other is read from none of its last nodes
+pub IsOrphan-unread : {r : LocalRule} → IsRule r → (z : List ℕ) (set : ℕ) → IsUnread r z set → (w : List ℕ) (s : ℕ) → IsLastSet r w s
+    → (IsOrphan r (w ++ z) ↔ IsWithin r s set)
+IsOrphan-unread {r} rule [] set same w s last =
+    let orphan = IsOrphan-last rule last in
+    let none = IsWithin-zero r s last.within in
+    subst (λ v. IsOrphan r v ↔ IsWithin r s set) (sym (append-nil w))
+    (subst (λ n. IsOrphan r w ↔ IsWithin r s n) (sym same) ((λ is. none.0 (orphan.0 is)), (λ within. orphan.1 (none.1 within))))
+IsOrphan-unread {r} rule (a ∷ z) set (rest, letter, unread, back) w s last =
+    let step = IsStep-some r s a in
+    let later = IsOrphan-unread rule z rest unread (w ++ a ∷ []) step.0 (IsLastSet-step {set = s} rule last letter step.1) in
+    let through = IsWithin-back rule step.1 back in
+    subst (λ v. IsOrphan r v ↔ IsWithin r s set) (append_assoc w (a ∷ []) z)
+    ((λ is. through.0 (later.0 is)), (λ within. later.1 (through.1 within)))

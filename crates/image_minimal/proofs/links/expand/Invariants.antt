@@ -1,0 +1,11 @@
+use Rattle.std.proofs.Common.{◌≡◌, ◌+◌, ◌*◌, Some}
+use Rattle.std.specs.List.{slice_get}
+use Rattle.image_minimal.specs.Links.{IsLinkSearch}
+use Rattle.image_minimal.proofs.links.expand.Given as goal
+
+-- the edges on the first letters are followed
+abbrev pub invariant-loop-letter : goal.invariant-loop-letter
+invariant-loop-letter l = record {
+  search : IsLinkSearch l.first l.second l.links.items l.joined (l.place * l.first.states + l.letter);
+  here : slice_get l.links.items l.place ≡ Some l.link;
+}

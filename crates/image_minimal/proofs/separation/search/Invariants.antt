@@ -1,0 +1,11 @@
+use Rattle.std.proofs.Common.{◌-◌, ◌*◌}
+use Rattle.image_minimal.specs.Links.{IsLinkSearch, most_links}
+use Rattle.image_minimal.proofs.separation.search.Given as goal
+
+-- the edges from the first links are followed
+abbrev pub invariant-loop-place : goal.invariant-loop-place
+invariant-loop-place l = IsLinkSearch l.first l.second l.links.items l.joined (l.place * l.first.states)
+
+-- how many links may still come
+abbrev pub decreases-loop-place : goal.decreases-loop-place
+decreases-loop-place l = most_links l.first l.second - l.place

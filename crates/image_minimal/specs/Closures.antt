@@ -1,0 +1,42 @@
+-- The words that are read along edges from the nodes of a set, and the greatest set from which no other words are read.
+use Rattle.std.specs.Prelude.{◌≡◌, ℕ, ◌^◌, ◌<◌, ◌≤◌, ◌↔◌, List, [], ◌∷◌, length, slice_index, IsBitSet}
+use Rattle.word_image.specs.LocalRules.{LocalRule, node_count}
+use Rattle.word_image.specs.Graphs.{next, label, IsStep}
+
+-- the nodes of the one set are nodes of the other
+abbrev pub IsWithin : LocalRule → ℕ → ℕ → Type 0
+IsWithin r set other = (u : ℕ) → u < node_count r → IsBitSet set u → IsBitSet other u
+
+-- the nodes from which all edges labelled a lead into the set
+pub record IsBack (r : LocalRule) (set a before : ℕ) : Type 0 where
+  pub within : before < 2 ^ node_count r
+  pub nodes : (u : ℕ) → u < node_count r → (IsBitSet before u ↔ ((b : ℕ) → b < r.states → label r u b ≡ a → IsBitSet set (next r u b)))
+
+-- the nodes from which the word isn't read
+abbrev pub IsUnread : LocalRule → List ℕ → ℕ → Type 0
+IsUnread r [] set = set ≡ 0
+IsUnread r (a ∷ z) set = (rest : ℕ) × (a < r.states) × IsUnread r z rest × IsBack r rest a set
+
+-- they are the nodes from which some word isn't read
+abbrev pub IsUnreadSet : LocalRule → ℕ → Type 0
+IsUnreadSet r set = (z : List ℕ) × IsUnread r z set
+
+-- the closure of a set: the nodes from which no word is read that isn't read from the set
+pub record IsClosure (r : LocalRule) (set closure : ℕ) : Type 0 where
+  pub within : closure < 2 ^ node_count r
+  pub nodes : (u : ℕ) → u < node_count r → (IsBitSet closure u ↔ ((unread : ℕ) → IsUnreadSet r unread → IsWithin r set unread → IsBitSet unread u))
+
+-- a step, and the closure of the set to which it leads
+pub record IsClosedStep (r : LocalRule) (set a after : ℕ) : Type 0 where
+  pub to : ℕ
+  pub step : IsStep r set a to
+  pub closure : IsClosure r to after
+
+-- the closures of the sets from n on, set by set
+pub record AreClosuresFrom (r : LocalRule) (n : ℕ) (closures : List ℕ) : Type 0 where
+  pub long : length closures ≡ 2 ^ node_count r
+  pub closure : (set : ℕ) → n ≤ set → set < 2 ^ node_count r → IsClosure r set (slice_index closures set)
+
+-- the closures of all sets
+abbrev pub AreClosures : LocalRule → List ℕ → Type 0
+AreClosures r = AreClosuresFrom r 0

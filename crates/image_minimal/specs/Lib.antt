@@ -1,0 +1,6 @@
+pub mod ImageLanguages
+pub mod Closures
+pub mod Indexes
+pub mod Searches
+pub mod Links
+pub mod Joins

@@ -1,0 +1,95 @@
+-- Pairs of sets to which one word leads under two rules, linked (Hopcroft and Karp 1971).
+use Rattle.std.specs.Prelude.{◌≡◌, ◌≢◌, ℕ, zero, suc, ◌+◌, ◌*◌, ◌<◌, ◌≤◌, ◌↔◌, ◌⊎◌, ◌^◌, List, [], ◌∷◌, length, slice_get, slice_index, Option, Some, None}
+use Rattle.std.specs.List.{range_with_len}
+use Rattle.search_laws.specs.SearchQueues.{Place, Spells}
+use Rattle.word_image.specs.LocalRules.{LocalRule, node_count}
+use Rattle.word_image.specs.Graphs.{full_set, IsStep}
+use Rattle.image_minimal.specs.Joins.{total}
+use Rattle.image_minimal.specs.declared.links.Link.{Link}
+
+-- the sets of both rules as one: from n on stand those of the second
+abbrev pub second_state : ℕ → Link → ℕ
+second_state n x = n + x.second
+
+-- how many edges had been followed when the link was made
+abbrev pub linked : ℕ → ℕ → Link → ℕ
+linked k zero x = 0
+linked k (suc i) x = x.parent * k + x.letter + 1
+
+-- one state is joined to the other by links that were made by the time so many edges had been followed
+pub data Chain (n k : ℕ) (links : List Link) (e : ℕ) : ℕ → ℕ → Type 0 where
+  Stay : (x : ℕ) → Chain n k links e x x
+  Forth : (i : ℕ) (y : Link) (z : ℕ) → slice_get links i ≡ Some y → linked k i y ≤ e → Chain n k links e (second_state n y) z → Chain n k links e y.first z
+  Back : (i : ℕ) (y : Link) (z : ℕ) → slice_get links i ≡ Some y → linked k i y ≤ e → Chain n k links e y.first z → Chain n k links e (second_state n y) z
+
+-- a link that was made by a step from an earlier one, on one letter on both sides
+pub record IsLinkBranch (r q : LocalRule) (links : List Link) (i : ℕ) (x : Link) : Type 0 where
+  pub parent : Link
+  pub stands : slice_get links x.parent ≡ Some parent
+  pub earlier : x.parent < i
+  pub letter : x.letter < r.states
+  pub first_step : IsStep r parent.first x.letter x.first
+  pub second_step : IsStep q parent.second x.letter x.second
+
+-- links of the sets of two rules, from all nodes on both sides on, that are made breadth first, where the first e edges have been
+-- followed: letter a from link i is edge i * k + a. A pair that is joined already makes no link, and each pair that was met is empty
+-- on both sides or on neither.
+pub record IsLinking (r q : LocalRule) (links : List Link) (e : ℕ) : Type 0 where
+  pub root : Link
+  pub at_root : slice_get links 0 ≡ Some root
+  pub starts : root.first ≡ full_set r
+  pub starts_also : root.second ≡ full_set q
+  pub branches : (i : ℕ) (x : Link) → 0 < i → slice_get links i ≡ Some x → IsLinkBranch r q links i x
+  pub so_far : (i : ℕ) (x : Link) → slice_get links i ≡ Some x → linked r.states i x ≤ e
+  pub ascending : (i j : ℕ) (x y : Link) → i < j → slice_get links i ≡ Some x → slice_get links j ≡ Some y → linked r.states i x < linked r.states j y
+  pub even : (i : ℕ) (x : Link) → slice_get links i ≡ Some x → (x.first ≡ 0 ↔ (x.second ≡ 0))
+  pub done : (i a s t : ℕ) (x : Link) → slice_get links i ≡ Some x → a < r.states → i * r.states + a < e → IsStep r x.first a s → IsStep q x.second a t
+      → Chain (2 ^ node_count r) r.states links (i * r.states + a + 1) s (2 ^ node_count r + t)
+
+-- a link as a place of a queue, with its number as its state
+abbrev pub link_place : ℕ → Link → Place
+link_place i x = record { state = i; parent = x.parent; letter = x.letter }
+
+-- the links as places, numbered from i on
+abbrev pub places_from : ℕ → List Link → List Place
+places_from i [] = []
+places_from i (x ∷ links) = link_place i x ∷ places_from (suc i) links
+
+-- on letter a the pair of link i leads to two sets of which exactly one is empty
+pub record IsConflict (r q : LocalRule) (links : List Link) (i a : ℕ) : Type 0 where
+  pub link : Link
+  pub first : ℕ
+  pub second : ℕ
+  pub stands : slice_get links i ≡ Some link
+  pub letter : a < r.states
+  pub first_step : IsStep r link.first a first
+  pub second_step : IsStep q link.second a second
+  pub one : ((first ≡ 0) × (second ≢ 0)) ⊎ ((second ≡ 0) × (first ≢ 0))
+
+-- how many sets there are under both rules
+abbrev pub set_count : LocalRule → LocalRule → ℕ
+set_count r q = 2 ^ node_count r + 2 ^ node_count q
+
+-- no more links than parents can become lesser
+abbrev pub most_links : LocalRule → LocalRule → ℕ
+most_links r q = total (range_with_len 0 (set_count r q)) + 1
+
+-- the sets of both rules in classes that are joined by the links
+pub record AreJoined (r q : LocalRule) (links : List Link) (e : ℕ) (parents : List ℕ) : Type 0 where
+  pub long : length parents ≡ set_count r q
+  pub joined : (x : ℕ) → x < set_count r q → Chain (2 ^ node_count r) r.states links e x (slice_index parents x)
+  pub few : length links + total parents ≤ most_links r q
+
+-- a search through linked sets of two rules, in which the first e edges have been followed
+pub record IsLinkSearch (r q : LocalRule) (links : List Link) (parents : List ℕ) (e : ℕ) : Type 0 where
+  pub linking : IsLinking r q links e
+  pub joined : AreJoined r q links e parents
+
+-- the edges from link i on all letters have been followed, or those before a conflict
+abbrev pub IsLinkedOn : LocalRule → LocalRule → List Link → List ℕ → ℕ → Option ℕ → Type 0
+IsLinkedOn r q links parents i None = IsLinkSearch r q links parents ((i + 1) * r.states)
+IsLinkedOn r q links parents i (Some a) = IsLinkSearch r q links parents (i * r.states + a) × IsConflict r q links i a
+
+-- the word on the way to a link
+abbrev pub Reaches : List Link → ℕ → List ℕ → Type 0
+Reaches links = Spells (places_from 0 links)

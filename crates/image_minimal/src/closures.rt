@@ -1,0 +1,86 @@
+//! Unread sets, and the closure of each set of nodes.
+
+ghost use Rattle.std.specs.Prelude.{◌+◌, ◌*◌, ◌^◌, ◌<◌, length, IfOk};
+ghost use Rattle.word_image.specs.LocalRules.{node_count};
+ghost use Rattle.image_minimal.specs.Closures.{IsBack, IsUnreadSet, IsClosure, AreClosures, AreClosuresFrom};
+ghost use Rattle.image_minimal.specs.Searches.{IsSearch, AreUnreadSets};
+
+use crate::listed::Listed;
+use debruijn::Graph;
+use image_subsets::full;
+use std::alloc::{AllocError, Global};
+
+/// For each set of nodes its closure.
+pub fn closures(alloc: Global, graph: &Graph) -> Result<Vec<u16>, AllocError>
+    ensures { IfOk result (λ closures. AreClosures graph.now closures.items) }
+{
+    let unread = unread_sets(alloc, graph)?;
+    let all = full(graph);
+    let mut closures = vec![in alloc; 0; usize::from(all) + 1]?;
+    for less in 0..closures.len() {
+        let set = all - less as u16;
+        let closure = match unread.place(set) {
+            Some(_) => set,
+            None => closure_above(graph, &closures, set),
+        };
+        closures[usize::from(set)] = closure;
+    }
+    Ok(closures)
+}
+
+/// The closure of this set, which isn't unread, by those of the sets above it.
+fn closure_above(graph: &Graph, closures: &[u16], set: u16) -> u16
+    requires set { set < 2 ^ node_count graph.now }
+    requires closures { AreClosuresFrom graph.now (set + 1) closures.now }
+    requires read { ¬ IsUnreadSet graph.now set }
+    ensures { IsClosure graph.now set result }
+{
+    let mut closure = full(graph);
+    for u in 0..graph.nodes() {
+        if set >> u & 1 == 0 {
+            closure &= closures[usize::from(set | 1u16 << u)];
+        }
+    }
+    closure
+}
+
+/// The unread sets, each once.
+fn unread_sets(alloc: Global, graph: &Graph) -> Result<Listed, AllocError>
+    ensures { IfOk result (AreUnreadSets graph.now) }
+{
+    let mut sets = Listed::new(alloc)?;
+    sets.insert(0)?;
+    let mut place = 0;
+    while place < sets.len() {
+        expand(graph, &mut sets, place)?;
+        place += 1;
+    }
+    Ok(sets)
+}
+
+/// Lists the sets to which steps backwards lead from the set at this place.
+fn expand(graph: &Graph, sets: &mut Listed, place: u32) -> Result<(), AllocError>
+    requires place { place < length sets.old }
+    requires search { IsSearch (IsBack graph.now) graph.now.states 0 sets.old (place * graph.now.states) }
+    ensures { IfOk result (λ _. IsSearch (IsBack graph.now) graph.now.states 0 sets.new ((place + 1) * graph.now.states)) }
+{
+    let set = sets.at(place);
+    for a in 0..graph.k() {
+        sets.insert(back(graph, set, a))?;
+    }
+    Ok(())
+}
+
+/// The nodes from which all edges labelled a lead into the set.
+fn back(graph: &Graph, set: u16, a: u8) -> u16
+    requires { a < graph.now.states }
+    ensures { IsBack graph.now set a result }
+{
+    let mut before = 0;
+    for u in 0..graph.nodes() {
+        if graph.ends(u, a) & !set == 0 {
+            before |= 1u16 << u;
+        }
+    }
+    before
+}

@@ -1,0 +1,77 @@
+//! Different sets of nodes in the order in which they were found, with an index by set.
+
+ghost use Rattle.std.specs.Prelude.{◌≡◌, ◌<◌, ◌≤◌, [], length, slice_index, IfOk};
+ghost use Rattle.image_minimal.specs.Indexes.{IsInserted, IsPlaceOf};
+
+use std::alloc::{AllocError, Global};
+use std::marker::Model;
+
+/// A list of different sets, seen as that list.
+#[derive(Debug, Drop)]
+pub struct Listed {
+    // The sets in their order.
+    sets: Vec<u16>,
+    // For each set its place, if it is in the list.
+    places: Vec<Option<u32>>,
+}
+
+impl Model for Listed {
+    ghost use Rattle.std.specs.Prelude.{List, ℕ};
+    ghost use Rattle.image_minimal.specs.Indexes.{IsIndex};
+
+    ghost Value = { List ℕ };
+
+    ghost view = { λ l. l.sets.items };
+
+    ghost invariant = { λ l. IsIndex l.sets.items l.places.items };
+}
+
+impl Listed {
+    /// An empty list.
+    pub fn new(alloc: Global) -> Result<Listed, AllocError>
+        ensures { IfOk result (λ listed. listed ≡ []) }
+    {
+        Ok(Listed {
+            sets: Vec::new(alloc),
+            places: vec![in alloc; None; usize::from(u16::MAX) + 1]?,
+        })
+    }
+
+    /// How many sets there are, at most 65,536.
+    pub fn len(&self) -> u32
+        ensures len { result ≡ length self.now }
+        ensures most { result ≤ 65536 }
+    {
+        self.sets.len() as u32
+    }
+
+    /// The set at place i.
+    pub fn at(&self, i: u32) -> u16
+        requires { i < length self.now }
+        ensures { result ≡ slice_index self.now i }
+    {
+        self.sets[i as usize]
+    }
+
+    /// The place of the set; `None` exactly where it isn't there.
+    pub fn place(&self, set: u16) -> Option<u32>
+        ensures { IsPlaceOf self.now set result }
+    {
+        self.places[usize::from(set)]
+    }
+
+    /// Puts the set at the end, if it isn't there, and gives its place.
+    pub fn insert(&mut self, set: u16) -> Result<u32, AllocError>
+        ensures { IfOk result (IsInserted self.old self.new set) }
+    {
+        match self.place(set) {
+            Some(place) => Ok(place),
+            None => {
+                let place = self.len();
+                self.sets.push(set)?;
+                self.places[usize::from(set)] = Some(place);
+                Ok(place)
+            }
+        }
+    }
+}

@@ -1,0 +1,89 @@
+//! The least word that is an orphan of exactly one of two rules.
+
+ghost use Rattle.std.specs.Prelude.{◌≡◌, ◌≢◌, ◌↔◌, ◌∷◌, [], ◌++◌, ◌<◌, List, ℕ, length, slice_get, Some, IfOk, IsErrOf, MatchOption};
+ghost use Rattle.image_minimal.specs.ImageLanguages.{HaveSameOrphans, Separates};
+ghost use Rattle.image_minimal.specs.Links.{Reaches};
+ghost use Rattle.image_minimal.specs.declared.links.Link.{Link};
+
+use crate::joined::Joined;
+use crate::links::{Link, expand};
+use debruijn::Graph;
+use image_subsets::full;
+use std::alloc::{AllocError, Global};
+use word_image::{Rule, Word};
+
+/// Why no word is sought.
+#[derive(Debug, Drop)]
+pub enum SepFault {
+    /// The two rules have different numbers of states.
+    States,
+    /// There wasn't enough memory.
+    Memory(AllocError),
+}
+
+impl From<AllocError> for SepFault {
+    ghost use Rattle.image_minimal.specs.declared.separation.SepFault.TheVariants.{Memory};
+
+    ghost from_gives = { λ e fault. fault ≡ Memory e };
+
+    fn from(e: AllocError) -> SepFault {
+        SepFault::Memory(e)
+    }
+}
+
+/// The least word that is an orphan of exactly one of the rules; `None` exactly where they have the same orphans.
+///
+/// With n sets under both rules together it takes **O(n k (N + log n))** time and **O(n)** space.
+pub fn separate(alloc: Global, first: &Rule, second: &Rule) -> Result<Option<Word>, SepFault>
+    ensures states { IsErrOf result SepFault.States ↔ (first.now.states ≢ second.now.states) }
+    ensures word { IfOk result (λ word. MatchOption word (HaveSameOrphans first.now second.now) (Separates first.now second.now)) }
+{
+    if first.k() != second.k() {
+        return Err(SepFault::States);
+    }
+    let (one, other) = (Graph::of(first), Graph::of(second));
+    Ok(search(alloc, &one, &other)?)
+}
+
+/// The same of two graphs with the same labels.
+fn search(alloc: Global, first: &Graph, second: &Graph) -> Result<Option<Word>, AllocError>
+    requires { first.now.states ≡ second.now.states }
+    ensures { IfOk result (λ word. MatchOption word (HaveSameOrphans first.now second.now) (Separates first.now second.now)) }
+{
+    let below = 1u32 << first.nodes();
+    let count = below + (1u32 << second.nodes());
+    let mut joined = Joined::new(alloc, count)?;
+    let mut links = Vec::new(alloc);
+    links.push(Link {
+        first: full(first),
+        second: full(second),
+        parent: 0,
+        letter: 0,
+    })?;
+    let mut place = 0;
+    while place < links.len() {
+        if let Some(letter) = expand(first, second, &mut links, &mut joined, place)? {
+            return Ok(Some(word_to(alloc, &links, place, letter)?));
+        }
+        place += 1;
+    }
+    Ok(None)
+}
+
+/// The word on the way to the link at this place, and a letter after it.
+fn word_to(alloc: Global, links: &[Link], at: usize, last: u8) -> Result<Word, AllocError>
+    requires at { at < length links.now }
+    requires earlier { (i : ℕ) (x : Link) → 0 < i → slice_get links.now i ≡ Some x → x.parent < i }
+    ensures { IfOk result (λ word. (w : List ℕ) → Reaches links.now at w → word ≡ w ++ last ∷ []) }
+{
+    let mut letters = Vec::new(alloc);
+    letters.push(last)?;
+    let mut place = at;
+    while place > 0 {
+        let link = links[place];
+        letters.push(link.letter)?;
+        place = link.parent;
+    }
+    letters.reverse();
+    Ok(Word::of(letters))
+}
