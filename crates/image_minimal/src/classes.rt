@@ -7,8 +7,8 @@ ghost use Rattle.image_minimal.specs.Searches.{IsClassSearch};
 
 use crate::closures::closures;
 use crate::listed::Listed;
+use crate::subsets::Subsets;
 use debruijn::Graph;
-use image_subsets::{full, step};
 use std::alloc::{AllocError, Global};
 use std::marker::Model;
 use word_image::Rule;
@@ -41,22 +41,10 @@ impl Model for Minimal {
 pub fn least(alloc: Global, rule: &Rule) -> Result<Minimal, AllocError>
     ensures { IfOk result (IsLeastAutomaton rule.now) }
 {
+    let subsets = Subsets::of(alloc, rule)?;
     let graph = Graph::of(rule);
     let closures = closures(alloc, &graph)?;
-    let mut classes = Listed::new(alloc)?;
-    let mut next = Vec::new(alloc);
-    classes.insert(full(&graph))?;
-    let mut place = 0;
-    while place < classes.len() {
-        expand(&graph, &closures, &mut classes, &mut next, place)?;
-        place += 1;
-    }
-    Ok(Minimal {
-        k: graph.k(),
-        len: place,
-        next,
-        dead: classes.place(0),
-    })
+    Ok(search(alloc, &subsets, &closures)?)
 }
 
 impl Minimal {
@@ -94,22 +82,44 @@ impl Minimal {
     }
 }
 
+/// The automaton of the classes, which are found breadth first from the closure of all nodes.
+fn search(alloc: Global, subsets: &Subsets, closures: &[u16]) -> Result<Minimal, AllocError>
+    requires { AreClosures subsets.now closures.now }
+    ensures { IfOk result (IsLeastAutomaton subsets.now) }
+{
+    let mut classes = Listed::new(alloc)?;
+    let mut next = Vec::new(alloc);
+    classes.insert(subsets.full())?;
+    let mut place = 0;
+    while place < classes.len() {
+        expand(subsets, closures, &mut classes, &mut next, place)?;
+        place += 1;
+    }
+    Ok(Minimal {
+        k: subsets.k(),
+        len: place,
+        next,
+        dead: classes.place(0),
+    })
+}
+
 /// Follows the steps from the class at this place, letters ascending.
 fn expand(
-    graph: &Graph,
+    subsets: &Subsets,
     closures: &[u16],
     classes: &mut Listed,
     next: &mut Vec<u32>,
     place: u32,
 ) -> Result<(), AllocError>
-    requires closures { AreClosures graph.now closures.now }
+    requires closures { AreClosures subsets.now closures.now }
     requires place { place < length classes.old }
-    requires search { IsClassSearch graph.now classes.old next.old.items (place * graph.now.states) }
-    ensures { IfOk result (λ _. IsClassSearch graph.now classes.new next.new.items ((place + 1) * graph.now.states)) }
+    requires search { IsClassSearch subsets.now classes.old next.old.items (place * subsets.now.states) }
+    ensures { IfOk result (λ _. IsClassSearch subsets.now classes.new next.new.items ((place + 1) * subsets.now.states)) }
 {
     let set = classes.at(place);
-    for a in 0..graph.k() {
-        let after = step(graph, set, a);
+    let steps = subsets.steps(set);
+    for a in 0..subsets.k() {
+        let after = steps[a as usize];
         next.push(classes.insert(closures[usize::from(after)])?)?;
     }
     Ok(())

@@ -4,8 +4,7 @@ ghost use Rattle.std.specs.Prelude.{◌≡◌, ◌+◌, ◌*◌, ◌<◌, length
 ghost use Rattle.image_minimal.specs.Links.{IsLinkSearch, IsLinkedOn};
 
 use crate::joined::Joined;
-use debruijn::Graph;
-use image_subsets::step;
+use crate::subsets::Subsets;
 use std::alloc::AllocError;
 
 /// A set under the first rule and one under the second.
@@ -24,8 +23,8 @@ pub struct Link {
 /// Follows the edges from the link at this place, letters ascending. Stops at a letter that leads to two sets
 /// of which exactly one is empty, and answers it.
 pub fn expand(
-    first: &Graph,
-    second: &Graph,
+    first: &Subsets,
+    second: &Subsets,
     links: &mut Vec<Link>,
     joined: &mut Joined,
     place: usize,
@@ -37,9 +36,11 @@ pub fn expand(
 {
     let link = links[place];
     let below = 1u32 << first.nodes();
+    let firsts = first.steps(link.first);
+    let seconds = second.steps(link.second);
     for letter in 0..first.k() {
-        let s = step(first, link.first, letter);
-        let t = step(second, link.second, letter);
+        let s = firsts[letter as usize];
+        let t = seconds[letter as usize];
         if (s == 0) != (t == 0) {
             return Ok(Some(letter));
         }

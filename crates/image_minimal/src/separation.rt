@@ -7,8 +7,7 @@ ghost use Rattle.image_minimal.specs.declared.links.Link.{Link};
 
 use crate::joined::Joined;
 use crate::links::{Link, expand};
-use debruijn::Graph;
-use image_subsets::full;
+use crate::subsets::Subsets;
 use std::alloc::{AllocError, Global};
 use word_image::{Rule, Word};
 
@@ -41,12 +40,13 @@ pub fn separate(alloc: Global, first: &Rule, second: &Rule) -> Result<Option<Wor
     if first.k() != second.k() {
         return Err(SepFault::States);
     }
-    let (one, other) = (Graph::of(first), Graph::of(second));
+    let one = Subsets::of(alloc, first)?;
+    let other = Subsets::of(alloc, second)?;
     Ok(search(alloc, &one, &other)?)
 }
 
-/// The same of two graphs with the same labels.
-fn search(alloc: Global, first: &Graph, second: &Graph) -> Result<Option<Word>, AllocError>
+/// The same of two rules with one number of states.
+fn search(alloc: Global, first: &Subsets, second: &Subsets) -> Result<Option<Word>, AllocError>
     requires { first.now.states ≡ second.now.states }
     ensures { IfOk result (λ word. MatchOption word (HaveSameOrphans first.now second.now) (Separates first.now second.now)) }
 {
@@ -55,8 +55,8 @@ fn search(alloc: Global, first: &Graph, second: &Graph) -> Result<Option<Word>, 
     let mut joined = Joined::new(alloc, count)?;
     let mut links = Vec::new(alloc);
     links.push(Link {
-        first: full(first),
-        second: full(second),
+        first: first.full(),
+        second: second.full(),
         parent: 0,
         letter: 0,
     })?;

@@ -6,6 +6,6 @@ use Rattle.image_minimal.proofs.classes.expand.Given as goal
 -- the steps on the first letters are followed
 abbrev pub invariant-loop-a : goal.invariant-loop-a
 invariant-loop-a l = record {
-  search : IsClassSearch l.graph l.classes l.next.items (l.place * l.graph.states + l.a);
+  search : IsClassSearch l.subsets l.classes l.next.items (l.place * l.subsets.states + l.a);
   here : slice_get l.classes l.place ≡ Some l.set;
 }

@@ -1,4 +1,4 @@
-use Rattle.std.proofs.Common.{◌≡◌, ℕ, ◌+◌, ◌*◌, ◌^◌, ◌%◌, ◌<◌, [], ◌∷◌, ◌++◌, length, refl, ap, ap₂, ◌∙◌, subst, arith}
+use Rattle.std.proofs.Common.{◌≡◌, ℕ, ◌+◌, ◌*◌, ◌^◌, ◌%◌, ◌<◌, [], ◌∷◌, ◌++◌, length, slice_index, refl, ap, ap₂, ◌∙◌, subst, arith}
 use Rattle.std.proofs.lemmas.Nat.{one_shl}
 use Rattle.std.proofs.lemmas.Option.{slice_get_read}
 use Rattle.std.proofs.Math.Nat.{suc-mul}
@@ -14,27 +14,31 @@ use Rattle.image_minimal.proofs.links.expand.Goals.{then-join+in_ok-push, else-j
 pub loop-letter-init : goal.loop-letter-init
 loop-letter-init c = record {
   search = subst (IsLinkSearch c.args.first.now c.args.second.now c.args.links.now.items c.args.joined.now) (omega arith) c.requires.search;
-  here = slice_get_read c.args.links.now.items _ c.args.place c.index-link.result.now refl c.requires.place c.index-link.ensures;
+  here = λ x at. at;
 }
 
-pub step-s-requires-clause-set : goal.step-s-requires-clause-set
-step-s-requires-clause-set c = (link-below c.loop-letter.invariant.search.linking c.args.place c.index-link.result.now c.loop-letter.invariant.here).0
+pub steps-firsts-requires : goal.steps-firsts-requires
+steps-firsts-requires c =
+    let here = slice_get_read c.args.links.now.items _ c.args.place c.index-link.result.now refl c.requires.place c.index-link.ensures in
+    (link-below c.requires.search.linking c.args.place c.index-link.result.now here).0
 
-pub step-t-requires-clause-set : goal.step-t-requires-clause-set
-step-t-requires-clause-set c = (link-below c.loop-letter.invariant.search.linking c.args.place c.index-link.result.now c.loop-letter.invariant.here).1
+pub steps-seconds-requires : goal.steps-seconds-requires
+steps-seconds-requires c =
+    let here = slice_get_read c.args.links.now.items _ c.args.place c.index-link.result.now refl c.requires.place c.index-link.ensures in
+    (link-below c.requires.search.linking c.args.place c.index-link.result.now here).1
 
 pub returns-then-s-t : goal.returns-then-s-t
 returns-then-s-t c = (
   c.loop-letter.invariant.search,
   record {
     link = c.index-link.result.now;
-    first = c.step-s.result;
-    second = c.step-t.result;
-    stands = c.loop-letter.invariant.here;
+    first = slice_index c.steps-firsts.result c.loop-letter.letter;
+    second = slice_index c.steps-seconds.result c.loop-letter.letter;
+    stands = c.loop-letter.invariant.here c.index-link.result.now (slice_get_read c.args.links.now.items _ c.args.place c.index-link.result.now refl c.requires.place c.index-link.ensures);
     letter = omega arith;
-    first_step = c.step-s.ensures.step;
-    second_step = c.step-t.ensures.step;
-    one = uneven c.step-s.result c.step-t.result c.if-s-t.true;
+    first_step = c.steps-firsts.ensures c.loop-letter.letter (omega arith);
+    second_step = c.steps-seconds.ensures c.loop-letter.letter (omega (arith, c.requires.states));
+    one = uneven (slice_index c.steps-firsts.result c.loop-letter.letter) (slice_index c.steps-seconds.result c.loop-letter.letter) c.if-s-t.true;
   },
 )
 
@@ -48,12 +52,14 @@ loop-letter-preserved c =
     let links = c.loop-letter.links.items in
     let old = c.loop-letter.joined in
     let new = c.join.new.self in
-    let s = c.step-s.result in
-    let t = c.step-t.result in
+    let s = slice_index c.steps-firsts.result letter in
+    let t = slice_index c.steps-seconds.result letter in
     let state = 2 ^ node_count r + t in
     let search = c.loop-letter.invariant.search in
-    let here = c.loop-letter.invariant.here in
+    let here = c.loop-letter.invariant.here link (slice_get_read c.args.links.now.items _ c.args.place c.index-link.result.now refl c.requires.place c.index-link.ensures) in
     let below : letter < r.states = omega arith in
+    let one = c.steps-firsts.ensures letter below in
+    let two = c.steps-seconds.ensures letter (omega (arith, below, c.requires.states)) in
     let next : place * r.states + letter + 1 ≡ place * r.states + (letter + 1) = omega arith in
     let small : c.nodes.result < 32 = omega (arith, c.nodes.ensures.rule.shape.most_nodes, c.nodes.ensures.nodes) in
     let size : 1 * 2 ^ c.nodes.result % 4294967296 + c.from-in-loop-letter.result ≡ state =
@@ -63,16 +69,16 @@ loop-letter-preserved c =
       | then-join+in_ok-push w ↦
           let united = subst (IsJoin old new s state) w.if-join.true joins in
           let links_is : c.if-join.links.items ≡ links ++ record { first = s; second = t; parent = place; letter = letter } ∷ [] = ap (λ v. v.items) w.links-is ∙ w.in_ok-push.ensures.items in
-          let longer = IsLinkSearch-new place letter search link here below c.step-s.ensures.step c.step-t.ensures.step (even s t c.if-s-t.false) united in
+          let longer = IsLinkSearch-new place letter search link here below one two (even s t c.if-s-t.false) united in
           rw links_is (record {
             search = subst (IsLinkSearch r q (links ++ record { first = s; second = t; parent = place; letter = letter } ∷ []) new) next longer;
-            here = slice_get-append links (record { first = s; second = t; parent = place; letter = letter } ∷ []) place link here;
+            here = λ x at. slice_get-append links (record { first = s; second = t; parent = place; letter = letter } ∷ []) place x (c.loop-letter.invariant.here x at);
           })
       | else-join w ↦
           let (halved, (root, first, second)) = subst (IsJoin old new s state) w.if-join.false joins in
           let links_is : c.if-join.links.items ≡ links = ap (λ v. v.items) w.links-is in
-          let longer = IsLinkSearch-there place letter search link here below c.step-s.ensures.step c.step-t.ensures.step halved first second in
-          rw links_is (record { search = subst (IsLinkSearch r q links new) next longer; here = here })
+          let longer = IsLinkSearch-there place letter search link here below one two halved first second in
+          rw links_is (record { search = subst (IsLinkSearch r q links new) next longer; here = c.loop-letter.invariant.here })
     ]
 
 pub returns : goal.returns

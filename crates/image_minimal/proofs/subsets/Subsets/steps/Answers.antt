@@ -1,0 +1,12 @@
+use Rattle.std.proofs.Common.{◌≡◌, ◌^◌, ◌<◌, slice_index, sym, ap, subst}
+use Rattle.word_image.specs.LocalRules.{LocalRule, node_count}
+use Rattle.word_image.specs.Graphs.{IsStep}
+use Rattle.image_subsets.specs.StepTables.{AreTables}
+use Rattle.image_subsets.proofs.Steps.{HasRows-tables}
+use Rattle.image_minimal.proofs.subsets.Subsets.steps.Goals as goal
+
+pub steps-requires : goal.steps-requires
+steps-requires c = HasRows-tables (subst (λ r. AreTables r c.self.inside.tables) c.self.view_is c.self.invariant) c.args.set c.requires
+
+pub returns : goal.returns
+returns c a letter = c.steps.ensures c.args.self.now a (subst (λ r. AreTables r c.self.inside.tables) c.self.view_is c.self.invariant) c.requires letter

@@ -1,0 +1,74 @@
+//! The sets of nodes of a rule, and the steps between them.
+
+ghost use Rattle.std.specs.Prelude.{◌≡◌, ◌^◌, ◌<◌, ℕ, slice_index, IfOk};
+ghost use Rattle.word_image.specs.LocalRules.{IsRule, node_count};
+ghost use Rattle.word_image.specs.Graphs.{IsStep, full_set};
+
+use debruijn::Graph;
+use image_subsets::{StepTables, full};
+use std::alloc::{AllocError, Global};
+use std::marker::Model;
+use word_image::Rule;
+
+/// The subset automaton of a rule, seen as that rule.
+#[derive(Debug, Drop)]
+pub struct Subsets {
+    graph: Graph,
+    // The steps of its sets.
+    tables: StepTables,
+}
+
+impl Model for Subsets {
+    ghost use Rattle.word_image.specs.LocalRules.{LocalRule};
+    ghost use Rattle.image_subsets.specs.StepTables.{AreTables};
+
+    ghost Value = { LocalRule };
+
+    ghost view = { λ s. s.graph };
+
+    ghost invariant = { λ s. AreTables s.graph s.tables };
+}
+
+impl Subsets {
+    /// The subset automaton of this rule.
+    pub fn of(alloc: Global, rule: &Rule) -> Result<Subsets, AllocError>
+        ensures { IfOk result (λ subsets. subsets ≡ rule.now) }
+    {
+        let graph = Graph::of(rule);
+        let mut tables = StepTables::new(alloc)?;
+        tables.fill(&graph);
+        Ok(Subsets { graph, tables })
+    }
+
+    /// The number of states k.
+    pub fn k(&self) -> u8
+        ensures states { result ≡ self.now.states }
+        ensures rule { IsRule self.now }
+    {
+        self.graph.k()
+    }
+
+    /// The number of nodes N, from 2 to 16.
+    pub fn nodes(&self) -> u8
+        ensures nodes { result ≡ node_count self.now }
+        ensures rule { IsRule self.now }
+    {
+        self.graph.nodes()
+    }
+
+    /// The set of all nodes.
+    pub fn full(&self) -> u16
+        ensures set { result ≡ full_set self.now }
+        ensures rule { IsRule self.now }
+    {
+        full(&self.graph)
+    }
+
+    /// The steps of the set, letter by letter.
+    pub fn steps(&self, set: u16) -> [u16; 16]
+        requires { set < 2 ^ node_count self.now }
+        ensures { (a : ℕ) → a < self.now.states → IsStep self.now set a (slice_index result a) }
+    {
+        self.tables.steps(set)
+    }
+}
