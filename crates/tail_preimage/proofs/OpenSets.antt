@@ -1,0 +1,98 @@
+-- The sets of nodes from which the rest of a word leads into a goal, from the end of the word on, and the first walk through them.
+use Rattle.std.proofs.Common.{◌≡◌, ◌≢◌, ◌↔◌, ℕ, suc, ◌+◌, ◌-◌, ◌*◌, ◌/◌, ◌%◌, ◌^◌, ◌<◌, List, [], ◌∷◌, ◌++◌, length, drop, slice_index, IsBitSet, bit_and, pow-suc, refl, sym, ◌∙◌, ap, ap₂, subst, arith, ⊎_elim}
+use Rattle.std.proofs.Math.Arith.{mod-mul}
+use Rattle.std.proofs.Math.Nat.{one-le-pow}
+use Rattle.std.proofs.lemmas.Bool.{cases_lt}
+use Rattle.std.proofs.lemmas.Nat.{mod-mul-add, div-mul-add}
+use Rattle.std.proofs.lemmas.List.{get_or_append_left, get_or_push, length_push, drop_all}
+use Rattle.word_image.specs.LocalRules.{LocalRule, IsRule, node_count}
+use Rattle.word_image.specs.Graphs.{next, label}
+use Rattle.word_image.proofs.laws.Graphs.{next-below}
+use Rattle.pair_laws.proofs.Sets.{IsBitSet-below, IsBitSet-and, IsBitSet-apart}
+use Rattle.debruijn.specs.Ends.{IsEnds}
+use Rattle.tail_preimage.specs.Walks.{Reaches}
+use Rattle.tail_preimage.specs.Relations.{IsNodeSet, IsRelation, Rows, Edge}
+use Rattle.tail_preimage.specs.FirstWalks.{AreOpen, IsLeastNode}
+use Rattle.tail_preimage.proofs.laws.Stretches.{drop-more, drop-first}
+use Rattle.tail_preimage.proofs.laws.Sides.{IsRelation-below}
+use Rattle.tail_preimage.proofs.laws.LeastWalks.{Reaches-none, Reaches-cons, IsLeastBegun, IsLeastBegun-push}
+use Rattle.tail_preimage.proofs.Unions.{IsNodeSet-same}
+
+-- at the end of the word it is the goal
+pub AreOpen-start : {r : LocalRule} {goal : ℕ} → (w : List ℕ) → goal < 2 ^ node_count r → AreOpen r w goal 0 (goal ∷ [])
+AreOpen-start {r} {goal} w small =
+    let none : drop (length w - 0) w ≡ [] = drop_all (length w - 0) w (omega arith) in
+    let here : IsNodeSet r (Reaches r [] goal) goal = record { within = small; nodes = λ u l. let e = Reaches-none goal u l in (e.1, e.0) } in
+    record {
+      long = refl;
+      each = λ j l. let same : 0 ≡ j = omega arith in
+          subst (λ k. IsNodeSet r (Reaches r (drop (length w - k) w) goal) (slice_index (goal ∷ []) k)) same (subst (λ z. IsNodeSet r (Reaches r z goal) goal) (sym none) here);
+    }
+
+-- the set one place back
+IsNodeSet-back : {r : LocalRule} {edges : List ℕ} {set before : ℕ} → IsRule r → (a : ℕ) (w : List ℕ) (goal : ℕ) → IsRelation r (Edge r a) edges → IsNodeSet r (Reaches r w goal) set
+    → IsNodeSet r (λ u. (v : ℕ) × Rows edges u v × IsBitSet set v) before → IsNodeSet r (Reaches r (a ∷ w) goal) before
+IsNodeSet-back rule a w goal rel h = IsNodeSet-same (λ u l. (
+  (λ (v, row, bit). let (node, edge) = IsRelation-below rel u v l row in (Reaches-cons rule a w goal u l).1 (v, node, edge, (h.nodes v node).0 bit)),
+  (λ reach. let (v, node, edge, on) = (Reaches-cons rule a w goal u l).0 reach in (v, ((rel.rows u l).nodes v node).1 edge, (h.nodes v node).1 on)),
+))
+
+-- one set more
+pub AreOpen-more : {r : LocalRule} {w sets edges : List ℕ} {goal n before : ℕ} → IsRule r → AreOpen r w goal n sets → n < length w → IsRelation r (Edge r (slice_index w (length w - 1 - n))) edges
+    → IsNodeSet r (λ u. (v : ℕ) × Rows edges u v × IsBitSet (slice_index sets n) v) before → AreOpen r w goal (n + 1) (sets ++ before ∷ [])
+AreOpen-more {r} {w} {sets} {edges} {goal} {n} {before} rule h inside rel step =
+    let last : IsNodeSet r (Reaches r (drop (length w - (n + 1)) w) goal) before =
+    subst (λ z. IsNodeSet r (Reaches r z goal) before) (sym (drop-more w n inside))
+    (IsNodeSet-back rule (slice_index w (length w - 1 - n)) (drop (length w - n) w) goal rel (h.each n (omega arith)) step) in
+    let long : length sets ≡ n + 1 = h.long in
+    record {
+      long = omega (arith, length_push sets before);
+      each = λ j l. ⊎_elim
+          (λ less. subst (IsNodeSet r (Reaches r (drop (length w - j) w) goal)) (sym (get_or_append_left sets (before ∷ []) 0 j (omega (arith, less)))) (h.each j (omega (arith, less))))
+          (λ more. let same : n + 1 ≡ j = omega (arith, l, more) in
+          subst (λ k. IsNodeSet r (Reaches r (drop (length w - k) w) goal) (slice_index (sets ++ before ∷ []) k)) same
+          (subst (IsNodeSet r (Reaches r (drop (length w - (n + 1)) w) goal)) (sym (get_or_push sets before 0 (n + 1) long)) last))
+          (cases_lt j (n + 1));
+    }
+
+-- the set after a place
+open-after : {r : LocalRule} {w sets : List ℕ} {goal n : ℕ} → AreOpen r w goal (length w) sets → n < length w → IsNodeSet r (Reaches r (drop (n + 1) w) goal) (slice_index sets (length w - 1 - n))
+open-after {r} {w} {sets} {goal} {n} h inside =
+    let place : length w - (length w - 1 - n) ≡ n + 1 = omega arith in
+    subst (λ k. IsNodeSet r (Reaches r (drop k w) goal) (slice_index sets (length w - 1 - n))) place (h.each (length w - 1 - n) (omega arith))
+
+-- where the rest of a word reaches the goal some edge leads into the next set
+pub some_edge_on : {r : LocalRule} {w sets : List ℕ} {goal n v ends : ℕ} → IsRule r → AreOpen r w goal (length w) sets → n < length w → v < node_count r → Reaches r (drop n w) goal v
+    → IsEnds r v (slice_index w n) ends → bit_and ends (slice_index sets (length w - 1 - n)) ≢ 0
+some_edge_on {r} {w} {sets} {goal} {n} {v} {ends} rule h inside node reach e none =
+    let split : drop n w ≡ slice_index w n ∷ drop (n + 1) w = drop-first w n inside in
+    let (s, below, edge, on) = (Reaches-cons rule (slice_index w n) (drop (n + 1) w) goal v node).0 (subst (λ z. Reaches r z goal v) split reach) in
+    IsBitSet-apart ends (slice_index sets (length w - 1 - n)) s none ((e.nodes s below).1 edge) (((open-after h inside).nodes s below).1 on)
+
+-- an edge leads to a node whose last letter is its own
+next-letter : {r : LocalRule} → IsRule r → (u b : ℕ) → b < r.states → next r u b ≡ u % r.states ^ (r.width - 2) * r.states + b
+next-letter {r} rule u b l =
+    let k : ℕ = r.states in
+    let width : r.width - 1 ≡ suc (r.width - 2) = omega (arith, rule.shape.least_width) in
+    let some : 0 < k = omega arith in
+    let count : node_count r ≡ k ^ (r.width - 2) * k = ap (λ n. k ^ n) width ∙ pow-suc k (r.width - 2) in
+    ap (λ n. (u * k + b) % n) count ∙ mod-mul (u * k + b) (one-le-pow (r.width - 2) k some) some
+    ∙ ap₂ (λ (i j : ℕ). i % k ^ (r.width - 2) * k + j) (div-mul-add u k b l) (mod-mul-add u k b l)
+
+-- the first walk goes on to the least node of the next set to which an edge with the next label leads, by its last letter
+pub IsLeastBegun-node : {r : LocalRule} {w sets x : List ℕ} {goal u n v ends node : ℕ} → IsRule r → AreOpen r w goal (length w) sets → n < length w → IsLeastBegun r w u goal n v x
+    → IsEnds r v (slice_index w n) ends → IsLeastNode (bit_and ends (slice_index sets (length w - 1 - n))) node → IsLeastBegun r w u goal (n + 1) node (x ++ node % r.states ∷ [])
+IsLeastBegun-node {r} {w} {sets} {x} {goal} {u} {n} {v} {ends} {node} rule h inside begun e least =
+    let set : ℕ = slice_index sets (length w - 1 - n) in
+    let after = open-after h inside in
+    let (first, second) = (IsBitSet-and ends set node).0 least.within in
+    let below : node < node_count r = IsBitSet-below (node_count r) ends node e.within first in
+    let (b, letter, spells, leads) = (e.nodes node below).0 first in
+    let split = next-letter rule v b letter in
+    let last : node % r.states ≡ b = ap (λ m. m % r.states) (sym leads ∙ split) ∙ mod-mul-add (v % r.states ^ (r.width - 2)) r.states b letter in
+    subst (λ m. IsLeastBegun r w u goal (n + 1) node (x ++ m ∷ [])) (sym last)
+    (subst (λ m. IsLeastBegun r w u goal (n + 1) m (x ++ b ∷ [])) leads
+    (IsLeastBegun-push rule begun inside b letter spells (subst (Reaches r (drop (n + 1) w) goal) (sym leads) ((after.nodes node below).0 second)) (λ c less label reach.
+    let there : next r v c < node_count r = next-below rule v c in
+    let lesser : next r v c < node = omega (arith, next-letter rule v c (omega (arith, less, letter)), split, leads, less) in
+    least.least (next r v c) lesser ((IsBitSet-and ends set (next r v c)).1 (((e.nodes (next r v c) there).1 (c, omega (arith, less, letter), label, refl)), (after.nodes (next r v c) there).1 reach)))))

@@ -1,0 +1,11 @@
+pub mod Walks
+pub mod Steps
+pub mod Stretches
+pub mod Sides
+pub mod Placements
+pub mod PlacedWalks
+pub mod Orders
+pub mod Shapes
+pub mod LeastWalks
+pub mod LeastPreimages
+pub mod Answers

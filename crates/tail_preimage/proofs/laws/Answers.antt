@@ -1,0 +1,69 @@
+-- The two answers as they are found, and that there is one answer.
+use Rattle.std.proofs.Common.{◌≡◌, ℕ, ◌<◌, ◌≤◌, List, IsBitSet, refl, sym, ap, ap₂, ◌∙◌, subst, arith, ⊎_elim}
+use Rattle.std.proofs.lemmas.Bool.{cases_lt}
+use Rattle.word_image.specs.LocalRules.{LocalRule, node_count}
+use Rattle.word_image.specs.Words.{IsOrphan}
+use Rattle.tail_config.specs.Tails.{TailConfig, IsTail}
+use Rattle.tail_preimage.specs.Preimages.{PlacedConfig, Shape, MapsTo, IsLeastGap, stretch}
+use Rattle.tail_preimage.specs.Answers.{IsFrom, IsGap, IsAnswer, placed_config}
+use Rattle.tail_preimage.specs.Relations.{IsNodeSet, Rows, Open}
+use Rattle.tail_preimage.specs.Sides.{AreParts, Passes, Starts, IsFirstGap}
+use Rattle.tail_preimage.specs.FirstWalks.{AreLoopWalks, IsLeastNode}
+use Rattle.tail_preimage.specs.declared.answer.Pre.{Pre}
+use Rattle.tail_preimage.specs.declared.answer.Pre.TheVariants.{From, Gap}
+use Rattle.tail_preimage.specs.declared.shapes.Parts.{Parts}
+use Rattle.tail_preimage.proofs.laws.Walks.{IsWalk-first}
+use Rattle.tail_preimage.proofs.laws.Steps.{Open-rounds}
+use Rattle.tail_preimage.proofs.laws.PlacedWalks.{not_MapsTo-orphan}
+use Rattle.tail_preimage.proofs.laws.Sides.{SomeRounds-side, walks-Starts, IsOrphan-Passes, Passes-IsOrphan}
+use Rattle.tail_preimage.proofs.laws.Shapes.{Through-map}
+use Rattle.tail_preimage.proofs.laws.LeastPreimages.{IsLeastPreimage-unique}
+
+-- where 16 right periods lead through any number of them does
+Passes-any : {r : LocalRule} {t : TailConfig} {parts : Parts} → AreParts r t parts → (b a : ℕ) → Passes r parts b 16 → Passes r parts b a
+Passes-any {r} {parts = parts} h b a =
+    let C : ℕ → ℕ → Type 0 = Rows parts.right.period in
+    Through-map r parts (Open (Rows parts.left.period) b) (Open C 16) (Open (Rows parts.left.period) b) (Open C a) (λ v _ leads. leads) (λ w node leads.
+    let (sum, few, (n, on, both, some, rounds)) = SomeRounds-side h.rule h.right node leads in
+    Open-rounds C n on w some rounds a)
+
+-- the first numbers of periods that lead nowhere are the least gap
+pub IsGap-first : {r : LocalRule} {t : TailConfig} {parts : Parts} → IsTail r.states t → AreParts r t parts → (b a : ℕ) → IsFirstGap r parts b a → IsGap r t b a (stretch t b a)
+IsGap-first {r} {t} ht h b a gap =
+    let orphan : IsOrphan r (stretch t b a) = Passes-IsOrphan ht h b a gap.closed in
+    record {
+      least = record {
+        word = refl;
+        orphan = orphan;
+        before_least = λ i j other. ⊎_elim (λ l. absurd (gap.before_least i l (λ passes. IsOrphan-Passes h i j other (Passes-any h i j passes)))) (λ l. l) (cases_lt i b);
+        after_least = λ j other. ⊎_elim (λ l. absurd (gap.after_least j l (IsOrphan-Passes h b j other))) (λ l. l) (cases_lt j a);
+      };
+      before_few = gap.before_few;
+      after_few = gap.after_few;
+      none = not_MapsTo-orphan h.rule ht b a orphan;
+    }
+
+-- the least of the nodes from which walks of a shape lead
+pub Starts-least : {r : LocalRule} {t : TailConfig} {parts : Parts} {s : Shape} {set v : ℕ} → AreParts r t parts → IsNodeSet r (Starts r parts s) set → IsLeastNode set v
+    → (u q : ℕ) (a b c : List ℕ) → AreLoopWalks r t s u q a b c → v ≤ u
+Starts-least {v = v} h set least u q a b c walks =
+    ⊎_elim (λ l. absurd (least.least u l ((set.nodes u (IsWalk-first walks.left)).1 (walks-Starts h walks)))) (λ l. l) (cases_lt u v)
+
+-- there is one least gap
+IsLeastGap-unique : {r : LocalRule} {t : TailConfig} {b a c d : ℕ} {w z : List ℕ} → IsLeastGap r t b a w → IsLeastGap r t c d z → (b ≡ c) × (a ≡ d) × (w ≡ z)
+IsLeastGap-unique {r} {t} {b} {a} {c} {d} {w} {z} h g =
+    let first : IsOrphan r (stretch t b a) = subst (IsOrphan r) h.word h.orphan in
+    let second : IsOrphan r (stretch t c d) = subst (IsOrphan r) g.word g.orphan in
+    let lefts : b ≡ c = omega (arith, h.before_least c d second, g.before_least b a first) in
+    let rights : a ≡ d = omega (arith, h.after_least d (subst (λ n. IsOrphan r (stretch t n d)) (sym lefts) second), g.after_least a (subst (λ n. IsOrphan r (stretch t n a)) lefts first)) in
+    (lefts, rights, h.word ∙ ap₂ (stretch t) lefts rights ∙ sym g.word)
+
+-- so there is one answer
+pub IsAnswer-unique : (r : LocalRule) (t : TailConfig) (x y : Pre) → IsAnswer r t x → IsAnswer r t y → x ≡ y
+IsAnswer-unique r t (From p) (From q) h g =
+    ap (λ (c : PlacedConfig). From (record { at = c.at; left = c.config.left; middle = c.config.middle; right = c.config.right })) (IsLeastPreimage-unique h.least g.least)
+IsAnswer-unique r t (From p) (Gap b a w) h g = absurd (g.none (placed_config p) h.least.preimage.maps)
+IsAnswer-unique r t (Gap b a w) (From p) h g = absurd (h.none (placed_config p) g.least.preimage.maps)
+IsAnswer-unique r t (Gap b a w) (Gap c d z) h g =
+    let (lefts, rights, words) = IsLeastGap-unique h.least g.least in
+    ap₂ (λ (i j : ℕ). Gap i j w) lefts rights ∙ ap (Gap c d) words

@@ -1,0 +1,155 @@
+-- A placed configuration that maps to another is a walk that spells the other's letters, and from its shape come three walks.
+use Rattle.std.proofs.Common.{◌≡◌, ℕ, ◌+◌, ◌-◌, ◌*◌, List, length, take, drop, ℤ, pos, ◌+ℤ◌, ◌-ℤ◌, neg_ℤ, refl, sym, ap, ap₂, ◌∙◌, subst, subst₂, arith}
+use Rattle.std.specs.List.{repeat}
+use Rattle.std.proofs.Math.Nat.{add-mul}
+use Rattle.std.proofs.lemmas.Int.{ints}
+use Rattle.std.proofs.lemmas.List.{take_at}
+use Rattle.std.proofs.lemmas.List.FromFn.{length-map-range_with_len, get_or-map-range_with_len, fill_by_all}
+use Rattle.word_image.specs.LocalRules.{LocalRule, IsRule, value, local_map}
+use Rattle.word_image.specs.Words.{IsPreimage, IsOrphan}
+use Rattle.tail_config.specs.Tails.{TailConfig, IsTail, cell, cells, image_cell}
+use Rattle.tail_config.proofs.laws.Cells.{length-cells, IsWord-cells, cells-same, take-cells, drop-cells, cells-middle, cells-left, cells-right, image_cells, image-cells}
+use Rattle.tail_config.proofs.laws.Periods.{RepeatsRight-times}
+use Rattle.tail_config.proofs.laws.Repeats.{cell-right_period}
+use Rattle.tail_preimage.specs.Walks.{IsWalk, before_last}
+use Rattle.tail_preimage.specs.Preimages.{PlacedConfig, MapsTo, Shape, IsShapedPreimage, stretch}
+use Rattle.tail_preimage.specs.FirstWalks.{AreLoopWalks}
+use Rattle.tail_preimage.proofs.laws.Stretches.{length-repeat, repeat-add, stretch_length, stretch_start, cells-lefts, cells-rights, cells-stretch}
+use Rattle.tail_preimage.proofs.laws.Placements.{placed_cells-cells}
+
+-- a run of its cells is a preimage of a run of the letters
+IsPreimage-placed : {r : LocalRule} {t : TailConfig} {p : PlacedConfig} → IsRule r → MapsTo r p t → (i j : ℤ) (n : ℕ) → i +ℤ r.offset -ℤ p.at ≡ j
+    → IsPreimage r (cells t i n) (cells p.config j (n + (r.width - 1)))
+IsPreimage-placed {r} {t} {p} rule h i j n e =
+    let c : TailConfig = p.config in
+    let first : ℤ = i -ℤ p.at in
+    let labels : image_cells r c first n ≡ cells t i n =
+    fill_by_all (λ a. cell t (i +ℤ pos a)) (image_cells r c first n) n 0 (length-map-range_with_len (λ a. image_cell r c (first +ℤ pos a)) 0 n)
+    (λ a l. let place : i +ℤ pos a +ℤ r.offset -ℤ p.at ≡ first +ℤ pos a +ℤ r.offset = omega (arith, ints) in
+    get_or-map-range_with_len (λ b. image_cell r c (first +ℤ pos b)) 0 n a a 0 l (omega arith)
+    ∙ ap (local_map r) (sym (placed_cells-cells p (i +ℤ pos a +ℤ r.offset) (first +ℤ pos a +ℤ r.offset) r.width place)) ∙ h.cells (i +ℤ pos a)) in
+    record {
+      word = IsWord-cells h.config j (n + (r.width - 1));
+      long = length-cells c j (n + (r.width - 1)) ∙ ap (λ a. a + (r.width - 1)) (sym (length-cells t i n));
+      maps = image-cells rule c first j n (omega (arith, ints, e)) ∙ labels;
+    }
+
+-- the node of a configuration that begins at a place
+abbrev pub node_from : LocalRule → TailConfig → ℤ → ℕ
+node_from r c j = value r.states (cells c j (r.width - 1))
+
+-- so it is a walk from node to node
+pub IsWalk-placed : {r : LocalRule} {t : TailConfig} {p : PlacedConfig} → IsRule r → MapsTo r p t → (i j : ℤ) (n : ℕ) → i +ℤ r.offset -ℤ p.at ≡ j
+    → IsWalk r (cells t i n) (node_from r p.config j) (node_from r p.config (j +ℤ pos n)) (cells p.config j (n + (r.width - 1)))
+IsWalk-placed {r} {t} {p} rule h i j n e =
+    let d : ℕ = r.width - 1 in
+    record {
+      preimage = IsPreimage-placed rule h i j n e;
+      first = ap (value r.states) (take-cells p.config j (n + d) d (omega arith));
+      last = ap (λ a. value r.states (drop a (cells p.config j (n + d)))) (length-cells t i n) ∙ ap (value r.states) (drop-cells p.config j (j +ℤ pos n) n d refl);
+    }
+
+-- a stretch has a preimage where some placed configuration maps to all
+pub IsPreimage-stretch : {r : LocalRule} {t : TailConfig} {p : PlacedConfig} → IsRule r → IsTail r.states t → MapsTo r p t → (b a : ℕ) → (x : List ℕ) × IsPreimage r (stretch t b a) x
+IsPreimage-stretch {r} {t} {p} rule ht h b a =
+    let i : ℤ = stretch_start t b in
+    let j : ℤ = i +ℤ r.offset -ℤ p.at in
+    let x : List ℕ = cells p.config j (stretch_length t b a + (r.width - 1)) in
+    (x, subst (λ w. IsPreimage r w x) (cells-stretch ht b a) (IsPreimage-placed rule h i j (stretch_length t b a) refl))
+
+-- so an orphan among the stretches shows that none does
+pub not_MapsTo-orphan : {r : LocalRule} {t : TailConfig} → IsRule r → IsTail r.states t → (b a : ℕ) → IsOrphan r (stretch t b a) → (p : PlacedConfig) → ¬ MapsTo r p t
+not_MapsTo-orphan rule ht b a orphan p h = let found = IsPreimage-stretch rule ht h b a in orphan.none found.0 found.1
+
+-- n left periods that end b periods before place 0
+run-lefts : (t : TailConfig) (b n : ℕ) (i : ℤ) → i ≡ stretch_start t (n + b) → cells t i (n * length t.left) ≡ repeat n t.left
+run-lefts t b n i e =
+    let p : ℕ = length t.left in
+    let long : (n + b) * p ≡ n * p + b * p = add-mul n b p in
+    ap (λ j. cells t j (n * p)) e
+    ∙ sym (take-cells t (stretch_start t (n + b)) ((n + b) * p) (n * p) (omega arith))
+    ∙ ap (take (n * p)) (cells-lefts t (n + b) ∙ repeat-add n b t.left)
+    ∙ take_at (repeat n t.left) (repeat b t.left) (n * p) (length-repeat n t.left)
+
+-- n right periods from a periods after the middle on
+run-rights : {k : ℕ} {t : TailConfig} → IsTail k t → (a n : ℕ) → cells t (pos (length t.middle + a * length t.right)) (n * length t.right) ≡ repeat n t.right
+run-rights {t = t} h a n =
+    let p : ℕ = length t.right in
+    let m : ℤ = pos (length t.middle) in
+    cells-same t t (pos (length t.middle + a * p)) m (n * p) (λ c l.
+    let place : pos (length t.middle + a * p) +ℤ pos c ≡ m +ℤ pos c +ℤ pos (a * p) = omega (arith, ints) in
+    ap (cell t) place ∙ RepeatsRight-times a p (cell t) m (cell-right_period t) (m +ℤ pos c) (omega (arith, ints)))
+    ∙ cells-rights h n
+
+-- a walk along a run of n letters, whose letters before its last node are the run of the configuration there
+before_last-cells : (r : LocalRule) (c : TailConfig) (j : ℤ) (n : ℕ) → before_last r (cells c j (n + (r.width - 1))) ≡ cells c j n
+before_last-cells r c j n =
+    let long : length (cells c j (n + (r.width - 1))) - (r.width - 1) ≡ n = omega (arith, length-cells c j (n + (r.width - 1))) in
+    ap (λ i. take i (cells c j (n + (r.width - 1)))) long ∙ take-cells c j (n + (r.width - 1)) n (omega arith)
+
+-- three walks of the shape of a placed configuration, which is theirs
+pub record HasLoopWalks (r : LocalRule) (t : TailConfig) (s : Shape) (p : PlacedConfig) : Type 0 where
+  pub v : ℕ
+  pub w : ℕ
+  pub x : List ℕ
+  pub y : List ℕ
+  pub z : List ℕ
+  pub walks : AreLoopWalks r t s v w x y z
+  pub left : before_last r x ≡ p.config.left
+  pub middle : before_last r y ≡ p.config.middle
+  pub right : before_last r z ≡ p.config.right
+
+-- a placed configuration that has a shape and maps to t is made of three walks
+pub HasLoopWalks-shape : {r : LocalRule} {t : TailConfig} {s : Shape} {p : PlacedConfig} → IsRule r → IsTail r.states t → IsShapedPreimage r t s p → HasLoopWalks r t s p
+HasLoopWalks-shape {r} {t} {s} {p} rule ht h =
+    let c : TailConfig = p.config in
+    let d : ℕ = r.width - 1 in
+    let left : ℕ = s.back * length t.left in
+    let middle : ℕ = stretch_length t s.before s.after in
+    let right : ℕ = s.on * length t.right in
+    let at : p.at ≡ r.offset -ℤ pos (s.before * length t.left) = h.shape.at in
+    let left_long : length c.left ≡ left = h.shape.left in
+    let middle_long : length c.middle ≡ middle = h.shape.middle in
+    let right_long : length c.right ≡ right = h.shape.right in
+    let spans : (s.back + s.before) * length t.left ≡ left + s.before * length t.left = add-mul s.back s.before (length t.left) in
+    let first : ℤ = neg_ℤ (pos left) in
+    let last : ℤ = pos middle in
+    let x : List ℕ = cells c first (left + d) in
+    let y : List ℕ = cells c (pos 0) (middle + d) in
+    let z : List ℕ = cells c last (right + d) in
+    let v : ℕ = node_from r c (pos 0) in
+    let w : ℕ = node_from r c last in
+    let i : ℤ = stretch_start t (s.back + s.before) in
+    let at_node : p.at -ℤ p.at ≡ pos 0 = omega (arith, ints) in
+    let at_loop : p.at -ℤ pos left -ℤ p.at ≡ first = omega (arith, ints) in
+    let round : node_from r c first ≡ v =
+    ap (value r.states) (sym (placed_cells-cells p (p.at -ℤ pos left) first d at_loop) ∙ sym h.shape.node ∙ placed_cells-cells p p.at (pos 0) d at_node) in
+    let turn : node_from r c (last +ℤ pos right) ≡ w =
+    ap (value r.states) (cells-same c c (last +ℤ pos right) last d (λ a l.
+    let place : last +ℤ pos right +ℤ pos a ≡ last +ℤ pos a +ℤ pos (length c.right) = omega (arith, ints) in
+    ap (cell c) place ∙ cell-right_period c (last +ℤ pos a) (omega (arith, ints)))) in
+    let back_end : first +ℤ pos left ≡ pos 0 = omega (arith, ints) in
+    let middle_end : pos 0 +ℤ pos middle ≡ last = omega (arith, ints) in
+    let walk_x : IsWalk r (cells t i left) (node_from r c first) (node_from r c (first +ℤ pos left)) x = IsWalk-placed rule h.maps i first left (omega (arith, ints)) in
+    let walk_y : IsWalk r (cells t (stretch_start t s.before) middle) v (node_from r c (pos 0 +ℤ pos middle)) y = IsWalk-placed rule h.maps (stretch_start t s.before) (pos 0) middle (omega (arith, ints)) in
+    let walk_z : IsWalk r (cells t (pos (length t.middle + s.after * length t.right)) right) w (node_from r c (last +ℤ pos right)) z =
+    IsWalk-placed rule h.maps (pos (length t.middle + s.after * length t.right)) last right (omega (arith, ints)) in
+    record {
+      v = v;
+      w = w;
+      x = x;
+      y = y;
+      z = z;
+      walks = record {
+        back_some = h.shape.back_some;
+        on_some = h.shape.on_some;
+        left = subst (λ q. IsWalk r q v v x) (run-lefts t s.before s.back i refl)
+            (subst₂ (λ a b. IsWalk r (cells t i left) a b x) round (ap (node_from r c) back_end) walk_x);
+        middle = subst (λ q. IsWalk r q v w y) (cells-stretch ht s.before s.after) (subst (λ j. IsWalk r (cells t (stretch_start t s.before) middle) v (node_from r c j) y) middle_end walk_y);
+        right = subst (λ q. IsWalk r q w w z) (run-rights ht s.after s.on)
+            (subst (λ b. IsWalk r (cells t (pos (length t.middle + s.after * length t.right)) right) w b z) turn walk_z);
+      };
+      left = before_last-cells r c first left ∙ ap (λ n. cells c (neg_ℤ (pos n)) n) (sym left_long) ∙ cells-left c;
+      middle = before_last-cells r c (pos 0) middle ∙ ap (cells c (pos 0)) (sym middle_long) ∙ cells-middle c;
+      right = before_last-cells r c last right ∙ ap₂ (λ (a b : ℕ). cells c (pos a) b) (sym middle_long) (sym right_long) ∙ cells-right h.maps.config;
+    }

@@ -1,0 +1,212 @@
+-- Three walks, a loop, one from it to another loop, and that loop, are a placed configuration that maps to the letters which they spell.
+use Rattle.std.proofs.Common.{◌≡◌, ℕ, zero, suc, ◌+◌, ◌-◌, ◌*◌, ◌<◌, ◌≤◌, List, [], ◌++◌, length, take, drop, get_or, slice_range, ℤ, pos, ◌+ℤ◌, ◌-ℤ◌, unsigned_abs, refl, sym, ap, ap₂, ◌∙◌, subst, arith, length-append, length-drop, append_assoc, mul_assoc}
+use Rattle.std.specs.List.{repeat}
+use Rattle.std.proofs.Math.Nat.{suc-mul, zero-mul, add-mul, mul-one, mul-le-mul_left}
+use Rattle.std.proofs.lemmas.Int.{ints}
+use Rattle.std.proofs.lemmas.Nat.{mul-le}
+use Rattle.std.proofs.lemmas.List.{take-append-drop, take-append-le, drop-append-le, length-take-le, append-nil}
+use Rattle.std.proofs.lemmas.List.FromFn.{length-map-range_with_len, get_or-map-range_with_len, fill_by_all}
+use Rattle.std.proofs.lemmas.List.Elements.{All-take}
+use Rattle.word_image.specs.LocalRules.{LocalRule, IsRule, IsWord, value, word_of, local_map}
+use Rattle.word_image.proofs.laws.Values.{length-word_of, value-injective}
+use Rattle.word_image.proofs.laws.Images.{get_or-image}
+use Rattle.pair_laws.proofs.Joins.{same_node}
+use Rattle.tail_config.specs.Tails.{TailConfig, IsTail, config_of, cell, cells}
+use Rattle.tail_config.proofs.laws.Cells.{length-cells, get_or-cells, IsWord-cells, slice_range-cells, take-cells}
+use Rattle.tail_preimage.specs.Walks.{IsWalk, before_last}
+use Rattle.tail_preimage.specs.Preimages.{PlacedConfig, MapsTo, Shape, IsShapedPreimage, stretch, placed_cell, placed_cells}
+use Rattle.tail_preimage.specs.FirstWalks.{AreLoopWalks, placed_of}
+use Rattle.tail_preimage.proofs.laws.Walks.{IsWalk-last, IsWalk-none, IsWalk-join}
+use Rattle.tail_preimage.proofs.laws.Stretches.{length-repeat, repeat-add, repeat-repeat, stretch_length, length-stretch, stretch_start, cells-stretch}
+
+-- before its last node a walk has a letter for each edge
+pub length-before_last : {r : LocalRule} {w x : List ℕ} {u v : ℕ} → IsWalk r w u v x → length (before_last r x) ≡ length w
+length-before_last {r} {x = x} h = let long = h.preimage.long in length-take-le (length x - (r.width - 1)) x (omega arith) ∙ omega arith
+
+-- they are a word
+pub IsWord-before_last : {r : LocalRule} {w x : List ℕ} {u v : ℕ} → IsWalk r w u v x → IsWord r.states (before_last r x)
+IsWord-before_last {r} {x = x} h = All-take (λ a. a < r.states) (length x - (r.width - 1)) x h.preimage.word
+
+-- a joined walk is the letters of the first before its last node, and the second
+pub join-before_last : {r : LocalRule} {u v s : ℕ} {w z x y : List ℕ} → IsWalk r w u v x → IsWalk r z v s y → x ++ drop (r.width - 1) y ≡ before_last r x ++ y
+join-before_last {r} {w = w} {z = z} {x = x} {y = y} h g =
+    let d : ℕ = r.width - 1 in
+    let long_x : length x ≡ length w + d = h.preimage.long in
+    let long_y : length y ≡ length z + d = g.preimage.long in
+    let here : length x - d ≡ length w = omega arith in
+    let seam : drop (length x - d) x ≡ take d y =
+    ap (λ n. drop n x) here ∙ same_node r.states (length w) d x y h.preimage.word g.preimage.word long_x (omega arith) (h.last ∙ sym g.first) in
+    ap (λ a. a ++ drop d y) (sym (take-append-drop (length x - d) x))
+    ∙ append_assoc (before_last r x) (drop (length x - d) x) (drop d y)
+    ∙ ap (λ a. before_last r x ++ a) (ap (λ a. a ++ drop d y) seam ∙ take-append-drop d y)
+
+-- so walks are joined
+pub IsWalk-then : {r : LocalRule} {u v s : ℕ} {w z x y : List ℕ} → IsRule r → IsWalk r w u v x → IsWalk r z v s y → IsWalk r (w ++ z) u s (before_last r x ++ y)
+IsWalk-then {r} {u} {s = s} {w = w} {z = z} rule h g = subst (IsWalk r (w ++ z) u s) (join-before_last h g) (IsWalk-join rule h g)
+
+-- a loop, so often, and then a walk
+pub IsWalk-round : {r : LocalRule} {v s : ℕ} {w z x y : List ℕ} → IsRule r → IsWalk r w v v x → IsWalk r z v s y → (n : ℕ) → IsWalk r (repeat n w ++ z) v s (repeat n (before_last r x) ++ y)
+IsWalk-round rule h g zero = g
+IsWalk-round {r} {v} {s} {w} {z} {x} {y} rule h g (suc n) =
+    subst (IsWalk r (repeat (suc n) w ++ z) v s) (sym (append_assoc (before_last r x) (repeat n (before_last r x)) y))
+    (subst (λ a. IsWalk r a v s (before_last r x ++ (repeat n (before_last r x) ++ y))) (sym (append_assoc w (repeat n w) z)) (IsWalk-then rule h (IsWalk-round rule h g n)))
+
+-- so many periods more on either side of a stretch are one
+pub stretch-more : (t : TailConfig) (b p q a : ℕ) → repeat b t.left ++ (stretch t p q ++ repeat a t.right) ≡ stretch t (b + p) (q + a)
+stretch-more t b p q a =
+    let m : List ℕ = t.middle in
+    let left : List ℕ = repeat p t.left in
+    let right : List ℕ = repeat q t.right in
+    ap (λ x. repeat b t.left ++ x) (append_assoc (left ++ m) right (repeat a t.right) ∙ ap (λ x. left ++ m ++ x) (sym (repeat-add q a t.right)))
+    ∙ sym (append_assoc (repeat b t.left) (left ++ m) (repeat (q + a) t.right))
+    ∙ ap (λ x. x ++ repeat (q + a) t.right) (sym (append_assoc (repeat b t.left) left m) ∙ ap (λ x. x ++ m) (sym (repeat-add b p t.left)))
+
+-- the stretch that n rounds of either loop spell
+abbrev pub rounds : TailConfig → Shape → ℕ → ℕ → List ℕ
+rounds t s b a = stretch t (b * s.back + s.before) (s.after + a * s.on)
+
+-- the configuration of three walks
+abbrev pub spelled : LocalRule → List ℕ → List ℕ → List ℕ → TailConfig
+spelled r x y z = config_of (before_last r x) (before_last r y) (before_last r z)
+
+-- the loops, so often, are one walk: its letters are a stretch of the configuration, and then those of the last node
+pub IsWalk-rounds : {r : LocalRule} {t : TailConfig} {s : Shape} {v w : ℕ} {x y z : List ℕ} → IsRule r → AreLoopWalks r t s v w x y z → (b a : ℕ)
+    → IsWalk r (rounds t s b a) v w (stretch (spelled r x y z) b a ++ word_of r.states (r.width - 1) w)
+IsWalk-rounds {r} {t} {s} {v} {w} {x} {y} {z} rule h b a =
+    let end : List ℕ = word_of r.states (r.width - 1) w in
+    let left : List ℕ = repeat b (before_last r x) in
+    let right : List ℕ = repeat a (before_last r z) in
+    let m : List ℕ = before_last r y in
+    let on : IsWalk r (repeat a (repeat s.on t.right) ++ []) w w (right ++ end) = IsWalk-round rule h.right (IsWalk-none r w (IsWalk-last h.middle)) a in
+    let all : IsWalk r (repeat b (repeat s.back t.left) ++ (stretch t s.before s.after ++ (repeat a (repeat s.on t.right) ++ []))) v w (left ++ (m ++ (right ++ end))) =
+    IsWalk-round rule h.left (IsWalk-then rule h.middle on) b in
+    let word : repeat b (repeat s.back t.left) ++ (stretch t s.before s.after ++ (repeat a (repeat s.on t.right) ++ [])) ≡ rounds t s b a =
+    ap₂ (λ (i j : List ℕ). i ++ (stretch t s.before s.after ++ j)) (repeat-repeat b s.back t.left) (append-nil (repeat a (repeat s.on t.right)) ∙ repeat-repeat a s.on t.right)
+    ∙ stretch-more t (b * s.back) s.before s.after (a * s.on) in
+    let parts : left ++ (m ++ (right ++ end)) ≡ left ++ m ++ right ++ end = sym (append_assoc (left ++ m) right end ∙ append_assoc left m (right ++ end)) in
+    subst (λ i. IsWalk r i v w (left ++ m ++ right ++ end)) word (subst (IsWalk r (repeat b (repeat s.back t.left) ++ (stretch t s.before s.after ++ (repeat a (repeat s.on t.right) ++ []))) v w) parts all)
+
+-- it is a configuration over the rule's letters
+pub IsTail-spelled : {r : LocalRule} {t : TailConfig} {s : Shape} {v w : ℕ} {x y z : List ℕ} → IsTail r.states t → AreLoopWalks r t s v w x y z → IsTail r.states (spelled r x y z)
+IsTail-spelled {r} {t} {s} {x = x} {y = y} {z = z} ht h =
+    let left : 1 * 1 ≤ s.back * length t.left = mul-le 1 1 s.back (length t.left) h.back_some ht.left_some in
+    let right : 1 * 1 ≤ s.on * length t.right = mul-le 1 1 s.on (length t.right) h.on_some ht.right_some in
+    record {
+      left_some = omega (arith, length-before_last h.left, length-repeat s.back t.left);
+      right_some = omega (arith, length-before_last h.right, length-repeat s.on t.right);
+      left_word = IsWord-before_last h.left;
+      middle_word = IsWord-before_last h.middle;
+      right_word = IsWord-before_last h.right;
+    }
+
+-- the cells of a placed configuration are cells of the configuration
+pub placed_cells-cells : (p : PlacedConfig) (i j : ℤ) (n : ℕ) → i -ℤ p.at ≡ j → placed_cells p i n ≡ cells p.config j n
+placed_cells-cells p i j n e =
+    fill_by_all (λ a. cell p.config (j +ℤ pos a)) (placed_cells p i n) n 0 (length-map-range_with_len (λ a. placed_cell p (i +ℤ pos a)) 0 n)
+    (λ a l. let place : i +ℤ pos a -ℤ p.at ≡ j +ℤ pos a = omega (arith, ints, e) in
+    get_or-map-range_with_len (λ b. placed_cell p (i +ℤ pos b)) 0 n a a 0 l (omega arith) ∙ ap (cell p.config) place)
+
+-- what n rounds of the left loop span
+lefts-rounds : (t : TailConfig) (s : Shape) (n p : ℕ) → p ≡ s.back * length t.left → n * p + s.before * length t.left ≡ (n * s.back + s.before) * length t.left
+lefts-rounds t s n p e =
+    ap (λ a. n * a + s.before * length t.left) e ∙ ap (λ a. a + s.before * length t.left) (sym (mul_assoc n s.back (length t.left))) ∙ sym (add-mul (n * s.back) s.before (length t.left))
+
+-- at least as much
+le-times : (n p : ℕ) → 1 ≤ p → n ≤ n * p
+le-times n p h = let more : n * 1 ≤ n * p = mul-le-mul_left n h in omega (arith, mul-one n)
+
+-- a window of the letters that n rounds spell
+spelled-window : {r : LocalRule} {t : TailConfig} {s : Shape} {v w : ℕ} {x y z : List ℕ} → IsRule r → IsTail r.states t → AreLoopWalks r t s v w x y z
+    → (n e : ℕ) → e + r.width ≤ stretch_length (spelled r x y z) n n
+    → local_map r (cells (spelled r x y z) (stretch_start (spelled r x y z) n +ℤ pos e) r.width) ≡ cell t (stretch_start t (n * s.back + s.before) +ℤ pos e)
+spelled-window {r} {t} {s} {w = w} {x = x} {y = y} {z = z} rule ht h n e inside =
+    let c : TailConfig = spelled r x y z in
+    let hc : IsTail r.states c = IsTail-spelled ht h in
+    let m : ℕ = r.width in
+    let wide : 2 ≤ m = rule.shape.least_width in
+    let end : List ℕ = word_of r.states (m - 1) w in
+    let run : List ℕ = stretch c n n in
+    let walk = IsWalk-rounds rule h n n in
+    let long : length (run ++ end) ≡ length (rounds t s n n) + (m - 1) = walk.preimage.long in
+    let run_long : length run ≡ stretch_length c n n = length-stretch c n n in
+    let end_long : length end ≡ m - 1 = length-word_of r.states (m - 1) w in
+    let b : ℕ = n * s.back + s.before in
+    let a : ℕ = s.after + n * s.on in
+    let both : length (run ++ end) ≡ length run + length end = length-append run end in
+    let within : e < length (rounds t s n n) = omega arith in
+    let t_long : length (rounds t s n n) ≡ stretch_length t b a = length-stretch t b a in
+    let window : slice_range (run ++ end) e (e + m) ≡ cells c (stretch_start c n +ℤ pos e) m =
+    ap (take (e + m - e)) (drop-append-le e run end (omega arith))
+    ∙ take-append-le (e + m - e) (drop e run) end (omega (arith, length-drop e run))
+    ∙ ap (λ i. slice_range i e (e + m)) (sym (cells-stretch hc n n))
+    ∙ slice_range-cells c (stretch_start c n) (stretch_start c n +ℤ pos e) (stretch_length c n n) e m inside refl in
+    sym (get_or-image r (run ++ end) e (omega arith) ∙ ap (local_map r) window)
+    ∙ ap (λ i. get_or i e 0) (walk.preimage.maps ∙ sym (cells-stretch ht b a))
+    ∙ get_or-cells t (stretch_start t b) (stretch_start t b +ℤ pos e) (stretch_length t b a) e (omega arith) refl
+
+-- the placed configuration of the walks maps to what they spell
+pub MapsTo-placed_of : {r : LocalRule} {t : TailConfig} {s : Shape} {v w : ℕ} {x y z : List ℕ} → IsRule r → IsTail r.states t → AreLoopWalks r t s v w x y z
+    → MapsTo r (placed_of r t s.before x y z) t
+MapsTo-placed_of {r} {t} {s} {x = x} {y = y} {z = z} rule ht h =
+    let c : TailConfig = spelled r x y z in
+    let hc : IsTail r.states c = IsTail-spelled ht h in
+    let p : PlacedConfig = placed_of r t s.before x y z in
+    record {
+      config = hc;
+      cells = λ i.
+          let j : ℤ = i +ℤ r.offset -ℤ p.at in
+          let n : ℕ = unsigned_abs j + r.width in
+          let e : ℕ = unsigned_abs (j +ℤ pos (n * length c.left)) in
+          let left : n ≤ n * length c.left = le-times n (length c.left) hc.left_some in
+          let right : n ≤ n * length c.right = le-times n (length c.right) hc.right_some in
+          let span : n * length c.left + s.before * length t.left ≡ (n * s.back + s.before) * length t.left =
+          lefts-rounds t s n (length c.left) (length-before_last h.left ∙ length-repeat s.back t.left) in
+          let start : j ≡ stretch_start c n +ℤ pos e = omega (arith, ints) in
+          let place : stretch_start t (n * s.back + s.before) +ℤ pos e ≡ i = omega (arith, ints) in
+          ap (local_map r) (placed_cells-cells p (i +ℤ r.offset) (stretch_start c n +ℤ pos e) r.width start)
+          ∙ spelled-window rule ht h n e (omega (arith, ints))
+          ∙ ap (cell t) place;
+    }
+
+-- where rounds of the left loop begin stand the letters of its node
+spelled-node : {r : LocalRule} {t : TailConfig} {s : Shape} {v w : ℕ} {x y z : List ℕ} → IsRule r → IsTail r.states t → AreLoopWalks r t s v w x y z
+    → (b : ℕ) → value r.states (cells (spelled r x y z) (stretch_start (spelled r x y z) b) (r.width - 1)) ≡ v
+spelled-node {r} {t} {w = w} {x = x} {y = y} {z = z} rule ht h b =
+    let c : TailConfig = spelled r x y z in
+    let hc : IsTail r.states c = IsTail-spelled ht h in
+    let d : ℕ = r.width - 1 in
+    let right : d ≤ d * length c.right = le-times d (length c.right) hc.right_some in
+    let run : List ℕ = stretch c b d in
+    let inside : d ≤ stretch_length c b d = omega arith in
+    ap (value r.states)
+    (sym (take-cells c (stretch_start c b) (stretch_length c b d) d inside) ∙ ap (take d) (cells-stretch hc b d)
+    ∙ sym (take-append-le d run (word_of r.states d w) (omega (arith, length-stretch c b d))))
+    ∙ (IsWalk-rounds rule h b d).first
+
+-- so it is a placed configuration of their shape that maps to t
+pub IsShapedPreimage-placed_of : {r : LocalRule} {t : TailConfig} {s : Shape} {v w : ℕ} {x y z : List ℕ} → IsRule r → IsTail r.states t → AreLoopWalks r t s v w x y z
+    → IsShapedPreimage r t s (placed_of r t s.before x y z)
+IsShapedPreimage-placed_of {r} {t} {s} {x = x} {y = y} {z = z} rule ht h =
+    let c : TailConfig = spelled r x y z in
+    let hc : IsTail r.states c = IsTail-spelled ht h in
+    let p : PlacedConfig = placed_of r t s.before x y z in
+    let d : ℕ = r.width - 1 in
+    let left : length c.left ≡ s.back * length t.left = length-before_last h.left ∙ length-repeat s.back t.left in
+    let one : 1 * length c.left ≡ length c.left = omega (arith, suc-mul 0 (length c.left), zero-mul (length c.left)) in
+    let here : p.at -ℤ p.at ≡ stretch_start c 0 = omega (arith, ints, zero-mul (length c.left)) in
+    let before : p.at -ℤ pos (s.back * length t.left) -ℤ p.at ≡ stretch_start c 1 = omega (arith, ints) in
+    record {
+      maps = MapsTo-placed_of rule ht h;
+      shape = record {
+        back_some = h.back_some;
+        on_some = h.on_some;
+        left = left;
+        middle = length-before_last h.middle ∙ length-stretch t s.before s.after;
+        right = length-before_last h.right ∙ length-repeat s.on t.right;
+        at = refl;
+        node = placed_cells-cells p p.at (stretch_start c 0) d here
+            ∙ value-injective r.states (cells c (stretch_start c 0) d) (cells c (stretch_start c 1) d) (IsWord-cells hc (stretch_start c 0) d) (IsWord-cells hc (stretch_start c 1) d)
+            (length-cells c (stretch_start c 0) d ∙ sym (length-cells c (stretch_start c 1) d)) (spelled-node rule ht h 0 ∙ sym (spelled-node rule ht h 1))
+            ∙ sym (placed_cells-cells p (p.at -ℤ pos (s.back * length t.left)) (stretch_start c 1) d before);
+      };
+    }

@@ -1,0 +1,127 @@
+-- The relations of the parts of a configuration, read as walks along words.
+use Rattle.std.proofs.Common.{◌≡◌, ◌↔◌, ℕ, zero, suc, ◌+◌, ◌<◌, ◌≤◌, List, [], ◌++◌, get_or, refl, sym, ap, ◌∙◌, subst, arith}
+use Rattle.std.specs.List.{repeat}
+use Rattle.word_image.specs.LocalRules.{LocalRule, IsRule, node_count}
+use Rattle.word_image.specs.Words.{IsOrphan}
+use Rattle.pair_laws.proofs.Sets.{IsBitSet-below}
+use Rattle.tail_config.specs.Tails.{TailConfig, IsTail}
+use Rattle.tail_preimage.specs.Walks.{HasWalk}
+use Rattle.tail_preimage.specs.Preimages.{Shape, stretch}
+use Rattle.tail_preimage.specs.Relations.{IsRelation, AreSets, Rows, Steps, Open, Rounds, SomeRounds}
+use Rattle.tail_preimage.specs.Sides.{IsSide, AreParts, Passes, Starts, IsPossible}
+use Rattle.tail_preimage.specs.FirstWalks.{AreLoopWalks}
+use Rattle.tail_preimage.specs.declared.sides.Side.{Side}
+use Rattle.tail_preimage.specs.declared.shapes.Parts.{Parts}
+use Rattle.tail_preimage.proofs.laws.Walks.{IsWalk-first, IsWalk-last, IsWalk-none, IsWalk-stays, HasWalk-join, HasWalk-cut, IsOrphan-none, IsOrphan-walk}
+use Rattle.tail_preimage.proofs.laws.Stretches.{repeat-more, IsWord-stretch}
+use Rattle.tail_preimage.proofs.laws.Steps.{Steps-none, Steps-stay, Steps-cons, Steps-first, Steps-end, SomeRounds-open}
+
+-- a relation's rows relate nodes to nodes
+pub IsRelation-below : {r : LocalRule} {E : ℕ → ℕ → Type 0} {table : List ℕ} → IsRelation r E table → (u v : ℕ) → u < node_count r → Rows table u v → (v < node_count r) × E u v
+IsRelation-below {r} {table = table} h u v l bit =
+    let row = h.rows u l in
+    let below : v < node_count r = IsBitSet-below (node_count r) _ v row.within bit in
+    (below, (row.nodes v below).0 bit)
+
+-- periods lead from nodes to nodes
+pub IsSide-end : {r : LocalRule} {side : Side} {n u v : ℕ} → IsSide r side → u < node_count r → Steps (Rows side.period) n u v → v < node_count r
+IsSide-end {r} h node steps = Steps-end (λ a b l bit. IsBitSet-below (node_count r) _ b (h.period a l) bit) node steps
+
+-- steps of a word's relation are walks along copies of it
+pub Steps-repeat : {r : LocalRule} {p table : List ℕ} → IsRule r → IsRelation r (HasWalk r p) table → (n u v : ℕ) → u < node_count r → Steps (Rows table) n u v ↔ HasWalk r (repeat n p) u v
+Steps-repeat {r} rule h zero u v l = ((λ steps. subst (HasWalk r [] u) (Steps-stay steps) (_, IsWalk-none r u l)), (λ walk. Steps-none (IsWalk-stays walk.1)))
+Steps-repeat {r} {p} rule h (suc n) u v l = (
+  (λ steps.
+      let (w, step, rest) = Steps-first steps in
+      let (below, walk) = IsRelation-below h u w l step in
+      HasWalk-join rule walk ((Steps-repeat rule h n w v below).0 rest)),
+  (λ walk.
+      let (w, first, second) = HasWalk-cut rule p (repeat n p) walk in
+      Steps-cons (((h.rows u l).nodes w (IsWalk-last first.1)).1 first) ((Steps-repeat rule h n w v (IsWalk-last first.1)).1 second)),
+)
+
+-- and read backwards they are such walks backwards
+pub Steps-reversed : {r : LocalRule} {p table : List ℕ} → IsRule r → IsRelation r (λ u v. HasWalk r p v u) table → (n u v : ℕ) → u < node_count r → Steps (Rows table) n u v ↔ HasWalk r (repeat n p) v u
+Steps-reversed {r} rule h zero u v l = ((λ steps. subst (λ n. HasWalk r [] n u) (Steps-stay steps) (_, IsWalk-none r u l)), (λ walk. Steps-none (sym (IsWalk-stays walk.1))))
+Steps-reversed {r} {p} rule h (suc n) u v l =
+    let more : repeat (suc n) p ≡ repeat n p ++ p = let e : suc n ≡ n + 1 = omega arith in ap (λ i. repeat i p) e ∙ repeat-more n p in (
+      (λ steps.
+          let (w, step, rest) = Steps-first steps in
+          let (below, walk) = IsRelation-below h u w l step in
+          subst (λ a. HasWalk r a v u) (sym more) (HasWalk-join rule ((Steps-reversed rule h n w v below).0 rest) walk)),
+      (λ walk.
+          let (w, first, second) = HasWalk-cut rule (repeat n p) p (subst (λ a. HasWalk r a v u) more walk) in
+          let node : w < node_count r = IsWalk-first second.1 in
+          Steps-cons (((h.rows u l).nodes w node).1 second) ((Steps-reversed rule h n w v node).1 first)),
+    )
+
+-- three walks of a shape lead from its starts, and from no other node
+pub Starts-walks : {r : LocalRule} {t : TailConfig} {parts : Parts} {s : Shape} {v : ℕ} → AreParts r t parts → 1 ≤ s.back → 1 ≤ s.on → v < node_count r → Starts r parts s v
+    → (w : ℕ) × (x : List ℕ) × (y : List ℕ) × (z : List ℕ) × AreLoopWalks r t s v w x y z
+Starts-walks {r} {t} {parts} {s} {v} h back on node (loop, (u, u_node, lefts, (n, n_node, middle, (w, rights, turn)))) =
+    let x = (Steps-reversed h.rule h.left s.back v v node).0 loop in
+    let first = (Steps-reversed h.rule h.left s.before u v u_node).0 lefts in
+    let second = ((h.middle.rows u u_node).nodes n n_node).0 middle in
+    let third = (Steps-repeat h.rule h.right s.after n w n_node).0 rights in
+    let y = HasWalk-join h.rule (HasWalk-join h.rule first second) third in
+    let z = (Steps-repeat h.rule h.right s.on w w (IsWalk-last third.1)).0 turn in
+    (w, x.0, y.0, z.0, record { back_some = back; on_some = on; left = x.1; middle = y.1; right = z.1 })
+
+pub walks-Starts : {r : LocalRule} {t : TailConfig} {parts : Parts} {s : Shape} {v w : ℕ} {x y z : List ℕ} → AreParts r t parts → AreLoopWalks r t s v w x y z → Starts r parts s v
+walks-Starts {r} {t} {parts} {s} {v} {w} {x} {y} {z} h walks =
+    let (n, before, third) = HasWalk-cut h.rule (repeat s.before t.left ++ t.middle) (repeat s.after t.right) (y, walks.middle) in
+    let (u, first, second) = HasWalk-cut h.rule (repeat s.before t.left) t.middle before in
+    let u_node : u < node_count r = IsWalk-last first.1 in
+    let n_node : n < node_count r = IsWalk-last second.1 in (
+      (Steps-reversed h.rule h.left s.back v v (IsWalk-first walks.left)).1 (x, walks.left),
+      (
+        u,
+        u_node,
+        (Steps-reversed h.rule h.left s.before u v u_node).1 first,
+        (
+          n,
+          n_node,
+          ((h.middle.rows u u_node).nodes n n_node).1 second,
+          (w, (Steps-repeat h.rule h.right s.after n w n_node).1 third, (Steps-repeat h.rule h.right s.on w w (IsWalk-last third.1)).1 (z, walks.right)),
+        ),
+      ),
+    )
+
+-- a shape is possible where three walks have it
+pub walks-IsPossible : {r : LocalRule} {t : TailConfig} {parts : Parts} {s : Shape} {v w : ℕ} {x y z : List ℕ} → AreParts r t parts → AreLoopWalks r t s v w x y z → IsPossible r parts s
+walks-IsPossible {v = v} h walks = record { back_some = walks.back_some; on_some = walks.on_some; node = v; below = IsWalk-first walks.left; starts = walks-Starts h walks }
+
+-- periods lead through where some walk leads along them, and nowhere else
+pub Passes-walk : {r : LocalRule} {t : TailConfig} {parts : Parts} → AreParts r t parts → (b a : ℕ) → Passes r parts b a → (u : ℕ) × (s : ℕ) × HasWalk r (stretch t b a) u s
+Passes-walk h b a (v, w, v_node, w_node, (u, lefts), middle, (s, rights)) =
+    let first = (Steps-reversed h.rule h.left b v u v_node).0 lefts in
+    let second = ((h.middle.rows v v_node).nodes w w_node).0 middle in
+    let third = (Steps-repeat h.rule h.right a w s w_node).0 rights in
+    (u, s, HasWalk-join h.rule (HasWalk-join h.rule first second) third)
+
+pub walk-Passes : {r : LocalRule} {t : TailConfig} {parts : Parts} {u s : ℕ} → AreParts r t parts → (b a : ℕ) → HasWalk r (stretch t b a) u s → Passes r parts b a
+walk-Passes {r} {t} {parts} {u} {s} h b a walk =
+    let (w, before, third) = HasWalk-cut h.rule (repeat b t.left ++ t.middle) (repeat a t.right) walk in
+    let (v, first, second) = HasWalk-cut h.rule (repeat b t.left) t.middle before in
+    let v_node : v < node_count r = IsWalk-last first.1 in
+    let w_node : w < node_count r = IsWalk-last second.1 in (
+      v,
+      w,
+      v_node,
+      w_node,
+      (u, (Steps-reversed h.rule h.left b v u v_node).1 first),
+      ((h.middle.rows v v_node).nodes w w_node).1 second,
+      (s, (Steps-repeat h.rule h.right a w s w_node).1 third),
+    )
+
+-- so a stretch is an orphan exactly where its periods lead nowhere
+pub IsOrphan-Passes : {r : LocalRule} {t : TailConfig} {parts : Parts} → AreParts r t parts → (b a : ℕ) → IsOrphan r (stretch t b a) → ¬ Passes r parts b a
+IsOrphan-Passes h b a orphan passes = let walk = Passes-walk h b a passes in IsOrphan-walk orphan walk.2
+
+pub Passes-IsOrphan : {r : LocalRule} {t : TailConfig} {parts : Parts} → IsTail r.states t → AreParts r t parts → (b a : ℕ) → ¬ Passes r parts b a → IsOrphan r (stretch t b a)
+Passes-IsOrphan ht h b a none = IsOrphan-none (IsWord-stretch ht b a) (λ u s walk. none (walk-Passes h b a walk))
+
+-- where 16 periods lead somewhere, few lead to a loop
+pub SomeRounds-side : {r : LocalRule} {E : ℕ → ℕ → Type 0} {table : List ℕ} {u : ℕ} → IsRule r → IsRelation r E table → u < node_count r → Open (Rows table) 16 u
+    → (sum : ℕ) × (sum ≤ 16) × SomeRounds (Rows table) sum u
+SomeRounds-side rule h l leads = SomeRounds-open rule.shape.most_nodes (λ v w node bit. (IsRelation-below h v w node bit).0) l leads

@@ -1,0 +1,37 @@
+use Rattle.std.proofs.Common.{◌≡◌, ℕ, suc, ◌+◌, [], get_or, refl, sym, ◌∙◌, subst, arith}
+use Rattle.std.proofs.lemmas.List.{length-set}
+use Rattle.pair_laws.proofs.Sets.{IsBitSet-below}
+use Rattle.word_image.specs.LocalRules.{node_count}
+use Rattle.tail_preimage.specs.Relations.{IsRelation, Rows, Steps}
+use Rattle.tail_preimage.proofs.laws.Steps.{Steps-none, Steps-stay, Steps-cons, Steps-first}
+use Rattle.tail_preimage.proofs.Rows.{row_more, IsRelation-same}
+use Rattle.tail_preimage.proofs.relations.powers.Goals as goal
+
+pub loop-n-init : goal.loop-n-init
+loop-n-init c = record {
+  long = refl;
+  each = λ j l.
+      let none : j ≡ 0 = omega arith in
+      rw none (IsRelation-same (λ u v _ _. ((λ same. Steps-none same), (λ steps. Steps-stay steps))) c.identity-all.ensures.relation);
+}
+
+pub loop-n-preserved : goal.loop-n-preserved
+loop-n-preserved c =
+    let r = c.args.graph.now in
+    let step = c.args.step.now in
+    let n = c.loop-n.n in
+    let before = c.loop-n.invariant.each in
+    let more : suc n ≡ n + 1 = omega arith in
+    let next : IsRelation r (Steps (Rows step) (suc n)) c.joined.result =
+    IsRelation-same (λ u v below inside. (
+      (λ (w, node, first, rest). Steps-cons first ((((before n (omega arith)).rows w node).nodes v inside).0 rest)),
+      (λ steps.
+          let (w, first, rest) = Steps-first steps in
+          let node = IsBitSet-below (node_count r) _ w (c.requires u below) first in
+          (w, node, first, (((before n (omega arith)).rows w node).nodes v inside).1 rest)),
+    )) c.joined.ensures in
+    record {
+      long = length-set _ _ _ ∙ c.loop-n.invariant.long;
+      each = λ j l. row_more (λ k row. IsRelation r (Steps (Rows step) k) row) c.loop-n.all (n + 1) (n + 1) [] c.joined.result (omega arith) refl (λ v k. before v (omega arith))
+          (subst (λ k. IsRelation r (Steps (Rows step) k) c.joined.result) more next) j (omega arith);
+    }

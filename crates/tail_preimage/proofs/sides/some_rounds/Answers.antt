@@ -1,0 +1,20 @@
+use Rattle.std.proofs.Common.{◌≡◌, ◌-◌, sym, subst, arith}
+use Rattle.word_image.proofs.laws.Unions.{IsUnion-take}
+use Rattle.tail_preimage.specs.Relations.{Rows, Rounds}
+use Rattle.tail_preimage.proofs.sides.some_rounds.Goals as goal
+
+pub loop-n-preserved : goal.loop-n-preserved
+loop-n-preserved c = let here = c.rounds-set.ensures in IsUnion-take c.loop-n.invariant here.within here.nodes
+
+pub returns : goal.returns
+returns c =
+    let E = Rows c.args.side.now.period in
+    let sum = c.args.sum in
+    let all = c.loop-n.invariant in
+    record {
+      within = all.within;
+      nodes = λ u l. (
+        (λ bit. let (n, less, turns) = (all.nodes u l).0 bit in (n, sum - n, omega (arith, less), omega (arith, less), turns)),
+        (λ (n, on, both, some, turns). let here : on ≡ sum - n = omega (arith, both) in (all.nodes u l).1 (n, omega (arith, both, some), subst (λ k. Rounds E n k u) here turns)),
+      );
+    }

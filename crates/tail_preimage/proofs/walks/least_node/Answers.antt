@@ -1,0 +1,14 @@
+use Rattle.std.proofs.Common.{◌≡◌, ◌<◌, ◌^◌, arith}
+use Rattle.std.specs.Int.{w16}
+use Rattle.std.proofs.lemmas.Nat.Bits.{bit_at-trailing_zeros}
+use Rattle.word_image.proofs.laws.Bits.{bit_at-IsBitSet}
+use Rattle.tail_preimage.proofs.walks.least_node.Goals as goal
+
+pub returns : goal.returns
+returns c =
+    let set = c.args.set in
+    let (few, one, none) = bit_at-trailing_zeros w16 set (omega (arith, c.requires)) (omega arith) in
+    record {
+      within = (bit_at-IsBitSet set _).1 one;
+      least = λ v l bit. let zeroth = none v l in let other = (bit_at-IsBitSet set v).0 bit in omega arith;
+    }

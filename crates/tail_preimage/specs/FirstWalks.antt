@@ -1,0 +1,41 @@
+-- The walks that a placed configuration is made of, and the first of them.
+use Rattle.std.specs.Prelude.{◌≡◌, ◌↔◌, ℕ, ◌+◌, ◌-◌, ◌*◌, ◌^◌, ◌<◌, ◌≤◌, List, length, drop, slice_index, pos, ◌-ℤ◌, IsBitSet}
+use Rattle.std.specs.List.{repeat}
+use Rattle.word_image.specs.LocalRules.{LocalRule, node_count}
+use Rattle.tail_config.specs.Tails.{TailConfig, config_of}
+use Rattle.tail_preimage.specs.Walks.{IsWalk, HasWalk, Reaches, IsLeastWalk, before_last}
+use Rattle.tail_preimage.specs.Preimages.{PlacedConfig, Shape, stretch}
+use Rattle.tail_preimage.specs.Relations.{IsNodeSet}
+
+-- three walks that spell left periods round from node v to v, the middle with some periods from v to w, and right periods round from w to w
+pub record AreLoopWalks (r : LocalRule) (t : TailConfig) (s : Shape) (v w : ℕ) (x y z : List ℕ) : Type 0 where
+  pub back_some : 1 ≤ s.back
+  pub on_some : 1 ≤ s.on
+  pub left : IsWalk r (repeat s.back t.left) v v x
+  pub middle : IsWalk r (stretch t s.before s.after) v w y
+  pub right : IsWalk r (repeat s.on t.right) w w z
+
+-- the placed configuration that they spell
+abbrev pub placed_of : LocalRule → TailConfig → ℕ → List ℕ → List ℕ → List ℕ → PlacedConfig
+placed_of r t before x y z = record { at = r.offset -ℤ pos (before * length t.left); config = config_of (before_last r x) (before_last r y) (before_last r z) }
+
+-- the first walks of a shape: the least node from which three walks lead, and first walks in dictionary order
+pub record AreFirstWalks (r : LocalRule) (t : TailConfig) (s : Shape) (v w : ℕ) (x y z : List ℕ) : Type 0 where
+  pub back_some : 1 ≤ s.back
+  pub on_some : 1 ≤ s.on
+  pub start : (u q : ℕ) (a b c : List ℕ) → AreLoopWalks r t s u q a b c → v ≤ u
+  pub left : IsLeastWalk r (repeat s.back t.left) v (2 ^ v) v x
+  pub turns : ℕ
+  pub turning : IsNodeSet r (λ u. HasWalk r (repeat s.on t.right) u u) turns
+  pub middle : IsLeastWalk r (stretch t s.before s.after) v turns w y
+  pub right : IsLeastWalk r (repeat s.on t.right) w (2 ^ w) w z
+
+-- the sets of the last n + 1 places of a word, from its end on
+pub record AreOpen (r : LocalRule) (w : List ℕ) (goal n : ℕ) (sets : List ℕ) : Type 0 where
+  pub long : length sets ≡ n + 1
+  pub each : (j : ℕ) → j ≤ n → IsNodeSet r (Reaches r (drop (length w - j) w) goal) (slice_index sets j)
+
+-- the least node of a set
+pub record IsLeastNode (set u : ℕ) : Type 0 where
+  pub within : IsBitSet set u
+  pub least : (v : ℕ) → v < u → ¬ IsBitSet set v

@@ -1,0 +1,78 @@
+-- Placed configurations that a rule maps to a given one: their shapes and their order, and the words that show that none does.
+use Rattle.std.specs.Prelude.{◌≡◌, ◌≢◌, ℕ, ◌+◌, ◌*◌, ◌-◌, ◌≤◌, List, ◌++◌, length, map, ℤ, pos, ◌+ℤ◌, ◌-ℤ◌}
+use Rattle.std.specs.List.{range_with_len, repeat}
+use Rattle.std.specs.Ordering.{ordering_then, nat_cmp}
+use Rattle.std.specs.declared.cmp.Ordering.{Ordering}
+use Rattle.std.specs.declared.cmp.Ordering.TheVariants.{Greater}
+use Rattle.std.specs.Cmp.Lexicographic.{slice_cmp}
+use Rattle.word_image.specs.LocalRules.{LocalRule, local_map}
+use Rattle.word_image.specs.Words.{IsOrphan}
+use Rattle.tail_config.specs.Tails.{TailConfig, IsTail, cell}
+
+-- a configuration whose middle begins at a place
+pub record PlacedConfig : Type 0 where
+  pub at : ℤ
+  pub config : TailConfig
+
+-- its letter at place i is that of the configuration at i - at
+abbrev pub placed_cell : PlacedConfig → ℤ → ℕ
+placed_cell p i = cell p.config (i -ℤ p.at)
+
+-- its n cells from place i on
+abbrev pub placed_cells : PlacedConfig → ℤ → ℕ → List ℕ
+placed_cells p i n = map (λ j. placed_cell p (i +ℤ pos j)) (range_with_len 0 n)
+
+-- at every place the rule gives on its window the letter of t
+pub record MapsTo (r : LocalRule) (p : PlacedConfig) (t : TailConfig) : Type 0 where
+  pub config : IsTail r.states p.config
+  pub cells : (i : ℤ) → local_map r (placed_cells p (i +ℤ r.offset) r.width) ≡ cell t i
+
+-- how many left and right periods of t the middle spans beside t's own middle, and how many its own periods span
+pub record Shape : Type 0 where
+  pub before : ℕ
+  pub back : ℕ
+  pub after : ℕ
+  pub on : ℕ
+
+pub record HasShape (r : LocalRule) (t : TailConfig) (s : Shape) (p : PlacedConfig) : Type 0 where
+  pub back_some : 1 ≤ s.back
+  pub on_some : 1 ≤ s.on
+  pub left : length p.config.left ≡ s.back * length t.left
+  pub middle : length p.config.middle ≡ s.before * length t.left + length t.middle + s.after * length t.right
+  pub right : length p.config.right ≡ s.on * length t.right
+  pub at : p.at ≡ r.offset -ℤ pos (s.before * length t.left)
+  -- its left period begins with the m - 1 letters with which its middle does
+  pub node : placed_cells p p.at (r.width - 1) ≡ placed_cells p (p.at -ℤ pos (s.back * length t.left)) (r.width - 1)
+
+-- by how many left periods of t the left period and the middle span together, then by how many right ones, then by those of the middle
+abbrev pub shape_cmp : Shape → Shape → Ordering
+shape_cmp s u =
+    ordering_then (nat_cmp (s.back + s.before) (u.back + u.before))
+    (ordering_then (nat_cmp (s.on + s.after) (u.on + u.after))
+    (ordering_then (nat_cmp s.before u.before) (nat_cmp s.after u.after)))
+
+-- the three parts, one after the other
+abbrev pub letters : PlacedConfig → List ℕ
+letters p = p.config.left ++ p.config.middle ++ p.config.right
+
+-- a placed configuration of this shape that maps to t
+pub record IsShapedPreimage (r : LocalRule) (t : TailConfig) (s : Shape) (p : PlacedConfig) : Type 0 where
+  pub maps : MapsTo r p t
+  pub shape : HasShape r t s p
+
+-- the first of all of them: by shape, then in dictionary order
+pub record IsLeastPreimage (r : LocalRule) (t : TailConfig) (p : PlacedConfig) : Type 0 where
+  pub shape : Shape
+  pub preimage : IsShapedPreimage r t shape p
+  pub least : (s : Shape) (q : PlacedConfig) → IsShapedPreimage r t s q → ordering_then (shape_cmp shape s) (slice_cmp nat_cmp (letters p) (letters q)) ≢ Greater
+
+-- so many left periods, the middle, and so many right periods
+abbrev pub stretch : TailConfig → ℕ → ℕ → List ℕ
+stretch t before after = repeat before t.left ++ t.middle ++ repeat after t.right
+
+-- the first such word that is an orphan: by left periods, then by right ones
+pub record IsLeastGap (r : LocalRule) (t : TailConfig) (before after : ℕ) (w : List ℕ) : Type 0 where
+  pub word : w ≡ stretch t before after
+  pub orphan : IsOrphan r w
+  pub before_least : (b a : ℕ) → IsOrphan r (stretch t b a) → before ≤ b
+  pub after_least : (a : ℕ) → IsOrphan r (stretch t before a) → after ≤ a

@@ -1,0 +1,53 @@
+-- Relations between nodes, the sets of nodes that they make, and steps along them.
+use Rattle.std.specs.Prelude.{◌≡◌, ◌↔◌, ℕ, suc, ◌+◌, ◌^◌, ◌<◌, ◌≤◌, List, slice_index, IsBitSet}
+use Rattle.word_image.specs.LocalRules.{LocalRule, node_count}
+use Rattle.word_image.specs.Graphs.{next, label}
+
+-- the nodes of which something holds, as a set: node u is bit u
+pub record IsNodeSet (r : LocalRule) (Holds : ℕ → Type 0) (set : ℕ) : Type 0 where
+  pub within : set < 2 ^ node_count r
+  pub nodes : (u : ℕ) → u < node_count r → (IsBitSet set u ↔ Holds u)
+
+-- row u of a table is the set of the nodes to which node u is related
+pub record IsRelation (r : LocalRule) (Related : ℕ → ℕ → Type 0) (table : List ℕ) : Type 0 where
+  pub rows : (u : ℕ) → u < node_count r → IsNodeSet r (Related u) (slice_index table u)
+
+-- its rows are sets of nodes
+abbrev pub AreSets : LocalRule → List ℕ → Type 0
+AreSets r table = (u : ℕ) → u < node_count r → slice_index table u < 2 ^ node_count r
+
+-- what a table relates
+abbrev pub Rows : List ℕ → ℕ → ℕ → Type 0
+Rows table u v = IsBitSet (slice_index table u) v
+
+-- an edge labelled a leads from node u to node v
+abbrev pub Edge : LocalRule → ℕ → ℕ → ℕ → Type 0
+Edge r a u v = (b : ℕ) × (b < r.states) × (label r u b ≡ a) × (next r u b ≡ v)
+
+-- n steps of a relation lead from u to v, by the nodes that they pass
+pub record Steps (E : ℕ → ℕ → Type 0) (n u v : ℕ) : Type 0 where
+  pub at : ℕ → ℕ
+  pub first : at 0 ≡ u
+  pub last : at n ≡ v
+  pub each : (i : ℕ) → i < n → E (at i) (at (suc i))
+
+-- n steps lead from u anywhere
+abbrev pub Open : (ℕ → ℕ → Type 0) → ℕ → ℕ → Type 0
+Open E n u = (v : ℕ) × Steps E n u v
+
+-- n steps lead from u to a node to which `on` steps lead back
+abbrev pub Rounds : (ℕ → ℕ → Type 0) → ℕ → ℕ → ℕ → Type 0
+Rounds E n on u = (v : ℕ) × Steps E n u v × Steps E on v v
+
+-- the same for some two numbers with this sum, of which the second isn't 0
+abbrev pub SomeRounds : (ℕ → ℕ → Type 0) → ℕ → ℕ → Type 0
+SomeRounds E sum u = (n : ℕ) × (on : ℕ) × (n + on ≡ sum) × (1 ≤ on) × Rounds E n on u
+
+-- it holds of a node of the set
+abbrev pub Meets : LocalRule → (ℕ → Type 0) → ℕ → Type 0
+Meets r Holds set = (u : ℕ) × (u < node_count r) × Holds u × IsBitSet set u
+
+-- n is the first number of which it holds
+pub record IsFirst (Holds : ℕ → Type 0) (n : ℕ) : Type 0 where
+  pub holds : Holds n
+  pub none : (i : ℕ) → i < n → ¬ Holds i

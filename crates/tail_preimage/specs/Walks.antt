@@ -1,0 +1,31 @@
+-- Preimages of a word as walks in the de Bruijn graph: from the node of their first m - 1 letters to that of their last, along edges whose labels spell the word.
+use Rattle.std.specs.Prelude.{◌≡◌, ◌≢◌, ◌↔◌, ℕ, ◌+◌, ◌-◌, ◌<◌, ◌≤◌, List, length, take, drop, slice_index, IsBitSet}
+use Rattle.std.specs.declared.cmp.Ordering.TheVariants.{Greater}
+use Rattle.std.specs.Ordering.{nat_cmp}
+use Rattle.std.specs.Cmp.Lexicographic.{slice_cmp}
+use Rattle.word_image.specs.LocalRules.{LocalRule, value, node_count}
+use Rattle.word_image.specs.Words.{IsPreimage}
+
+-- a preimage x of w that begins with node u and ends with node v
+pub record IsWalk (r : LocalRule) (w : List ℕ) (u v : ℕ) (x : List ℕ) : Type 0 where
+  pub preimage : IsPreimage r w x
+  pub first : value r.states (take (r.width - 1) x) ≡ u
+  pub last : value r.states (drop (length w) x) ≡ v
+
+-- the letters of a walk before those of its last node
+abbrev pub before_last : LocalRule → List ℕ → List ℕ
+before_last r x = take (length x - (r.width - 1)) x
+
+-- w leads from node u to node v
+abbrev pub HasWalk : LocalRule → List ℕ → ℕ → ℕ → Type 0
+HasWalk r w u v = (x : List ℕ) × IsWalk r w u v x
+
+-- w leads from node u into a set of nodes
+abbrev pub Reaches : LocalRule → List ℕ → ℕ → ℕ → Type 0
+Reaches r w goal u = (v : ℕ) × IsBitSet goal v × HasWalk r w u v
+
+-- x is the first walk of w from node u into a set of nodes, in dictionary order, and ends with node v
+pub record IsLeastWalk (r : LocalRule) (w : List ℕ) (u goal v : ℕ) (x : List ℕ) : Type 0 where
+  pub walk : IsWalk r w u v x
+  pub within : IsBitSet goal v
+  pub least : (s : ℕ) (y : List ℕ) → IsBitSet goal s → IsWalk r w u s y → slice_cmp nat_cmp x y ≢ Greater

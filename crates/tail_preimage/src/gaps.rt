@@ -1,0 +1,22 @@
+//! The first numbers of periods with which a configuration's middle is an orphan.
+
+ghost use Rattle.std.specs.Prelude.{MatchOption};
+ghost use Rattle.tail_preimage.specs.Sides.{HaveParts, Passes, IsFirstGap};
+
+use crate::relations::{after, before};
+use crate::shapes::Parts;
+use crate::sides::{least_closed, open};
+use debruijn::Graph;
+
+/// The least number of left periods that lead nowhere with 16 right ones, and the least number of right
+/// periods that lead nowhere with these; `None` where 16 periods on either side lead through.
+pub fn first_gap(graph: &Graph, parts: &Parts) -> Option<(u8, u8)>
+    requires { HaveParts graph.now parts.now }
+    ensures { MatchOption result (Passes graph.now parts.now 16 16) (λ (b, a). IsFirstGap graph.now parts.now b a) }
+{
+    let rears = before(graph, &parts.middle, open(graph, &parts.right, 16));
+    let left = least_closed(graph, &parts.left, rears)?;
+    let fronts = after(graph, &parts.middle, open(graph, &parts.left, left));
+    let right = least_closed(graph, &parts.right, fronts)?;
+    Some((left, right))
+}

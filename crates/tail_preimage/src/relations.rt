@@ -1,0 +1,124 @@
+//! Relations between nodes, and the sets of nodes that they make.
+
+ghost use Rattle.std.specs.Prelude.{◌≡◌, ◌+◌, ◌^◌, ◌<◌, ◌≤◌, ℕ, List, [], slice_index, get_or, IsBitSet};
+ghost use Rattle.word_image.specs.LocalRules.{IsRule, IsWord, node_count};
+ghost use Rattle.tail_preimage.specs.Walks.{HasWalk};
+ghost use Rattle.tail_preimage.specs.Relations.{IsNodeSet, IsRelation, AreSets, Rows, Edge, Steps};
+
+use debruijn::Graph;
+
+/// Row u is the set of the nodes to which node u is related; zeros after the nodes.
+pub type Relation = [u16; 16];
+
+/// Each node is related to itself.
+fn identity(graph: &Graph) -> Relation
+    ensures relation { IsRelation graph.now (λ u v. u ≡ v) result }
+    ensures rule { IsRule graph.now }
+{
+    let mut rows = [0; 16];
+    for u in 0..graph.nodes() {
+        rows[usize::from(u)] = 1u16 << u;
+    }
+    rows
+}
+
+/// Each node is related to those to which its edges with this label lead.
+pub fn edges(graph: &Graph, label: u8) -> Relation
+    requires { label < graph.now.states }
+    ensures relation { IsRelation graph.now (Edge graph.now label) result }
+    ensures rule { IsRule graph.now }
+{
+    let mut rows = [0; 16];
+    for u in 0..graph.nodes() {
+        rows[usize::from(u)] = graph.ends(u, label);
+    }
+    rows
+}
+
+/// The nodes to which a node of the set is related.
+pub fn after(graph: &Graph, rows: &Relation, set: u16) -> u16
+    requires { AreSets graph.now rows.now }
+    ensures { IsNodeSet graph.now (λ v. (u : ℕ) × (u < node_count graph.now) × IsBitSet set u × Rows rows.now u v) result }
+{
+    let mut after = 0;
+    for u in 0..graph.nodes() {
+        if set >> u & 1 == 1 {
+            after |= rows[usize::from(u)];
+        }
+    }
+    after
+}
+
+/// The nodes that are related to a node of the set.
+pub fn before(graph: &Graph, rows: &Relation, set: u16) -> u16
+    ensures { IsNodeSet graph.now (λ u. (v : ℕ) × Rows rows.now u v × IsBitSet set v) result }
+{
+    let mut before = 0;
+    for u in 0..graph.nodes() {
+        if rows[usize::from(u)] & set != 0 {
+            before |= 1u16 << u;
+        }
+    }
+    before
+}
+
+/// The nodes that are related to themselves.
+pub fn returning(graph: &Graph, rows: &Relation) -> u16
+    ensures { IsNodeSet graph.now (λ u. Rows rows.now u u) result }
+{
+    let mut set = 0;
+    for u in 0..graph.nodes() {
+        if rows[usize::from(u)] >> u & 1 == 1 {
+            set |= 1u16 << u;
+        }
+    }
+    set
+}
+
+/// The relation of a step of the first one and then a step of the second.
+fn joined(graph: &Graph, first: &Relation, second: &Relation) -> Relation
+    requires { AreSets graph.now second.now }
+    ensures { IsRelation graph.now (λ u v. (w : ℕ) × (w < node_count graph.now) × Rows first.now u w × Rows second.now w v) result }
+{
+    let mut rows = [0; 16];
+    for u in 0..graph.nodes() {
+        rows[usize::from(u)] = after(graph, second, first[usize::from(u)]);
+    }
+    rows
+}
+
+/// The relation read backwards.
+pub fn reversed(graph: &Graph, relation: &Relation) -> Relation
+    ensures { IsRelation graph.now (λ u v. Rows relation.now v u) result }
+{
+    let mut rows = [0; 16];
+    for u in 0..graph.nodes() {
+        rows[usize::from(u)] = before(graph, relation, 1u16 << u);
+    }
+    rows
+}
+
+/// Each node is related to those to which the word leads.
+pub fn relation(graph: &Graph, word: &[u8]) -> Relation
+    requires { IsWord graph.now.states word.now }
+    ensures relation { IsRelation graph.now (HasWalk graph.now word.now) result }
+    ensures rule { IsRule graph.now }
+{
+    let mut rows = identity(graph);
+    for n in 0..word.len() {
+        rows = joined(graph, &edges(graph, word[word.len() - 1 - n]), &rows);
+    }
+    rows
+}
+
+/// The relations of 0 to 16 steps.
+pub fn powers(graph: &Graph, step: &Relation) -> [Relation; 17]
+    requires { AreSets graph.now step.now }
+    ensures { (n : ℕ) → n ≤ 16 → IsRelation graph.now (Steps (Rows step.now) n) (get_or result n []) }
+{
+    let mut all = [identity(graph); 17];
+    for n in 0..16 {
+        all[n + 1] = joined(graph, step, &all[n]);
+    }
+    all
+}

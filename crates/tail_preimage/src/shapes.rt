@@ -1,0 +1,71 @@
+//! The first shape that a placed configuration can have.
+
+ghost use Rattle.std.specs.Prelude.{◌≡◌};
+ghost use Rattle.tail_config.specs.Tails.{IsTail};
+ghost use Rattle.tail_preimage.specs.Sides.{AreParts, HaveParts, Passes, IsFirstShape, shape_of};
+
+use crate::relations::{Relation, after, before, relation, reversed};
+use crate::sides::{Side, least_first, least_sum, open, rounds, side_of, some_rounds};
+use debruijn::Graph;
+use tail_config::Tail;
+
+/// The parts of a configuration as relations.
+#[derive(Clone, Copy)]
+pub struct Parts {
+    /// The left periods, from the end to the start.
+    pub left: Side,
+    /// The middle.
+    pub middle: Relation,
+    /// The right periods.
+    pub right: Side,
+}
+
+/// How many left and right periods the middle of a placed configuration spans beside the middle that it
+/// maps to, and how many its own periods span.
+#[derive(Clone, Copy)]
+pub struct Spans {
+    /// Left periods of the middle.
+    pub before: u8,
+    /// Left periods of the left period.
+    pub back: u8,
+    /// Right periods of the middle.
+    pub after: u8,
+    /// Right periods of the right period.
+    pub on: u8,
+}
+
+/// The parts of this configuration.
+pub fn parts_of(graph: &Graph, tail: &Tail) -> Parts
+    requires { graph.now.states ≡ tail.now.states }
+    ensures parts { AreParts graph.now tail.now.config result }
+    ensures tail { IsTail graph.now.states tail.now.config }
+{
+    Parts {
+        left: side_of(graph, reversed(graph, &relation(graph, tail.left()))),
+        middle: relation(graph, tail.middle()),
+        right: side_of(graph, relation(graph, tail.right())),
+    }
+}
+
+/// The first possible shape, where 16 periods on either side lead through.
+pub fn first_shape(graph: &Graph, parts: &Parts) -> Spans
+    requires parts { HaveParts graph.now parts.now }
+    requires some { Passes graph.now parts.now 16 16 }
+    ensures { IsFirstShape graph.now parts.now (shape_of result) }
+{
+    let rears = before(graph, &parts.middle, open(graph, &parts.right, 16));
+    let left = least_sum(graph, &parts.left, rears);
+    let fronts = after(graph, &parts.middle, some_rounds(graph, &parts.left, left));
+    let right = least_sum(graph, &parts.right, fronts);
+
+    let rears = before(graph, &parts.middle, some_rounds(graph, &parts.right, right));
+    let first = least_first(graph, &parts.left, left, rears);
+    let fronts = after(graph, &parts.middle, rounds(graph, &parts.left, first, left - first));
+    let second = least_first(graph, &parts.right, right, fronts);
+    Spans {
+        before: first,
+        back: left - first,
+        after: second,
+        on: right - second,
+    }
+}

@@ -1,0 +1,74 @@
+//! The first walk of a word from a node into a set of nodes, in dictionary order.
+
+ghost use Rattle.std.specs.Prelude.{◌≡◌, ◌≢◌, ◌-◌, ◌^◌, ◌<◌, length, IfOk};
+ghost use Rattle.word_image.specs.LocalRules.{IsRule, IsWord, word_of, node_count};
+ghost use Rattle.tail_preimage.specs.Walks.{Reaches, IsLeastWalk};
+ghost use Rattle.tail_preimage.specs.FirstWalks.{AreOpen, IsLeastNode};
+
+use crate::relations::{Relation, before, edges};
+use debruijn::Graph;
+use std::alloc::{AllocError, Global};
+use word_image::Rule;
+
+/// The least node of a set that has one.
+pub fn least_node(set: u16) -> u8
+    requires { set ≢ 0 }
+    ensures { IsLeastNode set result }
+{
+    set.trailing_zeros() as u8
+}
+
+/// For each place of the word, from its end to its start, the nodes from which the rest of it leads
+/// into the goal.
+fn open_sets(alloc: Global, graph: &Graph, word: &[u8], goal: u16) -> Result<Vec<u16>, AllocError>
+    requires word { IsWord graph.now.states word.now }
+    requires goal { goal < 2 ^ node_count graph.now }
+    ensures { IfOk result (λ sets. AreOpen graph.now word.now goal (length word.now) sets.items) }
+{
+    let mut sets = Vec::new(alloc);
+    sets.push(goal)?;
+    for n in 0..word.len() {
+        let set = before(graph, &edges(graph, word[word.len() - 1 - n]), sets[n]);
+        sets.push(set)?;
+    }
+    Ok(sets)
+}
+
+/// The letters of a node.
+fn node_letters(alloc: Global, rule: &Rule, u: u8) -> Result<Vec<u8>, AllocError>
+    requires { u < node_count rule.now }
+    ensures { IfOk result (λ word. word.items ≡ word_of rule.now.states (rule.now.width - 1) u) }
+{
+    let mut word = Vec::new(alloc);
+    for place in 0..rule.m() - 1 {
+        word.push(rule.node_letter(u, place))?;
+    }
+    Ok(word)
+}
+
+/// The first walk of a word from a node into a set of nodes, and the node with which it ends.
+pub fn least_walk(
+    alloc: Global,
+    rule: &Rule,
+    start: u8,
+    word: &[u8],
+    goal: u16,
+) -> Result<(Vec<u8>, u8), AllocError>
+    requires start { start < node_count rule.now }
+    requires word { IsWord rule.now.states word.now }
+    requires goal { goal < 2 ^ node_count rule.now }
+    requires reach { Reaches rule.now word.now goal start }
+    ensures { IfOk result (λ (walk, end). IsLeastWalk rule.now word.now start goal end walk.items) }
+{
+    let graph = Graph::of(rule);
+    let k = graph.k();
+    let sets = open_sets(alloc, &graph, word, goal)?;
+    let mut walk = node_letters(alloc, rule, start)?;
+    let mut node = start;
+    for n in 0..word.len() {
+        node = least_node(graph.ends(node, word[n]) & sets[word.len() - 1 - n]);
+        // The edges of a node lead to nodes in the order of their letters, and each letter is the last one of its node.
+        walk.push(node % k)?;
+    }
+    Ok((walk, node))
+}
