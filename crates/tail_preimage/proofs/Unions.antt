@@ -1,5 +1,5 @@
 -- Sets of nodes that loops over the nodes make.
-use Rattle.std.proofs.Common.{◌≡◌, ◌≢◌, ◌↔◌, ℕ, ◌+◌, ◌*◌, ◌%◌, ◌^◌, ◌<◌, List, slice_index, IsBitSet, bit_or, bit_and, refl, sym, subst, arith}
+use Rattle.std.proofs.Common.{◌≡◌, ◌≢◌, ◌↔◌, ℕ, ◌+◌, ◌*◌, ◌%◌, ◌^◌, ◌<◌, IsBitSet, bit_or, bit_and, refl, sym, subst, arith}
 use Rattle.std.proofs.Math.Pow.{pow-lt}
 use Rattle.std.proofs.lemmas.Nat.{and_le_l, and_le_r, one_shl}
 use Rattle.word_image.specs.LocalRules.{LocalRule, IsRule, node_count}

@@ -1,7 +1,7 @@
 -- The walks that a placed configuration is made of, and the first of them.
-use Rattle.std.specs.Prelude.{◌≡◌, ◌↔◌, ℕ, ◌+◌, ◌-◌, ◌*◌, ◌^◌, ◌<◌, ◌≤◌, List, length, drop, slice_index, pos, ◌-ℤ◌, IsBitSet}
+use Rattle.std.specs.Prelude.{◌≡◌, ℕ, ◌+◌, ◌-◌, ◌*◌, ◌^◌, ◌<◌, ◌≤◌, List, length, drop, slice_index, pos, ◌-ℤ◌, IsBitSet}
 use Rattle.std.specs.List.{repeat}
-use Rattle.word_image.specs.LocalRules.{LocalRule, node_count}
+use Rattle.word_image.specs.LocalRules.{LocalRule}
 use Rattle.tail_config.specs.Tails.{TailConfig, config_of}
 use Rattle.tail_preimage.specs.Walks.{IsWalk, HasWalk, Reaches, IsLeastWalk, before_last}
 use Rattle.tail_preimage.specs.Preimages.{PlacedConfig, Shape, stretch}

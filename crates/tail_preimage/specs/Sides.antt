@@ -1,5 +1,5 @@
 -- The parts of a configuration as relations: which shapes are possible, and how many periods lead nowhere.
-use Rattle.std.specs.Prelude.{◌≢◌, ℕ, ◌+◌, ◌<◌, ◌≤◌, [], get_or}
+use Rattle.std.specs.Prelude.{◌≢◌, ℕ, ◌<◌, ◌≤◌, [], get_or}
 use Rattle.std.specs.declared.cmp.Ordering.TheVariants.{Greater}
 use Rattle.word_image.specs.LocalRules.{LocalRule, IsRule, node_count}
 use Rattle.tail_config.specs.Tails.{TailConfig}
@@ -46,7 +46,7 @@ abbrev pub Starts : LocalRule → Parts → Shape → ℕ → Type 0
 Starts r parts s v =
     Steps (Rows parts.left.period) s.back v v
     × ((u : ℕ) × (u < node_count r) × Steps (Rows parts.left.period) s.before u v
-        × ((w : ℕ) × (w < node_count r) × Rows parts.middle u w × Rounds (Rows parts.right.period) s.after s.on w))
+    × ((w : ℕ) × (w < node_count r) × Rows parts.middle u w × Rounds (Rows parts.right.period) s.after s.on w))
 
 -- some node is such a start
 pub record IsPossible (r : LocalRule) (parts : Parts) (s : Shape) : Type 0 where

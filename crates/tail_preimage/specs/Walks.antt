@@ -1,9 +1,9 @@
 -- Preimages of a word as walks in the de Bruijn graph: from the node of their first m - 1 letters to that of their last, along edges whose labels spell the word.
-use Rattle.std.specs.Prelude.{◌≡◌, ◌≢◌, ◌↔◌, ℕ, ◌+◌, ◌-◌, ◌<◌, ◌≤◌, List, length, take, drop, slice_index, IsBitSet}
+use Rattle.std.specs.Prelude.{◌≡◌, ◌≢◌, ℕ, ◌-◌, List, length, take, drop, IsBitSet}
 use Rattle.std.specs.declared.cmp.Ordering.TheVariants.{Greater}
 use Rattle.std.specs.Ordering.{nat_cmp}
 use Rattle.std.specs.Cmp.Lexicographic.{slice_cmp}
-use Rattle.word_image.specs.LocalRules.{LocalRule, value, node_count}
+use Rattle.word_image.specs.LocalRules.{LocalRule, value}
 use Rattle.word_image.specs.Words.{IsPreimage}
 
 -- a preimage x of w that begins with node u and ends with node v

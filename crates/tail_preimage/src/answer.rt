@@ -125,7 +125,11 @@ fn starts(graph: &Graph, parts: &Parts, spans: Spans) -> u16
     requires parts { HaveParts graph.now parts.now }
     ensures { IsNodeSet graph.now (Starts graph.now parts.now (shape_of spans)) result }
 {
-    let rears = before(graph, &parts.middle, rounds(graph, &parts.right, spans.after, spans.on));
+    let rears = before(
+        graph,
+        &parts.middle,
+        rounds(graph, &parts.right, spans.after, spans.on),
+    );
     let lefts = after(graph, &parts.left.powers[usize::from(spans.before)], rears);
     loops(graph, &parts.left, spans.back) & lefts
 }

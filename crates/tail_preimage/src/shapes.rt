@@ -58,9 +58,17 @@ pub fn first_shape(graph: &Graph, parts: &Parts) -> Spans
     let fronts = after(graph, &parts.middle, some_rounds(graph, &parts.left, left));
     let right = least_sum(graph, &parts.right, fronts);
 
-    let rears = before(graph, &parts.middle, some_rounds(graph, &parts.right, right));
+    let rears = before(
+        graph,
+        &parts.middle,
+        some_rounds(graph, &parts.right, right),
+    );
     let first = least_first(graph, &parts.left, left, rears);
-    let fronts = after(graph, &parts.middle, rounds(graph, &parts.left, first, left - first));
+    let fronts = after(
+        graph,
+        &parts.middle,
+        rounds(graph, &parts.left, first, left - first),
+    );
     let second = least_first(graph, &parts.right, right, fronts);
     Spans {
         before: first,

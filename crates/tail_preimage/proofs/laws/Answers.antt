@@ -1,11 +1,11 @@
 -- The two answers as they are found, and that there is one answer.
-use Rattle.std.proofs.Common.{◌≡◌, ℕ, ◌<◌, ◌≤◌, List, IsBitSet, refl, sym, ap, ap₂, ◌∙◌, subst, arith, ⊎_elim}
+use Rattle.std.proofs.Common.{◌≡◌, ℕ, ◌≤◌, List, refl, sym, ap, ap₂, ◌∙◌, subst, arith, ⊎_elim}
 use Rattle.std.proofs.lemmas.Bool.{cases_lt}
-use Rattle.word_image.specs.LocalRules.{LocalRule, node_count}
+use Rattle.word_image.specs.LocalRules.{LocalRule}
 use Rattle.word_image.specs.Words.{IsOrphan}
 use Rattle.tail_config.specs.Tails.{TailConfig, IsTail}
-use Rattle.tail_preimage.specs.Preimages.{PlacedConfig, Shape, MapsTo, IsLeastGap, stretch}
-use Rattle.tail_preimage.specs.Answers.{IsFrom, IsGap, IsAnswer, placed_config}
+use Rattle.tail_preimage.specs.Preimages.{PlacedConfig, Shape, IsLeastGap, stretch}
+use Rattle.tail_preimage.specs.Answers.{IsGap, IsAnswer, placed_config}
 use Rattle.tail_preimage.specs.Relations.{IsNodeSet, Rows, Open}
 use Rattle.tail_preimage.specs.Sides.{AreParts, Passes, Starts, IsFirstGap}
 use Rattle.tail_preimage.specs.FirstWalks.{AreLoopWalks, IsLeastNode}

@@ -1,5 +1,5 @@
 -- Of the first shape the first loop walks are the least preimage: the least node with a loop, and first walks for each of the three parts. There is one least preimage.
-use Rattle.std.proofs.Common.{◌≡◌, ◌≢◌, ℕ, ◌+◌, ◌-◌, ◌*◌, ◌^◌, ◌<◌, ◌≤◌, List, ◌++◌, length, take, drop, ℤ, pos, ◌-ℤ◌, refl, sym, ap, ap₂, ◌∙◌, subst, arith, length-append, length-drop, append_assoc, ⊎_elim}
+use Rattle.std.proofs.Common.{◌≡◌, ◌≢◌, ℕ, ◌+◌, ◌-◌, ◌<◌, ◌≤◌, List, ◌++◌, length, take, drop, ℤ, refl, sym, ap, ap₂, ◌∙◌, subst, arith, length-append, length-drop, append_assoc, ⊎_elim}
 use Rattle.std.specs.List.{repeat}
 use Rattle.std.specs.Ordering.{ordering_then, nat_cmp}
 use Rattle.std.specs.Cmp.{IsTotalOrder, nat_cmp_is}
@@ -18,7 +18,7 @@ use Rattle.tail_preimage.specs.Walks.{IsWalk, before_last}
 use Rattle.tail_preimage.specs.Preimages.{PlacedConfig, Shape, HasShape, IsShapedPreimage, IsLeastPreimage, shape_cmp, letters, stretch}
 use Rattle.tail_preimage.specs.Answers.{IsSmall, IsFrom}
 use Rattle.tail_preimage.specs.FirstWalks.{AreLoopWalks, AreFirstWalks, placed_of}
-use Rattle.tail_preimage.proofs.laws.Walks.{same_first, IsWalk-first, IsWalk-last}
+use Rattle.tail_preimage.proofs.laws.Walks.{same_first, IsWalk-last}
 use Rattle.tail_preimage.proofs.laws.Placements.{IsShapedPreimage-placed_of, join-before_last, length-before_last, IsWalk-then}
 use Rattle.tail_preimage.proofs.laws.PlacedWalks.{HasLoopWalks-shape}
 use Rattle.tail_preimage.proofs.laws.Orders.{slice_cmp-append, slice_cmp-equal, slice_cmp-same, then_not_greater, first_not_greater, then_equal, nat_cmp-equal, tied}

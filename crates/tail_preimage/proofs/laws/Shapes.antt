@@ -1,14 +1,13 @@
 -- The first possible shape is found key by key, and the first gap side by side.
-use Rattle.std.proofs.Common.{◌≡◌, ◌≢◌, ◌↔◌, ℕ, ◌+◌, ◌-◌, ◌<◌, ◌≤◌, IsBitSet, refl, sym, subst, arith, ⊎_elim}
+use Rattle.std.proofs.Common.{◌≡◌, ◌↔◌, ℕ, ◌+◌, ◌-◌, ◌<◌, ◌≤◌, IsBitSet, refl, sym, subst, arith, ⊎_elim}
 use Rattle.std.specs.Ordering.{ordering_then, nat_cmp}
-use Rattle.std.specs.declared.cmp.Ordering.TheVariants.{Greater}
 use Rattle.std.proofs.lemmas.Bool.{cases_lt}
 use Rattle.word_image.specs.LocalRules.{LocalRule, node_count}
 use Rattle.pair_laws.proofs.Sets.{IsBitSet-below}
 use Rattle.tail_config.specs.Tails.{TailConfig}
-use Rattle.tail_preimage.specs.Preimages.{Shape, shape_cmp}
-use Rattle.tail_preimage.specs.Relations.{IsNodeSet, Rows, Steps, Open, Rounds, SomeRounds, Meets, IsFirst}
-use Rattle.tail_preimage.specs.Sides.{IsSide, AreParts, Through, Passes, Starts, IsPossible, IsFirstShape, IsFirstGap}
+use Rattle.tail_preimage.specs.Preimages.{Shape}
+use Rattle.tail_preimage.specs.Relations.{IsNodeSet, Rows, Open, Rounds, SomeRounds, Meets, IsFirst}
+use Rattle.tail_preimage.specs.Sides.{AreParts, Through, Passes, IsPossible, IsFirstShape}
 use Rattle.tail_preimage.specs.declared.shapes.Parts.{Parts}
 use Rattle.tail_preimage.proofs.laws.Orders.{nat_cmp-le, key_not_greater}
 use Rattle.tail_preimage.proofs.laws.Steps.{Open-rounds}

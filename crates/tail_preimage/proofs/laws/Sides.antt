@@ -1,5 +1,5 @@
 -- The relations of the parts of a configuration, read as walks along words.
-use Rattle.std.proofs.Common.{◌≡◌, ◌↔◌, ℕ, zero, suc, ◌+◌, ◌<◌, ◌≤◌, List, [], ◌++◌, get_or, refl, sym, ap, ◌∙◌, subst, arith}
+use Rattle.std.proofs.Common.{◌≡◌, ◌↔◌, ℕ, zero, suc, ◌+◌, ◌<◌, ◌≤◌, List, [], ◌++◌, sym, ap, ◌∙◌, subst, arith}
 use Rattle.std.specs.List.{repeat}
 use Rattle.word_image.specs.LocalRules.{LocalRule, IsRule, node_count}
 use Rattle.word_image.specs.Words.{IsOrphan}
@@ -7,7 +7,7 @@ use Rattle.pair_laws.proofs.Sets.{IsBitSet-below}
 use Rattle.tail_config.specs.Tails.{TailConfig, IsTail}
 use Rattle.tail_preimage.specs.Walks.{HasWalk}
 use Rattle.tail_preimage.specs.Preimages.{Shape, stretch}
-use Rattle.tail_preimage.specs.Relations.{IsRelation, AreSets, Rows, Steps, Open, Rounds, SomeRounds}
+use Rattle.tail_preimage.specs.Relations.{IsRelation, Rows, Steps, Open, SomeRounds}
 use Rattle.tail_preimage.specs.Sides.{IsSide, AreParts, Passes, Starts, IsPossible}
 use Rattle.tail_preimage.specs.FirstWalks.{AreLoopWalks}
 use Rattle.tail_preimage.specs.declared.sides.Side.{Side}

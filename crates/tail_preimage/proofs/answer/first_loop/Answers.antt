@@ -1,4 +1,4 @@
-use Rattle.std.proofs.Common.{◌≡◌, ◌*◌, ◌%◌, ◌^◌, ◌<◌, refl, sym, ◌∙◌, subst, arith}
+use Rattle.std.proofs.Common.{◌*◌, ◌%◌, ◌^◌, ◌<◌, refl, sym, ◌∙◌, subst, arith}
 use Rattle.std.specs.List.{repeat}
 use Rattle.std.proofs.Math.Pow.{pow-lt}
 use Rattle.std.proofs.lemmas.Nat.{one_shl}

@@ -1,4 +1,4 @@
-use Rattle.std.proofs.Common.{◌≡◌, ◌≢◌, ◌↔◌, ℕ, ◌<◌, ◌≤◌, ◌*◌, ◌^◌, List, length, ℤ, pos, ◌-ℤ◌, IsBitSet, sym, ap₂, ◌∙◌, subst, arith, rules}
+use Rattle.std.proofs.Common.{◌≡◌, ℕ, ◌<◌, ◌≤◌, ◌*◌, ◌^◌, List, length, ℤ, pos, ◌-ℤ◌, IsBitSet, sym, ap₂, ◌∙◌, subst, rules}
 use Rattle.std.specs.List.{repeat}
 use Rattle.std.specs.Int.{w64}
 use Rattle.std.proofs.lemmas.Int.{to_z-of_z}
@@ -7,7 +7,7 @@ use Rattle.word_image.proofs.laws.Bits.{IsBitSet-zero}
 use Rattle.pair_laws.proofs.Sets.{IsBitSet-below}
 use Rattle.tail_config.specs.Tails.{TailConfig, IsTail, config_of}
 use Rattle.tail_preimage.specs.Walks.{HasWalk, IsLeastWalk, before_last}
-use Rattle.tail_preimage.specs.Preimages.{PlacedConfig, Shape, stretch}
+use Rattle.tail_preimage.specs.Preimages.{PlacedConfig, Shape}
 use Rattle.tail_preimage.specs.Answers.{IsFrom}
 use Rattle.tail_preimage.specs.Relations.{IsNodeSet, Rows, Steps}
 use Rattle.tail_preimage.specs.Sides.{AreParts, Starts, IsPossible, shape_of}

@@ -1,4 +1,4 @@
-use Rattle.std.proofs.Common.{IsBitSet, sym, subst, arith}
+use Rattle.std.proofs.Common.{arith}
 use Rattle.word_image.specs.LocalRules.{node_count}
 use Rattle.pair_laws.proofs.Sets.{IsBitSet-below}
 use Rattle.tail_preimage.proofs.Unions.{IsNodeSet-same, IsNodeSet-both}

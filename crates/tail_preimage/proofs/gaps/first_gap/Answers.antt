@@ -1,4 +1,4 @@
-use Rattle.std.proofs.Common.{◌≡◌, ℕ, MatchOption, None, sym, subst}
+use Rattle.std.proofs.Common.{ℕ, MatchOption, sym, subst}
 use Rattle.tail_preimage.specs.Relations.{Rows, Open}
 use Rattle.tail_preimage.specs.Sides.{Passes, IsFirstGap}
 use Rattle.tail_preimage.proofs.laws.Shapes.{Through-before, Through-behind}

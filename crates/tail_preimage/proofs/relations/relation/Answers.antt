@@ -1,7 +1,7 @@
-use Rattle.std.proofs.Common.{◌≡◌, ◌↔◌, ℕ, ◌+◌, ◌-◌, ◌<◌, List, [], ◌∷◌, length, drop, slice_index, sym, subst, arith}
+use Rattle.std.proofs.Common.{◌≡◌, ◌+◌, ◌-◌, [], ◌∷◌, length, drop, slice_index, sym, subst, arith}
 use Rattle.std.proofs.lemmas.List.{drop_all}
 use Rattle.tail_preimage.specs.Walks.{HasWalk}
-use Rattle.tail_preimage.specs.Relations.{IsRelation, Edge}
+use Rattle.tail_preimage.specs.Relations.{IsRelation}
 use Rattle.tail_preimage.proofs.laws.Walks.{IsWalk-none, IsWalk-stays, HasWalk-cons}
 use Rattle.tail_preimage.proofs.laws.Stretches.{drop-more}
 use Rattle.tail_preimage.proofs.Rows.{IsRelation-same}

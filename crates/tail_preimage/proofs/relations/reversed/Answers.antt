@@ -1,4 +1,4 @@
-use Rattle.std.proofs.Common.{◌<◌, refl, sym, subst, arith}
+use Rattle.std.proofs.Common.{◌<◌, refl, subst, arith}
 use Rattle.pair_laws.proofs.Sets.{IsBitSet-shl}
 use Rattle.tail_preimage.specs.Relations.{Rows}
 use Rattle.tail_preimage.proofs.Unions.{IsNodeSet-same}

@@ -1,4 +1,4 @@
-use Rattle.std.proofs.Common.{◌≡◌, subst, sym, arith, ⊎_elim}
+use Rattle.std.proofs.Common.{subst, sym, arith, ⊎_elim}
 use Rattle.std.proofs.lemmas.Bool.{cases_eq}
 use Rattle.tail_preimage.specs.Relations.{Rows, Open, Meets}
 use Rattle.tail_preimage.proofs.Unions.{IsNodeSet-meets}

@@ -1,4 +1,4 @@
-use Rattle.std.proofs.Common.{◌≡◌, ◌-◌, sym, subst, arith}
+use Rattle.std.proofs.Common.{◌≡◌, ◌-◌, subst, arith}
 use Rattle.word_image.proofs.laws.Unions.{IsUnion-take}
 use Rattle.tail_preimage.specs.Relations.{Rows, Rounds}
 use Rattle.tail_preimage.proofs.sides.some_rounds.Goals as goal
