@@ -1,0 +1,12 @@
+pub mod Colours
+pub mod Recoloured
+pub mod RecolouredTails
+pub mod Mirrors
+pub mod Numbers
+pub mod Readings
+pub mod Colourings
+pub mod KnownWindows
+pub mod Completions
+pub mod Classes
+pub mod Lifts
+pub mod Members

@@ -1,0 +1,130 @@
+-- The rules that colourings make are those of the class, and their numbers compare as their entries do.
+use Rattle.std.proofs.Common.{◌≡◌, ℕ, ◌^◌, ◌<◌, List, length, take, get_or, slice_index, Bool, true, false, ℤ, pos, refl, sym, ap, ◌∙◌, arith}
+use Rattle.std.proofs.lemmas.Int.{ints}
+use Rattle.std.proofs.lemmas.List.{length-map, get_or-take, ext_get_or}
+use Rattle.std.proofs.lemmas.List.FromFn.{get_or-map-range_with_len}
+use Rattle.word_image.specs.LocalRules.{LocalRule, IsShape, IsRule, value, word_of, local_map, wolfram_number}
+use Rattle.word_image.proofs.laws.Values.{length-word_of, IsWord-word_of, value-word_of}
+use Rattle.word_image.proofs.laws.Words.{entry-below}
+use Rattle.word_image.proofs.laws.Images.{IsRule-mirrored}
+use Rattle.word_image.proofs.laws.SameRules.{rule_from_parts}
+use Rattle.rule_algebra.specs.Algebra.{recoloured}
+use Rattle.rule_algebra.specs.Tables.{table_by}
+use Rattle.rule_algebra.proofs.laws.Tables.{length-table_by, IsWord-table_by, table_by-at}
+use Rattle.rule_classes.specs.Classes.{turned, HasRecolouredTable, IsInClass}
+use Rattle.rule_classes.specs.Colourings.{AreInverse, IsColouring, new_letter, entry, in_colours, number_of}
+use Rattle.rule_classes.specs.declared.colourings.Colouring.{Colouring}
+use Rattle.rule_classes.proofs.laws.Colours.{AreInverse-swap, letters_of, IsRecolouring-take, recoloured-take, IsWord-colours, recoloured-back}
+use Rattle.rule_classes.proofs.laws.Recoloured.{local_map-back}
+use Rattle.rule_classes.proofs.laws.Numbers.{wolfram_number-less}
+
+-- The recoloured rule is accepted
+
+-- the rule, mirrored or not, gives letters
+pub turned-below : {r : LocalRule} → IsRule r → (mirror : Bool) (w : List ℕ) → local_map (turned r mirror) w < r.states
+turned-below {r} rule true w = entry-below (IsRule-mirrored rule) _
+turned-below {r} rule false w = entry-below rule _
+
+-- a shape is accepted at offset 0
+pub IsShape-offset_0 : {k m : ℕ} {o : ℤ} → IsShape k m o → IsShape k m (pos 0)
+IsShape-offset_0 {k} {m} {o} shape = record {
+  least_states = shape.least_states;
+  most_states = shape.most_states;
+  least_width = shape.least_width;
+  most_width = shape.most_width;
+  most_nodes = shape.most_nodes;
+  least_offset = omega (arith, ints);
+  most_offset = omega (arith, ints, shape.most_width);
+}
+
+pub IsRule-in_colours : {r : LocalRule} (c : Colouring) → IsRule r → IsColouring r.states c → IsRule (in_colours r c)
+IsRule-in_colours {r} c rule colouring = record {
+  shape = IsShape-offset_0 rule.shape;
+  entries = length-table_by r.states r.width (new_letter r c);
+  letters = IsWord-table_by r.states r.width (new_letter r c) (λ w. colouring.colour _ (turned-below rule c.mirrored (recoloured c.letters w)));
+}
+
+-- Numbers
+
+-- its table has the entries
+pub get_or-in_colours : (r : LocalRule) (c : Colouring) (v : ℕ) → v < r.states ^ r.width → get_or (in_colours r c).table v 0 ≡ entry r c v
+get_or-in_colours r c v l = get_or-map-range_with_len (λ u. entry r c u) 0 (r.states ^ r.width) v v 0 l (omega arith)
+
+-- the lesser entry at the greatest window on which the two differ makes the lesser number
+pub number_of-less : {r : LocalRule} (c d : Colouring) (v : ℕ) → IsRule r → IsColouring r.states c → IsColouring r.states d → v < r.states ^ r.width
+    → ((u : ℕ) → v < u → u < r.states ^ r.width → entry r c u ≡ entry r d u) → entry r c v < entry r d v → number_of r c < number_of r d
+number_of-less {r} c d v rule first second l same less =
+    let long : length (in_colours r c).table ≡ r.states ^ r.width = length-table_by r.states r.width (new_letter r c) in
+    wolfram_number-less (IsRule-in_colours c rule first) (IsRule-in_colours d rule second) refl refl v (omega arith)
+    (λ u past within.
+    let inside : u < r.states ^ r.width = omega arith in
+    get_or-in_colours r c u inside ∙ same u past inside ∙ sym (get_or-in_colours r d u inside))
+    (omega (arith, get_or-in_colours r c v l, get_or-in_colours r d v l))
+
+-- equal entries make one number
+pub number_of-same : (r : LocalRule) (c d : Colouring) → ((u : ℕ) → u < r.states ^ r.width → entry r c u ≡ entry r d u) → number_of r c ≡ number_of r d
+number_of-same r c d same =
+    let first : length (in_colours r c).table ≡ r.states ^ r.width = length-table_by r.states r.width (new_letter r c) in
+    let second : length (in_colours r d).table ≡ r.states ^ r.width = length-table_by r.states r.width (new_letter r d) in
+    ap (λ t. wolfram_number (record { states = r.states; width = r.width; offset = pos 0; table = t }))
+    (ext_get_or 0 _ _ (first ∙ sym second) (λ u l.
+    let inside : u < r.states ^ r.width = omega arith in
+    get_or-in_colours r c u inside ∙ same u inside ∙ sym (get_or-in_colours r d u inside)))
+
+-- The class
+
+-- the rule that gives the colours of what b gives on the windows in the old letters
+abbrev given : LocalRule → List ℕ → List ℕ → List ℕ → ℕ
+given b colours letters w = slice_index colours (local_map b (recoloured letters w))
+
+abbrev of_colours : LocalRule → List ℕ → List ℕ → LocalRule
+of_colours b colours letters = record { states = b.states; width = b.width; offset = pos 0; table = table_by b.states b.width (given b colours letters) }
+
+-- has a recoloured table
+of_colours-recoloured : {b : LocalRule} {colours letters : List ℕ} → IsRule b → AreInverse b.states colours letters → HasRecolouredTable b (of_colours b colours letters)
+of_colours-recoloured {b} {colours} {letters} rule inverse = record {
+  colours = take b.states colours;
+  recolouring = IsRecolouring-take inverse;
+  recoloured = record {
+    states = refl;
+    width = refl;
+    entries = length-table_by b.states b.width (given b colours letters);
+    letters = λ w word long.
+        let new : List ℕ = recoloured colours w in
+        ap (local_map (of_colours b colours letters)) (recoloured-take colours w word)
+        ∙ table_by-at b.states b.width (given b colours letters) new (IsWord-colours inverse w word) (length-map w (slice_index colours) ∙ long)
+        ∙ ap (λ x. slice_index colours (local_map b x)) (recoloured-back (AreInverse-swap inverse) w word)
+        ∙ sym (get_or-take b.states colours (local_map b w) 0 (entry-below rule _));
+  };
+  offset = refl;
+}
+
+-- a rule with a recoloured table is such a rule
+recoloured-of_colours : {b h : LocalRule} → (has : HasRecolouredTable b h) → (letters : List ℕ) × AreInverse b.states has.colours letters × (h ≡ of_colours b has.colours letters)
+recoloured-of_colours {b} {h} has =
+    let found = letters_of has.recolouring in
+    let new = has.recoloured in (
+      found.0,
+      found.1,
+      rule_from_parts new.states new.width has.offset (ext_get_or 0 h.table _ (new.entries ∙ sym (length-table_by b.states b.width (given b has.colours found.0))) (λ v l.
+          let below : v < b.states ^ b.width = omega (arith, new.entries) in
+          let w : List ℕ = word_of b.states b.width v in
+          sym (ap (λ k. slice_index h.table (value k w)) new.states ∙ ap (slice_index h.table) (value-word_of b.states b.width v below))
+          ∙ local_map-back found.1 new w (IsWord-word_of b.states b.width v below) (length-word_of b.states b.width v)
+          ∙ sym (get_or-map-range_with_len (λ u. given b has.colours found.0 (word_of b.states b.width u)) 0 (b.states ^ b.width) v v 0 below (omega arith)))),
+    )
+
+-- so a recoloured rule is of the class
+pub IsInClass-colours : {r : LocalRule} {colours letters : List ℕ} → (mirror : Bool) → IsRule r → AreInverse r.states colours letters
+    → IsInClass r mirror (in_colours r (record { mirrored = mirror; colours = colours; letters = letters }))
+IsInClass-colours {r} {colours} {letters} true rule inverse = of_colours-recoloured (IsRule-mirrored rule) inverse
+IsInClass-colours {r} {colours} {letters} false rule inverse = of_colours-recoloured rule inverse
+
+-- and each rule of the class is one
+pub colouring_of : (r : LocalRule) {h : LocalRule} → (mirror : Bool) → IsInClass r mirror h → (c : Colouring) × IsColouring r.states c × (c.mirrored ≡ mirror) × (h ≡ in_colours r c)
+colouring_of r {h} true inside =
+    let found = recoloured-of_colours inside in
+    (record { mirrored = true; colours = inside.colours; letters = found.0 }, found.1, refl, found.2)
+colouring_of r {h} false inside =
+    let found = recoloured-of_colours inside in
+    (record { mirrored = false; colours = inside.colours; letters = found.0 }, found.1, refl, found.2)

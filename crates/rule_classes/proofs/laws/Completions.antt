@@ -1,0 +1,207 @@
+-- The least of the rules that complete a colouring: by comparing tables, and by choosing one colour more.
+use Rattle.std.proofs.Common.{◌≡◌, ◌≢◌, inl, inr, ◌⊎◌, ℕ, ◌+◌, ◌-◌, ◌^◌, ◌<◌, ◌≤◌, slice_index, refl, sym, ap, ◌∙◌, subst, ⊎_elim, arith}
+use Rattle.std.specs.Prelude.{◌==◌, if◌then◌else◌}
+use Rattle.std.proofs.lemmas.Bool.{cases_lt, cases_eq, eq-eqb, ne_eqb, cond-true, cond-false}
+use Rattle.word_image.specs.LocalRules.{LocalRule, IsRule}
+use Rattle.rule_classes.specs.Colourings.{IsColouring, IsChosen, Completes, IsLeastOf, entry, number_of}
+use Rattle.rule_classes.specs.declared.colourings.Colouring.{Colouring}
+use Rattle.rule_classes.proofs.laws.Colourings.{number_of-less, number_of-same}
+use Rattle.rule_classes.proofs.laws.KnownWindows.{IsKnown, entry-chosen}
+
+-- a colouring completes itself
+pub Completes-itself : {k : ℕ} {c : Colouring} {low high : ℕ} → IsColouring k c → Completes k c low high c
+Completes-itself {k} {c} {low} {high} colouring = record { colouring = colouring; mirrored = refl; letters = λ a l chosen. refl }
+
+-- Tables
+
+-- what completes the colouring has the letters of the best rule from this window on
+pub record AgreeFrom (r : LocalRule) (c : Colouring) (low high : ℕ) (best : Colouring) (v : ℕ) : Type 0 where
+  pub same : (d : Colouring) → Completes r.states c low high d → (u : ℕ) → v ≤ u → u < r.states ^ r.width → entry r d u ≡ entry r best u
+
+-- one window less
+pub AgreeFrom-less : {r : LocalRule} {c best : Colouring} {low high v : ℕ} → IsRule r → high ≤ r.states → IsColouring r.states c → IsKnown r low high v
+    → IsChosen low high (entry r c v) → entry r c v ≡ entry r best v → AgreeFrom r c low high best (v + 1) → AgreeFrom r c low high best v
+AgreeFrom-less {r} {c} {best} {low} {high} {v} rule most colouring known chosen same rest = record {
+  same = λ d completes u from within.
+      ⊎_elim (λ (e : u ≡ v). ap (entry r d) e ∙ entry-chosen rule most colouring completes known chosen ∙ same ∙ ap (entry r best) (sym e))
+      (λ other. rest.same d completes u (omega arith) within) (cases_eq u v);
+}
+
+-- a greater letter makes a greater number
+pub greater_number : {r : LocalRule} {c best d : Colouring} {low high v : ℕ} → IsRule r → IsColouring r.states best → Completes r.states c low high d → v < r.states ^ r.width
+    → AgreeFrom r c low high best (v + 1) → entry r best v < entry r d v → number_of r best < number_of r d
+greater_number {r} {c} {best} {d} {low} {high} {v} rule colouring completes below rest less =
+    number_of-less best d v rule colouring completes.colouring below (λ u past within. sym (rest.same d completes u (omega arith) within)) less
+
+-- a lesser one a lesser number
+pub lesser_number : {r : LocalRule} {c best : Colouring} {low high v : ℕ} → IsRule r → IsColouring r.states c → IsColouring r.states best → v < r.states ^ r.width
+    → AgreeFrom r c low high best (v + 1) → entry r c v < entry r best v → number_of r c < number_of r best
+lesser_number {r} {c} {best} {low} {high} {v} rule first second below rest less =
+    number_of-less c best v rule first second below (λ u past within. rest.same c (Completes-itself first) u (omega arith) within) less
+
+-- and equal tables one number
+pub one_number : {r : LocalRule} {c best d : Colouring} {low high : ℕ} → AgreeFrom r c low high best 0 → Completes r.states c low high d → number_of r best ≡ number_of r d
+one_number {r} {c} {best} {d} {low} {high} all completes = sym (number_of-same r d best (λ u l. all.same d completes u (omega arith) l))
+
+-- Choices
+
+-- the greatest and the least free colour are chosen by turns
+abbrev pub next_of : ℕ → ℕ → ℕ → ℕ
+next_of k low high = if low + high == k then high - 1 else low
+
+pub next_of-greatest : (k low high : ℕ) → low + high ≡ k → next_of k low high ≡ high - 1
+next_of-greatest k low high e = cond-true (low + high == k) (high - 1) low (eq-eqb (low + high) k e)
+
+pub next_of-least : (k low high : ℕ) → low + high ≢ k → next_of k low high ≡ low
+next_of-least k low high other = cond-false (low + high == k) (high - 1) low (ne_eqb (low + high) k other)
+
+-- it is one of them
+pub next_of-within : (k low high : ℕ) → low < high → (low ≤ next_of k low high) × (next_of k low high < high)
+next_of-within k low high some =
+    ⊎_elim (λ e. let at = next_of-greatest k low high e in (omega (arith, at), omega (arith, at))) (λ other. let at = next_of-least k low high other in (omega (arith, at), omega (arith, at))) (cases_eq (low + high) k)
+
+-- the colour of the letter that another colouring has at a free colour is free
+free_place : {k : ℕ} {c d : Colouring} {low high : ℕ} (next : ℕ) → next < k → low ≤ next → next < high → IsColouring k c → Completes k c low high d
+    → (q : ℕ) × (low ≤ q) × (q < high) × (slice_index d.letters next ≡ slice_index c.letters q)
+free_place {k} {c} {d} {low} {high} next l from to colouring completes =
+    let x : ℕ = slice_index d.letters next in
+    let letter : x < k = completes.colouring.letter next l in
+    let q : ℕ = slice_index c.colours x in
+    let colour : q < k = colouring.colour x letter in
+    let back : slice_index c.letters q ≡ x = colouring.back x letter in
+    let free : IsChosen low high q → ⊥ = λ chosen.
+    let same : q ≡ next = sym (completes.colouring.there q colour) ∙ ap (slice_index d.colours) (completes.letters q colour chosen ∙ back) ∙ completes.colouring.there next l in
+    ⊎_elim (λ less. omega arith) (λ past. omega arith) chosen in (
+      q,
+      ⊎_elim (λ less. absurd (free (inl less))) (λ h. h) (cases_lt q low),
+      ⊎_elim (λ h. h) (λ past. absurd (free (inr past))) (cases_lt q high),
+      sym back,
+    )
+
+-- where one colour is free at most, its letter is the one that is left
+pub Completes-last : {k : ℕ} {c d : Colouring} {low high : ℕ} → high ≤ low + 1 → high ≤ k → IsColouring k c → Completes k c low high d → Completes k c 0 0 d
+Completes-last {k} {c} {d} {low} {high} few most colouring completes = record {
+  colouring = completes.colouring;
+  mirrored = completes.mirrored;
+  letters = λ a l chosen.
+      ⊎_elim (λ less. completes.letters a l (inl less))
+      (λ from. ⊎_elim
+      (λ (free : a < high).
+      let found = free_place a l from free colouring completes in
+      let same : found.0 ≡ a = omega (arith, found.1, found.2) in
+      found.3 ∙ ap (slice_index c.letters) same)
+      (λ past. completes.letters a l (inr past)) (cases_lt a high))
+      (cases_lt a low);
+}
+
+-- where none is free, the two make one rule
+pub number_of-completes : {r : LocalRule} {c d : Colouring} → IsRule r → IsColouring r.states c → Completes r.states c 0 0 d → number_of r c ≡ number_of r d
+number_of-completes {r} {c} {d} rule colouring completes = number_of-same r c d (λ u l.
+    sym (entry-chosen rule (omega arith) colouring completes (record { below = l; near = inl refl }) (inr (omega arith))))
+
+-- so the lesser of the two is the least
+pub IsLeastOf-last : {r : LocalRule} {c before found : Colouring} {low high : ℕ} → high ≤ low + 1 → high ≤ r.states → IsColouring r.states c → IsLeastOf r c 0 0 before found → IsLeastOf r c low high before found
+IsLeastOf-last {r} {c} {before} {found} {low} {high} few most colouring h = record {
+  colouring = h.colouring;
+  one = h.one;
+  least = λ d completes. h.least d (Completes-last few most colouring completes);
+}
+
+-- the colouring with the letter of one colour at another, and with one colour less that is free
+pub record IsNext (k : ℕ) (c : Colouring) (low high next colour : ℕ) (e : Colouring) (from to : ℕ) : Type 0 where
+  pub within : next < k
+  pub from_next : low ≤ next
+  pub next_to : next < high
+  pub mirrored : e.mirrored ≡ c.mirrored
+  pub letter : slice_index e.letters next ≡ slice_index c.letters colour
+  pub others : (a : ℕ) → a ≢ next → a ≢ colour → slice_index e.letters a ≡ slice_index c.letters a
+  pub chosen : (a : ℕ) → IsChosen from to a → (a ≡ next) ⊎ IsChosen low high a
+
+-- the greatest free colour is chosen
+pub IsNext-greatest : {k low high colour : ℕ} {c e : Colouring} → high ≤ k → low < high → low + high ≡ k → e.mirrored ≡ c.mirrored
+    → slice_index e.letters (high - 1) ≡ slice_index c.letters colour → ((a : ℕ) → a ≢ high - 1 → a ≢ colour → slice_index e.letters a ≡ slice_index c.letters a)
+    → IsNext k c low high (next_of k low high) colour e low (high - 1)
+IsNext-greatest {k} {low} {high} {colour} {c} {e} most some even mirrored letter others =
+    subst (λ next. IsNext k c low high next colour e low (high - 1)) (sym (next_of-greatest k low high even)) (record {
+      within = omega arith;
+      from_next = omega arith;
+      next_to = omega arith;
+      mirrored = mirrored;
+      letter = letter;
+      others = others;
+      chosen = λ a. ⊎_elim (λ less. inr (inl less)) (λ past. ⊎_elim (λ at. inl at) (λ other. inr (inr (omega arith))) (cases_eq a (high - 1)));
+    })
+
+-- or the least one
+pub IsNext-least : {k low high colour : ℕ} {c e : Colouring} → high ≤ k → low < high → low + high ≢ k → e.mirrored ≡ c.mirrored
+    → slice_index e.letters low ≡ slice_index c.letters colour → ((a : ℕ) → a ≢ low → a ≢ colour → slice_index e.letters a ≡ slice_index c.letters a)
+    → IsNext k c low high (next_of k low high) colour e (low + 1) high
+IsNext-least {k} {low} {high} {colour} {c} {e} most some odd mirrored letter others =
+    subst (λ next. IsNext k c low high next colour e (low + 1) high) (sym (next_of-least k low high odd)) (record {
+      within = omega arith;
+      from_next = omega arith;
+      next_to = omega arith;
+      mirrored = mirrored;
+      letter = letter;
+      others = others;
+      chosen = λ a. ⊎_elim (λ less. ⊎_elim (λ at. inl at) (λ other. inr (inl (omega arith))) (cases_eq a low)) (λ past. inr (inr past));
+    })
+
+-- what completes the first and has that letter there completes it
+Completes-next : {k : ℕ} {c d e : Colouring} {low high next colour from to : ℕ} → IsNext k c low high next colour e from to → low ≤ colour → colour < high → Completes k c low high d
+    → slice_index d.letters next ≡ slice_index c.letters colour → Completes k e from to d
+Completes-next {k} {c} {d} {e} {low} {high} {next} {colour} {from} {to} h least most completes same = record {
+  colouring = completes.colouring;
+  mirrored = completes.mirrored ∙ sym h.mirrored;
+  letters = λ a l chosen.
+      ⊎_elim (λ (at : a ≡ next). ap (slice_index d.letters) at ∙ same ∙ sym h.letter ∙ ap (slice_index e.letters) (sym at))
+      (λ old.
+      let other : a ≢ next = λ at. ⊎_elim (λ less. omega (arith, h.from_next)) (λ past. omega (arith, h.next_to)) old in
+      let another : a ≢ colour = λ at. ⊎_elim (λ less. omega arith) (λ past. omega arith) old in
+      completes.letters a l old ∙ sym (h.others a other another))
+      (h.chosen a chosen);
+}
+
+-- found is the least of one and of those that complete the colouring and have the letter of a colour below n at the next one
+pub record IsLeastOver (r : LocalRule) (c : Colouring) (low high next n : ℕ) (before found : Colouring) : Type 0 where
+  pub colouring : IsColouring r.states found
+  pub one : (found ≡ before) ⊎ ((found.mirrored ≡ c.mirrored) × (number_of r found < number_of r before))
+  pub least : (d : Colouring) → Completes r.states c low high d → (q : ℕ) → low ≤ q → q < n → slice_index d.letters next ≡ slice_index c.letters q → number_of r found ≤ number_of r d
+
+-- at first there is none
+pub IsLeastOver-none : {r : LocalRule} {before : Colouring} (c : Colouring) (low high next : ℕ) → IsColouring r.states before → IsLeastOver r c low high next low before before
+IsLeastOver-none {r} {before} c low high next colouring = record { colouring = colouring; one = inl refl; least = λ d completes q from below same. absurd (omega arith) }
+
+-- one less, or as before
+pub no_greater : (r : LocalRule) (c : Colouring) {before found : Colouring} → (found ≡ before) ⊎ ((found.mirrored ≡ c.mirrored) × (number_of r found < number_of r before)) → number_of r found ≤ number_of r before
+no_greater r c {before} {found} one = ⊎_elim (λ (same : found ≡ before). let number = ap (number_of r) same in omega arith) (λ less. omega (arith, less.1)) one
+
+-- one colour more is tried
+pub IsLeastOver-more : {r : LocalRule} {c e before found new : Colouring} {low high next n from to : ℕ} → IsNext r.states c low high next n e from to → low ≤ n → n < high
+    → IsLeastOver r c low high next n before found → IsLeastOf r e from to found new → IsLeastOver r c low high next (n + 1) before new
+IsLeastOver-more {r} {c} {e} {before} {found} {new} {low} {high} {next} {n} {from} {to} h least most over found_new =
+    let less : number_of r new ≤ number_of r found = no_greater r e found_new.one in
+    let old : number_of r found ≤ number_of r before = no_greater r c over.one in
+    record {
+      colouring = found_new.colouring;
+      one = ⊎_elim
+          (λ (same : new ≡ found). ⊎_elim (λ (kept : found ≡ before). inl (same ∙ kept))
+          (λ (other : (found.mirrored ≡ c.mirrored) × (number_of r found < number_of r before)). inr (ap (λ x. x.mirrored) same ∙ other.0, omega (arith, other.1))) over.one)
+          (λ (other : (new.mirrored ≡ e.mirrored) × (number_of r new < number_of r found)). inr (other.0 ∙ h.mirrored, omega (arith, other.1)))
+          found_new.one;
+      least = λ d completes q start below same.
+          ⊎_elim (λ before. omega (arith, over.least d completes q start before same))
+          (λ last.
+          let at : q ≡ n = omega arith in
+          found_new.least d (Completes-next h least most completes (same ∙ ap (slice_index c.letters) at)))
+          (cases_lt q n);
+    }
+
+-- all are tried
+pub IsLeastOf-over : {r : LocalRule} {c before found : Colouring} {low high : ℕ} (next : ℕ) → next < r.states → low ≤ next → next < high → IsColouring r.states c
+    → IsLeastOver r c low high next high before found → IsLeastOf r c low high before found
+IsLeastOf-over {r} {c} {before} {found} {low} {high} next l from to colouring over = record {
+  colouring = over.colouring;
+  one = over.one;
+  least = λ d completes. let at = free_place next l from to colouring completes in over.least d completes at.0 at.1 at.2 at.3;
+}

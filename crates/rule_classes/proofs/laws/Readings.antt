@@ -1,0 +1,122 @@
+-- A window is read from its last letter on, in the old letters.
+use Rattle.std.proofs.Common.{◌≡◌, ℕ, suc, ◌+◌, ◌-◌, ◌*◌, ◌/◌, ◌%◌, ◌^◌, ◌<◌, ◌≤◌, List, [], ◌∷◌, length, take, drop, reverse, get_or, slice_index, if◌then◌else◌, Bool, true, false, refl, sym, ap, ap₂, ◌∙◌, subst, arith, length-drop, drop-cons, pow-suc}
+use Rattle.std.proofs.Math.Nat.{pow-le-pow_right, pow-zero}
+use Rattle.std.proofs.lemmas.Nat.{div-mul-add, mod-mul-add}
+use Rattle.std.proofs.lemmas.List.{take_all, length-map, length-reverse, get_or-map, reverse-append, drop_all}
+use Rattle.std.proofs.lemmas.List.Elements.{All-drop}
+use Rattle.word_image.specs.LocalRules.{LocalRule, IsRule, IsWord, value, word_of, local_map}
+use Rattle.word_image.proofs.laws.Values.{value-snoc, value-below, value-take_more, value-word_of, IsWord-word_of, length-word_of}
+use Rattle.word_image.proofs.laws.Images.{IsWord-reverse, local_map-mirrored}
+use Rattle.word_image.proofs.laws.RuleFaults.{window_count-le}
+use Rattle.word_image.proofs.laws.WindowParts.{some_letter}
+use Rattle.rule_classes.specs.Classes.{turned}
+use Rattle.rule_classes.specs.Colourings.{IsColouring, old_word, read_as}
+use Rattle.rule_classes.specs.declared.colourings.Colouring.{Colouring}
+use Rattle.rule_classes.proofs.laws.Colours.{AreInverse-swap, IsWord-colours}
+
+-- Words, read forwards or backwards
+
+IsWord-read_as : (mirror : Bool) (k : ℕ) (w : List ℕ) → IsWord k w → IsWord k (read_as mirror w)
+IsWord-read_as true k w word = IsWord-reverse k w word
+IsWord-read_as false k w word = word
+
+length-read_as : (mirror : Bool) (w : List ℕ) → length (read_as mirror w) ≡ length w
+length-read_as true w = length-reverse w
+length-read_as false w = refl
+
+-- with one letter more before them
+value-read_as : (mirror : Bool) (k a : ℕ) (w : List ℕ) → value k (read_as mirror (a ∷ w)) ≡ (if mirror then value k (read_as mirror w) * k + a else a * k ^ length w + value k (read_as mirror w))
+value-read_as true k a w = ap (value k) (reverse-append (a ∷ []) w) ∙ value-snoc k (reverse w) a
+value-read_as false k a w = refl
+
+-- and none
+empty : (mirror : Bool) (k : ℕ) → value k (read_as mirror []) ≡ 0
+empty true k = refl
+empty false k = refl
+
+-- The window in the old letters
+
+length-old_word : (r : LocalRule) (c : Colouring) (v : ℕ) → length (old_word r c v) ≡ r.width
+length-old_word r c v = length-map (word_of r.states r.width v) (slice_index c.letters) ∙ length-word_of r.states r.width v
+
+IsWord-old_word : (r : LocalRule) (c : Colouring) (v : ℕ) → IsColouring r.states c → v < r.states ^ r.width → IsWord r.states (old_word r c v)
+IsWord-old_word r c v colouring below = IsWord-colours (AreInverse-swap colouring) (word_of r.states r.width v) (IsWord-word_of r.states r.width v below)
+
+-- when i letters are read: those that are left, a power, and the value of the old letters
+pub record IsRead (r : LocalRule) (c : Colouring) (v i left power old : ℕ) : Type 0 where
+  pub rest : left ≡ value r.states (take (r.width - i) (word_of r.states r.width v))
+  pub raised : power ≡ r.states ^ i
+  pub reads : old ≡ value r.states (read_as c.mirrored (drop (r.width - i) (old_word r c v)))
+
+-- none is read
+pub IsRead-none : {r : LocalRule} (c : Colouring) (v : ℕ) → v < r.states ^ r.width → IsRead r c v 0 v 1 0
+IsRead-none {r} c v below =
+    let w : List ℕ = word_of r.states r.width v in
+    let nothing : drop (r.width - 0) (old_word r c v) ≡ [] = drop_all (r.width - 0) (old_word r c v) (omega (arith, length-old_word r c v)) in
+    record {
+      rest = sym (ap (value r.states) (take_all (r.width - 0) w (omega (arith, length-word_of r.states r.width v))) ∙ value-word_of r.states r.width v below);
+      raised = sym (pow-zero r.states);
+      reads = sym (ap (λ x. value r.states (read_as c.mirrored x)) nothing ∙ empty c.mirrored r.states);
+    }
+
+-- the values are few
+pub IsRead-few : {r : LocalRule} {c : Colouring} {v i left power old : ℕ} → IsRule r → IsColouring r.states c → v < r.states ^ r.width → i ≤ r.width → IsRead r c v i left power old
+    → (old < r.states ^ i) × (r.states ^ i ≤ 256)
+IsRead-few {r} {c} {v} {i} {left} {power} {old} rule colouring below l h =
+    let x : List ℕ = drop (r.width - i) (old_word r c v) in
+    let word : IsWord r.states x = All-drop (λ a. a < r.states) (r.width - i) (old_word r c v) (IsWord-old_word r c v colouring below) in
+    let long : length (read_as c.mirrored x) ≡ i = length-read_as c.mirrored x ∙ length-drop (r.width - i) (old_word r c v) ∙ omega (arith, length-old_word r c v) in
+    let less = value-below r.states (read_as c.mirrored x) (IsWord-read_as c.mirrored r.states x word) in
+    let grows : r.states ^ i ≤ r.states ^ r.width = pow-le-pow_right (some_letter rule) l in
+    let few : r.states ^ r.width ≤ 256 = window_count-le r.states r.width r.offset rule.shape in (
+      subst (λ n. n < r.states ^ i) (sym h.reads) (subst (λ n. value r.states (read_as c.mirrored x) < r.states ^ n) long less),
+      omega arith,
+    )
+
+-- one letter more is read
+pub IsRead-more : {r : LocalRule} {c : Colouring} {v i left power old : ℕ} → v < r.states ^ r.width → i < r.width → IsRead r c v i left power old
+    → IsRead r c v (i + 1) (left / r.states) (power * r.states)
+    (if c.mirrored then old * r.states + slice_index c.letters (left % r.states) else slice_index c.letters (left % r.states) * power + old)
+IsRead-more {r} {c} {v} {i} {left} {power} {old} below l h =
+    let k : ℕ = r.states in
+    let w : List ℕ = word_of k r.width v in
+    let x : List ℕ = old_word r c v in
+    let n : ℕ = r.width - (i + 1) in
+    let long : length w ≡ r.width = length-word_of k r.width v in
+    let within : n < length w = omega arith in
+    let a : ℕ = get_or w n 0 in
+    let letter : a < k = IsWord-word_of k r.width v below n 0 within in
+    let one : r.width - i ≡ n + 1 = omega arith in
+    let split : left ≡ value k (take n w) * k + a = h.rest ∙ ap (λ j. value k (take j w)) one ∙ value-take_more k w n within in
+    let last : left % k ≡ a = ap (λ y. y % k) split ∙ mod-mul-add (value k (take n w)) k a letter in
+    let old_letter : slice_index c.letters (left % k) ≡ get_or x n 0 = ap (slice_index c.letters) last ∙ sym (get_or-map (slice_index c.letters) w n 0 0 within) in
+    let seam : suc n ≡ r.width - i = omega arith in
+    let inside : n < length x = omega (arith, length-old_word r c v) in
+    let more : drop n x ≡ get_or x n 0 ∷ drop (r.width - i) x = drop-cons x n 0 inside ∙ ap (λ j. get_or x n 0 ∷ drop j x) seam in
+    let rest_long : length (drop (r.width - i) x) ≡ i = omega (arith, length-drop (r.width - i) x, length-old_word r c v) in
+    record {
+      rest = ap (λ y. y / k) split ∙ div-mul-add (value k (take n w)) k a letter;
+      raised = ap (λ p. p * k) h.raised ∙ sym (ap (λ j. k ^ j) (let next : i + 1 ≡ suc i = omega arith in next) ∙ pow-suc k i);
+      reads =
+          ap₂ (λ (o b : ℕ). if c.mirrored then o * k + b else b * power + o) h.reads old_letter
+          ∙ ap (λ p. if c.mirrored then value k (read_as c.mirrored (drop (r.width - i) x)) * k + get_or x n 0 else get_or x n 0 * p + value k (read_as c.mirrored (drop (r.width - i) x)))
+          (h.raised ∙ ap (λ j. k ^ j) (sym rest_long))
+          ∙ sym (ap (λ y. value k (read_as c.mirrored y)) more ∙ value-read_as c.mirrored k (get_or x n 0) (drop (r.width - i) x));
+    }
+
+-- all letters are read
+pub IsRead-all : {r : LocalRule} {c : Colouring} {v i left power old : ℕ} → i ≡ r.width → IsRead r c v i left power old → old ≡ value r.states (read_as c.mirrored (old_word r c v))
+IsRead-all {r} {c} {v} {i} {left} {power} {old} all h =
+    let none : r.width - i ≡ 0 = omega arith in
+    h.reads ∙ ap (λ j. value r.states (read_as c.mirrored (drop j (old_word r c v)))) none
+
+-- What is given
+
+-- the mirrored rule gives what the rule gives on the window read backwards
+local_map-read_as : (r : LocalRule) (mirror : Bool) (w : List ℕ) → IsWord r.states w → length w ≡ r.width → local_map r (read_as mirror w) ≡ local_map (turned r mirror) w
+local_map-read_as r true w word long = sym (local_map-mirrored r w word long)
+local_map-read_as r false w word long = refl
+
+pub given-read : (r : LocalRule) (c : Colouring) (v : ℕ) → IsColouring r.states c → v < r.states ^ r.width
+    → slice_index r.table (value r.states (read_as c.mirrored (old_word r c v))) ≡ local_map (turned r c.mirrored) (old_word r c v)
+given-read r c v colouring below = local_map-read_as r c.mirrored (old_word r c v) (IsWord-old_word r c v colouring below) (length-old_word r c v)

@@ -1,0 +1,36 @@
+-- Classes of rules that differ by a mirror and by the names of their letters, and the least rule of a class.
+use Rattle.std.specs.Prelude.{◌≡◌, ℕ, ◌≤◌, ◌↔◌, List, Bool, false, IsTrue, IsFalse, if◌then◌else◌, pos}
+use Rattle.word_image.specs.LocalRules.{LocalRule, mirrored, wolfram_number}
+use Rattle.word_image.specs.Words.{IsSurjective}
+use Rattle.tail_config.specs.Tails.{IsInjective, IsRightClosing, IsLeftClosing}
+use Rattle.rule_algebra.specs.Algebra.{IsRecolouring, IsRecoloured}
+
+-- g stands at offset 0, and its table is that of the rule, recoloured by some permutation of the letters
+pub record HasRecolouredTable (r g : LocalRule) : Type 0 where
+  pub colours : List ℕ
+  pub recolouring : IsRecolouring r.states colours
+  pub recoloured : IsRecoloured colours r g
+  pub offset : g.offset ≡ pos 0
+
+-- the rule, or its mirrored rule
+abbrev pub turned : LocalRule → Bool → LocalRule
+turned r mirror = if mirror then mirrored r else r
+
+-- the class of a rule: such rules, of the rule itself and of its mirrored rule
+abbrev pub IsInClass : LocalRule → Bool → LocalRule → Type 0
+IsInClass r mirror g = HasRecolouredTable (turned r mirror) g
+
+-- g has the least Wolfram number of the class, and the mirrored rule is taken exactly where no recolouring of the rule's own table gives g
+pub record IsLeastOfClass (r : LocalRule) (mirror : Bool) (g : LocalRule) : Type 0 where
+  pub member : IsInClass r mirror g
+  pub least : (other : Bool) (h : LocalRule) → IsInClass r other h → wolfram_number g ≤ wolfram_number h
+  pub needed : IsTrue mirror ↔ (¬ IsInClass r false g)
+
+-- the verdicts on r are those on g, where a mirror exchanges right and left
+pub record HaveOneVerdict (r : LocalRule) (mirror : Bool) (g : LocalRule) : Type 0 where
+  pub surjective : IsSurjective r ↔ IsSurjective g
+  pub injective : IsInjective r ↔ IsInjective g
+  pub right : IsFalse mirror → (IsRightClosing r ↔ IsRightClosing g)
+  pub left : IsFalse mirror → (IsLeftClosing r ↔ IsLeftClosing g)
+  pub right_mirrored : IsTrue mirror → (IsRightClosing r ↔ IsLeftClosing g)
+  pub left_mirrored : IsTrue mirror → (IsLeftClosing r ↔ IsRightClosing g)

@@ -1,0 +1,58 @@
+-- Colourings of the letters, the rules that they make, and the search for the least of these.
+use Rattle.std.specs.Prelude.{◌≡◌, ◌⊎◌, ℕ, ◌<◌, ◌≤◌, List, length, reverse, slice_index, Bool, if◌then◌else◌, pos}
+use Rattle.word_image.specs.LocalRules.{LocalRule, word_of, local_map, wolfram_number}
+use Rattle.rule_algebra.specs.Algebra.{recoloured}
+use Rattle.rule_algebra.specs.Tables.{table_by}
+use Rattle.rule_classes.specs.Classes.{turned}
+use Rattle.rule_classes.specs.declared.colourings.Colouring.{Colouring}
+
+-- colours of the letters below k, and at each colour its letter
+pub record AreInverse (k : ℕ) (colours letters : List ℕ) : Type 0 where
+  pub colours_long : k ≤ length colours
+  pub letters_long : k ≤ length letters
+  pub colour : (a : ℕ) → a < k → slice_index colours a < k
+  pub letter : (a : ℕ) → a < k → slice_index letters a < k
+  pub back : (a : ℕ) → a < k → slice_index letters (slice_index colours a) ≡ a
+  pub there : (a : ℕ) → a < k → slice_index colours (slice_index letters a) ≡ a
+
+abbrev pub IsColouring : ℕ → Colouring → Type 0
+IsColouring k c = AreInverse k c.colours c.letters
+
+-- the window in the old letters
+abbrev pub old_word : LocalRule → Colouring → ℕ → List ℕ
+old_word r c v = recoloured c.letters (word_of r.states r.width v)
+
+-- read backwards where the rule is mirrored
+abbrev pub read_as : Bool → List ℕ → List ℕ
+read_as mirror w = if mirror then reverse w else w
+
+-- the colour that the recoloured rule, mirrored or not, gives on a window
+abbrev pub new_letter : LocalRule → Colouring → List ℕ → ℕ
+new_letter r c w = slice_index c.colours (local_map (turned r c.mirrored) (recoloured c.letters w))
+
+-- and on the window of a value
+abbrev pub entry : LocalRule → Colouring → ℕ → ℕ
+entry r c v = new_letter r c (word_of r.states r.width v)
+
+-- the rule that gives these colours, at offset 0
+abbrev pub in_colours : LocalRule → Colouring → LocalRule
+in_colours r c = record { states = r.states; width = r.width; offset = pos 0; table = table_by r.states r.width (new_letter r c) }
+
+abbrev pub number_of : LocalRule → Colouring → ℕ
+number_of r c = wolfram_number (in_colours r c)
+
+-- the free colours are those from low on, below high
+abbrev pub IsChosen : ℕ → ℕ → ℕ → Type 0
+IsChosen low high colour = (colour < low) ⊎ (high ≤ colour)
+
+-- a colouring d with the letters of c at the chosen colours
+pub record Completes (k : ℕ) (c : Colouring) (low high : ℕ) (d : Colouring) : Type 0 where
+  pub colouring : IsColouring k d
+  pub mirrored : d.mirrored ≡ c.mirrored
+  pub letters : (a : ℕ) → a < k → IsChosen low high a → slice_index d.letters a ≡ slice_index c.letters a
+
+-- the least of a colouring and of those that complete c, and the first such one
+pub record IsLeastOf (r : LocalRule) (c : Colouring) (low high : ℕ) (before found : Colouring) : Type 0 where
+  pub colouring : IsColouring r.states found
+  pub one : (found ≡ before) ⊎ ((found.mirrored ≡ c.mirrored) × (number_of r found < number_of r before))
+  pub least : (d : Colouring) → Completes r.states c low high d → number_of r found ≤ number_of r d

@@ -1,0 +1,6 @@
+pub mod Classes
+pub mod Colourings
+pub mod Lifts
+pub mod LiftFaults
+pub mod Members
+pub mod Examples
