@@ -1,6 +1,6 @@
 -- Colourings of the letters, the rules that they make, and the search for the least of these.
 use Rattle.std.specs.Prelude.{◌≡◌, ◌⊎◌, ℕ, ◌<◌, ◌≤◌, List, length, reverse, slice_index, Bool, if◌then◌else◌, pos}
-use Rattle.word_image.specs.LocalRules.{LocalRule, word_of, local_map, wolfram_number}
+use Rattle.word_image.specs.LocalRules.{LocalRule, value, word_of, local_map, wolfram_number}
 use Rattle.rule_algebra.specs.Algebra.{recoloured}
 use Rattle.rule_algebra.specs.Tables.{table_by}
 use Rattle.rule_classes.specs.Classes.{turned}
@@ -25,6 +25,9 @@ old_word r c v = recoloured c.letters (word_of r.states r.width v)
 -- read backwards where the rule is mirrored
 abbrev pub read_as : Bool → List ℕ → List ℕ
 read_as mirror w = if mirror then reverse w else w
+
+abbrev pub old_value : LocalRule → Colouring → ℕ → ℕ
+old_value r c v = value r.states (read_as c.mirrored (old_word r c v))
 
 -- the colour that the recoloured rule, mirrored or not, gives on a window
 abbrev pub new_letter : LocalRule → Colouring → List ℕ → ℕ

@@ -1,8 +1,8 @@
 //! Rules with other names for their letters, mirrored or not.
-ghost use Rattle.std.specs.Prelude.{◌≡◌, ◌≢◌, ◌+◌, ◌*◌, ◌^◌, ◌<◌, ◌≤◌, ℕ, slice_index, if◌then◌else◌};
-ghost use Rattle.word_image.specs.LocalRules.{IsRule, value};
+ghost use Rattle.std.specs.Prelude.{◌≡◌, ◌≢◌, ◌+◌, ◌*◌, ◌/◌, ◌%◌, ◌^◌, ◌<◌, ◌≤◌, ℕ, slice_index, if◌then◌else◌};
+ghost use Rattle.word_image.specs.LocalRules.{IsRule};
 ghost use Rattle.word_image.specs.Storage.{padded};
-ghost use Rattle.rule_classes.specs.Colourings.{IsColouring, entry, in_colours, old_word, read_as};
+ghost use Rattle.rule_classes.specs.Colourings.{IsColouring, entry, in_colours, old_value};
 
 use word_image::{MOST_ENTRIES, Rule};
 
@@ -68,11 +68,51 @@ impl Colouring {
         ensures entries { result ≡ padded (in_colours rule.now self.now).table }
         ensures rule { IsRule rule.now }
     {
+        let windows = self.old_windows(rule);
         let mut entries = [0; MOST_ENTRIES];
         for window in 0..rule.size() {
-            entries[usize::from(window)] = self.entry(rule, window);
+            let given = rule.at(windows[usize::from(window)]);
+            entries[usize::from(window)] = self.colours[usize::from(given)];
         }
         entries
+    }
+
+    /// The values of all windows in the old letters, each from that of the window a letter back.
+    fn old_windows(&self, rule: &Rule) -> [u16; MOST_ENTRIES]
+        requires states { rule.now.states ≤ 6 }
+        requires colouring { IsColouring rule.now.states self.now }
+        ensures windows { (v : ℕ) → v < rule.now.states ^ rule.now.width →
+            slice_index result v ≡ old_value rule.now self.now v }
+        ensures rule { IsRule rule.now }
+    {
+        let k = u16::from(rule.k());
+        let nodes = u16::from(rule.nodes());
+        let mut windows = [0; MOST_ENTRIES];
+        windows[0] = self.old_window(rule, 0);
+        for window in 1..rule.size() {
+            let back = windows[usize::from(window / k)];
+            let letter = self.letters[usize::from(window % k)];
+            windows[usize::from(window)] = self.moved_on(k, nodes, back, letter);
+        }
+        windows
+    }
+
+    /// The value of a window without its first letter and with one letter more behind, both at the
+    /// other end where the rule is mirrored.
+    fn moved_on(&self, k: u16, nodes: u16, old: u16, letter: u8) -> u16
+        requires k { 0 < k }
+        requires few { k ≤ 6 }
+        requires nodes { 0 < nodes }
+        requires some { nodes ≤ 16 }
+        requires old { old < 256 }
+        requires letter { letter < 6 }
+        ensures { result ≡ (if self.now.mirrored then letter * nodes + old / k else old % nodes * k + letter) }
+    {
+        if self.mirrored {
+            u16::from(letter) * nodes + old / k
+        } else {
+            old % nodes * k + u16::from(letter)
+        }
     }
 
     /// The colour that the recoloured rule gives on the window of this value.
@@ -92,7 +132,7 @@ impl Colouring {
         requires states { rule.now.states ≤ 6 }
         requires colouring { IsColouring rule.now.states self.now }
         requires window { window < rule.now.states ^ rule.now.width }
-        ensures value { result ≡ value rule.now.states (read_as self.now.mirrored (old_word rule.now self.now window)) }
+        ensures value { result ≡ old_value rule.now self.now window }
         ensures within { result < rule.now.states ^ rule.now.width }
         ensures rule { IsRule rule.now }
     {

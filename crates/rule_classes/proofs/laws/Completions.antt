@@ -168,10 +168,6 @@ pub record IsLeastOver (r : LocalRule) (c : Colouring) (low high next n : ℕ) (
   pub one : (found ≡ before) ⊎ ((found.mirrored ≡ c.mirrored) × (number_of r found < number_of r before))
   pub least : (d : Colouring) → Completes r.states c low high d → (q : ℕ) → low ≤ q → q < n → slice_index d.letters next ≡ slice_index c.letters q → number_of r found ≤ number_of r d
 
--- at first there is none
-pub IsLeastOver-none : {r : LocalRule} {before : Colouring} (c : Colouring) (low high next : ℕ) → IsColouring r.states before → IsLeastOver r c low high next low before before
-IsLeastOver-none {r} {before} c low high next colouring = record { colouring = colouring; one = inl refl; least = λ d completes q from below same. absurd (omega arith) }
-
 -- one less, or as before
 pub no_greater : (r : LocalRule) (c : Colouring) {before found : Colouring} → (found ≡ before) ⊎ ((found.mirrored ≡ c.mirrored) × (number_of r found < number_of r before)) → number_of r found ≤ number_of r before
 no_greater r c {before} {found} one = ⊎_elim (λ (same : found ≡ before). let number = ap (number_of r) same in omega arith) (λ less. omega (arith, less.1)) one

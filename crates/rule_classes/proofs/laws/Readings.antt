@@ -1,16 +1,17 @@
 -- A window is read from its last letter on, in the old letters.
-use Rattle.std.proofs.Common.{◌≡◌, ℕ, suc, ◌+◌, ◌-◌, ◌*◌, ◌/◌, ◌%◌, ◌^◌, ◌<◌, ◌≤◌, List, [], ◌∷◌, length, take, drop, reverse, get_or, slice_index, if◌then◌else◌, Bool, true, false, refl, sym, ap, ap₂, ◌∙◌, subst, arith, length-drop, drop-cons, pow-suc}
-use Rattle.std.proofs.Math.Nat.{pow-le-pow_right, pow-zero}
-use Rattle.std.proofs.lemmas.Nat.{div-mul-add, mod-mul-add}
-use Rattle.std.proofs.lemmas.List.{take_all, length-map, length-reverse, get_or-map, reverse-append, drop_all}
-use Rattle.std.proofs.lemmas.List.Elements.{All-drop}
-use Rattle.word_image.specs.LocalRules.{LocalRule, IsRule, IsWord, value, word_of, local_map}
-use Rattle.word_image.proofs.laws.Values.{value-snoc, value-below, value-take_more, value-word_of, IsWord-word_of, length-word_of}
+use Rattle.std.proofs.Common.{◌≡◌, ℕ, suc, ◌+◌, ◌-◌, ◌*◌, ◌/◌, ◌%◌, ◌^◌, ◌<◌, ◌≤◌, List, [], ◌∷◌, ◌++◌, length, take, drop, reverse, get_or, slice_index, if◌then◌else◌, Bool, true, false, refl, sym, ap, ap₂, ◌∙◌, subst, arith, length-drop, drop-cons, pow-suc, mod-lt, mod-eq_of_lt}
+use Rattle.std.proofs.Math.Nat.{pow-le-pow_right, pow-zero, one-le-pow, mul-le-mul_right}
+use Rattle.std.proofs.lemmas.Nat.{div-mul-add, mod-mul-add, div-add-mod', div_below}
+use Rattle.std.proofs.lemmas.List.{take_all, length_push, map-append, length-map, length-reverse, get_or-map, reverse-append, drop_all}
+use Rattle.std.proofs.lemmas.List.Elements.{All-drop, All-push}
+use Rattle.word_image.specs.LocalRules.{LocalRule, IsRule, IsWord, value, word_of, local_map, node_count}
+use Rattle.word_image.proofs.laws.Values.{value-snoc, value-below, value-injective, value-take_more, value-word_of, IsWord-word_of, length-word_of}
 use Rattle.word_image.proofs.laws.Images.{IsWord-reverse, local_map-mirrored}
 use Rattle.word_image.proofs.laws.RuleFaults.{window_count-le}
 use Rattle.word_image.proofs.laws.WindowParts.{some_letter}
+use Rattle.rule_algebra.specs.Algebra.{recoloured}
 use Rattle.rule_classes.specs.Classes.{turned}
-use Rattle.rule_classes.specs.Colourings.{IsColouring, old_word, read_as}
+use Rattle.rule_classes.specs.Colourings.{IsColouring, old_word, old_value, read_as}
 use Rattle.rule_classes.specs.declared.colourings.Colouring.{Colouring}
 use Rattle.rule_classes.proofs.laws.Colours.{AreInverse-swap, IsWord-colours}
 
@@ -104,11 +105,63 @@ IsRead-more {r} {c} {v} {i} {left} {power} {old} below l h =
           ∙ sym (ap (λ y. value k (read_as c.mirrored y)) more ∙ value-read_as c.mirrored k (get_or x n 0) (drop (r.width - i) x));
     }
 
--- all letters are read
-pub IsRead-all : {r : LocalRule} {c : Colouring} {v i left power old : ℕ} → i ≡ r.width → IsRead r c v i left power old → old ≡ value r.states (read_as c.mirrored (old_word r c v))
-IsRead-all {r} {c} {v} {i} {left} {power} {old} all h =
-    let none : r.width - i ≡ 0 = omega arith in
-    h.reads ∙ ap (λ j. value r.states (read_as c.mirrored (drop j (old_word r c v)))) none
+-- The value of the whole window
+
+-- a number of n digits is one of n + 1 digits
+less_square : (k n u : ℕ) → 0 < k → u < k ^ n → u < k * k ^ n
+less_square k n u some l = let grows : 1 * k ^ n ≤ k * k ^ n = mul-le-mul_right (k ^ n) some in omega arith
+
+-- it is one of a window
+pub old_value-below : (r : LocalRule) (c : Colouring) (v : ℕ) → IsColouring r.states c → v < r.states ^ r.width → old_value r c v < r.states ^ r.width
+old_value-below r c v colouring below =
+    let x : List ℕ = old_word r c v in
+    let less = value-below r.states (read_as c.mirrored x) (IsWord-read_as c.mirrored r.states x (IsWord-old_word r c v colouring below)) in
+    subst (λ n. old_value r c v < r.states ^ n) (length-read_as c.mirrored x ∙ length-old_word r c v) less
+
+-- a word without its first letter and with one more behind, read forwards or backwards
+value-moved : (mirror : Bool) (k f b : ℕ) (y : List ℕ) → f < k → IsWord k y
+    → value k (read_as mirror (y ++ b ∷ [])) ≡ (if mirror then b * k ^ length y + value k (read_as mirror (f ∷ y)) / k else value k (read_as mirror (f ∷ y)) % k ^ length y * k + b)
+value-moved true k f b y letter word =
+    let back : value k (reverse (f ∷ y)) / k ≡ value k (reverse y) = ap (λ x. x / k) (value-read_as true k f y) ∙ div-mul-add (value k (reverse y)) k f letter in
+    ap (value k) (reverse-append y (b ∷ [])) ∙ ap₂ (λ (n x : ℕ). b * k ^ n + x) (length-reverse y) (sym back)
+value-moved false k f b y letter word =
+    let back : value k (f ∷ y) % k ^ length y ≡ value k y = mod-mul-add f (k ^ length y) (value k y) (value-below k y word) in
+    value-snoc k y b ∙ ap (λ x. x * k + b) (sym back)
+
+-- a window is the one a letter back without its first letter, and with its last digit behind
+word_of-moved : (k n v : ℕ) → 0 < k → v < k ^ suc n → word_of k (suc n) v ≡ word_of k n (v / k) ++ (v % k) ∷ []
+word_of-moved k n v some below =
+    let back : v / k < k ^ n = div_below v k (k ^ n) some (omega (arith, pow-suc k n)) in
+    let short : List ℕ = word_of k n (v / k) in
+    let long : length (short ++ (v % k) ∷ []) ≡ suc n = length_push short (v % k) ∙ ap (λ j. j + 1) (length-word_of k n (v / k)) ∙ omega arith in
+    let word : IsWord k (short ++ (v % k) ∷ []) = All-push (λ a. a < k) short (v % k) (IsWord-word_of k n (v / k) back) (mod-lt v some) in
+    value-injective k _ _ (IsWord-word_of k (suc n) v below) word (length-word_of k (suc n) v ∙ sym long)
+    (value-word_of k (suc n) v below ∙ sym (value-snoc k short (v % k) ∙ ap (λ x. x * k + v % k) (value-word_of k n (v / k) back) ∙ div-add-mod' v k))
+
+-- so is its value
+pub old_value-moved : {r : LocalRule} (c : Colouring) (v : ℕ) → IsRule r → IsColouring r.states c → v < r.states ^ r.width
+    → old_value r c v ≡ (if c.mirrored then slice_index c.letters (v % r.states) * node_count r + old_value r c (v / r.states) / r.states
+    else old_value r c (v / r.states) % node_count r * r.states + slice_index c.letters (v % r.states))
+old_value-moved {r} c v rule colouring below =
+    let k : ℕ = r.states in
+    let n : ℕ = r.width - 1 in
+    let some : 0 < k = some_letter rule in
+    let wide : r.width ≡ suc n = omega (arith, rule.shape.least_width) in
+    let less : v < k ^ suc n = subst (λ m. v < k ^ m) wide below in
+    let back : v / k < k ^ n = div_below v k (k ^ n) some (omega (arith, pow-suc k n)) in
+    let one : (v / k) % k ^ n ≡ v / k = mod-eq_of_lt back in
+    let first : (v / k) / k ^ n < k = div_below (v / k) (k ^ n) k (one-le-pow n k some) (omega (arith, less_square k n (v / k) some back)) in
+    let y : List ℕ = recoloured c.letters (word_of k n (v / k)) in
+    let f : ℕ = slice_index c.letters ((v / k) / k ^ n) in
+    let word : IsWord k y = IsWord-colours (AreInverse-swap colouring) (word_of k n (v / k)) (IsWord-word_of k n (v / k) back) in
+    let long : length y ≡ n = length-map (word_of k n (v / k)) (slice_index c.letters) ∙ length-word_of k n (v / k) in
+    let here : old_word r c v ≡ y ++ slice_index c.letters (v % k) ∷ [] =
+    ap (λ m. recoloured c.letters (word_of k m v)) wide ∙ ap (recoloured c.letters) (word_of-moved k n v some less) ∙ map-append (slice_index c.letters) (word_of k n (v / k)) ((v % k) ∷ []) in
+    let there : old_word r c (v / k) ≡ f ∷ y =
+    ap (λ m. recoloured c.letters (word_of k m (v / k))) wide ∙ ap (λ u. f ∷ recoloured c.letters (word_of k n u)) one in
+    let moved = value-moved c.mirrored k f (slice_index c.letters (v % k)) y (colouring.letter _ first) word in
+    ap (λ x. value k (read_as c.mirrored x)) here ∙ moved
+    ∙ ap₂ (λ (j : ℕ) (x : List ℕ). if c.mirrored then slice_index c.letters (v % k) * k ^ j + value k (read_as c.mirrored x) / k else value k (read_as c.mirrored x) % k ^ j * k + slice_index c.letters (v % k)) long (sym there)
 
 -- What is given
 
@@ -118,5 +171,5 @@ local_map-read_as r true w word long = sym (local_map-mirrored r w word long)
 local_map-read_as r false w word long = refl
 
 pub given-read : (r : LocalRule) (c : Colouring) (v : ℕ) → IsColouring r.states c → v < r.states ^ r.width
-    → slice_index r.table (value r.states (read_as c.mirrored (old_word r c v))) ≡ local_map (turned r c.mirrored) (old_word r c v)
+    → slice_index r.table (old_value r c v) ≡ local_map (turned r c.mirrored) (old_word r c v)
 given-read r c v colouring below = local_map-read_as r c.mirrored (old_word r c v) (IsWord-old_word r c v colouring below) (length-old_word r c v)
