@@ -1,8 +1,7 @@
-use Rattle.std.proofs.Common.{◌≡◌, ℕ, ◌*◌, ◌+◌, ◌/◌, ◌%◌, ◌<◌, ◌≤◌, length, slice_index, if◌then◌else◌, sym, ap, ap₂, ◌∙◌, ⊎_elim, arith}
+use Rattle.std.proofs.Common.{◌≡◌, ℕ, ◌*◌, ◌+◌, ◌/◌, ◌%◌, ◌<◌, slice_index, if◌then◌else◌, sym, ap, ap₂, ◌∙◌, ⊎_elim, arith}
 use Rattle.std.proofs.Math.Nat.{div-lt_self, one-le-pow}
 use Rattle.std.proofs.lemmas.Bool.{cases_lt}
 use Rattle.std.proofs.lemmas.List.{length-set, get_or-set_same, get_or-set_other}
-use Rattle.word_image.specs.LocalRules.{node_count}
 use Rattle.word_image.proofs.laws.RuleFaults.{window_count-le}
 use Rattle.word_image.proofs.laws.WindowParts.{some_letter}
 use Rattle.rule_classes.specs.Colourings.{old_value}
