@@ -15,6 +15,7 @@ pub record AreInverse (k : ℕ) (colours letters : List ℕ) : Type 0 where
   pub back : (a : ℕ) → a < k → slice_index letters (slice_index colours a) ≡ a
   pub there : (a : ℕ) → a < k → slice_index colours (slice_index letters a) ≡ a
 
+-- both are those of a colouring
 abbrev pub IsColouring : ℕ → Colouring → Type 0
 IsColouring k c = AreInverse k c.colours c.letters
 
@@ -26,6 +27,7 @@ old_word r c v = recoloured c.letters (word_of r.states r.width v)
 abbrev pub read_as : Bool → List ℕ → List ℕ
 read_as mirror w = if mirror then reverse w else w
 
+-- and its value
 abbrev pub old_value : LocalRule → Colouring → ℕ → ℕ
 old_value r c v = value r.states (read_as c.mirrored (old_word r c v))
 
@@ -41,6 +43,7 @@ entry r c v = new_letter r c (word_of r.states r.width v)
 abbrev pub in_colours : LocalRule → Colouring → LocalRule
 in_colours r c = record { states = r.states; width = r.width; offset = pos 0; table = table_by r.states r.width (new_letter r c) }
 
+-- and its Wolfram number
 abbrev pub number_of : LocalRule → Colouring → ℕ
 number_of r c = wolfram_number (in_colours r c)
 

@@ -54,8 +54,9 @@ fn lesser(rule: &Rule, colouring: Colouring, best: Colouring) -> Colouring
 }
 
 /// Whether a colouring with the letters of this one at the chosen colours may make a lesser rule than
-/// the best one. Tables are compared from the greatest window on, as long as all letters of the window
-/// are known; a letter that has no colour yet gets the least free one at least.
+/// the best one; where no colour is free, whether it does. Tables are compared from the greatest
+/// window on, as long as all letters of the window are known; a letter that has no colour yet gets the
+/// least free one at least.
 fn may_be_less(rule: &Rule, colouring: &Colouring, low: u8, high: u8, best: &Colouring) -> bool
     requires states { rule.now.states ≤ 6 }
     requires colouring { IsColouring rule.now.states colouring.now }
