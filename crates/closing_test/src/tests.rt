@@ -3,7 +3,7 @@
 use super::*;
 use least_walk::Walker;
 use pair_graph::Pairs;
-use pair_rank::Ranks;
+use pair_rank::{Endless, Ranks};
 use std::test::Fail;
 use tail_config::Tail;
 use word_image::Rule;
@@ -30,6 +30,12 @@ fn aheads(rule: &Rule) -> (Option<u16>, Option<u16>) {
     (ahead_right(rule, &ranks), ahead_left(rule, &ranks))
 }
 
+/// Whether it closes, right and left.
+fn closes(rule: &Rule) -> (bool, bool) {
+    let endless = Endless::of(&Pairs::of(rule));
+    (is_right_closing(&endless), is_left_closing(&endless))
+}
+
 #[test]
 fn look_aheads_are_least(rt: HostRuntime) -> Result<(), Fail> {
     let cases = [
@@ -43,7 +49,13 @@ fn look_aheads_are_least(rt: HostRuntime) -> Result<(), Fail> {
         (0, (None, None)),
     ];
     for (number, want) in cases {
-        assert_eq!(rt; aheads(&elementary(number)?), want, "rule {number}");
+        let rule = elementary(number)?;
+        assert_eq!(rt; aheads(&rule), want, "rule {number}");
+        assert_eq!(rt;
+            closes(&rule),
+            (want.0.is_some(), want.1.is_some()),
+            "rule {number}"
+        );
     }
     Ok(())
 }
