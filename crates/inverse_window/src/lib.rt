@@ -25,7 +25,8 @@
 //! twins are the first of the least of these walks, over all pairs. A least walk visits no state of the
 //! marked graph twice, so twins have at most 512 letters each.
 //!
-//! [`window`] takes time **O(m·N^2)** and no memory, [`twins`] time **O(N^4·k^2)**, N^2 walks in a
+//! [`is_injective`] takes time **O(N)** in operations on rows of N bits, [`window`] **O(m·N^2)**, both no
+//! memory, [`twins`] time **O(N^4·k^2)**, N^2 walks in a
 //! graph of 2·N^2 states, and memory for its words.
 #![tactic(auto)]
 

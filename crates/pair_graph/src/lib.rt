@@ -13,7 +13,12 @@
 //! with it p + N * N. A step gives the mark where its two letters differ, and none takes it away: so a
 //! walk from p to p + N * N spells two different words.
 //!
-//! `of` takes time **O(k^m)**, and every other call **O(1)**.
+//! A set of pairs is trimmed to those from which some letters lead into it, forward or backward. Under
+//! rule 110 each pair has a step forward. Backward the pairs of 00 with 01 and with 10 have none: the
+//! windows that end with 00 give 0, and those that end with 01 or 10 give 1.
+//!
+//! `Pairs::of` takes time **O(k^m)**, a trim **O(k·N)** in operations on rows of N bits, a plain trim
+//! **O(k^2·N^2)**, `all` and `same` **O(N)**, and every other call **O(1)**. No call takes memory.
 #![tactic(auto)]
 
 mod edges;
