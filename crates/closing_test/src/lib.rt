@@ -23,8 +23,10 @@
 //! from the pair of 00 with itself to that of 00 and 11, with the mark, and (0, 1) leads round it. The
 //! images of `0|100|0` and `0|111|1` are both 1 at the places -1 and 0 alone.
 //!
-//! For N = k^(m - 1) nodes a look-ahead, and whether a rule closes, take time **O(k·k^m)** and no memory. A split takes two walks
-//! for each state, time **O(k·N⁴)** in operations on rows, and the memory of two splits.
+//! For N = k^(m - 1) nodes a look-ahead takes time **O(k·k^m)** and no memory, and so does whether a rule
+//! closes. A split takes one search for all middles and one for the period of each state, which stops
+//! where the split would come after the best one so far: time **O(k·N⁴)** in operations on rows, and
+//! memory O(N²).
 #![tactic(auto)]
 
 mod closes;

@@ -64,6 +64,6 @@ IsFirstFound-none {r} rule n most None is none short all = λ p l w turn.
     (cases_eq p n)
 IsFirstFound-none rule n most (Some old) is best short all =
     IsFirstTurn-stays best (λ v turn. pairs_cmp-longer (map (uncode 16) old.items) v (⊎_elim
-        (λ more. more)
-        (λ few. absurd (short v (turn-some rule n v turn) (omega (arith, few, is, length-map old.items (uncode 16))) turn))
-        (cases_lt (length (map (uncode 16) old.items)) (length v))))
+    (λ more. more)
+    (λ few. absurd (short v (turn-some rule n v turn) (omega (arith, few, is, length-map old.items (uncode 16))) turn))
+    (cases_lt (length (map (uncode 16) old.items)) (length v))))

@@ -22,8 +22,9 @@
 //!
 //! Twins are the closed walks in the graph of pairs of nodes on which some two letters differ (Sutner
 //! 1991): in the marked graph they lead from a pair without the mark to the same pair with it. The least
-//! twins are the first of the least of these walks, over all pairs. A least walk visits no state of the
-//! marked graph twice, so twins have at most 512 letters each.
+//! twins are the first of the least of these walks, over all pairs; each search stops where the walk
+//! would be longer than the first one so far. A least walk visits no state of the marked graph twice, so
+//! twins have at most 512 letters each.
 //!
 //! [`is_injective`] takes time **O(N)** in operations on rows of N bits, [`window`] **O(m·N^2)**, both no
 //! memory, [`twins`] time **O(N^4·k^2)**, N^2 walks in a

@@ -10,13 +10,16 @@
 //! It passes the pair of the node 10 with itself, and no walk before it does the same.
 //!
 //! Breadth first, with letter pairs in ascending order, a search reaches each marked pair by its least
-//! walk first. So the first step that leads to the goal ends the least walk to it. A marked pair that
-//! has been reached is a bit in a row, and for each pair and first letter one look at two rows tells
-//! whether any second letter leads to a new one.
+//! walk first. So the first step that leads to the goal ends the least walk to it, and where a search
+//! goes on to the end it has the least walk to each marked pair. Marked pairs are reached in the order
+//! of their distance from the start: a search for a walk of at most so many steps stops before the
+//! first one that is as far away. A marked pair that has been reached is a bit in a row, and for each
+//! pair and first letter one look at two rows tells whether any second letter leads to a new one.
 //!
 //! For N = k^(m - 1) nodes there are 2 N * N marked pairs, at most 512, and a walk has at most as many
-//! steps. A call takes time **O(k·N²)** in operations on rows, and no memory: [`Walker::new`] makes
-//! all room.
+//! steps. A search takes time **O(k·N²)** in operations on rows. [`Walker::new`] makes the room of all
+//! its searches, which take no memory; a [`WalkTree`] takes O(N²) memory, and each of its walks is
+//! read off in the time of its length.
 #![tactic(auto)]
 
 mod letter_pairs;

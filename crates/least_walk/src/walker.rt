@@ -8,7 +8,7 @@ use pair_graph::Pairs;
 use std::alloc::{AllocError, Global};
 use std::marker::Model;
 
-/// No least walk has more steps: it visits no marked pair twice.
+/// The most steps of a least walk: it visits no marked pair twice.
 pub const MOST_STEPS: usize = 512;
 
 /// Searches for least walks. It is seen as the walk that it found last, and reuses its room.
@@ -57,9 +57,8 @@ impl Walker {
         self.walk_within(pairs, from, to, MOST_STEPS)
     }
 
-    /// The walk of `walk`, if it has at most so many steps: `None` exactly where no walk of so few
-    /// steps exists. A bound of [`MOST_STEPS`] or more
-    /// excludes no walk.
+    /// The walk that `walk` gives, if it has at most so many steps: `None` exactly where each walk has
+    /// more. A bound of [`MOST_STEPS`] or more excludes no walk.
     pub fn walk_within(&mut self, pairs: &Pairs, from: u16, to: u16, most: usize) -> Option<&[u8]>
         requires from { from < 2 * pair_count pairs.now }
         requires to { to < 2 * pair_count pairs.now }

@@ -1,4 +1,4 @@
-use Rattle.std.proofs.Common.{◌≡◌, ℕ, ◌+◌, ◌*◌, ◌<◌, sym, ap, subst, subst₂, arith}
+use Rattle.std.proofs.Common.{◌≡◌, ◌+◌, sym, subst, arith}
 use Rattle.word_image.specs.Graphs.{pair_count}
 use Rattle.tail_laws.proofs.SplitWalks.{pair_count_pos}
 use Rattle.closing_test.specs.Walks.{IsLeastSoFar}

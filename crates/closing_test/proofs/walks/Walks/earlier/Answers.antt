@@ -1,4 +1,4 @@
-use Rattle.std.proofs.Common.{◌≡◌, ℕ, ◌+◌, ◌%◌, ◌<◌, ◌≤◌, ◌-◌, List, length, map, Some, sym, ap, ◌∙◌, subst, subst₂, arith}
+use Rattle.std.proofs.Common.{◌≡◌, ℕ, ◌+◌, ◌%◌, ◌-◌, List, length, map, sym, subst, subst₂, arith}
 use Rattle.std.specs.Prelude.{MatchOption}
 use Rattle.std.proofs.lemmas.List.{length-map}
 use Rattle.word_image.specs.LocalRules.{LocalRule}
@@ -7,7 +7,6 @@ use Rattle.search_laws.proofs.PairWalks.{PairWalk, IsLeastWalk, uncode}
 use Rattle.least_walk.specs.Trees.{WalkSource, IsLeastWalkTo}
 use Rattle.tail_laws.specs.SplitWalks.{IsLeastReach}
 use Rattle.tail_laws.proofs.LeastSplits.{IsLeastSplitAt-walks}
-use Rattle.closing_test.specs.declared.walks.Walks.{Walks}
 use Rattle.closing_test.proofs.LeastWalks.{kept_if_before, IsNoneBefore-none, IsNoneBefore-long}
 use Rattle.closing_test.proofs.walks.Walks.earlier.Goals as goal
 
