@@ -1,6 +1,5 @@
 -- The nodes from which all edges labelled a lead into a set, as a union over the nodes.
-use Rattle.std.proofs.Common.{◌≡◌, ◌≢◌, ℕ, ◌-◌, ◌^◌, ◌<◌, ◌≤◌, IsBitSet, bit_and, refl, sym, subst, arith, ⊎_elim}
-use Rattle.std.proofs.lemmas.Bool.{cases_eq}
+use Rattle.std.proofs.Common.{◌≡◌, ◌≢◌, ℕ, ◌-◌, ◌^◌, ◌<◌, IsBitSet, bit_and, refl, sym, subst, arith, ⊎_elim}
 use Rattle.std.proofs.lemmas.Nat.{and_le_l}
 use Rattle.word_image.specs.LocalRules.{LocalRule, IsRule, node_count}
 use Rattle.word_image.specs.Graphs.{next, label}

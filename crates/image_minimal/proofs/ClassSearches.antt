@@ -1,5 +1,5 @@
 -- A search through the closures, one closed step more at a time, and the automaton that it makes in the end.
-use Rattle.std.proofs.Common.{◌≡◌, ℕ, suc, ◌+◌, ◌*◌, ◌^◌, ◌<◌, ◌≤◌, List, [], ◌∷◌, ◌++◌, length, get_or, slice_index, Option, Some, None, MatchOption, Contains, refl, sym, ap, ◌∙◌, subst, arith, ⊎_elim}
+use Rattle.std.proofs.Common.{◌≡◌, ℕ, suc, ◌+◌, ◌*◌, ◌^◌, ◌<◌, ◌≤◌, List, [], ◌∷◌, ◌++◌, length, slice_index, Option, Some, None, MatchOption, Contains, refl, sym, ap, ◌∙◌, subst, arith, ⊎_elim}
 use Rattle.std.specs.List.{slice_get}
 use Rattle.std.proofs.lemmas.Bool.{cases_eq}
 use Rattle.std.proofs.lemmas.Nat.{pow_pos, same_from_place}
@@ -10,12 +10,11 @@ use Rattle.std.proofs.lemmas.List.{get_or_append_left, length-map, length_push}
 use Rattle.word_image.specs.LocalRules.{LocalRule, IsRule, node_count}
 use Rattle.word_image.specs.Graphs.{full_set}
 use Rattle.word_image.proofs.laws.Places.{slice_get-push}
-use Rattle.search_laws.specs.SearchQueues.{Place}
 use Rattle.search_laws.proofs.QueueStates.{Contains-state, state_of_place}
 use Rattle.image_minimal.specs.ImageLanguages.{IsAutomaton, IsLeastAutomaton, IsDeadClass}
-use Rattle.image_minimal.specs.Closures.{IsClosedStep, AreClosures}
+use Rattle.image_minimal.specs.Closures.{IsClosedStep}
 use Rattle.image_minimal.specs.Indexes.{IsPlaceOf, IsInserted}
-use Rattle.image_minimal.specs.Searches.{HasNext, IsClassSearch}
+use Rattle.image_minimal.specs.Searches.{IsClassSearch}
 use Rattle.image_minimal.proofs.laws.ClosedSteps.{IsClosedStep-unique, HaveClosures}
 use Rattle.image_minimal.proofs.laws.Classes.{AreClasses, AreClasses-some, IsClassList-closed, IsNextClass-step, IsDeadClass-some, IsDeadClass-none}
 use Rattle.image_minimal.proofs.Indexes.{IsInserted-kept}

@@ -1,16 +1,14 @@
 -- Searches through sets of nodes, one edge more at a time, and the unread sets that one of them lists.
-use Rattle.std.proofs.Common.{◌≡◌, ℕ, suc, ◌+◌, ◌*◌, ◌^◌, ◌<◌, ◌≤◌, ◌↔◌, List, [], ◌∷◌, ◌++◌, length, Some, Contains, refl, sym, ap, ◌∙◌, subst, arith, ⊎_elim}
+use Rattle.std.proofs.Common.{◌≡◌, ℕ, suc, ◌+◌, ◌*◌, ◌<◌, ◌≤◌, List, [], ◌∷◌, ◌++◌, length, Some, Contains, refl, sym, ap, ◌∙◌, subst, arith, ⊎_elim}
 use Rattle.std.specs.List.{slice_get}
-use Rattle.std.proofs.lemmas.Nat.{pow_pos}
 use Rattle.std.proofs.Math.Nat.{mul-le-mul_right, suc-mul}
 use Rattle.std.proofs.lemmas.Option.{slice_get_within}
 use Rattle.std.proofs.lemmas.List.{length-map, map-append}
 use Rattle.word_image.specs.LocalRules.{LocalRule}
-use Rattle.word_image.proofs.laws.Places.{Contains-slice_get}
 use Rattle.search_laws.specs.SearchQueues.{Place, IsQueue, Leads}
 use Rattle.search_laws.specs.SearchQueues.Leads.{Here, On}
 use Rattle.search_laws.proofs.QueueSteps.{IsQueue-start, IsQueue-there, IsQueue-new}
-use Rattle.search_laws.proofs.QueueStates.{states_of, place_of_state, place_of_listed, Contains-state, length-queue-le, state-below}
+use Rattle.search_laws.proofs.QueueStates.{place_of_state, place_of_listed, Contains-state, length-queue-le, state-below}
 use Rattle.search_laws.proofs.SpelledWords.{Spells-some, Leads-spelled}
 use Rattle.image_minimal.specs.Closures.{IsBack, IsUnread, IsUnreadSet}
 use Rattle.image_minimal.specs.Indexes.{IsInserted}

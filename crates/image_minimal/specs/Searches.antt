@@ -1,6 +1,6 @@
 -- Searches through sets of nodes, in which some edges have been followed.
-use Rattle.std.specs.Prelude.{◌≡◌, ℕ, ◌+◌, ◌*◌, ◌^◌, ◌<◌, ◌↔◌, List, length, map, slice_get, slice_index, Some, Contains}
-use Rattle.word_image.specs.LocalRules.{LocalRule, node_count}
+use Rattle.std.specs.Prelude.{◌≡◌, ℕ, ◌+◌, ◌*◌, ◌<◌, ◌↔◌, List, length, map, slice_get, slice_index, Some, Contains}
+use Rattle.word_image.specs.LocalRules.{LocalRule}
 use Rattle.word_image.specs.Graphs.{full_set}
 use Rattle.search_laws.specs.SearchQueues.{Place, IsQueue}
 use Rattle.image_minimal.specs.Closures.{IsUnreadSet, IsClosedStep}

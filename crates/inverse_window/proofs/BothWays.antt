@@ -1,5 +1,5 @@
 -- A rule is injective exactly where no two different nodes go on together for ever both ways.
-use Rattle.std.proofs.Common.{◌≡◌, ◌≢◌, ℕ, ◌+◌, ◌-◌, ◌*◌, ◌^◌, ◌%◌, ◌<◌, ◌↔◌, IsBitSet, bit_and, sym, ◌∙◌, subst, arith, mod-lt}
+use Rattle.std.proofs.Common.{◌≢◌, ℕ, ◌-◌, ◌*◌, ◌^◌, ◌%◌, ◌<◌, ◌↔◌, IsBitSet, bit_and, sym, ◌∙◌, subst, arith, mod-lt}
 use Rattle.std.proofs.lemmas.Nat.{and_le_l}
 use Rattle.word_image.specs.LocalRules.{LocalRule, IsRule, node_count}
 use Rattle.word_image.specs.Graphs.{first_of, second_of, pair_of}
@@ -8,7 +8,7 @@ use Rattle.word_image.proofs.laws.Bits.{IsBitSet-some, IsBitSet-zero}
 use Rattle.pair_laws.proofs.Pairs.{first_of-pair_of, second_of-pair_of, first_of-below, second_of-below, PairBegins-pair_of, PairEnds-pair_of}
 use Rattle.pair_laws.proofs.Ranks.{BeginTogether-below}
 use Rattle.pair_laws.proofs.Sets.{IsBitSet-and, IsBitSet-minus, IsBitSet-shl}
-use Rattle.pair_laws.proofs.BothWays.{IsEndlessBothWays, IsDetermined-not_both_ways, IsDetermined-none_both_ways}
+use Rattle.pair_laws.proofs.BothWays.{IsDetermined-not_both_ways, IsDetermined-none_both_ways}
 use Rattle.tail_config.specs.Tails.{IsInjective}
 use Rattle.tail_laws.proofs.Injective.{IsInjective-determined}
 use Rattle.tail_laws.proofs.Certainty.{IsInjective-window}

@@ -1,5 +1,5 @@
 -- Steps of closures: from the set of all nodes a word leads to the closure of its last nodes, and to no other set.
-use Rattle.std.proofs.Common.{◌≡◌, ℕ, ◌^◌, ◌<◌, List, [], sym, subst}
+use Rattle.std.proofs.Common.{◌≡◌, ℕ, ◌^◌, ◌<◌, List, sym, subst}
 use Rattle.word_image.specs.LocalRules.{LocalRule, IsRule, IsWord, node_count}
 use Rattle.word_image.specs.Graphs.{full_set}
 use Rattle.word_image.specs.Ranks.{IsLastSet}

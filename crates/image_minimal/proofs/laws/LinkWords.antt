@@ -6,8 +6,7 @@ use Rattle.std.proofs.lemmas.Nat.{pow_pos}
 use Rattle.std.proofs.lemmas.Option.{none-some}
 use Rattle.std.proofs.Math.Nat.{mul-le-mul_left, mul-le-mul_right, mul-one}
 use Rattle.word_image.specs.LocalRules.{LocalRule, IsRule, node_count}
-use Rattle.word_image.specs.Graphs.{full_set, IsStep}
-use Rattle.search_laws.specs.SearchQueues.{Place, Leads, IsBranch, IsQueue, filled}
+use Rattle.search_laws.specs.SearchQueues.{Place, IsBranch, IsQueue, filled}
 use Rattle.search_laws.specs.SearchQueues.Spells.{Root, Branch}
 use Rattle.search_laws.specs.SearchQueues.Leads.{Here, On}
 use Rattle.search_laws.proofs.WordOrder.{word_number, word_number-snoc}

@@ -19,10 +19,10 @@ returns-in_ok-summary-in-Ok c input =
     let count = c.args.count.now in
     let accepted : sample_fault (decimal_value k) (decimal_value m) ≡ None =
     rw (sym c.small-k.ensures, sym c.small-m.ensures) (sym c.check_shape.ensures ∙ ap result_err c.in-Ok.is) in
-    let counted : IsTally (sample_rules (decimal_value k) (decimal_value m) (decimal_value seed) (decimal_value count)) c.in_ok-tally-in-Ok.tally =
-    rw (sym c.small-k.ensures, sym c.small-m.ensures, sym c.seed-seed.ensures, sym c.count-count.ensures) c.in_ok-tally-in-Ok.ensures in
-    let true_summary = IsSummary-tally c.in_ok-tally-in-Ok.tally counted in
-    subst (IsRight input (commands.Sample k m seed count) status.Done) (sym c.in_ok-summary-in-Ok.ensures) (Sample k m seed count (summary_of c.in_ok-tally-in-Ok.tally) accepted true_summary)
+    let counted : IsTally (sample_rules (decimal_value k) (decimal_value m) (decimal_value seed) (decimal_value count)) c.tally_of_draws-tally.result =
+    rw (sym c.small-k.ensures, sym c.small-m.ensures, sym c.seed-seed.ensures, sym c.count-count.ensures) c.tally_of_draws-tally.ensures in
+    let true_summary = IsSummary-tally c.tally_of_draws-tally.result counted in
+    subst (IsRight input (commands.Sample k m seed count) status.Done) (sym c.in_ok-summary-in-Ok.ensures) (Sample k m seed count (summary_of c.tally_of_draws-tally.result) accepted true_summary)
 
 pub returns-in-Err : goal.returns-in-Err
 returns-in-Err c input =

@@ -18,10 +18,10 @@ returns-in_ok-summary-in-Ok c input =
     let count = c.args.count.now in
     let accepted : survey_fault (decimal_value k) (decimal_value m) (decimal_value from) (decimal_value count) ≡ None =
     rw (sym c.small-k.ensures, sym c.small-m.ensures, sym c.in-Ok.ensures.0, sym c.count-count.ensures) c.in-Ok.ensures.1 in
-    let counted : IsTally (survey_rules (decimal_value k) (decimal_value m) (decimal_value from) (decimal_value count)) c.in_ok-tally-in-Ok.tally =
-    rw (sym c.small-k.ensures, sym c.small-m.ensures, sym c.in-Ok.ensures.0, sym c.count-count.ensures) c.in_ok-tally-in-Ok.ensures in
-    let true_summary = IsSummary-tally c.in_ok-tally-in-Ok.tally counted in
-    subst (IsRight input (commands.Survey k m from count) status.Done) (sym c.in_ok-summary-in-Ok.ensures) (Survey k m from count (summary_of c.in_ok-tally-in-Ok.tally) accepted true_summary)
+    let counted : IsTally (survey_rules (decimal_value k) (decimal_value m) (decimal_value from) (decimal_value count)) c.tally_of_numbers-tally.result =
+    rw (sym c.small-k.ensures, sym c.small-m.ensures, sym c.in-Ok.ensures.0, sym c.count-count.ensures) c.tally_of_numbers-tally.ensures in
+    let true_summary = IsSummary-tally c.tally_of_numbers-tally.result counted in
+    subst (IsRight input (commands.Survey k m from count) status.Done) (sym c.in_ok-summary-in-Ok.ensures) (Survey k m from count (summary_of c.tally_of_numbers-tally.result) accepted true_summary)
 
 pub returns-in-Err : goal.returns-in-Err
 returns-in-Err c input =

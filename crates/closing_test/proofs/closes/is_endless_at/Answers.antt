@@ -1,4 +1,4 @@
-use Rattle.std.proofs.Common.{true, false, sym, ◌∙◌, ap, subst, arith, ⊎_elim}
+use Rattle.std.proofs.Common.{sym, ◌∙◌, ap, subst, arith, ⊎_elim}
 use Rattle.std.proofs.lemmas.Bool.{cases_eq, false≢true}
 use Rattle.word_image.specs.LocalRules.{LocalRule}
 use Rattle.closing_test.specs.EndlessFirsts.{IsEndlessWith}

@@ -1,4 +1,4 @@
-use Rattle.std.proofs.Common.{◌≡◌, ◌==◌, ◌/◌, ◌^◌, ◌<◌, ◌↔◌, IsBitSet, IsTrue, bit_and, ◌∙◌, sym, subst, arith}
+use Rattle.std.proofs.Common.{◌==◌, ◌/◌, ◌^◌, ◌<◌, ◌↔◌, IsBitSet, IsTrue, bit_and, ◌∙◌, sym, subst, arith}
 use Rattle.word_image.specs.LocalRules.{LocalRule}
 use Rattle.word_image.specs.Ranks.{IsEndless}
 use Rattle.closing_test.specs.Sides.{GoTogether}

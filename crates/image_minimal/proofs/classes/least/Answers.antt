@@ -1,4 +1,4 @@
-use Rattle.std.proofs.Common.{◌≡◌, sym, ◌∙◌, subst, List, ℕ}
+use Rattle.std.proofs.Common.{sym, ◌∙◌, subst, List, ℕ}
 use Rattle.word_image.specs.LocalRules.{LocalRule}
 use Rattle.image_minimal.specs.ImageLanguages.{IsLeastAutomaton}
 use Rattle.image_minimal.specs.Closures.{AreClosures}

@@ -1,5 +1,5 @@
-use Rattle.std.proofs.Common.{◌≡◌, ℕ, ◌*◌, ◌^◌, ◌<◌, ◌≤◌, List, length, Option, [], ◌∷◌, refl, sym, ap, ap₂, ◌∙◌, subst, arith}
-use Rattle.word_image.specs.LocalRules.{LocalRule, node_count}
+use Rattle.std.proofs.Common.{◌≡◌, ℕ, ◌*◌, List, length, [], ◌∷◌, refl, sym, ap, ap₂, ◌∙◌, subst, arith}
+use Rattle.word_image.specs.LocalRules.{LocalRule}
 use Rattle.word_image.specs.Graphs.{full_set}
 use Rattle.image_minimal.specs.ImageLanguages.{Automaton, IsLeastAutomaton, IsAutomaton}
 use Rattle.image_minimal.specs.Searches.{IsClassSearch}

@@ -1,8 +1,7 @@
-use Rattle.std.proofs.Common.{◌≡◌, ℕ, ◌+◌, ◌-◌, ◌*◌, ◌%◌, ◌^◌, ◌<◌, IsBitSet, bit_and, bit_or, ◌/◌, slice_index, sym, ap, ◌∙◌, subst, arith}
+use Rattle.std.proofs.Common.{◌≡◌, ℕ, ◌+◌, ◌*◌, ◌%◌, ◌^◌, ◌<◌, IsBitSet, bit_and, bit_or, ◌/◌, slice_index, sym, ap, ◌∙◌, subst, arith}
 use Rattle.std.proofs.Math.Pow.{pow-lt}
 use Rattle.std.proofs.lemmas.Nat.{one_shl, or_lt}
 use Rattle.std.proofs.lemmas.Nat.Bits.{shr_and_one, bit_at-lt}
-use Rattle.std.specs.Int.{bit_at}
 use Rattle.word_image.specs.LocalRules.{node_count}
 use Rattle.word_image.proofs.laws.Bits.{bit_at-IsBitSet}
 use Rattle.image_minimal.proofs.laws.ClosureTables.{with_node, with_node-greater, IsShared, IsShared-start, IsShared-skip, IsShared-take, IsClosure-shared}

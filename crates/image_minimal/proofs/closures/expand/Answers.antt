@@ -1,10 +1,9 @@
-use Rattle.std.proofs.Common.{◌≡◌, ◌+◌, ◌*◌, ◌<◌, Some, subst, arith}
-use Rattle.std.proofs.lemmas.Option.{slice_get_read}
+use Rattle.std.proofs.Common.{◌≡◌, ◌+◌, ◌*◌, ◌<◌, subst, arith}
 use Rattle.image_minimal.specs.Closures.{IsBack}
 use Rattle.image_minimal.specs.Searches.{IsSearch}
 use Rattle.image_minimal.proofs.laws.Unread.{IsBack-unique}
 use Rattle.image_minimal.proofs.Indexes.{IsInserted-kept}
-use Rattle.image_minimal.proofs.Searches.{IsSearch-insert, IsSearch-next}
+use Rattle.image_minimal.proofs.Searches.{IsSearch-insert}
 use Rattle.image_minimal.proofs.closures.expand.Goals as goal
 
 pub loop-a-preserved : goal.loop-a-preserved

@@ -1,4 +1,4 @@
-use Rattle.std.proofs.Common.{◌-◌, ◌*◌, ◌^◌, ◌≤◌, length}
+use Rattle.std.proofs.Common.{◌-◌, ◌*◌, ◌^◌}
 use Rattle.word_image.specs.LocalRules.{node_count}
 use Rattle.image_minimal.specs.Closures.{IsBack}
 use Rattle.image_minimal.specs.Searches.{IsSearch}

@@ -1,7 +1,7 @@
-use Rattle.std.proofs.Common.{◌≡◌, ℕ, ◌<◌, ◌≤◌, ◌⊎◌, inl, inr, List, length, slice_index, set, max, min, sym, ap, ◌∙◌, subst, arith, ⊎_elim}
+use Rattle.std.proofs.Common.{◌≡◌, ℕ, ◌<◌, ◌⊎◌, inl, inr, List, length, set, sym, ap, subst, arith, ⊎_elim}
 use Rattle.std.proofs.lemmas.Bool.{cases_lt}
 use Rattle.image_minimal.specs.Joins.{Rises, IsHalved, IsUnited}
-use Rattle.image_minimal.proofs.Joins.{rise_to_one, IsFalling-set, IsUnited-roots}
+use Rattle.image_minimal.proofs.Joins.{rise_to_one, IsUnited-roots}
 use Rattle.image_minimal.proofs.joined.Joined.join.Goals as goal
 
 pub returns-then-first-second : goal.returns-then-first-second

@@ -1,7 +1,7 @@
-use Rattle.std.proofs.Common.{◌≡◌, ℕ, ◌<◌, inl, inr, List, [], ◌∷◌, ◌++◌, length, set, Some, None, Contains, refl, sym, ap, ap₂, ◌∙◌, subst, arith}
+use Rattle.std.proofs.Common.{◌≡◌, ℕ, inl, inr, [], ◌∷◌, ◌++◌, length, set, Some, Contains, refl, sym, ap, ap₂, ◌∙◌, subst, arith}
 use Rattle.std.specs.List.{slice_get}
 use Rattle.word_image.proofs.laws.Places.{slice_get-push}
-use Rattle.image_minimal.specs.Indexes.{IsIndex, IsPlaceOf, IsInserted}
+use Rattle.image_minimal.specs.Indexes.{IsPlaceOf}
 use Rattle.image_minimal.proofs.Indexes.{IsIndex-push}
 use Rattle.image_minimal.proofs.listed.Listed.insert.Goals as goal
 

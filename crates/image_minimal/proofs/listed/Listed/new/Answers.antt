@@ -1,4 +1,4 @@
-use Rattle.std.proofs.Common.{◌≡◌, ◌+◌, [], sym, ap, ◌∙◌, subst, arith, List, Option, ℕ, None, replicate, rules}
+use Rattle.std.proofs.Common.{◌≡◌, ◌+◌, [], sym, subst, arith, List, Option, ℕ, None, replicate, rules}
 use Rattle.image_minimal.specs.Indexes.{IsIndex}
 use Rattle.image_minimal.proofs.Indexes.{IsIndex-start}
 use Rattle.image_minimal.proofs.listed.Listed.new.Goals as goal

@@ -1,6 +1,4 @@
-use Rattle.std.proofs.Common.{◌≡◌, ◌^◌, ◌<◌, slice_index, sym, ap, subst}
-use Rattle.word_image.specs.LocalRules.{LocalRule, node_count}
-use Rattle.word_image.specs.Graphs.{IsStep}
+use Rattle.std.proofs.Common.{subst}
 use Rattle.image_subsets.specs.StepTables.{AreTables}
 use Rattle.image_subsets.proofs.Steps.{HasRows-tables}
 use Rattle.image_minimal.proofs.subsets.Subsets.steps.Goals as goal
