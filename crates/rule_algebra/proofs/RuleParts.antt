@@ -3,7 +3,7 @@ use Rattle.std.proofs.Common.{◌≡◌, ℕ, ◌^◌, List, take, ℤ, ◌+ℤ�
 use Rattle.std.proofs.lemmas.Int.{to_z-of_z, ints}
 use Rattle.word_image.specs.LocalRules.{LocalRule, IsRule}
 use Rattle.word_image.specs.Storage.{padded}
-use Rattle.word_image.proofs.Storage.{take-padded}
+use Rattle.word_image.proofs.Storage.{take-in_row}
 use Rattle.word_image.proofs.laws.SameRules.{rule_from_parts}
 
 -- the offset of an accepted rule is one of an i8
@@ -29,7 +29,7 @@ pub rule_of_padded : (r : LocalRule) (k m : ℕ) (o : ℤ) (entries : List ℕ) 
     → record { states = k; width = m; offset = to_z w8 (of_z w8 o); table = take (k ^ m) entries } ≡ r
 rule_of_padded r k m o entries rule states width offset same =
     rule_of r k m o (take (k ^ m) entries) rule states width offset
-    (ap₂ (λ (n : ℕ) (xs : List ℕ). take n xs) (ap₂ (λ (b e : ℕ). b ^ e) states width) same ∙ take-padded (r.states ^ r.width) r.table rule.entries)
+    (ap₂ (λ (n : ℕ) (xs : List ℕ). take n xs) (ap₂ (λ (b e : ℕ). b ^ e) states width) same ∙ take-in_row 256 (r.states ^ r.width) r.table rule.entries)
 
 -- a power, by its base and exponent
 pub power_of : (k m base exponent v : ℕ) → v ≡ base ^ exponent → base ≡ k → exponent ≡ m → v ≡ k ^ m

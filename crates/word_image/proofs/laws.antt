@@ -15,3 +15,4 @@ pub mod LastSets
 pub mod RuleFaults
 pub mod Searches
 pub mod SameRules
+pub mod Weights

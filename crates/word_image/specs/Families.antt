@@ -1,9 +1,10 @@
--- The sets of last nodes of the preimages of words, in the order of their least words (Sutner 1991).
-use Rattle.std.specs.Prelude.{◌≡◌, ◌≢◌, ℕ, ◌+◌, ◌<◌, ◌⊎◌, List, length, slice_index, slice_get, Some, Contains}
-use Rattle.std.specs.List.{AllZip}
+-- The sets of last nodes of the preimages of words, in the order of their least words (Sutner 1991), and the covers among them.
+use Rattle.std.specs.Prelude.{◌≡◌, ◌≢◌, ℕ, ◌+◌, ◌<◌, ◌⊎◌, List, ◌∷◌, length, slice_index, slice_get, Some, Contains, Bool, bit_and, ◌==◌, ◌&&◌, not}
+use Rattle.std.specs.List.{AllZip, filter, list_any}
 use Rattle.std.specs.declared.cmp.Ordering.TheVariants.{Less, Greater}
 use Rattle.word_image.specs.LocalRules.{LocalRule}
 use Rattle.word_image.specs.Words.{word_cmp}
+use Rattle.word_image.specs.Graphs.{full_set}
 use Rattle.word_image.specs.Ranks.{IsLastSet}
 
 -- w is the first word in the order of words whose set this is
@@ -25,3 +26,19 @@ pub record IsFamily (r : LocalRule) (sets : List ℕ) : Type 0 where
   -- no set is missing, but for those of words after a word with the empty set
   pub all : (v : List ℕ) (set : ℕ) → IsLastSet r v set
       → Contains sets set ⊎ ((e : List ℕ) × IsLastSet r e 0 × (word_cmp e v ≡ Less) × Contains sets 0)
+
+-- every node of the one set is in the other
+abbrev pub is_subset : ℕ → ℕ → Bool
+is_subset s t = bit_and s t == s
+
+-- a set that contains no other set of the list
+abbrev pub is_minimal : List ℕ → ℕ → Bool
+is_minimal sets s = not (list_any (λ t. not (t == s) && is_subset t s) sets)
+
+-- the full set first, and then each other set of the list that contains no other, in its order
+abbrev pub covers_of : ℕ → List ℕ → List ℕ
+covers_of full sets = full ∷ filter (λ s. not (s == full) && is_minimal sets s) sets
+
+-- the covers of a rule are those of its family
+abbrev pub IsCoverList : LocalRule → List ℕ → Type 0
+IsCoverList r covers = (family : List ℕ) × IsFamily r family × (covers ≡ covers_of (full_set r) family)

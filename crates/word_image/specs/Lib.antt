@@ -11,5 +11,6 @@ pub mod RingFaults
 pub mod Families
 pub mod Digits
 pub mod Grammars
+pub mod Weights
 pub mod Storage
 pub mod Examples

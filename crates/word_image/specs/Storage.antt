@@ -1,13 +1,17 @@
--- How the table of a rule lies in memory: its letters, and zeros after them.
+-- How the table of a rule and the weights of letters lie in memory: their numbers, and zeros after them.
 use Rattle.std.specs.Prelude.{◌≡◌, ℕ, ◌-◌, List, ◌++◌, length, take, drop, replicate}
 use Rattle.std.proofs.Common.{ap, ◌∙◌, sym, take-append-drop}
 
--- a table of at most 256 letters in a row of 256
-abbrev pub padded : List ℕ → List ℕ
-padded table = table ++ replicate (256 - length table) 0
+-- at most so many numbers, and zeros up to this size
+abbrev pub in_row : ℕ → List ℕ → List ℕ
+in_row size numbers = numbers ++ replicate (size - length numbers) 0
 
--- entries that are zero after the first n are these n, padded
-pub padded-take : (n : ℕ) (entries : List ℕ) → length (take n entries) ≡ n → drop n entries ≡ replicate (256 - n) 0
-    → padded (take n entries) ≡ entries
-padded-take n entries long zeros =
-    ap (λ j. take n entries ++ replicate (256 - j) 0) long ∙ ap (λ rest. take n entries ++ rest) (sym zeros) ∙ take-append-drop n entries
+-- a table of at most 256 letters
+abbrev pub padded : List ℕ → List ℕ
+padded table = in_row 256 table
+
+-- the entries of a row that are zero after the first n are these n in it
+pub in_row-take : (size n : ℕ) (entries : List ℕ) → length (take n entries) ≡ n → drop n entries ≡ replicate (size - n) 0
+    → in_row size (take n entries) ≡ entries
+in_row-take size n entries long zeros =
+    ap (λ j. take n entries ++ replicate (size - j) 0) long ∙ ap (λ rest. take n entries ++ rest) (sym zeros) ∙ take-append-drop n entries

@@ -15,7 +15,8 @@
 //! N = k^(m - 1), at most 16. `at` takes time O(1), `apply` O(m), and `image` of n letters time
 //! O(n m) and space O(n).
 //!
-//! `Word`, `SetList`, `RankRow` and `FluxRow` are the lists in which evidence is handed on.
+//! `Word`, `SetList`, `RankRow` and `FluxRow` are the lists in which evidence is handed on, and
+//! `Weights` has a number for each letter, by which the sums of rings are taken.
 #![tactic(auto)]
 
 mod images;
@@ -23,12 +24,14 @@ mod letters;
 mod lists;
 mod local_rule;
 mod rings;
+mod weights;
 
 pub use images::{ImageFault, image};
 pub use letters::{digit, letter, word_text};
 pub use lists::{FluxRow, RankRow, SetList, Word};
 pub use local_rule::{MOST_ENTRIES, Rule, RuleFault, check_shape};
 pub use rings::{RingFault, ring_apply, ring_image};
+pub use weights::{WeightFault, Weights};
 
 #[cfg(test)]
 mod tests;

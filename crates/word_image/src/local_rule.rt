@@ -45,7 +45,7 @@ pub struct Rule {
 impl Model for Rule {
     ghost use Rattle.std.specs.Prelude.{◌≡◌, ◌^◌, ◌-◌, length, take, drop, replicate};
     ghost use Rattle.word_image.specs.LocalRules.{LocalRule, IsRule};
-    ghost use Rattle.word_image.specs.Storage.{padded, padded-take};
+    ghost use Rattle.word_image.specs.Storage.{padded, in_row-take};
 
     ghost Value = { LocalRule };
 
@@ -60,7 +60,7 @@ impl Model for Rule {
       k = r.k;
       m = r.m;
       o = r.o;
-      entries = padded-take (r.k ^ r.m) r.entries h.0.entries h.1 i;
+      entries = in_row-take 256 (r.k ^ r.m) r.entries h.0.entries h.1 i;
     } };
 }
 

@@ -1,7 +1,7 @@
 //! Values by hand and from the rules' own tables, and what no clause says: that memory is there.
 use crate::{
-    FluxRow, ImageFault, RankRow, RingFault, Rule, RuleFault, SetList, Word, digit, image, letter,
-    ring_image, word_text,
+    FluxRow, ImageFault, RankRow, RingFault, Rule, RuleFault, SetList, WeightFault, Weights, Word,
+    digit, image, letter, ring_image, word_text,
 };
 use std::test::Fail;
 
@@ -176,4 +176,18 @@ fn rings_are_read_on_from_their_end(rt: HostRuntime) {
             Err(fault) => assert_eq!(rt; Err(fault), want),
         }
     }
+}
+
+#[test]
+fn weights_are_a_number_for_each_letter(rt: HostRuntime) {
+    assert_eq!(rt; Weights::new(2, &[0, 3, 4]), Err(WeightFault::Length));
+    assert_eq!(rt; Weights::new(2, &[0]), Err(WeightFault::Length));
+    assert_eq!(rt; Weights::new(3, &[0, 1, 2]), Ok(Weights::own(3)));
+    assert_ne!(rt; Weights::new(3, &[0, 1, 3]), Ok(Weights::own(3)));
+    assert_ne!(rt; Weights::new(2, &[0, 1]), Ok(Weights::own(3)));
+    let Ok(weights) = Weights::new(2, &[0, 255]) else {
+        return assert!(rt; false, "weights are refused");
+    };
+    assert_eq!(rt; weights.at(1), 255);
+    assert_eq!(rt; weights.as_slice(), [0, 255].as_slice());
 }

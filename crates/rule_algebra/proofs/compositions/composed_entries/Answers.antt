@@ -1,7 +1,7 @@
 use Rattle.std.proofs.Common.{◌≡◌, ℕ, ◌+◌, ◌-◌, ◌<◌, set, slice_index, ap, ap₂, ◌∙◌, arith}
 use Rattle.word_image.specs.LocalRules.{local_map, word_of, value}
 use Rattle.word_image.specs.Words.{image}
-use Rattle.word_image.proofs.Storage.{padded-more}
+use Rattle.word_image.proofs.Storage.{in_row-more}
 use Rattle.rule_algebra.proofs.RuleParts.{power_of}
 use Rattle.rule_algebra.proofs.compositions.composed_entries.Goals as goal
 
@@ -19,4 +19,4 @@ loop-window-preserved c =
     let size = power_of first.states (first.width + second.width - 1) _ _ _ c.pow-size.ensures (c.from.ensures ∙ c.k.ensures.states) (c.from-2.ensures ∙ ap₂ (λ (i j : ℕ). i + j - 1) c.m.ensures.width c.m-2.ensures.width) in
     let within : v < 256 = omega arith in
     rw c.from-in-loop-window.ensures (ap (λ xs. set xs v c.at.result) c.loop-window.invariant
-    ∙ padded-more (λ u. local_map second (part second.width u)) v c.at.result within gives)
+    ∙ in_row-more 256 (λ u. local_map second (part second.width u)) v c.at.result within gives)

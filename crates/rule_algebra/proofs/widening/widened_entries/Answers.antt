@@ -2,7 +2,7 @@ use Rattle.std.proofs.Common.{◌≡◌, ◌+◌, ◌-◌, ◌*◌, ◌/◌, ◌
 use Rattle.std.proofs.Math.Nat.{pow-le-pow_right, one-le-pow}
 use Rattle.std.proofs.lemmas.Nat.{pow-add, div_below}
 use Rattle.word_image.specs.LocalRules.{local_map, word_of}
-use Rattle.word_image.proofs.Storage.{padded-more}
+use Rattle.word_image.proofs.Storage.{in_row-more}
 use Rattle.rule_algebra.proofs.laws.Widening.{widened-entry}
 use Rattle.rule_algebra.proofs.RuleParts.{power_of}
 use Rattle.rule_algebra.proofs.widening.widened_entries.Goals as goal
@@ -41,4 +41,4 @@ loop-window-preserved c =
     c.at.ensures.entry ∙ ap (λ d. slice_index r.table (v / d)) ignored ∙ widened-entry r c.args.m v c.requires.wider (omega arith) in
     let within : v < 256 = omega arith in
     rw c.from-in-loop-window.ensures (ap (λ xs. set xs v c.at.result) c.loop-window.invariant
-    ∙ padded-more (λ u. local_map r (take r.width (word_of r.states c.args.m u))) v c.at.result within gives)
+    ∙ in_row-more 256 (λ u. local_map r (take r.width (word_of r.states c.args.m u))) v c.at.result within gives)

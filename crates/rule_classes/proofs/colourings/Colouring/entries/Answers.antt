@@ -1,6 +1,6 @@
 use Rattle.std.proofs.Common.{◌≡◌, ◌^◌, ◌<◌, set, slice_index, ap, ◌∙◌, arith}
 use Rattle.word_image.proofs.laws.RuleFaults.{window_count-le}
-use Rattle.word_image.proofs.Storage.{padded-more}
+use Rattle.word_image.proofs.Storage.{in_row-more}
 use Rattle.rule_classes.specs.Colourings.{entry, old_value}
 use Rattle.rule_classes.proofs.laws.Readings.{old_value-below, given-read}
 use Rattle.rule_classes.proofs.colourings.Colouring.entries.Goals as goal
@@ -26,4 +26,4 @@ loop-window-preserved c =
     ∙ given-read r c.args.self.now v c.requires.colouring below in
     let colour : slice_index c.args.self.now.colours c.from-in-loop-window.result ≡ entry r c.args.self.now v = ap (slice_index c.args.self.now.colours) (c.from-in-loop-window.ensures ∙ given) in
     rw c.from-in-loop-window-2.ensures (ap (λ xs. set xs v (slice_index c.args.self.now.colours c.from-in-loop-window.result)) c.loop-window.invariant
-    ∙ padded-more (entry r c.args.self.now) v (slice_index c.args.self.now.colours c.from-in-loop-window.result) within colour)
+    ∙ in_row-more 256 (entry r c.args.self.now) v (slice_index c.args.self.now.colours c.from-in-loop-window.result) within colour)

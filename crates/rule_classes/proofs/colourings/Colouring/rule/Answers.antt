@@ -1,7 +1,7 @@
 use Rattle.std.proofs.Common.{◌≡◌, ℕ, ◌^◌, List, take, pos, IfOk, refl, sym, ap₂, subst, ◌∙◌}
 use Rattle.word_image.specs.LocalRules.{LocalRule, IsRule}
 use Rattle.word_image.specs.Storage.{padded}
-use Rattle.word_image.proofs.Storage.{take-padded}
+use Rattle.word_image.proofs.Storage.{take-in_row}
 use Rattle.word_image.proofs.laws.SameRules.{rule_from_parts}
 use Rattle.rule_classes.specs.Colourings.{IsColouring, in_colours}
 use Rattle.rule_classes.specs.declared.colourings.Colouring.{Colouring}
@@ -13,7 +13,7 @@ parts : {r : LocalRule} (c : Colouring) (k m size : ℕ) (entries : List ℕ) �
     → record { states = k; width = m; offset = pos 0; table = take size entries } ≡ in_colours r c
 parts {r} c k m size entries rule colouring states width long same =
     rule_from_parts states width refl
-    (ap₂ (λ (n : ℕ) (xs : List ℕ). take n xs) long same ∙ take-padded (r.states ^ r.width) (in_colours r c).table (IsRule-in_colours c rule colouring).entries)
+    (ap₂ (λ (n : ℕ) (xs : List ℕ). take n xs) long same ∙ take-in_row 256 (r.states ^ r.width) (in_colours r c).table (IsRule-in_colours c rule colouring).entries)
 
 pub unwrap-requires : goal.unwrap-requires
 unwrap-requires c =

@@ -5,7 +5,7 @@ use Rattle.std.proofs.lemmas.Option.{none-some}
 use Rattle.word_image.specs.LocalRules.{IsWord, IsShape, IsRule}
 use Rattle.word_image.specs.RuleFaults.{shape_fault}
 use Rattle.word_image.proofs.laws.RuleFaults.{IsShape-shape_fault, shape_fault-IsShape, IsWord-table_fault, table_fault-IsWord, window_count-le}
-use Rattle.word_image.proofs.Storage.{take-padded, drop-padded}
+use Rattle.word_image.proofs.Storage.{take-in_row, drop-in_row}
 use Rattle.word_image.proofs.local_rule.Rule.new.Goals as goal
 
 -- the fault of a shape whose offset was passed on
@@ -54,8 +54,8 @@ invariant_of-result c =
     let n = c.args.k ^ c.args.m in
     let shape = accepted_shape c.args.k c.args.m o c.ranges.o c.in_ok-check_shape.ensures in
     let table = IsWord-table_fault c.args.k c.args.m t (sym c.in_ok-check_table.ensures) in
-    let same = ap (take n) c.in_memory.ensures ∙ take-padded n t table.0 in
-    let zeros = ap (drop n) c.in_memory.ensures ∙ drop-padded n t table.0 in
+    let same = ap (take n) c.in_memory.ensures ∙ take-in_row 256 n t table.0 in
+    let zeros = ap (drop n) c.in_memory.ensures ∙ drop-in_row 256 n t table.0 in
     (IsRule-same _ _ o _ t _ (to_z-of_z w8 o c.ranges.o) same shape table.0 table.1, zeros)
 
 pub returns-clause-accepted : goal.returns-clause-accepted

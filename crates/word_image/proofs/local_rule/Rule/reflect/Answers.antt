@@ -5,7 +5,7 @@ use Rattle.word_image.specs.LocalRules.{LocalRule, IsRule, mirrored}
 use Rattle.word_image.specs.Storage.{padded}
 use Rattle.word_image.specs.Words.{image}
 use Rattle.word_image.proofs.laws.Images.{image-mirrored, IsRule-mirrored}
-use Rattle.word_image.proofs.Storage.{take-padded, drop-padded}
+use Rattle.word_image.proofs.Storage.{take-in_row, drop-in_row}
 use Rattle.word_image.proofs.local_rule.Rule.reflect.Goals as goal
 
 -- the mirrored rule, by its parts as they lie in memory
@@ -16,10 +16,10 @@ mirrored-parts r k m o entries rule states width offset table =
     let low = accepted.shape.least_offset in
     let high = accepted.shape.most_offset in
     let fits : FitsSigned w8 (mirrored r).offset = grind (arith, ints) in
-    let same = take-padded (r.states ^ r.width) (mirrored r).table accepted.entries in
+    let same = take-in_row 256 (r.states ^ r.width) (mirrored r).table accepted.entries in
     rw (states, width, offset, table) (
       ap₂ (λ (p : ℤ) (t : List ℕ). record { states = r.states; width = r.width; offset = p; table = t }) (to_z-of_z w8 (mirrored r).offset fits) same,
-      drop-padded (r.states ^ r.width) (mirrored r).table accepted.entries,
+      drop-in_row 256 (r.states ^ r.width) (mirrored r).table accepted.entries,
     )
 
 pub invariant_of-result : goal.invariant_of-result

@@ -3,7 +3,7 @@ use Rattle.std.proofs.lemmas.Bool.Decides.{Decides-eqb, same_from_decides, nat_t
 use Rattle.std.proofs.lemmas.Slice.Eq.{slice_eq-Decides}
 use Rattle.std.proofs.lemmas.Int.{ints}
 use Rattle.word_image.specs.LocalRules.{LocalRule, same_rule}
-use Rattle.word_image.specs.Storage.{padded, padded-take}
+use Rattle.word_image.specs.Storage.{padded, in_row-take}
 use Rattle.word_image.proofs.laws.SameRules.{rule_from_parts, Decides-same_rule}
 use Rattle.word_image.proofs.local_rule.RulePartialEq.eq.Goals as goal
 
@@ -19,7 +19,7 @@ returns-then-self-other-3-clause-same c =
       λ yes. sym c.self.view_is ∙ rule_from_parts states width offset (ap₂ kept (ap₂ (λ (k m : ℕ). k ^ m) states width) (whole.0 yes)) ∙ c.other.view_is,
       λ same.
           let table = ap (λ (r : LocalRule). padded r.table) (c.self.view_is ∙ same ∙ sym c.other.view_is) in
-          whole.1 (sym (padded-take _ a.entries c.self.invariant.0.entries c.self.invariant.1) ∙ table ∙ padded-take _ b.entries c.other.invariant.0.entries c.other.invariant.1),
+          whole.1 (sym (in_row-take 256 _ a.entries c.self.invariant.0.entries c.self.invariant.1) ∙ table ∙ in_row-take 256 _ b.entries c.other.invariant.0.entries c.other.invariant.1),
     )
 
 pub returns-then-self-other-3-clause-parts : goal.returns-then-self-other-3-clause-parts

@@ -1,0 +1,12 @@
+-- The weights of letters: for each letter a whole number of eight bits.
+use Rattle.std.specs.Prelude.{◌≡◌, ℕ, ◌≤◌, List, length, All}
+use Rattle.std.specs.List.{range_with_len}
+
+-- one for each of k letters
+pub record AreWeights (k : ℕ) (weights : List ℕ) : Type 0 where
+  pub each_letter : length weights ≡ k
+  pub small : All (λ w. w ≤ 255) weights
+
+-- each letter weighs its own value
+abbrev pub own_weights : ℕ → List ℕ
+own_weights k = range_with_len 0 k

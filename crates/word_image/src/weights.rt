@@ -1,0 +1,109 @@
+//! What each letter weighs.
+ghost use Rattle.std.specs.Prelude.{◌≡◌, ◌<◌, ◌≤◌, ◌↔◌, length, slice_index, IfOk, IsOk, IsTrue};
+ghost use Rattle.word_image.specs.Weights.{own_weights};
+
+use std::marker::Model;
+
+/// The most letters that there are.
+const MOST_STATES: usize = 16;
+
+/// Why a list gives no weights.
+#[derive(Clone, Copy, Debug, PartialEq, Eq)]
+pub enum WeightFault {
+    /// The list has not one number for each letter.
+    Length,
+}
+
+/// A weight from 0 to 255 for each of 2 to 16 letters, seen as the list of the weights.
+#[derive(Clone, Copy, Debug, PartialEq, Eq)]
+pub struct Weights {
+    // How many letters there are.
+    k: u8,
+    // What each letter weighs, and zeros after the last one.
+    numbers: [u8; MOST_STATES],
+}
+
+impl Model for Weights {
+    ghost use Rattle.std.specs.Prelude.{◌≡◌, ◌≤◌, ◌-◌, ℕ, List, length, take, drop, replicate};
+    ghost use Rattle.word_image.specs.Storage.{in_row, in_row-take};
+
+    ghost Value = { List ℕ };
+
+    ghost view = { λ w. take w.k w.numbers };
+
+    ghost invariant = { λ w. (2 ≤ w.k) × (w.k ≤ 16) × (length (take w.k w.numbers) ≡ w.k) × (drop w.k w.numbers ≡ replicate (16 - w.k) 0) };
+
+    ghost inverse = { λ v. record { k = length v; numbers = in_row 16 v } };
+
+    ghost inverse_ok = { λ w h i. record {
+      k = h.2 i;
+      numbers = in_row-take 16 w.k w.numbers h.2 h.3 i;
+    } };
+}
+
+impl Weights {
+    /// The weights of this list, exactly where it has one for each of k letters.
+    pub fn new(k: u8, list: &[u8]) -> Result<Weights, WeightFault>
+        requires least { 2 ≤ k }
+        requires most { k ≤ 16 }
+        ensures weights { IfOk result (λ w. w ≡ list.now) }
+        ensures accepted { IsOk result ↔ (length list.now ≡ k) }
+    {
+        if list.len() != usize::from(k) {
+            return Err(WeightFault::Length);
+        }
+        let mut numbers = [0; MOST_STATES];
+        numbers[..list.len()].copy_from_slice(list);
+        Ok(Weights { k, numbers })
+    }
+
+    /// Each letter weighs its own value.
+    pub fn own(k: u8) -> Weights
+        requires least { 2 ≤ k }
+        requires most { k ≤ 16 }
+        ensures weights { result ≡ own_weights k }
+        ensures letters { length result ≡ k }
+    {
+        let mut numbers = [0; MOST_STATES];
+        for letter in 0..k {
+            numbers[usize::from(letter)] = letter;
+        }
+        Weights { k, numbers }
+    }
+
+    /// How many letters there are, from 2 to 16.
+    pub fn k(&self) -> u8
+        ensures states { result ≡ length self.now }
+        ensures least { 2 ≤ result }
+        ensures most { result ≤ 16 }
+    {
+        self.k
+    }
+
+    /// What a letter weighs.
+    pub fn at(&self, letter: u8) -> u8
+        requires { letter < length self.now }
+        ensures { result ≡ slice_index self.now letter }
+    {
+        self.numbers[usize::from(letter)]
+    }
+
+    /// Whether each letter weighs its own value.
+    pub fn is_own(&self) -> bool
+        ensures { IsTrue result ↔ (self.now ≡ own_weights (length self.now)) }
+    {
+        for letter in 0..self.k() {
+            if self.at(letter) != letter {
+                return false;
+            }
+        }
+        true
+    }
+
+    /// The weights, that of letter 0 first.
+    pub fn as_slice(&self) -> &[u8]
+        ensures weights { result.now ≡ self.now }
+    {
+        &self.numbers[..usize::from(self.k)]
+    }
+}
