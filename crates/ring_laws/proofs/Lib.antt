@@ -4,3 +4,4 @@ pub mod Fluxes
 pub mod FluxWalks
 pub mod LossyRings
 pub mod FluxWindows
+pub mod SameWeights

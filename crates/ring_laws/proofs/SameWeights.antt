@@ -1,0 +1,67 @@
+-- Weights that agree on the letters of a rule say the same of its rings, so own weights say what the letters themselves say.
+use Rattle.std.proofs.Common.{◌≡◌, ℕ, ◌+◌, ◌<◌, List, [], ◌∷◌, slice_index, sum_by, ℤ, pos, ◌-ℤ◌, refl, sym, ap₂, ◌∙◌, arith}
+use Rattle.std.specs.Prelude.{◌↔◌}
+use Rattle.std.proofs.lemmas.List.Sums.{sum_by-cons}
+use Rattle.std.proofs.lemmas.List.Elements.{All-tail}
+use Rattle.word_image.specs.LocalRules.{LocalRule, IsRule, IsWord, local_map}
+use Rattle.word_image.specs.Rings.{ring_image, KeepsSum, IsConserving, IsFlux, IsLossyRing, IsLeastLossyRing}
+use Rattle.word_image.specs.Weights.{own_weights}
+use Rattle.word_image.proofs.laws.Words.{entry-below}
+use Rattle.word_image.proofs.laws.Weights.{own_weights-letter}
+use Rattle.ring_laws.proofs.Rings.{IsWord-ring_image}
+
+-- each letter has one weight by both
+abbrev pub AgreeOn : ℕ → (ℕ → ℕ) → (ℕ → ℕ) → Type 0
+AgreeOn k weight other = (a : ℕ) → a < k → weight a ≡ other a
+
+-- the other way round
+pub AgreeOn-sym : {k : ℕ} {weight other : ℕ → ℕ} → AgreeOn k weight other → AgreeOn k other weight
+AgreeOn-sym agree a l = sym (agree a l)
+
+-- a word weighs the same by both
+sum_by-agree : {k : ℕ} {weight other : ℕ → ℕ} → AgreeOn k weight other → (w : List ℕ) → IsWord k w → sum_by weight w ≡ sum_by other w
+sum_by-agree agree [] word = refl
+sum_by-agree {k} {weight} {other} agree (a ∷ w) word =
+    sum_by-cons weight a w
+    ∙ ap₂ (λ (m n : ℕ). m + n) (agree a (word 0 0 (omega arith))) (sum_by-agree agree w (All-tail (λ b. b < k) a w word))
+    ∙ sym (sum_by-cons other a w)
+
+-- a ring keeps its sum by the one where it does by the other
+pub KeepsSum-agree : {weight other : ℕ → ℕ} {r : LocalRule} → IsRule r → AgreeOn r.states weight other → (p : List ℕ) → IsWord r.states p → KeepsSum weight r p → KeepsSum other r p
+KeepsSum-agree {r = r} rule agree p word keeps = sym (sum_by-agree agree p word) ∙ keeps ∙ sum_by-agree agree (ring_image r p) (IsWord-ring_image rule p)
+
+-- so a rule is conserving by the one where it is by the other
+IsConserving-agreed : {weight other : ℕ → ℕ} {r : LocalRule} → IsRule r → AgreeOn r.states weight other → IsConserving weight r → IsConserving other r
+IsConserving-agreed rule agree keep p ring = KeepsSum-agree rule agree p ring.word (keep p ring)
+
+pub IsConserving-agree : {weight other : ℕ → ℕ} {r : LocalRule} → IsRule r → AgreeOn r.states weight other → IsConserving weight r ↔ IsConserving other r
+IsConserving-agree rule agree = (IsConserving-agreed rule agree, IsConserving-agreed rule (AgreeOn-sym agree))
+
+-- a flux by the one is a flux by the other
+pub IsFlux-agree : {weight other : ℕ → ℕ} {r : LocalRule} {phi : List ℤ} → IsRule r → AgreeOn r.states weight other → IsFlux weight r phi → IsFlux other r phi
+IsFlux-agree {r = r} rule agree flux = record {
+  entries = flux.entries;
+  flows = λ w first last word long at_first at_last.
+      let wide = rule.shape.least_width in
+      ap₂ (λ (m n : ℕ). pos m -ℤ pos n) (sym (agree (local_map r w) (entry-below rule _))) (sym (agree (slice_index w 0) (word 0 0 (omega arith))))
+      ∙ flux.flows w first last word long at_first at_last;
+}
+
+-- a lossy ring by the one is lossy by the other
+pub IsLossyRing-agree : {weight other : ℕ → ℕ} {r : LocalRule} {p : List ℕ} → IsRule r → AgreeOn r.states weight other → IsLossyRing weight r p → IsLossyRing other r p
+IsLossyRing-agree {p = p} rule agree lossy = record { ring = lossy.ring; loses = λ keeps. lossy.loses (KeepsSum-agree rule (AgreeOn-sym agree) p lossy.ring.word keeps) }
+
+-- and the first one is the first
+pub IsLeastLossyRing-agree : {weight other : ℕ → ℕ} {r : LocalRule} {p : List ℕ} → IsRule r → AgreeOn r.states weight other → IsLeastLossyRing weight r p → IsLeastLossyRing other r p
+IsLeastLossyRing-agree rule agree least = record {
+  lossy = IsLossyRing-agree rule agree least.lossy;
+  least = λ q lossy. least.least q (IsLossyRing-agree rule (AgreeOn-sym agree) lossy);
+}
+
+-- own weights agree with the letters
+pub AgreeOn-own : (k : ℕ) → AgreeOn k (slice_index (own_weights k)) (λ a. a)
+AgreeOn-own k a l = own_weights-letter k a l
+
+-- so by own weights a rule is conserving exactly where each ring keeps the sum of its letters
+pub IsConserving-own : {r : LocalRule} → IsRule r → IsConserving (slice_index (own_weights r.states)) r ↔ IsConserving (λ a. a) r
+IsConserving-own {r} rule = IsConserving-agree rule (AgreeOn-own r.states)
