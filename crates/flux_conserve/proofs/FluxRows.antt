@@ -1,5 +1,5 @@
 -- The walks' gains in a row of 16.
-use Rattle.std.proofs.Common.{◌≡◌, ◌-◌, ◌↔◌, List, ◌++◌, length, take, drop, replicate, ℤ, pos, sym, ap, subst, ◌∙◌}
+use Rattle.std.proofs.Common.{◌≡◌, ℕ, ◌-◌, ◌↔◌, List, ◌++◌, length, take, drop, replicate, ℤ, pos, sym, ap, subst, ◌∙◌}
 use Rattle.std.proofs.Math.Seq.{take-append_seam, drop-append_seam}
 use Rattle.std.proofs.lemmas.List.FromFn.{length-map-range_with_len}
 use Rattle.word_image.specs.LocalRules.{LocalRule, IsRule, node_count}
@@ -10,32 +10,32 @@ use Rattle.ring_laws.proofs.LossyRings.{IsConserving-walk_gains}
 use Rattle.flux_conserve.specs.Keepings.{IsFluxRow}
 
 -- the gains, and zeros after the last node
-abbrev pub gains_row : LocalRule → List ℤ
-gains_row r = walk_gains (λ a. a) r ++ replicate (16 - node_count r) (pos 0)
+abbrev pub gains_row : (ℕ → ℕ) → LocalRule → List ℤ
+gains_row weight r = walk_gains weight r ++ replicate (16 - node_count r) (pos 0)
 
 -- the gains stand first
-take-gains_row : (r : LocalRule) → take (node_count r) (gains_row r) ≡ walk_gains (λ a. a) r
-take-gains_row r =
-    let long : length (walk_gains (λ a. a) r) ≡ node_count r = length-map-range_with_len (walk_gain (λ a. a) r) 0 (node_count r) in
-    ap (λ n. take n (gains_row r)) (sym long) ∙ take-append_seam (walk_gains (λ a. a) r) (replicate (16 - node_count r) (pos 0))
+take-gains_row : (weight : ℕ → ℕ) (r : LocalRule) → take (node_count r) (gains_row weight r) ≡ walk_gains weight r
+take-gains_row weight r =
+    let long : length (walk_gains weight r) ≡ node_count r = length-map-range_with_len (walk_gain weight r) 0 (node_count r) in
+    ap (λ n. take n (gains_row weight r)) (sym long) ∙ take-append_seam (walk_gains weight r) (replicate (16 - node_count r) (pos 0))
 
 -- and the zeros after them
-drop-gains_row : (r : LocalRule) → drop (node_count r) (gains_row r) ≡ replicate (16 - node_count r) (pos 0)
-drop-gains_row r =
-    let long : length (walk_gains (λ a. a) r) ≡ node_count r = length-map-range_with_len (walk_gain (λ a. a) r) 0 (node_count r) in
-    ap (λ n. drop n (gains_row r)) (sym long) ∙ drop-append_seam (walk_gains (λ a. a) r) (replicate (16 - node_count r) (pos 0))
+drop-gains_row : (weight : ℕ → ℕ) (r : LocalRule) → drop (node_count r) (gains_row weight r) ≡ replicate (16 - node_count r) (pos 0)
+drop-gains_row weight r =
+    let long : length (walk_gains weight r) ≡ node_count r = length-map-range_with_len (walk_gain weight r) 0 (node_count r) in
+    ap (λ n. drop n (gains_row weight r)) (sym long) ∙ drop-append_seam (walk_gains weight r) (replicate (16 - node_count r) (pos 0))
 
 -- a rule is conserving exactly where the first of them are a flux
-pub IsConserving-gains_row : {r : LocalRule} → IsRule r → IsConserving (λ a. a) r ↔ IsFlux (λ a. a) r (take (node_count r) (gains_row r))
-IsConserving-gains_row {r} rule = let P : List ℤ → Type 0 = λ phi. IsConserving (λ a. a) r ↔ IsFlux (λ a. a) r phi in subst P (sym (take-gains_row r)) (IsConserving-walk_gains rule (λ a. a))
+pub IsConserving-gains_row : {r : LocalRule} → IsRule r → (weight : ℕ → ℕ) → IsConserving weight r ↔ IsFlux weight r (take (node_count r) (gains_row weight r))
+IsConserving-gains_row {r} rule weight = let P : List ℤ → Type 0 = λ phi. IsConserving weight r ↔ IsFlux weight r phi in subst P (sym (take-gains_row weight r)) (IsConserving-walk_gains rule weight)
 
 -- and the row is then what is answered
-pub IsFluxRow-gains_row : {r : LocalRule} → IsRule r → IsFlux (λ a. a) r (take (node_count r) (gains_row r)) → IsFluxRow r (gains_row r)
-IsFluxRow-gains_row {r} rule flux =
-    let gains : IsFlux (λ a. a) r (walk_gains (λ a. a) r) = subst (IsFlux (λ a. a) r) (take-gains_row r) flux in
+pub IsFluxRow-gains_row : {r : LocalRule} → IsRule r → (weight : ℕ → ℕ) → IsFlux weight r (take (node_count r) (gains_row weight r)) → IsFluxRow weight r (gains_row weight r)
+IsFluxRow-gains_row {r} rule weight flux =
+    let gains : IsFlux weight r (walk_gains weight r) = subst (IsFlux weight r) (take-gains_row weight r) flux in
     record {
       flux = flux;
-      starts = slice_get-append (walk_gains (λ a. a) r) (replicate (16 - node_count r) (pos 0)) 0 (pos 0) (walk_gains-zero rule gains);
-      zeros = drop-gains_row r;
-      only = λ phi other zeroth. IsFlux-unique rule other zeroth ∙ sym (take-gains_row r);
+      starts = slice_get-append (walk_gains weight r) (replicate (16 - node_count r) (pos 0)) 0 (pos 0) (walk_gains-zero rule gains);
+      zeros = drop-gains_row weight r;
+      only = λ phi other zeroth. IsFlux-unique rule other zeroth ∙ sym (take-gains_row weight r);
     }

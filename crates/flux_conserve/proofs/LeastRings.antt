@@ -11,7 +11,7 @@ use Rattle.word_image.proofs.laws.Orders.{slice_cmp-value}
 use Rattle.flux_conserve.specs.LeastRings.{IsFirstLossyRing, KeepSumAt}
 
 -- where the rings of fewer letters keep their sums
-pub IsLeastLossyRing-first : {r : LocalRule} {n : ℕ} {p : List ℕ} → ((j : ℕ) → j < n → KeepSumAt r j) → IsFirstLossyRing r n p → IsLeastLossyRing (λ a. a) r p
+pub IsLeastLossyRing-first : {weight : ℕ → ℕ} {r : LocalRule} {n : ℕ} {p : List ℕ} → ((j : ℕ) → j < n → KeepSumAt weight r j) → IsFirstLossyRing weight r n p → IsLeastLossyRing weight r p
 IsLeastLossyRing-first {r} {n} {p} fewer first = record {
   lossy = first.lossy;
   least = λ q other greater.

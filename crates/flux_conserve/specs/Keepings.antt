@@ -1,16 +1,16 @@
--- What shows that a rule keeps the sum of every ring, or that it doesn't.
-use Rattle.std.specs.Prelude.{◌≡◌, ◌-◌, List, take, drop, replicate, slice_get, Some, Bool, true, false, ℤ, pos}
+-- What shows that a rule keeps the sum of every ring, each letter taken by its weight, or that it doesn't.
+use Rattle.std.specs.Prelude.{◌≡◌, ℕ, ◌-◌, List, take, drop, replicate, slice_get, Some, Bool, true, false, ℤ, pos}
 use Rattle.word_image.specs.LocalRules.{LocalRule, node_count}
 use Rattle.word_image.specs.Rings.{IsFlux, IsLeastLossyRing}
 use Rattle.flux_conserve.specs.declared.verdict.Keeping.{Keeping}
 use Rattle.flux_conserve.specs.declared.verdict.Keeping.TheVariants.{Flux, Ring}
 
 -- the flux of a rule with 0 at node 0, in a row of 16 with zeros after the last node. It is the only one.
-pub record IsFluxRow (r : LocalRule) (row : List ℤ) : Type 0 where
-  pub flux : IsFlux (λ a. a) r (take (node_count r) row)
+pub record IsFluxRow (weight : ℕ → ℕ) (r : LocalRule) (row : List ℤ) : Type 0 where
+  pub flux : IsFlux weight r (take (node_count r) row)
   pub starts : slice_get row 0 ≡ Some (pos 0)
   pub zeros : drop (node_count r) row ≡ replicate (16 - node_count r) (pos 0)
-  pub only : (phi : List ℤ) → IsFlux (λ a. a) r phi → slice_get phi 0 ≡ Some (pos 0) → phi ≡ take (node_count r) row
+  pub only : (phi : List ℤ) → IsFlux weight r phi → slice_get phi 0 ≡ Some (pos 0) → phi ≡ take (node_count r) row
 
 -- a flux is answered
 abbrev pub has_flux : Keeping → Bool
@@ -18,6 +18,6 @@ has_flux (Flux row) = true
 has_flux (Ring ring) = false
 
 -- what is answered: that flux, or the first ring that doesn't keep its sum
-abbrev pub IsShown : LocalRule → Keeping → Type 0
-IsShown r (Flux row) = IsFluxRow r row
-IsShown r (Ring ring) = IsLeastLossyRing (λ a. a) r ring
+abbrev pub IsShown : (ℕ → ℕ) → LocalRule → Keeping → Type 0
+IsShown weight r (Flux row) = IsFluxRow weight r row
+IsShown weight r (Ring ring) = IsLeastLossyRing weight r ring

@@ -1,58 +1,72 @@
 //! What the windows gain along the walks to node 0, and whether that is a flux.
-ghost use Rattle.std.specs.Prelude.{◌≡◌, ◌-◌, ◌^◌, ◌<◌, ◌↔◌, ◌≤ℤ◌, length, IsTrue, pos, negsuc, ◌++◌, replicate};
+ghost use Rattle.std.specs.Prelude.{◌≡◌, ◌-◌, ◌/◌, ◌^◌, ◌<◌, ◌↔◌, ◌≤ℤ◌, length, slice_index, IsTrue, pos, negsuc, ◌++◌, replicate};
 ghost use Rattle.word_image.specs.LocalRules.{node_count};
 ghost use Rattle.word_image.specs.Rings.{IsFlux};
 ghost use Rattle.ring_laws.proofs.FluxWalks.{walk_gain, walk_gains};
 ghost use Rattle.ring_laws.proofs.FluxWindows.{window_gain, Flows};
 
-use word_image::Rule;
+use word_image::{Rule, Weights};
 
 /// The most nodes that a rule has.
 pub(crate) const MOST_NODES: usize = 16;
 
 /// What the walk from each node gains that reads m - 1 letters 0, and zeros after the last node.
-pub(crate) fn walk_flows(rule: &Rule) -> [i32; MOST_NODES]
-    ensures { result ≡ walk_gains (λ a. a) rule.now ++ replicate (16 - node_count rule.now) (pos 0) }
+pub(crate) fn walk_flows(rule: &Rule, weights: &Weights) -> [i32; MOST_NODES]
+    requires { length weights.now ≡ rule.now.states }
+    ensures { result ≡ walk_gains (slice_index weights.now) rule.now ++ replicate (16 - node_count rule.now) (pos 0) }
 {
     let mut flows = [0; MOST_NODES];
     for node in 0..rule.nodes() {
-        flows[usize::from(node)] = walk_flow(rule, node);
+        flows[usize::from(node)] = walk_flow(rule, weights, node);
     }
     flows
 }
 
 /// What the walk from a node gains that reads m - 1 letters 0.
-fn walk_flow(rule: &Rule, node: u8) -> i32
-    requires { node < node_count rule.now }
-    ensures { result ≡ walk_gain (λ a. a) rule.now node }
+fn walk_flow(rule: &Rule, weights: &Weights, node: u8) -> i32
+    requires letters { length weights.now ≡ rule.now.states }
+    requires node { node < node_count rule.now }
+    ensures { result ≡ walk_gain (slice_index weights.now) rule.now node }
 {
     let mut node = u16::from(node);
     let mut flow = 0;
     for _ in 1..rule.m() {
         let window = node * u16::from(rule.k());
-        flow += window_flow(rule, window);
+        flow += window_flow(rule, weights, window);
         node = window % u16::from(rule.nodes());
     }
     flow
 }
 
-/// What a window gains: the letter that the rule gives on it, less its first letter.
-fn window_flow(rule: &Rule, window: u16) -> i32
-    requires { window < rule.now.states ^ rule.now.width }
-    ensures gain { result ≡ window_gain (λ a. a) rule.now window }
-    ensures least { negsuc 14 ≤ℤ result }
-    ensures most { result ≤ℤ pos 15 }
+/// What a window gains: the weight of the letter that the rule gives on it, less that of its first
+/// letter.
+fn window_flow(rule: &Rule, weights: &Weights, window: u16) -> i32
+    requires letters { length weights.now ≡ rule.now.states }
+    requires window { window < rule.now.states ^ rule.now.width }
+    ensures gain { result ≡ window_gain (slice_index weights.now) rule.now window }
+    ensures least { negsuc 254 ≤ℤ result }
+    ensures most { result ≤ℤ pos 255 }
 {
-    i32::from(rule.at(window)) - i32::from(window / u16::from(rule.nodes()))
+    i32::from(weights.at(rule.at(window))) - i32::from(weights.at(first_letter(rule, window)))
+}
+
+/// The first letter of the window of this value.
+fn first_letter(rule: &Rule, window: u16) -> u8
+    requires { window < rule.now.states ^ rule.now.width }
+    ensures letter { result ≡ window / node_count rule.now }
+    ensures below { result < rule.now.states }
+{
+    (window / u16::from(rule.nodes())) as u8
 }
 
 /// Whether the numbers of the nodes are a flux.
-pub(crate) fn is_flux(rule: &Rule, numbers: &[i32]) -> bool
-    requires { length numbers.now ≡ node_count rule.now }
-    ensures { IsTrue result ↔ IsFlux (λ a. a) rule.now numbers.now }
+pub(crate) fn is_flux(rule: &Rule, weights: &Weights, numbers: &[i32]) -> bool
+    requires letters { length weights.now ≡ rule.now.states }
+    requires nodes { length numbers.now ≡ node_count rule.now }
+    ensures { IsTrue result ↔ IsFlux (slice_index weights.now) rule.now numbers.now }
 {
     for window in 0..rule.size() {
-        if !flows(rule, numbers, window) {
+        if !flows(rule, weights, numbers, window) {
             return false;
         }
     }
@@ -60,12 +74,13 @@ pub(crate) fn is_flux(rule: &Rule, numbers: &[i32]) -> bool
 }
 
 /// Whether a window gains the number of its first node less that of its last one.
-fn flows(rule: &Rule, numbers: &[i32], window: u16) -> bool
+fn flows(rule: &Rule, weights: &Weights, numbers: &[i32], window: u16) -> bool
+    requires letters { length weights.now ≡ rule.now.states }
     requires nodes { length numbers.now ≡ node_count rule.now }
     requires window { window < rule.now.states ^ rule.now.width }
-    ensures { IsTrue result ↔ Flows (λ a. a) rule.now numbers.now window }
+    ensures { IsTrue result ↔ Flows (slice_index weights.now) rule.now numbers.now window }
 {
     let first = numbers[usize::from(window / u16::from(rule.k()))];
     let last = numbers[usize::from(window % u16::from(rule.nodes()))];
-    i64::from(window_flow(rule, window)) == i64::from(first) - i64::from(last)
+    i64::from(window_flow(rule, weights, window)) == i64::from(first) - i64::from(last)
 }

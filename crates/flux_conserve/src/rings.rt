@@ -1,11 +1,11 @@
 //! The first ring that doesn't keep its sum.
-ghost use Rattle.std.specs.Prelude.{◌≡◌, ℕ, ◌+◌, ◌-◌, ◌*◌, ◌^◌, ◌<◌, ◌≤◌, ◌↔◌, length, IsTrue, IfSome, IfNone};
+ghost use Rattle.std.specs.Prelude.{◌≡◌, ℕ, ◌+◌, ◌-◌, ◌*◌, ◌^◌, ◌<◌, ◌≤◌, ◌↔◌, length, slice_index, IsTrue, IfSome, IfNone};
 ghost use Rattle.word_image.specs.LocalRules.{IsRule, IsWord, value};
 ghost use Rattle.word_image.specs.Rings.{IsRing, IsConserving, KeepsSum, IsLeastLossyRing};
 ghost use Rattle.flux_conserve.specs.LeastRings.{IsFirstLossyRing, KeepSumAt};
 
 use std::marker::Model;
-use word_image::{Rule, ring_apply};
+use word_image::{Rule, Weights, ring_apply};
 
 /// The most letters that the first ring has that doesn't keep its sum: 2m - 1 at width 5.
 pub const LONGEST_RING: usize = 9;
@@ -41,12 +41,13 @@ impl SmallRing {
 }
 
 /// The first ring in the order of words that doesn't keep its sum, of a rule that has one.
-pub(crate) fn first_lossy_ring(rule: &Rule) -> SmallRing
-    requires { ¬ IsConserving (λ a. a) rule.now }
-    ensures { IsLeastLossyRing (λ a. a) rule.now result }
+pub(crate) fn first_lossy_ring(rule: &Rule, weights: &Weights) -> SmallRing
+    requires letters { length weights.now ≡ rule.now.states }
+    requires lossy { ¬ IsConserving (slice_index weights.now) rule.now }
+    ensures { IsLeastLossyRing (slice_index weights.now) rule.now result }
 {
     for count in 1..2 * rule.m() {
-        if let Some(ring) = first_lossy_of(rule, count) {
+        if let Some(ring) = first_lossy_of(rule, weights, count) {
             return ring;
         }
     }
@@ -54,17 +55,18 @@ pub(crate) fn first_lossy_ring(rule: &Rule) -> SmallRing
 }
 
 /// The first ring of this many letters that doesn't keep its sum.
-pub(crate) fn first_lossy_of(rule: &Rule, count: u8) -> Option<SmallRing>
+pub(crate) fn first_lossy_of(rule: &Rule, weights: &Weights, count: u8) -> Option<SmallRing>
+    requires letters { length weights.now ≡ rule.now.states }
     requires some { 1 ≤ count }
     requires short { count ≤ 9 }
-    ensures first { IfSome result (IsFirstLossyRing rule.now count) }
-    ensures none { IfNone result (KeepSumAt rule.now count) }
+    ensures first { IfSome result (IsFirstLossyRing (slice_index weights.now) rule.now count) }
+    ensures none { IfNone result (KeepSumAt (slice_index weights.now) rule.now count) }
 {
     let k = rule.k();
     let long = usize::from(count);
     let mut letters = [0; LONGEST_RING];
     for _ in 0..u64::from(k).pow(u32::from(count)) {
-        if !keeps_sum(rule, &letters[..long]) {
+        if !keeps_sum(rule, weights, &letters[..long]) {
             return Some(SmallRing { count, letters });
         }
         advance(k, &mut letters[..long]);
@@ -72,18 +74,19 @@ pub(crate) fn first_lossy_of(rule: &Rule, count: u8) -> Option<SmallRing>
     None
 }
 
-/// Whether a ring and its image have one sum.
-fn keeps_sum(rule: &Rule, ring: &[u8]) -> bool
+/// Whether a ring and its image have one sum of weights.
+fn keeps_sum(rule: &Rule, weights: &Weights, ring: &[u8]) -> bool
+    requires letters { length weights.now ≡ rule.now.states }
     requires rule { IsRule rule.now }
     requires ring { IsRing rule.now.states ring.now }
     requires short { length ring.now ≤ 9 }
-    ensures { IsTrue result ↔ KeepsSum (λ a. a) rule.now ring.now }
+    ensures { IsTrue result ↔ KeepsSum (slice_index weights.now) rule.now ring.now }
 {
     let mut before = 0u16;
     let mut after = 0u16;
     for place in 0..ring.len() {
-        before += u16::from(ring[place]);
-        after += u16::from(ring_apply(rule, ring, place));
+        before += u16::from(weights.at(ring[place]));
+        after += u16::from(weights.at(ring_apply(rule, ring, place)));
     }
     before == after
 }

@@ -3,7 +3,7 @@ use Rattle.ring_laws.proofs.FluxWindows.{IsFlux-windows, Flows-flux}
 use Rattle.flux_conserve.proofs.flows.is_flux.Goals as goal
 
 pub returns : goal.returns
-returns c = (λ yes. IsFlux-windows c.size-window-end.ensures.rule c.requires (λ v l. c.loop-window.invariant v (omega arith)), λ flux. refl)
+returns c = (λ yes. IsFlux-windows c.size-window-end.ensures.rule c.requires.nodes (λ v l. c.loop-window.invariant v (omega arith)), λ flux. refl)
 
 pub returns-then-not-flows : goal.returns-then-not-flows
 returns-then-not-flows c = (

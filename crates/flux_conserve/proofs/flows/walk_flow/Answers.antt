@@ -1,4 +1,4 @@
-use Rattle.std.proofs.Common.{◌≡◌, ℕ, suc, ◌+◌, ◌-◌, ◌*◌, ◌%◌, ◌<◌, ◌+ℤ◌, ap, ap₂, ◌∙◌, arith, mod-lt}
+use Rattle.std.proofs.Common.{◌≡◌, ℕ, slice_index, suc, ◌+◌, ◌-◌, ◌*◌, ◌%◌, ◌<◌, ◌+ℤ◌, ap, ap₂, ◌∙◌, arith, mod-lt}
 use Rattle.std.proofs.lemmas.Int.{ints}
 use Rattle.word_image.specs.LocalRules.{LocalRule, node_count}
 use Rattle.word_image.proofs.laws.Graphs.{node_count_pos}
@@ -6,26 +6,27 @@ use Rattle.ring_laws.proofs.FluxWindows.{window_gain, walk_sum, walk_gain-sum}
 use Rattle.flux_conserve.proofs.flows.walk_flow.Goals as goal
 
 -- one window more of a walk
-walk_sum-next : (r : LocalRule) (u n : ℕ) → n < r.width
-    → walk_sum (λ a. a) r u (r.width - n) ≡ window_gain (λ a. a) r (u * r.states) +ℤ walk_sum (λ a. a) r (u * r.states % node_count r) (r.width - (n + 1))
-walk_sum-next r u n l = let e : r.width - n ≡ suc (r.width - (n + 1)) = omega arith in ap (walk_sum (λ a. a) r u) e
+walk_sum-next : (weight : ℕ → ℕ) (r : LocalRule) (u n : ℕ) → n < r.width
+    → walk_sum weight r u (r.width - n) ≡ window_gain weight r (u * r.states) +ℤ walk_sum weight r (u * r.states % node_count r) (r.width - (n + 1))
+walk_sum-next weight r u n l = let e : r.width - n ≡ suc (r.width - (n + 1)) = omega arith in ap (walk_sum weight r u) e
 
 pub loop-init : goal.loop-init
 loop-init c =
     let r = c.args.rule.now in
-    let whole = walk_gain-sum c.m-end.ensures.rule (λ a. a) c.args.node c.requires in
-    rw c.from-node.ensures (c.requires, omega (arith, ints), omega (arith, ints), omega (arith, ints))
+    let whole = walk_gain-sum c.m-end.ensures.rule (slice_index c.args.weights.now) c.args.node c.requires.node in
+    rw c.from-node.ensures (c.requires.node, omega (arith, ints), omega (arith, ints), omega (arith, ints))
 
 pub loop-preserved : goal.loop-preserved
 loop-preserved c =
     let r = c.args.rule.now in
     let u = c.loop.node in
+    let weight = slice_index c.args.weights.now in
     let state = c.loop.invariant in
     let k : c.from.result ≡ r.states = c.from.ensures ∙ c.k.ensures.states in
     let n : c.from-in-loop.result ≡ node_count r = c.from-in-loop.ensures ∙ c.nodes.ensures.nodes in
     let next : u * c.from.result % c.from-in-loop.result ≡ u * r.states % node_count r = ap₂ (λ (i j : ℕ). u * i % j) k n in
-    let more = walk_sum-next r u c.loop.counter (omega arith) in
-    let gain : c.window_flow-flow.result ≡ window_gain (λ a. a) r (u * r.states) = c.window_flow-flow.ensures.gain ∙ ap (λ i. window_gain (λ a. a) r (u * i)) k in
+    let more = walk_sum-next weight r u c.loop.counter (omega arith) in
+    let gain : c.window_flow-flow.result ≡ window_gain weight r (u * r.states) = c.window_flow-flow.ensures.gain ∙ ap (λ i. window_gain weight r (u * i)) k in
     let within : u * r.states % node_count r < node_count r = mod-lt (u * r.states) (node_count_pos c.k.ensures.rule) in
     let few = c.k.ensures.rule.shape.most_width in
     rw next (within, omega (arith, ints), omega (arith, ints), omega (arith, ints))

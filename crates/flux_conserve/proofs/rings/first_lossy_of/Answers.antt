@@ -1,4 +1,4 @@
-use Rattle.std.proofs.Common.{◌≡◌, ℕ, ◌+◌, ◌^◌, ◌<◌, ◌≤◌, List, ◌++◌, length, take, drop, replicate, refl, sym, ap, ap₂, subst, ◌∙◌, ⊎_elim, arith, length-append, length-drop}
+use Rattle.std.proofs.Common.{◌≡◌, ℕ, ◌+◌, ◌^◌, ◌<◌, ◌≤◌, List, ◌++◌, length, slice_index, take, drop, replicate, refl, sym, ap, ap₂, subst, ◌∙◌, ⊎_elim, arith, length-append, length-drop}
 use Rattle.std.proofs.Math.Nat.{pow-le-pow_left, pow-le-pow_right}
 use Rattle.std.proofs.Math.Seq.{take-append_seam}
 use Rattle.std.proofs.lemmas.Bool.{cases_eq}
@@ -35,12 +35,12 @@ stepped letters word n long fits same = (
 )
 
 -- the rings up to a word keep their sums where those before it and the word itself do
-kept_more : (r : LocalRule) (n i : ℕ) (w : List ℕ) → IsWord r.states w → length w ≡ n → value r.states w ≡ i → KeepsSum (λ a. a) r w
-    → ((q : List ℕ) → IsRing r.states q → length q ≡ n → value r.states q < i → KeepsSum (λ a. a) r q)
-    → (q : List ℕ) → IsRing r.states q → length q ≡ n → value r.states q < i + 1 → KeepsSum (λ a. a) r q
-kept_more r n i w word long number keeps before q ring same l =
+kept_more : (weight : ℕ → ℕ) (r : LocalRule) (n i : ℕ) (w : List ℕ) → IsWord r.states w → length w ≡ n → value r.states w ≡ i → KeepsSum weight r w
+    → ((q : List ℕ) → IsRing r.states q → length q ≡ n → value r.states q < i → KeepsSum weight r q)
+    → (q : List ℕ) → IsRing r.states q → length q ≡ n → value r.states q < i + 1 → KeepsSum weight r q
+kept_more weight r n i w word long number keeps before q ring same l =
     ⊎_elim
-    (λ here. subst (KeepsSum (λ a. a) r) (value-injective r.states w q word ring.word (long ∙ sym same) (number ∙ sym here)) keeps)
+    (λ here. subst (KeepsSum weight r) (value-injective r.states w q word ring.word (long ∙ sym same) (number ∙ sym here)) keeps)
     (λ other. before q ring same (omega (arith, other)))
     (cases_eq (value r.states q) i)
 
@@ -49,6 +49,7 @@ loop-preserved c =
     let r = c.args.rule.now in
     let k = r.states in
     let n = c.args.count in
+    let weight = slice_index c.args.weights.now in
     let w = take n c.loop.letters in
     let (long, word, number, before) = c.loop.invariant in
     let cut : take c.from-long.result c.loop.letters ≡ w = ap (λ j. take j c.loop.letters) c.from-long.ensures in
@@ -57,7 +58,7 @@ loop-preserved c =
     let value_is : value k w ≡ c.loop.counter = number (omega arith) in
     let new_long : length c.advance.new.word ≡ n = c.advance.auto.word ∙ ap length cut ∙ w_long in
     let after = stepped c.loop.letters c.advance.new.word n long c.requires.short new_long in
-    let keeps : KeepsSum (λ a. a) r w = subst (KeepsSum (λ a. a) r) cut (c.keeps_sum.ensures.0 c.if-not-keeps_sum.false) in
+    let keeps : KeepsSum weight r w = subst (KeepsSum weight r) cut (c.keeps_sum.ensures.0 c.if-not-keeps_sum.false) in
     let next : value k w + 1 < k ^ length w → value k c.advance.new.word ≡ value k w + 1 =
     rw (c.k-k.ensures.states, cut) at c.advance.ensures.next in
     let new_word : IsWord k c.advance.new.word = subst (λ j. IsWord j c.advance.new.word) c.k-k.ensures.states c.advance.ensures.word in
@@ -66,7 +67,7 @@ loop-preserved c =
       after.0,
       subst (IsWord k) (sym after.1) new_word,
       λ l. ap (value k) after.1 ∙ next (omega arith) ∙ ap (λ v. v + 1) value_is,
-      kept_more r n c.loop.counter w word w_long value_is keeps before,
+      kept_more weight r n c.loop.counter w word w_long value_is keeps before,
     )
 
 pub returns-clause-none : goal.returns-clause-none

@@ -1,4 +1,4 @@
-use Rattle.std.proofs.Common.{◌≡◌, ℕ, ◌^◌, ◌<◌, List, length, take}
+use Rattle.std.proofs.Common.{◌≡◌, ℕ, ◌^◌, ◌<◌, List, length, slice_index, take}
 use Rattle.word_image.specs.LocalRules.{IsWord, value}
 use Rattle.word_image.specs.Rings.{IsRing, KeepsSum}
 use Rattle.flux_conserve.proofs.rings.first_lossy_of.Given as goal
@@ -7,4 +7,4 @@ use Rattle.flux_conserve.proofs.rings.first_lossy_of.Given as goal
 abbrev pub invariant-loop : goal.invariant-loop
 invariant-loop l = (length l.letters ≡ 9) × IsWord l.rule.states (take l.count l.letters)
     × (l.counter < l.rule.states ^ l.count → value l.rule.states (take l.count l.letters) ≡ l.counter)
-    × ((q : List ℕ) → IsRing l.rule.states q → length q ≡ l.count → value l.rule.states q < l.counter → KeepsSum (λ a. a) l.rule q)
+    × ((q : List ℕ) → IsRing l.rule.states q → length q ≡ l.count → value l.rule.states q < l.counter → KeepsSum (slice_index l.weights) l.rule q)

@@ -1,4 +1,4 @@
-use Rattle.std.proofs.Common.{length, refl, arith}
+use Rattle.std.proofs.Common.{length, slice_index, refl, arith}
 use Rattle.ring_laws.proofs.LossyRings.{IsFlux-short_rings}
 use Rattle.ring_laws.proofs.Fluxes.{IsConserving-flux}
 use Rattle.flux_conserve.proofs.LeastRings.{IsLeastLossyRing-first}
@@ -10,4 +10,4 @@ returns-in-Some c = IsLeastLossyRing-first c.loop-count.invariant c.in-Some.ensu
 pub unreachable-requires : goal.unreachable-requires
 unreachable-requires c =
     let rule = c.m-count-end.ensures.rule in
-    c.requires (IsConserving-flux rule (IsFlux-short_rings rule (λ a. a) (λ p ring short. c.loop-count.invariant (length p) (omega arith) p ring refl)))
+    c.requires.lossy (IsConserving-flux rule (IsFlux-short_rings rule (slice_index c.args.weights.now) (λ p ring short. c.loop-count.invariant (length p) (omega arith) p ring refl)))
