@@ -40,7 +40,7 @@ HasShortWindow (injectivity.Twins pair) = ⊤
 -- the rule conserves the sum of its letters, with its flux; or it doesn't, with the least ring
 pub record IsConservation (r : LocalRule) (k : Keeping) : Type 0 where
   pub exactly : IsTrue (has_flux k) ↔ IsConserving (λ a. a) r
-  pub shown : IsShown r k
+  pub shown : IsShown (λ a. a) r k
 
 -- each verdict is true of the rule, and its evidence is the least
 pub record AreFound (r : LocalRule) (f : Findings) : Type 0 where

@@ -12,7 +12,7 @@ use orphan_search::Search;
 use pair_graph::Pairs;
 use pair_rank::Ranks;
 use std::alloc::{AllocError, Global};
-use word_image::{Rule, Word};
+use word_image::{Rule, Weights, Word};
 
 /// Whether every word has a preimage.
 #[derive(Debug, Drop)]
@@ -56,7 +56,7 @@ impl Findings {
             injective: injective(alloc, rule, &ranks, &mut walker)?,
             right: right(alloc, rule, &ranks, &mut walker)?,
             left: left(alloc, rule, &ranks, &mut walker)?,
-            conserving: conserve(rule),
+            conserving: conserve(rule, &Weights::own(rule.k())),
         })
     }
 }

@@ -10,7 +10,7 @@ use flux_conserve::{Keeping, conserve};
 use inverse_window::is_injective;
 use pair_graph::Pairs;
 use pair_rank::Endless;
-use word_image::Rule;
+use word_image::{Rule, Weights};
 
 /// The verdicts of a rule.
 #[derive(Clone, Copy, Debug)]
@@ -61,7 +61,7 @@ impl Verdicts {
 fn is_conserving(rule: &Rule) -> bool
     ensures { IsTrue result ↔ IsConserving (λ a. a) rule.now }
 {
-    match conserve(rule) {
+    match conserve(rule, &Weights::own(rule.k())) {
         Keeping::Flux(_) => true,
         Keeping::Ring(_) => false,
     }
