@@ -1,6 +1,6 @@
 pub mod Outcomes
 pub mod Inputs
-pub mod MadeRules
+pub mod Causes
 pub mod RightAnswers
 pub mod Certified
 pub mod Operands

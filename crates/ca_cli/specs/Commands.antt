@@ -1,43 +1,71 @@
 -- The commands of the program, the words of each, and the form of their operands.
-use Rattle.std.specs.Prelude.{◌≡◌, ℕ, ◌^◌, ◌<◌, ◌≤◌, List, [], ◌∷◌, length, codes, Option, Some, None, All, ℤ, ⊤}
+use Rattle.std.specs.Prelude.{◌≡◌, ◌≢◌, ℕ, ◌^◌, ◌<◌, ◌≤◌, List, [], ◌∷◌, length, codes, MatchOption, All, ℤ, ⊤}
 use Rattle.word_image.specs.Digits.{IsHexDigit}
 use Rattle.rule_text.specs.RuleTexts.{IsDecimal, IsOffset, decimal_value}
+use Rattle.ca_cli.specs.declared.request.Ask.{Ask}
+use Rattle.ca_cli.specs.declared.request.Ask.TheVariants as ask
+use Rattle.ca_cli.specs.declared.request.AskOfTwo.{AskOfTwo}
+use Rattle.ca_cli.specs.declared.request.AskOfTwo.TheVariants as two
+use Rattle.ca_cli.specs.declared.request.Change.{Change}
+use Rattle.ca_cli.specs.declared.request.Change.TheVariants as change
+use Rattle.ca_cli.specs.declared.request.Rules.{Rules}
+use Rattle.ca_cli.specs.declared.request.Rules.TheVariants as rules
+use Rattle.ca_cli.specs.declared.request.Unread.{Unread}
+use Rattle.ca_cli.specs.declared.request.Unread.TheVariants as unread
 use Rattle.ca_cli.specs.declared.request.Request.{Request}
 use Rattle.ca_cli.specs.declared.request.Request.TheVariants as request
 
--- a command with its operands as they stand on the command line; a rule may be any word
+-- what is asked of a rule with an operand
+pub data AskWith : Type 0 where
+  Shift : AskWith
+  Widen : AskWith
+  Permute : AskWith
+
+-- what is asked of many rules
+pub data AskOfMany : Type 0 where
+  Survey : AskOfMany
+  Sample : AskOfMany
+
+-- a command with its operands as they stand on the command line, by the shape of its operands; a rule may be any word
 pub data Command : Type 0 where
-  Decide : (rule : List ℕ) → Command
-  Orphan : (rule : List ℕ) → Command
-  Number : (rule : List ℕ) → Command
-  Certify : (rule : List ℕ) → Command
-  Reflect : (rule : List ℕ) → Command
-  Trim : (rule : List ℕ) → Command
-  Shift : (rule by : List ℕ) → Command
-  Widen : (rule width : List ℕ) → Command
-  Permute : (rule colours : List ℕ) → Command
-  Compose : (first second : List ℕ) → Command
-  Inverse : (rule : List ℕ) → Command
-  Survey : (states width from count : List ℕ) → Command
-  Sample : (states width seed count : List ℕ) → Command
+  OfRule : (asked : Ask) (rule : List ℕ) → Command
+  OfRuleWith : (asked : AskWith) (rule operand : List ℕ) → Command
+  OfTwo : (asked : AskOfTwo) (first second : List ℕ) → Command
+  OfMany : (asked : AskOfMany) (states width from count : List ℕ) → Command
   Check : Command
+
+-- The names
+
+abbrev pub name_of : Ask → List ℕ
+name_of ask.Decide = codes "decide"
+name_of ask.Orphan = codes "orphan"
+name_of ask.Number = codes "number"
+name_of ask.Certify = codes "certify"
+name_of ask.Reflect = codes "reflect"
+name_of ask.Trim = codes "trim"
+name_of ask.Inverse = codes "inverse"
+
+abbrev pub name_with : AskWith → List ℕ
+name_with Shift = codes "shift"
+name_with Widen = codes "widen"
+name_with Permute = codes "permute"
+
+abbrev pub name_of_two : AskOfTwo → List ℕ
+name_of_two two.Compose = codes "compose"
+
+abbrev pub name_of_many : AskOfMany → List ℕ
+name_of_many Survey = codes "survey"
+name_of_many Sample = codes "sample"
 
 -- the words of a command: its name and its operands
 abbrev pub words_of : Command → List (List ℕ)
-words_of (Decide rule) = codes "decide" ∷ rule ∷ []
-words_of (Orphan rule) = codes "orphan" ∷ rule ∷ []
-words_of (Number rule) = codes "number" ∷ rule ∷ []
-words_of (Certify rule) = codes "certify" ∷ rule ∷ []
-words_of (Reflect rule) = codes "reflect" ∷ rule ∷ []
-words_of (Trim rule) = codes "trim" ∷ rule ∷ []
-words_of (Shift rule by) = codes "shift" ∷ rule ∷ by ∷ []
-words_of (Widen rule width) = codes "widen" ∷ rule ∷ width ∷ []
-words_of (Permute rule colours) = codes "permute" ∷ rule ∷ colours ∷ []
-words_of (Compose first second) = codes "compose" ∷ first ∷ second ∷ []
-words_of (Inverse rule) = codes "inverse" ∷ rule ∷ []
-words_of (Survey states width from count) = codes "survey" ∷ states ∷ width ∷ from ∷ count ∷ []
-words_of (Sample states width seed count) = codes "sample" ∷ states ∷ width ∷ seed ∷ count ∷ []
+words_of (OfRule asked rule) = name_of asked ∷ rule ∷ []
+words_of (OfRuleWith asked rule operand) = name_with asked ∷ rule ∷ operand ∷ []
+words_of (OfTwo asked first second) = name_of_two asked ∷ first ∷ second ∷ []
+words_of (OfMany asked states width from count) = name_of_many asked ∷ states ∷ width ∷ from ∷ count ∷ []
 words_of Check = codes "check" ∷ []
+
+-- The form of the operands
 
 -- one or two decimal digits, after a minus sign or none
 abbrev pub IsOffsetText : List ℕ → Type 0
@@ -60,35 +88,30 @@ pub record IsSeed (seed : List ℕ) : Type 0 where
   pub decimal : IsDecimal 1 20 seed
   pub most : decimal_value seed < 2 ^ 64
 
--- the operands of a survey that have the form that is asked of them
-pub record IsSurveyForm (k m first many : List ℕ) : Type 0 where
-  pub states : IsDecimal 1 2 k
-  pub width : IsDecimal 1 2 m
-  pub from : IsDecimal 1 39 first
-  pub count : IsCount many
+-- the operand beside a rule
+abbrev pub IsOperand : AskWith → List ℕ → Type 0
+IsOperand Shift text = IsOffsetText text
+IsOperand Widen text = IsDecimal 1 1 text
+IsOperand Permute text = AreColours text
 
--- and those of a sample
-pub record IsSampleForm (k m first many : List ℕ) : Type 0 where
+-- where many rules begin: a number of up to 39 digits, or a seed
+abbrev pub IsBeginning : AskOfMany → List ℕ → Type 0
+IsBeginning Survey text = IsDecimal 1 39 text
+IsBeginning Sample text = IsSeed text
+
+-- the operands of many rules: their shape, where they begin, and how many there are
+pub record AreRules (asked : AskOfMany) (k m first many : List ℕ) : Type 0 where
   pub states : IsDecimal 1 2 k
   pub width : IsDecimal 1 2 m
-  pub seed : IsSeed first
+  pub from : IsBeginning asked first
   pub count : IsCount many
 
 -- the operands that aren't rules have the form that is asked of them
 abbrev pub IsWellFormed : Command → Type 0
-IsWellFormed (Decide rule) = ⊤
-IsWellFormed (Orphan rule) = ⊤
-IsWellFormed (Number rule) = ⊤
-IsWellFormed (Certify rule) = ⊤
-IsWellFormed (Reflect rule) = ⊤
-IsWellFormed (Trim rule) = ⊤
-IsWellFormed (Shift rule by) = IsOffsetText by
-IsWellFormed (Widen rule width) = IsDecimal 1 1 width
-IsWellFormed (Permute rule colours) = AreColours colours
-IsWellFormed (Compose first second) = ⊤
-IsWellFormed (Inverse rule) = ⊤
-IsWellFormed (Survey states width from count) = IsSurveyForm states width from count
-IsWellFormed (Sample states width seed count) = IsSampleForm states width seed count
+IsWellFormed (OfRule asked rule) = ⊤
+IsWellFormed (OfRuleWith asked rule operand) = IsOperand asked operand
+IsWellFormed (OfTwo asked first second) = ⊤
+IsWellFormed (OfMany asked states width from count) = AreRules asked states width from count
 IsWellFormed Check = ⊤
 
 -- the words are those of the command, and its operands are well formed
@@ -96,53 +119,44 @@ pub record IsCommand (words : List (List ℕ)) (c : Command) : Type 0 where
   pub words_are : words ≡ words_of c
   pub well_formed : IsWellFormed c
 
--- the first operand that is to be a rule text, if there is one
-abbrev pub first_rule : Command → Option (List ℕ)
-first_rule (Decide rule) = Some rule
-first_rule (Orphan rule) = Some rule
-first_rule (Number rule) = Some rule
-first_rule (Certify rule) = Some rule
-first_rule (Reflect rule) = Some rule
-first_rule (Trim rule) = Some rule
-first_rule (Shift rule by) = Some rule
-first_rule (Widen rule width) = Some rule
-first_rule (Permute rule colours) = Some rule
-first_rule (Compose first second) = Some first
-first_rule (Inverse rule) = Some rule
-first_rule (Survey states width from count) = None
-first_rule (Sample states width seed count) = None
-first_rule Check = None
-
 -- the command reads nothing from the source
 abbrev pub ReadsNothing : Command → Type 0
-ReadsNothing (Decide rule) = ⊤
-ReadsNothing (Orphan rule) = ⊤
-ReadsNothing (Number rule) = ⊤
-ReadsNothing (Certify rule) = ⊤
-ReadsNothing (Reflect rule) = ⊤
-ReadsNothing (Trim rule) = ⊤
-ReadsNothing (Shift rule by) = ⊤
-ReadsNothing (Widen rule width) = ⊤
-ReadsNothing (Permute rule colours) = ⊤
-ReadsNothing (Compose first second) = ⊤
-ReadsNothing (Inverse rule) = ⊤
-ReadsNothing (Survey states width from count) = ⊤
-ReadsNothing (Sample states width seed count) = ⊤
-ReadsNothing Check = ⊥
+ReadsNothing c = c ≢ Check
 
--- the command of a request
-abbrev pub command_of : Request → Command
-command_of (request.Decide rule) = Decide rule.now
-command_of (request.Orphan rule) = Orphan rule.now
-command_of (request.Number rule) = Number rule.now
-command_of (request.Certify rule) = Certify rule.now
-command_of (request.Reflect rule) = Reflect rule.now
-command_of (request.Trim rule) = Trim rule.now
-command_of (request.Shift rule by) = Shift rule.now by.now
-command_of (request.Widen rule width) = Widen rule.now width.now
-command_of (request.Permute rule colours) = Permute rule.now colours.now
-command_of (request.Compose first second) = Compose first.now second.now
-command_of (request.Inverse rule) = Inverse rule.now
-command_of (request.Survey states width from count) = Survey states.now width.now from.now count.now
-command_of (request.Sample states width seed count) = Sample states.now width.now seed.now count.now
-command_of request.Check = Check
+-- What a request means
+
+-- what is asked with a change
+abbrev pub asked_with : Change → AskWith
+asked_with (change.Shift by) = Shift
+asked_with (change.Widen width) = Widen
+asked_with (change.Permute colours) = Permute
+
+-- the text says what the change holds
+abbrev pub IsChange : Change → List ℕ → Type 0
+IsChange (change.Shift by) text = IsOffset text by
+IsChange (change.Widen width) text = width ≡ decimal_value text
+IsChange (change.Permute colours) text = text ≡ colours.now
+
+-- what is asked of the rules
+abbrev pub asked_of_many : Rules → AskOfMany
+asked_of_many (rules.Survey from) = Survey
+asked_of_many (rules.Sample seed) = Sample
+
+-- the number is that where they begin; None stands for those from 2 ^ 128 on
+abbrev pub BeginsAt : Rules → ℕ → Type 0
+BeginsAt (rules.Survey from) n = MatchOption from (2 ^ 128 ≤ n) (λ first. first ≡ n)
+BeginsAt (rules.Sample seed) n = seed ≡ n
+
+-- the command that a request stands for, of which it holds the numbers
+abbrev pub Means : Unread → Command → Type 0
+Means (unread.OfRule asked rule) c = c ≡ OfRule asked rule.now
+Means (unread.OfRuleWith change rule) c = (operand : List ℕ) × IsChange change operand × (c ≡ OfRuleWith (asked_with change) rule.now operand)
+Means (unread.OfTwo asked first second) c = c ≡ OfTwo asked first.now second.now
+Means (unread.OfMany rules k m many) c =
+    (states width from count : List ℕ) × (decimal_value states ≡ k) × (decimal_value width ≡ m) × BeginsAt rules (decimal_value from) × (decimal_value count ≡ many)
+    × (c ≡ OfMany (asked_of_many rules) states width from count)
+
+-- the words are a command, and the request is of it
+abbrev pub IsRequest : List (List ℕ) → Request → Type 0
+IsRequest words request.Check = IsCommand words Check
+IsRequest words (request.Unread asked) = (c : Command) × IsCommand words c × Means asked c

@@ -6,13 +6,14 @@ use Rattle.ca_cli.specs.declared.findings.Surjectivity.TheVariants as surjectivi
 use Rattle.rule_text.specs.declared.text_fault.TextFault.TheVariants as fault
 use Rattle.ca_cli.specs.Commands.{words_of}
 use Rattle.ca_cli.specs.Commands as commands
+use Rattle.ca_cli.specs.declared.request.Ask.TheVariants as ask
 use Rattle.ca_cli.specs.Lines.{line}
 use Rattle.ca_cli.specs.StatusLines.{operand_fault_line}
 use Rattle.ca_cli.specs.Reports.{number_line}
 use Rattle.ca_cli.specs.Findings.{surjectivity_line}
 
 -- the words of `orphan 110`
-words_of_orphan : words_of (commands.Orphan (codes "110")) ≡ codes "orphan" ∷ codes "110" ∷ []
+words_of_orphan : words_of (commands.OfRule ask.Orphan (codes "110")) ≡ codes "orphan" ∷ codes "110" ∷ []
 words_of_orphan = refl
 
 -- letters from 10 on are written a, b, ..

@@ -6,9 +6,10 @@ pub mod StatusLines
 pub mod Reports
 pub mod Findings
 pub mod RankRows
-pub mod MadeRules
+pub mod InverseLines
 pub mod Samples
 pub mod Summaries
+pub mod Outputs
 pub mod RightAnswers
 pub mod Outcomes
 pub mod Examples

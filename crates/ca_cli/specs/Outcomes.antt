@@ -7,7 +7,7 @@ use Rattle.ca_cli.specs.declared.status.Status.TheVariants as status
 use Rattle.ca_cli.specs.declared.stop.Stop.{Stop}
 use Rattle.ca_cli.specs.declared.stop.Stop.TheVariants as stop
 use Rattle.ca_cli.specs.Commands.{Command}
-use Rattle.ca_cli.specs.StatusLines.{refused_line, too_long_line}
+use Rattle.ca_cli.specs.StatusLines.{refused_line, too_long_line, unfit_line}
 use Rattle.ca_cli.specs.RightAnswers.{IsOperandFault, IsRight}
 
 -- the status of a command that stopped
@@ -36,6 +36,19 @@ IsStop input c (stop.Memory _) = ⊤
 -- the output is right, or the command has to stop
 abbrev pub IsOutcome : Option (List ℕ) → Command → Result (List ℕ) Stop → Type 0
 IsOutcome input c result = MatchResult result (IsRight input c status.Done) (IsStop input c)
+
+-- a command stops since one of its rules has a fault, or since nothing fits, or for want of memory
+abbrev pub IsStopFor : (ℕ → TextFault → Type 0) → (List ℕ → Type 0) → Stop → Type 0
+IsStopFor Fault Cause (stop.RuleFault operand f) = Fault operand f
+IsStopFor Fault Cause (stop.NotFit out) = (cause : List ℕ) × Cause cause × (out ≡ unfit_line cause)
+IsStopFor Fault Cause stop.TooLong = ⊥
+IsStopFor Fault Cause stop.ReadFault = ⊥
+IsStopFor Fault Cause (stop.Refused f) = ⊥
+IsStopFor Fault Cause (stop.Memory _) = ⊤
+
+-- a command whose rules are accepted comes to such an output, or nothing fits for such a cause
+abbrev pub Comes : (List ℕ → Type 0) → (List ℕ → Type 0) → Result (List ℕ) Stop → Type 0
+Comes Output Cause result = MatchResult result Output (IsStopFor (λ operand f. ⊥) Cause)
 
 -- the text, the operand with this number, isn't one of a rule
 pub record IsRuleFault (operand : ℕ) (text : List ℕ) (s : Stop) : Type 0 where

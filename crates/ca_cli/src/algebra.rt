@@ -1,15 +1,19 @@
 //! The commands that make a rule of rules.
-ghost use Rattle.std.specs.Prelude.{◌≡◌, ℕ, List, Option, IfOk};
-ghost use Rattle.word_image.specs.LocalRules.{IsRule};
-ghost use Rattle.rule_text.specs.RuleTexts.{IsDecimal, printed};
-ghost use Rattle.ca_cli.specs.Commands.{AreColours, Command, IsOffsetText};
+ghost use Rattle.std.specs.Prelude.{◌≡◌, ℕ, List, Result, None, Some, IfOk, map};
+ghost use Rattle.word_image.specs.Digits.{letter_at};
+ghost use Rattle.word_image.specs.LocalRules.{LocalRule, IsRule, mirrored};
+ghost use Rattle.rule_algebra.specs.Algebra.{IsTrimmed};
+ghost use Rattle.rule_text.specs.RuleTexts.{IsOffset, decimal_value, printed};
+ghost use Rattle.ca_cli.specs.Commands.{AskWith};
 ghost use Rattle.ca_cli.specs.Lines.{line};
-ghost use Rattle.ca_cli.specs.Outcomes.{IsOutcome};
-ghost use Rattle.ca_cli.specs.StatusLines.{algebra_text, unfit_line};
+ghost use Rattle.ca_cli.specs.Outcomes.{Comes};
+ghost use Rattle.ca_cli.specs.Outputs.{IsCauseOfTwo, IsCauseWith, IsOutputOfTwo, IsOutputWith, IsRuleLine};
+ghost use Rattle.ca_cli.specs.StatusLines.{algebra_text};
 
-use crate::lines::write_unfit;
-use crate::operands::{self, rule_operand};
+use crate::lines::algebra_name;
+use crate::operands;
 use crate::output::Output;
+use crate::request::AskOfTwo;
 use crate::stop::Stop;
 use rule_algebra::AlgebraFault;
 use rule_text::print;
@@ -17,95 +21,70 @@ use std::alloc::{AllocError, Global};
 use word_image::Rule;
 
 /// `reflect R`: the mirrored rule.
-pub fn reflect(alloc: Global, text: &[u8]) -> Result<Output, Stop>
-    ensures { (input : Option (List ℕ)) → IsOutcome input (Command.Reflect text.now) result }
+pub fn reflect(alloc: Global, rule: &Rule) -> Result<Output, AllocError>
+    ensures { IfOk result (IsRuleLine (mirrored rule.now)) }
 {
-    let rule = rule_operand(1, text)?;
-    let mirrored = rule.reflect();
-    Ok(rule_output(alloc, &mirrored)?)
+    rule_output(alloc, &rule.reflect())
 }
 
 /// `trim R`: the rule without the cells that it ignores, where two are left.
-pub fn trim(alloc: Global, text: &[u8]) -> Result<Output, Stop>
-    ensures { (input : Option (List ℕ)) → IsOutcome input (Command.Trim text.now) result }
+pub fn trim(alloc: Global, rule: &Rule) -> Result<Output, AllocError>
+    ensures { IfOk result (λ output. (g : LocalRule) × IsTrimmed rule.now g × IsRuleLine g output) }
 {
-    let rule = rule_operand(1, text)?;
-    let trimmed = rule_algebra::trim(&rule);
-    Ok(rule_output(alloc, &trimmed)?)
+    rule_output(alloc, &rule_algebra::trim(rule))
 }
 
 /// `shift R N`: the rule that reads N cells further to the right.
-pub fn shift(alloc: Global, text: &[u8], by: &[u8]) -> Result<Output, Stop>
-    requires { IsOffsetText by.now }
-    ensures { (input : Option (List ℕ)) →
-        IsOutcome input (Command.Shift text.now by.now) result }
+pub fn shift(alloc: Global, rule: &Rule, by: i8) -> Result<Output, Stop>
+    ensures { (text : List ℕ) → IsOffset text by →
+        Comes (IsOutputWith AskWith.Shift rule.now text) (IsCauseWith AskWith.Shift rule.now text) result }
 {
-    let rule = rule_operand(1, text)?;
-    match rule_algebra::shift(&rule, operands::offset(by)) {
-        Ok(shifted) => Ok(rule_output(alloc, &shifted)?),
-        Err(fault) => Err(Stop::NotFit(fault_output(alloc, fault)?)),
-    }
+    made(alloc, rule_algebra::shift(rule, by))
 }
 
 /// `widen R M`: the rule at width M, with ignored cells on the right.
-pub fn widen(alloc: Global, text: &[u8], width: &[u8]) -> Result<Output, Stop>
-    requires { IsDecimal 1 1 width.now }
-    ensures { (input : Option (List ℕ)) →
-        IsOutcome input (Command.Widen text.now width.now) result }
+pub fn widen(alloc: Global, rule: &Rule, width: u8) -> Result<Output, Stop>
+    ensures { (text : List ℕ) → width ≡ decimal_value text →
+        Comes (IsOutputWith AskWith.Widen rule.now text) (IsCauseWith AskWith.Widen rule.now text) result }
 {
-    let rule = rule_operand(1, text)?;
-    match rule_algebra::widen(&rule, operands::one_digit(width)) {
-        Ok(widened) => Ok(rule_output(alloc, &widened)?),
-        Err(fault) => Err(Stop::NotFit(fault_output(alloc, fault)?)),
-    }
+    made(alloc, rule_algebra::widen(rule, width))
 }
 
 /// `permute R DIGITS`: the rule in which each letter has the name that the digits give it, in the
 /// order of the letters.
-pub fn permute(alloc: Global, text: &[u8], colours: &[u8]) -> Result<Output, Stop>
-    requires { AreColours colours.now }
-    ensures { (input : Option (List ℕ)) →
-        IsOutcome input (Command.Permute text.now colours.now) result }
+pub fn permute(alloc: Global, rule: &Rule, colours: &[u8]) -> Result<Output, Stop>
+    ensures { Comes (IsOutputWith AskWith.Permute rule.now colours.now) (IsCauseWith AskWith.Permute rule.now colours.now) result }
 {
-    let rule = rule_operand(1, text)?;
     let letters = operands::colours(alloc, colours)?;
-    match rule_algebra::permute(&rule, &letters) {
-        Ok(recoloured) => Ok(rule_output(alloc, &recoloured)?),
-        Err(fault) => Err(Stop::NotFit(fault_output(alloc, fault)?)),
-    }
+    made(alloc, rule_algebra::permute(rule, &letters))
 }
 
 /// `compose R R`: the second rule after the first.
-pub fn compose(alloc: Global, first: &[u8], second: &[u8]) -> Result<Output, Stop>
-    ensures { (input : Option (List ℕ)) →
-        IsOutcome input (Command.Compose first.now second.now) result }
+pub fn compose(alloc: Global, first: &Rule, second: &Rule) -> Result<Output, Stop>
+    ensures { Comes (IsOutputOfTwo AskOfTwo.Compose first.now second.now) (IsCauseOfTwo AskOfTwo.Compose first.now second.now) result }
 {
-    let inner = rule_operand(1, first)?;
-    let outer = rule_operand(2, second)?;
-    match rule_algebra::compose(&inner, &outer) {
-        Ok(composed) => Ok(rule_output(alloc, &composed)?),
-        Err(fault) => Err(Stop::NotFit(fault_output(alloc, fault)?)),
+    made(alloc, rule_algebra::compose(first, second))
+}
+
+/// The line of the rule that was made, or the one that says why there is none.
+fn made(alloc: Global, rule: Result<Rule, AlgebraFault>) -> Result<Output, Stop>
+    ensures { Comes (λ output. (g : LocalRule) × (rule ≡ Ok g) × IsRuleLine g output)
+        (λ cause. (f : AlgebraFault) × (rule ≡ Err f) × (cause ≡ algebra_text f)) result }
+{
+    match rule {
+        Ok(rule) => Ok(rule_output(alloc, &rule)?),
+        Err(fault) => Err(Stop::NotFit(Output::unfit(alloc, algebra_name(fault))?)),
     }
 }
 
 /// The text of a rule, as a line.
 fn rule_output(alloc: Global, rule: &Rule) -> Result<Output, AllocError>
-    ensures text { IfOk result (λ output. output ≡ line (printed rule.now)) }
-    ensures rule { IsRule rule.now }
+    ensures { IfOk result (IsRuleLine rule.now) }
 {
     // That the rule keeps the limits is what each of its calls says.
     let _states = rule.k();
     let mut output = Output::new(alloc);
     output.push(&print(alloc, rule)?)?;
     output.push(b"\n")?;
-    Ok(output)
-}
-
-/// The line that says why there is no such rule.
-fn fault_output(alloc: Global, fault: AlgebraFault) -> Result<Output, AllocError>
-    ensures { IfOk result (λ output. output ≡ unfit_line (algebra_text fault)) }
-{
-    let mut output = Output::new(alloc);
-    write_unfit(&mut output, fault)?;
     Ok(output)
 }

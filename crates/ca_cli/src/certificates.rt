@@ -8,15 +8,11 @@ ghost use Rattle.cert_format.specs.Certificates.{Certificate};
 ghost use Rattle.cert_format.specs.Parts.{surjective_of, injective_of, side_of, sum_of, IsOver};
 ghost use Rattle.cert_format.specs.WrittenTexts.{certificate_text};
 ghost use Rattle.certificate_laws.specs.WrittenCertificates.{IsSurjectivePart, IsInjectivePart, IsRightPart, IsLeftPart, IsConservingPart, HasWrittenParts, IsWritten};
-ghost use Rattle.ca_cli.specs.Commands.{Command};
 ghost use Rattle.ca_cli.specs.Findings.{IsSurjectivity, IsInjectivity, IsConservation};
-ghost use Rattle.ca_cli.specs.Outcomes.{IsOutcome};
 
 use crate::findings::{Findings, Injectivity, Surjectivity};
-use crate::operands::rule_operand;
 use crate::output::Output;
 use crate::rank_rows::{Direction, rank_row};
-use crate::stop::Stop;
 use cert_format::{Cert, InjectivePart, SidePart, SumPart, SurjectivePart, to_bytes};
 use closing_test::Closing;
 use flux_conserve::{Keeping, SmallRing};
@@ -27,22 +23,11 @@ use std::alloc::{AllocError, Global};
 use word_image::{FluxRow, Rule, SetList, Word};
 
 /// `certify R`: the certificate of the rule, with nothing after it.
-pub fn certify(alloc: Global, text: &[u8]) -> Result<Output, Stop>
-    ensures { (input : Option (List ℕ)) → IsOutcome input (Command.Certify text.now) result }
-{
-    let rule = rule_operand(1, text)?;
-    let bytes = certificate_bytes(alloc, &rule)?;
-    let mut output = Output::new(alloc);
-    output.push(&bytes)?;
-    Ok(output)
-}
-
-/// The text of the certificate of a rule.
-fn certificate_bytes(alloc: Global, rule: &Rule) -> Result<Vec<u8>, AllocError>
-    ensures { IfOk result (λ bytes. (c : Certificate) × IsWritten rule.now c × (bytes.items ≡ certificate_text c)) }
+pub fn certify(alloc: Global, rule: &Rule) -> Result<Output, AllocError>
+    ensures { IfOk result (λ output. (c : Certificate) × IsWritten rule.now c × (output ≡ certificate_text c)) }
 {
     let cert = certificate(alloc, rule)?;
-    to_bytes(alloc, &cert)
+    Ok(Output::of(to_bytes(alloc, &cert)?))
 }
 
 /// The certificate of a rule: what the deciders find of it, and its ranks.

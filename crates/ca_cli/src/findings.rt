@@ -1,5 +1,6 @@
 //! What holds of a rule, with the evidence for it.
 ghost use Rattle.std.specs.Prelude.{◌≡◌, IfOk};
+ghost use Rattle.word_image.specs.LocalRules.{IsRule};
 ghost use Rattle.ca_cli.specs.Findings.{IsSurjectivity, IsInjectivity, HasShortWindow, AreFound};
 
 use closing_test::{Closing, left, right};
@@ -63,8 +64,10 @@ impl Findings {
 
 /// Whether a rule is surjective.
 pub fn surjective(alloc: Global, rule: &Rule) -> Result<Surjectivity, AllocError>
-    ensures { IfOk result (IsSurjectivity rule.now) }
+    ensures found { IfOk result (IsSurjectivity rule.now) }
+    ensures accepted { IsRule rule.now }
 {
+    let _states = rule.k();
     if is_surjective(&Graph::of(rule)) {
         return Ok(Surjectivity::Yes);
     }
@@ -82,8 +85,10 @@ pub fn injective(
 ) -> Result<Injectivity, AllocError>
     requires { ranks.now ≡ rule.now }
     ensures found { IfOk result (IsInjectivity rule.now) }
+    ensures accepted { IsRule rule.now }
     ensures most { IfOk result HasShortWindow }
 {
+    let _states = rule.k();
     if let Some(at) = window(rule, ranks) {
         return Ok(Injectivity::Window(at));
     }

@@ -1,19 +1,18 @@
 //! The command that inverts a rule.
-ghost use Rattle.std.specs.Prelude.{◌≡◌, ◌≤◌, ◌++◌, ℕ, List, Option, IfOk, OnOk};
-ghost use Rattle.word_image.specs.LocalRules.{LocalRule, IsWord};
+ghost use Rattle.std.specs.Prelude.{◌≡◌, ◌≤◌, ◌++◌, ℕ, List, IfOk, OnOk};
+ghost use Rattle.word_image.specs.LocalRules.{IsWord};
 ghost use Rattle.word_image.specs.Windows.{IsLeastDetermined};
 ghost use Rattle.tail_config.specs.Tails.{IsInjective};
-ghost use Rattle.rule_text.specs.RuleTexts.{IsRuleText};
-ghost use Rattle.ca_cli.specs.Commands.{Command};
 ghost use Rattle.ca_cli.specs.Lines.{line};
-ghost use Rattle.ca_cli.specs.MadeRules.{IsMapRule, window_text, offset_line, map_line, map_rule_line};
-ghost use Rattle.ca_cli.specs.Outcomes.{IsOutcome};
+ghost use Rattle.ca_cli.specs.InverseLines.{IsInverse, IsMapRule, window_text, offset_line, map_line, map_rule_line};
+ghost use Rattle.ca_cli.specs.Outcomes.{Comes};
+ghost use Rattle.ca_cli.specs.Outputs.{IsCause};
 ghost use Rattle.ca_cli.specs.StatusLines.{twins_text, wide_text, unfit_line};
 
 use crate::findings::{Injectivity, injective};
-use crate::operands::rule_operand;
 use crate::output::Output;
 use crate::report::write_rule;
+use crate::request::Ask;
 use crate::stop::Stop;
 use inverse_table::{InvFault, InverseMap, as_rule, table};
 use inverse_window::{TwinPair, WindowAt};
@@ -25,14 +24,13 @@ use word_image::Rule;
 
 /// `inverse R`: the map that gives the cells of a configuration back from its image, over the least
 /// determined window.
-pub fn inverse(alloc: Global, text: &[u8]) -> Result<Output, Stop>
-    ensures { (input : Option (List ℕ)) → IsOutcome input (Command.Inverse text.now) result }
+pub fn inverse(alloc: Global, rule: &Rule) -> Result<Output, Stop>
+    ensures { Comes (IsInverse rule.now) (IsCause Ask.Inverse rule.now) result }
 {
-    let rule = rule_operand(1, text)?;
-    let ranks = Ranks::of(&Pairs::of(&rule));
+    let ranks = Ranks::of(&Pairs::of(rule));
     let mut walker = Walker::new(alloc)?;
-    match injective(alloc, &rule, &ranks, &mut walker)? {
-        Injectivity::Window(at) => inverse_over(alloc, &rule, at),
+    match injective(alloc, rule, &ranks, &mut walker)? {
+        Injectivity::Window(at) => inverse_over(alloc, rule, at),
         Injectivity::Twins(pair) => Err(Stop::NotFit(twins_output(alloc, &pair)?)),
     }
 }
@@ -42,8 +40,7 @@ fn inverse_over(alloc: Global, rule: &Rule, at: WindowAt) -> Result<Output, Stop
     requires injective { IsInjective rule.now }
     requires least { IsLeastDetermined rule.now at.n at.c }
     requires most { at.n ≤ 480 }
-    ensures { (text : List ℕ) (input : Option (List ℕ)) → IsRuleText text rule.now →
-        IsOutcome input (Command.Inverse text) result }
+    ensures { Comes (IsInverse rule.now) (IsCause Ask.Inverse rule.now) result }
 {
     match table(alloc, rule, at) {
         Ok(map) => Ok(map_output(alloc, at, &map)?),
@@ -121,7 +118,5 @@ fn twins_output(alloc: Global, pair: &TwinPair) -> Result<Output, AllocError>
 fn wide_output(alloc: Global, n: u16) -> Result<Output, AllocError>
     ensures { IfOk result (λ output. output ≡ unfit_line (wide_text n)) }
 {
-    let mut output = Output::new(alloc);
-    output.push_line(&format!(in alloc; "notfit wide {n}")?)?;
-    Ok(output)
+    Output::unfit(alloc, &format!(in alloc; "wide {n}")?)
 }

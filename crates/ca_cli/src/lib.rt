@@ -46,7 +46,7 @@ mod algebra;
 mod answers;
 mod certificates;
 mod checks;
-mod exactness;
+mod commands;
 mod findings;
 mod generator;
 mod inverses;
@@ -61,14 +61,15 @@ mod status;
 mod stop;
 mod summaries;
 mod tally;
+mod theorems;
 mod top_call;
 mod verdict_lines;
 mod verdicts;
 
-pub use exactness::{
+pub use status::Status;
+pub use theorems::{
     certified_is_accepted, one_status, right_exactly, rule_fault_exactly, usage_exactly,
 };
-pub use status::Status;
 pub use top_call::run;
 
 #[cfg(test)]

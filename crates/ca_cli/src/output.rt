@@ -1,8 +1,9 @@
 //! The output of a command.
-ghost use Rattle.std.specs.Prelude.{◌≡◌, [], ◌++◌, OnOk};
+ghost use Rattle.std.specs.Prelude.{◌≡◌, [], ◌++◌, IfOk, OnOk};
 ghost use Rattle.word_image.specs.LocalRules.{IsWord};
 ghost use Rattle.word_image.specs.Digits.{word_text};
 ghost use Rattle.ca_cli.specs.Lines.{line};
+ghost use Rattle.ca_cli.specs.StatusLines.{unfit_line};
 
 use std::alloc::{AllocError, Global};
 use std::marker::Model;
@@ -30,6 +31,32 @@ impl Output {
         Output {
             bytes: Vec::new(alloc),
         }
+    }
+
+    /// These bytes.
+    pub fn of(bytes: Vec<u8>) -> Output
+        ensures { result ≡ bytes.items }
+    {
+        Output { bytes }
+    }
+
+    /// The text as a line.
+    pub fn line(alloc: Global, text: &str) -> Result<Output, AllocError>
+        ensures { IfOk result (λ output. output ≡ line text.now) }
+    {
+        let mut output = Output::new(alloc);
+        output.push_line(text)?;
+        Ok(output)
+    }
+
+    /// The line that says why nothing can be made.
+    pub fn unfit(alloc: Global, cause: &str) -> Result<Output, AllocError>
+        ensures { IfOk result (λ output. output ≡ unfit_line cause.now) }
+    {
+        let mut output = Output::new(alloc);
+        output.push(b"notfit ")?;
+        output.push_line(cause)?;
+        Ok(output)
     }
 
     /// Appends these bytes.

@@ -1,44 +1,39 @@
 //! The commands that say what holds of a rule.
-ghost use Rattle.std.specs.Prelude.{ℕ, List, Option};
-ghost use Rattle.ca_cli.specs.Commands.{Command};
-ghost use Rattle.ca_cli.specs.Outcomes.{IsOutcome};
+ghost use Rattle.std.specs.Prelude.{◌≡◌, IfOk};
+ghost use Rattle.ca_cli.specs.Reports.{IsReport, IsSurjectiveLine, number_line};
 
 use crate::findings::{Findings, surjective};
 use crate::lines::write_number;
-use crate::operands::rule_operand;
 use crate::output::Output;
 use crate::report::{write_report, write_surjectivity};
-use crate::stop::Stop;
-use std::alloc::Global;
+use std::alloc::{AllocError, Global};
+use word_image::Rule;
 
 /// `decide R`: the report of the rule.
-pub fn decide(alloc: Global, text: &[u8]) -> Result<Output, Stop>
-    ensures { (input : Option (List ℕ)) → IsOutcome input (Command.Decide text.now) result }
+pub fn decide(alloc: Global, rule: &Rule) -> Result<Output, AllocError>
+    ensures { IfOk result (IsReport (λ a. a) rule.now) }
 {
-    let rule = rule_operand(1, text)?;
-    let findings = Findings::of(alloc, &rule)?;
+    let findings = Findings::of(alloc, rule)?;
     let mut output = Output::new(alloc);
     write_report(alloc, &mut output, &findings)?;
     Ok(output)
 }
 
 /// `orphan R`: whether the rule is surjective, with its least orphan where it isn't.
-pub fn orphan(alloc: Global, text: &[u8]) -> Result<Output, Stop>
-    ensures { (input : Option (List ℕ)) → IsOutcome input (Command.Orphan text.now) result }
+pub fn orphan(alloc: Global, rule: &Rule) -> Result<Output, AllocError>
+    ensures { IfOk result (IsSurjectiveLine rule.now) }
 {
-    let rule = rule_operand(1, text)?;
-    let found = surjective(alloc, &rule)?;
+    let found = surjective(alloc, rule)?;
     let mut output = Output::new(alloc);
     write_surjectivity(alloc, &mut output, &found)?;
     Ok(output)
 }
 
 /// `number R`: the Wolfram number of the rule.
-pub fn number(alloc: Global, text: &[u8]) -> Result<Output, Stop>
-    ensures { (input : Option (List ℕ)) → IsOutcome input (Command.Number text.now) result }
+pub fn number(alloc: Global, rule: &Rule) -> Result<Output, AllocError>
+    ensures { IfOk result (λ output. output ≡ number_line rule.now) }
 {
-    let rule = rule_operand(1, text)?;
     let mut output = Output::new(alloc);
-    write_number(alloc, &mut output, &rule)?;
+    write_number(alloc, &mut output, rule)?;
     Ok(output)
 }

@@ -1,63 +1,79 @@
-//! What the words ask for.
-ghost use Rattle.std.specs.Prelude.{[], ◌∷◌, map, MatchOption, string_bytes};
-ghost use Rattle.ca_cli.specs.Commands.{Command, IsCommand, command_of};
+//! What the words ask for, with the numbers that stand in them.
+ghost use Rattle.std.specs.Prelude.{◌≡◌, ◌∷◌, [], map, MatchOption, string_bytes};
+ghost use Rattle.ca_cli.specs.Commands.{AskWith, Command, IsChange, IsCommand, IsOperand, AskOfMany, BeginsAt, IsBeginning, IsRequest, asked_of_many, asked_with, name_of, name_of_many, name_of_two, name_with};
+ghost use Rattle.rule_text.specs.RuleTexts.{decimal_value};
 
-use crate::operands::{are_colours, is_count, is_offset, is_seed};
-use rule_text::is_decimal;
+use crate::operands::{are_colours, count_of, seed, small};
+use rule_text::{decimal_number, decimal_offset, is_decimal};
 
-/// A command, with its operands as they stand on the command line.
+/// What the words ask for.
 #[derive(Clone, Copy, Debug)]
 pub enum Request<'a> {
-    /// `decide R`: the report of the rule.
-    Decide(&'a [u8]),
-    /// `orphan R`: whether the rule is surjective, with its least orphan where it isn't.
-    Orphan(&'a [u8]),
-    /// `number R`: the Wolfram number of the rule.
-    Number(&'a [u8]),
-    /// `certify R`: the certificate of the rule.
-    Certify(&'a [u8]),
-    /// `reflect R`: the mirrored rule.
-    Reflect(&'a [u8]),
-    /// `trim R`: the rule without the cells that it ignores.
-    Trim(&'a [u8]),
-    /// `shift R N`: the rule that reads N cells further to the right.
-    Shift {
-        rule: &'a [u8],
-        by: &'a [u8],
-    },
-    /// `widen R M`: the rule at width M.
-    Widen {
-        rule: &'a [u8],
-        width: &'a [u8],
-    },
-    /// `permute R DIGITS`: the rule with other names for its letters.
-    Permute {
-        rule: &'a [u8],
-        colours: &'a [u8],
-    },
-    /// `compose R R`: the second rule after the first.
-    Compose {
-        first: &'a [u8],
-        second: &'a [u8],
-    },
-    /// `inverse R`: what gives the cells of a configuration back from its image.
-    Inverse(&'a [u8]),
-    /// `survey K M FROM COUNT`: the summary of the rules with COUNT numbers from FROM on.
-    Survey {
-        states: &'a [u8],
-        width: &'a [u8],
-        from: &'a [u8],
-        count: &'a [u8],
-    },
-    /// `sample K M SEED COUNT`: the summary of COUNT rules that the seed stands for.
-    Sample {
-        states: &'a [u8],
-        width: &'a [u8],
-        seed: &'a [u8],
-        count: &'a [u8],
-    },
     /// `check`: whether the input is a certificate that is accepted.
     Check,
+    /// A command that reads nothing.
+    Unread(Unread<'a>),
+}
+
+/// A command that reads nothing, by the shape of its operands. Rules stand as on the command line.
+#[derive(Clone, Copy, Debug)]
+pub enum Unread<'a> {
+    OfRule(Ask, &'a [u8]),
+    OfRuleWith(Change<'a>, &'a [u8]),
+    OfTwo(AskOfTwo, &'a [u8], &'a [u8]),
+    /// Of so many rules of this many states and this width.
+    OfMany {
+        rules: Rules,
+        states: u8,
+        width: u8,
+        count: u16,
+    },
+}
+
+/// What is asked of a rule.
+#[derive(Clone, Copy, Debug)]
+pub enum Ask {
+    /// `decide R`: the report.
+    Decide,
+    /// `orphan R`: whether it is surjective, with its least orphan where it isn't.
+    Orphan,
+    /// `number R`: its Wolfram number.
+    Number,
+    /// `certify R`: its certificate.
+    Certify,
+    /// `reflect R`: the mirrored rule.
+    Reflect,
+    /// `trim R`: the rule without the cells that it ignores.
+    Trim,
+    /// `inverse R`: what gives the cells of a configuration back from its image.
+    Inverse,
+}
+
+/// What is asked of a rule with an operand.
+#[derive(Clone, Copy, Debug)]
+pub enum Change<'a> {
+    /// `shift R N`: the rule that reads N cells further to the right.
+    Shift(i8),
+    /// `widen R M`: the rule at width M.
+    Widen(u8),
+    /// `permute R DIGITS`: the rule with other names for its letters.
+    Permute(&'a [u8]),
+}
+
+/// What is asked of two rules.
+#[derive(Clone, Copy, Debug)]
+pub enum AskOfTwo {
+    /// `compose R R`: the second rule after the first.
+    Compose,
+}
+
+/// Where the rules begin whose summary is asked for.
+#[derive(Clone, Copy, Debug)]
+pub enum Rules {
+    /// `survey K M FROM COUNT`: at this number; None stands for those from 2^128 on.
+    Survey(Option<u128>),
+    /// `sample K M SEED COUNT`: at this seed.
+    Sample(u64),
 }
 
 impl<'a> Request<'a> {
@@ -65,17 +81,17 @@ impl<'a> Request<'a> {
     pub fn of(words: &'a [String]) -> Option<Request<'a>>
         ensures { MatchOption result
             ((c : Command) → ¬ IsCommand (map string_bytes words.now) c)
-            (λ request. IsCommand (map string_bytes words.now) (command_of request)) }
+            (IsRequest (map string_bytes words.now)) }
     {
         match words {
-            [name] => of_name(name),
+            [name] => of_input(name),
             [name, rule] => of_rule(name, rule.as_bytes()),
-            [name, rule, second] => of_two(name, rule.as_bytes(), second.as_bytes()),
-            [name, states, width, third, count] => of_rules(
+            [name, first, second] => of_two(name, first.as_bytes(), second.as_bytes()),
+            [name, states, width, from, count] => of_many(
                 name,
                 states.as_bytes(),
                 width.as_bytes(),
-                third.as_bytes(),
+                from.as_bytes(),
                 count.as_bytes(),
             ),
             _ => None,
@@ -83,11 +99,11 @@ impl<'a> Request<'a> {
     }
 }
 
-/// The request of a name without operands.
-fn of_name<'a>(name: &str) -> Option<Request<'a>>
+/// The request of a name alone.
+fn of_input<'a>(name: &str) -> Option<Request<'a>>
     ensures { MatchOption result
         ((c : Command) → ¬ IsCommand (name.now ∷ []) c)
-        (λ request. IsCommand (name.now ∷ []) (command_of request)) }
+        (IsRequest (name.now ∷ [])) }
 {
     match name {
         "check" => Some(Request::Check),
@@ -95,76 +111,113 @@ fn of_name<'a>(name: &str) -> Option<Request<'a>>
     }
 }
 
-/// The request of a name and one operand.
+/// The request of a name and a rule.
 fn of_rule<'a>(name: &str, rule: &'a [u8]) -> Option<Request<'a>>
     ensures { MatchOption result
         ((c : Command) → ¬ IsCommand (name.now ∷ rule.now ∷ []) c)
-        (λ request. IsCommand (name.now ∷ rule.now ∷ []) (command_of request)) }
+        (IsRequest (name.now ∷ rule.now ∷ [])) }
 {
-    match name {
-        "decide" => Some(Request::Decide(rule)),
-        "orphan" => Some(Request::Orphan(rule)),
-        "number" => Some(Request::Number(rule)),
-        "certify" => Some(Request::Certify(rule)),
-        "reflect" => Some(Request::Reflect(rule)),
-        "trim" => Some(Request::Trim(rule)),
-        "inverse" => Some(Request::Inverse(rule)),
-        _ => None,
-    }
+    let ask = Ask::named(name)?;
+    Some(Request::Unread(Unread::OfRule(ask, rule)))
 }
 
-/// The request of a name and two operands.
-fn of_two<'a>(name: &str, rule: &'a [u8], second: &'a [u8]) -> Option<Request<'a>>
+/// The request of a name, a rule, and an operand or a second rule.
+fn of_two<'a>(name: &str, first: &'a [u8], second: &'a [u8]) -> Option<Request<'a>>
     ensures { MatchOption result
-        ((c : Command) → ¬ IsCommand (name.now ∷ rule.now ∷ second.now ∷ []) c)
-        (λ request. IsCommand (name.now ∷ rule.now ∷ second.now ∷ []) (command_of request)) }
+        ((c : Command) → ¬ IsCommand (name.now ∷ first.now ∷ second.now ∷ []) c)
+        (IsRequest (name.now ∷ first.now ∷ second.now ∷ [])) }
 {
-    match name {
-        "shift" if is_offset(second) => Some(Request::Shift { rule, by: second }),
-        "widen" if is_decimal(second, 1) => Some(Request::Widen {
-            rule,
-            width: second,
-        }),
-        "permute" if are_colours(second) => Some(Request::Permute {
-            rule,
-            colours: second,
-        }),
-        "compose" => Some(Request::Compose {
-            first: rule,
-            second,
-        }),
-        _ => None,
+    if let Some(change) = Change::read(name, second) {
+        return Some(Request::Unread(Unread::OfRuleWith(change, first)));
     }
+    let ask = AskOfTwo::named(name)?;
+    Some(Request::Unread(Unread::OfTwo(ask, first, second)))
 }
 
-/// The request of a name and four operands.
-fn of_rules<'a>(
+/// The request of a name and the operands of many rules.
+fn of_many<'a>(
     name: &str,
-    states: &'a [u8],
-    width: &'a [u8],
-    third: &'a [u8],
-    count: &'a [u8],
+    states: &[u8],
+    width: &[u8],
+    from: &[u8],
+    count: &[u8],
 ) -> Option<Request<'a>>
     ensures { MatchOption result
-        ((c : Command) → ¬ IsCommand (name.now ∷ states.now ∷ width.now ∷ third.now ∷ count.now ∷ []) c)
-        (λ request. IsCommand (name.now ∷ states.now ∷ width.now ∷ third.now ∷ count.now ∷ []) (command_of request)) }
+        ((c : Command) → ¬ IsCommand (name.now ∷ states.now ∷ width.now ∷ from.now ∷ count.now ∷ []) c)
+        (IsRequest (name.now ∷ states.now ∷ width.now ∷ from.now ∷ count.now ∷ [])) }
 {
-    if !is_decimal(states, 2) || !is_decimal(width, 2) || !is_count(count) {
-        return None;
+    let rules = Rules::read(name, from)?;
+    Some(Request::Unread(Unread::OfMany {
+        rules,
+        states: small(states, 2)?,
+        width: small(width, 2)?,
+        count: count_of(count)?,
+    }))
+}
+
+impl Ask {
+    /// What has this name.
+    fn named(name: &str) -> Option<Ask>
+        ensures { MatchOption result
+            ((asked : Ask) → ¬ (name_of asked ≡ name.now))
+            (λ asked. name_of asked ≡ name.now) }
+    {
+        match name {
+            "decide" => Some(Ask::Decide),
+            "orphan" => Some(Ask::Orphan),
+            "number" => Some(Ask::Number),
+            "certify" => Some(Ask::Certify),
+            "reflect" => Some(Ask::Reflect),
+            "trim" => Some(Ask::Trim),
+            "inverse" => Some(Ask::Inverse),
+            _ => None,
+        }
     }
-    match name {
-        "survey" if is_decimal(third, 39) => Some(Request::Survey {
-            states,
-            width,
-            from: third,
-            count,
-        }),
-        "sample" if is_seed(third) => Some(Request::Sample {
-            states,
-            width,
-            seed: third,
-            count,
-        }),
-        _ => None,
+}
+
+impl AskOfTwo {
+    /// What has this name.
+    fn named(name: &str) -> Option<AskOfTwo>
+        ensures { MatchOption result
+            ((asked : AskOfTwo) → ¬ (name_of_two asked ≡ name.now))
+            (λ asked. name_of_two asked ≡ name.now) }
+    {
+        match name {
+            "compose" => Some(AskOfTwo::Compose),
+            _ => None,
+        }
+    }
+}
+
+impl<'a> Change<'a> {
+    /// The change with this name and operand.
+    fn read(name: &str, operand: &'a [u8]) -> Option<Change<'a>>
+        ensures { MatchOption result
+            ((asked : AskWith) → name_with asked ≡ name.now → ¬ IsOperand asked operand.now)
+            (λ change. (name_with (asked_with change) ≡ name.now)
+            × IsOperand (asked_with change) operand.now × IsChange change operand.now) }
+    {
+        match name {
+            "shift" => Some(Change::Shift(decimal_offset(operand)?)),
+            "widen" => Some(Change::Widen(small(operand, 1)?)),
+            "permute" if are_colours(operand) => Some(Change::Permute(operand)),
+            _ => None,
+        }
+    }
+}
+
+impl Rules {
+    /// The rules with this name that begin there.
+    fn read(name: &str, from: &[u8]) -> Option<Rules>
+        ensures { MatchOption result
+            ((asked : AskOfMany) → name_of_many asked ≡ name.now → ¬ IsBeginning asked from.now)
+            (λ rules. (name_of_many (asked_of_many rules) ≡ name.now)
+            × IsBeginning (asked_of_many rules) from.now × BeginsAt rules (decimal_value from.now)) }
+    {
+        match name {
+            "survey" if is_decimal(from, 39) => Some(Rules::Survey(decimal_number(from))),
+            "sample" => Some(Rules::Sample(seed(from)?)),
+            _ => None,
+        }
     }
 }

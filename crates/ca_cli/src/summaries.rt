@@ -1,88 +1,74 @@
 //! The commands that count what holds of many rules.
-ghost use Rattle.std.specs.Prelude.{◌≡◌, ℕ, ◌+◌, ◌^◌, ◌≤◌, List, Option, Some, None, IfOk, MatchResult, pos};
+ghost use Rattle.std.specs.Prelude.{◌≡◌, ℕ, ◌^◌, ◌≤◌, Some, None, IfOk, MatchOption, MatchResult, pos};
 ghost use Rattle.std.specs.Option.{option_or};
 ghost use Rattle.word_image.specs.LocalRules.{IsShape};
-ghost use Rattle.rule_text.specs.RuleTexts.{IsDecimal, decimal_value, number_fault};
-ghost use Rattle.ca_cli.specs.Commands.{Command, IsSurveyForm, IsSampleForm};
-ghost use Rattle.ca_cli.specs.Outcomes.{IsOutcome};
+ghost use Rattle.rule_text.specs.RuleTexts.{number_fault};
+ghost use Rattle.ca_cli.specs.Commands.{BeginsAt, asked_of_many};
+ghost use Rattle.ca_cli.specs.Outcomes.{IsStopFor};
+ghost use Rattle.ca_cli.specs.Outputs.{rules_of, rules_fault};
 ghost use Rattle.ca_cli.specs.Samples.{survey_rules, sample_rules, survey_fault, sample_fault};
-ghost use Rattle.ca_cli.specs.Summaries.{IsTally, summary_of};
+ghost use Rattle.ca_cli.specs.Summaries.{IsSummary, IsTally};
 
 use crate::generator::Generator;
-use crate::operands;
 use crate::output::Output;
+use crate::request::Rules;
 use crate::stop::Stop;
 use crate::tally::Tally;
 use crate::verdicts::Verdicts;
-use rule_text::{TextFault, check_shape, decimal_number, numbered};
-use std::alloc::{AllocError, Global};
+use rule_text::{TextFault, check_shape, numbered};
+use std::alloc::Global;
 
-/// `survey K M FROM COUNT`: the summary of the rules of K states, width M and offset 0 with COUNT
-/// numbers from FROM on.
-pub fn survey(
-    alloc: Global,
-    states: &[u8],
-    width: &[u8],
-    from: &[u8],
-    count: &[u8],
-) -> Result<Output, Stop>
-    requires { IsSurveyForm states.now width.now from.now count.now }
-    ensures { (input : Option (List ℕ)) →
-        IsOutcome input (Command.Survey states.now width.now from.now count.now) result }
+/// `survey K M FROM COUNT`, `sample K M SEED COUNT`: the summary of COUNT rules of K states, width M
+/// and offset 0, those with the numbers from FROM on, or those that the seed stands for.
+pub fn summary(alloc: Global, rules: Rules, k: u8, m: u8, count: u16) -> Result<Output, Stop>
+    requires some { 1 ≤ count }
+    requires few { count ≤ 4096 }
+    ensures { (n : ℕ) → BeginsAt rules n → MatchResult result
+        (λ output. (rules_fault (asked_of_many rules) k m n count ≡ None)
+        × IsSummary (rules_of (asked_of_many rules) k m n count) output)
+        (IsStopFor (λ operand fault. (operand ≡ 1) × (rules_fault (asked_of_many rules) k m n count ≡ Some fault)) (λ cause. ⊥)) }
 {
-    let (k, m) = (operands::small(states), operands::small(width));
-    let count = operands::count(count);
-    match first_number(k, m, from, count) {
-        Ok(first) => {
-            let tally = tally_of_numbers(k, m, first, count);
-            Ok(summary(alloc, &tally)?)
+    match tally(rules, k, m, count) {
+        Ok(tally) => {
+            let mut output = Output::new(alloc);
+            tally.write(alloc, &mut output)?;
+            Ok(output)
         }
         Err(fault) => Err(Stop::RuleFault(1, fault)),
     }
 }
 
-/// `sample K M SEED COUNT`: the summary of the first COUNT rules of K states, width M and offset 0
-/// that a seed stands for.
-pub fn sample(
-    alloc: Global,
-    states: &[u8],
-    width: &[u8],
-    seed: &[u8],
-    count: &[u8],
-) -> Result<Output, Stop>
-    requires { IsSampleForm states.now width.now seed.now count.now }
-    ensures { (input : Option (List ℕ)) →
-        IsOutcome input (Command.Sample states.now width.now seed.now count.now) result }
+/// Counts what holds of the rules that are asked for; else the first fault of their shape.
+fn tally(rules: Rules, k: u8, m: u8, count: u16) -> Result<Tally, TextFault>
+    requires some { 1 ≤ count }
+    requires few { count ≤ 4096 }
+    ensures { (n : ℕ) → BeginsAt rules n → MatchResult result
+        (λ tally. (rules_fault (asked_of_many rules) k m n count ≡ None)
+        × IsTally (rules_of (asked_of_many rules) k m n count) tally)
+        (λ fault. rules_fault (asked_of_many rules) k m n count ≡ Some fault) }
 {
-    let (k, m) = (operands::small(states), operands::small(width));
-    let (seed, count) = (operands::seed(seed), operands::count(count));
-    match check_shape(k, m, 0) {
-        Ok(()) => {
-            let tally = tally_of_draws(k, m, seed, count);
-            Ok(summary(alloc, &tally)?)
+    match rules {
+        Rules::Survey(from) => {
+            let first = first_number(k, m, from, count)?;
+            Ok(tally_of_numbers(k, m, first, count))
         }
-        Err(fault) => Err(Stop::RuleFault(1, fault)),
+        Rules::Sample(seed) => {
+            check_shape(k, m, 0)?;
+            Ok(tally_of_draws(k, m, seed, count))
+        }
     }
 }
 
-/// The lines of these counts.
-fn summary(alloc: Global, tally: &Tally) -> Result<Output, AllocError>
-    ensures { IfOk result (λ output. output ≡ summary_of tally.now) }
+/// The first of so many numbers, where each has a rule of this shape; else the first fault. None
+/// stands for those from 2^128 on.
+fn first_number(k: u8, m: u8, from: Option<u128>, count: u16) -> Result<u128, TextFault>
+    requires some { 1 ≤ count }
+    ensures accepted { IfOk result (λ first. survey_fault k m first count ≡ None) }
+    ensures number { (n : ℕ) → MatchOption from (2 ^ 128 ≤ n) (λ first. first ≡ n) → MatchResult result
+        (λ first. first ≡ n)
+        (λ fault. survey_fault k m n count ≡ Some fault) }
 {
-    let mut output = Output::new(alloc);
-    tally.write(alloc, &mut output)?;
-    Ok(output)
-}
-
-/// The first of so many numbers, where each has a rule of this shape; else the first fault.
-fn first_number(k: u8, m: u8, from: &[u8], count: u16) -> Result<u128, TextFault>
-    requires from { IsDecimal 1 39 from.now }
-    requires count { 1 ≤ count }
-    ensures { MatchResult result
-        (λ first. (first ≡ decimal_value from.now) × (survey_fault k m first count ≡ None))
-        (λ fault. survey_fault k m (decimal_value from.now) count ≡ Some fault) }
-{
-    let Some(first) = decimal_number(from) else {
+    let Some(first) = from else {
         return Err(fault_past_all(k, m));
     };
     let Some(last) = first.checked_add(u128::from(count - 1)) else {

@@ -53,12 +53,12 @@ fn verdict_name(yes: bool) -> &'static str
     if yes { " yes" } else { " no" }
 }
 
-/// Appends the line of a refused certificate. Want of memory has none, and is handed on.
-pub fn write_refused(alloc: Global, output: &mut Output, refusal: Refusal) -> Result<(), AllocError>
-    ensures { OnOk result (output.new ≡ output.old ++ refused_line refusal) }
+/// The line of a refused certificate. Want of memory has none, and is handed on.
+pub fn refused_output(alloc: Global, refusal: Refusal) -> Result<Output, AllocError>
+    ensures { IfOk result (λ output. output ≡ refused_line refusal) }
 {
     let words = refusal_words(alloc, refusal)?;
-    output.push_line(&format!(in alloc; "refused {words}")?)
+    Output::line(alloc, &format!(in alloc; "refused {words}")?)
 }
 
 /// Which condition isn't met, and what is said of it.

@@ -7,28 +7,27 @@ use Rattle.cert_check.specs.Refusals.{IsRefusal}
 use Rattle.cert_check.specs.declared.verdicts.Verdicts.{Verdicts}
 use Rattle.cert_check.proofs.laws.OneAnswer.{IsAccepted-unique, accepted_not_refused}
 use Rattle.cert_check.proofs.laws.Soundness.{AreTrue-accepted}
+use Rattle.ca_cli.specs.declared.request.Ask.TheVariants as ask
 use Rattle.ca_cli.specs.declared.status.Status.{Status}
 use Rattle.ca_cli.specs.declared.status.Status.TheVariants as status
 use Rattle.ca_cli.specs.Commands as commands
 use Rattle.ca_cli.specs.Inputs.{most_input}
 use Rattle.ca_cli.specs.StatusLines.{accepted_lines}
 use Rattle.ca_cli.specs.RightAnswers.{IsRight}
-use Rattle.ca_cli.specs.RightAnswers.IsRight.{Certify, Made, Unfit, Accepted, Refused, TooLong}
+use Rattle.ca_cli.specs.RightAnswers.IsRight.{OfRule, Unfit, Accepted, Refused, TooLong}
 
 -- of an input that is accepted `check` says its verdicts, and nothing else
 accepted_alone : {bytes : List ℕ} {v : Verdicts} → IsAccepted bytes v → length bytes ≤ most_input → (s : Status) (lines : List ℕ) → IsRight (Some bytes) commands.Check s lines
     → (s ≡ status.Done) × (lines ≡ accepted_lines v)
-accepted_alone accepted short s lines (Made _ g made rule) = elim made [ ]
-accepted_alone accepted short s lines (Unfit _ reason unfit) = elim unfit [ ]
+accepted_alone accepted short s lines (Unfit _ cause unfits) = elim unfits [ ]
 accepted_alone accepted short s lines (Accepted others w whole also are_true) = (refl, ap accepted_lines (IsAccepted-unique (subst (λ b. IsAccepted b w) whole.all also) accepted))
 accepted_alone accepted short s lines (Refused others f whole refused) = absurd (accepted_not_refused accepted (subst (λ b. IsRefusal b f) whole.all refused))
 accepted_alone accepted short s lines (TooLong long) = absurd (omega (arith, short, long))
 
 -- so is what is written for a rule
-pub certified_accepted : {input : Option (List ℕ)} {text out : List ℕ} → IsRight input (commands.Certify text) status.Done out
+pub certified_accepted : {input : Option (List ℕ)} {text out : List ℕ} → IsRight input (commands.OfRule ask.Certify text) status.Done out
     → (v : Verdicts) × IsRuleText text v.rule × AreTrue v × ((s : Status) (lines : List ℕ) → IsRight (Some out) commands.Check s lines ↔ ((s ≡ status.Done) × (lines ≡ accepted_lines v)))
-certified_accepted (Made _ g made rule) = elim made [ ]
-certified_accepted (Certify text r c out says written is) =
+certified_accepted (OfRule _ text r out says (c, written, is)) =
     let accepted : IsAccepted out (verdicts_of c) = subst (λ b. IsAccepted b (verdicts_of c)) (sym is) written.accepted in
     let short : length out ≤ most_input = omega (arith, ap length is, written.short) in
     let are_true = AreTrue-accepted accepted in (

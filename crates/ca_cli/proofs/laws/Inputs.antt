@@ -31,7 +31,7 @@ nothing_read left faults good = record {
 
 -- a command that reads nothing meets no failed read
 pub reads_without_fault : (input : Option (List ℕ)) (c : Command) (result : Result (List ℕ) Stop) → ReadsNothing c → IsOutcome input c result → ¬ (result ≡ Err stop.ReadFault)
-reads_without_fault input c result reads outcome failed = subst ReadsNothing (subst (IsOutcome input c) failed outcome) reads
+reads_without_fault input c result reads outcome failed = reads (subst (IsOutcome input c) failed outcome)
 
 -- a source after a call that didn't fail, said of another
 pub read_without_fault : {failed other : Type 0} {before after : Option (List ℕ)} {faults faults_after : ℕ} → ¬ failed → ¬ other

@@ -1,5 +1,8 @@
--- The words of a command, one by one.
+-- The words of a command, one by one, and what a request means.
 use Rattle.std.proofs.Common.{◌≡◌, ◌<◌, ◌≤◌, List, [], ◌∷◌, length, get_or, refl, arith}
+use Rattle.ca_cli.specs.declared.request.Unread.{Unread}
+use Rattle.ca_cli.specs.declared.request.Unread.TheVariants as unread
+use Rattle.ca_cli.specs.Commands.{Command, ReadsNothing, Means}
 
 -- a list of five is its first five
 pub five_items : {A : Type 0} (xs : List A) {a b c d e : A} → 5 ≤ length xs → length xs < 6
@@ -11,3 +14,10 @@ five_items (p ∷ q ∷ r ∷ []) least most a b c d e = absurd (omega (arith, l
 five_items (p ∷ q ∷ r ∷ s ∷ []) least most a b c d e = absurd (omega (arith, least))
 five_items (p ∷ q ∷ r ∷ s ∷ t ∷ []) least most a b c d e = rw (a, b, c, d, e) refl
 five_items (p ∷ q ∷ r ∷ s ∷ t ∷ u ∷ more) least most a b c d e = absurd (omega (arith, most))
+
+-- a request that isn't for `check` means a command that reads nothing
+pub Means-reads_nothing : (asked : Unread) {c : Command} → Means asked c → ReadsNothing c
+Means-reads_nothing (unread.OfRule a rule) means is = cc
+Means-reads_nothing (unread.OfRuleWith change rule) (operand, _, means) is = cc
+Means-reads_nothing (unread.OfTwo a first second) means is = cc
+Means-reads_nothing (unread.OfMany rules k m count) (_, _, _, _, _, _, _, _, means) is = cc

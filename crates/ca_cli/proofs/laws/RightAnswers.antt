@@ -1,66 +1,106 @@
 -- The words of a command are no other's, and what an answer says of its words.
-use Rattle.std.proofs.Common.{inl, inr, ◌≡◌, ℕ, nat_eq, ◌+◌, ◌≤◌, List, [], length, refl, sym, ap, ◌∙◌, subst, arith}
-use Rattle.std.specs.Prelude.{Option, Some, ⊤, ◌⊎◌, codes, slice_get, unwrap_or, if◌then◌else◌}
+use Rattle.std.proofs.Common.{inl, inr, ◌≡◌, ℕ, nat_eq, ◌+◌, ◌≤◌, List, [], ◌∷◌, length, refl, sym, ap, ◌∙◌, subst, arith}
+use Rattle.std.specs.Prelude.{Option, None, Some, ⊤, ◌⊎◌, codes, if◌then◌else◌}
 use Rattle.std.specs.Cmp.Lexicographic.{pointwise}
 use Rattle.std.proofs.lemmas.Option.{none-some}
 use Rattle.rule_text.specs.declared.text_fault.TextFault.{TextFault}
+use Rattle.rule_text.proofs.laws.Texts.{IsRuleText-unique, IsRuleText-no_fault}
+use Rattle.ca_cli.specs.declared.request.Ask.{Ask}
+use Rattle.ca_cli.specs.declared.request.Ask.TheVariants as ask
+use Rattle.ca_cli.specs.declared.request.AskOfTwo.{AskOfTwo}
+use Rattle.ca_cli.specs.declared.request.AskOfTwo.TheVariants as two
 use Rattle.ca_cli.specs.declared.status.Status.{Status}
 use Rattle.ca_cli.specs.declared.status.Status.TheVariants as status
 use Rattle.cert_check.specs.Accepted.{IsAccepted}
 use Rattle.cert_check.specs.Refusals.{IsRefusal}
 use Rattle.cert_check.specs.declared.verdicts.Verdicts.{Verdicts}
 use Rattle.cert_check.specs.declared.refusal.Refusal.{Refusal}
-use Rattle.ca_cli.specs.Commands.{Command, words_of, IsCommand, ReadsNothing}
+use Rattle.cert_check.proofs.laws.OneAnswer.{accepted_not_refused}
+use Rattle.ca_cli.specs.Commands.{AskWith, AskOfMany, Command, name_of, name_with, name_of_two, name_of_many, words_of, IsCommand, ReadsNothing}
 use Rattle.ca_cli.specs.Commands as commands
 use Rattle.ca_cli.specs.Statuses.{IsAnswered}
 use Rattle.ca_cli.specs.StatusLines.{usage_line, operand_fault_line}
-use Rattle.ca_cli.specs.RightAnswers.{IsAnswer, IsOperandFault, IsRight}
+use Rattle.ca_cli.specs.Outputs.{IsOutput, IsOutputWith, IsOutputOfTwo}
+use Rattle.ca_cli.specs.RightAnswers.{IsAnswer, IsOperandFault, IsUnfit, IsRight}
 use Rattle.ca_cli.specs.RightAnswers.IsAnswer.{Usage, RuleFault, Right}
-use Rattle.ca_cli.specs.RightAnswers.IsRight.{Decide, Orphan, Number, Certify, Made, Inverse, Unfit, Survey, Sample, Accepted, Refused, TooLong}
+use Rattle.ca_cli.specs.RightAnswers.IsRight.{Unfit, Accepted, Refused, TooLong}
 use Rattle.ca_cli.specs.Inputs.{IsWholeInput, most_input}
-use Rattle.cert_check.proofs.laws.OneAnswer.{accepted_not_refused}
-use Rattle.ca_cli.specs.RightAnswers.IsOperandFault.{First, OfSurvey, OfSample}
-use Rattle.ca_cli.specs.MadeRules.{IsUnfit}
-use Rattle.ca_cli.proofs.laws.MadeRules.{accepted_text, IsMade-no_fault, IsUnfit-no_fault, IsMade-fit, IsInverse-fit}
+use Rattle.ca_cli.proofs.laws.Causes.{IsOutput-fit, IsOutputWith-fit, IsOutputOfTwo-fit}
 
--- the word with this number, from 0 on
-word : List (List ℕ) → ℕ → List ℕ
-word words i = unwrap_or (slice_get words i) []
+-- The names: what undoes each table
+
+asked : List ℕ → Ask
+asked name =
+    if pointwise nat_eq name (codes "decide") then ask.Decide
+    else (if pointwise nat_eq name (codes "orphan") then ask.Orphan
+    else (if pointwise nat_eq name (codes "number") then ask.Number
+    else (if pointwise nat_eq name (codes "certify") then ask.Certify
+    else (if pointwise nat_eq name (codes "reflect") then ask.Reflect
+    else (if pointwise nat_eq name (codes "trim") then ask.Trim
+    else ask.Inverse)))))
+
+asked-name : (a : Ask) → asked (name_of a) ≡ a
+unfolding asked
+asked-name ask.Decide = refl
+asked-name ask.Orphan = refl
+asked-name ask.Number = refl
+asked-name ask.Certify = refl
+asked-name ask.Reflect = refl
+asked-name ask.Trim = refl
+asked-name ask.Inverse = refl
+
+asked_with : List ℕ → Option AskWith
+asked_with name =
+    if pointwise nat_eq name (codes "shift") then Some AskWith.Shift
+    else (if pointwise nat_eq name (codes "widen") then Some AskWith.Widen
+    else (if pointwise nat_eq name (codes "permute") then Some AskWith.Permute
+    else None))
+
+asked_with-name : (a : AskWith) → asked_with (name_with a) ≡ Some a
+unfolding asked_with
+asked_with-name AskWith.Shift = refl
+asked_with-name AskWith.Widen = refl
+asked_with-name AskWith.Permute = refl
+
+asked_with-of_two : (a : AskOfTwo) → asked_with (name_of_two a) ≡ None
+unfolding asked_with
+asked_with-of_two two.Compose = refl
+
+asked_of_two : List ℕ → AskOfTwo
+asked_of_two name = two.Compose
+
+asked_of_two-name : (a : AskOfTwo) → asked_of_two (name_of_two a) ≡ a
+unfolding asked_of_two
+asked_of_two-name two.Compose = refl
+
+asked_of_many : List ℕ → AskOfMany
+asked_of_many name = if pointwise nat_eq name (codes "survey") then AskOfMany.Survey else AskOfMany.Sample
+
+asked_of_many-name : (a : AskOfMany) → asked_of_many (name_of_many a) ≡ a
+unfolding asked_of_many
+asked_of_many-name AskOfMany.Survey = refl
+asked_of_many-name AskOfMany.Sample = refl
+
+-- the command of three words, of which the name says whether the last is a rule
+with_or_of_two : Option AskWith → List ℕ → List ℕ → List ℕ → Command
+with_or_of_two (Some a) name first second = commands.OfRuleWith a first second
+with_or_of_two None name first second = commands.OfTwo (asked_of_two name) first second
 
 -- the command that the words are, if they are one: what undoes words_of
 read : List (List ℕ) → Command
-read words =
-    if pointwise nat_eq (word words 0) (codes "decide") then commands.Decide (word words 1)
-    else (if pointwise nat_eq (word words 0) (codes "orphan") then commands.Orphan (word words 1)
-    else (if pointwise nat_eq (word words 0) (codes "number") then commands.Number (word words 1)
-    else (if pointwise nat_eq (word words 0) (codes "certify") then commands.Certify (word words 1)
-    else (if pointwise nat_eq (word words 0) (codes "reflect") then commands.Reflect (word words 1)
-    else (if pointwise nat_eq (word words 0) (codes "trim") then commands.Trim (word words 1)
-    else (if pointwise nat_eq (word words 0) (codes "shift") then commands.Shift (word words 1) (word words 2)
-    else (if pointwise nat_eq (word words 0) (codes "widen") then commands.Widen (word words 1) (word words 2)
-    else (if pointwise nat_eq (word words 0) (codes "permute") then commands.Permute (word words 1) (word words 2)
-    else (if pointwise nat_eq (word words 0) (codes "compose") then commands.Compose (word words 1) (word words 2)
-    else (if pointwise nat_eq (word words 0) (codes "inverse") then commands.Inverse (word words 1)
-    else (if pointwise nat_eq (word words 0) (codes "survey") then commands.Survey (word words 1) (word words 2) (word words 3) (word words 4)
-    else (if pointwise nat_eq (word words 0) (codes "sample") then commands.Sample (word words 1) (word words 2) (word words 3) (word words 4)
-    else commands.Check))))))))))))
+read (name ∷ rule ∷ []) = commands.OfRule (asked name) rule
+read (name ∷ first ∷ second ∷ []) = with_or_of_two (asked_with name) name first second
+read (name ∷ states ∷ width ∷ from ∷ count ∷ []) = commands.OfMany (asked_of_many name) states width from count
+read words = commands.Check
 
 -- each command is read from its words
 read-words_of : (c : Command) → read (words_of c) ≡ c
-unfolding read word
-read-words_of (commands.Decide rule) = refl
-read-words_of (commands.Orphan rule) = refl
-read-words_of (commands.Number rule) = refl
-read-words_of (commands.Certify rule) = refl
-read-words_of (commands.Reflect rule) = refl
-read-words_of (commands.Trim rule) = refl
-read-words_of (commands.Shift rule by) = refl
-read-words_of (commands.Widen rule width) = refl
-read-words_of (commands.Permute rule colours) = refl
-read-words_of (commands.Compose first second) = refl
-read-words_of (commands.Inverse rule) = refl
-read-words_of (commands.Survey states width from count) = refl
-read-words_of (commands.Sample states width seed count) = refl
+unfolding read with_or_of_two
+read-words_of (commands.OfRule a rule) = ap (λ b. commands.OfRule b rule) (asked-name a)
+read-words_of (commands.OfRuleWith a rule operand) = ap (λ b. with_or_of_two b (name_with a) rule operand) (asked_with-name a)
+read-words_of (commands.OfTwo a first second) =
+    ap (λ b. with_or_of_two b (name_of_two a) first second) (asked_with-of_two a) ∙ ap (λ b. commands.OfTwo b first second) (asked_of_two-name a)
+read-words_of (commands.OfMany a states width from count) = ap (λ b. commands.OfMany b states width from count) (asked_of_many-name a)
 read-words_of commands.Check = refl
 
 -- two commands with the same words are the same
@@ -85,57 +125,53 @@ IsCarriedOut status.Memory = ⊥
 
 -- what is right for a command has one of them
 IsRight-carried_out : {input : Option (List ℕ)} {c : Command} {s : Status} {out : List ℕ} → IsRight input c s out → IsCarriedOut s
-IsRight-carried_out (Decide text r out says true_report) = tt
-IsRight-carried_out (Orphan text r out says true_line) = tt
-IsRight-carried_out (Number text r says) = tt
-IsRight-carried_out (Certify text r c out says written is) = tt
-IsRight-carried_out (Made c g made rule) = tt
-IsRight-carried_out (Inverse text r out says inverse) = tt
-IsRight-carried_out (Unfit c reason unfit) = tt
-IsRight-carried_out (Survey k m from count out accepted true_summary) = tt
-IsRight-carried_out (Sample k m seed count out accepted true_summary) = tt
+IsRight-carried_out (IsRight.OfRule a text r out says output) = tt
+IsRight-carried_out (IsRight.OfRuleWith a text operand r out says output) = tt
+IsRight-carried_out (IsRight.OfTwo a first second r s out says also output) = tt
+IsRight-carried_out (IsRight.OfMany a k m from count out accepted summary) = tt
+IsRight-carried_out (Unfit c cause unfit) = tt
 IsRight-carried_out (Accepted bytes v whole accepted are_true) = tt
 IsRight-carried_out (Refused bytes f whole refused) = tt
 IsRight-carried_out (TooLong long) = tt
 
 -- nothing can be made as the command asks
 abbrev NothingFits : Command → Type 0
-NothingFits c = (reason : List ℕ) × IsUnfit c reason
+NothingFits c = (cause : List ℕ) × IsUnfit c cause
+
+-- what is said of a command's rules is said of no others
+fits : (c : Command) {cause : List ℕ} {input : Option (List ℕ)} {out : List ℕ} → IsUnfit c cause → ¬ IsRight input c status.Done out
+fits _ (IsUnfit.OfRule a text r cause says unfits) (IsRight.OfRule _ _ q out also output) =
+    IsOutput-fit out unfits (subst (λ p. IsOutput a p out) (IsRuleText-unique also says) output)
+fits _ (IsUnfit.OfRuleWith a text operand r cause says unfits) (IsRight.OfRuleWith _ _ _ q out also output) =
+    IsOutputWith-fit out unfits (subst (λ p. IsOutputWith a p operand out) (IsRuleText-unique also says) output)
+fits _ (IsUnfit.OfTwo a first second r s cause says says' unfits) (IsRight.OfTwo _ _ _ q p out also also' output) =
+    IsOutputOfTwo-fit out unfits (subst (λ t. IsOutputOfTwo a r t out) (IsRuleText-unique also' says') (subst (λ t. IsOutputOfTwo a t p out) (IsRuleText-unique also says) output))
 
 -- what is right for a command that reads nothing is NotFit where nothing can be made as it asks, and else Done
-abbrev IsDoneOrNotFit : Command → Status → Type 0
-IsDoneOrNotFit c s = ((s ≡ status.Done) × ¬ NothingFits c) ⊎ ((s ≡ status.NotFit) × NothingFits c)
-
-IsRight-fit : {input : Option (List ℕ)} {c : Command} {s : Status} {out : List ℕ} → ReadsNothing c → IsRight input c s out → IsDoneOrNotFit c s
-IsRight-fit reads (Decide text r out says true_report) = inl (refl, λ (reason, unfit). elim unfit [ ])
-IsRight-fit reads (Orphan text r out says true_line) = inl (refl, λ (reason, unfit). elim unfit [ ])
-IsRight-fit reads (Number text r says) = inl (refl, λ (reason, unfit). elim unfit [ ])
-IsRight-fit reads (Certify text r c out says written is) = inl (refl, λ (reason, unfit). elim unfit [ ])
-IsRight-fit reads (Made c g made rule) = inl (refl, λ (reason, unfit). IsMade-fit made unfit)
-IsRight-fit reads (Inverse text r out says inverse) = inl (refl, λ (reason, unfit). IsInverse-fit says inverse unfit)
-IsRight-fit reads (Unfit c reason unfit) = inr (refl, (reason, unfit))
-IsRight-fit reads (Survey k m from count out accepted true_summary) = inl (refl, λ (reason, unfit). elim unfit [ ])
-IsRight-fit reads (Sample k m seed count out accepted true_summary) = inl (refl, λ (reason, unfit). elim unfit [ ])
-IsRight-fit reads (Accepted bytes v whole accepted are_true) = absurd reads
-IsRight-fit reads (Refused bytes f whole refused) = absurd reads
-IsRight-fit reads (TooLong long) = absurd reads
+done_or_not_fit : {input : Option (List ℕ)} {c : Command} {s : Status} {out : List ℕ} → ReadsNothing c → IsRight input c s out → (s ≡ status.Done) ⊎ ((s ≡ status.NotFit) × NothingFits c)
+done_or_not_fit reads (IsRight.OfRule a text r out says output) = inl refl
+done_or_not_fit reads (IsRight.OfRuleWith a text operand r out says output) = inl refl
+done_or_not_fit reads (IsRight.OfTwo a first second r s out says also output) = inl refl
+done_or_not_fit reads (IsRight.OfMany a k m from count out accepted summary) = inl refl
+done_or_not_fit reads (Unfit c cause unfits) = inr (refl, (cause, unfits))
+done_or_not_fit reads (Accepted bytes v whole accepted are_true) = absurd (reads refl)
+done_or_not_fit reads (Refused bytes f whole refused) = absurd (reads refl)
+done_or_not_fit reads (TooLong long) = absurd (reads refl)
 
 -- a command with a right answer has no operand with a fault
 IsRight-no_fault : {input : Option (List ℕ)} {c : Command} {s : Status} {out : List ℕ} {operand : ℕ} {f : TextFault} → IsRight input c s out → IsOperandFault c operand f → ⊥
-IsRight-no_fault (Decide text r out says true_report) (First c rule f is fault) = accepted_text says is fault
-IsRight-no_fault (Orphan text r out says true_line) (First c rule f is fault) = accepted_text says is fault
-IsRight-no_fault (Number text r says) (First c rule f is fault) = accepted_text says is fault
-IsRight-no_fault (Certify text r cert out says written same) (First c rule f is fault) = accepted_text says is fault
-IsRight-no_fault (Made c g made rule) fault = IsMade-no_fault made fault
-IsRight-no_fault (Inverse text r out says inverse) (First c rule f is fault) = accepted_text says is fault
-IsRight-no_fault (Unfit c reason unfit) fault = IsUnfit-no_fault unfit fault
-IsRight-no_fault (Survey k m from count out accepted true_summary) (First c rule f is fault) = none-some rule is
-IsRight-no_fault (Survey k m from count out accepted true_summary) (OfSurvey _ _ _ _ f fault) = none-some f (sym accepted ∙ fault)
-IsRight-no_fault (Sample k m seed count out accepted true_summary) (First c rule f is fault) = none-some rule is
-IsRight-no_fault (Sample k m seed count out accepted true_summary) (OfSample _ _ _ _ f fault) = none-some f (sym accepted ∙ fault)
-IsRight-no_fault (Accepted bytes v whole accepted are_true) (First c rule f is fault) = absurd (none-some rule is)
-IsRight-no_fault (Refused bytes g whole refused) (First c rule f is fault) = absurd (none-some rule is)
-IsRight-no_fault (TooLong long) (First c rule f is fault) = absurd (none-some rule is)
+IsRight-no_fault (IsRight.OfRule a text r out says output) (IsOperandFault.OfRule _ _ f refused) = IsRuleText-no_fault says refused
+IsRight-no_fault (IsRight.OfRuleWith a text operand r out says output) (IsOperandFault.OfRuleWith _ _ _ f refused) = IsRuleText-no_fault says refused
+IsRight-no_fault (IsRight.OfTwo a first second r s out says also output) (IsOperandFault.OfFirst _ _ _ f refused) = IsRuleText-no_fault says refused
+IsRight-no_fault (IsRight.OfTwo a first second r s out says also output) (IsOperandFault.OfSecond _ _ _ _ f _ refused) = IsRuleText-no_fault also refused
+IsRight-no_fault (IsRight.OfMany a k m from count out accepted summary) (IsOperandFault.OfMany _ _ _ _ _ f refused) = none-some f (sym accepted ∙ refused)
+IsRight-no_fault (Unfit _ _ (IsUnfit.OfRule a text r cause says unfits)) (IsOperandFault.OfRule _ _ f refused) = IsRuleText-no_fault says refused
+IsRight-no_fault (Unfit _ _ (IsUnfit.OfRuleWith a text operand r cause says unfits)) (IsOperandFault.OfRuleWith _ _ _ f refused) = IsRuleText-no_fault says refused
+IsRight-no_fault (Unfit _ _ (IsUnfit.OfTwo a first second r s cause says also unfits)) (IsOperandFault.OfFirst _ _ _ f refused) = IsRuleText-no_fault says refused
+IsRight-no_fault (Unfit _ _ (IsUnfit.OfTwo a first second r s cause says also unfits)) (IsOperandFault.OfSecond _ _ _ _ f _ refused) = IsRuleText-no_fault also refused
+IsRight-no_fault (Accepted bytes v whole accepted are_true) refused = elim refused [ ]
+IsRight-no_fault (Refused bytes f whole refuses) refused = elim refused [ ]
+IsRight-no_fault (TooLong long) refused = elim refused [ ]
 
 -- words whose command has an operand with a fault have no right answer
 no_fault : {words : List (List ℕ)} {input : Option (List ℕ)} {c d : Command} {s : Status} {out : List ℕ} {operand : ℕ} {f : TextFault} → IsCommand words c → IsOperandFault c operand f → IsCommand words d → IsRight input d s out → ⊥
@@ -165,54 +201,44 @@ one_verdict {f = f} whole accepted also refused = accepted_not_refused accepted 
 
 -- `check` has one right status for an input that is told
 one_check : {left : List ℕ} {s t : Status} {out other : List ℕ} → IsRight (Some left) commands.Check s out → IsRight (Some left) commands.Check t other → s ≡ t
-one_check (Made _ g made rule) right = elim made [ ]
-one_check (Unfit _ reason unfit) right = elim unfit [ ]
-one_check (Accepted bytes v whole accepted are_true) (Made _ g made rule) = elim made [ ]
-one_check (Accepted bytes v whole accepted are_true) (Unfit _ reason unfit) = elim unfit [ ]
+one_check (Unfit _ cause unfits) right = elim unfits [ ]
+one_check (Accepted bytes v whole accepted are_true) (Unfit _ cause unfits) = elim unfits [ ]
 one_check (Accepted bytes v whole accepted are_true) (Accepted _ _ _ _ _) = refl
 one_check (Accepted bytes v whole accepted are_true) (Refused others f also refused) = absurd (one_verdict whole accepted also refused)
 one_check (Accepted bytes v whole accepted are_true) (TooLong long) = absurd (whole_short whole long)
-one_check (Refused bytes f whole refused) (Made _ g made rule) = elim made [ ]
-one_check (Refused bytes f whole refused) (Unfit _ reason unfit) = elim unfit [ ]
+one_check (Refused bytes f whole refused) (Unfit _ cause unfits) = elim unfits [ ]
 one_check (Refused bytes f whole refused) (Accepted others v also accepted are_true) = absurd (one_verdict also accepted whole refused)
 one_check (Refused bytes f whole refused) (Refused _ _ _ _) = refl
 one_check (Refused bytes f whole refused) (TooLong long) = absurd (whole_short whole long)
-one_check (TooLong long) (Made _ g made rule) = elim made [ ]
-one_check (TooLong long) (Unfit _ reason unfit) = elim unfit [ ]
+one_check (TooLong long) (Unfit _ cause unfits) = elim unfits [ ]
 one_check (TooLong long) (Accepted others v also accepted are_true) = absurd (whole_short also long)
 one_check (TooLong long) (Refused others f also refused) = absurd (whole_short also long)
 one_check (TooLong long) (TooLong _) = refl
 
 -- a command reads nothing, or is `check`
 reads_nothing_or_check : (c : Command) → ReadsNothing c ⊎ (c ≡ commands.Check)
-reads_nothing_or_check (commands.Decide rule) = inl tt
-reads_nothing_or_check (commands.Orphan rule) = inl tt
-reads_nothing_or_check (commands.Number rule) = inl tt
-reads_nothing_or_check (commands.Certify rule) = inl tt
-reads_nothing_or_check (commands.Reflect rule) = inl tt
-reads_nothing_or_check (commands.Trim rule) = inl tt
-reads_nothing_or_check (commands.Shift rule by) = inl tt
-reads_nothing_or_check (commands.Widen rule width) = inl tt
-reads_nothing_or_check (commands.Permute rule colours) = inl tt
-reads_nothing_or_check (commands.Compose first second) = inl tt
-reads_nothing_or_check (commands.Inverse rule) = inl tt
-reads_nothing_or_check (commands.Survey states width from count) = inl tt
-reads_nothing_or_check (commands.Sample states width seed count) = inl tt
+reads_nothing_or_check (commands.OfRule a rule) = inl (λ is. cc)
+reads_nothing_or_check (commands.OfRuleWith a rule operand) = inl (λ is. cc)
+reads_nothing_or_check (commands.OfTwo a first second) = inl (λ is. cc)
+reads_nothing_or_check (commands.OfMany a states width from count) = inl (λ is. cc)
 reads_nothing_or_check commands.Check = inr refl
 
 -- a command has one right status, where it reads nothing or the input is told
 abbrev HasOneStatus : Option (List ℕ) → Command → Type 0
 HasOneStatus input c = (s t : Status) (out other : List ℕ) → IsRight input c s out → IsRight input c t other → s ≡ t
 
--- one of both
-one_fit : {c : Command} {s t : Status} → IsDoneOrNotFit c s → IsDoneOrNotFit c t → s ≡ t
-one_fit (inl first) (inl second) = first.0 ∙ sym second.0
-one_fit (inl first) (inr second) = absurd (first.1 second.1)
-one_fit (inr first) (inl second) = absurd (second.1 first.1)
-one_fit (inr first) (inr second) = first.0 ∙ sym second.0
-
 one_unread : (input : Option (List ℕ)) (c : Command) → ReadsNothing c → HasOneStatus input c
-one_unread input c reads s t out other right right' = one_fit (IsRight-fit reads right) (IsRight-fit reads right')
+one_unread input c reads s t out other here there =
+    elim (done_or_not_fit reads here) [
+      | inl done ↦ elim (done_or_not_fit reads there) [
+        | inl also ↦ done ∙ sym also
+        | inr (not_fit, (cause, unfits)) ↦ absurd (fits c unfits (subst (λ u. IsRight input c u out) done here))
+      ]
+      | inr (not_fit, (cause, unfits)) ↦ elim (done_or_not_fit reads there) [
+        | inl done ↦ absurd (fits c unfits (subst (λ u. IsRight input c u other) done there))
+        | inr (also, nothing) ↦ not_fit ∙ sym also
+      ]
+    ]
 
 one_told : (left : List ℕ) (c : Command) → HasOneStatus (Some left) c
 one_told left c s t out other right right' =

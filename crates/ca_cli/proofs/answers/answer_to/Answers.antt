@@ -1,25 +1,46 @@
-use Rattle.std.proofs.Common.{map, subst}
+use Rattle.std.proofs.Common.{map, sym, subst}
 use Rattle.std.specs.Prelude.{string_bytes}
 use Rattle.std.proofs.lemmas.Result.{IfOk-weaker}
 use Rattle.ca_cli.specs.declared.status.Status.TheVariants as status
-use Rattle.ca_cli.specs.Commands.{IsCommand, command_of}
+use Rattle.ca_cli.specs.Commands.{IsRequest}
 use Rattle.ca_cli.specs.Commands as commands
-use Rattle.ca_cli.specs.Outcomes.{IsStop}
-use Rattle.ca_cli.specs.RightAnswers.IsAnswer.{Right}
+use Rattle.ca_cli.specs.RightAnswers.{IsAnswer}
+use Rattle.ca_cli.specs.RightAnswers.IsAnswer.{Usage}
+use Rattle.ca_cli.proofs.laws.Inputs.{nothing_read, reads_without_fault}
+use Rattle.ca_cli.proofs.laws.Requests.{Means-reads_nothing}
 use Rattle.ca_cli.proofs.answers.answer_to.Goals as goal
 
-pub returns-in_default-clause-read : goal.returns-in_default-clause-read
-returns-in_default-clause-read g c is = absurd (c.in_default.ensures commands.Check is)
+pub returns-in_ok-line-in-None-clause-answer : goal.returns-in_ok-line-in-None-clause-answer
+returns-in_ok-line-in-None-clause-answer g c =
+    let words = map string_bytes c.args.words.now in
+    let input = g.S.Source.left c.args.source.now in
+    subst (IsAnswer words input status.Usage) (sym c.in_ok-line-in-None.ensures) (Usage c.in-None.ensures)
 
-pub returns-in-Ok-clause-answer : goal.returns-in-Ok-clause-answer
-returns-in-Ok-clause-answer g c = Right (command_of c.in-Some.request) status.Done c.in-Ok.output c.in-Some.ensures c.in-Ok.ensures.outcome
+pub returns-in-Some-Unread-clause-answer : goal.returns-in-Some-Unread-clause-answer
+returns-in-Some-Unread-clause-answer g c =
+    let words = map string_bytes c.args.words.now in
+    let input = g.S.Source.left c.args.source.now in
+    let (command, is, means) = subst (IsRequest words) c.in-Some-Unread.field-0-is c.in-Some-Unread.ensures in
+    IfOk-weaker c.concluded.result _ _ (λ answer right. right words input command is (c.carry_out.ensures command input means)) c.concluded.ensures.answer
 
-pub returns-in-Err-clause-answer : goal.returns-in-Err-clause-answer
-returns-in-Err-clause-answer g c =
-    IfOk-weaker c.stopped.result _ _ (λ answer right. right (map string_bytes c.args.words.now) (g.S.Source.left c.args.source.now) (command_of c.in-Some.request) c.in-Some.ensures c.in-Err.ensures.outcome)
-    c.stopped.ensures.answer
+-- a command that reads nothing meets no failed read
+pub returns-in-Some-Unread-clause-failed : goal.returns-in-Some-Unread-clause-failed
+returns-in-Some-Unread-clause-failed g c failed =
+    let words = map string_bytes c.args.words.now in
+    let input = g.S.Source.left c.args.source.now in
+    let (command, is, means) = subst (IsRequest words) c.in-Some-Unread.field-0-is c.in-Some-Unread.ensures in
+    absurd (reads_without_fault input command c.carry_out.result (Means-reads_nothing c.in-Some-Unread.asked means) (c.carry_out.ensures command input means) (c.concluded.ensures.failed.0 failed))
 
-pub returns-in-Err-clause-failed : goal.returns-in-Err-clause-failed
-returns-in-Err-clause-failed g c failed =
-    let reads = subst (IsStop (g.S.Source.left c.args.source.now) (command_of c.in-Some.request)) (c.stopped.ensures.failed failed) c.in-Err.ensures.outcome in
-    subst (IsCommand (map string_bytes c.args.words.now)) reads c.in-Some.ensures
+pub returns-in-Some-Unread-clause-reading : goal.returns-in-Some-Unread-clause-reading
+returns-in-Some-Unread-clause-reading g c =
+    let words = map string_bytes c.args.words.now in
+    let input = g.S.Source.left c.args.source.now in
+    let (command, is, means) = subst (IsRequest words) c.in-Some-Unread.field-0-is c.in-Some-Unread.ensures in
+    nothing_read input _ (λ failed. reads_without_fault input command c.carry_out.result (Means-reads_nothing c.in-Some-Unread.asked means) (c.carry_out.ensures command input means) (c.concluded.ensures.failed.0 failed))
+
+pub returns-in-Some-Check-clause-answer : goal.returns-in-Some-Check-clause-answer
+returns-in-Some-Check-clause-answer g c =
+    let words = map string_bytes c.args.words.now in
+    let input = g.S.Source.left c.args.source.now in
+    let is = subst (IsRequest words) c.in-Some-Check.field-0-is c.in-Some-Check.ensures in
+    IfOk-weaker c.concluded-in-Some-Check.result _ _ (λ answer right. right words input commands.Check is c.check.ensures.outcome) c.concluded-in-Some-Check.ensures.answer

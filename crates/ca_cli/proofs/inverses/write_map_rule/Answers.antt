@@ -3,8 +3,8 @@ use Rattle.std.specs.Prelude.{codes}
 use Rattle.std.proofs.lemmas.Bool.{false≢true}
 use Rattle.std.proofs.lemmas.Result.{on_ok_weaker}
 use Rattle.rule_text.specs.RuleTexts.{printed}
-use Rattle.ca_cli.specs.MadeRules.{IsMapRule}
-use Rattle.ca_cli.specs.MadeRules.IsMapRule.{Rule, NoRule}
+use Rattle.ca_cli.specs.InverseLines.{IsMapRule}
+use Rattle.ca_cli.specs.InverseLines.IsMapRule.{Rule, NoRule}
 use Rattle.ca_cli.proofs.inverses.write_map_rule.Goals as goal
 
 pub returns-in-Ok : goal.returns-in-Ok

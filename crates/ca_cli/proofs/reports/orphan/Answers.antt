@@ -1,16 +1,12 @@
-use Rattle.std.proofs.Common.{refl, sym, subst}
-use Rattle.ca_cli.specs.declared.status.Status.TheVariants as status
-use Rattle.ca_cli.specs.Commands as commands
-use Rattle.ca_cli.specs.RightAnswers.{IsRight}
-use Rattle.ca_cli.specs.RightAnswers.IsRight.{Orphan}
-use Rattle.ca_cli.proofs.laws.Outcomes.{first_refused, appended_to_nothing}
-use Rattle.ca_cli.proofs.laws.Findings.{IsSurjectiveLine-found}
+use Rattle.std.proofs.Common.{sym, subst}
+use Rattle.ca_cli.specs.Reports.{IsSurjectiveLine}
+use Rattle.ca_cli.proofs.laws.Outcomes.{appended_to_nothing}
+use Rattle.ca_cli.proofs.laws.Findings.{IsSurjectiveLine-found, HasOrphanDigits-found}
 use Rattle.ca_cli.proofs.reports.orphan.Goals as goal
 
-pub returns-in_err-rule : goal.returns-in_err-rule
-returns-in_err-rule c input = first_refused input (commands.Orphan c.args.text.now) c.from_residual.result refl c.in_err-rule.ensures c.from_residual.ensures.1
+pub write_surjectivity-requires : goal.write_surjectivity-requires
+write_surjectivity-requires c = HasOrphanDigits-found c.in_ok-found.found c.in_ok-found.ensures.accepted c.in_ok-found.ensures.found
 
 pub returns : goal.returns
-returns c input =
-    let line = IsSurjectiveLine-found c.in_ok-rule.rule c.in_ok-found.found c.in_ok-found.ensures in
-    subst (IsRight input (commands.Orphan c.args.text.now) status.Done) (sym (appended_to_nothing c.new-output.ensures c.in_ok-write_surjectivity.ensures)) (Orphan c.args.text.now c.in_ok-rule.rule _ c.in_ok-rule.ensures line)
+returns c =
+    subst (IsSurjectiveLine c.args.rule.now) (sym (appended_to_nothing c.new-output.ensures c.in_ok-write_surjectivity.ensures)) (IsSurjectiveLine-found c.args.rule.now c.in_ok-found.found c.in_ok-found.ensures.found)

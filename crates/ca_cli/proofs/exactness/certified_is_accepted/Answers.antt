@@ -1,5 +1,0 @@
-use Rattle.ca_cli.proofs.laws.Certified.{certified_accepted}
-use Rattle.ca_cli.proofs.exactness.certified_is_accepted.Goals as goal
-
-pub returns : goal.returns
-returns c text out input = certified_accepted

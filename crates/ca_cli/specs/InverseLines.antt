@@ -1,0 +1,47 @@
+-- The inverse map of a rule, and the lines that say it.
+use Rattle.std.specs.Prelude.{◌≡◌, ℕ, ◌^◌, ◌≤◌, List, ◌++◌, codes}
+use Rattle.std.specs.Fmt.{decimal}
+use Rattle.word_image.specs.Digits.{word_text}
+use Rattle.word_image.specs.LocalRules.{LocalRule, IsRule}
+use Rattle.word_image.specs.Windows.{IsLeastDetermined}
+use Rattle.tail_config.specs.Tails.{IsInjective}
+use Rattle.inverse_table.specs.InverseMaps.{WindowMap, IsInverseMap, GivesBack, rule_of}
+use Rattle.rule_text.specs.RuleTexts.{printed, offset_text}
+use Rattle.ca_cli.specs.Lines.{line}
+
+-- The lines of an inverse map
+
+-- a window
+abbrev pub window_text : ℕ → ℕ → List ℕ
+window_text n c = codes "window " ++ decimal n ++ codes " " ++ decimal c
+
+-- where the cells that the map reads begin
+abbrev pub offset_line : WindowMap → List ℕ
+offset_line g = line (codes "offset " ++ offset_text g.offset)
+
+-- its letters
+abbrev pub map_line : WindowMap → List ℕ
+map_line g = line (codes "map " ++ word_text g.table)
+
+-- what is said of the map as a rule
+abbrev pub map_rule_line : List ℕ → List ℕ
+map_rule_line text = line (codes "rule " ++ text)
+
+-- the map is a rule with this text, or it breaks a limit of rules
+pub data IsMapRule (g : WindowMap) : List ℕ → Type 0 where
+  Rule : IsRule (rule_of g) → IsMapRule g (printed (rule_of g))
+  NoRule : ¬ IsRule (rule_of g) → IsMapRule g (codes "none")
+
+-- the rule is injective, and these are the four lines of its inverse over the least determined window
+pub record IsInverse (r : LocalRule) (out : List ℕ) : Type 0 where
+  pub n : ℕ
+  pub c : ℕ
+  pub inverse : WindowMap
+  pub rule : List ℕ
+  pub injective : IsInjective r
+  pub least : IsLeastDetermined r n c
+  pub few : r.states ^ n ≤ 65536
+  pub map : IsInverseMap r n c inverse
+  pub gives_back : GivesBack r n c inverse
+  pub as_rule : IsMapRule inverse rule
+  pub lines : out ≡ line (window_text n c) ++ offset_line inverse ++ map_line inverse ++ map_rule_line rule

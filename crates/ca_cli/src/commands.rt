@@ -1,0 +1,75 @@
+//! The commands that read nothing, by the shape of their operands.
+ghost use Rattle.std.specs.Prelude.{◌≡◌, ◌≤◌, ℕ, List, Option};
+ghost use Rattle.ca_cli.specs.Commands.{BeginsAt, Command, IsChange, IsWellFormed, Means, asked_of_many, asked_with};
+ghost use Rattle.ca_cli.specs.Outcomes.{Comes, IsOutcome};
+ghost use Rattle.ca_cli.specs.Outputs.{IsCause, IsCauseOfTwo, IsCauseWith, IsOutput, IsOutputOfTwo, IsOutputWith};
+
+use crate::algebra::{compose, permute, reflect, shift, trim, widen};
+use crate::certificates::certify;
+use crate::inverses::inverse;
+use crate::operands::rule_operand;
+use crate::output::Output;
+use crate::reports::{decide, number, orphan};
+use crate::request::{Ask, AskOfTwo, Change, Unread};
+use crate::stop::Stop;
+use crate::summaries::summary;
+use std::alloc::Global;
+use word_image::Rule;
+
+/// Carries out a command.
+pub fn carry_out(alloc: Global, asked: Unread) -> Result<Output, Stop>
+    requires { (c : Command) × Means asked c × IsWellFormed c }
+    ensures { (c : Command) (input : Option (List ℕ)) → Means asked.entry c → IsOutcome input c result }
+{
+    match asked {
+        Unread::OfRule(ask, rule) => of_rule(alloc, ask, &rule_operand(1, rule)?),
+        Unread::OfRuleWith(change, rule) => of_rule_with(alloc, change, &rule_operand(1, rule)?),
+        Unread::OfTwo(ask, first, second) => {
+            let first = rule_operand(1, first)?;
+            let second = rule_operand(2, second)?;
+            of_two(alloc, ask, &first, &second)
+        }
+        Unread::OfMany {
+            rules,
+            states,
+            width,
+            count,
+        } => summary(alloc, rules, states, width, count),
+    }
+}
+
+/// What is asked of a rule.
+fn of_rule(alloc: Global, ask: Ask, rule: &Rule) -> Result<Output, Stop>
+    ensures { Comes (IsOutput ask rule.now) (IsCause ask rule.now) result }
+{
+    match ask {
+        Ask::Decide => Ok(decide(alloc, rule)?),
+        Ask::Orphan => Ok(orphan(alloc, rule)?),
+        Ask::Number => Ok(number(alloc, rule)?),
+        Ask::Certify => Ok(certify(alloc, rule)?),
+        Ask::Reflect => Ok(reflect(alloc, rule)?),
+        Ask::Trim => Ok(trim(alloc, rule)?),
+        Ask::Inverse => inverse(alloc, rule),
+    }
+}
+
+/// What is asked of a rule with an operand.
+fn of_rule_with(alloc: Global, change: Change, rule: &Rule) -> Result<Output, Stop>
+    ensures { (operand : List ℕ) → IsChange change.entry operand →
+        Comes (IsOutputWith (asked_with change.entry) rule.now operand) (IsCauseWith (asked_with change.entry) rule.now operand) result }
+{
+    match change {
+        Change::Shift(by) => shift(alloc, rule, by),
+        Change::Widen(width) => widen(alloc, rule, width),
+        Change::Permute(colours) => permute(alloc, rule, colours),
+    }
+}
+
+/// What is asked of two rules.
+fn of_two(alloc: Global, ask: AskOfTwo, first: &Rule, second: &Rule) -> Result<Output, Stop>
+    ensures { Comes (IsOutputOfTwo ask first.now second.now) (IsCauseOfTwo ask first.now second.now) result }
+{
+    match ask {
+        AskOfTwo::Compose => compose(alloc, first, second),
+    }
+}
