@@ -1,17 +1,31 @@
 -- The values of the images of all words of one length.
-use Rattle.std.proofs.Common.{◌≡◌, ℕ, suc, ◌+◌, ◌-◌, ◌*◌, ◌/◌, ◌%◌, ◌^◌, ◌<◌, ◌≤◌, List, [], ◌∷◌, ◌++◌, All, length, map, take, drop, get_or, slice_index, replicate, sym, ap, ap₂, subst, ◌∙◌, arith, pow-suc}
-use Rattle.std.specs.List.{range_with_len}
-use Rattle.std.proofs.Math.Nat.{mul-le-mul_right, pow-le-pow_right}
-use Rattle.std.proofs.lemmas.Nat.{div-mul-add}
-use Rattle.std.proofs.lemmas.List.{length-take-le, length-replicate, get_or-replicate, drop-append-le}
-use Rattle.std.proofs.lemmas.List.FromFn.{length-map-range_with_len, get_or-map-range_with_len}
+use Rattle.std.proofs.Common.{◌≡◌, ℕ, suc, ◌+◌, ◌-◌, ◌*◌, ◌%◌, ◌^◌, ◌<◌, ◌≤◌, List, [], ◌∷◌, ◌++◌, All, length, map, take, drop, get_or, slice_index, replicate, sym, ap, ap₂, subst, ◌∙◌, ⊎_elim, arith, length-append, length-drop, pow-suc}
+use Rattle.std.proofs.Math.Nat.{mod-lt, mul-le-mul_right, pow-le-pow_right}
+use Rattle.std.proofs.Math.ListN.{get_or-append}
+use Rattle.std.proofs.lemmas.Bool.{cases_lt}
+use Rattle.std.proofs.lemmas.List.{length-map, length-take-le, length-replicate, get_or-append_right, get_or-drop, get_or-map, get_or-replicate, get_or-take}
 use Rattle.std.proofs.lemmas.List.Elements.{All-take, All-from_get_or}
 use Rattle.word_image.specs.LocalRules.{LocalRule, IsRule, IsWord, value, word_of, local_map, node_count}
 use Rattle.word_image.specs.Words.{image}
+use Rattle.word_image.specs.Graphs.{label}
 use Rattle.word_image.proofs.laws.Values.{value-drop, value-snoc, value-below, length-word_of, IsWord-word_of, value-word_of}
 use Rattle.word_image.proofs.laws.Words.{split_last, IsWord-image, length-image, image-short, image-snoc}
-use Rattle.word_image.proofs.laws.Graphs.{value-node}
-use Rattle.inverse_table.specs.ImageValues.{AreImageValues}
+use Rattle.word_image.proofs.laws.Graphs.{local_map-label, node_count_pos, value-node}
+use Rattle.word_image.proofs.laws.WindowParts.{windows-nodes}
+use Rattle.inverse_table.specs.ImageValues.{AreImageValues, labels_from}
+
+-- the rows before another one
+row_below : (i j k : ℕ) → i < j → i * k + k ≤ j * k
+row_below i j k l = let more : (i + 1) * k ≤ j * k = mul-le-mul_right k (omega arith) in omega arith
+
+-- the labels of a node's edges
+pub row-long : {r : LocalRule} → IsRule r → (node : ℕ) → node < node_count r
+    → (node * r.states + r.states ≤ length r.table) × (length (labels_from r node) ≡ r.states)
+row-long {r} rule node l =
+    let k : ℕ = r.states in
+    let within : node * k + k ≤ length r.table = omega (arith, row_below node (node_count r) k l, windows-nodes rule, rule.entries) in
+    let count : node * k + k - node * k ≡ k = omega arith in
+    (within, length-take-le (node * k + k - node * k) (drop (node * k) r.table) (omega (arith, length-drop (node * k) r.table)) ∙ count)
 
 -- the words of m - 1 letters have the empty image
 pub AreImageValues-none : {r : LocalRule} → IsRule r → AreImageValues r 0 (replicate (node_count r) 0)
@@ -24,20 +38,49 @@ AreImageValues-none {r} rule =
           get_or-replicate (node_count r) (value r.states x) 0 0 below ∙ sym (ap (value r.states) (image-short r x (omega arith)));
     }
 
--- what stands at the value of a word one letter longer: the image of the word without it, and what the rule gives on the last window
-abbrev pub value_after : LocalRule → List ℕ → ℕ → ℕ
-value_after r images word = slice_index images (word / r.states) * r.states + slice_index r.table (word % r.states ^ r.width)
+-- the images of the words that are one letter longer than the first ones: after the image of the word without its last letter, what the rule gives on the last window
+pub record AreLonger (r : LocalRule) (images : List ℕ) (count : ℕ) (values : List ℕ) : Type 0 where
+  pub long : length values ≡ count * r.states
+  pub each : (word a : ℕ) → word < count → a < r.states → slice_index values (word * r.states + a) ≡ slice_index images word * r.states + label r (word % node_count r) a
+
+-- the row of the next word
+pub AreLonger-row : {r : LocalRule} → IsRule r → (images values : List ℕ) (count node first : ℕ) → AreLonger r images count values
+    → node ≡ count % node_count r → first ≡ slice_index images count * r.states
+    → AreLonger r images (count + 1) (values ++ map (λ label. first + label) (labels_from r node))
+AreLonger-row {r} rule images values count node first h at is =
+    let k : ℕ = r.states in
+    let labels : List ℕ = labels_from r node in
+    let row : List ℕ = map (λ label. first + label) labels in
+    let wide : length labels ≡ k = (row-long rule node (subst (λ n. n < node_count r) (sym at) (mod-lt count (node_count_pos rule)))).1 in
+    record {
+      long = length-append values row ∙ ap₂ (λ (i j : ℕ). i + j) h.long (length-map labels (λ label. first + label) ∙ wide) ∙ omega arith;
+      each = λ word a l below. ⊎_elim
+          (λ before.
+          let most : word * k + k ≤ count * k = row_below word count k before in
+          get_or-append values row 0 (word * k + a) (omega (arith, h.long)) ∙ h.each word a before below)
+          (λ past.
+          let same : word ≡ count = omega arith in
+          let place : word * k + a - count * k ≡ a = rw same (omega arith) in
+          let start : count * k ≤ word * k + a = rw same (omega arith) in
+          get_or-append_right values row (count * k) (word * k + a) 0 h.long start
+          ∙ ap (slice_index row) place
+          ∙ get_or-map (λ label. first + label) labels a 0 0 (omega (arith, wide))
+          ∙ ap₂ (λ (i j : ℕ). i + j) (is ∙ ap (λ w. slice_index images w * k) (sym same))
+          (get_or-take (node * k + k - node * k) (drop (node * k) r.table) a 0 (omega arith)
+          ∙ get_or-drop (node * k) r.table a 0
+          ∙ ap (λ n. slice_index r.table (n * k + a)) (at ∙ ap (λ w. w % node_count r) (sym same))))
+          (cases_lt word count);
+    }
 
 -- so these are the images of the words that are one letter longer
 pub AreImageValues-longer : {r : LocalRule} → IsRule r → (n : ℕ) (images values : List ℕ)
-    → values ≡ map (value_after r images) (range_with_len 0 (length images * r.states)) → AreImageValues r n images → AreImageValues r (n + 1) values
-AreImageValues-longer {r} rule n images values is before =
+    → AreLonger r images (length images) values → AreImageValues r n images → AreImageValues r (n + 1) values
+AreImageValues-longer {r} rule n images values longer before =
     let k : ℕ = r.states in
     let d : ℕ = r.width - 1 in
-    let count : ℕ = length images * k in
-    let power : k ^ (n + 1 + d) ≡ count = let e : n + 1 + d ≡ suc (n + d) = omega arith in ap (λ j. k ^ j) e ∙ pow-suc k (n + d) ∙ ap (λ j. j * k) (sym before.long) in
+    let power : k ^ (n + 1 + d) ≡ length images * k = let e : n + 1 + d ≡ suc (n + d) = omega arith in ap (λ j. k ^ j) e ∙ pow-suc k (n + d) ∙ ap (λ j. j * k) (sym before.long) in
     record {
-      long = ap length is ∙ length-map-range_with_len (value_after r images) 0 count ∙ sym power;
+      long = longer.long ∙ sym power;
       each = λ y h e.
           let x : List ℕ = take (length y - 1) y in
           let a : ℕ = get_or y (length y - 1) 0 in
@@ -46,16 +89,12 @@ AreImageValues-longer {r} rule n images values is before =
           let long : length x ≡ n + d = length-take-le (length y - 1) y (omega arith) ∙ omega arith in
           let splits : y ≡ x ++ a ∷ [] = split_last y (omega arith) in
           let number : value k y ≡ value k x * k + a = ap (value k) splits ∙ value-snoc k x a in
-          let below : value k y < count = subst (λ j. value k y < j) (ap (λ j. k ^ j) e ∙ power) (value-below k y h) in
-          let first : value k y / k ≡ value k x = ap (λ v. v / k) number ∙ div-mul-add (value k x) k a letter in
-          let window : drop n y ≡ drop (length x - d) x ++ a ∷ [] =
-          ap (drop n) splits ∙ drop-append-le n x (a ∷ []) (omega arith) ∙ ap (λ j. drop j x ++ a ∷ []) (let same : n ≡ length x - d = omega arith in same) in
-          let wide : length y - n ≡ r.width = let m = rule.shape.least_width in omega arith in
-          let last : value k y % k ^ r.width ≡ value k (drop (length x - d) x ++ a ∷ []) = ap (λ j. value k y % k ^ j) (sym wide) ∙ sym (value-drop k n y h (omega arith)) ∙ ap (value k) window in
-          ap (λ v. slice_index v (value k y)) is
-          ∙ get_or-map-range_with_len (value_after r images) 0 count (value k y) (value k y) 0 below (omega arith)
-          ∙ ap₂ (λ (i j : ℕ). slice_index images i * k + slice_index r.table j) first last
-          ∙ ap (λ v. v * k + local_map r (drop (length x - d) x ++ a ∷ [])) (before.each x word long)
+          let below : value k x < length images = subst (λ j. value k x < j) (ap (λ j. k ^ j) long ∙ sym before.long) (value-below k x word) in
+          let wide : length x - (length x - d) ≡ d = omega arith in
+          let node : value k x % node_count r ≡ value k (drop (length x - d) x) = ap (λ j. value k x % k ^ j) (sym wide) ∙ sym (value-drop k (length x - d) x word (omega arith)) in
+          ap (slice_index values) number
+          ∙ longer.each (value k x) a below letter
+          ∙ ap₂ (λ (i j : ℕ). i * k + j) (before.each x word long) (ap (λ u. label r u a) node ∙ sym (local_map-label r (drop (length x - d) x) a))
           ∙ sym (ap (λ z. value k (image r z)) splits ∙ ap (value k) (image-snoc rule x a (omega arith)) ∙ value-snoc k (image r x) (local_map r (drop (length x - d) x ++ a ∷ [])));
     }
 

@@ -1,5 +1,5 @@
 -- From the letters that are read back from images to the inverse map, and what the map does.
-use Rattle.std.proofs.Common.{◌≡◌, ◌≢◌, ℕ, ◌+◌, ◌-◌, ◌/◌, ◌%◌, ◌^◌, ◌<◌, ◌≤◌, List, length, map, take, drop, slice_index, slice_range, ℤ, pos, neg_ℤ, ◌+ℤ◌, ◌-ℤ◌, refl, sym, ap, subst, ◌∙◌, ⊎_elim, arith, length-drop}
+use Rattle.std.proofs.Common.{◌≡◌, ℕ, ◌+◌, ◌-◌, ◌/◌, ◌%◌, ◌^◌, ◌<◌, ◌≤◌, List, length, map, take, drop, slice_index, slice_range, ℤ, pos, neg_ℤ, ◌+ℤ◌, ◌-ℤ◌, refl, sym, ap, subst, ◌∙◌, arith, length-drop}
 use Rattle.std.specs.List.{range_with_len}
 use Rattle.std.proofs.lemmas.Int.{ints}
 use Rattle.std.proofs.lemmas.List.{length-take-le, get_or-take, get_or-drop}
@@ -18,7 +18,7 @@ use Rattle.eden_laws.proofs.Preinjective.{IsSurjective-injective}
 use Rattle.word_image.proofs.laws.WindowParts.{letter-value}
 use Rattle.inverse_table.specs.InverseMaps.{WindowMap, IsWindowMap, IsInverseMap, GivesBack, map_letter, map_image}
 use Rattle.inverse_table.specs.InverseFaults.{IsApartAt}
-use Rattle.inverse_table.specs.ImageValues.{AreImageValues, AreLettersBack, AreReadBack, AreApart, letter_at}
+use Rattle.inverse_table.specs.ImageValues.{AreImageValues, AreReadBack, AreApart, letter_at}
 use Rattle.inverse_table.proofs.ImageLaws.{image-at}
 use Rattle.inverse_table.proofs.WordCounts.{length-most}
 
@@ -29,7 +29,6 @@ pub record IsReading (r : LocalRule) (n c : ℕ) (letter : ℕ → ℕ) (images 
   pub values : AreImageValues r n images
   pub reads : (x : List ℕ) → IsWord r.states x → length x ≡ n + (r.width - 1) → letter (value r.states x) ≡ slice_index x c
   pub long : length letters ≡ r.states ^ n
-  pub back : AreLettersBack letter images (length images) letters
 
 -- the letter at c, by the value of a word
 pub letter_at-place : {r : LocalRule} → IsRule r → (n c k unit : ℕ) → 1 ≤ n → c ≤ n + r.width - 2 → k ≡ r.states → unit ≡ r.states ^ (n + (r.width - 1) - 1 - c)
@@ -39,12 +38,11 @@ letter_at-place {r} rule n c k unit some inside same behind x h long =
     ap (λ j. value r.states x / unit % j) same ∙ ap (λ u. value r.states x / u % r.states) behind
     ∙ letter-value r.states x c (n + (r.width - 1) - 1 - c) h (omega arith)
 
--- letters that are read back at that place
+-- the letters at that place
 pub IsReading-place : {r : LocalRule} {n c k unit : ℕ} {images letters : List ℕ} → IsRule r → 1 ≤ n → c ≤ n + r.width - 2 → k ≡ r.states
-    → unit ≡ r.states ^ (n + (r.width - 1) - 1 - c) → AreImageValues r n images → length letters ≡ r.states ^ n
-    → AreLettersBack (letter_at k unit) images (length images) letters → IsReading r n c (letter_at k unit) images letters
-IsReading-place {r} {n} {c} {k} {unit} rule some inside same behind values long back =
-    record { some = some; inside = inside; values = values; reads = letter_at-place rule n c k unit some inside same behind; long = long; back = back }
+    → unit ≡ r.states ^ (n + (r.width - 1) - 1 - c) → AreImageValues r n images → length letters ≡ r.states ^ n → IsReading r n c (letter_at k unit) images letters
+IsReading-place {r} {n} {c} {k} {unit} rule some inside same behind values long =
+    record { some = some; inside = inside; values = values; reads = letter_at-place rule n c k unit some inside same behind; long = long }
 
 -- the word of n + m - 1 letters with this value
 abbrev pub word_at : LocalRule → ℕ → ℕ → List ℕ
@@ -81,14 +79,14 @@ IsApartAt-apart {r} {n} rule h u v apart =
     }
 
 -- where the letter of each word is read back, the letter at the image of a word is its letter c
-read_back : {r : LocalRule} {n c : ℕ} {letter : ℕ → ℕ} {images letters : List ℕ} → IsReading r n c letter images letters → AreReadBack letter images letters
+read_back : {r : LocalRule} {n c : ℕ} {letter : ℕ → ℕ} {images letters : List ℕ} → IsReading r n c letter images letters → AreReadBack letter images (length images) letters
     → (x : List ℕ) → IsWord r.states x → length x ≡ n + (r.width - 1) → slice_index letters (value r.states (image r x)) ≡ slice_index x c
 read_back {r} {images = images} {letters = letters} h all x word long =
     let below : value r.states x < length images = subst (λ j. value r.states x < j) (ap (λ j. r.states ^ j) long ∙ sym h.values.long) (value-below r.states x word) in
     ap (slice_index letters) (sym (h.values.each x word long)) ∙ all (value r.states x) below ∙ h.reads x word long
 
 -- so the window is determined
-pub IsDetermined-read : {r : LocalRule} {n c : ℕ} {letter : ℕ → ℕ} {images letters : List ℕ} → IsReading r n c letter images letters → AreReadBack letter images letters
+pub IsDetermined-read : {r : LocalRule} {n c : ℕ} {letter : ℕ → ℕ} {images letters : List ℕ} → IsReading r n c letter images letters → AreReadBack letter images (length images) letters
     → IsDetermined r n c
 IsDetermined-read {r} {letters = letters} h all = record {
   some = h.some;
@@ -96,12 +94,16 @@ IsDetermined-read {r} {letters = letters} h all = record {
   letter = λ x y g. sym (read_back h all x g.first g.first_long) ∙ ap (λ w. slice_index letters (value r.states w)) g.one_image ∙ read_back h all y g.second g.second_long;
 }
 
+-- a determined window makes a rule surjective
+IsSurjective-determined : {r : LocalRule} {n c : ℕ} → IsRule r → IsDetermined r n c → IsSurjective r
+IsSurjective-determined rule window = IsSurjective-injective rule (IsInjective-determined rule window)
+
 -- the map of these letters
 abbrev pub map_of : LocalRule → ℕ → ℕ → List ℕ → WindowMap
 map_of r n c letters = record { states = r.states; width = n; offset = neg_ℤ r.offset -ℤ pos c; table = letters }
 
 -- is the inverse map
-pub IsInverseMap-read : {r : LocalRule} {n c : ℕ} {letter : ℕ → ℕ} {images letters : List ℕ} → IsRule r → IsReading r n c letter images letters → AreReadBack letter images letters
+pub IsInverseMap-read : {r : LocalRule} {n c : ℕ} {letter : ℕ → ℕ} {images letters : List ℕ} → IsRule r → IsReading r n c letter images letters → AreReadBack letter images (length images) letters
     → IsInverseMap r n c (map_of r n c letters)
 IsInverseMap-read {r} {n} {c} {letter} {images} {letters} rule h all =
     let k : ℕ = r.states in
@@ -111,22 +113,13 @@ IsInverseMap-read {r} {n} {c} {letter} {images} {letters} rule h all =
       offset = refl;
       entries = h.long;
       letter = λ w x long p. ap (λ v. slice_index letters (value k v)) (sym p.maps) ∙ read_back h all x p.word (p.long ∙ ap (λ j. j + (r.width - 1)) long);
-      none = λ w word long none.
-          let below : value k w < length letters = subst (λ j. value k w < j) (ap (λ j. k ^ j) long ∙ sym h.long) (value-below k w word) in
-          ⊎_elim (λ found. absurd (none (word_at r n found.0) (record {
-            word = (letter-word_at h found.0 found.1).0;
-            long = length-word_of k (n + (r.width - 1)) found.0 ∙ ap (λ j. j + (r.width - 1)) (sym long);
-            maps = value-injective k (image r (word_at r n found.0)) w (IsWord-image rule (word_at r n found.0)) word (length-image-word_at r n found.0 ∙ sym long)
-                (sym (image-at h.values found.0 found.1) ∙ found.2);
-          })))
-          (λ (past : ((v : ℕ) → v < length images → slice_index images v ≢ value k w) × (slice_index letters (value k w) ≡ 0)). past.1)
-          (h.back (value k w) below);
+      none = λ w word long none. let found = IsSurjective-determined rule (IsDetermined-read h all) w word in absurd (none found.0 found.1);
     }
 
 -- one of the maps that there are
-pub IsWindowMap-read : {r : LocalRule} {n c : ℕ} {letter : ℕ → ℕ} {images letters : List ℕ} → IsRule r → IsReading r n c letter images letters → r.states ^ n ≤ 65536
-    → IsWindowMap (map_of r n c letters)
-IsWindowMap-read {r} {n} {c} {letter} {images} {letters} rule h few =
+pub IsWindowMap-read : {r : LocalRule} {n c : ℕ} {letter : ℕ → ℕ} {images letters : List ℕ} → IsRule r → IsReading r n c letter images letters → AreReadBack letter images (length images) letters
+    → r.states ^ n ≤ 65536 → IsWindowMap (map_of r n c letters)
+IsWindowMap-read {r} {n} {c} {letters = letters} rule h all few =
     let shape = rule.shape in
     let most = length-most rule n few in
     let inside = h.inside in
@@ -140,17 +133,16 @@ IsWindowMap-read {r} {n} {c} {letter} {images} {letters} rule h few =
       entries = h.long;
       most_entries = few;
       letters = All-from_get_or (λ a. a < r.states) letters 0 (λ e l.
-          ⊎_elim (λ found.
-          let letter = letter-word_at h found.0 found.1 in
-          let within : c < length (word_at r n found.0) = omega (arith, h.some, shape.least_width, length-word_of r.states (n + (r.width - 1)) found.0) in
-          omega (arith, found.3, letter.1, letter.0 c 0 within))
-          (λ (past : ((v : ℕ) → v < length images → slice_index images v ≢ e) × (slice_index letters e ≡ 0)). omega (arith, past.1, shape.least_states))
-          (h.back e l));
+          let below : e < r.states ^ n = omega (arith, h.long) in
+          let w : List ℕ = word_of r.states n e in
+          let found = IsSurjective-determined rule (IsDetermined-read h all) w (IsWord-word_of r.states n e below) in
+          let x : List ℕ = found.0 in
+          let long : length x ≡ n + (r.width - 1) = found.1.long ∙ ap (λ j. j + (r.width - 1)) (length-word_of r.states n e) in
+          let letter : slice_index letters e ≡ slice_index x c =
+          ap (slice_index letters) (sym (ap (value r.states) found.1.maps ∙ value-word_of r.states n e below)) ∙ read_back h all x found.1.word long in
+          let within : c < length x = omega (arith, h.some, shape.least_width) in
+          omega (arith, found.1.word c 0 within));
     }
-
--- a determined window makes a rule surjective
-IsSurjective-determined : {r : LocalRule} {n c : ℕ} → IsRule r → IsDetermined r n c → IsSurjective r
-IsSurjective-determined rule window = IsSurjective-injective rule (IsInjective-determined rule window)
 
 -- the image of a word gives its letter c back
 map_letter-image : {r : LocalRule} {n c : ℕ} {g : WindowMap} → IsInverseMap r n c g → (x : List ℕ) → IsWord r.states x → length x ≡ n + (r.width - 1)

@@ -1,6 +1,6 @@
 -- How many words of one length there are, where at most 65,536 words have n letters.
-use Rattle.std.proofs.Common.{◌≡◌, ℕ, ◌+◌, ◌-◌, ◌*◌, ◌^◌, ◌<◌, ◌≤◌, ap, ◌∙◌, ⊎_elim, arith, mul-le-mul}
-use Rattle.std.proofs.Math.Nat.{one-le-pow, pow-le-pow_left, pow-le-pow_right}
+use Rattle.std.proofs.Common.{◌≡◌, ℕ, ◌+◌, ◌-◌, ◌*◌, ◌%◌, ◌^◌, ◌<◌, ◌≤◌, sym, ap, ◌∙◌, ⊎_elim, arith, mul-le-mul}
+use Rattle.std.proofs.Math.Nat.{mul-mod_left, one-le-pow, pow-le-pow_left, pow-le-pow_right}
 use Rattle.std.proofs.lemmas.Bool.{cases_lt}
 use Rattle.std.proofs.lemmas.Nat.{pow-add}
 use Rattle.word_image.specs.LocalRules.{LocalRule, IsRule}
@@ -23,3 +23,9 @@ length-most {r} rule n few =
     let more : 2 ^ 17 ≤ 2 ^ n = pow-le-pow_right (omega arith) {i = 17} {j = n} (omega arith) in
     absurd (omega arith))
     (cases_lt n 17)
+
+-- the words of n letters fall into groups of as many as there are words of fewer letters
+pub power-divides : (k n j : ℕ) → j ≤ n → k ^ n % k ^ j ≡ 0
+power-divides k n j l =
+    let whole : n - j + j ≡ n = omega arith in
+    ap (λ i. k ^ i % k ^ j) (sym whole) ∙ ap (λ i. i % k ^ j) (pow-add k (n - j) j) ∙ mul-mod_left (k ^ (n - j)) (k ^ j)

@@ -1,5 +1,5 @@
 -- All words of one length in their order: the values of their images, and their letters at one place.
-use Rattle.std.specs.Prelude.{◌≡◌, ◌≢◌, ℕ, ◌+◌, ◌-◌, ◌/◌, ◌%◌, ◌^◌, ◌<◌, ◌⊎◌, List, length, slice_index}
+use Rattle.std.specs.Prelude.{◌≡◌, ◌≢◌, ℕ, ◌+◌, ◌-◌, ◌*◌, ◌/◌, ◌%◌, ◌^◌, ◌<◌, ◌⊎◌, List, length, slice_index, slice_range}
 use Rattle.word_image.specs.LocalRules.{LocalRule, IsWord, value}
 use Rattle.word_image.specs.Words.{image}
 
@@ -8,23 +8,32 @@ pub record AreImageValues (r : LocalRule) (n : ℕ) (images : List ℕ) : Type 0
   pub long : length images ≡ r.states ^ (n + (r.width - 1))
   pub each : (x : List ℕ) → IsWord r.states x → length x ≡ n + (r.width - 1) → slice_index images (value r.states x) ≡ value r.states (image r x)
 
+-- the labels of the edges from a node
+abbrev pub labels_from : LocalRule → ℕ → List ℕ
+labels_from r u = slice_range r.table (u * r.states) (u * r.states + r.states)
+
 -- a letter of the word with this value, where `unit` is k to the power of how many letters stand behind it
 abbrev pub letter_at : ℕ → ℕ → ℕ → ℕ
 letter_at k unit word = word / unit % k
 
--- the letter of one of the first words with this image, and 0 where none of them has it
+-- the letter of one of the first words with this image, and 16 where none of them has it
 abbrev pub IsLetterBack : (ℕ → ℕ) → List ℕ → ℕ → ℕ → ℕ → Type 0
 IsLetterBack letter images count e a =
     ((word : ℕ) × (word < count) × (slice_index images word ≡ e) × (a ≡ letter word))
-    ⊎ (((word : ℕ) → word < count → slice_index images word ≢ e) × (a ≡ 0))
+    ⊎ (((word : ℕ) → word < count → slice_index images word ≢ e) × (a ≡ 16))
 
 -- such a letter for each image
 abbrev pub AreLettersBack : (ℕ → ℕ) → List ℕ → ℕ → List ℕ → Type 0
 AreLettersBack letter images count letters = (e : ℕ) → e < length letters → IsLetterBack letter images count e (slice_index letters e)
 
--- the letter of each word is the one that is read back from its image
-abbrev pub AreReadBack : (ℕ → ℕ) → List ℕ → List ℕ → Type 0
-AreReadBack letter images letters = (word : ℕ) → word < length images → slice_index letters (slice_index images word) ≡ letter word
+-- the letter of each of the first words is the one that is read back from its image
+abbrev pub AreReadBack : (ℕ → ℕ) → List ℕ → ℕ → List ℕ → Type 0
+AreReadBack letter images count letters = (word : ℕ) → word < count → slice_index letters (slice_index images word) ≡ letter word
+
+-- the letters are read back from the images of the first words
+pub record IsRead (letter : ℕ → ℕ) (images : List ℕ) (count : ℕ) (letters : List ℕ) : Type 0 where
+  pub each : AreReadBack letter images count letters
+  pub back : AreLettersBack letter images count letters
 
 -- two words that have one image and different letters
 pub record AreApart (letter : ℕ → ℕ) (images : List ℕ) (x y : ℕ) : Type 0 where
@@ -32,3 +41,7 @@ pub record AreApart (letter : ℕ → ℕ) (images : List ℕ) (x y : ℕ) : Typ
   pub second : y < length images
   pub one_image : slice_index images x ≡ slice_index images y
   pub differ : letter x ≢ letter y
+
+-- a word that is apart from another one
+abbrev pub HasApart : (ℕ → ℕ) → List ℕ → ℕ → Type 0
+HasApart letter images x = (y : ℕ) × AreApart letter images x y

@@ -1,7 +1,9 @@
 //! The images of all words of one length.
-ghost use Rattle.std.specs.Prelude.{ℕ, ◌+◌, ◌*◌, ◌^◌, ◌<◌, ◌≤◌, All, length, IfOk};
-ghost use Rattle.inverse_table.specs.ImageValues.{AreImageValues};
+ghost use Rattle.std.specs.Prelude.{◌≡◌, ℕ, ◌+◌, ◌*◌, ◌^◌, ◌<◌, ◌≤◌, ◌++◌, All, length, map, vec_len, vec_capacity, IfOk};
+ghost use Rattle.word_image.specs.LocalRules.{node_count};
+ghost use Rattle.inverse_table.specs.ImageValues.{AreImageValues, labels_from};
 
+use crate::cycles::after;
 use std::alloc::{AllocError, Global};
 use word_image::Rule;
 
@@ -17,18 +19,43 @@ pub(crate) fn image_values(alloc: Global, rule: &Rule, n: u16) -> Result<Vec<u16
     Ok(images)
 }
 
-/// From the images of all words of one length, those of the words that are one letter longer.
+/// From the images of all words of one length, those of the words that are one letter longer. The last
+/// nodes of the words come round in their order.
 fn longer(alloc: Global, rule: &Rule, images: &[u16]) -> Result<Vec<u16>, AllocError>
     requires fits { All (λ image. image * rule.now.states + rule.now.states ≤ 65536) images.now }
     requires few { length images.now ≤ 1048576 }
     ensures { (n : ℕ) → AreImageValues rule.now n images.now → IfOk result (λ v. AreImageValues rule.now (n + 1) v.items) }
 {
     let k = usize::from(rule.k());
-    let windows = usize::from(rule.size());
+    let nodes = usize::from(rule.nodes());
     let mut values = Vec::with_capacity(alloc, images.len() * k)?;
-    for word in 0..images.len() * k {
-        let label = rule.at((word % windows) as u16);
-        values.push(images[word / k] * u16::from(rule.k()) + u16::from(label))?;
+    let mut node = 0;
+    for image in images {
+        let first = *image * u16::from(rule.k());
+        push_all(&mut values, first, labels(rule, node));
+        node = after(node, nodes);
     }
     Ok(values)
+}
+
+/// The labels of the edges from a node, in the order of their letters.
+fn labels(rule: &Rule, node: usize) -> &[u8]
+    requires { node < node_count rule.now }
+    ensures { result.now ≡ labels_from rule.now node }
+{
+    let k = usize::from(rule.k());
+    let first = node * k;
+    &rule.table()[first..first + k]
+}
+
+/// Adds the values of the images that are one letter longer, from the first that there may be.
+fn push_all(values: &mut Vec<u16>, first: u16, labels: &[u8])
+    requires fits { All (λ label. first + label < 65536) labels.now }
+    requires room { vec_len values.old + length labels.now ≤ vec_capacity values.old }
+    ensures items { values.new.items ≡ values.old.items ++ map (λ label. first + label) labels.now }
+    ensures room { vec_capacity values.new ≡ vec_capacity values.old }
+{
+    for label in labels {
+        values.push_reserved(first + u16::from(*label));
+    }
 }

@@ -1,8 +1,11 @@
 //! The letters at one place of all words of one length, read back from the images of the words.
-ghost use Rattle.std.specs.Prelude.{◌≡◌, ◌≢◌, ℕ, ◌<◌, ◌≤◌, All, length, slice_index, IfOk, MatchOption};
-ghost use Rattle.inverse_table.specs.ImageValues.{AreApart, AreLettersBack, AreReadBack, letter_at};
+ghost use Rattle.std.specs.Prelude.{◌≡◌, ◌≢◌, ℕ, ◌+◌, ◌*◌, ◌%◌, ◌<◌, ◌≤◌, All, length, replicate, slice_index, MatchOption};
+ghost use Rattle.inverse_table.specs.ImageValues.{AreApart, AreReadBack, HasApart, IsRead, letter_at};
 
-use std::alloc::{AllocError, Global};
+use crate::cycles::after;
+
+/// In place of a letter, where none is read yet.
+pub(crate) const UNREAD: u8 = 16;
 
 /// A place in words of one length, which are known by their values.
 #[derive(Clone, Copy)]
@@ -26,56 +29,79 @@ impl Place {
     }
 }
 
-/// For each image of which there are `count`, the letter at this place of the last word that has it,
-/// and 0 where no word has it.
-pub(crate) fn letters_back(
-    alloc: Global,
+/// Writes for each image the letter at this place of the words that have it. If two words with one image
+/// have different letters there, it stops and answers with two such words.
+pub(crate) fn read_letters(
+    letters: &mut [u8],
     images: &[u16],
-    count: usize,
     place: Place,
-) -> Result<Vec<u8>, AllocError>
-    requires within { All (λ image. image < count) images.now }
-    ensures long { IfOk result (λ v. length v.items ≡ count) }
-    ensures letters { IfOk result (λ v. AreLettersBack (letter_at place.k place.unit) images.now (length images.now) v.items) }
-{
-    let mut letters = vec![in alloc; 0; count]?;
-    for (word, image) in images.iter().enumerate() {
-        letters[usize::from(*image)] = place.letter(word);
-    }
-    Ok(letters)
-}
-
-/// Two words with one image that have different letters at this place, where there are any. The letters
-/// are those that `letters_back` gives.
-pub(crate) fn two_apart(images: &[u16], letters: &[u8], place: Place) -> Option<(usize, usize)>
-    requires within { All (λ image. image < length letters.now) images.now }
-    requires letters { AreLettersBack (letter_at place.k place.unit) images.now (length images.now) letters.now }
-    ensures { MatchOption result
-        (AreReadBack (letter_at place.k place.unit) images.now letters.now)
+) -> Option<(usize, usize)>
+    requires unread { letters.old ≡ replicate (length letters.old) 16 }
+    requires within { All (λ image. image < length letters.old) images.now }
+    requires whole { length images.now % place.unit ≡ 0 }
+    ensures long { length letters.new ≡ length letters.old }
+    ensures read { MatchOption result
+        (AreReadBack (letter_at place.k place.unit) images.now (length images.now) letters.new)
         (λ words. AreApart (letter_at place.k place.unit) images.now words.0 words.1) }
 {
-    let word = first_mistaken(images, letters, place)?;
-    let other = first_apart(images, word, place).unwrap();
+    let word = first_apart(letters, images, place)?;
+    let other = other_apart(images, word, place).unwrap();
     Some((word, other))
 }
 
-/// The first word whose letter at this place is not the one that is read back from its image.
-fn first_mistaken(images: &[u16], letters: &[u8], place: Place) -> Option<usize>
-    requires within { All (λ image. image < length letters.now) images.now }
-    ensures { MatchOption result
-        (AreReadBack (letter_at place.k place.unit) images.now letters.now)
-        (λ word. (word < length images.now) × (slice_index letters.now (slice_index images.now word) ≢ letter_at place.k place.unit word)) }
+/// Reads the letters back, up to the first word whose image has another letter already. The letter at
+/// the place is the same for runs of `unit` words, and comes round from run to run.
+fn first_apart(letters: &mut [u8], images: &[u16], place: Place) -> Option<usize>
+    requires unread { letters.old ≡ replicate (length letters.old) 16 }
+    requires within { All (λ image. image < length letters.old) images.now }
+    requires whole { length images.now % place.unit ≡ 0 }
+    ensures long { length letters.new ≡ length letters.old }
+    ensures read { MatchOption result
+        (AreReadBack (letter_at place.k place.unit) images.now (length images.now) letters.new)
+        (HasApart (letter_at place.k place.unit) images.now) }
 {
-    for (word, image) in images.iter().enumerate() {
-        if letters[usize::from(*image)] != place.letter(word) {
-            return Some(word);
+    let mut letter = 0;
+    for run in 0..images.len() / place.unit {
+        let apart = read_run(letters, images, place, run * place.unit, letter as u8);
+        if apart.is_some() {
+            return apart;
+        }
+        letter = after(letter, place.k);
+    }
+    None
+}
+
+/// Goes on with the words of a run, which have this letter at the place.
+fn read_run(
+    letters: &mut [u8],
+    images: &[u16],
+    place: Place,
+    start: usize,
+    letter: u8,
+) -> Option<usize>
+    requires within { All (λ image. image < length letters.old) images.now }
+    requires inside { start + place.unit ≤ length images.now }
+    requires run { (word : ℕ) → start ≤ word → word < start + place.unit → letter_at place.k place.unit word ≡ letter }
+    requires read { IsRead (letter_at place.k place.unit) images.now start letters.old }
+    ensures long { length letters.new ≡ length letters.old }
+    ensures read { MatchOption result
+        (IsRead (letter_at place.k place.unit) images.now (start + place.unit) letters.new)
+        (HasApart (letter_at place.k place.unit) images.now) }
+{
+    for word in start..start + place.unit {
+        let image = usize::from(images[word]);
+        if letters[image] != letter {
+            if letters[image] != UNREAD {
+                return Some(word);
+            }
+            letters[image] = letter;
         }
     }
     None
 }
 
 /// The first word that has the image of this one and another letter at this place, where there is one.
-fn first_apart(images: &[u16], word: usize, place: Place) -> Option<usize>
+fn other_apart(images: &[u16], word: usize, place: Place) -> Option<usize>
     requires word { word < length images.now }
     ensures { MatchOption result
         ((other : ℕ) → other < length images.now → slice_index images.now other ≡ slice_index images.now word → letter_at place.k place.unit other ≡ letter_at place.k place.unit word)

@@ -21,6 +21,7 @@
 //! **O(k^n)** and no memory.
 #![tactic(auto)]
 
+mod cycles;
 mod image_values;
 mod inverse_map;
 mod letters;

@@ -9,7 +9,7 @@ ghost use Rattle.inverse_table.specs.declared.tables.InvFault.TheVariants.{Memor
 
 use crate::image_values::image_values;
 use crate::inverse_map::InverseMap;
-use crate::letters::{Place, letters_back, two_apart};
+use crate::letters::{Place, UNREAD, read_letters};
 use inverse_window::WindowAt;
 use std::alloc::{AllocError, Global};
 use word_image::{Rule, Word};
@@ -77,8 +77,8 @@ fn read_back(
     ensures fault { MatchResult result (λ _. rule.now.states ^ at.n ≤ 65536) (IsInvFault rule.now at.n at.c) }
 {
     let place = place_of(rule, at);
-    let letters = letters_back(alloc, images, count, place)?;
-    if let Some(words) = two_apart(images, &letters, place) {
+    let mut letters = vec![in alloc; UNREAD; count]?;
+    if let Some(words) = read_letters(&mut letters, images, place) {
         return Err(InvFault::NotDetermined {
             x: word_at(alloc, rule, at.n, words.0)?,
             y: word_at(alloc, rule, at.n, words.1)?,

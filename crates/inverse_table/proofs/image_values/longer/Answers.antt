@@ -1,35 +1,38 @@
-use Rattle.std.proofs.Common.{◌≡◌, ◌+◌, ◌*◌, ◌/◌, ◌^◌, ◌<◌, length, slice_index, map, ap, ◌∙◌, arith}
-use Rattle.std.specs.List.{range_with_len}
-use Rattle.std.proofs.Math.Nat.{one-le-pow}
-use Rattle.word_image.specs.LocalRules.{LocalRule, IsRule}
-use Rattle.word_image.proofs.laws.Lists.{letters_more}
-use Rattle.inverse_table.proofs.ImageLaws.{value_after, AreImageValues-longer}
+use Rattle.std.proofs.Common.{◌≡◌, ℕ, ◌+◌, ◌*◌, ◌%◌, ◌++◌, length, map, slice_index, sym, ap, subst, ◌∙◌, arith}
+use Rattle.std.proofs.Math.Nat.{mod-eq_of_lt}
+use Rattle.word_image.specs.LocalRules.{node_count}
+use Rattle.word_image.proofs.laws.Graphs.{node_count_pos}
+use Rattle.inverse_table.proofs.ImageLaws.{AreLonger, AreLonger-row, AreImageValues-longer}
 use Rattle.inverse_table.proofs.image_values.longer.Goals as goal
 
--- a rule has windows
-some_windows : {r : LocalRule} → IsRule r → 0 < r.states ^ r.width
-some_windows {r} rule = one-le-pow r.width r.states (omega (arith, rule.shape.least_states))
+pub loop-image-init : goal.loop-image-init
+loop-image-init c =
+    let same : c.from-k.result ≡ c.args.rule.now.states = c.from-k.ensures ∙ c.k.ensures.states in
+    record {
+      longer = record { long = ap length c.in_ok-values.ensures.items ∙ omega arith; each = λ word a l. absurd (omega arith) };
+      room = omega (arith, c.in_ok-values.ensures.capacity, ap (λ k. length c.args.images.now * k) same);
+      node = sym (mod-eq_of_lt (node_count_pos c.k.ensures.rule));
+      below = node_count_pos c.k.ensures.rule;
+    }
 
-pub nonzero_rem-word : goal.nonzero_rem-word
-nonzero_rem-word c = omega (arith, some_windows c.k.ensures.rule)
-
-pub overflow_cast-word : goal.overflow_cast-word
-overflow_cast-word c = let some = some_windows c.k.ensures.rule in omega arith
-
-pub at-label-requires : goal.at-label-requires
-at-label-requires c = let some = some_windows c.k.ensures.rule in omega arith
-
-pub loop-word-preserved : goal.loop-word-preserved
-loop-word-preserved c =
+pub loop-image-preserved : goal.loop-image-preserved
+loop-image-preserved c =
     let r = c.args.rule.now in
-    let word = c.loop-word.word in
-    let same : slice_index c.args.images.now (word / c.from-k.result) * c.from.result + c.from-in-loop-word.result ≡ value_after r c.args.images.now word = cc in
-    letters_more (value_after r c.args.images.now) word _ _ _ c.loop-word.invariant same c.in_ok-push.ensures.items
+    let images = c.args.images.now in
+    let before = c.loop-image.values.items in
+    let word : ℕ = c.loop-image.image-index in
+    let first : ℕ = slice_index images word * c.from.result in
+    let nodes : c.from-nodes.result ≡ node_count r = c.from-nodes.ensures ∙ c.nodes.ensures.nodes in
+    let row = AreLonger-row c.k.ensures.rule images before word c.loop-image.node first c.loop-image.invariant.longer c.loop-image.invariant.node (cc) in
+    record {
+      longer = subst (AreLonger r images (word + 1)) (sym (c.push_all.ensures.items ∙ ap (λ labels. before ++ map (λ label. first + label) labels) c.labels.ensures)) row;
+      room = omega arith;
+      node = c.after-node.ensures.next word (c.loop-image.invariant.node ∙ ap (λ n. word % n) (sym nodes)) ∙ ap (λ n. (word + 1) % n) nodes;
+      below = omega arith;
+    }
 
 pub returns : goal.returns
 returns c = λ n values.
-    let r = c.args.rule.now in
     let images = c.args.images.now in
-    let count : length images * c.from-k.result ≡ length images * r.states = ap (λ k. length images * k) (c.from-k.ensures ∙ c.k.ensures.states) in
-    let all : c.loop-word.word ≡ length images * r.states = omega arith in
-    AreImageValues-longer c.k.ensures.rule n images _ (c.loop-word.invariant ∙ ap (λ i. map (value_after r images) (range_with_len 0 i)) all) values
+    let all : c.loop-image.image-index ≡ length images = omega arith in
+    AreImageValues-longer c.k.ensures.rule n images _ (subst (λ i. AreLonger c.args.rule.now images i c.loop-image.values.items) all c.loop-image.invariant.longer) values

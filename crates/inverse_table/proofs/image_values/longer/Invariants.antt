@@ -1,7 +1,12 @@
-use Rattle.std.proofs.Common.{◌≡◌, map}
-use Rattle.std.specs.List.{range_with_len}
-use Rattle.inverse_table.proofs.ImageLaws.{value_after}
+use Rattle.std.proofs.Common.{◌≡◌, ◌*◌, ◌%◌, ◌<◌, ◌≤◌, length, vec_capacity}
+use Rattle.word_image.specs.LocalRules.{node_count}
+use Rattle.inverse_table.proofs.ImageLaws.{AreLonger}
 use Rattle.inverse_table.proofs.image_values.longer.Given as goal
 
-abbrev pub invariant-loop-word : goal.invariant-loop-word
-invariant-loop-word l = l.values.items ≡ map (value_after l.rule l.images) (range_with_len 0 l.word)
+abbrev pub invariant-loop-image : goal.invariant-loop-image
+invariant-loop-image l = record {
+  longer : AreLonger l.rule l.images l.image-index l.values.items;
+  room : length l.images * l.rule.states ≤ vec_capacity l.values;
+  node : l.node ≡ l.image-index % node_count l.rule;
+  below : l.node < node_count l.rule;
+}

@@ -1,6 +1,10 @@
-use Rattle.std.proofs.Common.{◌≡◌, ℕ, ◌<◌, slice_index}
-use Rattle.inverse_table.specs.ImageValues.{letter_at}
+use Rattle.std.proofs.Common.{◌≡◌, ◌*◌, ◌%◌, length}
+use Rattle.inverse_table.specs.ImageValues.{IsRead, letter_at}
 use Rattle.inverse_table.proofs.letters.first_apart.Given as goal
 
-abbrev pub invariant-loop-other : goal.invariant-loop-other
-invariant-loop-other l = (u : ℕ) → u < l.other → slice_index l.images u ≡ slice_index l.images l.word → letter_at l.place.k l.place.unit u ≡ letter_at l.place.k l.place.unit l.word
+abbrev pub invariant-loop-run : goal.invariant-loop-run
+invariant-loop-run l = record {
+  long : length l.letters ≡ length l.initial.letters;
+  letter : l.letter ≡ l.run % l.place.k;
+  read : IsRead (letter_at l.place.k l.place.unit) l.images (l.run * l.place.unit) l.letters;
+}
