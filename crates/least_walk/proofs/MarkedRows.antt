@@ -64,16 +64,58 @@ marked-below {r} rule t a b q e =
           (pair_of-below r (next r (first_of r (pair_part r t)) a) (next r (second_of r (pair_part r t)) b) (next-below rule _ a) (next-below rule _ b)),
     )
 
+-- the parts of the pair of u and v with this mark
+pub record HasParts (r : LocalRule) (q mark u v : ℕ) : Type 0 where
+  pub half : q / pair_count r ≡ mark
+  pub first : first_of r (pair_part r q) ≡ u
+  pub second : second_of r (pair_part r q) ≡ v
+
+pub parts-of : (r : LocalRule) (q mark u v : ℕ) → u < node_count r → v < node_count r → q ≡ mark * pair_count r + pair_of r u v → HasParts r q mark u v
+parts-of r q mark u v in_u in_v e =
+    let below = pair_of-below r u v in_u in_v in
+    let part : pair_part r q ≡ pair_of r u v = ap (λ z. z % pair_count r) e ∙ mod-mul-add mark (pair_count r) (pair_of r u v) below in
+    record {
+      half = ap (λ z. z / pair_count r) e ∙ div-mul-add mark (pair_count r) (pair_of r u v) below;
+      first = ap (first_of r) part ∙ first_of-pair_of r u v in_v;
+      second = ap (second_of r) part ∙ second_of-pair_of r u v in_v;
+    }
+
 -- the bit of the pair of u and v with this mark
 pub HasPair-bit : {r : LocalRule} → IsRule r → (rows : List ℕ) (q mark u v : ℕ) → u < node_count r → v < node_count r → q ≡ mark * pair_count r + pair_of r u v
     → IsBitSet (slice_index rows (16 * mark + u)) v → HasPair r rows q
 HasPair-bit {r} rule rows q mark u v in_u in_v e some =
-    let below = pair_of-below r u v in_u in_v in
-    let half : q / pair_count r ≡ mark = ap (λ z. z / pair_count r) e ∙ div-mul-add mark (pair_count r) (pair_of r u v) below in
-    let part : pair_part r q ≡ pair_of r u v = ap (λ z. z % pair_count r) e ∙ mod-mul-add mark (pair_count r) (pair_of r u v) below in
-    let first : first_of r (pair_part r q) ≡ u = ap (first_of r) part ∙ first_of-pair_of r u v in_v in
-    let second : second_of r (pair_part r q) ≡ v = ap (second_of r) part ∙ second_of-pair_of r u v in_v in
-    subst₂ (λ (i j : ℕ). IsBitSet (slice_index rows i) j) (sym (ap₂ (λ (m n : ℕ). 16 * m + n) half first)) (sym second) some
+    let parts = parts-of r q mark u v in_u in_v e in
+    subst₂ (λ (i j : ℕ). IsBitSet (slice_index rows i) j) (sym (ap₂ (λ (m n : ℕ). 16 * m + n) parts.half parts.first)) (sym parts.second) some
+
+-- two edges with one label are a step
+pub marked-edges : (r : LocalRule) (t a b : ℕ) → label r (first_of r (pair_part r t)) a ≡ label r (second_of r (pair_part r t)) b
+    → marked r t a b ≡ Some (pair_of r (next r (first_of r (pair_part r t)) a) (next r (second_of r (pair_part r t)) b) + cond (nat_le (pair_count r) t || not (a == b)) (pair_count r) 0)
+marked-edges r t a b same = rw (eq-eqb _ _ same) refl
+
+-- the mark stays where the letters are the same
+pub mark-stays : (r : LocalRule) (t a b mark : ℕ) → t < 2 * pair_count r → 0 < pair_count r → mark ≡ t / pair_count r → a ≡ b → cond (nat_le (pair_count r) t || not (a == b)) (pair_count r) 0 ≡ mark * pair_count r
+mark-stays r t a b mark within some is same =
+    let c : ℕ = pair_count r in
+    let small : t / c < 2 = div_below t c 2 some within in
+    let split = div-add-mod' t c in
+    let rest = mod-lt t some in
+    ⊎_elim
+    (λ (test, holds).
+    let one : t / c ≡ 1 = ⊎_elim (λ e. e) (λ no. absurd (let none : t / c ≡ 0 = omega (arith, no) in let zero : (t / c) * c ≡ 0 * c = ap (λ h. h * c) none in omega arith)) (cases_eq (t / c) 1) in
+    ap (λ x. cond (x || not (a == b)) c 0) test ∙ let times : mark * c ≡ 1 * c = ap (λ h. h * c) (is ∙ one) in omega arith)
+    (λ (test, fails).
+    let none : t / c ≡ 0 = ⊎_elim (λ e. e) (λ no. absurd (let one : t / c ≡ 1 = omega (arith, no) in let once : (t / c) * c ≡ 1 * c = ap (λ h. h * c) one in omega arith)) (cases_eq (t / c) 0) in
+    ap (λ x. cond (x || not (a == b)) c 0) test ∙ ap (λ x. cond (not x) c 0) (eq-eqb a b same) ∙ let times : mark * c ≡ 0 * c = ap (λ h. h * c) (is ∙ none) in omega arith)
+    (leb_tells c t)
+
+-- and comes where they differ
+pub mark-comes : (r : LocalRule) (t a b : ℕ) → a ≢ b → cond (nat_le (pair_count r) t || not (a == b)) (pair_count r) 0 ≡ 1 * pair_count r
+mark-comes r t a b other =
+    let c : ℕ = pair_count r in
+    ⊎_elim
+    (λ (test, holds). ap (λ x. cond (x || not (a == b)) c 0) test ∙ omega arith)
+    (λ (test, fails). ap (λ x. cond (x || not (a == b)) c 0) test ∙ ap (λ x. cond (not x) c 0) (ne_eqb a b other) ∙ omega arith)
+    (leb_tells c t)
 
 -- the ends of a node's edges stand one after the other
 pub next-plus : {r : LocalRule} → IsRule r → (v b : ℕ) → b < r.states → next r v b ≡ next r v 0 + b

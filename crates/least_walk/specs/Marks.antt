@@ -1,6 +1,6 @@
 -- Sets of marked pairs as rows of bits.
-use Rattle.std.specs.Prelude.{◌≡◌, ℕ, ◌+◌, ◌*◌, ◌/◌, ◌%◌, List, slice_index, IsBitSet}
-use Rattle.word_image.specs.LocalRules.{LocalRule}
+use Rattle.std.specs.Prelude.{◌≡◌, ℕ, ◌+◌, ◌*◌, ◌/◌, ◌%◌, ◌<◌, ◌↔◌, ◌⊎◌, List, slice_index, IsBitSet}
+use Rattle.word_image.specs.LocalRules.{LocalRule, node_count}
 use Rattle.least_walk.specs.declared.marks.Parts.{Parts}
 use Rattle.word_image.specs.Graphs.{first_of, second_of, pair_count}
 
@@ -16,8 +16,21 @@ row_of r t = 16 * (t / pair_count r) + first_of r (pair_part r t)
 abbrev pub HasPair : LocalRule → List ℕ → ℕ → Type 0
 HasPair r rows t = IsBitSet (slice_index rows (row_of r t)) (second_of r (pair_part r t))
 
+-- the rows after have one marked pair more
+abbrev pub IsAdded : LocalRule → List ℕ → ℕ → List ℕ → Type 0
+IsAdded r rows t after = (s : ℕ) → s < 2 * pair_count r → (HasPair r after s ↔ ((s ≡ t) ⊎ HasPair r rows s))
+
 -- the mark and the nodes of a marked pair
 pub record ArePartsOf (r : LocalRule) (parts : Parts) (t : ℕ) : Type 0 where
   pub mark : parts.mark ≡ t / pair_count r
   pub first : parts.first ≡ first_of r (pair_part r t)
   pub second : parts.second ≡ second_of r (pair_part r t)
+
+-- the number of a marked pair with its parts, and where its bit stands in rows
+pub record IsMarked (r : LocalRule) (at : Parts) : Type 0 where
+  pub parts : ArePartsOf r at at.pair
+  pub below : at.pair < 2 * pair_count r
+  pub first : at.first < node_count r
+  pub second : at.second < node_count r
+  pub row : 16 * at.mark + at.first < 32
+  pub place : at.second < 16

@@ -1,18 +1,21 @@
 //! Sets of marked pairs, as rows of bits.
 
-ghost use Rattle.std.specs.Prelude.{◌≡◌, ℕ, ◌*◌, ◌<◌, ◌↔◌, ◌⊎◌, IsTrue, IsBitSet, Some};
-ghost use Rattle.word_image.specs.LocalRules.{IsRule, node_count};
-ghost use Rattle.word_image.specs.Graphs.{pair_count, marked};
-ghost use Rattle.least_walk.specs.Marks.{HasPair, ArePartsOf};
+ghost use Rattle.std.specs.Prelude.{◌≡◌, ℕ, ◌+◌, ◌*◌, ◌<◌, ◌↔◌, IsTrue, IsBitSet, IfSome, Some};
+ghost use Rattle.std.specs.Option.{option_map};
+ghost use Rattle.word_image.specs.LocalRules.{LocalRule, IsRule, node_count};
+ghost use Rattle.word_image.specs.Graphs.{pair_count, pair_of, marked};
+ghost use Rattle.least_walk.specs.Marks.{ArePartsOf, HasPair, IsAdded, IsMarked};
 
 use pair_graph::Pairs;
 
 /// For each first node, without the mark and then with it, the set of the second nodes.
 pub type Rows = [u16; 32];
 
-/// A marked pair, by its parts.
+/// A marked pair, with its parts.
 #[derive(Clone, Copy)]
 pub struct Parts {
+    /// Its number.
+    pub pair: u16,
     /// 1 with the mark, and 0 without it.
     pub mark: u8,
     /// The first node.
@@ -24,39 +27,78 @@ pub struct Parts {
 /// The parts of a marked pair.
 pub fn parts_of(pairs: &Pairs, t: u16) -> Parts
     requires { t < 2 * pair_count pairs.now }
+    ensures pair { result.pair ≡ t }
     ensures parts { ArePartsOf pairs.now result t }
+    ensures marked { IsMarked pairs.now result }
     ensures mark_below { result.mark < 2 }
-    ensures first_below { result.first < node_count pairs.now }
-    ensures second_below { result.second < node_count pairs.now }
     ensures rule { IsRule pairs.now }
 {
     let count = pairs.count();
     let nodes = u16::from(pairs.graph().nodes());
     let p = t % count;
     Parts {
+        pair: t,
         mark: (t / count) as u8,
         first: (p / nodes) as u8,
         second: (p % nodes) as u8,
     }
 }
 
-/// Whether the rows have this marked pair.
-pub fn has(pairs: &Pairs, rows: &Rows, t: u16) -> bool
-    requires { t < 2 * pair_count pairs.now }
-    ensures { IsTrue result ↔ HasPair pairs.now rows.now t }
+/// The marked pair with these parts.
+fn with_parts(pairs: &Pairs, mark: u8, first: u8, second: u8) -> Parts
+    requires mark { mark < 2 }
+    requires first { first < node_count pairs.now }
+    requires second { second < node_count pairs.now }
+    ensures pair { result.pair ≡ mark * pair_count pairs.now + pair_of pairs.now first second }
+    ensures marked { IsMarked pairs.now result }
 {
-    let parts = parts_of(pairs, t);
-    rows[16 * usize::from(parts.mark) + usize::from(parts.first)] >> parts.second & 1 == 1
+    let nodes = u16::from(pairs.graph().nodes());
+    Parts {
+        pair: u16::from(mark) * (nodes * nodes) + (u16::from(first) * nodes + u16::from(second)),
+        mark,
+        first,
+        second,
+    }
+}
+
+/// Where the letters a and b lead from a marked pair, as [`Pairs::marked`] says it.
+pub fn step_from(pairs: &Pairs, from: Parts, a: u8, b: u8) -> Option<Parts>
+    requires rule { IsRule pairs.now }
+    requires from { IsMarked pairs.now from }
+    requires first { a < pairs.now.states }
+    requires second { b < pairs.now.states }
+    ensures step { option_map (λ q. q.pair) result ≡ marked pairs.now from.pair a b }
+    ensures marked { IfSome result (IsMarked pairs.now) }
+{
+    let graph = pairs.graph();
+    if graph.label(from.first, a) != graph.label(from.second, b) {
+        return None;
+    }
+    let mark = if a == b { from.mark } else { 1 };
+    Some(with_parts(
+        pairs,
+        mark,
+        graph.next(from.first, a),
+        graph.next(from.second, b),
+    ))
+}
+
+/// Whether the rows have this marked pair.
+pub fn has(rows: &Rows, at: Parts) -> bool
+    requires row { 16 * at.mark + at.first < 32 }
+    requires place { at.second < 16 }
+    ensures { (r : LocalRule) → IsMarked r at → (IsTrue result ↔ HasPair r rows.now at.pair) }
+{
+    rows[16 * usize::from(at.mark) + usize::from(at.first)] >> at.second & 1 == 1
 }
 
 /// Adds this marked pair to the rows.
-pub fn add(pairs: &Pairs, rows: &mut Rows, t: u16)
-    requires { t < 2 * pair_count pairs.now }
-    ensures pairs { (s : ℕ) → s < 2 * pair_count pairs.now → (HasPair pairs.now rows.new s ↔ ((s ≡ t) ⊎ HasPair pairs.now rows.old s)) }
-    ensures rule { IsRule pairs.now }
+pub fn add(rows: &mut Rows, at: Parts)
+    requires row { 16 * at.mark + at.first < 32 }
+    requires place { at.second < 16 }
+    ensures { (r : LocalRule) → IsRule r → IsMarked r at → IsAdded r rows.old at.pair rows.new }
 {
-    let parts = parts_of(pairs, t);
-    rows[16 * usize::from(parts.mark) + usize::from(parts.first)] |= 1u16 << parts.second;
+    rows[16 * usize::from(at.mark) + usize::from(at.first)] |= 1u16 << at.second;
 }
 
 /// The second letters by which, with first letter a, a step may lead to a marked pair that the rows

@@ -3,10 +3,10 @@
 ghost use Rattle.std.specs.Prelude.{◌≡◌, ℕ, ◌+◌, ◌*◌, ◌<◌, ◌≤◌, [], ◌∷◌, ◌++◌, length, vec_len, vec_capacity, IfSome, IfNone, IsBitSet, Some, slice_get};
 ghost use Rattle.word_image.specs.LocalRules.{IsRule};
 ghost use Rattle.word_image.specs.Graphs.{marked, pair_count};
-ghost use Rattle.least_walk.specs.Marks.{HasPair};
+ghost use Rattle.least_walk.specs.Marks.{HasPair, IsMarked};
 ghost use Rattle.least_walk.specs.Queues.{IsSearch, IsArrival, IsNear, IsEnded, IsOldBut};
 
-use crate::marks::{Rows, add, fresh, has, parts_of};
+use crate::marks::{Parts, Rows, add, fresh, has, parts_of, step_from};
 use pair_graph::Pairs;
 
 /// The most marked pairs.
@@ -64,7 +64,7 @@ pub fn search(queue: &mut Vec<Reached>, pairs: &Pairs, ends: Ends, most: usize) 
     };
     list(queue, start);
     let mut rows = [0; 32];
-    add(pairs, &mut rows, ends.start);
+    add(&mut rows, parts_of(pairs, ends.start));
     if ends.goal == Some(ends.start) {
         rows = [0; 32];
     }
@@ -136,15 +136,16 @@ fn follow_letter(
     ensures same { slice_get queue.new.items head ≡ slice_get queue.old.items head }
 {
     let from = queue[head];
+    let parts = parts_of(pairs, from.pair);
     for b in 0..pairs.rule().k() {
-        if let Some(q) = new_step(pairs, rows, from.pair, a, b, letters) {
+        if let Some(q) = new_step(pairs, rows, parts, a, b, letters) {
             let step = 16 * a + b;
-            if ends.goal == Some(q) {
+            if ends.goal == Some(q.pair) {
                 return Some(step);
             }
-            add(pairs, rows, q);
+            add(rows, q);
             let reached = Reached {
-                pair: q,
+                pair: q.pair,
                 parent: head as u16,
                 step,
                 depth: from.depth + 1,
@@ -156,22 +157,22 @@ fn follow_letter(
 }
 
 /// Where the letters lead, if that is not in the rows.
-fn new_step(pairs: &Pairs, rows: &Rows, t: u16, a: u8, b: u8, letters: u16) -> Option<u16>
+fn new_step(pairs: &Pairs, rows: &Rows, from: Parts, a: u8, b: u8, letters: u16) -> Option<Parts>
     requires rule { IsRule pairs.now }
-    requires pair { t < 2 * pair_count pairs.now }
+    requires from { IsMarked pairs.now from }
     requires first { a < pairs.now.states }
     requires second { b < pairs.now.states }
-    requires old { (q : ℕ) → ¬ IsBitSet letters b → marked pairs.now t a b ≡ Some q → HasPair pairs.now rows.now q }
-    ensures below { IfSome result (λ q. q < 2 * pair_count pairs.now) }
-    ensures step { IfSome result (λ q. marked pairs.now t a b ≡ Some q) }
-    ensures new { IfSome result (λ q. ¬ HasPair pairs.now rows.now q) }
-    ensures none { IfNone result ((q : ℕ) → marked pairs.now t a b ≡ Some q → HasPair pairs.now rows.now q) }
+    requires old { (q : ℕ) → ¬ IsBitSet letters b → marked pairs.now from.pair a b ≡ Some q → HasPair pairs.now rows.now q }
+    ensures marked { IfSome result (IsMarked pairs.now) }
+    ensures step { IfSome result (λ q. marked pairs.now from.pair a b ≡ Some q.pair) }
+    ensures new { IfSome result (λ q. ¬ HasPair pairs.now rows.now q.pair) }
+    ensures none { IfNone result ((q : ℕ) → marked pairs.now from.pair a b ≡ Some q → HasPair pairs.now rows.now q) }
 {
     if letters >> b & 1 == 0 {
         return None;
     }
-    let q = pairs.marked(t, a, b)?;
-    if has(pairs, rows, q) { None } else { Some(q) }
+    let q = step_from(pairs, from, a, b)?;
+    if has(rows, q) { None } else { Some(q) }
 }
 
 /// Adds to a queue with room for it.

@@ -3,6 +3,6 @@ use Rattle.least_walk.proofs.MarkedRows.{HasPair-test}
 use Rattle.least_walk.proofs.marks.has.Goals as goal
 
 pub returns : goal.returns
-returns c =
-    let parts = c.parts_of-parts.ensures.parts in
-    HasPair-test c.args.pairs.now c.args.rows.now c.args.t _ _ (ap₂ (λ (m n : ℕ). 16 * m + n) (c.from.ensures ∙ parts.mark) (c.from-2.ensures ∙ parts.first)) parts.second
+returns c r at =
+    let parts = at.parts in
+    HasPair-test r c.args.rows.now c.args.at.pair _ _ (ap₂ (λ (m n : ℕ). 16 * m + n) (c.from.ensures ∙ parts.mark) (c.from-2.ensures ∙ parts.first)) parts.second
