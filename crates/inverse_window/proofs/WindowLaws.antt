@@ -12,12 +12,12 @@ use Rattle.pair_laws.proofs.Windows.{IsDetermined-pairs}
 use Rattle.inverse_window.specs.FirstWindows.{DifferAt, Begins, Ends, EndsFor, NoneHolds}
 use Rattle.inverse_window.proofs.Letters.{DifferAt-some}
 
--- a pair ends together for n, counted to 240, or doesn't
-EndsFor-decide : {r : LocalRule} → IsRule r → (p n : ℕ) → p < pair_count r → EndsFor r p n ⊎ ¬ EndsFor r p n
-EndsFor-decide {r} rule p n l =
-    ⊎_elim (λ long. inr (λ ends. let most : n ≤ 240 = ends.0 in absurd (omega arith)))
+-- a pair ends together for n, counted to e, or doesn't
+EndsFor-decide : {r : LocalRule} → IsRule r → (e p n : ℕ) → p < pair_count r → EndsFor r e p n ⊎ ¬ EndsFor r e p n
+EndsFor-decide {r} rule e p n l =
+    ⊎_elim (λ long. inr (λ ends. let most : n ≤ e = ends.0 in absurd (omega arith)))
     (λ most. ⊎_elim (λ ends. inl (most, ends)) (λ none. inr (λ ends. none ends.1)) (EndTogether-decide rule n (first_of r p) (second_of r p) (first_of-below rule p l) (second_of-below rule p)))
-    (cases_lt 240 n)
+    (cases_lt e n)
 
 -- no pair differs at letter i, ends together for j and begins together for l
 abbrev pub AreApart : LocalRule → ℕ → ℕ → ℕ → Type 0
@@ -69,15 +69,15 @@ IsDetermined-past {r} rule i n within =
       λ none. parts.1 (λ p l differ ends begins. none p l differ ends),
     )
 
--- the pairs that end together for c, counted to 240, are those that do for c and no more, and those that do for more
-pub NoneHolds-split : {r : LocalRule} → IsRule r → (i c n : ℕ) (P : ℕ → ℕ → Type 0) → NoneHolds (pair_count r) (λ p. DifferAt r i p × EndsFor r p c) P n
-    ↔ (NoneHolds (pair_count r) (λ p. DifferAt r i p × IsRank (EndsFor r p) c) P n × NoneHolds (pair_count r) (λ p. DifferAt r i p × EndsFor r p (c + 1)) P n)
-NoneHolds-split {r} rule i c n P = (
+-- the pairs that end together for c, counted to e, are those that do for c and no more, and those that do for more
+pub NoneHolds-split : {r : LocalRule} → IsRule r → (e i c n : ℕ) (P : ℕ → ℕ → Type 0) → NoneHolds (pair_count r) (λ p. DifferAt r i p × EndsFor r e p c) P n
+    ↔ (NoneHolds (pair_count r) (λ p. DifferAt r i p × IsRank (EndsFor r e p) c) P n × NoneHolds (pair_count r) (λ p. DifferAt r i p × EndsFor r e p (c + 1)) P n)
+NoneHolds-split {r} rule e i c n P = (
   λ none. (
     λ p l of. none p l (of.0, of.1.holds),
     λ p l of. none p l (of.0, (omega (arith, of.1.0), EndTogether-less rule c (omega arith) of.1.1)),
   ),
   λ none p l of.
       ⊎_elim (λ more. none.1 p l (of.0, more)) (λ last. none.0 p l (of.0, record { holds = of.1; no_more = last }))
-      (EndsFor-decide rule p (c + 1) l),
+      (EndsFor-decide rule e p (c + 1) l),
 )

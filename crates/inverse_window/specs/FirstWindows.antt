@@ -1,6 +1,6 @@
 -- Pairs of nodes that differ at a letter, and the first of some windows.
 use Rattle.std.specs.Prelude.{◌≡◌, ◌≢◌, ℕ, ◌<◌, ◌≤◌, ◌⊎◌, List, length, Option, None, slice_index_or, IfSome, IsSomeAnd, MatchOption}
-use Rattle.word_image.specs.LocalRules.{LocalRule}
+use Rattle.word_image.specs.LocalRules.{LocalRule, node_count}
 use Rattle.word_image.specs.Graphs.{first_of, second_of, node_letter}
 use Rattle.word_image.specs.Ranks.{BeginTogether, EndTogether, IsRank, IsEndless}
 use Rattle.word_image.specs.Windows.{IsDetermined, WindowBefore}
@@ -19,21 +19,28 @@ Begins r p n = BeginTogether r (first_of r p) (second_of r p) n
 abbrev pub Ends : LocalRule → ℕ → ℕ → Type 0
 Ends r p n = EndTogether r (first_of r p) (second_of r p) n
 
--- they end together for n, counted to 240: what ends together for so many does for all
-abbrev pub EndsFor : LocalRule → ℕ → ℕ → Type 0
-EndsFor r p n = (n ≤ 240) × Ends r p n
+-- they end together for n, counted to e
+abbrev pub EndsFor : LocalRule → ℕ → ℕ → ℕ → Type 0
+EndsFor r e p n = (n ≤ e) × Ends r p n
+
+-- e is above the finite ranks of u: each node that ends together with it for e letters or more does for all
+abbrev pub IsPastOf : LocalRule → ℕ → ℕ → ℕ → Type 0
+IsPastOf r u count e = (v n : ℕ) → v < count → e ≤ n → EndTogether r u v n → IsEndless (EndTogether r u v)
+
+-- and above those of the nodes below `count`
+abbrev pub IsPast : LocalRule → ℕ → ℕ → Type 0
+IsPast r count e = (u : ℕ) → u < count → IsPastOf r u (node_count r) e
 
 -- P holds for n of none of these pairs below `count`
 abbrev pub NoneHolds : ℕ → (ℕ → Type 0) → (ℕ → ℕ → Type 0) → ℕ → Type 0
 NoneHolds count Of P n = (p : ℕ) → p < count → Of p → ¬ P p n
 
--- for each b up to 240: from which number on the pairs below `count` that differ at their first letter, and end together for b and no more, don't begin together
-pub record AreStarts (r : LocalRule) (count : ℕ) (starts : List (Option ℕ)) : Type 0 where
+-- for each b up to e: from which number on the pairs below `count` that differ at their first letter, and end together for b and no more, don't begin together
+pub record AreStarts (r : LocalRule) (e count : ℕ) (starts : List (Option ℕ)) : Type 0 where
   pub long : length starts ≡ 241
-  pub from : (b : ℕ) → b ≤ 240 → HoldsFrom (slice_index_or starts b None) (NoneHolds count (λ p. DifferAt r 0 p × IsRank (EndsFor r p) b) (Begins r))
-  pub most : (b : ℕ) → b ≤ 240 → IfSome (slice_index_or starts b None) (λ n. n ≤ 240)
-  -- what ends together for 240 does for all
-  pub endless : (p : ℕ) → p < count → DifferAt r 0 p → Ends r p 240 → IsEndless (Ends r p)
+  pub few : e ≤ 240
+  pub from : (b : ℕ) → b ≤ e → HoldsFrom (slice_index_or starts b None) (NoneHolds count (λ p. DifferAt r 0 p × IsRank (EndsFor r e p) b) (Begins r))
+  pub most : (b : ℕ) → b ≤ e → IfSome (slice_index_or starts b None) (λ n. n ≤ 240)
 
 -- a determined window before which none of these is determined
 pub record IsFirstWindow (r : LocalRule) (Among : ℕ → ℕ → Type 0) (n c : ℕ) : Type 0 where

@@ -6,7 +6,7 @@ ghost use Rattle.word_image.specs.Words.{IsSurjective};
 ghost use Rattle.tail_config.specs.Tails.{IsInjective};
 ghost use Rattle.inverse_window.specs.FirstWindows.{IsEarlier, IsFirstOf};
 
-use crate::starts::{ENDLESS, later, start_past, starts_by_rank};
+use crate::starts::{later, past_ranks, start_past, starts_by_rank};
 use crate::verdicts::is_injective;
 use pair_rank::Ranks;
 use word_image::Rule;
@@ -48,10 +48,11 @@ fn first_within(rule: &Rule, ranks: &Ranks) -> Option<WindowAt>
     ensures first { IsFirstOf rule.now (λ n c. c < n + 1) result }
     ensures most { IfSome result (λ w. w.n ≤ 480) }
 {
-    let starts = starts_by_rank(rule, ranks);
+    let past = past_ranks(ranks);
+    let starts = starts_by_rank(rule, ranks, past);
     let mut start = Some(0);
     let mut first = None;
-    for c in (0..=ENDLESS).rev() {
+    for c in (0..=past).rev() {
         start = later(start, starts[usize::from(c)]);
         first = earlier(first, window_within(c, start));
     }
