@@ -5,6 +5,7 @@ pub mod Mirrors
 pub mod Numbers
 pub mod Readings
 pub mod Colourings
+pub mod Tables
 pub mod KnownWindows
 pub mod Completions
 pub mod Classes

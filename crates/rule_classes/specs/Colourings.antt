@@ -1,5 +1,5 @@
 -- Colourings of the letters, the rules that they make, and the search for the least of these.
-use Rattle.std.specs.Prelude.{◌≡◌, ◌⊎◌, ℕ, ◌<◌, ◌≤◌, List, length, reverse, slice_index, Bool, if◌then◌else◌, pos}
+use Rattle.std.specs.Prelude.{◌≡◌, ◌⊎◌, ℕ, ◌^◌, ◌<◌, ◌≤◌, List, length, reverse, slice_index, Bool, if◌then◌else◌, pos}
 use Rattle.word_image.specs.LocalRules.{LocalRule, value, word_of, local_map, wolfram_number}
 use Rattle.rule_algebra.specs.Algebra.{recoloured}
 use Rattle.rule_algebra.specs.Tables.{table_by}
@@ -62,3 +62,7 @@ pub record IsLeastOf (r : LocalRule) (c : Colouring) (low high : ℕ) (before fo
   pub colouring : IsColouring r.states found
   pub one : (found ≡ before) ⊎ ((found.mirrored ≡ c.mirrored) × (number_of r found < number_of r before))
   pub least : (d : Colouring) → Completes r.states c low high d → number_of r found ≤ number_of r d
+
+-- what completes the colouring has the letters of the best rule from this window on
+pub record AgreeFrom (r : LocalRule) (c : Colouring) (low high : ℕ) (best : Colouring) (v : ℕ) : Type 0 where
+  pub same : (d : Colouring) → Completes r.states c low high d → (u : ℕ) → v ≤ u → u < r.states ^ r.width → entry r d u ≡ entry r best u

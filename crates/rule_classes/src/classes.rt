@@ -2,6 +2,7 @@
 ghost use Rattle.std.specs.Prelude.{◌≡◌, ◌≤◌, ◌↔◌, IfOk, IsOk};
 ghost use Rattle.rule_classes.specs.Classes.{IsLeastOfClass, HaveOneVerdict};
 
+use crate::best::Best;
 use crate::colourings::Colouring;
 use crate::search::least_of;
 use word_image::Rule;
@@ -37,11 +38,12 @@ pub fn class_of(rule: &Rule) -> Result<ClassPlace, ClassFault>
     if k > MOST_STATES {
         return Err(ClassFault::Colours);
     }
-    let own = Colouring::unchanged(false);
-    let straight = least_of(rule, own, 0, k, own);
-    let least = least_of(rule, Colouring::unchanged(true), 0, k, straight);
+    let mut best = Best::own(rule);
+    let own = best.colouring;
+    least_of(rule, own, 0, k, &mut best);
+    least_of(rule, Colouring::unchanged(true), 0, k, &mut best);
     Ok(ClassPlace {
-        least: least.rule(rule),
-        mirrored: least.mirrored,
+        least: best.rule(rule),
+        mirrored: best.colouring.mirrored,
     })
 }

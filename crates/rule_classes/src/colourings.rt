@@ -1,10 +1,30 @@
 //! Rules with other names for their letters, mirrored or not.
 ghost use Rattle.std.specs.Prelude.{◌≡◌, ◌≢◌, ◌+◌, ◌*◌, ◌/◌, ◌%◌, ◌^◌, ◌<◌, ◌≤◌, ℕ, slice_index, if◌then◌else◌};
-ghost use Rattle.word_image.specs.LocalRules.{IsRule};
+ghost use Rattle.word_image.specs.LocalRules.{IsRule, node_count};
 ghost use Rattle.word_image.specs.Storage.{padded};
-ghost use Rattle.rule_classes.specs.Colourings.{IsColouring, entry, in_colours, old_value};
+ghost use Rattle.rule_classes.specs.Colourings.{IsColouring, in_colours, old_value};
+ghost use Rattle.rule_classes.specs.Tables.{AreFilled, HasZeros, IsRow};
 
 use word_image::{MOST_ENTRIES, Rule};
+
+/// The values of windows that differ in one letter.
+#[derive(Clone, Copy)]
+pub struct Row {
+    /// The value where the letter is 0.
+    pub start: u8,
+    /// How much each further letter adds.
+    pub step: u8,
+}
+
+impl Row {
+    /// The value where this is the letter.
+    pub fn window(self, letter: u8) -> u8
+        requires { self.start + letter * self.step < 256 }
+        ensures { result ≡ self.start + letter * self.step }
+    {
+        self.start + letter * self.step
+    }
+}
 
 /// A permutation of the letters, and whether the rule is mirrored before.
 #[derive(Clone, Copy, PartialEq, Eq)]
@@ -22,6 +42,7 @@ impl Colouring {
     pub fn unchanged(mirrored: bool) -> Colouring
         ensures mirrored { result.mirrored ≡ mirrored }
         ensures colouring { (k : ℕ) → k ≤ 6 → IsColouring k result }
+        ensures own { (a : ℕ) → a < 6 → slice_index result.letters a ≡ a }
     {
         Colouring {
             mirrored,
@@ -51,84 +72,72 @@ impl Colouring {
         new
     }
 
-    /// The recoloured rule at offset 0.
-    pub fn rule(&self, rule: &Rule) -> Rule
+    /// Puts the table of the recoloured rule in the place of another one of its length.
+    pub fn fill(&self, rule: &Rule, nodes: u8, entries: &mut [u8; MOST_ENTRIES])
+        requires rule { IsRule rule.now }
         requires states { rule.now.states ≤ 6 }
         requires colouring { IsColouring rule.now.states self.now }
-        ensures { result ≡ in_colours rule.now self.now }
+        requires nodes { nodes ≡ node_count rule.now }
+        requires entries { HasZeros rule.now entries.old }
+        ensures { entries.new ≡ padded (in_colours rule.now self.now).table }
     {
-        let entries = self.entries(rule);
-        Rule::new(rule.k(), rule.m(), 0, &entries[..usize::from(rule.size())]).unwrap()
-    }
-
-    /// The letters of its table, and zeros after them.
-    fn entries(&self, rule: &Rule) -> [u8; MOST_ENTRIES]
-        requires states { rule.now.states ≤ 6 }
-        requires colouring { IsColouring rule.now.states self.now }
-        ensures entries { result ≡ padded (in_colours rule.now self.now).table }
-        ensures rule { IsRule rule.now }
-    {
-        let windows = self.old_windows(rule);
-        let mut entries = [0; MOST_ENTRIES];
-        for window in 0..rule.size() {
-            let given = rule.at(windows[usize::from(window)]);
-            entries[usize::from(window)] = self.colours[usize::from(given)];
-        }
-        entries
-    }
-
-    /// The values of all windows in the old letters, each from that of the window a letter back.
-    fn old_windows(&self, rule: &Rule) -> [u16; MOST_ENTRIES]
-        requires states { rule.now.states ≤ 6 }
-        requires colouring { IsColouring rule.now.states self.now }
-        ensures windows { (v : ℕ) → v < rule.now.states ^ rule.now.width →
-            slice_index result v ≡ old_value rule.now self.now v }
-        ensures rule { IsRule rule.now }
-    {
-        let k = u16::from(rule.k());
-        let nodes = u16::from(rule.nodes());
         let mut windows = [0; MOST_ENTRIES];
         windows[0] = self.old_window(rule, 0);
-        for window in 1..rule.size() {
-            let back = windows[usize::from(window / k)];
-            let letter = self.letters[usize::from(window % k)];
-            windows[usize::from(window)] = self.moved_on(k, nodes, back, letter);
+        for node in 0..nodes {
+            let row = self.row(rule.k(), nodes, windows[usize::from(node)]);
+            self.fill_row(rule, row, node, &mut windows, entries);
         }
-        windows
     }
 
-    /// The value of a window without its first letter and with one letter more behind, both at the
-    /// other end where the rule is mirrored.
-    fn moved_on(&self, k: u16, nodes: u16, old: u16, letter: u8) -> u16
-        requires k { 0 < k }
+    /// Fills the windows of one node, and their entries.
+    fn fill_row(
+        &self,
+        rule: &Rule,
+        row: Row,
+        node: u8,
+        windows: &mut [u8; MOST_ENTRIES],
+        entries: &mut [u8; MOST_ENTRIES],
+    )
+        requires states { rule.now.states ≤ 6 }
+        requires colouring { IsColouring rule.now.states self.now }
+        requires node { node < node_count rule.now }
+        requires row { IsRow rule.now self.now node row }
+        requires filled { AreFilled rule.now self.now (node * rule.now.states) windows.old entries.old }
+        ensures { AreFilled rule.now self.now ((node + 1) * rule.now.states) windows.new entries.new }
+    {
+        let first = node * rule.k();
+        for letter in 0..rule.k() {
+            let old = row.window(self.letters[usize::from(letter)]);
+            windows[usize::from(first + letter)] = old;
+            let given = rule.at(u16::from(old));
+            entries[usize::from(first + letter)] = self.colours[usize::from(given)];
+        }
+    }
+
+    /// The old values of the windows of a node, from that of the window a letter back: its first letter
+    /// is left out, and one letter more comes behind, both at the other end where the rule is mirrored.
+    pub fn row(&self, k: u8, nodes: u8, back: u8) -> Row
+        requires k { 2 ≤ k }
         requires few { k ≤ 6 }
         requires nodes { 0 < nodes }
         requires some { nodes ≤ 16 }
-        requires old { old < 256 }
-        requires letter { letter < 6 }
-        ensures { result ≡ (if self.now.mirrored then letter * nodes + old / k else old % nodes * k + letter) }
+        ensures { (letter : ℕ) → result.start + letter * result.step ≡ (if self.now.mirrored then letter * nodes + back / k else back % nodes * k + letter) }
     {
         if self.mirrored {
-            u16::from(letter) * nodes + old / k
+            Row {
+                start: back / k,
+                step: nodes,
+            }
         } else {
-            old % nodes * k + u16::from(letter)
+            Row {
+                start: back % nodes * k,
+                step: 1,
+            }
         }
     }
 
-    /// The colour that the recoloured rule gives on the window of this value.
-    pub fn entry(&self, rule: &Rule, window: u16) -> u8
-        requires states { rule.now.states ≤ 6 }
-        requires colouring { IsColouring rule.now.states self.now }
-        requires window { window < rule.now.states ^ rule.now.width }
-        ensures entry { result ≡ entry rule.now self.now window }
-        ensures rule { IsRule rule.now }
-    {
-        let given = rule.at(self.old_window(rule, window));
-        self.colours[usize::from(given)]
-    }
-
     /// The value of the window in the old letters, read backwards where the rule is mirrored.
-    fn old_window(&self, rule: &Rule, window: u16) -> u16
+    pub fn old_window(&self, rule: &Rule, window: u16) -> u8
         requires states { rule.now.states ≤ 6 }
         requires colouring { IsColouring rule.now.states self.now }
         requires window { window < rule.now.states ^ rule.now.width }
@@ -146,7 +155,7 @@ impl Colouring {
             power *= k;
             left /= k;
         }
-        old
+        old as u8
     }
 
     /// The value of some letters and of one more before them, after them where the rule is mirrored.

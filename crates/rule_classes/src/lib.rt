@@ -24,6 +24,7 @@
 //! on a few tables. `lift` and `unlift` take **O(m * k^(2m))**.
 #![tactic(auto)]
 
+mod best;
 mod classes;
 mod colourings;
 mod lifts;

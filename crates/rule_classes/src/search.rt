@@ -1,84 +1,138 @@
 //! The least of the rules that permutations of the letters make of one.
-ghost use Rattle.std.specs.Prelude.{◌≡◌, ◌⊎◌, ◌<◌, ◌≤◌, ◌+◌, ◌-◌, ◌^◌, IsTrue, IsFalse};
-ghost use Rattle.word_image.specs.LocalRules.{IsRule};
-ghost use Rattle.rule_classes.specs.Colourings.{Completes, IsChosen, IsColouring, IsLeastOf, number_of};
+ghost use Rattle.std.specs.Prelude.{◌≡◌, ◌⊎◌, ◌<◌, ◌≤◌, ◌+◌, ◌*◌, IfSome, IsNone, IsTrue, IsFalse};
+ghost use Rattle.word_image.specs.LocalRules.{IsRule, node_count};
+ghost use Rattle.rule_classes.specs.Best.{IsBest};
+ghost use Rattle.rule_classes.specs.Colourings.{AgreeFrom, Completes, IsChosen, IsColouring, IsLeastOf, number_of};
 ghost use Rattle.rule_classes.specs.declared.colourings.Colouring.{Colouring};
 
+use crate::best::Best;
 use crate::colourings::Colouring;
 use word_image::Rule;
 
-/// The least of the best colouring so far and of those that have the letters of this one at the
-/// chosen colours. The colours from `low` on, below `high`, are free. It chooses the greatest of them
-/// and the least of them by turns, and leaves a branch as soon as no rule in it can be less.
-pub fn least_of(rule: &Rule, colouring: Colouring, low: u8, high: u8, best: Colouring) -> Colouring
+/// Makes the best rule so far the least of it and of those whose colourings have the letters of this
+/// one at the chosen colours. The colours from `low` on, below `high`, are free. It chooses the greatest
+/// of them and the least of them by turns, and leaves a branch as soon as no rule in it can be less.
+pub fn least_of(rule: &Rule, colouring: Colouring, low: u8, high: u8, best: &mut Best)
     requires states { rule.now.states ≤ 6 }
     requires colouring { IsColouring rule.now.states colouring }
-    requires best { IsColouring rule.now.states best }
+    requires best { IsBest rule.now best.old }
     requires free { low ≤ high }
     requires high { high ≤ rule.now.states }
-    ensures { IsLeastOf rule.now colouring low high best result }
+    ensures best { IsBest rule.now best.new }
+    ensures least { IsLeastOf rule.now colouring low high best.old.colouring best.new.colouring }
 {
     let k = rule.k();
     if high - low <= 1 {
-        return lesser(rule, colouring, best);
+        take_lesser(rule, colouring, best);
+        return;
     }
-    if !may_be_less(rule, &colouring, low, high, &best) {
-        return best;
+    if !may_be_less(rule, &colouring, low, high, best) {
+        return;
     }
-    let mut best = best;
     for colour in low..high {
         if low + high == k {
             let next = colouring.exchanged(k, high - 1, colour);
-            best = least_of(rule, next, low, high - 1, best);
+            least_of(rule, next, low, high - 1, best);
         } else {
             let next = colouring.exchanged(k, low, colour);
-            best = least_of(rule, next, low + 1, high, best);
+            least_of(rule, next, low + 1, high, best);
         }
     }
-    best
 }
 
-/// The lesser of two colourings, the best one so far where both make one rule.
-fn lesser(rule: &Rule, colouring: Colouring, best: Colouring) -> Colouring
+/// Takes a colouring in place of the best one so far where it makes a lesser rule.
+fn take_lesser(rule: &Rule, colouring: Colouring, best: &mut Best)
     requires rule { IsRule rule.now }
     requires states { rule.now.states ≤ 6 }
     requires colouring { IsColouring rule.now.states colouring }
-    requires best { IsColouring rule.now.states best }
-    ensures { IsLeastOf rule.now colouring 0 0 best result }
+    requires best { IsBest rule.now best.old }
+    ensures best { IsBest rule.now best.new }
+    ensures least { IsLeastOf rule.now colouring 0 0 best.old.colouring best.new.colouring }
 {
-    if colouring != best && may_be_less(rule, &colouring, 0, 0, &best) {
-        colouring
-    } else {
-        best
+    if colouring != best.colouring && is_less(rule, &colouring, best) {
+        best.take(rule, colouring);
     }
 }
 
-/// Whether a colouring with the letters of this one at the chosen colours may make a lesser rule than
-/// the best one; where no colour is free, whether it does. Tables are compared from the greatest
-/// window on, as long as all letters of the window are known; a letter that has no colour yet gets the
-/// least free one at least.
-fn may_be_less(rule: &Rule, colouring: &Colouring, low: u8, high: u8, best: &Colouring) -> bool
+/// Whether a rule whose colouring has the letters of this one at the chosen colours may be less than the
+/// best one. All letters of a window are known where it has the greatest letter alone, but for a last
+/// letter that is chosen.
+fn may_be_less(rule: &Rule, colouring: &Colouring, low: u8, high: u8, best: &Best) -> bool
     requires states { rule.now.states ≤ 6 }
     requires colouring { IsColouring rule.now.states colouring.now }
-    requires best { IsColouring rule.now.states best.now }
-    requires free { low ≤ high }
+    requires best { IsBest rule.now best.now }
     requires high { high ≤ rule.now.states }
-    ensures less { IsTrue result → low ≡ high → number_of rule.now colouring.now < number_of rule.now best.now }
     ensures no_less { IsFalse result → (d : Colouring) → Completes rule.now.states colouring.now low high d →
-        number_of rule.now best.now ≤ number_of rule.now d }
+        number_of rule.now best.now.colouring ≤ number_of rule.now d }
     ensures rule { IsRule rule.now }
 {
-    for window in (first_known(rule, low, high)..rule.size()).rev() {
-        let colour = colouring.entry(rule, window);
-        let other = best.entry(rule, window);
-        if is_free(low, high, colour) {
-            return low <= other;
-        }
-        if colour != other {
-            return colour < other;
+    if high == rule.k() {
+        return true;
+    }
+    match told(rule, colouring, low, high, best, best.nodes - 1, high) {
+        Some(less) => less,
+        None => true,
+    }
+}
+
+/// Whether a colouring makes a lesser rule than the best one.
+fn is_less(rule: &Rule, colouring: &Colouring, best: &Best) -> bool
+    requires rule { IsRule rule.now }
+    requires states { rule.now.states ≤ 6 }
+    requires colouring { IsColouring rule.now.states colouring.now }
+    requires best { IsBest rule.now best.now }
+    ensures less { IsTrue result → number_of rule.now colouring.now < number_of rule.now best.now.colouring }
+    ensures no_less { IsFalse result → number_of rule.now best.now.colouring ≤ number_of rule.now colouring.now }
+{
+    for node in (0..best.nodes).rev() {
+        if let Some(less) = told(rule, colouring, 0, 0, best, node, 0) {
+            return less;
         }
     }
-    low < high
+    false
+}
+
+/// Whether the windows of a node, from this last letter on, tell a colouring and the best one apart, and
+/// then whether it may make the lesser rule. The greatest window comes first, and a letter that has no
+/// colour yet gets the least free one at least.
+fn told(
+    rule: &Rule,
+    colouring: &Colouring,
+    low: u8,
+    high: u8,
+    best: &Best,
+    node: u8,
+    first: u8,
+) -> Option<bool>
+    requires states { rule.now.states ≤ 6 }
+    requires colouring { IsColouring rule.now.states colouring.now }
+    requires best { IsBest rule.now best.now }
+    requires high { high ≤ rule.now.states }
+    requires node { node < node_count rule.now }
+    requires first { first ≤ rule.now.states }
+    requires known { (low ≡ high) ⊎ ((node + 1 ≡ node_count rule.now) × (high ≤ first)) }
+    requires agree { AgreeFrom rule.now colouring.now low high best.now.colouring ((node + 1) * rule.now.states) }
+    ensures same { IsNone result → AgreeFrom rule.now colouring.now low high best.now.colouring (node * rule.now.states + first) }
+    ensures less { IfSome result (λ less. IsTrue less → low ≡ high →
+        number_of rule.now colouring.now < number_of rule.now best.now.colouring) }
+    ensures no_less { IfSome result (λ less. IsFalse less → (d : Colouring) → Completes rule.now.states colouring.now low high d →
+        number_of rule.now best.now.colouring ≤ number_of rule.now d) }
+{
+    let k = rule.k();
+    let back = colouring.old_window(rule, u16::from(node));
+    let row = colouring.row(k, best.nodes, back);
+    for letter in (first..k).rev() {
+        let old = row.window(colouring.letters[usize::from(letter)]);
+        let colour = colouring.colours[usize::from(rule.at(u16::from(old)))];
+        let other = best.entries[usize::from(node * k + letter)];
+        if is_free(low, high, colour) {
+            return Some(low <= other);
+        }
+        if colour != other {
+            return Some(colour < other);
+        }
+    }
+    None
 }
 
 /// Whether a colour is free.
@@ -87,17 +141,4 @@ fn is_free(low: u8, high: u8, colour: u8) -> bool
     ensures chosen { IsFalse result → IsChosen low high colour }
 {
     low <= colour && colour < high
-}
-
-/// The least window such that in all windows from it on no colour is free.
-fn first_known(rule: &Rule, low: u8, high: u8) -> u16
-    requires high { high ≤ rule.now.states }
-    ensures all { low ≡ high → result ≡ 0 }
-    ensures some { (low ≡ high) ⊎ (result + (rule.now.states - high) ≡ rule.now.states ^ rule.now.width) }
-{
-    if low == high {
-        0
-    } else {
-        rule.size() - u16::from(rule.k() - high)
-    }
 }

@@ -1,7 +1,7 @@
 -- The rules that colourings make are those of the class, and their numbers compare as their entries do.
 use Rattle.std.proofs.Common.{◌≡◌, ℕ, ◌^◌, ◌<◌, List, length, take, get_or, slice_index, Bool, true, false, ℤ, pos, refl, sym, ap, ◌∙◌, arith}
 use Rattle.std.proofs.lemmas.Int.{ints}
-use Rattle.std.proofs.lemmas.List.{length-map, get_or-take, ext_get_or}
+use Rattle.std.proofs.lemmas.List.{length-map, get_or-take, get_or_append_left, ext_get_or}
 use Rattle.std.proofs.lemmas.List.FromFn.{get_or-map-range_with_len}
 use Rattle.word_image.specs.LocalRules.{LocalRule, IsShape, IsRule, value, word_of, local_map, wolfram_number}
 use Rattle.word_image.proofs.laws.Values.{length-word_of, IsWord-word_of, value-word_of}
@@ -13,6 +13,8 @@ use Rattle.rule_algebra.specs.Tables.{table_by}
 use Rattle.rule_algebra.proofs.laws.Tables.{length-table_by, IsWord-table_by, table_by-at}
 use Rattle.rule_classes.specs.Classes.{turned, HasRecolouredTable, IsInClass}
 use Rattle.rule_classes.specs.Colourings.{AreInverse, IsColouring, new_letter, entry, in_colours, number_of}
+use Rattle.rule_classes.specs.Best.{IsBest}
+use Rattle.rule_classes.specs.declared.best.Best.{Best}
 use Rattle.rule_classes.specs.declared.colourings.Colouring.{Colouring}
 use Rattle.rule_classes.proofs.laws.Colours.{AreInverse-swap, letters_of, IsRecolouring-take, recoloured-take, IsWord-colours, recoloured-back}
 use Rattle.rule_classes.proofs.laws.Recoloured.{local_map-back}
@@ -49,6 +51,14 @@ IsRule-in_colours {r} c rule colouring = record {
 -- its table has the entries
 pub get_or-in_colours : (r : LocalRule) (c : Colouring) (v : ℕ) → v < r.states ^ r.width → get_or (in_colours r c).table v 0 ≡ entry r c v
 get_or-in_colours r c v l = get_or-map-range_with_len (λ u. entry r c u) 0 (r.states ^ r.width) v v 0 l (omega arith)
+
+-- and so have the entries of the best rule
+pub slice_index-best : {r : LocalRule} (b : Best) (v : ℕ) → IsBest r b → v < r.states ^ r.width → slice_index b.entries v ≡ entry r b.colouring v
+slice_index-best {r} b v best l =
+    let c : Colouring = b.colouring in
+    ap (λ entries. slice_index entries v) best.entries
+    ∙ get_or_append_left (in_colours r c).table _ 0 v (omega (arith, length-table_by r.states r.width (new_letter r c)))
+    ∙ get_or-in_colours r c v l
 
 -- the lesser entry at the greatest window on which the two differ makes the lesser number
 pub number_of-less : {r : LocalRule} (c d : Colouring) (v : ℕ) → IsRule r → IsColouring r.states c → IsColouring r.states d → v < r.states ^ r.width

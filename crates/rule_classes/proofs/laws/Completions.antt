@@ -3,10 +3,10 @@ use Rattle.std.proofs.Common.{◌≡◌, ◌≢◌, inl, inr, ◌⊎◌, ℕ, �
 use Rattle.std.specs.Prelude.{◌==◌, if◌then◌else◌}
 use Rattle.std.proofs.lemmas.Bool.{cases_lt, cases_eq, eq-eqb, ne_eqb, cond-true, cond-false}
 use Rattle.word_image.specs.LocalRules.{LocalRule, IsRule}
-use Rattle.rule_classes.specs.Colourings.{IsColouring, IsChosen, Completes, IsLeastOf, entry, number_of}
+use Rattle.rule_classes.specs.Colourings.{IsColouring, IsChosen, Completes, IsLeastOf, AgreeFrom, entry, number_of}
 use Rattle.rule_classes.specs.declared.colourings.Colouring.{Colouring}
 use Rattle.rule_classes.proofs.laws.Colourings.{number_of-less, number_of-same}
-use Rattle.rule_classes.proofs.laws.KnownWindows.{IsKnown, entry-chosen}
+use Rattle.rule_classes.proofs.laws.KnownWindows.{IsKnown, entry-chosen, entry-free}
 
 -- a colouring completes itself
 pub Completes-itself : {k : ℕ} {c : Colouring} {low high : ℕ} → IsColouring k c → Completes k c low high c
@@ -14,9 +14,9 @@ Completes-itself {k} {c} {low} {high} colouring = record { colouring = colouring
 
 -- Tables
 
--- what completes the colouring has the letters of the best rule from this window on
-pub record AgreeFrom (r : LocalRule) (c : Colouring) (low high : ℕ) (best : Colouring) (v : ℕ) : Type 0 where
-  pub same : (d : Colouring) → Completes r.states c low high d → (u : ℕ) → v ≤ u → u < r.states ^ r.width → entry r d u ≡ entry r best u
+-- from the last window on there is nothing to agree on
+pub AgreeFrom-none : {r : LocalRule} {c best : Colouring} {low high v : ℕ} → r.states ^ r.width ≤ v → AgreeFrom r c low high best v
+AgreeFrom-none {r} {c} {best} {low} {high} {v} past = record { same = λ d completes u from within. absurd (omega arith) }
 
 -- one window less
 pub AgreeFrom-less : {r : LocalRule} {c best : Colouring} {low high v : ℕ} → IsRule r → high ≤ r.states → IsColouring r.states c → IsKnown r low high v
@@ -28,7 +28,7 @@ AgreeFrom-less {r} {c} {best} {low} {high} {v} rule most colouring known chosen 
 }
 
 -- a greater letter makes a greater number
-pub greater_number : {r : LocalRule} {c best d : Colouring} {low high v : ℕ} → IsRule r → IsColouring r.states best → Completes r.states c low high d → v < r.states ^ r.width
+greater_number : {r : LocalRule} {c best d : Colouring} {low high v : ℕ} → IsRule r → IsColouring r.states best → Completes r.states c low high d → v < r.states ^ r.width
     → AgreeFrom r c low high best (v + 1) → entry r best v < entry r d v → number_of r best < number_of r d
 greater_number {r} {c} {best} {d} {low} {high} {v} rule colouring completes below rest less =
     number_of-less best d v rule colouring completes.colouring below (λ u past within. sym (rest.same d completes u (omega arith) within)) less
@@ -42,6 +42,20 @@ lesser_number {r} {c} {best} {low} {high} {v} rule first second below rest less 
 -- and equal tables one number
 pub one_number : {r : LocalRule} {c best d : Colouring} {low high : ℕ} → AgreeFrom r c low high best 0 → Completes r.states c low high d → number_of r best ≡ number_of r d
 one_number {r} {c} {best} {d} {low} {high} all completes = sym (number_of-same r d best (λ u l. all.same d completes u (omega arith) l))
+
+-- where a free letter stands and the best rule has a lesser one than any free colour, nothing is less
+pub none_less-free : {r : LocalRule} {c best : Colouring} {low high v : ℕ} → IsRule r → high ≤ r.states → IsColouring r.states c → IsColouring r.states best → IsKnown r low high v
+    → AgreeFrom r c low high best (v + 1) → low ≤ entry r c v → entry r best v < low → (d : Colouring) → Completes r.states c low high d → number_of r best ≤ number_of r d
+none_less-free {r} {c} {best} {low} {high} {v} rule most colouring other known rest free less d completes =
+    let from : low ≤ entry r d v = entry-free rule most colouring completes known free in
+    omega (arith, greater_number rule other completes known.below rest (omega arith))
+
+-- nor where a chosen letter is greater
+pub none_less-chosen : {r : LocalRule} {c best : Colouring} {low high v : ℕ} → IsRule r → high ≤ r.states → IsColouring r.states c → IsColouring r.states best → IsKnown r low high v
+    → AgreeFrom r c low high best (v + 1) → IsChosen low high (entry r c v) → entry r best v < entry r c v → (d : Colouring) → Completes r.states c low high d → number_of r best ≤ number_of r d
+none_less-chosen {r} {c} {best} {low} {high} {v} rule most colouring other known rest chosen less d completes =
+    let same : entry r d v ≡ entry r c v = entry-chosen rule most colouring completes known chosen in
+    omega (arith, greater_number rule other completes known.below rest (omega arith))
 
 -- Choices
 

@@ -6,12 +6,13 @@ use Rattle.std.proofs.lemmas.Nat.{pow-add, div-mul-add, mod-mul-add}
 use Rattle.std.proofs.lemmas.List.{length-map, get_or-map, ext_get_or}
 use Rattle.word_image.specs.LocalRules.{LocalRule, IsRule, word_of, local_map, node_count}
 use Rattle.word_image.proofs.laws.Values.{length-word_of, IsWord-word_of}
-use Rattle.word_image.proofs.laws.WindowParts.{some_letter, windows-nodes, power-below}
+use Rattle.word_image.proofs.laws.WindowParts.{some_letter, windows-nodes}
 use Rattle.rule_algebra.proofs.laws.Recolouring.{get_or-word_of}
 use Rattle.rule_classes.specs.Classes.{turned}
 use Rattle.rule_classes.specs.Colourings.{IsColouring, IsChosen, Completes, entry, old_word}
 use Rattle.rule_classes.specs.declared.colourings.Colouring.{Colouring}
 use Rattle.rule_classes.proofs.laws.Colourings.{turned-below}
+use Rattle.rule_classes.proofs.laws.Readings.{window-below}
 
 -- a number that lacks t of a multiple of k: its last digit
 last_digit : (k q t v : ℕ) → 0 < t → t ≤ k → v + t ≡ q * k → v % k ≡ k - t
@@ -49,23 +50,20 @@ great_digit k (suc m) j v (suc e) some few below near l =
     let last : v / n % k ≡ k - 1 = last_digit k (k ^ d) 1 (v / n) (omega arith) (omega arith) (rest ∙ pow-suc k d) in
     omega arith
 
--- there are as many windows as letters at least
-pub letters-windows : {r : LocalRule} → IsRule r → r.states ≤ r.states ^ r.width
-letters-windows {r} rule =
-    let grows : 1 * r.states ≤ node_count r * r.states = mul-le-mul_right r.states (power-below rule (r.width - 1) (omega arith)).0 in
-    omega (arith, windows-nodes rule)
-
 -- a window without a free letter
 pub record IsKnown (r : LocalRule) (low high v : ℕ) : Type 0 where
   pub below : v < r.states ^ r.width
   pub near : (low ≡ high) ⊎ (r.states ^ r.width ≤ v + (r.states - high))
 
--- which a window is that is none of the first
-pub IsKnown-from : {r : LocalRule} {low high : ℕ} (start window : ℕ) → start < window → window ≤ r.states ^ r.width → (low ≡ high) ⊎ (start + (r.states - high) ≡ r.states ^ r.width)
-    → IsKnown r low high (window - 1)
-IsKnown-from {r} {low} {high} start window past within known = record {
-  below = omega arith;
-  near = ⊎_elim (λ (none : low ≡ high). inl none) (λ some. inr (omega arith)) known;
+-- which the windows are of the greatest node, with the last letters that are chosen
+pub IsKnown-at : {r : LocalRule} {low high : ℕ} → IsRule r → (u first a : ℕ) → u < node_count r → a < r.states → first ≤ a → (low ≡ high) ⊎ ((u + 1 ≡ node_count r) × (high ≤ first)) → IsKnown r low high (u * r.states + a)
+IsKnown-at {r} {low} {high} rule u first a node letter from known = record {
+  below = window-below rule u a node letter;
+  near = ⊎_elim (λ (none : low ≡ high). inl none)
+      (λ (last : (u + 1 ≡ node_count r) × (high ≤ first)).
+      let all : r.states ^ r.width ≡ u * r.states + r.states = windows-nodes rule ∙ ap (λ n. n * r.states) (sym last.0) ∙ omega (arith, suc-mul u r.states) in
+      inr (omega (arith, last.1)))
+      known;
 }
 
 -- its letters are chosen

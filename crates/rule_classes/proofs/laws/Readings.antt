@@ -1,18 +1,20 @@
 -- A window is read from its last letter on, in the old letters.
-use Rattle.std.proofs.Common.{◌≡◌, ℕ, suc, ◌+◌, ◌-◌, ◌*◌, ◌/◌, ◌%◌, ◌^◌, ◌<◌, ◌≤◌, List, [], ◌∷◌, ◌++◌, length, take, drop, reverse, get_or, slice_index, if◌then◌else◌, Bool, true, false, refl, sym, ap, ap₂, ◌∙◌, subst, arith, length-drop, drop-cons, pow-suc, mod-lt, mod-eq_of_lt}
+use Rattle.std.proofs.Common.{◌≡◌, ℕ, suc, ◌+◌, ◌-◌, ◌*◌, ◌/◌, ◌%◌, ◌^◌, ◌<◌, ◌≤◌, List, [], ◌∷◌, ◌++◌, length, take, drop, reverse, get_or, slice_index, if◌then◌else◌, Bool, true, false, refl, sym, ap, ap₂, ◌∙◌, subst, arith, length-drop, drop-cons, pow-suc, mod-lt, mod-eq_of_lt, mul_comm}
 use Rattle.std.proofs.Math.Nat.{pow-le-pow_right, pow-zero, one-le-pow, mul-le-mul_right}
-use Rattle.std.proofs.lemmas.Nat.{div-mul-add, mod-mul-add, div-add-mod', div_below}
+use Rattle.std.proofs.lemmas.Nat.{mul-add-lt, div-mul-add, mod-mul-add, div-add-mod', div_below}
 use Rattle.std.proofs.lemmas.List.{take_all, length_push, map-append, length-map, length-reverse, get_or-map, reverse-append, drop_all}
 use Rattle.std.proofs.lemmas.List.Elements.{All-drop, All-push}
 use Rattle.word_image.specs.LocalRules.{LocalRule, IsRule, IsWord, value, word_of, local_map, node_count}
 use Rattle.word_image.proofs.laws.Values.{value-snoc, value-below, value-injective, value-take_more, value-word_of, IsWord-word_of, length-word_of}
 use Rattle.word_image.proofs.laws.Images.{IsWord-reverse, local_map-mirrored}
 use Rattle.word_image.proofs.laws.RuleFaults.{window_count-le}
-use Rattle.word_image.proofs.laws.WindowParts.{some_letter}
+use Rattle.word_image.proofs.laws.WindowParts.{some_letter, windows-nodes}
 use Rattle.rule_algebra.specs.Algebra.{recoloured}
 use Rattle.rule_classes.specs.Classes.{turned}
-use Rattle.rule_classes.specs.Colourings.{IsColouring, old_word, old_value, read_as}
+use Rattle.rule_classes.specs.Colourings.{IsColouring, old_word, old_value, entry, read_as}
+use Rattle.rule_classes.specs.Tables.{IsRow}
 use Rattle.rule_classes.specs.declared.colourings.Colouring.{Colouring}
+use Rattle.rule_classes.specs.declared.colourings.Row.{Row}
 use Rattle.rule_classes.proofs.laws.Colours.{AreInverse-swap, IsWord-colours}
 
 -- Words, read forwards or backwards
@@ -173,3 +175,29 @@ local_map-read_as r false w word long = refl
 pub given-read : (r : LocalRule) (c : Colouring) (v : ℕ) → IsColouring r.states c → v < r.states ^ r.width
     → slice_index r.table (old_value r c v) ≡ local_map (turned r c.mirrored) (old_word r c v)
 given-read r c v colouring below = local_map-read_as r c.mirrored (old_word r c v) (IsWord-old_word r c v colouring below) (length-old_word r c v)
+
+-- whose colour is the entry
+pub entry-read : (r : LocalRule) (c : Colouring) (v : ℕ) → IsColouring r.states c → v < r.states ^ r.width
+    → slice_index c.colours (slice_index r.table (old_value r c v)) ≡ entry r c v
+entry-read r c v colouring below = ap (slice_index c.colours) (given-read r c v colouring below)
+
+-- Windows of a node and a last letter
+
+pub window-below : {r : LocalRule} → IsRule r → (u a : ℕ) → u < node_count r → a < r.states → u * r.states + a < r.states ^ r.width
+window-below {r} rule u a node letter =
+    let below : u * r.states + a < r.states * node_count r = mul-add-lt u r.states a (node_count r) node letter in
+    let swapped : r.states * node_count r ≡ node_count r * r.states = mul_comm r.states (node_count r) in
+    omega (arith, windows-nodes rule)
+
+-- the values of the windows of a node are made from that of the window of the node itself
+pub IsRow-made : {r : LocalRule} (c : Colouring) (u : ℕ) (row : Row) {k n back : ℕ} → IsRule r → IsColouring r.states c → u < node_count r → k ≡ r.states → n ≡ node_count r → back ≡ old_value r c u
+    → ((a : ℕ) → row.start + a * row.step ≡ (if c.mirrored then a * n + back / k else back % n * k + a)) → IsRow r c u row
+IsRow-made {r} c u row {k} {n} {back} rule colouring node states nodes value made = record {
+  values = λ a letter.
+      let b : ℕ = slice_index c.letters a in
+      made b
+      ∙ ap₂ (λ (j o : ℕ). if c.mirrored then b * n + o / j else o % n * j + b) states (value ∙ ap (old_value r c) (sym (div-mul-add u r.states a letter)))
+      ∙ ap₂ (λ (m e : ℕ). if c.mirrored then slice_index c.letters e * m + old_value r c ((u * r.states + a) / r.states) / r.states else old_value r c ((u * r.states + a) / r.states) % m * r.states + slice_index c.letters e)
+      nodes (sym (mod-mul-add u r.states a letter))
+      ∙ sym (old_value-moved c (u * r.states + a) rule colouring (window-below rule u a node letter));
+}

@@ -1,31 +1,41 @@
 use Rattle.std.proofs.Common.{◌≡◌, ◌+◌, sym, ◌∙◌, subst, arith}
-use Rattle.rule_classes.specs.declared.colourings.Colouring.{Colouring}
+use Rattle.rule_classes.specs.Best.{IsBest}
+use Rattle.rule_classes.specs.declared.best.Best.{Best}
 use Rattle.rule_classes.proofs.laws.Completions.{IsLeastOver, IsLeastOf-last, IsLeastOf-over, IsLeastOver-more, IsNext-greatest, IsNext-least, next_of, next_of-within}
 use Rattle.rule_classes.proofs.search.+least_of.Goals.{then-low-high, else-low-high}
 use Rattle.rule_classes.proofs.search.+least_of.Goals as goal
 
-pub returns-then-high-low-le1 : goal.returns-then-high-low-le1
-returns-then-high-low-le1 t c = IsLeastOf-last (omega arith) c.requires.high c.requires.colouring c.lesser.ensures
+pub returns-then-high-low-le1-clause-least : goal.returns-then-high-low-le1-clause-least
+returns-then-high-low-le1-clause-least t c = IsLeastOf-last (omega arith) c.requires.high c.requires.colouring c.take_lesser.ensures.least
 
 pub loop-colour-preserved : goal.loop-colour-preserved
 loop-colour-preserved t c =
     let r = c.args.rule.now in
-    let more = λ (x : Colouring). IsLeastOver r c.args.colouring c.args.low c.args.high (next_of r.states c.args.low c.args.high) (c.loop-colour.colour + 1) c.args.best x in
+    let more = λ (x : Best). record {
+      best : IsBest r x;
+      least : IsLeastOver r c.args.colouring c.args.low c.args.high (next_of r.states c.args.low c.args.high) (c.loop-colour.colour + 1) c.args.best.now.colouring x.colouring;
+    } in
     elim c.if-low-high.branch [
       | then-low-high w ↦
           let new = w.exchanged-next.ensures in
           let next = IsNext-greatest c.requires.high (omega arith) (w.if-low-high.true ∙ c.k-k.ensures.states) new.mirrored new.exchanged new.others in
-          subst more (sym w.best-is) (IsLeastOver-more next c.loop-colour.auto.colour c.loop-colour-test.true c.loop-colour.invariant w.least_of-best.ensures)
+          subst more (sym w.best-is) (record {
+            best = w.least_of.ensures.best;
+            least = IsLeastOver-more next c.loop-colour.auto.colour c.loop-colour-test.true c.loop-colour.invariant.least w.least_of.ensures.least;
+          })
       | else-low-high w ↦
           let new = w.exchanged-next-else-low-high.ensures in
           let next = IsNext-least c.requires.high (omega arith) (λ even. w.if-low-high.false (even ∙ sym c.k-k.ensures.states)) new.mirrored new.exchanged new.others in
-          subst more (sym w.best-is) (IsLeastOver-more next c.loop-colour.auto.colour c.loop-colour-test.true c.loop-colour.invariant w.least_of-best-else-low-high.ensures)
+          subst more (sym w.best-is) (record {
+            best = w.least_of-else-low-high.ensures.best;
+            least = IsLeastOver-more next c.loop-colour.auto.colour c.loop-colour-test.true c.loop-colour.invariant.least w.least_of-else-low-high.ensures.least;
+          })
     ]
 
-pub returns : goal.returns
-returns t c =
+pub returns-clause-least : goal.returns-clause-least
+returns-clause-least t c =
     let r = c.args.rule.now in
     let next = next_of-within r.states c.args.low c.args.high (omega arith) in
     let last : c.loop-colour.colour ≡ c.args.high = omega arith in
     IsLeastOf-over (next_of r.states c.args.low c.args.high) (omega (arith, next.1, c.requires.high)) next.0 next.1 c.requires.colouring
-    (subst (λ n. IsLeastOver r c.args.colouring c.args.low c.args.high (next_of r.states c.args.low c.args.high) n c.args.best c.loop-colour.best) last c.loop-colour.invariant)
+    (subst (λ n. IsLeastOver r c.args.colouring c.args.low c.args.high (next_of r.states c.args.low c.args.high) n c.args.best.now.colouring c.loop-colour.best.colouring) last c.loop-colour.invariant.least)

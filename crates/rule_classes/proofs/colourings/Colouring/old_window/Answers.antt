@@ -31,3 +31,8 @@ returns-clause-within c =
     let few = IsRead-few c.k.ensures.rule c.requires.colouring c.requires.window (omega (arith, c.m-end.ensures.width)) c.loop.invariant in
     let all : c.loop.counter ≡ c.args.rule.now.width = omega (arith, c.m-end.ensures.width) in
     subst (λ n. c.loop.old < c.args.rule.now.states ^ n) all few.0
+
+pub overflow_cast-result : goal.overflow_cast-result
+overflow_cast-result c =
+    let few = IsRead-few c.k.ensures.rule c.requires.colouring c.requires.window (omega (arith, c.m-end.ensures.width)) c.loop.invariant in
+    omega (arith, few.0, few.1)

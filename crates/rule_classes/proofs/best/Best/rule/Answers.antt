@@ -6,7 +6,7 @@ use Rattle.word_image.proofs.laws.SameRules.{rule_from_parts}
 use Rattle.rule_classes.specs.Colourings.{IsColouring, in_colours}
 use Rattle.rule_classes.specs.declared.colourings.Colouring.{Colouring}
 use Rattle.rule_classes.proofs.laws.Colourings.{IsRule-in_colours}
-use Rattle.rule_classes.proofs.colourings.Colouring.rule.Goals as goal
+use Rattle.rule_classes.proofs.best.Best.rule.Goals as goal
 
 -- parts that are those of the recoloured rule make that rule
 parts : {r : LocalRule} (c : Colouring) (k m size : ℕ) (entries : List ℕ) → IsRule r → IsColouring r.states c → k ≡ r.states → m ≡ r.width → size ≡ r.states ^ r.width → entries ≡ padded (in_colours r c).table
@@ -18,10 +18,10 @@ parts {r} c k m size entries rule colouring states width long same =
 pub unwrap-requires : goal.unwrap-requires
 unwrap-requires c =
     let rule = c.k.ensures.rule in
-    let same = parts c.args.self.now c.k.result c.m.result c.from.result c.entries-entries.result rule c.requires.colouring c.k.ensures.states c.m.ensures.width (c.from.ensures ∙ c.size.ensures.size) c.entries-entries.ensures.entries in
-    c.new.ensures.accepted.1 (subst IsRule (sym same) (IsRule-in_colours c.args.self.now rule c.requires.colouring))
+    let same = parts c.args.self.now.colouring c.k.result c.m.result c.from-size.result c.args.self.now.entries rule c.requires.colouring c.k.ensures.states c.m.ensures.width (c.from-size.ensures ∙ c.size.ensures.size) c.requires.entries in
+    c.new.ensures.accepted.1 (subst IsRule (sym same) (IsRule-in_colours c.args.self.now.colouring rule c.requires.colouring))
 
 pub returns : goal.returns
 returns c =
-    let same = parts c.args.self.now c.k.result c.m.result c.from.result c.entries-entries.result c.k.ensures.rule c.requires.colouring c.k.ensures.states c.m.ensures.width (c.from.ensures ∙ c.size.ensures.size) c.entries-entries.ensures.entries in
-    subst (λ x. IfOk x (λ g. g ≡ record { states = c.k.result; width = c.m.result; offset = pos 0; table = take c.from.result c.entries-entries.result })) c.unwrap.ensures c.new.ensures.rule ∙ same
+    let same = parts c.args.self.now.colouring c.k.result c.m.result c.from-size.result c.args.self.now.entries c.k.ensures.rule c.requires.colouring c.k.ensures.states c.m.ensures.width (c.from-size.ensures ∙ c.size.ensures.size) c.requires.entries in
+    subst (λ x. IfOk x (λ g. g ≡ record { states = c.k.result; width = c.m.result; offset = pos 0; table = take c.from-size.result c.args.self.now.entries })) c.unwrap.ensures c.new.ensures.rule ∙ same

@@ -1,0 +1,103 @@
+-- Tables that are filled: from the table of another rule, window by window, to that of the recoloured rule.
+use Rattle.std.proofs.Common.{◌≡◌, ℕ, ◌+◌, ◌-◌, ◌^◌, ◌<◌, ◌≤◌, List, length, get_or, set, replicate, slice_index, false, sym, ap, ◌∙◌, subst, ⊎_elim, arith}
+use Rattle.std.proofs.Math.ListN.{get_or-eq_default}
+use Rattle.std.proofs.Math.Seq.{get_or-append_right}
+use Rattle.std.proofs.lemmas.Bool.{cases_lt}
+use Rattle.std.proofs.lemmas.List.{length-set, length-map, length-append, length-replicate, get_or-map, get_or-replicate, get_or-set_same, get_or-set_other, get_or_append_left, ext_get_or}
+use Rattle.word_image.specs.LocalRules.{LocalRule, IsRule, IsWord, word_of, local_map}
+use Rattle.word_image.specs.Storage.{padded}
+use Rattle.word_image.proofs.laws.RuleFaults.{window_count-le}
+use Rattle.word_image.proofs.laws.Values.{IsWord-word_of, value-word_of}
+use Rattle.rule_algebra.specs.Algebra.{recoloured}
+use Rattle.rule_algebra.proofs.laws.Tables.{length-table_by}
+use Rattle.rule_classes.specs.Classes.{turned}
+use Rattle.rule_classes.specs.Colourings.{IsColouring, new_letter, entry, in_colours, old_value}
+use Rattle.rule_classes.specs.Tables.{HasZeros, AreFilled}
+use Rattle.rule_classes.specs.declared.colourings.Colouring.{Colouring}
+use Rattle.rule_classes.proofs.laws.Colourings.{get_or-in_colours, turned-below}
+
+-- Room and zeros
+
+zeros-only : (n i : ℕ) → slice_index (replicate n 0) i ≡ 0
+zeros-only n i =
+    ⊎_elim (λ less. get_or-replicate n i 0 0 less) (λ past. get_or-eq_default (replicate n 0) 0 (omega (arith, length-replicate {A = ℕ} n 0))) (cases_lt i n)
+
+length-padded : (table : List ℕ) → length table ≤ 256 → length (padded table) ≡ 256
+length-padded table few = length-append table (replicate (256 - length table) 0) ∙ ap (λ n. length table + n) (length-replicate {A = ℕ} (256 - length table) 0) ∙ omega arith
+
+past-padded : (table : List ℕ) (v : ℕ) → length table ≤ v → slice_index (padded table) v ≡ 0
+past-padded table v past = get_or-append_right table (replicate (256 - length table) 0) v 0 past ∙ zeros-only (256 - length table) (v - length table)
+
+-- a table of the rule's length that is padded has zeros after it
+pub HasZeros-padded : {r : LocalRule} {entries : List ℕ} (table : List ℕ) → IsRule r → length table ≡ r.states ^ r.width → entries ≡ padded table → HasZeros r entries
+HasZeros-padded {r} {entries} table rule long same =
+    let few = window_count-le r.states r.width r.offset rule.shape in
+    subst (HasZeros r) (sym same) (record {
+      long = length-padded table (omega (arith, few));
+      zeros = λ v past. past-padded table v (omega arith);
+    })
+
+-- Filling
+
+-- what the items below n have and the new one at n has, all up to n have
+filled : (f : ℕ → ℕ) (xs : List ℕ) (n x : ℕ) → n < length xs → x ≡ f n → ((v : ℕ) → v < n → slice_index xs v ≡ f v) → (v : ℕ) → v < n + 1 → slice_index (set xs n x) v ≡ f v
+filled f xs n x room new old v l =
+    ⊎_elim
+    (λ before. get_or-set_other xs n v x 0 (λ e. omega arith) ∙ old v before)
+    (λ from.
+    let one : v ≡ n = omega arith in
+    rw one (get_or-set_same xs n x 0 room ∙ new))
+    (cases_lt v n)
+
+-- one window more
+pub AreFilled-more : {r : LocalRule} {c : Colouring} {n : ℕ} {windows entries : List ℕ} (old colour : ℕ) → IsRule r → n < r.states ^ r.width → old ≡ old_value r c n → colour ≡ entry r c n
+    → AreFilled r c n windows entries → AreFilled r c (n + 1) (set windows n old) (set entries n colour)
+AreFilled-more {r} {c} {n} {windows} {entries} old colour rule below value gives h =
+    let few = window_count-le r.states r.width r.offset rule.shape in
+    let values = filled (old_value r c) windows n old (omega (arith, h.windows_long, few)) value h.values in
+    record {
+      windows_long = length-set windows n old ∙ h.windows_long;
+      first = values 0 (omega arith);
+      values = values;
+      colours = filled (entry r c) entries n colour (omega (arith, h.zeros.long, few)) gives h.colours;
+      zeros = record {
+        long = length-set entries n colour ∙ h.zeros.long;
+        zeros = λ v past. get_or-set_other entries n v colour 0 (λ e. omega arith) ∙ h.zeros.zeros v past;
+      };
+    }
+
+-- where all are filled, the table is that of the recoloured rule
+pub AreFilled-all : {r : LocalRule} {c : Colouring} {windows entries : List ℕ} → IsRule r → AreFilled r c (r.states ^ r.width) windows entries → entries ≡ padded (in_colours r c).table
+AreFilled-all {r} {c} {windows} {entries} rule h =
+    let table : List ℕ = (in_colours r c).table in
+    let long : length table ≡ r.states ^ r.width = length-table_by r.states r.width (new_letter r c) in
+    let few = window_count-le r.states r.width r.offset rule.shape in
+    ext_get_or 0 _ _ (h.zeros.long ∙ sym (length-padded table (omega (arith, few)))) (λ v l.
+    ⊎_elim
+    (λ (below : v < r.states ^ r.width). h.colours v below ∙ sym (get_or_append_left table (replicate (256 - length table) 0) 0 v (omega arith) ∙ get_or-in_colours r c v below))
+    (λ (past : r.states ^ r.width ≤ v). h.zeros.zeros v past ∙ sym (past-padded table v (omega arith)))
+    (cases_lt v (r.states ^ r.width)))
+
+-- The rule itself
+
+-- where each letter is its own colour, words are unchanged
+recoloured-own : {k : ℕ} (letters w : List ℕ) → ((a : ℕ) → a < k → slice_index letters a ≡ a) → IsWord k w → recoloured letters w ≡ w
+recoloured-own {k} letters w own word =
+    ext_get_or 0 _ _ (length-map w (slice_index letters)) (λ i l.
+    let within : i < length w = omega (arith, length-map w (slice_index letters)) in
+    get_or-map (slice_index letters) w i 0 0 within ∙ own (get_or w i 0) (word i 0 within))
+
+-- and the rule
+pub table-own : {r : LocalRule} (c : Colouring) → IsRule r → IsColouring r.states c → c.mirrored ≡ false → ((a : ℕ) → a < r.states → slice_index c.letters a ≡ a) → (in_colours r c).table ≡ r.table
+table-own {r} c rule colouring straight own =
+    let long : length (in_colours r c).table ≡ r.states ^ r.width = length-table_by r.states r.width (new_letter r c) in
+    ext_get_or 0 _ _ (long ∙ sym rule.entries) (λ v l.
+    let below : v < r.states ^ r.width = omega arith in
+    let w : List ℕ = word_of r.states r.width v in
+    let x : ℕ = local_map (turned r c.mirrored) (recoloured c.letters w) in
+    let letter : x < r.states = turned-below rule c.mirrored (recoloured c.letters w) in
+    let same : x ≡ slice_index r.table v =
+    ap (λ mirror. local_map (turned r mirror) (recoloured c.letters w)) straight
+    ∙ ap (local_map r) (recoloured-own c.letters w own (IsWord-word_of r.states r.width v below))
+    ∙ ap (slice_index r.table) (value-word_of r.states r.width v below) in
+    get_or-in_colours r c v below ∙ ap (slice_index c.colours) (sym (own x letter)) ∙ colouring.there x letter ∙ same)

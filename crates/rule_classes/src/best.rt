@@ -1,0 +1,59 @@
+//! The least rule so far.
+ghost use Rattle.std.specs.Prelude.{◌≡◌, ◌≤◌, false};
+ghost use Rattle.word_image.specs.LocalRules.{IsRule};
+ghost use Rattle.rule_classes.specs.Colourings.{IsColouring, in_colours};
+ghost use Rattle.rule_classes.specs.Best.{IsBest};
+
+use crate::colourings::Colouring;
+use word_image::{MOST_ENTRIES, Rule};
+
+/// The least rule so far.
+#[derive(Clone, Copy)]
+pub struct Best {
+    /// How many nodes it has, as each rule of the class.
+    pub nodes: u8,
+    /// Its colouring.
+    pub colouring: Colouring,
+    /// The letters of its table, and zeros after them.
+    pub entries: [u8; MOST_ENTRIES],
+}
+
+impl Best {
+    /// The rule itself, where each letter is its own colour.
+    pub fn own(rule: &Rule) -> Best
+        requires states { rule.now.states ≤ 6 }
+        ensures straight { result.colouring.mirrored ≡ false }
+        ensures best { IsBest rule.now result }
+    {
+        let mut entries = [0; MOST_ENTRIES];
+        let size = usize::from(rule.size());
+        entries[..size].copy_from_slice(rule.table());
+        Best {
+            nodes: rule.nodes(),
+            colouring: Colouring::unchanged(false),
+            entries,
+        }
+    }
+
+    /// Takes the rule that another colouring makes.
+    pub fn take(&mut self, rule: &Rule, colouring: Colouring)
+        requires rule { IsRule rule.now }
+        requires states { rule.now.states ≤ 6 }
+        requires best { IsBest rule.now self.old }
+        requires colouring { IsColouring rule.now.states colouring }
+        ensures colouring { self.new.colouring ≡ colouring }
+        ensures best { IsBest rule.now self.new }
+    {
+        self.colouring = colouring;
+        colouring.fill(rule, self.nodes, &mut self.entries);
+    }
+
+    /// The least rule so far, at offset 0.
+    pub fn rule(&self, rule: &Rule) -> Rule
+        requires { IsBest rule.now self.now }
+        ensures { result ≡ in_colours rule.now self.now.colouring }
+    {
+        let size = usize::from(rule.size());
+        Rule::new(rule.k(), rule.m(), 0, &self.entries[..size]).unwrap()
+    }
+}
