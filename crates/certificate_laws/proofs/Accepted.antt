@@ -10,15 +10,14 @@ use Rattle.certificate_laws.proofs.MetConditions.{MeetsConditions-written}
 use Rattle.certificate_laws.proofs.ShortTexts.{short-written}
 
 -- bytes that say what is written for a rule are accepted with its verdicts
-pub IsAccepted-written : {r : LocalRule} {c : Certificate} {bytes : List ℕ} → IsRule r → c.rule ≡ r → HasWrittenParts r c → IsCertificateText bytes c → IsAccepted bytes (verdicts_of c)
-IsAccepted-written {c = c} rule same parts text = record { certificate = c; text = text; meets = MeetsConditions-written rule same parts; verdicts = refl }
+pub IsAccepted-written : {r : LocalRule} {c : Certificate} {bytes : List ℕ} → IsRule r → HasWrittenParts r c → IsCertificateText bytes c → IsAccepted bytes (verdicts_of c)
+IsAccepted-written {c = c} rule parts text = record { certificate = c; text = text; meets = MeetsConditions-written rule parts; verdicts = refl }
 
 -- so where its text is read back, what has the parts is the certificate that is written for the rule
-pub IsWritten-read_back : {r : LocalRule} {c : Certificate} {bytes : List ℕ} → IsRule r → c.rule ≡ r → HasWrittenParts r c → bytes ≡ certificate_text c → IsCertificateText bytes c → IsWritten r c
-IsWritten-read_back {c = c} rule same parts written text =
+pub IsWritten-read_back : {r : LocalRule} {c : Certificate} {bytes : List ℕ} → IsRule r → HasWrittenParts r c → bytes ≡ certificate_text c → IsCertificateText bytes c → IsWritten r c
+IsWritten-read_back {c = c} rule parts written text =
     record {
-      rule = same;
       parts = parts;
-      accepted = IsAccepted-written rule same parts (subst (λ b. IsCertificateText b c) written text);
-      short = short-written rule same parts;
+      accepted = IsAccepted-written rule parts (subst (λ b. IsCertificateText b c) written text);
+      short = short-written rule parts;
     }

@@ -21,12 +21,13 @@ use Rattle.pair_laws.proofs.Aheads.{IsRightAhead-pairs}
 use Rattle.ring_laws.proofs.Gains.{gain}
 use Rattle.ring_laws.proofs.FluxWalks.{zeros, length-zeros, IsWord-zeros, walk_gain, IsFlux-unique}
 use Rattle.cert_format.specs.Certificates.{SurjectiveEvidence, InjectiveEvidence, SumEvidence, IsSurjectiveShape, IsInjectiveShape, IsSideShape, IsSumShape, IsClaim, IsRankShape}
+use Rattle.cert_format.specs.Certificates.SurjectiveEvidence.{Sets, Orphan}
+use Rattle.cert_format.specs.Certificates.InjectiveEvidence.{Window, Twins}
 use Rattle.cert_format.specs.Certificates.SideEvidence.{Ahead}
+use Rattle.cert_format.specs.Certificates.SumEvidence.{Flux, Ring}
 use Rattle.cert_format.specs.Readings.{IsNear}
-use Rattle.certificate_laws.specs.WrittenCertificates.{IsSurjectivePart, IsInjectivePart, IsConservingPart, AreRanks}
-use Rattle.certificate_laws.specs.WrittenCertificates.IsSurjectivePart.{Yes as Onto, No as NotOnto}
-use Rattle.certificate_laws.specs.WrittenCertificates.IsInjectivePart.{Yes as OneToOne, No as NotOneToOne}
-use Rattle.certificate_laws.specs.WrittenCertificates.IsConservingPart.{Yes as Keeps, No as Loses}
+use Rattle.certificate_laws.specs.Evidence.{IsOrphanPart, IsInjectivePart, IsConservingPart, orphan_of}
+use Rattle.certificate_laws.specs.WrittenCertificates.{IsFamilyPart, AreRanks}
 use Rattle.certificate_laws.proofs.MetConditions.{IsLastSet-each}
 
 -- a rule has at most 256 pairs of nodes
@@ -34,10 +35,10 @@ pub pair_count-le : {r : LocalRule} → IsRule r → pair_count r ≤ 256
 pair_count-le rule = mul-le-mul rule.shape.most_nodes rule.shape.most_nodes
 
 -- the family's sets are sets of nodes, and an orphan is a word
-pub IsSurjectiveShape-written : {r : LocalRule} {e : SurjectiveEvidence} → IsSurjectivePart r e → IsSurjectiveShape r e
-IsSurjectiveShape-written {r} (Onto sets surjective family) = λ i d l.
+pub IsSurjectiveShape-written : (r : LocalRule) (e : SurjectiveEvidence) → IsOrphanPart r (orphan_of e) → IsFamilyPart r e → IsSurjectiveShape r e
+IsSurjectiveShape-written r (Sets sets) surjective family = λ i d l.
     let last = IsLastSet-each r sets family.words family.each (get_or sets i d) (Contains-get_or sets i d l) in omega (arith, last.1.within)
-IsSurjectiveShape-written (NotOnto w least) = least.orphan.word
+IsSurjectiveShape-written r (Orphan w) least family = least.orphan.word
 
 -- the least determined window has at most twice as many letters as there are pairs
 IsLeastDetermined-le : {r : LocalRule} {n c : ℕ} → IsRule r → IsLeastDetermined r n c → n ≤ pair_count r + pair_count r
@@ -46,14 +47,15 @@ IsLeastDetermined-le {r} {n} {c} rule least =
     ⊎_elim (λ less. absurd (least.least (pair_count r + pair_count r) (pair_count r) (inl less) most)) (λ not_less. not_less) (cases_lt (pair_count r + pair_count r) n)
 
 -- the least window is within its limits, and twins are words
-pub IsInjectiveShape-written : {r : LocalRule} {e : InjectiveEvidence} → IsRule r → IsInjectivePart r e → IsInjectiveShape r e
-IsInjectiveShape-written {r} rule (OneToOne n c injective least) =
+pub IsInjectiveShape-written : {r : LocalRule} → IsRule r → (e : InjectiveEvidence) → IsInjectivePart r e → IsInjectiveShape r e
+IsInjectiveShape-written {r} rule (Window n c) part =
+    let least = part.1 in
     let few = IsLeastDetermined-le rule least in
     let pairs = pair_count-le rule in
     let width = rule.shape.most_width in
     let inside = least.determined.inside in
     (least.determined.some, omega arith, inside, omega arith)
-IsInjectiveShape-written rule (NotOneToOne x y least) = (least.twins.first.word, least.twins.second.word)
+IsInjectiveShape-written rule (Twins x y) part = (part.1.twins.first.word, part.1.twins.second.word)
 
 -- the least look-ahead is at most one more than the number of pairs
 IsLeastRightAhead-le : {r : LocalRule} {n : ℕ} → IsRule r → IsLeastRightAhead r n → n ≤ pair_count r + 1
@@ -106,13 +108,13 @@ IsNear-walk_gain {r} rule v l =
     (omega (arith, length-append z (zeros r), length-zeros r, length-word_of r.states (r.width - 1) v))
 
 -- the flux that is 0 at node 0 is within the limits, and a ring is a word
-pub IsSumShape-written : {r : LocalRule} {e : SumEvidence} → IsRule r → IsConservingPart (λ a. a) r e → IsSumShape r e
-IsSumShape-written {r} rule (Keeps phi conserving flux zeroth) = (
-  flux.entries,
+pub IsSumShape-written : {r : LocalRule} → IsRule r → (e : SumEvidence) → IsConservingPart (λ a. a) r e → IsSumShape r e
+IsSumShape-written {r} rule (Flux phi) part = (
+  part.1.entries,
   All-from_get_or IsNear phi (pos 0) (λ v l.
-      let below : v < node_count r = omega (arith, flux.entries) in
+      let below : v < node_count r = omega (arith, part.1.entries) in
       let same : get_or phi v (pos 0) ≡ walk_gain (λ a. a) r v =
-      ap (λ (f : List ℤ). get_or f v (pos 0)) (IsFlux-unique rule flux zeroth) ∙ get_or-map-range_with_len (walk_gain (λ a. a) r) 0 (node_count r) v v (pos 0) below (omega arith) in
+      ap (λ (f : List ℤ). get_or f v (pos 0)) (IsFlux-unique rule part.1 part.2) ∙ get_or-map-range_with_len (walk_gain (λ a. a) r) 0 (node_count r) v v (pos 0) below (omega arith) in
       subst IsNear (sym same) (IsNear-walk_gain rule v below)),
 )
-IsSumShape-written rule (Loses p least) = least.lossy.ring.word
+IsSumShape-written rule (Ring p) part = part.1.lossy.ring.word

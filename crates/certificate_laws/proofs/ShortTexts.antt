@@ -1,5 +1,5 @@
 -- The text that is written for a rule has fewer than 450,000 bytes.
-use Rattle.std.proofs.Common.{◌≡◌, ℕ, ◌+◌, ◌-◌, ◌^◌, ◌<◌, ◌≤◌, true, false, List, [], ◌∷◌, length, map, Option, Some, None, arith, length-append}
+use Rattle.std.proofs.Common.{ℕ, ◌+◌, ◌-◌, ◌^◌, ◌<◌, ◌≤◌, true, false, List, [], ◌∷◌, length, map, Option, Some, None, arith, length-append}
 use Rattle.std.specs.Prelude.{ℤ, pos, negsuc, ◌≤ℤ◌, codes}
 use Rattle.std.proofs.Math.Nat.{pow-le-pow_right}
 use Rattle.std.proofs.lemmas.Fmt.{length-decimal-le, length_signed_le}
@@ -13,13 +13,14 @@ use Rattle.word_image.proofs.laws.RuleFaults.{window_count-le}
 use Rattle.tail_config.specs.TailTexts.{IsShortTail}
 use Rattle.rule_text.specs.RuleTexts.{offset_text, printed}
 use Rattle.cert_format.specs.Certificates.{Certificate, SurjectiveEvidence, InjectiveEvidence, SideEvidence, SumEvidence, IsSurjectiveShape, IsInjectiveShape, IsSideShape, IsSumShape, IsClaim, IsRankShape, IsShaped}
+use Rattle.cert_format.specs.Certificates.SurjectiveEvidence.{Sets, Orphan}
+use Rattle.cert_format.specs.Certificates.InjectiveEvidence.{Window, Twins}
 use Rattle.cert_format.specs.Certificates.SideEvidence.{Ahead, Split}
+use Rattle.cert_format.specs.Certificates.SumEvidence.{Flux, Ring}
 use Rattle.cert_format.specs.Readings.{IsNear}
 use Rattle.cert_format.specs.WrittenTexts.{array_from, whole_value, signed_value, word_value, tail_value, claim_value, surjective_value, injective_value, side_value, sum_value, ranks_value, certificate_text}
-use Rattle.certificate_laws.specs.WrittenCertificates.{IsSurjectivePart, IsInjectivePart, IsConservingPart, HasWrittenParts}
-use Rattle.certificate_laws.specs.WrittenCertificates.IsSurjectivePart.{Yes as Onto, No as NotOnto}
-use Rattle.certificate_laws.specs.WrittenCertificates.IsInjectivePart.{Yes as OneToOne, No as NotOneToOne}
-use Rattle.certificate_laws.specs.WrittenCertificates.IsConservingPart.{Yes as Keeps, No as Loses}
+use Rattle.certificate_laws.specs.Evidence.{IsOrphanPart, IsInjectivePart, IsConservingPart, orphan_of}
+use Rattle.certificate_laws.specs.WrittenCertificates.{IsFamilyPart, HasWrittenParts}
 use Rattle.certificate_laws.proofs.MetConditions.{own_parts}
 use Rattle.certificate_laws.proofs.Limits.{pair_count-le}
 use Rattle.certificate_laws.proofs.WrittenShapes.{IsShaped-written}
@@ -59,16 +60,16 @@ length-printed {r} rule =
     simp (length-append, length-map) (omega arith)
 
 -- the sets of a family, or an orphan
-length-surjective_value : {r : LocalRule} {e : SurjectiveEvidence} → IsRule r → IsSurjectiveShape r e → IsSurjectivePart r e → length (compact_text (surjective_value e)) ≤ 393248
-length-surjective_value {r} rule shape (Onto sets surjective family) =
+length-surjective_value : {r : LocalRule} → IsRule r → (e : SurjectiveEvidence) → IsSurjectiveShape r e → IsOrphanPart r (orphan_of e) → IsFamilyPart r e → length (compact_text (surjective_value e)) ≤ 393248
+length-surjective_value {r} rule (Sets sets) shape surjective family =
     let most : 2 ^ node_count r ≤ 2 ^ 16 = pow-le-pow_right (omega arith) rule.shape.most_nodes in
     let small = All-weaker (λ s. s ≤ 2 ^ node_count r - 1) (λ s. length (compact_text (whole_value s)) ≤ 5) (λ s l. length-whole_value s (omega (arith, l, most))) sets shape in
     omega (arith, length-only (codes "sets") (array_from (map whole_value sets)), length-values whole_value 5 sets small, length-family rule family)
-length-surjective_value rule shape (NotOnto w least) = omega (arith, length-IsLeastOrphan rule least, length-only (codes "orphan") (word_value w), length-word_value w)
+length-surjective_value rule (Orphan w) shape least family = omega (arith, length-IsLeastOrphan rule least, length-only (codes "orphan") (word_value w), length-word_value w)
 
 -- a window or twins
-length-injective_value : {r : LocalRule} {e : InjectiveEvidence} → IsRule r → IsInjectiveShape r e → IsInjectivePart r e → length (compact_text (injective_value e)) ≤ 1100
-length-injective_value rule shape (OneToOne n c injective least) =
+length-injective_value : {r : LocalRule} → IsRule r → (e : InjectiveEvidence) → IsInjectiveShape r e → IsInjectivePart r e → length (compact_text (injective_value e)) ≤ 1100
+length-injective_value rule (Window n c) shape part =
     omega (
       arith,
       length-member false (codes "c") (whole_value c) (member (codes "n") (whole_value n) no_members),
@@ -76,8 +77,8 @@ length-injective_value rule shape (OneToOne n c injective least) =
       length-whole_value n shape.1,
       length-whole_value c shape.3,
     )
-length-injective_value rule shape (NotOneToOne x y least) =
-    let brief = length-IsLeastTwins rule least in
+length-injective_value rule (Twins x y) shape part =
+    let brief = length-IsLeastTwins rule part.1 in
     omega (arith, brief.0, brief.1, length-only (codes "twins") (array_from (word_value x ∷ word_value y ∷ [])), length-pair (word_value x) (word_value y), length-word_value x, length-word_value y)
 
 -- a look-ahead or a split
@@ -89,11 +90,11 @@ length-side_value r (Split x y) shape =
     omega (arith, length-only (codes "split") (array_from (tail_value x ∷ tail_value y ∷ [])), length-pair (tail_value x) (tail_value y), length-tail_value x, length-tail_value y)
 
 -- a flux or a ring
-length-sum_value : {r : LocalRule} {e : SumEvidence} → IsRule r → IsSumShape r e → IsConservingPart (λ a. a) r e → length (compact_text (sum_value e)) ≤ 200
-length-sum_value rule shape (Keeps phi conserving flux zeroth) =
+length-sum_value : {r : LocalRule} → IsRule r → (e : SumEvidence) → IsSumShape r e → IsConservingPart (λ a. a) r e → length (compact_text (sum_value e)) ≤ 200
+length-sum_value rule (Flux phi) shape part =
     let small = All-weaker IsNear (λ z. length (compact_text (signed_value z)) ≤ 8) length-signed_value phi shape.1 in
     omega (arith, length-only (codes "flux") (array_from (map signed_value phi)), length-values signed_value 8 phi small, shape.0, rule.shape.most_nodes)
-length-sum_value rule shape (Loses p least) = omega (arith, length-IsLeastLossyRing rule least, rule.shape.most_width, length-only (codes "ring") (word_value p), length-word_value p)
+length-sum_value rule (Ring p) shape part = omega (arith, length-IsLeastLossyRing rule part.1, rule.shape.most_width, length-only (codes "ring") (word_value p), length-word_value p)
 
 -- the ranks of one direction
 length-row : {r : LocalRule} {row : List (Option ℕ)} → IsRule r → IsRankShape r row → length (compact_text (array_from (map claim_value row))) ≤ 1538
@@ -129,17 +130,17 @@ short-own {c} shaped parts =
       length-member true (codes "rule") (string (printed c.rule)) surjective,
       length-member true (codes "surjective") (surjective_value c.surjective) version,
       length-member true (codes "version") (whole_value 1) no_members,
-      length-sum_value rule shaped.conserving parts.conserving,
-      length-injective_value rule shaped.injective parts.injective,
+      length-sum_value rule c.conserving shaped.conserving parts.least.conserving,
+      length-injective_value rule c.injective shaped.injective parts.least.injective,
       length-side_value c.rule c.left shaped.left,
       length-ranks_value rule shaped.forward shaped.backward,
       length-side_value c.rule c.right shaped.right,
       length-quoted (printed c.rule),
       length-printed rule,
-      length-surjective_value rule shaped.surjective parts.surjective,
+      length-surjective_value rule c.surjective shaped.surjective parts.least.surjective parts.family,
       length-whole_value 1 (omega arith),
     )
 
 -- the text that is written for a rule is short
-pub short-written : {r : LocalRule} {c : Certificate} → IsRule r → c.rule ≡ r → HasWrittenParts r c → length (certificate_text c) < 450000
-short-written rule same parts = short-own (IsShaped-written rule same parts) (own_parts same parts)
+pub short-written : {r : LocalRule} {c : Certificate} → IsRule r → HasWrittenParts r c → length (certificate_text c) < 450000
+short-written rule parts = short-own (IsShaped-written rule parts) (own_parts parts)

@@ -1,5 +1,5 @@
 -- What is written for a rule has the shape of a certificate.
-use Rattle.std.proofs.Common.{◌≡◌, ℕ, length, sym, ap, subst, arith}
+use Rattle.std.proofs.Common.{ℕ, length, sym, ap, subst, arith}
 use Rattle.std.proofs.lemmas.List.{length-reverse}
 use Rattle.word_image.specs.LocalRules.{LocalRule, IsRule}
 use Rattle.word_image.specs.Ranks.{BeginTogether, EndTogether}
@@ -10,10 +10,9 @@ use Rattle.tail_config.specs.TailTexts.{IsShortTail}
 use Rattle.tail_config.specs.Splits.{IsLeastRightSplit}
 use Rattle.tail_config.proofs.laws.Mirror.{IsTail-mirror}
 use Rattle.cert_format.specs.Certificates.{Certificate, SideEvidence, IsSideShape, IsShaped}
-use Rattle.cert_format.specs.Certificates.SideEvidence.{Split}
-use Rattle.certificate_laws.specs.WrittenCertificates.{IsRightPart, IsLeftPart, HasWrittenParts}
-use Rattle.certificate_laws.specs.WrittenCertificates.IsRightPart.{Yes as ClosesRight, No as SplitsRight}
-use Rattle.certificate_laws.specs.WrittenCertificates.IsLeftPart.{Yes as ClosesLeft, No as SplitsLeft}
+use Rattle.cert_format.specs.Certificates.SideEvidence.{Ahead, Split}
+use Rattle.certificate_laws.specs.Evidence.{IsRightPart, IsLeftPart}
+use Rattle.certificate_laws.specs.WrittenCertificates.{HasWrittenParts}
 use Rattle.certificate_laws.proofs.MetConditions.{own_parts}
 use Rattle.certificate_laws.proofs.ShortSplits.{IsLeastRightSplit-le}
 use Rattle.certificate_laws.proofs.Limits.{pair_count-le, IsSurjectiveShape-written, IsInjectiveShape-written, IsSideShape-ahead, IsSumShape-written, IsRankShape-exact}
@@ -40,14 +39,15 @@ IsShortTail-mirror {k} {t} short =
     }
 
 -- the part of the right is within its limits
-IsSideShape-right : {r : LocalRule} {e : SideEvidence} → IsRule r → IsRightPart r e → IsSideShape r e
-IsSideShape-right rule (ClosesRight n closing least) = IsSideShape-ahead rule least
-IsSideShape-right rule (SplitsRight x y least) = IsSideShape-split rule least
+IsSideShape-right : {r : LocalRule} → IsRule r → (e : SideEvidence) → IsRightPart r e → IsSideShape r e
+IsSideShape-right rule (Ahead n) part = IsSideShape-ahead rule part.1
+IsSideShape-right rule (Split x y) part = IsSideShape-split rule part.1
 
 -- and that of the left
-IsSideShape-left : {r : LocalRule} {e : SideEvidence} → IsRule r → IsLeftPart r e → IsSideShape r e
-IsSideShape-left rule (ClosesLeft n closing least) = IsSideShape-ahead (IsRule-mirrored rule) least
-IsSideShape-left {r} rule (SplitsLeft x y least) =
+IsSideShape-left : {r : LocalRule} → IsRule r → (e : SideEvidence) → IsLeftPart r e → IsSideShape r e
+IsSideShape-left rule (Ahead n) part = IsSideShape-ahead (IsRule-mirrored rule) part.1
+IsSideShape-left {r} rule (Split x y) part =
+    let least = part.1 in
     let shape = IsSideShape-split {x = least.first} {y = least.second} (IsRule-mirrored rule) least.right in
     (subst (IsShortTail r.states) (sym least.x_is) (IsShortTail-mirror shape.0), subst (IsShortTail r.states) (sym least.y_is) (IsShortTail-mirror shape.1))
 
@@ -56,15 +56,15 @@ IsShaped-own : {c : Certificate} → IsRule c.rule → HasWrittenParts c.rule c 
 IsShaped-own {c} rule parts =
     record {
       rule = rule;
-      surjective = IsSurjectiveShape-written parts.surjective;
-      injective = IsInjectiveShape-written rule parts.injective;
-      right = IsSideShape-right rule parts.right;
-      left = IsSideShape-left rule parts.left;
-      conserving = IsSumShape-written rule parts.conserving;
+      surjective = IsSurjectiveShape-written c.rule c.surjective parts.least.surjective parts.family;
+      injective = IsInjectiveShape-written rule c.injective parts.least.injective;
+      right = IsSideShape-right rule c.right parts.least.right;
+      left = IsSideShape-left rule c.left parts.least.left;
+      conserving = IsSumShape-written rule c.conserving parts.least.conserving;
       forward = IsRankShape-exact (BeginTogether c.rule) rule (λ u v n rank. IsRank-begin rule rank) parts.forward;
       backward = IsRankShape-exact (EndTogether c.rule) rule (λ u v n rank. IsRank-end rule rank) parts.backward;
     }
 
 -- what is written for a rule has the shape of a certificate
-pub IsShaped-written : {r : LocalRule} {c : Certificate} → IsRule r → c.rule ≡ r → HasWrittenParts r c → IsShaped c
-IsShaped-written rule same parts = IsShaped-own (subst IsRule (sym same) rule) (own_parts same parts)
+pub IsShaped-written : {r : LocalRule} {c : Certificate} → IsRule r → HasWrittenParts r c → IsShaped c
+IsShaped-written rule parts = IsShaped-own (subst IsRule (sym parts.least.rule) rule) (own_parts parts)

@@ -1,0 +1,72 @@
+-- The evidence of what holds of a rule: for each of five questions yes or no, and the least that shows it.
+use Rattle.std.specs.Prelude.{◌≡◌, ℕ, List, slice_get, Option, Some, None, pos}
+use Rattle.word_image.specs.LocalRules.{LocalRule, mirrored}
+use Rattle.word_image.specs.Words.{IsSurjective, IsLeastOrphan}
+use Rattle.word_image.specs.Rings.{IsConserving, IsFlux, IsLeastLossyRing, IsLeastTwins}
+use Rattle.word_image.specs.Windows.{IsLeastDetermined, IsLeastRightAhead}
+use Rattle.tail_config.specs.Tails.{IsInjective, IsRightClosing, IsLeftClosing}
+use Rattle.tail_config.specs.Splits.{IsLeastRightSplit, IsLeastLeftSplit}
+use Rattle.cert_format.specs.Certificates.{Certificate, SurjectiveEvidence, InjectiveEvidence, SideEvidence, SumEvidence}
+use Rattle.cert_format.specs.Certificates.SurjectiveEvidence.{Sets, Orphan}
+use Rattle.cert_format.specs.Certificates.InjectiveEvidence.{Window, Twins}
+use Rattle.cert_format.specs.Certificates.SideEvidence.{Ahead, Split}
+use Rattle.cert_format.specs.Certificates.SumEvidence.{Flux, Ring}
+
+-- of a rule: an orphan, or none where it is surjective, and what is said of the other four questions
+pub record Evidence : Type 0 where
+  pub rule : LocalRule
+  pub orphan : Option (List ℕ)
+  pub injective : InjectiveEvidence
+  pub right : SideEvidence
+  pub left : SideEvidence
+  pub conserving : SumEvidence
+
+-- the orphan, where there is one
+abbrev pub orphan_of : SurjectiveEvidence → Option (List ℕ)
+orphan_of (Sets sets) = None
+orphan_of (Orphan w) = Some w
+
+-- what a certificate has of it: all but the sets and the ranks
+abbrev pub evidence_of : Certificate → Evidence
+evidence_of c = record {
+  rule = c.rule;
+  orphan = orphan_of c.surjective;
+  injective = c.injective;
+  right = c.right;
+  left = c.left;
+  conserving = c.conserving;
+}
+
+-- every word has a preimage; or this is the least orphan
+abbrev pub IsOrphanPart : LocalRule → Option (List ℕ) → Type 0
+IsOrphanPart r None = IsSurjective r
+IsOrphanPart r (Some w) = IsLeastOrphan r w
+
+-- no two configurations share an image, and this is the least determined window; or some do, and these are the least twins
+abbrev pub IsInjectivePart : LocalRule → InjectiveEvidence → Type 0
+IsInjectivePart r (Window n c) = IsInjective r × IsLeastDetermined r n c
+IsInjectivePart r (Twins x y) = ¬ IsInjective r × IsLeastTwins r x y
+
+-- the rule is right-closing, and this is the least look-ahead; or it isn't, and this is the least normal split
+abbrev pub IsRightPart : LocalRule → SideEvidence → Type 0
+IsRightPart r (Ahead n) = IsRightClosing r × IsLeastRightAhead r n
+IsRightPart r (Split x y) = ¬ IsRightClosing r × IsLeastRightSplit r x y
+
+-- the same on the left
+abbrev pub IsLeftPart : LocalRule → SideEvidence → Type 0
+IsLeftPart r (Ahead n) = IsLeftClosing r × IsLeastRightAhead (mirrored r) n
+IsLeftPart r (Split x y) = ¬ IsLeftClosing r × IsLeastLeftSplit r x y
+
+-- every ring keeps its sum, and this is the flux that is 0 at node 0; or some doesn't, and this is the least
+abbrev pub IsConservingPart : (ℕ → ℕ) → LocalRule → SumEvidence → Type 0
+IsConservingPart weight r (Flux phi) = IsConserving weight r × IsFlux weight r phi × (slice_get phi 0 ≡ Some (pos 0))
+IsConservingPart weight r (Ring p) = ¬ IsConserving weight r × IsLeastLossyRing weight r p
+
+-- each verdict is true of the rule, and its evidence is the least
+pub record IsLeastEvidence (weight : ℕ → ℕ) (r : LocalRule) (e : Evidence) : Type 0 where
+  pub rule : e.rule ≡ r
+  pub surjective : IsOrphanPart r e.orphan
+  pub injective : IsInjectivePart r e.injective
+  pub right : IsRightPart r e.right
+  pub left : IsLeftPart r e.left
+  pub conserving : IsConservingPart weight r e.conserving
