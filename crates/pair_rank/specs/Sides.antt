@@ -16,6 +16,10 @@ Together Backward = EndTogether
 abbrev pub PairGoes : Side → LocalRule → ℕ → ℕ → Type 0
 PairGoes side r p = Together side r (first_of r p) (second_of r p)
 
+-- this is the rank of the pair, and nothing where it is endless
+abbrev pub IsRankOf : Side → LocalRule → ℕ → Option ℕ → Type 0
+IsRankOf side r p rank = MatchOption rank (IsEndless (PairGoes side r p)) (IsRank (PairGoes side r p))
+
 -- the set has exactly the pairs that are endless
 pub record AreEndless (side : Side) (r : LocalRule) (set : List Bool) : Type 0 where
   pub count : length set ≡ pair_count r

@@ -18,12 +18,13 @@
 //!
 //! For k states and N = k^(m - 1) nodes a set of pairs is N rows of bits, and a round takes time
 //! **O(k·N)** in operations on rows, each `of` at most **O(k·N·N²)**, and each look-up **O(1)**. No call
-//! takes memory.
+//! takes memory but [`Ranks::row`], which copies all ranks of a side in time and memory **O(N²)**.
 #![tactic(auto)]
 
 mod endless;
 mod ranks;
 mod rounds;
+mod rows;
 #[cfg(test)]
 mod tests;
 

@@ -1,7 +1,7 @@
 //! Ranks, as a listing of words gives them.
 
 use crate::{Endless, Ranks};
-use pair_graph::Pairs;
+use pair_graph::{Pairs, Side};
 use std::alloc::{AllocError, Global};
 use std::process::Abort;
 use std::test::Fail;
@@ -105,6 +105,12 @@ fn rules_have_these_ranks(rt: HostRuntime) -> Result<(), Fail> {
         let table = letters(rt.alloc(), digits)?;
         let rule = Rule::new(k, m, o, &table)?;
         has_ranks(&rt, &rule, forward, backward);
+        let ranks = Ranks::of(&Pairs::of(&rule));
+        for (side, digits) in [(Side::Forward, forward), (Side::Backward, backward)] {
+            let row = ranks.row(rt.alloc(), side)?;
+            let digits = digits.iter().map(|digit| rank_of(*digit));
+            assert!(rt; row.as_slice().iter().copied().eq(digits));
+        }
     }
     Ok(())
 }
