@@ -1,13 +1,12 @@
 //! The verdicts of a certificate.
 
 ghost use Rattle.std.specs.Prelude.{◌≡◌};
-ghost use Rattle.cert_check.specs.Accepted.{verdicts_of};
+ghost use Rattle.cert_check.specs.Accepted.{verdicts_of, is_open};
 
 use cert_format::{Cert, InjectivePart, SidePart, SumPart, SurjectivePart};
 use word_image::Rule;
 
-/// What an accepted certificate says of its rule, and what is true of it. The rule is open exactly where
-/// it closes on both sides.
+/// What an accepted certificate says of its rule, and what is true of it.
 #[derive(Clone, Copy, Debug, PartialEq, Eq)]
 pub struct Verdicts {
     /// The rule.
@@ -37,5 +36,12 @@ impl Verdicts {
             left: matches!(&cert.left, SidePart::Ahead(_)),
             conserving: matches!(&cert.conserving, SumPart::Flux(_)),
         }
+    }
+
+    /// Whether the rule is open, which it is exactly where it closes on both sides.
+    pub fn is_open(&self) -> bool
+        ensures { result ≡ is_open self.now }
+    {
+        self.right && self.left
     }
 }

@@ -14,7 +14,7 @@ use Rattle.cert_check.proofs.laws.ClaimConditions.{IsInjective-said, IsRightClos
 use Rattle.cert_check.proofs.laws.SumConditions.{IsConserving-said}
 
 -- both are yes exactly where both are true
-both_true : {A B : Type 0} (a b : Bool) → IsTrue a ↔ A → IsTrue b ↔ B → IsTrue (a && b) ↔ (A × B)
+pub both_true : {A B : Type 0} (a b : Bool) → IsTrue a ↔ A → IsTrue b ↔ B → IsTrue (a && b) ↔ (A × B)
 both_true true true first second = ((λ _. (first.0 refl, second.0 refl)), (λ _. refl))
 both_true true false first second = ((λ no. absurd (false≢true no)), (λ both. second.1 both.1))
 both_true false b first second = ((λ no. absurd (false≢true no)), (λ both. first.1 both.0))
