@@ -1,5 +1,5 @@
 -- The evidence of what holds of a rule: for each of five questions yes or no, and the least that shows it.
-use Rattle.std.specs.Prelude.{◌≡◌, ℕ, List, slice_get, Option, Some, None, pos}
+use Rattle.std.specs.Prelude.{◌≡◌, ℕ, Bool, true, false, List, slice_get, Option, Some, None, pos}
 use Rattle.word_image.specs.LocalRules.{LocalRule, mirrored}
 use Rattle.word_image.specs.Words.{IsSurjective, IsLeastOrphan}
 use Rattle.word_image.specs.Rings.{IsConserving, IsFlux, IsLeastLossyRing, IsLeastTwins}
@@ -36,6 +36,12 @@ evidence_of c = record {
   left = c.left;
   conserving = c.conserving;
 }
+
+-- a look-ahead is given on both sides
+abbrev pub close_both : SideEvidence → SideEvidence → Bool
+close_both (Ahead n) (Ahead m) = true
+close_both (Ahead n) (Split x y) = false
+close_both (Split x y) left = false
 
 -- every word has a preimage; or this is the least orphan
 abbrev pub IsOrphanPart : LocalRule → Option (List ℕ) → Type 0
