@@ -1,0 +1,47 @@
+use Rattle.std.proofs.Common.{refl, subst}
+use Rattle.pair_graph.specs.declared.edges.Side.TheVariants.{Forward, Backward}
+use Rattle.cert_format.specs.Certificates.{Certificate}
+use Rattle.cert_format.specs.Parts.{surjective_of, injective_of, side_of, sum_of}
+use Rattle.certificate_laws.specs.Evidence as found
+use Rattle.certificate_laws.specs.WrittenCertificates.{HasWrittenParts}
+use Rattle.certificate_laws.proofs.WrittenShapes.{IsShaped-written}
+use Rattle.rule_verdicts.proofs.laws.WrittenParts.{AreRanks-row}
+use Rattle.rule_verdicts.proofs.evidence.Evidence.certificate.Goals as goal
+
+-- what is made
+abbrev made : goal.In_ok-surjective_part → Certificate
+made c = record {
+  rule = c.self.inside.rule;
+  surjective = surjective_of c.in_ok-surjective_part.field-0;
+  injective = injective_of c.self.inside.injective;
+  right = side_of c.self.inside.right;
+  left = side_of c.self.inside.left;
+  conserving = sum_of c.self.inside.conserving;
+  forward = c.in_ok-forward.forward;
+  backward = c.in_ok-backward.backward;
+}
+
+-- it is what is written for the rule
+HasWrittenParts-made : (c : goal.In_ok-surjective_part) → HasWrittenParts c.self.inside.rule (made c)
+HasWrittenParts-made c =
+    let same = c.self.invariant.1 in
+    let least = c.self.invariant.4 in
+    record {
+      least = record {
+        rule = refl;
+        surjective = c.in_ok-surjective_part.ensures.0;
+        injective = least.injective;
+        right = least.right;
+        left = least.left;
+        conserving = least.conserving;
+      };
+      family = c.in_ok-surjective_part.ensures.1;
+      forward = AreRanks-row Forward same c.in_ok-forward.ensures.each_pair c.in_ok-forward.ensures.ranks;
+      backward = AreRanks-row Backward same c.in_ok-backward.ensures.each_pair c.in_ok-backward.ensures.ranks;
+    }
+
+pub invariant_of-result : goal.invariant_of-result
+invariant_of-result c = (c.self.invariant.2, c.self.invariant.3, IsShaped-written c.self.invariant.0 (HasWrittenParts-made c))
+
+pub returns-clause-parts : goal.returns-clause-parts
+returns-clause-parts c = subst (λ (e : found.Evidence). HasWrittenParts e.rule (made c)) c.self.view_is (HasWrittenParts-made c)

@@ -1,0 +1,15 @@
+-- A rule is open exactly where its evidence has a look-ahead on both sides.
+use Rattle.std.proofs.Common.{refl}
+use Rattle.std.specs.Prelude.{◌↔◌, IsTrue}
+use Rattle.std.proofs.lemmas.Bool.{false≢true}
+use Rattle.word_image.specs.LocalRules.{LocalRule}
+use Rattle.tail_config.specs.Tails.{IsOpen}
+use Rattle.cert_format.specs.Certificates.{SideEvidence}
+use Rattle.cert_format.specs.Certificates.SideEvidence.{Ahead, Split}
+use Rattle.certificate_laws.specs.Evidence.{IsRightPart, IsLeftPart, close_both}
+
+-- where a side has a split it doesn't close, so the rule isn't open
+pub IsOpen-close_both : (r : LocalRule) (right left : SideEvidence) → IsRightPart r right → IsLeftPart r left → IsTrue (close_both right left) ↔ IsOpen r
+IsOpen-close_both r (Ahead n) (Ahead m) right left = ((λ _. (right.0, left.0)), (λ _. refl))
+IsOpen-close_both r (Ahead n) (Split x y) right left = ((λ no. absurd (false≢true no)), (λ both. absurd (left.0 both.1)))
+IsOpen-close_both r (Split x y) side right left = ((λ no. absurd (false≢true no)), (λ both. absurd (right.0 both.0)))

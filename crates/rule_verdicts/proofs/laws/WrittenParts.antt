@@ -1,0 +1,13 @@
+-- The evidence of a rule, its family and its ranks are what is written for it.
+use Rattle.std.proofs.Common.{◌≡◌, ℕ, ◌<◌, List, length, get_or, subst}
+use Rattle.std.specs.Prelude.{Option, None}
+use Rattle.word_image.specs.LocalRules.{LocalRule}
+use Rattle.word_image.specs.Graphs.{pair_count}
+use Rattle.pair_graph.specs.declared.edges.Side.{Side}
+use Rattle.pair_rank.specs.Sides.{Together, IsRankOf}
+use Rattle.certificate_laws.specs.WrittenCertificates.{AreRanks}
+
+-- a row of the ranks of an equal rule
+pub AreRanks-row : {q r : LocalRule} {row : List (Option ℕ)} (side : Side) → q ≡ r → length row ≡ pair_count q → ((p : ℕ) → p < pair_count q → IsRankOf side q p (get_or row p None))
+    → AreRanks r (Together side r) row
+AreRanks-row {row = row} side same each_pair ranks = subst (λ (s : LocalRule). AreRanks s (Together side s) row) same (record { each_pair = each_pair; ranks = ranks })

@@ -1,0 +1,20 @@
+use Rattle.std.proofs.Common.{◌≡◌, ℕ, zero, suc, ◌<◌, List, [], ◌∷◌, take, refl, sym, subst, arith}
+use Rattle.std.specs.Prelude.{pos, Some, slice_get}
+use Rattle.word_image.specs.LocalRules.{node_count}
+use Rattle.word_image.proofs.laws.Graphs.{node_count_pos}
+use Rattle.cert_format.specs.Certificates.SumEvidence.{Flux}
+use Rattle.certificate_laws.specs.Evidence.{IsConservingPart}
+use Rattle.rule_verdicts.proofs.parts.sum_part.Goals as goal
+
+-- a list begins with the first of its first items
+first_of_take : {A : Type 0} (n : ℕ) (xs : List A) (x : A) → 0 < n → slice_get xs 0 ≡ Some x → slice_get (take n xs) 0 ≡ Some x
+first_of_take zero xs x some first = absurd (omega arith)
+first_of_take (suc n) [] x some first = first
+first_of_take (suc n) (y ∷ xs) x some first = first
+
+pub returns-in_ok-flux_row-in-Flux : goal.returns-in_ok-flux_row-in-Flux
+returns-in_ok-flux_row-in-Flux c =
+    let r = c.args.rule.now in
+    let shown = c.in-Flux.ensures.shown in
+    subst (λ phi. IsConservingPart (λ a. a) r (Flux phi)) (sym c.in_ok-flux_row-in-Flux.ensures.row)
+    (c.in-Flux.ensures.conserving.0 refl, shown.flux, first_of_take (node_count r) c.in-Flux.flows (pos 0) (node_count_pos c.flux_row.ensures.rule) shown.starts)

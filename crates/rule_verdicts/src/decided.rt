@@ -1,0 +1,52 @@
+//! The verdicts of a rule, without their evidence.
+ghost use Rattle.std.specs.Prelude.{◌≡◌, ◌↔◌, IsTrue};
+ghost use Rattle.word_image.specs.Rings.{IsConserving};
+ghost use Rattle.cert_check.specs.Accepted.{AreTrue};
+
+use cert_check::Verdicts;
+use closing_test::{is_left_closing, is_right_closing};
+use debruijn::Graph;
+use eden_law::is_surjective;
+use flux_conserve::{Keeping, conserve};
+use inverse_window::is_injective;
+use pair_graph::Pairs;
+use pair_rank::Endless;
+use word_image::Rule;
+
+/// Decides all questions about a rule. It takes no memory.
+pub fn verdicts(rule: &Rule) -> Verdicts
+    ensures rule { result.rule ≡ rule.now }
+    ensures are_true { AreTrue result }
+{
+    let conserving = is_conserving(rule);
+    // An injective rule is surjective, and so is one that closes on a side.
+    if !is_surjective(&Graph::of(rule)) {
+        return Verdicts {
+            rule: *rule,
+            surjective: false,
+            injective: false,
+            right: false,
+            left: false,
+            conserving,
+        };
+    }
+    let endless = Endless::of(&Pairs::of(rule));
+    Verdicts {
+        rule: *rule,
+        surjective: true,
+        injective: is_injective(&endless),
+        right: is_right_closing(&endless),
+        left: is_left_closing(&endless),
+        conserving,
+    }
+}
+
+/// Whether every ring keeps its sum.
+fn is_conserving(rule: &Rule) -> bool
+    ensures { IsTrue result ↔ IsConserving (λ a. a) rule.now }
+{
+    match conserve(rule) {
+        Keeping::Flux(_) => true,
+        Keeping::Ring(_) => false,
+    }
+}

@@ -1,0 +1,110 @@
+//! The least evidence of each verdict, and the certificate that is made of it.
+ghost use Rattle.std.specs.Prelude.{◌≡◌, ◌↔◌, IsTrue, IfOk, OnOk};
+ghost use Rattle.word_image.specs.LocalRules.{IsRule};
+ghost use Rattle.tail_config.specs.Tails.{IsOpen};
+ghost use Rattle.cert_format.specs.Parts.{side_of};
+ghost use Rattle.certificate_laws.specs.Evidence.{IsLeastEvidence, close_both};
+ghost use Rattle.certificate_laws.specs.WrittenCertificates.{HasWrittenParts};
+
+use crate::parts::{injective_part, least_orphan, side_part, sum_part, surjective_part};
+use cert_format::{Cert, InjectivePart, SidePart, SumPart};
+use closing_test::{left, right};
+use least_walk::Walker;
+use pair_graph::{Pairs, Side};
+use pair_rank::Ranks;
+use std::alloc::{AllocError, Global};
+use std::marker::Model;
+use word_image::{Rule, Word};
+
+/// The verdicts of a rule, each with the least evidence for it.
+#[derive(Drop)]
+pub struct Evidence {
+    /// The rule.
+    pub rule: Rule,
+    /// The least word that has no preimage; `None` exactly where the rule is surjective.
+    pub orphan: Option<Word>,
+    /// The least determined window exactly where the rule is injective, else the least twins.
+    pub injective: InjectivePart,
+    /// The least right look-ahead exactly where the rule is right-closing, else the least normal split.
+    pub right: SidePart,
+    /// The same on the left.
+    pub left: SidePart,
+    /// The flux that is 0 at node 0 exactly where the rule is conserving, else the least ring that
+    /// doesn't keep its sum.
+    pub conserving: SumPart,
+    // The ranks of the rule, by which it was found.
+    ranks: Ranks,
+}
+
+impl Model for Evidence {
+    ghost use Rattle.std.specs.Prelude.{◌≡◌};
+    ghost use Rattle.word_image.specs.LocalRules.{IsRule};
+    ghost use Rattle.cert_format.specs.Parts.{IsOver};
+    ghost use Rattle.certificate_laws.specs.Evidence.{IsLeastEvidence};
+    ghost use Rattle.certificate_laws.specs.Evidence as found;
+    ghost use Rattle.rule_verdicts.specs.Parts.{evidence_in};
+
+    ghost Value = { found.Evidence };
+
+    ghost view = { λ e. evidence_in e.rule e.orphan e.injective e.right e.left e.conserving };
+
+    ghost invariant = { λ e. IsRule e.rule
+        × (e.ranks ≡ e.rule)
+        × IsOver (e.rule).states e.right
+        × IsOver (e.rule).states e.left
+        × IsLeastEvidence (λ a. a) e.rule (evidence_in e.rule e.orphan e.injective e.right e.left e.conserving) };
+}
+
+impl Evidence {
+    /// Decides all questions about a rule.
+    pub fn of(alloc: Global, rule: &Rule) -> Result<Evidence, AllocError>
+        ensures { IfOk result (IsLeastEvidence (λ a. a) rule.now) }
+    {
+        let ranks = Ranks::of(&Pairs::of(rule));
+        let mut walker = Walker::new(alloc)?;
+        Ok(Evidence {
+            rule: *rule,
+            orphan: least_orphan(alloc, rule)?,
+            injective: injective_part(alloc, rule, &ranks, &mut walker)?,
+            right: side_part(right(alloc, rule, &ranks, &mut walker)?),
+            left: side_part(left(alloc, rule, &ranks, &mut walker)?),
+            conserving: sum_part(alloc, rule)?,
+            ranks,
+        })
+    }
+
+    /// Whether the rule is open: it closes on both sides.
+    pub fn is_open(&self) -> bool
+        ensures open_ { IsTrue result ↔ IsOpen self.now.rule }
+        ensures both { result ≡ close_both self.now.right self.now.left }
+    {
+        are_ahead(&self.right, &self.left)
+    }
+
+    /// The certificate of the rule: this evidence, the family of a surjective rule, and the exact ranks.
+    pub fn certificate(self, alloc: Global) -> Result<Cert, AllocError>
+        ensures accepted { OnOk result (IsRule self.rule) }
+        ensures parts { IfOk result (HasWrittenParts self.rule) }
+    {
+        let rule = self.rule;
+        let forward = self.ranks.row(alloc, Side::Forward)?;
+        let backward = self.ranks.row(alloc, Side::Backward)?;
+        Ok(Cert {
+            rule,
+            surjective: surjective_part(alloc, &rule, self.orphan)?,
+            injective: self.injective,
+            right: self.right,
+            left: self.left,
+            conserving: self.conserving,
+            forward,
+            backward,
+        })
+    }
+}
+
+/// Whether both sides have a look-ahead.
+fn are_ahead(right: &SidePart, left: &SidePart) -> bool
+    ensures { result ≡ close_both (side_of right.now) (side_of left.now) }
+{
+    matches!((right, left), (SidePart::Ahead(_), SidePart::Ahead(_)))
+}

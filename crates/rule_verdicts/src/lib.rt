@@ -1,0 +1,29 @@
+//! What holds of a rule, decided: five verdicts, alone or each with the least evidence for it.
+//!
+//! | Question | The evidence of a yes | The evidence of a no |
+//! |---|---|---|
+//! | is it surjective | the family of its sets of last nodes | the least orphan |
+//! | is it injective | the least determined window | the least twins |
+//! | is it right-closing, is it left-closing | the least look-ahead | the least normal split |
+//! | is it conserving | the flux that is 0 at node 0 | the least ring that doesn't keep its sum |
+//!
+//! Rule 110 isn't surjective: its least orphan is 01010. So it isn't injective and closes on no side; its
+//! least twins are 000 and 111, and the rings of these are 000 and 000. And it isn't conserving, since the
+//! ring 001 becomes 011.
+//!
+//! [`verdicts`] decides without evidence and takes no memory. [`Evidence::of`] finds the evidence, and
+//! [`Evidence::certificate`] adds to it what the judge of certificates asks for besides: the family, and
+//! the exact rank of each pair of nodes. [`least_orphan`] and [`injectivity`] answer one question alone.
+//!
+//! Each takes the time of its deciders. The search for a least orphan and the family list at most `2^N` sets
+//! of nodes, where a rule with k states and width m has `N = k^(m-1)`; all else takes time **O(N^4·k^2)** at
+//! most.
+#![tactic(auto)]
+
+mod decided;
+mod evidence;
+mod parts;
+
+pub use decided::verdicts;
+pub use evidence::Evidence;
+pub use parts::{injectivity, least_orphan};
