@@ -5,7 +5,6 @@ pub mod RightAnswers
 pub mod Certified
 pub mod Operands
 pub mod Requests
-pub mod Findings
+pub mod Reports
 pub mod Summaries
 pub mod Samples
-pub mod Searches

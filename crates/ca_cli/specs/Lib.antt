@@ -4,8 +4,7 @@ pub mod Inputs
 pub mod Lines
 pub mod StatusLines
 pub mod Reports
-pub mod Findings
-pub mod RankRows
+pub mod Digits
 pub mod InverseLines
 pub mod Samples
 pub mod Summaries

@@ -1,11 +1,10 @@
 -- What a summary says of some rules, and what is counted for it.
-use Rattle.std.specs.Prelude.{◌≡◌, ℕ, ◌+◌, List, [], ◌∷◌, ◌++◌, length, codes, IsTrue, ◌↔◌}
+use Rattle.std.specs.Prelude.{◌≡◌, ℕ, ◌+◌, List, [], ◌∷◌, ◌++◌, length, codes}
 use Rattle.std.specs.Fmt.{decimal}
 use Rattle.word_image.specs.LocalRules.{LocalRule}
 use Rattle.word_image.specs.Words.{IsSurjective}
 use Rattle.word_image.specs.Rings.{IsConserving}
 use Rattle.tail_config.specs.Tails.{IsInjective, IsRightClosing, IsLeftClosing, IsOpen}
-use Rattle.ca_cli.specs.declared.verdicts.Verdicts.{Verdicts}
 use Rattle.ca_cli.specs.declared.tally.Tally.{Tally}
 use Rattle.ca_cli.specs.Lines.{line}
 
@@ -36,15 +35,6 @@ pub record IsSummary (rules : List LocalRule) (out : List ℕ) : Type 0 where
   pub lines : out ≡ count_line (codes "rules") (length rules) ++ count_line (codes "surjective") surjective
       ++ count_line (codes "injective") injective ++ count_line (codes "right") right ++ count_line (codes "left") left
       ++ count_line (codes "open") open_ ++ count_line (codes "conserving") conserving
-
--- each verdict is true of the rule
-pub record AreVerdicts (r : LocalRule) (v : Verdicts) : Type 0 where
-  pub surjective : IsTrue v.surjective ↔ IsSurjective r
-  pub injective : IsTrue v.injective ↔ IsInjective r
-  pub right : IsTrue v.right ↔ IsRightClosing r
-  pub left : IsTrue v.left ↔ IsLeftClosing r
-  pub open_ : IsTrue v.both ↔ IsOpen r
-  pub conserving : IsTrue v.conserving ↔ IsConserving (λ a. a) r
 
 -- the counts are those of these rules
 pub record IsTally (rules : List LocalRule) (t : Tally) : Type 0 where

@@ -9,29 +9,26 @@ ghost use Rattle.ca_cli.specs.Outcomes.{Comes};
 ghost use Rattle.ca_cli.specs.Outputs.{IsCause};
 ghost use Rattle.ca_cli.specs.StatusLines.{twins_text, wide_text, unfit_line};
 
-use crate::findings::{Injectivity, injective};
 use crate::output::Output;
 use crate::report::write_rule;
 use crate::request::Ask;
 use crate::stop::Stop;
+use cert_format::InjectivePart;
 use inverse_table::{InvFault, InverseMap, as_rule, table};
-use inverse_window::{TwinPair, WindowAt};
-use least_walk::Walker;
-use pair_graph::Pairs;
-use pair_rank::Ranks;
+use inverse_window::WindowAt;
+use rule_verdicts::injectivity;
 use std::alloc::{AllocError, Global};
-use word_image::Rule;
+use word_image::{Rule, Word};
 
 /// `inverse R`: the map that gives the cells of a configuration back from its image, over the least
 /// determined window.
 pub fn inverse(alloc: Global, rule: &Rule) -> Result<Output, Stop>
     ensures { Comes (IsInverse rule.now) (IsCause Ask.Inverse rule.now) result }
 {
-    let ranks = Ranks::of(&Pairs::of(rule));
-    let mut walker = Walker::new(alloc)?;
-    match injective(alloc, rule, &ranks, &mut walker)? {
-        Injectivity::Window(at) => inverse_over(alloc, rule, at),
-        Injectivity::Twins(pair) => Err(Stop::NotFit(twins_output(alloc, &pair)?)),
+    let found = injectivity(alloc, rule)?;
+    match found {
+        InjectivePart::Window { n, c } => inverse_over(alloc, rule, WindowAt { n, c }),
+        InjectivePart::Twins { x, y } => Err(Stop::NotFit(twins_output(alloc, &x, &y)?)),
     }
 }
 
@@ -100,16 +97,16 @@ fn write_map_rule(alloc: Global, output: &mut Output, map: &InverseMap) -> Resul
 }
 
 /// The line that names the least twins.
-fn twins_output(alloc: Global, pair: &TwinPair) -> Result<Output, AllocError>
-    requires first { IsWord 16 pair.now.x }
-    requires second { IsWord 16 pair.now.y }
-    ensures { IfOk result (λ output. output ≡ unfit_line (twins_text pair.now.x pair.now.y)) }
+fn twins_output(alloc: Global, x: &Word, y: &Word) -> Result<Output, AllocError>
+    requires first { IsWord 16 x.now }
+    requires second { IsWord 16 y.now }
+    ensures { IfOk result (λ output. output ≡ unfit_line (twins_text x.now y.now)) }
 {
     let mut output = Output::new(alloc);
     output.push(b"notfit twins ")?;
-    output.push_word(alloc, pair.x.as_slice())?;
+    output.push_word(alloc, x.as_slice())?;
     output.push(b" ")?;
-    output.push_word(alloc, pair.y.as_slice())?;
+    output.push_word(alloc, y.as_slice())?;
     output.push(b"\n")?;
     Ok(output)
 }

@@ -47,13 +47,11 @@ mod answers;
 mod certificates;
 mod checks;
 mod commands;
-mod findings;
 mod generator;
 mod inverses;
 mod lines;
 mod operands;
 mod output;
-mod rank_rows;
 mod report;
 mod reports;
 mod request;
@@ -64,7 +62,6 @@ mod tally;
 mod theorems;
 mod top_call;
 mod verdict_lines;
-mod verdicts;
 
 pub use status::Status;
 pub use theorems::{

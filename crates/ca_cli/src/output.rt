@@ -33,7 +33,7 @@ impl Output {
         }
     }
 
-    /// These bytes.
+    /// The output of these bytes.
     pub fn of(bytes: Vec<u8>) -> Output
         ensures { result ≡ bytes.items }
     {

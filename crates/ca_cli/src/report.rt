@@ -1,40 +1,38 @@
-//! The lines of a report, made of what was found.
-ghost use Rattle.std.specs.Prelude.{◌≡◌, ◌++◌, ◌≤◌, codes, OnOk};
+//! The lines of a report.
+ghost use Rattle.std.specs.Prelude.{◌≡◌, ◌++◌, codes, IfSome, OnOk};
 ghost use Rattle.word_image.specs.LocalRules.{IsWord};
 ghost use Rattle.word_image.specs.Digits.{word_text};
+ghost use Rattle.cert_format.specs.Certificates.InjectiveEvidence.{Window};
+ghost use Rattle.cert_format.specs.Parts.{injective_of, side_of, sum_of};
 ghost use Rattle.ca_cli.specs.Lines.{line};
-ghost use Rattle.ca_cli.specs.Reports.{rule_line, tails_text, after_blanks};
-ghost use Rattle.ca_cli.specs.Findings.{AreFound, HasOrphanDigits, HasTwinDigits, HasRingDigits, surjectivity_line, injectivity_line, window_line, side_line, open_line, closes_on_both, conservation_line, report_of};
+ghost use Rattle.ca_cli.specs.Reports.{rule_line, tails_text, after_blanks, surjective_line, injective_line, side_line, open_line, conserving_line, report_of};
+ghost use Rattle.ca_cli.specs.Digits.{HasTwinDigits, HasRingDigits};
 
-use crate::findings::{Findings, Injectivity, Surjectivity};
 use crate::lines::write_number;
 use crate::output::Output;
-use closing_test::Closing;
-use flux_conserve::Keeping;
-use inverse_window::WindowAt;
+use cert_format::{InjectivePart, SidePart, SumPart};
 use rule_text::print;
+use rule_verdicts::Evidence;
 use std::alloc::{AllocError, Global};
 use tail_config::Tail;
-use word_image::Rule;
+use word_image::{Rule, Word};
 
 /// Appends the eight lines of a report.
 pub fn write_report(
     alloc: Global,
     output: &mut Output,
-    findings: &Findings,
+    evidence: &Evidence,
 ) -> Result<(), AllocError>
-    requires { AreFound findings.now.rule findings.now }
-    ensures { OnOk result (output.new ≡ output.old ++ report_of findings.now) }
+    ensures { OnOk result (output.new ≡ output.old ++ report_of evidence.now) }
 {
-    let rule = &findings.rule;
-    write_rule(alloc, output, rule)?;
-    write_number(alloc, output, rule)?;
-    write_surjectivity(alloc, output, &findings.surjective)?;
-    write_injectivity(alloc, output, &findings.injective)?;
-    write_side(alloc, output, "right", &findings.right)?;
-    write_side(alloc, output, "left", &findings.left)?;
-    write_open(output, &findings.right, &findings.left)?;
-    write_conservation(alloc, output, rule.nodes(), &findings.conserving)
+    write_rule(alloc, output, &evidence.rule)?;
+    write_number(alloc, output, &evidence.rule)?;
+    write_surjective(alloc, output, &evidence.orphan)?;
+    write_injective(alloc, output, &evidence.injective)?;
+    write_side(alloc, output, "right", &evidence.right)?;
+    write_side(alloc, output, "left", &evidence.left)?;
+    write_open(output, evidence.is_open())?;
+    write_conserving(alloc, output, &evidence.conserving)
 }
 
 /// Appends the printed rule.
@@ -47,48 +45,45 @@ pub fn write_rule(alloc: Global, output: &mut Output, rule: &Rule) -> Result<(),
 }
 
 /// Appends the line on surjectivity.
-pub fn write_surjectivity(
+pub fn write_surjective(
     alloc: Global,
     output: &mut Output,
-    found: &Surjectivity,
+    orphan: &Option<Word>,
 ) -> Result<(), AllocError>
-    requires { HasOrphanDigits found.now }
-    ensures { OnOk result (output.new ≡ output.old ++ surjectivity_line found.now) }
+    requires { IfSome orphan.now (IsWord 16) }
+    ensures { OnOk result (output.new ≡ output.old ++ surjective_line orphan.now) }
 {
-    match found {
-        Surjectivity::Yes => output.push_line("surjective yes"),
-        Surjectivity::Orphan(word) => {
-            write_word(alloc, output, "surjective no orphan ", word.as_slice())
-        }
+    match orphan {
+        None => output.push_line("surjective yes"),
+        Some(word) => write_word(alloc, output, "surjective no orphan ", word.as_slice()),
     }
 }
 
 /// Appends the line on injectivity.
-fn write_injectivity(
+fn write_injective(
     alloc: Global,
     output: &mut Output,
-    found: &Injectivity,
+    found: &InjectivePart,
 ) -> Result<(), AllocError>
-    requires { HasTwinDigits found.now }
-    ensures { OnOk result (output.new ≡ output.old ++ injectivity_line found.now) }
+    requires { HasTwinDigits (injective_of found.now) }
+    ensures { OnOk result (output.new ≡ output.old ++ injective_line (injective_of found.now)) }
 {
     match found {
-        Injectivity::Window(at) => write_window(alloc, output, *at),
-        Injectivity::Twins(pair) => {
+        InjectivePart::Window { n, c } => write_window(alloc, output, *n, *c),
+        InjectivePart::Twins { x, y } => {
             output.push(b"injective no twins ")?;
-            output.push_word(alloc, pair.x.as_slice())?;
+            output.push_word(alloc, x.as_slice())?;
             output.push(b" ")?;
-            output.push_word(alloc, pair.y.as_slice())?;
+            output.push_word(alloc, y.as_slice())?;
             output.push(b"\n")
         }
     }
 }
 
 /// Appends the line that names a determined window.
-fn write_window(alloc: Global, output: &mut Output, at: WindowAt) -> Result<(), AllocError>
-    ensures { OnOk result (output.new ≡ output.old ++ window_line at) }
+fn write_window(alloc: Global, output: &mut Output, n: u16, c: u16) -> Result<(), AllocError>
+    ensures { OnOk result (output.new ≡ output.old ++ injective_line (Window n c)) }
 {
-    let (n, c) = (at.n, at.c);
     output.push_line(&format!(in alloc; "injective yes window {n} {c}")?)
 }
 
@@ -107,13 +102,13 @@ fn write_side(
     alloc: Global,
     output: &mut Output,
     name: &str,
-    found: &Closing,
+    found: &SidePart,
 ) -> Result<(), AllocError>
-    ensures { OnOk result (output.new ≡ output.old ++ side_line name.now found.now) }
+    ensures { OnOk result (output.new ≡ output.old ++ side_line name.now (side_of found.now)) }
 {
     match found {
-        Closing::Ahead(n) => output.push_line(&format!(in alloc; "{name} yes ahead {n}")?),
-        Closing::Split(x, y) => write_split(alloc, output, name, x, y),
+        SidePart::Ahead(n) => output.push_line(&format!(in alloc; "{name} yes ahead {n}")?),
+        SidePart::Split(x, y) => write_split(alloc, output, name, x, y),
     }
 }
 
@@ -145,29 +140,20 @@ fn write_texts(output: &mut Output, name: &str, x: &[u8], y: &[u8]) -> Result<()
 }
 
 /// Appends the line that says whether the rule closes on both sides.
-fn write_open(output: &mut Output, right: &Closing, left: &Closing) -> Result<(), AllocError>
-    ensures { OnOk result (output.new ≡ output.old ++ open_line (closes_on_both right.now left.now)) }
+fn write_open(output: &mut Output, both: bool) -> Result<(), AllocError>
+    ensures { OnOk result (output.new ≡ output.old ++ open_line both) }
 {
-    match (right, left) {
-        (Closing::Ahead(_), Closing::Ahead(_)) => output.push_line("open yes"),
-        _ => output.push_line("open no"),
-    }
+    output.push_line(if both { "open yes" } else { "open no" })
 }
 
-/// Appends the line on the sum of the letters, of a rule with this number of nodes.
-fn write_conservation(
-    alloc: Global,
-    output: &mut Output,
-    nodes: u8,
-    found: &Keeping,
-) -> Result<(), AllocError>
-    requires nodes { nodes ≤ 16 }
-    requires digits { HasRingDigits found.now }
-    ensures { OnOk result (output.new ≡ output.old ++ conservation_line nodes found.now) }
+/// Appends the line on the sum of the letters.
+fn write_conserving(alloc: Global, output: &mut Output, found: &SumPart) -> Result<(), AllocError>
+    requires { HasRingDigits (sum_of found.now) }
+    ensures { OnOk result (output.new ≡ output.old ++ conserving_line (sum_of found.now)) }
 {
     match found {
-        Keeping::Flux(flows) => write_flux(alloc, output, &flows[..usize::from(nodes)]),
-        Keeping::Ring(ring) => { write_word(alloc, output, "conserving no ring ", ring.letters()) }
+        SumPart::Flux(row) => write_flux(alloc, output, row.as_slice()),
+        SumPart::Ring(ring) => write_word(alloc, output, "conserving no ring ", ring.as_slice()),
     }
 }
 

@@ -2,10 +2,10 @@
 ghost use Rattle.std.specs.Prelude.{◌≡◌, IfOk};
 ghost use Rattle.ca_cli.specs.Reports.{IsReport, IsSurjectiveLine, number_line};
 
-use crate::findings::{Findings, surjective};
 use crate::lines::write_number;
 use crate::output::Output;
-use crate::report::{write_report, write_surjectivity};
+use crate::report::{write_report, write_surjective};
+use rule_verdicts::{Evidence, least_orphan};
 use std::alloc::{AllocError, Global};
 use word_image::Rule;
 
@@ -13,9 +13,9 @@ use word_image::Rule;
 pub fn decide(alloc: Global, rule: &Rule) -> Result<Output, AllocError>
     ensures { IfOk result (IsReport (λ a. a) rule.now) }
 {
-    let findings = Findings::of(alloc, rule)?;
+    let evidence = Evidence::of(alloc, rule)?;
     let mut output = Output::new(alloc);
-    write_report(alloc, &mut output, &findings)?;
+    write_report(alloc, &mut output, &evidence)?;
     Ok(output)
 }
 
@@ -23,9 +23,9 @@ pub fn decide(alloc: Global, rule: &Rule) -> Result<Output, AllocError>
 pub fn orphan(alloc: Global, rule: &Rule) -> Result<Output, AllocError>
     ensures { IfOk result (IsSurjectiveLine rule.now) }
 {
-    let found = surjective(alloc, rule)?;
+    let orphan = least_orphan(alloc, rule)?;
     let mut output = Output::new(alloc);
-    write_surjectivity(alloc, &mut output, &found)?;
+    write_surjective(alloc, &mut output, &orphan)?;
     Ok(output)
 }
 

@@ -14,8 +14,8 @@ use crate::output::Output;
 use crate::request::Rules;
 use crate::stop::Stop;
 use crate::tally::Tally;
-use crate::verdicts::Verdicts;
 use rule_text::{TextFault, check_shape, numbered};
+use rule_verdicts::verdicts;
 use std::alloc::Global;
 
 /// `survey K M FROM COUNT`, `sample K M SEED COUNT`: the summary of COUNT rules of K states, width M
@@ -100,7 +100,7 @@ fn tally_of_numbers(k: u8, m: u8, first: u128, count: u16) -> Tally
         let Ok(rule) = numbered(k, m, 0, first + u128::from(i)) else {
             unreachable!()
         };
-        tally.add(Verdicts::of(&rule));
+        tally.add(&verdicts(&rule));
     }
     tally
 }
@@ -115,7 +115,7 @@ fn tally_of_draws(k: u8, m: u8, seed: u64, count: u16) -> Tally
     let mut tally = Tally::new();
     for _i in 0..count {
         let rule = generator.rule(k, m);
-        tally.add(Verdicts::of(&rule));
+        tally.add(&verdicts(&rule));
     }
     tally
 }

@@ -1,10 +1,11 @@
 //! Of how many rules each verdict is true.
 ghost use Rattle.std.specs.Prelude.{◌≡◌, ◌<◌, ℕ, List, [], ◌∷◌, ◌++◌, length, OnOk};
 ghost use Rattle.word_image.specs.LocalRules.{LocalRule};
-ghost use Rattle.ca_cli.specs.Summaries.{AreVerdicts, IsTally, count_line, summary_of};
+ghost use Rattle.cert_check.specs.Accepted.{AreTrue};
+ghost use Rattle.ca_cli.specs.Summaries.{IsTally, count_line, summary_of};
 
 use crate::output::Output;
-use crate::verdicts::Verdicts;
+use cert_check::Verdicts;
 use std::alloc::{AllocError, Global};
 
 /// How many of some rules have each property.
@@ -36,17 +37,17 @@ impl Tally {
     }
 
     /// Counts one rule more, by its verdicts.
-    pub fn add(&mut self, verdicts: Verdicts)
+    pub fn add(&mut self, verdicts: &Verdicts)
         requires { (rules : List LocalRule) × IsTally rules self.old × (length rules < 4096) }
-        ensures { (rules : List LocalRule) (r : LocalRule) → IsTally rules self.old →
-            AreVerdicts r verdicts → IsTally (rules ++ r ∷ []) self.new }
+        ensures { (rules : List LocalRule) → IsTally rules self.old →
+            AreTrue verdicts.now → IsTally (rules ++ verdicts.now.rule ∷ []) self.new }
     {
         self.rules += 1;
         self.surjective += u16::from(verdicts.surjective);
         self.injective += u16::from(verdicts.injective);
         self.right += u16::from(verdicts.right);
         self.left += u16::from(verdicts.left);
-        self.both += u16::from(verdicts.both);
+        self.both += u16::from(verdicts.is_open());
         self.conserving += u16::from(verdicts.conserving);
     }
 

@@ -26,7 +26,7 @@ pub fn write_accepted(
     write_verdict(output, "injective", verdicts.injective)?;
     write_verdict(output, "right", verdicts.right)?;
     write_verdict(output, "left", verdicts.left)?;
-    write_verdict(output, "open", verdicts.right && verdicts.left)?;
+    write_verdict(output, "open", verdicts.is_open())?;
     write_verdict(output, "conserving", verdicts.conserving)
 }
 

@@ -32,7 +32,7 @@ certified_accepted (OfRule _ text r out says (c, written, is)) =
     let short : length out ≤ most_input = omega (arith, ap length is, written.short) in
     let are_true = AreTrue-accepted accepted in (
       verdicts_of c,
-      subst (IsRuleText text) (sym written.rule) says,
+      subst (IsRuleText text) (sym written.parts.least.rule) says,
       are_true,
       λ s lines. (accepted_alone accepted short s lines, (λ (done, same). rw (done, same) (Accepted out (verdicts_of c) (record { all = refl; short = short }) accepted are_true))),
     )

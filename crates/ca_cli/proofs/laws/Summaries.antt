@@ -1,5 +1,5 @@
 -- Counts of rules, and the summary that they make.
-use Rattle.std.proofs.Common.{◌≡◌, ℕ, Bool, true, false, ◌+◌, ◌≤◌, List, [], ◌∷◌, ◌++◌, length, refl, sym, subst, ◌∙◌, arith}
+use Rattle.std.proofs.Common.{◌≡◌, ℕ, Bool, true, false, ◌+◌, ◌≤◌, List, [], ◌∷◌, ◌++◌, length, refl, sym, subst, arith}
 use Rattle.std.specs.Prelude.{◌↔◌, IsTrue}
 use Rattle.std.specs.Int.{from_bool}
 use Rattle.std.proofs.lemmas.Bool.{false≢true}
@@ -49,11 +49,3 @@ IsSummary-tally t is = record {
   conserving_true = is.conserving_true;
   lines = rw is.rules_true;
 }
-
--- a rule that closes on the right is open where it closes on the left
-pub open_where_right : {a b both : Bool} {P Q : Type 0} → (IsTrue a ↔ P) → (IsTrue b ↔ Q) → a ≡ true → both ≡ b → IsTrue both ↔ (P × Q)
-open_where_right right left closes is = ((λ t. (right.0 closes, left.0 (sym is ∙ t))), (λ (p, q). is ∙ left.1 q))
-
--- one that doesn't isn't open
-pub open_where_not_right : {a both : Bool} {P Q : Type 0} → (IsTrue a ↔ P) → a ≡ false → both ≡ false → IsTrue both ↔ (P × Q)
-open_where_not_right right fails is = ((λ t. absurd (false≢true (sym is ∙ t))), (λ (p, q). absurd (false≢true (sym fails ∙ right.1 p))))

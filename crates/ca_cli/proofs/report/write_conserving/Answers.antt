@@ -3,8 +3,8 @@ use Rattle.std.specs.Prelude.{codes}
 use Rattle.std.proofs.lemmas.Result.{on_ok_weaker}
 use Rattle.word_image.specs.Digits.{word_text}
 use Rattle.ca_cli.specs.Lines.{line}
-use Rattle.ca_cli.proofs.report.write_conservation.Goals as goal
+use Rattle.ca_cli.proofs.report.write_conserving.Goals as goal
 
 pub returns-in-Ring : goal.returns-in-Ring
 returns-in-Ring c =
-    rw c.in-Ring.is (on_ok_weaker c.write_word.result (λ e. e ∙ ap (λ w. c.args.output.now ++ line (codes "conserving no ring " ++ word_text w)) c.letters.ensures.letters) c.write_word.ensures)
+    rw c.in-Ring.is (on_ok_weaker c.write_word.result (λ e. e ∙ ap (λ w. c.args.output.now ++ line (codes "conserving no ring " ++ word_text w)) c.as_slice-in-Ring.ensures) c.write_word.ensures)

@@ -6,8 +6,8 @@ use Rattle.ca_cli.proofs.report.write_window.Goals as goal
 
 pub returns : goal.returns
 returns c =
-    let n = decimal c.args.at.n in
-    let place = decimal c.args.at.c in
+    let n = decimal c.args.n in
+    let place = decimal c.args.c in
     let named : c.deref.result.now ≡ codes "injective yes window " ++ n ++ codes " " ++ place =
     c.deref.ensures ∙ c.in_ok-format.ensures.ok ∙ ap (λ text. codes "injective yes window " ++ text) (sym (append_assoc n (codes " ") place)) in
     subst (λ text. OnOk c.push_line.result (c.push_line.new.self ≡ c.args.output.now ++ line text)) named c.push_line.ensures

@@ -1,5 +1,6 @@
-use Rattle.std.proofs.Common.{◌+◌, [], ◌∷◌, ◌++◌, ap, ◌∙◌, subst, refl, arith, rules, length-append}
-use Rattle.ca_cli.specs.Summaries.{IsTally, AreVerdicts}
+use Rattle.std.proofs.Common.{◌+◌, [], ◌∷◌, ◌++◌, ap, ◌∙◌, subst, refl, arith, length-append}
+use Rattle.word_image.specs.LocalRules.{LocalRule}
+use Rattle.ca_cli.specs.Summaries.{IsTally}
 use Rattle.ca_cli.proofs.laws.Samples.{sample-begin, sample-step, sample-end}
 use Rattle.ca_cli.proofs.summaries.tally_of_draws.Goals as goal
 
@@ -9,9 +10,9 @@ loop-i-init c = ([], c.new-tally.ensures, refl, sample-begin c.args.k c.args.m c
 pub loop-i-preserved : goal.loop-i-preserved
 loop-i-preserved c =
     let sofar = c.loop-i.invariant in
-    let verdicts : AreVerdicts c.rule-rule.result c.of.result = search rules in (
+    let counted = c.add.ensures sofar.0 sofar.1 c.verdicts.ensures.are_true in (
       sofar.0 ++ c.rule-rule.result ∷ [],
-      c.add.ensures sofar.0 c.rule-rule.result sofar.1 verdicts,
+      subst (λ (r : LocalRule). IsTally (sofar.0 ++ r ∷ []) c.add.new.self) c.verdicts.ensures.rule counted,
       length-append sofar.0 (c.rule-rule.result ∷ []) ∙ ap (λ n. n + 1) sofar.2,
       sample-step c.args.k c.args.m c.loop-i.generator c.args.count c.loop-i._i c.rule-rule.new.self c.rule-rule.result sofar.0 c.loop-i-test.true c.rule-rule.ensures.rule c.rule-rule.ensures.state sofar.3,
     )

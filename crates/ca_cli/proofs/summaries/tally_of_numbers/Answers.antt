@@ -1,10 +1,10 @@
-use Rattle.std.proofs.Common.{◌≡◌, ◌+◌, [], ◌∷◌, ◌++◌, pos, ap, sym, ◌∙◌, subst, arith, rules}
+use Rattle.std.proofs.Common.{◌≡◌, ◌+◌, [], ◌∷◌, ◌++◌, pos, ap, sym, ◌∙◌, subst, arith}
 use Rattle.std.proofs.lemmas.Option.{none-some}
 use Rattle.std.proofs.lemmas.List.FromFn.{length-map-range_with_len}
 use Rattle.word_image.specs.LocalRules.{LocalRule}
 use Rattle.rule_text.specs.RuleTexts.{IsReading, by_number, fault_of}
 use Rattle.ca_cli.specs.Samples.{numbered_rule, survey_rules}
-use Rattle.ca_cli.specs.Summaries.{IsTally, AreVerdicts}
+use Rattle.ca_cli.specs.Summaries.{IsTally}
 use Rattle.ca_cli.proofs.laws.Samples.{survey_rules-more, survey-accepted, survey-fits}
 use Rattle.ca_cli.proofs.summaries.tally_of_numbers.Goals as goal
 
@@ -29,10 +29,9 @@ add-requires c = (
 pub loop-i-preserved : goal.loop-i-preserved
 loop-i-preserved c =
     let sofar = survey_rules c.args.k c.args.m c.args.first c.loop-i.i in
-    let verdicts : AreVerdicts c.in-Ok.rule c.of.result = search rules in
-    let rule = c.in-Ok.ensures.1 ∙ ap (λ i. numbered_rule c.args.k c.args.m (c.args.first + i)) c.from.ensures in
+    let rule = c.verdicts.ensures.rule ∙ c.in-Ok.ensures.1 ∙ ap (λ i. numbered_rule c.args.k c.args.m (c.args.first + i)) c.from.ensures in
     let more = ap (λ (r : LocalRule). sofar ++ r ∷ []) rule ∙ sym (survey_rules-more c.args.k c.args.m c.args.first c.loop-i.i) in
-    subst (λ rules. IsTally rules c.add.new.self) more (c.add.ensures sofar c.in-Ok.rule c.loop-i.invariant verdicts)
+    subst (λ rules. IsTally rules c.add.new.self) more (c.add.ensures sofar c.loop-i.invariant c.verdicts.ensures.are_true)
 
 pub returns : goal.returns
 returns c =
