@@ -7,9 +7,8 @@
 //! | is it right-closing, is it left-closing | the least look-ahead | the least normal split |
 //! | is it conserving | the flux that is 0 at node 0 | the least ring that doesn't keep its sum |
 //!
-//! Rule 110 isn't surjective: its least orphan is 01010. So it isn't injective and closes on no side; its
-//! least twins are 000 and 111, and the rings of these are 000 and 000. And it isn't conserving, since the
-//! ring 001 becomes 011.
+//! Rule 110 isn't surjective: its least orphan is 01010. So it isn't injective and closes on no side: the
+//! rings 0 and 1 both become the ring 0. And it isn't conserving, since the ring 1 loses its sum so.
 //!
 //! [`verdicts`] decides without evidence and takes no memory. [`Evidence::of`] finds the evidence, and
 //! [`Evidence::certificate`] adds to it what the judge of certificates asks for besides: the family, and
@@ -23,6 +22,8 @@
 mod decided;
 mod evidence;
 mod parts;
+#[cfg(test)]
+mod tests;
 
 pub use decided::verdicts;
 pub use evidence::Evidence;
