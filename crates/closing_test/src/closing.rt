@@ -6,10 +6,10 @@ ghost use Rattle.closing_test.specs.Closing.{IsRightAnswer, IsLeftAnswer};
 use crate::look_ahead::{ahead_left, ahead_right};
 use crate::split::least_split;
 use least_walk::Walker;
+use pair_graph::Pairs;
 use pair_rank::Ranks;
 use std::alloc::{AllocError, Global};
 use tail_config::Tail;
-use word_image::Rule;
 
 /// Why a rule closes on a side, or why it doesn't.
 #[derive(Debug, Drop)]
@@ -21,37 +21,40 @@ pub enum Closing {
 }
 
 /// The least right look-ahead exactly where the rule is right-closing, else its least normal right
-/// split, in Tails with middles and periods of at most 512 letters. The ranks are the rule's.
+/// split, in Tails with middles and periods of at most 512 letters. The ranks are those of
+/// the pairs.
 pub fn right(
     alloc: Global,
-    rule: &Rule,
+    pairs: &Pairs,
     ranks: &Ranks,
     walker: &mut Walker,
 ) -> Result<Closing, AllocError>
-    requires { ranks.now ≡ rule.now }
-    ensures { IfOk result (IsRightAnswer rule.now) }
+    requires { ranks.now ≡ pairs.now }
+    ensures { IfOk result (IsRightAnswer pairs.now) }
 {
-    if let Some(ahead) = ahead_right(rule, ranks) {
+    if let Some(ahead) = ahead_right(pairs.rule(), ranks) {
         return Ok(Closing::Ahead(ahead));
     }
-    let (first, second) = least_split(alloc, rule, walker)?;
+    let (first, second) = least_split(alloc, pairs, walker)?;
     Ok(Closing::Split(first, second))
 }
 
 /// The least left look-ahead exactly where the rule is left-closing, else its least normal left
-/// split, in Tails with middles and periods of at most 512 letters. The ranks are the rule's.
+/// split, in Tails with middles and periods of at most 512 letters. The ranks are those of
+/// the pairs.
 pub fn left(
     alloc: Global,
-    rule: &Rule,
+    pairs: &Pairs,
     ranks: &Ranks,
     walker: &mut Walker,
 ) -> Result<Closing, AllocError>
-    requires { ranks.now ≡ rule.now }
-    ensures { IfOk result (IsLeftAnswer rule.now) }
+    requires { ranks.now ≡ pairs.now }
+    ensures { IfOk result (IsLeftAnswer pairs.now) }
 {
-    if let Some(ahead) = ahead_left(rule, ranks) {
+    if let Some(ahead) = ahead_left(pairs.rule(), ranks) {
         return Ok(Closing::Ahead(ahead));
     }
-    let (first, second) = least_split(alloc, &rule.reflect(), walker)?;
+    let mirrored = Pairs::of(&pairs.rule().reflect());
+    let (first, second) = least_split(alloc, &mirrored, walker)?;
     Ok(Closing::Split(first.mirror(), second.mirror()))
 }

@@ -11,7 +11,6 @@ use least_walk::{WalkTree, Walker};
 use pair_graph::Pairs;
 use std::alloc::{AllocError, Global};
 use tail_config::Tail;
-use word_image::Rule;
 
 /// One of the letters of a letter pair.
 #[derive(Clone, Copy)]
@@ -23,14 +22,14 @@ pub enum Letter {
 /// The least normal right split of a rule that isn't right-closing.
 pub fn least_split(
     alloc: Global,
-    rule: &Rule,
+    pairs: &Pairs,
     walker: &mut Walker,
 ) -> Result<(Tail, Tail), AllocError>
-    requires { ¬ IsRightClosing rule.now }
-    ensures { IfOk result (λ split. IsLeastSplitOf rule.now split.0 split.1) }
+    requires { ¬ IsRightClosing pairs.now }
+    ensures { IfOk result (λ split. IsLeastSplitOf pairs.now split.0 split.1) }
 {
-    let k = rule.k();
-    let Some(walks) = least_walks(alloc, rule, walker)? else {
+    let k = pairs.graph().k();
+    let Some(walks) = least_walks(alloc, pairs, walker)? else {
         unreachable!()
     };
     let first = tail_of(alloc, k, &walks, Letter::First)?;
@@ -40,15 +39,18 @@ pub fn least_split(
 
 /// The walks of the least normal right split, if there is one: the earliest of at most one candidate
 /// for each state of the marked graph.
-fn least_walks(alloc: Global, rule: &Rule, walker: &mut Walker) -> Result<Option<Walks>, AllocError>
-    ensures { IfOk result (IsLeastSoFar rule.now (pair_count rule.now + pair_count rule.now)) }
+fn least_walks(
+    alloc: Global,
+    pairs: &Pairs,
+    walker: &mut Walker,
+) -> Result<Option<Walks>, AllocError>
+    ensures { IfOk result (IsLeastSoFar pairs.now (pair_count pairs.now + pair_count pairs.now)) }
 {
-    let pairs = Pairs::of(rule);
     let states = 2 * pairs.count();
-    let middles = WalkTree::of(alloc, &pairs, 0)?;
+    let middles = WalkTree::of(alloc, pairs, 0)?;
     let mut best = None;
     for state in 0..states {
-        best = Walks::earlier(alloc, &pairs, walker, &middles, state, &best)?.or(best);
+        best = Walks::earlier(alloc, pairs, walker, &middles, state, &best)?.or(best);
     }
     Ok(best)
 }

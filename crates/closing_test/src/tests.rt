@@ -112,12 +112,8 @@ fn right_splits_are_least(rt: HostRuntime) -> Result<(), Fail> {
     let mut walker = Walker::new(rt.alloc())?;
     for (number, first, second) in cases {
         let rule = elementary(number)?;
-        match right(
-            rt.alloc(),
-            &rule,
-            &Ranks::of(&Pairs::of(&rule)),
-            &mut walker,
-        )? {
+        let pairs = Pairs::of(&rule);
+        match right(rt.alloc(), &pairs, &Ranks::of(&pairs), &mut walker)? {
             Closing::Split(x, y) => {
                 assert_eq!(rt; parts(&x), first, "rule {number}");
                 assert_eq!(rt; parts(&y), second, "rule {number}");
@@ -146,12 +142,8 @@ fn left_splits_are_least(rt: HostRuntime) -> Result<(), Fail> {
     let mut walker = Walker::new(rt.alloc())?;
     for (number, first, second) in cases {
         let rule = elementary(number)?;
-        match left(
-            rt.alloc(),
-            &rule,
-            &Ranks::of(&Pairs::of(&rule)),
-            &mut walker,
-        )? {
+        let pairs = Pairs::of(&rule);
+        match left(rt.alloc(), &pairs, &Ranks::of(&pairs), &mut walker)? {
             Closing::Split(x, y) => {
                 assert_eq!(rt; parts(&x), first, "rule {number}");
                 assert_eq!(rt; parts(&y), second, "rule {number}");
@@ -167,13 +159,14 @@ fn closing_rules_have_no_split(rt: HostRuntime) -> Result<(), Fail> {
     let mut walker = Walker::new(rt.alloc())?;
     for number in [60, 90, 170, 204] {
         let rule = elementary(number)?;
-        let ranks = Ranks::of(&Pairs::of(&rule));
+        let pairs = Pairs::of(&rule);
+        let ranks = Ranks::of(&pairs);
         let (to_right, to_left) = aheads(&rule);
-        match right(rt.alloc(), &rule, &ranks, &mut walker)? {
+        match right(rt.alloc(), &pairs, &ranks, &mut walker)? {
             Closing::Ahead(n) => assert_eq!(rt; Some(n), to_right, "rule {number}"),
             Closing::Split(_, _) => assert!(rt; false, "rule {number} splits"),
         }
-        match left(rt.alloc(), &rule, &ranks, &mut walker)? {
+        match left(rt.alloc(), &pairs, &ranks, &mut walker)? {
             Closing::Ahead(n) => assert_eq!(rt; Some(n), to_left, "rule {number}"),
             Closing::Split(_, _) => assert!(rt; false, "rule {number} splits"),
         }

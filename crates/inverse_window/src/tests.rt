@@ -46,7 +46,7 @@ fn six_elementary_rules_are_injective(rt: HostRuntime) -> Result<(), Fail> {
             want,
             "rule {number}"
         );
-        let length = match twins(rt.alloc(), &rule, &mut walker)? {
+        let length = match twins(rt.alloc(), &Pairs::of(&rule), &mut walker)? {
             Some(pair) => pair.x.as_slice().len(),
             None => 0,
         };
@@ -119,7 +119,7 @@ fn these_rules_have_these_twins(rt: HostRuntime) -> Result<(), Fail> {
     let mut walker = Walker::new(rt.alloc())?;
     for (case, (k, m, digits, x, y)) in cases.into_iter().enumerate() {
         let rule = Rule::new(k, m, 0, &letters(rt.alloc(), digits)?)?;
-        match twins(rt.alloc(), &rule, &mut walker)? {
+        match twins(rt.alloc(), &Pairs::of(&rule), &mut walker)? {
             Some(pair) => {
                 assert_eq!(rt;
                     pair.x.as_slice(),

@@ -11,7 +11,7 @@ ghost use Rattle.inverse_window.specs.FirstTurns.{IsFirstFound};
 use least_walk::{MOST_STEPS, Walker, is_before, spelled};
 use pair_graph::Pairs;
 use std::alloc::{AllocError, Global};
-use word_image::{Rule, Word};
+use word_image::Word;
 
 /// Two different words of one length whose rings have one image.
 #[derive(Debug, Drop)]
@@ -22,18 +22,18 @@ pub struct TwinPair {
     pub y: Word,
 }
 
-/// The least twins; `None` exactly where there are none, which is exactly where the rule is
+/// The least twins of the rule of these pairs; `None` exactly where there are none, which is exactly where the rule is
 /// injective. Each has at most 512 letters.
 pub fn twins(
     alloc: Global,
-    rule: &Rule,
+    pairs: &Pairs,
     walker: &mut Walker,
 ) -> Result<Option<TwinPair>, AllocError>
-    ensures injective { IfOk result (λ found. IsNone found ↔ IsInjective rule.now) }
-    ensures least { IfOk result (λ found. MatchOption found ((x y : List ℕ) → ¬ IsTwins rule.now x y) (λ pair. IsLeastTwins rule.now pair.x pair.y)) }
+    ensures injective { IfOk result (λ found. IsNone found ↔ IsInjective pairs.now) }
+    ensures least { IfOk result (λ found. MatchOption found ((x y : List ℕ) → ¬ IsTwins pairs.now x y) (λ pair. IsLeastTwins pairs.now pair.x pair.y)) }
     ensures most { IfOk result (λ found. IfSome found (λ pair. (length pair.x ≤ 512) × (length pair.y ≤ 512))) }
 {
-    match first_turn(alloc, &Pairs::of(rule), walker)? {
+    match first_turn(alloc, pairs, walker)? {
         Some(steps) => {
             let (x, y) = spelled(alloc, &steps)?;
             Ok(Some(TwinPair { x, y }))

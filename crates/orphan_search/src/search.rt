@@ -6,7 +6,6 @@ use debruijn::Graph;
 use image_subsets::Family;
 use std::alloc::{AllocError, Global};
 use std::marker::Model;
-use word_image::Rule;
 
 /// More letters than a least orphan has.
 const ROOM: usize = 65536;
@@ -62,14 +61,14 @@ impl Search {
         })
     }
 
-    /// Decides whether every word has a preimage under the rule. Each run starts anew, whatever an
+    /// Decides whether every word has a preimage under the rule of this graph. Each run starts anew, whatever an
     /// earlier one left.
-    pub fn run(&mut self, rule: &Rule) -> Outcome
-        ensures verdict { IsVerdict rule.now result self.new }
-        ensures exactly { (result ≡ Outcome.Closed) ↔ IsSurjective rule.now }
+    pub fn run(&mut self, graph: &Graph) -> Outcome
+        ensures verdict { IsVerdict graph.now result self.new }
+        ensures exactly { (result ≡ Outcome.Closed) ↔ IsSurjective graph.now }
     {
         self.word.clear();
-        self.family.explore(&Graph::of(rule));
+        self.family.explore(graph);
         let last = self.family.len() - 1;
         self.closed = self.family.set(last) != 0;
         if self.closed {

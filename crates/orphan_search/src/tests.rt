@@ -3,6 +3,7 @@
 //! shorter ones first.
 
 use crate::{Outcome, Search};
+use debruijn::Graph;
 use std::alloc::{AllocError, Global};
 use std::test::Fail;
 use word_image::Rule;
@@ -76,7 +77,11 @@ fn one_search_decides_rule_after_rule(rt: HostRuntime) -> Result<(), Fail> {
         let table = letters(rt.alloc(), digits)?;
         let orphan = letters(rt.alloc(), orphan)?;
         let rule = Rule::new(k, m, o, &table)?;
-        assert_eq!(rt; search.run(&rule), outcome_at(&orphan), "at {table:?}");
+        assert_eq!(rt;
+            search.run(&Graph::of(&rule)),
+            outcome_at(&orphan),
+            "at {table:?}"
+        );
         assert_eq!(rt; search.word(), orphan.as_slice(), "at {table:?}");
         assert_eq!(rt;
             search.sets().is_empty(),
@@ -92,10 +97,13 @@ fn rule_106_reaches_twelve_sets_whatever_ran_before(rt: HostRuntime) -> Result<(
     let mut search = Search::new(rt.alloc())?;
     // The shift of sixteen states, whose sets have nodes that rule 106 lacks.
     let shift: Vec<u8> = (0..=255u8).map(|window| window % 16).collect(rt.alloc())?;
-    assert_eq!(rt; search.run(&Rule::new(16, 2, 0, &shift)?), Outcome::Closed);
+    assert_eq!(rt;
+        search.run(&Graph::of(&Rule::new(16, 2, 0, &shift)?)),
+        Outcome::Closed
+    );
     assert_eq!(rt; search.word(), [].as_slice());
     let rule = Rule::new(2, 3, -1, &[0, 1, 0, 1, 0, 1, 1, 0])?;
-    assert_eq!(rt; search.run(&rule), Outcome::Closed);
+    assert_eq!(rt; search.run(&Graph::of(&rule)), Outcome::Closed);
     assert_eq!(rt;
         search.sets(),
         [15, 13, 14, 9, 6, 5, 10, 1, 2, 12, 4, 8].as_slice()

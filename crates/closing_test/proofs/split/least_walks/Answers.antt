@@ -10,10 +10,10 @@ of-requires c = let some = pair_count_pos c.count-states.ensures.rule in omega a
 
 pub loop-state-preserved : goal.loop-state-preserved
 loop-state-preserved c =
-    subst (IsLeastSoFar c.of-pairs.result (c.loop-state.state + 1)) (sym c.or-best.ensures)
-    (IsLeastSoFar-next c.of-pairs.result c.loop-state.state c.loop-state.best c.in_ok-earlier.field-0 c.count-states.ensures.rule c.loop-state.invariant c.in_ok-earlier.ensures)
+    subst (IsLeastSoFar c.args.pairs.now (c.loop-state.state + 1)) (sym c.or-best.ensures)
+    (IsLeastSoFar-next c.args.pairs.now c.loop-state.state c.loop-state.best c.in_ok-earlier.field-0 c.count-states.ensures.rule c.loop-state.invariant c.in_ok-earlier.ensures)
 
 pub returns : goal.returns
 returns c =
-    let end : c.loop-state.state ≡ pair_count c.of-pairs.result + pair_count c.of-pairs.result = omega (arith, c.count-states.ensures.count) in
-    subst (λ r. IsLeastSoFar r (pair_count r + pair_count r) c.loop-state.best) c.of-pairs.ensures (subst (λ n. IsLeastSoFar c.of-pairs.result n c.loop-state.best) end c.loop-state.invariant)
+    let end : c.loop-state.state ≡ pair_count c.args.pairs.now + pair_count c.args.pairs.now = omega (arith, c.count-states.ensures.count) in
+    subst (λ n. IsLeastSoFar c.args.pairs.now n c.loop-state.best) end c.loop-state.invariant

@@ -1,4 +1,4 @@
-use Rattle.std.proofs.Common.{◌≡◌, map, true, false, refl, ap, ◌∙◌, subst}
+use Rattle.std.proofs.Common.{◌≡◌, map, true, false, refl, ap, ◌∙◌}
 use Rattle.word_image.specs.LocalRules.{IsRule}
 use Rattle.word_image.specs.Graphs.{pair_count}
 use Rattle.search_laws.proofs.PairWalks.{uncode}
@@ -11,8 +11,8 @@ use Rattle.inverse_window.proofs.twin_pairs.twins.Goals as goal
 
 pub returns-in_ok-x-in-Some-clause-least : goal.returns-in_ok-x-in-Some-clause-least
 returns-in_ok-x-in-Some-clause-least c =
-    let rule : IsRule c.args.rule.now = subst IsRule c.of.ensures c.in_ok-steps.ensures.rule in
-    let turn : IsFirstTurn c.args.rule.now (pair_count c.args.rule.now) (map (uncode 16) c.in-Some.steps.items) = rw (c.of.ensures, c.in-Some.is) at c.in_ok-steps.ensures.turn in
+    let rule : IsRule c.args.pairs.now = c.in_ok-steps.ensures.rule in
+    let turn : IsFirstTurn c.args.pairs.now (pair_count c.args.pairs.now) (map (uncode 16) c.in-Some.steps.items) = rw c.in-Some.is at c.in_ok-steps.ensures.turn in
     IsLeastTwins-spelled rule c.in-Some.steps.items c.in_ok-x-in-Some.x c.in_ok-x-in-Some.y
     (c.in_ok-x-in-Some.ensures.first ∙ ap first_word c.deref.ensures.value) (c.in_ok-x-in-Some.ensures.second ∙ ap second_word c.deref.ensures.value) turn
 
@@ -24,17 +24,17 @@ returns-in_ok-x-in-Some-clause-injective c = (
 
 pub returns-in_ok-x-in-Some-clause-most : goal.returns-in_ok-x-in-Some-clause-most
 returns-in_ok-x-in-Some-clause-most c =
-    let rule : IsRule c.args.rule.now = subst IsRule c.of.ensures c.in_ok-steps.ensures.rule in
-    let turn : IsFirstTurn c.args.rule.now (pair_count c.args.rule.now) (map (uncode 16) c.in-Some.steps.items) = rw (c.of.ensures, c.in-Some.is) at c.in_ok-steps.ensures.turn in
+    let rule : IsRule c.args.pairs.now = c.in_ok-steps.ensures.rule in
+    let turn : IsFirstTurn c.args.pairs.now (pair_count c.args.pairs.now) (map (uncode 16) c.in-Some.steps.items) = rw c.in-Some.is at c.in_ok-steps.ensures.turn in
     length-spelled rule c.in-Some.steps.items c.in_ok-x-in-Some.x c.in_ok-x-in-Some.y
     (c.in_ok-x-in-Some.ensures.first ∙ ap first_word c.deref.ensures.value) (c.in_ok-x-in-Some.ensures.second ∙ ap second_word c.deref.ensures.value) turn
 
 pub returns-in-None-clause-least : goal.returns-in-None-clause-least
 returns-in-None-clause-least c =
-    let rule : IsRule c.args.rule.now = subst IsRule c.of.ensures c.in_ok-steps.ensures.rule in
-    let none : NoTurnBelow c.args.rule.now (pair_count c.args.rule.now) = rw (c.of.ensures, c.in-None.is) at c.in_ok-steps.ensures.turn in
+    let rule : IsRule c.args.pairs.now = c.in_ok-steps.ensures.rule in
+    let none : NoTurnBelow c.args.pairs.now (pair_count c.args.pairs.now) = rw c.in-None.is at c.in_ok-steps.ensures.turn in
     no_twins-none rule none
 
 pub returns-in-None-clause-injective : goal.returns-in-None-clause-injective
 returns-in-None-clause-injective c =
-    (λ none. (IsInjective-no_twins (subst IsRule c.of.ensures c.in_ok-steps.ensures.rule)).1 (returns-in-None-clause-least c), λ injective. refl)
+    (λ none. (IsInjective-no_twins (c.in_ok-steps.ensures.rule)).1 (returns-in-None-clause-least c), λ injective. refl)

@@ -1,19 +1,18 @@
 use Rattle.std.proofs.Common.{rules, ◌≡◌, ◌≢◌, ◌-◌, Bool, [], if◌then◌else◌, length, slice_index, refl, sym, ap, ◌∙◌, subst, arith}
 use Rattle.word_image.specs.Families.{IsFamily}
-use Rattle.image_subsets.specs.FamilyTrees.{IsFamilyTree}
 use Rattle.word_image.proofs.laws.LastSets.{IsOrphan-not_surjective}
 use Rattle.orphan_search.proofs.Verdicts.{IsLeastOrphan-empty, IsSurjective-family, nonempty_family}
 use Rattle.orphan_search.proofs.search.Search.run.Goals as goal
 
 pub returns-then-self-clause-verdict : goal.returns-then-self-clause-verdict
 returns-then-self-clause-verdict c =
-    let tree = subst (λ r. IsFamilyTree r c.explore.new.self) c.of.ensures c.explore.ensures in
+    let tree = c.explore.ensures in
     let sets = c.explore.new.self.sets in
     let some : slice_index sets (length sets - 1) ≢ 0 = λ empty.
     let none : c.set.result ≡ 0 = c.set.ensures ∙ ap (λ n. slice_index sets (n - 1)) c.len-last.ensures.len ∙ empty in
     grind (arith, none, c.if-self.true) in (
       IsSurjective-family tree.rule tree.family (nonempty_family tree.family some),
-      subst (IsFamily c.args.rule.now) (sym (ap (λ (closed : Bool). if closed then sets else []) c.if-self.true)) tree.family,
+      subst (IsFamily c.args.graph.now) (sym (ap (λ (closed : Bool). if closed then sets else []) c.if-self.true)) tree.family,
       c.clear.ensures.items,
     )
 
@@ -24,9 +23,9 @@ returns-then-self-clause-exactly c =
 
 pub returns-clause-verdict : goal.returns-clause-verdict
 returns-clause-verdict c =
-    let tree = subst (λ r. IsFamilyTree r c.explore.new.self) c.of.ensures c.explore.ensures in
+    let tree = c.explore.ensures in
     let empty : c.set.result ≡ 0 = search (rules, c.if-self.false) in (
-      IsLeastOrphan-empty tree.rule (c.write_word.ensures.least c.args.rule.now tree) (sym c.set.ensures ∙ empty),
+      IsLeastOrphan-empty tree.rule (c.write_word.ensures.least c.args.graph.now tree) (sym c.set.ensures ∙ empty),
       omega (arith, c.write_word.ensures.short, c.len-last.ensures.most),
       ap (λ (closed : Bool). if closed then c.explore.new.self.sets else []) c.if-self.false,
     )
