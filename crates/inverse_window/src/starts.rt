@@ -1,11 +1,11 @@
 //! From how many letters of the image on pairs of nodes are told apart, by their ranks.
-ghost use Rattle.std.specs.Prelude.{◌≡◌, ◌+◌, ◌-◌, ◌<◌, ◌≤◌, ◌↔◌, ℕ, Option, IfSome, IsSome};
+ghost use Rattle.std.specs.Prelude.{◌≡◌, ◌+◌, ◌-◌, ◌<◌, ◌≤◌, Option, IfSome};
 ghost use Rattle.word_image.specs.LocalRules.{IsRule, node_count};
-ghost use Rattle.word_image.specs.Graphs.{first_of, second_of, pair_count};
+ghost use Rattle.word_image.specs.Graphs.{pair_of, pair_count};
 ghost use Rattle.word_image.specs.Ranks.{BeginTogether, EndTogether, IsRank};
 ghost use Rattle.word_image.specs.Windows.{IsDetermined};
 ghost use Rattle.inverse_window.specs.Starts.{HoldsFrom, later};
-ghost use Rattle.inverse_window.specs.FirstWindows.{DifferAt, IsPast, IsPastOf, AreStarts};
+ghost use Rattle.inverse_window.specs.FirstWindows.{DifferAt, Ends, IsPast, IsPastOf, NoneHolds, AreStarts};
 
 use pair_rank::Ranks;
 use word_image::Rule;
@@ -22,8 +22,27 @@ pub(crate) fn start_past(rule: &Rule, ranks: &Ranks, place: u8) -> Option<u16>
     ensures most { IfSome result (λ n. n ≤ 240) }
 {
     let mut start = Some(0);
-    for p in 0..count_of_pairs(rule) {
-        if let Some((u, v)) = differing(rule, p, place) {
+    for u in 0..rule.nodes() {
+        start = start_of(rule, ranks, u, place, start);
+    }
+    start
+}
+
+/// The same for the pairs of u with each node too, where `start` is that of the pairs of the nodes
+/// before it.
+fn start_of(rule: &Rule, ranks: &Ranks, u: u8, place: u8, start: Option<u16>) -> Option<u16>
+    requires of_rule { ranks.now ≡ rule.now }
+    requires place { place < rule.now.width - 1 }
+    requires node { u < node_count rule.now }
+    requires start { HoldsFrom start (NoneHolds (pair_of rule.now u 0) (DifferAt rule.now place) (Ends rule.now)) }
+    requires most { IfSome start (λ n. n ≤ 240) }
+    ensures start { HoldsFrom result (NoneHolds (pair_of rule.now (u + 1) 0) (DifferAt rule.now place) (Ends rule.now)) }
+    ensures most { IfSome result (λ n. n ≤ 240) }
+{
+    let letter = rule.node_letter(u, place);
+    let mut start = start;
+    for v in 0..rule.nodes() {
+        if rule.node_letter(v, place) != letter {
             start = later(start, end_apart(ranks, u, v));
         }
     }
@@ -73,13 +92,28 @@ pub(crate) fn starts_by_rank(rule: &Rule, ranks: &Ranks, past: u16) -> [Option<u
     ensures rule { IsRule rule.now }
 {
     let mut starts = [Some(0); ROWS];
-    for p in 0..count_of_pairs(rule) {
-        if let Some((u, v)) = differing(rule, p, 0) {
+    for u in 0..rule.nodes() {
+        add_starts(rule, ranks, u, past, &mut starts);
+    }
+    starts
+}
+
+/// Takes in the pairs of u with each node, behind those of the nodes before it.
+fn add_starts(rule: &Rule, ranks: &Ranks, u: u8, past: u16, starts: &mut [Option<u16>; ROWS])
+    requires rule { IsRule rule.now }
+    requires of_rule { ranks.now ≡ rule.now }
+    requires past { IsPast rule.now (node_count rule.now) past }
+    requires node { u < node_count rule.now }
+    requires starts { AreStarts rule.now past (pair_of rule.now u 0) starts.old }
+    ensures starts { AreStarts rule.now past (pair_of rule.now (u + 1) 0) starts.new }
+{
+    let letter = rule.node_letter(u, 0);
+    for v in 0..rule.nodes() {
+        if rule.node_letter(v, 0) != letter {
             let b = usize::from(ends_for(ranks, u, v, past));
             starts[b] = later(starts[b], begin_apart(ranks, u, v));
         }
     }
-    starts
 }
 
 /// From which number on two facts hold, the one from a on and the other from b on. `None` says that
@@ -122,29 +156,4 @@ fn ends_for(ranks: &Ranks, u: u8, v: u8, past: u16) -> u16
     ensures most { result ≤ past }
 {
     ranks.backward(u, v).unwrap_or(past)
-}
-
-/// How many pairs of nodes there are.
-fn count_of_pairs(rule: &Rule) -> u16
-    ensures count { result ≡ pair_count rule.now }
-    ensures rule { IsRule rule.now }
-{
-    let nodes = u16::from(rule.nodes());
-    nodes * nodes
-}
-
-/// The nodes of a pair that differ at a letter; `None` where they do not.
-fn differing(rule: &Rule, p: u16, place: u8) -> Option<(u8, u8)>
-    requires pair { p < pair_count rule.now }
-    requires place { place < rule.now.width - 1 }
-    ensures differ { IsSome result ↔ DifferAt rule.now place p }
-    ensures first { IfSome result (λ nodes. nodes.0 ≡ first_of rule.now p) }
-    ensures second { IfSome result (λ nodes. nodes.1 ≡ second_of rule.now p) }
-{
-    let nodes = u16::from(rule.nodes());
-    let (u, v) = ((p / nodes) as u8, (p % nodes) as u8);
-    if rule.node_letter(u, place) == rule.node_letter(v, place) {
-        return None;
-    }
-    Some((u, v))
 }

@@ -1,30 +1,19 @@
-use Rattle.std.proofs.Common.{◌≡◌, ◌+◌, ◌<◌, true, false, refl, sym, subst, arith}
+use Rattle.std.proofs.Common.{◌≡◌, ℕ, ◌+◌, ◌*◌, Option, Some, replicate, ap, subst, ◌∙◌, arith}
 use Rattle.word_image.specs.LocalRules.{LocalRule, node_count}
-use Rattle.word_image.specs.Ranks.{IsRank}
-use Rattle.pair_laws.proofs.Pairs.{first_of-below}
-use Rattle.inverse_window.specs.Starts.{HoldsFrom}
-use Rattle.inverse_window.specs.FirstWindows.{Begins, EndsFor, AreStarts, IsPastOf}
-use Rattle.inverse_window.proofs.RankStarts.{AreStarts-first, AreStarts-next, AreStarts-other}
+use Rattle.word_image.specs.Graphs.{pair_of, pair_count}
+use Rattle.inverse_window.specs.FirstWindows.{AreStarts}
+use Rattle.inverse_window.proofs.RankStarts.{AreStarts-first}
 use Rattle.inverse_window.proofs.starts.starts_by_rank.Goals as goal
-use Rattle.inverse_window.proofs.starts.starts_by_rank.Goals.{in-Some, in_default}
 
-pub loop-p-init : goal.loop-p-init
-loop-p-init c = AreStarts-first c.args.rule.now c.args.past c.requires.most
+pub loop-u-init : goal.loop-u-init
+loop-u-init c =
+    let zero : Option ℕ = Some 0 in
+    let none : 0 ≡ pair_of c.args.rule.now 0 0 = omega arith in
+    subst (λ p. AreStarts c.args.rule.now c.args.past p (replicate 241 zero)) none (AreStarts-first c.args.rule.now c.args.past c.requires.most)
 
-pub ends_for-requires-clause-past : goal.ends_for-requires-clause-past
-ends_for-requires-clause-past c =
+pub returns-clause-starts : goal.returns-clause-starts
+returns-clause-starts c =
     let r : LocalRule = c.args.rule.now in
-    let below : c.in-Some.u < node_count r = omega (arith, c.in-Some.ensures.first, first_of-below c.count_of_pairs-p-end.ensures.rule c.loop-p.p (omega (arith, c.count_of_pairs-p-end.ensures.count))) in
-    subst (λ (z : LocalRule). IsPastOf z c.in-Some.u (node_count z) c.args.past) (sym c.requires.of_rule) (c.requires.past c.in-Some.u below)
-
-pub loop-p-preserved : goal.loop-p-preserved
-loop-p-preserved c =
-    let r : LocalRule = c.args.rule.now in
-    elim c.match-differing.branch [
-      | in-Some w ↦
-          let here : HoldsFrom w.begin_apart.result (λ n. ¬ Begins r c.loop-p.p n) = rw (c.requires.of_rule, w.in-Some.ensures.first, w.in-Some.ensures.second) at w.begin_apart.ensures.start in
-          let rank : IsRank (EndsFor r c.args.past c.loop-p.p) w.from-b.result = rw (c.requires.of_rule, w.in-Some.ensures.first, w.in-Some.ensures.second, ← w.from-b.ensures) at w.ends_for.ensures.rank in
-          let starts = AreStarts-next c.count_of_pairs-p-end.ensures.rule w.begin_apart.result c.loop-p.invariant (w.in-Some.ensures.differ.0 refl) (omega (arith, w.ends_for.ensures.most)) rank here w.begin_apart.ensures.most in
-          rw (w.starts-is, w.later.ensures) starts
-      | in_default w ↦ subst (AreStarts r c.args.past (c.loop-p.p + 1)) (sym w.starts-is) (AreStarts-other c.loop-p.invariant (λ differ. let some : false ≡ true = w.in_default.ensures.differ.1 differ in cc))
-    ]
+    let nodes : c.loop-u.u ≡ node_count r = omega arith in
+    let all : pair_of r c.loop-u.u 0 ≡ pair_count r = ap (λ i. i * node_count r + 0) nodes ∙ omega arith in
+    subst (λ p. AreStarts r c.args.past p c.loop-u.starts) all c.loop-u.invariant

@@ -1,5 +1,6 @@
+use Rattle.word_image.specs.Graphs.{pair_of}
 use Rattle.inverse_window.specs.FirstWindows.{AreStarts}
 use Rattle.inverse_window.proofs.starts.starts_by_rank.Given as goal
 
-abbrev pub invariant-loop-p : goal.invariant-loop-p
-invariant-loop-p l = AreStarts l.rule l.past l.p l.starts
+abbrev pub invariant-loop-u : goal.invariant-loop-u
+invariant-loop-u l = AreStarts l.rule l.past (pair_of l.rule l.u 0) l.starts

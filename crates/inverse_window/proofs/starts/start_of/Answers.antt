@@ -1,0 +1,46 @@
+use Rattle.std.proofs.Common.{◌≡◌, ◌≢◌, ℕ, ◌+◌, ◌<◌, ◌≤◌, Option, sym, subst, ◌∙◌, arith}
+use Rattle.std.specs.Prelude.{IfSome}
+use Rattle.word_image.specs.LocalRules.{LocalRule, node_count}
+use Rattle.word_image.specs.Graphs.{pair_of, node_letter}
+use Rattle.word_image.specs.Ranks.{EndTogether}
+use Rattle.inverse_window.specs.Starts.{HoldsFrom, later}
+use Rattle.inverse_window.specs.FirstWindows.{DifferAt, Ends, NoneHolds}
+use Rattle.inverse_window.proofs.StartLaws.{HoldsFrom-next, HoldsFrom-other, later-most}
+use Rattle.inverse_window.proofs.PairRows.{of_nodes, nodes_differ}
+use Rattle.inverse_window.proofs.starts.start_of.Goals as goal
+use Rattle.inverse_window.proofs.starts.start_of.Goals.{then-node_letter-letter, else-node_letter-letter}
+
+pub loop-v-preserved : goal.loop-v-preserved
+loop-v-preserved c =
+    let r : LocalRule = c.args.rule.now in
+    let u : ℕ = c.args.u in
+    let v : ℕ = c.loop-v.v in
+    let i : ℕ = c.args.place in
+    let p : ℕ = pair_of r u v in
+    let start : Option ℕ = c.loop-v.start in
+    let below : v < node_count r = omega arith in
+    let more : p + 1 ≡ pair_of r u (v + 1) = omega arith in
+    let Kept : Option ℕ → Type 0 = λ o. HoldsFrom o (NoneHolds (pair_of r u (v + 1)) (DifferAt r i) (Ends r)) × IfSome o (λ n. n ≤ 240) in
+    elim c.if-node_letter-letter.branch [
+      | then-node_letter-letter w ↦
+          let differ : DifferAt r i p = of_nodes r (λ s t. node_letter r s i ≢ node_letter r t i) u v below
+          (λ same. w.if-node_letter-letter.true (c.node_letter.ensures.letter ∙ sym same ∙ sym c.node_letter-letter.ensures.letter)) in
+          let here : HoldsFrom w.end_apart.result (λ n. ¬ Ends r p n) = of_nodes r (λ s t. HoldsFrom w.end_apart.result (λ n. ¬ EndTogether r s t n)) u v below
+          (subst (λ (z : LocalRule). HoldsFrom w.end_apart.result (λ n. ¬ EndTogether z u v n)) c.requires.of_rule w.end_apart.ensures.start) in
+          subst Kept (sym (w.start-is ∙ w.later-start.ensures)) (
+            subst (λ q. HoldsFrom (later start w.end_apart.result) (NoneHolds q (DifferAt r i) (Ends r))) more (HoldsFrom-next start w.end_apart.result p (DifferAt r i) (Ends r) differ c.loop-v.invariant.0 here),
+            later-most start w.end_apart.result 240 c.loop-v.invariant.1 w.end_apart.ensures.most,
+          )
+      | else-node_letter-letter w ↦
+          let same : ¬ DifferAt r i p = λ differ. nodes_differ r i u v below differ (sym c.node_letter-letter.ensures.letter ∙ sym w.if-node_letter-letter.false ∙ c.node_letter.ensures.letter) in
+          subst Kept (sym w.start-is) (
+            subst (λ q. HoldsFrom start (NoneHolds q (DifferAt r i) (Ends r))) more (HoldsFrom-other start p (DifferAt r i) (Ends r) same c.loop-v.invariant.0),
+            c.loop-v.invariant.1,
+          )
+    ]
+
+pub returns-clause-start : goal.returns-clause-start
+returns-clause-start c =
+    let r : LocalRule = c.args.rule.now in
+    let all : pair_of r c.args.u c.loop-v.v ≡ pair_of r (c.args.u + 1) 0 = omega arith in
+    subst (λ q. HoldsFrom c.loop-v.start (NoneHolds q (DifferAt r c.args.place) (Ends r))) all c.loop-v.invariant.0
