@@ -57,10 +57,10 @@ pub record Completes (k : ℕ) (c : Colouring) (low high : ℕ) (d : Colouring) 
   pub mirrored : d.mirrored ≡ c.mirrored
   pub letters : (a : ℕ) → a < k → IsChosen low high a → slice_index d.letters a ≡ slice_index c.letters a
 
--- the least of a colouring and of those that complete c, and the first such one
+-- the least of a colouring and of those that complete c; the colouring where none of these is less
 pub record IsLeastOf (r : LocalRule) (c : Colouring) (low high : ℕ) (before found : Colouring) : Type 0 where
   pub colouring : IsColouring r.states found
-  pub one : (found ≡ before) ⊎ ((found.mirrored ≡ c.mirrored) × (number_of r found < number_of r before))
+  pub one : (found ≡ before) ⊎ (Completes r.states c low high found × (number_of r found < number_of r before))
   pub least : (d : Colouring) → Completes r.states c low high d → number_of r found ≤ number_of r d
 
 -- what completes the colouring has the letters of the best rule from this window on

@@ -92,7 +92,7 @@ Completes-all {k} {c} {d} colouring mirrored = record {
 pub IsLeastOfClass-found : {r : LocalRule} {own other first found : Colouring} → IsRule r → own.mirrored ≡ false → other.mirrored ≡ true
     → IsLeastOf r own 0 r.states own first → IsLeastOf r other 0 r.states first found → IsLeastOfClass r found.mirrored (in_colours r found)
 IsLeastOfClass-found {r} {own} {other} {first} {found} rule straight turned one two =
-    let less : number_of r found ≤ number_of r first = no_greater r other two.one in
+    let less : number_of r found ≤ number_of r first = no_greater r two.one in
     let in_first : (h : LocalRule) → IsInClass r false h → number_of r first ≤ wolfram_number h = λ h inside.
     let d = class_number r false inside in omega (arith, d.3, one.least d.0 (Completes-all d.1 (d.2 ∙ sym straight))) in
     let member : IsInClass r found.mirrored (in_colours r found) = IsInClass-colours found.mirrored rule two.colouring in
@@ -105,10 +105,10 @@ IsLeastOfClass-found {r} {own} {other} {first} {found} rule straight turned one 
       needed = ⊎_elim
           (λ (same : found ≡ first).
           let not : found.mirrored ≡ false =
-          ap (λ c. c.mirrored) same ∙ ⊎_elim (λ (kept : first ≡ own). ap (λ c. c.mirrored) kept ∙ straight) (λ (new : (first.mirrored ≡ own.mirrored) × (number_of r first < number_of r own)). new.0 ∙ straight) one.one in
+          ap (λ c. c.mirrored) same ∙ ⊎_elim (λ (kept : first ≡ own). ap (λ c. c.mirrored) kept ∙ straight) (λ (new : Completes r.states own 0 r.states first × (number_of r first < number_of r own)). new.0.mirrored ∙ straight) one.one in
           (λ is. absurd (false≢true (sym not ∙ is)), λ none. absurd (none (subst (λ mirror. IsInClass r mirror (in_colours r found)) not member))))
-          (λ (new : (found.mirrored ≡ other.mirrored) × (number_of r found < number_of r first)).
-          (λ is inside. absurd (omega (arith, new.1, in_first (in_colours r found) inside)), λ none. new.0 ∙ turned))
+          (λ (new : Completes r.states other 0 r.states found × (number_of r found < number_of r first)).
+          (λ is inside. absurd (omega (arith, new.1, in_first (in_colours r found) inside)), λ none. new.0.mirrored ∙ turned))
           two.one;
     }
 

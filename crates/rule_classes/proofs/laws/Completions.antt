@@ -117,7 +117,9 @@ number_of-completes {r} {c} {d} rule colouring completes = number_of-same r c d 
 pub IsLeastOf-last : {r : LocalRule} {c before found : Colouring} {low high : ℕ} → high ≤ low + 1 → high ≤ r.states → IsColouring r.states c → IsLeastOf r c 0 0 before found → IsLeastOf r c low high before found
 IsLeastOf-last {r} {c} {before} {found} {low} {high} few most colouring h = record {
   colouring = h.colouring;
-  one = h.one;
+  one = ⊎_elim (λ (kept : found ≡ before). inl kept)
+      (λ (new : Completes r.states c 0 0 found × (number_of r found < number_of r before)). inr (record { colouring = new.0.colouring; mirrored = new.0.mirrored; letters = λ a l chosen. new.0.letters a l (inr (omega arith)) }, new.1))
+      h.one;
   least = λ d completes. h.least d (Completes-last few most colouring completes);
 }
 
@@ -130,6 +132,7 @@ pub record IsNext (k : ℕ) (c : Colouring) (low high next colour : ℕ) (e : Co
   pub letter : slice_index e.letters next ≡ slice_index c.letters colour
   pub others : (a : ℕ) → a ≢ next → a ≢ colour → slice_index e.letters a ≡ slice_index c.letters a
   pub chosen : (a : ℕ) → IsChosen from to a → (a ≡ next) ⊎ IsChosen low high a
+  pub kept : (a : ℕ) → IsChosen low high a → IsChosen from to a
 
 -- the greatest free colour is chosen
 pub IsNext-greatest : {k low high colour : ℕ} {c e : Colouring} → high ≤ k → low < high → low + high ≡ k → e.mirrored ≡ c.mirrored
@@ -144,6 +147,7 @@ IsNext-greatest {k} {low} {high} {colour} {c} {e} most some even mirrored letter
       letter = letter;
       others = others;
       chosen = λ a. ⊎_elim (λ less. inr (inl less)) (λ past. ⊎_elim (λ at. inl at) (λ other. inr (inr (omega arith))) (cases_eq a (high - 1)));
+      kept = λ a. ⊎_elim (λ less. inl less) (λ past. inr (omega arith));
     })
 
 -- or the least one
@@ -159,6 +163,7 @@ IsNext-least {k} {low} {high} {colour} {c} {e} most some odd mirrored letter oth
       letter = letter;
       others = others;
       chosen = λ a. ⊎_elim (λ less. ⊎_elim (λ at. inl at) (λ other. inr (inl (omega arith))) (cases_eq a low)) (λ past. inr (inr past));
+      kept = λ a. ⊎_elim (λ less. inl (omega arith)) (λ past. inr past);
     })
 
 -- what completes the first and has that letter there completes it
@@ -176,28 +181,39 @@ Completes-next {k} {c} {d} {e} {low} {high} {next} {colour} {from} {to} h least 
       (h.chosen a chosen);
 }
 
+-- and what completes it completes the first
+Completes-before : {k : ℕ} {c d e : Colouring} {low high next colour from to : ℕ} → IsNext k c low high next colour e from to → low ≤ colour → colour < high → Completes k e from to d → Completes k c low high d
+Completes-before {k} {c} {d} {e} {low} {high} {next} {colour} {from} {to} h least most completes = record {
+  colouring = completes.colouring;
+  mirrored = completes.mirrored ∙ h.mirrored;
+  letters = λ a l chosen.
+      let other : a ≢ next = λ at. ⊎_elim (λ less. omega (arith, h.from_next)) (λ past. omega (arith, h.next_to)) chosen in
+      let another : a ≢ colour = λ at. ⊎_elim (λ less. omega arith) (λ past. omega arith) chosen in
+      completes.letters a l (h.kept a chosen) ∙ h.others a other another;
+}
+
 -- found is the least of one and of those that complete the colouring and have the letter of a colour below n at the next one
 pub record IsLeastOver (r : LocalRule) (c : Colouring) (low high next n : ℕ) (before found : Colouring) : Type 0 where
   pub colouring : IsColouring r.states found
-  pub one : (found ≡ before) ⊎ ((found.mirrored ≡ c.mirrored) × (number_of r found < number_of r before))
+  pub one : (found ≡ before) ⊎ (Completes r.states c low high found × (number_of r found < number_of r before))
   pub least : (d : Colouring) → Completes r.states c low high d → (q : ℕ) → low ≤ q → q < n → slice_index d.letters next ≡ slice_index c.letters q → number_of r found ≤ number_of r d
 
 -- one less, or as before
-pub no_greater : (r : LocalRule) (c : Colouring) {before found : Colouring} → (found ≡ before) ⊎ ((found.mirrored ≡ c.mirrored) × (number_of r found < number_of r before)) → number_of r found ≤ number_of r before
-no_greater r c {before} {found} one = ⊎_elim (λ (same : found ≡ before). let number = ap (number_of r) same in omega arith) (λ less. omega (arith, less.1)) one
+pub no_greater : (r : LocalRule) {A : Type 0} {before found : Colouring} → (found ≡ before) ⊎ (A × (number_of r found < number_of r before)) → number_of r found ≤ number_of r before
+no_greater r {A} {before} {found} one = ⊎_elim (λ (same : found ≡ before). let number = ap (number_of r) same in omega arith) (λ less. omega (arith, less.1)) one
 
 -- one colour more is tried
 pub IsLeastOver-more : {r : LocalRule} {c e before found new : Colouring} {low high next n from to : ℕ} → IsNext r.states c low high next n e from to → low ≤ n → n < high
     → IsLeastOver r c low high next n before found → IsLeastOf r e from to found new → IsLeastOver r c low high next (n + 1) before new
 IsLeastOver-more {r} {c} {e} {before} {found} {new} {low} {high} {next} {n} {from} {to} h least most over found_new =
-    let less : number_of r new ≤ number_of r found = no_greater r e found_new.one in
-    let old : number_of r found ≤ number_of r before = no_greater r c over.one in
+    let less : number_of r new ≤ number_of r found = no_greater r found_new.one in
+    let old : number_of r found ≤ number_of r before = no_greater r over.one in
     record {
       colouring = found_new.colouring;
       one = ⊎_elim
           (λ (same : new ≡ found). ⊎_elim (λ (kept : found ≡ before). inl (same ∙ kept))
-          (λ (other : (found.mirrored ≡ c.mirrored) × (number_of r found < number_of r before)). inr (ap (λ x. x.mirrored) same ∙ other.0, omega (arith, other.1))) over.one)
-          (λ (other : (new.mirrored ≡ e.mirrored) × (number_of r new < number_of r found)). inr (other.0 ∙ h.mirrored, omega (arith, other.1)))
+          (λ (other : Completes r.states c low high found × (number_of r found < number_of r before)). inr (subst (λ x. Completes r.states c low high x) (sym same) other.0, omega (arith, other.1))) over.one)
+          (λ (other : Completes r.states e from to new × (number_of r new < number_of r found)). inr (Completes-before h least most other.0, omega (arith, other.1)))
           found_new.one;
       least = λ d completes q start below same.
           ⊎_elim (λ before. omega (arith, over.least d completes q start before same))

@@ -1,14 +1,14 @@
 use Rattle.std.proofs.Common.{inl, inr, ◌≡◌, refl, sym, ap, subst, arith, rules}
 use Rattle.std.specs.Cmp.Rules.{comparing}
 use Rattle.rule_classes.specs.Colourings.{IsLeastOf, number_of}
-use Rattle.rule_classes.proofs.laws.Completions.{number_of-completes}
+use Rattle.rule_classes.proofs.laws.Completions.{Completes-itself, number_of-completes}
 use Rattle.rule_classes.proofs.search.take_lesser.Goals.{else-ne-via-then-ne+else-is_less, else-ne-via-else-ne}
 use Rattle.rule_classes.proofs.search.take_lesser.Goals as goal
 
 pub returns-then-is_less-clause-least : goal.returns-then-is_less-clause-least
 returns-then-is_less-clause-least c = subst (IsLeastOf c.args.rule.now c.args.colouring 0 0 c.args.best.now.colouring) (sym c.take.ensures.colouring) (record {
   colouring = c.requires.colouring;
-  one = inr (refl, c.is_less.ensures.less c.if-is_less.true);
+  one = inr (Completes-itself c.requires.colouring, c.is_less.ensures.less c.if-is_less.true);
   least = λ d completes. omega (arith, number_of-completes c.requires.rule c.requires.colouring completes);
 })
 
