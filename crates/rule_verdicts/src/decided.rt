@@ -11,7 +11,7 @@ use flux_conserve::{Keeping, conserve};
 use inverse_window::is_injective;
 use pair_graph::Pairs;
 use pair_rank::Endless;
-use word_image::Rule;
+use word_image::{Rule, Weights};
 
 /// Decides all questions about a rule. It takes no memory.
 pub fn verdicts(rule: &Rule) -> Verdicts
@@ -45,7 +45,7 @@ pub fn verdicts(rule: &Rule) -> Verdicts
 fn is_conserving(rule: &Rule) -> bool
     ensures { IsTrue result ↔ IsConserving (λ a. a) rule.now }
 {
-    match conserve(rule) {
+    match conserve(rule, &Weights::own(rule.k())) {
         Keeping::Flux(_) => true,
         Keeping::Ring(_) => false,
     }

@@ -6,9 +6,10 @@ ghost use Rattle.cert_format.specs.Parts.{side_of};
 ghost use Rattle.certificate_laws.specs.Evidence.{IsLeastEvidence, close_both};
 ghost use Rattle.certificate_laws.specs.WrittenCertificates.{HasWrittenParts};
 
-use crate::parts::{injective_part, least_orphan, side_part, sum_part, surjective_part};
+use crate::parts::{first_orphan, injective_part, side_part, sum_part, surjective_part};
 use cert_format::{Cert, InjectivePart, SidePart, SumPart};
 use closing_test::{left, right};
+use debruijn::Graph;
 use least_walk::Walker;
 use pair_graph::{Pairs, Side};
 use pair_rank::Ranks;
@@ -60,14 +61,15 @@ impl Evidence {
     pub fn of(alloc: Global, rule: &Rule) -> Result<Evidence, AllocError>
         ensures { IfOk result (IsLeastEvidence (λ a. a) rule.now) }
     {
-        let ranks = Ranks::of(&Pairs::of(rule));
+        let pairs = Pairs::of(rule);
+        let ranks = Ranks::of(&pairs);
         let mut walker = Walker::new(alloc)?;
         Ok(Evidence {
             rule: *rule,
-            orphan: least_orphan(alloc, rule)?,
-            injective: injective_part(alloc, rule, &ranks, &mut walker)?,
-            right: side_part(right(alloc, rule, &ranks, &mut walker)?),
-            left: side_part(left(alloc, rule, &ranks, &mut walker)?),
+            orphan: first_orphan(alloc, pairs.graph())?,
+            injective: injective_part(alloc, &pairs, &ranks, &mut walker)?,
+            right: side_part(right(alloc, &pairs, &ranks, &mut walker)?),
+            left: side_part(left(alloc, &pairs, &ranks, &mut walker)?),
             conserving: sum_part(alloc, rule)?,
             ranks,
         })
@@ -91,7 +93,7 @@ impl Evidence {
         let backward = self.ranks.row(alloc, Side::Backward)?;
         Ok(Cert {
             rule,
-            surjective: surjective_part(alloc, &rule, self.orphan)?,
+            surjective: surjective_part(alloc, &Graph::of(&rule), self.orphan)?,
             injective: self.injective,
             right: self.right,
             left: self.left,

@@ -20,17 +20,24 @@ use orphan_search::Search;
 use pair_graph::Pairs;
 use pair_rank::Ranks;
 use std::alloc::{AllocError, Global};
-use word_image::{FluxRow, Rule, SetList, Word};
+use word_image::{FluxRow, Rule, SetList, Weights, Word};
 
 /// The least word that has no preimage; `None` exactly where the rule is surjective.
 pub fn least_orphan(alloc: Global, rule: &Rule) -> Result<Option<Word>, AllocError>
     ensures { IfOk result (IsOrphanPart rule.now) }
 {
-    if is_surjective(&Graph::of(rule)) {
+    first_orphan(alloc, &Graph::of(rule))
+}
+
+/// The same, by the graph of the rule.
+pub(crate) fn first_orphan(alloc: Global, graph: &Graph) -> Result<Option<Word>, AllocError>
+    ensures { IfOk result (IsOrphanPart graph.now) }
+{
+    if is_surjective(graph) {
         return Ok(None);
     }
     let mut search = Search::new(alloc)?;
-    search.run(rule);
+    search.run(graph);
     Ok(Some(Word::of(search.word().to_vec(alloc)?)))
 }
 
@@ -40,26 +47,27 @@ pub fn injectivity(alloc: Global, rule: &Rule) -> Result<InjectivePart, AllocErr
     ensures least { IfOk result (λ part. IsInjectivePart rule.now (injective_of part)) }
     ensures most { IfOk result (λ part. HasShortWindow (injective_of part)) }
 {
-    let ranks = Ranks::of(&Pairs::of(rule));
+    let pairs = Pairs::of(rule);
+    let ranks = Ranks::of(&pairs);
     let mut walker = Walker::new(alloc)?;
-    injective_part(alloc, rule, &ranks, &mut walker)
+    injective_part(alloc, &pairs, &ranks, &mut walker)
 }
 
-/// The same, by the ranks of the rule.
+/// The same, by the pairs and the ranks of the rule.
 pub(crate) fn injective_part(
     alloc: Global,
-    rule: &Rule,
+    pairs: &Pairs,
     ranks: &Ranks,
     walker: &mut Walker,
 ) -> Result<InjectivePart, AllocError>
-    requires { ranks.now ≡ rule.now }
-    ensures least { IfOk result (λ part. IsInjectivePart rule.now (injective_of part)) }
+    requires { ranks.now ≡ pairs.now }
+    ensures least { IfOk result (λ part. IsInjectivePart pairs.now (injective_of part)) }
     ensures most { IfOk result (λ part. HasShortWindow (injective_of part)) }
 {
-    if let Some(at) = window(rule, ranks) {
+    if let Some(at) = window(pairs.rule(), ranks) {
         return Ok(InjectivePart::Window { n: at.n, c: at.c });
     }
-    match twins(alloc, rule, walker)? {
+    match twins(alloc, pairs, walker)? {
         Some(pair) => Ok(InjectivePart::Twins {
             x: pair.x,
             y: pair.y,
@@ -83,7 +91,7 @@ pub(crate) fn side_part(found: Closing) -> SidePart
 pub(crate) fn sum_part(alloc: Global, rule: &Rule) -> Result<SumPart, AllocError>
     ensures { IfOk result (λ part. IsConservingPart (λ a. a) rule.now (sum_of part)) }
 {
-    match conserve(rule) {
+    match conserve(rule, &Weights::own(rule.k())) {
         Keeping::Flux(flows) => Ok(SumPart::Flux(flux_row(alloc, rule, &flows)?)),
         Keeping::Ring(ring) => Ok(SumPart::Ring(ring_word(alloc, &ring)?)),
     }
@@ -105,27 +113,27 @@ fn ring_word(alloc: Global, ring: &SmallRing) -> Result<Word, AllocError>
     Ok(Word::of(ring.letters().to_vec(alloc)?))
 }
 
-/// What a certificate says of surjectivity, of a rule with this least orphan or none.
+/// What a certificate says of surjectivity, of the rule of a graph with this least orphan or none.
 pub(crate) fn surjective_part(
     alloc: Global,
-    rule: &Rule,
+    graph: &Graph,
     orphan: Option<Word>,
 ) -> Result<SurjectivePart, AllocError>
-    requires { IsOrphanPart rule.now orphan }
-    ensures { IfOk result (λ part. IsOrphanPart rule.now (orphan_of (surjective_of part)) × IsFamilyPart rule.now (surjective_of part)) }
+    requires { IsOrphanPart graph.now orphan }
+    ensures { IfOk result (λ part. IsOrphanPart graph.now (orphan_of (surjective_of part)) × IsFamilyPart graph.now (surjective_of part)) }
 {
     match orphan {
         Some(word) => Ok(SurjectivePart::Orphan(word)),
-        None => Ok(SurjectivePart::Sets(family(alloc, rule)?)),
+        None => Ok(SurjectivePart::Sets(family(alloc, graph)?)),
     }
 }
 
 /// The family of a surjective rule.
-fn family(alloc: Global, rule: &Rule) -> Result<SetList, AllocError>
-    requires { IsSurjective rule.now }
-    ensures { IfOk result (IsFamily rule.now) }
+fn family(alloc: Global, graph: &Graph) -> Result<SetList, AllocError>
+    requires { IsSurjective graph.now }
+    ensures { IfOk result (IsFamily graph.now) }
 {
     let mut search = Search::new(alloc)?;
-    search.run(rule);
+    search.run(graph);
     Ok(SetList::of(search.sets().to_vec(alloc)?))
 }

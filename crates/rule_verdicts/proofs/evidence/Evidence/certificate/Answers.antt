@@ -2,8 +2,10 @@ use Rattle.std.proofs.Common.{refl, subst}
 use Rattle.pair_graph.specs.declared.edges.Side.TheVariants.{Forward, Backward}
 use Rattle.cert_format.specs.Certificates.{Certificate}
 use Rattle.cert_format.specs.Parts.{surjective_of, injective_of, side_of, sum_of}
+use Rattle.word_image.specs.LocalRules.{LocalRule}
+use Rattle.certificate_laws.specs.Evidence.{IsOrphanPart, orphan_of}
 use Rattle.certificate_laws.specs.Evidence as found
-use Rattle.certificate_laws.specs.WrittenCertificates.{HasWrittenParts}
+use Rattle.certificate_laws.specs.WrittenCertificates.{HasWrittenParts, IsFamilyPart}
 use Rattle.certificate_laws.proofs.WrittenShapes.{IsShaped-written}
 use Rattle.rule_verdicts.proofs.laws.WrittenParts.{AreRanks-row}
 use Rattle.rule_verdicts.proofs.evidence.Evidence.certificate.Goals as goal
@@ -21,6 +23,12 @@ made c = record {
   backward = c.in_ok-backward.backward;
 }
 
+-- the part on surjectivity, of the rule of the graph, is of the rule
+surjective_made : (c : goal.In_ok-surjective_part) → let part = surjective_of c.in_ok-surjective_part.field-0 in IsOrphanPart c.self.inside.rule (orphan_of part) × IsFamilyPart c.self.inside.rule part
+surjective_made c =
+    let part = surjective_of c.in_ok-surjective_part.field-0 in
+    subst (λ (r : LocalRule). IsOrphanPart r (orphan_of part) × IsFamilyPart r part) c.of.ensures c.in_ok-surjective_part.ensures
+
 -- it is what is written for the rule
 HasWrittenParts-made : (c : goal.In_ok-surjective_part) → HasWrittenParts c.self.inside.rule (made c)
 HasWrittenParts-made c =
@@ -29,13 +37,13 @@ HasWrittenParts-made c =
     record {
       least = record {
         rule = refl;
-        surjective = c.in_ok-surjective_part.ensures.0;
+        surjective = (surjective_made c).0;
         injective = least.injective;
         right = least.right;
         left = least.left;
         conserving = least.conserving;
       };
-      family = c.in_ok-surjective_part.ensures.1;
+      family = (surjective_made c).1;
       forward = AreRanks-row Forward same c.in_ok-forward.ensures.each_pair c.in_ok-forward.ensures.ranks;
       backward = AreRanks-row Backward same c.in_ok-backward.ensures.each_pair c.in_ok-backward.ensures.ranks;
     }

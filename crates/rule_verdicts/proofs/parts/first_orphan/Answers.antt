@@ -1,11 +1,11 @@
-use Rattle.std.proofs.Common.{rules, ◌≡◌, sym, ◌∙◌, subst}
+use Rattle.std.proofs.Common.{◌≡◌, sym, ◌∙◌, subst}
 use Rattle.std.proofs.lemmas.Bool.{false≢true}
 use Rattle.word_image.specs.LocalRules.{LocalRule}
 use Rattle.word_image.specs.Words.{IsSurjective, IsLeastOrphan}
 use Rattle.orphan_search.specs.declared.search.Outcome.{Outcome}
 use Rattle.orphan_search.specs.declared.search.Outcome.TheVariants.{Closed, Orphan}
 use Rattle.orphan_search.specs.Verdicts.{Found, IsVerdict}
-use Rattle.rule_verdicts.proofs.parts.least_orphan.Goals as goal
+use Rattle.rule_verdicts.proofs.parts.first_orphan.Goals as goal
 
 -- a search has found the least orphan of a rule that isn't surjective
 IsLeastOrphan-verdict : {r : LocalRule} (outcome : Outcome) (f : Found) → IsVerdict r outcome f → ¬ IsSurjective r → IsLeastOrphan r f.word
@@ -14,6 +14,6 @@ IsLeastOrphan-verdict Orphan f h some = h.0
 
 pub returns : goal.returns
 returns c =
-    let some : ¬ IsSurjective c.args.rule.now = λ every. false≢true (sym c.if-is_surjective.false ∙ c.is_surjective.ensures.surjective.1 (subst IsSurjective (sym c.of.ensures) every)) in
-    let word : c.of-2.result ≡ c.run.new.self.word = search rules in
-    subst (IsLeastOrphan c.args.rule.now) (sym word) (IsLeastOrphan-verdict c.run.result c.run.new.self c.run.ensures.verdict some)
+    let word : c.of.result ≡ c.run.new.self.word = c.of.ensures ∙ c.in_ok-to_vec.ensures.items_if_clones_equal (λ x y e. e) ∙ c.word.ensures in
+    let some : ¬ IsSurjective c.args.graph.now = λ every. false≢true (sym c.if-is_surjective.false ∙ c.is_surjective.ensures.surjective.1 every) in
+    subst (IsLeastOrphan c.args.graph.now) (sym word) (IsLeastOrphan-verdict c.run.result c.run.new.self c.run.ensures.verdict some)
