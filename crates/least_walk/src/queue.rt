@@ -4,6 +4,7 @@ ghost use Rattle.std.specs.Prelude.{◌≡◌, ℕ, ◌+◌, ◌*◌, ◌<◌, �
 ghost use Rattle.word_image.specs.LocalRules.{IsRule};
 ghost use Rattle.word_image.specs.Graphs.{marked, pair_count};
 ghost use Rattle.least_walk.specs.Marks.{HasPair, IsMarked};
+ghost use Rattle.least_walk.specs.declared.queue.Reached.{Reached};
 ghost use Rattle.least_walk.specs.Queues.{IsSearch, IsArrival, IsNear, IsEnded, IsOldBut};
 
 use crate::marks::{Parts, Rows, add, fresh, has, parts_of, step_from};
@@ -33,6 +34,15 @@ pub struct Ends {
     pub start: u16,
     /// Where it is to arrive, if anywhere.
     pub goal: Option<u16>,
+}
+
+/// The marked pair whose steps are followed.
+#[derive(Clone, Copy)]
+struct Head {
+    /// Its place in the queue.
+    place: usize,
+    /// The marked pair.
+    parts: Parts,
 }
 
 /// The step with which a walk arrives at its goal, and the place from which it is made.
@@ -103,10 +113,14 @@ fn follow(
 {
     let t = queue[head].pair;
     let from = parts_of(pairs, t);
+    let at = Head {
+        place: head,
+        parts: from,
+    };
     for a in 0..pairs.rule().k() {
         let letters = fresh(pairs, rows, from, a);
         if letters != 0 {
-            if let Some(step) = follow_letter(queue, rows, pairs, ends, head, a, letters) {
+            if let Some(step) = follow_letter(queue, rows, pairs, ends, at, a, letters) {
                 return Some(step);
             }
         }
@@ -121,24 +135,25 @@ fn follow_letter(
     rows: &mut Rows,
     pairs: &Pairs,
     ends: Ends,
-    head: usize,
+    head: Head,
     a: u8,
     letters: u16,
 ) -> Option<u8>
     requires room { 512 ≤ vec_capacity queue.old }
-    requires head { head < vec_len queue.old }
+    requires head { head.place < vec_len queue.old }
+    requires marked { IsMarked pairs.now head.parts }
+    requires at { (x : Reached) → slice_get queue.old.items head.place ≡ Some x → x.pair ≡ head.parts.pair }
     requires letter { a < pairs.now.states }
-    requires search { IsSearch pairs.now ends queue.old.items rows.old (head * (pairs.now.states * 16) + a * 16) }
-    requires old { IsOldBut pairs.now queue.old.items rows.old head a letters }
+    requires search { IsSearch pairs.now ends queue.old.items rows.old (head.place * (pairs.now.states * 16) + a * 16) }
+    requires old { IsOldBut pairs.now queue.old.items rows.old head.place a letters }
     ensures room { 512 ≤ vec_capacity queue.new }
-    ensures found { IfSome result (IsArrival pairs.now ends queue.new.items head) }
-    ensures none { IfNone result (IsSearch pairs.now ends queue.new.items rows.new (head * (pairs.now.states * 16) + (a + 1) * 16)) }
-    ensures same { slice_get queue.new.items head ≡ slice_get queue.old.items head }
+    ensures found { IfSome result (IsArrival pairs.now ends queue.new.items head.place) }
+    ensures none { IfNone result (IsSearch pairs.now ends queue.new.items rows.new (head.place * (pairs.now.states * 16) + (a + 1) * 16)) }
+    ensures same { slice_get queue.new.items head.place ≡ slice_get queue.old.items head.place }
 {
-    let from = queue[head];
-    let parts = parts_of(pairs, from.pair);
+    let from = queue[head.place];
     for b in 0..pairs.rule().k() {
-        if let Some(q) = new_step(pairs, rows, parts, a, b, letters) {
+        if let Some(q) = new_step(pairs, rows, head.parts, a, b, letters) {
             let step = 16 * a + b;
             if ends.goal == Some(q.pair) {
                 return Some(step);
@@ -146,7 +161,7 @@ fn follow_letter(
             add(rows, q);
             let reached = Reached {
                 pair: q.pair,
-                parent: head as u16,
+                parent: head.place as u16,
                 step,
                 depth: from.depth + 1,
             };

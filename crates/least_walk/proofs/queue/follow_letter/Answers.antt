@@ -7,7 +7,7 @@ use Rattle.word_image.specs.Graphs.{marked}
 use Rattle.word_image.proofs.laws.Places.{slice_get-append}
 use Rattle.least_walk.specs.declared.queue.Reached.{Reached}
 use Rattle.least_walk.specs.Queues.{MarkedStep, IsWalking, IsSearch, IsOldBut, step_count}
-use Rattle.least_walk.proofs.Walking.{pair-below, length-walking-le, IsSearch-old, IsSearch-new, IsSearch-rest, depth-below, goal-tells, MarkedStep-letters, IsOldBut-more}
+use Rattle.least_walk.proofs.Walking.{length-walking-le, IsSearch-old, IsSearch-new, IsSearch-rest, depth-below, goal-tells, MarkedStep-letters, IsOldBut-more}
 use Rattle.least_walk.proofs.queue.follow_letter.Goals as goal
 use Rattle.least_walk.proofs.queue.follow_letter.Goals.{in-Some+else-eq, in_default}
 
@@ -15,15 +15,10 @@ use Rattle.least_walk.proofs.queue.follow_letter.Goals.{in-Some+else-eq, in_defa
 stands : (queue : List Reached) (head : ℕ) (x : Reached) (first : List Reached) → head < length queue → x ≡ get_or queue head x → slice_get first head ≡ slice_get queue head → slice_get first head ≡ Some x
 stands queue head x first within is same = same ∙ slice_get-get_or queue head x within ∙ ap Some (sym is)
 
-pub parts_of-parts-requires : goal.parts_of-parts-requires
-parts_of-parts-requires c =
-    pair-below c.requires.search.walking c.args.head c.index-from.result.now
-    (slice_get-get_or c.args.queue.now.items c.args.head c.index-from.result.now (omega (arith, c.args.queue.now.ok)) ∙ ap Some (sym c.index-from.ensures))
-
 pub loop-b-init : goal.loop-b-init
 loop-b-init c =
     let r = c.args.pairs.now in
-    let start : c.args.head * step_count r + c.args.a * 16 ≡ c.args.head * step_count r + (c.args.a * 16 + 0) = omega arith in
+    let start : c.args.head.place * step_count r + c.args.a * 16 ≡ c.args.head.place * step_count r + (c.args.a * 16 + 0) = omega arith in
     record {
       room = c.requires.room;
       search = subst (IsSearch r c.args.ends c.args.queue.now.items c.args.rows.now) start c.requires.search;
@@ -34,8 +29,8 @@ loop-b-init c =
 pub new_step-requires-clause-old : goal.new_step-requires-clause-old
 new_step-requires-clause-old c q absent step =
     c.loop-b.invariant.old c.index-from.result.now c.loop-b.b q
-    (stands c.args.queue.now.items c.args.head c.index-from.result.now c.loop-b.queue.items (omega (arith, c.args.queue.now.ok)) c.index-from.ensures c.loop-b.invariant.same)
-    (omega (arith, ap (λ (z : LocalRule). z.states) c.rule.ensures)) absent (ap (λ t. marked c.args.pairs.now t c.args.a c.loop-b.b) (sym c.parts_of-parts.ensures.pair) ∙ step)
+    (stands c.args.queue.now.items c.args.head.place c.index-from.result.now c.loop-b.queue.items (omega (arith, c.args.queue.now.ok)) c.index-from.ensures c.loop-b.invariant.same)
+    (omega (arith, ap (λ (z : LocalRule). z.states) c.rule.ensures)) absent (ap (λ t. marked c.args.pairs.now t c.args.a c.loop-b.b) (c.requires.at c.index-from.result.now (stands c.args.queue.now.items c.args.head.place c.index-from.result.now c.args.queue.now.items (omega (arith, c.args.queue.now.ok)) c.index-from.ensures refl)) ∙ step)
 
 pub returns-then-eq-clause-found : goal.returns-then-eq-clause-found
 returns-then-eq-clause-found c =
@@ -46,13 +41,13 @@ returns-then-eq-clause-found c =
     let states : r.states ≤ 16 = search.walking.rule.shape.most_states in
     record {
       from = x;
-      stands = stands c.args.queue.now.items c.args.head x c.loop-b.queue.items (omega (arith, c.args.queue.now.ok)) c.index-from.ensures c.loop-b.invariant.same;
+      stands = stands c.args.queue.now.items c.args.head.place x c.loop-b.queue.items (omega (arith, c.args.queue.now.ok)) c.index-from.ensures c.loop-b.invariant.same;
       letters = omega (arith, ap (λ (z : LocalRule). z.states) c.rule.ensures);
-      walking = subst (λ n. IsWalking r c.args.ends c.loop-b.queue.items (c.args.head * step_count r + n)) code search.walking;
+      walking = subst (λ n. IsWalking r c.args.ends c.loop-b.queue.items (c.args.head.place * step_count r + n)) code search.walking;
       goal = c.in-Some.q.pair;
       sought = (goal-tells c.args.ends.goal c.in-Some.q.pair c.eq.result c.eq.ensures).0 c.if-eq.true;
       arrives = subst (λ n. MarkedStep r x.pair n c.in-Some.q.pair) code
-          (MarkedStep-letters search.walking.rule x.pair c.args.a c.loop-b.b c.in-Some.q.pair c.requires.letter (omega (arith, ap (λ (z : LocalRule). z.states) c.rule.ensures)) (ap (λ t. marked c.args.pairs.now t c.args.a c.loop-b.b) (sym c.parts_of-parts.ensures.pair) ∙ c.in-Some.ensures.step));
+          (MarkedStep-letters search.walking.rule x.pair c.args.a c.loop-b.b c.in-Some.q.pair c.requires.letter (omega (arith, ap (λ (z : LocalRule). z.states) c.rule.ensures)) (ap (λ t. marked c.args.pairs.now t c.args.a c.loop-b.b) (c.requires.at c.index-from.result.now (stands c.args.queue.now.items c.args.head.place c.index-from.result.now c.args.queue.now.items (omega (arith, c.args.queue.now.ok)) c.index-from.ensures refl)) ∙ c.in-Some.ensures.step));
     }
 
 -- the head fits
@@ -63,15 +58,15 @@ overflow_cast-reached c = omega (arith, length-walking-le c.requires.search.walk
 pub overflow_add-reached : goal.overflow_add-reached
 overflow_add-reached c =
     let search = c.loop-b.invariant.search in
-    let at = stands c.args.queue.now.items c.args.head c.index-from.result.now c.loop-b.queue.items (omega (arith, c.args.queue.now.ok)) c.index-from.ensures c.loop-b.invariant.same in
-    omega (arith, depth-below search.walking c.args.head c.index-from.result.now at)
+    let at = stands c.args.queue.now.items c.args.head.place c.index-from.result.now c.loop-b.queue.items (omega (arith, c.args.queue.now.ok)) c.index-from.ensures c.loop-b.invariant.same in
+    omega (arith, depth-below search.walking c.args.head.place c.index-from.result.now at)
 
 pub list-requires : goal.list-requires
 list-requires c =
-    let y : Reached = record { pair = c.in-Some.q.pair; parent = c.args.head; step = 16 * c.args.a + c.loop-b.b; depth = c.index-from.result.now.depth + 1 } in
-    let longer = IsSearch-new c.args.head c.args.a c.loop-b.b c.loop-b.invariant.search c.index-from.result.now y
-    (stands c.args.queue.now.items c.args.head c.index-from.result.now c.loop-b.queue.items (omega (arith, c.args.queue.now.ok)) c.index-from.ensures c.loop-b.invariant.same)
-    c.requires.letter (omega (arith, ap (λ (z : LocalRule). z.states) c.rule.ensures)) refl (omega arith) refl (ap (λ t. marked c.args.pairs.now t c.args.a c.loop-b.b) (sym c.parts_of-parts.ensures.pair) ∙ c.in-Some.ensures.step) ((goal-tells c.args.ends.goal c.in-Some.q.pair c.eq.result c.eq.ensures).1 c.if-eq.false) c.in-Some.ensures.new c.add.new.rows (c.add.ensures c.args.pairs.now c.loop-b.invariant.search.walking.rule c.in-Some.ensures.marked) in
+    let y : Reached = record { pair = c.in-Some.q.pair; parent = c.args.head.place; step = 16 * c.args.a + c.loop-b.b; depth = c.index-from.result.now.depth + 1 } in
+    let longer = IsSearch-new c.args.head.place c.args.a c.loop-b.b c.loop-b.invariant.search c.index-from.result.now y
+    (stands c.args.queue.now.items c.args.head.place c.index-from.result.now c.loop-b.queue.items (omega (arith, c.args.queue.now.ok)) c.index-from.ensures c.loop-b.invariant.same)
+    c.requires.letter (omega (arith, ap (λ (z : LocalRule). z.states) c.rule.ensures)) refl (omega arith) refl (ap (λ t. marked c.args.pairs.now t c.args.a c.loop-b.b) (c.requires.at c.index-from.result.now (stands c.args.queue.now.items c.args.head.place c.index-from.result.now c.args.queue.now.items (omega (arith, c.args.queue.now.ok)) c.index-from.ensures refl)) ∙ c.in-Some.ensures.step) ((goal-tells c.args.ends.goal c.in-Some.q.pair c.eq.result c.eq.ensures).1 c.if-eq.false) c.in-Some.ensures.new c.add.new.rows (c.add.ensures c.args.pairs.now c.loop-b.invariant.search.walking.rule c.in-Some.ensures.marked) in
     omega (arith, length-walking-le longer.walking, length_push c.loop-b.queue.items y, c.loop-b.queue.ok, c.loop-b.invariant.room)
 
 pub loop-b-preserved : goal.loop-b-preserved
@@ -81,33 +76,33 @@ loop-b-preserved c =
     let inv = c.loop-b.invariant in
     let old = c.loop-b.queue.items in
     let letter : c.loop-b.b < r.states = omega (arith, ap (λ (z : LocalRule). z.states) c.rule.ensures) in
-    let at = stands c.args.queue.now.items c.args.head x old (omega (arith, c.args.queue.now.ok)) c.index-from.ensures inv.same in
+    let at = stands c.args.queue.now.items c.args.head.place x old (omega (arith, c.args.queue.now.ok)) c.index-from.ensures inv.same in
     elim c.match-new_step.branch [
       | in-Some+else-eq w ↦
-          let y : Reached = record { pair = w.in-Some.q.pair; parent = c.args.head; step = 16 * c.args.a + c.loop-b.b; depth = c.index-from.result.now.depth + 1 } in
+          let y : Reached = record { pair = w.in-Some.q.pair; parent = c.args.head.place; step = 16 * c.args.a + c.loop-b.b; depth = c.index-from.result.now.depth + 1 } in
           let longer : c.match-new_step.queue.items ≡ old ++ y ∷ [] = ap (λ v. v.items) w.queue-is ∙ w.list.ensures.items in
-          let same : slice_get (old ++ y ∷ []) c.args.head ≡ slice_get old c.args.head = slice_get-append old (y ∷ []) c.args.head x at ∙ sym at in
+          let same : slice_get (old ++ y ∷ []) c.args.head.place ≡ slice_get old c.args.head.place = slice_get-append old (y ∷ []) c.args.head.place x at ∙ sym at in
           record {
             room = omega (arith, inv.room, w.list.ensures.room, ap (λ v. vec_capacity v) w.queue-is);
-            search = subst₂ (λ (q : List Reached) (rows : List ℕ). IsSearch r c.args.ends q rows (c.args.head * step_count r + (c.args.a * 16 + (c.loop-b.b + 1)))) (sym longer) (sym w.rows-is)
-                (IsSearch-new c.args.head c.args.a c.loop-b.b inv.search x y at c.requires.letter letter refl (omega arith) refl (ap (λ t. marked r t c.args.a c.loop-b.b) (sym c.parts_of-parts.ensures.pair) ∙ w.in-Some.ensures.step) ((goal-tells c.args.ends.goal w.in-Some.q.pair w.eq.result w.eq.ensures).1 w.if-eq.false) w.in-Some.ensures.new w.add.new.rows (w.add.ensures r inv.search.walking.rule w.in-Some.ensures.marked));
-            old = subst₂ (λ (q : List Reached) (rows : List ℕ). IsOldBut r q rows c.args.head c.args.a c.args.letters) (sym longer) (sym w.rows-is)
-                (IsOldBut-more inv.search.walking.rule old (old ++ y ∷ []) c.loop-b.rows w.add.new.rows c.args.head c.args.a c.args.letters inv.old same (λ t inside has. ((w.add.ensures r inv.search.walking.rule w.in-Some.ensures.marked) t inside).1 (inr has)));
-            same = ap (λ q. slice_get q c.args.head) longer ∙ same ∙ inv.same;
+            search = subst₂ (λ (q : List Reached) (rows : List ℕ). IsSearch r c.args.ends q rows (c.args.head.place * step_count r + (c.args.a * 16 + (c.loop-b.b + 1)))) (sym longer) (sym w.rows-is)
+                (IsSearch-new c.args.head.place c.args.a c.loop-b.b inv.search x y at c.requires.letter letter refl (omega arith) refl (ap (λ t. marked r t c.args.a c.loop-b.b) (c.requires.at c.index-from.result.now (stands c.args.queue.now.items c.args.head.place c.index-from.result.now c.args.queue.now.items (omega (arith, c.args.queue.now.ok)) c.index-from.ensures refl)) ∙ w.in-Some.ensures.step) ((goal-tells c.args.ends.goal w.in-Some.q.pair w.eq.result w.eq.ensures).1 w.if-eq.false) w.in-Some.ensures.new w.add.new.rows (w.add.ensures r inv.search.walking.rule w.in-Some.ensures.marked));
+            old = subst₂ (λ (q : List Reached) (rows : List ℕ). IsOldBut r q rows c.args.head.place c.args.a c.args.letters) (sym longer) (sym w.rows-is)
+                (IsOldBut-more inv.search.walking.rule old (old ++ y ∷ []) c.loop-b.rows w.add.new.rows c.args.head.place c.args.a c.args.letters inv.old same (λ t inside has. ((w.add.ensures r inv.search.walking.rule w.in-Some.ensures.marked) t inside).1 (inr has)));
+            same = ap (λ q. slice_get q c.args.head.place) longer ∙ same ∙ inv.same;
           }
       | in_default w ↦
           let stays : c.match-new_step.queue.items ≡ old = ap (λ v. v.items) w.queue-is in
           record {
             room = omega (arith, inv.room, ap (λ v. vec_capacity v) w.queue-is);
-            search = subst₂ (λ (q : List Reached) (rows : List ℕ). IsSearch r c.args.ends q rows (c.args.head * step_count r + (c.args.a * 16 + (c.loop-b.b + 1)))) (sym stays) (sym w.rows-is)
-                (IsSearch-old c.args.head c.args.a c.loop-b.b inv.search x at c.requires.letter letter (λ q step. w.in_default.ensures.none q (ap (λ t. marked r t c.args.a c.loop-b.b) c.parts_of-parts.ensures.pair ∙ step)));
-            old = subst₂ (λ (q : List Reached) (rows : List ℕ). IsOldBut r q rows c.args.head c.args.a c.args.letters) (sym stays) (sym w.rows-is) inv.old;
-            same = ap (λ q. slice_get q c.args.head) stays ∙ inv.same;
+            search = subst₂ (λ (q : List Reached) (rows : List ℕ). IsSearch r c.args.ends q rows (c.args.head.place * step_count r + (c.args.a * 16 + (c.loop-b.b + 1)))) (sym stays) (sym w.rows-is)
+                (IsSearch-old c.args.head.place c.args.a c.loop-b.b inv.search x at c.requires.letter letter (λ q step. w.in_default.ensures.none q (ap (λ t. marked r t c.args.a c.loop-b.b) (sym (c.requires.at c.index-from.result.now (stands c.args.queue.now.items c.args.head.place c.index-from.result.now c.args.queue.now.items (omega (arith, c.args.queue.now.ok)) c.index-from.ensures refl))) ∙ step)));
+            old = subst₂ (λ (q : List Reached) (rows : List ℕ). IsOldBut r q rows c.args.head.place c.args.a c.args.letters) (sym stays) (sym w.rows-is) inv.old;
+            same = ap (λ q. slice_get q c.args.head.place) stays ∙ inv.same;
           }
     ]
 
 pub returns-clause-none : goal.returns-clause-none
 returns-clause-none c =
-    IsSearch-rest c.args.head c.args.a c.loop-b.b c.loop-b.invariant.search c.index-from.result.now
-    (stands c.args.queue.now.items c.args.head c.index-from.result.now c.loop-b.queue.items (omega (arith, c.args.queue.now.ok)) c.index-from.ensures c.loop-b.invariant.same)
+    IsSearch-rest c.args.head.place c.args.a c.loop-b.b c.loop-b.invariant.search c.index-from.result.now
+    (stands c.args.queue.now.items c.args.head.place c.index-from.result.now c.loop-b.queue.items (omega (arith, c.args.queue.now.ok)) c.index-from.ensures c.loop-b.invariant.same)
     c.requires.letter (omega (arith, c.loop-b.invariant.search.walking.rule.shape.most_states)) (λ d t past below leads. absurd (omega (arith, ap (λ (z : LocalRule). z.states) c.rule.ensures)))

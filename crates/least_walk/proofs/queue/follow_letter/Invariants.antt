@@ -7,7 +7,7 @@ use Rattle.least_walk.proofs.queue.follow_letter.Given as goal
 abbrev pub invariant-loop-b : goal.invariant-loop-b
 invariant-loop-b l = record {
   room : 512 ≤ vec_capacity l.queue;
-  search : IsSearch l.pairs l.ends l.queue.items l.rows (l.head * step_count l.pairs + (l.a * 16 + l.b));
-  old : IsOldBut l.pairs l.queue.items l.rows l.head l.a l.letters;
-  same : slice_get l.queue.items l.head ≡ slice_get l.initial.queue.items l.head;
+  search : IsSearch l.pairs l.ends l.queue.items l.rows (l.head.place * step_count l.pairs + (l.a * 16 + l.b));
+  old : IsOldBut l.pairs l.queue.items l.rows l.head.place l.a l.letters;
+  same : slice_get l.queue.items l.head.place ≡ slice_get l.initial.queue.items l.head.place;
 }
