@@ -25,6 +25,8 @@ use word_image::{Rule, Word};
 pub fn inverse(alloc: Global, rule: &Rule) -> Result<Output, Stop>
     ensures { Comes (IsInverse rule.now) (IsCause Ask.Inverse rule.now) result }
 {
+    // That the rule keeps the limits is what each of its calls says.
+    let _states = rule.k();
     let found = injectivity(alloc, rule)?;
     match found {
         InjectivePart::Window { n, c } => inverse_over(alloc, rule, WindowAt { n, c }),

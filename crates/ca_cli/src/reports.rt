@@ -23,6 +23,8 @@ pub fn decide(alloc: Global, rule: &Rule) -> Result<Output, AllocError>
 pub fn orphan(alloc: Global, rule: &Rule) -> Result<Output, AllocError>
     ensures { IfOk result (IsSurjectiveLine rule.now) }
 {
+    // That the rule keeps the limits is what each of its calls says.
+    let _states = rule.k();
     let orphan = least_orphan(alloc, rule)?;
     let mut output = Output::new(alloc);
     write_surjective(alloc, &mut output, &orphan)?;

@@ -11,4 +11,4 @@ returns c =
     let parts = subst (λ (r : LocalRule). HasWrittenParts r cert) same c.in_ok-cert.ensures.parts in
     let accepted = subst IsRule same c.in_ok-cert.ensures.accepted in
     let text = c.in_ok-to_bytes.ensures.text in
-    (cert, IsWritten-read_back accepted parts text c.in_ok-to_bytes.ensures.read_back, c.of.ensures ∙ text)
+    (cert, IsWritten-read_back accepted parts text c.in_ok-to_bytes.ensures.read_back, c.of-2.ensures ∙ text)

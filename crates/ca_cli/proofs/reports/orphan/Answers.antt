@@ -1,5 +1,9 @@
 use Rattle.ca_cli.proofs.laws.Outcomes.{appended_to_nothing}
+use Rattle.ca_cli.proofs.laws.Reports.{digits-orphan}
 use Rattle.ca_cli.proofs.reports.orphan.Goals as goal
+
+pub write_surjective-requires : goal.write_surjective-requires
+write_surjective-requires c = digits-orphan c.in_ok-orphan.orphan c.k-states.ensures.rule c.in_ok-orphan.ensures
 
 pub returns : goal.returns
 returns c = record {
