@@ -34,7 +34,7 @@ IsIndex-push {sets} {places} h set end last small new = record {
 }
 
 -- the sets are different
-sets-apart : {sets places : List ℕ} → IsIndex sets places → AllPairs (λ s t. s ≢ t) sets
+pub sets-apart : {sets places : List ℕ} → IsIndex sets places → AllPairs (λ s t. s ≢ t) sets
 sets-apart {sets} {places} h i j d less within same =
     let at : slice_index sets i ≡ slice_index sets j = get_or_default sets i 0 d (omega arith) ∙ same ∙ sym (get_or_default sets j 0 d within) in
     let one : i ≡ j = sym (h.leads i (omega arith)) ∙ ap (slice_index places) at ∙ h.leads j within in

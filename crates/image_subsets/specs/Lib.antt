@@ -2,3 +2,4 @@ pub mod FamilyTrees
 pub mod Masks
 pub mod Searches
 pub mod StepTables
+pub mod Marks

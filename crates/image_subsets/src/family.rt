@@ -1,10 +1,12 @@
 //! The sets that are reached from the full one, in the order in which they are found.
 
-ghost use Rattle.std.specs.Prelude.{◌≡◌, ◌+◌, ◌*◌, ◌≤◌, ◌<◌, [], length, slice_index, slice_get, vec_len, vec_capacity, Some, MatchOption, false, IfOk};
+ghost use Rattle.std.specs.Prelude.{◌≡◌, ◌≢◌, ◌+◌, ◌*◌, ◌≤◌, ◌<◌, AllPairs, Contains, [], length, slice_index, slice_get, vec_len, vec_capacity, Some, MatchOption, false, IfOk};
 ghost use Rattle.image_subsets.specs.FamilyTrees.{IsFamilyTree};
 ghost use Rattle.image_subsets.specs.Searches.{IsExpanded};
 ghost use Rattle.image_subsets.specs.StepTables.{AreTables};
+ghost use Rattle.word_image.specs.Families.{is_minimal};
 
+use crate::marks::Marks;
 use crate::masks::Masks;
 use crate::sets::full;
 use crate::step_tables::StepTables;
@@ -19,7 +21,8 @@ const SETS: usize = 65536;
 /// found. It is seen as its sets and their parents. All its room, below 1 MB, is taken when it is made.
 ///
 /// It is the subset construction, breadth first with letters ascending. One of s sets takes
-/// **O(s k + 2^8 k)** time; s is at most 2^N for the N nodes, so 65,536.
+/// **O(s k + 2^8 k)** time, and **O(N 2^N)** more where none is empty; s is at most 2^N for the N nodes,
+/// so 65,536.
 #[derive(Debug, Drop)]
 pub struct Family {
     // The sets, in the order in which they were found, with an index by set.
@@ -28,18 +31,24 @@ pub struct Family {
     parents: Vec<Option<(u16, u8)>>,
     // The steps of the graph that was explored last.
     tables: StepTables,
+    // How many nodes that graph has.
+    nodes: u8,
+    // Where no set is empty, a mark on each set that contains one of the family.
+    marks: Marks,
 }
 
 impl Model for Family {
-    ghost use Rattle.std.specs.Prelude.{◌≤◌, vec_capacity};
+    ghost use Rattle.std.specs.Prelude.{◌≤◌, ◌<◌, length, vec_capacity, Contains};
     ghost use Rattle.image_subsets.specs.declared.family.TheConstants.{SETS};
     ghost use Rattle.image_subsets.specs.FamilyTrees.{FamilyTree, IsTree};
+    ghost use Rattle.image_subsets.specs.Marks.{AreCovers};
 
     ghost Value = { FamilyTree };
 
     ghost view = { λ f. record { sets = f.sets; parents = f.parents.items } };
 
-    ghost invariant = { λ f. (SETS ≤ vec_capacity f.parents) × IsTree (record { sets = f.sets; parents = f.parents.items }) };
+    ghost invariant = { λ f. (SETS ≤ vec_capacity f.parents) × IsTree (record { sets = f.sets; parents = f.parents.items })
+        × (0 < length f.sets → ¬ Contains f.sets 0 → AreCovers f.nodes f.sets f.marks) };
 }
 
 impl Family {
@@ -51,6 +60,8 @@ impl Family {
             sets: Masks::new(alloc)?,
             parents: Vec::with_capacity(alloc, SETS)?,
             tables: StepTables::new(alloc)?,
+            nodes: 0,
+            marks: Marks::new(alloc)?,
         })
     }
 
@@ -72,18 +83,32 @@ impl Family {
                 &mut self.parents,
                 place,
             ) {
-                break;
+                return;
             }
             place += 1;
         }
+        self.nodes = graph.nodes();
+        self.marks.mark(&self.sets, self.nodes);
     }
 
-    /// How many sets there are: none before a graph is explored, and then from 1 to 65,536.
+    /// How many sets there are: none before a graph is explored, and then from 1 to 65,536 different
+    /// ones.
     pub fn len(&self) -> u32
         ensures len { result ≡ length self.now.sets }
         ensures most { result ≤ 65536 }
+        ensures apart { AllPairs (λ s t. s ≢ t) self.now.sets }
     {
         self.sets.len() as u32
+    }
+
+    /// Whether no other set of the family is part of that at place i, where none is empty. It takes
+    /// O(N) time, by marks that `explore` makes in O(N 2^N).
+    pub fn minimal(&self, i: u32) -> bool
+        requires place { i < length self.now.sets }
+        requires nonempty { ¬ Contains self.now.sets 0 }
+        ensures { result ≡ is_minimal self.now.sets (slice_index self.now.sets i) }
+    {
+        !self.marks.holds_smaller(self.set(i), self.nodes)
     }
 
     /// The set at place i: node u is bit u.

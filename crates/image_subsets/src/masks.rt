@@ -1,6 +1,6 @@
 //! Different sets of nodes in the order in which they were put in, with an index by set.
 
-ghost use Rattle.std.specs.Prelude.{◌≡◌, ◌<◌, ◌↔◌, List, ℕ, [], length, slice_index, Contains, IsTrue, IfOk};
+ghost use Rattle.std.specs.Prelude.{◌≡◌, ◌≢◌, ◌<◌, ◌↔◌, AllPairs, List, ℕ, [], length, slice_index, Contains, IsTrue, IfOk};
 ghost use Rattle.image_subsets.specs.Masks.{IsInserted};
 
 use std::alloc::{AllocError, Global};
@@ -46,7 +46,8 @@ impl Masks {
 
     /// How many sets there are, at most 65,536.
     pub fn len(&self) -> usize
-        ensures { result ≡ length self.now }
+        ensures len { result ≡ length self.now }
+        ensures apart { AllPairs (λ s t. s ≢ t) self.now }
     {
         self.sets.len()
     }

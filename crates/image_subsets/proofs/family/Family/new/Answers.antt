@@ -1,4 +1,4 @@
-use Rattle.std.proofs.Common.{[], arith, refl}
+use Rattle.std.proofs.Common.{[], length, ap, arith, refl}
 use Rattle.std.proofs.lemmas.Option.{none-some}
 use Rattle.image_subsets.specs.FamilyTrees.{IsTree}
 use Rattle.image_subsets.proofs.family.Family.new.Goals as goal
@@ -11,4 +11,5 @@ pub invariant_of-result : goal.invariant_of-result
 invariant_of-result c = (
   omega (arith, c.in_ok-with_capacity.ensures.exact),
   rw (c.in_ok-new.ensures, c.in_ok-with_capacity.ensures.items) IsTree-none,
+  λ some. absurd (omega (arith, some, ap length c.in_ok-new.ensures)),
 )

@@ -1,0 +1,63 @@
+-- No other set of a family is part of one exactly where the test of its cover list says so.
+use Rattle.std.proofs.Common.{◌≡◌, ◌≢◌, ℕ, ◌^◌, ◌<◌, ◌↔◌, List, Bool, true, false, IsTrue, AllPairs, length, slice_index, bit_and, min, refl, sym, ap, ◌∙◌, subst, arith, ⊎_elim}
+use Rattle.std.specs.Prelude.{◌==◌, ◌&&◌, not}
+use Rattle.std.specs.List.{list_any}
+use Rattle.std.specs.Int.{bit_at}
+use Rattle.std.proofs.lemmas.Bool.{cases_eq, cases_lt, eqb-true, eqb-false, ne_eqb, eq-eqb, false≢true}
+use Rattle.std.proofs.lemmas.List.Folds.{Any-from_list_any, list_any_at}
+use Rattle.std.proofs.lemmas.List.{get_or_default}
+use Rattle.std.proofs.lemmas.Nat.{and_le_l}
+use Rattle.std.proofs.lemmas.Nat.Bits.{bit_at_and, bit_at-lt, same_from_bits_below}
+use Rattle.word_image.specs.Families.{is_subset, is_minimal}
+use Rattle.word_image.proofs.laws.Bits.{bit_at-IsBitSet}
+use Rattle.image_subsets.specs.Marks.{IsPart, IsMinimal}
+
+-- a part by its bits is a part by the test
+is_subset-part : (s x : ℕ) → s < 2 ^ 16 → IsPart s x → bit_and s x ≡ s
+is_subset-part s x small part = same_from_bits_below 16 (bit_and s x) s (omega (arith, and_le_l s x, small)) small (λ i l.
+    ⊎_elim
+    (λ some. let other = (bit_at-IsBitSet x i).0 (part i ((bit_at-IsBitSet s i).1 some)) in omega (arith, bit_at_and s x i, some, other))
+    (λ none. omega (arith, bit_at_and s x i, bit_at-lt s i, none))
+    (cases_eq (bit_at s i) 1))
+
+-- and the other way round
+part-is_subset : (s x : ℕ) → bit_and s x ≡ s → IsPart s x
+part-is_subset s x same i some =
+    let one = (bit_at-IsBitSet s i).0 some in
+    let both : min (bit_at s i) (bit_at x i) ≡ bit_at s i = sym (bit_at_and s x i) ∙ ap (λ n. bit_at n i) same in
+    (bit_at-IsBitSet x i).1 (omega (arith, bit_at-lt x i))
+
+-- both tests of a part that differs
+both_tests : (a b : Bool) → (a && b) ≡ true → (a ≡ true) × (b ≡ true)
+both_tests true b h = (refl, h)
+both_tests false b h = absurd (false≢true h)
+
+not_true : (a : Bool) → not a ≡ true → a ≡ false
+not_true true h = absurd (false≢true h)
+not_true false h = refl
+
+-- a set is minimal exactly where the test says so
+pub is_minimal-IsMinimal : (sets : List ℕ) → ((j : ℕ) → j < length sets → slice_index sets j < 2 ^ 16) → AllPairs (λ s t. s ≢ t) sets → (i : ℕ) → i < length sets
+    → IsMinimal sets i ↔ IsTrue (is_minimal sets (slice_index sets i))
+is_minimal-IsMinimal sets small apart i inside =
+    let x = slice_index sets i in
+    let test : ℕ → Bool = λ t. not (t == x) && is_subset t x in (
+      (λ least. elim (list_any test sets) as (λ b. list_any test sets ≡ b → not b ≡ true) [
+        | true ↦ (λ any.
+            let (j, t, below, found, passes) = Any-from_list_any test sets any in
+            let at : slice_index sets j ≡ t = get_or_default sets j 0 t below ∙ found in
+            let tests = both_tests (not (t == x)) (is_subset t x) passes in
+            let other : t ≢ x = eqb-false t x (not_true (t == x) tests.0) in
+            absurd (least j below (λ same. other (sym at ∙ ap (slice_index sets) same)) (subst (λ s. IsPart s x) (sym at) (part-is_subset t x (eqb-true (bit_and t x) t tests.1)))))
+        | false ↦ (λ none. refl)
+      ] refl),
+      (λ says j below other part.
+          let s = slice_index sets j in
+          let differ : s ≢ x = λ same. ⊎_elim
+          (λ before. apart j i 0 before inside same)
+          (λ past. apart i j 0 (omega (arith, past, other)) below (sym same))
+          (cases_lt j i) in
+          let passes : test s ≡ true = ap (λ b. not b && is_subset s x) (ne_eqb s x differ) ∙ eq-eqb (bit_and s x) s (is_subset-part s x (small j below) part) in
+          let any : list_any test sets ≡ true = list_any_at test sets j 0 below passes in
+          false≢true (ap not (sym any) ∙ says)),
+    )

@@ -1,0 +1,36 @@
+use Rattle.std.proofs.Common.{◌≡◌, ◌^◌, ◌<◌, ◌≤◌, refl, ℕ, List, length, slice_index, Contains, IsTrue, Bool, true, false, not, sym, ap, ◌∙◌, subst, arith}
+use Rattle.std.proofs.lemmas.Bool.{false≢true}
+use Rattle.std.proofs.Math.Pow.{pow_mono}
+use Rattle.word_image.specs.Families.{is_minimal}
+use Rattle.image_subsets.specs.Marks.{HoldsSmaller}
+use Rattle.image_subsets.proofs.MarkSpreads.{IsMinimal-marks}
+use Rattle.image_subsets.proofs.Minimal.{is_minimal-IsMinimal}
+use Rattle.image_subsets.proofs.family.Family.minimal.Goals as goal
+
+-- what isn't so is denied
+denied : (P : Type 0) (b : Bool) → (IsTrue b → P) × (P → IsTrue b) → (IsTrue (not b) → ¬ P) × (¬ P → IsTrue (not b))
+denied P true exact = ((λ t p. false≢true t), (λ none. absurd (none (exact.0 refl))))
+denied P false exact = ((λ t p. false≢true (exact.1 p)), (λ none. refl))
+
+-- two tests that are passed together are one
+same_tests : (a b : Bool) → (IsTrue a → IsTrue b) × (IsTrue b → IsTrue a) → a ≡ b
+same_tests true b h = sym (h.0 refl)
+same_tests false true h = h.1 refl
+same_tests false false h = refl
+
+pub returns : goal.returns
+returns c =
+    let i = c.args.i in
+    let sets = c.self.inside.sets in
+    let marks = c.self.inside.marks in
+    let n = c.self.inside.nodes in
+    let same : sets ≡ c.args.self.now.sets = ap (λ t. t.sets) c.self.view_is in
+    let inside : i < length sets = subst (λ l. i < length l) (sym same) c.requires.place in
+    let covers = c.self.invariant.2 (omega (arith, inside)) (λ has. c.requires.nonempty (subst (λ l. Contains l 0) same has)) in
+    let few : 2 ^ n ≤ 2 ^ 16 = pow_mono covers.few in
+    let exact = IsMinimal-marks covers i inside in
+    let says = is_minimal-IsMinimal sets (λ j below. let within = covers.within j below in omega (arith, within, few)) covers.apart i inside in
+    let at : c.set.result ≡ slice_index sets i = c.set.ensures ∙ ap (λ l. slice_index l i) (sym same) in
+    let tested = denied (HoldsSmaller marks n (slice_index sets i)) c.holds_smaller.result (subst (λ x. (IsTrue c.holds_smaller.result → HoldsSmaller marks n x) × (HoldsSmaller marks n x → IsTrue c.holds_smaller.result)) at c.holds_smaller.ensures) in
+    subst (λ (l : List ℕ). not c.holds_smaller.result ≡ is_minimal l (slice_index l i)) same
+    (same_tests (not c.holds_smaller.result) (is_minimal sets (slice_index sets i)) ((λ t. says.0 (exact.0 (tested.0 t))), (λ t. tested.1 (exact.1 (says.1 t)))))
