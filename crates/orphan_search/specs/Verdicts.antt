@@ -2,7 +2,8 @@
 use Rattle.std.specs.Prelude.{◌≡◌, ◌≤◌, ℕ, List, [], length}
 use Rattle.word_image.specs.LocalRules.{LocalRule}
 use Rattle.word_image.specs.Words.{IsSurjective, IsLeastOrphan}
-use Rattle.word_image.specs.Families.{IsFamily}
+use Rattle.word_image.specs.Families.{IsFamily, covers_of}
+use Rattle.word_image.specs.Graphs.{full_set}
 use Rattle.orphan_search.specs.declared.search.Outcome.{Outcome}
 use Rattle.orphan_search.specs.declared.search.Outcome.TheVariants.{Closed, Orphan}
 
@@ -10,12 +11,13 @@ use Rattle.orphan_search.specs.declared.search.Outcome.TheVariants.{Closed, Orph
 pub record Found : Type 0 where
   pub word : List ℕ
   pub sets : List ℕ
+  pub cover : List ℕ
 
 -- nothing
 abbrev pub IsNothing : Found → Type 0
-IsNothing found = (found.word ≡ []) × (found.sets ≡ [])
+IsNothing found = (found.word ≡ []) × (found.sets ≡ []) × (found.cover ≡ [])
 
--- either every word has a preimage and the family of the rule is found, or its least orphan
+-- either every word has a preimage and the family of the rule is found with its covers, or its least orphan
 abbrev pub IsVerdict : LocalRule → Outcome → Found → Type 0
-IsVerdict r Closed found = IsSurjective r × IsFamily r found.sets × (found.word ≡ [])
-IsVerdict r Orphan found = IsLeastOrphan r found.word × (length found.word ≤ 65535) × (found.sets ≡ [])
+IsVerdict r Closed found = IsSurjective r × IsFamily r found.sets × (found.word ≡ []) × (found.cover ≡ covers_of (full_set r) found.sets)
+IsVerdict r Orphan found = IsLeastOrphan r found.word × (length found.word ≤ 65535) × (found.sets ≡ []) × (found.cover ≡ [])

@@ -11,8 +11,12 @@
 //! found from 1 on the letter 0, that from 6 on 0, and so back to 15 by 1, 0, 1, 0: the least orphan
 //! is 01010.
 //!
+//! Where no set of the family is empty a part of it says so too: the cover list has the full set first,
+//! and then each other set of the family that contains no other one. Rule 106 has a family of twelve
+//! sets, and the cover list 15, 1, 2, 4, 8.
+//!
 //! A run whose family has s sets, of which there are at most 2^N for the N = k^(m - 1) nodes, takes
-//! **O(s k N)** time and **O(s)** space.
+//! **O(s k)** time, and **O(N 2^N)** more for a cover list; its room is taken once.
 #![tactic(auto)]
 
 mod search;

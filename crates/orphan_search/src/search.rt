@@ -1,13 +1,13 @@
 //! The verdict, and what proves it.
 
-ghost use Rattle.std.specs.Prelude.{◌≡◌, ◌≤◌, ◌<◌, ◌↔◌, [], length, slice_index, vec_capacity, IfOk};
+ghost use Rattle.std.specs.Prelude.{◌≡◌, ◌≤◌, ◌<◌, ◌↔◌, [], length, Contains, slice_index, vec_capacity, IfOk};
 
 use debruijn::Graph;
 use image_subsets::Family;
 use std::alloc::{AllocError, Global};
 use std::marker::Model;
 
-/// More letters than a least orphan has.
+/// More letters than a least orphan has, and as many sets as a cover list may have.
 const ROOM: usize = 65536;
 
 /// What a search came to.
@@ -23,13 +23,16 @@ pub enum Outcome {
 /// nodes, with letters ascending. It is seen as what its last run left. All its room is taken when it is
 /// made.
 ///
-/// A run whose family has s sets takes **O(s k)** time; s is at most 2^N for the N nodes, so 65,536.
+/// A run whose family has s sets takes **O(s k)** time, and **O(N 2^N)** more for a cover list; s is at
+/// most 2^N for the N nodes, so 65,536.
 #[derive(Debug, Drop)]
 pub struct Search {
     // The family of the last run.
     family: Family,
     // The least orphan of the last run; empty where it found none.
     word: Vec<u8>,
+    // The cover list of the last run; empty where it found an orphan.
+    cover: Vec<u16>,
     // Whether the last run found every set of the family nonempty.
     closed: bool,
 }
@@ -41,22 +44,23 @@ impl Model for Search {
 
     ghost Value = { Found };
 
-    ghost view = { λ s. record { word = s.word.items; sets = if s.closed then s.family.sets else [] } };
+    ghost view = { λ s. record { word = s.word.items; sets = if s.closed then s.family.sets else []; cover = s.cover.items } };
 
-    ghost invariant = { λ s. ROOM ≤ vec_capacity s.word };
+    ghost invariant = { λ s. (ROOM ≤ vec_capacity s.word) × (ROOM ≤ vec_capacity s.cover) };
 }
 
 impl Search {
     ghost use Rattle.word_image.specs.Words.{IsSurjective};
     ghost use Rattle.orphan_search.specs.Verdicts.{IsNothing, IsVerdict};
 
-    /// A search that has not run: its word and its sets are empty.
+    /// A search that has not run: its word, its sets and its cover list are empty.
     pub fn new(alloc: Global) -> Result<Search, AllocError>
         ensures { IfOk result IsNothing }
     {
         Ok(Search {
             family: Family::new(alloc)?,
             word: Vec::with_capacity(alloc, ROOM)?,
+            cover: Vec::with_capacity(alloc, ROOM)?,
             closed: false,
         })
     }
@@ -68,10 +72,12 @@ impl Search {
         ensures exactly { (result ≡ Outcome.Closed) ↔ IsSurjective graph.now }
     {
         self.word.clear();
+        self.cover.clear();
         self.family.explore(graph);
         let last = self.family.len() - 1;
         self.closed = self.family.set(last) != 0;
         if self.closed {
+            write_cover(&self.family, &mut self.cover);
             return Outcome::Closed;
         }
         write_word(&self.family, last, &mut self.word);
@@ -92,11 +98,37 @@ impl Search {
     {
         if self.closed { self.family.sets() } else { &[] }
     }
+
+    /// After a run that answered `Closed` the cover list of the rule: the full set, and then each set of
+    /// the family but it that contains no other, in the order of the family; else empty.
+    pub fn cover(&self) -> &[u16]
+        ensures { result.now ≡ self.now.cover }
+    {
+        &self.cover
+    }
 }
 
 ghost use Rattle.word_image.specs.LocalRules.{LocalRule};
-ghost use Rattle.word_image.specs.Families.{IsLeastWordOf};
+ghost use Rattle.word_image.specs.Families.{IsLeastWordOf, covers_of};
 ghost use Rattle.image_subsets.specs.FamilyTrees.{IsFamilyTree};
+
+/// Writes the first set, and behind it each other one that contains no other set of the family.
+fn write_cover(family: &Family, cover: &mut Vec<u16>)
+    requires some { 0 < length family.now.sets }
+    requires nonempty { ¬ Contains family.now.sets 0 }
+    requires empty { cover.old.items ≡ [] }
+    requires room { ROOM ≤ vec_capacity cover.old }
+    ensures cover { cover.new.items ≡ covers_of (slice_index family.now.sets 0) family.now.sets }
+    ensures capacity { vec_capacity cover.new ≡ vec_capacity cover.old }
+{
+    cover.push_reserved(family.set(0));
+    for place in 1..family.len() {
+        if !family.minimal(place) {
+            continue;
+        }
+        cover.push_reserved(family.set(place));
+    }
+}
 
 /// Writes the least word of the set at this place: the letters on the way to it from parent to child.
 fn write_word(family: &Family, at: u32, word: &mut Vec<u8>)

@@ -73,6 +73,7 @@ fn one_search_decides_rule_after_rule(rt: HostRuntime) -> Result<(), Fail> {
     let mut search = Search::new(rt.alloc())?;
     assert_eq!(rt; search.word(), [].as_slice());
     assert_eq!(rt; search.sets(), [].as_slice());
+    assert_eq!(rt; search.cover(), [].as_slice());
     for (k, m, o, digits, orphan) in CASES {
         let table = letters(rt.alloc(), digits)?;
         let orphan = letters(rt.alloc(), orphan)?;
@@ -84,8 +85,8 @@ fn one_search_decides_rule_after_rule(rt: HostRuntime) -> Result<(), Fail> {
         );
         assert_eq!(rt; search.word(), orphan.as_slice(), "at {table:?}");
         assert_eq!(rt;
-            search.sets().is_empty(),
-            !orphan.is_empty(),
+            (search.sets().is_empty(), search.cover().is_empty()),
+            (!orphan.is_empty(), !orphan.is_empty()),
             "at {table:?}"
         );
     }
@@ -108,5 +109,6 @@ fn rule_106_reaches_twelve_sets_whatever_ran_before(rt: HostRuntime) -> Result<(
         search.sets(),
         [15, 13, 14, 9, 6, 5, 10, 1, 2, 12, 4, 8].as_slice()
     );
+    assert_eq!(rt; search.cover(), [15, 1, 2, 4, 8].as_slice());
     Ok(())
 }

@@ -1,0 +1,30 @@
+-- The cover list of a family, one set more at a time.
+use Rattle.std.proofs.Common.{◌≡◌, ◌≢◌, ℕ, ◌+◌, ◌<◌, List, [], ◌∷◌, ◌++◌, Bool, cond, AllPairs, length, take, slice_index, refl, sym, ap, ◌∙◌, arith}
+use Rattle.std.specs.Prelude.{◌==◌, ◌&&◌, not}
+use Rattle.std.specs.List.{filter}
+use Rattle.std.proofs.lemmas.Bool.{eq-eqb, ne_eqb}
+use Rattle.std.proofs.lemmas.List.Elements.{filter_more}
+use Rattle.word_image.specs.Families.{is_minimal}
+
+-- a set of the cover list behind the full one
+abbrev pub is_cover : ℕ → List ℕ → ℕ → Bool
+is_cover full sets s = not (s == full) && is_minimal sets s
+
+-- among the first set alone there is none
+pub no_cover-first : (sets : List ℕ) → 0 < length sets → filter (is_cover (slice_index sets 0) sets) (take 1 sets) ≡ []
+no_cover-first [] some = absurd (omega arith)
+no_cover-first (s ∷ sets) some = ap (λ (b : Bool). cond (not b && is_minimal (s ∷ sets) s) (s ∷ []) []) (eq-eqb s s refl)
+
+-- another set is one where it is minimal
+is_cover-minimal : (full : ℕ) (sets : List ℕ) (s : ℕ) → s ≢ full → is_cover full sets s ≡ is_minimal sets s
+is_cover-minimal full sets s other = ap (λ b. not b && is_minimal sets s) (ne_eqb s full other)
+
+-- and it comes behind those of the sets before it
+pub covers_more : (sets : List ℕ) → AllPairs (λ s t. s ≢ t) sets → (i : ℕ) → 0 < i → i < length sets → (minimal : Bool) → minimal ≡ is_minimal sets (slice_index sets i)
+    → filter (is_cover (slice_index sets 0) sets) (take (i + 1) sets)
+    ≡ filter (is_cover (slice_index sets 0) sets) (take i sets) ++ cond minimal (slice_index sets i ∷ []) []
+covers_more sets apart i later inside minimal says =
+    let full = slice_index sets 0 in
+    let other : slice_index sets i ≢ full = λ same. apart 0 i 0 later inside (sym same) in
+    filter_more (is_cover full sets) sets i 0 inside
+    ∙ ap (λ b. filter (is_cover full sets) (take i sets) ++ cond b (slice_index sets i ∷ []) []) (is_cover-minimal full sets (slice_index sets i) other ∙ sym says)
