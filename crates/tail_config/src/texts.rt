@@ -1,5 +1,5 @@
 //! The texts of Tails: `L|M|R`, each part a row of hexadecimal digits.
-ghost use Rattle.std.specs.Prelude.{◌≡◌, ◌≤◌, ◌⊎◌, length, map, nat_le, position, alloc_error, IfOk, IfErr};
+ghost use Rattle.std.specs.Prelude.{◌≡◌, ◌≤◌, ◌⊎◌, ◌↔◌, IsTrue, length, map, nat_le, position, alloc_error, IfOk, IfErr};
 ghost use Rattle.std.specs.Result.{result_err};
 ghost use Rattle.word_image.specs.Digits.{letter_at};
 ghost use Rattle.word_image.specs.Grammars.{IsFormFault};
@@ -35,6 +35,16 @@ struct Parts<'a> {
     middle: &'a [u8],
     // The digits of the right period.
     right: &'a [u8],
+}
+
+/// Whether a text is `L|M|R`, each part a row of hexadecimal digits of either case, which may be empty.
+pub fn has_form(text: &[u8]) -> bool
+    ensures { IsTrue result ↔ HasForm text.now }
+{
+    match split(text) {
+        Ok(_) => true,
+        Err(_) => false,
+    }
 }
 
 /// The Tail over the letters below k, from 2 to 16, that a text stands for; else the first fault,

@@ -18,9 +18,9 @@ IsAnswer k text (Ok r) = (r.states ≡ k) × IsTailText k text r.config
 IsAnswer k text (Err f) = IsTailTextFault k text f ⊎ ((f ≡ fault.Memory alloc_error) × ((t : TailConfig) × IsTailText k text t))
 
 -- a text with a Tail has no fault
-no_fault : {k : ℕ} {text : List ℕ} {t : TailConfig} {f : TailTextFault} → IsTailText k text t → IsTailTextFault k text f → ⊥
-no_fault {t = t} good (NoForm place form) = form.outside (t, good.parts)
-no_fault {k} {text} {t} good (Refused u f parts some) =
+pub IsTailText-no_fault : {k : ℕ} {text : List ℕ} {t : TailConfig} {f : TailTextFault} → IsTailText k text t → IsTailTextFault k text f → ⊥
+IsTailText-no_fault {t = t} good (NoForm place form) = form.outside (t, good.parts)
+IsTailText-no_fault {k} {text} {t} good (Refused u f parts some) =
     let same : u ≡ t = HasParts-unique parts good.parts in
     none-some f (sym ((tail_fault-none k t).1 good.accepted) ∙ ap (tail_fault k) (sym same) ∙ some)
 
@@ -36,15 +36,15 @@ pub every_tail : (k : ℕ) (text : List ℕ) (answer : Result TailOver TailTextF
     → (answer ≡ Ok (record { states = k; config = t })) ⊎ (answer ≡ Err (fault.Memory alloc_error))
 every_tail k text (Ok r) right t good =
     inl (ap₂ (λ (j : ℕ) (u : TailConfig). Ok (record { states = j; config = u })) right.0 (HasParts-unique right.1.parts good.parts))
-every_tail k text (Err f) (inl first) t good = absurd (no_fault good first)
+every_tail k text (Err f) (inl first) t good = absurd (IsTailText-no_fault good first)
 every_tail k text (Err f) (inr memory) t good = inr (ap Err memory.0)
 
 -- and so is its first fault
 pub every_fault : (k : ℕ) (text : List ℕ) (answer : Result TailOver TailTextFault) → IsAnswer k text answer → (f : TailTextFault) → IsTailTextFault k text f
     → answer ≡ Err f
-every_fault k text (Ok r) right f first = absurd (no_fault right.1 first)
+every_fault k text (Ok r) right f first = absurd (IsTailText-no_fault right.1 first)
 every_fault k text (Err g) (inl other) f first = ap Err (one_fault other first)
-every_fault k text (Err g) (inr memory) f first = absurd (no_fault memory.1.1 first)
+every_fault k text (Err g) (inr memory) f first = absurd (IsTailText-no_fault memory.1.1 first)
 
 -- what is made of the parts of a text without a fault is a right answer
 pub IsAnswer-made : {k : ℕ} {text : List ℕ} {t : TailConfig} → IsTailText k text t → (answer : Result TailOver TailTextFault)
