@@ -8,3 +8,4 @@ pub mod Requests
 pub mod Reports
 pub mod Summaries
 pub mod Samples
+pub mod Rows

@@ -1,6 +1,7 @@
 -- The commands of the program, the words of each, and the form of their operands.
 use Rattle.std.specs.Prelude.{◌≡◌, ◌≢◌, ℕ, ◌^◌, ◌<◌, ◌≤◌, List, [], ◌∷◌, length, codes, MatchOption, All, ℤ, ⊤}
 use Rattle.word_image.specs.Digits.{IsHexDigit}
+use Rattle.tail_config.specs.TailTexts.{HasForm}
 use Rattle.rule_text.specs.RuleTexts.{IsDecimal, IsOffset, decimal_value}
 use Rattle.ca_cli.specs.declared.request.Ask.{Ask}
 use Rattle.ca_cli.specs.declared.request.Ask.TheVariants as ask
@@ -20,6 +21,7 @@ pub data AskWith : Type 0 where
   Shift : AskWith
   Widen : AskWith
   Permute : AskWith
+  Preimage : AskWith
 
 -- what is asked of many rules
 pub data AskOfMany : Type 0 where
@@ -44,14 +46,21 @@ name_of ask.Certify = codes "certify"
 name_of ask.Reflect = codes "reflect"
 name_of ask.Trim = codes "trim"
 name_of ask.Inverse = codes "inverse"
+name_of ask.Language = codes "language"
+name_of ask.Erase = codes "erase"
+name_of ask.Least = codes "least"
+name_of ask.Lift = codes "lift"
+name_of ask.Unlift = codes "unlift"
 
 abbrev pub name_with : AskWith → List ℕ
 name_with Shift = codes "shift"
 name_with Widen = codes "widen"
 name_with Permute = codes "permute"
+name_with Preimage = codes "preimage"
 
 abbrev pub name_of_two : AskOfTwo → List ℕ
 name_of_two two.Compose = codes "compose"
+name_of_two two.Same = codes "same"
 
 abbrev pub name_of_many : AskOfMany → List ℕ
 name_of_many Survey = codes "survey"
@@ -93,6 +102,7 @@ abbrev pub IsOperand : AskWith → List ℕ → Type 0
 IsOperand Shift text = IsOffsetText text
 IsOperand Widen text = IsDecimal 1 1 text
 IsOperand Permute text = AreColours text
+IsOperand Preimage text = HasForm text
 
 -- where many rules begin: a number of up to 39 digits, or a seed
 abbrev pub IsBeginning : AskOfMany → List ℕ → Type 0
@@ -130,12 +140,14 @@ abbrev pub asked_with : Change → AskWith
 asked_with (change.Shift by) = Shift
 asked_with (change.Widen width) = Widen
 asked_with (change.Permute colours) = Permute
+asked_with (change.Preimage tail) = Preimage
 
 -- the text says what the change holds
 abbrev pub IsChange : Change → List ℕ → Type 0
 IsChange (change.Shift by) text = IsOffset text by
 IsChange (change.Widen width) text = width ≡ decimal_value text
 IsChange (change.Permute colours) text = text ≡ colours.now
+IsChange (change.Preimage tail) text = text ≡ tail.now
 
 -- what is asked of the rules
 abbrev pub asked_of_many : Rules → AskOfMany

@@ -6,6 +6,8 @@ pub mod StatusLines
 pub mod Reports
 pub mod Digits
 pub mod InverseLines
+pub mod LanguageLines
+pub mod PreimageLines
 pub mod Samples
 pub mod Summaries
 pub mod Outputs

@@ -1,5 +1,5 @@
 -- What each command that reads nothing says of its rules, and when it can make nothing of them.
-use Rattle.std.specs.Prelude.{◌≡◌, ℕ, ◌^◌, ◌<◌, List, map, Option, Some, None, ℤ}
+use Rattle.std.specs.Prelude.{◌≡◌, ◌≢◌, ℕ, ◌^◌, ◌<◌, ◌≤◌, List, map, codes, Bool, Option, Some, None, ℤ}
 use Rattle.word_image.specs.Digits.{letter_at}
 use Rattle.word_image.specs.LocalRules.{LocalRule, IsRule, mirrored}
 use Rattle.word_image.specs.Rings.{IsLeastTwins}
@@ -14,15 +14,25 @@ use Rattle.rule_text.specs.declared.text_fault.TextFault.{TextFault}
 use Rattle.cert_format.specs.Certificates.{Certificate}
 use Rattle.cert_format.specs.WrittenTexts.{certificate_text}
 use Rattle.certificate_laws.specs.WrittenCertificates.{IsWritten}
+use Rattle.rule_classes.specs.Classes.{IsLeastOfClass}
+use Rattle.rule_classes.specs.Lifts.{lifted, unlifted}
+use Rattle.rule_classes.specs.LiftFaults.{lift_fault}
+use Rattle.rule_classes.specs.declared.lifts.LiftFault.{LiftFault}
+use Rattle.tail_config.specs.Tails.{TailConfig}
+use Rattle.tail_config.specs.TailTexts.{HasParts, IsTailText}
+use Rattle.tail_config.specs.TailFaults.{tail_fault}
+use Rattle.tail_config.specs.declared.faults.TailFault.{TailFault}
 use Rattle.ca_cli.specs.declared.request.Ask.{Ask}
 use Rattle.ca_cli.specs.declared.request.Ask.TheVariants as ask
 use Rattle.ca_cli.specs.declared.request.AskOfTwo.{AskOfTwo}
 use Rattle.ca_cli.specs.declared.request.AskOfTwo.TheVariants as two
 use Rattle.ca_cli.specs.Commands.{AskWith, AskOfMany}
 use Rattle.ca_cli.specs.Lines.{line}
-use Rattle.ca_cli.specs.StatusLines.{algebra_text, twins_text, wide_text}
+use Rattle.ca_cli.specs.StatusLines.{algebra_text, lift_text, twins_text, wide_text}
 use Rattle.ca_cli.specs.Reports.{IsSurjectiveLine, number_line, IsReport}
 use Rattle.ca_cli.specs.InverseLines.{IsInverse}
+use Rattle.ca_cli.specs.LanguageLines.{IsLanguage, IsSameLine, IsErasedLine}
+use Rattle.ca_cli.specs.PreimageLines.{IsPreimageLine, tail_text}
 use Rattle.ca_cli.specs.Samples.{survey_rules, sample_rules, survey_fault, sample_fault}
 
 -- the line of an accepted rule
@@ -40,6 +50,11 @@ IsOutput ask.Certify r out = (c : Certificate) × IsWritten r c × (out ≡ cert
 IsOutput ask.Reflect r out = IsRuleLine (mirrored r) out
 IsOutput ask.Trim r out = (g : LocalRule) × IsTrimmed r g × IsRuleLine g out
 IsOutput ask.Inverse r out = IsInverse r out
+IsOutput ask.Language r out = IsLanguage r out
+IsOutput ask.Erase r out = IsErasedLine r out
+IsOutput ask.Least r out = (r.states ≤ 6) × ((mirror : Bool) × (g : LocalRule) × IsLeastOfClass r mirror g × IsRuleLine g out)
+IsOutput ask.Lift r out = (lift_fault r ≡ None) × IsRuleLine (lifted r) out
+IsOutput ask.Unlift r out = (lift_fault r ≡ None) × IsRuleLine (unlifted r) out
 
 -- of a rule with an operand
 abbrev pub IsOutputWith : AskWith → LocalRule → List ℕ → List ℕ → Type 0
@@ -47,10 +62,12 @@ IsOutputWith AskWith.Shift r by out = (o : ℤ) × IsOffset by o × (shift_fault
 IsOutputWith AskWith.Widen r m out = (g : LocalRule) × (widen_fault r (decimal_value m) ≡ None) × IsWidened r (decimal_value m) g × IsRuleLine g out
 IsOutputWith AskWith.Permute r colours out = (g : LocalRule) × IsRecolouring r.states (map letter_at colours)
     × IsRecoloured (map letter_at colours) r g × (g.offset ≡ r.offset) × IsRuleLine g out
+IsOutputWith AskWith.Preimage r tail out = (t : TailConfig) × IsTailText r.states tail t × IsPreimageLine r t out
 
 -- of two rules
 abbrev pub IsOutputOfTwo : AskOfTwo → LocalRule → LocalRule → List ℕ → Type 0
 IsOutputOfTwo two.Compose r s out = (g : LocalRule) × (compose_fault r s ≡ None) × IsComposed r s g × IsRuleLine g out
+IsOutputOfTwo two.Same r s out = (r.states ≡ s.states) × IsSameLine r s out
 
 -- the rules of a shape that begin there, as many as are asked for
 abbrev pub rules_of : AskOfMany → ℕ → ℕ → ℕ → ℕ → List LocalRule
@@ -68,13 +85,18 @@ rules_fault AskOfMany.Sample k m seed count = sample_fault k m
 pub data IsCause : Ask → LocalRule → List ℕ → Type 0 where
   Twins : (r : LocalRule) (x y : List ℕ) → ¬ IsInjective r → IsLeastTwins r x y → IsCause ask.Inverse r (twins_text x y)
   Wide : (r : LocalRule) (n c : ℕ) → IsLeastDetermined r n c → 65536 < r.states ^ n → IsCause ask.Inverse r (wide_text n)
+  Colours : (r : LocalRule) → 7 ≤ r.states → IsCause ask.Least r (codes "colours")
+  Lift : (r : LocalRule) (f : LiftFault) → lift_fault r ≡ Some f → IsCause ask.Lift r (lift_text f)
+  Unlift : (r : LocalRule) (f : LiftFault) → lift_fault r ≡ Some f → IsCause ask.Unlift r (lift_text f)
 
 -- of a rule with an operand
 pub data IsCauseWith : AskWith → LocalRule → List ℕ → List ℕ → Type 0 where
   Shift : (r : LocalRule) (by : List ℕ) (o : ℤ) (f : AlgebraFault) → IsOffset by o → shift_fault r o ≡ Some f → IsCauseWith AskWith.Shift r by (algebra_text f)
   Widen : (r : LocalRule) (m : List ℕ) (f : AlgebraFault) → widen_fault r (decimal_value m) ≡ Some f → IsCauseWith AskWith.Widen r m (algebra_text f)
   Permute : (r : LocalRule) (colours : List ℕ) → ¬ IsRecolouring r.states (map letter_at colours) → IsCauseWith AskWith.Permute r colours (algebra_text algebra.NotPermutation)
+  Tail : (r : LocalRule) (tail : List ℕ) (t : TailConfig) (f : TailFault) → HasParts tail t → tail_fault r.states t ≡ Some f → IsCauseWith AskWith.Preimage r tail (tail_text f)
 
 -- of two rules
 pub data IsCauseOfTwo : AskOfTwo → LocalRule → LocalRule → List ℕ → Type 0 where
   Compose : (r s : LocalRule) (f : AlgebraFault) → compose_fault r s ≡ Some f → IsCauseOfTwo two.Compose r s (algebra_text f)
+  States : (r s : LocalRule) → r.states ≢ s.states → IsCauseOfTwo two.Same r s (codes "states")

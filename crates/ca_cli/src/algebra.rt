@@ -78,7 +78,7 @@ fn made(alloc: Global, rule: Result<Rule, AlgebraFault>) -> Result<Output, Stop>
 }
 
 /// The text of a rule, as a line.
-fn rule_output(alloc: Global, rule: &Rule) -> Result<Output, AllocError>
+pub fn rule_output(alloc: Global, rule: &Rule) -> Result<Output, AllocError>
     ensures { IfOk result (IsRuleLine rule.now) }
 {
     // That the rule keeps the limits is what each of its calls says.

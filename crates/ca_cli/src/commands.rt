@@ -1,14 +1,17 @@
 //! The commands that read nothing, by the shape of their operands.
 ghost use Rattle.std.specs.Prelude.{◌≡◌, ◌≤◌, ℕ, List, Option};
-ghost use Rattle.ca_cli.specs.Commands.{BeginsAt, Command, IsChange, IsWellFormed, Means, asked_of_many, asked_with};
+ghost use Rattle.ca_cli.specs.Commands.{BeginsAt, Command, IsChange, IsOperand, IsWellFormed, Means, asked_of_many, asked_with};
 ghost use Rattle.ca_cli.specs.Outcomes.{Comes, IsOutcome};
 ghost use Rattle.ca_cli.specs.Outputs.{IsCause, IsCauseOfTwo, IsCauseWith, IsOutput, IsOutputOfTwo, IsOutputWith};
 
 use crate::algebra::{compose, permute, reflect, shift, trim, widen};
 use crate::certificates::certify;
+use crate::classes::{least, lift, unlift};
 use crate::inverses::inverse;
+use crate::languages::{erase, language, same};
 use crate::operands::rule_operand;
 use crate::output::Output;
+use crate::preimages::preimage;
 use crate::reports::{decide, number, orphan};
 use crate::request::{Ask, AskOfTwo, Change, Unread};
 use crate::stop::Stop;
@@ -50,11 +53,17 @@ fn of_rule(alloc: Global, ask: Ask, rule: &Rule) -> Result<Output, Stop>
         Ask::Reflect => Ok(reflect(alloc, rule)?),
         Ask::Trim => Ok(trim(alloc, rule)?),
         Ask::Inverse => inverse(alloc, rule),
+        Ask::Language => Ok(language(alloc, rule)?),
+        Ask::Erase => Ok(erase(alloc, rule)?),
+        Ask::Least => least(alloc, rule),
+        Ask::Lift => lift(alloc, rule),
+        Ask::Unlift => unlift(alloc, rule),
     }
 }
 
 /// What is asked of a rule with an operand.
 fn of_rule_with(alloc: Global, change: Change, rule: &Rule) -> Result<Output, Stop>
+    requires { (operand : List ℕ) × IsChange change operand × IsOperand (asked_with change) operand }
     ensures { (operand : List ℕ) → IsChange change.entry operand →
         Comes (IsOutputWith (asked_with change.entry) rule.now operand) (IsCauseWith (asked_with change.entry) rule.now operand) result }
 {
@@ -62,6 +71,7 @@ fn of_rule_with(alloc: Global, change: Change, rule: &Rule) -> Result<Output, St
         Change::Shift(by) => shift(alloc, rule, by),
         Change::Widen(width) => widen(alloc, rule, width),
         Change::Permute(colours) => permute(alloc, rule, colours),
+        Change::Preimage(tail) => preimage(alloc, rule, tail),
     }
 }
 
@@ -71,5 +81,6 @@ fn of_two(alloc: Global, ask: AskOfTwo, first: &Rule, second: &Rule) -> Result<O
 {
     match ask {
         AskOfTwo::Compose => compose(alloc, first, second),
+        AskOfTwo::Same => same(alloc, first, second),
     }
 }

@@ -1,5 +1,6 @@
 //! The output of a command.
-ghost use Rattle.std.specs.Prelude.{◌≡◌, [], ◌++◌, IfOk, OnOk};
+ghost use Rattle.std.specs.Prelude.{◌≡◌, [], ◌++◌, codes, IfOk, OnOk};
+ghost use Rattle.std.specs.Fmt.{decimal};
 ghost use Rattle.word_image.specs.LocalRules.{IsWord};
 ghost use Rattle.word_image.specs.Digits.{word_text};
 ghost use Rattle.ca_cli.specs.Lines.{line};
@@ -59,6 +60,33 @@ impl Output {
         Ok(output)
     }
 
+    /// The text with the digits of a word behind it, as a line.
+    pub fn named(alloc: Global, text: &str, word: &[u8]) -> Result<Output, AllocError>
+        requires { IsWord 16 word.now }
+        ensures { IfOk result (λ output. output ≡ line (text.now ++ word_text word.now)) }
+    {
+        let mut output = Output::new(alloc);
+        output.push(text.as_bytes())?;
+        output.push_word(alloc, word)?;
+        output.push(b"\n")?;
+        Ok(output)
+    }
+
+    /// The text with the digits of two words behind it and a blank between, as a line.
+    pub fn named_pair(alloc: Global, text: &str, x: &[u8], y: &[u8]) -> Result<Output, AllocError>
+        requires first { IsWord 16 x.now }
+        requires second { IsWord 16 y.now }
+        ensures { IfOk result (λ output. output ≡ line (text.now ++ word_text x.now ++ codes " " ++ word_text y.now)) }
+    {
+        let mut output = Output::new(alloc);
+        output.push(text.as_bytes())?;
+        output.push_word(alloc, x)?;
+        output.push(b" ")?;
+        output.push_word(alloc, y)?;
+        output.push(b"\n")?;
+        Ok(output)
+    }
+
     /// Appends these bytes.
     pub fn push(&mut self, bytes: &[u8]) -> Result<(), AllocError>
         ensures { OnOk result (self.new ≡ self.old ++ bytes.now) }
@@ -72,6 +100,13 @@ impl Output {
         ensures { OnOk result (self.new ≡ self.old ++ word_text word.now) }
     {
         self.push(&word_text(alloc, word)?)
+    }
+
+    /// Appends the decimal digits of a number.
+    pub fn push_number(&mut self, alloc: Global, number: u32) -> Result<(), AllocError>
+        ensures { OnOk result (self.new ≡ self.old ++ decimal number) }
+    {
+        self.push(format!(in alloc; "{number}")?.as_bytes())
     }
 
     /// Appends the text as a line.

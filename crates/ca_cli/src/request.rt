@@ -5,6 +5,7 @@ ghost use Rattle.rule_text.specs.RuleTexts.{decimal_value};
 
 use crate::operands::{are_colours, count_of, seed, small};
 use rule_text::{decimal_number, decimal_offset, is_decimal};
+use tail_config::has_form;
 
 /// What the words ask for.
 #[derive(Clone, Copy, Debug)]
@@ -47,6 +48,16 @@ pub enum Ask {
     Trim,
     /// `inverse R`: what gives the cells of a configuration back from its image.
     Inverse,
+    /// `language R`: the least automaton of the words that are images.
+    Language,
+    /// `erase R`: the least erasable pair.
+    Erase,
+    /// `least R`: the least rule of its class.
+    Least,
+    /// `lift R`: the second-order rule of pairs of its letters.
+    Lift,
+    /// `unlift R`: the rule that undoes it.
+    Unlift,
 }
 
 /// What is asked of a rule with an operand.
@@ -58,6 +69,8 @@ pub enum Change<'a> {
     Widen(u8),
     /// `permute R DIGITS`: the rule with other names for its letters.
     Permute(&'a [u8]),
+    /// `preimage R TAIL`: a configuration that the rule maps to this one.
+    Preimage(&'a [u8]),
 }
 
 /// What is asked of two rules.
@@ -65,6 +78,8 @@ pub enum Change<'a> {
 pub enum AskOfTwo {
     /// `compose R R`: the second rule after the first.
     Compose,
+    /// `same R R`: whether the same words are images.
+    Same,
 }
 
 /// Where the rules begin whose summary is asked for.
@@ -170,6 +185,11 @@ impl Ask {
             "reflect" => Some(Ask::Reflect),
             "trim" => Some(Ask::Trim),
             "inverse" => Some(Ask::Inverse),
+            "language" => Some(Ask::Language),
+            "erase" => Some(Ask::Erase),
+            "least" => Some(Ask::Least),
+            "lift" => Some(Ask::Lift),
+            "unlift" => Some(Ask::Unlift),
             _ => None,
         }
     }
@@ -184,6 +204,7 @@ impl AskOfTwo {
     {
         match name {
             "compose" => Some(AskOfTwo::Compose),
+            "same" => Some(AskOfTwo::Same),
             _ => None,
         }
     }
@@ -201,6 +222,7 @@ impl<'a> Change<'a> {
             "shift" => Some(Change::Shift(decimal_offset(operand)?)),
             "widen" => Some(Change::Widen(small(operand, 1)?)),
             "permute" if are_colours(operand) => Some(Change::Permute(operand)),
+            "preimage" if has_form(operand) => Some(Change::Preimage(operand)),
             _ => None,
         }
     }

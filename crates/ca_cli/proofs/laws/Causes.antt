@@ -5,16 +5,17 @@ use Rattle.std.proofs.lemmas.Option.{none-some}
 use Rattle.word_image.specs.LocalRules.{LocalRule}
 use Rattle.word_image.specs.Windows.{IsLeastDetermined}
 use Rattle.rule_algebra.specs.AlgebraFaults.{shift_fault}
-use Rattle.rule_algebra.specs.declared.fault.AlgebraFault.{AlgebraFault}
+use Rattle.tail_config.specs.TailTextFaults.IsTailTextFault.{Refused}
+use Rattle.tail_config.proofs.laws.TailAnswers.{IsTailText-no_fault}
 use Rattle.rule_text.specs.RuleTexts.{IsOffset}
 use Rattle.rule_text.specs.RuleTexts.IsOffset.{Plain, Minus}
 use Rattle.ca_cli.specs.declared.request.Ask.{Ask}
 use Rattle.ca_cli.specs.declared.request.AskOfTwo.{AskOfTwo}
 use Rattle.ca_cli.specs.Commands.{AskWith}
 use Rattle.ca_cli.specs.Outputs.{IsOutput, IsOutputWith, IsOutputOfTwo, IsCause, IsCauseWith, IsCauseOfTwo}
-use Rattle.ca_cli.specs.Outputs.IsCause.{Twins, Wide}
-use Rattle.ca_cli.specs.Outputs.IsCauseWith.{Shift, Widen, Permute}
-use Rattle.ca_cli.specs.Outputs.IsCauseOfTwo.{Compose}
+use Rattle.ca_cli.specs.Outputs.IsCause.{Twins, Wide, Colours, Lift, Unlift}
+use Rattle.ca_cli.specs.Outputs.IsCauseWith.{Shift, Widen, Permute, Tail}
+use Rattle.ca_cli.specs.Outputs.IsCauseOfTwo.{Compose, States}
 
 -- a text names one offset
 IsOffset-unique : {text : List ℕ} {o p : ℤ} → IsOffset text o → IsOffset text p → o ≡ p
@@ -31,7 +32,7 @@ one_length {n = n} {c = c} {m = m} {d = d} first second =
     omega (arith, below, above)
 
 -- a limit isn't both kept and broken
-kept_and_broken : {fault other : Option AlgebraFault} (f : AlgebraFault) → fault ≡ None → other ≡ Some f → fault ≡ other → ⊥
+kept_and_broken : {F : Type 0} {fault other : Option F} (f : F) → fault ≡ None → other ≡ Some f → fault ≡ other → ⊥
 kept_and_broken f kept broken same = none-some f (sym kept ∙ same ∙ broken)
 
 -- of a rule
@@ -40,13 +41,18 @@ IsOutput-fit out (Twins r x y none twins) says = none says.injective
 IsOutput-fit out (Wide r n c least wide) says =
     let few : r.states ^ n ≤ 65536 = subst (λ m. r.states ^ m ≤ 65536) (one_length says.least least) says.few in
     omega (arith, few, wide)
+IsOutput-fit out (Colours r many) says = omega (arith, many, says.0)
+IsOutput-fit out (Lift r f none) says = kept_and_broken f says.0 none refl
+IsOutput-fit out (Unlift r f none) says = kept_and_broken f says.0 none refl
 
 -- of a rule with an operand
 pub IsOutputWith-fit : {asked : AskWith} {r : LocalRule} {operand cause : List ℕ} (out : List ℕ) → IsCauseWith asked r operand cause → ¬ IsOutputWith asked r operand out
 IsOutputWith-fit out (Shift r by p f named unfits) (o, offset, fits, made) = kept_and_broken f fits unfits (ap (shift_fault r) (IsOffset-unique offset named))
 IsOutputWith-fit out (Widen r m f unfits) (g, fits, widened, made) = kept_and_broken f fits unfits refl
 IsOutputWith-fit out (Permute r colours unfits) (g, fits, recoloured, offset, made) = unfits fits
+IsOutputWith-fit out (Tail r text t f parts refused) (u, is, answer) = IsTailText-no_fault is (Refused t f parts refused)
 
 -- of two rules
 pub IsOutputOfTwo-fit : {asked : AskOfTwo} {r s : LocalRule} {cause : List ℕ} (out : List ℕ) → IsCauseOfTwo asked r s cause → ¬ IsOutputOfTwo asked r s out
 IsOutputOfTwo-fit out (Compose r s f unfits) (g, fits, composed, made) = kept_and_broken f fits unfits refl
+IsOutputOfTwo-fit out (States r s differ) (same, says) = differ same

@@ -37,7 +37,12 @@ asked name =
     else (if pointwise nat_eq name (codes "certify") then ask.Certify
     else (if pointwise nat_eq name (codes "reflect") then ask.Reflect
     else (if pointwise nat_eq name (codes "trim") then ask.Trim
-    else ask.Inverse)))))
+    else (if pointwise nat_eq name (codes "inverse") then ask.Inverse
+    else (if pointwise nat_eq name (codes "language") then ask.Language
+    else (if pointwise nat_eq name (codes "erase") then ask.Erase
+    else (if pointwise nat_eq name (codes "least") then ask.Least
+    else (if pointwise nat_eq name (codes "lift") then ask.Lift
+    else ask.Unlift))))))))))
 
 asked-name : (a : Ask) → asked (name_of a) ≡ a
 unfolding asked
@@ -48,30 +53,39 @@ asked-name ask.Certify = refl
 asked-name ask.Reflect = refl
 asked-name ask.Trim = refl
 asked-name ask.Inverse = refl
+asked-name ask.Language = refl
+asked-name ask.Erase = refl
+asked-name ask.Least = refl
+asked-name ask.Lift = refl
+asked-name ask.Unlift = refl
 
 asked_with : List ℕ → Option AskWith
 asked_with name =
     if pointwise nat_eq name (codes "shift") then Some AskWith.Shift
     else (if pointwise nat_eq name (codes "widen") then Some AskWith.Widen
     else (if pointwise nat_eq name (codes "permute") then Some AskWith.Permute
-    else None))
+    else (if pointwise nat_eq name (codes "preimage") then Some AskWith.Preimage
+    else None)))
 
 asked_with-name : (a : AskWith) → asked_with (name_with a) ≡ Some a
 unfolding asked_with
 asked_with-name AskWith.Shift = refl
 asked_with-name AskWith.Widen = refl
 asked_with-name AskWith.Permute = refl
+asked_with-name AskWith.Preimage = refl
 
 asked_with-of_two : (a : AskOfTwo) → asked_with (name_of_two a) ≡ None
 unfolding asked_with
 asked_with-of_two two.Compose = refl
+asked_with-of_two two.Same = refl
 
 asked_of_two : List ℕ → AskOfTwo
-asked_of_two name = two.Compose
+asked_of_two name = if pointwise nat_eq name (codes "compose") then two.Compose else two.Same
 
 asked_of_two-name : (a : AskOfTwo) → asked_of_two (name_of_two a) ≡ a
 unfolding asked_of_two
 asked_of_two-name two.Compose = refl
+asked_of_two-name two.Same = refl
 
 asked_of_many : List ℕ → AskOfMany
 asked_of_many name = if pointwise nat_eq name (codes "survey") then AskOfMany.Survey else AskOfMany.Sample
