@@ -5,9 +5,10 @@
 //! reads: it takes the whole input, or one byte more than is judged. [`run`] goes from the words to the
 //! bytes in four steps:
 //!
-//! 1. the words become a `Request`, a command with its operands as they stand, or are no command;
-//! 2. one function a command, of the file of its family, makes the output, or a `Stop` that says why
-//!    there is none;
+//! 1. the words become a `Request`, a command by the shape of its operands with the numbers that stand
+//!    in them, or are no command;
+//! 2. the operands that are rules are read, and one function a command makes the output, or a `Stop`
+//!    says why there is none; only `check` has the source;
 //! 3. either becomes an `Answer`, whole in memory;
 //! 4. its output is written, so that the sink takes all of it, or a part of it and not the whole.
 //!
@@ -27,6 +28,10 @@
 //! | `compose 110 3:2:0:w0` | NotFit | 4 | `notfit states` |
 //! | `inverse 170` | Done | 0 | `window 1 2`, `offset -1`, `map 01`, `rule 2:2:-1:t0011` |
 //! | `inverse 90` | NotFit | 4 | `notfit twins 0 1` |
+//! | `same 110 90` | Done | 0 | `same no 01010` |
+//! | `preimage 110 0\|101\|0` | Done | 0 | `no preimage 1 1 01010` |
+//! | `least 193` | Done | 0 | `2:3:0:t01110110` |
+//! | `erase 90` | Done | 0 | `erase none` |
 //! | `survey 2 3 0 256` | Done | 0 | the seven lines of the summary |
 //! | `survey 7 2 0 1` | RuleFault | 3 | `rule fault 1 kind` |
 //! | `orphan 256` | RuleFault | 3 | `rule fault 1 number` |
@@ -36,10 +41,9 @@
 //! | `check`, of 4,194,305 bytes | TooLong | 5 | `too long` |
 //!
 //! A report has eight lines, a summary and the verdicts of a certificate have seven, an inverse has four,
-//! a certificate is a text without a line end, and every other output has one line. A call takes the time
-//! and the memory of its deciders, and besides **O(n)** of both for n bytes of words, input and output. A
-//! search lists at most `2^N` sets of nodes, where a rule with k states and width m has `N = k^(m-1)`; a
-//! summary does it once for each of at most 4,096 rules.
+//! the automaton of a language has two and one for each class, a certificate is a text without a line end,
+//! and every other output has one line. A call takes the time and the memory of its deciders, and besides
+//! **O(n)** of both for n bytes of words, input and output.
 #![tactic(auto)]
 
 mod algebra;
