@@ -2,6 +2,7 @@ pub mod Objects
 pub mod Arrays
 pub mod Spellings
 pub mod Uniqueness
+pub mod WeightMembers
 pub mod Evidence
 pub mod ShapeFaults
 pub mod Steps

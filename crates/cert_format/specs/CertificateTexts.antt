@@ -1,15 +1,18 @@
 -- The JSON value of a certificate, and which bytes are its text.
-use Rattle.std.specs.Prelude.{◌≡◌, ℕ, List, [], ◌∷◌, codes, Option, Some, None, Contains, IsUtf8, ℤ, option_and_then}
+use Rattle.std.specs.Prelude.{◌≡◌, ℕ, List, [], ◌∷◌, ◌++◌, codes, Option, Some, None, Contains, IsUtf8, ℤ, option_and_then, if◌then◌else◌, true}
 use Rattle.std.specs.List.{AllZip}
 use Rattle.serde_json.specs.Data.{Data, null, array, object, Items, no_items, item, Members, no_members, member}
 use Rattle.serde_json.specs.Read.{read}
 use Rattle.serde_json.specs.Find.{get_member, as_number, as_str, as_object, as_u64, as_i64}
 use Rattle.word_image.specs.LocalRules.{LocalRule}
+use Rattle.word_image.specs.Weights.{AreWeights, own_weights}
 use Rattle.tail_config.specs.Tails.{TailConfig}
 use Rattle.tail_config.specs.TailTexts.{Spells, HasParts}
 use Rattle.rule_text.specs.RuleTexts.{IsRuleText}
+use Rattle.cert_format.specs.declared.cert_version.CertVersion.{CertVersion}
+use Rattle.cert_format.specs.Versions.{number_of, names_weights}
 use Rattle.cert_format.specs.Certificates.{Certificate, SurjectiveEvidence, InjectiveEvidence, SideEvidence, SumEvidence, IsSurjectiveShape, IsInjectiveShape, IsSideShape, IsSumShape, IsRankShape}
-use Rattle.cert_format.specs.Certificates.SurjectiveEvidence.{Sets, Orphan}
+use Rattle.cert_format.specs.Certificates.SurjectiveEvidence.{Sets, Pairs, Orphan}
 use Rattle.cert_format.specs.Certificates.InjectiveEvidence.{Window, Twins}
 use Rattle.cert_format.specs.Certificates.SideEvidence.{Ahead, Split}
 use Rattle.cert_format.specs.Certificates.SumEvidence.{Flux, Ring}
@@ -58,9 +61,10 @@ HasOnly k v d = as_object d ≡ Some (member k v no_members)
 abbrev pub HasOnlyBoth : List ℕ → Data → List ℕ → Data → Data → Type 0
 HasOnlyBoth k v l u d = as_object d ≡ Some (member k v (member l u no_members))
 
--- {"sets":[..]} or {"orphan":".."}
+-- {"sets":[..]}, {"pairs":[..]} or {"orphan":".."}
 abbrev pub IsSurjectiveValue : Data → SurjectiveEvidence → Type 0
 IsSurjectiveValue d (Sets sets) = (v : Data) × HasOnly (codes "sets") v d × IsArrayOf IsWhole v sets
+IsSurjectiveValue d (Pairs pairs) = (v : Data) × HasOnly (codes "pairs") v d × IsArrayOf IsWhole v pairs
 IsSurjectiveValue d (Orphan w) = (v : Data) × HasOnly (codes "orphan") v d × IsDigits v w
 
 -- {"c":C,"n":N} or {"twins":["..",".."]}
@@ -100,17 +104,21 @@ HasVersion ms v = HasMember ms (codes "version") (λ d. IsWhole d v)
 abbrev pub HasRuleText : Members → List ℕ → Type 0
 HasRuleText ms text = HasMember ms (codes "rule") (λ d. as_str d ≡ Some text)
 
--- the keys of a certificate, ascending
+-- the keys of each certificate, ascending
 abbrev pub keys : List (List ℕ)
 keys = codes "conserving" ∷ codes "injective" ∷ codes "left" ∷ codes "ranks" ∷ codes "right" ∷ codes "rule" ∷ codes "surjective" ∷ codes "version" ∷ []
 
+-- those that may stand, the weights where the version names them
+abbrev pub keys_of : CertVersion → List (List ℕ)
+keys_of version = keys ++ (if names_weights version then codes "weights" ∷ [] else [])
+
 -- there is no key besides
-abbrev pub HasNoOther : Members → Type 0
-HasNoOther ms = (k : List ℕ) (d : Data) → get_member k ms ≡ Some d → Contains keys k
+abbrev pub HasNoOther : CertVersion → Members → Type 0
+HasNoOther version ms = (k : List ℕ) (d : Data) → get_member k ms ≡ Some d → Contains (keys_of version) k
 
 -- the key is there, with evidence within its limits: of surjective
-abbrev pub HasSurjective : LocalRule → Members → SurjectiveEvidence → Type 0
-HasSurjective r ms e = HasMember ms (codes "surjective") (λ d. IsSurjectiveValue d e) × IsSurjectiveShape r e
+abbrev pub HasSurjective : CertVersion → LocalRule → Members → SurjectiveEvidence → Type 0
+HasSurjective version r ms e = HasMember ms (codes "surjective") (λ d. IsSurjectiveValue d e) × IsSurjectiveShape version r e
 
 -- of injective
 abbrev pub HasInjective : LocalRule → Members → InjectiveEvidence → Type 0
@@ -124,6 +132,11 @@ HasSide k r ms e = HasMember ms k (λ d. IsSideValue d e) × IsSideShape r e
 abbrev pub HasConserving : LocalRule → Members → SumEvidence → Type 0
 HasConserving r ms e = HasMember ms (codes "conserving") (λ d. IsSumValue d e) × IsSumShape r e
 
+-- the weights that are named, or the letters' own ones where none are
+pub data HasWeights (version : CertVersion) (r : LocalRule) (ms : Members) (weights : List ℕ) : Type 0 where
+  Named : names_weights version ≡ true → HasMember ms (codes "weights") (λ d. IsArrayOf IsWhole d weights) → AreWeights r.states weights → HasWeights version r ms weights
+  Own : (names_weights version ≡ true → get_member (codes "weights") ms ≡ None) → weights ≡ own_weights r.states → HasWeights version r ms weights
+
 -- of the ranks, in both directions
 abbrev pub HasRanks : LocalRule → Members → List (Option ℕ) → List (Option ℕ) → Type 0
 HasRanks r ms forward backward = HasMember ms (codes "ranks") (λ d. IsRanksValue d forward backward) × IsRankShape r forward × IsRankShape r backward
@@ -133,13 +146,14 @@ pub record IsCertificateText (bytes : List ℕ) (c : Certificate) : Type 0 where
   pub members : Members
   pub text : List ℕ
   pub json : IsObject bytes members
-  pub version : HasVersion members 1
+  pub version : HasVersion members (number_of c.version)
   pub rule_text : HasRuleText members text
   pub rule : IsRuleText text c.rule
-  pub surjective : HasSurjective c.rule members c.surjective
+  pub surjective : HasSurjective c.version c.rule members c.surjective
   pub injective : HasInjective c.rule members c.injective
   pub right : HasSide (codes "right") c.rule members c.right
   pub left : HasSide (codes "left") c.rule members c.left
   pub conserving : HasConserving c.rule members c.conserving
+  pub weights : HasWeights c.version c.rule members c.weights
   pub ranks : HasRanks c.rule members c.forward c.backward
-  pub no_other : HasNoOther members
+  pub no_other : HasNoOther c.version members

@@ -1,15 +1,19 @@
 -- What a certificate of a rule says, and the limits of each part.
-use Rattle.std.specs.Prelude.{◌≡◌, ℕ, ◌+◌, ◌-◌, ◌^◌, ◌≤◌, List, length, Option, Some, None, All, ℤ, pos, negsuc, ◌≤ℤ◌, ⊤}
+use Rattle.std.specs.Prelude.{◌≡◌, ℕ, ◌+◌, ◌-◌, ◌^◌, ◌<◌, ◌≤◌, List, length, Option, Some, None, All, ℤ, pos, negsuc, ◌≤ℤ◌, ⊤, true, false}
 use Rattle.word_image.specs.LocalRules.{LocalRule, IsRule, IsWord, node_count}
+use Rattle.word_image.specs.Weights.{AreWeights, own_weights}
 use Rattle.word_image.specs.Graphs.{pair_count}
 use Rattle.tail_config.specs.Tails.{TailConfig}
 use Rattle.tail_config.specs.TailTexts.{IsShortTail}
+use Rattle.cert_format.specs.declared.cert_version.CertVersion.{CertVersion}
+use Rattle.cert_format.specs.Versions.{names_weights, lists_pairs}
 
 -- What a certificate says
 
--- for surjective a list of sets of nodes, each a number, and for not surjective a word
+-- for surjective a list of sets of nodes or of pairs of nodes, each a number, and for not surjective a word
 pub data SurjectiveEvidence : Type 0 where
   Sets : (sets : List ℕ) → SurjectiveEvidence
+  Pairs : (pairs : List ℕ) → SurjectiveEvidence
   Orphan : (w : List ℕ) → SurjectiveEvidence
 
 -- for injective a window, and for not injective two words
@@ -27,23 +31,26 @@ pub data SumEvidence : Type 0 where
   Flux : (phi : List ℤ) → SumEvidence
   Ring : (p : List ℕ) → SumEvidence
 
--- the claims are a bound of the rank of each pair, or None where nothing is claimed
+-- the weights are a number for each letter, and the claims a bound of the rank of each pair, or None where nothing is claimed
 pub record Certificate : Type 0 where
+  pub version : CertVersion
   pub rule : LocalRule
   pub surjective : SurjectiveEvidence
   pub injective : InjectiveEvidence
   pub right : SideEvidence
   pub left : SideEvidence
   pub conserving : SumEvidence
+  pub weights : List ℕ
   pub forward : List (Option ℕ)
   pub backward : List (Option ℕ)
 
 -- The limits of each part, for its rule
 
--- sets of the rule's nodes, or a word
-abbrev pub IsSurjectiveShape : LocalRule → SurjectiveEvidence → Type 0
-IsSurjectiveShape r (Sets sets) = All (λ set. set ≤ 2 ^ node_count r - 1) sets
-IsSurjectiveShape r (Orphan w) = IsWord r.states w
+-- sets of the rule's nodes, pairs of them where the version lists pairs, or a word
+abbrev pub IsSurjectiveShape : CertVersion → LocalRule → SurjectiveEvidence → Type 0
+IsSurjectiveShape version r (Sets sets) = All (λ set. set ≤ 2 ^ node_count r - 1) sets
+IsSurjectiveShape version r (Pairs pairs) = (lists_pairs version ≡ true) × All (λ p. p < pair_count r) pairs
+IsSurjectiveShape version r (Orphan w) = IsWord r.states w
 
 -- n letters of an image with a place among the n + m - 1 letters behind them, or two words
 abbrev pub IsInjectiveShape : LocalRule → InjectiveEvidence → Type 0
@@ -60,6 +67,11 @@ abbrev pub IsSumShape : LocalRule → SumEvidence → Type 0
 IsSumShape r (Flux phi) = (length phi ≡ node_count r) × All (λ z. (negsuc 999999 ≤ℤ z) × (z ≤ℤ pos 1000000)) phi
 IsSumShape r (Ring p) = IsWord r.states p
 
+-- a weight for each letter, which is its own value where the version names no weights
+pub record IsWeightShape (version : CertVersion) (r : LocalRule) (weights : List ℕ) : Type 0 where
+  pub each : AreWeights r.states weights
+  pub own : names_weights version ≡ false → weights ≡ own_weights r.states
+
 -- a claim is nothing or a number of sixteen bits
 abbrev pub IsClaim : Option ℕ → Type 0
 IsClaim None = ⊤
@@ -73,10 +85,11 @@ pub record IsRankShape (r : LocalRule) (row : List (Option ℕ)) : Type 0 where
 -- all limits
 pub record IsShaped (c : Certificate) : Type 0 where
   pub rule : IsRule c.rule
-  pub surjective : IsSurjectiveShape c.rule c.surjective
+  pub surjective : IsSurjectiveShape c.version c.rule c.surjective
   pub injective : IsInjectiveShape c.rule c.injective
   pub right : IsSideShape c.rule c.right
   pub left : IsSideShape c.rule c.left
   pub conserving : IsSumShape c.rule c.conserving
+  pub weights : IsWeightShape c.version c.rule c.weights
   pub forward : IsRankShape c.rule c.forward
   pub backward : IsRankShape c.rule c.backward

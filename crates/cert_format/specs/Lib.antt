@@ -1,3 +1,4 @@
+pub mod Versions
 pub mod Certificates
 pub mod CertificateTexts
 pub mod ShapeFaults

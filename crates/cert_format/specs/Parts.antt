@@ -1,7 +1,7 @@
 -- What the parts of a certificate are seen as.
 use Rattle.std.specs.Prelude.{◌≡◌, ℕ, ⊤}
 use Rattle.cert_format.specs.declared.parts.SurjectivePart.{SurjectivePart}
-use Rattle.cert_format.specs.declared.parts.SurjectivePart.TheVariants.{Sets, Orphan}
+use Rattle.cert_format.specs.declared.parts.SurjectivePart.TheVariants.{Sets, Pairs, Orphan}
 use Rattle.cert_format.specs.declared.parts.InjectivePart.{InjectivePart}
 use Rattle.cert_format.specs.declared.parts.InjectivePart.TheVariants.{Window, Twins}
 use Rattle.cert_format.specs.declared.parts.SidePart.{SidePart}
@@ -13,6 +13,7 @@ use Rattle.cert_format.specs.Certificates.{SurjectiveEvidence, InjectiveEvidence
 -- the evidence of a part
 abbrev pub surjective_of : SurjectivePart → SurjectiveEvidence
 surjective_of (Sets sets) = SurjectiveEvidence.Sets sets
+surjective_of (Pairs pairs) = SurjectiveEvidence.Pairs pairs
 surjective_of (Orphan w) = SurjectiveEvidence.Orphan w
 
 abbrev pub injective_of : InjectivePart → InjectiveEvidence

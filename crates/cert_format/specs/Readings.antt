@@ -2,15 +2,16 @@
 use Rattle.std.specs.Prelude.{◌≡◌, ℕ, ◌⊎◌, ◌+◌, ◌-◌, ◌≤◌, length, All, ◌≤ℤ◌, ℤ, pos, negsuc, List, [], ◌∷◌, Option, codes, alloc_error}
 use Rattle.serde_json.specs.Data.{Data, null, boolean, number, string, array, object, Members, no_members}
 use Rattle.word_image.specs.LocalRules.{LocalRule, IsWord, node_count}
-use Rattle.word_image.specs.Graphs.{full_set}
+use Rattle.word_image.specs.Weights.{AreWeights}
 use Rattle.tail_config.specs.Tails.{TailConfig}
 use Rattle.tail_config.specs.TailTexts.{Spells, IsShortTail}
+use Rattle.cert_format.specs.declared.cert_version.CertVersion.{CertVersion}
 use Rattle.cert_format.specs.declared.shape_fault.Key.{Key}
 use Rattle.cert_format.specs.declared.shape_fault.ShapeFault.TheVariants as shape
 use Rattle.cert_format.specs.declared.shape_fault.CertFault.{CertFault}
 use Rattle.cert_format.specs.declared.shape_fault.CertFault.TheVariants as fault
 use Rattle.cert_format.specs.Certificates.{Certificate, SurjectiveEvidence, InjectiveEvidence, SideEvidence, SumEvidence, IsSurjectiveShape, IsInjectiveShape, IsSideShape, IsSumShape, IsRankShape, IsClaim}
-use Rattle.cert_format.specs.CertificateTexts.{IsWhole, IsSigned, IsDigits, IsTailString, IsClaimValue, IsArrayOf, IsSurjectiveValue, IsInjectiveValue, IsSideValue, IsSumValue, IsRanksValue, HasSurjective, HasInjective, HasSide, HasConserving, HasRanks, HasNoOther}
+use Rattle.cert_format.specs.CertificateTexts.{IsWhole, IsSigned, IsDigits, IsTailString, IsClaimValue, IsArrayOf, IsSurjectiveValue, IsInjectiveValue, IsSideValue, IsSumValue, IsRanksValue, HasSurjective, HasInjective, HasSide, HasConserving, HasWeights, HasRanks, HasNoOther}
 use Rattle.cert_format.specs.ShapeFaults.{IsFirstWithout, Passes, part_steps}
 
 -- the members of a value; one that is no object has none
@@ -58,9 +59,9 @@ IsNear z = (negsuc 999999 ≤ℤ z) × (z ≤ℤ pos 1000000)
 abbrev pub IsFlow : Data → ℤ → Type 0
 IsFlow d z = IsSigned d z × IsNear z
 
--- an array of sets of the rule's nodes
-abbrev pub IsSetsFor : LocalRule → Data → List ℕ → Type 0
-IsSetsFor r d sets = IsArrayOf IsWhole d sets × All (λ set. set ≤ full_set r) sets
+-- an array of whole numbers up to this one
+abbrev pub AreNumbers : ℕ → Data → List ℕ → Type 0
+AreNumbers most d ns = IsArrayOf IsWhole d ns × All (λ n. n ≤ most) ns
 
 -- the number n of a window and its place c
 abbrev pub IsWindowFor : LocalRule → Data → Data → ℕ → ℕ → Type 0
@@ -74,9 +75,17 @@ IsAhead d n = IsWhole d n × (1 ≤ n) × (n ≤ 65535)
 abbrev pub IsFluxFor : LocalRule → Data → List ℤ → Type 0
 IsFluxFor r d phi = IsArrayOf IsSigned d phi × (length phi ≡ node_count r) × All IsNear phi
 
+-- a whole number of eight bits
+abbrev pub IsByte : Data → ℕ → Type 0
+IsByte d n = IsWhole d n × (n ≤ 255)
+
+-- an array with a weight for each letter
+abbrev pub IsWeightsFor : LocalRule → Data → List ℕ → Type 0
+IsWeightsFor r d weights = IsArrayOf IsWhole d weights × AreWeights r.states weights
+
 -- evidence within its limits: for surjective
-abbrev pub IsSurjectiveFor : LocalRule → Data → SurjectiveEvidence → Type 0
-IsSurjectiveFor r d e = IsSurjectiveValue d e × IsSurjectiveShape r e
+abbrev pub IsSurjectiveFor : CertVersion → LocalRule → Data → SurjectiveEvidence → Type 0
+IsSurjectiveFor version r d e = IsSurjectiveValue d e × IsSurjectiveShape version r e
 
 -- for injective
 abbrev pub IsInjectiveFor : LocalRule → Data → InjectiveEvidence → Type 0
@@ -104,14 +113,15 @@ IsStepFault k P f = (f ≡ fault.Memory alloc_error) ⊎ ((f ≡ fault.Format (s
 
 -- what the members say of each part of a certificate
 pub record AreParts (ms : Members) (c : Certificate) : Type 0 where
-  pub surjective : HasSurjective c.rule ms c.surjective
+  pub surjective : HasSurjective c.version c.rule ms c.surjective
   pub injective : HasInjective c.rule ms c.injective
   pub right : HasSide (codes "right") c.rule ms c.right
   pub left : HasSide (codes "left") c.rule ms c.left
   pub conserving : HasConserving c.rule ms c.conserving
+  pub weights : HasWeights c.version c.rule ms c.weights
   pub ranks : HasRanks c.rule ms c.forward c.backward
-  pub no_other : HasNoOther ms
+  pub no_other : HasNoOther c.version ms
 
 -- the first of the steps that fails, or there is not enough memory
-abbrev pub IsPartFault : LocalRule → Members → CertFault → Type 0
-IsPartFault r ms f = (f ≡ fault.Memory alloc_error) ⊎ ((k : Key) × (f ≡ fault.Format (shape.Shape k)) × IsFirstWithout (Passes r ms) part_steps k)
+abbrev pub IsPartFault : CertVersion → LocalRule → Members → CertFault → Type 0
+IsPartFault version r ms f = (f ≡ fault.Memory alloc_error) ⊎ ((k : Key) × (f ≡ fault.Format (shape.Shape k)) × IsFirstWithout (Passes version r ms) part_steps k)

@@ -5,6 +5,7 @@ use Rattle.serde_json.specs.Find.{as_object}
 use Rattle.word_image.specs.LocalRules.{LocalRule}
 use Rattle.rule_text.specs.RuleTexts.{IsRuleText, IsTextFault}
 use Rattle.rule_text.specs.declared.text_fault.TextFault.{TextFault}
+use Rattle.cert_format.specs.declared.cert_version.CertVersion.{CertVersion}
 use Rattle.cert_format.specs.declared.shape_fault.Key.{Key}
 use Rattle.cert_format.specs.declared.shape_fault.Key.TheVariants as key
 use Rattle.cert_format.specs.declared.shape_fault.ShapeFault.{ShapeFault}
@@ -12,24 +13,26 @@ use Rattle.cert_format.specs.declared.shape_fault.ShapeFault.TheVariants as faul
 use Rattle.cert_format.specs.declared.shape_fault.CertFault.{CertFault}
 use Rattle.cert_format.specs.declared.shape_fault.CertFault.TheVariants as cert_fault
 use Rattle.cert_format.specs.Certificates.{SurjectiveEvidence, InjectiveEvidence, SideEvidence, SumEvidence}
-use Rattle.cert_format.specs.CertificateTexts.{IsJson, IsObject, HasVersion, HasRuleText, HasSurjective, HasInjective, HasSide, HasConserving, HasRanks, HasNoOther}
+use Rattle.cert_format.specs.Versions.{number_of}
+use Rattle.cert_format.specs.CertificateTexts.{IsJson, IsObject, HasVersion, HasRuleText, HasSurjective, HasInjective, HasSide, HasConserving, HasWeights, HasRanks, HasNoOther}
 
 -- what the step of a key asks of the members, for the steps after the rule
-abbrev pub Passes : LocalRule → Members → Key → Type 0
-Passes r ms key.Top = ⊤
-Passes r ms key.Version = ⊤
-Passes r ms key.Rule = ⊤
-Passes r ms key.Surjective = (e : SurjectiveEvidence) × HasSurjective r ms e
-Passes r ms key.Injective = (e : InjectiveEvidence) × HasInjective r ms e
-Passes r ms key.Right = (e : SideEvidence) × HasSide (codes "right") r ms e
-Passes r ms key.Left = (e : SideEvidence) × HasSide (codes "left") r ms e
-Passes r ms key.Conserving = (e : SumEvidence) × HasConserving r ms e
-Passes r ms key.Ranks = (forward backward : List (Option ℕ)) × HasRanks r ms forward backward
-Passes r ms key.Unknown = HasNoOther ms
+abbrev pub Passes : CertVersion → LocalRule → Members → Key → Type 0
+Passes version r ms key.Top = ⊤
+Passes version r ms key.Version = ⊤
+Passes version r ms key.Rule = ⊤
+Passes version r ms key.Surjective = (e : SurjectiveEvidence) × HasSurjective version r ms e
+Passes version r ms key.Injective = (e : InjectiveEvidence) × HasInjective r ms e
+Passes version r ms key.Right = (e : SideEvidence) × HasSide (codes "right") r ms e
+Passes version r ms key.Left = (e : SideEvidence) × HasSide (codes "left") r ms e
+Passes version r ms key.Conserving = (e : SumEvidence) × HasConserving r ms e
+Passes version r ms key.Weights = (weights : List ℕ) × HasWeights version r ms weights
+Passes version r ms key.Ranks = (forward backward : List (Option ℕ)) × HasRanks r ms forward backward
+Passes version r ms key.Unknown = HasNoOther version ms
 
 -- these steps in their order
 abbrev pub part_steps : List Key
-part_steps = key.Surjective ∷ key.Injective ∷ key.Right ∷ key.Left ∷ key.Conserving ∷ key.Ranks ∷ key.Unknown ∷ []
+part_steps = key.Surjective ∷ key.Injective ∷ key.Right ∷ key.Left ∷ key.Conserving ∷ key.Weights ∷ key.Ranks ∷ key.Unknown ∷ []
 
 -- the first of a list of which P isn't true
 pub record IsFirstWithout {A : Type 0} (P : A → Type 0) (xs : List A) (x : A) : Type 0 where
@@ -40,17 +43,17 @@ pub record IsFirstWithout {A : Type 0} (P : A → Type 0) (xs : List A) (x : A) 
   pub fails : ¬ P x
 
 -- the bytes have no shape of a certificate, and this is the first step that they fail: they are no JSON, no object, have
--- no version or another one, no rule or one with a fault, or a later step fails
+-- no version or an unknown one, no rule or one with a fault, or a later step fails
 pub data IsShapeFault (bytes : List ℕ) : ShapeFault → Type 0 where
   NoJson : ((d : Data) → ¬ IsJson bytes d) → IsShapeFault bytes fault.NotJson
   NoObject : (d : Data) → IsJson bytes d → as_object d ≡ None → IsShapeFault bytes (fault.Shape key.Top)
   NoVersion : (ms : Members) → IsObject bytes ms → ((v : ℕ) → ¬ HasVersion ms v) → IsShapeFault bytes (fault.Shape key.Version)
-  OtherVersion : (ms : Members) (v : ℕ) → IsObject bytes ms → HasVersion ms v → v ≢ 1 → IsShapeFault bytes (fault.Version v)
-  NoRule : (ms : Members) → IsObject bytes ms → HasVersion ms 1 → ((text : List ℕ) → ¬ HasRuleText ms text) → IsShapeFault bytes (fault.Shape key.Rule)
-  BadRule : (ms : Members) (text : List ℕ) → IsObject bytes ms → HasVersion ms 1 → HasRuleText ms text
+  OtherVersion : (ms : Members) (v : ℕ) → IsObject bytes ms → HasVersion ms v → ((version : CertVersion) → v ≢ number_of version) → IsShapeFault bytes (fault.Version v)
+  NoRule : (ms : Members) (version : CertVersion) → IsObject bytes ms → HasVersion ms (number_of version) → ((text : List ℕ) → ¬ HasRuleText ms text) → IsShapeFault bytes (fault.Shape key.Rule)
+  BadRule : (ms : Members) (version : CertVersion) (text : List ℕ) → IsObject bytes ms → HasVersion ms (number_of version) → HasRuleText ms text
       → (f : TextFault) → IsTextFault text f → IsShapeFault bytes (fault.Rule f)
-  BadPart : (ms : Members) (text : List ℕ) (r : LocalRule) (k : Key) → IsObject bytes ms → HasVersion ms 1 → HasRuleText ms text
-      → IsRuleText text r → IsFirstWithout (Passes r ms) part_steps k → IsShapeFault bytes (fault.Shape k)
+  BadPart : (ms : Members) (version : CertVersion) (text : List ℕ) (r : LocalRule) (k : Key) → IsObject bytes ms → HasVersion ms (number_of version) → HasRuleText ms text
+      → IsRuleText text r → IsFirstWithout (Passes version r ms) part_steps k → IsShapeFault bytes (fault.Shape k)
 
 -- why the bytes give no certificate: want of memory, or their first fault
 abbrev pub IsCertFault : List ℕ → CertFault → Type 0

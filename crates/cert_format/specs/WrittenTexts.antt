@@ -1,15 +1,18 @@
 -- The text that is written for a certificate.
-use Rattle.std.specs.Prelude.{ℕ, List, [], ◌∷◌, map, codes, Option, Some, None, ℤ}
+use Rattle.std.specs.Prelude.{ℕ, List, [], ◌∷◌, map, codes, Option, Some, None, ℤ, bytes_eq, if◌then◌else◌}
 use Rattle.serde_json.specs.Data.{Data, null, number, string, array, object, unsigned, Members, no_members, member}
 use Rattle.serde_json.specs.Find.{of_integer}
 use Rattle.serde_json.specs.View.{items_of}
 use Rattle.serde_json.specs.Written.{compact_text}
+use Rattle.word_image.specs.LocalRules.{LocalRule}
+use Rattle.word_image.specs.Weights.{own_weights}
 use Rattle.word_image.specs.Digits.{lower_digit}
 use Rattle.tail_config.specs.Tails.{TailConfig}
 use Rattle.tail_config.specs.TailTexts as tail
 use Rattle.rule_text.specs.RuleTexts.{printed}
 use Rattle.cert_format.specs.Certificates.{Certificate, SurjectiveEvidence, InjectiveEvidence, SideEvidence, SumEvidence}
-use Rattle.cert_format.specs.Certificates.SurjectiveEvidence.{Sets, Orphan}
+use Rattle.cert_format.specs.Versions.{number_of}
+use Rattle.cert_format.specs.Certificates.SurjectiveEvidence.{Sets, Pairs, Orphan}
 use Rattle.cert_format.specs.Certificates.InjectiveEvidence.{Window, Twins}
 use Rattle.cert_format.specs.Certificates.SideEvidence.{Ahead, Split}
 use Rattle.cert_format.specs.Certificates.SumEvidence.{Flux, Ring}
@@ -43,9 +46,10 @@ claim_value (Some n) = whole_value n
 abbrev pub only : List ℕ → Data → Data
 only k d = object (member k d no_members)
 
--- {"sets":[..]} or {"orphan":".."}
+-- {"sets":[..]}, {"pairs":[..]} or {"orphan":".."}
 abbrev pub surjective_value : SurjectiveEvidence → Data
 surjective_value (Sets sets) = only (codes "sets") (array_from (map whole_value sets))
+surjective_value (Pairs pairs) = only (codes "pairs") (array_from (map whole_value pairs))
 surjective_value (Orphan w) = only (codes "orphan") (word_value w)
 
 -- {"c":C,"n":N} or {"twins":["..",".."]}
@@ -68,9 +72,13 @@ abbrev pub ranks_value : List (Option ℕ) → List (Option ℕ) → Data
 ranks_value forward backward =
     object (member (codes "backward") (array_from (map claim_value backward)) (member (codes "forward") (array_from (map claim_value forward)) no_members))
 
--- the members that are written for a certificate
-abbrev pub certificate_members : Certificate → Members
-certificate_members c =
+-- the weights, where they aren't the own ones
+abbrev pub weights_members : LocalRule → List ℕ → Members
+weights_members r weights = if bytes_eq weights (own_weights r.states) then no_members else member (codes "weights") (array_from (map whole_value weights)) no_members
+
+-- the members of each certificate, and these after them
+abbrev pub members_before : Members → Certificate → Members
+members_before rest c =
     member (codes "conserving") (sum_value c.conserving)
     (member (codes "injective") (injective_value c.injective)
     (member (codes "left") (side_value c.left)
@@ -78,7 +86,11 @@ certificate_members c =
     (member (codes "right") (side_value c.right)
     (member (codes "rule") (string (printed c.rule))
     (member (codes "surjective") (surjective_value c.surjective)
-    (member (codes "version") (whole_value 1) no_members)))))))
+    (member (codes "version") (whole_value (number_of c.version)) rest)))))))
+
+-- the members that are written for a certificate
+abbrev pub certificate_members : Certificate → Members
+certificate_members c = members_before (weights_members c.rule c.weights) c
 
 -- the value that is written for a certificate
 abbrev pub certificate_value : Certificate → Data

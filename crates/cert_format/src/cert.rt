@@ -1,12 +1,15 @@
 //! A certificate, each part of which is within its limits.
+use crate::cert_version::CertVersion;
 use crate::parts::{InjectivePart, SidePart, SumPart, SurjectivePart};
 use std::marker::Model;
-use word_image::{RankRow, Rule};
+use word_image::{RankRow, Rule, Weights};
 
 /// A certificate of a rule: what it claims, with the evidence, each part within its limits. The
 /// claims aren't checked.
 #[derive(Debug, Drop)]
 pub struct Cert {
+    /// By which conditions it is judged.
+    pub version: CertVersion,
     /// The rule that it speaks of.
     pub rule: Rule,
     /// Whether the rule is surjective: sets of its nodes, or a word over its letters.
@@ -19,6 +22,8 @@ pub struct Cert {
     pub left: SidePart,
     /// Whether it conserves: a flux of at most a million either way for each node, or a word.
     pub conserving: SumPart,
+    /// What each letter weighs where sums are taken; in version One its own value.
+    pub weights: Weights,
     /// For each pair of nodes a bound of how many letters it shares to the right.
     pub forward: RankRow,
     /// For each pair of nodes a bound of how many letters it shares to the left.
@@ -32,12 +37,14 @@ impl Model for Cert {
     ghost Value = { Certificate };
 
     ghost view = { λ c. record {
+      version = c.version;
       rule = c.rule;
       surjective = surjective_of c.surjective;
       injective = injective_of c.injective;
       right = side_of c.right;
       left = side_of c.left;
       conserving = sum_of c.conserving;
+      weights = c.weights;
       forward = c.forward;
       backward = c.backward;
     } };
@@ -45,12 +52,14 @@ impl Model for Cert {
     ghost invariant = { λ c. IsOver (c.rule).states c.right
         × IsOver (c.rule).states c.left
         × IsShaped (record {
+          version = c.version;
           rule = c.rule;
           surjective = surjective_of c.surjective;
           injective = injective_of c.injective;
           right = side_of c.right;
           left = side_of c.left;
           conserving = sum_of c.conserving;
+          weights = c.weights;
           forward = c.forward;
           backward = c.backward;
         }) };

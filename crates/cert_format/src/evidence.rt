@@ -1,12 +1,13 @@
 //! The evidence of each question, which is an object.
-ghost use Rattle.std.specs.Prelude.{◌≡◌, ℕ, ◌-◌, ◌^◌, ◌≤◌, ◌↔◌, List, Option, ℤ, codes, length, All, IfOk, IfErr, IfSome, IfNone, IsTrue};
+ghost use Rattle.std.specs.Prelude.{◌≡◌, ℕ, ◌+◌, ◌-◌, ◌^◌, ◌≤◌, ◌↔◌, List, Option, ℤ, codes, length, All, IfOk, IfErr, IfSome, IfNone, IsTrue};
 ghost use Rattle.serde_json.specs.View.{view};
 ghost use Rattle.word_image.specs.LocalRules.{node_count};
-ghost use Rattle.word_image.specs.Graphs.{full_set};
+ghost use Rattle.word_image.specs.Graphs.{full_set, pair_count};
 ghost use Rattle.cert_format.specs.Certificates.{SurjectiveEvidence, InjectiveEvidence, SideEvidence, SumEvidence};
 ghost use Rattle.cert_format.specs.Parts.{surjective_of, injective_of, side_of, sum_of, IsOver};
-ghost use Rattle.cert_format.specs.Readings.{IsSetsFor, IsWindowFor, IsAhead, IsFluxFor, IsRowFor, IsSurjectiveFor, IsInjectiveFor, IsSideFor, IsSumFor, AreRanksFor};
+ghost use Rattle.cert_format.specs.Readings.{AreNumbers, IsWindowFor, IsAhead, IsFluxFor, IsWeightsFor, IsRowFor, IsSurjectiveFor, IsInjectiveFor, IsSideFor, IsSumFor, AreRanksFor};
 
+use crate::cert_version::CertVersion;
 use crate::items::{Item, array};
 use crate::members::{only, only_both};
 use crate::misread::Misread;
@@ -14,16 +15,29 @@ use crate::parts::{InjectivePart, SidePart, SumPart, SurjectivePart};
 use crate::words::{tails, word, words};
 use serde_json::Value;
 use std::alloc::Global;
-use word_image::{FluxRow, RankRow, Rule, SetList};
+use word_image::{FluxRow, RankRow, Rule, SetList, Weights};
 
-/// The evidence of `{"sets":[..]}` or `{"orphan":".."}`.
-pub fn surjective(alloc: Global, rule: &Rule, value: &Value) -> Result<SurjectivePart, Misread>
-    ensures part { IfOk result (λ p. IsSurjectiveFor rule.now (view value.now) (surjective_of p)) }
+/// The evidence of `{"sets":[..]}` or `{"orphan":".."}`, or of `{"pairs":[..]}` where the version
+/// lists pairs.
+pub fn surjective(
+    alloc: Global,
+    version: CertVersion,
+    rule: &Rule,
+    value: &Value,
+) -> Result<SurjectivePart, Misread>
+    ensures part { IfOk result (λ p. IsSurjectiveFor version rule.now (view value.now) (surjective_of p)) }
     ensures none { IfErr result (λ f. f ≡ Misread.Shape
-        → (e : SurjectiveEvidence) → ¬ IsSurjectiveFor rule.now (view value.now) e) }
+        → (e : SurjectiveEvidence) → ¬ IsSurjectiveFor version rule.now (view value.now) e) }
 {
     if let Some(listed) = only(value, "sets") {
-        return Ok(SurjectivePart::Sets(sets(alloc, rule, listed)?));
+        let sets = numbers(alloc, full(rule), listed)?;
+        return Ok(SurjectivePart::Sets(sets));
+    }
+    if version.lists_pairs() {
+        if let Some(listed) = only(value, "pairs") {
+            let pairs = numbers(alloc, last_pair(rule), listed)?;
+            return Ok(SurjectivePart::Pairs(pairs));
+        }
     }
     let Some(orphan) = only(value, "orphan") else {
         return Err(Misread::Shape);
@@ -31,18 +45,24 @@ pub fn surjective(alloc: Global, rule: &Rule, value: &Value) -> Result<Surjectiv
     Ok(SurjectivePart::Orphan(word(alloc, rule.k(), orphan)?))
 }
 
-/// The sets of the rule's nodes that an array lists.
-fn sets(alloc: Global, rule: &Rule, value: &Value) -> Result<SetList, Misread>
-    ensures sets { IfOk result (IsSetsFor rule.now (view value.now)) }
+/// The numbers of an array, each at most this one.
+fn numbers(alloc: Global, most: u16, value: &Value) -> Result<SetList, Misread>
+    ensures numbers { IfOk result (AreNumbers most (view value.now)) }
     ensures none { IfErr result (λ f. f ≡ Misread.Shape
-        → (sets : List ℕ) → ¬ IsSetsFor rule.now (view value.now) sets) }
+        → (ns : List ℕ) → ¬ AreNumbers most (view value.now) ns) }
 {
-    let most = full(rule);
-    let sets: Vec<u16> = array(alloc, value)?;
-    if !are_within(most, &sets) {
+    let numbers: Vec<u16> = array(alloc, value)?;
+    if !are_within(most, &numbers) {
         return Err(Misread::Shape);
     }
-    Ok(SetList::of(sets))
+    Ok(SetList::of(numbers))
+}
+
+/// The greatest pair of nodes of a rule.
+fn last_pair(rule: &Rule) -> u16
+    ensures { result + 1 ≡ pair_count rule.now }
+{
+    u16::from(rule.nodes()) * u16::from(rule.nodes()) - 1
 }
 
 /// The set of all nodes of a rule.
@@ -158,6 +178,19 @@ fn flux(alloc: Global, rule: &Rule, value: &Value) -> Result<FluxRow, Misread>
         return Err(Misread::Shape);
     }
     Ok(FluxRow::of(flows))
+}
+
+/// A weight for each letter of a rule.
+pub fn weights(alloc: Global, rule: &Rule, value: &Value) -> Result<Weights, Misread>
+    ensures weights { IfOk result (IsWeightsFor rule.now (view value.now)) }
+    ensures none { IfErr result (λ f. f ≡ Misread.Shape
+        → (weights : List ℕ) → ¬ IsWeightsFor rule.now (view value.now) weights) }
+{
+    let numbers: Vec<u8> = array(alloc, value)?;
+    match Weights::new(rule.k(), &numbers) {
+        Ok(weights) => Ok(weights),
+        Err(_) => Err(Misread::Shape),
+    }
 }
 
 /// The claims of `{"backward":[..],"forward":[..]}`, the forward ones first.

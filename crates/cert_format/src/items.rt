@@ -3,7 +3,7 @@ ghost use Rattle.std.specs.Prelude.{◌≡◌, ◌≢◌, List, IfOk, IfErr, IfS
 ghost use Rattle.serde_json.specs.Data.{Data, array, item, no_items};
 ghost use Rattle.serde_json.specs.View.{view};
 ghost use Rattle.cert_format.specs.CertificateTexts.{IsArrayOf};
-ghost use Rattle.cert_format.specs.Readings.{IsShort, IsRank, IsFlow};
+ghost use Rattle.cert_format.specs.Readings.{IsByte, IsShort, IsRank, IsFlow};
 
 use crate::misread::Misread;
 use serde_json::Value;
@@ -17,6 +17,17 @@ pub trait Item: Sized {
     fn read(value: &Value) -> Option<Self>
         ensures some { IfSome result (is_item (view value.now)) }
         ensures none { IfNone result ((x : Self) → ¬ is_item (view value.now) x) };
+}
+
+impl Item for u8 {
+    ghost is_item = { IsByte };
+
+    fn read(value: &Value) -> Option<u8> {
+        match value.as_u64() {
+            Some(number) if number <= 255 => Some(number as u8),
+            _ => None,
+        }
+    }
 }
 
 impl Item for u16 {

@@ -11,9 +11,13 @@
 //! | `right`, `left` | `{"ahead":A}`, a look-ahead from 1 on | `{"split":[TAIL,TAIL]}` |
 //! | `conserving` | `{"flux":[..]}`, a number of at most a million either way for each node | `{"ring":WORD}` |
 //!
-//! `version` is 1, `rule` is a text of the rule, and `ranks` is `{"backward":[..],"forward":[..]}`,
-//! in each a number or `null` for each pair of nodes. All numbers are below 2^16, a WORD is a
-//! string of hexadecimal digits, and a TAIL is the text of a configuration over the rule's letters.
+//! `version` is 1, 2 or 3, `rule` is a text of the rule, and `ranks` is `{"backward":[..],"forward":[..]}`,
+//! in each a number or `null` for each pair of nodes. From version 2 on `weights` may stand: an array
+//! with a number from 0 to 255 for each letter, by which it counts in a sum; else it counts by its own
+//! value. In version 3 `surjective` may be `{"pairs":[..]}` too, where pair (u, v) is u N + v. All
+//! numbers are below 2^16, a WORD is a string of hexadecimal digits, and a TAIL is the text of a
+//! configuration over the rule's letters.
+//!
 //! The shift to the left by one cell has this certificate, here in two lines:
 //!
 //! ```text
@@ -22,15 +26,16 @@
 //! ```
 //!
 //! `from_bytes` reads whatever JSON has such a value, and else gives the first fault, in the order
-//! JSON, object, version, rule, surjective, injective, right, left, conserving, ranks, and other
-//! keys. `to_bytes` writes it with ascending keys and no blanks. Whether the claims are true is
-//! tested by the crate `cert_check`.
+//! JSON, object, version, rule, surjective, injective, right, left, conserving, weights, ranks, and
+//! other keys. `to_bytes` writes it with ascending keys and no blanks, and the weights only where they
+//! aren't the letters' own values. Whether the claims are true is tested by the crate `cert_check`.
 //!
 //! Reading n bytes takes time O(n log n), by the map that an object is, and O(n) for the lists in
 //! it; both calls take space O(n).
 #![tactic(auto)]
 
 mod cert;
+mod cert_version;
 mod evidence;
 mod items;
 mod members;
@@ -45,6 +50,7 @@ mod words;
 mod writing;
 
 pub use cert::Cert;
+pub use cert_version::CertVersion;
 pub use parts::{InjectivePart, SidePart, SumPart, SurjectivePart};
 pub use reading::from_bytes;
 pub use shape_fault::{CertFault, Key, ShapeFault};

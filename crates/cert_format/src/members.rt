@@ -4,12 +4,13 @@ ghost use Rattle.std.specs.Option.{option_map};
 ghost use Rattle.serde_json.specs.Data.{Data};
 ghost use Rattle.serde_json.specs.Find.{get_member};
 ghost use Rattle.serde_json.specs.View.{view};
-ghost use Rattle.cert_format.specs.CertificateTexts.{HasOnly, HasOnlyBoth, HasNoOther, keys};
+ghost use Rattle.cert_format.specs.CertificateTexts.{HasOnly, HasOnlyBoth, HasNoOther, keys_of};
 ghost use Rattle.cert_format.specs.Readings.{members_in};
 
+use crate::cert_version::CertVersion;
 use serde_json::Value;
 
-/// The keys of a certificate.
+/// The keys of each certificate.
 const KEYS: [&str; 8] = [
     "conserving",
     "injective",
@@ -64,15 +65,15 @@ pub fn only_both<'a>(value: &'a Value, first: &str, second: &str) -> Option<(&'a
     None
 }
 
-/// Whether an object has no other keys than those of a certificate.
-pub fn has_no_other(value: &Value) -> bool
-    ensures { IsTrue result ↔ HasNoOther (members_in (view value.now)) }
+/// Whether an object has no other keys than those of a certificate of this version.
+pub fn has_no_other(version: CertVersion, value: &Value) -> bool
+    ensures { IsTrue result ↔ HasNoOther version (members_in (view value.now)) }
 {
     let Some(members) = value.as_object() else {
         return true;
     };
     for key in members.keys() {
-        if !is_key(key) {
+        if !is_key(version, key) {
             return false;
         }
     }
@@ -86,9 +87,9 @@ fn is_named(name: &String, key: &str) -> bool
     name.as_str() == key
 }
 
-/// Whether a name is a key of a certificate.
-fn is_key(name: &String) -> bool
-    ensures { IsTrue result ↔ Contains keys (string_bytes name.now) }
+/// Whether a name is a key of a certificate of this version.
+fn is_key(version: CertVersion, name: &String) -> bool
+    ensures { IsTrue result ↔ Contains (keys_of version) (string_bytes name.now) }
 {
-    KEYS.contains(&name.as_str())
+    KEYS.contains(&name.as_str()) || version.names_weights() && is_named(name, "weights")
 }

@@ -7,6 +7,8 @@ use word_image::{FluxRow, SetList, Word};
 pub enum SurjectivePart {
     /// It is, by these sets of nodes, in which node u is bit u.
     Sets(SetList),
+    /// It is, by these pairs of nodes, of which pair (u, v) is u N + v.
+    Pairs(SetList),
     /// It isn't, since this word has no preimage.
     Orphan(Word),
 }

@@ -1,25 +1,26 @@
 //! From bytes to the certificate that they are.
-ghost use Rattle.std.specs.Prelude.{◌≡◌, ℕ, ◌⊎◌, List, alloc_error, codes, IfOk, IfErr, IfSome, IfNone, OnOk, OnErr};
+ghost use Rattle.std.specs.Prelude.{◌≡◌, ℕ, ◌⊎◌, List, alloc_error, codes, IfOk, IfErr, IfSome, IfNone};
 ghost use Rattle.serde_json.specs.View.{view};
 ghost use Rattle.word_image.specs.LocalRules.{IsRule};
 ghost use Rattle.rule_text.specs.RuleTexts.{IsRuleText};
 ghost use Rattle.cert_format.specs.Certificates.{Certificate};
+ghost use Rattle.cert_format.specs.Versions.{number_of};
 ghost use Rattle.cert_format.specs.CertificateTexts.{IsCertificateText, IsObject, HasVersion, HasRuleText};
 ghost use Rattle.cert_format.specs.declared.shape_fault.ShapeFault.{ShapeFault};
 ghost use Rattle.cert_format.specs.ShapeFaults.{IsShapeFault, IsCertFault};
 ghost use Rattle.cert_format.specs.Readings.{members_in, AreParts, IsPartFault};
 
 use crate::cert::Cert;
+use crate::cert_version::CertVersion;
 use crate::members::{has_no_other, member};
 use crate::shape_fault::{CertFault, Key, ShapeFault};
-use crate::steps::{conserving_step, injective_step, ranks_step, side_step, surjective_step};
+use crate::steps::{
+    conserving_step, injective_step, ranks_step, side_step, surjective_step, weights_step,
+};
 use rule_text::parse;
 use serde_json::Value;
 use std::alloc::{AllocError, Global};
 use word_image::Rule;
-
-/// The version of the certificates that are read.
-const VERSION: u64 = 1;
 
 /// The certificate that bytes are the text of; else the first fault of their shape. The bytes are
 /// any that `serde_json` reads as the certificate's value: with blanks, the keys in any order, and
@@ -41,11 +42,11 @@ fn read_certificate(alloc: Global, bytes: &[u8]) -> Result<Cert, CertFault>
     ensures fault { IfErr result (IsCertFault bytes.now) }
 {
     let value = read_object(alloc, bytes)?;
-    let rule = match read_rule(&value) {
-        Ok(rule) => rule,
+    let (version, rule) = match read_head(&value) {
+        Ok(head) => head,
         Err(fault) => return Err(CertFault::Format(fault)),
     };
-    read_parts(alloc, rule, &value)
+    read_parts(alloc, version, rule, &value)
 }
 
 /// The JSON object that bytes are.
@@ -64,40 +65,40 @@ fn read_object(alloc: Global, bytes: &[u8]) -> Result<Value, CertFault>
     Ok(value)
 }
 
-/// The rule of a certificate of the first version.
-fn read_rule(value: &Value) -> Result<Rule, ShapeFault>
-    ensures version { OnOk result (HasVersion (members_in (view value.now)) 1) }
-    ensures rule { IfOk result (λ r. (text : List ℕ)
-        × HasRuleText (members_in (view value.now)) text × IsRuleText text r) }
+/// The version of a certificate, and its rule.
+fn read_head(value: &Value) -> Result<(CertVersion, Rule), ShapeFault>
+    ensures version { IfOk result (λ h. HasVersion (members_in (view value.now)) (number_of h.0)) }
+    ensures rule { IfOk result (λ h. (text : List ℕ)
+        × HasRuleText (members_in (view value.now)) text × IsRuleText text h.1) }
     ensures fault { (bytes : List ℕ) → IsObject bytes (members_in (view value.now))
         → IfErr result (IsShapeFault bytes) }
 {
-    check_version(value)?;
+    let version = read_version(value)?;
     let Some(text) = rule_text(value) else {
         return Err(ShapeFault::Shape(Key::Rule));
     };
     match parse(text.as_bytes()) {
-        Ok(rule) => Ok(rule),
+        Ok(rule) => Ok((version, rule)),
         Err(fault) => Err(ShapeFault::Rule(fault)),
     }
 }
 
-/// Whether the version is the one that is read.
-fn check_version(value: &Value) -> Result<(), ShapeFault>
-    ensures version { OnOk result (HasVersion (members_in (view value.now)) 1) }
+/// The version of a certificate.
+fn read_version(value: &Value) -> Result<CertVersion, ShapeFault>
+    ensures version { IfOk result (λ v. HasVersion (members_in (view value.now)) (number_of v)) }
     ensures fault { (bytes : List ℕ) → IsObject bytes (members_in (view value.now))
         → IfErr result (IsShapeFault bytes) }
 {
-    let Some(version) = version(value) else {
+    let Some(number) = version(value) else {
         return Err(ShapeFault::Shape(Key::Version));
     };
-    if version != VERSION {
-        return Err(ShapeFault::Version(version));
+    match CertVersion::of(number) {
+        Some(version) => Ok(version),
+        None => Err(ShapeFault::Version(number)),
     }
-    Ok(())
 }
 
-/// The version, where it is a whole number.
+/// The number of the version, where it is a whole number.
 fn version(value: &Value) -> Option<u64>
     ensures some { IfSome result (HasVersion (members_in (view value.now))) }
     ensures none { IfNone result ((v : ℕ) → ¬ HasVersion (members_in (view value.now)) v) }
@@ -115,28 +116,37 @@ fn rule_text(value: &Value) -> Option<&str>
 }
 
 /// The certificate with the parts of an object, step by step.
-fn read_parts(alloc: Global, rule: Rule, value: &Value) -> Result<Cert, CertFault>
+fn read_parts(
+    alloc: Global,
+    version: CertVersion,
+    rule: Rule,
+    value: &Value,
+) -> Result<Cert, CertFault>
     requires { IsRule rule }
+    ensures version { IfOk result (λ c. c.version ≡ version) }
     ensures rule { IfOk result (λ c. c.rule ≡ rule) }
     ensures parts { IfOk result (AreParts (members_in (view value.now))) }
-    ensures fault { IfErr result (IsPartFault rule (members_in (view value.now))) }
+    ensures fault { IfErr result (IsPartFault version rule (members_in (view value.now))) }
 {
-    let surjective = surjective_step(alloc, &rule, value)?;
+    let surjective = surjective_step(alloc, version, &rule, value)?;
     let injective = injective_step(alloc, &rule, value)?;
     let right = side_step(alloc, &rule, value, Key::Right, "right")?;
     let left = side_step(alloc, &rule, value, Key::Left, "left")?;
     let conserving = conserving_step(alloc, &rule, value)?;
+    let weights = weights_step(alloc, version, &rule, value)?;
     let (forward, backward) = ranks_step(alloc, &rule, value)?;
-    if !has_no_other(value) {
+    if !has_no_other(version, value) {
         return Err(CertFault::Format(ShapeFault::Shape(Key::Unknown)));
     }
     Ok(Cert {
+        version,
         rule,
         surjective,
         injective,
         right,
         left,
         conserving,
+        weights,
         forward,
         backward,
     })

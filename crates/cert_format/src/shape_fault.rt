@@ -22,6 +22,8 @@ pub enum Key {
     Left,
     /// Whether it conserves the sum of its cells.
     Conserving,
+    /// What each letter weighs.
+    Weights,
     /// The ranks of all pairs of nodes.
     Ranks,
     /// A key that no certificate has.

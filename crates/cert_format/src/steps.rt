@@ -1,36 +1,37 @@
 //! The steps of reading a certificate's parts: the member of a key, and the evidence that it is.
-ghost use Rattle.std.specs.Prelude.{◌≡◌, ℕ, codes, IfOk, IfErr};
+ghost use Rattle.std.specs.Prelude.{◌≡◌, ℕ, List, Option, codes, IfOk, IfErr};
 ghost use Rattle.serde_json.specs.View.{view};
-ghost use Rattle.cert_format.specs.Certificates.{SideEvidence};
-ghost use Rattle.cert_format.specs.CertificateTexts.{HasSurjective, HasInjective, HasSide, HasConserving, HasRanks};
-ghost use Rattle.cert_format.specs.ShapeFaults.{Passes};
+ghost use Rattle.cert_format.specs.Certificates.{SurjectiveEvidence, InjectiveEvidence, SideEvidence, SumEvidence};
+ghost use Rattle.cert_format.specs.CertificateTexts.{HasSurjective, HasInjective, HasSide, HasConserving, HasWeights, HasRanks};
 ghost use Rattle.cert_format.specs.Parts.{surjective_of, injective_of, side_of, sum_of, IsOver};
 ghost use Rattle.cert_format.specs.Readings.{members_in, IsStepFault};
 
-use crate::evidence::{conserving, injective, ranks, side, surjective};
+use crate::cert_version::CertVersion;
+use crate::evidence::{conserving, injective, ranks, side, surjective, weights};
 use crate::members::member;
 use crate::misread::Misread;
 use crate::parts::{InjectivePart, SidePart, SumPart, SurjectivePart};
 use crate::shape_fault::{CertFault, Key};
 use serde_json::Value;
 use std::alloc::Global;
-use word_image::{RankRow, Rule};
+use word_image::{RankRow, Rule, Weights};
 
 /// Whether the rule is surjective.
 pub fn surjective_step(
     alloc: Global,
+    version: CertVersion,
     rule: &Rule,
     value: &Value,
 ) -> Result<SurjectivePart, CertFault>
     ensures part { IfOk result (λ p.
-        HasSurjective rule.now (members_in (view value.now)) (surjective_of p)) }
+        HasSurjective version rule.now (members_in (view value.now)) (surjective_of p)) }
     ensures fault { IfErr result (IsStepFault Key.Surjective
-        (Passes rule.now (members_in (view value.now)) Key.Surjective)) }
+        ((e : SurjectiveEvidence) × HasSurjective version rule.now (members_in (view value.now)) e)) }
 {
     let Some(part) = member(value, "surjective") else {
         return Err(Misread::Shape.at(Key::Surjective));
     };
-    match surjective(alloc, rule, part) {
+    match surjective(alloc, version, rule, part) {
         Ok(part) => Ok(part),
         Err(fault) => Err(fault.at(Key::Surjective)),
     }
@@ -41,7 +42,7 @@ pub fn injective_step(alloc: Global, rule: &Rule, value: &Value) -> Result<Injec
     ensures part { IfOk result (λ p.
         HasInjective rule.now (members_in (view value.now)) (injective_of p)) }
     ensures fault { IfErr result (IsStepFault Key.Injective
-        (Passes rule.now (members_in (view value.now)) Key.Injective)) }
+        ((e : InjectiveEvidence) × HasInjective rule.now (members_in (view value.now)) e)) }
 {
     let Some(part) = member(value, "injective") else {
         return Err(Misread::Shape.at(Key::Injective));
@@ -80,7 +81,7 @@ pub fn conserving_step(alloc: Global, rule: &Rule, value: &Value) -> Result<SumP
     ensures part { IfOk result (λ p.
         HasConserving rule.now (members_in (view value.now)) (sum_of p)) }
     ensures fault { IfErr result (IsStepFault Key.Conserving
-        (Passes rule.now (members_in (view value.now)) Key.Conserving)) }
+        ((e : SumEvidence) × HasConserving rule.now (members_in (view value.now)) e)) }
 {
     let Some(part) = member(value, "conserving") else {
         return Err(Misread::Shape.at(Key::Conserving));
@@ -88,6 +89,29 @@ pub fn conserving_step(alloc: Global, rule: &Rule, value: &Value) -> Result<SumP
     match conserving(alloc, rule, part) {
         Ok(part) => Ok(part),
         Err(fault) => Err(fault.at(Key::Conserving)),
+    }
+}
+
+/// What each letter weighs: its own value where the version names no weights or none are named.
+pub fn weights_step(
+    alloc: Global,
+    version: CertVersion,
+    rule: &Rule,
+    value: &Value,
+) -> Result<Weights, CertFault>
+    ensures weights { IfOk result (HasWeights version rule.now (members_in (view value.now))) }
+    ensures fault { IfErr result (IsStepFault Key.Weights
+        ((weights : List ℕ) × HasWeights version rule.now (members_in (view value.now)) weights)) }
+{
+    if !version.names_weights() {
+        return Ok(Weights::own(rule.k()));
+    }
+    let Some(list) = member(value, "weights") else {
+        return Ok(Weights::own(rule.k()));
+    };
+    match weights(alloc, rule, list) {
+        Ok(weights) => Ok(weights),
+        Err(fault) => Err(fault.at(Key::Weights)),
     }
 }
 
@@ -100,7 +124,8 @@ pub fn ranks_step(
     ensures rows { IfOk result (λ p.
         HasRanks rule.now (members_in (view value.now)) p.0 p.1) }
     ensures fault { IfErr result (IsStepFault Key.Ranks
-        (Passes rule.now (members_in (view value.now)) Key.Ranks)) }
+        ((forward backward : List (Option ℕ))
+        × HasRanks rule.now (members_in (view value.now)) forward backward)) }
 {
     let Some(rows) = member(value, "ranks") else {
         return Err(Misread::Shape.at(Key::Ranks));

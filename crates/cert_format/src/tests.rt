@@ -54,13 +54,13 @@ fn joined(alloc: Global, parts: &[&str]) -> Result<Vec<u8>, AllocError> {
 fn sets(part: &SurjectivePart) -> &[u16] {
     match part {
         SurjectivePart::Sets(sets) => sets.as_slice(),
-        SurjectivePart::Orphan(_) => &[],
+        SurjectivePart::Pairs(_) | SurjectivePart::Orphan(_) => &[],
     }
 }
 
 fn orphan(part: &SurjectivePart) -> &[u8] {
     match part {
-        SurjectivePart::Sets(_) => &[],
+        SurjectivePart::Sets(_) | SurjectivePart::Pairs(_) => &[],
         SurjectivePart::Orphan(word) => word.as_slice(),
     }
 }
@@ -206,8 +206,8 @@ fn bytes_that_are_no_object_of_a_version_are_refused(rt: HostRuntime) -> Result<
     refused(&rt, b"[1]", ShapeFault::Shape(Key::Top));
     refused(
         &rt,
-        b"{\"version\":1,\"version\":2}",
-        ShapeFault::Version(2),
+        b"{\"version\":1,\"version\":4}",
+        ShapeFault::Version(4),
     );
     refused(
         &rt,
@@ -290,6 +290,20 @@ fn a_part_of_another_shape_is_refused(rt: HostRuntime) -> Result<(), Fail> {
         "\"ranks\":{\"backward\":[0,0,0,0],\"forward\":[0,0,0,65536]}",
     ];
     misshapen(&rt, 3, Key::Ranks, &ranks)?;
+    let weights = [
+        "\"version\":2,\"weights\":[0]",
+        "\"version\":2,\"weights\":[0,1,2]",
+        "\"version\":2,\"weights\":[0,256]",
+        "\"version\":2,\"weights\":[0,-1]",
+        "\"version\":2,\"weights\":null",
+    ];
+    misshapen(&rt, 7, Key::Weights, &weights)?;
+    let pairs = [
+        "\"version\":2,\"surjective\":{\"pairs\":[]}",
+        "\"version\":3,\"surjective\":{\"pairs\":[4]}",
+    ];
+    misshapen(&rt, 7, Key::Surjective, &pairs)?;
+    misshapen(&rt, 7, Key::Unknown, &["\"version\":1,\"weights\":[0,2]"])?;
     Ok(())
 }
 
@@ -305,7 +319,7 @@ fn a_key_besides_is_refused_after_every_part(rt: HostRuntime) -> Result<(), Fail
 
 #[test]
 fn the_most_that_is_allowed_is_read(rt: HostRuntime) -> Result<(), Fail> {
-    let cases: [(usize, &str); 7] = [
+    let cases: [(usize, &str); 9] = [
         (6, "\"surjective\":{\"sets\":[]}"),
         (6, "\"surjective\":{\"orphan\":\"\"}"),
         (1, "\"injective\":{\"c\":65535,\"n\":65535}"),
@@ -316,6 +330,8 @@ fn the_most_that_is_allowed_is_read(rt: HostRuntime) -> Result<(), Fail> {
             3,
             "\"ranks\":{\"backward\":[0,0,0,0],\"forward\":[0,0,0,65535]}",
         ),
+        (7, "\"version\":2,\"weights\":[255,0]"),
+        (7, "\"version\":3,\"surjective\":{\"pairs\":[0,3]}"),
     ];
     for (place, part) in cases {
         from_bytes(rt.alloc(), &with_part(rt.alloc(), place, part)?)?;

@@ -1,21 +1,21 @@
 //! From a certificate to its text.
 ghost use Rattle.std.specs.Prelude.{◌≡◌, ℕ, List, codes, map, IfOk, OnOk, IsUtf8};
-ghost use Rattle.serde_json.specs.Data.{string};
-ghost use Rattle.serde_json.specs.View.{view};
+ghost use Rattle.serde_json.specs.Data.{string, no_members};
+ghost use Rattle.serde_json.specs.View.{view, members_view};
 ghost use Rattle.word_image.specs.LocalRules.{IsWord};
 ghost use Rattle.rule_text.specs.RuleTexts.{printed};
 ghost use Rattle.cert_format.specs.Certificates.{Certificate, IsShaped};
 ghost use Rattle.cert_format.specs.CertificateTexts.{IsCertificateText};
 ghost use Rattle.cert_format.specs.Parts.{side_of};
 ghost use Rattle.cert_format.specs.WrittenTexts as written;
-ghost use Rattle.cert_format.specs.WrittenTexts.{array_from, certificate_text};
+ghost use Rattle.cert_format.specs.WrittenTexts.{array_from, members_before, certificate_text};
 
 use crate::cert::Cert;
 use crate::parts::{InjectivePart, SidePart, SumPart, SurjectivePart};
 use serde_json::{Map, Value, json, put};
 use std::alloc::{AllocError, Global};
 use tail_config::Tail;
-use word_image::{FluxRow, RankRow, Rule, SetList, Word, word_text};
+use word_image::{FluxRow, RankRow, Rule, SetList, Weights, Word, word_text};
 
 /// The text of a certificate: compact JSON with ascending keys. The only error is want of memory.
 pub fn to_bytes(alloc: Global, cert: &Cert) -> Result<Vec<u8>, AllocError>
@@ -37,6 +37,19 @@ fn certificate_value(alloc: Global, cert: &Cert) -> Result<Value, AllocError>
     ensures value { IfOk result (λ v. view v ≡ written.certificate_value cert.now) }
     ensures shaped { OnOk result (IsShaped cert.now) }
 {
+    let mut members = common_members(alloc, cert)?;
+    if cert.weights.is_own() {
+        return Ok(Value::from(members));
+    }
+    let weights = weights_value(alloc, &cert.weights)?;
+    put(&mut members, alloc, "weights", weights)?;
+    Ok(Value::from(members))
+}
+
+/// The members that each certificate has.
+fn common_members(alloc: Global, cert: &Cert) -> Result<Map<String, Value>, AllocError>
+    ensures { IfOk result (λ ms. members_view ms.entries ≡ members_before no_members cert.now) }
+{
     let conserving = sum_value(alloc, cert)?;
     let injective = injective_value(alloc, cert)?;
     let left = side_value(alloc, &cert.left)?;
@@ -44,6 +57,7 @@ fn certificate_value(alloc: Global, cert: &Cert) -> Result<Value, AllocError>
     let right = side_value(alloc, &cert.right)?;
     let rule = rule_value(alloc, &cert.rule)?;
     let surjective = surjective_value(alloc, cert)?;
+    let version = Value::from(cert.version.number());
     let mut members = Map::new(alloc);
     put(&mut members, alloc, "conserving", conserving)?;
     put(&mut members, alloc, "injective", injective)?;
@@ -52,11 +66,11 @@ fn certificate_value(alloc: Global, cert: &Cert) -> Result<Value, AllocError>
     put(&mut members, alloc, "right", right)?;
     put(&mut members, alloc, "rule", rule)?;
     put(&mut members, alloc, "surjective", surjective)?;
-    put(&mut members, alloc, "version", Value::from(1u64))?;
-    Ok(Value::from(members))
+    put(&mut members, alloc, "version", version)?;
+    Ok(members)
 }
 
-/// The sets, or the word without a preimage.
+/// The sets, the pairs, or the word without a preimage.
 fn surjective_value(alloc: Global, cert: &Cert) -> Result<Value, AllocError>
     ensures { IfOk result (λ v. view v ≡ written.surjective_value (cert.now).surjective) }
 {
@@ -64,6 +78,10 @@ fn surjective_value(alloc: Global, cert: &Cert) -> Result<Value, AllocError>
         SurjectivePart::Sets(sets) => {
             let sets = sets_value(alloc, sets)?;
             json!(in alloc; {"sets": sets})
+        }
+        SurjectivePart::Pairs(pairs) => {
+            let pairs = sets_value(alloc, pairs)?;
+            json!(in alloc; {"pairs": pairs})
         }
         SurjectivePart::Orphan(word) => {
             let word = word_value(alloc, word)?;
@@ -150,6 +168,15 @@ fn flux_value(alloc: Global, flux: &FluxRow) -> Result<Value, AllocError>
 {
     let flows = flux.as_slice().iter();
     let values: Vec<Value> = flows.map(|flow| Value::from(*flow)).collect(alloc)?;
+    Ok(Value::from(values))
+}
+
+/// Weights as numbers.
+fn weights_value(alloc: Global, weights: &Weights) -> Result<Value, AllocError>
+    ensures { IfOk result (λ v. view v ≡ array_from (map written.whole_value weights.now)) }
+{
+    let weights = weights.as_slice().iter();
+    let values: Vec<Value> = weights.map(|weight| Value::from(*weight)).collect(alloc)?;
     Ok(Value::from(values))
 }
 

@@ -1,32 +1,44 @@
 -- Where a JSON value is no evidence.
-use Rattle.std.proofs.Common.{◌≡◌, ◌≢◌, sym, ap, ◌∙◌, subst, List, [], ◌∷◌, length, ℕ, ◌≤◌, ℤ, Option, arith}
+use Rattle.std.proofs.Common.{◌≡◌, ◌≢◌, sym, ap, ◌∙◌, subst, List, [], ◌∷◌, length, ℕ, ◌+◌, ◌<◌, ◌≤◌, ℤ, Option, arith}
 use Rattle.std.specs.Prelude.{codes, All}
 use Rattle.std.specs.List.{AllZip}
 use Rattle.std.proofs.lemmas.List.Elements.{All-nil, All-cons, All-head, All-tail, All-weaker}
 use Rattle.serde_json.specs.Data.{Data}
 use Rattle.word_image.specs.LocalRules.{LocalRule, node_count}
 use Rattle.word_image.specs.Graphs.{full_set, pair_count}
+use Rattle.cert_format.specs.declared.cert_version.CertVersion.{CertVersion}
 use Rattle.cert_format.specs.Certificates.{SurjectiveEvidence, InjectiveEvidence, SumEvidence, IsClaim}
-use Rattle.cert_format.specs.Certificates.SurjectiveEvidence.{Sets, Orphan}
+use Rattle.cert_format.specs.Certificates.SurjectiveEvidence.{Sets, Pairs, Orphan}
 use Rattle.cert_format.specs.Certificates.InjectiveEvidence.{Window, Twins}
 use Rattle.cert_format.specs.Certificates.SumEvidence.{Flux, Ring}
 use Rattle.cert_format.specs.CertificateTexts.{IsWhole, IsSigned, IsDigits, IsClaimValue, IsArrayOf, HasOnly, list_of}
-use Rattle.cert_format.specs.Readings.{IsWordValue, IsWordsValue, IsShort, IsRank, IsNear, IsFlow, IsSetsFor, IsFluxFor, IsRowFor, IsSurjectiveFor, IsInjectiveFor, IsSumFor}
-use Rattle.cert_format.proofs.laws.Uniqueness.{HasOnly-unique, not_both, sets_or_orphan, flux_or_ring, IsArrayOf-unique, IsWhole-unique, IsSigned-unique, IsClaimValue-unique}
+use Rattle.cert_format.specs.Readings.{IsWordValue, IsWordsValue, IsShort, IsRank, IsNear, IsFlow, AreNumbers, IsFluxFor, IsByte, IsWeightsFor, IsRowFor, IsSurjectiveFor, IsInjectiveFor, IsSumFor}
+use Rattle.cert_format.proofs.laws.Uniqueness.{HasOnly-unique, not_both, sets_or_orphan, sets_or_pairs, pairs_or_orphan, flux_or_ring, IsArrayOf-unique, IsWhole-unique, IsSigned-unique, IsClaimValue-unique}
 
 -- the values of one key are one
 at_key : (d : Data) {v u : Data} {k : List ℕ} (P : Data → Type 0) → HasOnly k v d → HasOnly k u d → P u → P v
 at_key d P p q h = subst P (sym (HasOnly-unique d p q).1) h
 
--- no evidence for surjective: the sets are none, or the orphan is
+-- no evidence for surjective: the sets are none, the pairs are, or the orphan is
 
-pub no_sets : (r : LocalRule) (d : Data) {v : Data} → HasOnly (codes "sets") v d → ((sets : List ℕ) → ¬ IsSetsFor r v sets) → (e : SurjectiveEvidence) → ¬ IsSurjectiveFor r d e
-no_sets r d only none (Sets sets) h = none sets (at_key d (λ v. IsArrayOf IsWhole v sets) only h.0.1 h.0.2, h.1)
-no_sets r d only none (Orphan w) h = sets_or_orphan d only h.0.1
+pub no_sets : (version : CertVersion) (r : LocalRule) (d : Data) {v : Data} (most : ℕ) → most ≡ full_set r → HasOnly (codes "sets") v d → ((sets : List ℕ) → ¬ AreNumbers most v sets)
+    → (e : SurjectiveEvidence) → ¬ IsSurjectiveFor version r d e
+no_sets version r d most full only none (Sets sets) h =
+    none sets (at_key d (λ v. IsArrayOf IsWhole v sets) only h.0.1 h.0.2, subst (λ m. All (λ n. n ≤ m) sets) (sym full) h.1)
+no_sets version r d most full only none (Pairs pairs) h = sets_or_pairs d only h.0.1
+no_sets version r d most full only none (Orphan w) h = sets_or_orphan d only h.0.1
 
-pub no_orphan : (r : LocalRule) (d : Data) {v : Data} → HasOnly (codes "orphan") v d → ((w : List ℕ) → ¬ IsWordValue r.states v w) → (e : SurjectiveEvidence) → ¬ IsSurjectiveFor r d e
-no_orphan r d only none (Sets sets) h = sets_or_orphan d h.0.1 only
-no_orphan r d only none (Orphan w) h = none w (at_key d (λ v. IsDigits v w) only h.0.1 h.0.2, h.1)
+pub no_pairs : (version : CertVersion) (r : LocalRule) (d : Data) {v : Data} (last : ℕ) → last + 1 ≡ pair_count r → HasOnly (codes "pairs") v d → ((pairs : List ℕ) → ¬ AreNumbers last v pairs)
+    → (e : SurjectiveEvidence) → ¬ IsSurjectiveFor version r d e
+no_pairs version r d last count only none (Sets sets) h = sets_or_pairs d h.0.1 only
+no_pairs version r d last count only none (Pairs pairs) h =
+    none pairs (at_key d (λ v. IsArrayOf IsWhole v pairs) only h.0.1 h.0.2, All-weaker (λ p. p < pair_count r) (λ n. n ≤ last) (λ n less. omega (arith, less, count)) pairs h.1.1)
+no_pairs version r d last count only none (Orphan w) h = pairs_or_orphan d only h.0.1
+
+pub no_orphan : (version : CertVersion) (r : LocalRule) (d : Data) {v : Data} → HasOnly (codes "orphan") v d → ((w : List ℕ) → ¬ IsWordValue r.states v w) → (e : SurjectiveEvidence) → ¬ IsSurjectiveFor version r d e
+no_orphan version r d only none (Sets sets) h = sets_or_orphan d h.0.1 only
+no_orphan version r d only none (Pairs pairs) h = pairs_or_orphan d h.0.1 only
+no_orphan version r d only none (Orphan w) h = none w (at_key d (λ v. IsDigits v w) only h.0.1 h.0.2, h.1)
 
 -- none for injective: the twins are none
 pub no_twins : (r : LocalRule) (d : Data) {v : Data} → HasOnly (codes "twins") v d → ((x y : List ℕ) → ¬ IsWordsValue r.states v x y) → (e : InjectiveEvidence) → ¬ IsInjectiveFor r d e
@@ -68,19 +80,18 @@ within-IsArrayOf R P d xs h = ((h.0, h.1, first_zip R P (list_of h.0) xs h.2), s
 
 -- Arrays of numbers whose limits the machine's numbers keep
 
--- sets are those of an array of short numbers that are within the set of all nodes
-pub IsSetsFor-array : (r : LocalRule) (d : Data) (most : ℕ) (xs : List ℕ) → most ≡ full_set r → IsArrayOf IsShort d xs → All (λ n. n ≤ most) xs → IsSetsFor r d xs
-IsSetsFor-array r d most xs full array all = ((within-IsArrayOf IsWhole (λ n. n ≤ 65535) d xs array).0, subst (λ m. All (λ n. n ≤ m) xs) full all)
+-- numbers are those of an array of short ones, up to a short one
+pub AreNumbers-array : (d : Data) (most : ℕ) (xs : List ℕ) → IsArrayOf IsShort d xs → All (λ n. n ≤ most) xs → AreNumbers most d xs
+AreNumbers-array d most xs array all = ((within-IsArrayOf IsWhole (λ n. n ≤ 65535) d xs array).0, all)
 
-pub no_sets_array : (r : LocalRule) (d : Data) (most : ℕ) → most ≡ full_set r → most ≤ 65535 → ((xs : List ℕ) → ¬ IsArrayOf IsShort d xs) → (sets : List ℕ) → ¬ IsSetsFor r d sets
-no_sets_array r d most full short none sets h =
-    let all : All (λ n. n ≤ most) sets = subst (λ m. All (λ n. n ≤ m) sets) (sym full) h.1 in
-    none sets (IsArrayOf-within IsWhole (λ n. n ≤ 65535) d sets h.0 (All-weaker (λ n. n ≤ most) (λ n. n ≤ 65535) (λ n le. omega (arith, le, short)) sets all))
+pub no_numbers_array : (d : Data) (most : ℕ) → most ≤ 65535 → ((xs : List ℕ) → ¬ IsArrayOf IsShort d xs) → (ns : List ℕ) → ¬ AreNumbers most d ns
+no_numbers_array d most short none ns h =
+    none ns (IsArrayOf-within IsWhole (λ n. n ≤ 65535) d ns h.0 (All-weaker (λ n. n ≤ most) (λ n. n ≤ 65535) (λ n le. omega (arith, le, short)) ns h.1))
 
-pub no_sets_above : (r : LocalRule) (d : Data) (most : ℕ) (xs : List ℕ) → most ≡ full_set r → IsArrayOf IsShort d xs → ¬ All (λ n. n ≤ most) xs → (sets : List ℕ) → ¬ IsSetsFor r d sets
-no_sets_above r d most xs full array above sets h =
-    let same : xs ≡ sets = IsArrayOf-unique IsWhole IsWhole-unique d xs sets (within-IsArrayOf IsWhole (λ n. n ≤ 65535) d xs array).0 h.0 in
-    above (subst (All (λ n. n ≤ most)) (sym same) (subst (λ m. All (λ n. n ≤ m) sets) (sym full) h.1))
+pub no_numbers_above : (d : Data) (most : ℕ) (xs : List ℕ) → IsArrayOf IsShort d xs → ¬ All (λ n. n ≤ most) xs → (ns : List ℕ) → ¬ AreNumbers most d ns
+no_numbers_above d most xs array above ns h =
+    let same : xs ≡ ns = IsArrayOf-unique IsWhole IsWhole-unique d xs ns (within-IsArrayOf IsWhole (λ n. n ≤ 65535) d xs array).0 h.0 in
+    above (subst (All (λ n. n ≤ most)) (sym same) h.1)
 
 -- a flux is an array with a flow for each node
 pub IsFluxFor-array : (r : LocalRule) (d : Data) (xs : List ℤ) → IsArrayOf IsFlow d xs → length xs ≡ node_count r → IsFluxFor r d xs
@@ -105,3 +116,15 @@ pub no_row_long : (r : LocalRule) (d : Data) (xs : List (Option ℕ)) → IsArra
 no_row_long r d xs array long row h =
     let same : xs ≡ row = IsArrayOf-unique IsClaimValue IsClaimValue-unique d xs row (within-IsArrayOf IsClaimValue IsClaim d xs array).0 h.0 in
     long (ap length same ∙ h.1.each_pair)
+
+-- weights are an array with a byte for each letter
+pub IsWeightsFor-array : (r : LocalRule) (d : Data) (xs : List ℕ) → IsArrayOf IsByte d xs → length xs ≡ r.states → IsWeightsFor r d xs
+IsWeightsFor-array r d xs array long = let parts = within-IsArrayOf IsWhole (λ n. n ≤ 255) d xs array in (parts.0, record { each_letter = long; small = parts.1 })
+
+pub no_weights_array : (r : LocalRule) (d : Data) → ((xs : List ℕ) → ¬ IsArrayOf IsByte d xs) → (weights : List ℕ) → ¬ IsWeightsFor r d weights
+no_weights_array r d none weights h = none weights (IsArrayOf-within IsWhole (λ n. n ≤ 255) d weights h.0 h.1.small)
+
+pub no_weights_long : (r : LocalRule) (d : Data) (xs : List ℕ) → IsArrayOf IsByte d xs → length xs ≢ r.states → (weights : List ℕ) → ¬ IsWeightsFor r d weights
+no_weights_long r d xs array long weights h =
+    let same : xs ≡ weights = IsArrayOf-unique IsWhole IsWhole-unique d xs weights (within-IsArrayOf IsWhole (λ n. n ≤ 255) d xs array).0 h.0 in
+    long (ap length same ∙ h.1.each_letter)

@@ -1,7 +1,7 @@
 -- The members of an object, beside the entries of the map that holds them.
 use Rattle.std.proofs.Common.{◌≡◌, ℕ, zero, suc, List, [], ◌∷◌, length, map, Option, Some, Ordering, Less, Equal, Greater, String, Global, string_bytes, nat_cmp, is_eq, All, Contains, slice_get, Bool, true, false, ◌||◌, bytes_eq, IsTrue, ◌↔◌, refl, sym, ap, ◌∙◌, arith}
 use Rattle.std.specs.List.{list_any}
-use Rattle.std.specs.Map.{keys_of}
+use Rattle.std.specs.Map.{keys_of as names_of}
 use Rattle.std.specs.Ordering.{match_ordering}
 use Rattle.std.specs.Cmp.Lexicographic.{slice_cmp}
 use Rattle.std.proofs.lemmas.Cmp.{nat_list_cmp_total, tied_itself}
@@ -15,7 +15,8 @@ use Rattle.serde_json.specs.Events.{members_len}
 use Rattle.serde_json.specs.View.{view, members_view}
 use Rattle.serde_json.specs.declared.value.Value.{Value}
 use Rattle.serde_json.proofs.Views.{Entry, members_len-members_view}
-use Rattle.cert_format.specs.CertificateTexts.{HasOnly, HasOnlyBoth, HasNoOther, keys}
+use Rattle.cert_format.specs.declared.cert_version.CertVersion.{CertVersion}
+use Rattle.cert_format.specs.CertificateTexts.{HasOnly, HasOnlyBoth, HasNoOther, keys_of}
 use Rattle.cert_format.specs.Readings.{members_in}
 
 -- how many members an object has, where it has this many keys alone
@@ -61,14 +62,14 @@ found_at Less k l e d rest ks is later found = let c = later found in (suc c.0, 
 found_at Equal k l e d rest ks is later found = (0, omega arith, sym ((bytes_eq-Decides k l).0 (sym (is_eq-slice_cmp k l) ∙ ap is_eq is)))
 found_at Greater k l e d rest ks is later found = let c = later found in (suc c.0, omega (arith, c.1), c.2)
 
-found_key : (es : List Entry) (k : List ℕ) (d : Data) → get_member k (members_view es) ≡ Some d → Contains (map string_bytes (keys_of es)) k
+found_key : (es : List Entry) (k : List ℕ) (d : Data) → get_member k (members_view es) ≡ Some d → Contains (map string_bytes (names_of es)) k
 found_key [] k d found = absurd (none-some d found)
 found_key (e ∷ es) k d found = found_at (slice_cmp nat_cmp k (string_bytes e.0)) k (string_bytes e.0) (view e.1) d _ _ refl (found_key es k d) found
 
 -- where each key is a certificate's there is no other
-pub HasNoOther-entries : (es : List Entry) → All (λ name. Contains keys (string_bytes name)) (keys_of es) → HasNoOther (members_view es)
-HasNoOther-entries es all k d found =
-    All-contains (Contains keys) (map string_bytes (keys_of es)) k (All-map (Contains keys) string_bytes (keys_of es) all) (found_key es k d found)
+pub HasNoOther-entries : (version : CertVersion) (es : List Entry) → All (λ name. Contains (keys_of version) (string_bytes name)) (names_of es) → HasNoOther version (members_view es)
+HasNoOther-entries version es all k d found =
+    All-contains (Contains (keys_of version)) (map string_bytes (names_of es)) k (All-map (Contains (keys_of version)) string_bytes (names_of es) all) (found_key es k d found)
 
 -- each key has a member
 member_at : (o : Ordering) (k : List ℕ) (e d : Data) (rest : Option Data) → rest ≡ Some d → (v : Data) × (match_ordering o rest (Some e) rest ≡ Some v)
@@ -79,15 +80,15 @@ member_at Greater k e d rest is = (d, is)
 same_key : (k l : List ℕ) → k ≡ l → slice_cmp nat_cmp k l ≡ Equal
 same_key k l same = ap (slice_cmp nat_cmp k) (sym same) ∙ tied_itself nat_list_cmp_total k
 
-member_of_key : (es : List Entry) (i : ℕ) (name : String Global) → slice_get (keys_of es) i ≡ Some name → (d : Data) × (get_member (string_bytes name) (members_view es) ≡ Some d)
+member_of_key : (es : List Entry) (i : ℕ) (name : String Global) → slice_get (names_of es) i ≡ Some name → (d : Data) × (get_member (string_bytes name) (members_view es) ≡ Some d)
 member_of_key [] i name is = absurd (none-some name is)
 member_of_key (e ∷ es) zero name is =
     (view e.1, ap (λ o. match_ordering o (get_member (string_bytes name) (members_view es)) (Some (view e.1)) (get_member (string_bytes name) (members_view es))) (same_key (string_bytes name) (string_bytes e.0) (ap string_bytes (sym (same_Some _ _ is)))))
 member_of_key (e ∷ es) (suc i) name is = let later = member_of_key es i name is in member_at (slice_cmp nat_cmp (string_bytes name) (string_bytes e.0)) (string_bytes name) (view e.1) later.0 _ later.1
 
 -- where some key is no certificate's, there is another
-pub other_key : (es : List Entry) (i : ℕ) (name : String Global) → slice_get (keys_of es) i ≡ Some name → ¬ Contains keys (string_bytes name) → ¬ HasNoOther (members_view es)
-other_key es i name is other none = let found = member_of_key es i name is in other (none (string_bytes name) found.0 found.1)
+pub other_key : (version : CertVersion) (es : List Entry) (i : ℕ) (name : String Global) → slice_get (names_of es) i ≡ Some name → ¬ Contains (keys_of version) (string_bytes name) → ¬ HasNoOther version (members_view es)
+other_key version es i name is other none = let found = member_of_key es i name is in other (none (string_bytes name) found.0 found.1)
 
 -- a test of each of a list's elements finds a name exactly where it is one of them
 
@@ -108,8 +109,8 @@ list_any-Contains [] name (i, lt, same) = absurd (omega arith)
 list_any-Contains (x ∷ xs) name (zero, lt, same) = ap (λ b. b || list_any (λ key. bytes_eq key name) xs) ((bytes_eq-Decides x name).1 same)
 list_any-Contains (x ∷ xs) name (suc i, lt, same) = or_true (bytes_eq x name) _ (list_any-Contains xs name (i, omega (arith, lt), same))
 
-pub list_any-keys : (name : List ℕ) (r : Bool) → r ≡ list_any (λ key. bytes_eq key name) keys → IsTrue r ↔ Contains keys name
-list_any-keys name r is = ((λ found. Contains-list_any keys name (sym is ∙ found)), λ one. is ∙ list_any-Contains keys name one)
+pub list_any-keys : (keys : List (List ℕ)) (name : List ℕ) (r : Bool) → r ≡ list_any (λ key. bytes_eq key name) keys → IsTrue r ↔ Contains keys name
+list_any-keys keys name r is = ((λ found. Contains-list_any keys name (sym is ∙ found)), λ one. is ∙ list_any-Contains keys name one)
 
 -- the members of an object are its entries
 pub members_in-entries : (d : Data) (es : List Entry) → Some (members_view es) ≡ as_object d → members_in d ≡ members_view es

@@ -1,17 +1,20 @@
 -- The value of a certificate nests no deeper than JSON is read, and has no float.
-use Rattle.std.proofs.Common.{◌≡◌, ℕ, suc, ◌≤◌, List, [], ◌∷◌, map, Option, Some, None, false, refl, arith}
+use Rattle.std.proofs.Common.{◌≡◌, ℕ, suc, ◌≤◌, List, [], ◌∷◌, map, Option, Some, None, false, refl, sym, subst, ⊎_elim, arith}
 use Rattle.std.specs.Prelude.{ℤ, pos, negsuc, codes}
 use Rattle.std.proofs.Math.Nat.{max-le}
 use Rattle.serde_json.specs.Data.{Data, string, object, Items, Members, no_members, member, depth, items_depth, members_depth}
 use Rattle.serde_json.specs.View.{items_of}
 use Rattle.serde_json.specs.Written.{has_float, items_have_float, members_have_float}
+use Rattle.word_image.specs.LocalRules.{LocalRule}
 use Rattle.rule_text.specs.RuleTexts.{printed}
+use Rattle.cert_format.specs.Versions.{number_of}
 use Rattle.cert_format.specs.Certificates.{Certificate, SurjectiveEvidence, InjectiveEvidence, SideEvidence, SumEvidence}
-use Rattle.cert_format.specs.Certificates.SurjectiveEvidence.{Sets, Orphan}
+use Rattle.cert_format.specs.Certificates.SurjectiveEvidence.{Sets, Pairs, Orphan}
 use Rattle.cert_format.specs.Certificates.InjectiveEvidence.{Window, Twins}
 use Rattle.cert_format.specs.Certificates.SideEvidence.{Ahead, Split}
 use Rattle.cert_format.specs.Certificates.SumEvidence.{Flux, Ring}
-use Rattle.cert_format.specs.WrittenTexts.{array_from, whole_value, signed_value, word_value, tail_value, claim_value, surjective_value, injective_value, side_value, sum_value, ranks_value, certificate_value}
+use Rattle.cert_format.specs.WrittenTexts.{array_from, whole_value, signed_value, word_value, tail_value, claim_value, surjective_value, injective_value, side_value, sum_value, ranks_value, weights_members, certificate_value}
+use Rattle.cert_format.proofs.laws.WeightMembers.{weights_members-cases}
 
 -- a value that nests no deeper than n, without a float
 pub record IsPlain (n : ℕ) (d : Data) : Type 0 where
@@ -77,6 +80,7 @@ IsPlain-claim n (Some v) = IsPlain-whole n v
 -- the parts of a certificate: of surjective
 IsPlain-surjective : (e : SurjectiveEvidence) → IsPlain 2 (surjective_value e)
 IsPlain-surjective (Sets sets) = IsPlain-only (codes "sets") (IsPlain-array whole_value (IsPlain-whole 0) sets)
+IsPlain-surjective (Pairs pairs) = IsPlain-only (codes "pairs") (IsPlain-array whole_value (IsPlain-whole 0) pairs)
 IsPlain-surjective (Orphan w) = IsPlain-only (codes "orphan") (IsPlain-string 1 _)
 
 -- of injective
@@ -101,6 +105,14 @@ IsPlain-ranks forward backward =
     let claims = IsPlain-array claim_value (IsPlain-claim 0) in
     IsPlain-object (HavePlain-member (codes "backward") (claims backward) (HavePlain-member (codes "forward") (claims forward) (HavePlain-none 1)))
 
+-- of the weights, where they are written
+HavePlain-weights : (r : LocalRule) (weights : List ℕ) → HavePlain 2 (weights_members r weights)
+HavePlain-weights r weights =
+    ⊎_elim
+    (λ (own, none). subst (HavePlain 2) (sym none) (HavePlain-none 2))
+    (λ (other, named). subst (HavePlain 2) (sym named) (HavePlain-member (codes "weights") (IsPlain-array whole_value (IsPlain-whole 1) weights) (HavePlain-none 2)))
+    (weights_members-cases r weights)
+
 -- the whole
 pub IsPlain-certificate : (c : Certificate) → IsPlain 3 (certificate_value c)
 IsPlain-certificate c =
@@ -111,4 +123,4 @@ IsPlain-certificate c =
     (HavePlain-member (codes "right") (IsPlain-side c.right)
     (HavePlain-member (codes "rule") (IsPlain-string 2 (printed c.rule))
     (HavePlain-member (codes "surjective") (IsPlain-surjective c.surjective)
-    (HavePlain-member (codes "version") (IsPlain-whole 2 1) (HavePlain-none 2)))))))))
+    (HavePlain-member (codes "version") (IsPlain-whole 2 (number_of c.version)) (HavePlain-weights c.rule c.weights)))))))))

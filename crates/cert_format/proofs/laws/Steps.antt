@@ -1,5 +1,5 @@
 -- Which step of reading a certificate fails.
-use Rattle.std.proofs.Common.{◌≡◌, refl, sym, ◌∙◌, subst, List, ◌∷◌, ◌++◌, ℕ, inl, inr, Result, Ok, Err, Option, Some, None, false, is_some}
+use Rattle.std.proofs.Common.{◌≡◌, refl, sym, ◌∙◌, subst, List, ◌∷◌, ◌++◌, ℕ, inl, inr, Result, Ok, Err, Option, Some, None, true, false, is_some}
 use Rattle.std.specs.Prelude.{codes, alloc_error, IsUtf8, IfOk, IfErr}
 use Rattle.std.specs.List.{AllByRecursion}
 use Rattle.std.proofs.lemmas.List.Elements.{All-from_recursion}
@@ -16,16 +16,25 @@ use Rattle.cert_format.specs.declared.shape_fault.Key.TheVariants as key
 use Rattle.cert_format.specs.declared.shape_fault.ShapeFault.TheVariants as shape
 use Rattle.cert_format.specs.declared.shape_fault.CertFault.{CertFault}
 use Rattle.cert_format.specs.declared.shape_fault.CertFault.TheVariants as fault
+use Rattle.cert_format.specs.declared.cert_version.CertVersion.{CertVersion}
 use Rattle.cert_format.specs.Certificates.{Certificate}
-use Rattle.cert_format.specs.CertificateTexts.{IsCertificateText, IsObject, IsRanksValue, HasVersion, HasRuleText}
+use Rattle.cert_format.specs.Versions.{number_of, names_weights}
+use Rattle.cert_format.specs.CertificateTexts.{IsCertificateText, IsObject, IsWhole, IsArrayOf, IsRanksValue, HasVersion, HasRuleText, HasWeights, HasRanks}
+use Rattle.cert_format.specs.CertificateTexts.HasWeights.{Named, Own}
 use Rattle.cert_format.specs.ShapeFaults.{IsCertFault, Passes, part_steps}
 use Rattle.cert_format.specs.ShapeFaults.IsShapeFault.{NoJson, NoObject, BadPart}
-use Rattle.cert_format.specs.Readings.{AreParts, AreRanksFor, IsStepFault, IsPartFault}
+use Rattle.cert_format.specs.Readings.{AreParts, IsWeightsFor, AreRanksFor, IsStepFault, IsPartFault}
 use Rattle.cert_format.proofs.laws.Uniqueness.{one_some}
 
 -- the step of the ranks fails where the member is no ranks
-pub no_ranks : (r : LocalRule) (ms : Members) (d : Data) → get_member (codes "ranks") ms ≡ Some d → ((forward backward : List (Option ℕ)) → ¬ AreRanksFor r d forward backward) → ¬ Passes r ms key.Ranks
+pub no_ranks : (r : LocalRule) (ms : Members) (d : Data) → get_member (codes "ranks") ms ≡ Some d → ((forward backward : List (Option ℕ)) → ¬ AreRanksFor r d forward backward) → ¬ ((forward backward : List (Option ℕ)) × HasRanks r ms forward backward)
 no_ranks r ms d is none h = none h.0 h.1 (subst (λ d. IsRanksValue d h.0 h.1) (one_some h.2.0.1 is) h.2.0.2, h.2.1, h.2.2)
+
+-- that of the weights where the member is none
+pub no_weights : {version : CertVersion} {r : LocalRule} {ms : Members} {d : Data} → names_weights version ≡ true → get_member (codes "weights") ms ≡ Some d → ((weights : List ℕ) → ¬ IsWeightsFor r d weights)
+    → ¬ ((weights : List ℕ) × HasWeights version r ms weights)
+no_weights {d = d} names is none (weights, Own absent own) = none-some d (sym (absent names) ∙ is)
+no_weights names is none (weights, Named known has are) = none weights (subst (λ d. IsArrayOf IsWhole d weights) (one_some has.1 is) has.2, are)
 
 -- the fault of a step, by what isn't read
 pub IsStepFault-at : (m : Misread) (k : Key) (f : CertFault) (P : Type 0) → (m ≡ misread.Shape → f ≡ fault.Format (shape.Shape k)) → (m ≡ misread.Memory alloc_error → f ≡ fault.Memory alloc_error)
@@ -34,20 +43,20 @@ IsStepFault-at misread.Shape k f P shape memory fails = inr (shape refl, fails r
 IsStepFault-at (misread.Memory e) k f P shape memory fails = inl (memory refl)
 
 -- where the steps before pass, it is the fault of the parts
-pub IsPartFault-step : (r : LocalRule) (ms : Members) (before after : List Key) (k : Key) (f : CertFault) → part_steps ≡ before ++ k ∷ after → AllByRecursion (Passes r ms) before
-    → IsStepFault k (Passes r ms k) f → IsPartFault r ms f
-IsPartFault-step r ms before after k f list earlier (inl memory) = inl memory
-IsPartFault-step r ms before after k f list earlier (inr (is, fails)) =
-    inr (k, is, record { before = before; after = after; list = list; earlier = All-from_recursion (Passes r ms) before earlier; fails = fails })
+pub IsPartFault-step : (v : CertVersion) (r : LocalRule) (ms : Members) (before after : List Key) (k : Key) (f : CertFault) → part_steps ≡ before ++ k ∷ after → AllByRecursion (Passes v r ms) before
+    → IsStepFault k (Passes v r ms k) f → IsPartFault v r ms f
+IsPartFault-step v r ms before after k f list earlier (inl memory) = inl memory
+IsPartFault-step v r ms before after k f list earlier (inr (is, fails)) =
+    inr (k, is, record { before = before; after = after; list = list; earlier = All-from_recursion (Passes v r ms) before earlier; fails = fails })
 
 -- the head and the parts make a certificate
-pub IsCertificateText-parts : (bytes : List ℕ) (ms : Members) (r : LocalRule) (answer : Result Certificate CertFault) → IsObject bytes ms → HasVersion ms 1 → (text : List ℕ) × HasRuleText ms text × IsRuleText text r
-    → IfOk answer (λ c. c.rule ≡ r) → IfOk answer (AreParts ms) → IfOk answer (IsCertificateText bytes)
-IsCertificateText-parts bytes ms r (Ok c) json version head same parts = record {
+pub IsCertificateText-parts : (bytes : List ℕ) (ms : Members) (v : CertVersion) (r : LocalRule) (answer : Result Certificate CertFault) → IsObject bytes ms → HasVersion ms (number_of v) → (text : List ℕ) × HasRuleText ms text × IsRuleText text r
+    → IfOk answer (λ c. c.version ≡ v) → IfOk answer (λ c. c.rule ≡ r) → IfOk answer (AreParts ms) → IfOk answer (IsCertificateText bytes)
+IsCertificateText-parts bytes ms v r (Ok c) json version head kept same parts = record {
   members = ms;
   text = head.0;
   json = json;
-  version = version;
+  version = subst (λ v. HasVersion ms (number_of v)) (sym kept) version;
   rule_text = head.1;
   rule = subst (IsRuleText head.0) (sym same) head.2;
   surjective = parts.surjective;
@@ -55,17 +64,18 @@ IsCertificateText-parts bytes ms r (Ok c) json version head same parts = record 
   right = parts.right;
   left = parts.left;
   conserving = parts.conserving;
+  weights = parts.weights;
   ranks = parts.ranks;
   no_other = parts.no_other;
 }
-IsCertificateText-parts bytes ms r (Err f) json version head same parts = tt
+IsCertificateText-parts bytes ms v r (Err f) json version head kept same parts = tt
 
 -- and the fault of the parts is that of the bytes
-pub IsCertFault-parts : (bytes : List ℕ) (ms : Members) (r : LocalRule) (answer : Result Certificate CertFault) → IsObject bytes ms → HasVersion ms 1 → (text : List ℕ) × HasRuleText ms text × IsRuleText text r
-    → IfErr answer (IsPartFault r ms) → IfErr answer (IsCertFault bytes)
-IsCertFault-parts bytes ms r (Ok c) json version head wrong = tt
-IsCertFault-parts bytes ms r (Err f) json version head (inl memory) = inl memory
-IsCertFault-parts bytes ms r (Err f) json version head (inr (k, is, first)) = inr (shape.Shape k, is, BadPart ms head.0 r k json version head.1 head.2 first)
+pub IsCertFault-parts : (bytes : List ℕ) (ms : Members) (v : CertVersion) (r : LocalRule) (answer : Result Certificate CertFault) → IsObject bytes ms → HasVersion ms (number_of v) → (text : List ℕ) × HasRuleText ms text × IsRuleText text r
+    → IfErr answer (IsPartFault v r ms) → IfErr answer (IsCertFault bytes)
+IsCertFault-parts bytes ms v r (Ok c) json version head wrong = tt
+IsCertFault-parts bytes ms v r (Err f) json version head (inl memory) = inl memory
+IsCertFault-parts bytes ms v r (Err f) json version head (inr (k, is, first)) = inr (shape.Shape k, is, BadPart ms v head.0 r k json version head.1 head.2 first)
 
 -- the faults before an object
 

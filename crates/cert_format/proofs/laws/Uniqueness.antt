@@ -1,23 +1,28 @@
 -- A JSON value says one thing, and bytes are the text of one certificate.
-use Rattle.std.proofs.Common.{◌≡◌, refl, sym, ap, ◌∙◌, subst, List, [], ◌∷◌, length, map, ℕ, ℤ, Option, Some, None, slice_index, arith}
+use Rattle.std.proofs.Common.{◌≡◌, refl, sym, ap, ◌∙◌, subst, subst₂, List, [], ◌∷◌, length, map, ℕ, zero, suc, ℤ, Option, Some, None, slice_index, arith}
 use Rattle.std.specs.Prelude.{codes}
 use Rattle.std.specs.List.{AllZip}
 use Rattle.std.proofs.lemmas.Option.{none-some, same_Some}
 use Rattle.serde_json.specs.Data.{Data, null, Members, no_members, member}
 use Rattle.serde_json.specs.Find.{get_member, as_object, as_array, as_str}
 use Rattle.serde_json.specs.Events.{members_len}
+use Rattle.word_image.specs.LocalRules.{LocalRule}
 use Rattle.word_image.specs.Digits.{hex_value}
 use Rattle.rule_text.specs.RuleTexts.{IsRuleText}
 use Rattle.rule_text.proofs.laws.Texts.{IsRuleText-unique}
 use Rattle.tail_config.specs.Tails.{TailConfig}
 use Rattle.tail_config.specs.TailTexts.{HasParts}
 use Rattle.tail_config.proofs.laws.TailTexts.{HasParts-unique}
+use Rattle.cert_format.specs.declared.cert_version.CertVersion.{CertVersion}
+use Rattle.cert_format.specs.declared.cert_version.CertVersion.TheVariants.{One, Two, Three}
+use Rattle.cert_format.specs.Versions.{number_of}
 use Rattle.cert_format.specs.Certificates.{Certificate, SurjectiveEvidence, InjectiveEvidence, SideEvidence, SumEvidence}
-use Rattle.cert_format.specs.Certificates.SurjectiveEvidence.{Sets, Orphan}
+use Rattle.cert_format.specs.Certificates.SurjectiveEvidence.{Sets, Pairs, Orphan}
 use Rattle.cert_format.specs.Certificates.InjectiveEvidence.{Window, Twins}
 use Rattle.cert_format.specs.Certificates.SideEvidence.{Ahead, Split}
 use Rattle.cert_format.specs.Certificates.SumEvidence.{Flux, Ring}
-use Rattle.cert_format.specs.CertificateTexts.{IsCertificateText, IsObject, IsWhole, IsSigned, IsDigits, IsTailString, IsClaimValue, IsArrayOf, IsSurjectiveValue, IsInjectiveValue, IsSideValue, IsSumValue, IsRanksValue, HasOnly, HasOnlyBoth, HasMember, HasRuleText, list_of}
+use Rattle.cert_format.specs.CertificateTexts.{IsCertificateText, IsObject, IsWhole, IsSigned, IsDigits, IsTailString, IsClaimValue, IsArrayOf, IsSurjectiveValue, IsInjectiveValue, IsSideValue, IsSumValue, IsRanksValue, HasOnly, HasOnlyBoth, HasMember, HasRuleText, HasWeights, list_of}
+use Rattle.cert_format.specs.CertificateTexts.HasWeights.{Named, Own}
 
 -- an option holds one value
 pub one_some : {A : Type 0} {o : Option A} {x y : A} → o ≡ Some x → o ≡ Some y → x ≡ y
@@ -86,6 +91,12 @@ not_both d p q = absurd (omega (arith, ap members_len (one_some p q)))
 pub sets_or_orphan : (d : Data) {v u : Data} → HasOnly (codes "sets") v d → ¬ HasOnly (codes "orphan") u d
 sets_or_orphan d p q = absurd (omega (arith, ap length (HasOnly-unique d p q).0))
 
+pub sets_or_pairs : (d : Data) {v u : Data} → HasOnly (codes "sets") v d → ¬ HasOnly (codes "pairs") u d
+sets_or_pairs d p q = absurd (omega (arith, ap length (HasOnly-unique d p q).0))
+
+pub pairs_or_orphan : (d : Data) {v u : Data} → HasOnly (codes "pairs") v d → ¬ HasOnly (codes "orphan") u d
+pairs_or_orphan d p q = absurd (omega (arith, ap length (HasOnly-unique d p q).0))
+
 ahead_or_split : (d : Data) {v u : Data} → HasOnly (codes "ahead") v d → ¬ HasOnly (codes "split") u d
 ahead_or_split d p q = absurd (omega (arith, ap (λ k. slice_index k 0) (HasOnly-unique d p q).0))
 
@@ -101,6 +112,11 @@ word_at d {v} p q w x h k = IsDigits-unique v w x h (subst (λ u. IsDigits u x) 
 
 pub IsSurjectiveValue-unique : (d : Data) (e f : SurjectiveEvidence) → IsSurjectiveValue d e → IsSurjectiveValue d f → e ≡ f
 IsSurjectiveValue-unique d (Sets s) (Sets t) p q = ap Sets (array_at IsWhole IsWhole-unique d p.1 q.1 s t p.2 q.2)
+IsSurjectiveValue-unique d (Sets s) (Pairs t) p q = absurd (sets_or_pairs d p.1 q.1)
+IsSurjectiveValue-unique d (Pairs s) (Sets t) p q = absurd (sets_or_pairs d q.1 p.1)
+IsSurjectiveValue-unique d (Pairs s) (Pairs t) p q = ap Pairs (array_at IsWhole IsWhole-unique d p.1 q.1 s t p.2 q.2)
+IsSurjectiveValue-unique d (Pairs s) (Orphan v) p q = absurd (pairs_or_orphan d p.1 q.1)
+IsSurjectiveValue-unique d (Orphan w) (Pairs t) p q = absurd (pairs_or_orphan d q.1 p.1)
 IsSurjectiveValue-unique d (Sets s) (Orphan v) p q = absurd (sets_or_orphan d p.1 q.1)
 IsSurjectiveValue-unique d (Orphan w) (Sets t) p q = absurd (sets_or_orphan d q.1 p.1)
 IsSurjectiveValue-unique d (Orphan w) (Orphan v) p q = ap Orphan (word_at d p.1 q.1 w v p.2 q.2)
@@ -149,17 +165,46 @@ IsObject-unique bytes {ms} {ns} p q = same_Some ms ns (ap as_object (one_some p.
 pub HasRuleText-unique : {ms ns : Members} (text other : List ℕ) → ms ≡ ns → HasRuleText ms text → HasRuleText ns other → text ≡ other
 HasRuleText-unique text other same p q = HasMember-unique (λ d text. as_str d ≡ Some text) (λ d x y h k. one_some h k) (codes "rule") text other same p q
 
+-- the version of a number
+abbrev version_of : ℕ → Option CertVersion
+version_of (suc zero) = Some One
+version_of (suc (suc zero)) = Some Two
+version_of (suc (suc (suc zero))) = Some Three
+version_of n = None
+
+version_of-number : (v : CertVersion) → version_of (number_of v) ≡ Some v
+version_of-number One = refl
+version_of-number Two = refl
+version_of-number Three = refl
+
+-- so two versions have two numbers
+pub number_of-injective : (v w : CertVersion) → number_of v ≡ number_of w → v ≡ w
+number_of-injective v w same = same_Some v w (sym (version_of-number v) ∙ ap version_of same ∙ version_of-number w)
+
+-- the weights are one list
+HasWeights-unique : {version : CertVersion} {r : LocalRule} {ms : Members} (weights other : List ℕ) → HasWeights version r ms weights → HasWeights version r ms other → weights ≡ other
+HasWeights-unique weights other (Own absent own) (Own missing also) = own ∙ sym also
+HasWeights-unique weights other (Own absent own) (Named names has are) = absurd (none-some has.0 (sym (absent names) ∙ has.1))
+HasWeights-unique weights other (Named names has are) (Own absent own) = absurd (none-some has.0 (sym (absent names) ∙ has.1))
+HasWeights-unique {ms = ms} weights other (Named names has are) (Named known also too) =
+    HasMember-unique (IsArrayOf IsWhole) (λ d x y h k. IsArrayOf-unique IsWhole IsWhole-unique d x y h k) {ms = ms} {ns = ms} (codes "weights") weights other refl has also
+
 -- bytes are the text of one certificate
 pub IsCertificateText-unique : {bytes : List ℕ} {c d : Certificate} → IsCertificateText bytes c → IsCertificateText bytes d → c ≡ d
 IsCertificateText-unique {bytes} {c} {d} p q =
     let same : p.members ≡ q.members = IsObject-unique bytes p.json q.json in
     let text : p.text ≡ q.text = HasRuleText-unique p.text q.text same p.rule_text q.rule_text in
+    let version : c.version ≡ d.version =
+    number_of-injective c.version d.version (HasMember-unique IsWhole IsWhole-unique (codes "version") (number_of c.version) (number_of d.version) same p.version q.version) in
     let rule : c.rule ≡ d.rule = IsRuleText-unique (subst (λ text. IsRuleText text c.rule) text p.rule) q.rule in
     let surjective : c.surjective ≡ d.surjective = HasMember-unique IsSurjectiveValue IsSurjectiveValue-unique (codes "surjective") c.surjective d.surjective same p.surjective.0 q.surjective.0 in
     let injective : c.injective ≡ d.injective = HasMember-unique IsInjectiveValue IsInjectiveValue-unique (codes "injective") c.injective d.injective same p.injective.0 q.injective.0 in
     let right : c.right ≡ d.right = HasMember-unique IsSideValue IsSideValue-unique (codes "right") c.right d.right same p.right.0 q.right.0 in
     let left : c.left ≡ d.left = HasMember-unique IsSideValue IsSideValue-unique (codes "left") c.left d.left same p.left.0 q.left.0 in
     let conserving : c.conserving ≡ d.conserving = HasMember-unique IsSumValue IsSumValue-unique (codes "conserving") c.conserving d.conserving same p.conserving.0 q.conserving.0 in
+    let weights : c.weights ≡ d.weights =
+    HasWeights-unique c.weights d.weights
+    (subst (λ ms. HasWeights d.version d.rule ms c.weights) same (subst₂ (λ (v : CertVersion) (r : LocalRule). HasWeights v r p.members c.weights) version rule p.weights)) q.weights in
     let ranks = IsRanksValue-unique q.ranks.0.0 c.forward c.backward d.forward d.backward
     (subst (λ v. IsRanksValue v c.forward c.backward) (one_some (subst (λ ms. get_member (codes "ranks") ms ≡ Some p.ranks.0.0) same p.ranks.0.1) q.ranks.0.1) p.ranks.0.2) q.ranks.0.2 in
-    λ i. record { rule = rule i; surjective = surjective i; injective = injective i; right = right i; left = left i; conserving = conserving i; forward = ranks.0 i; backward = ranks.1 i }
+    λ i. record { version = version i; rule = rule i; surjective = surjective i; injective = injective i; right = right i; left = left i; conserving = conserving i; weights = weights i; forward = ranks.0 i; backward = ranks.1 i }

@@ -1,12 +1,12 @@
 -- What is written for a certificate within its limits is read back as it.
-use Rattle.std.proofs.Common.{◌≡◌, ℕ, suc, ◌-◌, ◌^◌, ◌≤◌, List, [], ◌∷◌, map, Option, Some, None, All, Ordering, Less, Equal, Greater, is_eq, nat_cmp, Contains, refl, sym, ap, ◌∙◌, arith}
-use Rattle.std.specs.Prelude.{ℤ, pos, negsuc, ◌≤ℤ◌}
+use Rattle.std.proofs.Common.{◌≡◌, ℕ, suc, ◌-◌, ◌^◌, ◌<◌, ◌≤◌, List, [], ◌∷◌, codes, map, Option, Some, None, All, Ordering, Less, Equal, Greater, is_eq, nat_cmp, Contains, refl, sym, ap, subst, ◌∙◌, ⊎_elim, ◌++◌, arith}
+use Rattle.std.specs.Prelude.{ℤ, pos, negsuc, ◌≤ℤ◌, if◌then◌else◌}
 use Rattle.std.specs.List.{AllZip}
 use Rattle.std.specs.Ordering.{match_ordering}
 use Rattle.std.specs.Cmp.Lexicographic.{slice_cmp}
 use Rattle.std.proofs.lemmas.Bool.Decides.{nat_tests}
 use Rattle.std.proofs.lemmas.Int.{ints}
-use Rattle.std.proofs.lemmas.List.Elements.{All-head, All-tail}
+use Rattle.std.proofs.lemmas.List.Elements.{All-head, All-tail, Contains-append_left}
 use Rattle.std.proofs.lemmas.Map.Text.{is_eq-slice_cmp}
 use Rattle.std.proofs.lemmas.Option.{none-some}
 use Rattle.std.proofs.lemmas.Slice.Eq.{bytes_eq-Decides}
@@ -14,6 +14,7 @@ use Rattle.serde_json.specs.Data.{Data, string, Members, no_members, member}
 use Rattle.serde_json.specs.Find.{get_member}
 use Rattle.serde_json.specs.View.{items_of}
 use Rattle.word_image.specs.LocalRules.{LocalRule, IsRule, IsWord, node_count}
+use Rattle.word_image.specs.Graphs.{pair_count}
 use Rattle.word_image.specs.Digits.{word_text}
 use Rattle.word_image.proofs.laws.Words.{IsWord-le}
 use Rattle.tail_config.specs.Tails.{TailConfig}
@@ -22,28 +23,33 @@ use Rattle.tail_config.specs.TailTexts as tail
 use Rattle.tail_config.proofs.laws.TailTexts.{Spells-word_text}
 use Rattle.rule_text.specs.RuleTexts.{printed}
 use Rattle.rule_text.proofs.laws.Printed.{IsRuleText-printed}
-use Rattle.cert_format.specs.Certificates.{Certificate, SurjectiveEvidence, InjectiveEvidence, SideEvidence, SumEvidence, IsClaim, IsSurjectiveShape, IsInjectiveShape, IsSideShape, IsSumShape, IsRankShape, IsShaped}
-use Rattle.cert_format.specs.Certificates.SurjectiveEvidence.{Sets, Orphan}
+use Rattle.cert_format.specs.declared.cert_version.CertVersion.{CertVersion}
+use Rattle.cert_format.specs.declared.cert_version.CertVersion.TheVariants.{One, Two, Three}
+use Rattle.cert_format.specs.Versions.{number_of, names_weights}
+use Rattle.cert_format.specs.Certificates.{Certificate, SurjectiveEvidence, InjectiveEvidence, SideEvidence, SumEvidence, IsClaim, IsSurjectiveShape, IsInjectiveShape, IsSideShape, IsSumShape, IsWeightShape, IsRankShape, IsShaped}
+use Rattle.cert_format.specs.Certificates.SurjectiveEvidence.{Sets, Pairs, Orphan}
 use Rattle.cert_format.specs.Certificates.InjectiveEvidence.{Window, Twins}
 use Rattle.cert_format.specs.Certificates.SideEvidence.{Ahead, Split}
 use Rattle.cert_format.specs.Certificates.SumEvidence.{Flux, Ring}
-use Rattle.cert_format.specs.CertificateTexts.{IsJson, IsWhole, IsSigned, IsDigits, IsTailString, IsClaimValue, IsArrayOf, IsSurjectiveValue, IsInjectiveValue, IsSideValue, IsSumValue, IsRanksValue, IsCertificateText, list_of}
-use Rattle.cert_format.specs.WrittenTexts.{array_from, whole_value, signed_value, word_value, tail_value, claim_value, surjective_value, injective_value, side_value, sum_value, ranks_value, certificate_members, certificate_value}
+use Rattle.cert_format.specs.CertificateTexts.HasWeights.{Named, Own}
+use Rattle.cert_format.specs.CertificateTexts.{IsJson, IsWhole, IsSigned, IsDigits, IsTailString, IsClaimValue, IsArrayOf, IsSurjectiveValue, IsInjectiveValue, IsSideValue, IsSumValue, IsRanksValue, HasWeights, HasNoOther, IsCertificateText, keys, list_of}
+use Rattle.cert_format.specs.WrittenTexts.{array_from, whole_value, signed_value, word_value, tail_value, claim_value, surjective_value, injective_value, side_value, sum_value, ranks_value, members_before, certificate_members, certificate_value}
+use Rattle.cert_format.proofs.laws.WeightMembers.{names_weights-other, weights_member, weights_members-cases}
 
--- the keys of an object
-abbrev keys_of : Members → List (List ℕ)
-keys_of no_members = []
-keys_of (member k d ms) = k ∷ keys_of ms
+-- the names of an object
+abbrev names_of : Members → List (List ℕ)
+names_of no_members = []
+names_of (member k d ms) = k ∷ names_of ms
 
 -- what is found has one of them
-found_at : (o : Ordering) (k l : List ℕ) (e d : Data) (ms : Members) → slice_cmp nat_cmp k l ≡ o → (get_member k ms ≡ Some d → Contains (keys_of ms) k)
-    → match_ordering o (get_member k ms) (Some e) (get_member k ms) ≡ Some d → Contains (l ∷ keys_of ms) k
+found_at : (o : Ordering) (k l : List ℕ) (e d : Data) (ms : Members) → slice_cmp nat_cmp k l ≡ o → (get_member k ms ≡ Some d → Contains (names_of ms) k)
+    → match_ordering o (get_member k ms) (Some e) (get_member k ms) ≡ Some d → Contains (l ∷ names_of ms) k
 found_at Less k l e d ms is rest found = let c = rest found in (suc c.0, omega (arith, c.1), c.2)
 found_at Equal k l e d ms is rest found = (0, omega arith, sym ((bytes_eq-Decides k l).0 (sym (is_eq-slice_cmp k l) ∙ ap is_eq is)))
 found_at Greater k l e d ms is rest found = let c = rest found in (suc c.0, omega (arith, c.1), c.2)
 
 -- and so it is in an object
-Contains-found : (ms : Members) (k : List ℕ) (d : Data) → get_member k ms ≡ Some d → Contains (keys_of ms) k
+Contains-found : (ms : Members) (k : List ℕ) (d : Data) → get_member k ms ≡ Some d → Contains (names_of ms) k
 Contains-found no_members k d found = absurd (none-some d found)
 Contains-found (member l e ms) k d found = found_at (slice_cmp nat_cmp k l) k l e d ms refl (Contains-found ms k d) found
 
@@ -97,10 +103,12 @@ IsSigned-signed (pos n) limits =
 IsSigned-signed (negsuc n) limits = refl
 
 -- the parts of a certificate are read from their values: of surjective
-IsSurjectiveValue-written : {r : LocalRule} → IsRule r → (e : SurjectiveEvidence) → IsSurjectiveShape r e → IsSurjectiveValue (surjective_value e) e
-IsSurjectiveValue-written {r} rule (Sets sets) shape =
+IsSurjectiveValue-written : {r : LocalRule} → IsRule r → (version : CertVersion) (e : SurjectiveEvidence) → IsSurjectiveShape version r e → IsSurjectiveValue (surjective_value e) e
+IsSurjectiveValue-written {r} rule version (Sets sets) shape =
     (array_from (map whole_value sets), refl, IsArrayOf-values IsWhole (λ set. set ≤ 2 ^ node_count r - 1) whole_value (λ n h. refl) sets shape)
-IsSurjectiveValue-written {r} rule (Orphan w) shape = (word_value w, refl, IsDigits-word r.states w (rule.shape).most_states shape)
+IsSurjectiveValue-written {r} rule version (Pairs pairs) shape =
+    (array_from (map whole_value pairs), refl, IsArrayOf-values IsWhole (λ p. p < pair_count r) whole_value (λ n h. refl) pairs shape.1)
+IsSurjectiveValue-written {r} rule version (Orphan w) shape = (word_value w, refl, IsDigits-word r.states w (rule.shape).most_states shape)
 
 -- of injective
 IsInjectiveValue-written : {r : LocalRule} → IsRule r → (e : InjectiveEvidence) → IsInjectiveShape r e → IsInjectiveValue (injective_value e) e
@@ -128,6 +136,35 @@ IsRanksValue-written {r} {forward} {backward} ahead back =
     let claims = λ (row : List (Option ℕ)) (shape : IsRankShape r row). IsArrayOf-values IsClaimValue IsClaim claim_value IsClaimValue-claim row shape.claims in
     (array_from (map claim_value backward), array_from (map claim_value forward), refl, claims backward back, claims forward ahead)
 
+-- the number of a version is read from its value
+IsWhole-version : (v : CertVersion) → IsWhole (whole_value (number_of v)) (number_of v)
+IsWhole-version One = refl
+IsWhole-version Two = refl
+IsWhole-version Three = refl
+
+-- what is written of the weights says them
+HasWeights-written : (c : Certificate) → IsWeightShape c.version c.rule c.weights → HasWeights c.version c.rule (certificate_members c) c.weights
+HasWeights-written c shape =
+    ⊎_elim
+    (λ (own, none). Own (λ names. ap (get_member (codes "weights")) none) own)
+    (λ (other, named). Named (names_weights-other shape other)
+    (array_from (map whole_value c.weights), ap (get_member (codes "weights")) named, IsArrayOf-values IsWhole (λ w. w ≤ 255) whole_value (λ n h. refl) c.weights (shape.each).small)
+    shape.each)
+    (weights_members-cases c.rule c.weights)
+
+-- and there is no key besides
+HasNoOther-written : (c : Certificate) → IsWeightShape c.version c.rule c.weights → HasNoOther c.version (certificate_members c)
+HasNoOther-written c shape =
+    ⊎_elim
+    (λ (own, none). subst (λ ms. HasNoOther c.version (members_before ms c)) (sym none)
+    (λ k d found. Contains-append_left keys (if names_weights c.version then codes "weights" ∷ [] else []) k (Contains-found (members_before no_members c) k d found)))
+    (λ (other, named).
+    let all : (k : List ℕ) (d : Data) → get_member k (members_before (weights_member c.weights) c) ≡ Some d → Contains (keys ++ codes "weights" ∷ []) k =
+    Contains-found (members_before (weights_member c.weights) c) in
+    subst (λ ms. HasNoOther c.version (members_before ms c)) (sym named)
+    (λ k d found. subst (λ b. Contains (keys ++ (if b then codes "weights" ∷ [] else [])) k) (sym (names_weights-other shape other)) (all k d found)))
+    (weights_members-cases c.rule c.weights)
+
 -- bytes that read as the value of a certificate within its limits are a text of it
 pub IsCertificateText-written : {bytes : List ℕ} {c : Certificate} → IsJson bytes (certificate_value c) → IsShaped c → IsCertificateText bytes c
 IsCertificateText-written {bytes} {c} json shaped =
@@ -136,14 +173,15 @@ IsCertificateText-written {bytes} {c} json shaped =
       members = certificate_members c;
       text = printed c.rule;
       json = json;
-      version = (whole_value 1, refl, refl);
+      version = (whole_value (number_of c.version), refl, IsWhole-version c.version);
       rule_text = (string (printed c.rule), refl, refl);
       rule = IsRuleText-printed c.rule rule;
-      surjective = ((surjective_value c.surjective, refl, IsSurjectiveValue-written rule c.surjective shaped.surjective), shaped.surjective);
+      surjective = ((surjective_value c.surjective, refl, IsSurjectiveValue-written rule c.version c.surjective shaped.surjective), shaped.surjective);
       injective = ((injective_value c.injective, refl, IsInjectiveValue-written rule c.injective shaped.injective), shaped.injective);
       right = ((side_value c.right, refl, IsSideValue-written rule c.right shaped.right), shaped.right);
       left = ((side_value c.left, refl, IsSideValue-written rule c.left shaped.left), shaped.left);
       conserving = ((sum_value c.conserving, refl, IsSumValue-written rule c.conserving shaped.conserving), shaped.conserving);
+      weights = HasWeights-written c shaped.weights;
       ranks = ((ranks_value c.forward c.backward, refl, IsRanksValue-written shaped.forward shaped.backward), shaped.forward, shaped.backward);
-      no_other = Contains-found (certificate_members c);
+      no_other = HasNoOther-written c shaped.weights;
     }

@@ -1,6 +1,13 @@
+use Rattle.std.proofs.Common.{[], ◌∷◌, string_bytes}
+use Rattle.std.specs.Prelude.{codes, if◌then◌else◌}
+use Rattle.std.proofs.lemmas.List.Elements.{Contains-append_left}
+use Rattle.cert_format.specs.Versions.{names_weights}
+use Rattle.cert_format.specs.CertificateTexts.{keys}
 use Rattle.cert_format.proofs.laws.Objects.{list_any-keys}
-use Rattle.std.proofs.Common.{string_bytes}
 use Rattle.cert_format.proofs.members.is_key.Goals as goal
 
-pub returns : goal.returns
-returns c = list_any-keys (string_bytes c.args.name.now) c.contains.result (rw c.as_str.ensures.value at c.contains.ensures.value)
+pub returns-then-contains : goal.returns-then-contains
+returns-then-contains c =
+    let name = string_bytes c.args.name.now in
+    let known = (list_any-keys keys name c.contains.result (rw c.as_str.ensures.value at c.contains.ensures.value)).0 c.if-contains.true in
+    (λ t. Contains-append_left keys (if names_weights c.args.version then codes "weights" ∷ [] else []) name known, λ k. c.if-contains.true)

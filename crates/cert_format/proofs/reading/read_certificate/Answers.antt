@@ -13,7 +13,7 @@ read_parts-requires c = IsRule-text c.in-Ok.ensures.rule.2
 
 pub returns-clause-cert : goal.returns-clause-cert
 returns-clause-cert c =
-    IsCertificateText-parts c.args.bytes.now (members_in (view c.in_ok-value.value)) c.in-Ok.rule c.read_parts.result c.in_ok-value.ensures.object c.in-Ok.ensures.version c.in-Ok.ensures.rule c.read_parts.ensures.rule c.read_parts.ensures.parts
+    IsCertificateText-parts c.args.bytes.now (members_in (view c.in_ok-value.value)) c.in-Ok.head.0 c.in-Ok.head.1 c.read_parts.result c.in_ok-value.ensures.object c.in-Ok.ensures.version c.in-Ok.ensures.rule c.read_parts.ensures.version c.read_parts.ensures.rule c.read_parts.ensures.parts
 
 pub returns-clause-fault : goal.returns-clause-fault
-returns-clause-fault c = IsCertFault-parts c.args.bytes.now (members_in (view c.in_ok-value.value)) c.in-Ok.rule c.read_parts.result c.in_ok-value.ensures.object c.in-Ok.ensures.version c.in-Ok.ensures.rule c.read_parts.ensures.fault
+returns-clause-fault c = IsCertFault-parts c.args.bytes.now (members_in (view c.in_ok-value.value)) c.in-Ok.head.0 c.in-Ok.head.1 c.read_parts.result c.in_ok-value.ensures.object c.in-Ok.ensures.version c.in-Ok.ensures.rule c.read_parts.ensures.fault

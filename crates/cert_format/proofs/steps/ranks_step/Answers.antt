@@ -1,8 +1,8 @@
 use Rattle.serde_json.specs.View.{view}
 use Rattle.cert_format.specs.declared.shape_fault.Key.TheVariants as key
 use Rattle.cert_format.specs.Readings.{members_in}
-use Rattle.cert_format.specs.ShapeFaults.{Passes}
-use Rattle.std.proofs.Common.{sym}
+use Rattle.cert_format.specs.CertificateTexts.{HasRanks}
+use Rattle.std.proofs.Common.{ℕ, List, Option, sym}
 use Rattle.cert_format.proofs.laws.Steps.{IsStepFault-at, no_ranks}
 use Rattle.cert_format.proofs.steps.ranks_step.Goals as goal
 
@@ -10,5 +10,5 @@ pub returns-in-Err-clause-fault : goal.returns-in-Err-clause-fault
 returns-in-Err-clause-fault c =
     let r = c.args.rule.now in
     let ms = members_in (view c.args.value.now) in
-    IsStepFault-at c.in-Err.fault key.Ranks c.at-in-Err.result (Passes r ms key.Ranks) c.at-in-Err.ensures.shape c.at-in-Err.ensures.memory
+    IsStepFault-at c.in-Err.fault key.Ranks c.at-in-Err.result ((forward backward : List (Option ℕ)) × HasRanks r ms forward backward) c.at-in-Err.ensures.shape c.at-in-Err.ensures.memory
     (λ shape. no_ranks r ms (view c.in-Some.rows.now) (sym c.in-Some.ensures) (c.in-Err.ensures.none shape))

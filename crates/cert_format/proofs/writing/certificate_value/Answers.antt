@@ -1,29 +1,28 @@
-use Rattle.std.proofs.Common.{◌≡◌, ap, ap₂, ◌∙◌, codes, rules, List, ℕ}
-use Rattle.serde_json.specs.Data.{Data, string, object, Members, no_members, put}
-use Rattle.serde_json.specs.View.{members_view}
-use Rattle.rule_text.specs.RuleTexts.{printed}
-use Rattle.cert_format.specs.Parts.{side_of}
-use Rattle.cert_format.specs.WrittenTexts.{side_value}
+use Rattle.std.proofs.Common.{◌≡◌, ℕ, List, length, map, codes, true≢false, sym, ap, ap₂, subst, ◌∙◌}
+use Rattle.serde_json.specs.Data.{Data, object, Members, put}
+use Rattle.word_image.specs.Weights.{own_weights}
+use Rattle.cert_format.specs.Certificates.{IsShaped}
+use Rattle.cert_format.specs.WrittenTexts.{array_from, whole_value, members_before}
+use Rattle.cert_format.proofs.laws.WeightMembers.{weights_members-own, weights_members-other}
 use Rattle.cert_format.proofs.writing.certificate_value.Goals as goal
 
--- equal values put into equal members
-put_same : (k : List ℕ) {d e : Data} {ms ns : Members} → d ≡ e → ms ≡ ns → put k d ms ≡ put k e ns
-put_same k value members = ap₂ (λ (d : Data) (ms : Members). put k d ms) value members
+-- without own weights
+pub returns-then-is_own-clause-value : goal.returns-then-is_own-clause-value
+returns-then-is_own-clause-value c =
+    let cert = c.args.cert.now in
+    let shaped = subst IsShaped c.cert.view_is c.cert.invariant.2 in
+    let weights : c.cert.inside.weights ≡ cert.weights = ap (λ d. d.weights) c.cert.view_is in
+    let own : cert.weights ≡ own_weights (length cert.weights) = subst (λ (ws : List ℕ). ws ≡ own_weights (length ws)) weights (c.is_own.ensures.0 c.if-is_own.true) in
+    c.from.ensures ∙ ap object c.in_ok-members.ensures ∙ ap (λ (ms : Members). object (members_before ms cert)) (sym (weights_members-own shaped.weights own))
 
--- the members come in the order of their keys, each after the last
+-- and with other ones
 pub returns-clause-value : goal.returns-clause-value
 returns-clause-value c =
     let cert = c.args.cert.now in
-    let left : side_of c.cert.inside.left ≡ cert.left = search rules in
-    let right : side_of c.cert.inside.right ≡ cert.right = search rules in
-    let rule : c.cert.inside.rule ≡ cert.rule = search rules in
-    let none : members_view c.new-members.result.entries ≡ no_members = ap members_view c.new-members.ensures.empty in
-    let m1 = c.in_ok-put.ensures.ok ∙ put_same (codes "conserving") c.in_ok-conserving.ensures none in
-    let m2 = c.in_ok-put-2.ensures.ok ∙ put_same (codes "injective") c.in_ok-injective.ensures m1 in
-    let m3 = c.in_ok-put-3.ensures.ok ∙ put_same (codes "left") (c.in_ok-left.ensures ∙ ap side_value left) m2 in
-    let m4 = c.in_ok-put-4.ensures.ok ∙ put_same (codes "ranks") c.in_ok-ranks.ensures m3 in
-    let m5 = c.in_ok-put-5.ensures.ok ∙ put_same (codes "right") (c.in_ok-right.ensures ∙ ap side_value right) m4 in
-    let m6 = c.in_ok-put-6.ensures.ok ∙ put_same (codes "rule") (c.in_ok-rule.ensures ∙ ap (λ r. string (printed r)) rule) m5 in
-    let m7 = c.in_ok-put-7.ensures.ok ∙ put_same (codes "surjective") c.in_ok-surjective.ensures m6 in
-    let m8 = c.in_ok-put-8.ensures.ok ∙ put_same (codes "version") c.from.ensures m7 in
-    c.from-2.ensures ∙ ap object m8
+    let shaped = subst IsShaped c.cert.view_is c.cert.invariant.2 in
+    let weights : c.cert.inside.weights ≡ cert.weights = ap (λ d. d.weights) c.cert.view_is in
+    let other : ¬ (cert.weights ≡ own_weights (length cert.weights)) =
+    λ own. true≢false (sym (c.is_own.ensures.1 (subst (λ (ws : List ℕ). ws ≡ own_weights (length ws)) (sym weights) own)) ∙ c.if-is_own.false) in
+    let value = c.in_ok-weights.ensures ∙ ap (λ (ws : List ℕ). array_from (map whole_value ws)) weights in
+    let all = c.in_ok-put.ensures.ok ∙ ap₂ (λ (d : Data) (ms : Members). put (codes "weights") d ms) value c.in_ok-members.ensures in
+    c.from-2.ensures ∙ ap object all ∙ ap (λ (ms : Members). object (members_before ms cert)) (sym (weights_members-other shaped.weights other))

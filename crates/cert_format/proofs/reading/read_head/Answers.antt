@@ -3,12 +3,12 @@ use Rattle.std.proofs.Common.{subst}
 use Rattle.rule_text.specs.RuleTexts.{IsTextFault}
 use Rattle.cert_format.specs.Readings.{members_in}
 use Rattle.cert_format.specs.ShapeFaults.IsShapeFault.{NoRule, BadRule}
-use Rattle.cert_format.proofs.reading.read_rule.Goals as goal
+use Rattle.cert_format.proofs.reading.read_head.Goals as goal
 
 pub returns-in_default-clause-fault : goal.returns-in_default-clause-fault
-returns-in_default-clause-fault c bytes json = NoRule (members_in (view c.args.value.now)) json c.in_ok-check_version.ensures.version c.in_default.ensures.none
+returns-in_default-clause-fault c bytes json = NoRule (members_in (view c.args.value.now)) c.in_ok-version.version json c.in_ok-version.ensures.version c.in_default.ensures.none
 
 pub returns-in-Err-clause-fault : goal.returns-in-Err-clause-fault
 returns-in-Err-clause-fault c bytes json =
-    BadRule (members_in (view c.args.value.now)) c.in-Some.text.now json c.in_ok-check_version.ensures.version c.in-Some.ensures.some c.in-Err.fault
+    BadRule (members_in (view c.args.value.now)) c.in_ok-version.version c.in-Some.text.now json c.in_ok-version.ensures.version c.in-Some.ensures.some c.in-Err.fault
     (subst (λ text. IsTextFault text c.in-Err.fault) c.as_bytes.ensures.value c.in-Err.ensures.fault)

@@ -1,0 +1,23 @@
+use Rattle.std.proofs.Common.{◌≡◌, ◌≤◌, sym, subst, true, All, arith}
+use Rattle.std.proofs.lemmas.Result.{err_from_is_err_and}
+use Rattle.serde_json.specs.View.{view}
+use Rattle.cert_format.specs.Readings.{AreNumbers}
+use Rattle.cert_format.proofs.laws.Evidence.{AreNumbers-array, no_numbers_array, no_numbers_above}
+use Rattle.cert_format.proofs.evidence.numbers.Goals as goal
+
+pub returns-in_err-numbers-clause-none : goal.returns-in_err-numbers-clause-none
+returns-in_err-numbers-clause-none c =
+    let p = err_from_is_err_and c.from_residual.result c.from_residual.ensures.1 in
+    rw (p.1, p.2) (λ shape. no_numbers_array (view c.args.value.now) c.args.most (omega (arith, c.ranges.most)) (c.in_err-numbers.ensures.none shape))
+
+pub returns-then-not-are_within-clause-none : goal.returns-then-not-are_within-clause-none
+returns-then-not-are_within-clause-none c same =
+    let above : ¬ All (λ n. n ≤ c.args.most) c.in_ok-numbers.numbers.items =
+    λ all. absurd (let within : c.are_within.result ≡ true = c.are_within.ensures.1 (subst (All (λ n. n ≤ c.args.most)) (sym c.deref.ensures.value) all) in cc) in
+    no_numbers_above (view c.args.value.now) c.args.most c.in_ok-numbers.numbers.items c.in_ok-numbers.ensures.items above
+
+pub returns-clause-numbers : goal.returns-clause-numbers
+returns-clause-numbers c =
+    let within : c.are_within.result ≡ true = cc in
+    let all = subst (All (λ n. n ≤ c.args.most)) c.deref.ensures.value (c.are_within.ensures.0 within) in
+    subst (AreNumbers c.args.most (view c.args.value.now)) (sym c.of.ensures) (AreNumbers-array (view c.args.value.now) c.args.most c.in_ok-numbers.numbers.items c.in_ok-numbers.ensures.items all)

@@ -1,0 +1,26 @@
+use Rattle.std.proofs.Common.{◌≡◌, ◌≢◌, refl, sym, ap, subst, length, ◌∙◌}
+use Rattle.std.proofs.lemmas.Bool.{false≢true}
+use Rattle.std.proofs.lemmas.Result.{err_from_is_err_and}
+use Rattle.serde_json.specs.View.{view}
+use Rattle.cert_format.specs.Readings.{IsWeightsFor}
+use Rattle.cert_format.proofs.laws.Evidence.{IsWeightsFor-array, no_weights_array, no_weights_long}
+use Rattle.cert_format.proofs.evidence.weights.Goals as goal
+
+pub returns-in_err-numbers-clause-none : goal.returns-in_err-numbers-clause-none
+returns-in_err-numbers-clause-none c =
+    let p = err_from_is_err_and c.from_residual.result c.from_residual.ensures.1 in
+    rw (p.1, p.2) (λ shape. no_weights_array c.args.rule.now (view c.args.value.now) (c.in_err-numbers.ensures.none shape))
+
+pub returns-clause-none : goal.returns-clause-none
+returns-clause-none c shape =
+    let r = c.args.rule.now in
+    let items = c.in_ok-numbers.numbers.items in
+    let other : length items ≢ r.states = λ same. false≢true (c.in-Err.ensures.accepted.1 (ap length c.deref.ensures.value ∙ same ∙ sym c.k.ensures.states)) in
+    no_weights_long r (view c.args.value.now) items c.in_ok-numbers.ensures.items other
+
+pub returns-in-Ok-clause-weights : goal.returns-in-Ok-clause-weights
+returns-in-Ok-clause-weights c =
+    let r = c.args.rule.now in
+    let items : c.in-Ok.weights ≡ c.in_ok-numbers.numbers.items = c.in-Ok.ensures.weights ∙ c.deref.ensures.value in
+    let long : length c.in_ok-numbers.numbers.items ≡ r.states = ap length (sym c.deref.ensures.value) ∙ c.in-Ok.ensures.accepted.0 refl ∙ c.k.ensures.states in
+    subst (IsWeightsFor r (view c.args.value.now)) (sym items) (IsWeightsFor-array r (view c.args.value.now) c.in_ok-numbers.numbers.items c.in_ok-numbers.ensures.items long)

@@ -1,0 +1,54 @@
+-- The weights of a certificate: read within their limits, and written exactly where they aren't the letters' own.
+use Rattle.std.proofs.Common.{◌≡◌, ℕ, ◌⊎◌, inl, inr, List, length, map, codes, bytes_eq, true, false, cond, refl, sym, ap, subst, ◌∙◌, ⊎_elim, arith}
+use Rattle.std.proofs.lemmas.Bool.{false≢true}
+use Rattle.std.proofs.lemmas.Slice.Eq.{bytes_eq-Decides}
+use Rattle.serde_json.specs.Data.{Members, no_members, member}
+use Rattle.word_image.specs.LocalRules.{LocalRule, IsRule}
+use Rattle.word_image.specs.Weights.{AreWeights, own_weights}
+use Rattle.word_image.proofs.laws.Weights.{AreWeights-own}
+use Rattle.cert_format.specs.declared.cert_version.CertVersion.{CertVersion}
+use Rattle.cert_format.specs.Versions.{names_weights}
+use Rattle.cert_format.specs.Certificates.{IsWeightShape}
+use Rattle.cert_format.specs.CertificateTexts.{HasWeights}
+use Rattle.cert_format.specs.CertificateTexts.HasWeights.{Named, Own}
+use Rattle.cert_format.specs.WrittenTexts.{array_from, whole_value, weights_members}
+
+-- weights that are read are within their limits
+pub IsWeightShape-has : {version : CertVersion} {r : LocalRule} {ms : Members} {weights : List ℕ} → IsRule r → HasWeights version r ms weights → IsWeightShape version r weights
+IsWeightShape-has rule (Named names has are) = record { each = are; own = λ none. absurd (false≢true (sym none ∙ names)) }
+IsWeightShape-has {r = r} rule (Own absent own) =
+    let few = rule.shape.most_states in
+    record { each = subst (AreWeights r.states) (sym own) (AreWeights-own (omega arith)); own = λ none. own }
+
+-- other ones than the letters' own come where the version names weights
+pub names_weights-other : {version : CertVersion} {r : LocalRule} {weights : List ℕ} → IsWeightShape version r weights → ¬ (weights ≡ own_weights r.states) → names_weights version ≡ true
+names_weights-other {version} shape other =
+    elim (names_weights version) as (λ b. names_weights version ≡ b → b ≡ true) [
+      | true ↦ (λ is. refl)
+      | false ↦ (λ is. absurd (other (shape.own is)))
+    ] refl
+
+-- the member of weights
+abbrev pub weights_member : List ℕ → Members
+weights_member weights = member (codes "weights") (array_from (map whole_value weights)) no_members
+
+-- own weights aren't written, and other ones are
+pub weights_members-cases : (r : LocalRule) (weights : List ℕ)
+    → ((weights ≡ own_weights r.states) × (weights_members r weights ≡ no_members)) ⊎ ((¬ (weights ≡ own_weights r.states)) × (weights_members r weights ≡ weights_member weights))
+weights_members-cases r weights =
+    let same = bytes_eq-Decides weights (own_weights r.states) in
+    elim (bytes_eq weights (own_weights r.states)) as
+    (λ b. bytes_eq weights (own_weights r.states) ≡ b
+    → ((weights ≡ own_weights r.states) × (cond b no_members (weights_member weights) ≡ no_members)) ⊎ ((¬ (weights ≡ own_weights r.states)) × (cond b no_members (weights_member weights) ≡ weights_member weights))) [
+      | true ↦ (λ is. inl (same.0 is, refl))
+      | false ↦ (λ is. inr ((λ own. false≢true (sym is ∙ same.1 own)), refl))
+    ] refl
+
+-- by the test of a list of weights alone
+pub weights_members-own : {version : CertVersion} {r : LocalRule} {weights : List ℕ} → IsWeightShape version r weights → weights ≡ own_weights (length weights) → weights_members r weights ≡ no_members
+weights_members-own {r = r} {weights = weights} shape own =
+    ⊎_elim (λ (same, none). none) (λ (other, named). absurd (other (own ∙ ap own_weights (shape.each).each_letter))) (weights_members-cases r weights)
+
+pub weights_members-other : {version : CertVersion} {r : LocalRule} {weights : List ℕ} → IsWeightShape version r weights → ¬ (weights ≡ own_weights (length weights)) → weights_members r weights ≡ weights_member weights
+weights_members-other {r = r} {weights = weights} shape other =
+    ⊎_elim (λ (same, none). absurd (other (same ∙ ap own_weights (sym (shape.each).each_letter)))) (λ (apart, named). named) (weights_members-cases r weights)

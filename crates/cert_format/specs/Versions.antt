@@ -1,0 +1,22 @@
+-- What the versions of a certificate differ in.
+use Rattle.std.specs.Prelude.{ℕ, Bool, true, false}
+use Rattle.cert_format.specs.declared.cert_version.CertVersion.{CertVersion}
+use Rattle.cert_format.specs.declared.cert_version.CertVersion.TheVariants.{One, Two, Three}
+
+-- the number of a version
+abbrev pub number_of : CertVersion → ℕ
+number_of One = 1
+number_of Two = 2
+number_of Three = 3
+
+-- the weights of the letters may be named, from version 2 on
+abbrev pub names_weights : CertVersion → Bool
+names_weights One = false
+names_weights Two = true
+names_weights Three = true
+
+-- pairs may be listed, in version 3
+abbrev pub lists_pairs : CertVersion → Bool
+lists_pairs One = false
+lists_pairs Two = false
+lists_pairs Three = true
