@@ -9,8 +9,11 @@ pub mod FirstPairs
 pub mod RingWindows
 pub mod WindowFlows
 pub mod StepConditions
+pub mod PairConditions
 pub mod SurjectiveConditions
 pub mod ClaimConditions
 pub mod SumConditions
 pub mod Soundness
+pub mod Parts
+pub mod Versions
 pub mod ExactEvidence

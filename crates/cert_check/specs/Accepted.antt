@@ -1,10 +1,10 @@
 -- Which bytes are accepted, and what their verdicts say.
-use Rattle.std.specs.Prelude.{◌≡◌, ℕ, ◌↔◌, Bool, true, false, ◌&&◌, IsTrue, List}
+use Rattle.std.specs.Prelude.{◌≡◌, ℕ, ◌↔◌, Bool, true, false, ◌&&◌, IsTrue, List, slice_index}
 use Rattle.word_image.specs.Words.{IsSurjective}
 use Rattle.word_image.specs.Rings.{IsConserving}
 use Rattle.tail_config.specs.Tails.{IsInjective, IsRightClosing, IsLeftClosing}
 use Rattle.cert_format.specs.Certificates.{Certificate, SurjectiveEvidence, InjectiveEvidence, SideEvidence, SumEvidence}
-use Rattle.cert_format.specs.Certificates.SurjectiveEvidence.{Sets, Orphan}
+use Rattle.cert_format.specs.Certificates.SurjectiveEvidence.{Sets, Pairs, Orphan}
 use Rattle.cert_format.specs.Certificates.InjectiveEvidence.{Window, Twins}
 use Rattle.cert_format.specs.Certificates.SideEvidence.{Ahead, Split}
 use Rattle.cert_format.specs.Certificates.SumEvidence.{Flux, Ring}
@@ -12,9 +12,10 @@ use Rattle.cert_format.specs.CertificateTexts.{IsCertificateText}
 use Rattle.cert_check.specs.declared.verdicts.Verdicts.{Verdicts}
 use Rattle.cert_check.specs.Conditions.{MeetsConditions}
 
--- yes where there are sets
+-- yes where there are sets or pairs
 abbrev pub says_surjective : SurjectiveEvidence → Bool
 says_surjective (Sets sets) = true
+says_surjective (Pairs pairs) = true
 says_surjective (Orphan w) = false
 
 -- yes where there is a window
@@ -36,6 +37,7 @@ says_conserving (Ring p) = false
 abbrev pub verdicts_of : Certificate → Verdicts
 verdicts_of c = record {
   rule = c.rule;
+  weights = c.weights;
   surjective = says_surjective c.surjective;
   injective = says_injective c.injective;
   right = says_closing c.right;
@@ -54,11 +56,11 @@ pub record IsAccepted (bytes : List ℕ) (v : Verdicts) : Type 0 where
   pub meets : MeetsConditions certificate
   pub verdicts : v ≡ verdicts_of certificate
 
--- each verdict is true of the rule
+-- each verdict is true of the rule, that of conserving by the weights
 pub record AreTrue (v : Verdicts) : Type 0 where
   pub surjective : IsTrue v.surjective ↔ IsSurjective v.rule
   pub injective : IsTrue v.injective ↔ IsInjective v.rule
   pub right : IsTrue v.right ↔ IsRightClosing v.rule
   pub left : IsTrue v.left ↔ IsLeftClosing v.rule
   pub open_ : IsTrue (is_open v) ↔ (IsRightClosing v.rule × IsLeftClosing v.rule)
-  pub conserving : IsTrue v.conserving ↔ IsConserving (λ a. a) v.rule
+  pub conserving : IsTrue v.conserving ↔ IsConserving (slice_index v.weights) v.rule

@@ -2,35 +2,45 @@
 use Rattle.std.specs.Prelude.{◌≡◌, ◌≢◌, ℕ, ◌^◌, ◌≤◌, List, [], ◌∷◌, length, slice_index, Contains, ℤ, ⊤}
 use Rattle.word_image.specs.LocalRules.{word_of}
 use Rattle.word_image.specs.Rings.{ring_image}
-use Rattle.word_image.specs.Graphs.{full_set, pair_count}
+use Rattle.word_image.specs.Graphs.{full_set, first_of, second_of, pair_count}
 use Rattle.word_image.specs.Erasure.{IsFirstOfRight, IsFirstOfLeft}
 use Rattle.tail_config.specs.Tails.{TailConfig, Different, ShareImage, AgreeLeft, AgreeRight}
+use Rattle.cert_format.specs.declared.cert_version.CertVersion.TheVariants.{Two}
 use Rattle.cert_format.specs.Certificates.{Certificate, SurjectiveEvidence, InjectiveEvidence, SideEvidence, SumEvidence}
-use Rattle.cert_format.specs.Certificates.SurjectiveEvidence.{Sets, Orphan}
+use Rattle.cert_format.specs.Certificates.SurjectiveEvidence.{Sets, Pairs, Orphan}
 use Rattle.cert_format.specs.Certificates.InjectiveEvidence.{Window, Twins}
 use Rattle.cert_format.specs.Certificates.SideEvidence.{Ahead, Split}
 use Rattle.cert_format.specs.Certificates.SumEvidence.{Flux, Ring}
 use Rattle.cert_check.specs.declared.conditions.Condition.{Condition}
-use Rattle.cert_check.specs.declared.conditions.Condition.TheVariants.{ForwardClaims, BackwardClaims, FullListed, NoneEmpty, Closed, OrphanRead, WindowClaims, TwinsAlike, RightAhead, RightSplit, LeftAhead, LeftSplit, FluxFlows, RingLossy}
+use Rattle.cert_check.specs.declared.conditions.Condition.TheVariants.{ForwardClaims, BackwardClaims, FullListed, NoneEmpty, Closed, FirstsListed, OffDiagonal, PairsClosed, OrphanRead, WindowClaims, TwinsAlike, RightAhead, RightSplit, LeftAhead, LeftSplit, FluxFlows, RingLossy}
 use Rattle.cert_check.specs.Breaches.{EachBelow}
 use Rattle.cert_check.specs.Claims.{IsForwardClaim, IsBackwardClaim}
-use Rattle.cert_check.specs.Sets.{StepIsListed, LeadsTo}
+use Rattle.cert_check.specs.Sets.{StepIsKept, LeadsTo}
+use Rattle.cert_check.specs.Pairs.{FirstIsListed, StepsAreListed}
 use Rattle.cert_check.specs.Windows.{IsWindowPair, IsAheadPair}
 use Rattle.cert_check.specs.Sums.{Flows, IsLossy}
 
 -- the conditions in the order in which they are checked
 abbrev pub conditions : List Condition
 conditions =
-    ForwardClaims ∷ BackwardClaims ∷ FullListed ∷ NoneEmpty ∷ Closed ∷ OrphanRead ∷ WindowClaims ∷ TwinsAlike ∷ RightAhead ∷ RightSplit ∷ LeftAhead ∷ LeftSplit ∷ FluxFlows ∷ RingLossy ∷ []
+    ForwardClaims ∷ BackwardClaims ∷ FullListed ∷ NoneEmpty ∷ Closed ∷ FirstsListed ∷ OffDiagonal ∷ PairsClosed ∷ OrphanRead ∷ WindowClaims ∷ TwinsAlike ∷ RightAhead ∷ RightSplit ∷ LeftAhead ∷ LeftSplit ∷ FluxFlows ∷ RingLossy ∷ []
 
 -- what is asked of listed sets, where the part has them
 abbrev pub OfSets : SurjectiveEvidence → (List ℕ → Type 0) → Type 0
 OfSets (Sets sets) P = P sets
+OfSets (Pairs pairs) P = ⊤
 OfSets (Orphan w) P = ⊤
+
+-- of listed pairs
+abbrev pub OfPairs : SurjectiveEvidence → (List ℕ → Type 0) → Type 0
+OfPairs (Sets sets) P = ⊤
+OfPairs (Pairs pairs) P = P pairs
+OfPairs (Orphan w) P = ⊤
 
 -- of an orphan
 abbrev pub OfOrphan : SurjectiveEvidence → (List ℕ → Type 0) → Type 0
 OfOrphan (Sets sets) P = ⊤
+OfOrphan (Pairs pairs) P = ⊤
 OfOrphan (Orphan w) P = P w
 
 -- of a window
@@ -69,7 +79,10 @@ Holds c ForwardClaims = EachBelow (pair_count c.rule) (IsForwardClaim c.rule c.f
 Holds c BackwardClaims = EachBelow (pair_count c.rule) (IsBackwardClaim c.rule c.backward)
 Holds c FullListed = OfSets c.surjective (λ sets. Contains sets (full_set c.rule))
 Holds c NoneEmpty = OfSets c.surjective (λ sets. EachBelow (length sets) (λ i. slice_index sets i ≢ 0))
-Holds c Closed = OfSets c.surjective (λ sets. EachBelow (length sets) (λ i. EachBelow c.rule.states (StepIsListed c.rule sets (slice_index sets i))))
+Holds c Closed = OfSets c.surjective (λ sets. EachBelow (length sets) (λ i. EachBelow c.rule.states (StepIsKept c.version c.rule sets (slice_index sets i))))
+Holds c FirstsListed = OfPairs c.surjective (λ pairs. EachBelow (pair_count c.rule) (FirstIsListed c.rule pairs))
+Holds c OffDiagonal = OfPairs c.surjective (λ pairs. EachBelow (length pairs) (λ i. first_of c.rule (slice_index pairs i) ≢ second_of c.rule (slice_index pairs i)))
+Holds c PairsClosed = OfPairs c.surjective (λ pairs. EachBelow (length pairs) (λ i. StepsAreListed c.rule pairs (slice_index pairs i)))
 Holds c OrphanRead = OfOrphan c.surjective (λ w. LeadsTo c.rule (full_set c.rule) w 0)
 Holds c WindowClaims = OfWindow c.injective (λ n at. EachBelow (pair_count c.rule) (IsWindowPair c.rule c.forward c.backward n at))
 Holds c TwinsAlike = OfTwins c.injective (λ x y. ((length x ≡ length y) × (1 ≤ length x)) × (x ≢ y) × (ring_image c.rule x ≡ ring_image c.rule y))
@@ -77,9 +90,24 @@ Holds c RightAhead = OfAhead c.right (λ n. EachBelow (pair_count c.rule) (IsAhe
 Holds c RightSplit = OfSplit c.right (λ x y. Different x y × AgreeLeft x y × ShareImage c.rule x y)
 Holds c LeftAhead = OfAhead c.left (λ n. EachBelow (pair_count c.rule) (IsAheadPair (IsFirstOfLeft c.rule) c.backward n))
 Holds c LeftSplit = OfSplit c.left (λ x y. Different x y × AgreeRight x y × ShareImage c.rule x y)
-Holds c FluxFlows = OfFlux c.conserving (λ phi. EachBelow (c.rule.states ^ c.rule.width) (λ v. Flows c.rule phi (word_of c.rule.states c.rule.width v)))
-Holds c RingLossy = OfRing c.conserving (IsLossy c.rule)
+Holds c FluxFlows = OfFlux c.conserving (λ phi. EachBelow (c.rule.states ^ c.rule.width) (λ v. Flows (slice_index c.weights) c.rule phi (word_of c.rule.states c.rule.width v)))
+Holds c RingLossy = OfRing c.conserving (IsLossy (slice_index c.weights) c.rule)
 
 -- the certificate meets all of them
 abbrev pub MeetsConditions : Certificate → Type 0
 MeetsConditions c = (condition : Condition) → Holds c condition
+
+-- the same certificate as one of version 2
+abbrev pub as_two : Certificate → Certificate
+as_two c = record {
+  version = Two;
+  rule = c.rule;
+  surjective = c.surjective;
+  injective = c.injective;
+  right = c.right;
+  left = c.left;
+  conserving = c.conserving;
+  weights = c.weights;
+  forward = c.forward;
+  backward = c.backward;
+}

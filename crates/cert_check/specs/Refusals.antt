@@ -2,11 +2,11 @@
 use Rattle.std.specs.Prelude.{◌≡◌, ◌≢◌, ℕ, ◌^◌, ◌≤◌, List, length, slice_index, Contains, ℤ, Result, MatchResult}
 use Rattle.word_image.specs.LocalRules.{LocalRule, word_of}
 use Rattle.word_image.specs.Rings.{ring_image}
-use Rattle.word_image.specs.Graphs.{full_set, pair_count}
+use Rattle.word_image.specs.Graphs.{full_set, first_of, second_of, pair_count}
 use Rattle.word_image.specs.Erasure.{IsFirstOfRight, IsFirstOfLeft}
 use Rattle.tail_config.specs.Tails.{TailConfig, Different, ShareImage, AgreeLeft, AgreeRight}
 use Rattle.cert_format.specs.Certificates.{Certificate}
-use Rattle.cert_format.specs.Certificates.SurjectiveEvidence.{Sets, Orphan}
+use Rattle.cert_format.specs.Certificates.SurjectiveEvidence.{Sets, Pairs, Orphan}
 use Rattle.cert_format.specs.Certificates.InjectiveEvidence.{Window, Twins}
 use Rattle.cert_format.specs.Certificates.SideEvidence.{Ahead, Split}
 use Rattle.cert_format.specs.Certificates.SumEvidence.{Flux, Ring}
@@ -24,7 +24,8 @@ use Rattle.cert_check.specs.declared.refusal.Refusal.{Refusal}
 use Rattle.cert_check.specs.declared.refusal.Refusal.TheVariants as refusal
 use Rattle.cert_check.specs.Breaches.{EachBelow, IsFirstBreach}
 use Rattle.cert_check.specs.Claims.{IsForwardClaim, IsBackwardClaim}
-use Rattle.cert_check.specs.Sets.{StepIsListed, LeadsTo}
+use Rattle.cert_check.specs.Sets.{StepIsKept, LeadsTo}
+use Rattle.cert_check.specs.Pairs.{FirstIsListed, StepsAreListed, IsFirstLeaving}
 use Rattle.cert_check.specs.Windows.{IsWindowPair, IsAheadPair}
 use Rattle.cert_check.specs.Sums.{Flows, IsLossy}
 use Rattle.cert_check.specs.Conditions.{conditions, Holds}
@@ -48,8 +49,14 @@ pub data IsBreach (c : Certificate) : Condition → Refusal → Type 0 where
   NoFull : (sets : List ℕ) → c.surjective ≡ Sets sets → ¬ Contains sets (full_set c.rule) → IsBreach c condition.FullListed refusal.NoFull
   Empty : (sets : List ℕ) (i : ℕ) → c.surjective ≡ Sets sets → IsFirstBreach (length sets) (λ i. slice_index sets i ≢ 0) i → IsBreach c condition.NoneEmpty (refusal.EmptySet i)
   NotClosed : (sets : List ℕ) (i a : ℕ) → c.surjective ≡ Sets sets
-      → IsFirstBreach (length sets) (λ i. EachBelow c.rule.states (StepIsListed c.rule sets (slice_index sets i))) i
-      → IsFirstBreach c.rule.states (StepIsListed c.rule sets (slice_index sets i)) a → IsBreach c condition.Closed (refusal.NotClosed i a)
+      → IsFirstBreach (length sets) (λ i. EachBelow c.rule.states (StepIsKept c.version c.rule sets (slice_index sets i))) i
+      → IsFirstBreach c.rule.states (StepIsKept c.version c.rule sets (slice_index sets i)) a → IsBreach c condition.Closed (refusal.NotClosed i a)
+  NoFirst : (pairs : List ℕ) (p : ℕ) → c.surjective ≡ Pairs pairs → IsFirstBreach (pair_count c.rule) (FirstIsListed c.rule pairs) p → IsBreach c condition.FirstsListed (refusal.NoFirst p)
+  Diagonal : (pairs : List ℕ) (i : ℕ) → c.surjective ≡ Pairs pairs
+      → IsFirstBreach (length pairs) (λ i. first_of c.rule (slice_index pairs i) ≢ second_of c.rule (slice_index pairs i)) i → IsBreach c condition.OffDiagonal (refusal.Diagonal i)
+  Leaves : (pairs : List ℕ) (i a b : ℕ) → c.surjective ≡ Pairs pairs
+      → IsFirstBreach (length pairs) (λ i. StepsAreListed c.rule pairs (slice_index pairs i)) i
+      → IsFirstLeaving c.rule pairs (slice_index pairs i) a b → IsBreach c condition.PairsClosed (refusal.Leaves i a b)
   NoOrphan : (w : List ℕ) → c.surjective ≡ Orphan w → ¬ LeadsTo c.rule (full_set c.rule) w 0 → IsBreach c condition.OrphanRead refusal.Orphan
   NoWindow : (n at p : ℕ) → c.injective ≡ Window n at → IsFirstBreach (pair_count c.rule) (IsWindowPair c.rule c.forward c.backward n at) p
       → IsBreach c condition.WindowClaims (refusal.Window p)
@@ -63,8 +70,8 @@ pub data IsBreach (c : Certificate) : Condition → Refusal → Type 0 where
   NoLeftSplit : (x y : TailConfig) (cause : SplitCause) → c.left ≡ Split x y → IsSplitBreach c.rule AgreeRight x y cause
       → IsBreach c condition.LeftSplit (refusal.Split side.Left cause)
   NoFlux : (phi : List ℤ) (v : ℕ) → c.conserving ≡ Flux phi
-      → IsFirstBreach (c.rule.states ^ c.rule.width) (λ v. Flows c.rule phi (word_of c.rule.states c.rule.width v)) v → IsBreach c condition.FluxFlows (refusal.Flux v)
-  NoRing : (p : List ℕ) → c.conserving ≡ Ring p → ¬ IsLossy c.rule p → IsBreach c condition.RingLossy refusal.Ring
+      → IsFirstBreach (c.rule.states ^ c.rule.width) (λ v. Flows (slice_index c.weights) c.rule phi (word_of c.rule.states c.rule.width v)) v → IsBreach c condition.FluxFlows (refusal.Flux v)
+  NoRing : (p : List ℕ) → c.conserving ≡ Ring p → ¬ IsLossy (slice_index c.weights) c.rule p → IsBreach c condition.RingLossy refusal.Ring
 
 -- what the check of one condition answers: it is met, or this is said of it
 abbrev pub IsChecked : Certificate → Condition → Result Unit Refusal → Type 0

@@ -7,11 +7,11 @@ use Rattle.word_image.specs.Rings.{KeepsSum}
 abbrev pub flux_at : List ℤ → ℕ → ℤ
 flux_at phi u = slice_index_or phi u (pos 0)
 
--- the new letter less the first one is what flows from the first node of a window to its last
-abbrev pub Flows : LocalRule → List ℤ → List ℕ → Type 0
-Flows r phi w =
-    (pos (local_map r w) -ℤ pos (slice_index w 0)) ≡ (flux_at phi (value r.states (take (r.width - 1) w)) -ℤ flux_at phi (value r.states (drop 1 w)))
+-- the weight of the new letter less that of the first one is what flows from the first node of a window to its last
+abbrev pub Flows : (ℕ → ℕ) → LocalRule → List ℤ → List ℕ → Type 0
+Flows weight r phi w =
+    (pos (weight (local_map r w)) -ℤ pos (weight (slice_index w 0))) ≡ (flux_at phi (value r.states (take (r.width - 1) w)) -ℤ flux_at phi (value r.states (drop 1 w)))
 
 -- a ring with letters whose image has another sum
-abbrev pub IsLossy : LocalRule → List ℕ → Type 0
-IsLossy r p = (1 ≤ length p) × ¬ KeepsSum (λ a. a) r p
+abbrev pub IsLossy : (ℕ → ℕ) → LocalRule → List ℕ → Type 0
+IsLossy weight r p = (1 ≤ length p) × ¬ KeepsSum weight r p

@@ -59,7 +59,7 @@ fn first_too_far(rule: &Rule, side: Side, claims: &[Option<u16>], n: u16) -> Opt
 
 /// Whether a pair is a first pair of this side: its nodes differ in the letter at their end on this
 /// side alone, and some letter at their other end makes windows with one label of them.
-fn is_first(rule: &Rule, side: Side, pair: u16) -> bool
+pub fn is_first(rule: &Rule, side: Side, pair: u16) -> bool
     requires { pair < pair_count rule.now }
     ensures { IsTrue result ↔ IsFirstOf side rule.now pair }
 {

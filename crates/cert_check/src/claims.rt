@@ -109,7 +109,7 @@ pub fn claims_below(claims: &[Option<u16>], pair: u16, most: u16) -> bool
 }
 
 /// The pair of two nodes.
-fn pair_of(rule: &Rule, first: u16, second: u16) -> u16
+pub fn pair_of(rule: &Rule, first: u16, second: u16) -> u16
     requires first { first < node_count rule.now }
     requires second { second < node_count rule.now }
     ensures pair { result ≡ pair_of rule.now first second }
@@ -132,7 +132,7 @@ pub fn window_with(rule: &Rule, side: Side, node: u16, letter: u8) -> u16
 }
 
 /// The node of the other letters of a window, on this side.
-fn far_node(rule: &Rule, side: Side, window: u16) -> u16
+pub fn far_node(rule: &Rule, side: Side, window: u16) -> u16
     requires { window < rule.now.states ^ rule.now.width }
     ensures node { result ≡ far_node side rule.now window }
     ensures below { result < node_count rule.now }

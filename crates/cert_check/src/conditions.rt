@@ -7,6 +7,7 @@ ghost use Rattle.cert_check.specs.Refusals.{IsChecked, IsFirstUnmet};
 use crate::aheads::{left_ahead, right_ahead};
 use crate::claims::{backward_claims, forward_claims};
 use crate::orphans::orphan_read;
+use crate::pairs::{firsts_listed, off_diagonal, pairs_closed};
 use crate::refusal::Refusal;
 use crate::sets::{closed, full_listed, none_empty};
 use crate::splits::{left_split, right_split};
@@ -26,8 +27,14 @@ pub enum Condition {
     FullListed,
     /// No listed set is empty.
     NoneEmpty,
-    /// Each step of a listed set is listed.
+    /// Each step of a listed set is listed, or from version 2 on contains a listed set.
     Closed,
+    /// Each first pair of the right is listed.
+    FirstsListed,
+    /// No listed pair has two equal nodes.
+    OffDiagonal,
+    /// Each pair to which a listed pair leads is listed.
+    PairsClosed,
     /// The orphan leads from the full set to the empty one.
     OrphanRead,
     /// The claims determine the letter of the window.
@@ -49,12 +56,15 @@ pub enum Condition {
 }
 
 /// All of them, the one that is checked first at the front.
-const CONDITIONS: [Condition; 14] = [
+const CONDITIONS: [Condition; 17] = [
     Condition::ForwardClaims,
     Condition::BackwardClaims,
     Condition::FullListed,
     Condition::NoneEmpty,
     Condition::Closed,
+    Condition::FirstsListed,
+    Condition::OffDiagonal,
+    Condition::PairsClosed,
     Condition::OrphanRead,
     Condition::WindowClaims,
     Condition::TwinsAlike,
@@ -86,6 +96,9 @@ fn check(condition: Condition, cert: &Cert) -> Result<(), Refusal>
         Condition::FullListed => full_listed(cert),
         Condition::NoneEmpty => none_empty(cert),
         Condition::Closed => closed(cert),
+        Condition::FirstsListed => firsts_listed(cert),
+        Condition::OffDiagonal => off_diagonal(cert),
+        Condition::PairsClosed => pairs_closed(cert),
         Condition::OrphanRead => orphan_read(cert),
         Condition::WindowClaims => window_claims(cert),
         Condition::TwinsAlike => twins_alike(cert),

@@ -1,5 +1,7 @@
 //! What the definitions say of all bytes, as the contract of a function with nothing to run.
 ghost use Rattle.std.specs.Prelude.{◌≡◌, ℕ, List};
+ghost use Rattle.cert_format.specs.Certificates.{Certificate};
+ghost use Rattle.cert_check.specs.Conditions.{MeetsConditions, as_two};
 ghost use Rattle.cert_check.specs.Accepted.{IsAccepted};
 ghost use Rattle.cert_check.specs.Refusals.{IsRefusal};
 
@@ -12,4 +14,9 @@ pub fn one_answer()
     ensures accepted { (bytes : List ℕ) (v w : Verdicts) → IsAccepted bytes v → IsAccepted bytes w → v ≡ w }
     ensures refused { (bytes : List ℕ) (f g : Refusal) → IsRefusal bytes f → IsRefusal bytes g → f ≡ g }
     ensures never_both { (bytes : List ℕ) (v : Verdicts) (f : Refusal) → IsAccepted bytes v → ¬ IsRefusal bytes f }
+{}
+
+/// What meets the conditions in its version meets them as a certificate of version 2.
+pub fn version_2_asks_no_more()
+    ensures { (c : Certificate) → MeetsConditions c → MeetsConditions (as_two c) }
 {}

@@ -1,7 +1,9 @@
 //! Marks on sets of nodes.
 
-ghost use Rattle.std.specs.Prelude.{◌≡◌, ◌↔◌, ◌⊎◌, ℕ, IsTrue};
-ghost use Rattle.cert_check.specs.Sets.{IsMarked, AreMarked};
+ghost use Rattle.std.specs.Prelude.{◌≡◌, ◌+◌, ◌<◌, ◌↔◌, ◌⊎◌, ℕ, IsTrue};
+ghost use Rattle.cert_check.specs.Sets.{HasPart, IsMarked, AreMarked, AreKept, without};
+
+use cert_format::CertVersion;
 
 /// A row for each 16 of the 65,536 sets.
 const ROWS: usize = 4096;
@@ -32,6 +34,44 @@ impl Marks {
         marks
     }
 
+    /// A mark on each set up to the full one that the step of a listed set may be in this version.
+    pub fn kept(version: CertVersion, full: u16, sets: &[u16]) -> Marks
+        ensures { AreKept version full sets.now result.rows }
+    {
+        match version {
+            CertVersion::One => Marks::of(sets),
+            CertVersion::Two | CertVersion::Three => Marks::above(full, sets),
+        }
+    }
+
+    /// A mark on each set up to the full one that contains one of a list.
+    fn above(full: u16, sets: &[u16]) -> Marks
+        ensures { (s : ℕ) → IsMarked result.rows s ↔ ((s < full + 1) × HasPart sets.now s) }
+    {
+        let listed = Marks::of(sets);
+        let mut above = Marks::new();
+        for number in 0..u32::from(full) + 1 {
+            let set = number as u16;
+            if !is_above(&listed, &above, set) {
+                continue;
+            }
+            above.mark(set);
+        }
+        above
+    }
+
+    /// Whether a set is marked without one of its nodes.
+    fn has_without_one(&self, set: u16) -> bool
+        ensures { IsTrue result ↔ ((n : ℕ) × (n < 16) × IsMarked self.now.rows (without set n)) }
+    {
+        for node in 0..16u16 {
+            if self.has(set & !(1u16 << node)) {
+                return true;
+            }
+        }
+        false
+    }
+
     /// Whether a set is marked.
     pub fn has(&self, set: u16) -> bool
         ensures { IsTrue result ↔ IsMarked self.now.rows set }
@@ -45,4 +85,14 @@ impl Marks {
     {
         self.rows[usize::from(set / 16)] |= 1u16 << (set % 16);
     }
+}
+
+/// Whether a set is listed, or marked without one of its nodes.
+fn is_above(listed: &Marks, above: &Marks, set: u16) -> bool
+    ensures { IsTrue result ↔ (IsMarked listed.now.rows set ⊎ ((n : ℕ) × (n < 16) × IsMarked above.now.rows (without set n))) }
+{
+    if listed.has(set) {
+        return true;
+    }
+    above.has_without_one(set)
 }

@@ -15,7 +15,7 @@ pub fn orphan_read(cert: &Cert) -> Result<(), Refusal>
     ensures { IsChecked cert.now Condition.OrphanRead result }
 {
     match &cert.surjective {
-        SurjectivePart::Sets(_) => Ok(()),
+        SurjectivePart::Sets(_) | SurjectivePart::Pairs(_) => Ok(()),
         SurjectivePart::Orphan(word) => {
             if reached(&Steps::of(&cert.rule), word.as_slice()) == 0 {
                 Ok(())

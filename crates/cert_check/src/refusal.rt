@@ -44,9 +44,16 @@ pub enum Refusal {
     NoFull,
     /// The set at this place, the first such one, is empty.
     EmptySet(usize),
-    /// The step of the set at this place on this letter isn't listed: the first place, then the first
-    /// letter.
+    /// The step of the set at this place on this letter isn't listed, or from version 2 on contains no
+    /// listed set: the first place, then the first letter.
     NotClosed(usize, u8),
+    /// This first pair of the right, the least such one, isn't listed.
+    NoFirst(u16),
+    /// The pair at this place, the first such one, has two equal nodes.
+    Diagonal(usize),
+    /// The pair at this place leads on these letters to a pair that isn't listed: the first place, then
+    /// the first letters.
+    Leaves(usize, u8, u8),
     /// The orphan leads to some node.
     Orphan,
     /// The claims of this pair, the first such one, don't determine the letter of the window.

@@ -1,15 +1,16 @@
 //! Listed sets that prove a rule surjective.
 
 ghost use Rattle.std.specs.Prelude.{◌≢◌, ◌^◌, ◌<◌, ℕ, List, length, slice_index, Contains, IsTrue, MatchOption};
+ghost use Rattle.word_image.specs.Graphs.{full_set};
 ghost use Rattle.cert_check.specs.Breaches.{EachBelow, IsFirstBreach, FirstBreach};
-ghost use Rattle.cert_check.specs.Sets.{StepIsListed, AreMarked};
+ghost use Rattle.cert_check.specs.Sets.{StepIsKept, AreKept};
 ghost use Rattle.cert_check.specs.Refusals.{IsChecked};
 
 use crate::conditions::Condition;
 use crate::marks::Marks;
 use crate::refusal::Refusal;
 use crate::steps::Steps;
-use cert_format::{Cert, SurjectivePart};
+use cert_format::{Cert, CertVersion, SurjectivePart};
 
 /// Whether the full set is listed.
 pub fn full_listed(cert: &Cert) -> Result<(), Refusal>
@@ -23,7 +24,7 @@ pub fn full_listed(cert: &Cert) -> Result<(), Refusal>
                 Err(Refusal::NoFull)
             }
         }
-        SurjectivePart::Orphan(_) => Ok(()),
+        SurjectivePart::Pairs(_) | SurjectivePart::Orphan(_) => Ok(()),
     }
 }
 
@@ -36,21 +37,23 @@ pub fn none_empty(cert: &Cert) -> Result<(), Refusal>
             Some(place) => Err(Refusal::EmptySet(place)),
             None => Ok(()),
         },
-        SurjectivePart::Orphan(_) => Ok(()),
+        SurjectivePart::Pairs(_) | SurjectivePart::Orphan(_) => Ok(()),
     }
 }
 
-/// Whether the steps of each listed set are listed; else the first place of a set with one that isn't,
-/// and the first letter on which it isn't.
+/// Whether the steps of each listed set are as its version asks; else the first place of a set with one
+/// that isn't, and the first letter on which it isn't.
 pub fn closed(cert: &Cert) -> Result<(), Refusal>
     ensures { IsChecked cert.now Condition.Closed result }
 {
     match &cert.surjective {
-        SurjectivePart::Sets(sets) => match first_open(&Steps::of(&cert.rule), sets.as_slice()) {
-            Some((place, letter)) => Err(Refusal::NotClosed(place, letter)),
-            None => Ok(()),
-        },
-        SurjectivePart::Orphan(_) => Ok(()),
+        SurjectivePart::Sets(sets) => {
+            match first_open(cert.version, &Steps::of(&cert.rule), sets.as_slice()) {
+                Some((place, letter)) => Err(Refusal::NotClosed(place, letter)),
+                None => Ok(()),
+            }
+        }
+        SurjectivePart::Pairs(_) | SurjectivePart::Orphan(_) => Ok(()),
     }
 }
 
@@ -66,20 +69,21 @@ fn first_empty(sets: &[u16]) -> Option<usize>
     None
 }
 
-/// The place of the first set with a step that isn't listed, and the first letter of such a step.
-fn first_open(steps: &Steps, sets: &[u16]) -> Option<(usize, u8)>
+/// The place of the first set with a step that isn't as the version asks, and the first letter of such a
+/// step.
+fn first_open(version: CertVersion, steps: &Steps, sets: &[u16]) -> Option<(usize, u8)>
     ensures { MatchOption result
-        (EachBelow (length sets.now) (λ i. EachBelow steps.now.states (StepIsListed steps.now sets.now (slice_index sets.now i))))
-        (λ (i, a). IsFirstBreach (length sets.now) (λ i. EachBelow steps.now.states (StepIsListed steps.now sets.now (slice_index sets.now i))) i
-        × IsFirstBreach steps.now.states (StepIsListed steps.now sets.now (slice_index sets.now i)) a) }
+        (EachBelow (length sets.now) (λ i. EachBelow steps.now.states (StepIsKept version steps.now sets.now (slice_index sets.now i))))
+        (λ (i, a). IsFirstBreach (length sets.now) (λ i. EachBelow steps.now.states (StepIsKept version steps.now sets.now (slice_index sets.now i))) i
+        × IsFirstBreach steps.now.states (StepIsKept version steps.now sets.now (slice_index sets.now i)) a) }
 {
-    let listed = Marks::of(sets);
+    let kept = Marks::kept(version, steps.full(), sets);
     let mut closed = Marks::new();
     for (place, set) in sets.iter().enumerate() {
         if closed.has(*set) {
             continue;
         }
-        if let Some(letter) = first_unlisted(steps, &listed, *set) {
+        if let Some(letter) = first_not_kept(steps, &kept, *set) {
             return Some((place, letter));
         }
         closed.mark(*set);
@@ -87,12 +91,12 @@ fn first_open(steps: &Steps, sets: &[u16]) -> Option<(usize, u8)>
     None
 }
 
-/// The first letter on which the step of a set isn't listed.
-fn first_unlisted(steps: &Steps, listed: &Marks, set: u16) -> Option<u8>
-    ensures { (sets : List ℕ) → AreMarked listed.now.rows sets → FirstBreach steps.now.states (StepIsListed steps.now sets set) result }
+/// The first letter on which the step of a set isn't marked.
+fn first_not_kept(steps: &Steps, kept: &Marks, set: u16) -> Option<u8>
+    ensures { (version : CertVersion) (sets : List ℕ) → AreKept version (full_set steps.now) sets kept.now.rows → FirstBreach steps.now.states (StepIsKept version steps.now sets set) result }
 {
     for letter in 0..steps.k() {
-        if !listed.has(steps.step(set, letter)) {
+        if !kept.has(steps.step(set, letter)) {
             return Some(letter);
         }
     }

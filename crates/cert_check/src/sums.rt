@@ -1,6 +1,6 @@
 //! A flux that balances, or a ring that loses.
 
-ghost use Rattle.std.specs.Prelude.{◌≡◌, ◌↔◌, ◌^◌, ◌<◌, length, IsTrue};
+ghost use Rattle.std.specs.Prelude.{◌≡◌, ◌↔◌, ◌/◌, ◌^◌, ◌<◌, length, slice_index, IsTrue};
 ghost use Rattle.word_image.specs.LocalRules.{node_count, word_of};
 ghost use Rattle.word_image.specs.Rings.{IsRing, KeepsSum};
 ghost use Rattle.cert_check.specs.Breaches.{FirstBreach};
@@ -10,7 +10,7 @@ ghost use Rattle.cert_check.specs.Sums.{Flows};
 use crate::conditions::Condition;
 use crate::refusal::Refusal;
 use cert_format::{Cert, SumPart};
-use word_image::{Rule, ring_apply};
+use word_image::{Rule, Weights, ring_apply};
 
 /// Whether the flux balances what each window gains; else the least window that it doesn't.
 pub fn flux_flows(cert: &Cert) -> Result<(), Refusal>
@@ -19,7 +19,7 @@ pub fn flux_flows(cert: &Cert) -> Result<(), Refusal>
     let SumPart::Flux(flux) = &cert.conserving else {
         return Ok(());
     };
-    match first_unbalanced(&cert.rule, flux.as_slice()) {
+    match first_unbalanced(&cert.rule, &cert.weights, flux.as_slice()) {
         Some(window) => Err(Refusal::Flux(window)),
         None => Ok(()),
     }
@@ -33,19 +33,20 @@ pub fn ring_lossy(cert: &Cert) -> Result<(), Refusal>
         return Ok(());
     };
     let ring = ring.as_slice();
-    if ring.is_empty() || keeps_sum(&cert.rule, ring) {
+    if ring.is_empty() || keeps_sum(&cert.rule, &cert.weights, ring) {
         return Err(Refusal::Ring);
     }
     Ok(())
 }
 
 /// The value of the first window at which the flux doesn't balance.
-fn first_unbalanced(rule: &Rule, flux: &[i32]) -> Option<u16>
-    requires { length flux.now ≡ node_count rule.now }
-    ensures { FirstBreach (rule.now.states ^ rule.now.width) (λ v. Flows rule.now flux.now (word_of rule.now.states rule.now.width v)) result }
+fn first_unbalanced(rule: &Rule, weights: &Weights, flux: &[i32]) -> Option<u16>
+    requires letters { length weights.now ≡ rule.now.states }
+    requires nodes { length flux.now ≡ node_count rule.now }
+    ensures { FirstBreach (rule.now.states ^ rule.now.width) (λ v. Flows (slice_index weights.now) rule.now flux.now (word_of rule.now.states rule.now.width v)) result }
 {
     for window in 0..rule.size() {
-        if !flows(rule, flux, window) {
+        if !flows(rule, weights, flux, window) {
             return Some(window);
         }
     }
@@ -53,28 +54,40 @@ fn first_unbalanced(rule: &Rule, flux: &[i32]) -> Option<u16>
 }
 
 /// Whether the window of this value gains what the flux takes from its first node to its last one.
-fn flows(rule: &Rule, flux: &[i32], window: u16) -> bool
+fn flows(rule: &Rule, weights: &Weights, flux: &[i32], window: u16) -> bool
+    requires letters { length weights.now ≡ rule.now.states }
     requires nodes { length flux.now ≡ node_count rule.now }
     requires window { window < rule.now.states ^ rule.now.width }
-    ensures { IsTrue result ↔ Flows rule.now flux.now (word_of rule.now.states rule.now.width window) }
+    ensures { IsTrue result ↔ Flows (slice_index weights.now) rule.now flux.now (word_of rule.now.states rule.now.width window) }
 {
     let (k, nodes) = (u16::from(rule.k()), u16::from(rule.nodes()));
-    let gain = i64::from(rule.at(window)) - i64::from(window / nodes);
+    let gain = i64::from(weights.at(rule.at(window)))
+        - i64::from(weights.at(first_letter(rule, window)));
     let first = i64::from(flux[usize::from(window / k)]);
     let last = i64::from(flux[usize::from(window % nodes)]);
     gain == first - last
 }
 
-/// Whether a ring and its image have one sum.
-fn keeps_sum(rule: &Rule, ring: &[u8]) -> bool
-    requires { IsRing rule.now.states ring.now }
-    ensures { IsTrue result ↔ KeepsSum (λ a. a) rule.now ring.now }
+/// The first letter of the window of this value.
+fn first_letter(rule: &Rule, window: u16) -> u8
+    requires { window < rule.now.states ^ rule.now.width }
+    ensures letter { result ≡ window / node_count rule.now }
+    ensures below { result < rule.now.states }
+{
+    (window / u16::from(rule.nodes())) as u8
+}
+
+/// Whether a ring and its image have one sum of weights.
+fn keeps_sum(rule: &Rule, weights: &Weights, ring: &[u8]) -> bool
+    requires letters { length weights.now ≡ rule.now.states }
+    requires ring { IsRing rule.now.states ring.now }
+    ensures { IsTrue result ↔ KeepsSum (slice_index weights.now) rule.now ring.now }
 {
     let mut before = 0u128;
     let mut after = 0u128;
     for place in 0..ring.len() {
-        before += u128::from(ring[place]);
-        after += u128::from(ring_apply(rule, ring, place));
+        before += u128::from(weights.at(ring[place]));
+        after += u128::from(weights.at(ring_apply(rule, ring, place)));
     }
     before == after
 }

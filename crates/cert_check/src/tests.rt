@@ -61,3 +61,51 @@ fn forged_certificates_of_the_shift_are_refused(rt: HostRuntime) -> Result<(), F
     }
     Ok(())
 }
+
+/// A certificate of the shift in version 2, whose letter 1 weighs 2, with these sets and weights.
+fn of_weighted_shift(alloc: Global, sets: &str, weights: &str) -> Result<String, AllocError> {
+    format!(in alloc;
+        "{{\"conserving\":{{\"flux\":[0,-2]}},\"injective\":{{\"c\":1,\"n\":1}},\"left\":{{\"ahead\":2}},\"ranks\":{{\"backward\":[null,0,0,null],\"forward\":[null,null,null,null]}},\"right\":{{\"ahead\":1}},\"rule\":\"2:2:0:t0101\",\"surjective\":{{\"sets\":{sets}}},\"version\":2,\"weights\":{weights}}}"
+    )
+}
+
+#[test]
+fn sums_and_steps_are_judged_by_version_2(rt: HostRuntime) -> Result<(), Fail> {
+    let text = of_weighted_shift(rt.alloc(), "[3,1,2]", "[0,2]")?;
+    let verdicts = judge(rt.alloc(), text.as_bytes())?;
+    assert!(rt; verdicts.surjective && verdicts.conserving);
+    assert_eq!(rt; verdicts.weights.as_slice(), [0, 2].as_slice());
+    let text = of_weighted_shift(rt.alloc(), "[3,1,2]", "[0,1]")?;
+    assert_eq!(rt;
+        judge(rt.alloc(), text.as_bytes()).err(),
+        Some(Refusal::Flux(1))
+    );
+    let text = of_weighted_shift(rt.alloc(), "[3,1]", "[0,2]")?;
+    assert_eq!(rt;
+        judge(rt.alloc(), text.as_bytes()).err(),
+        Some(Refusal::NotClosed(0, 1))
+    );
+    Ok(())
+}
+
+/// A certificate of the rule that gives the first of two cells, in version 3, with these pairs.
+fn of_first_cell(alloc: Global, pairs: &str) -> Result<String, AllocError> {
+    format!(in alloc;
+        "{{\"conserving\":{{\"flux\":[0,0]}},\"injective\":{{\"c\":0,\"n\":1}},\"left\":{{\"ahead\":1}},\"ranks\":{{\"backward\":[null,null,null,null],\"forward\":[null,0,0,null]}},\"right\":{{\"ahead\":2}},\"rule\":\"2:2:0:t0011\",\"surjective\":{{\"pairs\":{pairs}}},\"version\":3}}"
+    )
+}
+
+#[test]
+fn pairs_are_judged_in_version_3(rt: HostRuntime) -> Result<(), Fail> {
+    let text = of_first_cell(rt.alloc(), "[1,2]")?;
+    assert!(rt; judge(rt.alloc(), text.as_bytes())?.surjective);
+    let forged = [
+        ("[1]", Refusal::NoFirst(2)),
+        ("[1,2,3]", Refusal::Diagonal(2)),
+    ];
+    for (pairs, refusal) in forged.iter() {
+        let text = of_first_cell(rt.alloc(), pairs)?;
+        assert_eq!(rt; judge(rt.alloc(), text.as_bytes()).err(), Some(*refusal));
+    }
+    Ok(())
+}

@@ -6,7 +6,7 @@ use Rattle.std.proofs.lemmas.List.{take_more}
 use Rattle.std.proofs.lemmas.List.Elements.{All-push}
 use Rattle.word_image.specs.LocalRules.{LocalRule, word_of}
 use Rattle.word_image.specs.Rings.{ring_image}
-use Rattle.word_image.specs.Graphs.{full_set, pair_count}
+use Rattle.word_image.specs.Graphs.{full_set, first_of, second_of, pair_count}
 use Rattle.word_image.specs.Erasure.{IsFirstOfRight, IsFirstOfLeft}
 use Rattle.tail_config.specs.Tails.{TailConfig, Different, ShareImage, AgreeLeft, AgreeRight}
 use Rattle.cert_format.specs.Certificates.{Certificate}
@@ -16,12 +16,13 @@ use Rattle.cert_check.specs.declared.refusal.TwinCause.{TwinCause}
 use Rattle.cert_check.specs.declared.refusal.SplitCause.{SplitCause}
 use Rattle.cert_check.specs.declared.refusal.Refusal.{Refusal}
 use Rattle.cert_check.specs.Breaches.{EachBelow, IsFirstBreach}
-use Rattle.cert_check.specs.Sets.{StepIsListed, LeadsTo}
+use Rattle.cert_check.specs.Sets.{StepIsKept, LeadsTo}
+use Rattle.cert_check.specs.Pairs.{FirstIsListed, StepsAreListed}
 use Rattle.cert_check.specs.Windows.{IsWindowPair, IsAheadPair}
 use Rattle.cert_check.specs.Sums.{Flows, IsLossy}
-use Rattle.cert_check.specs.Conditions.{conditions, Holds, MeetsConditions, OfSets, OfOrphan, OfWindow, OfTwins, OfAhead, OfSplit, OfFlux, OfRing}
+use Rattle.cert_check.specs.Conditions.{conditions, Holds, MeetsConditions, OfSets, OfPairs, OfOrphan, OfWindow, OfTwins, OfAhead, OfSplit, OfFlux, OfRing}
 use Rattle.cert_check.specs.Refusals.{IsBreach, IsTwinsBreach, IsSplitBreach, IsFirstUnmet}
-use Rattle.cert_check.specs.Refusals.IsBreach.{Forward, Backward, NoFull, Empty, NotClosed, NoOrphan, NoWindow, NoTwins, NoRightAhead, NoRightSplit, NoLeftAhead, NoLeftSplit, NoFlux, NoRing}
+use Rattle.cert_check.specs.Refusals.IsBreach.{Forward, Backward, NoFull, Empty, NotClosed, NoFirst, Diagonal, Leaves, NoOrphan, NoWindow, NoTwins, NoRightAhead, NoRightSplit, NoLeftAhead, NoLeftSplit, NoFlux, NoRing}
 use Rattle.cert_check.specs.Refusals.IsTwinsBreach.{Length, Same as SameWords, Image as OtherRings}
 use Rattle.cert_check.specs.Refusals.IsSplitBreach.{Same as SameCells, Apart, Image as OtherImages}
 
@@ -46,7 +47,12 @@ breach_fails (Backward p first) h = first_fails first h
 breach_fails {c} (NoFull sets same other) h = other (subst (λ e. OfSets e (λ sets. Contains sets (full_set c.rule))) same h)
 breach_fails {c} (Empty sets i same first) h = first_fails first (subst (λ e. OfSets e (λ sets. EachBelow (length sets) (λ i. slice_index sets i ≢ 0))) same h)
 breach_fails {c} (NotClosed sets i a same first_set first_letter) h =
-    first_fails first_set (subst (λ e. OfSets e (λ sets. EachBelow (length sets) (λ i. EachBelow c.rule.states (StepIsListed c.rule sets (slice_index sets i))))) same h)
+    first_fails first_set (subst (λ e. OfSets e (λ sets. EachBelow (length sets) (λ i. EachBelow c.rule.states (StepIsKept c.version c.rule sets (slice_index sets i))))) same h)
+breach_fails {c} (NoFirst pairs p same first) h = first_fails first (subst (λ e. OfPairs e (λ pairs. EachBelow (pair_count c.rule) (FirstIsListed c.rule pairs))) same h)
+breach_fails {c} (Diagonal pairs i same first) h =
+    first_fails first (subst (λ e. OfPairs e (λ pairs. EachBelow (length pairs) (λ i. first_of c.rule (slice_index pairs i) ≢ second_of c.rule (slice_index pairs i)))) same h)
+breach_fails {c} (Leaves pairs i a b same first letters) h =
+    first_fails first (subst (λ e. OfPairs e (λ pairs. EachBelow (length pairs) (λ i. StepsAreListed c.rule pairs (slice_index pairs i)))) same h)
 breach_fails {c} (NoOrphan w same other) h = other (subst (λ e. OfOrphan e (λ w. LeadsTo c.rule (full_set c.rule) w 0)) same h)
 breach_fails {c} (NoWindow n at p same first) h =
     first_fails first (subst (λ e. OfWindow e (λ n at. EachBelow (pair_count c.rule) (IsWindowPair c.rule c.forward c.backward n at))) same h)
@@ -59,8 +65,8 @@ breach_fails {c} (NoLeftAhead n p same first) h =
     first_fails first (subst (λ e. OfAhead e (λ n. EachBelow (pair_count c.rule) (IsAheadPair (IsFirstOfLeft c.rule) c.backward n))) same h)
 breach_fails {c} (NoLeftSplit x y cause same fails) h = split_fails fails (subst (λ e. OfSplit e (λ x y. Different x y × AgreeRight x y × ShareImage c.rule x y)) same h)
 breach_fails {c} (NoFlux phi v same first) h =
-    first_fails first (subst (λ e. OfFlux e (λ phi. EachBelow (c.rule.states ^ c.rule.width) (λ v. Flows c.rule phi (word_of c.rule.states c.rule.width v)))) same h)
-breach_fails {c} (NoRing p same other) h = other (subst (λ e. OfRing e (IsLossy c.rule)) same h)
+    first_fails first (subst (λ e. OfFlux e (λ phi. EachBelow (c.rule.states ^ c.rule.width) (λ v. Flows (slice_index c.weights) c.rule phi (word_of c.rule.states c.rule.width v)))) same h)
+breach_fails {c} (NoRing p same other) h = other (subst (λ e. OfRing e (IsLossy (slice_index c.weights) c.rule)) same h)
 
 -- what has a breach doesn't meet the conditions
 pub unmet_fails : {c : Certificate} {f : Refusal} → IsFirstUnmet c f → ¬ MeetsConditions c
@@ -93,12 +99,15 @@ MeetsConditions-all c all condition.BackwardClaims = all 1 condition.ForwardClai
 MeetsConditions-all c all condition.FullListed = all 2 condition.ForwardClaims (omega arith)
 MeetsConditions-all c all condition.NoneEmpty = all 3 condition.ForwardClaims (omega arith)
 MeetsConditions-all c all condition.Closed = all 4 condition.ForwardClaims (omega arith)
-MeetsConditions-all c all condition.OrphanRead = all 5 condition.ForwardClaims (omega arith)
-MeetsConditions-all c all condition.WindowClaims = all 6 condition.ForwardClaims (omega arith)
-MeetsConditions-all c all condition.TwinsAlike = all 7 condition.ForwardClaims (omega arith)
-MeetsConditions-all c all condition.RightAhead = all 8 condition.ForwardClaims (omega arith)
-MeetsConditions-all c all condition.RightSplit = all 9 condition.ForwardClaims (omega arith)
-MeetsConditions-all c all condition.LeftAhead = all 10 condition.ForwardClaims (omega arith)
-MeetsConditions-all c all condition.LeftSplit = all 11 condition.ForwardClaims (omega arith)
-MeetsConditions-all c all condition.FluxFlows = all 12 condition.ForwardClaims (omega arith)
-MeetsConditions-all c all condition.RingLossy = all 13 condition.ForwardClaims (omega arith)
+MeetsConditions-all c all condition.FirstsListed = all 5 condition.ForwardClaims (omega arith)
+MeetsConditions-all c all condition.OffDiagonal = all 6 condition.ForwardClaims (omega arith)
+MeetsConditions-all c all condition.PairsClosed = all 7 condition.ForwardClaims (omega arith)
+MeetsConditions-all c all condition.OrphanRead = all 8 condition.ForwardClaims (omega arith)
+MeetsConditions-all c all condition.WindowClaims = all 9 condition.ForwardClaims (omega arith)
+MeetsConditions-all c all condition.TwinsAlike = all 10 condition.ForwardClaims (omega arith)
+MeetsConditions-all c all condition.RightAhead = all 11 condition.ForwardClaims (omega arith)
+MeetsConditions-all c all condition.RightSplit = all 12 condition.ForwardClaims (omega arith)
+MeetsConditions-all c all condition.LeftAhead = all 13 condition.ForwardClaims (omega arith)
+MeetsConditions-all c all condition.LeftSplit = all 14 condition.ForwardClaims (omega arith)
+MeetsConditions-all c all condition.FluxFlows = all 15 condition.ForwardClaims (omega arith)
+MeetsConditions-all c all condition.RingLossy = all 16 condition.ForwardClaims (omega arith)

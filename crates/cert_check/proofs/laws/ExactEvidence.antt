@@ -16,9 +16,10 @@ use Rattle.pair_laws.proofs.Claims.{ClaimsRanks, FallsForward-ranks, FallsBackwa
 use Rattle.pair_laws.proofs.Evidence.{IsClaimedApart-ranks, IsRightAhead-ranks, IsLeftAhead-ranks}
 use Rattle.ring_laws.proofs.FluxWindows.{Flows-flux}
 use Rattle.tail_config.specs.Tails.{TailConfig, AgreeLeft, AgreeRight, IsRightSplit, IsLeftSplit}
+use Rattle.cert_format.specs.declared.cert_version.CertVersion.TheVariants.{One}
 use Rattle.cert_check.specs.Breaches.{EachBelow}
 use Rattle.cert_check.specs.Claims.{claim}
-use Rattle.cert_check.specs.Sets.{StepIsListed, LeadsTo}
+use Rattle.cert_check.specs.Sets.{StepIsKept, LeadsTo}
 use Rattle.cert_check.specs.Sets.LeadsTo.{Stays, Steps}
 use Rattle.cert_check.specs.Sums.{Flows, IsLossy}
 use Rattle.cert_check.specs.Windows.{IsWindowPair, IsAheadPair}
@@ -41,8 +42,8 @@ nonempty-last_sets {r} {sets} surjective last i l empty =
     IsOrphan-not_surjective (IsOrphan-empty_set (subst (IsLastSet r found.0) empty found.1)) surjective
 
 -- it has each step from one of its sets
-pub StepIsListed-last_sets : {r : LocalRule} {sets : List ℕ} → IsRule r → AreLastSets r sets → EachBelow (length sets) (λ i. EachBelow r.states (StepIsListed r sets (slice_index sets i)))
-StepIsListed-last_sets {r} {sets} rule last i l a letter =
+pub StepIsKept-last_sets : {r : LocalRule} {sets : List ℕ} → IsRule r → AreLastSets r sets → EachBelow (length sets) (λ i. EachBelow r.states (StepIsKept One r sets (slice_index sets i)))
+StepIsKept-last_sets {r} {sets} rule last i l a letter =
     let found = last.each (slice_index sets i) (Contains-get_or sets i 0 l) in
     let step = IsStep-some r (slice_index sets i) a in
     (step.0, step.1, last.all (found.0 ++ a ∷ []) step.0 (IsLastSet-step {set = slice_index sets i} {after = step.0} rule found.1 letter step.1))
@@ -101,9 +102,9 @@ pub AreApart-left : {r : LocalRule} {x y : TailConfig} → IsLeftSplit r x y →
 AreApart-left split = (split.different, split.agree, split.share)
 
 -- a flux flows on the word of each number
-pub Flows-exact : {r : LocalRule} {phi : List ℤ} → IsRule r → IsFlux (λ a. a) r phi → EachBelow (r.states ^ r.width) (λ v. Flows r phi (word_of r.states r.width v))
-Flows-exact {phi} rule flux v l = (Flows-value rule phi v l).0 (Flows-flux rule flux v l)
+pub Flows-exact : {weight : ℕ → ℕ} {r : LocalRule} {phi : List ℤ} → IsRule r → IsFlux weight r phi → EachBelow (r.states ^ r.width) (λ v. Flows weight r phi (word_of r.states r.width v))
+Flows-exact {weight} {phi = phi} rule flux v l = (Flows-value rule weight phi v l).0 (Flows-flux rule flux v l)
 
 -- a lossy ring has letters, and its image another sum
-pub IsLossy-ring : {r : LocalRule} {p : List ℕ} → IsLossyRing (λ a. a) r p → IsLossy r p
+pub IsLossy-ring : {weight : ℕ → ℕ} {r : LocalRule} {p : List ℕ} → IsLossyRing weight r p → IsLossy weight r p
 IsLossy-ring lossy = (lossy.ring.some, lossy.loses)

@@ -2,7 +2,7 @@
 use Rattle.std.proofs.Common.{◌≡◌, ◌≢◌, refl, ap, ap₂, subst, subst₂, List, length, slice_index, ℕ, ◌^◌, ⊎_elim, arith}
 use Rattle.std.proofs.lemmas.Bool.{cases_lt}
 use Rattle.word_image.specs.LocalRules.{LocalRule, word_of}
-use Rattle.word_image.specs.Graphs.{pair_count}
+use Rattle.word_image.specs.Graphs.{first_of, second_of, pair_count}
 use Rattle.word_image.specs.Erasure.{IsFirstOfRight, IsFirstOfLeft}
 use Rattle.tail_config.specs.Tails.{TailConfig, AgreeLeft, AgreeRight}
 use Rattle.cert_format.specs.Certificates.{Certificate}
@@ -15,11 +15,12 @@ use Rattle.cert_check.specs.declared.refusal.Refusal.{Refusal}
 use Rattle.cert_check.specs.declared.refusal.Refusal.TheVariants as refusal
 use Rattle.cert_check.specs.Breaches.{EachBelow, IsFirstBreach}
 use Rattle.cert_check.specs.Claims.{IsForwardClaim, IsBackwardClaim}
-use Rattle.cert_check.specs.Sets.{StepIsListed}
+use Rattle.cert_check.specs.Sets.{StepIsKept}
+use Rattle.cert_check.specs.Pairs.{FirstIsListed, StepIsListed, StepsAreListed, IsFirstLeaving}
 use Rattle.cert_check.specs.Windows.{IsWindowPair, IsAheadPair}
 use Rattle.cert_check.specs.Sums.{Flows}
 use Rattle.cert_check.specs.Refusals.{IsBreach, IsTwinsBreach, IsSplitBreach, IsFirstUnmet}
-use Rattle.cert_check.specs.Refusals.IsBreach.{Forward, Backward, NoFull, Empty, NotClosed, NoOrphan, NoWindow, NoTwins, NoRightAhead, NoRightSplit, NoLeftAhead, NoLeftSplit, NoFlux, NoRing}
+use Rattle.cert_check.specs.Refusals.IsBreach.{Forward, Backward, NoFull, Empty, NotClosed, NoFirst, Diagonal, Leaves, NoOrphan, NoWindow, NoTwins, NoRightAhead, NoRightSplit, NoLeftAhead, NoLeftSplit, NoFlux, NoRing}
 use Rattle.cert_check.specs.Refusals.IsTwinsBreach.{Length, Same as SameWords, Image as OtherRings}
 use Rattle.cert_check.specs.Refusals.IsSplitBreach.{Same as SameCells, Apart, Image as OtherImages}
 
@@ -55,6 +56,12 @@ one_split_cause (OtherImages other _ _) (SameCells none) = absurd (none other)
 one_split_cause (OtherImages _ agree _) (Apart _ none) = absurd (none agree)
 one_split_cause (OtherImages _ _ _) (OtherImages _ _ _) = refl
 
+-- the first letters of a step are one
+one_leaving : {r : LocalRule} {pairs : List ℕ} {p a b d e : ℕ} → IsFirstLeaving r pairs p a b → IsFirstLeaving r pairs p d e → (a ≡ d) × (b ≡ e)
+one_leaving {r} {pairs} {p} {a} {b} {d} {e} h k =
+    let first : a ≡ d = one_breach r.states (λ a. EachBelow r.states (StepIsListed r pairs p a)) a d h.first k.first in
+    (first, one_breach r.states (StepIsListed r pairs p d) b e (subst (λ a. IsFirstBreach r.states (StepIsListed r pairs p a) b) first h.second) k.second)
+
 -- what is said of a condition is one
 one_said : {c : Certificate} {one : Condition} {f g : Refusal} → IsBreach c one f → IsBreach c one g → f ≡ g
 one_said {c} (Forward p h) (Forward q k) = ap (refusal.Rank side.Right) (one_breach (pair_count c.rule) (IsForwardClaim c.rule c.forward) p q h k)
@@ -65,11 +72,25 @@ one_said {c} (Empty s i p h) (Empty t j q k) =
     ap refusal.EmptySet (one_breach (length t) (λ i. slice_index t i ≢ 0) i j (subst (λ s. IsFirstBreach (length s) (λ i. slice_index s i ≢ 0) i) same h) k)
 one_said {c} (NotClosed s i a p h u) (NotClosed t j b q k v) =
     let same : s ≡ t = cc in
-    let places : i ≡ j = one_breach (length t) (λ i. EachBelow c.rule.states (StepIsListed c.rule t (slice_index t i))) i j
-    (subst (λ s. IsFirstBreach (length s) (λ i. EachBelow c.rule.states (StepIsListed c.rule s (slice_index s i))) i) same h) k in
-    let letters : a ≡ b = one_breach c.rule.states (StepIsListed c.rule t (slice_index t j)) a b
-    (subst (λ i. IsFirstBreach c.rule.states (StepIsListed c.rule t (slice_index t i)) a) places (subst (λ s. IsFirstBreach c.rule.states (StepIsListed c.rule s (slice_index s i)) a) same u)) v in
+    let places : i ≡ j = one_breach (length t) (λ i. EachBelow c.rule.states (StepIsKept c.version c.rule t (slice_index t i))) i j
+    (subst (λ s. IsFirstBreach (length s) (λ i. EachBelow c.rule.states (StepIsKept c.version c.rule s (slice_index s i))) i) same h) k in
+    let letters : a ≡ b = one_breach c.rule.states (StepIsKept c.version c.rule t (slice_index t j)) a b
+    (subst (λ i. IsFirstBreach c.rule.states (StepIsKept c.version c.rule t (slice_index t i)) a) places (subst (λ s. IsFirstBreach c.rule.states (StepIsKept c.version c.rule s (slice_index s i)) a) same u)) v in
     ap₂ (λ (i a : ℕ). refusal.NotClosed i a) places letters
+one_said {c} (NoFirst s p e h) (NoFirst t q f k) =
+    let same : s ≡ t = cc in
+    ap refusal.NoFirst (one_breach (pair_count c.rule) (FirstIsListed c.rule t) p q (subst (λ s. IsFirstBreach (pair_count c.rule) (FirstIsListed c.rule s) p) same h) k)
+one_said {c} (Diagonal s i e h) (Diagonal t j f k) =
+    let same : s ≡ t = cc in
+    ap refusal.Diagonal (one_breach (length t) (λ i. first_of c.rule (slice_index t i) ≢ second_of c.rule (slice_index t i)) i j
+    (subst (λ s. IsFirstBreach (length s) (λ i. first_of c.rule (slice_index s i) ≢ second_of c.rule (slice_index s i)) i) same h) k)
+one_said {c} (Leaves s i a b p h u) (Leaves t j d e q k v) =
+    let r = c.rule in
+    let same : s ≡ t = cc in
+    let places : i ≡ j = one_breach (length t) (λ i. StepsAreListed r t (slice_index t i)) i j (subst (λ s. IsFirstBreach (length s) (λ i. StepsAreListed r s (slice_index s i)) i) same h) k in
+    let there : IsFirstLeaving r t (slice_index t j) a b = subst (λ i. IsFirstLeaving r t (slice_index t i) a b) places (subst (λ s. IsFirstLeaving r s (slice_index s i) a b) same u) in
+    let letters = one_leaving there v in
+    cc
 one_said (NoOrphan _ _ _) (NoOrphan _ _ _) = refl
 one_said {c} (NoWindow n a p s h) (NoWindow m b q t k) =
     let same_n : n ≡ m = cc in
@@ -98,8 +119,8 @@ one_said {c} (NoLeftSplit x y a s h) (NoLeftSplit u v b t k) =
     ap (refusal.Split side.Left) (one_split_cause (subst₂ (λ (x y : TailConfig). IsSplitBreach c.rule AgreeRight x y a) first second h) k)
 one_said {c} (NoFlux phi v s h) (NoFlux psi w t k) =
     let same : phi ≡ psi = cc in
-    ap refusal.Flux (one_breach (c.rule.states ^ c.rule.width) (λ v. Flows c.rule psi (word_of c.rule.states c.rule.width v)) v w
-    (subst (λ phi. IsFirstBreach (c.rule.states ^ c.rule.width) (λ v. Flows c.rule phi (word_of c.rule.states c.rule.width v)) v) same h) k)
+    ap refusal.Flux (one_breach (c.rule.states ^ c.rule.width) (λ v. Flows (slice_index c.weights) c.rule psi (word_of c.rule.states c.rule.width v)) v w
+    (subst (λ phi. IsFirstBreach (c.rule.states ^ c.rule.width) (λ v. Flows (slice_index c.weights) c.rule phi (word_of c.rule.states c.rule.width v)) v) same h) k)
 one_said (NoRing _ _ _) (NoRing _ _ _) = refl
 
 -- a certificate has at most one first breach

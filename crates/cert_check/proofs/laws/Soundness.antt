@@ -1,11 +1,12 @@
 -- What the judge accepts is true: each verdict of a certificate that meets the conditions, a yes and a no alike.
 use Rattle.std.proofs.Common.{Bool, true, false, refl, sym, subst}
-use Rattle.std.specs.Prelude.{List, ℕ, ◌↔◌, ◌&&◌, IsTrue}
+use Rattle.std.specs.Prelude.{List, ℕ, slice_index, ◌↔◌, ◌&&◌, IsTrue}
 use Rattle.std.proofs.lemmas.Bool.{false≢true}
 use Rattle.rule_text.proofs.laws.AcceptedRules.{IsRule-text}
 use Rattle.cert_format.specs.Certificates.{Certificate, IsShaped}
 use Rattle.cert_format.specs.CertificateTexts.{IsCertificateText}
-use Rattle.cert_check.specs.declared.conditions.Condition.TheVariants.{ForwardClaims, BackwardClaims, FullListed, NoneEmpty, Closed, OrphanRead, WindowClaims, TwinsAlike, RightAhead, RightSplit, LeftAhead, LeftSplit, FluxFlows, RingLossy}
+use Rattle.cert_format.proofs.laws.WeightMembers.{IsWeightShape-has}
+use Rattle.cert_check.specs.declared.conditions.Condition.TheVariants.{ForwardClaims, BackwardClaims, FullListed, NoneEmpty, Closed, FirstsListed, OffDiagonal, PairsClosed, OrphanRead, WindowClaims, TwinsAlike, RightAhead, RightSplit, LeftAhead, LeftSplit, FluxFlows, RingLossy}
 use Rattle.cert_check.specs.declared.verdicts.Verdicts.{Verdicts}
 use Rattle.cert_check.specs.Conditions.{MeetsConditions}
 use Rattle.cert_check.specs.Accepted.{IsAccepted, AreTrue, verdicts_of}
@@ -25,24 +26,27 @@ AreTrue-meets {c} shaped meets =
     let right = IsRightClosing-said shaped.rule c.forward (meets ForwardClaims) c.right shaped.right (meets RightAhead) (meets RightSplit) in
     let left = IsLeftClosing-said shaped.rule c.backward (meets BackwardClaims) c.left shaped.left (meets LeftAhead) (meets LeftSplit) in
     record {
-      surjective = IsSurjective-said shaped.rule c.surjective shaped.surjective (meets FullListed) (meets NoneEmpty) (meets Closed) (meets OrphanRead);
+      surjective = IsSurjective-said shaped.rule c.version c.surjective shaped.surjective (meets FullListed) (meets NoneEmpty) (meets Closed)
+          (meets FirstsListed) (meets OffDiagonal) (meets PairsClosed) (meets OrphanRead);
       injective = IsInjective-said shaped.rule c.forward c.backward (meets ForwardClaims) (meets BackwardClaims) c.injective shaped.injective (meets WindowClaims) (meets TwinsAlike);
       right = right;
       left = left;
       open_ = both_true _ _ right left;
-      conserving = IsConserving-said shaped.rule c.conserving shaped.conserving (meets FluxFlows) (meets RingLossy);
+      conserving = IsConserving-said shaped.rule (slice_index c.weights) c.conserving shaped.conserving (meets FluxFlows) (meets RingLossy);
     }
 
 -- what bytes say as a certificate is within its limits
 pub IsShaped-text : {bytes : List ℕ} {c : Certificate} → IsCertificateText bytes c → IsShaped c
-IsShaped-text h =
+IsShaped-text {c = c} h =
+    let rule = IsRule-text h.rule in
     record {
-      rule = IsRule-text h.rule;
+      rule = rule;
       surjective = h.surjective.1;
       injective = h.injective.1;
       right = h.right.1;
       left = h.left.1;
       conserving = h.conserving.1;
+      weights = IsWeightShape-has rule h.weights;
       forward = h.ranks.1;
       backward = h.ranks.2;
     }

@@ -15,11 +15,11 @@ use Rattle.cert_check.specs.Accepted.{says_conserving}
 use Rattle.cert_check.proofs.laws.WindowFlows.{Flows-value}
 
 -- numbers of the nodes that flow on each window are a flux
-pub IsFlux-flows : {r : LocalRule} {phi : List ℤ} → IsRule r → length phi ≡ node_count r → EachBelow (r.states ^ r.width) (λ v. Flows r phi (word_of r.states r.width v)) → IsFlux (λ a. a) r phi
-IsFlux-flows {phi} rule entries flows = IsFlux-windows rule entries (λ v l. (Flows-value rule phi v l).1 (flows v l))
+pub IsFlux-flows : {weight : ℕ → ℕ} {r : LocalRule} {phi : List ℤ} → IsRule r → length phi ≡ node_count r → EachBelow (r.states ^ r.width) (λ v. Flows weight r phi (word_of r.states r.width v)) → IsFlux weight r phi
+IsFlux-flows {weight} {phi = phi} rule entries flows = IsFlux-windows rule entries (λ v l. (Flows-value rule weight phi v l).1 (flows v l))
 
 -- a word that is a lossy ring for the judge is one
-pub IsLossyRing-lossy : {r : LocalRule} {p : List ℕ} → IsWord r.states p → IsLossy r p → IsLossyRing (λ a. a) r p
+pub IsLossyRing-lossy : {weight : ℕ → ℕ} {r : LocalRule} {p : List ℕ} → IsWord r.states p → IsLossy weight r p → IsLossyRing weight r p
 IsLossyRing-lossy word lossy = record { ring = record { word = word; some = lossy.0 }; loses = lossy.1 }
 
 -- a rule with a lossy ring doesn't conserve the sum
@@ -27,7 +27,7 @@ pub IsLossyRing-not_conserving : {weight : ℕ → ℕ} {r : LocalRule} {p : Lis
 IsLossyRing-not_conserving {p} lossy conserving = lossy.loses (conserving p lossy.ring)
 
 -- what is said of conservation is true where its conditions are met
-pub IsConserving-said : {r : LocalRule} → IsRule r → (e : SumEvidence) → IsSumShape r e → OfFlux e (λ phi. EachBelow (r.states ^ r.width) (λ v. Flows r phi (word_of r.states r.width v)))
-    → OfRing e (IsLossy r) → IsTrue (says_conserving e) ↔ IsConserving (λ a. a) r
-IsConserving-said rule (Flux phi) shape flows lossy = ((λ _. IsConserving-flux rule (IsFlux-flows rule shape.0 flows)), (λ _. refl))
-IsConserving-said {r} rule (Ring p) shape flows lossy = ((λ no. absurd (false≢true no)), (λ conserving. absurd (IsLossyRing-not_conserving (IsLossyRing-lossy {r = r} shape lossy) conserving)))
+pub IsConserving-said : {r : LocalRule} → IsRule r → (weight : ℕ → ℕ) (e : SumEvidence) → IsSumShape r e → OfFlux e (λ phi. EachBelow (r.states ^ r.width) (λ v. Flows weight r phi (word_of r.states r.width v)))
+    → OfRing e (IsLossy weight r) → IsTrue (says_conserving e) ↔ IsConserving weight r
+IsConserving-said rule weight (Flux phi) shape flows lossy = ((λ _. IsConserving-flux rule (IsFlux-flows rule shape.0 flows)), (λ _. refl))
+IsConserving-said {r} rule weight (Ring p) shape flows lossy = ((λ no. absurd (false≢true no)), (λ conserving. absurd (IsLossyRing-not_conserving (IsLossyRing-lossy {weight = weight} {r = r} shape lossy) conserving)))

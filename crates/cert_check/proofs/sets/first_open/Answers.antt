@@ -1,6 +1,7 @@
 use Rattle.std.proofs.Common.{slice_index, sym, subst, ⊎_elim, arith, below_more}
+use Rattle.word_image.specs.Graphs.{full_set}
 use Rattle.cert_check.specs.Breaches.{EachBelow}
-use Rattle.cert_check.specs.Sets.{StepIsListed}
+use Rattle.cert_check.specs.Sets.{StepIsKept, AreKept}
 use Rattle.cert_check.proofs.sets.first_open.Goals as goal
 
 pub loop-place-preserved-then-has : goal.loop-place-preserved-then-has
@@ -9,7 +10,7 @@ loop-place-preserved-then-has c =
     let sets = c.args.sets.now in
     let inv = c.loop-place.invariant in
     record {
-      so_far = below_more (λ i. EachBelow r.states (StepIsListed r sets (slice_index sets i))) c.loop-place.place inv.so_far (inv.marked _ (c.has.ensures.0 c.if-has.true));
+      so_far = below_more (λ i. EachBelow r.states (StepIsKept c.args.version r sets (slice_index sets i))) c.loop-place.place inv.so_far (inv.marked _ (c.has.ensures.0 c.if-has.true));
       marked = inv.marked;
     }
 
@@ -18,10 +19,11 @@ loop-place-preserved c =
     let r = c.args.steps.now in
     let sets = c.args.sets.now in
     let inv = c.loop-place.invariant in
-    let here : EachBelow r.states (StepIsListed r sets (slice_index sets c.loop-place.place)) = c.in_default.ensures sets c.of-listed.ensures in
+    let kept : AreKept c.args.version (full_set r) sets c.kept-kept.result.rows = subst (λ full. AreKept c.args.version full sets c.kept-kept.result.rows) c.full.ensures.set c.kept-kept.ensures in
+    let here : EachBelow r.states (StepIsKept c.args.version r sets (slice_index sets c.loop-place.place)) = c.in_default.ensures c.args.version sets kept in
     record {
-      so_far = below_more (λ i. EachBelow r.states (StepIsListed r sets (slice_index sets i))) c.loop-place.place inv.so_far here;
-      marked = λ s some. ⊎_elim (λ same. subst (λ x. EachBelow r.states (StepIsListed r sets x)) (sym same) here) (λ old. inv.marked s old) ((c.mark.ensures s).0 some);
+      so_far = below_more (λ i. EachBelow r.states (StepIsKept c.args.version r sets (slice_index sets i))) c.loop-place.place inv.so_far here;
+      marked = λ s some. ⊎_elim (λ same. subst (λ x. EachBelow r.states (StepIsKept c.args.version r sets x)) (sym same) here) (λ old. inv.marked s old) ((c.mark.ensures s).0 some);
     }
 
 pub returns : goal.returns

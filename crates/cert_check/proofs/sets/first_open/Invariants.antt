@@ -1,11 +1,11 @@
 use Rattle.std.proofs.Common.{ℕ, slice_index}
 use Rattle.cert_check.specs.Breaches.{EachBelow}
-use Rattle.cert_check.specs.Sets.{StepIsListed, IsMarked}
+use Rattle.cert_check.specs.Sets.{StepIsKept, IsMarked}
 use Rattle.cert_check.proofs.sets.first_open.Given as goal
 
 -- all steps of the sets so far are listed, and those of each set that is marked
 abbrev pub invariant-loop-place : goal.invariant-loop-place
 invariant-loop-place l = record {
-  so_far : EachBelow l.place (λ i. EachBelow l.steps.states (StepIsListed l.steps l.sets (slice_index l.sets i)));
-  marked : (s : ℕ) → IsMarked l.closed.rows s → EachBelow l.steps.states (StepIsListed l.steps l.sets s);
+  so_far : EachBelow l.place (λ i. EachBelow l.steps.states (StepIsKept l.fn.version l.steps l.sets (slice_index l.sets i)));
+  marked : (s : ℕ) → IsMarked l.closed.rows s → EachBelow l.steps.states (StepIsKept l.fn.version l.steps l.sets s);
 }

@@ -1,4 +1,4 @@
-use Rattle.std.proofs.Common.{◌<◌, sym, subst, ◌∙◌, below_more, arith}
+use Rattle.std.proofs.Common.{◌<◌, slice_index, sym, subst, ◌∙◌, below_more, arith}
 use Rattle.std.proofs.lemmas.Bool.{false≢true}
 use Rattle.word_image.specs.LocalRules.{word_of}
 use Rattle.cert_check.specs.Sums.{Flows}
@@ -7,7 +7,7 @@ use Rattle.cert_check.proofs.sums.first_unbalanced.Goals as goal
 pub loop-window-preserved : goal.loop-window-preserved
 loop-window-preserved c =
     let r = c.args.rule.now in
-    below_more (λ v. Flows r c.args.flux.now (word_of r.states r.width v)) c.loop-window.window c.loop-window.invariant (c.flows.ensures.0 c.if-not-flows.false)
+    below_more (λ v. Flows (slice_index c.args.weights.now) r c.args.flux.now (word_of r.states r.width v)) c.loop-window.window c.loop-window.invariant (c.flows.ensures.0 c.if-not-flows.false)
 
 pub returns-then-not-flows : goal.returns-then-not-flows
 returns-then-not-flows c = record {

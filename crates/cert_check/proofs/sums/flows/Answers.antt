@@ -1,4 +1,4 @@
-use Rattle.std.proofs.Common.{◌≡◌, ℕ, ◌/◌, ◌%◌, ◌-ℤ◌, ◌↔◌, get_or, nat_eq, IsTrue, ℤ, pos, w32, w64, FitsSigned, of_z, to_z, sym, ap, ap₂, ◌∙◌, rules}
+use Rattle.std.proofs.Common.{◌≡◌, ℕ, ◌/◌, ◌%◌, ◌-ℤ◌, ◌↔◌, get_or, slice_index, nat_eq, IsTrue, ℤ, pos, w32, w64, FitsSigned, of_z, to_z, sym, ap, ap₂, ◌∙◌, rules}
 use Rattle.std.proofs.lemmas.Int.{to_z-of_z}
 use Rattle.std.proofs.lemmas.Bool.Decides.{Decides-eqb}
 use Rattle.word_image.specs.LocalRules.{node_count}
@@ -33,8 +33,9 @@ returns c =
     let number = λ (i : ℕ). get_or c.args.flux.now i (pos 0) in
     let k : c.from-k.result ≡ r.states = c.from-k.ensures ∙ c.k.ensures.states in
     let nodes : c.from-nodes.result ≡ node_count r = c.from-nodes.ensures ∙ c.nodes.ensures.nodes in
-    let new : c.from.result ≡ pos (get_or r.table v 0) = c.from.ensures ∙ ap pos c.at.ensures.entry in
-    let old : c.from-2.result ≡ pos (v / node_count r) = c.from-2.ensures ∙ ap (λ n. pos (v / n)) nodes in
+    let weight = slice_index c.args.weights.now in
+    let new : c.from.result ≡ pos (weight (slice_index r.table v)) = c.from.ensures ∙ ap pos (c.at-2.ensures ∙ ap weight c.at.ensures.entry) in
+    let old : c.from-2.result ≡ pos (weight (v / node_count r)) = c.from-2.ensures ∙ ap pos (c.at-3.ensures ∙ ap weight c.first_letter.ensures.letter) in
     let fit_first : FitsSigned w32 (number c.from-3.result) = search rules in
     let fit_last : FitsSigned w32 (number c.from-4.result) = search rules in
     let first : c.from-first.result ≡ number (v / r.states) =
@@ -48,5 +49,5 @@ returns c =
     let test = one_difference c.from.result c.from-2.result c.from-first.result c.from-last.result fit_new fit_old fit_f fit_l in
     let gain = ap₂ (λ (i j : ℤ). i -ℤ j) new old in
     let flow = ap₂ (λ (i j : ℤ). i -ℤ j) first last in
-    let value = Flows-value c.k.ensures.rule c.args.flux.now v c.requires.window in
+    let value = Flows-value c.k.ensures.rule weight c.args.flux.now v c.requires.window in
     (λ yes. value.0 (sym gain ∙ test.0 yes ∙ flow), λ flows. test.1 (gain ∙ value.1 flows ∙ sym flow))

@@ -1,4 +1,4 @@
-use Rattle.std.proofs.Common.{◌^◌, List, ℤ, ap, subst}
+use Rattle.std.proofs.Common.{◌^◌, List, slice_index, ℤ, ap, subst}
 use Rattle.word_image.specs.LocalRules.{word_of}
 use Rattle.cert_format.specs.Certificates.{Certificate}
 use Rattle.cert_format.specs.Parts.{sum_of}
@@ -10,9 +10,12 @@ use Rattle.cert_check.specs.Refusals.{IsBreach}
 use Rattle.cert_check.specs.Refusals.IsBreach.{NoFlux}
 use Rattle.cert_check.proofs.sums.flux_flows.Goals as goal
 
+pub first_unbalanced-requires-clause-letters : goal.first_unbalanced-requires-clause-letters
+first_unbalanced-requires-clause-letters c = ((c.cert.invariant.2).weights).each.each_letter
+
 pub returns-in-Some : goal.returns-in-Some
 returns-in-Some c =
     let r = c.cert.inside.rule in
-    let Breach = λ (phi : List ℤ). IsFirstBreach (r.states ^ r.width) (λ v. Flows r phi (word_of r.states r.width v)) c.in-Some.window in
+    let Breach = λ (phi : List ℤ). IsFirstBreach (r.states ^ r.width) (λ v. Flows (slice_index c.cert.inside.weights) r phi (word_of r.states r.width v)) c.in-Some.window in
     subst (λ (z : Certificate). IsBreach z FluxFlows (refusal.Flux c.in-Some.window)) c.cert.view_is
     (NoFlux c.in-Flux.flux c.in-Some.window (ap sum_of c.in-Flux.is) (subst Breach c.as_slice.ensures c.in-Some.ensures))

@@ -1,4 +1,4 @@
-use Rattle.std.proofs.Common.{◌≡◌, ◌*◌, ◌≤◌, map, take, sum_by, pos}
+use Rattle.std.proofs.Common.{◌≡◌, slice_index, ◌*◌, ◌≤◌, map, take, sum_by, pos}
 use Rattle.std.specs.List.{range_with_len}
 use Rattle.word_image.specs.LocalRules.{local_map}
 use Rattle.word_image.specs.Rings.{ring_letters}
@@ -6,5 +6,5 @@ use Rattle.cert_check.proofs.sums.keeps_sum.Given as goal
 
 -- the sums of the letters and of the new letters so far
 abbrev pub invariant-loop-place : goal.invariant-loop-place
-invariant-loop-place l = (l.before ≡ sum_by (λ a. a) (take l.place l.ring)) × (l.before ≤ 255 * l.place)
-    × (l.after ≡ sum_by (λ a. a) (map (λ i. local_map l.rule (ring_letters l.ring (pos i) l.rule.width)) (range_with_len 0 l.place))) × (l.after ≤ 255 * l.place)
+invariant-loop-place l = (l.before ≡ sum_by (slice_index l.weights) (take l.place l.ring)) × (l.before ≤ 255 * l.place)
+    × (l.after ≡ sum_by (slice_index l.weights) (map (λ i. local_map l.rule (ring_letters l.ring (pos i) l.rule.width)) (range_with_len 0 l.place))) × (l.after ≤ 255 * l.place)

@@ -1,0 +1,123 @@
+-- A set of nodes contains a listed set exactly where it is listed, or contains one without one of its nodes.
+use Rattle.std.proofs.Common.{◌≡◌, ◌≢◌, ℕ, zero, suc, ◌+◌, ◌*◌, ◌%◌, ◌^◌, ◌<◌, ◌≤◌, ◌↔◌, ◌⊎◌, inl, inr, List, Contains, bit_and, w16, sym, ap, subst, ◌∙◌, ⊎_elim, arith}
+use Rattle.std.specs.Int.{bit_at, bit_not}
+use Rattle.std.specs.Int.Bits.{and_self}
+use Rattle.std.proofs.lemmas.Bool.{cases_eq}
+use Rattle.std.proofs.lemmas.Nat.{and_le_l, and_le_r, and_assoc}
+use Rattle.std.proofs.lemmas.Nat.Bits.{bit_at_and, bit_at-lt, bit_at_clear_same, bit_at_clear_other, same_from_bits, same_from_bits_below}
+use Rattle.cert_check.specs.Sets.{HasPart, IsMarked, AreMarked, without}
+
+-- a part of a part is a part
+pub part-of_part : (s t u : ℕ) → bit_and s t ≡ s → bit_and t u ≡ t → bit_and s u ≡ s
+part-of_part s t u first second = ap (λ n. bit_and n u) (sym first) ∙ and_assoc u s t ∙ ap (bit_and s) second ∙ first
+
+-- a set without a node is a part of it
+without-part : (s n : ℕ) → bit_and (without s n) s ≡ without s n
+without-part s n =
+    let m : ℕ = bit_not w16 (1 * 2 ^ n % 2 ^ 16) in
+    same_from_bits (bit_and (bit_and s m) s) (bit_and s m) (λ i. omega (arith, bit_at_and (bit_and s m) s i, bit_at_and s m i))
+
+-- a part has no other bit
+part-bit : (t s i : ℕ) → bit_and t s ≡ t → bit_at t i ≤ bit_at s i
+part-bit t s i part = let e : bit_at (bit_and t s) i ≡ bit_at t i = ap (λ n. bit_at n i) part in omega (arith, bit_at_and t s i)
+
+-- and what has no other is a part
+bits-part : (t s : ℕ) → t < 2 ^ 16 → ((i : ℕ) → i < 16 → bit_at t i ≤ bit_at s i) → bit_and t s ≡ t
+bits-part t s small bits = same_from_bits_below 16 (bit_and t s) t (omega (arith, and_le_l t s)) small (λ i l. omega (arith, bit_at_and t s i, bits i l))
+
+-- two numbers have the same n bits, or one differs
+same_bits : (t s n : ℕ) → ((i : ℕ) → i < n → bit_at t i ≡ bit_at s i) ⊎ ((i : ℕ) × (i < n) × (bit_at t i ≢ bit_at s i))
+same_bits t s zero = inl (λ i l. absurd (omega arith))
+same_bits t s (suc n) =
+    ⊎_elim
+    (λ all. ⊎_elim
+    (λ same. inl (λ i l. ⊎_elim (λ here. subst (λ j. bit_at t j ≡ bit_at s j) (sym here) same) (λ other. all i (omega arith)) (cases_eq i n)))
+    (λ differ. inr (n, omega arith, differ))
+    (cases_eq (bit_at t n) (bit_at s n)))
+    (λ (i, l, differ). inr (i, omega arith, differ))
+    (same_bits t s n)
+
+-- a set without a node that it has is less
+without-less : (s n : ℕ) → n < 16 → bit_at s n ≡ 1 → without s n < s
+without-less s n l some =
+    ⊎_elim
+    (λ same. let e : bit_at (without s n) n ≡ bit_at s n = ap (λ x. bit_at x n) same in absurd (omega (arith, bit_at_clear_same w16 s n l)))
+    (λ other. omega (arith, and_le_l s (bit_not w16 (1 * 2 ^ n % 2 ^ 16))))
+    (cases_eq (without s n) s)
+
+-- a set that contains a listed one is listed, or contains one without one of its nodes
+pub HasPart-split : (sets : List ℕ) (s : ℕ) → s < 2 ^ 16 → HasPart sets s → Contains sets s ⊎ ((n : ℕ) × (n < 16) × (without s n < s) × HasPart sets (without s n))
+HasPart-split sets s small (t, listed, part) =
+    let less : t ≤ s = omega (arith, and_le_r t s, part) in
+    ⊎_elim
+    (λ all. inl (subst (Contains sets) (same_from_bits_below 16 t s (omega arith) small all) listed))
+    (λ (n, l, differ).
+    let here = part-bit t s n part in
+    let some : bit_at s n ≡ 1 = omega (arith, bit_at-lt s n, bit_at-lt t n) in
+    let none : bit_at t n ≡ 0 = omega (arith, bit_at-lt s n, bit_at-lt t n) in
+    inr (
+      n,
+      l,
+      without-less s n l some,
+      (
+        t,
+        listed,
+        bits-part t (without s n) (omega arith) (λ i below.
+            ⊎_elim
+            (λ same. let zeroth : bit_at t i ≡ 0 = ap (bit_at t) same ∙ none in omega arith)
+            (λ other. omega (arith, part-bit t s i part, bit_at_clear_other w16 s n l i below other))
+            (cases_eq i n)),
+      ),
+    ))
+    (same_bits t s 16)
+
+-- a listed set contains a listed one
+HasPart-listed : (sets : List ℕ) (s : ℕ) → Contains sets s → HasPart sets s
+HasPart-listed sets s listed = (s, listed, and_self s)
+
+-- and so does a set that does without a node
+HasPart-without : (sets : List ℕ) (s n : ℕ) → HasPart sets (without s n) → HasPart sets s
+HasPart-without sets s n (t, listed, part) = (t, listed, part-of_part t (without s n) s part (without-part s n))
+
+-- the sets before one are marked that contain a listed one
+abbrev AreAbove : List ℕ → List ℕ → ℕ → Type 0
+AreAbove sets above i = (s : ℕ) → IsMarked above s ↔ ((s < i) × HasPart sets s)
+
+-- the test of the next: it is listed, or marked without a node
+abbrev IsAbove : List ℕ → List ℕ → ℕ → Type 0
+IsAbove listed above i = IsMarked listed i ⊎ ((n : ℕ) × (n < 16) × IsMarked above (without i n))
+
+-- where it holds the set contains a listed one, and it does where the set does
+IsAbove-part : (sets listed above : List ℕ) (i : ℕ) → i < 2 ^ 16 → AreMarked listed sets → AreAbove sets above i → IsAbove listed above i ↔ HasPart sets i
+IsAbove-part sets listed above i small marked before = (
+  (λ test. ⊎_elim
+      (λ some. HasPart-listed sets i ((marked i).0 some))
+      (λ (n, l, some). HasPart-without sets i n ((before (without i n)).0 some).1)
+      test),
+  (λ kept. ⊎_elim
+      (λ one. inl ((marked i).1 one))
+      (λ (n, l, less, part). inr (n, l, (before (without i n)).1 (less, part)))
+      (HasPart-split sets i small kept)),
+)
+
+-- a set more is marked where the test holds
+pub above_more : (sets listed above after : List ℕ) (i : ℕ) → i < 2 ^ 16 → AreMarked listed sets → AreAbove sets above i → IsAbove listed above i
+    → ((s : ℕ) → IsMarked after s ↔ ((s ≡ i) ⊎ IsMarked above s)) → AreAbove sets after (i + 1)
+above_more sets listed above after i small marked before test more s =
+    let kept : HasPart sets i = (IsAbove-part sets listed above i small marked before).0 test in (
+      (λ some. ⊎_elim
+          (λ same. (omega arith, subst (HasPart sets) (sym same) kept))
+          (λ old. let (l, is) = (before s).0 old in (omega arith, is))
+          ((more s).0 some)),
+      (λ (l, is). (more s).1 (⊎_elim (λ same. inl same) (λ other. inr ((before s).1 (omega arith, is))) (cases_eq s i))),
+    )
+
+-- and none where it doesn't
+pub above_skip : (sets listed above : List ℕ) (i : ℕ) → i < 2 ^ 16 → AreMarked listed sets → AreAbove sets above i → ¬ IsAbove listed above i → AreAbove sets above (i + 1)
+above_skip sets listed above i small marked before none s = (
+  (λ some. let (l, is) = (before s).0 some in (omega arith, is)),
+  (λ (l, is). ⊎_elim
+      (λ same. absurd (none ((IsAbove-part sets listed above i small marked before).1 (subst (HasPart sets) same is))))
+      (λ other. (before s).1 (omega arith, is))
+      (cases_eq s i)),
+)

@@ -1,0 +1,25 @@
+use Rattle.std.proofs.Common.{slice_index, sym, subst, ⊎_elim, below_more}
+use Rattle.cert_check.specs.Pairs.{StepsAreListed}
+use Rattle.cert_check.proofs.pairs.first_leaving.Goals as goal
+
+pub returns-in-Some : goal.returns-in-Some
+returns-in-Some c =
+    let leaving = c.in-Some.ensures c.args.pairs.now c.of-listed.ensures in (
+      record {
+        within = c.loop-place-test.true;
+        fails = λ all. leaving.first.fails (all c.in-Some.letters.0 leaving.first.within);
+        earlier = c.loop-place.invariant.so_far;
+      },
+      leaving,
+    )
+
+pub loop-place-preserved : goal.loop-place-preserved
+loop-place-preserved c =
+    let r = c.args.rule.now in
+    let pairs = c.args.pairs.now in
+    let inv = c.loop-place.invariant in
+    let here : StepsAreListed r pairs (slice_index pairs c.loop-place.place) = c.in_default.ensures pairs c.of-listed.ensures in
+    record {
+      so_far = below_more (λ i. StepsAreListed r pairs (slice_index pairs i)) c.loop-place.place inv.so_far here;
+      marked = λ p some. ⊎_elim (λ same. subst (StepsAreListed r pairs) (sym same) here) (λ old. inv.marked p old) ((c.mark.ensures p).0 some);
+    }

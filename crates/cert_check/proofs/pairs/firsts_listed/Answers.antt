@@ -1,0 +1,26 @@
+use Rattle.std.proofs.Common.{List, ℕ, sym, ap, subst}
+use Rattle.word_image.specs.Graphs.{pair_count}
+use Rattle.cert_format.specs.Certificates.{Certificate}
+use Rattle.cert_format.specs.Parts.{surjective_of}
+use Rattle.cert_check.specs.declared.conditions.Condition.TheVariants as condition
+use Rattle.cert_check.specs.declared.refusal.Refusal.TheVariants as refusal
+use Rattle.cert_check.specs.Breaches.{EachBelow, IsFirstBreach}
+use Rattle.cert_check.specs.Pairs.{FirstIsListed}
+use Rattle.cert_check.specs.Conditions.{OfPairs, Holds}
+use Rattle.cert_check.specs.Refusals.{IsBreach}
+use Rattle.cert_check.specs.Refusals.IsBreach.{NoFirst}
+use Rattle.cert_check.proofs.pairs.firsts_listed.Goals as goal
+
+pub returns-in-Some : goal.returns-in-Some
+returns-in-Some c =
+    let r = c.cert.inside.rule in
+    subst (λ (x : Certificate). IsBreach x condition.FirstsListed (refusal.NoFirst c.in-Some.pair)) c.cert.view_is
+    (NoFirst c.in-Pairs.pairs c.in-Some.pair (ap surjective_of c.in-Pairs.is)
+    (subst (λ (pairs : List ℕ). IsFirstBreach (pair_count r) (FirstIsListed r pairs) c.in-Some.pair) c.as_slice.ensures c.in-Some.ensures))
+
+pub returns-in-None : goal.returns-in-None
+returns-in-None c =
+    let r = c.cert.inside.rule in
+    subst (λ (x : Certificate). Holds x condition.FirstsListed) c.cert.view_is
+    (subst (λ e. OfPairs e (λ pairs. EachBelow (pair_count r) (FirstIsListed r pairs))) (sym (ap surjective_of c.in-Pairs.is))
+    (subst (λ (pairs : List ℕ). EachBelow (pair_count r) (FirstIsListed r pairs)) c.as_slice.ensures c.in-None.ensures))

@@ -1,0 +1,10 @@
+use Rattle.std.proofs.Common.{ℕ, List}
+use Rattle.cert_format.specs.declared.cert_version.CertVersion.{CertVersion}
+use Rattle.word_image.specs.Graphs.{full_set}
+use Rattle.cert_check.specs.Breaches.{EachBelow}
+use Rattle.cert_check.specs.Sets.{StepIsKept, AreKept}
+use Rattle.cert_check.proofs.sets.first_not_kept.Given as goal
+
+-- the steps so far are as they should be
+abbrev pub invariant-loop-letter : goal.invariant-loop-letter
+invariant-loop-letter l = (version : CertVersion) (sets : List ℕ) → AreKept version (full_set l.steps) sets l.kept.rows → EachBelow l.letter (StepIsKept version l.steps sets l.set)

@@ -1,0 +1,171 @@
+//! Listed pairs of nodes that prove a rule surjective.
+
+ghost use Rattle.std.specs.Prelude.{◌≡◌, ◌≢◌, ◌<◌, ℕ, List, length, slice_index, All, IsTrue, ◌↔◌, MatchOption};
+ghost use Rattle.word_image.specs.Graphs.{first_of, second_of, follow, pair_count};
+ghost use Rattle.cert_check.specs.Breaches.{EachBelow, IsFirstBreach, FirstBreach};
+ghost use Rattle.cert_check.specs.Pairs.{FirstIsListed, StepIsListed, StepsAreListed, IsFirstLeaving};
+ghost use Rattle.cert_check.specs.Sets.{AreMarked};
+ghost use Rattle.cert_check.specs.Refusals.{IsChecked};
+
+use crate::aheads::is_first;
+use crate::claims::{far_node, pair_of, window_with};
+use crate::conditions::Condition;
+use crate::marks::Marks;
+use crate::refusal::{Refusal, Side};
+use cert_format::{Cert, SurjectivePart};
+use word_image::Rule;
+
+/// Whether each first pair of the right is listed; else the least that isn't.
+pub fn firsts_listed(cert: &Cert) -> Result<(), Refusal>
+    ensures { IsChecked cert.now Condition.FirstsListed result }
+{
+    match &cert.surjective {
+        SurjectivePart::Pairs(pairs) => match first_missing(&cert.rule, pairs.as_slice()) {
+            Some(pair) => Err(Refusal::NoFirst(pair)),
+            None => Ok(()),
+        },
+        SurjectivePart::Sets(_) | SurjectivePart::Orphan(_) => Ok(()),
+    }
+}
+
+/// Whether no listed pair has two equal nodes; else the place of the first that has.
+pub fn off_diagonal(cert: &Cert) -> Result<(), Refusal>
+    ensures { IsChecked cert.now Condition.OffDiagonal result }
+{
+    match &cert.surjective {
+        SurjectivePart::Pairs(pairs) => match first_diagonal(&cert.rule, pairs.as_slice()) {
+            Some(place) => Err(Refusal::Diagonal(place)),
+            None => Ok(()),
+        },
+        SurjectivePart::Sets(_) | SurjectivePart::Orphan(_) => Ok(()),
+    }
+}
+
+/// Whether each pair to which a listed pair leads is listed; else the first place of a pair that leads to
+/// another, and the first two letters on which it does.
+pub fn pairs_closed(cert: &Cert) -> Result<(), Refusal>
+    ensures { IsChecked cert.now Condition.PairsClosed result }
+{
+    match &cert.surjective {
+        SurjectivePart::Pairs(pairs) => match first_leaving(&cert.rule, pairs.as_slice()) {
+            Some((place, (a, b))) => Err(Refusal::Leaves(place, a, b)),
+            None => Ok(()),
+        },
+        SurjectivePart::Sets(_) | SurjectivePart::Orphan(_) => Ok(()),
+    }
+}
+
+/// The least first pair of the right that isn't listed.
+fn first_missing(rule: &Rule, pairs: &[u16]) -> Option<u16>
+    ensures { FirstBreach (pair_count rule.now) (FirstIsListed rule.now pairs.now) result }
+{
+    let listed = Marks::of(pairs);
+    let nodes = u16::from(rule.nodes());
+    for pair in 0..nodes * nodes {
+        if is_first(rule, Side::Right, pair) && !listed.has(pair) {
+            return Some(pair);
+        }
+    }
+    None
+}
+
+/// The place of the first pair with two equal nodes.
+fn first_diagonal(rule: &Rule, pairs: &[u16]) -> Option<usize>
+    ensures { FirstBreach (length pairs.now)
+        (λ i. first_of rule.now (slice_index pairs.now i) ≢ second_of rule.now (slice_index pairs.now i)) result }
+{
+    let nodes = u16::from(rule.nodes());
+    for (place, pair) in pairs.iter().enumerate() {
+        if *pair / nodes == *pair % nodes {
+            return Some(place);
+        }
+    }
+    None
+}
+
+/// The place of the first pair that leads to one that isn't listed, and the first letters on which it
+/// does.
+fn first_leaving(rule: &Rule, pairs: &[u16]) -> Option<(usize, (u8, u8))>
+    requires { All (λ p. p < pair_count rule.now) pairs.now }
+    ensures { MatchOption result
+        (EachBelow (length pairs.now) (λ i. StepsAreListed rule.now pairs.now (slice_index pairs.now i)))
+        (λ (i, letters). IsFirstBreach (length pairs.now) (λ i. StepsAreListed rule.now pairs.now (slice_index pairs.now i)) i
+        × IsFirstLeaving rule.now pairs.now (slice_index pairs.now i) letters.0 letters.1) }
+{
+    let listed = Marks::of(pairs);
+    let mut closed = Marks::new();
+    for (place, pair) in pairs.iter().enumerate() {
+        if closed.has(*pair) {
+            continue;
+        }
+        if let Some(letters) = first_step_out(rule, &listed, *pair) {
+            return Some((place, letters));
+        }
+        closed.mark(*pair);
+    }
+    None
+}
+
+/// The first letters, by the first and then the second, on which a pair leads to one that isn't marked.
+fn first_step_out(rule: &Rule, listed: &Marks, pair: u16) -> Option<(u8, u8)>
+    requires { pair < pair_count rule.now }
+    ensures { (pairs : List ℕ) → AreMarked listed.now.rows pairs → MatchOption result
+        (StepsAreListed rule.now pairs pair)
+        (λ (a, b). IsFirstLeaving rule.now pairs pair a b) }
+{
+    for a in 0..rule.k() {
+        if let Some(b) = first_letter_out(rule, listed, pair, a) {
+            return Some((a, b));
+        }
+    }
+    None
+}
+
+/// The first second letter on which a pair leads to one that isn't marked.
+fn first_letter_out(rule: &Rule, listed: &Marks, pair: u16, a: u8) -> Option<u8>
+    requires pair { pair < pair_count rule.now }
+    requires letter { a < rule.now.states }
+    ensures { (pairs : List ℕ) → AreMarked listed.now.rows pairs
+        → FirstBreach rule.now.states (StepIsListed rule.now pairs pair a) result }
+{
+    for b in 0..rule.k() {
+        if !leads_within(rule, listed, pair, a, b) {
+            return Some(b);
+        }
+    }
+    None
+}
+
+/// Whether the pair to which a pair leads on two letters is marked, where there is one.
+fn leads_within(rule: &Rule, listed: &Marks, pair: u16, a: u8, b: u8) -> bool
+    requires pair { pair < pair_count rule.now }
+    requires first { a < rule.now.states }
+    requires second { b < rule.now.states }
+    ensures { (pairs : List ℕ) → AreMarked listed.now.rows pairs
+        → IsTrue result ↔ StepIsListed rule.now pairs pair a b }
+{
+    match follow(rule, pair, a, b) {
+        Some(next) => listed.has(next),
+        None => true,
+    }
+}
+
+/// Where a pair leads on two letters, if their windows have one label.
+fn follow(rule: &Rule, pair: u16, a: u8, b: u8) -> Option<u16>
+    requires pair { pair < pair_count rule.now }
+    requires first { a < rule.now.states }
+    requires second { b < rule.now.states }
+    ensures { result ≡ follow rule.now pair a b }
+{
+    let nodes = u16::from(rule.nodes());
+    let first = window_with(rule, Side::Right, pair / nodes, a);
+    let second = window_with(rule, Side::Right, pair % nodes, b);
+    if rule.at(first) != rule.at(second) {
+        return None;
+    }
+    Some(pair_of(
+        rule,
+        far_node(rule, Side::Right, first),
+        far_node(rule, Side::Right, second),
+    ))
+}
