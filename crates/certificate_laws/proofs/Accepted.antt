@@ -1,6 +1,9 @@
 -- What is written for a rule is accepted, so it is the certificate that is written.
-use Rattle.std.proofs.Common.{◌≡◌, List, ℕ, refl, subst}
+use Rattle.std.proofs.Common.{◌≡◌, List, ℕ, true, refl, subst}
 use Rattle.word_image.specs.LocalRules.{LocalRule, IsRule}
+use Rattle.word_image.specs.Weights.{AreWeights}
+use Rattle.cert_format.specs.declared.cert_version.CertVersion.{CertVersion}
+use Rattle.cert_format.specs.Versions.{names_weights}
 use Rattle.cert_format.specs.Certificates.{Certificate}
 use Rattle.cert_format.specs.CertificateTexts.{IsCertificateText}
 use Rattle.cert_format.specs.WrittenTexts.{certificate_text}
@@ -10,14 +13,16 @@ use Rattle.certificate_laws.proofs.MetConditions.{MeetsConditions-written}
 use Rattle.certificate_laws.proofs.ShortTexts.{short-written}
 
 -- bytes that say what is written for a rule are accepted with its verdicts
-pub IsAccepted-written : {r : LocalRule} {c : Certificate} {bytes : List ℕ} → IsRule r → HasWrittenParts r c → IsCertificateText bytes c → IsAccepted bytes (verdicts_of c)
+pub IsAccepted-written : {version : CertVersion} {r : LocalRule} {weights : List ℕ} {c : Certificate} {bytes : List ℕ} → IsRule r → HasWrittenParts version r weights c → IsCertificateText bytes c
+    → IsAccepted bytes (verdicts_of c)
 IsAccepted-written {c = c} rule parts text = record { certificate = c; text = text; meets = MeetsConditions-written rule parts; verdicts = refl }
 
 -- so where its text is read back, what has the parts is the certificate that is written for the rule
-pub IsWritten-read_back : {r : LocalRule} {c : Certificate} {bytes : List ℕ} → IsRule r → HasWrittenParts r c → bytes ≡ certificate_text c → IsCertificateText bytes c → IsWritten r c
-IsWritten-read_back {c = c} rule parts written text =
+pub IsWritten-read_back : {version : CertVersion} {r : LocalRule} {weights : List ℕ} {c : Certificate} {bytes : List ℕ} → names_weights version ≡ true → IsRule r → AreWeights r.states weights
+    → HasWrittenParts version r weights c → bytes ≡ certificate_text c → IsCertificateText bytes c → IsWritten version r weights c
+IsWritten-read_back {c = c} names rule are parts written text =
     record {
       parts = parts;
       accepted = IsAccepted-written rule parts (subst (λ b. IsCertificateText b c) written text);
-      short = short-written rule parts;
+      short = short-written names rule are parts;
     }

@@ -1,5 +1,5 @@
 -- The sets of a family are different, so there are at most as many as sets of nodes.
-use Rattle.std.proofs.Common.{◌≡◌, ◌≢◌, ℕ, zero, suc, ◌+◌, ◌-◌, ◌^◌, ◌<◌, ◌≤◌, List, [], length, get_or, AllPairs, refl, subst, arith}
+use Rattle.std.proofs.Common.{◌≡◌, ◌≢◌, ℕ, zero, suc, ◌+◌, ◌-◌, ◌^◌, ◌<◌, ◌≤◌, List, [], length, get_or, AllPairs, refl, ap, subst, arith}
 use Rattle.std.proofs.lemmas.Bool.Decides.{Decides-eqb}
 use Rattle.std.proofs.lemmas.Map.Made.{IsDistinct-from_AllPairs}
 use Rattle.std.proofs.lemmas.Map.Steps.{length-le_from_distinct_below}
@@ -8,10 +8,12 @@ use Rattle.std.proofs.lemmas.Option.{slice_get-get_or}
 use Rattle.std.proofs.Math.Nat.{pow-le-pow_right}
 use Rattle.word_image.specs.LocalRules.{LocalRule, IsRule, IsWord, node_count}
 use Rattle.word_image.specs.Ranks.{IsLastSet}
-use Rattle.word_image.specs.Families.{IsFamily, IsAscending, IsLeastWordOf}
+use Rattle.word_image.specs.Families.{IsFamily, IsAscending, IsLeastWordOf, IsCoverList}
+use Rattle.word_image.specs.Graphs.{full_set}
 use Rattle.word_image.proofs.laws.Lists.{paired_at, paired_length}
 use Rattle.search_laws.proofs.WordOrder.{word_number, word_number-le, word_number-less}
 use Rattle.certificate_laws.proofs.MetConditions.{IsLastSet-each}
+use Rattle.certificate_laws.proofs.CoverLists.{length-covers}
 
 -- each word of the list is one over k letters
 abbrev AreWords : ℕ → List (List ℕ) → Type 0
@@ -48,9 +50,13 @@ sets-apart {r} {sets} family i j d less within same =
     omega (arith, after, before)
 
 -- so there are at most 65,536
-pub length-family : {r : LocalRule} {sets : List ℕ} → IsRule r → IsFamily r sets → length sets ≤ 65536
+length-family : {r : LocalRule} {sets : List ℕ} → IsRule r → IsFamily r sets → length sets ≤ 65536
 length-family {r} {sets} rule family =
     let few = length-le_from_distinct_below sets (2 ^ node_count r) (IsDistinct-from_AllPairs Decides-eqb sets (sets-apart family)) (λ s any.
     (IsLastSet-each r sets family.words family.each s (Contains-from_any (λ x y same. (Decides-eqb x y).0 same) s sets any)).1.within) in
     let most : 2 ^ node_count r ≤ 2 ^ 16 = pow-le-pow_right (omega arith) rule.shape.most_nodes in
     omega (arith, few, most)
+
+-- and at most one more in the cover list
+pub length-IsCoverList : {r : LocalRule} {sets : List ℕ} → IsRule r → IsCoverList r sets → length sets ≤ 65537
+length-IsCoverList {r} rule (family, is, same) = omega (arith, ap length same, length-covers (full_set r) family, length-family rule is)

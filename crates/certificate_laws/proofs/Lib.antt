@@ -1,3 +1,5 @@
+pub mod CoverLists
+pub mod PairLists
 pub mod MetConditions
 pub mod LongerWords
 pub mod ShortSplits

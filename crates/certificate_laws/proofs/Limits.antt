@@ -1,44 +1,53 @@
 -- What is written for a rule is within the limits of a certificate, its splits apart.
-use Rattle.std.proofs.Common.{◌≡◌, ℕ, ◌+◌, ◌-◌, ◌*◌, ◌<◌, ◌≤◌, List, ◌++◌, length, take, get_or, Option, Some, None, inl, sym, ap, subst, ◌∙◌, ⊎_elim, arith, length-append}
+use Rattle.std.proofs.Common.{◌≡◌, ℕ, ◌+◌, ◌-◌, ◌*◌, ◌<◌, ◌≤◌, List, ◌++◌, length, take, get_or, slice_index, Contains, Option, Some, None, inl, sym, ap, subst, ◌∙◌, ⊎_elim, arith, length-append}
 use Rattle.std.specs.Prelude.{ℤ, pos, MatchOption, sum_by}
 use Rattle.std.proofs.Math.Nat.{mul-le-mul}
 use Rattle.std.proofs.lemmas.Bool.{cases_lt}
 use Rattle.std.proofs.lemmas.Int.{ints}
-use Rattle.std.proofs.lemmas.List.{length-take-le}
-use Rattle.std.proofs.lemmas.List.Elements.{Contains-get_or, All-from_get_or, All-take, All-append}
+use Rattle.std.proofs.lemmas.List.{length-take-le, get_or_past}
+use Rattle.std.proofs.lemmas.List.Elements.{Contains-get_or, All-from_get_or}
 use Rattle.std.proofs.lemmas.List.FromFn.{get_or-map-range_with_len}
 use Rattle.std.proofs.lemmas.List.Sums.{sum_by-le}
-use Rattle.word_image.specs.LocalRules.{LocalRule, IsRule, IsWord, word_of, node_count}
+use Rattle.word_image.specs.LocalRules.{LocalRule, IsRule, word_of, node_count}
 use Rattle.word_image.specs.Words.{image}
+use Rattle.word_image.specs.Weights.{AreWeights}
 use Rattle.word_image.specs.Windows.{IsDetermined, IsLeastDetermined, IsRightAhead, IsLeastRightAhead}
-use Rattle.word_image.specs.Graphs.{first_of, second_of, pair_count}
+use Rattle.word_image.specs.Graphs.{full_set, first_of, second_of, pair_count}
 use Rattle.word_image.specs.Ranks.{IsRank, IsEndless}
-use Rattle.word_image.proofs.laws.Values.{length-word_of, IsWord-word_of}
-use Rattle.word_image.proofs.laws.Words.{IsWord-image, length-image}
+use Rattle.word_image.proofs.laws.Values.{length-word_of}
+use Rattle.word_image.proofs.laws.Words.{length-image}
 use Rattle.pair_laws.proofs.Endless.{BeginTogether-endless}
 use Rattle.pair_laws.proofs.BothWays.{IsDetermined-not_both_ways, IsDetermined-none_both_ways}
 use Rattle.pair_laws.proofs.Aheads.{IsRightAhead-pairs}
 use Rattle.ring_laws.proofs.Gains.{gain}
-use Rattle.ring_laws.proofs.FluxWalks.{zeros, length-zeros, IsWord-zeros, walk_gain, IsFlux-unique}
+use Rattle.ring_laws.proofs.FluxWalks.{zeros, length-zeros, walk_gain, IsFlux-unique}
+use Rattle.cert_format.specs.declared.cert_version.CertVersion.{CertVersion}
 use Rattle.cert_format.specs.Certificates.{SurjectiveEvidence, InjectiveEvidence, SumEvidence, IsSurjectiveShape, IsInjectiveShape, IsSideShape, IsSumShape, IsClaim, IsRankShape}
-use Rattle.cert_format.specs.Certificates.SurjectiveEvidence.{Sets, Orphan}
+use Rattle.cert_format.specs.Certificates.SurjectiveEvidence.{Sets, Pairs, Orphan}
 use Rattle.cert_format.specs.Certificates.InjectiveEvidence.{Window, Twins}
 use Rattle.cert_format.specs.Certificates.SideEvidence.{Ahead}
 use Rattle.cert_format.specs.Certificates.SumEvidence.{Flux, Ring}
+use Rattle.cert_format.specs.Versions.{lists_pairs}
 use Rattle.cert_format.specs.Readings.{IsNear}
+use Rattle.cert_check.proofs.laws.ExactEvidence.{Contains-full}
 use Rattle.certificate_laws.specs.Evidence.{IsOrphanPart, IsInjectivePart, IsConservingPart, orphan_of}
-use Rattle.certificate_laws.specs.WrittenCertificates.{IsFamilyPart, AreRanks}
-use Rattle.certificate_laws.proofs.MetConditions.{IsLastSet-each}
+use Rattle.certificate_laws.specs.WrittenCertificates.{IsListPart, AreRanks}
+use Rattle.certificate_laws.proofs.MetConditions.{AreLastSets-family}
+use Rattle.certificate_laws.proofs.PairLists.{below-reached}
+use Rattle.certificate_laws.proofs.CoverLists.{Contains-covers}
 
 -- a rule has at most 256 pairs of nodes
 pub pair_count-le : {r : LocalRule} → IsRule r → pair_count r ≤ 256
 pair_count-le rule = mul-le-mul rule.shape.most_nodes rule.shape.most_nodes
 
--- the family's sets are sets of nodes, and an orphan is a word
-pub IsSurjectiveShape-written : (r : LocalRule) (e : SurjectiveEvidence) → IsOrphanPart r (orphan_of e) → IsFamilyPart r e → IsSurjectiveShape r e
-IsSurjectiveShape-written r (Sets sets) surjective family = λ i d l.
-    let last = IsLastSet-each r sets family.words family.each (get_or sets i d) (Contains-get_or sets i d l) in omega (arith, last.1.within)
-IsSurjectiveShape-written r (Orphan w) least family = least.orphan.word
+-- the covers are sets of nodes, the reached pairs are pairs of them, and an orphan is a word
+pub IsSurjectiveShape-written : (version : CertVersion) {r : LocalRule} → IsRule r → (e : SurjectiveEvidence) → IsOrphanPart r (orphan_of e) → IsListPart version r e → IsSurjectiveShape version r e
+IsSurjectiveShape-written version {r} rule (Sets sets) surjective (two, (family, is, same)) = λ i d l.
+    let last = AreLastSets-family surjective is in
+    let listed = Contains-covers (full_set r) family (Contains-full last) (get_or sets i d) (subst (λ xs. Contains xs (get_or sets i d)) same (Contains-get_or sets i d l)) in
+    let word = last.each (get_or sets i d) listed in omega (arith, word.1.within)
+IsSurjectiveShape-written version rule (Pairs pairs) surjective (three, reached) = (ap lists_pairs three, below-reached rule reached)
+IsSurjectiveShape-written version rule (Orphan w) least list = least.orphan.word
 
 -- the least determined window has at most twice as many letters as there are pairs
 IsLeastDetermined-le : {r : LocalRule} {n c : ℕ} → IsRule r → IsLeastDetermined r n c → n ≤ pair_count r + pair_count r
@@ -85,36 +94,40 @@ IsRankShape-exact {r} {row} Together rule few ranks =
           IsClaim-rank (Together (first_of r p) (second_of r p)) rule (few (first_of r p) (second_of r p)) (get_or row p None) (ranks.ranks p (omega (arith, ranks.each_pair))));
     }
 
--- n letters below 16 weigh at most 15 n
-letters-le : {k : ℕ} → k ≤ 16 → (w : List ℕ) → IsWord k w → sum_by (λ a. a) w ≤ length w * 15
-letters-le few w word = sum_by-le (λ a. a) 15 w (λ i d l. omega (arith, word i d l))
+-- a weight is small, also that of what is no letter
+weight-le : {k : ℕ} {weights : List ℕ} → AreWeights k weights → (a : ℕ) → slice_index weights a ≤ 255
+weight-le {weights = weights} are a =
+    ⊎_elim (λ within. are.small a 0 within) (λ past. omega (arith, get_or_past weights a 0 past)) (cases_lt a (length weights))
 
--- what a word of 2 (m - 1) letters gains lies between -60 and 60
-IsNear-gain : {r : LocalRule} → IsRule r → (x : List ℕ) → IsWord r.states x → length x ≡ (r.width - 1) + (r.width - 1) → IsNear (gain (λ a. a) r x)
-IsNear-gain {r} rule x word long =
-    let few = rule.shape.most_states in
+-- n letters weigh at most 255 n
+letters-le : {k : ℕ} {weights : List ℕ} → AreWeights k weights → (w : List ℕ) → sum_by (slice_index weights) w ≤ length w * 255
+letters-le {weights = weights} are w = sum_by-le (slice_index weights) 255 w (λ i d l. weight-le are (get_or w i d))
+
+-- what a word of 2 (m - 1) letters gains lies between -1,020 and 1,020
+IsNear-gain : {r : LocalRule} {weights : List ℕ} → IsRule r → AreWeights r.states weights → (x : List ℕ) → length x ≡ (r.width - 1) + (r.width - 1) → IsNear (gain (slice_index weights) r x)
+IsNear-gain {r} rule are x long =
     let width = rule.shape.most_width in
-    let after = letters-le few (image r x) (IsWord-image rule x) in
-    let before = letters-le few (take (length x - (r.width - 1)) x) (All-take (λ a. a < r.states) (length x - (r.width - 1)) x word) in
+    let after = letters-le are (image r x) in
+    let before = letters-le are (take (length x - (r.width - 1)) x) in
     let after_long = length-image r x in
     let before_long = length-take-le (length x - (r.width - 1)) x (omega arith) in
     (omega (arith, ints), omega (arith, ints))
 
 -- what flows over a node by the walk from it is within the limits
-IsNear-walk_gain : {r : LocalRule} → IsRule r → (v : ℕ) → v < node_count r → IsNear (walk_gain (λ a. a) r v)
-IsNear-walk_gain {r} rule v l =
+IsNear-walk_gain : {r : LocalRule} {weights : List ℕ} → IsRule r → AreWeights r.states weights → (v : ℕ) → v < node_count r → IsNear (walk_gain (slice_index weights) r v)
+IsNear-walk_gain {r} rule are v l =
     let z : List ℕ = word_of r.states (r.width - 1) v in
-    IsNear-gain rule (z ++ zeros r) (All-append (λ a. a < r.states) z (zeros r) (IsWord-word_of r.states (r.width - 1) v l) (IsWord-zeros rule))
+    IsNear-gain rule are (z ++ zeros r)
     (omega (arith, length-append z (zeros r), length-zeros r, length-word_of r.states (r.width - 1) v))
 
 -- the flux that is 0 at node 0 is within the limits, and a ring is a word
-pub IsSumShape-written : {r : LocalRule} → IsRule r → (e : SumEvidence) → IsConservingPart (λ a. a) r e → IsSumShape r e
-IsSumShape-written {r} rule (Flux phi) part = (
+pub IsSumShape-written : {r : LocalRule} {weights : List ℕ} → IsRule r → AreWeights r.states weights → (e : SumEvidence) → IsConservingPart (slice_index weights) r e → IsSumShape r e
+IsSumShape-written {r} {weights} rule are (Flux phi) part = (
   part.1.entries,
   All-from_get_or IsNear phi (pos 0) (λ v l.
       let below : v < node_count r = omega (arith, part.1.entries) in
-      let same : get_or phi v (pos 0) ≡ walk_gain (λ a. a) r v =
-      ap (λ (f : List ℤ). get_or f v (pos 0)) (IsFlux-unique rule part.1 part.2) ∙ get_or-map-range_with_len (walk_gain (λ a. a) r) 0 (node_count r) v v (pos 0) below (omega arith) in
-      subst IsNear (sym same) (IsNear-walk_gain rule v below)),
+      let same : get_or phi v (pos 0) ≡ walk_gain (slice_index weights) r v =
+      ap (λ (f : List ℤ). get_or f v (pos 0)) (IsFlux-unique rule part.1 part.2) ∙ get_or-map-range_with_len (walk_gain (slice_index weights) r) 0 (node_count r) v v (pos 0) below (omega arith) in
+      subst IsNear (sym same) (IsNear-walk_gain rule are v below)),
 )
-IsSumShape-written rule (Ring p) part = part.1.lossy.ring.word
+IsSumShape-written rule are (Ring p) part = part.1.lossy.ring.word

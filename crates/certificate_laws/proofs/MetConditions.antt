@@ -1,30 +1,38 @@
--- What is written for a rule meets the conditions of the judge: the family of last sets or an orphan, the exact ranks, and the least evidence of each other part.
-use Rattle.std.proofs.Common.{◌≢◌, ℕ, zero, suc, ◌^◌, List, [], ◌∷◌, length, slice_index, Contains, Option, sym, subst, ⊎_elim, arith}
+-- What is written for a rule and weights meets the conditions of the judge: the cover list, the reached pairs or an orphan, the exact ranks, and the least evidence of each other part.
+use Rattle.std.proofs.Common.{◌≡◌, ◌≢◌, ℕ, zero, suc, ◌^◌, List, [], ◌∷◌, length, slice_index, Contains, Option, refl, sym, subst, subst₂, ⊎_elim, arith}
 use Rattle.std.specs.List.{AllZip}
+use Rattle.std.proofs.lemmas.List.Elements.{Contains-get_or}
 use Rattle.word_image.specs.LocalRules.{LocalRule, IsRule, word_of}
 use Rattle.word_image.specs.Words.{IsSurjective}
-use Rattle.word_image.specs.Graphs.{full_set, pair_count}
+use Rattle.word_image.specs.Graphs.{full_set, first_of, second_of, pair_count}
 use Rattle.word_image.specs.Erasure.{IsFirstOfRight, IsFirstOfLeft}
-use Rattle.word_image.specs.Families.{IsFamily, IsLeastWordOf}
+use Rattle.word_image.specs.Families.{IsFamily, IsLeastWordOf, covers_of}
 use Rattle.word_image.specs.Ranks.{IsLastSet, BeginTogether, EndTogether}
 use Rattle.word_image.proofs.laws.LastSets.{IsOrphan-empty_set, IsOrphan-not_surjective}
+use Rattle.eden_laws.proofs.ReachedPairs.{IsPairList-reached}
 use Rattle.tail_config.specs.Tails.{AgreeLeft, AgreeRight}
 use Rattle.tail_laws.proofs.Verdicts.{IsLeftSplit-least}
+use Rattle.cert_format.specs.declared.cert_version.CertVersion.{CertVersion}
+use Rattle.cert_format.specs.declared.cert_version.CertVersion.TheVariants.{One, Two}
 use Rattle.cert_format.specs.Certificates.{Certificate, SurjectiveEvidence, InjectiveEvidence, SideEvidence, SumEvidence}
-use Rattle.cert_format.specs.Certificates.SurjectiveEvidence.{Sets, Orphan}
+use Rattle.cert_format.specs.Certificates.SurjectiveEvidence.{Sets, Pairs, Orphan}
 use Rattle.cert_format.specs.Certificates.InjectiveEvidence.{Window, Twins}
 use Rattle.cert_format.specs.Certificates.SideEvidence.{Ahead, Split}
 use Rattle.cert_format.specs.Certificates.SumEvidence.{Flux, Ring}
-use Rattle.cert_check.specs.declared.conditions.Condition.TheVariants.{ForwardClaims, BackwardClaims, FullListed, NoneEmpty, Closed, OrphanRead, WindowClaims, TwinsAlike, RightAhead, RightSplit, LeftAhead, LeftSplit, FluxFlows, RingLossy}
+use Rattle.cert_check.specs.declared.conditions.Condition.TheVariants.{ForwardClaims, BackwardClaims, FullListed, NoneEmpty, Closed, FirstsListed, OffDiagonal, PairsClosed, OrphanRead, WindowClaims, TwinsAlike, RightAhead, RightSplit, LeftAhead, LeftSplit, FluxFlows, RingLossy}
 use Rattle.cert_check.specs.Breaches.{EachBelow}
-use Rattle.cert_check.specs.Sets.{StepIsListed, LeadsTo}
+use Rattle.cert_check.specs.Sets.{StepIsKept, LeadsTo}
+use Rattle.cert_check.specs.Pairs.{FirstIsListed, StepsAreListed}
 use Rattle.cert_check.specs.Windows.{IsWindowPair, IsAheadPair}
 use Rattle.cert_check.specs.Sums.{Flows, IsLossy}
-use Rattle.cert_check.specs.Conditions.{MeetsConditions, OfSets, OfOrphan, OfWindow, OfTwins, OfAhead, OfSplit, OfFlux, OfRing}
+use Rattle.cert_check.specs.Conditions.{MeetsConditions, OfSets, OfPairs, OfOrphan, OfWindow, OfTwins, OfAhead, OfSplit, OfFlux, OfRing}
+use Rattle.cert_check.proofs.laws.StepConditions.{at_listed}
 use Rattle.cert_check.proofs.laws.ClaimConditions.{AreApart, AreAlike}
-use Rattle.cert_check.proofs.laws.ExactEvidence.{AreLastSets, Contains-full, nonempty-last_sets, StepIsListed-last_sets, LeadsTo-orphan, ClaimForward-ranks, ClaimBackward-ranks, IsWindowPair-determined, IsAheadPair-right, IsAheadPair-left, AreAlike-twins, AreApart-right, AreApart-left, Flows-exact, IsLossy-ring}
+use Rattle.cert_check.proofs.laws.ExactEvidence.{AreLastSets, Contains-full, nonempty-last_sets, StepIsKept-last_sets, LeadsTo-orphan, ClaimForward-ranks, ClaimBackward-ranks, IsWindowPair-determined, IsAheadPair-right, IsAheadPair-left, AreAlike-twins, AreApart-right, AreApart-left, Flows-exact, IsLossy-ring}
+use Rattle.certificate_laws.proofs.CoverLists.{Contains-covers, HasCover-listed}
+use Rattle.certificate_laws.proofs.PairLists.{pair_list-met}
 use Rattle.certificate_laws.specs.Evidence.{IsOrphanPart, IsInjectivePart, IsRightPart, IsLeftPart, IsConservingPart, orphan_of}
-use Rattle.certificate_laws.specs.WrittenCertificates.{IsFamilyPart, AreRanks, HasWrittenParts}
+use Rattle.certificate_laws.specs.WrittenCertificates.{IsListPart, AreRanks, HasWrittenParts}
 
 -- each set of a family is the last nodes of a word
 pub IsLastSet-each : (r : LocalRule) (sets : List ℕ) (words : List (List ℕ)) → AllZip (IsLeastWordOf r) sets words → (set : ℕ) → Contains sets set → (w : List ℕ) × IsLastSet r w set
@@ -34,21 +42,59 @@ IsLastSet-each r (s ∷ sets) (w ∷ words) each set (zero, l, same) = (w, subst
 IsLastSet-each r (s ∷ sets) (w ∷ words) each set (suc i, l, same) = IsLastSet-each r sets words each.1 set (i, omega arith, same)
 
 -- the family of a surjective rule has the last nodes of each word
-AreLastSets-family : {r : LocalRule} {sets : List ℕ} → IsSurjective r → IsFamily r sets → AreLastSets r sets
+pub AreLastSets-family : {r : LocalRule} {sets : List ℕ} → IsSurjective r → IsFamily r sets → AreLastSets r sets
 AreLastSets-family {r} {sets} surjective family =
     record {
       each = IsLastSet-each r sets family.words family.each;
       all = λ w set last. ⊎_elim (λ listed. listed) (λ late. absurd (IsOrphan-not_surjective (IsOrphan-empty_set late.1) surjective)) (family.all w set last);
     }
 
--- the family has the full set, no empty one and each step; the orphan leads to the empty set
-surjective-met : {r : LocalRule} → IsRule r → (e : SurjectiveEvidence) → IsOrphanPart r (orphan_of e) → IsFamilyPart r e
-    → OfSets e (λ sets. Contains sets (full_set r)) × OfSets e (λ sets. EachBelow (length sets) (λ i. slice_index sets i ≢ 0))
-    × OfSets e (λ sets. EachBelow (length sets) (λ i. EachBelow r.states (StepIsListed r sets (slice_index sets i)))) × OfOrphan e (λ w. LeadsTo r (full_set r) w 0)
-surjective-met rule (Sets sets) surjective family =
-    let last = AreLastSets-family surjective family in
-    (Contains-full last, nonempty-last_sets surjective last, StepIsListed-last_sets rule last, tt)
-surjective-met rule (Orphan w) least family = (tt, tt, tt, LeadsTo-orphan rule least.orphan)
+-- the cover list of a family has the full set
+Contains-covers_full : (full : ℕ) (family : List ℕ) → Contains (covers_of full family) full
+Contains-covers_full full family = (0, omega arith, refl)
+
+-- a fact of each set of the family is one of each set of its cover list
+each_cover : (P : ℕ → Type 0) (full : ℕ) (family : List ℕ) → Contains family full → ((set : ℕ) → Contains family set → P set)
+    → EachBelow (length (covers_of full family)) (λ i. P (slice_index (covers_of full family) i))
+each_cover P full family there each i l = each _ (Contains-covers full family there _ (Contains-get_or (covers_of full family) i 0 l))
+
+-- each step from a set of the family contains a set of the cover list
+StepIsKept-covers : (r : LocalRule) (full : ℕ) (family : List ℕ) → ((set : ℕ) → Contains family set → EachBelow r.states (StepIsKept One r family set))
+    → (set : ℕ) → Contains family set → EachBelow r.states (StepIsKept Two r (covers_of full family) set)
+StepIsKept-covers r full family steps set listed a letter =
+    let (after, step, there) = steps set listed a letter in
+    let within = HasCover-listed full family after there in
+    (after, step, (within.cover, within.listed, within.part))
+
+-- what is asked of sets, of pairs and of an orphan
+abbrev SurjectiveMet : CertVersion → LocalRule → SurjectiveEvidence → Type 0
+SurjectiveMet version r e =
+    OfSets e (λ sets. Contains sets (full_set r)) × OfSets e (λ sets. EachBelow (length sets) (λ i. slice_index sets i ≢ 0))
+    × OfSets e (λ sets. EachBelow (length sets) (λ i. EachBelow r.states (StepIsKept version r sets (slice_index sets i))))
+    × OfPairs e (λ pairs. EachBelow (pair_count r) (FirstIsListed r pairs)) × OfPairs e (λ pairs. EachBelow (length pairs) (λ i. first_of r (slice_index pairs i) ≢ second_of r (slice_index pairs i)))
+    × OfPairs e (λ pairs. EachBelow (length pairs) (λ i. StepsAreListed r pairs (slice_index pairs i))) × OfOrphan e (λ w. LeadsTo r (full_set r) w 0)
+
+-- the cover list has the full set, no empty one, and a set within each step; the reached pairs are a pair list; the orphan leads to
+-- the empty set
+surjective-met : (version : CertVersion) {r : LocalRule} → IsRule r → (e : SurjectiveEvidence) → IsOrphanPart r (orphan_of e) → IsListPart version r e → SurjectiveMet version r e
+surjective-met version {r} rule (Sets sets) surjective (two, (family, is, same)) =
+    let last = AreLastSets-family surjective is in
+    let full = full_set r in
+    let there = Contains-full last in
+    let some = λ (set : ℕ) (listed : Contains family set). at_listed (λ s. s ≢ 0) family (nonempty-last_sets surjective last) set listed in
+    let kept = StepIsKept-covers r full family (at_listed (λ s. EachBelow r.states (StepIsKept One r family s)) family (StepIsKept-last_sets rule last)) in
+    let met : SurjectiveMet Two r (Sets (covers_of full family)) = (
+      Contains-covers_full full family,
+      each_cover (λ s. s ≢ 0) full family there some,
+      each_cover (λ s. EachBelow r.states (StepIsKept Two r (covers_of full family) s)) full family there kept,
+      tt,
+      tt,
+      tt,
+      tt,
+    ) in
+    subst₂ (λ v xs. SurjectiveMet v r (Sets xs)) (sym two) (sym same) met
+surjective-met version rule (Pairs pairs) surjective (three, reached) = let met = pair_list-met (IsPairList-reached rule surjective reached.exactly) in (tt, tt, tt, met.0, met.1, met.2, tt)
+surjective-met version rule (Orphan w) least list = (tt, tt, tt, tt, tt, tt, LeadsTo-orphan rule least.orphan)
 
 -- the window is claimed of each pair; the twins are alike
 injective-met : {r : LocalRule} → IsRule r → (e : InjectiveEvidence) (forward backward : List (Option ℕ)) → AreRanks r (BeginTogether r) forward → AreRanks r (EndTogether r) backward
@@ -70,32 +116,37 @@ left-met rule (Ahead n) backward back part = (IsAheadPair-left rule backward bac
 left-met rule (Split x y) backward back part = (tt, AreApart-left (IsLeftSplit-least rule part.1))
 
 -- the flux flows on each window; the ring is lossy
-conserving-met : {r : LocalRule} → IsRule r → (e : SumEvidence) → IsConservingPart (λ a. a) r e
-    → OfFlux e (λ phi. EachBelow (r.states ^ r.width) (λ v. Flows r phi (word_of r.states r.width v))) × OfRing e (IsLossy r)
-conserving-met rule (Flux phi) part = (Flows-exact rule part.1, tt)
-conserving-met rule (Ring p) part = (tt, IsLossy-ring part.1.lossy)
+conserving-met : (weight : ℕ → ℕ) {r : LocalRule} → IsRule r → (e : SumEvidence) → IsConservingPart weight r e
+    → OfFlux e (λ phi. EachBelow (r.states ^ r.width) (λ v. Flows weight r phi (word_of r.states r.width v))) × OfRing e (IsLossy weight r)
+conserving-met weight rule (Flux phi) part = (Flows-exact rule part.1, tt)
+conserving-met weight rule (Ring p) part = (tt, IsLossy-ring part.1.lossy)
 
 -- a certificate with the evidence that is written for its own rule meets the conditions
-MeetsConditions-own : {c : Certificate} → IsRule c.rule → HasWrittenParts c.rule c → MeetsConditions c
+MeetsConditions-own : {c : Certificate} → IsRule c.rule → HasWrittenParts c.version c.rule c.weights c → MeetsConditions c
 MeetsConditions-own {c} rule parts ForwardClaims = ClaimForward-ranks rule c.forward parts.forward.ranks
 MeetsConditions-own {c} rule parts BackwardClaims = ClaimBackward-ranks rule c.backward parts.backward.ranks
-MeetsConditions-own {c} rule parts FullListed = (surjective-met rule c.surjective parts.least.surjective parts.family).0
-MeetsConditions-own {c} rule parts NoneEmpty = (surjective-met rule c.surjective parts.least.surjective parts.family).1
-MeetsConditions-own {c} rule parts Closed = (surjective-met rule c.surjective parts.least.surjective parts.family).2
-MeetsConditions-own {c} rule parts OrphanRead = (surjective-met rule c.surjective parts.least.surjective parts.family).3
+MeetsConditions-own {c} rule parts FullListed = (surjective-met c.version rule c.surjective parts.least.surjective parts.list).0
+MeetsConditions-own {c} rule parts NoneEmpty = (surjective-met c.version rule c.surjective parts.least.surjective parts.list).1
+MeetsConditions-own {c} rule parts Closed = (surjective-met c.version rule c.surjective parts.least.surjective parts.list).2
+MeetsConditions-own {c} rule parts FirstsListed = (surjective-met c.version rule c.surjective parts.least.surjective parts.list).3
+MeetsConditions-own {c} rule parts OffDiagonal = (surjective-met c.version rule c.surjective parts.least.surjective parts.list).4
+MeetsConditions-own {c} rule parts PairsClosed = (surjective-met c.version rule c.surjective parts.least.surjective parts.list).5
+MeetsConditions-own {c} rule parts OrphanRead = (surjective-met c.version rule c.surjective parts.least.surjective parts.list).6
 MeetsConditions-own {c} rule parts WindowClaims = (injective-met rule c.injective c.forward c.backward parts.forward parts.backward parts.least.injective).0
 MeetsConditions-own {c} rule parts TwinsAlike = (injective-met rule c.injective c.forward c.backward parts.forward parts.backward parts.least.injective).1
 MeetsConditions-own {c} rule parts RightAhead = (right-met rule c.right c.forward parts.forward parts.least.right).0
 MeetsConditions-own {c} rule parts RightSplit = (right-met rule c.right c.forward parts.forward parts.least.right).1
 MeetsConditions-own {c} rule parts LeftAhead = (left-met rule c.left c.backward parts.backward parts.least.left).0
 MeetsConditions-own {c} rule parts LeftSplit = (left-met rule c.left c.backward parts.backward parts.least.left).1
-MeetsConditions-own {c} rule parts FluxFlows = (conserving-met rule c.conserving parts.least.conserving).0
-MeetsConditions-own {c} rule parts RingLossy = (conserving-met rule c.conserving parts.least.conserving).1
+MeetsConditions-own {c} rule parts FluxFlows = (conserving-met (slice_index c.weights) rule c.conserving parts.least.conserving).0
+MeetsConditions-own {c} rule parts RingLossy = (conserving-met (slice_index c.weights) rule c.conserving parts.least.conserving).1
 
--- what is written for a rule has that rule's parts for its own
-pub own_parts : {r : LocalRule} {c : Certificate} → HasWrittenParts r c → HasWrittenParts c.rule c
-own_parts {c = c} parts = subst (λ (s : LocalRule). HasWrittenParts s c) (sym parts.least.rule) parts
+-- what is written for a version, a rule and weights has its parts for its own
+pub own_parts : {version : CertVersion} {r : LocalRule} {weights : List ℕ} {c : Certificate} → HasWrittenParts version r weights c → HasWrittenParts c.version c.rule c.weights c
+own_parts {version} {r} {weights} {c} parts =
+    subst (λ (v : CertVersion). HasWrittenParts v c.rule c.weights c) (sym parts.version_is)
+    (subst₂ (λ (s : LocalRule) (ws : List ℕ). HasWrittenParts version s ws c) (sym parts.least.rule) (sym parts.weights_are) parts)
 
 -- what is written for a rule meets the conditions
-pub MeetsConditions-written : {r : LocalRule} {c : Certificate} → IsRule r → HasWrittenParts r c → MeetsConditions c
+pub MeetsConditions-written : {version : CertVersion} {r : LocalRule} {weights : List ℕ} {c : Certificate} → IsRule r → HasWrittenParts version r weights c → MeetsConditions c
 MeetsConditions-written rule parts = MeetsConditions-own (subst IsRule (sym parts.least.rule) rule) (own_parts parts)

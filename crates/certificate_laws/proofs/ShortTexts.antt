@@ -1,5 +1,5 @@
 -- The text that is written for a rule has fewer than 450,000 bytes.
-use Rattle.std.proofs.Common.{ℕ, ◌+◌, ◌-◌, ◌^◌, ◌<◌, ◌≤◌, true, false, List, [], ◌∷◌, length, map, Option, Some, None, arith, length-append}
+use Rattle.std.proofs.Common.{◌≡◌, ℕ, ◌+◌, ◌-◌, ◌^◌, ◌<◌, ◌≤◌, true, false, ⊎_elim, List, [], ◌∷◌, length, map, slice_index, Option, Some, None, arith, length-append}
 use Rattle.std.specs.Prelude.{ℤ, pos, negsuc, ◌≤ℤ◌, codes}
 use Rattle.std.proofs.Math.Nat.{pow-le-pow_right}
 use Rattle.std.proofs.lemmas.Fmt.{length-decimal-le, length_signed_le}
@@ -7,24 +7,31 @@ use Rattle.std.proofs.lemmas.Int.{ints}
 use Rattle.std.proofs.lemmas.List.{length-map}
 use Rattle.std.proofs.lemmas.List.Elements.{All-weaker}
 use Rattle.serde_json.specs.Data.{Data, Members, no_members, member, string}
-use Rattle.serde_json.specs.Written.{compact_text}
+use Rattle.serde_json.specs.Written.{compact_text, members_text}
 use Rattle.word_image.specs.LocalRules.{LocalRule, IsRule, node_count}
+use Rattle.word_image.specs.Graphs.{pair_count}
+use Rattle.word_image.specs.Weights.{AreWeights}
 use Rattle.word_image.proofs.laws.RuleFaults.{window_count-le}
 use Rattle.tail_config.specs.TailTexts.{IsShortTail}
 use Rattle.rule_text.specs.RuleTexts.{offset_text, printed}
+use Rattle.cert_format.specs.declared.cert_version.CertVersion.{CertVersion}
+use Rattle.cert_format.specs.declared.cert_version.CertVersion.TheVariants.{One, Two, Three}
+use Rattle.cert_format.specs.Versions.{number_of, names_weights}
 use Rattle.cert_format.specs.Certificates.{Certificate, SurjectiveEvidence, InjectiveEvidence, SideEvidence, SumEvidence, IsSurjectiveShape, IsInjectiveShape, IsSideShape, IsSumShape, IsClaim, IsRankShape, IsShaped}
-use Rattle.cert_format.specs.Certificates.SurjectiveEvidence.{Sets, Orphan}
+use Rattle.cert_format.specs.Certificates.SurjectiveEvidence.{Sets, Pairs, Orphan}
 use Rattle.cert_format.specs.Certificates.InjectiveEvidence.{Window, Twins}
 use Rattle.cert_format.specs.Certificates.SideEvidence.{Ahead, Split}
 use Rattle.cert_format.specs.Certificates.SumEvidence.{Flux, Ring}
 use Rattle.cert_format.specs.Readings.{IsNear}
-use Rattle.cert_format.specs.WrittenTexts.{array_from, whole_value, signed_value, word_value, tail_value, claim_value, surjective_value, injective_value, side_value, sum_value, ranks_value, certificate_text}
+use Rattle.cert_format.specs.WrittenTexts.{array_from, whole_value, signed_value, word_value, tail_value, claim_value, surjective_value, injective_value, side_value, sum_value, ranks_value, weights_members, certificate_text}
+use Rattle.cert_format.proofs.laws.WeightMembers.{weights_members-cases}
 use Rattle.certificate_laws.specs.Evidence.{IsOrphanPart, IsInjectivePart, IsConservingPart, orphan_of}
-use Rattle.certificate_laws.specs.WrittenCertificates.{IsFamilyPart, HasWrittenParts}
+use Rattle.certificate_laws.specs.WrittenCertificates.{IsListPart, HasWrittenParts}
 use Rattle.certificate_laws.proofs.MetConditions.{own_parts}
 use Rattle.certificate_laws.proofs.Limits.{pair_count-le}
 use Rattle.certificate_laws.proofs.WrittenShapes.{IsShaped-written}
-use Rattle.certificate_laws.proofs.FamilySizes.{length-family}
+use Rattle.certificate_laws.proofs.PairLists.{length-reached}
+use Rattle.certificate_laws.proofs.FamilySizes.{length-IsCoverList}
 use Rattle.certificate_laws.proofs.ShortOrphans.{length-IsLeastOrphan}
 use Rattle.certificate_laws.proofs.ShortWords.{length-IsLeastTwins, length-IsLeastLossyRing}
 use Rattle.certificate_laws.proofs.TextLengths.{length-quoted, length-word_value, length-tail_value, length-values, length-pair, length-member, length-only}
@@ -59,13 +66,18 @@ length-printed {r} rule =
     let table = rule.entries in
     simp (length-append, length-map) (omega arith)
 
--- the sets of a family, or an orphan
-length-surjective_value : {r : LocalRule} → IsRule r → (e : SurjectiveEvidence) → IsSurjectiveShape r e → IsOrphanPart r (orphan_of e) → IsFamilyPart r e → length (compact_text (surjective_value e)) ≤ 393248
-length-surjective_value {r} rule (Sets sets) shape surjective family =
+-- the cover list, the reached pairs, or an orphan
+length-surjective_value : (version : CertVersion) {r : LocalRule} → IsRule r → (e : SurjectiveEvidence) → IsSurjectiveShape version r e → IsOrphanPart r (orphan_of e) → IsListPart version r e
+    → length (compact_text (surjective_value e)) ≤ 393260
+length-surjective_value version {r} rule (Sets sets) shape surjective (two, covers) =
     let most : 2 ^ node_count r ≤ 2 ^ 16 = pow-le-pow_right (omega arith) rule.shape.most_nodes in
     let small = All-weaker (λ s. s ≤ 2 ^ node_count r - 1) (λ s. length (compact_text (whole_value s)) ≤ 5) (λ s l. length-whole_value s (omega (arith, l, most))) sets shape in
-    omega (arith, length-only (codes "sets") (array_from (map whole_value sets)), length-values whole_value 5 sets small, length-family rule family)
-length-surjective_value rule (Orphan w) shape least family = omega (arith, length-IsLeastOrphan rule least, length-only (codes "orphan") (word_value w), length-word_value w)
+    omega (arith, length-only (codes "sets") (array_from (map whole_value sets)), length-values whole_value 5 sets small, length-IsCoverList rule covers)
+length-surjective_value version {r} rule (Pairs pairs) shape surjective (three, reached) =
+    let most = pair_count-le rule in
+    let small = All-weaker (λ p. p < pair_count r) (λ p. length (compact_text (whole_value p)) ≤ 5) (λ p l. length-whole_value p (omega (arith, l, most))) pairs shape.1 in
+    omega (arith, length-only (codes "pairs") (array_from (map whole_value pairs)), length-values whole_value 5 pairs small, length-reached rule reached, most)
+length-surjective_value version rule (Orphan w) shape least list = omega (arith, length-IsLeastOrphan rule least, length-only (codes "orphan") (word_value w), length-word_value w)
 
 -- a window or twins
 length-injective_value : {r : LocalRule} → IsRule r → (e : InjectiveEvidence) → IsInjectiveShape r e → IsInjectivePart r e → length (compact_text (injective_value e)) ≤ 1100
@@ -90,11 +102,11 @@ length-side_value r (Split x y) shape =
     omega (arith, length-only (codes "split") (array_from (tail_value x ∷ tail_value y ∷ [])), length-pair (tail_value x) (tail_value y), length-tail_value x, length-tail_value y)
 
 -- a flux or a ring
-length-sum_value : {r : LocalRule} → IsRule r → (e : SumEvidence) → IsSumShape r e → IsConservingPart (λ a. a) r e → length (compact_text (sum_value e)) ≤ 200
-length-sum_value rule (Flux phi) shape part =
+length-sum_value : (weight : ℕ → ℕ) {r : LocalRule} → IsRule r → (e : SumEvidence) → IsSumShape r e → IsConservingPart weight r e → length (compact_text (sum_value e)) ≤ 200
+length-sum_value weight rule (Flux phi) shape part =
     let small = All-weaker IsNear (λ z. length (compact_text (signed_value z)) ≤ 8) length-signed_value phi shape.1 in
     omega (arith, length-only (codes "flux") (array_from (map signed_value phi)), length-values signed_value 8 phi small, shape.0, rule.shape.most_nodes)
-length-sum_value rule (Ring p) shape part = omega (arith, length-IsLeastLossyRing rule part.1, rule.shape.most_width, length-only (codes "ring") (word_value p), length-word_value p)
+length-sum_value weight rule (Ring p) shape part = omega (arith, length-IsLeastLossyRing rule part.1, rule.shape.most_width, length-only (codes "ring") (word_value p), length-word_value p)
 
 -- the ranks of one direction
 length-row : {r : LocalRule} {row : List (Option ℕ)} → IsRule r → IsRankShape r row → length (compact_text (array_from (map claim_value row))) ≤ 1538
@@ -109,11 +121,29 @@ length-ranks_value {r} {forward} {backward} rule ahead back =
     let behind : Data = array_from (map claim_value backward) in
     omega (arith, length-member false (codes "backward") behind (member (codes "forward") front no_members), length-member true (codes "forward") front no_members, length-row rule ahead, length-row rule back)
 
+-- the weights, where they are written, and the closing brace
+length-weights_members : {r : LocalRule} → IsRule r → (weights : List ℕ) → AreWeights r.states weights → length (members_text true (weights_members r weights)) ≤ 200
+length-weights_members {r} rule weights are =
+    let value : Data = array_from (map whole_value weights) in
+    let small = All-weaker (λ w. w ≤ 255) (λ w. length (compact_text (whole_value w)) ≤ 5) (λ w l. length-whole_value w (omega (arith, l))) weights are.small in
+    let few = rule.shape.most_states in
+    ⊎_elim
+    (λ (own, none). rw none (omega arith))
+    (λ (other, named). rw named (omega (arith, length-member true (codes "weights") value no_members, length-values whole_value 5 weights small, are.each_letter)))
+    (weights_members-cases r weights)
+
+-- the number of a version is small
+number_of-le : (v : CertVersion) → number_of v ≤ 65535
+number_of-le One = omega arith
+number_of-le Two = omega arith
+number_of-le Three = omega arith
+
 -- what is written for its own rule has a short text
-short-own : {c : Certificate} → IsShaped c → HasWrittenParts c.rule c → length (certificate_text c) < 450000
+short-own : {c : Certificate} → IsShaped c → HasWrittenParts c.version c.rule c.weights c → length (certificate_text c) < 450000
 short-own {c} shaped parts =
     let rule = shaped.rule in
-    let version : Members = member (codes "version") (whole_value 1) no_members in
+    let weights : Members = weights_members c.rule c.weights in
+    let version : Members = member (codes "version") (whole_value (number_of c.version)) weights in
     let surjective : Members = member (codes "surjective") (surjective_value c.surjective) version in
     let text : Members = member (codes "rule") (string (printed c.rule)) surjective in
     let right : Members = member (codes "right") (side_value c.right) text in
@@ -129,18 +159,20 @@ short-own {c} shaped parts =
       length-member true (codes "right") (side_value c.right) text,
       length-member true (codes "rule") (string (printed c.rule)) surjective,
       length-member true (codes "surjective") (surjective_value c.surjective) version,
-      length-member true (codes "version") (whole_value 1) no_members,
-      length-sum_value rule c.conserving shaped.conserving parts.least.conserving,
+      length-member true (codes "version") (whole_value (number_of c.version)) weights,
+      length-weights_members rule c.weights (shaped.weights).each,
+      length-sum_value (slice_index c.weights) rule c.conserving shaped.conserving parts.least.conserving,
       length-injective_value rule c.injective shaped.injective parts.least.injective,
       length-side_value c.rule c.left shaped.left,
       length-ranks_value rule shaped.forward shaped.backward,
       length-side_value c.rule c.right shaped.right,
       length-quoted (printed c.rule),
       length-printed rule,
-      length-surjective_value rule c.surjective shaped.surjective parts.least.surjective parts.family,
-      length-whole_value 1 (omega arith),
+      length-surjective_value c.version rule c.surjective shaped.surjective parts.least.surjective parts.list,
+      length-whole_value (number_of c.version) (number_of-le c.version),
     )
 
 -- the text that is written for a rule is short
-pub short-written : {r : LocalRule} {c : Certificate} → IsRule r → HasWrittenParts r c → length (certificate_text c) < 450000
-short-written rule parts = short-own (IsShaped-written rule parts) (own_parts parts)
+pub short-written : {version : CertVersion} {r : LocalRule} {weights : List ℕ} {c : Certificate} → names_weights version ≡ true → IsRule r → AreWeights r.states weights
+    → HasWrittenParts version r weights c → length (certificate_text c) < 450000
+short-written names rule are parts = short-own (IsShaped-written names rule are parts) (own_parts parts)

@@ -1,7 +1,9 @@
 -- What is written for a rule has the shape of a certificate.
-use Rattle.std.proofs.Common.{ℕ, length, sym, ap, subst, arith}
+use Rattle.std.proofs.Common.{◌≡◌, ◌∙◌, ℕ, List, length, true, sym, ap, subst, subst₂, arith}
+use Rattle.std.proofs.lemmas.Bool.{false≢true}
 use Rattle.std.proofs.lemmas.List.{length-reverse}
 use Rattle.word_image.specs.LocalRules.{LocalRule, IsRule}
+use Rattle.word_image.specs.Weights.{AreWeights}
 use Rattle.word_image.specs.Ranks.{BeginTogether, EndTogether}
 use Rattle.word_image.proofs.laws.Images.{IsRule-mirrored}
 use Rattle.pair_laws.proofs.Endless.{IsRank-begin, IsRank-end}
@@ -9,6 +11,8 @@ use Rattle.tail_config.specs.Tails.{TailConfig, mirror_of}
 use Rattle.tail_config.specs.TailTexts.{IsShortTail}
 use Rattle.tail_config.specs.Splits.{IsLeastRightSplit}
 use Rattle.tail_config.proofs.laws.Mirror.{IsTail-mirror}
+use Rattle.cert_format.specs.declared.cert_version.CertVersion.{CertVersion}
+use Rattle.cert_format.specs.Versions.{names_weights}
 use Rattle.cert_format.specs.Certificates.{Certificate, SideEvidence, IsSideShape, IsShaped}
 use Rattle.cert_format.specs.Certificates.SideEvidence.{Ahead, Split}
 use Rattle.certificate_laws.specs.Evidence.{IsRightPart, IsLeftPart}
@@ -51,20 +55,24 @@ IsSideShape-left {r} rule (Split x y) part =
     let shape = IsSideShape-split {x = least.first} {y = least.second} (IsRule-mirrored rule) least.right in
     (subst (IsShortTail r.states) (sym least.x_is) (IsShortTail-mirror shape.0), subst (IsShortTail r.states) (sym least.y_is) (IsShortTail-mirror shape.1))
 
--- with the evidence that is written for its own rule it has the shape of a certificate
-IsShaped-own : {c : Certificate} → IsRule c.rule → HasWrittenParts c.rule c → IsShaped c
-IsShaped-own {c} rule parts =
+-- with the evidence that is written for its own rule, in a version that names weights, it has the shape of a certificate
+IsShaped-own : {c : Certificate} → names_weights c.version ≡ true → IsRule c.rule → AreWeights (c.rule).states c.weights → HasWrittenParts c.version c.rule c.weights c → IsShaped c
+IsShaped-own {c} names rule are parts =
     record {
       rule = rule;
-      surjective = IsSurjectiveShape-written c.rule c.surjective parts.least.surjective parts.family;
+      surjective = IsSurjectiveShape-written c.version rule c.surjective parts.least.surjective parts.list;
       injective = IsInjectiveShape-written rule c.injective parts.least.injective;
       right = IsSideShape-right rule c.right parts.least.right;
       left = IsSideShape-left rule c.left parts.least.left;
-      conserving = IsSumShape-written rule c.conserving parts.least.conserving;
+      conserving = IsSumShape-written rule are c.conserving parts.least.conserving;
+      weights = record { each = are; own = λ none. absurd (false≢true (sym none ∙ names)) };
       forward = IsRankShape-exact (BeginTogether c.rule) rule (λ u v n rank. IsRank-begin rule rank) parts.forward;
       backward = IsRankShape-exact (EndTogether c.rule) rule (λ u v n rank. IsRank-end rule rank) parts.backward;
     }
 
 -- what is written for a rule has the shape of a certificate
-pub IsShaped-written : {r : LocalRule} {c : Certificate} → IsRule r → HasWrittenParts r c → IsShaped c
-IsShaped-written rule parts = IsShaped-own (subst IsRule (sym parts.least.rule) rule) (own_parts parts)
+pub IsShaped-written : {version : CertVersion} {r : LocalRule} {weights : List ℕ} {c : Certificate} → names_weights version ≡ true → IsRule r → AreWeights r.states weights
+    → HasWrittenParts version r weights c → IsShaped c
+IsShaped-written names rule are parts =
+    IsShaped-own (ap names_weights parts.version_is ∙ names) (subst IsRule (sym parts.least.rule) rule)
+    (subst₂ (λ (s : LocalRule) (ws : List ℕ). AreWeights s.states ws) (sym parts.least.rule) (sym parts.weights_are) are) (own_parts parts)

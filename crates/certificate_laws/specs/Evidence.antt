@@ -7,7 +7,7 @@ use Rattle.word_image.specs.Windows.{IsLeastDetermined, IsLeastRightAhead}
 use Rattle.tail_config.specs.Tails.{IsInjective, IsRightClosing, IsLeftClosing}
 use Rattle.tail_config.specs.Splits.{IsLeastRightSplit, IsLeastLeftSplit}
 use Rattle.cert_format.specs.Certificates.{Certificate, SurjectiveEvidence, InjectiveEvidence, SideEvidence, SumEvidence}
-use Rattle.cert_format.specs.Certificates.SurjectiveEvidence.{Sets, Orphan}
+use Rattle.cert_format.specs.Certificates.SurjectiveEvidence.{Sets, Pairs, Orphan}
 use Rattle.cert_format.specs.Certificates.InjectiveEvidence.{Window, Twins}
 use Rattle.cert_format.specs.Certificates.SideEvidence.{Ahead, Split}
 use Rattle.cert_format.specs.Certificates.SumEvidence.{Flux, Ring}
@@ -24,9 +24,10 @@ pub record Evidence : Type 0 where
 -- the orphan, where there is one
 abbrev pub orphan_of : SurjectiveEvidence → Option (List ℕ)
 orphan_of (Sets sets) = None
+orphan_of (Pairs pairs) = None
 orphan_of (Orphan w) = Some w
 
--- what a certificate has of it: all but the sets and the ranks
+-- what a certificate has of it: all but the version, the weights, the list of sets or of pairs, and the ranks
 abbrev pub evidence_of : Certificate → Evidence
 evidence_of c = record {
   rule = c.rule;

@@ -1,19 +1,30 @@
--- The certificate that is written for a rule: the least evidence, the family of a surjective rule, and the exact ranks.
-use Rattle.std.specs.Prelude.{◌≡◌, ℕ, ◌<◌, List, length, get_or, Option, None, MatchOption, ⊤}
+-- The certificate that is written for a rule and weights of its letters: the least evidence, and the exact ranks. That a rule
+-- is surjective is shown by its cover list in version 2, and by its reached pairs in version 3.
+use Rattle.std.specs.Prelude.{◌≡◌, ℕ, ◌<◌, ◌↔◌, List, length, Contains, slice_index, get_or, Option, None, MatchOption, ⊤}
+use Rattle.std.specs.List.Sorted.{IsStrictlyIncreasing}
 use Rattle.word_image.specs.LocalRules.{LocalRule}
 use Rattle.word_image.specs.Graphs.{first_of, second_of, pair_count}
 use Rattle.word_image.specs.Ranks.{BeginTogether, EndTogether, IsRank, IsEndless}
-use Rattle.word_image.specs.Families.{IsFamily}
+use Rattle.word_image.specs.Families.{IsCoverList}
+use Rattle.eden_laws.specs.ReachedPairs.{IsReached}
+use Rattle.cert_format.specs.declared.cert_version.CertVersion.{CertVersion}
+use Rattle.cert_format.specs.declared.cert_version.CertVersion.TheVariants.{Two, Three}
 use Rattle.cert_format.specs.Certificates.{Certificate, SurjectiveEvidence}
-use Rattle.cert_format.specs.Certificates.SurjectiveEvidence.{Sets, Orphan}
+use Rattle.cert_format.specs.Certificates.SurjectiveEvidence.{Sets, Pairs, Orphan}
 use Rattle.cert_format.specs.WrittenTexts.{certificate_text}
 use Rattle.cert_check.specs.Accepted.{IsAccepted, verdicts_of}
 use Rattle.certificate_laws.specs.Evidence.{IsLeastEvidence, evidence_of}
 
--- the sets are the family of last sets in its order
-abbrev pub IsFamilyPart : LocalRule → SurjectiveEvidence → Type 0
-IsFamilyPart r (Sets sets) = IsFamily r sets
-IsFamilyPart r (Orphan w) = ⊤
+-- the list has the reached pairs and no others, each once and ascending
+pub record AreReached (r : LocalRule) (pairs : List ℕ) : Type 0 where
+  pub exactly : (p : ℕ) → Contains pairs p ↔ IsReached r p
+  pub ascending : IsStrictlyIncreasing pairs
+
+-- in version 2 the sets are the cover list, and in version 3 the pairs are the reached ones
+abbrev pub IsListPart : CertVersion → LocalRule → SurjectiveEvidence → Type 0
+IsListPart version r (Sets sets) = (version ≡ Two) × IsCoverList r sets
+IsListPart version r (Pairs pairs) = (version ≡ Three) × AreReached r pairs
+IsListPart version r (Orphan w) = ⊤
 
 -- the rank of each pair, and nothing where it is endless
 pub record AreRanks (r : LocalRule) (Together : ℕ → ℕ → ℕ → Type 0) (row : List (Option ℕ)) : Type 0 where
@@ -21,15 +32,17 @@ pub record AreRanks (r : LocalRule) (Together : ℕ → ℕ → ℕ → Type 0) 
   pub ranks : (p : ℕ) → p < pair_count r
       → MatchOption (get_or row p None) (IsEndless (Together (first_of r p) (second_of r p))) (IsRank (Together (first_of r p) (second_of r p)))
 
--- the evidence of a certificate is that which is written for a rule
-pub record HasWrittenParts (r : LocalRule) (c : Certificate) : Type 0 where
-  pub least : IsLeastEvidence (λ a. a) r (evidence_of c)
-  pub family : IsFamilyPart r c.surjective
+-- a certificate is of this version, and its evidence is that which is written for a rule and weights
+pub record HasWrittenParts (version : CertVersion) (r : LocalRule) (weights : List ℕ) (c : Certificate) : Type 0 where
+  pub version_is : c.version ≡ version
+  pub weights_are : c.weights ≡ weights
+  pub least : IsLeastEvidence (slice_index weights) r (evidence_of c)
+  pub list : IsListPart version r c.surjective
   pub forward : AreRanks r (BeginTogether r) c.forward
   pub backward : AreRanks r (EndTogether r) c.backward
 
--- this certificate is written for the rule: its evidence is the least, its text is accepted, and has fewer than 450,000 bytes
-pub record IsWritten (r : LocalRule) (c : Certificate) : Type 0 where
-  pub parts : HasWrittenParts r c
+-- this certificate is written for them: its evidence is the least, its text is accepted, and has fewer than 450,000 bytes
+pub record IsWritten (version : CertVersion) (r : LocalRule) (weights : List ℕ) (c : Certificate) : Type 0 where
+  pub parts : HasWrittenParts version r weights c
   pub accepted : IsAccepted (certificate_text c) (verdicts_of c)
   pub short : length (certificate_text c) < 450000

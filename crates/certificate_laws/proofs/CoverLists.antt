@@ -1,0 +1,98 @@
+-- Each set of a list contains a set of its cover list, and each set of the cover list is listed.
+use Rattle.std.proofs.Common.{◌≡◌, ◌≢◌, ℕ, zero, suc, ◌+◌, ◌<◌, ◌≤◌, Bool, true, false, cond, List, [], ◌∷◌, length, get_or, Contains, bit_and, refl, sym, ap, ap₂, subst, ◌∙◌, ⊎_elim, arith}
+use Rattle.std.specs.Prelude.{◌==◌, ◌&&◌, not}
+use Rattle.std.specs.List.{filter, list_any}
+use Rattle.std.specs.Int.Bits.{and_self}
+use Rattle.std.proofs.lemmas.Bool.{cases_eq, ne_eqb, eqb-true, eqb-false, false≢true}
+use Rattle.std.proofs.lemmas.Nat.{and_le_r}
+use Rattle.std.proofs.lemmas.List.Elements.{All-filter, All-contains_itself}
+use Rattle.std.proofs.lemmas.List.Folds.{Any-from_list_any}
+use Rattle.word_image.specs.Families.{is_subset, is_minimal, covers_of}
+use Rattle.cert_check.proofs.laws.Parts.{part-of_part}
+
+-- the test of a set of the cover list behind the full one
+abbrev is_cover : ℕ → List ℕ → ℕ → Bool
+is_cover full sets s = not (s == full) && is_minimal sets s
+
+-- what is contained is contained where something may stand before
+Contains-cond : {X : Type 0} (b : Bool) (y : X) (zs : List X) (x : X) → Contains zs x → Contains (cond b (y ∷ zs) zs) x
+Contains-cond true y zs x h = (suc h.0, omega (arith, h.1), h.2)
+Contains-cond false y zs x h = h
+
+-- what passes the test is contained in what is left
+Contains-filter : {X : Type 0} (p : X → Bool) (xs : List X) (x : X) → Contains xs x → p x ≡ true → Contains (filter p xs) x
+Contains-filter p [] x h passes = absurd (omega (arith, h.1))
+Contains-filter p (y ∷ xs) x (zero, l, same) passes =
+    let first : p y ≡ true = ap p same ∙ passes in
+    subst (λ b. Contains (cond b (y ∷ filter p xs) (filter p xs)) x) (sym first) (zero, omega arith, same)
+Contains-filter p (y ∷ xs) x (suc k, l, same) passes = Contains-cond (p y) y (filter p xs) x (Contains-filter p xs x (k, omega arith, same) passes)
+
+-- what holds of each element holds of what is contained
+holds-contained : {X : Type 0} (P : X → Type 0) (xs : List X) (x : X) → ((k : ℕ) (d : X) → k < length xs → P (get_or xs k d)) → Contains xs x → P x
+holds-contained P xs x each h = subst P h.2 (each h.0 x h.1)
+
+-- each set of a cover list is the full set or listed
+pub Contains-covers : (full : ℕ) (sets : List ℕ) → Contains sets full → (set : ℕ) → Contains (covers_of full sets) set → Contains sets set
+Contains-covers full sets there set (zero, l, same) = subst (Contains sets) same there
+Contains-covers full sets there set (suc k, l, same) =
+    holds-contained (Contains sets) (filter (is_cover full sets) sets) set (All-filter (is_cover full sets) (Contains sets) sets (All-contains_itself sets)) (k, omega arith, same)
+
+-- a set in the cover list that is part of a set
+pub record HasCover (full : ℕ) (sets : List ℕ) (set : ℕ) : Type 0 where
+  pub cover : ℕ
+  pub listed : Contains (covers_of full sets) cover
+  pub part : bit_and cover set ≡ cover
+
+-- both sides of a true `&&`
+both : (a b : Bool) → (a && b) ≡ true → (a ≡ true) × (b ≡ true)
+both true b h = (refl, h)
+both false b h = absurd (false≢true h)
+
+-- a test that doesn't pass, denied
+denied : (a : Bool) → not a ≡ true → a ≡ false
+denied true h = absurd (false≢true h)
+denied false h = refl
+
+-- an element that passes
+found : (p : ℕ → Bool) (sets : List ℕ) → list_any p sets ≡ true → (t : ℕ) × Contains sets t × (p t ≡ true)
+found p sets any = let h = Any-from_list_any p sets any in (h.1, (h.0, h.2, h.3), h.4)
+
+-- `HasCover-listed` for the sets below n
+cover_below : (full : ℕ) (sets : List ℕ) (n set : ℕ) → set < n → Contains sets set → HasCover full sets set
+cover_below full sets zero set l there = absurd (omega arith)
+cover_below full sets (suc n) set l there =
+    ⊎_elim
+    (λ same. record { cover = full; listed = (zero, omega arith, refl); part = ap (bit_and full) same ∙ and_self full })
+    (λ other. elim (list_any (λ t. not (t == set) && is_subset t set) sets) as (λ b. list_any (λ t. not (t == set) && is_subset t set) sets ≡ b → HasCover full sets set) [
+      | true ↦ (λ any.
+          let h = found (λ t. not (t == set) && is_subset t set) sets any in
+          let parts = both (not (h.0 == set)) (is_subset h.0 set) h.2 in
+          let part : bit_and h.0 set ≡ h.0 = eqb-true (bit_and h.0 set) h.0 parts.1 in
+          let apart : h.0 ≢ set = eqb-false h.0 set (denied (h.0 == set) parts.0) in
+          let less : h.0 < set = omega (arith, and_le_r h.0 set) in
+          let before = cover_below full sets n h.0 (omega arith) h.1 in
+          record { cover = before.cover; listed = before.listed; part = part-of_part before.cover h.0 set before.part part })
+      | false ↦ (λ none.
+          let passes : is_cover full sets set ≡ true = ap₂ (λ (a b : Bool). not a && not b) (ne_eqb set full other) none in
+          let left = Contains-filter (is_cover full sets) sets set there passes in
+          record { cover = set; listed = (suc left.0, omega (arith, left.1), left.2); part = and_self set })
+    ] refl)
+    (cases_eq set full)
+
+-- each listed set contains a set of the cover list
+pub HasCover-listed : (full : ℕ) (sets : List ℕ) (set : ℕ) → Contains sets set → HasCover full sets set
+HasCover-listed full sets set there = cover_below full sets (suc set) set (omega arith) there
+
+-- a filtered list is no longer
+length-filter-le : {X : Type 0} (p : X → Bool) (xs : List X) → length (filter p xs) ≤ length xs
+length-filter-le p [] = omega arith
+length-filter-le p (x ∷ xs) =
+    let rest = length-filter-le p xs in
+    elim (p x) as (λ b. length (cond b (x ∷ filter p xs) (filter p xs)) ≤ length (x ∷ xs)) [
+      | true ↦ omega arith
+      | false ↦ omega arith
+    ]
+
+-- so a cover list has at most one set more than the list
+pub length-covers : (full : ℕ) (sets : List ℕ) → length (covers_of full sets) ≤ length sets + 1
+length-covers full sets = omega (arith, length-filter-le (is_cover full sets) sets)
