@@ -12,9 +12,10 @@ use Rattle.cert_format.specs.Certificates.InjectiveEvidence.{Window, Twins}
 use Rattle.cert_format.specs.Certificates.SideEvidence.{Ahead, Split}
 use Rattle.cert_format.specs.Certificates.SumEvidence.{Flux, Ring}
 
--- of a rule: an orphan, or none where it is surjective, and what is said of the other four questions
+-- of a rule and weights of its letters: an orphan, or none where it is surjective, and what is said of the other four questions
 pub record Evidence : Type 0 where
   pub rule : LocalRule
+  pub weights : List ℕ
   pub orphan : Option (List ℕ)
   pub injective : InjectiveEvidence
   pub right : SideEvidence
@@ -27,10 +28,11 @@ orphan_of (Sets sets) = None
 orphan_of (Pairs pairs) = None
 orphan_of (Orphan w) = Some w
 
--- what a certificate has of it: all but the version, the weights, the list of sets or of pairs, and the ranks
+-- what a certificate has of it: all but the version, the list of sets or of pairs, and the ranks
 abbrev pub evidence_of : Certificate → Evidence
 evidence_of c = record {
   rule = c.rule;
+  weights = c.weights;
   orphan = orphan_of c.surjective;
   injective = c.injective;
   right = c.right;

@@ -10,9 +10,10 @@ use Rattle.cert_format.specs.Parts.{injective_of, side_of, sum_of}
 use Rattle.certificate_laws.specs.Evidence.{Evidence}
 
 -- the evidence of these parts
-abbrev pub evidence_in : LocalRule → Option (List ℕ) → InjectivePart → SidePart → SidePart → SumPart → Evidence
-evidence_in r orphan injective right left conserving = record {
+abbrev pub evidence_in : LocalRule → List ℕ → Option (List ℕ) → InjectivePart → SidePart → SidePart → SumPart → Evidence
+evidence_in r weights orphan injective right left conserving = record {
   rule = r;
+  weights = weights;
   orphan = orphan;
   injective = injective_of injective;
   right = side_of right;

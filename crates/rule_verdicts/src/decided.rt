@@ -1,6 +1,7 @@
 //! The verdicts of a rule, without their evidence.
-ghost use Rattle.std.specs.Prelude.{◌≡◌, ◌↔◌, IsTrue};
+ghost use Rattle.std.specs.Prelude.{◌≡◌, ◌↔◌, length, slice_index, IsTrue};
 ghost use Rattle.word_image.specs.Rings.{IsConserving};
+ghost use Rattle.word_image.specs.Weights.{own_weights};
 ghost use Rattle.cert_check.specs.Accepted.{AreTrue};
 
 use cert_check::Verdicts;
@@ -13,16 +14,19 @@ use pair_graph::Pairs;
 use pair_rank::Endless;
 use word_image::{Rule, Weights};
 
-/// Decides all questions about a rule. It takes no memory.
+/// Decides all questions about a rule, each letter of which weighs its own value. It takes no memory.
 pub fn verdicts(rule: &Rule) -> Verdicts
     ensures rule { result.rule ≡ rule.now }
+    ensures weights { result.weights ≡ own_weights rule.now.states }
     ensures are_true { AreTrue result }
 {
-    let conserving = is_conserving(rule);
+    let weights = Weights::own(rule.k());
+    let conserving = is_conserving(rule, &weights);
     // An injective rule is surjective, and so is one that closes on a side.
     if !is_surjective(&Graph::of(rule)) {
         return Verdicts {
             rule: *rule,
+            weights,
             surjective: false,
             injective: false,
             right: false,
@@ -33,6 +37,7 @@ pub fn verdicts(rule: &Rule) -> Verdicts
     let endless = Endless::of(&Pairs::of(rule));
     Verdicts {
         rule: *rule,
+        weights,
         surjective: true,
         injective: is_injective(&endless),
         right: is_right_closing(&endless),
@@ -41,12 +46,10 @@ pub fn verdicts(rule: &Rule) -> Verdicts
     }
 }
 
-/// Whether every ring keeps its sum.
-fn is_conserving(rule: &Rule) -> bool
-    ensures { IsTrue result ↔ IsConserving (λ a. a) rule.now }
+/// Whether every ring keeps its sum, with these weights of the letters.
+fn is_conserving(rule: &Rule, weights: &Weights) -> bool
+    requires { length weights.now ≡ rule.now.states }
+    ensures { IsTrue result ↔ IsConserving (slice_index weights.now) rule.now }
 {
-    match conserve(rule, &Weights::own(rule.k())) {
-        Keeping::Flux(_) => true,
-        Keeping::Ring(_) => false,
-    }
+    matches!(conserve(rule, weights), Keeping::Flux(_))
 }

@@ -1,27 +1,30 @@
 //! The least evidence of each verdict, and the certificate that is made of it.
-ghost use Rattle.std.specs.Prelude.{◌≡◌, ◌↔◌, IsTrue, IfOk, OnOk};
+ghost use Rattle.std.specs.Prelude.{◌≡◌, ◌≤◌, ◌↔◌, All, length, slice_index, true, IsTrue, IfOk, OnOk};
 ghost use Rattle.word_image.specs.LocalRules.{IsRule};
+ghost use Rattle.word_image.specs.Weights.{AreWeights};
 ghost use Rattle.tail_config.specs.Tails.{IsOpen};
+ghost use Rattle.cert_format.specs.Versions.{names_weights};
 ghost use Rattle.cert_format.specs.Parts.{side_of};
 ghost use Rattle.certificate_laws.specs.Evidence.{IsLeastEvidence, close_both};
 ghost use Rattle.certificate_laws.specs.WrittenCertificates.{HasWrittenParts};
 
 use crate::parts::{first_orphan, injective_part, side_part, sum_part, surjective_part};
-use cert_format::{Cert, InjectivePart, SidePart, SumPart};
+use cert_format::{Cert, CertVersion, InjectivePart, SidePart, SumPart};
 use closing_test::{left, right};
-use debruijn::Graph;
 use least_walk::Walker;
 use pair_graph::{Pairs, Side};
 use pair_rank::Ranks;
 use std::alloc::{AllocError, Global};
 use std::marker::Model;
-use word_image::{Rule, Word};
+use word_image::{Rule, Weights, Word};
 
 /// The verdicts of a rule, each with the least evidence for it.
 #[derive(Drop)]
 pub struct Evidence {
     /// The rule.
     pub rule: Rule,
+    /// What each letter weighs.
+    pub weights: Weights,
     /// The least word that has no preimage; `None` exactly where the rule is surjective.
     pub orphan: Option<Word>,
     /// The least determined window exactly where the rule is injective, else the least twins.
@@ -38,8 +41,9 @@ pub struct Evidence {
 }
 
 impl Model for Evidence {
-    ghost use Rattle.std.specs.Prelude.{◌≡◌};
+    ghost use Rattle.std.specs.Prelude.{◌≡◌, slice_index};
     ghost use Rattle.word_image.specs.LocalRules.{IsRule};
+    ghost use Rattle.word_image.specs.Weights.{AreWeights};
     ghost use Rattle.cert_format.specs.Parts.{IsOver};
     ghost use Rattle.certificate_laws.specs.Evidence.{IsLeastEvidence};
     ghost use Rattle.certificate_laws.specs.Evidence as found;
@@ -47,30 +51,35 @@ impl Model for Evidence {
 
     ghost Value = { found.Evidence };
 
-    ghost view = { λ e. evidence_in e.rule e.orphan e.injective e.right e.left e.conserving };
+    ghost view = { λ e. evidence_in e.rule e.weights e.orphan e.injective e.right e.left e.conserving };
 
     ghost invariant = { λ e. IsRule e.rule
         × (e.ranks ≡ e.rule)
         × IsOver (e.rule).states e.right
         × IsOver (e.rule).states e.left
-        × IsLeastEvidence (λ a. a) e.rule (evidence_in e.rule e.orphan e.injective e.right e.left e.conserving) };
+        × IsLeastEvidence (slice_index e.weights) e.rule (evidence_in e.rule e.weights e.orphan e.injective e.right e.left e.conserving)
+        × AreWeights (e.rule).states e.weights };
 }
 
 impl Evidence {
-    /// Decides all questions about a rule.
-    pub fn of(alloc: Global, rule: &Rule) -> Result<Evidence, AllocError>
-        ensures { IfOk result (IsLeastEvidence (λ a. a) rule.now) }
+    /// Decides all questions about a rule and weights of its letters.
+    pub fn of(alloc: Global, rule: &Rule, weights: &Weights) -> Result<Evidence, AllocError>
+        requires { length weights.now ≡ rule.now.states }
+        ensures least { IfOk result (IsLeastEvidence (slice_index weights.now) rule.now) }
+        ensures weights { IfOk result (λ evidence. evidence.weights ≡ weights.now) }
     {
+        have_eight_bits(weights.as_slice());
         let pairs = Pairs::of(rule);
         let ranks = Ranks::of(&pairs);
         let mut walker = Walker::new(alloc)?;
         Ok(Evidence {
             rule: *rule,
+            weights: *weights,
             orphan: first_orphan(alloc, pairs.graph())?,
             injective: injective_part(alloc, &pairs, &ranks, &mut walker)?,
             right: side_part(right(alloc, &pairs, &ranks, &mut walker)?),
             left: side_part(left(alloc, &pairs, &ranks, &mut walker)?),
-            conserving: sum_part(alloc, rule)?,
+            conserving: sum_part(alloc, rule, weights)?,
             ranks,
         })
     }
@@ -83,25 +92,37 @@ impl Evidence {
         are_ahead(&self.right, &self.left)
     }
 
-    /// The certificate of the rule: this evidence, the family of a surjective rule, and the exact ranks.
-    pub fn certificate(self, alloc: Global) -> Result<Cert, AllocError>
+    /// The certificate of this version, which is 2 or 3: this evidence, the cover list or the reached
+    /// pairs of a surjective rule, and the exact ranks.
+    pub fn certificate(self, alloc: Global, version: CertVersion) -> Result<Cert, AllocError>
+        requires { names_weights version ≡ true }
         ensures accepted { OnOk result (IsRule self.rule) }
-        ensures parts { IfOk result (HasWrittenParts self.rule) }
+        ensures weights { OnOk result (AreWeights (self.rule).states self.weights) }
+        ensures parts { IfOk result (HasWrittenParts version self.rule self.weights) }
     {
         let rule = self.rule;
         let forward = self.ranks.row(alloc, Side::Forward)?;
         let backward = self.ranks.row(alloc, Side::Backward)?;
         Ok(Cert {
+            version,
             rule,
-            surjective: surjective_part(alloc, &Graph::of(&rule), self.orphan)?,
+            surjective: surjective_part(alloc, version, &Pairs::of(&rule), self.orphan)?,
             injective: self.injective,
             right: self.right,
             left: self.left,
             conserving: self.conserving,
+            weights: self.weights,
             forward,
             backward,
         })
     }
+}
+
+/// Bytes have eight bits each, which is what is said of weights. There is nothing to do.
+fn have_eight_bits(bytes: &[u8])
+    ensures { All (λ w. w ≤ 255) bytes.now }
+{
+    let _bytes = bytes;
 }
 
 /// Whether both sides have a look-ahead.

@@ -2,7 +2,7 @@
 //!
 //! | Question | The evidence of a yes | The evidence of a no |
 //! |---|---|---|
-//! | is it surjective | the family of its sets of last nodes | the least orphan |
+//! | is it surjective | its cover list, or its reached pairs | the least orphan |
 //! | is it injective | the least determined window | the least twins |
 //! | is it right-closing, is it left-closing | the least look-ahead | the least normal split |
 //! | is it conserving | the flux that is 0 at node 0 | the least ring that doesn't keep its sum |
@@ -10,11 +10,12 @@
 //! Rule 110 isn't surjective: its least orphan is 01010. So it isn't injective and closes on no side: the
 //! rings 0 and 1 both become the ring 0. And it isn't conserving, since the ring 1 loses its sum so.
 //!
-//! [`verdicts`] decides without evidence and takes no memory. [`Evidence::of`] finds the evidence, and
-//! [`Evidence::certificate`] adds to it what the judge of certificates asks for besides: the family, and
-//! the exact rank of each pair of nodes. [`least_orphan`] and [`injectivity`] answer one question alone.
+//! [`verdicts`] decides without evidence and takes no memory. [`Evidence::of`] finds the evidence, with
+//! weights of the letters, and [`Evidence::certificate`] adds to it what the judge of certificates asks
+//! for besides: the cover list in version 2 or the reached pairs in version 3, and the exact rank of each
+//! pair of nodes. [`least_orphan`] and [`injectivity`] answer one question alone.
 //!
-//! Each takes the time of its deciders. The search for a least orphan and the family list at most `2^N` sets
+//! Each takes the time of its deciders. The search for a least orphan and the cover list looks at most at `2^N` sets
 //! of nodes, where a rule with k states and width m has `N = k^(m-1)`; all else takes time **O(N^4·k^2)** at
 //! most.
 #![tactic(auto)]

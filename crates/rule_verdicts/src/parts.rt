@@ -1,18 +1,19 @@
 //! The evidence of one verdict: what a decider finds, as the part of a certificate that says it.
-ghost use Rattle.std.specs.Prelude.{◌≡◌, List, take, IfOk};
+ghost use Rattle.std.specs.Prelude.{◌≡◌, List, length, slice_index, take, true, IfOk};
 ghost use Rattle.word_image.specs.LocalRules.{LocalRule, IsRule, node_count};
 ghost use Rattle.word_image.specs.Words.{IsSurjective};
-ghost use Rattle.word_image.specs.Families.{IsFamily};
+ghost use Rattle.word_image.specs.Families.{IsCoverList};
 ghost use Rattle.closing_test.specs.Closing.{IsRightAnswer, IsLeftAnswer};
+ghost use Rattle.cert_format.specs.Versions.{names_weights};
 ghost use Rattle.cert_format.specs.Parts.{surjective_of, injective_of, side_of, sum_of, IsOver};
 ghost use Rattle.certificate_laws.specs.Evidence.{IsOrphanPart, IsInjectivePart, IsRightPart, IsLeftPart, IsConservingPart, orphan_of};
-ghost use Rattle.certificate_laws.specs.WrittenCertificates.{IsFamilyPart};
+ghost use Rattle.certificate_laws.specs.WrittenCertificates.{IsListPart};
 ghost use Rattle.rule_verdicts.specs.Parts.{HasShortWindow};
 
-use cert_format::{InjectivePart, SidePart, SumPart, SurjectivePart};
+use cert_format::{CertVersion, InjectivePart, SidePart, SumPart, SurjectivePart};
 use closing_test::Closing;
 use debruijn::Graph;
-use eden_law::is_surjective;
+use eden_law::{is_surjective, reached};
 use flux_conserve::{Keeping, SmallRing, conserve};
 use inverse_window::{twins, window};
 use least_walk::Walker;
@@ -87,11 +88,13 @@ pub(crate) fn side_part(found: Closing) -> SidePart
     }
 }
 
-/// The flux of the rule exactly where it is conserving, else its least ring that doesn't keep its sum.
-pub(crate) fn sum_part(alloc: Global, rule: &Rule) -> Result<SumPart, AllocError>
-    ensures { IfOk result (λ part. IsConservingPart (λ a. a) rule.now (sum_of part)) }
+/// The flux of the rule exactly where it is conserving with these weights of its letters, else its least
+/// ring that doesn't keep its sum.
+pub(crate) fn sum_part(alloc: Global, rule: &Rule, weights: &Weights) -> Result<SumPart, AllocError>
+    requires { length weights.now ≡ rule.now.states }
+    ensures { IfOk result (λ part. IsConservingPart (slice_index weights.now) rule.now (sum_of part)) }
 {
-    match conserve(rule, &Weights::own(rule.k())) {
+    match conserve(rule, weights) {
         Keeping::Flux(flows) => Ok(SumPart::Flux(flux_row(alloc, rule, &flows)?)),
         Keeping::Ring(ring) => Ok(SumPart::Ring(ring_word(alloc, &ring)?)),
     }
@@ -113,27 +116,49 @@ fn ring_word(alloc: Global, ring: &SmallRing) -> Result<Word, AllocError>
     Ok(Word::of(ring.letters().to_vec(alloc)?))
 }
 
-/// What a certificate says of surjectivity, of the rule of a graph with this least orphan or none.
+/// What a certificate of this version says of surjectivity, of the rule of these pairs with this least
+/// orphan or none.
 pub(crate) fn surjective_part(
     alloc: Global,
-    graph: &Graph,
+    version: CertVersion,
+    pairs: &Pairs,
     orphan: Option<Word>,
 ) -> Result<SurjectivePart, AllocError>
-    requires { IsOrphanPart graph.now orphan }
-    ensures { IfOk result (λ part. IsOrphanPart graph.now (orphan_of (surjective_of part)) × IsFamilyPart graph.now (surjective_of part)) }
+    requires version { names_weights version ≡ true }
+    requires orphan { IsOrphanPart pairs.now orphan }
+    ensures orphan { IfOk result (λ part. IsOrphanPart pairs.now (orphan_of (surjective_of part))) }
+    ensures list { IfOk result (λ part. IsListPart version pairs.now (surjective_of part)) }
 {
     match orphan {
         Some(word) => Ok(SurjectivePart::Orphan(word)),
-        None => Ok(SurjectivePart::Sets(family(alloc, graph)?)),
+        None => list_part(alloc, version, pairs),
     }
 }
 
-/// The family of a surjective rule.
-fn family(alloc: Global, graph: &Graph) -> Result<SetList, AllocError>
+/// What shows that a rule is surjective: in version 2 its cover list, in version 3 its reached pairs.
+fn list_part(
+    alloc: Global,
+    version: CertVersion,
+    pairs: &Pairs,
+) -> Result<SurjectivePart, AllocError>
+    requires version { names_weights version ≡ true }
+    requires surjective { IsSurjective pairs.now }
+    ensures orphan { IfOk result (λ part. IsOrphanPart pairs.now (orphan_of (surjective_of part))) }
+    ensures list { IfOk result (λ part. IsListPart version pairs.now (surjective_of part)) }
+{
+    match version {
+        CertVersion::One => unreachable!(),
+        CertVersion::Two => Ok(SurjectivePart::Sets(covers(alloc, pairs.graph())?)),
+        CertVersion::Three => Ok(SurjectivePart::Pairs(reached(alloc, pairs)?)),
+    }
+}
+
+/// The cover list of a surjective rule.
+fn covers(alloc: Global, graph: &Graph) -> Result<SetList, AllocError>
     requires { IsSurjective graph.now }
-    ensures { IfOk result (IsFamily graph.now) }
+    ensures { IfOk result (IsCoverList graph.now) }
 {
     let mut search = Search::new(alloc)?;
     search.run(graph);
-    Ok(SetList::of(search.sets().to_vec(alloc)?))
+    Ok(SetList::of(search.cover().to_vec(alloc)?))
 }

@@ -1,18 +1,21 @@
 //! Verdicts and evidence of three rules, worked by hand.
 use crate::{Evidence, injectivity, least_orphan, verdicts};
 use cert_check::judge;
-use cert_format::{InjectivePart, to_bytes};
+use cert_format::{CertVersion, InjectivePart, to_bytes};
 use std::test::Fail;
-use word_image::Rule;
+use word_image::{Rule, Weights};
 
 #[test]
 fn the_sum_of_two_cells_is_open_and_not_injective(rt: HostRuntime) -> Result<(), Fail> {
     let sum = Rule::new(2, 2, 0, &[0, 1, 1, 0])?;
     let said = verdicts(&sum);
     assert!(rt; said.surjective && !said.injective && said.is_open() && !said.conserving);
-    let evidence = Evidence::of(rt.alloc(), &sum)?;
+    let evidence = Evidence::of(rt.alloc(), &sum, &Weights::own(2))?;
     assert!(rt; evidence.orphan.is_none() && evidence.is_open());
-    let bytes = to_bytes(rt.alloc(), &evidence.certificate(rt.alloc())?)?;
+    let bytes = to_bytes(
+        rt.alloc(),
+        &evidence.certificate(rt.alloc(), CertVersion::Two)?,
+    )?;
     assert_eq!(rt; judge(rt.alloc(), &bytes)?, said);
     Ok(())
 }

@@ -5,7 +5,7 @@ use Rattle.cert_format.specs.Parts.{surjective_of, injective_of, side_of, sum_of
 use Rattle.word_image.specs.LocalRules.{LocalRule}
 use Rattle.certificate_laws.specs.Evidence.{IsOrphanPart, orphan_of}
 use Rattle.certificate_laws.specs.Evidence as found
-use Rattle.certificate_laws.specs.WrittenCertificates.{HasWrittenParts, IsFamilyPart}
+use Rattle.certificate_laws.specs.WrittenCertificates.{HasWrittenParts, IsListPart}
 use Rattle.certificate_laws.proofs.WrittenShapes.{IsShaped-written}
 use Rattle.rule_verdicts.proofs.laws.WrittenParts.{AreRanks-row}
 use Rattle.rule_verdicts.proofs.evidence.Evidence.certificate.Goals as goal
@@ -13,43 +13,42 @@ use Rattle.rule_verdicts.proofs.evidence.Evidence.certificate.Goals as goal
 -- what is made
 abbrev made : goal.In_ok-surjective_part → Certificate
 made c = record {
+  version = c.args.version;
   rule = c.self.inside.rule;
   surjective = surjective_of c.in_ok-surjective_part.field-0;
   injective = injective_of c.self.inside.injective;
   right = side_of c.self.inside.right;
   left = side_of c.self.inside.left;
   conserving = sum_of c.self.inside.conserving;
+  weights = c.self.inside.weights;
   forward = c.in_ok-forward.forward;
   backward = c.in_ok-backward.backward;
 }
 
--- the part on surjectivity, of the rule of the graph, is of the rule
-surjective_made : (c : goal.In_ok-surjective_part) → let part = surjective_of c.in_ok-surjective_part.field-0 in IsOrphanPart c.self.inside.rule (orphan_of part) × IsFamilyPart c.self.inside.rule part
-surjective_made c =
-    let part = surjective_of c.in_ok-surjective_part.field-0 in
-    subst (λ (r : LocalRule). IsOrphanPart r (orphan_of part) × IsFamilyPart r part) c.of.ensures c.in_ok-surjective_part.ensures
-
 -- it is what is written for the rule
-HasWrittenParts-made : (c : goal.In_ok-surjective_part) → HasWrittenParts c.self.inside.rule (made c)
+HasWrittenParts-made : (c : goal.In_ok-surjective_part) → HasWrittenParts c.args.version c.self.inside.rule c.self.inside.weights (made c)
 HasWrittenParts-made c =
+    let part = surjective_of c.in_ok-surjective_part.field-0 in
     let same = c.self.invariant.1 in
     let least = c.self.invariant.4 in
     record {
+      version_is = refl;
+      weights_are = refl;
       least = record {
         rule = refl;
-        surjective = (surjective_made c).0;
+        surjective = subst (λ (r : LocalRule). IsOrphanPart r (orphan_of part)) c.of.ensures c.in_ok-surjective_part.ensures.orphan;
         injective = least.injective;
         right = least.right;
         left = least.left;
         conserving = least.conserving;
       };
-      family = (surjective_made c).1;
+      list = subst (λ (r : LocalRule). IsListPart c.args.version r part) c.of.ensures c.in_ok-surjective_part.ensures.list;
       forward = AreRanks-row Forward same c.in_ok-forward.ensures.each_pair c.in_ok-forward.ensures.ranks;
       backward = AreRanks-row Backward same c.in_ok-backward.ensures.each_pair c.in_ok-backward.ensures.ranks;
     }
 
 pub invariant_of-result : goal.invariant_of-result
-invariant_of-result c = (c.self.invariant.2, c.self.invariant.3, IsShaped-written c.self.invariant.0 (HasWrittenParts-made c))
+invariant_of-result c = (c.self.invariant.2, c.self.invariant.3, IsShaped-written c.requires c.self.invariant.0 c.self.invariant.5 (HasWrittenParts-made c))
 
 pub returns-clause-parts : goal.returns-clause-parts
-returns-clause-parts c = subst (λ (e : found.Evidence). HasWrittenParts e.rule (made c)) c.self.view_is (HasWrittenParts-made c)
+returns-clause-parts c = subst (λ (e : found.Evidence). HasWrittenParts c.args.version e.rule e.weights (made c)) c.self.view_is (HasWrittenParts-made c)
