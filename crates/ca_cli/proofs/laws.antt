@@ -9,3 +9,4 @@ pub mod Reports
 pub mod Summaries
 pub mod Samples
 pub mod Rows
+pub mod OwnWeights

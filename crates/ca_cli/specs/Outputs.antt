@@ -3,6 +3,7 @@ use Rattle.std.specs.Prelude.{◌≡◌, ◌≢◌, ℕ, ◌^◌, ◌<◌, ◌�
 use Rattle.word_image.specs.Digits.{letter_at}
 use Rattle.word_image.specs.LocalRules.{LocalRule, IsRule, mirrored}
 use Rattle.word_image.specs.Rings.{IsLeastTwins}
+use Rattle.word_image.specs.Weights.{own_weights}
 use Rattle.word_image.specs.Windows.{IsLeastDetermined}
 use Rattle.tail_config.specs.Tails.{IsInjective}
 use Rattle.rule_algebra.specs.Algebra.{shifted, IsTrimmed, IsWidened, IsRecolouring, IsRecoloured, IsComposed}
@@ -11,6 +12,8 @@ use Rattle.rule_algebra.specs.declared.fault.AlgebraFault.{AlgebraFault}
 use Rattle.rule_algebra.specs.declared.fault.AlgebraFault.TheVariants as algebra
 use Rattle.rule_text.specs.RuleTexts.{IsOffset, decimal_value, printed}
 use Rattle.rule_text.specs.declared.text_fault.TextFault.{TextFault}
+use Rattle.cert_format.specs.declared.cert_version.CertVersion.{CertVersion}
+use Rattle.cert_format.specs.declared.cert_version.CertVersion.TheVariants as version
 use Rattle.cert_format.specs.Certificates.{Certificate}
 use Rattle.cert_format.specs.WrittenTexts.{certificate_text}
 use Rattle.certificate_laws.specs.WrittenCertificates.{IsWritten}
@@ -39,6 +42,10 @@ use Rattle.ca_cli.specs.Samples.{survey_rules, sample_rules, survey_fault, sampl
 abbrev pub IsRuleLine : LocalRule → List ℕ → Type 0
 IsRuleLine g out = IsRule g × (out ≡ line (printed g))
 
+-- the certificate that is written for a rule and weights of its letters
+abbrev pub IsCertified : CertVersion → LocalRule → List ℕ → List ℕ → Type 0
+IsCertified v r weights out = (c : Certificate) × IsWritten v r weights c × (out ≡ certificate_text c)
+
 -- What is said
 
 -- of a rule
@@ -46,7 +53,7 @@ abbrev pub IsOutput : Ask → LocalRule → List ℕ → Type 0
 IsOutput ask.Decide r out = IsReport (λ a. a) r out
 IsOutput ask.Orphan r out = IsSurjectiveLine r out
 IsOutput ask.Number r out = out ≡ number_line r
-IsOutput ask.Certify r out = (c : Certificate) × IsWritten r c × (out ≡ certificate_text c)
+IsOutput ask.Certify r out = IsCertified version.Two r (own_weights r.states) out
 IsOutput ask.Reflect r out = IsRuleLine (mirrored r) out
 IsOutput ask.Trim r out = (g : LocalRule) × IsTrimmed r g × IsRuleLine g out
 IsOutput ask.Inverse r out = IsInverse r out

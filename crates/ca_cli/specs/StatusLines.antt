@@ -1,7 +1,9 @@
 -- The lines of the statuses: what is said of words, operands, inputs and certificates.
-use Rattle.std.specs.Prelude.{ℕ, Bool, List, [], ◌++◌, codes, if◌then◌else◌}
+use Rattle.std.specs.Prelude.{ℕ, Bool, List, [], ◌∷◌, ◌++◌, length, codes, bytes_eq, if◌then◌else◌}
+use Rattle.std.specs.List.{flat_map}
 use Rattle.std.specs.Fmt.{decimal}
 use Rattle.word_image.specs.Digits.{word_text}
+use Rattle.word_image.specs.Weights.{own_weights}
 use Rattle.rule_text.specs.RuleTexts.{printed}
 use Rattle.rule_text.specs.declared.text_fault.TextFault.{TextFault}
 use Rattle.rule_algebra.specs.declared.fault.AlgebraFault.{AlgebraFault}
@@ -74,12 +76,25 @@ verdict_text verdict = if verdict then codes " yes" else codes " no"
 abbrev pub verdict_line : List ℕ → Bool → List ℕ
 verdict_line name verdict = line (name ++ verdict_text verdict)
 
--- the seven lines
+-- numbers, a comma before each
+abbrev pub after_commas : List ℕ → List ℕ
+after_commas ns = flat_map (λ n. codes "," ++ decimal n) ns
+
+-- numbers with a comma between
+abbrev pub with_commas : List ℕ → List ℕ
+with_commas [] = []
+with_commas (n ∷ ns) = decimal n ++ after_commas ns
+
+-- what each letter weighs, exactly where one doesn't weigh its own value
+abbrev pub weights_lines : List ℕ → List ℕ
+weights_lines weights = if bytes_eq weights (own_weights (length weights)) then [] else line (codes "weights " ++ with_commas weights)
+
+-- the seven lines, and that of the weights
 abbrev pub accepted_lines : Verdicts → List ℕ
 accepted_lines v =
     line (codes "accepted " ++ printed v.rule) ++ verdict_line (codes "surjective") v.surjective ++ verdict_line (codes "injective") v.injective
     ++ verdict_line (codes "right") v.right ++ verdict_line (codes "left") v.left ++ verdict_line (codes "open") (is_open v)
-    ++ verdict_line (codes "conserving") v.conserving
+    ++ verdict_line (codes "conserving") v.conserving ++ weights_lines v.weights
 
 -- Of a refused one
 
@@ -93,6 +108,7 @@ key_text key.Injective = codes "injective"
 key_text key.Right = codes "right"
 key_text key.Left = codes "left"
 key_text key.Conserving = codes "conserving"
+key_text key.Weights = codes "weights"
 key_text key.Ranks = codes "ranks"
 key_text key.Unknown = codes "unknown"
 
@@ -127,6 +143,9 @@ refusal_text (refusal.Rank s p) = codes "rank " ++ (side_text s ++ (codes " " ++
 refusal_text refusal.NoFull = codes "nofull"
 refusal_text (refusal.EmptySet i) = codes "emptyset " ++ decimal i
 refusal_text (refusal.NotClosed i a) = codes "notclosed " ++ (decimal i ++ (codes " " ++ decimal a))
+refusal_text (refusal.NoFirst p) = codes "nofirst " ++ decimal p
+refusal_text (refusal.Diagonal i) = codes "diagonal " ++ decimal i
+refusal_text (refusal.Leaves i a b) = codes "leaves " ++ (decimal i ++ (codes " " ++ (decimal a ++ (codes " " ++ decimal b))))
 refusal_text refusal.Orphan = codes "orphan"
 refusal_text (refusal.Window p) = codes "window " ++ decimal p
 refusal_text (refusal.Twins cause) = codes "twins " ++ twin_text cause

@@ -40,10 +40,11 @@
 //! | `check`, of no input | Refused | 1 | `refused format notjson` |
 //! | `check`, of 4,194,305 bytes | TooLong | 5 | `too long` |
 //!
-//! A report has eight lines, a summary and the verdicts of a certificate have seven, an inverse has four,
-//! the automaton of a language has two and one for each class, a certificate is a text without a line end,
-//! and every other output has one line. A call takes the time and the memory of its deciders, and besides
-//! **O(n)** of both for n bytes of words, input and output.
+//! A report has eight lines, a summary and the verdicts of a certificate have seven, and an eighth where
+//! a letter doesn't weigh its own value, an inverse has four, the automaton of a language has two and one
+//! for each class, a certificate is a text without a line end, and every other output has one line. A
+//! call takes the time and the memory of its deciders, and besides **O(n)** of both for n bytes of words,
+//! input and output.
 #![tactic(auto)]
 
 mod algebra;

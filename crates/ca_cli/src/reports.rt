@@ -1,5 +1,5 @@
 //! The commands that say what holds of a rule.
-ghost use Rattle.std.specs.Prelude.{◌≡◌, IfOk};
+ghost use Rattle.std.specs.Prelude.{◌≡◌, length, slice_index, IfOk};
 ghost use Rattle.ca_cli.specs.Reports.{IsReport, IsSurjectiveLine, number_line};
 
 use crate::lines::write_number;
@@ -7,13 +7,21 @@ use crate::output::Output;
 use crate::report::{write_report, write_surjective};
 use rule_verdicts::{Evidence, least_orphan};
 use std::alloc::{AllocError, Global};
-use word_image::Rule;
+use word_image::{Rule, Weights};
 
 /// `decide R`: the report of the rule.
 pub fn decide(alloc: Global, rule: &Rule) -> Result<Output, AllocError>
     ensures { IfOk result (IsReport (λ a. a) rule.now) }
 {
-    let evidence = Evidence::of(alloc, rule)?;
+    report(alloc, rule, &Weights::own(rule.k()))
+}
+
+/// The report of a rule and weights of its letters.
+fn report(alloc: Global, rule: &Rule, weights: &Weights) -> Result<Output, AllocError>
+    requires { length weights.now ≡ rule.now.states }
+    ensures { IfOk result (IsReport (slice_index weights.now) rule.now) }
+{
+    let evidence = Evidence::of(alloc, rule, weights)?;
     let mut output = Output::new(alloc);
     write_report(alloc, &mut output, &evidence)?;
     Ok(output)

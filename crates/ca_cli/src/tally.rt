@@ -1,6 +1,7 @@
 //! Of how many rules each verdict is true.
 ghost use Rattle.std.specs.Prelude.{◌≡◌, ◌<◌, ℕ, List, [], ◌∷◌, ◌++◌, length, OnOk};
 ghost use Rattle.word_image.specs.LocalRules.{LocalRule};
+ghost use Rattle.word_image.specs.Weights.{own_weights};
 ghost use Rattle.cert_check.specs.Accepted.{AreTrue};
 ghost use Rattle.ca_cli.specs.Summaries.{IsTally, count_line, summary_of};
 
@@ -36,12 +37,14 @@ impl Tally {
         }
     }
 
-    /// Counts one rule more, by its verdicts.
+    /// Counts one rule more, by its verdicts with own weights.
     pub fn add(&mut self, verdicts: &Verdicts)
         requires { (rules : List LocalRule) × IsTally rules self.old × (length rules < 4096) }
         ensures { (rules : List LocalRule) → IsTally rules self.old →
-            AreTrue verdicts.now → IsTally (rules ++ verdicts.now.rule ∷ []) self.new }
+            AreTrue verdicts.now → verdicts.now.weights ≡ own_weights (verdicts.now.rule).states → IsTally (rules ++ verdicts.now.rule ∷ []) self.new }
     {
+        // That the rule keeps the limits is what each of its calls says.
+        let _states = verdicts.rule.k();
         self.rules += 1;
         self.surjective += u16::from(verdicts.surjective);
         self.injective += u16::from(verdicts.injective);

@@ -3,7 +3,7 @@ ghost use Rattle.std.specs.Prelude.{◌≡◌, ◌++◌, codes, IfOk, OnOk, stri
 ghost use Rattle.std.specs.Fmt.{decimal};
 ghost use Rattle.rule_text.specs.RuleTexts.{printed};
 ghost use Rattle.ca_cli.specs.Lines.{line, fault_text};
-ghost use Rattle.ca_cli.specs.StatusLines.{accepted_lines, verdict_line, verdict_text, refused_line, refusal_text, shape_text, key_text, side_text, twin_text, split_text};
+ghost use Rattle.ca_cli.specs.StatusLines.{accepted_lines, weights_lines, with_commas, after_commas, verdict_line, verdict_text, refused_line, refusal_text, shape_text, key_text, side_text, twin_text, split_text};
 
 use crate::lines::fault_kind;
 use crate::output::Output;
@@ -11,9 +11,9 @@ use cert_check::{Refusal, Side, SplitCause, TwinCause, Verdicts};
 use cert_format::{Key, ShapeFault};
 use rule_text::{TextFault, print};
 use std::alloc::{AllocError, Global};
-use word_image::Rule;
+use word_image::{Rule, Weights};
 
-/// Appends the seven lines of an accepted certificate.
+/// Appends the seven lines of an accepted certificate, and that of its weights.
 pub fn write_accepted(
     alloc: Global,
     output: &mut Output,
@@ -27,7 +27,8 @@ pub fn write_accepted(
     write_verdict(output, "right", verdicts.right)?;
     write_verdict(output, "left", verdicts.left)?;
     write_verdict(output, "open", verdicts.is_open())?;
-    write_verdict(output, "conserving", verdicts.conserving)
+    write_verdict(output, "conserving", verdicts.conserving)?;
+    write_weights(alloc, output, &verdicts.weights)
 }
 
 /// Appends the line that names the rule.
@@ -45,6 +46,39 @@ fn write_verdict(output: &mut Output, name: &str, yes: bool) -> Result<(), Alloc
 {
     output.push(name.as_bytes())?;
     output.push_line(verdict_name(yes))
+}
+
+/// Appends the line that says what each letter weighs, exactly where one doesn't weigh its own value.
+fn write_weights(alloc: Global, output: &mut Output, weights: &Weights) -> Result<(), AllocError>
+    ensures { OnOk result (output.new ≡ output.old ++ weights_lines weights.now) }
+{
+    if weights.is_own() {
+        return Ok(());
+    }
+    output.push(b"weights ")?;
+    write_numbers(alloc, output, weights.as_slice())?;
+    output.push(b"\n")
+}
+
+/// Appends numbers with a comma between.
+fn write_numbers(alloc: Global, output: &mut Output, numbers: &[u8]) -> Result<(), AllocError>
+    ensures { OnOk result (output.new ≡ output.old ++ with_commas numbers.now) }
+{
+    let Some((first, rest)) = numbers.split_first() else {
+        return Ok(());
+    };
+    output.push(format!(in alloc; "{first}")?.as_bytes())?;
+    write_others(alloc, output, rest)
+}
+
+/// Appends numbers with a comma before each.
+fn write_others(alloc: Global, output: &mut Output, numbers: &[u8]) -> Result<(), AllocError>
+    ensures { OnOk result (output.new ≡ output.old ++ after_commas numbers.now) }
+{
+    for number in numbers {
+        output.push(format!(in alloc; ",{number}")?.as_bytes())?;
+    }
+    Ok(())
 }
 
 fn verdict_name(yes: bool) -> &'static str
@@ -71,6 +105,9 @@ fn refusal_words(alloc: Global, refusal: Refusal) -> Result<String, AllocError>
         Refusal::NoFull => String::from_str(alloc, "nofull"),
         Refusal::EmptySet(index) => format!(in alloc; "emptyset {index}"),
         Refusal::NotClosed(index, letter) => closing_words(alloc, index, letter),
+        Refusal::NoFirst(pair) => format!(in alloc; "nofirst {pair}"),
+        Refusal::Diagonal(index) => format!(in alloc; "diagonal {index}"),
+        Refusal::Leaves(index, a, b) => leaving_words(alloc, index, a, b),
         Refusal::Orphan => String::from_str(alloc, "orphan"),
         Refusal::Window(pair) => format!(in alloc; "window {pair}"),
         Refusal::Twins(cause) => twin_words(alloc, cause),
@@ -125,6 +162,13 @@ fn closing_words(alloc: Global, index: usize, letter: u8) -> Result<String, Allo
     format!(in alloc; "notclosed {index} {letter}")
 }
 
+/// Which pair leads to one that isn't listed, and on which letters.
+fn leaving_words(alloc: Global, index: usize, a: u8, b: u8) -> Result<String, AllocError>
+    ensures { IfOk result (λ text. string_bytes text ≡ codes "leaves " ++ (decimal index ++ (codes " " ++ (decimal a ++ (codes " " ++ decimal b))))) }
+{
+    format!(in alloc; "leaves {index} {a} {b}")
+}
+
 /// Which words aren't twins, and why.
 fn twin_words(alloc: Global, cause: TwinCause) -> Result<String, AllocError>
     ensures { IfOk result (λ text. string_bytes text ≡ codes "twins " ++ twin_text cause) }
@@ -154,6 +198,7 @@ fn key_name(key: Key) -> &'static str
         Key::Right => "right",
         Key::Left => "left",
         Key::Conserving => "conserving",
+        Key::Weights => "weights",
         Key::Ranks => "ranks",
         Key::Unknown => "unknown",
     }

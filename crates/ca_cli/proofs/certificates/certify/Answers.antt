@@ -1,14 +1,12 @@
-use Rattle.std.proofs.Common.{◌∙◌, subst}
-use Rattle.word_image.specs.LocalRules.{LocalRule, IsRule}
-use Rattle.certificate_laws.specs.WrittenCertificates.{HasWrittenParts}
-use Rattle.certificate_laws.proofs.Accepted.{IsWritten-read_back}
+use Rattle.std.proofs.Common.{◌≡◌, ◌∙◌, ap, subst}
+use Rattle.std.specs.Prelude.{IfOk}
+use Rattle.word_image.specs.Weights.{own_weights}
+use Rattle.cert_format.specs.declared.cert_version.CertVersion.TheVariants.{Two}
+use Rattle.ca_cli.specs.Outputs.{IsCertified}
 use Rattle.ca_cli.proofs.certificates.certify.Goals as goal
 
 pub returns : goal.returns
 returns c =
-    let cert = c.in_ok-cert.cert in
-    let same = c.in_ok-of.ensures.rule in
-    let parts = subst (λ (r : LocalRule). HasWrittenParts r cert) same c.in_ok-cert.ensures.parts in
-    let accepted = subst IsRule same c.in_ok-cert.ensures.accepted in
-    let text = c.in_ok-to_bytes.ensures.text in
-    (cert, IsWritten-read_back accepted parts text c.in_ok-to_bytes.ensures.read_back, c.of-2.ensures ∙ text)
+    let r = c.args.rule.now in
+    let own : c.own.result ≡ own_weights r.states = c.own.ensures.weights ∙ ap own_weights c.k.ensures.states in
+    subst (λ weights. IfOk c.certificate.result (IsCertified Two r weights)) own c.certificate.ensures

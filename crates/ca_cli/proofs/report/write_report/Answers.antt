@@ -1,4 +1,4 @@
-use Rattle.std.proofs.Common.{Bool, ℕ, List, ◌++◌, ap, ◌∙◌}
+use Rattle.std.proofs.Common.{Bool, ℕ, List, slice_index, ◌++◌, ap, ◌∙◌}
 use Rattle.std.specs.Prelude.{codes}
 use Rattle.std.proofs.lemmas.Result.{on_ok_weaker}
 use Rattle.cert_format.specs.Parts.{injective_of, side_of, sum_of}
@@ -15,7 +15,7 @@ pub write_injective-requires : goal.write_injective-requires
 write_injective-requires c = HasTwinDigits-least (injective_of c.evidence.inside.injective) c.evidence.invariant.0 c.evidence.invariant.4.injective
 
 pub write_conserving-requires : goal.write_conserving-requires
-write_conserving-requires c = HasRingDigits-least (λ a. a) (sum_of c.evidence.inside.conserving) c.evidence.invariant.0 c.evidence.invariant.4.conserving
+write_conserving-requires c = HasRingDigits-least (slice_index c.evidence.inside.weights) (sum_of c.evidence.inside.conserving) c.evidence.invariant.0 c.evidence.invariant.4.conserving
 
 pub returns : goal.returns
 returns c =

@@ -1,5 +1,6 @@
-use Rattle.std.proofs.Common.{◌+◌, [], ◌∷◌, ◌++◌, ap, ◌∙◌, subst, refl, arith, length-append}
+use Rattle.std.proofs.Common.{◌+◌, [], ◌∷◌, ◌++◌, ap, sym, ◌∙◌, subst, refl, arith, length-append}
 use Rattle.word_image.specs.LocalRules.{LocalRule}
+use Rattle.word_image.specs.Weights.{own_weights}
 use Rattle.ca_cli.specs.Summaries.{IsTally}
 use Rattle.ca_cli.proofs.laws.Samples.{sample-begin, sample-step, sample-end}
 use Rattle.ca_cli.proofs.summaries.tally_of_draws.Goals as goal
@@ -10,7 +11,7 @@ loop-i-init c = ([], c.new-tally.ensures, refl, sample-begin c.args.k c.args.m c
 pub loop-i-preserved : goal.loop-i-preserved
 loop-i-preserved c =
     let sofar = c.loop-i.invariant in
-    let counted = c.add.ensures sofar.0 sofar.1 c.verdicts.ensures.are_true in (
+    let counted = c.add.ensures sofar.0 sofar.1 c.verdicts.ensures.are_true (c.verdicts.ensures.weights ∙ ap (λ (r : LocalRule). own_weights r.states) (sym c.verdicts.ensures.rule)) in (
       sofar.0 ++ c.rule-rule.result ∷ [],
       subst (λ (r : LocalRule). IsTally (sofar.0 ++ r ∷ []) c.add.new.self) c.verdicts.ensures.rule counted,
       length-append sofar.0 (c.rule-rule.result ∷ []) ∙ ap (λ n. n + 1) sofar.2,

@@ -2,6 +2,7 @@ use Rattle.std.proofs.Common.{◌≡◌, ◌+◌, [], ◌∷◌, ◌++◌, pos, 
 use Rattle.std.proofs.lemmas.Option.{none-some}
 use Rattle.std.proofs.lemmas.List.FromFn.{length-map-range_with_len}
 use Rattle.word_image.specs.LocalRules.{LocalRule}
+use Rattle.word_image.specs.Weights.{own_weights}
 use Rattle.rule_text.specs.RuleTexts.{IsReading, by_number, fault_of}
 use Rattle.ca_cli.specs.Samples.{numbered_rule, survey_rules}
 use Rattle.ca_cli.specs.Summaries.{IsTally}
@@ -31,7 +32,7 @@ loop-i-preserved c =
     let sofar = survey_rules c.args.k c.args.m c.args.first c.loop-i.i in
     let rule = c.verdicts.ensures.rule ∙ c.in-Ok.ensures.1 ∙ ap (λ i. numbered_rule c.args.k c.args.m (c.args.first + i)) c.from.ensures in
     let more = ap (λ (r : LocalRule). sofar ++ r ∷ []) rule ∙ sym (survey_rules-more c.args.k c.args.m c.args.first c.loop-i.i) in
-    subst (λ rules. IsTally rules c.add.new.self) more (c.add.ensures sofar c.loop-i.invariant c.verdicts.ensures.are_true)
+    subst (λ rules. IsTally rules c.add.new.self) more (c.add.ensures sofar c.loop-i.invariant c.verdicts.ensures.are_true (c.verdicts.ensures.weights ∙ ap (λ (r : LocalRule). own_weights r.states) (sym c.verdicts.ensures.rule)))
 
 pub returns : goal.returns
 returns c =
