@@ -10,11 +10,13 @@ use std::test::Fail;
 
 #[test]
 fn certificates_are_written(rt: HostRuntime) -> Result<(), Fail> {
+    let shift = SHIFT.replace(rt.alloc(), "\"version\":1", "\"version\":2")?;
+    let both = BOTH.replace(rt.alloc(), "\"version\":1", "\"version\":2")?;
     rows(
         &rt,
         &[
-            ("certify 2:2:0:t0101", Done, SHIFT),
-            ("certify 2:2:0:t0001", Done, BOTH),
+            ("certify 2:2:0:t0101", Done, &shift),
+            ("certify 2:2:0:t0001", Done, &both),
             ("certify 256", RuleFault, "rule fault 1 number\n"),
             ("certify", Usage, "usage error\n"),
             ("certify 90 90", Usage, "usage error\n"),

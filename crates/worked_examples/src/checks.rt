@@ -54,6 +54,54 @@ fn certificates_are_accepted_with_their_verdicts(rt: HostRuntime) -> Result<(), 
     Ok(())
 }
 
+/// Of the shift, in version 2, where the letter 1 weighs two.
+const WEIGHED: &str =
+    "{\"conserving\":{\"flux\":[0,-2]},\"injective\":{\"c\":1,\"n\":1},\"left\":{\"ahead\":2},\"ranks\":{\"backward\":[null,0,0,null],\"forward\":[null,null,null,null]},\"right\":{\"ahead\":1},\"rule\":\"2:2:0:t0101\",\"surjective\":{\"sets\":[3,1,2]},\"version\":2,\"weights\":[0,2]}";
+
+#[test]
+fn weights_are_named(rt: HostRuntime) -> Result<(), Fail> {
+    let output = format!(in rt.alloc(); "{SHIFT_ACCEPTED}weights 0,2\n")?;
+    judged(&rt, rt.alloc(), WEIGHED.as_bytes(), Done, &output)?;
+    forgeries(
+        &rt,
+        &[
+            (
+                WEIGHED,
+                "\"version\":2",
+                "\"version\":1",
+                "format shape unknown",
+            ),
+            (WEIGHED, "[0,2]", "[0,1]", "flux 1"),
+            (WEIGHED, "[0,2]", "[0]", "format shape weights"),
+        ],
+    )?;
+    Ok(())
+}
+
+#[test]
+fn pairs_are_judged(rt: HostRuntime) -> Result<(), Fail> {
+    let brief = SAME
+        .replace(rt.alloc(), "{\"sets\":[3]}", "{\"pairs\":[1,2]}")?
+        .replace(rt.alloc(), "\"version\":1", "\"version\":3")?;
+    let output =
+        "accepted 2:2:0:t0011\nsurjective yes\ninjective yes\nright yes\nleft yes\nopen yes\nconserving yes\n";
+    judged(&rt, rt.alloc(), brief.as_bytes(), Done, output)?;
+    forgeries(
+        &rt,
+        &[
+            (&brief, "[1,2]", "[1]", "nofirst 2"),
+            (&brief, "[1,2]", "[1,2,3]", "diagonal 2"),
+            (
+                &brief,
+                "\"version\":3",
+                "\"version\":2",
+                "format shape surjective",
+            ),
+        ],
+    )?;
+    Ok(())
+}
+
 /// One change to a certificate, and what is said of it.
 type Forgery<'a> = (&'a str, &'a str, &'a str, &'a str);
 
