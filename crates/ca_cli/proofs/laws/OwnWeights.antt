@@ -1,5 +1,5 @@
 -- With own weights what is found of a rule is what the values of its letters say.
-use Rattle.std.proofs.Common.{◌≡◌, ◌↔◌, ℕ, List, [], ◌++◌, length, slice_index, Bool, true, false, cond, codes, bytes_eq, IsTrue, refl, sym, ap, subst, ◌∙◌}
+use Rattle.std.proofs.Common.{◌≡◌, ◌↔◌, ℕ, List, [], ◌++◌, length, slice_index, Bool, true, false, cond, codes, bytes_eq, IsTrue, refl, ap, subst}
 use Rattle.std.proofs.lemmas.Slice.Eq.{bytes_eq-Decides}
 use Rattle.word_image.specs.LocalRules.{LocalRule, IsRule}
 use Rattle.word_image.specs.Rings.{IsConserving}
