@@ -10,3 +10,4 @@ pub mod Summaries
 pub mod Samples
 pub mod Rows
 pub mod OwnWeights
+pub mod WeightTexts

@@ -3,6 +3,7 @@ use Rattle.std.specs.Prelude.{◌≡◌, ◌≢◌, ℕ, ◌^◌, ◌<◌, ◌�
 use Rattle.word_image.specs.Digits.{IsHexDigit}
 use Rattle.tail_config.specs.TailTexts.{HasForm}
 use Rattle.rule_text.specs.RuleTexts.{IsDecimal, IsOffset, decimal_value}
+use Rattle.ca_cli.specs.WeightTexts.{AreWeightTexts}
 use Rattle.ca_cli.specs.declared.request.Ask.{Ask}
 use Rattle.ca_cli.specs.declared.request.Ask.TheVariants as ask
 use Rattle.ca_cli.specs.declared.request.AskOfTwo.{AskOfTwo}
@@ -22,6 +23,9 @@ pub data AskWith : Type 0 where
   Widen : AskWith
   Permute : AskWith
   Preimage : AskWith
+  Decide : AskWith
+  Certify : AskWith
+  Brief : AskWith
 
 -- what is asked of many rules
 pub data AskOfMany : Type 0 where
@@ -43,6 +47,7 @@ name_of ask.Decide = codes "decide"
 name_of ask.Orphan = codes "orphan"
 name_of ask.Number = codes "number"
 name_of ask.Certify = codes "certify"
+name_of ask.Brief = codes "brief"
 name_of ask.Reflect = codes "reflect"
 name_of ask.Trim = codes "trim"
 name_of ask.Inverse = codes "inverse"
@@ -57,6 +62,9 @@ name_with Shift = codes "shift"
 name_with Widen = codes "widen"
 name_with Permute = codes "permute"
 name_with Preimage = codes "preimage"
+name_with Decide = codes "decide"
+name_with Certify = codes "certify"
+name_with Brief = codes "brief"
 
 abbrev pub name_of_two : AskOfTwo → List ℕ
 name_of_two two.Compose = codes "compose"
@@ -103,6 +111,9 @@ IsOperand Shift text = IsOffsetText text
 IsOperand Widen text = IsDecimal 1 1 text
 IsOperand Permute text = AreColours text
 IsOperand Preimage text = HasForm text
+IsOperand Decide text = AreWeightTexts text
+IsOperand Certify text = AreWeightTexts text
+IsOperand Brief text = AreWeightTexts text
 
 -- where many rules begin: a number of up to 39 digits, or a seed
 abbrev pub IsBeginning : AskOfMany → List ℕ → Type 0
@@ -141,6 +152,9 @@ asked_with (change.Shift by) = Shift
 asked_with (change.Widen width) = Widen
 asked_with (change.Permute colours) = Permute
 asked_with (change.Preimage tail) = Preimage
+asked_with (change.Decide weights) = Decide
+asked_with (change.Certify weights) = Certify
+asked_with (change.Brief weights) = Brief
 
 -- the text says what the change holds
 abbrev pub IsChange : Change → List ℕ → Type 0
@@ -148,6 +162,9 @@ IsChange (change.Shift by) text = IsOffset text by
 IsChange (change.Widen width) text = width ≡ decimal_value text
 IsChange (change.Permute colours) text = text ≡ colours.now
 IsChange (change.Preimage tail) text = text ≡ tail.now
+IsChange (change.Decide weights) text = text ≡ weights.now
+IsChange (change.Certify weights) text = text ≡ weights.now
+IsChange (change.Brief weights) text = text ≡ weights.now
 
 -- what is asked of the rules
 abbrev pub asked_of_many : Rules → AskOfMany

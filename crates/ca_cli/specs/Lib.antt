@@ -1,4 +1,5 @@
 pub mod Statuses
+pub mod WeightTexts
 pub mod Commands
 pub mod Inputs
 pub mod Lines

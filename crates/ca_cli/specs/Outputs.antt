@@ -1,5 +1,5 @@
 -- What each command that reads nothing says of its rules, and when it can make nothing of them.
-use Rattle.std.specs.Prelude.{◌≡◌, ◌≢◌, ℕ, ◌^◌, ◌<◌, ◌≤◌, List, map, codes, Bool, Option, Some, None, ℤ}
+use Rattle.std.specs.Prelude.{◌≡◌, ◌≢◌, ℕ, ◌^◌, ◌<◌, ◌≤◌, List, length, map, slice_index, codes, Bool, Option, Some, None, ℤ}
 use Rattle.word_image.specs.Digits.{letter_at}
 use Rattle.word_image.specs.LocalRules.{LocalRule, IsRule, mirrored}
 use Rattle.word_image.specs.Rings.{IsLeastTwins}
@@ -30,6 +30,7 @@ use Rattle.ca_cli.specs.declared.request.Ask.TheVariants as ask
 use Rattle.ca_cli.specs.declared.request.AskOfTwo.{AskOfTwo}
 use Rattle.ca_cli.specs.declared.request.AskOfTwo.TheVariants as two
 use Rattle.ca_cli.specs.Commands.{AskWith, AskOfMany}
+use Rattle.ca_cli.specs.WeightTexts.{weights_said}
 use Rattle.ca_cli.specs.Lines.{line}
 use Rattle.ca_cli.specs.StatusLines.{algebra_text, lift_text, twins_text, wide_text}
 use Rattle.ca_cli.specs.Reports.{IsSurjectiveLine, number_line, IsReport}
@@ -54,6 +55,7 @@ IsOutput ask.Decide r out = IsReport (λ a. a) r out
 IsOutput ask.Orphan r out = IsSurjectiveLine r out
 IsOutput ask.Number r out = out ≡ number_line r
 IsOutput ask.Certify r out = IsCertified version.Two r (own_weights r.states) out
+IsOutput ask.Brief r out = IsCertified version.Three r (own_weights r.states) out
 IsOutput ask.Reflect r out = IsRuleLine (mirrored r) out
 IsOutput ask.Trim r out = (g : LocalRule) × IsTrimmed r g × IsRuleLine g out
 IsOutput ask.Inverse r out = IsInverse r out
@@ -70,6 +72,9 @@ IsOutputWith AskWith.Widen r m out = (g : LocalRule) × (widen_fault r (decimal_
 IsOutputWith AskWith.Permute r colours out = (g : LocalRule) × IsRecolouring r.states (map letter_at colours)
     × IsRecoloured (map letter_at colours) r g × (g.offset ≡ r.offset) × IsRuleLine g out
 IsOutputWith AskWith.Preimage r tail out = (t : TailConfig) × IsTailText r.states tail t × IsPreimageLine r t out
+IsOutputWith AskWith.Decide r weights out = (length (weights_said weights) ≡ r.states) × IsReport (slice_index (weights_said weights)) r out
+IsOutputWith AskWith.Certify r weights out = (length (weights_said weights) ≡ r.states) × IsCertified version.Two r (weights_said weights) out
+IsOutputWith AskWith.Brief r weights out = (length (weights_said weights) ≡ r.states) × IsCertified version.Three r (weights_said weights) out
 
 -- of two rules
 abbrev pub IsOutputOfTwo : AskOfTwo → LocalRule → LocalRule → List ℕ → Type 0
@@ -102,6 +107,9 @@ pub data IsCauseWith : AskWith → LocalRule → List ℕ → List ℕ → Type 
   Widen : (r : LocalRule) (m : List ℕ) (f : AlgebraFault) → widen_fault r (decimal_value m) ≡ Some f → IsCauseWith AskWith.Widen r m (algebra_text f)
   Permute : (r : LocalRule) (colours : List ℕ) → ¬ IsRecolouring r.states (map letter_at colours) → IsCauseWith AskWith.Permute r colours (algebra_text algebra.NotPermutation)
   Tail : (r : LocalRule) (tail : List ℕ) (t : TailConfig) (f : TailFault) → HasParts tail t → tail_fault r.states t ≡ Some f → IsCauseWith AskWith.Preimage r tail (tail_text f)
+  Decide : (r : LocalRule) (weights : List ℕ) → length (weights_said weights) ≢ r.states → IsCauseWith AskWith.Decide r weights (codes "weights")
+  Certify : (r : LocalRule) (weights : List ℕ) → length (weights_said weights) ≢ r.states → IsCauseWith AskWith.Certify r weights (codes "weights")
+  Brief : (r : LocalRule) (weights : List ℕ) → length (weights_said weights) ≢ r.states → IsCauseWith AskWith.Brief r weights (codes "weights")
 
 -- of two rules
 pub data IsCauseOfTwo : AskOfTwo → LocalRule → LocalRule → List ℕ → Type 0 where

@@ -5,14 +5,14 @@ ghost use Rattle.ca_cli.specs.Outcomes.{Comes, IsOutcome};
 ghost use Rattle.ca_cli.specs.Outputs.{IsCause, IsCauseOfTwo, IsCauseWith, IsOutput, IsOutputOfTwo, IsOutputWith};
 
 use crate::algebra::{compose, permute, reflect, shift, trim, widen};
-use crate::certificates::certify;
+use crate::certificates::{brief, brief_with, certify, certify_with};
 use crate::classes::{least, lift, unlift};
 use crate::inverses::inverse;
 use crate::languages::{erase, language, same};
 use crate::operands::rule_operand;
 use crate::output::Output;
 use crate::preimages::preimage;
-use crate::reports::{decide, number, orphan};
+use crate::reports::{decide, decide_with, number, orphan};
 use crate::request::{Ask, AskOfTwo, Change, Unread};
 use crate::stop::Stop;
 use crate::summaries::summary;
@@ -50,6 +50,7 @@ fn of_rule(alloc: Global, ask: Ask, rule: &Rule) -> Result<Output, Stop>
         Ask::Orphan => Ok(orphan(alloc, rule)?),
         Ask::Number => Ok(number(alloc, rule)?),
         Ask::Certify => Ok(certify(alloc, rule)?),
+        Ask::Brief => Ok(brief(alloc, rule)?),
         Ask::Reflect => Ok(reflect(alloc, rule)?),
         Ask::Trim => Ok(trim(alloc, rule)?),
         Ask::Inverse => inverse(alloc, rule),
@@ -72,6 +73,9 @@ fn of_rule_with(alloc: Global, change: Change, rule: &Rule) -> Result<Output, St
         Change::Widen(width) => widen(alloc, rule, width),
         Change::Permute(colours) => permute(alloc, rule, colours),
         Change::Preimage(tail) => preimage(alloc, rule, tail),
+        Change::Decide(weights) => decide_with(alloc, rule, weights),
+        Change::Certify(weights) => certify_with(alloc, rule, weights),
+        Change::Brief(weights) => brief_with(alloc, rule, weights),
     }
 }
 

@@ -70,6 +70,7 @@ mod tally;
 mod theorems;
 mod top_call;
 mod verdict_lines;
+mod weight_lists;
 
 pub use status::Status;
 pub use theorems::{

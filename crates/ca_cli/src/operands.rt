@@ -4,6 +4,7 @@ ghost use Rattle.word_image.specs.Digits.{letter_at};
 ghost use Rattle.rule_text.specs.RuleTexts.{IsDecimal, IsRuleText, decimal_value};
 ghost use Rattle.ca_cli.specs.Commands.{AreColours, IsCount, IsSeed};
 ghost use Rattle.ca_cli.specs.Outcomes.{IsRuleFault};
+ghost use Rattle.ca_cli.specs.WeightTexts.{IsWeightText};
 
 use crate::stop::Stop;
 use rule_text::{decimal_number, is_decimal, parse};
@@ -25,6 +26,19 @@ pub fn count_of(text: &[u8]) -> Option<u16>
     let count = decimal(text, 4)?;
     if (1..=4096).contains(&count) {
         Some(count as u16)
+    } else {
+        None
+    }
+}
+
+/// What a letter weighs: up to three decimal digits of a number of at most 255.
+pub fn weight(text: &[u8]) -> Option<u8>
+    ensures { MatchOption result (¬ IsWeightText text.now)
+        (λ weight. IsWeightText text.now × (weight ≡ decimal_value text.now)) }
+{
+    let weight = decimal(text, 3)?;
+    if weight <= 255 {
+        Some(weight as u8)
     } else {
         None
     }

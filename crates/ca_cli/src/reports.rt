@@ -1,10 +1,16 @@
 //! The commands that say what holds of a rule.
 ghost use Rattle.std.specs.Prelude.{◌≡◌, length, slice_index, IfOk};
+ghost use Rattle.ca_cli.specs.Commands.{AskWith};
+ghost use Rattle.ca_cli.specs.Outcomes.{Comes};
+ghost use Rattle.ca_cli.specs.Outputs.{IsCauseWith, IsOutputWith};
+ghost use Rattle.ca_cli.specs.WeightTexts.{AreWeightTexts};
 ghost use Rattle.ca_cli.specs.Reports.{IsReport, IsSurjectiveLine, number_line};
 
 use crate::lines::write_number;
 use crate::output::Output;
 use crate::report::{write_report, write_surjective};
+use crate::stop::Stop;
+use crate::weight_lists::weights_for;
 use rule_verdicts::{Evidence, least_orphan};
 use std::alloc::{AllocError, Global};
 use word_image::{Rule, Weights};
@@ -14,6 +20,15 @@ pub fn decide(alloc: Global, rule: &Rule) -> Result<Output, AllocError>
     ensures { IfOk result (IsReport (λ a. a) rule.now) }
 {
     report(alloc, rule, &Weights::own(rule.k()))
+}
+
+/// `decide R WEIGHTS`: the report of the rule, where its letters have these weights.
+pub fn decide_with(alloc: Global, rule: &Rule, text: &[u8]) -> Result<Output, Stop>
+    requires { AreWeightTexts text.now }
+    ensures { Comes (IsOutputWith AskWith.Decide rule.now text.now) (IsCauseWith AskWith.Decide rule.now text.now) result }
+{
+    let weights = weights_for(alloc, rule, text)?;
+    Ok(report(alloc, rule, &weights)?)
 }
 
 /// The report of a rule and weights of its letters.

@@ -4,6 +4,7 @@ ghost use Rattle.ca_cli.specs.Commands.{AskWith, Command, IsChange, IsCommand, I
 ghost use Rattle.rule_text.specs.RuleTexts.{decimal_value};
 
 use crate::operands::{are_colours, count_of, seed, small};
+use crate::weight_lists::are_weights;
 use rule_text::{decimal_number, decimal_offset, is_decimal};
 use tail_config::has_form;
 
@@ -42,6 +43,8 @@ pub enum Ask {
     Number,
     /// `certify R`: its certificate.
     Certify,
+    /// `brief R`: its certificate of version 3.
+    Brief,
     /// `reflect R`: the mirrored rule.
     Reflect,
     /// `trim R`: the rule without the cells that it ignores.
@@ -71,6 +74,12 @@ pub enum Change<'a> {
     Permute(&'a [u8]),
     /// `preimage R TAIL`: a configuration that the rule maps to this one.
     Preimage(&'a [u8]),
+    /// `decide R WEIGHTS`: the report, where letters have these weights.
+    Decide(&'a [u8]),
+    /// `certify R WEIGHTS`: the certificate, where letters have these weights.
+    Certify(&'a [u8]),
+    /// `brief R WEIGHTS`: that of version 3.
+    Brief(&'a [u8]),
 }
 
 /// What is asked of two rules.
@@ -182,6 +191,7 @@ impl Ask {
             "orphan" => Some(Ask::Orphan),
             "number" => Some(Ask::Number),
             "certify" => Some(Ask::Certify),
+            "brief" => Some(Ask::Brief),
             "reflect" => Some(Ask::Reflect),
             "trim" => Some(Ask::Trim),
             "inverse" => Some(Ask::Inverse),
@@ -223,6 +233,9 @@ impl<'a> Change<'a> {
             "widen" => Some(Change::Widen(small(operand, 1)?)),
             "permute" if are_colours(operand) => Some(Change::Permute(operand)),
             "preimage" if has_form(operand) => Some(Change::Preimage(operand)),
+            "decide" if are_weights(operand) => Some(Change::Decide(operand)),
+            "certify" if are_weights(operand) => Some(Change::Certify(operand)),
+            "brief" if are_weights(operand) => Some(Change::Brief(operand)),
             _ => None,
         }
     }

@@ -14,7 +14,7 @@ use Rattle.ca_cli.specs.declared.request.AskOfTwo.{AskOfTwo}
 use Rattle.ca_cli.specs.Commands.{AskWith}
 use Rattle.ca_cli.specs.Outputs.{IsOutput, IsOutputWith, IsOutputOfTwo, IsCause, IsCauseWith, IsCauseOfTwo}
 use Rattle.ca_cli.specs.Outputs.IsCause.{Twins, Wide, Colours, Lift, Unlift}
-use Rattle.ca_cli.specs.Outputs.IsCauseWith.{Shift, Widen, Permute, Tail}
+use Rattle.ca_cli.specs.Outputs.IsCauseWith.{Shift, Widen, Permute, Tail, Decide, Certify, Brief}
 use Rattle.ca_cli.specs.Outputs.IsCauseOfTwo.{Compose, States}
 
 -- a text names one offset
@@ -51,6 +51,9 @@ IsOutputWith-fit out (Shift r by p f named unfits) (o, offset, fits, made) = kep
 IsOutputWith-fit out (Widen r m f unfits) (g, fits, widened, made) = kept_and_broken f fits unfits refl
 IsOutputWith-fit out (Permute r colours unfits) (g, fits, recoloured, offset, made) = unfits fits
 IsOutputWith-fit out (Tail r text t f parts refused) (u, is, answer) = IsTailText-no_fault is (Refused t f parts refused)
+IsOutputWith-fit out (Decide r weights other) (each, report) = other each
+IsOutputWith-fit out (Certify r weights other) (each, certified) = other each
+IsOutputWith-fit out (Brief r weights other) (each, certified) = other each
 
 -- of two rules
 pub IsOutputOfTwo-fit : {asked : AskOfTwo} {r s : LocalRule} {cause : List ℕ} (out : List ℕ) → IsCauseOfTwo asked r s cause → ¬ IsOutputOfTwo asked r s out

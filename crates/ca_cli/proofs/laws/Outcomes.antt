@@ -50,3 +50,10 @@ comes_weaker (Err stop.TooLong) output cause none = absurd none
 comes_weaker (Err stop.ReadFault) output cause none = absurd none
 comes_weaker (Err (stop.Refused f)) output cause none = absurd none
 comes_weaker (Err (stop.Memory _)) output cause none = tt
+
+-- what stops for one thing stops a command for all that follows
+pub stopped : (Output : List ℕ → Type 0) {Cause Cause' : List ℕ → Type 0} (s : Stop) (result : Result (List ℕ) Stop) → ((cause : List ℕ) → Cause cause → Cause' cause)
+    → IsStopFor (λ operand f. ⊥) Cause s → IsErrAnd result (λ e. e ≡ s) → Comes Output Cause' result
+stopped Output {Cause = Cause} {Cause' = Cause'} s result weaker stops is =
+    let err = err_from_is_err_and result is in
+    subst (Comes Output Cause') (sym (err.1 ∙ ap Err err.2)) (comes_weaker {Output = Output} {Output' = Output} {Cause = Cause} {Cause' = Cause'} (Err s) (λ out says. says) weaker stops)

@@ -42,7 +42,8 @@ asked name =
     else (if pointwise nat_eq name (codes "erase") then ask.Erase
     else (if pointwise nat_eq name (codes "least") then ask.Least
     else (if pointwise nat_eq name (codes "lift") then ask.Lift
-    else ask.Unlift))))))))))
+    else (if pointwise nat_eq name (codes "unlift") then ask.Unlift
+    else ask.Brief)))))))))))
 
 asked-name : (a : Ask) → asked (name_of a) ≡ a
 unfolding asked
@@ -50,6 +51,7 @@ asked-name ask.Decide = refl
 asked-name ask.Orphan = refl
 asked-name ask.Number = refl
 asked-name ask.Certify = refl
+asked-name ask.Brief = refl
 asked-name ask.Reflect = refl
 asked-name ask.Trim = refl
 asked-name ask.Inverse = refl
@@ -65,7 +67,10 @@ asked_with name =
     else (if pointwise nat_eq name (codes "widen") then Some AskWith.Widen
     else (if pointwise nat_eq name (codes "permute") then Some AskWith.Permute
     else (if pointwise nat_eq name (codes "preimage") then Some AskWith.Preimage
-    else None)))
+    else (if pointwise nat_eq name (codes "decide") then Some AskWith.Decide
+    else (if pointwise nat_eq name (codes "certify") then Some AskWith.Certify
+    else (if pointwise nat_eq name (codes "brief") then Some AskWith.Brief
+    else None))))))
 
 asked_with-name : (a : AskWith) → asked_with (name_with a) ≡ Some a
 unfolding asked_with
@@ -73,6 +78,9 @@ asked_with-name AskWith.Shift = refl
 asked_with-name AskWith.Widen = refl
 asked_with-name AskWith.Permute = refl
 asked_with-name AskWith.Preimage = refl
+asked_with-name AskWith.Decide = refl
+asked_with-name AskWith.Certify = refl
+asked_with-name AskWith.Brief = refl
 
 asked_with-of_two : (a : AskOfTwo) → asked_with (name_of_two a) ≡ None
 unfolding asked_with
