@@ -1,4 +1,4 @@
-use Rattle.std.proofs.Common.{◌≡◌, ◌∙◌, ◌≤◌, sym, false, arith}
+use Rattle.std.proofs.Common.{◌∙◌, sym, arith}
 use Rattle.std.proofs.lemmas.Bool.{false≢true}
 use Rattle.ca_cli.proofs.laws.WeightTexts.{IsLeft-all, IsLeft-last, IsLeft-first, IsLeft-more, IsLeft-none, weight_some}
 use Rattle.ca_cli.proofs.weight_lists.are_weights.Goals as goal

@@ -1,4 +1,4 @@
-use Rattle.std.proofs.Common.{◌≡◌, ℕ, ◌≤◌, List, [], ◌∷◌, ◌++◌, map, append_assoc, sym, ap, ◌∙◌, arith}
+use Rattle.std.proofs.Common.{◌≡◌, [], ◌∷◌, ◌++◌, map, append_assoc, sym, ap, ◌∙◌, arith}
 use Rattle.rule_text.specs.RuleTexts.{decimal_value}
 use Rattle.ca_cli.specs.WeightTexts.{weights_said}
 use Rattle.ca_cli.proofs.laws.WeightTexts.{IsLeft-all, IsLeft-last, IsLeft-first, IsLeft-more, IsLeft-none, weight_found}
