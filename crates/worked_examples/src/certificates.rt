@@ -1,8 +1,8 @@
 //! The command `certify`: certificates worked by hand, and that `check` accepts what is written.
 
-use crate::checks::{BOTH, SHIFT};
+use crate::checks::{BOTH, SAME, SHIFT, SUM, WEIGHED};
 use crate::rows::{ample, call, call_over, rows};
-use ca_cli::Status::{Done, RuleFault, Usage};
+use ca_cli::Status::{Done, NotFit, Refused, RuleFault, Usage};
 use ca_io::MemSource;
 use std::alloc::{AllocError, Global};
 use std::process::Abort;
@@ -19,9 +19,56 @@ fn certificates_are_written(rt: HostRuntime) -> Result<(), Fail> {
             ("certify 2:2:0:t0001", Done, &both),
             ("certify 256", RuleFault, "rule fault 1 number\n"),
             ("certify", Usage, "usage error\n"),
-            ("certify 90 90", Usage, "usage error\n"),
+            ("certify 90 256", Usage, "usage error\n"),
+            ("certify 2:2:0:t0101 0,2", Done, WEIGHED),
+            ("certify 2:2:0:t0101 0,1", Done, &shift),
+            ("certify 90 90", NotFit, "notfit weights\n"),
         ],
     )?;
+    Ok(())
+}
+
+#[test]
+fn brief_certificates_are_written(rt: HostRuntime) -> Result<(), Fail> {
+    let alloc = rt.alloc();
+    let sum = SUM
+        .replace(alloc, "{\"sets\":[3]}", "{\"pairs\":[]}")?
+        .replace(alloc, "\"version\":1", "\"version\":3")?;
+    let same = SAME
+        .replace(alloc, "{\"sets\":[3]}", "{\"pairs\":[1,2]}")?
+        .replace(alloc, "\"version\":1", "\"version\":3")?;
+    let both = BOTH.replace(alloc, "\"version\":1", "\"version\":3")?;
+    let weighed = WEIGHED
+        .replace(alloc, "{\"sets\":[3,1,2]}", "{\"pairs\":[]}")?
+        .replace(alloc, "\"version\":2", "\"version\":3")?;
+    rows(
+        &rt,
+        &[
+            ("brief 2:2:0:t0110", Done, &sum),
+            ("brief 2:2:0:t0011", Done, &same),
+            ("brief 2:2:0:t0001", Done, &both),
+            ("brief 2:2:0:t0101 0,2", Done, &weighed),
+            ("brief 110 1,2,3", NotFit, "notfit weights\n"),
+            ("brief 256", RuleFault, "rule fault 1 number\n"),
+            ("brief", Usage, "usage error\n"),
+        ],
+    )?;
+    Ok(())
+}
+
+/// The pairs of a rule of four nodes; without the next to last the eighth one leads out.
+#[test]
+fn pairs_lead_to_listed_ones(rt: HostRuntime) -> Result<(), Fail> {
+    let alloc = rt.alloc();
+    let written = call(alloc, "brief 2:3:0:t00001111", ample(alloc)?)?;
+    let text = std::str::from_utf8(written.output.bytes()).unwrap_or("");
+    let pairs = "{\"pairs\":[1,2,3,4,6,7,8,9,11,12,13,14]}";
+    assert!(rt; text.contains(pairs), "{text}");
+    let forged = text.replace(alloc, ",13,14]", ",14]")?;
+    let mut source = MemSource::new(forged.as_bytes().to_vec(alloc)?, 1 << 16, Vec::new(alloc));
+    let judged = call_over(alloc, "check", &mut source, ample(alloc)?)?;
+    assert_eq!(rt; judged.status, Refused);
+    assert_eq!(rt; judged.output.bytes(), b"refused leaves 3 1 1\n".as_slice());
     Ok(())
 }
 
@@ -70,20 +117,19 @@ fn certificates_of_other_shapes_are_accepted(rt: HostRuntime) -> Result<(), Fail
     Ok(())
 }
 
-/// What `certify` writes for a rule, `check` accepts with the verdicts that `decide` prints.
+/// What `certify` and `brief` write for a rule, `check` accepts with the verdicts that `decide` prints.
 fn accepted(rt: &impl Abort, alloc: Global, rule: &str) -> Result<(), AllocError> {
-    let line = format!(in alloc; "certify {rule}")?;
-    let written = call(alloc, &line, ample(alloc)?)?;
-    assert_eq!(rt; written.status, Done, "{rule}");
-    let mut source = MemSource::new(
-        written.output.bytes().to_vec(alloc)?,
-        1 << 16,
-        Vec::new(alloc),
-    );
-    let judged = call_over(alloc, "check", &mut source, ample(alloc)?)?;
-    assert_eq!(rt; judged.status, Done, "{rule}");
     let verdicts = decided(alloc, rule)?;
-    assert_eq!(rt; judged.output.bytes(), verdicts.as_bytes(), "{rule}");
+    for command in ["certify", "brief"] {
+        let line = format!(in alloc; "{command} {rule}")?;
+        let written = call(alloc, &line, ample(alloc)?)?;
+        assert_eq!(rt; written.status, Done, "{line}");
+        let bytes = written.output.bytes().to_vec(alloc)?;
+        let mut source = MemSource::new(bytes, 1 << 16, Vec::new(alloc));
+        let judged = call_over(alloc, "check", &mut source, ample(alloc)?)?;
+        assert_eq!(rt; judged.status, Done, "{line}");
+        assert_eq!(rt; judged.output.bytes(), verdicts.as_bytes(), "{line}");
+    }
     Ok(())
 }
 

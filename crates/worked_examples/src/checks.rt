@@ -19,11 +19,11 @@ pub const BOTH: &str =
     "{\"conserving\":{\"ring\":\"01\"},\"injective\":{\"twins\":[\"00\",\"01\"]},\"left\":{\"split\":[\"00||0\",\"01||0\"]},\"ranks\":{\"backward\":[null,null,null,null],\"forward\":[null,null,null,null]},\"right\":{\"split\":[\"0||00\",\"0||10\"]},\"rule\":\"2:2:0:t0001\",\"surjective\":{\"orphan\":\"101\"},\"version\":1}";
 
 /// The sum of two cells modulo 2.
-const SUM: &str =
+pub const SUM: &str =
     "{\"conserving\":{\"ring\":\"1\"},\"injective\":{\"twins\":[\"0\",\"1\"]},\"left\":{\"ahead\":1},\"ranks\":{\"backward\":[null,null,null,null],\"forward\":[null,null,null,null]},\"right\":{\"ahead\":1},\"rule\":\"2:2:0:t0110\",\"surjective\":{\"sets\":[3]},\"version\":1}";
 
 /// The identity, with a window of two cells.
-const SAME: &str =
+pub const SAME: &str =
     "{\"conserving\":{\"flux\":[0,0]},\"injective\":{\"c\":0,\"n\":1},\"left\":{\"ahead\":1},\"ranks\":{\"backward\":[null,null,null,null],\"forward\":[null,0,0,null]},\"right\":{\"ahead\":2},\"rule\":\"2:2:0:t0011\",\"surjective\":{\"sets\":[3]},\"version\":1}";
 
 const SHIFT_ACCEPTED: &str =
@@ -55,7 +55,7 @@ fn certificates_are_accepted_with_their_verdicts(rt: HostRuntime) -> Result<(), 
 }
 
 /// Of the shift, in version 2, where the letter 1 weighs two.
-const WEIGHED: &str =
+pub const WEIGHED: &str =
     "{\"conserving\":{\"flux\":[0,-2]},\"injective\":{\"c\":1,\"n\":1},\"left\":{\"ahead\":2},\"ranks\":{\"backward\":[null,0,0,null],\"forward\":[null,null,null,null]},\"right\":{\"ahead\":1},\"rule\":\"2:2:0:t0101\",\"surjective\":{\"sets\":[3,1,2]},\"version\":2,\"weights\":[0,2]}";
 
 #[test]

@@ -1,7 +1,7 @@
 //! The command `decide`.
 
-use crate::rows::rows;
-use ca_cli::Status::{Done, RuleFault, Usage};
+use crate::rows::{ample, call, rows};
+use ca_cli::Status::{Done, NotFit, RuleFault, Usage};
 use std::test::Fail;
 
 #[test]
@@ -206,5 +206,48 @@ conserving yes flux 0 -1 -2 -3 -4 -5 -6 -7 -8 -9 -10 -11 -12 -13 -14 -15\n",
             ("decide", Usage, "usage error\n"),
         ],
     )?;
+    Ok(())
+}
+
+#[test]
+fn reports_with_weights(rt: HostRuntime) -> Result<(), Fail> {
+    rows(
+        &rt,
+        &[
+            ("decide 110 0,1,2", NotFit, "notfit weights\n"),
+            ("decide 110 1", NotFit, "notfit weights\n"),
+            ("decide 110 0,256", Usage, "usage error\n"),
+            ("decide 110 0,0001", Usage, "usage error\n"),
+            ("decide 110 0,", Usage, "usage error\n"),
+            ("decide 110 ,1", Usage, "usage error\n"),
+            ("decide 110 0,-1", Usage, "usage error\n"),
+            (
+                "decide 110 0,0,0,0,0,0,0,0,0,0,0,0,0,0,0,0",
+                NotFit,
+                "notfit weights\n",
+            ),
+            (
+                "decide 110 0,0,0,0,0,0,0,0,0,0,0,0,0,0,0,0,0",
+                Usage,
+                "usage error\n",
+            ),
+            ("decide 256 0,1,2", RuleFault, "rule fault 1 number\n"),
+        ],
+    )?;
+    let last = [
+        ("decide 184 0,3", "\nconserving yes flux 0 0 0 -3\n"),
+        ("decide 184 1,4", "\nconserving yes flux 0 0 0 -3\n"),
+        ("decide 184 001,004", "\nconserving yes flux 0 0 0 -3\n"),
+        ("decide 3:2:0:t111000222", "\nconserving no ring 0\n"),
+        (
+            "decide 3:2:0:t111000222 5,5,9",
+            "\nconserving yes flux 0 0 0\n",
+        ),
+    ];
+    for (line, end) in &last {
+        let outcome = call(rt.alloc(), line, ample(rt.alloc())?)?;
+        assert_eq!(rt; outcome.status, Done, "{line}");
+        assert!(rt; outcome.output.bytes().ends_with(end.as_bytes()), "{line}");
+    }
     Ok(())
 }
