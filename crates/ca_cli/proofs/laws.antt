@@ -7,6 +7,7 @@ pub mod Operands
 pub mod Requests
 pub mod Reports
 pub mod Summaries
+pub mod ClassSummaries
 pub mod Samples
 pub mod Rows
 pub mod OwnWeights

@@ -31,6 +31,7 @@ pub data AskWith : Type 0 where
 pub data AskOfMany : Type 0 where
   Survey : AskOfMany
   Sample : AskOfMany
+  Classes : AskOfMany
 
 -- a command with its operands as they stand on the command line, by the shape of its operands; a rule may be any word
 pub data Command : Type 0 where
@@ -73,6 +74,7 @@ name_of_two two.Same = codes "same"
 abbrev pub name_of_many : AskOfMany → List ℕ
 name_of_many Survey = codes "survey"
 name_of_many Sample = codes "sample"
+name_of_many Classes = codes "classes"
 
 -- the words of a command: its name and its operands
 abbrev pub words_of : Command → List (List ℕ)
@@ -119,6 +121,7 @@ IsOperand Brief text = AreWeightTexts text
 abbrev pub IsBeginning : AskOfMany → List ℕ → Type 0
 IsBeginning Survey text = IsDecimal 1 39 text
 IsBeginning Sample text = IsSeed text
+IsBeginning Classes text = IsDecimal 1 39 text
 
 -- the operands of many rules: their shape, where they begin, and how many there are
 pub record AreRules (asked : AskOfMany) (k m first many : List ℕ) : Type 0 where
@@ -170,11 +173,13 @@ IsChange (change.Brief weights) text = text ≡ weights.now
 abbrev pub asked_of_many : Rules → AskOfMany
 asked_of_many (rules.Survey from) = Survey
 asked_of_many (rules.Sample seed) = Sample
+asked_of_many (rules.Classes from) = Classes
 
 -- the number is that where they begin; None stands for those from 2 ^ 128 on
 abbrev pub BeginsAt : Rules → ℕ → Type 0
 BeginsAt (rules.Survey from) n = MatchOption from (2 ^ 128 ≤ n) (λ first. first ≡ n)
 BeginsAt (rules.Sample seed) n = seed ≡ n
+BeginsAt (rules.Classes from) n = MatchOption from (2 ^ 128 ≤ n) (λ first. first ≡ n)
 
 -- the command that a request stands for, of which it holds the numbers
 abbrev pub Means : Unread → Command → Type 0

@@ -11,6 +11,7 @@ pub mod LanguageLines
 pub mod PreimageLines
 pub mod Samples
 pub mod Summaries
+pub mod ClassSummaries
 pub mod Outputs
 pub mod RightAnswers
 pub mod Outcomes

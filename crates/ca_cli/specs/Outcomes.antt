@@ -1,5 +1,5 @@
 -- What a command comes to: its output, or why it stopped.
-use Rattle.std.specs.Prelude.{◌≡◌, ℕ, List, Option, Result, Ok, Err, MatchResult, ⊤}
+use Rattle.std.specs.Prelude.{◌≡◌, ℕ, List, Option, Some, Result, Ok, Err, MatchResult, ⊤}
 use Rattle.rule_text.specs.declared.text_fault.TextFault.{TextFault}
 use Rattle.rule_text.specs.RuleTexts.{IsTextFault}
 use Rattle.ca_cli.specs.declared.status.Status.{Status}
@@ -45,6 +45,10 @@ IsStopFor Fault Cause stop.TooLong = ⊥
 IsStopFor Fault Cause stop.ReadFault = ⊥
 IsStopFor Fault Cause (stop.Refused f) = ⊥
 IsStopFor Fault Cause (stop.Memory _) = ⊤
+
+-- a command stops since the shape of its rules has this fault, or for want of memory
+abbrev pub IsShapeStop : Option TextFault → Stop → Type 0
+IsShapeStop fault = IsStopFor (λ operand f. (operand ≡ 1) × (fault ≡ Some f)) (λ cause. ⊥)
 
 -- a command whose rules are accepted comes to such an output, or nothing fits for such a cause
 abbrev pub Comes : (List ℕ → Type 0) → (List ℕ → Type 0) → Result (List ℕ) Stop → Type 0

@@ -38,6 +38,8 @@ use Rattle.ca_cli.specs.InverseLines.{IsInverse}
 use Rattle.ca_cli.specs.LanguageLines.{IsLanguage, IsSameLine, IsErasedLine}
 use Rattle.ca_cli.specs.PreimageLines.{IsPreimageLine, tail_text}
 use Rattle.ca_cli.specs.Samples.{survey_rules, sample_rules, survey_fault, sample_fault}
+use Rattle.ca_cli.specs.Summaries.{IsSummary}
+use Rattle.ca_cli.specs.ClassSummaries.{IsClassSummary}
 
 -- the line of an accepted rule
 abbrev pub IsRuleLine : LocalRule → List ℕ → Type 0
@@ -85,11 +87,19 @@ IsOutputOfTwo two.Same r s out = (r.states ≡ s.states) × IsSameLine r s out
 abbrev pub rules_of : AskOfMany → ℕ → ℕ → ℕ → ℕ → List LocalRule
 rules_of AskOfMany.Survey k m from count = survey_rules k m from count
 rules_of AskOfMany.Sample k m seed count = sample_rules k m seed count
+rules_of AskOfMany.Classes k m from count = survey_rules k m from count
 
 -- the first fault of a shape of which there are no such rules
 abbrev pub rules_fault : AskOfMany → ℕ → ℕ → ℕ → ℕ → Option TextFault
 rules_fault AskOfMany.Survey k m from count = survey_fault k m from count
 rules_fault AskOfMany.Sample k m seed count = sample_fault k m
+rules_fault AskOfMany.Classes k m from count = survey_fault k m from count
+
+-- of many rules
+abbrev pub IsOutputOfMany : AskOfMany → List LocalRule → List ℕ → Type 0
+IsOutputOfMany AskOfMany.Survey rules out = IsSummary rules out
+IsOutputOfMany AskOfMany.Sample rules out = IsSummary rules out
+IsOutputOfMany AskOfMany.Classes rules out = IsClassSummary rules out
 
 -- The causes for which nothing can be made
 

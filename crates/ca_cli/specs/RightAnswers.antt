@@ -13,9 +13,8 @@ use Rattle.ca_cli.specs.declared.status.Status.{Status}
 use Rattle.ca_cli.specs.declared.status.Status.TheVariants as status
 use Rattle.ca_cli.specs.Commands.{AskWith, AskOfMany, Command, IsCommand}
 use Rattle.ca_cli.specs.Inputs.{IsWholeInput, IsLongInput}
-use Rattle.ca_cli.specs.Outputs.{IsOutput, IsOutputWith, IsOutputOfTwo, rules_of, rules_fault, IsCause, IsCauseWith, IsCauseOfTwo}
+use Rattle.ca_cli.specs.Outputs.{IsOutput, IsOutputWith, IsOutputOfTwo, IsOutputOfMany, rules_of, rules_fault, IsCause, IsCauseWith, IsCauseOfTwo}
 use Rattle.ca_cli.specs.StatusLines.{usage_line, operand_fault_line, unfit_line, accepted_lines, refused_line, too_long_line}
-use Rattle.ca_cli.specs.Summaries.{IsSummary}
 
 -- the operand with this number is the first with a fault, and this is its first fault; the shape of many rules counts as operand 1
 pub data IsOperandFault : Command → ℕ → TextFault → Type 0 where
@@ -46,7 +45,7 @@ pub data IsRight (input : Option (List ℕ)) : Command → Status → List ℕ �
       → IsRight input (Command.OfTwo asked first second) status.Done out
   OfMany : (asked : AskOfMany) (k m from count out : List ℕ)
       → rules_fault asked (decimal_value k) (decimal_value m) (decimal_value from) (decimal_value count) ≡ None
-      → IsSummary (rules_of asked (decimal_value k) (decimal_value m) (decimal_value from) (decimal_value count)) out
+      → IsOutputOfMany asked (rules_of asked (decimal_value k) (decimal_value m) (decimal_value from) (decimal_value count)) out
       → IsRight input (Command.OfMany asked k m from count) status.Done out
   Unfit : (c : Command) (cause : List ℕ) → IsUnfit c cause → IsRight input c status.NotFit (unfit_line cause)
   Accepted : (bytes : List ℕ) (v : Verdicts) → IsWholeInput input bytes → IsAccepted bytes v → AreTrue v → IsRight input Command.Check status.Done (accepted_lines v)

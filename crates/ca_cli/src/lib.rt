@@ -51,6 +51,7 @@ mod algebra;
 mod answers;
 mod certificates;
 mod checks;
+mod class_tally;
 mod classes;
 mod commands;
 mod generator;

@@ -91,13 +91,15 @@ pub enum AskOfTwo {
     Same,
 }
 
-/// Where the rules begin whose summary is asked for.
+/// What is asked of many rules, and where they begin.
 #[derive(Clone, Copy, Debug)]
 pub enum Rules {
-    /// `survey K M FROM COUNT`: at this number; None stands for those from 2^128 on.
+    /// `survey K M FROM COUNT`: the summary, from this number on; None stands for those from 2^128 on.
     Survey(Option<u128>),
-    /// `sample K M SEED COUNT`: at this seed.
+    /// `sample K M SEED COUNT`: the summary, from this seed on.
     Sample(u64),
+    /// `classes K M FROM COUNT`: the summary and the number of classes, from this number on, as `survey`.
+    Classes(Option<u128>),
 }
 
 impl<'a> Request<'a> {
@@ -252,6 +254,7 @@ impl Rules {
         match name {
             "survey" if is_decimal(from, 39) => Some(Rules::Survey(decimal_number(from))),
             "sample" => Some(Rules::Sample(seed(from)?)),
+            "classes" if is_decimal(from, 39) => Some(Rules::Classes(decimal_number(from))),
             _ => None,
         }
     }

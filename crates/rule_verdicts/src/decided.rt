@@ -46,8 +46,8 @@ pub fn verdicts(rule: &Rule) -> Verdicts
     }
 }
 
-/// Whether every ring keeps its sum, with these weights of the letters.
-fn is_conserving(rule: &Rule, weights: &Weights) -> bool
+/// Whether every ring keeps its sum, with these weights of the letters. It takes no memory.
+pub fn is_conserving(rule: &Rule, weights: &Weights) -> bool
     requires { length weights.now ≡ rule.now.states }
     ensures { IsTrue result ↔ IsConserving (slice_index weights.now) rule.now }
 {

@@ -13,7 +13,7 @@
 //! [`verdicts`] decides without evidence and takes no memory. [`Evidence::of`] finds the evidence, with
 //! weights of the letters, and [`Evidence::certificate`] adds to it what the judge of certificates asks
 //! for besides: the cover list in version 2 or the reached pairs in version 3, and the exact rank of each
-//! pair of nodes. [`least_orphan`] and [`injectivity`] answer one question alone.
+//! pair of nodes. [`is_conserving`], [`least_orphan`] and [`injectivity`] answer one question alone.
 //!
 //! Each takes the time of its deciders. The search for a least orphan and the cover list looks at most at `2^N` sets
 //! of nodes, where a rule with k states and width m has `N = k^(m-1)`; all else takes time **O(N^4·k^2)** at
@@ -26,6 +26,6 @@ mod parts;
 #[cfg(test)]
 mod tests;
 
-pub use decided::verdicts;
+pub use decided::{is_conserving, verdicts};
 pub use evidence::Evidence;
 pub use parts::{injectivity, least_orphan};

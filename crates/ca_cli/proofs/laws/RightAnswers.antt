@@ -96,12 +96,16 @@ asked_of_two-name two.Compose = refl
 asked_of_two-name two.Same = refl
 
 asked_of_many : List ℕ → AskOfMany
-asked_of_many name = if pointwise nat_eq name (codes "survey") then AskOfMany.Survey else AskOfMany.Sample
+asked_of_many name =
+    if pointwise nat_eq name (codes "survey") then AskOfMany.Survey
+    else (if pointwise nat_eq name (codes "sample") then AskOfMany.Sample
+    else AskOfMany.Classes)
 
 asked_of_many-name : (a : AskOfMany) → asked_of_many (name_of_many a) ≡ a
 unfolding asked_of_many
 asked_of_many-name AskOfMany.Survey = refl
 asked_of_many-name AskOfMany.Sample = refl
+asked_of_many-name AskOfMany.Classes = refl
 
 -- the command of three words, of which the name says whether the last is a rule
 with_or_of_two : Option AskWith → List ℕ → List ℕ → List ℕ → Command

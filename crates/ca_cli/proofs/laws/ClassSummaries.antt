@@ -1,0 +1,108 @@
+-- The least rules of the classes of some rules, one rule more at a time, and the verdicts that are kept for them.
+use borrow.Author.Tests.{eqb-true}
+use Rattle.std.proofs.Common.{inl, inr, ◌≡◌, ◌≢◌, ◌⊎◌, ⊎_elim, ◌↔◌, ℕ, nat_eq, ◌+◌, ◌<◌, Bool, true, false, true≢false, IsTrue, List, [], ◌∷◌, ◌++◌, length, get_or, is_some, None, Some, All, AllPairs, Contains, codes, pos, refl, sym, ap, subst, ◌∙◌, arith}
+use Rattle.std.specs.Map.{keys_of, lookup}
+use Rattle.std.proofs.lemmas.Bool.{cases_eq}
+use Rattle.std.proofs.lemmas.Cmp.{nat_eq_equiv}
+use Rattle.std.proofs.lemmas.List.{get_or_append_left, get_or_push, get_or-map, length-map, length_push}
+use Rattle.std.proofs.lemmas.List.Elements.{All-nil, All-push, All-map, All-weaker, All-contains, Contains-get_or, Contains-append_left, Contains-push}
+use Rattle.std.proofs.lemmas.Map.Views.{Contains-from_lookup, IsSome-lookup_from_Contains}
+use Rattle.word_image.specs.LocalRules.{LocalRule, IsRule, wolfram_number}
+use Rattle.rule_classes.specs.Classes.{IsLeastOfClass}
+use Rattle.rule_classes.proofs.laws.Numbers.{same_number}
+use Rattle.cert_check.specs.Accepted.{AreTrue}
+use Rattle.cert_check.specs.declared.verdicts.Verdicts.{Verdicts}
+use Rattle.ca_cli.specs.declared.class_tally.ClassTally.{ClassTally}
+use Rattle.ca_cli.specs.Summaries.{count_line, summary_of}
+use Rattle.ca_cli.specs.ClassSummaries.{AreLeastRules, HasLeast, IsAdded, IsClassSummary, IsClassTally, IsDecided, IsLeastOf, IsNeeded, rule_in, rules_in}
+use Rattle.ca_cli.specs.ClassSummaries.IsAdded.{Old, New}
+use Rattle.ca_cli.proofs.laws.Summaries.{IsSummary-tally}
+
+-- a place of one item more is one of those before, or the last
+before_or_last : (n j : ℕ) → j < n + 1 → (j < n) ⊎ (n ≡ j)
+before_or_last n j within = ⊎_elim (λ is. inr (sym is)) (λ apart. inl (omega (arith, apart))) (cases_eq j n)
+
+-- what holds of each item and each later one holds so with one item more, where it holds of each with that
+AllPairs-push : {X : Type 0} (R : X → X → Type 0) (xs : List X) (y : X) → AllPairs R xs → All (λ x. R x y) xs → AllPairs R (xs ++ y ∷ [])
+AllPairs-push R xs y pairs all i j d less within =
+    let long = length_push xs y in
+    let inside : i < length xs = omega arith in
+    subst (λ x. R x (get_or (xs ++ y ∷ []) j d)) (sym (get_or_append_left xs (y ∷ []) d i inside))
+    (elim (before_or_last (length xs) j (omega arith)) [
+      | inl before ↦ subst (R (get_or xs i d)) (sym (get_or_append_left xs (y ∷ []) d j before)) (pairs i j d less before)
+      | inr last ↦ subst (R (get_or xs i d)) (sym (get_or_push xs y d j last)) (all i d inside)
+    ])
+
+-- no rules have no classes
+pub AreLeastRules-nil : AreLeastRules [] []
+AreLeastRules-nil = record {
+  distinct = λ i j d less within. absurd (omega (arith, within));
+  complete = All-nil _;
+  no_others = All-nil _;
+}
+
+-- one rule more, with its least rule added to the list
+pub AreLeastRules-push : {rules leasts more : List LocalRule} {r g : LocalRule} → IsLeastOf r g → IsAdded g leasts more → AreLeastRules rules leasts → AreLeastRules (rules ++ r ∷ []) more
+AreLeastRules-push {rules = rules} {r = r} {g = g} least (Old leasts there) are = record {
+  distinct = are.distinct;
+  complete = All-push (HasLeast leasts) rules r are.complete (g, there, least);
+  no_others = All-weaker (IsNeeded rules) (IsNeeded (rules ++ r ∷ [])) (λ h needed. (needed.0, Contains-append_left rules (r ∷ []) needed.0 needed.1, needed.2)) leasts are.no_others;
+}
+AreLeastRules-push {rules = rules} {r = r} {g = g} least (New leasts absent) are = record {
+  distinct = AllPairs-push ◌≢◌ leasts g are.distinct (λ k d within same. absent (subst (Contains leasts) same (Contains-get_or leasts k d within)));
+  complete = All-push (HasLeast (leasts ++ g ∷ [])) rules r
+      (All-weaker (HasLeast leasts) (HasLeast (leasts ++ g ∷ [])) (λ q has. (has.0, Contains-append_left leasts (g ∷ []) has.0 has.1, has.2)) rules are.complete)
+      (g, Contains-push leasts g, least);
+  no_others = All-push (IsNeeded (rules ++ r ∷ [])) leasts g
+      (All-weaker (IsNeeded rules) (IsNeeded (rules ++ r ∷ [])) (λ h needed. (needed.0, Contains-append_left rules (r ∷ []) needed.0 needed.1, needed.2)) leasts are.no_others)
+      (r, Contains-push rules r, least);
+}
+
+-- the rule of an entry is among the rules
+Contains-rules_in : (entries : List (ℕ × Verdicts)) (e : ℕ × Verdicts) → Contains entries e → Contains (rules_in entries) (e.1).rule
+Contains-rules_in entries e (i, within, at) =
+    let long : length (rules_in entries) ≡ length entries = length-map entries rule_in in
+    (i, omega arith, get_or-map rule_in entries i e (e.1).rule within ∙ ap rule_in at)
+
+module _ {k m : ℕ} (entries : List (ℕ × Verdicts)) (decided : All (IsDecided k m) entries) {r : LocalRule} (accepted : IsRule r)
+    (states : r.states ≡ k) (width : r.width ≡ m) (offset : r.offset ≡ pos 0) where
+  -- what is found under its number are its verdicts
+  pub decided_found : (v : Verdicts) → lookup (nat_eq (wolfram_number r)) entries ≡ Some v → (v.rule ≡ r) × AreTrue v × Contains (rules_in entries) r
+  decided_found v found =
+      let among = Contains-from_lookup eqb-true (wolfram_number r) v entries found in
+      let is : IsDecided k m (wolfram_number r, v) = All-contains (IsDecided k m) entries (wolfram_number r, v) decided among in
+      let same : v.rule ≡ r = same_number is.accepted accepted (is.states ∙ sym states) (is.width ∙ sym width) (is.offset ∙ sym offset) (sym is.number) in
+      (same, is.are_true, subst (Contains (rules_in entries)) same (Contains-rules_in entries (wolfram_number r, v) among))
+
+  -- where nothing is found the rule isn't among them
+  pub decided_absent : lookup (nat_eq (wolfram_number r)) entries ≡ None → ¬ Contains (rules_in entries) r
+  decided_absent none there =
+      All-contains (λ q. ¬ (q ≡ r)) (rules_in entries) r (All-map (λ q. ¬ (q ≡ r)) rule_in entries others) there refl
+    where
+      others : All (λ (e : ℕ × Verdicts). ¬ ((e.1).rule ≡ r)) entries
+      others i d within same =
+          let is : IsDecided k m (get_or entries i d) = decided i d within in
+          let key : (get_or entries i d).0 ≡ wolfram_number r = is.number ∙ ap wolfram_number same in
+          let long : length (keys_of entries) ≡ length entries = length-map entries (λ (e : ℕ × Verdicts). e.0) in
+          let among : Contains (keys_of entries) (wolfram_number r) = (i, omega arith, get_or-map (λ (e : ℕ × Verdicts). e.0) entries i d (wolfram_number r) within ∙ key) in
+          true≢false (sym (IsSome-lookup_from_Contains nat_eq_equiv (wolfram_number r) entries among) ∙ ap is_some none)
+
+-- the least rule of a class has the shape of the rule, at offset 0
+pub least_shape : {r g : LocalRule} (mirror : Bool) → IsLeastOfClass r mirror g → (g.states ≡ r.states) × (g.width ≡ r.width) × (g.offset ≡ pos 0)
+least_shape true is = ((is.member).recoloured.states, (is.member).recoloured.width, (is.member).offset)
+least_shape false is = ((is.member).recoloured.states, (is.member).recoloured.width, (is.member).offset)
+
+-- a verdict on one rule is that on another of which the same is true
+pub verdict_through : {b : Bool} {P Q : Type 0} → IsTrue b ↔ P → Q ↔ P → IsTrue b ↔ Q
+verdict_through is same = ((λ yes. same.1 (is.0 yes)), (λ holds. is.1 (same.0 holds)))
+
+-- the lines of what is counted by classes
+pub IsClassSummary-tally : {k m : ℕ} {rules : List LocalRule} {out : List ℕ} (t : ClassTally) → IsClassTally k m rules t
+    → out ≡ summary_of t.tally ++ count_line (codes "classes") (length (t.leasts).entries) → IsClassSummary rules out
+IsClassSummary-tally t is lines = record {
+  summary = summary_of t.tally;
+  leasts = rules_in (t.leasts).entries;
+  summary_true = IsSummary-tally t.tally is.tally;
+  leasts_true = is.leasts;
+  lines = lines ∙ ap (λ n. summary_of t.tally ++ count_line (codes "classes") n) (sym (length-map (t.leasts).entries rule_in));
+}
