@@ -4,7 +4,7 @@ use Rattle.word_image.specs.LocalRules.{LocalRule, IsRule, wolfram_number}
 use Rattle.rule_classes.specs.Classes.{IsLeastOfClass}
 use Rattle.cert_check.specs.Accepted.{AreTrue}
 use Rattle.cert_check.specs.declared.verdicts.Verdicts.{Verdicts}
-use Rattle.ca_cli.specs.declared.class_tally.ClassTally.{ClassTally}
+use Rattle.ca_cli.specs.declared.commands.class_tally.ClassTally.{ClassTally}
 use Rattle.ca_cli.specs.Summaries.{IsSummary, IsTally, count_line}
 
 -- g is the least rule of the class of r

@@ -4,18 +4,18 @@ use Rattle.word_image.specs.Digits.{IsHexDigit}
 use Rattle.tail_config.specs.TailTexts.{HasForm}
 use Rattle.rule_text.specs.RuleTexts.{IsDecimal, IsOffset, decimal_value}
 use Rattle.ca_cli.specs.WeightTexts.{AreWeightTexts}
-use Rattle.ca_cli.specs.declared.request.Ask.{Ask}
-use Rattle.ca_cli.specs.declared.request.Ask.TheVariants as ask
-use Rattle.ca_cli.specs.declared.request.AskOfTwo.{AskOfTwo}
-use Rattle.ca_cli.specs.declared.request.AskOfTwo.TheVariants as two
-use Rattle.ca_cli.specs.declared.request.Change.{Change}
-use Rattle.ca_cli.specs.declared.request.Change.TheVariants as change
-use Rattle.ca_cli.specs.declared.request.Rules.{Rules}
-use Rattle.ca_cli.specs.declared.request.Rules.TheVariants as rules
-use Rattle.ca_cli.specs.declared.request.Unread.{Unread}
-use Rattle.ca_cli.specs.declared.request.Unread.TheVariants as unread
-use Rattle.ca_cli.specs.declared.request.Request.{Request}
-use Rattle.ca_cli.specs.declared.request.Request.TheVariants as request
+use Rattle.ca_cli.specs.declared.words.request.Ask.{Ask}
+use Rattle.ca_cli.specs.declared.words.request.Ask.TheVariants as ask
+use Rattle.ca_cli.specs.declared.words.request.AskOfTwo.{AskOfTwo}
+use Rattle.ca_cli.specs.declared.words.request.AskOfTwo.TheVariants as two
+use Rattle.ca_cli.specs.declared.words.request.Change.{Change}
+use Rattle.ca_cli.specs.declared.words.request.Change.TheVariants as change
+use Rattle.ca_cli.specs.declared.words.request.Rules.{Rules}
+use Rattle.ca_cli.specs.declared.words.request.Rules.TheVariants as rules
+use Rattle.ca_cli.specs.declared.words.request.Unread.{Unread}
+use Rattle.ca_cli.specs.declared.words.request.Unread.TheVariants as unread
+use Rattle.ca_cli.specs.declared.words.request.Request.{Request}
+use Rattle.ca_cli.specs.declared.words.request.Request.TheVariants as request
 
 -- what is asked of a rule with an operand
 pub data AskWith : Type 0 where

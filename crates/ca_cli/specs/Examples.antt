@@ -5,7 +5,7 @@ use Rattle.word_image.specs.Examples.{rule110}
 use Rattle.rule_text.specs.declared.text_fault.TextFault.TheVariants as fault
 use Rattle.ca_cli.specs.Commands.{words_of}
 use Rattle.ca_cli.specs.Commands as commands
-use Rattle.ca_cli.specs.declared.request.Ask.TheVariants as ask
+use Rattle.ca_cli.specs.declared.words.request.Ask.TheVariants as ask
 use Rattle.ca_cli.specs.Lines.{line}
 use Rattle.ca_cli.specs.StatusLines.{operand_fault_line}
 use Rattle.ca_cli.specs.Reports.{number_line, surjective_line}

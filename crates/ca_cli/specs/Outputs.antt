@@ -25,10 +25,10 @@ use Rattle.tail_config.specs.Tails.{TailConfig}
 use Rattle.tail_config.specs.TailTexts.{HasParts, IsTailText}
 use Rattle.tail_config.specs.TailFaults.{tail_fault}
 use Rattle.tail_config.specs.declared.faults.TailFault.{TailFault}
-use Rattle.ca_cli.specs.declared.request.Ask.{Ask}
-use Rattle.ca_cli.specs.declared.request.Ask.TheVariants as ask
-use Rattle.ca_cli.specs.declared.request.AskOfTwo.{AskOfTwo}
-use Rattle.ca_cli.specs.declared.request.AskOfTwo.TheVariants as two
+use Rattle.ca_cli.specs.declared.words.request.Ask.{Ask}
+use Rattle.ca_cli.specs.declared.words.request.Ask.TheVariants as ask
+use Rattle.ca_cli.specs.declared.words.request.AskOfTwo.{AskOfTwo}
+use Rattle.ca_cli.specs.declared.words.request.AskOfTwo.TheVariants as two
 use Rattle.ca_cli.specs.Commands.{AskWith, AskOfMany}
 use Rattle.ca_cli.specs.WeightTexts.{weights_said}
 use Rattle.ca_cli.specs.Lines.{line}

@@ -7,8 +7,8 @@ use Rattle.cert_check.specs.Accepted.{IsAccepted, AreTrue}
 use Rattle.cert_check.specs.Refusals.{IsRefusal}
 use Rattle.cert_check.specs.declared.refusal.Refusal.{Refusal}
 use Rattle.cert_check.specs.declared.verdicts.Verdicts.{Verdicts}
-use Rattle.ca_cli.specs.declared.request.Ask.{Ask}
-use Rattle.ca_cli.specs.declared.request.AskOfTwo.{AskOfTwo}
+use Rattle.ca_cli.specs.declared.words.request.Ask.{Ask}
+use Rattle.ca_cli.specs.declared.words.request.AskOfTwo.{AskOfTwo}
 use Rattle.ca_cli.specs.declared.status.Status.{Status}
 use Rattle.ca_cli.specs.declared.status.Status.TheVariants as status
 use Rattle.ca_cli.specs.Commands.{AskWith, AskOfMany, Command, IsCommand}

@@ -5,7 +5,7 @@ use Rattle.word_image.specs.LocalRules.{LocalRule}
 use Rattle.word_image.specs.Words.{IsSurjective}
 use Rattle.word_image.specs.Rings.{IsConserving}
 use Rattle.tail_config.specs.Tails.{IsInjective, IsRightClosing, IsLeftClosing, IsOpen}
-use Rattle.ca_cli.specs.declared.tally.Tally.{Tally}
+use Rattle.ca_cli.specs.declared.commands.tally.Tally.{Tally}
 use Rattle.ca_cli.specs.Lines.{line}
 
 -- so many of the rules have the property

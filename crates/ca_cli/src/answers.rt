@@ -5,14 +5,14 @@ ghost use Rattle.ca_cli.specs.Inputs.{IsReadFor, Reading};
 ghost use Rattle.ca_cli.specs.Outcomes.{IsOutcome, outcome_status};
 ghost use Rattle.ca_cli.specs.RightAnswers.{IsAnswer};
 
-use crate::checks::check;
 use crate::commands::carry_out;
+use crate::commands::checks::check;
 use crate::lines::operand_fault_output;
+use crate::lines::verdicts::refused_output;
 use crate::output::Output;
-use crate::request::Request;
 use crate::status::Status;
 use crate::stop::Stop;
-use crate::verdict_lines::refused_output;
+use crate::words::request::Request;
 use ca_io::{InputFault, Source};
 use std::alloc::Global;
 

@@ -1,21 +1,34 @@
 //! The commands that read nothing, by the shape of their operands.
+pub mod algebra;
+pub mod certificates;
+pub mod checks;
+pub mod class_tally;
+pub mod classes;
+pub mod generator;
+pub mod inverses;
+pub mod languages;
+pub mod preimages;
+pub mod reports;
+pub mod summaries;
+pub mod tally;
+
 ghost use Rattle.std.specs.Prelude.{◌≡◌, ◌≤◌, ℕ, List, Option};
 ghost use Rattle.ca_cli.specs.Commands.{BeginsAt, Command, IsChange, IsOperand, IsWellFormed, Means, asked_of_many, asked_with};
 ghost use Rattle.ca_cli.specs.Outcomes.{Comes, IsOutcome};
 ghost use Rattle.ca_cli.specs.Outputs.{IsCause, IsCauseOfTwo, IsCauseWith, IsOutput, IsOutputOfTwo, IsOutputWith};
 
-use crate::algebra::{compose, permute, reflect, shift, trim, widen};
-use crate::certificates::{brief, brief_with, certify, certify_with};
-use crate::classes::{least, lift, unlift};
-use crate::inverses::inverse;
-use crate::languages::{erase, language, same};
-use crate::operands::rule_operand;
+use crate::commands::algebra::{compose, permute, reflect, shift, trim, widen};
+use crate::commands::certificates::{brief, brief_with, certify, certify_with};
+use crate::commands::classes::{least, lift, unlift};
+use crate::commands::inverses::inverse;
+use crate::commands::languages::{erase, language, same};
+use crate::commands::preimages::preimage;
+use crate::commands::reports::{decide, decide_with, number, orphan};
+use crate::commands::summaries::summary;
 use crate::output::Output;
-use crate::preimages::preimage;
-use crate::reports::{decide, decide_with, number, orphan};
-use crate::request::{Ask, AskOfTwo, Change, Unread};
 use crate::stop::Stop;
-use crate::summaries::summary;
+use crate::words::operands::rule_operand;
+use crate::words::request::{Ask, AskOfTwo, Change, Unread};
 use std::alloc::Global;
 use word_image::Rule;
 

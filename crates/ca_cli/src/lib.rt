@@ -47,31 +47,15 @@
 //! input and output.
 #![tactic(auto)]
 
-mod algebra;
 mod answers;
-mod certificates;
-mod checks;
-mod class_tally;
-mod classes;
 mod commands;
-mod generator;
-mod inverses;
-mod languages;
 mod lines;
-mod operands;
 mod output;
-mod preimages;
-mod report;
-mod reports;
-mod request;
 mod status;
 mod stop;
-mod summaries;
-mod tally;
 mod theorems;
 mod top_call;
-mod verdict_lines;
-mod weight_lists;
+mod words;
 
 pub use status::Status;
 pub use theorems::{

@@ -1,4 +1,7 @@
 //! The lines that the program writes. Each is made of values that are there: no line decides anything.
+pub mod report;
+pub mod verdicts;
+
 ghost use Rattle.std.specs.Prelude.{◌≡◌, ◌++◌, IfOk, OnOk, string_bytes};
 ghost use Rattle.ca_cli.specs.Lines.{fault_text};
 ghost use Rattle.ca_cli.specs.StatusLines.{operand_fault_line, algebra_text};

@@ -9,8 +9,8 @@ ghost use Rattle.ca_cli.specs.Commands.{Command, IsCommand, ReadsNothing};
 ghost use Rattle.ca_cli.specs.StatusLines.{accepted_lines, operand_fault_line, usage_line};
 ghost use Rattle.ca_cli.specs.RightAnswers.{IsAnswer, IsOperandFault, IsRight};
 
-use crate::request::Ask;
 use crate::status::Status;
+use crate::words::request::Ask;
 
 /// Words have one right status: whatever the source, where they are no command or one that reads
 /// nothing, and for all words over a source that tells what it has left.

@@ -9,8 +9,8 @@ use Rattle.tail_config.specs.TailTextFaults.IsTailTextFault.{Refused}
 use Rattle.tail_config.proofs.laws.TailAnswers.{IsTailText-no_fault}
 use Rattle.rule_text.specs.RuleTexts.{IsOffset}
 use Rattle.rule_text.specs.RuleTexts.IsOffset.{Plain, Minus}
-use Rattle.ca_cli.specs.declared.request.Ask.{Ask}
-use Rattle.ca_cli.specs.declared.request.AskOfTwo.{AskOfTwo}
+use Rattle.ca_cli.specs.declared.words.request.Ask.{Ask}
+use Rattle.ca_cli.specs.declared.words.request.AskOfTwo.{AskOfTwo}
 use Rattle.ca_cli.specs.Commands.{AskWith}
 use Rattle.ca_cli.specs.Outputs.{IsOutput, IsOutputWith, IsOutputOfTwo, IsCause, IsCauseWith, IsCauseOfTwo}
 use Rattle.ca_cli.specs.Outputs.IsCause.{Twins, Wide, Colours, Lift, Unlift}

@@ -7,7 +7,7 @@ use Rattle.cert_check.specs.Refusals.{IsRefusal}
 use Rattle.cert_check.specs.declared.verdicts.Verdicts.{Verdicts}
 use Rattle.cert_check.proofs.laws.OneAnswer.{IsAccepted-unique, accepted_not_refused}
 use Rattle.cert_check.proofs.laws.Soundness.{AreTrue-accepted}
-use Rattle.ca_cli.specs.declared.request.Ask.TheVariants as ask
+use Rattle.ca_cli.specs.declared.words.request.Ask.TheVariants as ask
 use Rattle.ca_cli.specs.declared.status.Status.{Status}
 use Rattle.ca_cli.specs.declared.status.Status.TheVariants as status
 use Rattle.ca_cli.specs.Commands as commands

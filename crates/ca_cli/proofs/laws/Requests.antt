@@ -1,7 +1,7 @@
 -- The words of a command, one by one, and what a request means.
 use Rattle.std.proofs.Common.{◌≡◌, ◌<◌, ◌≤◌, List, [], ◌∷◌, length, get_or, refl, arith}
-use Rattle.ca_cli.specs.declared.request.Unread.{Unread}
-use Rattle.ca_cli.specs.declared.request.Unread.TheVariants as unread
+use Rattle.ca_cli.specs.declared.words.request.Unread.{Unread}
+use Rattle.ca_cli.specs.declared.words.request.Unread.TheVariants as unread
 use Rattle.ca_cli.specs.Commands.{Command, ReadsNothing, Means}
 
 -- a list of five is its first five

@@ -5,10 +5,10 @@ use Rattle.std.specs.Cmp.Lexicographic.{pointwise}
 use Rattle.std.proofs.lemmas.Option.{none-some}
 use Rattle.rule_text.specs.declared.text_fault.TextFault.{TextFault}
 use Rattle.rule_text.proofs.laws.Texts.{IsRuleText-unique, IsRuleText-no_fault}
-use Rattle.ca_cli.specs.declared.request.Ask.{Ask}
-use Rattle.ca_cli.specs.declared.request.Ask.TheVariants as ask
-use Rattle.ca_cli.specs.declared.request.AskOfTwo.{AskOfTwo}
-use Rattle.ca_cli.specs.declared.request.AskOfTwo.TheVariants as two
+use Rattle.ca_cli.specs.declared.words.request.Ask.{Ask}
+use Rattle.ca_cli.specs.declared.words.request.Ask.TheVariants as ask
+use Rattle.ca_cli.specs.declared.words.request.AskOfTwo.{AskOfTwo}
+use Rattle.ca_cli.specs.declared.words.request.AskOfTwo.TheVariants as two
 use Rattle.ca_cli.specs.declared.status.Status.{Status}
 use Rattle.ca_cli.specs.declared.status.Status.TheVariants as status
 use Rattle.cert_check.specs.Accepted.{IsAccepted}

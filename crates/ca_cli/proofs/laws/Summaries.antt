@@ -4,7 +4,7 @@ use Rattle.std.specs.Prelude.{◌↔◌, IsTrue}
 use Rattle.std.specs.Int.{from_bool}
 use Rattle.std.proofs.lemmas.Bool.{false≢true}
 use Rattle.word_image.specs.LocalRules.{LocalRule}
-use Rattle.ca_cli.specs.declared.tally.Tally.{Tally}
+use Rattle.ca_cli.specs.declared.commands.tally.Tally.{Tally}
 use Rattle.ca_cli.specs.Summaries.{AreMany, IsSummary, IsTally, summary_of}
 use Rattle.ca_cli.specs.Summaries.AreMany.{None, One, Other}
 

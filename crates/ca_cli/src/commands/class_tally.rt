@@ -1,0 +1,118 @@
+//! Of how many rules each verdict is true, where a class is decided once.
+ghost use Rattle.std.specs.Prelude.{◌≡◌, ◌<◌, ◌≤◌, ◌+◌, ℕ, List, [], ◌∷◌, ◌++◌, length, nat_eq, None, All, IfOk, OnOk, codes, pos};
+ghost use Rattle.indexmap.specs.IndexMap.{get};
+ghost use Rattle.word_image.specs.LocalRules.{LocalRule};
+ghost use Rattle.word_image.specs.Weights.{own_weights};
+ghost use Rattle.rule_classes.specs.Classes.{HaveOneVerdict};
+ghost use Rattle.cert_check.specs.Accepted.{AreTrue};
+ghost use Rattle.ca_cli.specs.ClassSummaries.{IsAdded, IsClassTally, IsDecided, rules_in};
+ghost use Rattle.ca_cli.specs.Summaries.{count_line, summary_of};
+
+use crate::commands::tally::Tally;
+use crate::output::Output;
+use cert_check::Verdicts;
+use indexmap::IndexMap;
+use rule_classes::class_of;
+use rule_text::number;
+use rule_verdicts::{is_conserving, verdicts};
+use std::alloc::{AllocError, Global};
+use word_image::{Rule, Weights};
+
+/// How many of some rules have each property, and the verdicts of the least rules of their classes.
+#[derive(Drop)]
+pub struct ClassTally {
+    tally: Tally,
+    // By Wolfram number, in the order in which they came.
+    leasts: IndexMap<u128, Verdicts>,
+}
+
+impl ClassTally {
+    /// The counts of no rules.
+    pub fn new(alloc: Global) -> ClassTally
+        ensures { (k m : ℕ) → IsClassTally k m [] result }
+    {
+        ClassTally {
+            tally: Tally::new(),
+            leasts: IndexMap::new(alloc),
+        }
+    }
+
+    /// Counts one rule more.
+    pub fn add(&mut self, rule: &Rule) -> Result<(), AllocError>
+        requires states { rule.now.states ≤ 6 }
+        requires tally { (rules : List LocalRule) × IsClassTally rule.now.states rule.now.width rules self.old × (length rules < 4096) }
+        ensures { (rules : List LocalRule) → IsClassTally rule.now.states rule.now.width rules self.old →
+            OnOk result (IsClassTally rule.now.states rule.now.width (rules ++ rule.now ∷ []) self.new) }
+    {
+        let place = class_of(rule).unwrap();
+        let least = decided(&mut self.leasts, &place.least)?;
+        self.tally.add(&of_member(rule, place.mirrored, &least));
+        Ok(())
+    }
+
+    /// Appends the seven lines of the summary, and the number of classes.
+    pub fn write(&self, alloc: Global, output: &mut Output) -> Result<(), AllocError>
+        ensures { OnOk result (output.new ≡ output.old ++ (summary_of self.now.tally ++ count_line (codes "classes") (length self.now.leasts.entries))) }
+    {
+        self.tally.write(alloc, output)?;
+        let classes = self.leasts.len();
+        output.push_line(&format!(in alloc; "classes {classes}")?)
+    }
+}
+
+/// The verdicts of a rule, which are kept under its number.
+fn decided(known: &mut IndexMap<u128, Verdicts>, rule: &Rule) -> Result<Verdicts, AllocError>
+    requires states { rule.now.states ≤ 6 }
+    requires offset { rule.now.offset ≡ pos 0 }
+    requires known { All (IsDecided rule.now.states rule.now.width) known.old.entries }
+    ensures rule { IfOk result (λ verdicts. verdicts.rule ≡ rule.now) }
+    ensures are_true { IfOk result (λ verdicts. AreTrue verdicts) }
+    ensures known { OnOk result (All (IsDecided rule.now.states rule.now.width) known.new.entries) }
+    ensures added { OnOk result (IsAdded rule.now (rules_in known.old.entries) (rules_in known.new.entries)) }
+{
+    let _states = rule.k();
+    let number = number(rule).unwrap();
+    if let Some(verdicts) = known.get(&number).copied() {
+        return Ok(verdicts);
+    }
+    let verdicts = verdicts(rule);
+    keep(known, number, &verdicts)?;
+    Ok(verdicts)
+}
+
+/// Keeps verdicts under a number that has none.
+fn keep(
+    known: &mut IndexMap<u128, Verdicts>,
+    number: u128,
+    verdicts: &Verdicts,
+) -> Result<(), AllocError>
+    requires { get nat_eq known.old number ≡ None }
+    ensures { OnOk result (known.new.entries ≡ known.old.entries ++ (number, verdicts.now) ∷ []) }
+{
+    known.insert(number, *verdicts)?;
+    Ok(())
+}
+
+/// The verdicts of a rule, by those of the least rule of its class. Of the sums of rings that says
+/// nothing, since other names of the letters change them.
+fn of_member(rule: &Rule, mirrored: bool, least: &Verdicts) -> Verdicts
+    ensures rule { result.rule ≡ rule.now }
+    ensures weights { result.weights ≡ own_weights rule.now.states }
+    ensures are_true { HaveOneVerdict rule.now mirrored least.now.rule → AreTrue least.now → AreTrue result }
+{
+    let (right, left) = if mirrored {
+        (least.left, least.right)
+    } else {
+        (least.right, least.left)
+    };
+    let weights = Weights::own(rule.k());
+    Verdicts {
+        rule: *rule,
+        weights,
+        surjective: least.surjective,
+        injective: least.injective,
+        right,
+        left,
+        conserving: is_conserving(rule, &weights),
+    }
+}

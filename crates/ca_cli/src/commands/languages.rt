@@ -1,0 +1,95 @@
+//! The commands on the words that are images.
+ghost use Rattle.std.specs.Prelude.{◌≡◌, ◌<◌, ◌≤◌, ◌++◌, IfOk, OnOk};
+ghost use Rattle.ca_cli.specs.LanguageLines.{IsErasedLine, IsLanguage, automaton_lines, class_line, dead_line};
+ghost use Rattle.ca_cli.specs.Outcomes.{Comes};
+ghost use Rattle.ca_cli.specs.Outputs.{IsCauseOfTwo, IsOutputOfTwo};
+
+use crate::output::Output;
+use crate::stop::Stop;
+use crate::words::request::AskOfTwo;
+use eden_law::erasable;
+use image_minimal::{Minimal, SepFault, separate};
+use least_walk::Walker;
+use pair_graph::Pairs;
+use std::alloc::{AllocError, Global};
+use word_image::Rule;
+
+/// `language R`: the least automaton of the words that have a preimage.
+pub fn language(alloc: Global, rule: &Rule) -> Result<Output, AllocError>
+    ensures { IfOk result (IsLanguage rule.now) }
+{
+    // That the rule keeps the limits is what each of its calls says.
+    let _states = rule.k();
+    let automaton = image_minimal::least(alloc, rule)?;
+    automaton_output(alloc, &automaton)
+}
+
+/// `same R R`: whether the two rules have the same orphans, with the least word that is one of exactly
+/// one of them where they haven't.
+pub fn same(alloc: Global, first: &Rule, second: &Rule) -> Result<Output, Stop>
+    ensures { Comes (IsOutputOfTwo AskOfTwo.Same first.now second.now) (IsCauseOfTwo AskOfTwo.Same first.now second.now) result }
+{
+    let _states = first.k();
+    match separate(alloc, first, second) {
+        Ok(None) => Ok(Output::line(alloc, "same yes")?),
+        Ok(Some(word)) => Ok(Output::named(alloc, "same no ", word.as_slice())?),
+        Err(SepFault::States) => Err(Stop::NotFit(Output::unfit(alloc, "states")?)),
+        Err(SepFault::Memory(fault)) => Err(Stop::Memory(fault)),
+    }
+}
+
+/// `erase R`: the least erasable pair, where the rule isn't surjective.
+pub fn erase(alloc: Global, rule: &Rule) -> Result<Output, AllocError>
+    ensures { IfOk result (IsErasedLine rule.now) }
+{
+    let _states = rule.k();
+    let mut walker = Walker::new(alloc)?;
+    match erasable(alloc, &Pairs::of(rule), &mut walker)? {
+        None => Output::line(alloc, "erase none"),
+        Some(pair) => Output::named_pair(alloc, "erase ", pair.x.as_slice(), pair.y.as_slice()),
+    }
+}
+
+/// The lines of an automaton.
+fn automaton_output(alloc: Global, automaton: &Minimal) -> Result<Output, AllocError>
+    requires { 1 ≤ automaton.now.states }
+    ensures { IfOk result (λ output. output ≡ automaton_lines automaton.now) }
+{
+    let mut output = Output::new(alloc);
+    let len = automaton.len();
+    output.push_line(&format!(in alloc; "classes {len}")?)?;
+    write_dead(alloc, &mut output, automaton)?;
+    for class in 0..len {
+        write_class(alloc, &mut output, automaton, class)?;
+    }
+    Ok(output)
+}
+
+/// Appends the line that names the class of the orphans.
+fn write_dead(alloc: Global, output: &mut Output, automaton: &Minimal) -> Result<(), AllocError>
+    ensures { OnOk result (output.new ≡ output.old ++ dead_line automaton.now.dead) }
+{
+    match automaton.dead() {
+        None => output.push_line("dead none"),
+        Some(class) => output.push_line(&format!(in alloc; "dead {class}")?),
+    }
+}
+
+/// Appends the line of the classes to which a class leads.
+fn write_class(
+    alloc: Global,
+    output: &mut Output,
+    automaton: &Minimal,
+    class: u32,
+) -> Result<(), AllocError>
+    requires class { class < automaton.now.classes }
+    requires letters { 1 ≤ automaton.now.states }
+    ensures { OnOk result (output.new ≡ output.old ++ class_line automaton.now class) }
+{
+    output.push_number(alloc, automaton.next(class, 0))?;
+    for letter in 1..automaton.k() {
+        output.push(b" ")?;
+        output.push_number(alloc, automaton.next(class, letter))?;
+    }
+    output.push(b"\n")
+}

@@ -1,0 +1,186 @@
+//! The commands that count what holds of many rules.
+ghost use Rattle.std.specs.Prelude.{◌≡◌, ℕ, ◌+◌, ◌^◌, ◌<◌, ◌≤◌, None, Some, IfOk, MatchOption, MatchResult, pos};
+ghost use Rattle.std.specs.Option.{option_or};
+ghost use Rattle.word_image.specs.LocalRules.{IsShape};
+ghost use Rattle.rule_text.specs.RuleTexts.{number_fault};
+ghost use Rattle.ca_cli.specs.ClassSummaries.{IsClassSummary, IsClassTally};
+ghost use Rattle.ca_cli.specs.Commands.{BeginsAt, asked_of_many};
+ghost use Rattle.ca_cli.specs.Outcomes.{IsShapeStop};
+ghost use Rattle.ca_cli.specs.Outputs.{IsOutputOfMany, rules_of, rules_fault};
+ghost use Rattle.ca_cli.specs.Samples.{numbered_rule, survey_rules, sample_rules, survey_fault, sample_fault};
+ghost use Rattle.ca_cli.specs.Summaries.{IsSummary, IsTally};
+
+use crate::commands::class_tally::ClassTally;
+use crate::commands::generator::Generator;
+use crate::commands::tally::Tally;
+use crate::output::Output;
+use crate::stop::Stop;
+use crate::words::request::Rules;
+use rule_text::{TextFault, check_shape, numbered};
+use rule_verdicts::verdicts;
+use std::alloc::{AllocError, Global};
+use word_image::Rule;
+
+/// `survey K M FROM COUNT`, `sample K M SEED COUNT`, `classes K M FROM COUNT`: what is counted of COUNT
+/// rules of K states, width M and offset 0, those with the numbers from FROM on, or those that the seed
+/// stands for.
+pub fn summary(alloc: Global, rules: Rules, k: u8, m: u8, count: u16) -> Result<Output, Stop>
+    requires some { 1 ≤ count }
+    requires few { count ≤ 4096 }
+    ensures { (n : ℕ) → BeginsAt rules n → MatchResult result
+        (λ output. (rules_fault (asked_of_many rules) k m n count ≡ None)
+        × IsOutputOfMany (asked_of_many rules) (rules_of (asked_of_many rules) k m n count) output)
+        (IsShapeStop (rules_fault (asked_of_many rules) k m n count)) }
+{
+    match rules {
+        Rules::Survey(from) => survey(alloc, k, m, from, count),
+        Rules::Sample(seed) => sample(alloc, k, m, seed, count),
+        Rules::Classes(from) => classes(alloc, k, m, from, count),
+    }
+}
+
+/// The summary of the rules with so many numbers from this one on.
+fn survey(alloc: Global, k: u8, m: u8, from: Option<u128>, count: u16) -> Result<Output, Stop>
+    requires some { 1 ≤ count }
+    requires few { count ≤ 4096 }
+    ensures { (n : ℕ) → MatchOption from (2 ^ 128 ≤ n) (λ first. first ≡ n) → MatchResult result
+        (λ output. (survey_fault k m n count ≡ None) × IsSummary (survey_rules k m n count) output)
+        (IsShapeStop (survey_fault k m n count)) }
+{
+    let first = first_number(k, m, from, count)?;
+    let mut output = Output::new(alloc);
+    tally_of_numbers(k, m, first, count).write(alloc, &mut output)?;
+    Ok(output)
+}
+
+/// The summary of the first rules that a seed stands for.
+fn sample(alloc: Global, k: u8, m: u8, seed: u64, count: u16) -> Result<Output, Stop>
+    requires few { count ≤ 4096 }
+    ensures { MatchResult result
+        (λ output. (sample_fault k m ≡ None) × IsSummary (sample_rules k m seed count) output)
+        (IsShapeStop (sample_fault k m)) }
+{
+    if let Err(fault) = check_shape(k, m, 0) {
+        return Err(Stop::RuleFault(1, fault));
+    }
+    let mut output = Output::new(alloc);
+    tally_of_draws(k, m, seed, count).write(alloc, &mut output)?;
+    Ok(output)
+}
+
+/// The summary of the rules with so many numbers from this one on, and how many classes they have.
+fn classes(alloc: Global, k: u8, m: u8, from: Option<u128>, count: u16) -> Result<Output, Stop>
+    requires some { 1 ≤ count }
+    requires few { count ≤ 4096 }
+    ensures { (n : ℕ) → MatchOption from (2 ^ 128 ≤ n) (λ first. first ≡ n) → MatchResult result
+        (λ output. (survey_fault k m n count ≡ None) × IsClassSummary (survey_rules k m n count) output)
+        (IsShapeStop (survey_fault k m n count)) }
+{
+    let first = first_number(k, m, from, count)?;
+    let mut output = Output::new(alloc);
+    classes_of_numbers(alloc, k, m, first, count)?.write(alloc, &mut output)?;
+    Ok(output)
+}
+
+/// The first of so many numbers, where each has a rule of this shape; else the stop for the first fault.
+/// None stands for those from 2^128 on.
+fn first_number(k: u8, m: u8, from: Option<u128>, count: u16) -> Result<u128, Stop>
+    requires some { 1 ≤ count }
+    ensures accepted { IfOk result (λ first. survey_fault k m first count ≡ None) }
+    ensures number { (n : ℕ) → MatchOption from (2 ^ 128 ≤ n) (λ first. first ≡ n) → MatchResult result
+        (λ first. first ≡ n)
+        (IsShapeStop (survey_fault k m n count)) }
+{
+    match accepted_number(k, m, from, count) {
+        Ok(first) => Ok(first),
+        Err(fault) => Err(Stop::RuleFault(1, fault)),
+    }
+}
+
+/// The same with the fault itself.
+fn accepted_number(k: u8, m: u8, from: Option<u128>, count: u16) -> Result<u128, TextFault>
+    requires some { 1 ≤ count }
+    ensures accepted { IfOk result (λ first. survey_fault k m first count ≡ None) }
+    ensures number { (n : ℕ) → MatchOption from (2 ^ 128 ≤ n) (λ first. first ≡ n) → MatchResult result
+        (λ first. first ≡ n)
+        (λ fault. survey_fault k m n count ≡ Some fault) }
+{
+    let Some(first) = from else {
+        return Err(fault_past_all(k, m));
+    };
+    let Some(last) = first.checked_add(u128::from(count - 1)) else {
+        return Err(fault_past_all(k, m));
+    };
+    numbered(k, m, 0, last)?;
+    Ok(first)
+}
+
+/// The first fault of numbers so great that no shape has them.
+fn fault_past_all(k: u8, m: u8) -> TextFault
+    ensures { (number : ℕ) → 2 ^ 128 ≤ number →
+        option_or (sample_fault k m) (number_fault k m number) ≡ Some result }
+{
+    match numbered(k, m, 0, 0) {
+        Ok(_) => TextFault::Number,
+        Err(fault) => fault,
+    }
+}
+
+/// Counts what holds of the rules with so many numbers from this one on.
+fn tally_of_numbers(k: u8, m: u8, first: u128, count: u16) -> Tally
+    requires accepted { survey_fault k m first count ≡ None }
+    requires few { count ≤ 4096 }
+    ensures { IsTally (survey_rules k m first count) result }
+{
+    let mut tally = Tally::new();
+    for i in 0..count {
+        tally.add(&verdicts(&surveyed(k, m, first, count, i)));
+    }
+    tally
+}
+
+/// Counts what holds of these rules by their classes.
+fn classes_of_numbers(
+    alloc: Global,
+    k: u8,
+    m: u8,
+    first: u128,
+    count: u16,
+) -> Result<ClassTally, AllocError>
+    requires accepted { survey_fault k m first count ≡ None }
+    requires few { count ≤ 4096 }
+    ensures { IfOk result (IsClassTally k m (survey_rules k m first count)) }
+{
+    let mut tally = ClassTally::new(alloc);
+    for place in 0..count {
+        tally.add(&surveyed(k, m, first, count, place))?;
+    }
+    Ok(tally)
+}
+
+/// The rule at this place of so many that have a number.
+fn surveyed(k: u8, m: u8, first: u128, count: u16, place: u16) -> Rule
+    requires accepted { survey_fault k m first count ≡ None }
+    requires place { place < count }
+    ensures { result ≡ numbered_rule k m (first + place) }
+{
+    match numbered(k, m, 0, first + u128::from(place)) {
+        Ok(rule) => rule,
+        Err(_) => unreachable!(),
+    }
+}
+
+/// Counts what holds of the first rules that a seed stands for.
+fn tally_of_draws(k: u8, m: u8, seed: u64, count: u16) -> Tally
+    requires shape { IsShape k m (pos 0) }
+    requires few { count ≤ 4096 }
+    ensures { IsTally (sample_rules k m seed count) result }
+{
+    let mut generator = Generator::from_seed(seed);
+    let mut tally = Tally::new();
+    for _i in 0..count {
+        let rule = generator.rule(k, m);
+        tally.add(&verdicts(&rule));
+    }
+    tally
+}
