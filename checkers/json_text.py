@@ -3,105 +3,142 @@
 That one takes NaN and Infinity, numbers that no double holds, escaped surrogates without their other half,
 and encodings other than UTF-8; it has its own bounds for the length of a whole number and for how deep
 brackets stand; and -0 is whole to it. That the last of members with one key counts is so there too.
+
+`read` gives the value of bytes: a dict, list, str, True, False or None. Of numbers only the signed whole ones
+become an int; every other number (1.0, 1e0, -0, 2^64) becomes a float, which nobody asks for.
 """
+import math
 import re
 
-DEEPEST = 127  # brackets and braces that are open at one place
-
-
-class NotJson(ValueError):
-    """The bytes aren't JSON. Bytes that aren't UTF-8 are another ValueError."""
-
+DEPTH = 127                                     # brackets and braces that may be open at one place
 
 BLANKS = re.compile(r"[ \t\n\r]*")
-NUMBER = re.compile(r"-?(?:0|[1-9][0-9]*)(\.[0-9]+)?([eE][+-]?[0-9]+)?")
+NUMBER = re.compile(r"-?(?:0|[1-9][0-9]*)(?:\.[0-9]+)?(?:[eE][+-]?[0-9]+)?")
+WHOLE = re.compile(r"-?[0-9]{1,20}")
+LISTED = re.compile(r"(0|[1-9][0-9]{0,17})[ \t\n\r]*,[ \t\n\r]*")
 PLAIN = re.compile(r'[^"\\\x00-\x1f]*')
-ESCAPE = re.compile(r"\\(?:u([0-9a-fA-F]{4})|(.))", re.DOTALL)
-ESCAPES = {'"': '"', "\\": "\\", "/": "/", "b": "\b", "f": "\f", "n": "\n", "r": "\r", "t": "\t"}
-NAMES = {"null": None, "true": True, "false": False}
+ESCAPE = re.compile(r'\\(?:(["\\/bfnrt])'
+                    r"|u([dD][89abAB][0-9a-fA-F]{2})\\u([dD][c-fC-F][0-9a-fA-F]{2})"
+                    r"|u([0-9a-fA-F]{4}))")
+SHORT = {'"': '"', "\\": "\\", "/": "/", "b": "\b", "f": "\f", "n": "\n", "r": "\r", "t": "\t"}
+NAMES = {"true": True, "false": False, "null": None}
 
 
-def read_json(data):
-    """The value of bytes. Whole and signed whole numbers below 2^64 are int, all others float."""
-    text = data.decode("utf-8")
-    value, at = read_value(text, 0, DEEPEST)
-    if skip(text, at) < len(text):
+class NotJson(Exception):
+    pass
+
+
+def read(data):
+    try:
+        text = data.decode("utf-8")             # strict, and a byte order mark stays: it isn't a blank
+    except UnicodeDecodeError:
+        raise NotJson
+    value, place = read_value(text, skip(text, 0), 0)
+    if skip(text, place) != len(text):
         raise NotJson
     return value
 
 
-def skip(text, at):
-    return BLANKS.match(text, at).end()
+def skip(text, place):
+    return BLANKS.match(text, place).end()
 
 
-def read_value(text, at, room):
-    """The value behind a place, and the place behind it, where so many brackets may still open."""
-    at = skip(text, at)
-    if number := NUMBER.match(text, at):
-        return read_number(number), number.end()
-    if text.startswith('"', at):
-        return read_string(text, at)
-    if text.startswith("[", at) and room:
-        return read_entries(text, at + 1, "]", lambda at: read_value(text, at, room - 1))
-    if text.startswith("{", at) and room:
-        members, at = read_entries(text, at + 1, "}", lambda at: read_member(text, at, room - 1))
-        return dict(members), at
-    for name, value in NAMES.items():
-        if text.startswith(name, at):
-            return value, at + len(name)
-    raise NotJson
+# Each reader below takes the place where its value begins, and gives the value and the place behind it;
+# depth counts the brackets and braces that are open there.
 
-
-def read_number(number):
-    digits, point, exponent = number.group(0, 1, 2)
-    if not point and not exponent and digits != "-0" and len(digits) <= 20 and int(digits) < 2**64:
-        return int(digits)
-    if abs(float(digits)) == float("inf"):
-        raise NotJson
-    return float(digits)
-
-
-def read_entries(text, at, close, read):
-    """What stands up to a closing bracket with commas between."""
-    entries = []
-    if text.startswith(close, skip(text, at)):
-        return entries, skip(text, at) + 1
-    while True:
-        entry, at = read(at)
-        entries.append(entry)
-        at = skip(text, at)
-        if text.startswith(close, at):
-            return entries, at + 1
-        if not text.startswith(",", at):
+def read_value(text, place, depth):
+    first = text[place:place + 1]
+    if first == '"':
+        return read_string(text, place)
+    if first in ("[", "{"):
+        if depth == DEPTH:
             raise NotJson
-        at += 1
+        return (read_array if first == "[" else read_object)(text, place, depth + 1)
+    for name, value in NAMES.items():
+        if text.startswith(name, place):
+            return value, place + len(name)
+    return read_number(text, place)
 
 
-def read_member(text, at, room):
-    key, at = read_string(text, skip(text, at))
-    at = skip(text, at)
-    if not text.startswith(":", at):
+def read_number(text, place):
+    match = NUMBER.match(text, place)
+    if not match:
         raise NotJson
-    value, at = read_value(text, at + 1, room)
-    return (key, value), at
-
-
-def read_string(text, at):
-    if not text.startswith('"', at):
+    digits = match[0]
+    if WHOLE.fullmatch(digits) and digits != "-0" and abs(int(digits)) < 2 ** 64:
+        return int(digits), match.end()
+    value = float(digits)                       # the nearest double
+    if math.isinf(value):
         raise NotJson
-    end = PLAIN.match(text, at + 1).end()
-    while text.startswith("\\", end):
-        end = PLAIN.match(text, end + 2).end()
-    if not text.startswith('"', end):
-        raise NotJson
-    units = ESCAPE.sub(read_escape, text[at + 1:end])
-    # Two surrogates become one character, and one alone is an error.
-    return units.encode("utf-16-le", "surrogatepass").decode("utf-16-le"), end + 1
+    return value, match.end()
 
 
-def read_escape(escape):
-    if escape[1]:
-        return chr(int(escape[1], 16))
-    if escape[2] not in ESCAPES:
+def read_string(text, place):
+    parts = []
+    place += 1
+    while True:
+        run = PLAIN.match(text, place)
+        parts.append(run[0])
+        place = run.end()
+        if text[place:place + 1] == '"':
+            return "".join(parts), place + 1
+        escape = ESCAPE.match(text, place)
+        if not escape:
+            raise NotJson
+        short, high, low, single = escape.groups()
+        if short:
+            parts.append(SHORT[short])
+        elif high:
+            parts.append(chr(0x10000 + (int(high, 16) - 0xD800) * 0x400 + int(low, 16) - 0xDC00))
+        elif 0xD800 <= int(single, 16) <= 0xDFFF:
+            raise NotJson
+        else:
+            parts.append(chr(int(single, 16)))
+        place = escape.end()
+
+
+def read_array(text, place, depth):
+    items = []
+    place = skip(text, place + 1)
+    if text[place:place + 1] == "]":
+        return items, place + 1
+    while True:
+        match = LISTED.match(text, place)       # a short cut for long lists: short whole numbers, each
+        while match:                            # with the comma behind it
+            items.append(int(match[1]))
+            place = match.end()
+            match = LISTED.match(text, place)
+        item, place = read_value(text, place, depth)
+        items.append(item)
+        place, more = read_comma(text, place, "]")
+        if not more:
+            return items, place
+
+
+def read_object(text, place, depth):
+    members = {}
+    place = skip(text, place + 1)
+    if text[place:place + 1] == "}":
+        return members, place + 1
+    while True:
+        if text[place:place + 1] != '"':
+            raise NotJson
+        key, place = read_string(text, place)
+        place = skip(text, place)
+        if text[place:place + 1] != ":":
+            raise NotJson
+        members[key], place = read_value(text, skip(text, place + 1), depth)    # the last one counts
+        place, more = read_comma(text, place, "}")
+        if not more:
+            return members, place
+
+
+def read_comma(text, place, close):
+    """Behind a comma the place of the next item and True, behind the closing bracket its place and False."""
+    place = skip(text, place)
+    mark = text[place:place + 1]
+    if mark == close:
+        return place + 1, False
+    if mark != ",":
         raise NotJson
-    return ESCAPES[escape[2]]
+    return skip(text, place + 1), True

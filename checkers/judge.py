@@ -1,360 +1,367 @@
 #!/usr/bin/env python3
-"""A checker of certificates of cellular automata that follows docs/CERTIFICATES.md and nothing else.
+"""Judges a certificate of a cellular automaton, as docs/CERTIFICATES.md tells it and nothing else.
 
-It reads a certificate from standard input and prints what is said of it. The exit status is 0 where it is
-accepted, 1 where it is refused, 5 where it is too long, and 6 where it can't be read. The words are those
-of that page; the steps of the shape and the conditions stand in the order of its tables.
+    python3 judge.py < certificate.json
+
+The exit status is 0 where it is accepted, 1 where it is refused, 5 where it is too long, and 6 where it can't
+be read. The steps of the shape and the conditions stand in the order of that page's tables.
 """
+import os
 import re
 import sys
-from collections import namedtuple
 
-from json_text import read_json
+import json_text
 
-LONGEST = 4_194_304  # bytes that are judged
-
-Rule = namedtuple("Rule", "k m o table N")
-# surjective, injective, right, left and conserving are pairs: a key, and the evidence that it holds.
-Certificate = namedtuple(
-    "Certificate", "version rule surjective injective right left conserving weights forward backward")
+LIMIT = 4194304                                 # bytes of the input
+PART = 1024                                     # digits of a part of a TAIL
+TABLE = re.compile(r"([0-9]{1,2}):([0-9]{1,2}):(-?[0-9]{1,2}):(?:t([0-9a-fA-F]*)|w([0-9]{1,39}))")
+BARE = re.compile(r"[0-9]{1,39}")
+BEGUN = [re.compile(r"[0-9]{0,39}"),            # what begins a text of some form
+         re.compile(r"[0-9]{1,2}(:([0-9]{1,2}(:(-?([0-9]{1,2}(:(t[0-9a-fA-F]*|w[0-9]{0,39})?)?)?)?)?)?)?|")]
+HEX = "0123456789abcdef"
+VALUE = bytes(int(chr(c), 16) if chr(c) in HEX + HEX.upper() else 255 for c in range(256))
 
 
 class Refused(Exception):
     """The certificate is refused with these words."""
 
 
-def ask(holds, words):
+class Misshapen(Exception):
+    """A part of the certificate hasn't its shape."""
+
+
+def ask(holds, *refusal):
     """Refuses with these words where something doesn't hold."""
     if not holds:
-        raise Refused(words)
+        raise Refused(" ".join(map(str, refusal)))
 
 
-# The text of a rule.
+def need(holds):
+    if not holds:
+        raise Misshapen
 
-DIGITS = {digit: int(digit, 16) for digit in "0123456789abcdefABCDEF"}
-BARE = re.compile(r"[0-9]{1,39}")
-FORM = re.compile(r"([0-9]{1,2}):([0-9]{1,2}):(-?[0-9]{1,2}):(?:t([0-9a-fA-F]*)|w([0-9]{1,39}))")
-# As much as is there of a text of the bare form, and of one of the other forms.
-BEGUN = [re.compile(r"[0-9]{0,39}"), re.compile(
-    r"(?:[0-9]{1,2}(?::(?:[0-9]{1,2}(?::(?:-?(?:[0-9]{1,2}(?::(?:t[0-9a-fA-F]*|w[0-9]{0,39})?)?)?)?)?)?)?)?")]
+
+# The rule
+
+class Rule:
+    def __init__(self, k, m, offset, f):
+        self.k, self.m, self.offset, self.f = k, m, offset, f
+        self.N = N = k ** (m - 1)
+        letters, nodes = range(k), range(N)
+        # leads[P]: all (a, b, Q) such that on the letters a and b the pair P leads to the pair Q
+        self.leads = [[(a, b, (u * k + a) % N * N + (v * k + b) % N) for a in letters for b in letters
+                       if f[u * k + a] == f[v * k + b]] for u in nodes for v in nodes]
+        self.first_right = sorted({Q for u in nodes for a, b, Q in self.leads[u * N + u] if a != b})
+        rest = N // k                           # the nodes u and v differ in their first letter alone
+        self.first_left = [u * N + v for u in nodes for v in nodes if u != v and u % rest == v % rest
+                           and any(a == b for a, b, Q in self.leads[u * N + v])]
+
+    def text(self):
+        return "%d:%d:%d:t%s" % (self.k, self.m, self.offset, "".join(HEX[a] for a in self.f))
+
+    def steps(self):
+        """A table for each letter: the step of each set on it.  The sets of the nodes 0 to u are those of
+        the nodes below u, first without u and then with it."""
+        tables = []
+        for label in range(self.k):
+            table = [0]
+            for u in range(self.N):
+                ends = 0
+                for a in range(self.k):
+                    if self.f[u * self.k + a] == label:
+                        ends |= 1 << (u * self.k + a) % self.N
+                table += [step | ends for step in table]
+            tables.append(table)
+        return tables
+
+    def image(self, word):
+        k, N, f = self.k, self.N, self.f
+        labels, node = bytearray(), 0
+        for a in word:
+            window = node * k + a
+            labels.append(f[window])
+            node = window % N
+        return labels[self.m - 1:]              # before that the windows aren't full
+
+    def ring_image(self, word):
+        return self.image(word + bytes(word[i % len(word)] for i in range(self.m - 1)))
 
 
 def read_rule(text):
-    """The rule of a text, which is else refused for its first fault."""
-    if BARE.fullmatch(text):
-        text = "2:3:-1:w" + text
-    form = FORM.fullmatch(text)
-    ask(form, f"format rule form {max(begun.match(text).end() for begun in BEGUN)}")
-    k, m, o = map(int, form.group(1, 2, 3))
+    form = TABLE.fullmatch(text) or BARE.fullmatch(text) and TABLE.fullmatch("2:3:-1:w" + text)
+    ask(form, "format rule form", max(begun.match(text).end() for begun in BEGUN))
+    k, m, offset = int(form[1]), int(form[2]), int(form[3])
+    digits, number = form[4], form[5]
     ask(2 <= k <= 16, "format rule states")
     ask(2 <= m <= 5, "format rule width")
     ask(k ** (m - 1) <= 16, "format rule nodes")
-    ask(-16 <= o and o + m - 1 <= 16, "format rule offset")
-    if form[4] is None:
-        ask(k <= 6, "format rule kind")
-        ask(int(form[5]) < k ** k**m, "format rule number")
-        return Rule(k, m, o, [int(form[5]) // k**w % k for w in range(k**m)], k ** (m - 1))
-    ask(len(form[4]) == k**m, "format rule length")
-    for place, digit in enumerate(form[4], form.start(4)):
-        ask(DIGITS[digit] < k, f"format rule letter {place}")
-    return Rule(k, m, o, [DIGITS[digit] for digit in form[4]], k ** (m - 1))
+    ask(-16 <= offset and offset + m - 1 <= 16, "format rule offset")
+    if digits is None:
+        ask(k < 7, "format rule kind")
+        ask(int(number) < k ** k ** m, "format rule number")
+        return Rule(k, m, offset, [int(number) // k ** w % k for w in range(k ** m)])
+    ask(len(digits) == k ** m, "format rule length")
+    f = [int(digit, 16) for digit in digits]
+    for place, letter in enumerate(f):
+        ask(letter < k, "format rule letter", form.start(4) + place)
+    return Rule(k, m, offset, f)
 
 
-# The shape. Each of these gives the evidence that a value is, and None where it is none.
+# The shape: each reader gives the evidence of a value, or raises Misshapen
 
 def whole(value, least, most):
-    return value if type(value) is int and least <= value <= most else None
+    need(type(value) is int and least <= value <= most)
+    return value
+
+
+def array(value, length=None):
+    need(type(value) is list and length in (None, len(value)))
+    return value
 
 
 def numbers(value, least, most, length=None):
-    if type(value) is not list or length not in (None, len(value)):
-        return None
-    return value if all(type(item) is int and least <= item <= most for item in value) else None
-
-
-def claims(value, length):
-    if type(value) is not list or len(value) != length:
-        return None
-    return value if all(item is None or whole(item, 0, 65_535) is not None for item in value) else None
+    need(all(type(item) is int and least <= item <= most for item in array(value, length)))
+    return value
 
 
 def word(value, k):
-    letters = [DIGITS.get(digit, k) for digit in value] if type(value) is str else [k]
-    return letters if max(letters, default=0) < k else None
+    need(type(value) is str and value.isascii())
+    letters = value.encode().translate(VALUE)
+    need(max(letters, default=0) < k)
+    return letters
 
 
 def tail(value, k):
-    parts = [word(part, k) for part in value.split("|")] if type(value) is str else []
-    if len(parts) != 3 or None in parts or not parts[0] or not parts[2]:
-        return None
-    return parts if max(map(len, parts)) <= 1024 else None
+    need(type(value) is str)
+    parts = [word(part, k) for part in value.split("|")]
+    need(len(parts) == 3 and all(len(part) <= PART for part in parts) and parts[0] and parts[2])
+    return parts
 
 
-def two(value, read, k):
-    both = [read(item, k) for item in value] if type(value) is list and len(value) == 2 else [None]
-    return None if None in both else both
+def keys(value, *sets):
+    """The keys of an object that has exactly the keys of one of the sets."""
+    need(type(value) is dict and set(value) in [set(names.split()) for names in sets])
+    return value
 
 
-def window(c, n, m):
-    if whole(n, 1, 65_535) is None or whole(c, 0, min(n + m - 2, 65_535)) is None:
-        return None
-    return c, n
+def read_surjective(value, rule, version):
+    keys(value, "sets", "orphan", *["pairs"] * (version == 3))
+    if "sets" in value:
+        return {"sets": numbers(value["sets"], 0, 2 ** rule.N - 1)}
+    if "pairs" in value:
+        return {"pairs": numbers(value["pairs"], 0, rule.N ** 2 - 1)}
+    return {"orphan": word(value["orphan"], rule.k)}
 
 
-def part(top, key, forms):
-    """The evidence of a key, by forms that say for the keys of an object what they hold."""
-    value = top.get(key)
-    if type(value) is dict:
-        for names, read in forms.items():
-            if value.keys() == set(names.split()):
-                evidence = read(*[value[name] for name in names.split()])
-                if evidence is not None:
-                    return names, evidence
-    raise Refused(f"format shape {key}")
+def read_injective(value, rule):
+    if "twins" in keys(value, "c n", "twins"):
+        return {"twins": [word(item, rule.k) for item in array(value["twins"], 2)]}
+    n = whole(value["n"], 1, 65535)
+    return {"n": n, "c": whole(value["c"], 0, min(n + rule.m - 2, 65535))}
 
 
-def read_certificate(data):
-    try:
-        top = read_json(data)
-    except ValueError:
-        raise Refused("format notjson") from None
-    ask(type(top) is dict, "format shape top")
-    version, text = top.get("version"), top.get("rule")
-    ask(whole(version, 0, 2**64 - 1) is not None, "format shape version")
-    ask(version in (1, 2, 3), f"format version {version}")
-    ask(type(text) is str, "format shape rule")
-    rule = read_rule(text)
-    k, m, N = rule.k, rule.m, rule.N
-    surjective = {"sets": lambda x: numbers(x, 0, 2**N - 1), "orphan": lambda x: word(x, k)}
-    if version == 3:
-        surjective["pairs"] = lambda x: numbers(x, 0, N * N - 1)
-    injective = {"c n": lambda c, n: window(c, n, m), "twins": lambda x: two(x, word, k)}
-    side = {"ahead": lambda x: whole(x, 1, 65_535), "split": lambda x: two(x, tail, k)}
-    conserving = {"flux": lambda x: numbers(x, -1_000_000, 1_000_000, N), "ring": lambda x: word(x, k)}
-    parts = [part(top, *step) for step in [
-        ("surjective", surjective), ("injective", injective), ("right", side), ("left", side),
-        ("conserving", conserving)]]
-    own, named = list(range(k)), version >= 2 and "weights" in top
-    weights = numbers(top["weights"], 0, 255, k) if named else own
-    ask(weights is not None, "format shape weights")
-    _, ranks = part(top, "ranks", {"forward backward": lambda x, y: two([x, y], claims, N * N)})
-    keys = {"version", "rule", "surjective", "injective", "right", "left", "conserving", "ranks"}
-    ask(top.keys() <= (keys | {"weights"} if version >= 2 else keys), "format shape unknown")
-    return Certificate(version, rule, *parts, weights, *ranks)
+def read_closing(value, rule):
+    if "ahead" in keys(value, "ahead", "split"):
+        return {"ahead": whole(value["ahead"], 1, 65535)}
+    return {"split": [tail(item, rule.k) for item in array(value["split"], 2)]}
 
 
-# The graph of a rule.
-
-def steps_of_pairs(rule):
-    """For each pair, by its number, all (a, b, q) where it leads to the pair q on the letters a and b."""
-    def edges(u):
-        windows = range(u * rule.k, (u + 1) * rule.k)
-        return [(a, rule.table[w], w % rule.N) for a, w in enumerate(windows)]
-    return [[(a, b, x * rule.N + y) for a, label, x in edges(u) for b, other, y in edges(v) if label == other]
-            for u in range(rule.N) for v in range(rule.N)]
+def read_conserving(value, rule):
+    if "flux" in keys(value, "flux", "ring"):
+        return {"flux": numbers(value["flux"], -1000000, 1000000, rule.N)}
+    return {"ring": word(value["ring"], rule.k)}
 
 
-def first_pairs(rule, leads, side):
-    """The first pairs of a side, ascending."""
-    if side == "right":
-        return sorted({q for u in range(rule.N) for a, b, q in leads[u * rule.N + u] if a != b})
-    rest = rule.N // rule.k  # a node modulo this is the node without its first letter
-    return [p for p, (u, v) in enumerate((u, v) for u in range(rule.N) for v in range(rule.N))
-            if u != v and u % rest == v % rest and any(a == b for a, b, _ in leads[p])]
+def read_ranks(value, rule):
+    for side in keys(value, "backward forward").values():
+        for claim in array(side, rule.N ** 2):
+            need(claim is None or whole(claim, 0, 65535) is not None)
+    return value
 
 
-def steps_of_sets(rule):
-    """What gives for a set the list of its steps on the letters 0 to k - 1."""
-    known = {0: [0] * rule.k} | {1 << u: [0] * rule.k for u in range(rule.N)}
-    for w, label in enumerate(rule.table):
-        known[1 << w // rule.k][label] |= 1 << w % rule.N
+class Certificate:
+    def __init__(self, data):
+        try:
+            top = json_text.read(data)
+        except json_text.NotJson:
+            raise Refused("format notjson")
+        ask(type(top) is dict, "format shape top")
 
-    def steps(nodes):
-        if nodes not in known:
-            least = nodes & -nodes
-            known[nodes] = [x | y for x, y in zip(steps(nodes ^ least), known[least])]
-        return known[nodes]
-    return steps
+        def shape(key, read, *more):
+            try:
+                need(key in top)
+                return read(top[key], *more)
+            except Misshapen:
+                raise Refused("format shape " + key)
+
+        self.version = version = shape("version", whole, 0, 2 ** 64 - 1)
+        ask(version in (1, 2, 3), "format version", version)
+        ask(type(top.get("rule")) is str, "format shape rule")
+        self.rule = rule = read_rule(top["rule"])
+        self.surjective = shape("surjective", read_surjective, rule, version)
+        self.injective = shape("injective", read_injective, rule)
+        self.right = shape("right", read_closing, rule)
+        self.left = shape("left", read_closing, rule)
+        self.conserving = shape("conserving", read_conserving, rule)
+        known = {"version", "rule", "surjective", "injective", "right", "left", "conserving", "ranks"}
+        self.weights = list(range(rule.k))
+        if version >= 2 and "weights" in top:
+            self.weights = shape("weights", numbers, 0, 255, rule.k)
+            known.add("weights")
+        self.ranks = shape("ranks", read_ranks, rule)
+        ask(set(top) <= known, "format shape unknown")
 
 
-def image(rule, letters):
-    """The image of a word."""
-    value, labels = 0, []
-    for letter in letters:
-        value = (value * rule.k + letter) % rule.k**rule.m
-        labels.append(rule.table[value])
-    return labels[rule.m - 1:]
-
-
-def ring_image(rule, ring):
-    return image(rule, ring + [ring[i % len(ring)] for i in range(rule.m - 1)])
-
-
-# The conditions.
+# The conditions
 
 def below(claim, number):
     return claim is not None and claim < number
 
 
-def first_places(items):
-    """The different items of a list, each with its first place."""
-    seen = set()
-    for place, item in enumerate(items):
-        if item not in seen:
-            seen.add(item)
-            yield place, item
+def judge_ranks(rule, forward, backward):
+    behind = [{Q for a, b, Q in leads} for leads in rule.leads]
+    for P, r in enumerate(forward):
+        ask(r is None or all(below(forward[Q], r) for Q in behind[P]), "rank right", P)
+    for P, r in enumerate(backward):
+        ask(r is None or all(below(backward[Q], r) for Q in range(rule.N ** 2) if P in behind[Q]),
+            "rank left", P)
 
 
-def check_claims(leads, forward, backward):
-    for p, claim in enumerate(forward):
-        ask(claim is None or all(below(forward[q], claim) for _, _, q in leads[p]), f"rank right {p}")
-    high = {q for p, steps in enumerate(leads) for _, _, q in steps
-            if backward[q] is not None and not below(backward[p], backward[q])}
-    ask(not high, f"rank left {min(high, default=0)}")
-
-
-def check_sets(rule, version, sets):
-    ask(2**rule.N - 1 in sets, "nofull")
-    ask(0 not in sets, f"emptyset {sets.index(0) if 0 in sets else 0}")
-    kept = bytearray(2**rule.N)  # whether a step of a listed set may be this set
-    for nodes in sets:
-        kept[nodes] = 1
+def judge_sets(rule, sets, version):
+    full = 2 ** rule.N - 1
+    ask(full in sets, "nofull")
+    if 0 in sets:
+        raise Refused("emptyset %d" % sets.index(0))
+    good = bytearray(full + 1)                  # the sets that a step may be
+    for s in sets:
+        good[s] = 1
     if version >= 2:
-        for nodes in range(2**rule.N):
-            for u in range(rule.N):
-                kept[nodes] |= kept[nodes & ~(1 << u)]
-    steps = steps_of_sets(rule)
-    for place, nodes in first_places(sets):
-        for a, step in enumerate(steps(nodes)):
-            ask(kept[step], f"notclosed {place} {a}")
+        for u in range(rule.N):
+            for s in range(full + 1):
+                if s >> u & 1 and good[s ^ 1 << u]:
+                    good[s] = 1
+    steps = rule.steps()
+    for s in dict.fromkeys(sets):               # each set once, by its first place
+        for a in range(rule.k):
+            if not good[steps[a][s]]:
+                raise Refused("notclosed %d %d" % (sets.index(s), a))
 
 
-def check_pairs(rule, leads, pairs):
-    listed = set(pairs)
-    for p in first_pairs(rule, leads, "right"):
-        ask(p in listed, f"nofirst {p}")
-    for place, p in first_places(pairs):
-        ask(p // rule.N != p % rule.N, f"diagonal {place}")
-    for place, p in first_places(pairs):
-        for a, b, q in leads[p]:
-            ask(q in listed, f"leaves {place} {a} {b}")
+def judge_pairs(rule, pairs):
+    place = {}                                  # each pair once, with its first place
+    for i, P in enumerate(pairs):
+        place.setdefault(P, i)
+    for P in rule.first_right:
+        ask(P in place, "nofirst", P)
+    for P in place:
+        ask(P // rule.N != P % rule.N, "diagonal", place[P])
+    for P in place:
+        for a, b, Q in rule.leads[P]:
+            ask(Q in place, "leaves", place[P], a, b)
 
 
-def check_orphan(rule, letters):
-    steps, nodes = steps_of_sets(rule), 2**rule.N - 1
-    for a in letters:
-        nodes = steps(nodes)[a]
-    ask(nodes == 0, "orphan")
+def judge_orphan(rule, orphan):
+    steps, s = rule.steps(), 2 ** rule.N - 1
+    for a in orphan:
+        s = steps[a][s]
+    ask(s == 0, "orphan")
 
 
-def check_window(rule, forward, backward, c, n):
+def judge_window(rule, c, n, forward, backward):
     j = min(c, n)
-    unit = rule.k ** (rule.m - 2 - (c - j))  # the value of a letter 1 at place c - j of a node
-    for p in range(rule.N**2):
-        one_letter = p // rule.N // unit % rule.k == p % rule.N // unit % rule.k
-        ask(one_letter or below(backward[p], j) or below(forward[p], n - j), f"window {p}")
+    power = rule.k ** (rule.m - 2 - (c - j))    # letter c - j of node u is u // power % k
+    for P in range(rule.N ** 2):
+        u, v = divmod(P, rule.N)
+        ask(u // power % rule.k == v // power % rule.k or below(backward[P], j) or below(forward[P], n - j),
+            "window", P)
 
 
-def check_twins(rule, x, y):
-    ask(len(x) == len(y) > 0, "twins length")
+def judge_twins(rule, x, y):
+    ask(len(x) == len(y) != 0, "twins length")
     ask(x != y, "twins same")
-    ask(ring_image(rule, x) == ring_image(rule, y), "twins image")
+    ask(rule.ring_image(x) == rule.ring_image(y), "twins image")
 
 
-def cells(config, low, high):
-    """The cells of a configuration from place low, below 0, up to the one before high."""
-    left, middle, right = config
-    return ([left[i % len(left)] for i in range(low, 0)] + middle
-            + [right[i % len(right)] for i in range(high - len(middle))])
-
-
-def check_split(rule, side, x, y):
-    """Two periods p and q that agree on p + q cells agree for ever. So p + q cells are looked at before
-    cell 0 and as many behind both middles; and of images as many of which each reads one side alone."""
-    middle = max(len(x[1]), len(y[1]))
-    low, high = -len(x[0]) - len(y[0]), middle + len(x[2]) + len(y[2])
-    first, last = (low, 0) if side == "right" else (middle, high)
-    ask(cells(x, low, high) != cells(y, low, high), f"split {side} same")
-    ask(cells(x, low, high)[first - low:last - low] == cells(y, low, high)[first - low:last - low],
-        f"split {side} apart")
-    low, high = low - (rule.m - 1), high + rule.m - 1
-    ask(image(rule, cells(x, low, high)) == image(rule, cells(y, low, high)), f"split {side} image")
-
-
-def check_side(rule, leads, side, key, evidence, claimed):
-    if key == "split":
-        check_split(rule, side, *evidence)
+def judge_closing(rule, side, evidence, first_pairs, claims):
+    if "ahead" in evidence:
+        for P in first_pairs:
+            ask(below(claims[P], evidence["ahead"] - 1), "ahead", side, P)
         return
-    for p in first_pairs(rule, leads, side):
-        ask(below(claimed[p], evidence - 1), f"ahead {side} {p}")
+    # Before cell 0 and from cell PART on both configurations have periods p, q <= PART, and so have their
+    # images, but for m - 1 <= 4 cells before 0.  So 2*PART cells on each side tell of all.
+    before, behind = 2 * PART + 4, 3 * PART + 4
+    x, y = [(L * before)[-before:] + (M + R * behind)[:behind] for L, M, R in evidence["split"]]
+    apart = slice(0, before) if side == "right" else slice(before + PART, None)
+    ask(x != y, "split", side, "same")
+    ask(x[apart] == y[apart], "split", side, "apart")
+    ask(rule.image(x) == rule.image(y), "split", side, "image")
 
 
-def check_conserving(rule, weights, key, evidence):
+def judge_flux(rule, phi, weights):
+    for w, letter in enumerate(rule.f):
+        ask(weights[letter] - weights[w // rule.N] == phi[w // rule.k] - phi[w % rule.N], "flux", w)
+
+
+def judge_ring(rule, ring, weights):
     def total(letters):
-        return sum(weights[letter] for letter in letters)
-    if key == "ring":
-        ask(evidence and total(evidence) != total(ring_image(rule, evidence)), "ring")
-        return
-    for w, label in enumerate(rule.table):
-        flow = evidence[w // rule.k] - evidence[w % rule.N]
-        ask(weights[label] - weights[w // rule.N] == flow, f"flux {w}")
+        return sum(weights[a] for a in letters)
+    ask(ring and total(ring) != total(rule.ring_image(ring)), "ring")
 
 
-def check_all(cert):
-    rule, leads = cert.rule, steps_of_pairs(cert.rule)
-    check_claims(leads, cert.forward, cert.backward)
-    key, evidence = cert.surjective
-    if key == "sets":
-        check_sets(rule, cert.version, evidence)
-    elif key == "pairs":
-        check_pairs(rule, leads, evidence)
+def conditions(it):
+    """Judges a certificate by all conditions, and gives the lines that accept it."""
+    rule, forward, backward = it.rule, it.ranks["forward"], it.ranks["backward"]
+    judge_ranks(rule, forward, backward)
+    if "sets" in it.surjective:
+        judge_sets(rule, it.surjective["sets"], it.version)
+    elif "pairs" in it.surjective:
+        judge_pairs(rule, it.surjective["pairs"])
     else:
-        check_orphan(rule, evidence)
-    key, evidence = cert.injective
-    if key == "twins":
-        check_twins(rule, *evidence)
+        judge_orphan(rule, it.surjective["orphan"])
+    if "n" in it.injective:
+        judge_window(rule, it.injective["c"], it.injective["n"], forward, backward)
     else:
-        check_window(rule, cert.forward, cert.backward, *evidence)
-    check_side(rule, leads, "right", *cert.right, cert.forward)
-    check_side(rule, leads, "left", *cert.left, cert.backward)
-    check_conserving(rule, cert.weights, *cert.conserving)
-
-
-# The answer.
-
-def accepted(cert):
-    rule, right, left = cert.rule, cert.right[0] == "ahead", cert.left[0] == "ahead"
-    verdicts = {"surjective": cert.surjective[0] != "orphan", "injective": cert.injective[0] == "c n",
-                "right": right, "left": left, "open": right and left,
-                "conserving": cert.conserving[0] == "flux"}
-    table = "".join(f"{letter:x}" for letter in rule.table)
-    lines = [f"accepted {rule.k}:{rule.m}:{rule.o}:t{table}"]
-    lines += [f"{name} {'yes' if holds else 'no'}" for name, holds in verdicts.items()]
-    if cert.weights != list(range(rule.k)):
-        lines.append("weights " + ",".join(map(str, cert.weights)))
-    return "\n".join(lines) + "\n"
+        judge_twins(rule, *it.injective["twins"])
+    judge_closing(rule, "right", it.right, rule.first_right, forward)
+    judge_closing(rule, "left", it.left, rule.first_left, backward)
+    if "flux" in it.conserving:
+        judge_flux(rule, it.conserving["flux"], it.weights)
+    else:
+        judge_ring(rule, it.conserving["ring"], it.weights)
+    verdicts = [("surjective", "orphan" not in it.surjective), ("injective", "n" in it.injective),
+                ("right", "ahead" in it.right), ("left", "ahead" in it.left),
+                ("open", "ahead" in it.right and "ahead" in it.left), ("conserving", "flux" in it.conserving)]
+    lines = ["accepted " + rule.text()] + [name + (" yes" if holds else " no") for name, holds in verdicts]
+    if it.weights != list(range(rule.k)):
+        lines.append("weights " + ",".join(map(str, it.weights)))
+    return lines
 
 
 def judge(data):
     """The exit status for these bytes, and what is printed."""
-    if len(data) > LONGEST:
+    if len(data) > LIMIT:
         return 5, "too long\n"
     try:
-        cert = read_certificate(data)
-        check_all(cert)
-    except Refused as refused:
-        return 1, f"refused {refused}\n"
-    return 0, accepted(cert)
+        lines, status = conditions(Certificate(data)), 0
+    except Refused as refusal:
+        lines, status = [f"refused {refusal}"], 1
+    return status, "\n".join(lines) + "\n"
 
 
 def main():
-    # Where standard input is a folder Python itself ends, before this, with 1.
+    # Where standard input is a folder, Python itself ends before this, with 1.
+    data = bytearray()
     try:
-        with open(0, "rb", closefd=False) as source:
-            data = source.read(LONGEST + 1)
+        if sys.stdin is None:                   # the input was closed before we began
+            return 6
+        while len(data) <= LIMIT:
+            block = os.read(0, LIMIT + 1 - len(data))
+            if not block:
+                break
+            data += block
     except OSError:
         return 6
-    status, output = judge(data)
+    status, output = judge(bytes(data))
     sys.stdout.write(output)
     return status
 
