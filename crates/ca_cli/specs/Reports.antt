@@ -7,11 +7,11 @@ use Rattle.word_image.specs.LocalRules.{LocalRule, wolfram_number}
 use Rattle.tail_config.specs.Tails.{TailConfig}
 use Rattle.tail_config.specs.TailTexts as tail
 use Rattle.rule_text.specs.RuleTexts.{printed, offset_text}
-use Rattle.cert_format.specs.Certificates.{InjectiveEvidence, SideEvidence, SumEvidence}
-use Rattle.cert_format.specs.Certificates.InjectiveEvidence.{Window, Twins}
-use Rattle.cert_format.specs.Certificates.SideEvidence.{Ahead, Split}
-use Rattle.cert_format.specs.Certificates.SumEvidence.{Flux, Ring}
-use Rattle.certificate_laws.specs.Evidence.{Evidence, IsOrphanPart, IsLeastEvidence, close_both}
+use Rattle.cert_format.specs.Evidence.{InjectiveEvidence, SideEvidence, SumEvidence}
+use Rattle.cert_format.specs.Evidence.InjectiveEvidence.{Window, Twins}
+use Rattle.cert_format.specs.Evidence.SideEvidence.{Ahead, Split}
+use Rattle.cert_format.specs.Evidence.SumEvidence.{Flux, Ring}
+use Rattle.certificate_laws.specs.LeastEvidence.{Evidence, IsOrphanPart, IsLeastEvidence, close_both}
 use Rattle.ca_cli.specs.Lines.{line}
 
 -- the printed rule

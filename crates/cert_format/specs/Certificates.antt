@@ -3,33 +3,14 @@ use Rattle.std.specs.Prelude.{◌≡◌, ℕ, ◌+◌, ◌-◌, ◌^◌, ◌<◌
 use Rattle.word_image.specs.LocalRules.{LocalRule, IsRule, IsWord, node_count}
 use Rattle.word_image.specs.Weights.{AreWeights, own_weights}
 use Rattle.word_image.specs.Graphs.{pair_count}
-use Rattle.tail_config.specs.Tails.{TailConfig}
 use Rattle.tail_config.specs.TailTexts.{IsShortTail}
 use Rattle.cert_format.specs.declared.cert_version.CertVersion.{CertVersion}
 use Rattle.cert_format.specs.Versions.{names_weights, lists_pairs}
-
--- What a certificate says
-
--- for surjective a list of sets of nodes or of pairs of nodes, each a number, and for not surjective a word
-pub data SurjectiveEvidence : Type 0 where
-  Sets : (sets : List ℕ) → SurjectiveEvidence
-  Pairs : (pairs : List ℕ) → SurjectiveEvidence
-  Orphan : (w : List ℕ) → SurjectiveEvidence
-
--- for injective a window, and for not injective two words
-pub data InjectiveEvidence : Type 0 where
-  Window : (n c : ℕ) → InjectiveEvidence
-  Twins : (x y : List ℕ) → InjectiveEvidence
-
--- for closing on a side a look-ahead, and for not closing there two configurations
-pub data SideEvidence : Type 0 where
-  Ahead : (n : ℕ) → SideEvidence
-  Split : (x y : TailConfig) → SideEvidence
-
--- for conserving a number for each node, and for not conserving a ring
-pub data SumEvidence : Type 0 where
-  Flux : (phi : List ℤ) → SumEvidence
-  Ring : (p : List ℕ) → SumEvidence
+use Rattle.cert_format.specs.Evidence.{SurjectiveEvidence, InjectiveEvidence, SideEvidence, SumEvidence}
+use Rattle.cert_format.specs.Evidence.SurjectiveEvidence.{Sets, Pairs, Orphan}
+use Rattle.cert_format.specs.Evidence.InjectiveEvidence.{Window, Twins}
+use Rattle.cert_format.specs.Evidence.SideEvidence.{Ahead, Split}
+use Rattle.cert_format.specs.Evidence.SumEvidence.{Flux, Ring}
 
 -- the weights are a number for each letter, and the claims a bound of the rank of each pair, or None where nothing is claimed
 pub record Certificate : Type 0 where

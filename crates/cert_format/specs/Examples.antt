@@ -6,10 +6,10 @@ use Rattle.word_image.specs.LocalRules.{LocalRule}
 use Rattle.tail_config.specs.Tails.{config_of}
 use Rattle.cert_format.specs.declared.cert_version.CertVersion.TheVariants.{One, Two, Three}
 use Rattle.cert_format.specs.Certificates.{Certificate}
-use Rattle.cert_format.specs.Certificates.SurjectiveEvidence.{Sets, Pairs, Orphan}
-use Rattle.cert_format.specs.Certificates.InjectiveEvidence.{Window, Twins}
-use Rattle.cert_format.specs.Certificates.SideEvidence.{Ahead, Split}
-use Rattle.cert_format.specs.Certificates.SumEvidence.{Flux, Ring}
+use Rattle.cert_format.specs.Evidence.SurjectiveEvidence.{Sets, Pairs, Orphan}
+use Rattle.cert_format.specs.Evidence.InjectiveEvidence.{Window, Twins}
+use Rattle.cert_format.specs.Evidence.SideEvidence.{Ahead, Split}
+use Rattle.cert_format.specs.Evidence.SumEvidence.{Flux, Ring}
 use Rattle.cert_format.specs.WrittenTexts.{certificate_text}
 
 -- a rule of two states and width 2, whose windows begin at the cell

@@ -1,4 +1,5 @@
 pub mod Versions
+pub mod Evidence
 pub mod Certificates
 pub mod CertificateTexts
 pub mod ShapeFaults

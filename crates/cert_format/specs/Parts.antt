@@ -8,7 +8,7 @@ use Rattle.cert_format.specs.declared.parts.SidePart.{SidePart}
 use Rattle.cert_format.specs.declared.parts.SidePart.TheVariants.{Ahead, Split}
 use Rattle.cert_format.specs.declared.parts.SumPart.{SumPart}
 use Rattle.cert_format.specs.declared.parts.SumPart.TheVariants.{Flux, Ring}
-use Rattle.cert_format.specs.Certificates.{SurjectiveEvidence, InjectiveEvidence, SideEvidence, SumEvidence}
+use Rattle.cert_format.specs.Evidence.{SurjectiveEvidence, InjectiveEvidence, SideEvidence, SumEvidence}
 
 -- the evidence of a part
 abbrev pub surjective_of : SurjectivePart → SurjectiveEvidence

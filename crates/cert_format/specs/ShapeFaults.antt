@@ -12,7 +12,7 @@ use Rattle.cert_format.specs.declared.shape_fault.ShapeFault.{ShapeFault}
 use Rattle.cert_format.specs.declared.shape_fault.ShapeFault.TheVariants as fault
 use Rattle.cert_format.specs.declared.shape_fault.CertFault.{CertFault}
 use Rattle.cert_format.specs.declared.shape_fault.CertFault.TheVariants as cert_fault
-use Rattle.cert_format.specs.Certificates.{SurjectiveEvidence, InjectiveEvidence, SideEvidence, SumEvidence}
+use Rattle.cert_format.specs.Evidence.{SurjectiveEvidence, InjectiveEvidence, SideEvidence, SumEvidence}
 use Rattle.cert_format.specs.Versions.{number_of}
 use Rattle.cert_format.specs.CertificateTexts.{IsJson, IsObject, HasVersion, HasRuleText, HasSurjective, HasInjective, HasSide, HasConserving, HasWeights, HasRanks, HasNoOther}
 

@@ -3,7 +3,7 @@ ghost use Rattle.std.specs.Prelude.{◌≡◌, ℕ, ◌+◌, ◌-◌, ◌^◌, �
 ghost use Rattle.serde_json.specs.View.{view};
 ghost use Rattle.word_image.specs.LocalRules.{node_count};
 ghost use Rattle.word_image.specs.Graphs.{full_set, pair_count};
-ghost use Rattle.cert_format.specs.Certificates.{SurjectiveEvidence, InjectiveEvidence, SideEvidence, SumEvidence};
+ghost use Rattle.cert_format.specs.Evidence.{SurjectiveEvidence, InjectiveEvidence, SideEvidence, SumEvidence};
 ghost use Rattle.cert_format.specs.Parts.{surjective_of, injective_of, side_of, sum_of, IsOver};
 ghost use Rattle.cert_format.specs.Readings.{AreNumbers, IsWindowFor, IsAhead, IsFluxFor, IsWeightsFor, IsRowFor, IsSurjectiveFor, IsInjectiveFor, IsSideFor, IsSumFor, AreRanksFor};
 

@@ -14,11 +14,12 @@ use Rattle.tail_config.specs.Tails.{AgreeLeft, AgreeRight}
 use Rattle.tail_laws.proofs.Verdicts.{IsLeftSplit-least}
 use Rattle.cert_format.specs.declared.cert_version.CertVersion.{CertVersion}
 use Rattle.cert_format.specs.declared.cert_version.CertVersion.TheVariants.{One, Two}
-use Rattle.cert_format.specs.Certificates.{Certificate, SurjectiveEvidence, InjectiveEvidence, SideEvidence, SumEvidence}
-use Rattle.cert_format.specs.Certificates.SurjectiveEvidence.{Sets, Pairs, Orphan}
-use Rattle.cert_format.specs.Certificates.InjectiveEvidence.{Window, Twins}
-use Rattle.cert_format.specs.Certificates.SideEvidence.{Ahead, Split}
-use Rattle.cert_format.specs.Certificates.SumEvidence.{Flux, Ring}
+use Rattle.cert_format.specs.Evidence.{SurjectiveEvidence, InjectiveEvidence, SideEvidence, SumEvidence}
+use Rattle.cert_format.specs.Certificates.{Certificate}
+use Rattle.cert_format.specs.Evidence.SurjectiveEvidence.{Sets, Pairs, Orphan}
+use Rattle.cert_format.specs.Evidence.InjectiveEvidence.{Window, Twins}
+use Rattle.cert_format.specs.Evidence.SideEvidence.{Ahead, Split}
+use Rattle.cert_format.specs.Evidence.SumEvidence.{Flux, Ring}
 use Rattle.cert_check.specs.declared.conditions.Condition.TheVariants.{ForwardClaims, BackwardClaims, FullListed, NoneEmpty, Closed, FirstsListed, OffDiagonal, PairsClosed, OrphanRead, WindowClaims, TwinsAlike, RightAhead, RightSplit, LeftAhead, LeftSplit, FluxFlows, RingLossy}
 use Rattle.cert_check.specs.Breaches.{EachBelow}
 use Rattle.cert_check.specs.Sets.{StepIsKept, LeadsTo}
@@ -31,8 +32,8 @@ use Rattle.cert_check.proofs.laws.ClaimConditions.{AreApart, AreAlike}
 use Rattle.cert_check.proofs.laws.ExactEvidence.{AreLastSets, Contains-full, nonempty-last_sets, StepIsKept-last_sets, LeadsTo-orphan, ClaimForward-ranks, ClaimBackward-ranks, IsWindowPair-determined, IsAheadPair-right, IsAheadPair-left, AreAlike-twins, AreApart-right, AreApart-left, Flows-exact, IsLossy-ring}
 use Rattle.certificate_laws.proofs.CoverLists.{Contains-covers, HasCover-listed}
 use Rattle.certificate_laws.proofs.PairLists.{pair_list-met}
-use Rattle.certificate_laws.specs.Evidence.{IsOrphanPart, IsInjectivePart, IsRightPart, IsLeftPart, IsConservingPart, orphan_of}
-use Rattle.certificate_laws.specs.WrittenCertificates.{IsListPart, AreRanks, HasWrittenParts}
+use Rattle.certificate_laws.specs.LeastEvidence.{IsOrphanPart, IsInjectivePart, IsRightPart, IsLeftPart, IsConservingPart}
+use Rattle.certificate_laws.specs.WrittenCertificates.{orphan_of, IsListPart, AreRanks, HasWrittenParts}
 
 -- each set of a family is the last nodes of a word
 pub IsLastSet-each : (r : LocalRule) (sets : List ℕ) (words : List (List ℕ)) → AllZip (IsLeastWordOf r) sets words → (set : ℕ) → Contains sets set → (w : List ℕ) × IsLastSet r w set

@@ -17,16 +17,17 @@ use Rattle.rule_text.specs.RuleTexts.{offset_text, printed}
 use Rattle.cert_format.specs.declared.cert_version.CertVersion.{CertVersion}
 use Rattle.cert_format.specs.declared.cert_version.CertVersion.TheVariants.{One, Two, Three}
 use Rattle.cert_format.specs.Versions.{number_of, names_weights}
-use Rattle.cert_format.specs.Certificates.{Certificate, SurjectiveEvidence, InjectiveEvidence, SideEvidence, SumEvidence, IsSurjectiveShape, IsInjectiveShape, IsSideShape, IsSumShape, IsClaim, IsRankShape, IsShaped}
-use Rattle.cert_format.specs.Certificates.SurjectiveEvidence.{Sets, Pairs, Orphan}
-use Rattle.cert_format.specs.Certificates.InjectiveEvidence.{Window, Twins}
-use Rattle.cert_format.specs.Certificates.SideEvidence.{Ahead, Split}
-use Rattle.cert_format.specs.Certificates.SumEvidence.{Flux, Ring}
+use Rattle.cert_format.specs.Evidence.{SurjectiveEvidence, InjectiveEvidence, SideEvidence, SumEvidence}
+use Rattle.cert_format.specs.Certificates.{Certificate, IsSurjectiveShape, IsInjectiveShape, IsSideShape, IsSumShape, IsClaim, IsRankShape, IsShaped}
+use Rattle.cert_format.specs.Evidence.SurjectiveEvidence.{Sets, Pairs, Orphan}
+use Rattle.cert_format.specs.Evidence.InjectiveEvidence.{Window, Twins}
+use Rattle.cert_format.specs.Evidence.SideEvidence.{Ahead, Split}
+use Rattle.cert_format.specs.Evidence.SumEvidence.{Flux, Ring}
 use Rattle.cert_format.specs.Readings.{IsNear}
 use Rattle.cert_format.specs.WrittenTexts.{array_from, whole_value, signed_value, word_value, tail_value, claim_value, surjective_value, injective_value, side_value, sum_value, ranks_value, weights_members, certificate_text}
 use Rattle.cert_format.proofs.laws.WeightMembers.{weights_members-cases}
-use Rattle.certificate_laws.specs.Evidence.{IsOrphanPart, IsInjectivePart, IsConservingPart, orphan_of}
-use Rattle.certificate_laws.specs.WrittenCertificates.{IsListPart, HasWrittenParts}
+use Rattle.certificate_laws.specs.LeastEvidence.{IsOrphanPart, IsInjectivePart, IsConservingPart}
+use Rattle.certificate_laws.specs.WrittenCertificates.{orphan_of, IsListPart, HasWrittenParts}
 use Rattle.certificate_laws.proofs.MetConditions.{own_parts}
 use Rattle.certificate_laws.proofs.Limits.{pair_count-le}
 use Rattle.certificate_laws.proofs.WrittenShapes.{IsShaped-written}

@@ -13,9 +13,10 @@ use Rattle.tail_config.specs.Splits.{IsLeastRightSplit}
 use Rattle.tail_config.proofs.laws.Mirror.{IsTail-mirror}
 use Rattle.cert_format.specs.declared.cert_version.CertVersion.{CertVersion}
 use Rattle.cert_format.specs.Versions.{names_weights}
-use Rattle.cert_format.specs.Certificates.{Certificate, SideEvidence, IsSideShape, IsShaped}
-use Rattle.cert_format.specs.Certificates.SideEvidence.{Ahead, Split}
-use Rattle.certificate_laws.specs.Evidence.{IsRightPart, IsLeftPart}
+use Rattle.cert_format.specs.Evidence.{SideEvidence}
+use Rattle.cert_format.specs.Certificates.{Certificate, IsSideShape, IsShaped}
+use Rattle.cert_format.specs.Evidence.SideEvidence.{Ahead, Split}
+use Rattle.certificate_laws.specs.LeastEvidence.{IsRightPart, IsLeftPart}
 use Rattle.certificate_laws.specs.WrittenCertificates.{HasWrittenParts}
 use Rattle.certificate_laws.proofs.MetConditions.{own_parts}
 use Rattle.certificate_laws.proofs.ShortSplits.{IsLeastRightSplit-le}

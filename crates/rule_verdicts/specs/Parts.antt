@@ -4,10 +4,10 @@ use Rattle.word_image.specs.LocalRules.{LocalRule}
 use Rattle.cert_format.specs.declared.parts.InjectivePart.{InjectivePart}
 use Rattle.cert_format.specs.declared.parts.SidePart.{SidePart}
 use Rattle.cert_format.specs.declared.parts.SumPart.{SumPart}
-use Rattle.cert_format.specs.Certificates.{InjectiveEvidence}
-use Rattle.cert_format.specs.Certificates.InjectiveEvidence.{Window, Twins}
+use Rattle.cert_format.specs.Evidence.{InjectiveEvidence}
+use Rattle.cert_format.specs.Evidence.InjectiveEvidence.{Window, Twins}
 use Rattle.cert_format.specs.Parts.{injective_of, side_of, sum_of}
-use Rattle.certificate_laws.specs.Evidence.{Evidence}
+use Rattle.certificate_laws.specs.LeastEvidence.{Evidence}
 
 -- the evidence of these parts
 abbrev pub evidence_in : LocalRule → List ℕ → Option (List ℕ) → InjectivePart → SidePart → SidePart → SumPart → Evidence

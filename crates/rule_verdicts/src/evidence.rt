@@ -5,7 +5,7 @@ ghost use Rattle.word_image.specs.Weights.{AreWeights};
 ghost use Rattle.tail_config.specs.Tails.{IsOpen};
 ghost use Rattle.cert_format.specs.Versions.{names_weights};
 ghost use Rattle.cert_format.specs.Parts.{side_of};
-ghost use Rattle.certificate_laws.specs.Evidence.{IsLeastEvidence, close_both};
+ghost use Rattle.certificate_laws.specs.LeastEvidence.{IsLeastEvidence, close_both};
 ghost use Rattle.certificate_laws.specs.WrittenCertificates.{HasWrittenParts};
 
 use crate::parts::{first_orphan, injective_part, side_part, sum_part, surjective_part};
@@ -45,8 +45,8 @@ impl Model for Evidence {
     ghost use Rattle.word_image.specs.LocalRules.{IsRule};
     ghost use Rattle.word_image.specs.Weights.{AreWeights};
     ghost use Rattle.cert_format.specs.Parts.{IsOver};
-    ghost use Rattle.certificate_laws.specs.Evidence.{IsLeastEvidence};
-    ghost use Rattle.certificate_laws.specs.Evidence as found;
+    ghost use Rattle.certificate_laws.specs.LeastEvidence.{IsLeastEvidence};
+    ghost use Rattle.certificate_laws.specs.LeastEvidence as found;
     ghost use Rattle.rule_verdicts.specs.Parts.{evidence_in};
 
     ghost Value = { found.Evidence };

@@ -6,8 +6,8 @@ ghost use Rattle.word_image.specs.Families.{IsCoverList};
 ghost use Rattle.closing_test.specs.Closing.{IsRightAnswer, IsLeftAnswer};
 ghost use Rattle.cert_format.specs.Versions.{names_weights};
 ghost use Rattle.cert_format.specs.Parts.{surjective_of, injective_of, side_of, sum_of, IsOver};
-ghost use Rattle.certificate_laws.specs.Evidence.{IsOrphanPart, IsInjectivePart, IsRightPart, IsLeftPart, IsConservingPart, orphan_of};
-ghost use Rattle.certificate_laws.specs.WrittenCertificates.{IsListPart};
+ghost use Rattle.certificate_laws.specs.LeastEvidence.{IsOrphanPart, IsInjectivePart, IsRightPart, IsLeftPart, IsConservingPart};
+ghost use Rattle.certificate_laws.specs.WrittenCertificates.{orphan_of, IsListPart};
 ghost use Rattle.rule_verdicts.specs.Parts.{HasShortWindow};
 
 use cert_format::{CertVersion, InjectivePart, SidePart, SumPart, SurjectivePart};

@@ -5,9 +5,9 @@ use Rattle.word_image.specs.LocalRules.{LocalRule, IsRule}
 use Rattle.word_image.specs.Rings.{IsConserving}
 use Rattle.word_image.specs.Weights.{own_weights}
 use Rattle.ring_laws.proofs.SameWeights.{AgreeOn-own, IsConserving-own, IsFlux-agree, IsLeastLossyRing-agree}
-use Rattle.cert_format.specs.Certificates.{SumEvidence}
-use Rattle.cert_format.specs.Certificates.SumEvidence.{Flux, Ring}
-use Rattle.certificate_laws.specs.Evidence.{IsConservingPart}
+use Rattle.cert_format.specs.Evidence.{SumEvidence}
+use Rattle.cert_format.specs.Evidence.SumEvidence.{Flux, Ring}
+use Rattle.certificate_laws.specs.LeastEvidence.{IsConservingPart}
 use Rattle.ca_cli.specs.Lines.{line}
 use Rattle.ca_cli.specs.Reports.{IsReport}
 use Rattle.ca_cli.specs.StatusLines.{weights_lines, with_commas}

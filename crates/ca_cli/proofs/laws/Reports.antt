@@ -3,10 +3,10 @@ use Rattle.std.proofs.Common.{ℕ, ◌<◌, List, arith}
 use Rattle.std.specs.Prelude.{Option, Some, None, IfSome}
 use Rattle.std.proofs.lemmas.List.Elements.{All-weaker}
 use Rattle.word_image.specs.LocalRules.{LocalRule, IsRule, IsWord}
-use Rattle.cert_format.specs.Certificates.{InjectiveEvidence, SumEvidence}
-use Rattle.cert_format.specs.Certificates.InjectiveEvidence.{Window, Twins}
-use Rattle.cert_format.specs.Certificates.SumEvidence.{Flux, Ring}
-use Rattle.certificate_laws.specs.Evidence.{IsOrphanPart, IsInjectivePart, IsConservingPart}
+use Rattle.cert_format.specs.Evidence.{InjectiveEvidence, SumEvidence}
+use Rattle.cert_format.specs.Evidence.InjectiveEvidence.{Window, Twins}
+use Rattle.cert_format.specs.Evidence.SumEvidence.{Flux, Ring}
+use Rattle.certificate_laws.specs.LeastEvidence.{IsOrphanPart, IsInjectivePart, IsConservingPart}
 use Rattle.ca_cli.specs.Digits.{HasTwinDigits, HasRingDigits}
 
 -- a word over the letters of an accepted rule

@@ -2,7 +2,7 @@
 ghost use Rattle.std.specs.Prelude.{◌≡◌, ◌++◌, codes, IfSome, OnOk};
 ghost use Rattle.word_image.specs.LocalRules.{IsWord};
 ghost use Rattle.word_image.specs.Digits.{word_text};
-ghost use Rattle.cert_format.specs.Certificates.InjectiveEvidence.{Window};
+ghost use Rattle.cert_format.specs.Evidence.InjectiveEvidence.{Window};
 ghost use Rattle.cert_format.specs.Parts.{injective_of, side_of, sum_of};
 ghost use Rattle.ca_cli.specs.Lines.{line};
 ghost use Rattle.ca_cli.specs.Reports.{rule_line, tails_text, after_blanks, surjective_line, injective_line, side_line, open_line, conserving_line, report_of};

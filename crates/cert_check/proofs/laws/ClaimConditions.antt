@@ -15,9 +15,10 @@ use Rattle.tail_laws.proofs.Closing.{IsRightClosing-ahead}
 use Rattle.tail_laws.proofs.Sides.{IsLeftClosing-ahead}
 use Rattle.tail_laws.proofs.TwinTails.{no_twins}
 use Rattle.tail_laws.proofs.Verdicts.{IsRightClosing-none, IsLeftClosing-none}
-use Rattle.cert_format.specs.Certificates.{InjectiveEvidence, SideEvidence, IsInjectiveShape, IsSideShape}
-use Rattle.cert_format.specs.Certificates.InjectiveEvidence.{Window, Twins}
-use Rattle.cert_format.specs.Certificates.SideEvidence.{Ahead, Split}
+use Rattle.cert_format.specs.Evidence.{InjectiveEvidence, SideEvidence}
+use Rattle.cert_format.specs.Certificates.{IsInjectiveShape, IsSideShape}
+use Rattle.cert_format.specs.Evidence.InjectiveEvidence.{Window, Twins}
+use Rattle.cert_format.specs.Evidence.SideEvidence.{Ahead, Split}
 use Rattle.cert_check.specs.Breaches.{EachBelow}
 use Rattle.cert_check.specs.Claims.{claim, IsForwardClaim, IsBackwardClaim}
 use Rattle.cert_check.specs.Windows.{IsWindowPair, IsAheadPair}

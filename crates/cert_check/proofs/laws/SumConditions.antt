@@ -6,8 +6,9 @@ use Rattle.word_image.specs.LocalRules.{LocalRule, IsRule, IsWord, word_of, node
 use Rattle.word_image.specs.Rings.{IsFlux, IsLossyRing, IsConserving}
 use Rattle.ring_laws.proofs.Fluxes.{IsConserving-flux}
 use Rattle.ring_laws.proofs.FluxWindows.{IsFlux-windows}
-use Rattle.cert_format.specs.Certificates.{SumEvidence, IsSumShape}
-use Rattle.cert_format.specs.Certificates.SumEvidence.{Flux, Ring}
+use Rattle.cert_format.specs.Evidence.{SumEvidence}
+use Rattle.cert_format.specs.Certificates.{IsSumShape}
+use Rattle.cert_format.specs.Evidence.SumEvidence.{Flux, Ring}
 use Rattle.cert_check.specs.Breaches.{EachBelow}
 use Rattle.cert_check.specs.Sums.{Flows, IsLossy}
 use Rattle.cert_check.specs.Conditions.{OfFlux, OfRing}

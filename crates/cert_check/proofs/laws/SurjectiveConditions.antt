@@ -8,8 +8,9 @@ use Rattle.word_image.specs.Graphs.{full_set, first_of, second_of, pair_count}
 use Rattle.word_image.proofs.laws.LastSets.{IsOrphan-not_surjective}
 use Rattle.eden_laws.proofs.ReachedPairs.{IsSurjective-pair_list}
 use Rattle.cert_format.specs.declared.cert_version.CertVersion.{CertVersion}
-use Rattle.cert_format.specs.Certificates.{SurjectiveEvidence, IsSurjectiveShape}
-use Rattle.cert_format.specs.Certificates.SurjectiveEvidence.{Sets, Pairs, Orphan}
+use Rattle.cert_format.specs.Evidence.{SurjectiveEvidence}
+use Rattle.cert_format.specs.Certificates.{IsSurjectiveShape}
+use Rattle.cert_format.specs.Evidence.SurjectiveEvidence.{Sets, Pairs, Orphan}
 use Rattle.cert_check.specs.Breaches.{EachBelow}
 use Rattle.cert_check.specs.Sets.{StepIsKept, LeadsTo}
 use Rattle.cert_check.specs.Pairs.{FirstIsListed, StepsAreListed}

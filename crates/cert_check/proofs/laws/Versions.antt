@@ -3,8 +3,9 @@ use Rattle.std.proofs.Common.{length, slice_index}
 use Rattle.word_image.specs.LocalRules.{LocalRule}
 use Rattle.cert_format.specs.declared.cert_version.CertVersion.{CertVersion}
 use Rattle.cert_format.specs.declared.cert_version.CertVersion.TheVariants.{Two}
-use Rattle.cert_format.specs.Certificates.{Certificate, SurjectiveEvidence}
-use Rattle.cert_format.specs.Certificates.SurjectiveEvidence.{Sets, Pairs, Orphan}
+use Rattle.cert_format.specs.Evidence.{SurjectiveEvidence}
+use Rattle.cert_format.specs.Certificates.{Certificate}
+use Rattle.cert_format.specs.Evidence.SurjectiveEvidence.{Sets, Pairs, Orphan}
 use Rattle.cert_check.specs.declared.conditions.Condition.TheVariants.{ForwardClaims, BackwardClaims, FullListed, NoneEmpty, Closed, FirstsListed, OffDiagonal, PairsClosed, OrphanRead, WindowClaims, TwinsAlike, RightAhead, RightSplit, LeftAhead, LeftSplit, FluxFlows, RingLossy}
 use Rattle.cert_check.specs.Breaches.{EachBelow}
 use Rattle.cert_check.specs.Sets.{StepIsKept}

@@ -4,9 +4,9 @@ use Rattle.std.specs.Prelude.{◌↔◌, IsTrue}
 use Rattle.std.proofs.lemmas.Bool.{false≢true}
 use Rattle.word_image.specs.LocalRules.{LocalRule}
 use Rattle.tail_config.specs.Tails.{IsOpen}
-use Rattle.cert_format.specs.Certificates.{SideEvidence}
-use Rattle.cert_format.specs.Certificates.SideEvidence.{Ahead, Split}
-use Rattle.certificate_laws.specs.Evidence.{IsRightPart, IsLeftPart, close_both}
+use Rattle.cert_format.specs.Evidence.{SideEvidence}
+use Rattle.cert_format.specs.Evidence.SideEvidence.{Ahead, Split}
+use Rattle.certificate_laws.specs.LeastEvidence.{IsRightPart, IsLeftPart, close_both}
 
 -- where a side has a split it doesn't close, so the rule isn't open
 pub IsOpen-close_both : (r : LocalRule) (right left : SideEvidence) → IsRightPart r right → IsLeftPart r left → IsTrue (close_both right left) ↔ IsOpen r

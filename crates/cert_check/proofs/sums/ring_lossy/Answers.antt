@@ -1,7 +1,7 @@
 use Rattle.std.proofs.Common.{◌≡◌, ℕ, List, length, sym, ap, subst, ◌∙◌, arith}
 use Rattle.std.proofs.lemmas.Bool.Decides.{Decides-eqb}
 use Rattle.cert_format.specs.Certificates.{Certificate}
-use Rattle.cert_format.specs.Certificates.SumEvidence.{Ring}
+use Rattle.cert_format.specs.Evidence.SumEvidence.{Ring}
 use Rattle.cert_format.specs.Parts.{sum_of}
 use Rattle.cert_check.specs.declared.conditions.Condition.TheVariants.{RingLossy}
 use Rattle.cert_check.specs.declared.refusal.Refusal.TheVariants as refusal

@@ -1,6 +1,6 @@
 use Rattle.std.proofs.Common.{ℕ, List, sym, ap, ap₂, subst, ◌∙◌}
 use Rattle.cert_format.specs.Certificates.{Certificate}
-use Rattle.cert_format.specs.Certificates.InjectiveEvidence.{Twins}
+use Rattle.cert_format.specs.Evidence.InjectiveEvidence.{Twins}
 use Rattle.cert_format.specs.Parts.{injective_of}
 use Rattle.cert_check.specs.declared.conditions.Condition.TheVariants.{TwinsAlike}
 use Rattle.cert_check.specs.declared.refusal.Refusal.TheVariants as refusal

@@ -3,8 +3,8 @@ use Rattle.std.specs.Prelude.{pos, Some, slice_get}
 use Rattle.std.proofs.lemmas.Bool.{false≢true}
 use Rattle.word_image.specs.LocalRules.{node_count}
 use Rattle.word_image.proofs.laws.Graphs.{node_count_pos}
-use Rattle.cert_format.specs.Certificates.SumEvidence.{Flux, Ring}
-use Rattle.certificate_laws.specs.Evidence.{IsConservingPart}
+use Rattle.cert_format.specs.Evidence.SumEvidence.{Flux, Ring}
+use Rattle.certificate_laws.specs.LeastEvidence.{IsConservingPart}
 use Rattle.rule_verdicts.proofs.parts.sum_part.Goals as goal
 
 -- a list begins with the first of its first items

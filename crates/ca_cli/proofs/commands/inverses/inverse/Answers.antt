@@ -1,8 +1,8 @@
 use Rattle.std.proofs.Common.{subst}
-use Rattle.certificate_laws.specs.Evidence.{IsInjectivePart}
+use Rattle.certificate_laws.specs.LeastEvidence.{IsInjectivePart}
 use Rattle.cert_format.specs.declared.parts.InjectivePart.{InjectivePart}
 use Rattle.cert_format.specs.Parts.{injective_of}
-use Rattle.cert_format.specs.Certificates.InjectiveEvidence.{Twins}
+use Rattle.cert_format.specs.Evidence.InjectiveEvidence.{Twins}
 use Rattle.ca_cli.specs.Outputs.{IsCause}
 use Rattle.ca_cli.specs.StatusLines.{twins_text}
 use Rattle.ca_cli.proofs.laws.Reports.{HasTwinDigits-least}

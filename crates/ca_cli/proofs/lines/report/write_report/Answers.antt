@@ -2,7 +2,7 @@ use Rattle.std.proofs.Common.{Bool, ℕ, List, slice_index, ◌++◌, ap, ◌∙
 use Rattle.std.specs.Prelude.{codes}
 use Rattle.std.proofs.lemmas.Result.{on_ok_weaker}
 use Rattle.cert_format.specs.Parts.{injective_of, side_of, sum_of}
-use Rattle.certificate_laws.specs.Evidence as found
+use Rattle.certificate_laws.specs.LeastEvidence as found
 use Rattle.ca_cli.specs.Reports.{rule_line, number_line, surjective_line, injective_line, side_line, open_line, conserving_line}
 use Rattle.ca_cli.proofs.laws.Outcomes.{appended_twice}
 use Rattle.ca_cli.proofs.laws.Reports.{digits-orphan, HasTwinDigits-least, HasRingDigits-least}

@@ -3,9 +3,9 @@ use Rattle.pair_graph.specs.declared.edges.Side.TheVariants.{Forward, Backward}
 use Rattle.cert_format.specs.Certificates.{Certificate}
 use Rattle.cert_format.specs.Parts.{surjective_of, injective_of, side_of, sum_of}
 use Rattle.word_image.specs.LocalRules.{LocalRule}
-use Rattle.certificate_laws.specs.Evidence.{IsOrphanPart, orphan_of}
-use Rattle.certificate_laws.specs.Evidence as found
-use Rattle.certificate_laws.specs.WrittenCertificates.{HasWrittenParts, IsListPart}
+use Rattle.certificate_laws.specs.LeastEvidence.{IsOrphanPart}
+use Rattle.certificate_laws.specs.WrittenCertificates.{orphan_of, HasWrittenParts, IsListPart}
+use Rattle.certificate_laws.specs.LeastEvidence as found
 use Rattle.certificate_laws.proofs.WrittenShapes.{IsShaped-written}
 use Rattle.rule_verdicts.proofs.laws.WrittenParts.{AreRanks-row}
 use Rattle.rule_verdicts.proofs.evidence.Evidence.certificate.Goals as goal

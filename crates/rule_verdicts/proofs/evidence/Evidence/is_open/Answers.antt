@@ -2,7 +2,7 @@ use Rattle.std.proofs.Common.{subst}
 use Rattle.std.specs.Prelude.{◌↔◌, IsTrue}
 use Rattle.tail_config.specs.Tails.{IsOpen}
 use Rattle.cert_format.specs.Parts.{side_of}
-use Rattle.certificate_laws.specs.Evidence as found
+use Rattle.certificate_laws.specs.LeastEvidence as found
 use Rattle.rule_verdicts.proofs.laws.Openness.{IsOpen-close_both}
 use Rattle.rule_verdicts.proofs.evidence.Evidence.is_open.Goals as goal
 

@@ -1,9 +1,9 @@
 use Rattle.std.proofs.Common.{◌≡◌, ◌≤◌, List, ℕ, All, slice_index, rules, refl, ◌∙◌, subst}
 use Rattle.std.specs.Prelude.{Option}
 use Rattle.word_image.specs.LocalRules.{LocalRule}
-use Rattle.cert_format.specs.Certificates.{InjectiveEvidence, SideEvidence, SumEvidence}
+use Rattle.cert_format.specs.Evidence.{InjectiveEvidence, SideEvidence, SumEvidence}
 use Rattle.closing_test.specs.Closing.{IsRightAnswer, IsLeftAnswer}
-use Rattle.certificate_laws.specs.Evidence.{IsOrphanPart, IsInjectivePart, IsRightPart, IsLeftPart, IsConservingPart, IsLeastEvidence}
+use Rattle.certificate_laws.specs.LeastEvidence.{IsOrphanPart, IsInjectivePart, IsRightPart, IsLeftPart, IsConservingPart, IsLeastEvidence}
 use Rattle.rule_verdicts.proofs.evidence.Evidence.of.Goals as goal
 
 -- what is found by the graph g and the pairs q of a rule is the evidence of the rule

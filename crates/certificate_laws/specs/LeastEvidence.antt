@@ -6,11 +6,10 @@ use Rattle.word_image.specs.Rings.{IsConserving, IsFlux, IsLeastLossyRing, IsLea
 use Rattle.word_image.specs.Windows.{IsLeastDetermined, IsLeastRightAhead}
 use Rattle.tail_config.specs.Tails.{IsInjective, IsRightClosing, IsLeftClosing}
 use Rattle.tail_config.specs.Splits.{IsLeastRightSplit, IsLeastLeftSplit}
-use Rattle.cert_format.specs.Certificates.{Certificate, SurjectiveEvidence, InjectiveEvidence, SideEvidence, SumEvidence}
-use Rattle.cert_format.specs.Certificates.SurjectiveEvidence.{Sets, Pairs, Orphan}
-use Rattle.cert_format.specs.Certificates.InjectiveEvidence.{Window, Twins}
-use Rattle.cert_format.specs.Certificates.SideEvidence.{Ahead, Split}
-use Rattle.cert_format.specs.Certificates.SumEvidence.{Flux, Ring}
+use Rattle.cert_format.specs.Evidence.{InjectiveEvidence, SideEvidence, SumEvidence}
+use Rattle.cert_format.specs.Evidence.InjectiveEvidence.{Window, Twins}
+use Rattle.cert_format.specs.Evidence.SideEvidence.{Ahead, Split}
+use Rattle.cert_format.specs.Evidence.SumEvidence.{Flux, Ring}
 
 -- of a rule and weights of its letters: an orphan, or none where it is surjective, and what is said of the other four questions
 pub record Evidence : Type 0 where
@@ -21,24 +20,6 @@ pub record Evidence : Type 0 where
   pub right : SideEvidence
   pub left : SideEvidence
   pub conserving : SumEvidence
-
--- the orphan, where there is one
-abbrev pub orphan_of : SurjectiveEvidence → Option (List ℕ)
-orphan_of (Sets sets) = None
-orphan_of (Pairs pairs) = None
-orphan_of (Orphan w) = Some w
-
--- what a certificate has of it: all but the version, the list of sets or of pairs, and the ranks
-abbrev pub evidence_of : Certificate → Evidence
-evidence_of c = record {
-  rule = c.rule;
-  weights = c.weights;
-  orphan = orphan_of c.surjective;
-  injective = c.injective;
-  right = c.right;
-  left = c.left;
-  conserving = c.conserving;
-}
 
 -- a look-ahead is given on both sides
 abbrev pub close_both : SideEvidence → SideEvidence → Bool
