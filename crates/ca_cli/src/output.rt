@@ -34,6 +34,14 @@ impl Output {
         }
     }
 
+    /// An output of no bytes, with room for so many.
+    pub fn with_room(alloc: Global, room: usize) -> Result<Output, AllocError>
+        ensures { IfOk result (λ output. output ≡ []) }
+    {
+        let bytes = Vec::with_capacity(alloc, room)?;
+        Ok(Output { bytes })
+    }
+
     /// The output of these bytes.
     pub fn of(bytes: Vec<u8>) -> Output
         ensures { result ≡ bytes.items }

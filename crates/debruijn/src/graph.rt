@@ -57,6 +57,13 @@ impl Graph {
         }
     }
 
+    /// The rule that it is of.
+    pub fn rule(&self) -> &Rule
+        ensures { result.now ≡ self.now }
+    {
+        &self.rule
+    }
+
     /// The number of states k: the letters and the labels are those below it.
     pub fn k(&self) -> u8
         ensures states { result ≡ self.now.states }

@@ -22,9 +22,9 @@ pub struct Minimal {
     // The number of classes.
     len: u32,
     // The class after class i on letter a, at i * k + a.
-    next: Vec<u32>,
+    next: Vec<u16>,
     // The class of the orphans.
-    dead: Option<u32>,
+    dead: Option<u16>,
 }
 
 impl Model for Minimal {
@@ -64,11 +64,11 @@ impl Minimal {
         ensures next { result ≡ slice_index self.now.next (i * self.now.states + a) }
         ensures class { result < self.now.classes }
     {
-        self.next[i as usize * usize::from(self.k) + usize::from(a)]
+        u32::from(self.next[i as usize * usize::from(self.k) + usize::from(a)])
     }
 
     /// The class of the orphans; `None` exactly where the rule is surjective.
-    pub fn dead(&self) -> Option<u32>
+    pub fn dead(&self) -> Option<u16>
         ensures { result ≡ self.now.dead }
     {
         self.dead
@@ -108,7 +108,7 @@ fn expand(
     subsets: &Subsets,
     closures: &[u16],
     classes: &mut Listed,
-    next: &mut Vec<u32>,
+    next: &mut Vec<u16>,
     place: u32,
 ) -> Result<(), AllocError>
     requires closures { AreClosures subsets.now closures.now }

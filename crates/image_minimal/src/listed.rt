@@ -12,7 +12,7 @@ pub struct Listed {
     // The sets in their order.
     sets: Vec<u16>,
     // For each set its place, if it is in the list.
-    places: Vec<Option<u32>>,
+    places: Vec<Option<u16>>,
 }
 
 impl Model for Listed {
@@ -54,20 +54,20 @@ impl Listed {
     }
 
     /// The place of the set; `None` exactly where it isn't there.
-    pub fn place(&self, set: u16) -> Option<u32>
+    pub fn place(&self, set: u16) -> Option<u16>
         ensures { IsPlaceOf self.now set result }
     {
         self.places[usize::from(set)]
     }
 
     /// Puts the set at the end, if it isn't there, and gives its place.
-    pub fn insert(&mut self, set: u16) -> Result<u32, AllocError>
+    pub fn insert(&mut self, set: u16) -> Result<u16, AllocError>
         ensures { IfOk result (IsInserted self.old self.new set) }
     {
         match self.place(set) {
             Some(place) => Ok(place),
             None => {
-                let place = self.len();
+                let place = self.len() as u16;
                 self.sets.push(set)?;
                 self.places[usize::from(set)] = Some(place);
                 Ok(place)

@@ -13,9 +13,7 @@ use word_image::Rule;
 /// number u * N + v, for the N nodes.
 #[derive(Debug, Drop)]
 pub struct Pairs {
-    // The rule.
-    rule: Rule,
-    // Its de Bruijn graph.
+    // The de Bruijn graph of the rule.
     graph: Graph,
     // For each label and node the nodes to which the edges with that label lead from it.
     ends: Edges,
@@ -32,9 +30,9 @@ impl Model for Pairs {
 
     ghost Value = { LocalRule };
 
-    ghost view = { λ p. p.rule };
+    ghost view = { λ p. p.graph };
 
-    ghost invariant = { λ p. (p.graph ≡ p.rule) × AreEdges Forward p.rule (node_count p.rule) p.ends × AreEdges Backward p.rule (node_count p.rule) p.starts };
+    ghost invariant = { λ p. AreEdges Forward p.graph (node_count p.graph) p.ends × AreEdges Backward p.graph (node_count p.graph) p.starts };
 }
 
 impl Pairs {
@@ -47,11 +45,19 @@ impl Pairs {
     pub fn of(rule: &Rule) -> Pairs
         ensures { result ≡ rule.now }
     {
+        Pairs::over(Graph::of(rule))
+    }
+
+    /// The pairs of nodes of this graph.
+    pub fn over(graph: Graph) -> Pairs
+        ensures { result ≡ graph }
+    {
+        let ends = edges(graph.rule(), Side::Forward);
+        let starts = edges(graph.rule(), Side::Backward);
         Pairs {
-            rule: *rule,
-            graph: Graph::of(rule),
-            ends: edges(rule, Side::Forward),
-            starts: edges(rule, Side::Backward),
+            graph,
+            ends,
+            starts,
         }
     }
 
@@ -59,7 +65,7 @@ impl Pairs {
     pub fn rule(&self) -> &Rule
         ensures { result.now ≡ self.now }
     {
-        &self.rule
+        self.graph.rule()
     }
 
     /// The de Bruijn graph of that rule.
@@ -203,7 +209,7 @@ impl Pairs {
         requires { window < self.now.states ^ self.now.width }
         ensures { result ≡ slice_index self.now.table window }
     {
-        self.rule.at(window)
+        self.rule().at(window)
     }
 
     /// The node with which the window of this value begins.
@@ -212,6 +218,6 @@ impl Pairs {
         ensures node { result ≡ window / self.now.states }
         ensures below { result < node_count self.now }
     {
-        (window / u16::from(self.rule.k())) as u8
+        (window / u16::from(self.graph.k())) as u8
     }
 }

@@ -22,8 +22,9 @@ pub fn verdicts(rule: &Rule) -> Verdicts
 {
     let weights = Weights::own(rule.k());
     let conserving = is_conserving(rule, &weights);
+    let graph = Graph::of(rule);
     // An injective rule is surjective, and so is one that closes on a side.
-    if !is_surjective(&Graph::of(rule)) {
+    if !is_surjective(&graph) {
         return Verdicts {
             rule: *rule,
             weights,
@@ -34,7 +35,7 @@ pub fn verdicts(rule: &Rule) -> Verdicts
             conserving,
         };
     }
-    let endless = Endless::of(&Pairs::of(rule));
+    let endless = Endless::of(&Pairs::over(graph));
     Verdicts {
         rule: *rule,
         weights,

@@ -55,8 +55,9 @@ fn automaton_output(alloc: Global, automaton: &Minimal) -> Result<Output, AllocE
     requires { 1 ≤ automaton.now.states }
     ensures { IfOk result (λ output. output ≡ automaton_lines automaton.now) }
 {
-    let mut output = Output::new(alloc);
     let len = automaton.len();
+    // A class below 65,536 has at most five digits, and a blank or a line end behind them.
+    let mut output = Output::with_room(alloc, 6 * len as usize * usize::from(automaton.k()))?;
     output.push_line(&format!(in alloc; "classes {len}")?)?;
     write_dead(alloc, &mut output, automaton)?;
     for class in 0..len {

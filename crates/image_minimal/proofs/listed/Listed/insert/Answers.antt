@@ -1,9 +1,20 @@
 use Rattle.std.proofs.Common.{◌≡◌, ℕ, inl, inr, [], ◌∷◌, ◌++◌, length, set, Some, Contains, refl, sym, ap, ap₂, ◌∙◌, subst, arith}
 use Rattle.std.specs.List.{slice_get}
+use Rattle.std.proofs.lemmas.List.{length_push}
 use Rattle.word_image.proofs.laws.Places.{slice_get-push}
 use Rattle.image_minimal.specs.Indexes.{IsPlaceOf}
-use Rattle.image_minimal.proofs.Indexes.{IsIndex-push}
+use Rattle.image_minimal.proofs.Indexes.{IsIndex-push, length-listed-le}
 use Rattle.image_minimal.proofs.listed.Listed.insert.Goals as goal
+
+-- with the new set there are at most 65,536, so its place is below
+pub overflow_cast-place : goal.overflow_cast-place
+overflow_cast-place c =
+    let new = c.args.set in
+    let sets = c.self.inside.sets.items in
+    let none : ¬ Contains c.args.self.now new = subst (IsPlaceOf c.args.self.now new) c.in-None.is c.place.ensures in
+    let absent : ¬ Contains sets new = subst (λ l. ¬ Contains l new) (sym c.self.view_is) none in
+    let index = IsIndex-push c.self.invariant new (omega (arith, c.ranges.set)) absent in
+    omega (arith, length-listed-le index, length_push sets new, c.len-place.ensures.len, ap length c.self.view_is)
 
 pub invariant_of-self-in-None : goal.invariant_of-self-in-None
 invariant_of-self-in-None c =
