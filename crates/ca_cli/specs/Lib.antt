@@ -1,6 +1,8 @@
 pub mod Statuses
 pub mod WeightTexts
 pub mod Commands
+pub mod Requests
+pub mod CertificateCommands
 pub mod Inputs
 pub mod Lines
 pub mod StatusLines

@@ -10,7 +10,8 @@ use Rattle.rule_algebra.specs.Algebra.{shifted, IsTrimmed, IsWidened, IsRecolour
 use Rattle.rule_algebra.specs.AlgebraFaults.{shift_fault, widen_fault, compose_fault}
 use Rattle.rule_algebra.specs.declared.fault.AlgebraFault.{AlgebraFault}
 use Rattle.rule_algebra.specs.declared.fault.AlgebraFault.TheVariants as algebra
-use Rattle.rule_text.specs.RuleTexts.{IsOffset, decimal_value, printed}
+use Rattle.rule_text.specs.RuleTexts.{IsOffset, decimal_value}
+use Rattle.rule_text.specs.PrintedRules.{printed}
 use Rattle.rule_text.specs.declared.text_fault.TextFault.{TextFault}
 use Rattle.cert_format.specs.declared.cert_version.CertVersion.{CertVersion}
 use Rattle.cert_format.specs.declared.cert_version.CertVersion.TheVariants as version

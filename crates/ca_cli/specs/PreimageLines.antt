@@ -3,7 +3,7 @@ use Rattle.std.specs.Prelude.{ℕ, List, ◌++◌, codes}
 use Rattle.std.specs.Fmt.{decimal}
 use Rattle.word_image.specs.Digits.{word_text}
 use Rattle.word_image.specs.LocalRules.{LocalRule}
-use Rattle.rule_text.specs.RuleTexts.{offset_text}
+use Rattle.rule_text.specs.PrintedRules.{offset_text}
 use Rattle.tail_config.specs.Tails.{TailConfig}
 use Rattle.tail_config.specs.TailTexts.{printed}
 use Rattle.tail_config.specs.declared.faults.TailFault.{TailFault}

@@ -8,9 +8,9 @@ ghost use Rattle.rule_text.specs.declared.text_fault.TextFault.{TextFault};
 ghost use Rattle.ca_cli.specs.Commands.{Command, IsCommand, ReadsNothing};
 ghost use Rattle.ca_cli.specs.StatusLines.{accepted_lines, operand_fault_line, usage_line};
 ghost use Rattle.ca_cli.specs.RightAnswers.{IsAnswer, IsOperandFault, IsRight};
+ghost use Rattle.ca_cli.specs.CertificateCommands.{AsksCertificate};
 
 use crate::status::Status;
-use crate::words::request::Ask;
 
 /// Words have one right status: whatever the source, where they are no command or one that reads
 /// nothing, and for all words over a source that tells what it has left.
@@ -45,11 +45,11 @@ pub fn right_exactly()
         → IsAnswer words input s out ↔ IsRight input c s out }
 {}
 
-/// What `certify` writes for a rule, `check` accepts: over a source that tells exactly these bytes,
-/// Done is right with the lines of true verdicts on that rule, and nothing else is.
+/// What `certify` and `brief` write for a rule, with weights or without, `check` accepts: over a source that
+/// tells exactly these bytes, Done is right with the lines of true verdicts on that rule, and nothing else is.
 pub fn certified_is_accepted()
-    ensures { (text out : List ℕ) (input : Option (List ℕ))
-        → IsRight input (Command.OfRule Ask.Certify text) Status.Done out
+    ensures { (c : Command) (text out : List ℕ) (input : Option (List ℕ))
+        → AsksCertificate c text → IsRight input c Status.Done out
         → (v : Verdicts) × IsRuleText text v.rule × AreTrue v
         × ((s : Status) (lines : List ℕ) → IsRight (Some out) Command.Check s lines
         ↔ ((s ≡ Status.Done) × (lines ≡ accepted_lines v))) }

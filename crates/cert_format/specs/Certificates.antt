@@ -62,15 +62,3 @@ IsClaim (Some n) = n ≤ 65535
 pub record IsRankShape (r : LocalRule) (row : List (Option ℕ)) : Type 0 where
   pub each_pair : length row ≡ pair_count r
   pub claims : All IsClaim row
-
--- all limits
-pub record IsShaped (c : Certificate) : Type 0 where
-  pub rule : IsRule c.rule
-  pub surjective : IsSurjectiveShape c.version c.rule c.surjective
-  pub injective : IsInjectiveShape c.rule c.injective
-  pub right : IsSideShape c.rule c.right
-  pub left : IsSideShape c.rule c.left
-  pub conserving : IsSumShape c.rule c.conserving
-  pub weights : IsWeightShape c.version c.rule c.weights
-  pub forward : IsRankShape c.rule c.forward
-  pub backward : IsRankShape c.rule c.backward

@@ -1,5 +1,6 @@
--- What the parts of a certificate are seen as.
+-- What the parts of a certificate are seen as, and all their limits.
 use Rattle.std.specs.Prelude.{◌≡◌, ℕ, ⊤}
+use Rattle.word_image.specs.LocalRules.{IsRule}
 use Rattle.cert_format.specs.declared.parts.SurjectivePart.{SurjectivePart}
 use Rattle.cert_format.specs.declared.parts.SurjectivePart.TheVariants.{Sets, Pairs, Orphan}
 use Rattle.cert_format.specs.declared.parts.InjectivePart.{InjectivePart}
@@ -9,6 +10,7 @@ use Rattle.cert_format.specs.declared.parts.SidePart.TheVariants.{Ahead, Split}
 use Rattle.cert_format.specs.declared.parts.SumPart.{SumPart}
 use Rattle.cert_format.specs.declared.parts.SumPart.TheVariants.{Flux, Ring}
 use Rattle.cert_format.specs.Evidence.{SurjectiveEvidence, InjectiveEvidence, SideEvidence, SumEvidence}
+use Rattle.cert_format.specs.Certificates.{Certificate, IsSurjectiveShape, IsInjectiveShape, IsSideShape, IsSumShape, IsWeightShape, IsRankShape}
 
 -- the evidence of a part
 abbrev pub surjective_of : SurjectivePart → SurjectiveEvidence
@@ -32,3 +34,15 @@ sum_of (Ring p) = SumEvidence.Ring p
 abbrev pub IsOver : ℕ → SidePart → Type 0
 IsOver k (Ahead n) = ⊤
 IsOver k (Split x y) = (x.states ≡ k) × (y.states ≡ k)
+
+-- a certificate keeps all its limits
+pub record IsShaped (c : Certificate) : Type 0 where
+  pub rule : IsRule c.rule
+  pub surjective : IsSurjectiveShape c.version c.rule c.surjective
+  pub injective : IsInjectiveShape c.rule c.injective
+  pub right : IsSideShape c.rule c.right
+  pub left : IsSideShape c.rule c.left
+  pub conserving : IsSumShape c.rule c.conserving
+  pub weights : IsWeightShape c.version c.rule c.weights
+  pub forward : IsRankShape c.rule c.forward
+  pub backward : IsRankShape c.rule c.backward

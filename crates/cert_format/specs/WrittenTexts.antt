@@ -9,7 +9,7 @@ use Rattle.word_image.specs.Weights.{own_weights}
 use Rattle.word_image.specs.Digits.{lower_digit}
 use Rattle.tail_config.specs.Tails.{TailConfig}
 use Rattle.tail_config.specs.TailTexts as tail
-use Rattle.rule_text.specs.RuleTexts.{printed}
+use Rattle.rule_text.specs.PrintedRules.{printed}
 use Rattle.cert_format.specs.Evidence.{SurjectiveEvidence, InjectiveEvidence, SideEvidence, SumEvidence}
 use Rattle.cert_format.specs.Certificates.{Certificate}
 use Rattle.cert_format.specs.Versions.{number_of}

@@ -31,7 +31,8 @@ pub struct Cert {
 }
 
 impl Model for Cert {
-    ghost use Rattle.cert_format.specs.Certificates.{Certificate, IsShaped};
+    ghost use Rattle.cert_format.specs.Certificates.{Certificate};
+    ghost use Rattle.cert_format.specs.Parts.{IsShaped};
     ghost use Rattle.cert_format.specs.Parts.{surjective_of, injective_of, side_of, sum_of, IsOver};
 
     ghost Value = { Certificate };

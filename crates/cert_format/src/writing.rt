@@ -3,8 +3,9 @@ ghost use Rattle.std.specs.Prelude.{◌≡◌, ℕ, List, codes, map, IfOk, OnOk
 ghost use Rattle.serde_json.specs.Data.{string, no_members};
 ghost use Rattle.serde_json.specs.View.{view, members_view};
 ghost use Rattle.word_image.specs.LocalRules.{IsWord};
-ghost use Rattle.rule_text.specs.RuleTexts.{printed};
-ghost use Rattle.cert_format.specs.Certificates.{Certificate, IsShaped};
+ghost use Rattle.rule_text.specs.PrintedRules.{printed};
+ghost use Rattle.cert_format.specs.Certificates.{Certificate};
+ghost use Rattle.cert_format.specs.Parts.{IsShaped};
 ghost use Rattle.cert_format.specs.CertificateTexts.{IsCertificateText};
 ghost use Rattle.cert_format.specs.Parts.{side_of};
 ghost use Rattle.cert_format.specs.WrittenTexts as written;

@@ -13,12 +13,13 @@ use Rattle.word_image.specs.Graphs.{pair_count}
 use Rattle.word_image.specs.Weights.{AreWeights}
 use Rattle.word_image.proofs.laws.RuleFaults.{window_count-le}
 use Rattle.tail_config.specs.TailTexts.{IsShortTail}
-use Rattle.rule_text.specs.RuleTexts.{offset_text, printed}
+use Rattle.rule_text.specs.PrintedRules.{offset_text, printed}
 use Rattle.cert_format.specs.declared.cert_version.CertVersion.{CertVersion}
 use Rattle.cert_format.specs.declared.cert_version.CertVersion.TheVariants.{One, Two, Three}
 use Rattle.cert_format.specs.Versions.{number_of, names_weights}
 use Rattle.cert_format.specs.Evidence.{SurjectiveEvidence, InjectiveEvidence, SideEvidence, SumEvidence}
-use Rattle.cert_format.specs.Certificates.{Certificate, IsSurjectiveShape, IsInjectiveShape, IsSideShape, IsSumShape, IsClaim, IsRankShape, IsShaped}
+use Rattle.cert_format.specs.Certificates.{Certificate, IsSurjectiveShape, IsInjectiveShape, IsSideShape, IsSumShape, IsClaim, IsRankShape}
+use Rattle.cert_format.specs.Parts.{IsShaped}
 use Rattle.cert_format.specs.Evidence.SurjectiveEvidence.{Sets, Pairs, Orphan}
 use Rattle.cert_format.specs.Evidence.InjectiveEvidence.{Window, Twins}
 use Rattle.cert_format.specs.Evidence.SideEvidence.{Ahead, Split}

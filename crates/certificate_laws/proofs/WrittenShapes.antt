@@ -14,7 +14,8 @@ use Rattle.tail_config.proofs.laws.Mirror.{IsTail-mirror}
 use Rattle.cert_format.specs.declared.cert_version.CertVersion.{CertVersion}
 use Rattle.cert_format.specs.Versions.{names_weights}
 use Rattle.cert_format.specs.Evidence.{SideEvidence}
-use Rattle.cert_format.specs.Certificates.{Certificate, IsSideShape, IsShaped}
+use Rattle.cert_format.specs.Certificates.{Certificate, IsSideShape}
+use Rattle.cert_format.specs.Parts.{IsShaped}
 use Rattle.cert_format.specs.Evidence.SideEvidence.{Ahead, Split}
 use Rattle.certificate_laws.specs.LeastEvidence.{IsRightPart, IsLeftPart}
 use Rattle.certificate_laws.specs.WrittenCertificates.{HasWrittenParts}

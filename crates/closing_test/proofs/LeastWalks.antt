@@ -13,7 +13,7 @@ use Rattle.std.proofs.lemmas.List.{length-map}
 use Rattle.word_image.specs.LocalRules.{LocalRule, IsRule}
 use Rattle.word_image.specs.Graphs.{marked}
 use Rattle.word_image.specs.Rings.{pair_cmp}
-use Rattle.search_laws.proofs.PairWalks.{PairWalk, uncode}
+use Rattle.search_laws.specs.PairWalks.{PairWalk, uncode}
 use Rattle.tail_config.specs.Splits.{splits_cmp}
 use Rattle.tail_laws.specs.SplitWalks.{IsLeastReach, IsLeastSplitAt, split_of, with_mark}
 use Rattle.tail_laws.proofs.LeastSplits.{splits_cmp-walks, no_earlier-least, IsLeastBelow-next, IsLeastBelow-taken, IsLeastBelow-first, IsNoSplitBelow-next}

@@ -4,7 +4,7 @@ use Rattle.std.proofs.lemmas.List.{length-map}
 use Rattle.std.proofs.lemmas.Simd.{map-map}
 use Rattle.word_image.specs.LocalRules.{LocalRule, IsRule}
 use Rattle.word_image.specs.Graphs.{pair_count}
-use Rattle.search_laws.proofs.PairWalks.{uncode}
+use Rattle.search_laws.specs.PairWalks.{uncode}
 use Rattle.tail_config.specs.Tails.{TailConfig, IsTail, IsRightClosing}
 use Rattle.tail_config.specs.Splits.{IsLeastRightSplit}
 use Rattle.tail_config.specs.TailTexts.{IsShortTail}

@@ -2,7 +2,7 @@
 use Rattle.std.specs.Prelude.{◌≡◌, ℕ, ◌/◌, ◌%◌, List, [], ◌∷◌, map, Option, Some, None}
 use Rattle.std.specs.declared.cmp.Ordering.TheVariants.{Greater}
 use Rattle.word_image.specs.LocalRules.{LocalRule}
-use Rattle.search_laws.proofs.PairWalks.{uncode}
+use Rattle.search_laws.specs.PairWalks.{uncode}
 use Rattle.tail_config.specs.Tails.{TailConfig}
 use Rattle.tail_config.specs.Splits.{splits_cmp}
 use Rattle.tail_laws.specs.SplitWalks.{IsNoSplitBelow, IsLeastSplitAt, IsLeastBelow, IsSplitAt, split_of}

@@ -14,25 +14,9 @@ pub record WindowMap : Type 0 where
   pub offset : ℤ
   pub table : List ℕ
 
--- the maps that there are: a letter for each of at most 65,536 words
-pub record IsWindowMap (g : WindowMap) : Type 0 where
-  pub least_states : 2 ≤ g.states
-  pub most_states : g.states ≤ 16
-  pub least_width : 1 ≤ g.width
-  pub most_width : g.width ≤ 16
-  pub least_offset : negsuc 30 ≤ℤ g.offset
-  pub most_offset : g.offset ≤ℤ pos 16
-  pub entries : length g.table ≡ g.states ^ g.width
-  pub most_entries : g.states ^ g.width ≤ 65536
-  pub letters : IsWord g.states g.table
-
 -- what the map gives on a word of `width` letters
 abbrev pub map_letter : WindowMap → List ℕ → ℕ
 map_letter g w = slice_index g.table (value g.states w)
-
--- what it gives on the consecutive words of `width` letters of a word
-abbrev pub map_image : WindowMap → List ℕ → List ℕ
-map_image g x = map (λ i. map_letter g (slice_range x i (i + g.width))) (range_with_len 0 (length x + 1 - g.width))
 
 -- it gives letter c of every preimage of a word of n letters, and 0 where the word has none
 pub record IsInverseMap (r : LocalRule) (n c : ℕ) (g : WindowMap) : Type 0 where
@@ -42,17 +26,6 @@ pub record IsInverseMap (r : LocalRule) (n c : ℕ) (g : WindowMap) : Type 0 whe
   pub entries : length g.table ≡ r.states ^ n
   pub letter : (w x : List ℕ) → length w ≡ n → IsPreimage r w x → map_letter g w ≡ slice_index x c
   pub none : (w : List ℕ) → IsWord r.states w → length w ≡ n → ((x : List ℕ) → ¬ IsPreimage r w x) → map_letter g w ≡ 0
-
--- what the map of a determined window does with configurations, with words of n + m - 1 letters, and with their images
-pub record GivesBack (r : LocalRule) (n c : ℕ) (g : WindowMap) : Type 0 where
-  -- it gives each cell of a configuration back from the n cells of its image from the offset on
-  pub cells : (t : TailConfig) → IsTail r.states t → (i : ℤ) → map_letter g (map (λ j. image_cell r t (i +ℤ g.offset +ℤ pos j)) (range_with_len 0 n)) ≡ cell t i
-  -- it gives a letter of a word back from the word's image
-  pub back : (x : List ℕ) → IsWord r.states x → length x ≡ n + (r.width - 1) → map_letter g (image r x) ≡ slice_index x c
-  -- and the rule gives the letter back from what the map makes of the word
-  pub forth : (x : List ℕ) → IsWord r.states x → length x ≡ n + (r.width - 1) → local_map r (map_image g x) ≡ slice_index x c
-  -- every word of n letters has a preimage, so no letter is 0 for want of one
-  pub onto : (w : List ℕ) → IsWord r.states w → length w ≡ n → (x : List ℕ) × IsPreimage r w x
 
 -- the map as a rule: a map that reads one letter is written at width 2, and ignores the second cell
 abbrev pub rule_of : WindowMap → LocalRule

@@ -1,3 +1,4 @@
 pub mod InverseMaps
+pub mod GivenBack
 pub mod ImageValues
 pub mod InverseFaults

@@ -2,7 +2,8 @@
 ghost use Rattle.std.specs.Prelude.{◌≡◌, ◌*◌, ◌↔◌, take, IfOk, IsOk};
 ghost use Rattle.std.specs.Result.{result_err};
 ghost use Rattle.word_image.specs.LocalRules.{IsRule};
-ghost use Rattle.inverse_table.specs.InverseMaps.{IsWindowMap, rule_of, limit_fault};
+ghost use Rattle.inverse_table.specs.InverseMaps.{rule_of, limit_fault};
+ghost use Rattle.inverse_table.specs.GivenBack.{IsWindowMap};
 
 use std::marker::Model;
 use word_image::{MOST_ENTRIES, Rule, RuleFault};
@@ -22,7 +23,8 @@ pub struct InverseMap {
 }
 
 impl Model for InverseMap {
-    ghost use Rattle.inverse_table.specs.InverseMaps.{WindowMap, IsWindowMap};
+    ghost use Rattle.inverse_table.specs.InverseMaps.{WindowMap};
+    ghost use Rattle.inverse_table.specs.GivenBack.{IsWindowMap};
 
     ghost Value = { WindowMap };
 

@@ -5,7 +5,7 @@ use Rattle.std.proofs.lemmas.List.{length-map}
 use Rattle.word_image.specs.LocalRules.{LocalRule, IsRule}
 use Rattle.word_image.specs.Graphs.{pair_count}
 use Rattle.word_image.specs.Rings.{IsLeastTwins}
-use Rattle.search_laws.proofs.PairWalks.{uncode}
+use Rattle.search_laws.specs.PairWalks.{uncode}
 use Rattle.tail_laws.specs.Turns.{IsFirstTurn}
 use Rattle.tail_laws.proofs.LeastTwins.{IsLeastTwins-first, length-IsFirstTurn}
 

@@ -11,7 +11,8 @@ use Rattle.std.proofs.lemmas.List.{length-map}
 use Rattle.word_image.specs.LocalRules.{LocalRule, IsRule}
 use Rattle.word_image.specs.Words.{word_cmp}
 use Rattle.word_image.specs.Rings.{pair_cmp, pairs_cmp}
-use Rattle.search_laws.proofs.PairWalks.{uncode, pairs_cmp-codes, codes-uncode, ArePairs-walk}
+use Rattle.search_laws.proofs.PairWalks.{pairs_cmp-codes, codes-uncode, ArePairs-walk}
+use Rattle.search_laws.specs.PairWalks.{uncode}
 use Rattle.tail_laws.proofs.LeastTwins.{IsLeastTurn, IsFirstTurn-only, IsFirstTurn-before, IsFirstTurn-after, turn-some}
 use Rattle.inverse_window.specs.FirstTurns.{IsFirstFound}
 use Rattle.tail_laws.specs.Turns.{IsTurn, IsFirstTurn}

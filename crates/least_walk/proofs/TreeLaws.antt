@@ -14,7 +14,8 @@ use Rattle.word_image.specs.Words.{word_cmp}
 use Rattle.word_image.proofs.laws.Places.{slice_get-unique}
 use Rattle.search_laws.specs.SearchQueues.{Spells}
 use Rattle.search_laws.proofs.LeastFirst.{IsLeastTo-spelled, reached_all}
-use Rattle.search_laws.proofs.PairWalks.{PairWalk, PairWalk-leads, ArePairs-walk, pairs_cmp-codes, codes-uncode, code, uncode, Leads-walk}
+use Rattle.search_laws.proofs.PairWalks.{PairWalk-leads, ArePairs-walk, pairs_cmp-codes, codes-uncode, code, Leads-walk}
+use Rattle.search_laws.specs.PairWalks.{PairWalk, uncode}
 use Rattle.least_walk.specs.declared.queue.Reached.{Reached}
 use Rattle.least_walk.specs.declared.queue.Arrival.{Arrival}
 use Rattle.least_walk.specs.declared.queue.Ends.{Ends}

@@ -19,7 +19,8 @@ use Rattle.search_laws.proofs.QueueStates.{length-queue-le, state-below}
 use Rattle.search_laws.proofs.LeastSteps.{NoEdgeBefore, NoEdgeBefore-start, NoEdgeBefore-next, NoEdgeBefore-push, edge-within, IsLeastStepsTo, IsLeastStepsTo-edge, no_steps_to}
 use Rattle.search_laws.proofs.QueueDepths.{AreDepths, depths-ascending, no_word_within}
 use Rattle.search_laws.proofs.SpelledWords.{Spells-some, length-spelled-le}
-use Rattle.search_laws.proofs.PairWalks.{code, Leads-walk, CodeStep-some, CodeStep-follows, PairWalk, IsLeastWalk, IsLeastWalk-steps, uncode, no_walk}
+use Rattle.search_laws.proofs.PairWalks.{code, Leads-walk, CodeStep-some, CodeStep-follows, IsLeastWalk-steps, no_walk}
+use Rattle.search_laws.specs.PairWalks.{PairWalk, IsLeastWalk, uncode}
 use Rattle.least_walk.specs.declared.queue.Reached.{Reached}
 use Rattle.least_walk.specs.declared.queue.Ends.{Ends}
 use Rattle.least_walk.specs.Marks.{HasPair}

@@ -2,7 +2,7 @@
 
 ghost use Rattle.std.specs.Prelude.{◌≡◌, ℕ, ◌+◌, ◌*◌, ◌<◌, ◌≤◌, List, length, map, Some, slice_get, IfOk, IfSome, IfNone, MatchOption};
 ghost use Rattle.word_image.specs.Graphs.{marked, pair_count};
-ghost use Rattle.search_laws.proofs.PairWalks.{PairWalk, uncode};
+ghost use Rattle.search_laws.specs.PairWalks.{PairWalk, uncode};
 ghost use Rattle.least_walk.specs.declared.queue.Reached.{Reached};
 ghost use Rattle.least_walk.specs.Trees.{AreApart, IsIndex, IsLeastWalkTo};
 

@@ -32,7 +32,7 @@ impl Model for Walker {
 
 impl Walker {
     ghost use Rattle.word_image.specs.Graphs.{marked, pair_count};
-    ghost use Rattle.search_laws.proofs.PairWalks.{IsLeastWalk, PairWalk, uncode};
+    ghost use Rattle.search_laws.specs.PairWalks.{IsLeastWalk, PairWalk, uncode};
 
     /// A walker that has found no walk. It takes all the memory that it needs.
     pub fn new(alloc: Global) -> Result<Walker, AllocError>

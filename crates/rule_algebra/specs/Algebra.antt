@@ -1,6 +1,5 @@
 -- Rules made of rules: shifted, recoloured, one after the other, widened and trimmed.
 use Rattle.std.specs.Prelude.{◌≡◌, ℕ, ◌+◌, ◌-◌, ◌^◌, ◌<◌, ◌≤◌, List, length, map, take, drop, slice_index, ℤ, pos, ◌+ℤ◌}
-use Rattle.std.specs.List.{range_with_len}
 use Rattle.word_image.specs.LocalRules.{LocalRule, IsWord, local_map}
 use Rattle.word_image.specs.Words.{image}
 use Rattle.tail_config.specs.Tails.{TailConfig, IsTail, image_cell}
@@ -12,10 +11,6 @@ KeepsImages r g = (t : TailConfig) (i : ℤ) → IsTail r.states t → image_cel
 -- the same table, read further to the right
 abbrev pub shifted : LocalRule → ℤ → LocalRule
 shifted r by = record { states = r.states; width = r.width; offset = r.offset +ℤ by; table = r.table }
-
--- image cell i is the old one at i + by
-abbrev pub ShiftsImages : LocalRule → ℤ → LocalRule → Type 0
-ShiftsImages r by g = (t : TailConfig) (i : ℤ) → image_cell g t i ≡ image_cell r t (i +ℤ by)
 
 -- a list of k different letters below k
 pub record IsRecolouring (k : ℕ) (colours : List ℕ) : Type 0 where
@@ -34,21 +29,12 @@ pub record IsRecoloured (colours : List ℕ) (f g : LocalRule) : Type 0 where
   pub entries : length g.table ≡ f.states ^ f.width
   pub letters : (w : List ℕ) → IsWord f.states w → length w ≡ f.width → local_map g (recoloured colours w) ≡ slice_index colours (local_map f w)
 
--- the image of every recoloured word is the recoloured image
-abbrev pub RecoloursImages : List ℕ → LocalRule → LocalRule → Type 0
-RecoloursImages colours f g = (x : List ℕ) → IsWord f.states x → image g (recoloured colours x) ≡ recoloured colours (image f x)
-
 -- the image under g is the second rule's image of the first rule's image
 pub record IsComposed (first second g : LocalRule) : Type 0 where
   pub states : g.states ≡ first.states
   pub width : g.width ≡ first.width + second.width - 1
   pub offset : g.offset ≡ first.offset +ℤ second.offset
   pub images : (x : List ℕ) → IsWord first.states x → g.width ≤ length x + 1 → image g x ≡ image second (image first x)
-
--- each image cell under g is what the second rule gives on the first rule's image cells
-abbrev pub ComposesCells : LocalRule → LocalRule → LocalRule → Type 0
-ComposesCells first second g = (t : TailConfig) (i : ℤ) → IsTail first.states t
-    → image_cell g t i ≡ local_map second (map (λ j. image_cell first t (i +ℤ second.offset +ℤ pos j)) (range_with_len 0 second.width))
 
 -- width m, with cells to the right that are ignored
 pub record IsWidened (r : LocalRule) (m : ℕ) (g : LocalRule) : Type 0 where

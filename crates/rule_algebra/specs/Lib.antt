@@ -1,4 +1,5 @@
 pub mod Algebra
+pub mod MadeImages
 pub mod AlgebraFaults
 pub mod Tables
 pub mod Examples

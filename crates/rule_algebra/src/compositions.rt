@@ -4,7 +4,8 @@ ghost use Rattle.std.specs.Result.{result_err};
 ghost use Rattle.word_image.specs.LocalRules.{IsRule, value, word_of};
 ghost use Rattle.word_image.specs.Words.{image};
 ghost use Rattle.word_image.specs.Storage.{padded};
-ghost use Rattle.rule_algebra.specs.Algebra.{IsComposed, ComposesCells};
+ghost use Rattle.rule_algebra.specs.Algebra.{IsComposed};
+ghost use Rattle.rule_algebra.specs.MadeImages.{ComposesCells};
 ghost use Rattle.rule_algebra.specs.AlgebraFaults.{compose_fault};
 ghost use Rattle.rule_algebra.specs.Tables.{composed};
 

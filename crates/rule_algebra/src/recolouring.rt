@@ -1,7 +1,8 @@
 //! Rules with other names for their letters.
 ghost use Rattle.std.specs.Prelude.{◌≡◌, ◌<◌, ◌^◌, ◌↔◌, IfOk, IfErr, IsOk, IsTrue};
 ghost use Rattle.word_image.specs.LocalRules.{value, word_of};
-ghost use Rattle.rule_algebra.specs.Algebra.{IsRecolouring, IsRecoloured, RecoloursImages, recoloured};
+ghost use Rattle.rule_algebra.specs.Algebra.{IsRecolouring, IsRecoloured, recoloured};
+ghost use Rattle.rule_algebra.specs.MadeImages.{RecoloursImages};
 ghost use Rattle.rule_algebra.specs.Tables.{IsRecolouredTable};
 
 use crate::fault::AlgebraFault;

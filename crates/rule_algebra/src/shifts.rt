@@ -1,7 +1,8 @@
 //! Rules whose windows lie elsewhere.
 ghost use Rattle.std.specs.Prelude.{◌≡◌, IfOk};
 ghost use Rattle.std.specs.Result.{result_err};
-ghost use Rattle.rule_algebra.specs.Algebra.{shifted, ShiftsImages};
+ghost use Rattle.rule_algebra.specs.Algebra.{shifted};
+ghost use Rattle.rule_algebra.specs.MadeImages.{ShiftsImages};
 ghost use Rattle.rule_algebra.specs.AlgebraFaults.{shift_fault};
 
 use crate::fault::{AlgebraFault, check_offset};

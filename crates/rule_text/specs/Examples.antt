@@ -3,7 +3,8 @@ use Rattle.std.specs.Prelude.{◌≡◌, refl, [], ◌∷◌, pos, negsuc, Some,
 use Rattle.std.specs.Fmt.{digits}
 use Rattle.rule_text.specs.declared.text_fault.TextFault.TheVariants as fault
 use Rattle.word_image.specs.Digits.{letter_at}
-use Rattle.rule_text.specs.RuleTexts.{Table, Number, bare, by_number, decimal_value, fault_of, printed, rule_of}
+use Rattle.rule_text.specs.RuleTexts.{Table, Number, bare, by_number, decimal_value, fault_of, rule_of}
+use Rattle.rule_text.specs.PrintedRules.{printed}
 
 -- the digits 110
 value_110 : decimal_value (codes "110") ≡ 110

@@ -1,3 +1,4 @@
+pub mod PrintedRules
 pub mod RuleTexts
 pub mod Heads
 pub mod Examples

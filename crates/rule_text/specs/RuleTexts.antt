@@ -1,13 +1,13 @@
 -- The texts of a rule: their grammar, what each means, and which fault comes first.
 use Rattle.std.specs.Prelude.{◌≡◌, ℕ, ◌+◌, ◌-◌, ◌^◌, ◌≤◌, List, ◌++◌, length, map, codes, Option, Some, None, Result, Ok, Err, All, nat_lt, nat_le, if◌then◌else◌, ℤ, pos, negsuc, neg_ℤ, reverse}
 use Rattle.std.specs.Option.{option_map, option_or}
-use Rattle.std.specs.Fmt.{decimal}
 use Rattle.word_image.specs.LocalRules.{LocalRule, value, word_of}
-use Rattle.word_image.specs.Digits.{lower_digit, IsHexDigit, letter_at}
+use Rattle.word_image.specs.Digits.{IsHexDigit, letter_at}
 use Rattle.word_image.specs.Grammars.{IsFormFault}
 use Rattle.word_image.specs.RuleFaults.{shape_fault, table_fault}
 use Rattle.word_image.specs.declared.local_rule.RuleFault.{RuleFault}
 use Rattle.word_image.specs.declared.local_rule.RuleFault.TheVariants as limit
+use Rattle.rule_text.specs.PrintedRules.{head}
 use Rattle.rule_text.specs.declared.text_fault.TextFault.{TextFault}
 use Rattle.rule_text.specs.declared.text_fault.TextFault.TheVariants as fault
 
@@ -42,10 +42,6 @@ pub record Said : Type 0 where
   pub offset : ℤ
   pub entries : Entries
   pub place : ℕ
-
--- the head of a text, what stands before its entries: K:M:O: and their kind
-abbrev pub head : List ℕ → List ℕ → List ℕ → List ℕ → List ℕ
-head k m o kind = k ++ codes ":" ++ m ++ codes ":" ++ o ++ codes ":" ++ kind
 
 -- the rule of this shape and offset with this number, by no text
 abbrev pub by_number : ℕ → ℕ → ℤ → ℕ → Said
@@ -116,12 +112,3 @@ pub record IsRuleText (text : List ℕ) (r : LocalRule) : Type 0 where
 pub data IsTextFault (text : List ℕ) : TextFault → Type 0 where
   NoForm : (place : ℕ) → IsFormFault IsSaid text place → IsTextFault text (fault.Form place)
   Refused : (said : Said) (f : TextFault) → Says text said → fault_of said ≡ Some f → IsTextFault text f
-
--- an offset, with a minus sign exactly where it is negative
-abbrev pub offset_text : ℤ → List ℕ
-offset_text (pos n) = decimal n
-offset_text (negsuc n) = codes "-" ++ decimal (n + 1)
-
--- the printed form: the table form in lower case
-abbrev pub printed : LocalRule → List ℕ
-printed r = head (decimal r.states) (decimal r.width) (offset_text r.offset) (codes "t") ++ map lower_digit r.table

@@ -2,7 +2,8 @@
 ghost use Rattle.std.specs.Prelude.{◌≡◌, ◌<◌, IfOk};
 ghost use Rattle.std.specs.Option.{SomeIff};
 ghost use Rattle.word_image.specs.LocalRules.{LocalRule, IsRule, wolfram_number};
-ghost use Rattle.rule_text.specs.RuleTexts.{IsRuleText, printed};
+ghost use Rattle.rule_text.specs.RuleTexts.{IsRuleText};
+ghost use Rattle.rule_text.specs.PrintedRules.{printed};
 
 use std::alloc::{AllocError, Global};
 use word_image::{Rule, digit};

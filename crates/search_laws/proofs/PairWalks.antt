@@ -12,28 +12,15 @@ use Rattle.word_image.specs.LocalRules.{IsWord, value}
 use Rattle.word_image.specs.Words.{word_cmp}
 use Rattle.word_image.specs.Rings.{pair_cmp, pairs_cmp}
 use Rattle.word_image.proofs.laws.Orders.{slice_cmp-value}
+use Rattle.search_laws.specs.PairWalks.{PairWalk, IsLeastWalk, uncode}
+use Rattle.search_laws.specs.PairWalks.PairWalk.{Stay, Go}
 use Rattle.search_laws.specs.SearchQueues.{Leads}
 use Rattle.search_laws.specs.SearchQueues.Leads.{Here, On}
 use Rattle.search_laws.proofs.LeastSteps.{IsLeastStepsTo}
 
--- the letter pairs lead from the start to the state, each pair to where `follow` leads, if it does
-pub data PairWalk (follow : ℕ → ℕ → ℕ → Option ℕ) (k start : ℕ) : List (ℕ × ℕ) → ℕ → Type 0 where
-  Stay : PairWalk follow k start [] start
-  Go : (w : List (ℕ × ℕ)) (a b s t : ℕ) → PairWalk follow k start w s → a < k → b < k → follow s a b ≡ Some t → PairWalk follow k start (w ++ (a, b) ∷ []) t
-
--- the first walk of at least one step to the state: the shortest, and of these the first in dictionary order
-pub record IsLeastWalk (follow : ℕ → ℕ → ℕ → Option ℕ) (k start t : ℕ) (w : List (ℕ × ℕ)) : Type 0 where
-  pub some : 0 < length w
-  pub walk : PairWalk follow k start w t
-  pub least : (v : List (ℕ × ℕ)) → 0 < length v → PairWalk follow k start v t → pairs_cmp w v ≢ Greater
-
 -- the number of a letter pair, in base n
 abbrev pub code : ℕ → ℕ × ℕ → ℕ
 code n p = p.0 * n + p.1
-
--- the letter pair of a number
-abbrev pub uncode : ℕ → ℕ → ℕ × ℕ
-uncode n c = (c / n, c % n)
 
 -- a step on the number of a letter pair, for letters below k
 pub record CodeStep (follow : ℕ → ℕ → ℕ → Option ℕ) (k n s c t : ℕ) : Type 0 where

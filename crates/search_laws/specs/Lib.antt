@@ -1,1 +1,2 @@
 pub mod SearchQueues
+pub mod PairWalks

@@ -1,8 +1,9 @@
 -- The walks that are found breadth first are the walks by letter pairs.
 use Rattle.std.proofs.Common.{ℕ, ◌<◌, List, [], ◌∷◌, ◌++◌, Option, refl, sym, subst, append_assoc, append-nil}
 use Rattle.std.proofs.lemmas.List.Elements.{All-head, All-tail}
-use Rattle.search_laws.proofs.PairWalks.{PairWalk, ArePairs}
-use Rattle.search_laws.proofs.PairWalks.PairWalk.{Stay, Go}
+use Rattle.search_laws.proofs.PairWalks.{ArePairs}
+use Rattle.search_laws.specs.PairWalks.{PairWalk}
+use Rattle.search_laws.specs.PairWalks.PairWalk.{Stay, Go}
 use Rattle.tail_laws.proofs.PairLeads.{Follows, Follows-join}
 
 -- a walk that is found is one along its letter pairs

@@ -13,8 +13,8 @@ use Rattle.std.proofs.lemmas.Slice.Zip.{firsts-zip, seconds-zip}
 use Rattle.word_image.specs.LocalRules.{LocalRule, IsRule}
 use Rattle.word_image.specs.Graphs.{pair_count, marked}
 use Rattle.word_image.specs.Rings.{pair_cmp, pairs_cmp}
-use Rattle.search_laws.proofs.PairWalks.{PairWalk, IsLeastWalk}
-use Rattle.search_laws.proofs.PairWalks.PairWalk.{Stay, Go}
+use Rattle.search_laws.specs.PairWalks.{PairWalk, IsLeastWalk}
+use Rattle.search_laws.specs.PairWalks.PairWalk.{Stay, Go}
 use Rattle.tail_config.specs.Tails.{TailConfig}
 use Rattle.tail_config.specs.Splits.{IsNormalRightSplit, IsLeastRightSplit, splits_cmp}
 use Rattle.tail_laws.specs.SplitWalks.{IsSplitAt, IsNoSplitAt, IsNoSplitBelow, IsLeastReach, IsLeastSplitAt, IsLeastBelow, with_mark, first_tail, second_tail, split_of}

@@ -11,7 +11,7 @@ use Rattle.std.proofs.lemmas.Nat.{mul-le}
 use Rattle.word_image.specs.LocalRules.{LocalRule, IsRule, node_count}
 use Rattle.word_image.specs.Graphs.{pair_count, marked}
 use Rattle.word_image.specs.Rings.{IsTwins, IsLeastTwins, pairs_cmp}
-use Rattle.search_laws.proofs.PairWalks.{IsLeastWalk}
+use Rattle.search_laws.specs.PairWalks.{IsLeastWalk}
 use Rattle.tail_laws.specs.Turns.{IsTurn, NoTurnBelow, IsFirstTurn}
 use Rattle.tail_laws.proofs.BreadthFirst.{Follows-walk}
 use Rattle.tail_laws.proofs.ShortWalks.{length-IsLeastWalk}

@@ -10,7 +10,8 @@ use Rattle.std.proofs.lemmas.List.{length-take-le}
 use Rattle.std.proofs.lemmas.List.Elements.{All-take, All-drop, All-append}
 use Rattle.word_image.specs.Rings.{pair_cmp, pairs_cmp}
 use Rattle.word_image.proofs.laws.Searches.{twice_below}
-use Rattle.search_laws.proofs.PairWalks.{IsLeastWalk, ArePairs, ArePairs-walk}
+use Rattle.search_laws.proofs.PairWalks.{ArePairs, ArePairs-walk}
+use Rattle.search_laws.specs.PairWalks.{IsLeastWalk}
 use Rattle.tail_laws.proofs.PairLeads.{Follows, Follows-cut, Follows-join}
 use Rattle.tail_laws.proofs.BreadthFirst.{Follows-walk, PairWalk-follows}
 

@@ -4,7 +4,7 @@ use Rattle.std.specs.declared.cmp.Ordering.TheVariants.{Greater}
 use Rattle.word_image.specs.LocalRules.{LocalRule}
 use Rattle.word_image.specs.Graphs.{pair_count, marked}
 use Rattle.word_image.specs.Rings.{pairs_cmp}
-use Rattle.search_laws.proofs.PairWalks.{PairWalk}
+use Rattle.search_laws.specs.PairWalks.{PairWalk}
 use Rattle.tail_config.specs.Tails.{TailConfig}
 use Rattle.tail_config.specs.Splits.{IsNormalRightSplit, splits_cmp}
 

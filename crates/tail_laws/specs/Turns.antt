@@ -4,7 +4,7 @@ use Rattle.std.specs.declared.cmp.Ordering.TheVariants.{Greater}
 use Rattle.word_image.specs.LocalRules.{LocalRule}
 use Rattle.word_image.specs.Graphs.{pair_count, marked}
 use Rattle.word_image.specs.Rings.{pairs_cmp}
-use Rattle.search_laws.proofs.PairWalks.{PairWalk}
+use Rattle.search_laws.specs.PairWalks.{PairWalk}
 
 -- the letter pairs lead from the pair p without the mark to p with it
 abbrev pub IsTurn : LocalRule → ℕ → List (ℕ × ℕ) → Type 0

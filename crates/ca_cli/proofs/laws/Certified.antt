@@ -1,20 +1,25 @@
--- What `certify` writes is accepted by `check`.
+-- What `certify` and `brief` write is accepted by `check`.
 use Rattle.std.proofs.Common.{◌≡◌, ℕ, ◌≤◌, List, length, refl, sym, ap, subst, arith}
 use Rattle.std.specs.Prelude.{Option, Some, ◌↔◌}
+use Rattle.word_image.specs.LocalRules.{LocalRule}
 use Rattle.rule_text.specs.RuleTexts.{IsRuleText}
+use Rattle.cert_format.specs.declared.cert_version.CertVersion.{CertVersion}
 use Rattle.cert_check.specs.Accepted.{IsAccepted, AreTrue, verdicts_of}
 use Rattle.cert_check.specs.Refusals.{IsRefusal}
 use Rattle.cert_check.specs.declared.verdicts.Verdicts.{Verdicts}
 use Rattle.cert_check.proofs.laws.OneAnswer.{IsAccepted-unique, accepted_not_refused}
 use Rattle.cert_check.proofs.laws.Soundness.{AreTrue-accepted}
-use Rattle.ca_cli.specs.declared.words.request.Ask.TheVariants as ask
 use Rattle.ca_cli.specs.declared.status.Status.{Status}
 use Rattle.ca_cli.specs.declared.status.Status.TheVariants as status
+use Rattle.ca_cli.specs.Commands.{Command}
 use Rattle.ca_cli.specs.Commands as commands
 use Rattle.ca_cli.specs.Inputs.{most_input}
 use Rattle.ca_cli.specs.StatusLines.{accepted_lines}
+use Rattle.ca_cli.specs.Outputs.{IsCertified}
 use Rattle.ca_cli.specs.RightAnswers.{IsRight}
-use Rattle.ca_cli.specs.RightAnswers.IsRight.{OfRule, Unfit, Accepted, Refused, TooLong}
+use Rattle.ca_cli.specs.CertificateCommands.{AsksCertificate}
+use Rattle.ca_cli.specs.CertificateCommands.AsksCertificate.{Certify, Brief, CertifyWith, BriefWith}
+use Rattle.ca_cli.specs.RightAnswers.IsRight.{OfRule, OfRuleWith, Unfit, Accepted, Refused, TooLong}
 
 -- of an input that is accepted `check` says its verdicts, and nothing else
 accepted_alone : {bytes : List ℕ} {v : Verdicts} → IsAccepted bytes v → length bytes ≤ most_input → (s : Status) (lines : List ℕ) → IsRight (Some bytes) commands.Check s lines
@@ -24,10 +29,10 @@ accepted_alone accepted short s lines (Accepted others w whole also are_true) = 
 accepted_alone accepted short s lines (Refused others f whole refused) = absurd (accepted_not_refused accepted (subst (λ b. IsRefusal b f) whole.all refused))
 accepted_alone accepted short s lines (TooLong long) = absurd (omega (arith, short, long))
 
--- so is what is written for a rule
-pub certified_accepted : {input : Option (List ℕ)} {text out : List ℕ} → IsRight input (commands.OfRule ask.Certify text) status.Done out
+-- so it says of a certificate that is written
+written_accepted : {version : CertVersion} {text weights out : List ℕ} {r : LocalRule} → IsRuleText text r → IsCertified version r weights out
     → (v : Verdicts) × IsRuleText text v.rule × AreTrue v × ((s : Status) (lines : List ℕ) → IsRight (Some out) commands.Check s lines ↔ ((s ≡ status.Done) × (lines ≡ accepted_lines v)))
-certified_accepted (OfRule _ text r out says (c, written, is)) =
+written_accepted {text = text} {out = out} says (c, written, is) =
     let accepted : IsAccepted out (verdicts_of c) = subst (λ b. IsAccepted b (verdicts_of c)) (sym is) written.accepted in
     let short : length out ≤ most_input = omega (arith, ap length is, written.short) in
     let are_true = AreTrue-accepted accepted in (
@@ -36,3 +41,11 @@ certified_accepted (OfRule _ text r out says (c, written, is)) =
       are_true,
       λ s lines. (accepted_alone accepted short s lines, (λ (done, same). rw (done, same) (Accepted out (verdicts_of c) (record { all = refl; short = short }) accepted are_true))),
     )
+
+-- and of what a command writes that asks for one
+pub certified_accepted : {input : Option (List ℕ)} {c : Command} {text out : List ℕ} → AsksCertificate c text → IsRight input c status.Done out
+    → (v : Verdicts) × IsRuleText text v.rule × AreTrue v × ((s : Status) (lines : List ℕ) → IsRight (Some out) commands.Check s lines ↔ ((s ≡ status.Done) × (lines ≡ accepted_lines v)))
+certified_accepted (Certify _) (OfRule _ text r out says is) = written_accepted says is
+certified_accepted (Brief _) (OfRule _ text r out says is) = written_accepted says is
+certified_accepted (CertifyWith _ _) (OfRuleWith _ text weights r out says is) = written_accepted says is.1
+certified_accepted (BriefWith _ _) (OfRuleWith _ text weights r out says is) = written_accepted says is.1

@@ -1,7 +1,7 @@
 //! What is said of a certificate: its verdicts, or why it is refused.
 ghost use Rattle.std.specs.Prelude.{◌≡◌, ◌++◌, codes, IfOk, OnOk, string_bytes};
 ghost use Rattle.std.specs.Fmt.{decimal};
-ghost use Rattle.rule_text.specs.RuleTexts.{printed};
+ghost use Rattle.rule_text.specs.PrintedRules.{printed};
 ghost use Rattle.ca_cli.specs.Lines.{line, fault_text};
 ghost use Rattle.ca_cli.specs.StatusLines.{accepted_lines, weights_lines, with_commas, after_commas, verdict_line, verdict_text, refused_line, refusal_text, shape_text, key_text, side_text, twin_text, split_text};
 

@@ -1,6 +1,7 @@
 //! What the words ask for, with the numbers that stand in them.
 ghost use Rattle.std.specs.Prelude.{◌≡◌, ◌∷◌, [], map, MatchOption, string_bytes};
-ghost use Rattle.ca_cli.specs.Commands.{AskWith, Command, IsChange, IsCommand, IsOperand, AskOfMany, BeginsAt, IsBeginning, IsRequest, asked_of_many, asked_with, name_of, name_of_many, name_of_two, name_with};
+ghost use Rattle.ca_cli.specs.Commands.{AskWith, Command, IsCommand, IsOperand, AskOfMany, IsBeginning, name_of, name_of_many, name_of_two, name_with};
+ghost use Rattle.ca_cli.specs.Requests.{IsChange, BeginsAt, IsRequest, asked_of_many, asked_with};
 ghost use Rattle.rule_text.specs.RuleTexts.{decimal_value};
 
 use crate::words::operands::{are_colours, count_of, seed, small};

@@ -3,7 +3,8 @@ use Rattle.std.proofs.Common.{Bool, true, false, refl, sym, subst}
 use Rattle.std.specs.Prelude.{List, ℕ, slice_index, ◌↔◌, ◌&&◌, IsTrue}
 use Rattle.std.proofs.lemmas.Bool.{false≢true}
 use Rattle.rule_text.proofs.laws.AcceptedRules.{IsRule-text}
-use Rattle.cert_format.specs.Certificates.{Certificate, IsShaped}
+use Rattle.cert_format.specs.Certificates.{Certificate}
+use Rattle.cert_format.specs.Parts.{IsShaped}
 use Rattle.cert_format.specs.CertificateTexts.{IsCertificateText}
 use Rattle.cert_format.proofs.laws.WeightMembers.{IsWeightShape-has}
 use Rattle.cert_check.specs.declared.conditions.Condition.TheVariants.{ForwardClaims, BackwardClaims, FullListed, NoneEmpty, Closed, FirstsListed, OffDiagonal, PairsClosed, OrphanRead, WindowClaims, TwinsAlike, RightAhead, RightSplit, LeftAhead, LeftSplit, FluxFlows, RingLossy}

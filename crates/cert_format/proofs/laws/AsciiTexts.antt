@@ -13,7 +13,7 @@ use Rattle.word_image.specs.LocalRules.{LocalRule, IsShape, IsRule, IsWord}
 use Rattle.word_image.specs.Digits.{lower_digit, word_text}
 use Rattle.tail_config.specs.TailTexts as tail
 use Rattle.tail_config.specs.TailValues.{TailOver, IsAccepted}
-use Rattle.rule_text.specs.RuleTexts.{offset_text, printed}
+use Rattle.rule_text.specs.PrintedRules.{offset_text, printed}
 
 -- a text of bytes below 128
 record Ascii (text : List ℕ) : Type 0 where

@@ -6,7 +6,7 @@ use Rattle.serde_json.specs.Data.{Data, string, object, Items, Members, no_membe
 use Rattle.serde_json.specs.View.{items_of}
 use Rattle.serde_json.specs.Written.{has_float, items_have_float, members_have_float}
 use Rattle.word_image.specs.LocalRules.{LocalRule}
-use Rattle.rule_text.specs.RuleTexts.{printed}
+use Rattle.rule_text.specs.PrintedRules.{printed}
 use Rattle.cert_format.specs.Versions.{number_of}
 use Rattle.cert_format.specs.Evidence.{SurjectiveEvidence, InjectiveEvidence, SideEvidence, SumEvidence}
 use Rattle.cert_format.specs.Certificates.{Certificate}

@@ -21,13 +21,14 @@ use Rattle.tail_config.specs.Tails.{TailConfig}
 use Rattle.tail_config.specs.TailTexts.{HasParts, IsShortTail}
 use Rattle.tail_config.specs.TailTexts as tail
 use Rattle.tail_config.proofs.laws.TailTexts.{Spells-word_text}
-use Rattle.rule_text.specs.RuleTexts.{printed}
+use Rattle.rule_text.specs.PrintedRules.{printed}
 use Rattle.rule_text.proofs.laws.Printed.{IsRuleText-printed}
 use Rattle.cert_format.specs.declared.cert_version.CertVersion.{CertVersion}
 use Rattle.cert_format.specs.declared.cert_version.CertVersion.TheVariants.{One, Two, Three}
 use Rattle.cert_format.specs.Versions.{number_of, names_weights}
 use Rattle.cert_format.specs.Evidence.{SurjectiveEvidence, InjectiveEvidence, SideEvidence, SumEvidence}
-use Rattle.cert_format.specs.Certificates.{Certificate, IsClaim, IsSurjectiveShape, IsInjectiveShape, IsSideShape, IsSumShape, IsWeightShape, IsRankShape, IsShaped}
+use Rattle.cert_format.specs.Certificates.{Certificate, IsClaim, IsSurjectiveShape, IsInjectiveShape, IsSideShape, IsSumShape, IsWeightShape, IsRankShape}
+use Rattle.cert_format.specs.Parts.{IsShaped}
 use Rattle.cert_format.specs.Evidence.SurjectiveEvidence.{Sets, Pairs, Orphan}
 use Rattle.cert_format.specs.Evidence.InjectiveEvidence.{Window, Twins}
 use Rattle.cert_format.specs.Evidence.SideEvidence.{Ahead, Split}

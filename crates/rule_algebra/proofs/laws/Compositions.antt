@@ -11,7 +11,8 @@ use Rattle.word_image.proofs.laws.Words.{length-image, entry-below}
 use Rattle.word_image.proofs.laws.Images.{get_or-image, image-by_letters, image-drop, image-take}
 use Rattle.tail_config.specs.Tails.{cells}
 use Rattle.tail_config.proofs.laws.Cells.{length-cells, IsWord-cells, image-cells}
-use Rattle.rule_algebra.specs.Algebra.{IsComposed, ComposesCells}
+use Rattle.rule_algebra.specs.Algebra.{IsComposed}
+use Rattle.rule_algebra.specs.MadeImages.{ComposesCells}
 use Rattle.rule_algebra.specs.AlgebraFaults.{limit_fault, compose_fault}
 use Rattle.rule_algebra.specs.declared.fault.AlgebraFault.TheVariants.{States}
 use Rattle.rule_algebra.specs.Tables.{composed}

@@ -11,7 +11,8 @@ use Rattle.word_image.proofs.laws.Values.{value-below, value-injective, value-wo
 use Rattle.word_image.proofs.laws.RuleFaults.{window_count-le}
 use Rattle.word_image.proofs.laws.Words.{length-image}
 use Rattle.word_image.proofs.laws.Images.{get_or-image, image-by_letters}
-use Rattle.rule_algebra.specs.Algebra.{IsRecolouring, IsRecoloured, RecoloursImages, recoloured}
+use Rattle.rule_algebra.specs.Algebra.{IsRecolouring, IsRecoloured, recoloured}
+use Rattle.rule_algebra.specs.MadeImages.{RecoloursImages}
 use Rattle.rule_algebra.specs.Tables.{IsRecolouredTable}
 use Rattle.rule_algebra.proofs.laws.WindowValues.{value-slice_range-word_of}
 

@@ -3,7 +3,8 @@ use Rattle.std.proofs.Common.{◌≡◌, None, ℤ, ◌+ℤ◌, ap, arith}
 use Rattle.std.proofs.lemmas.Int.{ints}
 use Rattle.word_image.specs.LocalRules.{LocalRule, IsRule, local_map}
 use Rattle.tail_config.specs.Tails.{cells}
-use Rattle.rule_algebra.specs.Algebra.{shifted, ShiftsImages}
+use Rattle.rule_algebra.specs.Algebra.{shifted}
+use Rattle.rule_algebra.specs.MadeImages.{ShiftsImages}
 use Rattle.rule_algebra.specs.AlgebraFaults.{offset_fault}
 use Rattle.rule_algebra.proofs.laws.Limits.{IsShape-offset_fault}
 

@@ -6,7 +6,8 @@ use Rattle.std.proofs.lemmas.List.{get_or_past}
 use Rattle.std.proofs.Math.Seq.{get_or-append_seam}
 use Rattle.rule_text.specs.declared.head.Kind.{Kind}
 use Rattle.rule_text.specs.declared.head.Kind.TheVariants as kind
-use Rattle.rule_text.specs.RuleTexts.{IsDigit, IsDecimal, IsOffset, Plain, Minus, Entries, Said, Says, Bare, InTable, InNumber, bare, decimal_value, head}
+use Rattle.rule_text.specs.RuleTexts.{IsDigit, IsDecimal, IsOffset, Plain, Minus, Entries, Said, Says, Bare, InTable, InNumber, bare, decimal_value}
+use Rattle.rule_text.specs.PrintedRules.{head}
 use Rattle.rule_text.specs.Heads.{IsEntries, colon, entries_of, kind_text, sign, signed}
 use Rattle.rule_text.proofs.laws.Parts.{Field, AfterStates, saying, same_signed, Field-unique, Signed-unique, Kinds-unique}
 

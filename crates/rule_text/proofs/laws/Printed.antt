@@ -13,7 +13,8 @@ use Rattle.std.proofs.lemmas.List.Elements.{All-nil, All-cons, All-head, All-tai
 use Rattle.word_image.specs.LocalRules.{LocalRule, IsShape, IsRule}
 use Rattle.word_image.specs.Digits.{lower_digit, hex_value, IsHexDigit, letter_at}
 use Rattle.word_image.proofs.laws.RuleFaults.{table_fault-IsWord}
-use Rattle.rule_text.specs.RuleTexts.{IsDigit, IsDecimal, IsOffset, Plain, Minus, Says, InTable, Table, IsRuleText, decimal_value, in_text, offset_text, printed, head}
+use Rattle.rule_text.specs.RuleTexts.{IsDigit, IsDecimal, IsOffset, Plain, Minus, Says, InTable, Table, IsRuleText, decimal_value, in_text}
+use Rattle.rule_text.specs.PrintedRules.{offset_text, printed, head}
 use Rattle.rule_text.proofs.laws.Parts.{saying}
 use Rattle.rule_text.proofs.laws.Heads.{Says-same}
 use Rattle.rule_text.proofs.laws.Numbers.{fault_of-shape}

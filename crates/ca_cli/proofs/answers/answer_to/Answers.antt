@@ -2,7 +2,7 @@ use Rattle.std.proofs.Common.{map, sym, subst}
 use Rattle.std.specs.Prelude.{string_bytes}
 use Rattle.std.proofs.lemmas.Result.{IfOk-weaker}
 use Rattle.ca_cli.specs.declared.status.Status.TheVariants as status
-use Rattle.ca_cli.specs.Commands.{IsRequest}
+use Rattle.ca_cli.specs.Requests.{IsRequest}
 use Rattle.ca_cli.specs.Commands as commands
 use Rattle.ca_cli.specs.RightAnswers.{IsAnswer}
 use Rattle.ca_cli.specs.RightAnswers.IsAnswer.{Usage}

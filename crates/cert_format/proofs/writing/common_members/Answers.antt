@@ -1,7 +1,7 @@
 use Rattle.std.proofs.Common.{◌≡◌, ℕ, List, ap, ap₂, ◌∙◌, codes, rules}
 use Rattle.serde_json.specs.Data.{Data, string, Members, no_members, put}
 use Rattle.serde_json.specs.View.{members_view}
-use Rattle.rule_text.specs.RuleTexts.{printed}
+use Rattle.rule_text.specs.PrintedRules.{printed}
 use Rattle.cert_format.specs.Versions.{number_of}
 use Rattle.cert_format.specs.Parts.{side_of}
 use Rattle.cert_format.specs.WrittenTexts.{whole_value, side_value}

@@ -1,6 +1,6 @@
 use Rattle.std.proofs.Common.{◌+◌, map, sym, subst}
 use Rattle.word_image.specs.LocalRules.{LocalRule}
-use Rattle.search_laws.proofs.PairWalks.{uncode}
+use Rattle.search_laws.specs.PairWalks.{uncode}
 use Rattle.tail_laws.proofs.LeastTwins.{IsLeastTurn}
 use Rattle.inverse_window.specs.FirstTurns.{IsFirstFound}
 use Rattle.inverse_window.proofs.TurnSteps.{IsFirstFound-next, IsFirstFound-none}

@@ -1,7 +1,7 @@
 use Rattle.std.proofs.Common.{◌≡◌, map, true, false, refl, ap, ◌∙◌}
 use Rattle.word_image.specs.LocalRules.{IsRule}
 use Rattle.word_image.specs.Graphs.{pair_count}
-use Rattle.search_laws.proofs.PairWalks.{uncode}
+use Rattle.search_laws.specs.PairWalks.{uncode}
 use Rattle.tail_laws.proofs.TwinTails.{no_twins}
 use Rattle.tail_laws.proofs.NoTwins.{IsInjective-no_twins}
 use Rattle.tail_laws.specs.Turns.{IsFirstTurn, NoTurnBelow}

@@ -1,5 +1,6 @@
 use Rattle.std.proofs.Common.{sym, subst}
-use Rattle.rule_algebra.specs.Algebra.{IsComposed, ComposesCells}
+use Rattle.rule_algebra.specs.Algebra.{IsComposed}
+use Rattle.rule_algebra.specs.MadeImages.{ComposesCells}
 use Rattle.rule_algebra.proofs.laws.Compositions.{IsComposed-composed, ComposesCells-composed}
 use Rattle.rule_algebra.proofs.compositions.compose.Goals as goal
 

@@ -1,6 +1,7 @@
 use Rattle.std.proofs.Common.{◌≡◌, ℕ, List, ℤ, ◌+ℤ◌, None, sym, ap, ap₂, subst, ◌∙◌, w8, to_z, of_z}
 use Rattle.word_image.specs.LocalRules.{LocalRule, IsRule}
-use Rattle.rule_algebra.specs.Algebra.{shifted, ShiftsImages}
+use Rattle.rule_algebra.specs.Algebra.{shifted}
+use Rattle.rule_algebra.specs.MadeImages.{ShiftsImages}
 use Rattle.rule_algebra.specs.AlgebraFaults.{offset_fault}
 use Rattle.rule_algebra.proofs.laws.Shifts.{ShiftsImages-shifted, IsRule-shifted}
 use Rattle.rule_algebra.proofs.RuleParts.{FitsSigned-offset, rule_of, sum_of}

@@ -2,7 +2,7 @@ use Rattle.std.proofs.Common.{refl, sym, subst}
 use Rattle.std.specs.Prelude.{codes}
 use Rattle.std.proofs.lemmas.Bool.{false≢true}
 use Rattle.std.proofs.lemmas.Result.{on_ok_weaker}
-use Rattle.rule_text.specs.RuleTexts.{printed}
+use Rattle.rule_text.specs.PrintedRules.{printed}
 use Rattle.ca_cli.specs.InverseLines.{IsMapRule}
 use Rattle.ca_cli.specs.InverseLines.IsMapRule.{Rule, NoRule}
 use Rattle.ca_cli.proofs.commands.inverses.write_map_rule.Goals as goal

@@ -1,5 +1,5 @@
 use Rattle.std.proofs.Common.{◌∷◌, [], refl, sym, ap}
-use Rattle.ca_cli.specs.Commands.{asked_of_many}
+use Rattle.ca_cli.specs.Requests.{asked_of_many}
 use Rattle.ca_cli.specs.Commands as commands
 use Rattle.ca_cli.proofs.words.request.of_many.Goals as goal
 

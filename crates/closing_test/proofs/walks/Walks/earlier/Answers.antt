@@ -3,7 +3,7 @@ use Rattle.std.specs.Prelude.{MatchOption}
 use Rattle.std.proofs.lemmas.List.{length-map}
 use Rattle.word_image.specs.LocalRules.{LocalRule}
 use Rattle.word_image.specs.Graphs.{marked}
-use Rattle.search_laws.proofs.PairWalks.{PairWalk, IsLeastWalk, uncode}
+use Rattle.search_laws.specs.PairWalks.{PairWalk, IsLeastWalk, uncode}
 use Rattle.least_walk.specs.Trees.{WalkSource, IsLeastWalkTo}
 use Rattle.tail_laws.specs.SplitWalks.{IsLeastReach}
 use Rattle.tail_laws.proofs.LeastSplits.{IsLeastSplitAt-walks}

@@ -1,0 +1,18 @@
+-- The printed form of a rule.
+use Rattle.std.specs.Prelude.{ℕ, ◌+◌, List, ◌++◌, map, codes, ℤ, pos, negsuc}
+use Rattle.std.specs.Fmt.{decimal}
+use Rattle.word_image.specs.LocalRules.{LocalRule}
+use Rattle.word_image.specs.Digits.{lower_digit}
+
+-- the head of a text, what stands before its entries: K:M:O: and their kind
+abbrev pub head : List ℕ → List ℕ → List ℕ → List ℕ → List ℕ
+head k m o kind = k ++ codes ":" ++ m ++ codes ":" ++ o ++ codes ":" ++ kind
+
+-- an offset, with a minus sign exactly where it is negative
+abbrev pub offset_text : ℤ → List ℕ
+offset_text (pos n) = decimal n
+offset_text (negsuc n) = codes "-" ++ decimal (n + 1)
+
+-- the printed form: the table form in lower case
+abbrev pub printed : LocalRule → List ℕ
+printed r = head (decimal r.states) (decimal r.width) (offset_text r.offset) (codes "t") ++ map lower_digit r.table
