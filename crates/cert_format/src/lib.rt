@@ -44,8 +44,6 @@ mod parts;
 mod reading;
 mod shape_fault;
 mod steps;
-#[cfg(test)]
-mod tests;
 mod words;
 mod writing;
 
