@@ -60,7 +60,7 @@ class Tally:
         print(f"compare: {name}: {data[:600]!r}\n  judge.py: {judged}\n  program:  {checked}", file=sys.stderr)
 
 
-# Certificates of the docs, and forged ones.
+# Certificates of the docs, and those of the list.
 
 def documented():
     """All certificates that stand in the docs on a line of their own."""
@@ -68,80 +68,26 @@ def documented():
     return [line.strip() for line in lines if re.fullmatch(r' {4}\{"conserving":.*\}', line)]
 
 
-SHIFT = ('{"conserving":{"flux":[0,-1]},"injective":{"c":1,"n":1},"left":{"ahead":2},'
-         '"ranks":{"backward":[null,0,0,null],"forward":[null,null,null,null]},"right":{"ahead":1},'
-         '"rule":"2:2:0:t0101","surjective":{"sets":[3,1,2]},"version":1}')
-BOTH = ('{"conserving":{"ring":"01"},"injective":{"twins":["00","01"]},"left":{"split":["00||0","01||0"]},'
-        '"ranks":{"backward":[null,null,null,null],"forward":[null,null,null,null]},'
-        '"right":{"split":["0||00","0||10"]},"rule":"2:2:0:t0001","surjective":{"orphan":"101"},"version":1}')
-SUM = ('{"conserving":{"ring":"1"},"injective":{"twins":["0","1"]},"left":{"ahead":1},'
-       '"ranks":{"backward":[null,null,null,null],"forward":[null,null,null,null]},"right":{"ahead":1},'
-       '"rule":"2:2:0:t0110","surjective":{"sets":[3]},"version":1}')
-SAME = ('{"conserving":{"flux":[0,0]},"injective":{"c":0,"n":1},"left":{"ahead":1},'
-        '"ranks":{"backward":[null,null,null,null],"forward":[null,0,0,null]},"right":{"ahead":2},'
-        '"rule":"2:2:0:t0011","surjective":{"sets":[3]},"version":1}')
-RULE_106 = ('{"conserving":{"ring":"1"},"injective":{"twins":["0","1"]},"left":{"split":["1|110|0","0|001|0"]},'
-            '"ranks":{"backward":[null,0,null,null,0,null,null,null,null,null,null,null,null,null,null,null],'
-            '"forward":[null,null,null,null,null,null,null,null,null,null,null,null,null,null,null,null]},'
-            '"right":{"ahead":1},"rule":"2:3:-1:t01010110","surjective":{"sets":[15,1,2,4,8]},"version":2}')
-FIRST_CELL = ('{"conserving":{"flux":[0,0,0,0]},"injective":{"c":0,"n":1},"left":{"ahead":1},'
-              '"ranks":{"backward":[' + ",".join(["null"] * 16) + "],"
-              '"forward":[null,1,0,0,1,null,0,0,0,0,null,1,0,0,1,null]},"right":{"ahead":3},'
-              '"rule":"2:3:0:t00001111","surjective":{"pairs":[1,2,3,4,6,7,8,9,11,12,13,14]},"version":3}')
-PAIRS = SAME.replace('{"sets":[3]},"version":1', '{"pairs":[1,2]},"version":3')
-WEIGHTS = SHIFT.replace("[0,-1]", "[0,-2]").replace('"version":1', '"version":2,"weights":[0,2]')
+def listed():
+    """The certificates of certificates.txt by their names, and its rows: a name and the text in each version."""
+    named, rows = {}, []
+    for line in (ROOT / "checkers" / "certificates.txt").read_text().splitlines():
+        if line.startswith("= "):
+            name, text = line[2:].split(" ", 1)
+            named[name] = text
+        elif line[:1].isdigit():
+            versions, base, *changes = re.split(" {2,}", line)[:-1]
+            text = named.get(base, base)
+            for old, new in (change.split(" =>") for change in changes):
+                assert text.count(old) == 1, (old, text)
+                text = text.replace(old, new.strip())
+            rows += [text.replace(":V", f":{version}") for version in versions]
+    return named, rows
 
-# A certificate, and in turn what is exchanged in it and for what.
-FORGED = [
-    (SHIFT,), (BOTH,), (SUM,), (SAME,), (RULE_106,), (FIRST_CELL,), (PAIRS,), (WEIGHTS,),
-    (SHIFT, "[3,1,2]", "[3,1]"), (SHIFT, "[3,1,2]", "[1,2]"), (SHIFT, "[3,1,2]", "[3,1,2,0]"),
-    (SHIFT, "[3,1,2]", "[3,1,4]"), (SHIFT, "[3,1,2]", "[3,1,2.0]"), (SHIFT, "[3,1,2]", "[3,1,2,3,1,0,2]"),
-    (SHIFT, '"c":1', '"c":0'), (SHIFT, '"c":1', '"c":2'), (SHIFT, '"n":1', '"n":0'),
-    (SHIFT, '"n":1', '"n":65535'), (SHIFT, '"c":1,"n":1', '"c":65535,"n":65535'),
-    (SHIFT, '"c":1,"n":1', '"c":65536,"n":65535'), (SHIFT, '"n":1', '"n":65536'),
-    (SHIFT, "[null,null,null,null]", "[null,0,null,null]"), (SHIFT, "[null,null,null,null]", "[0,0,0,0]"),
-    (SHIFT, "[null,0,0,null]", "[0,0,0,null]"), (SHIFT, "[null,0,0,null]", "[null,65535,65535,null]"),
-    (SHIFT, "[null,0,0,null]", "[null,65536,0,null]"), (SHIFT, "[null,0,0,null]", "[null,0,false,null]"),
-    (SHIFT, '"ahead":2', '"ahead":1'), (SHIFT, '"ahead":2', '"ahead":65535'), (SHIFT, '"ahead":2', '"ahead":0'),
-    (SHIFT, "[0,-1]", "[0,0]"), (SHIFT, "[0,-1]", "[1000000,999999]"), (SHIFT, "[0,-1]", "[1000001,1000000]"),
-    (SHIFT, "[0,-1]", "[-0,-1]"), (SHIFT, "[0,-1]", "[0,-1.0]"), (SHIFT, "[0,-1]", "[0]"),
-    (SHIFT, "[null,null,null,null]", "[0,0,0,0]", "[0,-1]", "[0,0]"),
-    (SHIFT, '"version":1', '"version":7'), (SHIFT, '"version":1', '"version":0'),
-    (SHIFT, '"version":1', '"version":18446744073709551615'),
-    (SHIFT, '"version":1', '"version":18446744073709551616'), (SHIFT, '"version":1', '"version":1.0'),
-    (SHIFT, '"version":1', '"version":-1'), (SHIFT, '"version":1', '"version":1,"x":1'),
-    (SHIFT, '"version":1', '"version":1,"weights":[0,1]'),
-    (SHIFT, '"version":1', '"version":2,"weights":[0,1]'),
-    (SHIFT, '"version":1', '"version":2,"weights":null'),
-    (SHIFT, '"version":1', '"version":3,"weights":[0,1,2]'),
-    (SHIFT, '"version":1}', '"version":1}x'), (SHIFT, '"version":1}', '"version":1} '),
-    (SHIFT, '"left":{"ahead":2},', ""), (SHIFT, "t0101", "t0102"), (SHIFT, "[3,1,2]", "[3,1]", ":1}", ":2}"),
-    (BOTH, '"101"', '"10"'), (BOTH, '"101"', '""'), (BOTH, '"101"', '"0101"'), (BOTH, '"101"', '"1 01"'),
-    (BOTH, '"00","01"', '"00","0"'), (BOTH, '"00","01"', '"",""'), (BOTH, '"00","01"', '"00","00"'),
-    (BOTH, '"00","01"', '"01","11"'), (BOTH, '"00","01"', '"00","02"'), (BOTH, '"00","01"', '"00"'),
-    (BOTH, '"0||00","0||10"', '"0||00","0||00"'), (BOTH, '"0||00","0||10"', '"0||0","00||00"'),
-    (BOTH, '"0||00","0||10"', '"0||0","1||0"'), (BOTH, '"0||00","0||10"', '"0||0","0||1"'),
-    (BOTH, '"0||00","0||10"', '"0|1|0","0||110"'), (BOTH, '"0||00","0||10"', '"||00","0||10"'),
-    (BOTH, '"0||00","0||10"', '"0|00","0||10"'), (BOTH, '"0||00","0||10"', '"0|||00","0||10"'),
-    (BOTH, '"0||00","0||10"', f'"0|{"0" * 1024}|0","0|{"0" * 1023}1|0"'),
-    (BOTH, '"0||00","0||10"', f'"0|{"0" * 1025}|0","0||10"'),
-    (BOTH, '"0||00","0||10"', f'"{"01" * 512}|0|{"10" * 512}","{"01" * 510}|10|{"01" * 500}"'),
-    (BOTH, '"00||0","01||0"', '"0||0","0||0"'), (BOTH, '"00||0","01||0"', '"0||0","0||1"'),
-    (BOTH, '"00||0","01||0"', '"0||0","1||0"'),
-    (BOTH, '"ring":"01"', '"ring":"0"'), (BOTH, '"ring":"01"', '"ring":""'), (BOTH, '"ring":"01"', '"ring":1'),
-    (SAME, '"ahead":2', '"ahead":1'),
-    (RULE_106, "[15,1,2,4,8]", "[15,1,2,4]"), (RULE_106, '"version":2', '"version":1'),
-    (RULE_106, "[15,1,2,4,8]", "[]"), (RULE_106, "[15,1,2,4,8]", "[15,15,1,1,2,2,4,4]"),
-    (RULE_106, "[15,1,2,4,8]", "[15,13,14,9,6,5,10,1,2,12,4,8]"),
-    (RULE_106, "[15,1,2,4,8]", "[15,13,14,9,6,5,10,1,2,12,4]"),
-    (PAIRS, "[1,2]", "[1]"), (PAIRS, "[1,2]", "[1,2,3]"), (PAIRS, "[1,2]", "[2,1,1,2]"),
-    (PAIRS, "[1,2]", "[1,2,4]"),
-    (PAIRS, "[1,2]", "[]"), (PAIRS, '"version":3', '"version":2'), (PAIRS, "pairs", "sets"),
-    (FIRST_CELL, ",13", ""), (FIRST_CELL, ",11", ",11,11"), (FIRST_CELL, ",14]", ",14,0]"),
-    (WEIGHTS, '"version":2', '"version":1'), (WEIGHTS, "[0,2]", "[0,1]"), (WEIGHTS, "[0,2]", "[0]"),
-    (WEIGHTS, "[0,2]", "[0,256]"), (WEIGHTS, "[0,2]", "[5,7]"), (WEIGHTS, "[0,2]", "[7,7]", "[0,-2]", "[3,3]"),
-    (WEIGHTS, "[0,2]", "[9,9]", '{"flux":[0,-2]}', '{"ring":"01"}'), (WEIGHTS, '"version":2', '"version":3'),
-]
+
+NAMED, ROWS = listed()
+SHIFT, BOTH = (NAMED[name].replace(":V", ":1") for name in ["shift", "both"])
+WEIGHTS, PAIRS = NAMED["weighed"].replace(":V", ":2"), NAMED["pairs"].replace(":V", ":3")
 
 # What stands in place of the shift's rule.
 RULE_TEXTS = [
@@ -199,11 +145,8 @@ def made():
     """Names and bytes of all inputs that are made by hand."""
     for text in documented():
         yield "docs", text.encode()
-    for text, *changes in FORGED:
-        for old, new in zip(changes[::2], changes[1::2]):
-            assert old in text, (old, text)
-            text = text.replace(old, new)
-        yield "forged", text.encode()
+    for text in ROWS:
+        yield "listed", text.encode()
     for text in RULE_TEXTS:
         yield "rule text", SHIFT.replace("2:2:0:t0101", text).encode()
     for text in JSON_TEXTS:
@@ -233,6 +176,10 @@ def long():
         yield "a million sets, one of them empty", text.replace("3,1,2", many + ",0").encode()
     yield "a million pairs", PAIRS.replace("1,2", "1,2," * 500_000 + "2").encode()
     yield "a million pairs, one of them equal nodes", PAIRS.replace("1,2", "1,2," * 500_000 + "0").encode()
+    right = '"0||00","0||10"'
+    for x, y in [(f"0|{'0' * 1024}|0", f"0|{'0' * 1023}1|0"), (f"0|{'0' * 1025}|0", "0||10"),
+                 (f"{'01' * 512}|0|{'10' * 512}", f"{'01' * 510}|10|{'01' * 500}")]:
+        yield "long parts", BOTH.replace(right, f'"{x}","{y}"').encode()
     yield "a long orphan", BOTH.replace("101", "1" * 3_000_000 + "01").encode()
     yield "long twins", BOTH.replace('"00","01"', f'"{"0" * 2_000_000}","{"0" * 1_999_999}1"').encode()
     yield "a long ring", BOTH.replace('"ring":"01"', f'"ring":"{"01" * 1_500_000}"').encode()

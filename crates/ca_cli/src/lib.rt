@@ -62,6 +62,3 @@ pub use theorems::{
     certified_is_accepted, one_status, right_exactly, rule_fault_exactly, usage_exactly,
 };
 pub use top_call::run;
-
-#[cfg(test)]
-mod tests;

@@ -41,8 +41,6 @@ mod sets;
 mod splits;
 mod steps;
 mod sums;
-#[cfg(test)]
-mod tests;
 mod twins;
 mod verdicts;
 mod windows;

@@ -15,8 +15,8 @@
 //! in each a number or `null` for each pair of nodes. From version 2 on `weights` may stand: an array
 //! with a number from 0 to 255 for each letter, by which it counts in a sum; else it counts by its own
 //! value. In version 3 `surjective` may be `{"pairs":[..]}` too, where pair (u, v) is u N + v. All
-//! numbers are below 2^16, a WORD is a string of hexadecimal digits, and a TAIL is the text of a
-//! configuration over the rule's letters.
+//! numbers but those of a flux are below 2^16, a WORD is a string of hexadecimal digits, and a TAIL is the
+//! text of a configuration over the rule's letters.
 //!
 //! The shift to the left by one cell has this certificate, here in two lines:
 //!
@@ -44,8 +44,6 @@ mod parts;
 mod reading;
 mod shape_fault;
 mod steps;
-#[cfg(test)]
-mod tests;
 mod words;
 mod writing;
 

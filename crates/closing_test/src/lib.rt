@@ -34,8 +34,6 @@ mod closing;
 mod look_ahead;
 mod side;
 mod split;
-#[cfg(test)]
-mod tests;
 mod walks;
 
 pub use closes::{is_left_closing, is_right_closing};

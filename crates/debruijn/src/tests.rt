@@ -1,4 +1,4 @@
-//! The numbers of rule 110, and of a rule of sixteen states, done by hand.
+//! The numbers of rule 110, done by hand.
 
 use crate::Graph;
 use std::test::Fail;
@@ -40,25 +40,6 @@ fn rule_110_has_this_graph(rt: HostRuntime) -> Result<(), Fail> {
     for (u, label, set) in ends {
         assert!(rt; u < 4 && label < 2);
         assert_eq!(rt; graph.ends(u, label), set, "at {u} and {label}");
-    }
-    Ok(())
-}
-
-#[test]
-fn shift_of_sixteen_states_has_one_edge_a_label(rt: HostRuntime) -> Result<(), Fail> {
-    let table: Vec<u8> = (0..=255u8).map(|window| window % 16).collect(rt.alloc())?;
-    let graph = Graph::of(&Rule::new(16, 2, 0, &table)?);
-    assert_eq!(rt; (graph.k(), graph.nodes()), (16, 16));
-    for (u, a, set) in [
-        (0, 0, 1),
-        (15, 0, 1),
-        (7, 9, 512),
-        (0, 15, 32768),
-        (15, 15, 32768),
-    ] {
-        assert!(rt; u < 16 && a < 16);
-        assert_eq!(rt; (graph.next(u, a), graph.label(u, a)), (a, a));
-        assert_eq!(rt; graph.ends(u, a), set);
     }
     Ok(())
 }

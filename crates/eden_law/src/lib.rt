@@ -33,8 +33,6 @@ mod erased;
 mod nodes;
 mod reached_pairs;
 mod surjective;
-#[cfg(test)]
-mod tests;
 
 pub use erased::{Erased, erasable};
 pub use reached_pairs::reached;

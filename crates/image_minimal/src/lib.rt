@@ -34,8 +34,6 @@ mod links;
 mod listed;
 mod separation;
 mod subsets;
-#[cfg(test)]
-mod tests;
 
 pub use classes::{Minimal, least};
 pub use separation::{SepFault, separate};

@@ -49,7 +49,7 @@ pub(crate) fn read_letters(
     Some((word, other))
 }
 
-/// Reads the letters back, up to the first word whose image has another letter already. The letter at
+/// Reads the letters back, up to a word whose image has another letter already. The letter at
 /// the place is the same for runs of `unit` words, and comes round from run to run.
 fn first_apart(letters: &mut [u8], images: &[u16], place: Place) -> Option<usize>
     requires unread { letters.old ≡ replicate (length letters.old) 16 }
@@ -100,7 +100,7 @@ fn read_run(
     None
 }
 
-/// The first word that has the image of this one and another letter at this place, where there is one.
+/// A word that has the image of this one and another letter at this place, where there is one.
 fn other_apart(images: &[u16], word: usize, place: Place) -> Option<usize>
     requires word { word < length images.now }
     ensures { MatchOption result

@@ -12,9 +12,8 @@
 //! window (2, 2) the map is 0 0 1 1, and reads the first of two letters. The window (1, 0) is not
 //! determined, since 000 and 100 have the image 0.
 //!
-//! A map with n up to 5 that stays within the limits of a rule is a rule of width n, and its image of
-//! an image is the line. A map with n = 1 is written at width 2, and ignores the second cell: that of
-//! rule 170 is the rule 0 0 1 1.
+//! A map with n up to 5 that stays within the limits of a rule is a rule of width n. A map with n = 1 is
+//! written at width 2, and ignores the second cell: that of rule 170 is the rule 0 0 1 1.
 //!
 //! [`table`] lists the images of all k^(n + m - 1) words, at most 2^20, each from the image of the word
 //! without its last letter. It takes **O(k^(n + m - 1))** time and space. [`as_rule`] takes time

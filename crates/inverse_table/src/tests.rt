@@ -1,11 +1,11 @@
-//! Maps and rules that are known from elsewhere.
+//! Windows that the program never asks of: ones that are not the least, and ones without a map.
 
-use crate::{InvFault, InverseMap, as_rule, table};
+use crate::{InvFault, InverseMap, table};
 use inverse_window::WindowAt;
 use std::alloc::{AllocError, Global};
 use std::process::Abort;
 use std::test::Fail;
-use word_image::{Rule, RuleFault};
+use word_image::Rule;
 
 // The letters that these digits name.
 fn letters(alloc: Global, digits: &[u8]) -> Result<Vec<u8>, AllocError> {
@@ -40,41 +40,6 @@ fn map_of(alloc: Global, rule: &Rule, n: u16, c: u16) -> Result<InverseMap, Fail
         Ok(map) => Ok(map),
         Err(_) => Err(Fail::new("no map")),
     }
-}
-
-#[test]
-fn maps_as_rules(rt: HostRuntime) -> Result<(), Fail> {
-    let cases: [(u8, i8, &[u8], u16, u16, i32, &[u8]); 4] = [
-        // The right cell of three.
-        (3, -1, b"01010101", 1, 2, -1, b"01"),
-        (3, -1, b"01010101", 2, 2, -1, b"0011"),
-        // The second of four cells, changed where the others are 0, 1 and 0: its own inverse.
-        (4, -1, b"0010110100001111", 4, 2, -1, b"0010110100001111"),
-        // The cell 16 places to the left.
-        (2, -16, b"0011", 1, 0, 16, b"01"),
-    ];
-    for (m, o, digits, n, c, offset, want) in cases {
-        let rule = binary(rt.alloc(), m, o, digits)?;
-        let map = map_of(rt.alloc(), &rule, n, c)?;
-        assert_eq!(rt; map.k(), 2);
-        assert_eq!(rt; map.n(), n);
-        assert_eq!(rt; map.offset(), offset);
-        assert_eq!(rt; map.table(), &letters(rt.alloc(), want)?[..]);
-    }
-    Ok(())
-}
-
-#[test]
-fn rules_of_maps(rt: HostRuntime) -> Result<(), Fail> {
-    let right = binary(rt.alloc(), 3, -1, b"01010101")?;
-    let narrow = as_rule(&map_of(rt.alloc(), &right, 1, 2)?)?;
-    assert!(rt; narrow == binary(rt.alloc(), 2, -1, b"0011")?);
-    let own = binary(rt.alloc(), 4, -1, b"0010110100001111")?;
-    assert!(rt; as_rule(&map_of(rt.alloc(), &own, 4, 2)?)? == own);
-    let far = binary(rt.alloc(), 2, -16, b"0011")?;
-    let refused = as_rule(&map_of(rt.alloc(), &far, 1, 0)?);
-    assert!(rt; matches!(&refused, Err(RuleFault::Offset)));
-    Ok(())
 }
 
 #[test]

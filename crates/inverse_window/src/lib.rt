@@ -32,8 +32,6 @@
 #![tactic(auto)]
 
 mod starts;
-#[cfg(test)]
-mod tests;
 mod twin_pairs;
 mod verdicts;
 mod windows;

@@ -25,8 +25,6 @@ mod endless;
 mod ranks;
 mod rounds;
 mod rows;
-#[cfg(test)]
-mod tests;
 
 pub use endless::Endless;
 pub use ranks::Ranks;

@@ -23,8 +23,6 @@ mod fault;
 mod parts;
 mod recolouring;
 mod shifts;
-#[cfg(test)]
-mod tests;
 mod trimming;
 mod widening;
 

@@ -30,8 +30,6 @@ mod colourings;
 mod lifts;
 mod members;
 mod search;
-#[cfg(test)]
-mod tests;
 
 pub use classes::{ClassFault, ClassPlace, class_of};
 pub use lifts::{LiftFault, lift, unlift};

@@ -36,6 +36,3 @@ pub use parsing::parse;
 pub use printing::{number, print, printed_text_is_read};
 pub use text_fault::TextFault;
 pub use wolfram_numbers::{check_shape, numbered};
-
-#[cfg(test)]
-mod tests;

@@ -23,8 +23,6 @@
 mod decided;
 mod evidence;
 mod parts;
-#[cfg(test)]
-mod tests;
 
 pub use decided::{is_conserving, verdicts};
 pub use evidence::Evidence;

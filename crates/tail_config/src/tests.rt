@@ -27,41 +27,17 @@ fn rule(table: &[u8]) -> Result<Rule, Fail>
 
 #[test]
 fn each_text_gives_its_tail_or_its_first_fault(rt: HostRuntime) -> Result<(), Fail> {
-    let cases: [(u8, &[u8], Result<&[u8], TailTextFault>); 18] = [
-        (2, b"011|01|0", Ok(b"011|01|0")),
+    let cases: [(u8, &[u8], Result<&[u8], TailTextFault>); 6] = [
+        (2, b"0|1011|1", Ok(b"0|1011|1")),
         (16, b"0AF|b|cD", Ok(b"0af|b|cd")),
-        (2, b"0||1", Ok(b"0||1")),
-        (2, b"", Err(TailTextFault::Form(0))),
-        (2, b"g", Err(TailTextFault::Form(0))),
         (2, b"0|1", Err(TailTextFault::Form(3))),
-        (2, b"0 |1|1", Err(TailTextFault::Form(1))),
-        (2, b"0|1x|1", Err(TailTextFault::Form(3))),
-        (2, b"0|1|1|", Err(TailTextFault::Form(5))),
         (2, b"|2|1|", Err(TailTextFault::Form(4))),
-        (2, b"||", Err(TailTextFault::Tail(TailFault::LeftEmpty))),
         (2, b"|0|1", Err(TailTextFault::Tail(TailFault::LeftEmpty))),
-        (2, b"2|0|", Err(TailTextFault::Tail(TailFault::RightEmpty))),
-        (
-            2,
-            b"02|2|2",
-            Err(TailTextFault::Tail(TailFault::Letter(Part::Left, 1))),
-        ),
         (
             2,
             b"0|2|1",
             Err(TailTextFault::Tail(TailFault::Letter(Part::Middle, 0))),
         ),
-        (
-            10,
-            b"0|9|12aF",
-            Err(TailTextFault::Tail(TailFault::Letter(Part::Right, 2))),
-        ),
-        (
-            15,
-            b"e|F|0",
-            Err(TailTextFault::Tail(TailFault::Letter(Part::Middle, 0))),
-        ),
-        (16, b"e|F|0", Ok(b"e|f|0")),
     ];
     for (k, text, want) in cases {
         match parse(rt.alloc(), k, text) {
@@ -80,13 +56,9 @@ fn each_text_gives_its_tail_or_its_first_fault(rt: HostRuntime) -> Result<(), Fa
 fn a_refusal_hands_the_parts_back(rt: HostRuntime) -> Result<(), Fail> {
     let most = [0; 1024];
     let long = [0; 1025];
-    let cases: [(&[u8], &[u8], &[u8], Option<TailFault>); 7] = [
+    let cases: [(&[u8], &[u8], &[u8], Option<TailFault>); 3] = [
         (&most, &most, &most, None),
-        (&long, &[2], &[], Some(TailFault::RightEmpty)),
-        (&[], &long, &[], Some(TailFault::LeftEmpty)),
         (&[2], &long, &long, Some(TailFault::Long(Part::Middle))),
-        (&[2], &[], &long, Some(TailFault::Long(Part::Right))),
-        (&long, &long, &[3], Some(TailFault::Long(Part::Left))),
         (
             &[1],
             &[0, 1, 2],
@@ -131,6 +103,14 @@ fn cells_stand_on_both_sides_of_place_0(rt: HostRuntime) -> Result<(), Fail> {
 }
 
 #[test]
+fn image_cells_are_read_by_the_rule(rt: HostRuntime) -> Result<(), Fail> {
+    let sum = rule(&RULE_90)?;
+    assert_eq!(rt; tail(&rt, b"0|1011|1")?.image_cell(&sum, 0), 0);
+    assert_eq!(rt; tail(&rt, b"0|1100|0")?.image_cell(&sum, 0), 1);
+    Ok(())
+}
+
+#[test]
 fn a_mirrored_tail_is_read_backwards(rt: HostRuntime) -> Result<(), Fail> {
     for (text, want) in [(b"0|100|1", b"1|001|0"), (b"01||110", b"011||10")] {
         let mirrored = tail(&rt, text)?.mirror();
@@ -143,17 +123,11 @@ fn a_mirrored_tail_is_read_backwards(rt: HostRuntime) -> Result<(), Fail> {
 fn two_tails_are_compared_at_every_integer(rt: HostRuntime) -> Result<(), Fail> {
     let rule_30 = rule(&RULE_30)?;
     let rule_90 = rule(&RULE_90)?;
-    let cases: [(&[u8], &[u8], Option<i64>, bool, bool, bool, bool); 10] = [
+    let cases: [(&[u8], &[u8], Option<i64>, bool, bool, bool, bool); 4] = [
         (b"0|1011|1", b"0|1100|0", Some(1), true, false, true, false),
         (b"01||01", b"0101|01|010101", None, true, true, true, true),
-        (b"01|01|01", b"01|10|01", Some(0), true, true, false, false),
-        (b"0|1|0", b"1|1|1", Some(1), false, false, false, false),
-        (b"10|1|0", b"11|1|1", Some(1), false, false, false, false),
-        (b"0|1|01", b"1|1|00", Some(-1), false, false, false, false),
         (b"0||0", b"1||1", Some(0), false, false, true, true),
         (b"000||0", b"001||0", Some(-1), false, true, false, false),
-        (b"0||01", b"0||010", Some(3), true, false, false, false),
-        (b"011||101", b"11||101", Some(-3), false, true, false, false),
     ];
     for (x, y, place, left, right, by_30, by_90) in cases {
         let a = tail(&rt, x)?;

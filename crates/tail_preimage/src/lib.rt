@@ -31,8 +31,6 @@ mod gaps;
 mod relations;
 mod shapes;
 mod sides;
-#[cfg(test)]
-mod tests;
 mod walks;
 mod words;
 

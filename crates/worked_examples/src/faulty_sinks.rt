@@ -1,8 +1,8 @@
 //! Sinks that fail in the middle of an output.
 
-use crate::rows::{call, sink};
+use crate::calls::{call, sink};
 use ca_cli::Status;
-use ca_io::MemSink;
+use ca_io::{MemSink, PlainSource};
 use std::alloc::{AllocError, Global};
 use std::process::Abort;
 use std::test::Fail;
@@ -29,7 +29,8 @@ fn takes_first_bytes(
     sink: MemSink,
     count: usize,
 ) -> Result<(), AllocError> {
-    let outcome = call(alloc, "orphan 110", sink)?;
+    let mut source = PlainSource::new(Vec::new(alloc));
+    let outcome = call(alloc, "orphan 110", &mut source, sink)?;
     let status = if count < LINE.len() {
         Status::WriteFault
     } else {
@@ -41,5 +42,17 @@ fn takes_first_bytes(
         &LINE[..count.min(LINE.len())],
         "{count} bytes"
     );
+    Ok(())
+}
+
+/// A report whose second byte can't be written.
+#[test]
+fn a_report_ends_at_a_fault(rt: HostRuntime) -> Result<(), Fail> {
+    let failing = vec![in rt.alloc(); 1u64]?;
+    let mut source = PlainSource::new(Vec::new(rt.alloc()));
+    let output = sink(rt.alloc(), 1 << 10, 1, failing)?;
+    let outcome = call(rt.alloc(), "decide 30", &mut source, output)?;
+    assert_eq!(rt; outcome.status, Status::WriteFault);
+    assert_eq!(rt; outcome.output.bytes(), b"r".as_slice());
     Ok(())
 }

@@ -1,26 +1,11 @@
-//! Tests that cross the crates: each hands words to [`ca_cli::run`] over objects in memory, and
-//! compares the status and what the sink has taken with values from outside.
+//! Tests that cross the crates: each hands words to [`ca_cli::run`] over objects in memory that fail in the
+//! middle, and compares the status and what the sink has taken. What the program prints where nothing fails,
+//! `.ci/program` and `.ci/certificates` compare with what it must be.
 #![tactic(auto)]
 
 #[cfg(test)]
-mod algebra;
-#[cfg(test)]
-mod certificates;
-#[cfg(test)]
-mod checks;
+mod calls;
 #[cfg(test)]
 mod faulty_sinks;
 #[cfg(test)]
-mod inverses;
-#[cfg(test)]
-mod numbers;
-#[cfg(test)]
-mod orphans;
-#[cfg(test)]
-mod reports;
-#[cfg(test)]
-mod rows;
-#[cfg(test)]
-mod rule_faults;
-#[cfg(test)]
-mod summaries;
+mod faulty_sources;
