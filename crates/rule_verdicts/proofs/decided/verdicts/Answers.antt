@@ -18,11 +18,11 @@ pub returns-then-not-is_surjective-clause-are_true : goal.returns-then-not-is_su
 returns-then-not-is_surjective-clause-are_true c =
     let surjective = c.is_surjective.ensures in
     let answer = c.if-not-is_surjective.true in
-    let right = refuted IsRightClosing c.of.ensures answer surjective.right in
-    let left = refuted IsLeftClosing c.of.ensures answer surjective.left in
+    let right = refuted IsRightClosing c.of-graph.ensures answer surjective.right in
+    let left = refuted IsLeftClosing c.of-graph.ensures answer surjective.left in
     record {
-      surjective = refuted IsSurjective c.of.ensures answer surjective.surjective.1;
-      injective = refuted IsInjective c.of.ensures answer surjective.injective;
+      surjective = refuted IsSurjective c.of-graph.ensures answer surjective.surjective.1;
+      injective = refuted IsInjective c.of-graph.ensures answer surjective.injective;
       right = right;
       left = left;
       open_ = both_true false false right left;
@@ -31,11 +31,11 @@ returns-then-not-is_surjective-clause-are_true c =
 
 pub returns-clause-are_true : goal.returns-clause-are_true
 returns-clause-are_true c =
-    let same = c.of-endless.ensures ∙ c.of-2.ensures in
+    let same = c.of-endless.ensures ∙ c.over.ensures ∙ c.of-graph.ensures in
     let right = of_rule IsRightClosing same c.is_right_closing.ensures in
     let left = of_rule IsLeftClosing same c.is_left_closing.ensures in
     record {
-      surjective = ((λ _. subst IsSurjective c.of.ensures (c.is_surjective.ensures.surjective.0 c.if-not-is_surjective.false)), (λ _. refl));
+      surjective = ((λ _. subst IsSurjective c.of-graph.ensures (c.is_surjective.ensures.surjective.0 c.if-not-is_surjective.false)), (λ _. refl));
       injective = of_rule IsInjective same c.is_injective.ensures.injective;
       right = right;
       left = left;
