@@ -1,0 +1,211 @@
+/* Calls the library for C, and compares what it hands back with what it must. Its last line has the counts. */
+#include "ca.h"
+
+#include <pthread.h>
+#include <stdio.h>
+#include <stdlib.h>
+#include <string.h>
+
+/* A block of words, as a literal, without the 0 byte that C puts after it. */
+#define WORDS(block) (const uint8_t *)(block), sizeof(block) - 1
+
+#define NOTHING (const uint8_t *)"", 0
+
+#define REPORT_110                                                                                 \
+    "rule 2:3:-1:t01110110\nnumber 110\nsurjective no orphan 01010\ninjective no twins 0 1\n"      \
+    "right no split 0|100|0 0|111|1\nleft no split 011|01|0 110|11|0\nopen no\n"                   \
+    "conserving no ring 1\n"
+
+#define ACCEPTED_110                                                                               \
+    "accepted 2:3:-1:t01110110\nsurjective no\ninjective no\nright no\nleft no\nopen no\n"         \
+    "conserving no\n"
+
+/* The input of check that is one byte too long. */
+#define LONG_INPUT 4194305
+
+enum { ROOM = 4096, FILLING = 0xa5, THREADS = 4, CALLS = 50 };
+
+static int passed;
+static int failed;
+
+static void is(const char *name, bool holds)
+{
+    if (holds) {
+        passed++;
+    } else {
+        failed++;
+        fprintf(stderr, "library_test: %s\n", name);
+    }
+}
+
+/* Whether each byte of the buffer from a place on is as it was. */
+static bool is_kept(const uint8_t *buffer, size_t from, size_t size)
+{
+    for (size_t at = from; at < size; at++)
+        if (buffer[at] != FILLING)
+            return false;
+    return true;
+}
+
+/* Whether a call into a buffer of this room gives the code and the text, and writes nothing else. */
+static bool answers(const uint8_t *words, size_t words_length, const uint8_t *input,
+                    size_t input_length, size_t room, int code, const char *text)
+{
+    uint8_t buffer[ROOM];
+    size_t length = 12345;
+    memset(buffer, FILLING, sizeof buffer);
+    int got = ca_run(words, words_length, input, input_length, buffer, room, &length);
+    return got == code && length == strlen(text) && length <= room
+        && memcmp(buffer, text, length) == 0 && is_kept(buffer, length, sizeof buffer);
+}
+
+/* Whether a call into a buffer of this room hands nothing back but the code and the length. */
+static bool leaves(const uint8_t *words, size_t words_length, size_t room, int code, size_t length)
+{
+    uint8_t buffer[ROOM];
+    size_t got_length = 12345;
+    memset(buffer, FILLING, sizeof buffer);
+    int got = ca_run(words, words_length, NOTHING, buffer, room, &got_length);
+    return got == code && got_length == length && is_kept(buffer, 0, sizeof buffer);
+}
+
+static void test_commands(void)
+{
+    is("decide 110", answers(WORDS("decide\0" "110\0"), NOTHING, ROOM, CA_DONE, REPORT_110));
+    is("orphan 90", answers(WORDS("orphan\0" "90\0"), NOTHING, ROOM, CA_DONE, "surjective yes\n"));
+    is("orphan 110",
+       answers(WORDS("orphan\0" "110\0"), NOTHING, ROOM, CA_DONE, "surjective no orphan 01010\n"));
+    is("orphan 256",
+       answers(WORDS("orphan\0" "256\0"), NOTHING, ROOM, CA_RULE_FAULT, "rule fault 1 number\n"));
+    is("inverse 90",
+       answers(WORDS("inverse\0" "90\0"), NOTHING, ROOM, CA_NOT_FIT, "notfit twins 0 1\n"));
+    is("compose 90 90", answers(WORDS("compose\0" "90\0" "90\0"), NOTHING, ROOM, CA_DONE,
+                                "2:5:-2:t01010101010101011010101010101010\n"));
+}
+
+static void test_words(void)
+{
+    is("no words", answers(NOTHING, NOTHING, ROOM, CA_USAGE, "usage error\n"));
+    is("one empty word", answers(WORDS("\0"), NOTHING, ROOM, CA_USAGE, "usage error\n"));
+    is("an empty operand",
+       answers(WORDS("orphan\0" "\0"), NOTHING, ROOM, CA_RULE_FAULT, "rule fault 1 form 0\n"));
+    is("one word with a blank",
+       answers(WORDS("orphan 110\0"), NOTHING, ROOM, CA_USAGE, "usage error\n"));
+    is("a word of another script",
+       answers(WORDS("orphan\0" "\xc3\xa9\0"), NOTHING, ROOM, CA_RULE_FAULT, "rule fault 1 form 0\n"));
+    is("a last word without an end", leaves(WORDS("orphan\0" "110"), ROOM, CA_NO_WORDS, 0));
+    is("an only word without an end", leaves(WORDS("orphan"), ROOM, CA_NO_WORDS, 0));
+    is("a byte that begins nothing", leaves(WORDS("orphan\0" "\xff\0"), ROOM, CA_NO_WORDS, 0));
+    is("a letter that is cut", leaves(WORDS("orphan\0" "\xc3\0" "\xa9\0"), ROOM, CA_NO_WORDS, 0));
+}
+
+static void test_room(void)
+{
+    const size_t length = strlen(REPORT_110);
+    is("no room", leaves(WORDS("decide\0" "110\0"), 0, CA_SHORT, length));
+    is("room for one byte too few", leaves(WORDS("decide\0" "110\0"), length - 1, CA_SHORT, length));
+    is("just room enough",
+       answers(WORDS("decide\0" "110\0"), NOTHING, length, CA_DONE, REPORT_110));
+    is("no room, and no words", leaves(WORDS("decide"), 0, CA_NO_WORDS, 0));
+    is("no room for a usage error", leaves(NOTHING, 0, CA_SHORT, strlen("usage error\n")));
+}
+
+static void test_input(void)
+{
+    uint8_t text[ROOM];
+    size_t length = 0;
+    uint8_t code = ca_run(WORDS("certify\0" "110\0"), NOTHING, text, sizeof text, &length);
+    is("certify 110", code == CA_DONE && length > 0 && length < sizeof text);
+    is("check of certify 110",
+       answers(WORDS("check\0"), text, length, ROOM, CA_DONE, ACCEPTED_110));
+    is("check of a part of it", answers(WORDS("check\0"), text, length - 1, ROOM, CA_REFUSED,
+                                        "refused format notjson\n"));
+    is("check of nothing",
+       answers(WORDS("check\0"), NOTHING, ROOM, CA_REFUSED, "refused format notjson\n"));
+    is("an input that isn't read", answers(WORDS("orphan\0" "90\0"), text, length, ROOM, CA_DONE,
+                                           "surjective yes\n"));
+    uint8_t *many = calloc(LONG_INPUT, 1);
+    is("memory", many != NULL);
+    if (many != NULL) {
+        is("check of too much",
+           answers(WORDS("check\0"), many, LONG_INPUT, ROOM, CA_TOO_LONG, "too long\n"));
+        is("check of just not too much", answers(WORDS("check\0"), many, LONG_INPUT - 1, ROOM,
+                                                 CA_REFUSED, "refused format notjson\n"));
+    }
+    free(many);
+}
+
+/* Whether the rule of this table has these verdicts, in the order of the struct. */
+static bool has(uint8_t width, const char *table, const char *verdicts)
+{
+    uint8_t letters[32];
+    size_t length = strlen(table);
+    for (size_t at = 0; at < length; at++)
+        letters[at] = (uint8_t)(table[at] - '0');
+    struct ca_rule_verdicts v = ca_verdicts(2, width, letters, length);
+    return v.fault == CA_FAULT_NONE && v.surjective == (verdicts[0] == 'y')
+        && v.injective == (verdicts[1] == 'y') && v.right == (verdicts[2] == 'y')
+        && v.left == (verdicts[3] == 'y') && v.is_open == (verdicts[4] == 'y')
+        && v.conserving == (verdicts[5] == 'y');
+}
+
+/* Whether there are no verdicts, for this fault. */
+static bool lacks(uint8_t states, uint8_t width, const uint8_t *table, size_t length, int fault)
+{
+    struct ca_rule_verdicts v = ca_verdicts(states, width, table, length);
+    return v.fault == fault && !v.surjective && !v.injective && !v.right && !v.left && !v.is_open
+        && !v.conserving;
+}
+
+static void test_verdicts(void)
+{
+    static const uint8_t zeros[81];
+    static const uint8_t two[4] = {0, 1, 1, 2};
+    is("rule 110", has(3, "01110110", "nnnnnn"));
+    is("rule 184", has(3, "00011101", "nnnnny"));
+    is("the rule that shifts", has(2, "0101", "yyyyyy"));
+    is("the rule that adds", has(2, "0110", "ynyyyn"));
+    is("one state", lacks(1, 2, zeros, 1, CA_FAULT_STATES));
+    is("17 states", lacks(17, 2, zeros, 4, CA_FAULT_STATES));
+    is("width 1", lacks(2, 1, zeros, 2, CA_FAULT_WIDTH));
+    is("width 6", lacks(2, 6, zeros, 64, CA_FAULT_WIDTH));
+    is("27 nodes", lacks(3, 4, zeros, 81, CA_FAULT_NODES));
+    is("a table of seven letters", lacks(2, 3, zeros, 7, CA_FAULT_LENGTH));
+    is("a table of no letters", lacks(2, 2, zeros, 0, CA_FAULT_LENGTH));
+    is("a letter that is too great", lacks(2, 2, two, 4, CA_FAULT_LETTER));
+}
+
+static void *call_often(void *right)
+{
+    for (int call = 0; call < CALLS; call++)
+        if (answers(WORDS("decide\0" "110\0"), NOTHING, ROOM, CA_DONE, REPORT_110))
+            ++*(int *)right;
+    return NULL;
+}
+
+static void test_threads(void)
+{
+    pthread_t threads[THREADS];
+    int right[THREADS] = {0};
+    for (int at = 0; at < THREADS; at++)
+        if (pthread_create(&threads[at], NULL, call_often, &right[at]) != 0)
+            abort();
+    for (int at = 0; at < THREADS; at++) {
+        pthread_join(threads[at], NULL);
+        is("calls of several threads at once", right[at] == CALLS);
+    }
+}
+
+int main(void)
+{
+    is("the version", ca_version() == CA_VERSION);
+    is("the size of the verdicts", sizeof(struct ca_rule_verdicts) == 7);
+    test_commands();
+    test_words();
+    test_room();
+    test_input();
+    test_verdicts();
+    test_threads();
+    printf("%d passed, %d failed\n", passed, failed);
+    return failed != 0;
+}

@@ -1,0 +1,44 @@
+# What ./ca and ./library share; each names itself in `me` and the checkout in `top`, and sources this.
+
+# is_current CRATE OTHER..: whether the crate was built, and no source changed since that began, but for those
+# of the other crates.
+is_current() {
+    local stamp=$top/crates/$1/out/built others=() crate
+    shift
+    for crate; do others+=(-not -path "$top/crates/$crate/*"); done
+    [ -e "$stamp" ] && [ -z "$(find "$top"/crates.txt "$top"/crates/*/src "$top"/crates/*/specs \
+        "$top"/crates/*/proofs "${others[@]}" -newer "$stamp" -print -quit 2>&1)" ]
+}
+
+# Says of the lines that rt prints which crate is being proved. Those that were proved before go by unsaid.
+tell() {
+    local line crates place
+    mapfile -t crates < <(sed -n 's/^\([a-z_]*\)[^:#]*:.*/\1/p' "$top/crates.txt")
+    while IFS= read -r line; do
+        for place in "${!crates[@]}"; do
+            [[ $line != "rt: chose --jobs "*" for ${crates[place]}" ]] ||
+                echo "$me: ${crates[place]}, crate $((place + 1)) of ${#crates[@]}" >&2
+        done
+    done
+}
+
+# build CRATE WORD..: proves and builds the crate by rt with these words, calls finish, and leaves out/built,
+# which is as old as the beginning of this. In a shell of its own, which clears up however it ends.
+build() (
+    stamp=$top/crates/$1/out/built
+    begun=$stamp.$$
+    mkdir -p "${stamp%/*}" || exit
+    trap 'rm -f "$begun" "$begun.log"' EXIT
+    : >"$begun" || exit
+    cd "$top/crates/$1" || exit
+    shift
+    set -o pipefail
+    if ! rt "$@" 2>&1 </dev/null | tee "$begun.log" | tell; then
+        tail -n 40 "$begun.log" >&2
+        exit 1
+    fi
+    finish && mv "$begun" "$stamp"
+)
+
+# What is left to do after rt.
+finish() { :; }

@@ -1,0 +1,18 @@
+-- The words of a command line in one block of bytes.
+use Rattle.std.specs.Prelude.{◌≡◌, ◌≢◌, ℕ, List, [], ◌∷◌, ◌++◌, All}
+use Rattle.std.specs.Str.{IsUtf8}
+
+-- each word with a 0 byte after it, one after the other
+abbrev pub block_of : List (List ℕ) → List ℕ
+block_of [] = []
+block_of (word ∷ words) = word ++ 0 ∷ block_of words
+
+-- a word that a block can have: a text in UTF-8 without a 0 byte
+pub record IsWordText (word : List ℕ) : Type 0 where
+  pub text : IsUtf8 word
+  pub unended : All (λ b. b ≢ 0) word
+
+-- the block has exactly these words
+pub record AreWords (block : List ℕ) (words : List (List ℕ)) : Type 0 where
+  pub written : block ≡ block_of words
+  pub texts : All IsWordText words

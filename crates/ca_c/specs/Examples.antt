@@ -1,0 +1,12 @@
+-- Worked examples of a block of words, which the check computes.
+use Rattle.std.specs.Prelude.{◌≡◌, refl, [], ◌∷◌, codes}
+use Rattle.ca_c.specs.Blocks.{block_of}
+
+two_words : block_of (codes "ab" ∷ codes "c" ∷ []) ≡ 97 ∷ 98 ∷ 0 ∷ 99 ∷ 0 ∷ []
+two_words = refl
+
+empty_word : block_of ([] ∷ []) ≡ 0 ∷ []
+empty_word = refl
+
+no_words : block_of [] ≡ []
+no_words = refl

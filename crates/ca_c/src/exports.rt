@@ -1,0 +1,82 @@
+//! The functions that C calls.
+ghost use Rattle.std.specs.Prelude.{◌≡◌, ◌≢◌, ◌<◌, pos};
+ghost use Rattle.word_image.specs.RuleFaults.{rule_fault};
+ghost use Rattle.cert_check.specs.Accepted.{AreTrue, is_open};
+ghost use Rattle.ca_c.specs.Calls.{IsHandedBack};
+ghost use Rattle.ca_c.specs.Verdicts.{AreNone, fault_code, rule_of, verdicts_of};
+
+use crate::calls::{CallFault, call, put};
+use crate::rule_verdicts::RuleVerdicts;
+use ca_cli::Status;
+use std::alloc::Global;
+use word_image::Rule;
+
+/// The version of the interface.
+const VERSION: u32 = 1;
+
+/// The code where the block has no words.
+const NO_WORDS: u8 = 9;
+
+/// The code where the buffer is too short.
+const SHORT: u8 = 10;
+
+/// The version of the interface: which functions there are, and what they take and give.
+#[unsafe(no_mangle)]
+pub extern "C" fn ca_version() -> u32
+    ensures { result ≡ 1 }
+{
+    VERSION
+}
+
+/// Carries out the command whose words the block has, as the program does, over these bytes of input.
+/// It gives a code, writes the length of the output to `output_length`, and the output to the beginning
+/// of the buffer.
+///
+/// Codes 0 to 5 are those of `Status`, and no other status comes: a read can't fail here, and a write
+/// only for want of memory. 8 is that there was no memory, 9 that the block has no words, and both have
+/// the length 0. 10 is that the buffer is too short for the output; the length is then the one that is
+/// wanted. With 8, 9 and 10 the buffer is as it was.
+#[unsafe(no_mangle)]
+pub extern "C" fn ca_run(
+    alloc: Global,
+    words: &[u8],
+    input: &[u8],
+    output: &mut [u8],
+    output_length: &mut usize,
+) -> u8
+    ensures handed_back { IsHandedBack words.now input.now output.old result output_length.new output.new }
+    ensures no_fault { (result ≢ 6) × (result ≢ 7) }
+{
+    match call(alloc, words, input) {
+        Ok(answer) => {
+            *output_length = answer.output.len();
+            if put(&answer.output, output) {
+                answer.status.code()
+            } else {
+                SHORT
+            }
+        }
+        Err(fault) => {
+            *output_length = 0;
+            match fault {
+                CallFault::NoWords => NO_WORDS,
+                CallFault::Memory => Status::Memory.code(),
+            }
+        }
+    }
+}
+
+/// Decides the questions of the rule with these states, this width and this table, whose window begins
+/// at its cell. It takes no memory.
+#[unsafe(no_mangle)]
+pub extern "C" fn ca_verdicts(states: u8, width: u8, table: &[u8]) -> RuleVerdicts
+    ensures fault { result.fault ≡ fault_code (rule_fault states width (pos 0) table.now) }
+    ensures are_true { result.fault ≡ 0 → AreTrue (verdicts_of (rule_of states width table.now) result) }
+    ensures both { result.is_open ≡ is_open (verdicts_of (rule_of states width table.now) result) }
+    ensures none { 0 < result.fault → AreNone result }
+{
+    match Rule::new(states, width, 0, table) {
+        Ok(rule) => RuleVerdicts::of(&rule),
+        Err(fault) => RuleVerdicts::none(fault),
+    }
+}

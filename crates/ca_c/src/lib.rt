@@ -1,0 +1,33 @@
+//! The interface for C: three functions with C's calling convention, in a static library.
+//!
+//! [`ca_run`] carries out a command as the program does, over bytes in memory. [`ca_verdicts`] decides the
+//! questions of a rule without a text. [`ca_version`] gives the version of the interface. include/ca.h
+//! declares them for C.
+//!
+//! The words of a command line come in one *block*, each with a 0 byte after it: `orphan` and `110` are
+//! the eleven bytes `orphan`, 0, `110`, 0. The output goes into a buffer of the caller's:
+//!
+//! | Words | Buffer | Code | Length | The buffer then |
+//! |---|---|---|---|---|
+//! | `orphan`, `90` | 20 bytes | 0 | 15 | `surjective yes`, a line end, and 5 bytes as they were |
+//! | `orphan`, `90` | 10 bytes | 10 | 15 | as it was |
+//! | none | 20 bytes | 2 | 12 | `usage error`, a line end, and 8 bytes as they were |
+//! | a block that ends in `9` | 20 bytes | 9 | 0 | as it was |
+//!
+//! No function keeps a pointer or has a state: what one call gives depends on its arguments and on
+//! whether there is memory, and on nothing else. A call takes the time and the memory of
+//! `ca_cli::run`, and besides **O(n)** of both for n bytes of words, input and output; one of `ca_verdicts`
+//! takes no memory.
+#![tactic(auto)]
+
+mod blocks;
+mod calls;
+mod exports;
+mod rule_verdicts;
+mod sinks;
+
+pub use exports::{ca_run, ca_verdicts, ca_version};
+pub use rule_verdicts::RuleVerdicts;
+
+#[cfg(test)]
+mod tests;

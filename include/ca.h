@@ -1,0 +1,104 @@
+/*
+ * The decider for one-dimensional cellular automata as a C library.
+ *
+ * ./library builds crates/ca_c/out/libca_c.a and libca_c.so, and prints where they are. The names and
+ * the layouts here are those of crates/ca_c/src/exports.rt, whose contracts say what is proved of the
+ * functions. That this header agrees with them is tested and not proved.
+ *
+ * Pointers. Each must point to as many bytes as the length beside it says, and must not be NULL, not even
+ * where that length is 0: then any address of an object will do. Nothing is kept of a pointer after a
+ * call, nothing is allocated that the caller would have to free, and what is passed as const is only
+ * read. What a call writes to, the buffer and *length, must overlap nothing else that it is passed.
+ *
+ * Threads. There is no state outside of a call, so several threads may call at once, each with a buffer
+ * and a length of its own; they may share what is only read. A call waits for nothing and starts no
+ * thread. It takes memory by malloc, realloc and free of the program, which must be safe for that, and
+ * gives all of it back before it returns. Don't call from a signal handler, nor in the child of a fork of
+ * a process with several threads.
+ */
+#ifndef CA_H
+#define CA_H
+
+#include <stdbool.h>
+#include <stddef.h>
+#include <stdint.h>
+
+#ifdef __cplusplus
+extern "C" {
+#endif
+
+/* The version of this interface, which ca_version gives. */
+#define CA_VERSION 1
+
+/* What ca_run gives. With codes up to CA_TOO_LONG there is an output. */
+enum ca_code {
+    CA_DONE = 0,       /* the command was carried out */
+    CA_REFUSED = 1,    /* check judged the input, and it is no certificate that is accepted */
+    CA_USAGE = 2,      /* the words are no command */
+    CA_RULE_FAULT = 3, /* a rule operand or a shape is refused */
+    CA_NOT_FIT = 4,    /* nothing can be made of the operands as the command asks */
+    CA_TOO_LONG = 5,   /* the input of check has more than 4,194,304 bytes */
+    CA_MEMORY = 8,     /* there was no memory */
+    CA_NO_WORDS = 9,   /* a word isn't UTF-8, or the last has no 0 byte after it */
+    CA_SHORT = 10      /* the buffer is too short for the output */
+};
+
+/* Why ca_verdicts gives no verdicts: the first that holds. */
+enum ca_fault {
+    CA_FAULT_NONE = 0,   /* there are verdicts */
+    CA_FAULT_STATES = 1, /* there are not 2 to 16 states */
+    CA_FAULT_WIDTH = 2,  /* the width is not 2 to 5 */
+    CA_FAULT_NODES = 3,  /* there are more than 16 words of width - 1 letters */
+    CA_FAULT_LENGTH = 5, /* the table has not one letter for each window */
+    CA_FAULT_LETTER = 6  /* a letter of the table is not below states */
+};
+
+/* What holds of a rule. */
+struct ca_rule_verdicts {
+    uint8_t fault;   /* an enum ca_fault; where it isn't CA_FAULT_NONE, all below are false */
+    bool surjective; /* every word has a preimage */
+    bool injective;  /* no two different configurations share an image */
+    bool right;      /* no two that agree on the left do: the rule is right-closing */
+    bool left;       /* no two that agree on the right do: the rule is left-closing */
+    bool is_open;    /* both of these: the rule is open */
+    bool conserving; /* every ring keeps the sum of its letters */
+};
+
+/* The version of the interface that was linked. */
+uint32_t ca_version(void);
+
+/*
+ * Carries out a command, as the program ca does.
+ *
+ * words has the words of the command line without the program's name, each in UTF-8 with one 0 byte after
+ * it: "orphan\0" "110\0" are 11 bytes. With words_length 0 there are none. docs/COMMANDS.md has the
+ * commands, and what each writes.
+ *
+ * input is what the command check judges; every other command leaves it unread.
+ *
+ * It gives an enum ca_code, and sets *length in every case:
+ *
+ *   up to CA_TOO_LONG       The output stands in the first *length bytes of output, with no 0 byte after
+ *                           it; the other bytes of the buffer are as they were.
+ *   CA_SHORT                The output has *length bytes, which is more than room. The buffer is as it
+ *                           was. A second call, with room enough, works the output out again.
+ *   CA_MEMORY, CA_NO_WORDS  *length is 0, and the buffer is as it was.
+ */
+uint8_t ca_run(const uint8_t *words, size_t words_length, const uint8_t *input, size_t input_length,
+               uint8_t *output, size_t room, size_t *length);
+
+/*
+ * Decides the questions of a rule, each letter of which weighs its own value, and takes no memory.
+ *
+ * The rule has the letters 0 to states - 1, and cell i of an image is the table's letter for the window of
+ * the width cells from cell i on. table has one letter a byte, in the order of the windows' values, the
+ * leftmost letter of a window most significant.
+ */
+struct ca_rule_verdicts ca_verdicts(uint8_t states, uint8_t width, const uint8_t *table,
+                                    size_t table_length);
+
+#ifdef __cplusplus
+}
+#endif
+
+#endif
