@@ -1,8 +1,9 @@
 //! Worked certificates of three rules, and what one is refused for when a part of it is forged. The words
 //! of every refusal are in worked_examples.
-use super::{Refusal, Side, judge};
+use super::{Refusal, judge};
 use std::alloc::{AllocError, Global};
 use std::test::Fail;
+use word_image::Side;
 
 /// A certificate of the shift to the left by one cell, with these parts.
 fn of_shift(

@@ -4,10 +4,10 @@ ghost use Rattle.std.specs.Prelude.{◌≡◌, ◌+◌, ◌*◌, ◌/◌, ◌^�
 ghost use Rattle.word_image.specs.LocalRules.{IsRule, node_count};
 ghost use Rattle.word_image.specs.Graphs.{first_of, second_of, pair_of, pair_count};
 
-use crate::edges::{Edges, Side, edges};
+use crate::edges::{Edges, edges};
 use debruijn::Graph;
 use std::marker::Model;
-use word_image::Rule;
+use word_image::{Rule, Side};
 
 /// The pairs of nodes of a rule's de Bruijn graph, seen as that rule. The pair of u and v has the
 /// number u * N + v, for the N nodes.
@@ -28,13 +28,13 @@ impl Model for Pairs {
     ghost use Rattle.word_image.specs.LocalRules.{LocalRule};
     ghost use Rattle.word_image.specs.LocalRules.{node_count};
     ghost use Rattle.pair_graph.specs.Edges.{AreEdges};
-    ghost use Rattle.pair_graph.specs.declared.edges.Side.TheVariants.{Forward, Backward};
+    ghost use Rattle.word_image.specs.declared.side.Side.TheVariants.{Right, Left};
 
     ghost Value = { LocalRule };
 
     ghost view = { λ p. p.rule };
 
-    ghost invariant = { λ p. (p.graph ≡ p.rule) × AreEdges Forward p.rule (node_count p.rule) p.ends × AreEdges Backward p.rule (node_count p.rule) p.starts };
+    ghost invariant = { λ p. (p.graph ≡ p.rule) × AreEdges Right p.rule (node_count p.rule) p.ends × AreEdges Left p.rule (node_count p.rule) p.starts };
 }
 
 impl Pairs {
@@ -50,8 +50,8 @@ impl Pairs {
         Pairs {
             rule: *rule,
             graph: Graph::of(rule),
-            ends: edges(rule, Side::Forward),
-            starts: edges(rule, Side::Backward),
+            ends: edges(rule, Side::Right),
+            starts: edges(rule, Side::Left),
         }
     }
 
@@ -74,8 +74,8 @@ impl Pairs {
         ensures { AreEdges side self.now (node_count self.now) result.now }
     {
         match side {
-            Side::Forward => &self.ends,
-            Side::Backward => &self.starts,
+            Side::Right => &self.ends,
+            Side::Left => &self.starts,
         }
     }
 
@@ -129,8 +129,8 @@ impl Pairs {
         ensures below { IfSome result (λ q. q < pair_count self.now) }
     {
         match side {
-            Side::Forward => self.follow(p, a, b),
-            Side::Backward => self.back(p, a, b),
+            Side::Right => self.follow(p, a, b),
+            Side::Left => self.back(p, a, b),
         }
     }
 

@@ -1,11 +1,11 @@
 //! Ranks, as a listing of words gives them.
 
 use crate::{Endless, Ranks};
-use pair_graph::{Pairs, Side};
+use pair_graph::Pairs;
 use std::alloc::{AllocError, Global};
 use std::process::Abort;
 use std::test::Fail;
-use word_image::Rule;
+use word_image::{Rule, Side};
 
 // States, width, offset and table of a rule, and its forward and backward ranks: a row for each first
 // node, and a dot where two nodes are endless. They come from a listing of all words of up to nine
@@ -106,7 +106,7 @@ fn rules_have_these_ranks(rt: HostRuntime) -> Result<(), Fail> {
         let rule = Rule::new(k, m, o, &table)?;
         has_ranks(&rt, &rule, forward, backward);
         let ranks = Ranks::of(&Pairs::of(&rule));
-        for (side, digits) in [(Side::Forward, forward), (Side::Backward, backward)] {
+        for (side, digits) in [(Side::Right, forward), (Side::Left, backward)] {
             let row = ranks.row(rt.alloc(), side)?;
             let digits = digits.iter().map(|digit| rank_of(*digit));
             assert!(rt; row.as_slice().iter().copied().eq(digits));
