@@ -14,8 +14,8 @@ use Rattle.cert_format.specs.declared.shape_fault.Key.{Key}
 use Rattle.cert_format.specs.declared.shape_fault.Key.TheVariants as key
 use Rattle.cert_format.specs.declared.shape_fault.ShapeFault.{ShapeFault}
 use Rattle.cert_format.specs.declared.shape_fault.ShapeFault.TheVariants as shape
-use Rattle.cert_check.specs.declared.refusal.Side.{Side}
-use Rattle.cert_check.specs.declared.refusal.Side.TheVariants as side
+use Rattle.word_image.specs.declared.side.Side.{Side}
+use Rattle.word_image.specs.declared.side.Side.TheVariants as side
 use Rattle.cert_check.specs.declared.refusal.TwinCause.{TwinCause}
 use Rattle.cert_check.specs.declared.refusal.TwinCause.TheVariants as twin
 use Rattle.cert_check.specs.declared.refusal.SplitCause.{SplitCause}

@@ -3,8 +3,7 @@ use Rattle.std.specs.Prelude.{◌≡◌, ◌≢◌, ℕ, ◌^◌, ◌≤◌, Lis
 use Rattle.word_image.specs.LocalRules.{word_of}
 use Rattle.word_image.specs.Rings.{ring_image}
 use Rattle.word_image.specs.Graphs.{full_set, first_of, second_of, pair_count}
-use Rattle.word_image.specs.Erasure.{IsFirstOfRight, IsFirstOfLeft}
-use Rattle.tail_config.specs.Tails.{TailConfig, Different, ShareImage, AgreeLeft, AgreeRight}
+use Rattle.tail_config.specs.Tails.{TailConfig, Different, ShareImage}
 use Rattle.cert_format.specs.declared.cert_version.CertVersion.TheVariants.{Two}
 use Rattle.cert_format.specs.Evidence.{SurjectiveEvidence, InjectiveEvidence, SideEvidence, SumEvidence}
 use Rattle.cert_format.specs.Certificates.{Certificate}
@@ -13,18 +12,21 @@ use Rattle.cert_format.specs.Evidence.InjectiveEvidence.{Window, Twins}
 use Rattle.cert_format.specs.Evidence.SideEvidence.{Ahead, Split}
 use Rattle.cert_format.specs.Evidence.SumEvidence.{Flux, Ring}
 use Rattle.cert_check.specs.declared.conditions.Condition.{Condition}
-use Rattle.cert_check.specs.declared.conditions.Condition.TheVariants.{ForwardClaims, BackwardClaims, FullListed, NoneEmpty, Closed, FirstsListed, OffDiagonal, PairsClosed, OrphanRead, WindowClaims, TwinsAlike, RightAhead, RightSplit, LeftAhead, LeftSplit, FluxFlows, RingLossy}
+use Rattle.cert_check.specs.declared.conditions.Condition.TheVariants.{SideClaims, FullListed, NoneEmpty, Closed, FirstsListed, OffDiagonal, PairsClosed, OrphanRead, WindowClaims, TwinsAlike, SideAhead, SideSplit, FluxFlows, RingLossy}
+use Rattle.word_image.specs.declared.side.Side.TheVariants.{Right, Left}
+use Rattle.word_image.specs.Sides.{IsFirstOf}
 use Rattle.cert_check.specs.Breaches.{EachBelow}
-use Rattle.cert_check.specs.Claims.{IsForwardClaim, IsBackwardClaim}
+use Rattle.cert_check.specs.Claims.{Falls}
 use Rattle.cert_check.specs.Sets.{StepIsKept, LeadsTo}
 use Rattle.cert_check.specs.Pairs.{FirstIsListed, StepsAreListed}
 use Rattle.cert_check.specs.Windows.{IsWindowPair, IsAheadPair}
+use Rattle.cert_check.specs.Sides.{AgreeBehind, claims_on, evidence_on}
 use Rattle.cert_check.specs.Sums.{Flows, IsLossy}
 
 -- the conditions in the order in which they are checked
 abbrev pub conditions : List Condition
 conditions =
-    ForwardClaims ∷ BackwardClaims ∷ FullListed ∷ NoneEmpty ∷ Closed ∷ FirstsListed ∷ OffDiagonal ∷ PairsClosed ∷ OrphanRead ∷ WindowClaims ∷ TwinsAlike ∷ RightAhead ∷ RightSplit ∷ LeftAhead ∷ LeftSplit ∷ FluxFlows ∷ RingLossy ∷ []
+    SideClaims Right ∷ SideClaims Left ∷ FullListed ∷ NoneEmpty ∷ Closed ∷ FirstsListed ∷ OffDiagonal ∷ PairsClosed ∷ OrphanRead ∷ WindowClaims ∷ TwinsAlike ∷ SideAhead Right ∷ SideSplit Right ∷ SideAhead Left ∷ SideSplit Left ∷ FluxFlows ∷ RingLossy ∷ []
 
 -- what is asked of listed sets, where the part has them
 abbrev pub OfSets : SurjectiveEvidence → (List ℕ → Type 0) → Type 0
@@ -76,8 +78,7 @@ OfRing (Ring p) P = P p
 
 -- what each condition asks
 abbrev pub Holds : Certificate → Condition → Type 0
-Holds c ForwardClaims = EachBelow (pair_count c.rule) (IsForwardClaim c.rule c.forward)
-Holds c BackwardClaims = EachBelow (pair_count c.rule) (IsBackwardClaim c.rule c.backward)
+Holds c (SideClaims side) = EachBelow (pair_count c.rule) (Falls side c.rule (claims_on c side))
 Holds c FullListed = OfSets c.surjective (λ sets. Contains sets (full_set c.rule))
 Holds c NoneEmpty = OfSets c.surjective (λ sets. EachBelow (length sets) (λ i. slice_index sets i ≢ 0))
 Holds c Closed = OfSets c.surjective (λ sets. EachBelow (length sets) (λ i. EachBelow c.rule.states (StepIsKept c.version c.rule sets (slice_index sets i))))
@@ -87,10 +88,8 @@ Holds c PairsClosed = OfPairs c.surjective (λ pairs. EachBelow (length pairs) (
 Holds c OrphanRead = OfOrphan c.surjective (λ w. LeadsTo c.rule (full_set c.rule) w 0)
 Holds c WindowClaims = OfWindow c.injective (λ n at. EachBelow (pair_count c.rule) (IsWindowPair c.rule c.forward c.backward n at))
 Holds c TwinsAlike = OfTwins c.injective (λ x y. ((length x ≡ length y) × (1 ≤ length x)) × (x ≢ y) × (ring_image c.rule x ≡ ring_image c.rule y))
-Holds c RightAhead = OfAhead c.right (λ n. EachBelow (pair_count c.rule) (IsAheadPair (IsFirstOfRight c.rule) c.forward n))
-Holds c RightSplit = OfSplit c.right (λ x y. Different x y × AgreeLeft x y × ShareImage c.rule x y)
-Holds c LeftAhead = OfAhead c.left (λ n. EachBelow (pair_count c.rule) (IsAheadPair (IsFirstOfLeft c.rule) c.backward n))
-Holds c LeftSplit = OfSplit c.left (λ x y. Different x y × AgreeRight x y × ShareImage c.rule x y)
+Holds c (SideAhead side) = OfAhead (evidence_on c side) (λ n. EachBelow (pair_count c.rule) (IsAheadPair (IsFirstOf side c.rule) (claims_on c side) n))
+Holds c (SideSplit side) = OfSplit (evidence_on c side) (λ x y. Different x y × AgreeBehind side x y × ShareImage c.rule x y)
 Holds c FluxFlows = OfFlux c.conserving (λ phi. EachBelow (c.rule.states ^ c.rule.width) (λ v. Flows (slice_index c.weights) c.rule phi (word_of c.rule.states c.rule.width v)))
 Holds c RingLossy = OfRing c.conserving (IsLossy (slice_index c.weights) c.rule)
 

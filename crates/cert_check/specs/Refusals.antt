@@ -3,8 +3,7 @@ use Rattle.std.specs.Prelude.{◌≡◌, ◌≢◌, ℕ, ◌^◌, ◌≤◌, Lis
 use Rattle.word_image.specs.LocalRules.{LocalRule, word_of}
 use Rattle.word_image.specs.Rings.{ring_image}
 use Rattle.word_image.specs.Graphs.{full_set, first_of, second_of, pair_count}
-use Rattle.word_image.specs.Erasure.{IsFirstOfRight, IsFirstOfLeft}
-use Rattle.tail_config.specs.Tails.{TailConfig, Different, ShareImage, AgreeLeft, AgreeRight}
+use Rattle.tail_config.specs.Tails.{TailConfig, Different, ShareImage}
 use Rattle.cert_format.specs.Certificates.{Certificate}
 use Rattle.cert_format.specs.Evidence.SurjectiveEvidence.{Sets, Pairs, Orphan}
 use Rattle.cert_format.specs.Evidence.InjectiveEvidence.{Window, Twins}
@@ -15,7 +14,8 @@ use Rattle.cert_format.specs.ShapeFaults.{IsShapeFault, IsFirstWithout}
 use Rattle.cert_format.specs.declared.shape_fault.ShapeFault.{ShapeFault}
 use Rattle.cert_check.specs.declared.conditions.Condition.{Condition}
 use Rattle.cert_check.specs.declared.conditions.Condition.TheVariants as condition
-use Rattle.cert_check.specs.declared.refusal.Side.TheVariants as side
+use Rattle.word_image.specs.declared.side.Side.{Side}
+use Rattle.word_image.specs.Sides.{IsFirstOf}
 use Rattle.cert_check.specs.declared.refusal.TwinCause.{TwinCause}
 use Rattle.cert_check.specs.declared.refusal.TwinCause.TheVariants as twin
 use Rattle.cert_check.specs.declared.refusal.SplitCause.{SplitCause}
@@ -23,10 +23,11 @@ use Rattle.cert_check.specs.declared.refusal.SplitCause.TheVariants as split
 use Rattle.cert_check.specs.declared.refusal.Refusal.{Refusal}
 use Rattle.cert_check.specs.declared.refusal.Refusal.TheVariants as refusal
 use Rattle.cert_check.specs.Breaches.{EachBelow, IsFirstBreach}
-use Rattle.cert_check.specs.Claims.{IsForwardClaim, IsBackwardClaim}
+use Rattle.cert_check.specs.Claims.{Falls}
 use Rattle.cert_check.specs.Sets.{StepIsKept, LeadsTo}
 use Rattle.cert_check.specs.Pairs.{FirstIsListed, StepsAreListed, IsFirstLeaving}
 use Rattle.cert_check.specs.Windows.{IsWindowPair, IsAheadPair}
+use Rattle.cert_check.specs.Sides.{AgreeBehind, claims_on, evidence_on}
 use Rattle.cert_check.specs.Sums.{Flows, IsLossy}
 use Rattle.cert_check.specs.Conditions.{conditions, Holds}
 
@@ -44,8 +45,7 @@ pub data IsSplitBreach (r : LocalRule) (Agree : TailConfig → TailConfig → Ty
 
 -- a condition isn't met, and this is said of it: the first pair, place, letter, window or cause
 pub data IsBreach (c : Certificate) : Condition → Refusal → Type 0 where
-  Forward : (p : ℕ) → IsFirstBreach (pair_count c.rule) (IsForwardClaim c.rule c.forward) p → IsBreach c condition.ForwardClaims (refusal.Rank side.Right p)
-  Backward : (p : ℕ) → IsFirstBreach (pair_count c.rule) (IsBackwardClaim c.rule c.backward) p → IsBreach c condition.BackwardClaims (refusal.Rank side.Left p)
+  Rising : (side : Side) (p : ℕ) → IsFirstBreach (pair_count c.rule) (Falls side c.rule (claims_on c side)) p → IsBreach c (condition.SideClaims side) (refusal.Rank side p)
   NoFull : (sets : List ℕ) → c.surjective ≡ Sets sets → ¬ Contains sets (full_set c.rule) → IsBreach c condition.FullListed refusal.NoFull
   Empty : (sets : List ℕ) (i : ℕ) → c.surjective ≡ Sets sets → IsFirstBreach (length sets) (λ i. slice_index sets i ≢ 0) i → IsBreach c condition.NoneEmpty (refusal.EmptySet i)
   NotClosed : (sets : List ℕ) (i a : ℕ) → c.surjective ≡ Sets sets
@@ -61,14 +61,10 @@ pub data IsBreach (c : Certificate) : Condition → Refusal → Type 0 where
   NoWindow : (n at p : ℕ) → c.injective ≡ Window n at → IsFirstBreach (pair_count c.rule) (IsWindowPair c.rule c.forward c.backward n at) p
       → IsBreach c condition.WindowClaims (refusal.Window p)
   NoTwins : (x y : List ℕ) (cause : TwinCause) → c.injective ≡ Twins x y → IsTwinsBreach c.rule x y cause → IsBreach c condition.TwinsAlike (refusal.Twins cause)
-  NoRightAhead : (n p : ℕ) → c.right ≡ Ahead n → IsFirstBreach (pair_count c.rule) (IsAheadPair (IsFirstOfRight c.rule) c.forward n) p
-      → IsBreach c condition.RightAhead (refusal.Ahead side.Right p)
-  NoRightSplit : (x y : TailConfig) (cause : SplitCause) → c.right ≡ Split x y → IsSplitBreach c.rule AgreeLeft x y cause
-      → IsBreach c condition.RightSplit (refusal.Split side.Right cause)
-  NoLeftAhead : (n p : ℕ) → c.left ≡ Ahead n → IsFirstBreach (pair_count c.rule) (IsAheadPair (IsFirstOfLeft c.rule) c.backward n) p
-      → IsBreach c condition.LeftAhead (refusal.Ahead side.Left p)
-  NoLeftSplit : (x y : TailConfig) (cause : SplitCause) → c.left ≡ Split x y → IsSplitBreach c.rule AgreeRight x y cause
-      → IsBreach c condition.LeftSplit (refusal.Split side.Left cause)
+  NoAhead : (side : Side) (n p : ℕ) → evidence_on c side ≡ Ahead n → IsFirstBreach (pair_count c.rule) (IsAheadPair (IsFirstOf side c.rule) (claims_on c side) n) p
+      → IsBreach c (condition.SideAhead side) (refusal.Ahead side p)
+  NoSplit : (side : Side) (x y : TailConfig) (cause : SplitCause) → evidence_on c side ≡ Split x y → IsSplitBreach c.rule (AgreeBehind side) x y cause
+      → IsBreach c (condition.SideSplit side) (refusal.Split side cause)
   NoFlux : (phi : List ℤ) (v : ℕ) → c.conserving ≡ Flux phi
       → IsFirstBreach (c.rule.states ^ c.rule.width) (λ v. Flows (slice_index c.weights) c.rule phi (word_of c.rule.states c.rule.width v)) v → IsBreach c condition.FluxFlows (refusal.Flux v)
   NoRing : (p : List ℕ) → c.conserving ≡ Ring p → ¬ IsLossy (slice_index c.weights) c.rule p → IsBreach c condition.RingLossy refusal.Ring

@@ -1,20 +1,10 @@
 -- What is asked on a side of the line, right or left.
-use Rattle.std.specs.Prelude.{ℕ, ◌-◌, ◌/◌, ◌%◌, ◌^◌}
+use Rattle.std.specs.Prelude.{ℕ, ◌-◌, ◌/◌, ◌%◌, ◌^◌, List, Option}
 use Rattle.word_image.specs.LocalRules.{LocalRule}
-use Rattle.word_image.specs.Erasure.{IsFirstOfRight, IsFirstOfLeft}
 use Rattle.tail_config.specs.Tails.{TailConfig, AgreeLeft, AgreeRight}
-use Rattle.cert_check.specs.declared.refusal.Side.{Side}
-use Rattle.cert_check.specs.declared.refusal.Side.TheVariants.{Right, Left}
-
--- the other side
-abbrev pub other : Side → Side
-other Right = Left
-other Left = Right
-
--- a first pair of this side
-abbrev pub IsFirstOf : Side → LocalRule → ℕ → Type 0
-IsFirstOf Right = IsFirstOfRight
-IsFirstOf Left = IsFirstOfLeft
+use Rattle.cert_format.specs.Certificates.{Certificate, SideEvidence}
+use Rattle.word_image.specs.declared.side.Side.{Side}
+use Rattle.word_image.specs.declared.side.Side.TheVariants.{Right, Left}
 
 -- a node without its last letter, or on the left without its first one, as a number
 abbrev pub rest_of : Side → LocalRule → ℕ → ℕ
@@ -25,3 +15,13 @@ rest_of Left r u = u % r.states ^ (r.width - 2)
 abbrev pub AgreeBehind : Side → TailConfig → TailConfig → Type 0
 AgreeBehind Right = AgreeLeft
 AgreeBehind Left = AgreeRight
+
+-- what is claimed of the pairs on this side
+abbrev pub claims_on : Certificate → Side → List (Option ℕ)
+claims_on c Right = c.forward
+claims_on c Left = c.backward
+
+-- what is said of closing on this side
+abbrev pub evidence_on : Certificate → Side → SideEvidence
+evidence_on c Right = c.right
+evidence_on c Left = c.left

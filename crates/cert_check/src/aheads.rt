@@ -4,41 +4,42 @@ ghost use Rattle.std.specs.Prelude.{◌≡◌, ◌↔◌, ◌<◌, ◌≤◌, �
 ghost use Rattle.word_image.specs.LocalRules.{node_count};
 ghost use Rattle.word_image.specs.Graphs.{pair_count};
 ghost use Rattle.cert_check.specs.Breaches.{FirstBreach};
-ghost use Rattle.cert_check.specs.Claims.{window_with};
 ghost use Rattle.cert_check.specs.Refusals.{IsChecked};
-ghost use Rattle.cert_check.specs.Sides.{IsFirstOf, other, rest_of};
+ghost use Rattle.word_image.specs.Sides.{IsFirstOf, window_with};
+ghost use Rattle.cert_format.specs.Certificates.{IsSideShape};
+ghost use Rattle.cert_format.specs.Parts.{side_of, IsOver};
+ghost use Rattle.cert_check.specs.Sides.{evidence_on, rest_of};
 ghost use Rattle.cert_check.specs.Windows.{IsAheadPair};
 
-use crate::claims::{claims_below, window_with};
+use crate::claims::{claims_below, claims_on};
 use crate::conditions::Condition;
-use crate::refusal::{Refusal, Side};
+use crate::refusal::Refusal;
 use cert_format::{Cert, SidePart};
-use word_image::Rule;
+use word_image::{Rule, Side};
 
-/// Whether the claims of the first pairs of the right are less than the look-ahead allows; else the least
+/// Whether the claims of the first pairs of this side are less than the look-ahead allows; else the least
 /// pair whose claim isn't.
-pub fn right_ahead(cert: &Cert) -> Result<(), Refusal>
-    ensures { IsChecked cert.now Condition.RightAhead result }
+pub fn side_ahead(cert: &Cert, side: Side) -> Result<(), Refusal>
+    ensures { IsChecked cert.now (Condition.SideAhead side) result }
 {
-    let SidePart::Ahead(n) = &cert.right else {
+    let SidePart::Ahead(n) = part_on(cert, side) else {
         return Ok(());
     };
-    match first_too_far(&cert.rule, Side::Right, cert.forward.as_slice(), *n) {
-        Some(pair) => Err(Refusal::Ahead(Side::Right, pair)),
+    match first_too_far(&cert.rule, side, claims_on(cert, side), *n) {
+        Some(pair) => Err(Refusal::Ahead(side, pair)),
         None => Ok(()),
     }
 }
 
-/// The same of the first pairs of the left.
-pub fn left_ahead(cert: &Cert) -> Result<(), Refusal>
-    ensures { IsChecked cert.now Condition.LeftAhead result }
+/// What is said of closing on this side.
+pub fn part_on(cert: &Cert, side: Side) -> &SidePart
+    ensures part { side_of result.now ≡ evidence_on cert.now side }
+    ensures shape { IsSideShape cert.now.rule (side_of result.now) }
+    ensures over { IsOver cert.now.rule.states result.now }
 {
-    let SidePart::Ahead(n) = &cert.left else {
-        return Ok(());
-    };
-    match first_too_far(&cert.rule, Side::Left, cert.backward.as_slice(), *n) {
-        Some(pair) => Err(Refusal::Ahead(Side::Left, pair)),
-        None => Ok(()),
+    match side {
+        Side::Right => &cert.right,
+        Side::Left => &cert.left,
     }
 }
 
@@ -48,8 +49,7 @@ fn first_too_far(rule: &Rule, side: Side, claims: &[Option<u16>], n: u16) -> Opt
     requires some { 1 ≤ n }
     ensures { FirstBreach (pair_count rule.now) (IsAheadPair (IsFirstOf side rule.now) claims.now n) result }
 {
-    let nodes = u16::from(rule.nodes());
-    for pair in 0..nodes * nodes {
+    for pair in 0..rule.pairs() {
         if is_first(rule, side, pair) && !claims_below(claims, pair, n - 1) {
             return Some(pair);
         }
@@ -68,7 +68,7 @@ pub fn is_first(rule: &Rule, side: Side, pair: u16) -> bool
     if u == v || rest_of(rule, side, u) != rest_of(rule, side, v) {
         return false;
     }
-    some_label(rule, other(side), u, v)
+    some_label(rule, side.other(), u as u8, v as u8)
 }
 
 /// A node without the letter at its end on this side.
@@ -83,7 +83,7 @@ fn rest_of(rule: &Rule, side: Side, node: u16) -> u16
 }
 
 /// Whether some letter on this side of two nodes makes windows with one label of them.
-fn some_label(rule: &Rule, side: Side, u: u16, v: u16) -> bool
+fn some_label(rule: &Rule, side: Side, u: u8, v: u8) -> bool
     requires first { u < node_count rule.now }
     requires second { v < node_count rule.now }
     ensures { IsTrue result ↔ ((a : ℕ) × (a < rule.now.states)
@@ -92,22 +92,12 @@ fn some_label(rule: &Rule, side: Side, u: u16, v: u16) -> bool
 {
     for letter in 0..rule.k() {
         let (first, second) = (
-            window_with(rule, side, u, letter),
-            window_with(rule, side, v, letter),
+            side.window_with(rule, u, letter),
+            side.window_with(rule, v, letter),
         );
         if rule.at(first) == rule.at(second) {
             return true;
         }
     }
     false
-}
-
-/// The other side.
-fn other(side: Side) -> Side
-    ensures { result ≡ other side }
-{
-    match side {
-        Side::Right => Side::Left,
-        Side::Left => Side::Right,
-    }
 }

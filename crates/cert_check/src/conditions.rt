@@ -4,25 +4,25 @@ ghost use Rattle.std.specs.Prelude.{MatchResult};
 ghost use Rattle.cert_check.specs.Conditions.{MeetsConditions};
 ghost use Rattle.cert_check.specs.Refusals.{IsChecked, IsFirstUnmet};
 
-use crate::aheads::{left_ahead, right_ahead};
-use crate::claims::{backward_claims, forward_claims};
+use crate::aheads::side_ahead;
+use crate::claims::side_claims;
 use crate::orphans::orphan_read;
 use crate::pairs::{firsts_listed, off_diagonal, pairs_closed};
 use crate::refusal::Refusal;
 use crate::sets::{closed, full_listed, none_empty};
-use crate::splits::{left_split, right_split};
+use crate::splits::side_split;
 use crate::sums::{flux_flows, ring_lossy};
 use crate::twins::twins_alike;
 use crate::windows::window_claims;
 use cert_format::Cert;
+use word_image::Side;
 
 /// What is asked of a certificate, most of it of evidence of one kind alone.
 #[derive(Clone, Copy, Debug)]
 pub enum Condition {
-    /// What is claimed of a pair forward is more than what is claimed of each pair to which it leads.
-    ForwardClaims,
-    /// What is claimed of a pair backward is more than what is claimed of each pair that leads to it.
-    BackwardClaims,
+    /// What is claimed of a pair is more than what is claimed of each pair to which it leads on, on this
+    /// side.
+    SideClaims(Side),
     /// The full set is listed.
     FullListed,
     /// No listed set is empty.
@@ -41,14 +41,10 @@ pub enum Condition {
     WindowClaims,
     /// The twins have one length and differ, and their rings have one image.
     TwinsAlike,
-    /// The claims of the first pairs of the right are less than the look-ahead allows.
-    RightAhead,
-    /// The configurations differ, agree on the left and share an image.
-    RightSplit,
-    /// The claims of the first pairs of the left are less than the look-ahead allows.
-    LeftAhead,
-    /// The configurations differ, agree on the right and share an image.
-    LeftSplit,
+    /// The claims of the first pairs of this side are less than the look-ahead allows.
+    SideAhead(Side),
+    /// The configurations differ, agree on the other side and share an image.
+    SideSplit(Side),
     /// The flux balances what each window gains.
     FluxFlows,
     /// The ring has letters, and its image has another sum.
@@ -57,8 +53,8 @@ pub enum Condition {
 
 /// All of them, the one that is checked first at the front.
 const CONDITIONS: [Condition; 17] = [
-    Condition::ForwardClaims,
-    Condition::BackwardClaims,
+    Condition::SideClaims(Side::Right),
+    Condition::SideClaims(Side::Left),
     Condition::FullListed,
     Condition::NoneEmpty,
     Condition::Closed,
@@ -68,10 +64,10 @@ const CONDITIONS: [Condition; 17] = [
     Condition::OrphanRead,
     Condition::WindowClaims,
     Condition::TwinsAlike,
-    Condition::RightAhead,
-    Condition::RightSplit,
-    Condition::LeftAhead,
-    Condition::LeftSplit,
+    Condition::SideAhead(Side::Right),
+    Condition::SideSplit(Side::Right),
+    Condition::SideAhead(Side::Left),
+    Condition::SideSplit(Side::Left),
     Condition::FluxFlows,
     Condition::RingLossy,
 ];
@@ -91,8 +87,7 @@ fn check(condition: Condition, cert: &Cert) -> Result<(), Refusal>
     ensures { IsChecked cert.now condition result }
 {
     match condition {
-        Condition::ForwardClaims => forward_claims(cert),
-        Condition::BackwardClaims => backward_claims(cert),
+        Condition::SideClaims(side) => side_claims(cert, side),
         Condition::FullListed => full_listed(cert),
         Condition::NoneEmpty => none_empty(cert),
         Condition::Closed => closed(cert),
@@ -102,10 +97,8 @@ fn check(condition: Condition, cert: &Cert) -> Result<(), Refusal>
         Condition::OrphanRead => orphan_read(cert),
         Condition::WindowClaims => window_claims(cert),
         Condition::TwinsAlike => twins_alike(cert),
-        Condition::RightAhead => right_ahead(cert),
-        Condition::RightSplit => right_split(cert),
-        Condition::LeftAhead => left_ahead(cert),
-        Condition::LeftSplit => left_split(cert),
+        Condition::SideAhead(side) => side_ahead(cert, side),
+        Condition::SideSplit(side) => side_split(cert, side),
         Condition::FluxFlows => flux_flows(cert),
         Condition::RingLossy => ring_lossy(cert),
     }

@@ -47,5 +47,5 @@ mod windows;
 
 pub use exactness::{one_answer, version_2_asks_no_more};
 pub use judging::judge;
-pub use refusal::{Refusal, Side, SplitCause, TwinCause};
+pub use refusal::{Refusal, SplitCause, TwinCause};
 pub use verdicts::Verdicts;

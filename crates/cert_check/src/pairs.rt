@@ -8,12 +8,11 @@ ghost use Rattle.cert_check.specs.Sets.{AreMarked};
 ghost use Rattle.cert_check.specs.Refusals.{IsChecked};
 
 use crate::aheads::is_first;
-use crate::claims::{far_node, pair_of, window_with};
 use crate::conditions::Condition;
 use crate::marks::Marks;
-use crate::refusal::{Refusal, Side};
+use crate::refusal::Refusal;
 use cert_format::{Cert, SurjectivePart};
-use word_image::Rule;
+use word_image::{Rule, Side};
 
 /// Whether each first pair of the right is listed; else the least that isn't.
 pub fn firsts_listed(cert: &Cert) -> Result<(), Refusal>
@@ -60,8 +59,7 @@ fn first_missing(rule: &Rule, pairs: &[u16]) -> Option<u16>
     ensures { FirstBreach (pair_count rule.now) (FirstIsListed rule.now pairs.now) result }
 {
     let listed = Marks::of(pairs);
-    let nodes = u16::from(rule.nodes());
-    for pair in 0..nodes * nodes {
+    for pair in 0..rule.pairs() {
         if is_first(rule, Side::Right, pair) && !listed.has(pair) {
             return Some(pair);
         }
@@ -157,15 +155,14 @@ fn follow(rule: &Rule, pair: u16, a: u8, b: u8) -> Option<u16>
     requires second { b < rule.now.states }
     ensures { result ≡ follow rule.now pair a b }
 {
-    let nodes = u16::from(rule.nodes());
-    let first = window_with(rule, Side::Right, pair / nodes, a);
-    let second = window_with(rule, Side::Right, pair % nodes, b);
+    let (u, v) = rule.nodes_of(pair);
+    let first = Side::Right.window_with(rule, u, a);
+    let second = Side::Right.window_with(rule, v, b);
     if rule.at(first) != rule.at(second) {
         return None;
     }
-    Some(pair_of(
-        rule,
-        far_node(rule, Side::Right, first),
-        far_node(rule, Side::Right, second),
+    Some(rule.pair_of(
+        Side::Right.end_node(rule, first),
+        Side::Right.end_node(rule, second),
     ))
 }

@@ -2,13 +2,7 @@
 
 use cert_format::ShapeFault;
 use std::alloc::AllocError;
-
-/// A side of the line.
-#[derive(Clone, Copy, Debug, PartialEq, Eq)]
-pub enum Side {
-    Right,
-    Left,
-}
+use word_image::Side;
 
 /// What two words lack that are no twins.
 #[derive(Clone, Copy, Debug, PartialEq, Eq)]

@@ -5,35 +5,23 @@ ghost use Rattle.tail_config.specs.Tails.{Different, ShareImage};
 ghost use Rattle.cert_check.specs.Refusals.{IsChecked, IsSplitBreach};
 ghost use Rattle.cert_check.specs.Sides.{AgreeBehind};
 
+use crate::aheads::part_on;
 use crate::conditions::Condition;
-use crate::refusal::{Refusal, Side, SplitCause};
+use crate::refusal::{Refusal, SplitCause};
 use cert_format::{Cert, SidePart};
 use tail_config::{Tail, agree_left, agree_right, differ, share};
-use word_image::Rule;
+use word_image::{Rule, Side};
 
-/// Whether the configurations differ, agree on the left and share an image; else the first of these that
-/// fails.
-pub fn right_split(cert: &Cert) -> Result<(), Refusal>
-    ensures { IsChecked cert.now Condition.RightSplit result }
+/// Whether the configurations differ, agree on the other side and share an image; else the first of these
+/// that fails.
+pub fn side_split(cert: &Cert, side: Side) -> Result<(), Refusal>
+    ensures { IsChecked cert.now (Condition.SideSplit side) result }
 {
-    let SidePart::Split(x, y) = &cert.right else {
+    let SidePart::Split(x, y) = part_on(cert, side) else {
         return Ok(());
     };
-    match lacks(&cert.rule, Side::Right, x, y) {
-        Some(cause) => Err(Refusal::Split(Side::Right, cause)),
-        None => Ok(()),
-    }
-}
-
-/// The same where they agree on the right.
-pub fn left_split(cert: &Cert) -> Result<(), Refusal>
-    ensures { IsChecked cert.now Condition.LeftSplit result }
-{
-    let SidePart::Split(x, y) = &cert.left else {
-        return Ok(());
-    };
-    match lacks(&cert.rule, Side::Left, x, y) {
-        Some(cause) => Err(Refusal::Split(Side::Left, cause)),
+    match lacks(&cert.rule, side, x, y) {
+        Some(cause) => Err(Refusal::Split(side, cause)),
         None => Ok(()),
     }
 }

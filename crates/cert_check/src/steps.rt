@@ -56,7 +56,7 @@ impl Steps {
         ensures set { result ≡ full_set self.now }
         ensures rule { IsRule self.now }
     {
-        u16::MAX >> (16 - self.rule.nodes())
+        self.rule.all_nodes()
     }
 
     /// The nodes to which an edge labelled a leads from a node of the set.

@@ -40,8 +40,7 @@ fn first_not_told(
     requires inside { c ≤ n + rule.now.width - 2 }
     ensures { FirstBreach (pair_count rule.now) (IsWindowPair rule.now forward.now backward.now n c) result }
 {
-    let nodes = u16::from(rule.nodes());
-    for pair in 0..nodes * nodes {
+    for pair in 0..rule.pairs() {
         if !is_told(rule, forward, backward, n, c, pair) {
             return Some(pair);
         }

@@ -16,7 +16,8 @@ use Rattle.word_image.specs.Graphs.{full_set, first_of, second_of, pair_count}
 use Rattle.word_image.specs.Ranks.{IsRank, IsEndless}
 use Rattle.word_image.proofs.laws.Values.{length-word_of}
 use Rattle.word_image.proofs.laws.Words.{length-image}
-use Rattle.pair_laws.proofs.Endless.{BeginTogether-endless}
+use Rattle.word_image.specs.declared.side.Side.TheVariants.{Right}
+use Rattle.pair_laws.proofs.Endless.{Together-endless}
 use Rattle.pair_laws.proofs.BothWays.{IsDetermined-not_both_ways, IsDetermined-none_both_ways}
 use Rattle.pair_laws.proofs.Aheads.{IsRightAhead-pairs}
 use Rattle.ring_laws.proofs.Gains.{gain}
@@ -73,7 +74,7 @@ IsLeastRightAhead-le {r} {n} rule least =
     let most : IsRightAhead r (pair_count r + 1) =
     (IsRightAhead-pairs rule (pair_count r + 1)).1 (
       omega arith,
-      (λ p first begins. ((IsRightAhead-pairs rule n).0 least.ahead).1 p first (BeginTogether-endless rule (omega arith) begins (n - 1))),
+      (λ p first begins. ((IsRightAhead-pairs rule n).0 least.ahead).1 p first (Together-endless Right rule _ _ _ (omega arith) begins (n - 1))),
     ) in
     ⊎_elim (λ less. absurd (least.least (pair_count r + 1) less most)) (λ not_less. not_less) (cases_lt (pair_count r + 1) n)
 

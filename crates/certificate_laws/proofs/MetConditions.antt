@@ -6,6 +6,7 @@ use Rattle.word_image.specs.LocalRules.{LocalRule, IsRule, word_of}
 use Rattle.word_image.specs.Words.{IsSurjective}
 use Rattle.word_image.specs.Graphs.{full_set, first_of, second_of, pair_count}
 use Rattle.word_image.specs.Erasure.{IsFirstOfRight, IsFirstOfLeft}
+use Rattle.word_image.specs.declared.side.Side.TheVariants as side
 use Rattle.word_image.specs.Families.{IsFamily, IsLeastWordOf, covers_of}
 use Rattle.word_image.specs.Ranks.{IsLastSet, BeginTogether, EndTogether}
 use Rattle.word_image.proofs.laws.LastSets.{IsOrphan-empty_set, IsOrphan-not_surjective}
@@ -20,7 +21,7 @@ use Rattle.cert_format.specs.Evidence.SurjectiveEvidence.{Sets, Pairs, Orphan}
 use Rattle.cert_format.specs.Evidence.InjectiveEvidence.{Window, Twins}
 use Rattle.cert_format.specs.Evidence.SideEvidence.{Ahead, Split}
 use Rattle.cert_format.specs.Evidence.SumEvidence.{Flux, Ring}
-use Rattle.cert_check.specs.declared.conditions.Condition.TheVariants.{ForwardClaims, BackwardClaims, FullListed, NoneEmpty, Closed, FirstsListed, OffDiagonal, PairsClosed, OrphanRead, WindowClaims, TwinsAlike, RightAhead, RightSplit, LeftAhead, LeftSplit, FluxFlows, RingLossy}
+use Rattle.cert_check.specs.declared.conditions.Condition.TheVariants.{SideClaims, FullListed, NoneEmpty, Closed, FirstsListed, OffDiagonal, PairsClosed, OrphanRead, WindowClaims, TwinsAlike, SideAhead, SideSplit, FluxFlows, RingLossy}
 use Rattle.cert_check.specs.Breaches.{EachBelow}
 use Rattle.cert_check.specs.Sets.{StepIsKept, LeadsTo}
 use Rattle.cert_check.specs.Pairs.{FirstIsListed, StepsAreListed}
@@ -29,7 +30,7 @@ use Rattle.cert_check.specs.Sums.{Flows, IsLossy}
 use Rattle.cert_check.specs.Conditions.{MeetsConditions, OfSets, OfPairs, OfOrphan, OfWindow, OfTwins, OfAhead, OfSplit, OfFlux, OfRing}
 use Rattle.cert_check.proofs.laws.StepConditions.{at_listed}
 use Rattle.cert_check.proofs.laws.ClaimConditions.{AreApart, AreAlike}
-use Rattle.cert_check.proofs.laws.ExactEvidence.{AreLastSets, Contains-full, nonempty-last_sets, StepIsKept-last_sets, LeadsTo-orphan, ClaimForward-ranks, ClaimBackward-ranks, IsWindowPair-determined, IsAheadPair-right, IsAheadPair-left, AreAlike-twins, AreApart-right, AreApart-left, Flows-exact, IsLossy-ring}
+use Rattle.cert_check.proofs.laws.ExactEvidence.{AreLastSets, Contains-full, nonempty-last_sets, StepIsKept-last_sets, LeadsTo-orphan, AllFall-ranks, IsWindowPair-determined, IsAheadPair-ranks, AreAlike-twins, AreApart-right, AreApart-left, Flows-exact, IsLossy-ring}
 use Rattle.certificate_laws.proofs.CoverLists.{Contains-covers, HasCover-listed}
 use Rattle.certificate_laws.proofs.PairLists.{pair_list-met}
 use Rattle.certificate_laws.specs.LeastEvidence.{IsOrphanPart, IsInjectivePart, IsRightPart, IsLeftPart, IsConservingPart}
@@ -107,13 +108,13 @@ injective-met rule (Twins x y) forward backward ranks back part = (tt, AreAlike-
 -- the right look-ahead is claimed of each first pair; the right split is one
 right-met : {r : LocalRule} → IsRule r → (e : SideEvidence) (forward : List (Option ℕ)) → AreRanks r (BeginTogether r) forward → IsRightPart r e
     → OfAhead e (λ n. EachBelow (pair_count r) (IsAheadPair (IsFirstOfRight r) forward n)) × OfSplit e (AreApart AgreeLeft r)
-right-met rule (Ahead n) forward ranks part = (IsAheadPair-right rule forward ranks.ranks n part.1.ahead, tt)
+right-met rule (Ahead n) forward ranks part = (IsAheadPair-ranks side.Right rule forward ranks.ranks n part.1.ahead, tt)
 right-met rule (Split x y) forward ranks part = (tt, AreApart-right part.1.split.split)
 
 -- the same on the left
 left-met : {r : LocalRule} → IsRule r → (e : SideEvidence) (backward : List (Option ℕ)) → AreRanks r (EndTogether r) backward → IsLeftPart r e
     → OfAhead e (λ n. EachBelow (pair_count r) (IsAheadPair (IsFirstOfLeft r) backward n)) × OfSplit e (AreApart AgreeRight r)
-left-met rule (Ahead n) backward back part = (IsAheadPair-left rule backward back.ranks n part.1.ahead, tt)
+left-met rule (Ahead n) backward back part = (IsAheadPair-ranks side.Left rule backward back.ranks n part.1.ahead, tt)
 left-met rule (Split x y) backward back part = (tt, AreApart-left (IsLeftSplit-least rule part.1))
 
 -- the flux flows on each window; the ring is lossy
@@ -124,8 +125,8 @@ conserving-met weight rule (Ring p) part = (tt, IsLossy-ring part.1.lossy)
 
 -- a certificate with the evidence that is written for its own rule meets the conditions
 MeetsConditions-own : {c : Certificate} → IsRule c.rule → HasWrittenParts c.version c.rule c.weights c → MeetsConditions c
-MeetsConditions-own {c} rule parts ForwardClaims = ClaimForward-ranks rule c.forward parts.forward.ranks
-MeetsConditions-own {c} rule parts BackwardClaims = ClaimBackward-ranks rule c.backward parts.backward.ranks
+MeetsConditions-own {c} rule parts (SideClaims side.Right) = AllFall-ranks side.Right rule c.forward parts.forward.ranks
+MeetsConditions-own {c} rule parts (SideClaims side.Left) = AllFall-ranks side.Left rule c.backward parts.backward.ranks
 MeetsConditions-own {c} rule parts FullListed = (surjective-met c.version rule c.surjective parts.least.surjective parts.list).0
 MeetsConditions-own {c} rule parts NoneEmpty = (surjective-met c.version rule c.surjective parts.least.surjective parts.list).1
 MeetsConditions-own {c} rule parts Closed = (surjective-met c.version rule c.surjective parts.least.surjective parts.list).2
@@ -135,10 +136,10 @@ MeetsConditions-own {c} rule parts PairsClosed = (surjective-met c.version rule 
 MeetsConditions-own {c} rule parts OrphanRead = (surjective-met c.version rule c.surjective parts.least.surjective parts.list).6
 MeetsConditions-own {c} rule parts WindowClaims = (injective-met rule c.injective c.forward c.backward parts.forward parts.backward parts.least.injective).0
 MeetsConditions-own {c} rule parts TwinsAlike = (injective-met rule c.injective c.forward c.backward parts.forward parts.backward parts.least.injective).1
-MeetsConditions-own {c} rule parts RightAhead = (right-met rule c.right c.forward parts.forward parts.least.right).0
-MeetsConditions-own {c} rule parts RightSplit = (right-met rule c.right c.forward parts.forward parts.least.right).1
-MeetsConditions-own {c} rule parts LeftAhead = (left-met rule c.left c.backward parts.backward parts.least.left).0
-MeetsConditions-own {c} rule parts LeftSplit = (left-met rule c.left c.backward parts.backward parts.least.left).1
+MeetsConditions-own {c} rule parts (SideAhead side.Right) = (right-met rule c.right c.forward parts.forward parts.least.right).0
+MeetsConditions-own {c} rule parts (SideSplit side.Right) = (right-met rule c.right c.forward parts.forward parts.least.right).1
+MeetsConditions-own {c} rule parts (SideAhead side.Left) = (left-met rule c.left c.backward parts.backward parts.least.left).0
+MeetsConditions-own {c} rule parts (SideSplit side.Left) = (left-met rule c.left c.backward parts.backward parts.least.left).1
 MeetsConditions-own {c} rule parts FluxFlows = (conserving-met (slice_index c.weights) rule c.conserving parts.least.conserving).0
 MeetsConditions-own {c} rule parts RingLossy = (conserving-met (slice_index c.weights) rule c.conserving parts.least.conserving).1
 

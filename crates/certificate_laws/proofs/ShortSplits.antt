@@ -9,10 +9,12 @@ use Rattle.word_image.specs.Rings.{IsRing}
 use Rattle.word_image.specs.Graphs.{pair_of, pair_count}
 use Rattle.word_image.specs.Erasure.{IsFirstOfRight}
 use Rattle.word_image.proofs.laws.Values.{length-word_of}
+use Rattle.word_image.specs.declared.side.Side.TheVariants.{Right}
+use Rattle.word_image.specs.Sides.{PairGoes}
 use Rattle.pair_laws.proofs.Ranks.{BeginTogether-walk}
-use Rattle.pair_laws.proofs.Pairs.{PairBegins, pair_of-first_of}
+use Rattle.pair_laws.proofs.Pairs.{pair_of-first_of}
 use Rattle.pair_laws.proofs.Aheads.{IsRightAhead-pairs}
-use Rattle.pair_laws.proofs.Endless.{Loops-long, BeginTogether-endless}
+use Rattle.pair_laws.proofs.Endless.{Loops-long, Together-endless}
 use Rattle.tail_config.specs.Tails.{TailConfig}
 use Rattle.tail_config.specs.Splits.{IsNormalRightSplit, IsLeastRightSplit, splits_cmp}
 use Rattle.tail_laws.proofs.PairLeads.{PairLeads}
@@ -34,7 +36,7 @@ length-split_of : (r : LocalRule) (node a : ℕ) (walk turn : List ℕ) → leng
 length-split_of r node a walk turn = omega (arith, length-append (word_of r.states (r.width - 1) node) (a ∷ walk), length-word_of r.states (r.width - 1) node)
 
 -- a first pair that begins together for as long as there are pairs gives one
-HasShortSplit-begins : {r : LocalRule} {p : ℕ} → IsRule r → IsFirstOfRight r p → PairBegins r p (pair_count r) → HasShortSplit r
+HasShortSplit-begins : {r : LocalRule} {p : ℕ} → IsRule r → IsFirstOfRight r p → PairGoes Right r p (pair_count r) → HasShortSplit r
 HasShortSplit-begins {r} {p} rule f begins =
     let loops = Loops-long rule (omega arith) (BeginTogether-walk begins).2 in
     let before = IsLetterWalk-walk rule loops.before in
@@ -75,7 +77,7 @@ IsLeastRightSplit-le {r} {x} {y} rule least =
     let ahead : IsRightAhead r (pair_count r + 1) = (IsRightAhead-pairs rule (pair_count r + 1)).1 (
       omega arith,
       (λ p first begins.
-          let other = HasShortSplit-begins rule first (BeginTogether-endless rule (omega arith) begins (pair_count r)) in
+          let other = HasShortSplit-begins rule first (Together-endless Right rule _ _ _ (omega arith) begins (pair_count r)) in
           least.least other.x other.y other.split (splits_cmp-longer x y other.x other.y (omega (arith, other.short)))),
     ) in
     absurd (no_right_closing least (IsRightClosing-ahead rule ahead)))

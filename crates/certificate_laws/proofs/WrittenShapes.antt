@@ -6,7 +6,8 @@ use Rattle.word_image.specs.LocalRules.{LocalRule, IsRule}
 use Rattle.word_image.specs.Weights.{AreWeights}
 use Rattle.word_image.specs.Ranks.{BeginTogether, EndTogether}
 use Rattle.word_image.proofs.laws.Images.{IsRule-mirrored}
-use Rattle.pair_laws.proofs.Endless.{IsRank-begin, IsRank-end}
+use Rattle.word_image.specs.declared.side.Side.TheVariants.{Right, Left}
+use Rattle.pair_laws.proofs.Endless.{IsRank-below}
 use Rattle.tail_config.specs.Tails.{TailConfig, mirror_of}
 use Rattle.tail_config.specs.TailTexts.{IsShortTail}
 use Rattle.tail_config.specs.Splits.{IsLeastRightSplit}
@@ -68,8 +69,8 @@ IsShaped-own {c} names rule are parts =
       left = IsSideShape-left rule c.left parts.least.left;
       conserving = IsSumShape-written rule are c.conserving parts.least.conserving;
       weights = record { each = are; own = λ none. absurd (false≢true (sym none ∙ names)) };
-      forward = IsRankShape-exact (BeginTogether c.rule) rule (λ u v n rank. IsRank-begin rule rank) parts.forward;
-      backward = IsRankShape-exact (EndTogether c.rule) rule (λ u v n rank. IsRank-end rule rank) parts.backward;
+      forward = IsRankShape-exact (BeginTogether c.rule) rule (λ u v n rank. IsRank-below Right rule u v n rank) parts.forward;
+      backward = IsRankShape-exact (EndTogether c.rule) rule (λ u v n rank. IsRank-below Left rule u v n rank) parts.backward;
     }
 
 -- what is written for a rule has the shape of a certificate

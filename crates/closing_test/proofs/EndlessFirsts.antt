@@ -5,18 +5,20 @@ use Rattle.std.proofs.lemmas.Nat.Bits.{shr_and_one}
 use Rattle.word_image.specs.LocalRules.{LocalRule, IsRule}
 use Rattle.word_image.specs.Ranks.{IsEndless}
 use Rattle.word_image.proofs.laws.Bits.{bit_at-IsBitSet}
-use Rattle.pair_laws.proofs.BothWays.{IsRightAhead-some, IsLeftAhead-some}
-use Rattle.tail_laws.proofs.Certainty.{IsRightClosing-window, IsLeftClosing-window}
-use Rattle.closing_test.specs.declared.side.Side.{Side}
-use Rattle.closing_test.specs.declared.side.Side.TheVariants.{Right, Left}
-use Rattle.closing_test.specs.Sides.{GoTogether, IsClosing, IsFirst, PairGoes, end_pair}
+use Rattle.pair_laws.proofs.BothWays.{some_ahead}
+use Rattle.word_image.specs.declared.side.Side.{Side}
+use Rattle.word_image.specs.Sides.{Together, IsFirstOf, PairGoes}
+use Rattle.closing_test.specs.Sides.{IsClosing, end_pair}
 use Rattle.closing_test.specs.EndlessFirsts.{IsEndlessWith}
 use Rattle.closing_test.proofs.FirstWindows.{IsFirst-ends, first_ends}
-use Rattle.closing_test.proofs.LookAheads.{IsFound, end_pair-goes}
+use Rattle.closing_test.proofs.LookAheads.{IsFound, closing_ahead, end_pair-goes}
 
-closes_exactly : (side : Side) {r : LocalRule} → IsRule r → IsClosing side r ↔ ((p : ℕ) → IsFirst side r p → ¬ IsEndless (PairGoes side r p))
-closes_exactly Right rule = ((λ closing. (IsRightAhead-some rule).0 ((IsRightClosing-window rule).0 closing)), (λ none. (IsRightClosing-window rule).1 ((IsRightAhead-some rule).1 none)))
-closes_exactly Left rule = ((λ closing. (IsLeftAhead-some rule).0 ((IsLeftClosing-window rule).0 closing)), (λ none. (IsLeftClosing-window rule).1 ((IsLeftAhead-some rule).1 none)))
+-- both say that it looks ahead
+closes_exactly : (side : Side) {r : LocalRule} → IsRule r → IsClosing side r ↔ ((p : ℕ) → IsFirstOf side r p → ¬ IsEndless (PairGoes side r p))
+closes_exactly side rule =
+    let ahead = some_ahead side rule in
+    let closes = closing_ahead side rule in
+    ((λ closing. ahead.0 (closes.0 closing)), (λ none. closes.1 (ahead.1 none)))
 
 -- an endless first pair forbids it
 pub not_closing_with : (side : Side) {r : LocalRule} → IsRule r → (w a : ℕ) → IsEndlessWith side r w a → ¬ IsClosing side r
@@ -29,7 +31,7 @@ closing_without side {r} rule none = (closes_exactly side rule).1 (λ p first en
     none w a (record { first = here; endless = subst (λ q. IsEndless (PairGoes side r q)) pair endless }))
 
 -- the bit of the second node in the row of the first tells
-pub IsEndlessWith-bit : (side : Side) (r : LocalRule) (w a u v row : ℕ) → IsFound side r w a u v → (IsBitSet row v ↔ IsEndless (GoTogether side r u v))
+pub IsEndlessWith-bit : (side : Side) (r : LocalRule) (w a u v row : ℕ) → IsFound side r w a u v → (IsBitSet row v ↔ IsEndless (Together side r u v))
     → IsTrue (bit_and (row / 2 ^ v) 1 == 1) ↔ IsEndlessWith side r w a
 IsEndlessWith-bit side r w a u v row found exact = (
   (λ t. ⊎_elim

@@ -9,9 +9,10 @@ use Rattle.word_image.proofs.laws.Values.{value-word_of}
 use Rattle.word_image.proofs.laws.Graphs.{node_count_pos}
 use Rattle.word_image.proofs.laws.WindowParts.{windows-nodes, rest_count, node_count-rest, window_parts, node_parts}
 use Rattle.pair_laws.proofs.Pairs.{first_of-pair_of, second_of-pair_of, pair_of-below, pair_of-first_of, first_of-below, second_of-below}
-use Rattle.closing_test.specs.declared.side.Side.{Side}
-use Rattle.closing_test.specs.declared.side.Side.TheVariants.{Right, Left}
-use Rattle.closing_test.specs.Sides.{with_end, end_node, end_pair, IsFirst, AreFirst}
+use Rattle.word_image.specs.declared.side.Side.{Side}
+use Rattle.word_image.specs.declared.side.Side.TheVariants.{Right, Left}
+use Rattle.word_image.specs.Sides.{end_node, IsFirstOf}
+use Rattle.closing_test.specs.Sides.{with_end, end_pair, AreFirst}
 
 -- there are words of m - 2 letters
 rest_count_pos : {r : LocalRule} → IsRule r → 0 < rest_count r
@@ -155,11 +156,11 @@ first-left {r} {p} rule f =
     )
 
 -- the ends of two such windows are a first pair of the side
-pub IsFirst-ends : (side : Side) {r : LocalRule} → IsRule r → (w a : ℕ) → AreFirst side r w a → IsFirst side r (end_pair side r w a)
+pub IsFirst-ends : (side : Side) {r : LocalRule} → IsRule r → (w a : ℕ) → AreFirst side r w a → IsFirstOf side r (end_pair side r w a)
 IsFirst-ends Right rule w a h = right-first rule w a h
 IsFirst-ends Left rule w a h = left-first rule w a h
 
 -- and each first pair is one of these
-pub first_ends : (side : Side) {r : LocalRule} {p : ℕ} → IsRule r → IsFirst side r p → (w : ℕ) × (a : ℕ) × AreFirst side r w a × (p ≡ end_pair side r w a)
+pub first_ends : (side : Side) {r : LocalRule} {p : ℕ} → IsRule r → IsFirstOf side r p → (w : ℕ) × (a : ℕ) × AreFirst side r w a × (p ≡ end_pair side r w a)
 first_ends Right rule f = first-right rule f
 first_ends Left rule f = first-left rule f

@@ -8,38 +8,22 @@ use Rattle.word_image.specs.LocalRules.{LocalRule, IsRule, node_count}
 use Rattle.word_image.specs.Windows.{IsRightAhead, IsLeastRightAhead}
 use Rattle.word_image.specs.Graphs.{pair_of}
 use Rattle.word_image.specs.Ranks.{IsRank, IsEndless}
-use Rattle.pair_laws.proofs.Ranks.{BeginTogether-less, EndTogether-less}
-use Rattle.pair_laws.proofs.Pairs.{PairBegins-pair_of, PairEnds-pair_of}
-use Rattle.pair_laws.proofs.Aheads.{IsRightAhead-pairs}
-use Rattle.pair_laws.proofs.LeftAheads.{IsLeftAhead-pairs}
+use Rattle.pair_laws.proofs.Pairs.{PairGoes-pair_of, PairGoes-less}
+use Rattle.pair_laws.proofs.BothWays.{ahead_pairs}
 use Rattle.tail_laws.proofs.Certainty.{IsRightClosing-window, IsLeftClosing-window}
-use Rattle.closing_test.specs.declared.side.Side.{Side}
-use Rattle.closing_test.specs.declared.side.Side.TheVariants.{Right, Left}
-use Rattle.closing_test.specs.Sides.{seen_from, end_node, with_end, end_pair, IsFirst, AreFirst, GoTogether, PairGoes, IsClosing}
+use Rattle.word_image.specs.declared.side.Side.{Side}
+use Rattle.word_image.specs.declared.side.Side.TheVariants.{Right, Left}
+use Rattle.word_image.specs.Sides.{seen_from, end_node, IsFirstOf, Together, PairGoes}
+use Rattle.closing_test.specs.Sides.{with_end, end_pair, AreFirst, IsClosing}
 use Rattle.closing_test.specs.LeastAheads.{IsLeastFor, IsFirstWith, IsFirstAt, HasEndlessFirst}
 use Rattle.closing_test.proofs.FirstWindows.{IsFirst-ends, first_ends}
 
 -- What holds on each side
 
--- a rule looks ahead for n exactly where no first pair goes on together for n - 1
-ahead_pairs : (side : Side) {r : LocalRule} → IsRule r → (n : ℕ) → IsRightAhead (seen_from side r) n ↔ ((1 ≤ n) × ((p : ℕ) → IsFirst side r p → ¬ PairGoes side r p (n - 1)))
-ahead_pairs Right rule n = IsRightAhead-pairs rule n
-ahead_pairs Left rule n = IsLeftAhead-pairs rule n
-
--- and closes exactly where it looks ahead
-closing_ahead : (side : Side) {r : LocalRule} → IsRule r → IsClosing side r ↔ ((n : ℕ) × IsRightAhead (seen_from side r) n)
+-- a rule closes exactly where it looks ahead
+pub closing_ahead : (side : Side) {r : LocalRule} → IsRule r → IsClosing side r ↔ ((n : ℕ) × IsRightAhead (seen_from side r) n)
 closing_ahead Right rule = IsRightClosing-window rule
 closing_ahead Left rule = IsLeftClosing-window rule
-
--- a pair that goes on together does for less
-go_less : (side : Side) {r : LocalRule} → IsRule r → (p k n : ℕ) → k ≤ n → PairGoes side r p n → PairGoes side r p k
-go_less Right rule p k n l h = BeginTogether-less rule k l h
-go_less Left rule p k n l h = EndTogether-less rule k l h
-
--- two nodes go on together exactly where their pair does
-pair_goes : (side : Side) (r : LocalRule) (u v n : ℕ) → v < node_count r → PairGoes side r (pair_of r u v) n ↔ GoTogether side r u v n
-pair_goes Right r u v n h = PairBegins-pair_of r u v n h
-pair_goes Left r u v n h = PairEnds-pair_of r u v n h
 
 -- The least number for some pairs
 
@@ -83,8 +67,8 @@ pub IsLeastFor-max : (side : Side) {r : LocalRule} {A B : ℕ → Type 0} {m n :
 IsLeastFor-max side {r} {A} {B} {m} {n} rule g h = record {
   some = omega (arith, g.some);
   apart = λ p here goes. ⊎_elim
-      (λ a. g.apart p a (go_less side rule p (m - 1) (max m n - 1) (omega arith) goes))
-      (λ b. h.apart p b (go_less side rule p (n - 1) (max m n - 1) (omega arith) goes))
+      (λ a. g.apart p a (PairGoes-less side rule p (m - 1) (max m n - 1) (omega arith) goes))
+      (λ b. h.apart p b (PairGoes-less side rule p (n - 1) (max m n - 1) (omega arith) goes))
       here;
   needed = λ j e. ⊎_elim
       (λ l. let found = h.needed j (omega arith) in (found.0, inr found.1, found.2))
@@ -120,9 +104,9 @@ pub record AreEnds (side : Side) (r : LocalRule) (w a u v : ℕ) : Type 0 where
   pub node : v < node_count r
 
 -- their pair goes on together as they do
-pub end_pair-goes : (side : Side) (r : LocalRule) (w a u v n : ℕ) → AreEnds side r w a u v → PairGoes side r (end_pair side r w a) n ↔ GoTogether side r u v n
+pub end_pair-goes : (side : Side) (r : LocalRule) (w a u v n : ℕ) → AreEnds side r w a u v → PairGoes side r (end_pair side r w a) n ↔ Together side r u v n
 end_pair-goes side r w a u v n ends =
-    subst (λ p. PairGoes side r p n ↔ GoTogether side r u v n) (ap₂ (pair_of r) ends.first ends.second) (pair_goes side r u v n ends.node)
+    subst (λ p. PairGoes side r p n ↔ Together side r u v n) (ap₂ (pair_of r) ends.first ends.second) (PairGoes-pair_of side r u v n ends.node)
 
 -- what was found of a window and of one with another letter at its end, which has the same label
 pub record IsFound (side : Side) (r : LocalRule) (w a u v : ℕ) : Type 0 where
@@ -137,14 +121,14 @@ found side r w a other u v window letter is different label first second node = 
 }
 
 -- the rank of the nodes tells the number
-pub IsLeastFor-with : (side : Side) (r : LocalRule) (w a u v n : ℕ) → IsFound side r w a u v → IsRank (GoTogether side r u v) n → IsLeastFor (IsFirstWith side r w a) (PairGoes side r) (n + 2)
+pub IsLeastFor-with : (side : Side) (r : LocalRule) (w a u v n : ℕ) → IsFound side r w a u v → IsRank (Together side r u v) n → IsLeastFor (IsFirstWith side r w a) (PairGoes side r) (n + 2)
 IsLeastFor-with side r w a u v n found rank =
     let goes = λ (j : ℕ). end_pair-goes side r w a u v j found.ends in
     IsLeastFor-same (λ p. (λ e. (found.first, e), λ here. here.1))
     (IsLeastFor-rank (PairGoes side r) (end_pair side r w a) n (record { holds = (goes n).1 rank.holds; no_more = λ h. rank.no_more ((goes (n + 1)).0 h) }))
 
 -- and where it is endless, an endless first pair has been found
-pub HasEndlessFirst-with : (side : Side) (r : LocalRule) (w a u v : ℕ) → IsRule r → IsFound side r w a u v → IsEndless (GoTogether side r u v) → HasEndlessFirst side r
+pub HasEndlessFirst-with : (side : Side) (r : LocalRule) (w a u v : ℕ) → IsRule r → IsFound side r w a u v → IsEndless (Together side r u v) → HasEndlessFirst side r
 HasEndlessFirst-with side r w a u v rule found endless =
     (end_pair side r w a, IsFirst-ends side rule w a found.first, λ n. (end_pair-goes side r w a u v n found.ends).1 (endless n))
 
@@ -154,27 +138,27 @@ IsLeastFor-letters side r w n h = IsLeastFor-same (λ p. (λ (a, l, here). (a, h
 
 -- over all windows
 pub IsLeastFor-windows : (side : Side) {r : LocalRule} (n : ℕ) → IsRule r → IsLeastFor (Below (IsFirstAt side r) (r.states ^ r.width)) (PairGoes side r) n
-    → IsLeastFor (IsFirst side r) (PairGoes side r) n
+    → IsLeastFor (IsFirstOf side r) (PairGoes side r) n
 IsLeastFor-windows side {r} n rule h =
     IsLeastFor-same (λ p. (
-      λ (w, l, (a, here)). subst (IsFirst side r) (sym here.1) (IsFirst-ends side rule w a here.0),
+      λ (w, l, (a, here)). subst (IsFirstOf side r) (sym here.1) (IsFirst-ends side rule w a here.0),
       λ first. let ends = first_ends side rule first in (ends.0, ends.2.window, (ends.1, (ends.2, ends.3))),
     )) h
 
 -- What the number says of the rule
 
 -- for all first pairs it is the least look-ahead
-pub IsLeastRightAhead-first : (side : Side) {r : LocalRule} {n : ℕ} → IsRule r → IsLeastFor (IsFirst side r) (PairGoes side r) n → IsLeastRightAhead (seen_from side r) n
+pub IsLeastRightAhead-first : (side : Side) {r : LocalRule} {n : ℕ} → IsRule r → IsLeastFor (IsFirstOf side r) (PairGoes side r) n → IsLeastRightAhead (seen_from side r) n
 IsLeastRightAhead-first side {r} {n} rule h = record {
   ahead = (ahead_pairs side rule n).1 (h.some, h.apart);
   least = λ k l ahead.
       let pairs = (ahead_pairs side rule k).0 ahead in
       let found = h.needed (n - 2) (omega (arith, pairs.0)) in
-      pairs.1 found.0 found.1 (go_less side rule found.0 (k - 1) (n - 2) (omega arith) found.2);
+      pairs.1 found.0 found.1 (PairGoes-less side rule found.0 (k - 1) (n - 2) (omega arith) found.2);
 }
 
 -- then the rule closes
-pub IsClosing-first : (side : Side) {r : LocalRule} {n : ℕ} → IsRule r → IsLeastFor (IsFirst side r) (PairGoes side r) n → IsClosing side r
+pub IsClosing-first : (side : Side) {r : LocalRule} {n : ℕ} → IsRule r → IsLeastFor (IsFirstOf side r) (PairGoes side r) n → IsClosing side r
 IsClosing-first side {n = n} rule h = (closing_ahead side rule).1 (n, (IsLeastRightAhead-first side rule h).ahead)
 
 -- with an endless first pair it doesn't look ahead

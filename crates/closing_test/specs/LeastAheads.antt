@@ -2,8 +2,9 @@
 use Rattle.std.specs.Prelude.{◌≡◌, ℕ, ◌+◌, ◌-◌, ◌≤◌}
 use Rattle.word_image.specs.LocalRules.{LocalRule}
 use Rattle.word_image.specs.Ranks.{IsEndless}
-use Rattle.closing_test.specs.declared.side.Side.{Side}
-use Rattle.closing_test.specs.Sides.{IsFirst, AreFirst, PairGoes, end_pair}
+use Rattle.word_image.specs.declared.side.Side.{Side}
+use Rattle.word_image.specs.Sides.{IsFirstOf, PairGoes}
+use Rattle.closing_test.specs.Sides.{AreFirst, end_pair}
 
 -- n is the least number from 1 on for which none of these pairs goes on together for n - 1
 pub record IsLeastFor (Among : ℕ → Type 0) (Goes : ℕ → ℕ → Type 0) (n : ℕ) : Type 0 where
@@ -21,4 +22,4 @@ IsFirstAt side r w p = (a : ℕ) × IsFirstWith side r w a p
 
 -- a first pair goes on together for ever
 abbrev pub HasEndlessFirst : Side → LocalRule → Type 0
-HasEndlessFirst side r = (p : ℕ) × IsFirst side r p × IsEndless (PairGoes side r p)
+HasEndlessFirst side r = (p : ℕ) × IsFirstOf side r p × IsEndless (PairGoes side r p)

@@ -4,11 +4,13 @@ ghost use Rattle.std.specs.Prelude.{◌≡◌, ◌^◌, ◌<◌, ◌↔◌, ℕ,
 ghost use Rattle.word_image.specs.LocalRules.{node_count};
 ghost use Rattle.word_image.specs.Ranks.{IsEndless};
 ghost use Rattle.tail_config.specs.Tails.{IsRightClosing, IsLeftClosing};
-ghost use Rattle.closing_test.specs.Sides.{GoTogether, IsClosing};
+ghost use Rattle.word_image.specs.Sides.{Together};
+ghost use Rattle.closing_test.specs.Sides.{IsClosing};
 ghost use Rattle.closing_test.specs.EndlessFirsts.{IsEndlessAt, IsEndlessWith};
 
-use crate::side::Side;
+use crate::ends::with_end;
 use pair_rank::Endless;
+use word_image::Side;
 
 /// Whether a rule is right-closing, by its endless pairs: no first pair of the right is endless. It
 /// takes time **O(k·k^m)** and no memory.
@@ -58,7 +60,7 @@ fn is_endless_with(side: Side, endless: &Endless, window: u16, letter: u8) -> bo
     ensures { IsTrue result ↔ IsEndlessWith side endless.now window letter }
 {
     let rule = endless.rule();
-    let other = side.with_end(rule, window, letter);
+    let other = with_end(side, rule, window, letter);
     if other == window || rule.at(other) != rule.at(window) {
         return false;
     }
@@ -69,7 +71,7 @@ fn is_endless_with(side: Side, endless: &Endless, window: u16, letter: u8) -> bo
 /// The nodes with which u goes on together towards this side for ever; node v is bit v.
 fn endless_nodes(side: Side, endless: &Endless, u: u8) -> u16
     requires { u < node_count endless.now }
-    ensures { (v : ℕ) → v < 16 → (IsBitSet result v ↔ IsEndless (GoTogether side endless.now u v)) }
+    ensures { (v : ℕ) → v < 16 → (IsBitSet result v ↔ IsEndless (Together side endless.now u v)) }
 {
     match side {
         Side::Right => endless.forward(u),

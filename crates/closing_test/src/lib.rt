@@ -31,8 +31,8 @@
 
 mod closes;
 mod closing;
+mod ends;
 mod look_ahead;
-mod side;
 mod split;
 mod walks;
 

@@ -5,12 +5,13 @@ ghost use Rattle.word_image.specs.LocalRules.{IsRule, mirrored};
 ghost use Rattle.word_image.specs.Words.{IsSurjective};
 ghost use Rattle.word_image.specs.Windows.{IsRightAhead, IsLeftAhead, IsLeastRightAhead};
 ghost use Rattle.tail_config.specs.Tails.{IsRightClosing, IsLeftClosing};
-ghost use Rattle.closing_test.specs.Sides.{PairGoes, IsClosing, seen_from};
+ghost use Rattle.word_image.specs.Sides.{PairGoes, seen_from};
+ghost use Rattle.closing_test.specs.Sides.{IsClosing};
 ghost use Rattle.closing_test.specs.LeastAheads.{IsLeastFor, IsFirstAt, IsFirstWith, HasEndlessFirst};
 
-use crate::side::Side;
+use crate::ends::with_end;
 use pair_rank::Ranks;
-use word_image::Rule;
+use word_image::{Rule, Side};
 
 /// The least right look-ahead, at most 241, by the ranks of the rule; `None` exactly where there is
 /// none, and so exactly where the rule isn't right-closing. A rule that has one is surjective.
@@ -82,12 +83,12 @@ fn ahead_with(side: Side, rule: &Rule, ranks: &Ranks, window: u16, letter: u8) -
     ensures least { MatchOption result (HasEndlessFirst side rule.now) (IsLeastFor (IsFirstWith side rule.now window letter) (PairGoes side rule.now)) }
     ensures most { IfSome result (λ n. n ≤ 241) }
 {
-    let other = side.with_end(rule, window, letter);
+    let other = with_end(side, rule, window, letter);
     if other == window || rule.at(other) != rule.at(window) {
         return Some(1);
     }
-    let rank = side.rank(
-        ranks,
+    let rank = ranks.rank(
+        side,
         side.end_node(rule, window),
         side.end_node(rule, other),
     )?;

@@ -5,8 +5,9 @@ use Rattle.word_image.specs.LocalRules.{LocalRule, IsRule, node_count}
 use Rattle.word_image.specs.Graphs.{first_of, second_of, pair_of}
 use Rattle.word_image.specs.Ranks.{BeginTogether, EndTogether, IsEndless}
 use Rattle.word_image.proofs.laws.Bits.{IsBitSet-some, IsBitSet-zero}
-use Rattle.pair_laws.proofs.Pairs.{first_of-pair_of, second_of-pair_of, first_of-below, second_of-below, PairBegins-pair_of, PairEnds-pair_of}
-use Rattle.pair_laws.proofs.Ranks.{BeginTogether-below}
+use Rattle.word_image.specs.declared.side.Side.TheVariants.{Right, Left}
+use Rattle.pair_laws.proofs.Pairs.{first_of-pair_of, second_of-pair_of, first_of-below, second_of-below, PairGoes-pair_of}
+use Rattle.pair_laws.proofs.Ranks.{Together-below}
 use Rattle.pair_laws.proofs.Sets.{IsBitSet-and, IsBitSet-minus, IsBitSet-shl}
 use Rattle.pair_laws.proofs.BothWays.{IsDetermined-not_both_ways, IsDetermined-none_both_ways}
 use Rattle.tail_config.specs.Tails.{IsInjective}
@@ -17,13 +18,13 @@ use Rattle.inverse_window.specs.BothWays.{GoOnBothWays}
 -- two different nodes that do forbid it
 pub not_injective : {r : LocalRule} → IsRule r → (u v : ℕ) → u ≢ v → GoOnBothWays r u v → ¬ IsInjective r
 not_injective {r} rule u v different goes injective =
-    let node = (BeginTogether-below (goes.begins 0)).1 in
+    let node = (Together-below Right _ _ _ _ (goes.begins 0)).1 in
     let (n, c, determined) = (IsInjective-window rule).0 injective in
     let first = first_of-pair_of r u v node in
     let second = second_of-pair_of r u v node in
     IsDetermined-not_both_ways rule determined (pair_of r u v) (λ same. different (sym first ∙ same ∙ second)) (record {
-      begins = λ j. (PairBegins-pair_of r u v j node).1 (goes.begins j);
-      ends = λ j. (PairEnds-pair_of r u v j node).1 (goes.ends j);
+      begins = λ j. (PairGoes-pair_of Right r u v j node).1 (goes.begins j);
+      ends = λ j. (PairGoes-pair_of Left r u v j node).1 (goes.ends j);
     })
 
 -- and where none do, it is
@@ -60,6 +61,6 @@ GoOnBothWays-some {r} rule u begins ends first small forward backward =
           let (different, goes) = (GoOnBothWays-rows rule u begins ends v first inside (forward v inside) (backward v inside)).0 here in
           (v, different, goes)),
       (λ (v, different, goes) none.
-          let inside : v < 16 = omega (arith, (BeginTogether-below (goes.begins 0)).1, rule.shape.most_nodes) in
+          let inside : v < 16 = omega (arith, (Together-below Right _ _ _ _ (goes.begins 0)).1, rule.shape.most_nodes) in
           IsBitSet-zero v (subst (λ a. IsBitSet a v) none ((GoOnBothWays-rows rule u begins ends v first inside (forward v inside) (backward v inside)).1 (different, goes)))),
     )

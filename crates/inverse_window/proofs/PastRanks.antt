@@ -3,12 +3,13 @@ use Rattle.std.proofs.Common.{ℕ, ◌+◌, ◌<◌, ◌≤◌, sym, subst, ⊎_
 use Rattle.std.proofs.lemmas.Bool.{cases_eq}
 use Rattle.word_image.specs.LocalRules.{LocalRule, IsRule, node_count}
 use Rattle.word_image.specs.Ranks.{EndTogether, IsRank, IsEndless}
-use Rattle.pair_laws.proofs.Ranks.{EndTogether-less}
+use Rattle.word_image.specs.declared.side.Side.TheVariants.{Left}
+use Rattle.pair_laws.proofs.Ranks.{Together-less}
 use Rattle.inverse_window.specs.FirstWindows.{IsPastOf, IsPast}
 
 -- two nodes that end together past their rank
 pub past_rank : {r : LocalRule} → IsRule r → (u v a n : ℕ) → IsRank (EndTogether r u v) a → a < n → EndTogether r u v n → IsEndless (EndTogether r u v)
-past_rank rule u v a n rank more ends = absurd (rank.no_more (EndTogether-less rule (a + 1) (omega arith) ends))
+past_rank rule u v a n rank more ends = absurd (rank.no_more (Together-less Left rule _ _ (a + 1) _ (omega arith) ends))
 
 -- one more second node
 pub IsPastOf-next : {r : LocalRule} (u v past next : ℕ) → IsPastOf r u v past → past ≤ next → ((n : ℕ) → next ≤ n → EndTogether r u v n → IsEndless (EndTogether r u v)) → IsPastOf r u (v + 1) next

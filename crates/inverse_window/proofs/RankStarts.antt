@@ -6,7 +6,8 @@ use Rattle.std.proofs.lemmas.Bool.{cases_eq, cases_lt}
 use Rattle.std.proofs.lemmas.List.{get_or-replicate, length-replicate}
 use Rattle.word_image.specs.LocalRules.{LocalRule, IsRule}
 use Rattle.word_image.specs.Ranks.{IsRank, IsEndless}
-use Rattle.pair_laws.proofs.Ranks.{EndTogether-less}
+use Rattle.word_image.specs.declared.side.Side.TheVariants.{Left}
+use Rattle.pair_laws.proofs.Ranks.{Together-less}
 use Rattle.inverse_window.specs.Starts.{HoldsFrom, later}
 use Rattle.inverse_window.specs.FirstWindows.{DifferAt, Begins, EndsFor, NoneHolds, AreStarts}
 use Rattle.inverse_window.proofs.StartLaws.{HoldsFrom-first, HoldsFrom-next, HoldsFrom-other, later-most}
@@ -38,7 +39,7 @@ AreStarts-first r e few =
 -- a pair of nodes has one rank
 one_rank : {r : LocalRule} → IsRule r → (e p a b : ℕ) → IsRank (EndsFor r e p) a → IsRank (EndsFor r e p) b → b ≤ a
 one_rank {r} rule e p a b first second =
-    ⊎_elim (λ l. absurd (first.no_more (omega (arith, second.holds.0), EndTogether-less rule (a + 1) (omega arith) second.holds.1))) (λ l. l) (cases_lt a b)
+    ⊎_elim (λ l. absurd (first.no_more (omega (arith, second.holds.0), Together-less Left rule _ _ (a + 1) _ (omega arith) second.holds.1))) (λ l. l) (cases_lt a b)
 
 -- behind a pair that differs at its first letter
 pub AreStarts-next : {r : LocalRule} {e p b : ℕ} {starts : List (Option ℕ)} → IsRule r → (x : Option ℕ) → AreStarts r e p starts

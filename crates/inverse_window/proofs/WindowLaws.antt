@@ -5,9 +5,10 @@ use Rattle.word_image.specs.LocalRules.{LocalRule, IsRule}
 use Rattle.word_image.specs.Graphs.{first_of, second_of, pair_count, node_letter}
 use Rattle.word_image.specs.Ranks.{BeginTogether, EndTogether, IsRank}
 use Rattle.word_image.specs.Windows.{IsDetermined}
-use Rattle.pair_laws.proofs.Ranks.{BeginTogether-zero, EndTogether-zero, EndTogether-less}
+use Rattle.word_image.specs.declared.side.Side.TheVariants.{Right, Left}
+use Rattle.pair_laws.proofs.Ranks.{Together-zero, Together-less}
 use Rattle.pair_laws.proofs.Pairs.{first_of-below, second_of-below}
-use Rattle.pair_laws.proofs.Decisions.{EndTogether-decide}
+use Rattle.pair_laws.proofs.Decisions.{Together-decide}
 use Rattle.pair_laws.proofs.Windows.{IsDetermined-pairs}
 use Rattle.inverse_window.specs.FirstWindows.{DifferAt, Begins, Ends, EndsFor, NoneHolds}
 use Rattle.inverse_window.proofs.Letters.{DifferAt-some}
@@ -16,7 +17,7 @@ use Rattle.inverse_window.proofs.Letters.{DifferAt-some}
 EndsFor-decide : {r : LocalRule} → IsRule r → (e p n : ℕ) → p < pair_count r → EndsFor r e p n ⊎ ¬ EndsFor r e p n
 EndsFor-decide {r} rule e p n l =
     ⊎_elim (λ long. inr (λ ends. let most : n ≤ e = ends.0 in absurd (omega arith)))
-    (λ most. ⊎_elim (λ ends. inl (most, ends)) (λ none. inr (λ ends. none ends.1)) (EndTogether-decide rule n (first_of r p) (second_of r p) (first_of-below rule p l) (second_of-below rule p)))
+    (λ most. ⊎_elim (λ ends. inl (most, ends)) (λ none. inr (λ ends. none ends.1)) (Together-decide Left rule n (first_of r p) (second_of r p) (first_of-below rule p l) (second_of-below rule p)))
     (cases_lt e n)
 
 -- no pair differs at letter i, ends together for j and begins together for l
@@ -33,7 +34,7 @@ AreApart-some {r} rule i j l within apart =
     (λ none.
     let e : 0 ≡ j = omega arith in
     let d : 0 ≡ l = omega arith in
-    absurd (apart p.0 p.1 p.2 (subst (Ends r p.0) e (EndTogether-zero r _ _ u v)) (subst (Begins r p.0) d (BeginTogether-zero r _ _ u v))))
+    absurd (apart p.0 p.1 p.2 (subst (Ends r p.0) e (Together-zero Left r _ _ u v)) (subst (Begins r p.0) d (Together-zero Right r _ _ u v))))
     (λ some. some)
     (cases_lt (j + l) 1)
 
@@ -65,7 +66,7 @@ IsDetermined-within {r} rule c n =
 pub IsDetermined-past : {r : LocalRule} → IsRule r → (i n : ℕ) → i < r.width - 1 → IsDetermined r n (n + i) ↔ NoneHolds (pair_count r) (DifferAt r i) (Ends r) n
 IsDetermined-past {r} rule i n within =
     let parts = IsDetermined-parts rule i n 0 n (n + i) (omega arith) (omega arith) (omega arith) within in (
-      λ h p l differ ends. parts.0 h p l differ ends (BeginTogether-zero r _ _ (first_of-below rule p l) (second_of-below rule p)),
+      λ h p l differ ends. parts.0 h p l differ ends (Together-zero Right r _ _ (first_of-below rule p l) (second_of-below rule p)),
       λ none. parts.1 (λ p l differ ends begins. none p l differ ends),
     )
 
@@ -75,7 +76,7 @@ pub NoneHolds-split : {r : LocalRule} → IsRule r → (e i c n : ℕ) (P : ℕ 
 NoneHolds-split {r} rule e i c n P = (
   λ none. (
     λ p l of. none p l (of.0, of.1.holds),
-    λ p l of. none p l (of.0, (omega (arith, of.1.0), EndTogether-less rule c (omega arith) of.1.1)),
+    λ p l of. none p l (of.0, (omega (arith, of.1.0), Together-less Left rule _ _ c _ (omega arith) of.1.1)),
   ),
   λ none p l of.
       ⊎_elim (λ more. none.1 p l (of.0, more)) (λ last. none.0 p l (of.0, record { holds = of.1; no_more = last }))

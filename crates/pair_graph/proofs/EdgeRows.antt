@@ -8,8 +8,8 @@ use Rattle.word_image.specs.LocalRules.{LocalRule, IsRule, node_count}
 use Rattle.word_image.proofs.laws.Bits.{IsBitSet-zero}
 use Rattle.word_image.proofs.laws.Unions.{IsUnion, IsUnion-skip, IsUnion-take}
 use Rattle.word_image.proofs.laws.WindowParts.{some_letter, rest_count, node_count-rest, power-below, window_parts}
-use Rattle.pair_graph.specs.declared.edges.Side.{Side}
-use Rattle.pair_graph.specs.declared.edges.Side.TheVariants.{Forward, Backward}
+use Rattle.word_image.specs.declared.side.Side.{Side}
+use Rattle.word_image.specs.declared.side.Side.TheVariants.{Right, Left}
 use Rattle.pair_graph.specs.Edges.{AreEdgesOf, HasEdge, IsSquare, label_at, end_at, ends_at}
 use Rattle.pair_laws.proofs.Sets.{IsBitSet-shl}
 
@@ -105,7 +105,7 @@ AreEdgesOf-same side r u old ends same edges label v in_label small =
     subst (λ set. IsBitSet set v ↔ ((a : ℕ) × (a < r.states) × HasEdge side r u label a v)) (sym (same label)) (edges label v in_label small)
 
 -- where the edge of a letter leads forward
-pub end_forward : {r : LocalRule} → IsRule r → (u a : ℕ) → a < r.states → end_at Forward r u a ≡ (u % rest_count r) * r.states + a
+pub end_forward : {r : LocalRule} → IsRule r → (u a : ℕ) → a < r.states → end_at Right r u a ≡ (u % rest_count r) * r.states + a
 end_forward {r} rule u a letter =
     let rest = rest_count r in
     let some : 0 < rest = (power-below rule (r.width - 2) (omega arith)).0 in
@@ -114,7 +114,7 @@ end_forward {r} rule u a letter =
     ∙ mod-mul-add (u / rest) (node_count r) ((u % rest) * r.states + a) below
 
 -- and backward
-pub end_backward : {r : LocalRule} → IsRule r → (u a : ℕ) → end_at Backward r u a ≡ a * rest_count r + u / r.states
+pub end_backward : {r : LocalRule} → IsRule r → (u a : ℕ) → end_at Left r u a ≡ a * rest_count r + u / r.states
 end_backward {r} rule u a =
     ap (λ x. (a * node_count r + x) / r.states) (sym (div-add-mod' u r.states))
     ∙ ap (λ x. x / r.states) (window_parts rule a (u / r.states) (u % r.states))

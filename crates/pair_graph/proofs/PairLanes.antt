@@ -10,7 +10,7 @@ use Rattle.word_image.specs.LocalRules.{LocalRule}
 use Rattle.word_image.proofs.laws.Bits.{bit_at-IsBitSet, IsBitSet-some, IsBitSet-zero}
 use Rattle.word_image.proofs.laws.Unions.{IsUnion, IsUnion-take}
 use Rattle.pair_laws.proofs.Sets.{IsBitSet-and}
-use Rattle.pair_graph.specs.declared.edges.Side.{Side}
+use Rattle.word_image.specs.declared.side.Side.{Side}
 use Rattle.pair_graph.specs.Edges.{label_at, end_at}
 use Rattle.pair_graph.specs.PairSets.{GoesOnBy, GoesOn}
 

@@ -12,9 +12,10 @@ use Rattle.word_image.proofs.laws.Graphs.{next-below}
 use Rattle.word_image.proofs.laws.WindowParts.{some_letter, windows-nodes}
 use Rattle.pair_laws.proofs.Pairs.{first_of-pair_of, second_of-pair_of, pair_of-below, first_of-below, second_of-below, follow-edges, follow-some}
 use Rattle.pair_laws.proofs.Sets.{IsBitSet-and, IsBitSet-below, IsBitSet-minus, IsBitSet-shl}
-use Rattle.pair_graph.specs.declared.edges.Side.{Side}
-use Rattle.pair_graph.specs.declared.edges.Side.TheVariants.{Forward, Backward}
-use Rattle.pair_graph.specs.Edges.{AreEdges, window_at, label_at, end_at}
+use Rattle.word_image.specs.declared.side.Side.{Side}
+use Rattle.word_image.specs.declared.side.Side.TheVariants.{Right, Left}
+use Rattle.word_image.specs.Sides.{window_with}
+use Rattle.pair_graph.specs.Edges.{AreEdges, label_at, end_at}
 use Rattle.pair_graph.specs.PairSets.{holds, truths, AreRows, Leads, LeadsInto, IsTrimmed, AreKept, GoesOn}
 use Rattle.pair_graph.specs.PairRows.{holds_bit, length-truths, same_nodes}
 use Rattle.pair_graph.proofs.BackSteps.{window_before, window_before-below, LeadsBack-windows, led_back}
@@ -55,24 +56,24 @@ holds-row n rows set u i v {m} same seen h at node =
     )
 
 -- the window of a node and a letter is one of the windows
-pub window_at-within : (side : Side) {r : LocalRule} → IsRule r → (u a : ℕ) → u < node_count r → a < r.states → window_at side r u a < r.states ^ r.width
-window_at-within Forward {r} rule u a node letter = omega (arith, mul-add-lt u r.states a (node_count r) node letter, windows-nodes rule)
-window_at-within Backward {r} rule u a node letter = omega (arith, window_before-below rule a u letter node, windows-nodes rule)
+pub window_with-within : (side : Side) {r : LocalRule} → IsRule r → (u a : ℕ) → u < node_count r → a < r.states → window_with side r u a < r.states ^ r.width
+window_with-within Right {r} rule u a node letter = omega (arith, mul-add-lt u r.states a (node_count r) node letter, windows-nodes rule)
+window_with-within Left {r} rule u a node letter = omega (arith, window_before-below rule a u letter node, windows-nodes rule)
 
 -- it leads to a node
 pub end_at-below : (side : Side) {r : LocalRule} → IsRule r → (u a : ℕ) → u < node_count r → a < r.states → end_at side r u a < node_count r
-end_at-below Forward {r} rule u a node letter = next-below rule u a
-end_at-below Backward {r} rule u a node letter =
+end_at-below Right {r} rule u a node letter = next-below rule u a
+end_at-below Left {r} rule u a node letter =
     div_below (window_before r a u) r.states (node_count r) (some_letter rule) (window_before-below rule a u letter node)
 
 -- letters lead from a pair to the pair of the nodes to which they lead, where their labels are equal
 leads_by : (side : Side) {r : LocalRule} → IsRule r → (p a b : ℕ) → p < pair_count r → a < r.states → b < r.states → (q : ℕ)
     → Leads side r p a b q ↔ ((label_at side r (first_of r p) a ≡ label_at side r (second_of r p) b) × (pair_of r (end_at side r (first_of r p) a) (end_at side r (second_of r p) b) ≡ q))
-leads_by Forward {r} rule p a b inside in_a in_b q = (
+leads_by Right {r} rule p a b inside in_a in_b q = (
   (λ leads. follow-some r p a b q leads),
   (λ (same, pair). follow-edges r p a b same ∙ ap Some pair),
 )
-leads_by Backward {r} rule p a b inside in_a in_b q = (
+leads_by Left {r} rule p a b inside in_a in_b q = (
   (λ leads. led_back rule p a b q leads),
   (λ (same, pair). (LeadsBack-windows rule p a b (window_before r a (first_of r p)) (window_before r b (second_of r p)) inside in_a in_b refl refl same q).0 (ap Some pair)),
 )
@@ -81,8 +82,8 @@ leads_by Backward {r} rule p a b inside in_a in_b q = (
 small_label : (side : Side) {r : LocalRule} → IsRule r → (u a : ℕ) → u < node_count r → a < r.states → label_at side r u a < 16
 small_label side {r} rule u a node letter =
     let long = rule.entries in
-    let within = window_at-within side rule u a node letter in
-    omega (arith, rule.letters (window_at side r u a) 0 (omega (arith, within, long)), rule.shape.most_states)
+    let within = window_with-within side rule u a node letter in
+    omega (arith, rule.letters (window_with side r u a) 0 (omega (arith, within, long)), rule.shape.most_states)
 
 -- the pair of two nodes is in the list exactly where its bit is 1
 holds-pair_of : (r : LocalRule) (rows : List ℕ) (s t : ℕ) → s < node_count r → t < node_count r

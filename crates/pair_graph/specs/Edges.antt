@@ -1,22 +1,16 @@
 -- The edges of the de Bruijn graph, read along them or against them, as sets in which node v is bit v.
-use Rattle.std.specs.Prelude.{◌≡◌, ◌<◌, ◌+◌, ◌*◌, ◌/◌, ◌%◌, ◌↔◌, ℕ, List, [], length, slice_index, slice_index_or, IsBitSet}
-use Rattle.word_image.specs.LocalRules.{LocalRule, node_count}
-use Rattle.pair_graph.specs.declared.edges.Side.{Side}
-use Rattle.pair_graph.specs.declared.edges.Side.TheVariants.{Forward, Backward}
+use Rattle.std.specs.Prelude.{◌≡◌, ◌<◌, ◌↔◌, ℕ, List, [], length, slice_index, slice_index_or, IsBitSet}
+use Rattle.word_image.specs.LocalRules.{LocalRule}
+use Rattle.word_image.specs.declared.side.Side.{Side}
+use Rattle.word_image.specs.Sides.{window_with, end_node}
 
--- the window of a node and a letter: forward the letter stands behind the node, and backward before it
-abbrev pub window_at : Side → LocalRule → ℕ → ℕ → ℕ
-window_at Forward r u a = u * r.states + a
-window_at Backward r u a = a * node_count r + u
-
--- what the rule gives on it
+-- what the rule gives on the window of a node and a letter
 abbrev pub label_at : Side → LocalRule → ℕ → ℕ → ℕ
-label_at side r u a = slice_index r.table (window_at side r u a)
+label_at side r u a = slice_index r.table (window_with side r u a)
 
--- the node to which the letter leads: forward that of the window's last m - 1 letters, and backward that of its first
+-- the node to which the letter leads: that at the window's end
 abbrev pub end_at : Side → LocalRule → ℕ → ℕ → ℕ
-end_at Forward r u a = window_at Forward r u a % node_count r
-end_at Backward r u a = window_at Backward r u a / r.states
+end_at side r u a = end_node side r (window_with side r u a)
 
 -- letter a leads from node u to node v with this label
 abbrev pub HasEdge : Side → LocalRule → ℕ → ℕ → ℕ → ℕ → Type 0

@@ -6,8 +6,8 @@ use Rattle.std.specs.List.{range_with_len}
 use Rattle.word_image.specs.LocalRules.{LocalRule}
 use Rattle.word_image.specs.Graphs.{follow, pair_count}
 use Rattle.pair_graph.specs.BackSteps.{LeadsBack}
-use Rattle.pair_graph.specs.declared.edges.Side.{Side}
-use Rattle.pair_graph.specs.declared.edges.Side.TheVariants.{Forward, Backward}
+use Rattle.word_image.specs.declared.side.Side.{Side}
+use Rattle.word_image.specs.declared.side.Side.TheVariants.{Right, Left}
 use Rattle.pair_graph.specs.Edges.{ends_at, label_at, end_at}
 
 -- whether a set has a pair
@@ -36,8 +36,8 @@ pub record AreRows (n : ℕ) (rows : List ℕ) : Type 0 where
 
 -- letters a and b lead from the pair p to the pair q: forward along two edges, and backward against them
 abbrev pub Leads : Side → LocalRule → ℕ → ℕ → ℕ → ℕ → Type 0
-Leads Forward r p a b q = follow r p a b ≡ Some q
-Leads Backward r p a b q = LeadsBack r p a b q
+Leads Right r p a b q = follow r p a b ≡ Some q
+Leads Left r p a b q = LeadsBack r p a b q
 
 -- the letter a and another one lead from the pair into the set
 pub record LeadsIntoBy (side : Side) (r : LocalRule) (set : List Bool) (p a : ℕ) : Type 0 where

@@ -1,59 +1,35 @@
-//! The edges of the de Bruijn graph, read in one of two directions, as rows of sets of nodes.
+//! The edges of the de Bruijn graph, read to one side of the line, as rows of sets of nodes.
 
-ghost use Rattle.std.specs.Prelude.{◌≡◌, ◌≢◌, ℕ, ◌^◌, ◌<◌};
+ghost use Rattle.std.specs.Prelude.{◌≡◌, ◌≢◌, ℕ, ◌<◌};
 ghost use Rattle.word_image.specs.LocalRules.{IsRule, node_count};
-ghost use Rattle.pair_graph.specs.Edges.{AreEdges, AreEdgesOf, IsSquare, end_at, ends_at, window_at};
+ghost use Rattle.pair_graph.specs.Edges.{AreEdges, AreEdgesOf, IsSquare, end_at, ends_at};
 
-use word_image::Rule;
+use word_image::{Rule, Side};
 
 /// The most nodes, and the most labels, of an accepted rule.
 pub(crate) const MOST: usize = 16;
-
-/// In which direction edges are read.
-#[derive(Clone, Copy, Debug)]
-pub enum Side {
-    /// Along them: a letter stands behind the node that it leads from.
-    Forward,
-    /// Against them: a letter stands before the node that it leads from.
-    Backward,
-}
 
 /// For each label and node the set of the nodes where the edges with that label lead from it; node v
 /// is bit v.
 pub(crate) type Edges = [[u16; MOST]; MOST];
 
-impl Side {
-    /// The window of a node and a letter.
-    pub(crate) fn window_at(self, rule: &Rule, node: u8, letter: u8) -> u16
-        requires node { node < node_count rule.now }
-        requires letter { letter < rule.now.states }
-        ensures window { result ≡ window_at self rule.now node letter }
-        ensures within { result < rule.now.states ^ rule.now.width }
-    {
-        let (node, letter) = (u16::from(node), u16::from(letter));
-        match self {
-            Side::Forward => node * u16::from(rule.k()) + letter,
-            Side::Backward => letter * u16::from(rule.nodes()) + node,
-        }
-    }
-
-    /// The node to which the letter leads from the node.
-    pub(crate) fn end_at(self, rule: &Rule, node: u8, letter: u8) -> u8
-        requires node { node < node_count rule.now }
-        requires letter { letter < rule.now.states }
-        ensures node { result ≡ end_at self rule.now node letter }
-        ensures below { result < node_count rule.now }
-        ensures rule { IsRule rule.now }
-    {
-        let rest = rule.nodes() / rule.k();
-        match self {
-            Side::Forward => node % rest * rule.k() + letter,
-            Side::Backward => letter * rest + node / rule.k(),
-        }
+/// The node to which the letter leads from the node.
+pub(crate) fn end_at(side: Side, rule: &Rule, node: u8, letter: u8) -> u8
+    requires node { node < node_count rule.now }
+    requires letter { letter < rule.now.states }
+    ensures node { result ≡ end_at side rule.now node letter }
+    ensures below { result < node_count rule.now }
+    ensures rule { IsRule rule.now }
+{
+    let rest = rule.nodes() / rule.k();
+    match side {
+        Side::Right => node % rest * rule.k() + letter,
+        Side::Left => letter * rest + node / rule.k(),
     }
 }
 
-/// The edges of the rule's graph, read in this direction.
+/// The edges of the rule's graph, read to this side: along them to the right, and against them to the
+/// left.
 pub(crate) fn edges(rule: &Rule, side: Side) -> Edges
     ensures { AreEdges side rule.now (node_count rule.now) result }
 {
@@ -75,7 +51,7 @@ fn add_edges(rule: &Rule, side: Side, u: u8, ends: &mut Edges)
     ensures rule { IsRule rule.now }
 {
     for a in 0..rule.k() {
-        let label = rule.at(side.window_at(rule, u, a));
-        ends[usize::from(label)][usize::from(u)] |= 1u16 << side.end_at(rule, u, a);
+        let label = rule.at(side.window_with(rule, u, a));
+        ends[usize::from(label)][usize::from(u)] |= 1u16 << end_at(side, rule, u, a);
     }
 }

@@ -30,7 +30,6 @@ mod tests;
 #[cfg(test)]
 mod trim_tests;
 
-pub use edges::Side;
 pub use pair_set::PairSet;
 pub use pairs::Pairs;
 pub use plain::{plain_backward, plain_forward};

@@ -7,11 +7,11 @@ ghost use Rattle.word_image.specs.LocalRules.{IsRule, node_count};
 ghost use Rattle.word_image.specs.Graphs.{pair_count};
 ghost use Rattle.pair_graph.specs.PairSets.{holds, AreKept, AreRows, GoesOn, IsTrimmed};
 
-use crate::edges::{Edges, MOST, Side};
+use crate::edges::{Edges, MOST, end_at};
 use crate::pairs::Pairs;
 use std::marker::Model;
 use std::simd::prelude::*;
-use word_image::Rule;
+use word_image::{Rule, Side};
 
 /// For each node u the set of the nodes v whose pair with u is in a set of pairs; node v is bit v.
 pub(crate) type Rows = [u16; MOST];
@@ -89,17 +89,17 @@ impl PairSet {
     /// The pairs of the set from which some letters lead into it.
     pub fn trim_forward(&self, pairs: &Pairs) -> PairSet
         requires { length self.now ≡ pair_count pairs.now }
-        ensures { IsTrimmed Side.Forward pairs.now self.now result }
+        ensures { IsTrimmed Side.Right pairs.now self.now result }
     {
-        self.trim(pairs, Side::Forward)
+        self.trim(pairs, Side::Right)
     }
 
     /// The pairs of the set from which some letters lead back into it.
     pub fn trim_backward(&self, pairs: &Pairs) -> PairSet
         requires { length self.now ≡ pair_count pairs.now }
-        ensures { IsTrimmed Side.Backward pairs.now self.now result }
+        ensures { IsTrimmed Side.Left pairs.now self.now result }
     {
-        self.trim(pairs, Side::Backward)
+        self.trim(pairs, Side::Left)
     }
 
     /// The pairs of the set from which some letters lead into it, forward or backward.
@@ -144,8 +144,8 @@ fn going_on(rule: &Rule, side: Side, ends: &Edges, rows: &Rows, u: u8) -> u16
 {
     let mut hits = u16x16::splat(0);
     for a in 0..rule.k() {
-        let label = rule.at(side.window_at(rule, u, a));
-        let seconds = rows[usize::from(side.end_at(rule, u, a))];
+        let label = rule.at(side.window_with(rule, u, a));
+        let seconds = rows[usize::from(end_at(side, rule, u, a))];
         hits |= among(&ends[usize::from(label)], seconds);
     }
     hits.simd_ne(u16x16::splat(0)).to_bitmask() as u16

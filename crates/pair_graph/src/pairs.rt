@@ -4,10 +4,10 @@ ghost use Rattle.std.specs.Prelude.{◌≡◌, ◌+◌, ◌*◌, ◌/◌, ◌^�
 ghost use Rattle.word_image.specs.LocalRules.{IsRule, node_count};
 ghost use Rattle.word_image.specs.Graphs.{first_of, second_of, pair_of, pair_count};
 
-use crate::edges::{Edges, Side, edges};
+use crate::edges::{Edges, edges};
 use debruijn::Graph;
 use std::marker::Model;
-use word_image::Rule;
+use word_image::{Rule, Side};
 
 /// The pairs of nodes of a rule's de Bruijn graph, seen as that rule. The pair of u and v has the
 /// number u * N + v, for the N nodes.
@@ -26,13 +26,13 @@ impl Model for Pairs {
     ghost use Rattle.word_image.specs.LocalRules.{LocalRule};
     ghost use Rattle.word_image.specs.LocalRules.{node_count};
     ghost use Rattle.pair_graph.specs.Edges.{AreEdges};
-    ghost use Rattle.pair_graph.specs.declared.edges.Side.TheVariants.{Forward, Backward};
+    ghost use Rattle.word_image.specs.declared.side.Side.TheVariants.{Right, Left};
 
     ghost Value = { LocalRule };
 
     ghost view = { λ p. p.graph };
 
-    ghost invariant = { λ p. AreEdges Forward p.graph (node_count p.graph) p.ends × AreEdges Backward p.graph (node_count p.graph) p.starts };
+    ghost invariant = { λ p. AreEdges Right p.graph (node_count p.graph) p.ends × AreEdges Left p.graph (node_count p.graph) p.starts };
 }
 
 impl Pairs {
@@ -52,8 +52,8 @@ impl Pairs {
     pub fn over(graph: Graph) -> Pairs
         ensures { result ≡ graph }
     {
-        let ends = edges(graph.rule(), Side::Forward);
-        let starts = edges(graph.rule(), Side::Backward);
+        let ends = edges(graph.rule(), Side::Right);
+        let starts = edges(graph.rule(), Side::Left);
         Pairs {
             graph,
             ends,
@@ -80,8 +80,8 @@ impl Pairs {
         ensures { AreEdges side self.now (node_count self.now) result.now }
     {
         match side {
-            Side::Forward => &self.ends,
-            Side::Backward => &self.starts,
+            Side::Right => &self.ends,
+            Side::Left => &self.starts,
         }
     }
 
@@ -135,8 +135,8 @@ impl Pairs {
         ensures below { IfSome result (λ q. q < pair_count self.now) }
     {
         match side {
-            Side::Forward => self.follow(p, a, b),
-            Side::Backward => self.back(p, a, b),
+            Side::Right => self.follow(p, a, b),
+            Side::Left => self.back(p, a, b),
         }
     }
 

@@ -5,24 +5,25 @@ ghost use Rattle.word_image.specs.LocalRules.{IsRule, node_count};
 ghost use Rattle.word_image.specs.Graphs.{pair_of, pair_count};
 ghost use Rattle.pair_graph.specs.PairSets.{holds, IsTrimmed, Leads, LeadsInto, LeadsIntoBy};
 
-use crate::edges::{MOST, Side};
+use crate::edges::MOST;
 use crate::pair_set::PairSet;
 use crate::pairs::Pairs;
+use word_image::Side;
 
 /// What `trim_forward` gives.
 pub fn plain_forward(set: &PairSet, pairs: &Pairs) -> PairSet
     requires { length set.now ≡ pair_count pairs.now }
-    ensures { IsTrimmed Side.Forward pairs.now set.now result }
+    ensures { IsTrimmed Side.Right pairs.now set.now result }
 {
-    plain(set, pairs, Side::Forward)
+    plain(set, pairs, Side::Right)
 }
 
 /// What `trim_backward` gives.
 pub fn plain_backward(set: &PairSet, pairs: &Pairs) -> PairSet
     requires { length set.now ≡ pair_count pairs.now }
-    ensures { IsTrimmed Side.Backward pairs.now set.now result }
+    ensures { IsTrimmed Side.Left pairs.now set.now result }
 {
-    plain(set, pairs, Side::Backward)
+    plain(set, pairs, Side::Left)
 }
 
 fn plain(set: &PairSet, pairs: &Pairs, side: Side) -> PairSet

@@ -3,11 +3,11 @@
 ghost use Rattle.std.specs.Prelude.{◌≡◌, length};
 ghost use Rattle.word_image.specs.Graphs.{pair_count};
 
-use crate::{PairSet, Pairs, Side, plain_backward, plain_forward};
+use crate::{PairSet, Pairs, plain_backward, plain_forward};
 use std::alloc::{AllocError, Global};
 use std::process::Abort;
 use std::test::Fail;
-use word_image::Rule;
+use word_image::{Rule, Side};
 
 // States, width, offset and table of a rule, and how many pairs each round leaves, forward and backward,
 // until one leaves all. The numbers come from a script apart.
@@ -67,8 +67,8 @@ fn round(set: &PairSet, pairs: &Pairs, side: Side) -> (PairSet, PairSet)
     ensures second { length result.1 ≡ pair_count pairs.now }
 {
     match side {
-        Side::Forward => (set.trim_forward(pairs), plain_forward(set, pairs)),
-        Side::Backward => (set.trim_backward(pairs), plain_backward(set, pairs)),
+        Side::Right => (set.trim_forward(pairs), plain_forward(set, pairs)),
+        Side::Left => (set.trim_backward(pairs), plain_backward(set, pairs)),
     }
 }
 

@@ -7,13 +7,15 @@ use Rattle.word_image.specs.LocalRules.{LocalRule, IsRule, IsWord, value, word_o
 use Rattle.word_image.specs.Windows.{HaveOneImage, IsRightAhead, IsLeastRightAhead}
 use Rattle.word_image.specs.Graphs.{next, label, pair_of}
 use Rattle.word_image.specs.Ranks.{BeginTogether}
+use Rattle.word_image.specs.declared.side.Side.TheVariants.{Right}
+use Rattle.word_image.specs.Sides.{PairGoes}
 use Rattle.word_image.specs.Erasure.{IsFirstOfRight}
 use Rattle.word_image.proofs.laws.Values.{length-word_of, IsWord-word_of, value-word_of}
 use Rattle.word_image.proofs.laws.Graphs.{value-node, value-next, next-below}
 use Rattle.pair_laws.proofs.Edges.{image-first, value-first, HaveOneImage-none, HaveOneImage-push}
 use Rattle.pair_laws.proofs.Joins.{HaveOneImage-take, HaveOneImage-join}
-use Rattle.pair_laws.proofs.Ranks.{BeginTogether-less}
-use Rattle.pair_laws.proofs.Pairs.{PairBegins, PairBegins-pair_of}
+use Rattle.pair_laws.proofs.Ranks.{Together-less}
+use Rattle.pair_laws.proofs.Pairs.{PairGoes-pair_of}
 use Rattle.pair_laws.proofs.Windows.{HaveOneImage-begin}
 
 -- the letters of a node, one letter, and more: what stands in front, and the letter
@@ -68,17 +70,17 @@ IsRightAhead-apart {r} {n} rule some apart =
     }
 
 -- a rule looks ahead for n exactly where no first pair of the right begins together for n - 1
-pub IsRightAhead-pairs : {r : LocalRule} → IsRule r → (n : ℕ) → IsRightAhead r n ↔ ((1 ≤ n) × ((p : ℕ) → IsFirstOfRight r p → ¬ PairBegins r p (n - 1)))
+pub IsRightAhead-pairs : {r : LocalRule} → IsRule r → (n : ℕ) → IsRightAhead r n ↔ ((1 ≤ n) × ((p : ℕ) → IsFirstOfRight r p → ¬ PairGoes Right r p (n - 1)))
 IsRightAhead-pairs {r} rule n = (
   (λ h. (
     h.some,
     (λ p f begins. BeginTogether-ahead rule h f.node f.a f.b f.in_nodes f.a_letter f.b_letter f.different f.one_label
-        ((PairBegins-pair_of r (next r f.node f.a) (next r f.node f.b) (n - 1) (next-below rule f.node f.b)).0 (subst (λ (q : ℕ). PairBegins r q (n - 1)) f.pair begins))),
+        ((PairGoes-pair_of Right r (next r f.node f.a) (next r f.node f.b) (n - 1) (next-below rule f.node f.b)).0 (subst (λ (q : ℕ). PairGoes Right r q (n - 1)) f.pair begins))),
   )),
   (λ h. IsRightAhead-apart rule h.0 (λ u a b hu ha hb different l begins.
       h.1 (pair_of r (next r u a) (next r u b))
       (record { node = u; a = a; b = b; in_nodes = hu; a_letter = ha; b_letter = hb; different = different; one_label = l; pair = refl })
-      ((PairBegins-pair_of r (next r u a) (next r u b) (n - 1) (next-below rule u b)).1 begins))),
+      ((PairGoes-pair_of Right r (next r u a) (next r u b) (n - 1) (next-below rule u b)).1 begins))),
 )
 
 -- a rule that looks ahead for n does for more
@@ -86,13 +88,13 @@ pub IsRightAhead-more : {r : LocalRule} {n : ℕ} → IsRule r → (k : ℕ) →
 IsRightAhead-more {r} {n} rule k l h =
     let some : 1 ≤ n = h.some in
     IsRightAhead-apart rule (omega arith) (λ u a b hu ha hb different e begins.
-    BeginTogether-ahead rule h u a b hu ha hb different e (BeginTogether-less rule (n - 1) (omega arith) begins))
+    BeginTogether-ahead rule h u a b hu ha hb different e (Together-less Right rule _ _ (n - 1) _ (omega arith) begins))
 
 -- 1 is the least look-ahead wherever it is one
 pub IsLeastRightAhead-one : {r : LocalRule} → IsRightAhead r 1 → IsLeastRightAhead r 1
 IsLeastRightAhead-one ahead = record { ahead = ahead; least = λ n l h. let some = h.some in omega arith }
 
 -- a look-ahead of n is the least one where a first pair of the right begins together for n - 2
-pub IsLeastRightAhead-pair : {r : LocalRule} {n p : ℕ} → IsRule r → IsRightAhead r n → 2 ≤ n → IsFirstOfRight r p → PairBegins r p (n - 2) → IsLeastRightAhead r n
+pub IsLeastRightAhead-pair : {r : LocalRule} {n p : ℕ} → IsRule r → IsRightAhead r n → 2 ≤ n → IsFirstOfRight r p → PairGoes Right r p (n - 2) → IsLeastRightAhead r n
 IsLeastRightAhead-pair {n = n} {p = p} rule ahead many f begins =
-    record { ahead = ahead; least = λ k l h. ((IsRightAhead-pairs rule k).0 h).1 p f (BeginTogether-less rule (k - 1) (omega arith) begins) }
+    record { ahead = ahead; least = λ k l h. ((IsRightAhead-pairs rule k).0 h).1 p f (Together-less Right rule _ _ (k - 1) _ (omega arith) begins) }

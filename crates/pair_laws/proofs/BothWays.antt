@@ -4,19 +4,21 @@ use Rattle.std.proofs.lemmas.Bool.{cases_eq}
 use Rattle.std.proofs.lemmas.List.{ext_get_or, length_push, take_all, get_or_append_left}
 use Rattle.std.proofs.lemmas.List.Elements.{All-push}
 use Rattle.word_image.specs.LocalRules.{LocalRule, IsRule, IsWord, value, word_of, node_count}
-use Rattle.word_image.specs.Windows.{IsDetermined, IsRightAhead, IsLeftAhead}
+use Rattle.word_image.specs.Windows.{IsDetermined, IsRightAhead}
 use Rattle.word_image.specs.Graphs.{next, follow, pair_of, first_of, second_of, pair_count, node_letter}
-use Rattle.word_image.specs.Erasure.{IsFirstOfRight, IsFirstOfLeft}
+use Rattle.word_image.specs.declared.side.Side.{Side}
+use Rattle.word_image.specs.declared.side.Side.TheVariants.{Right, Left}
+use Rattle.word_image.specs.Sides.{PairGoes, IsFirstOf, seen_from}
 use Rattle.word_image.specs.Ranks.{IsEndless}
 use Rattle.word_image.proofs.laws.Values.{length-word_of, IsWord-word_of, value-word_of}
 use Rattle.word_image.proofs.laws.Graphs.{value-next, next-below, node_count_pos}
-use Rattle.pair_laws.proofs.Ranks.{BeginTogether-below, BeginTogether-less, EndTogether-less}
-use Rattle.pair_laws.proofs.Pairs.{PairBegins, PairEnds, first_of-pair_of, second_of-pair_of, pair-below, first_of-below, second_of-below, follow-some, PairBegins-push, PairEnds-push}
+use Rattle.pair_laws.proofs.Ranks.{Together-below, Together-less}
+use Rattle.pair_laws.proofs.Pairs.{first_of-pair_of, second_of-pair_of, pair-below, first_of-below, second_of-below, follow-some, PairGoes-push}
 use Rattle.pair_laws.proofs.Windows.{node_letter-at, IsDetermined-pairs}
 use Rattle.pair_laws.proofs.Aheads.{IsRightAhead-pairs}
 use Rattle.pair_laws.proofs.LeftAheads.{IsLeftAhead-pairs}
 use Rattle.word_image.proofs.laws.Searches.{some_below}
-use Rattle.pair_laws.proofs.Endless.{BeginTogether-endless, EndTogether-endless, PairBegins-endless_step, PairEnds-endless_step}
+use Rattle.pair_laws.proofs.Endless.{Together-endless, PairGoes-endless_step}
 
 -- a letter of a node further on is a letter of the node to which it leads
 pub node_letter-next : {r : LocalRule} → IsRule r → (u a i : ℕ) → u < node_count r → a < r.states → i + 1 < r.width - 1 → node_letter r (next r u a) i ≡ node_letter r u (i + 1)
@@ -46,8 +48,8 @@ node_letter-different r u v hu hv different =
 
 -- a pair is endless both ways
 pub record IsEndlessBothWays (r : LocalRule) (p : ℕ) : Type 0 where
-  pub begins : IsEndless (PairBegins r p)
-  pub ends : IsEndless (PairEnds r p)
+  pub begins : IsEndless (PairGoes Right r p)
+  pub ends : IsEndless (PairGoes Left r p)
 
 -- such a pair whose nodes differ at a letter
 record DifferAt (r : LocalRule) (i : ℕ) : Type 0 where
@@ -71,29 +73,22 @@ node_letter-follow {r} rule p a b q i hp ha hb f l =
 -- one step on, the pair differs at the letter before
 differ_before : {r : LocalRule} → IsRule r → (i : ℕ) → i + 1 < r.width - 1 → DifferAt r (i + 1) → DifferAt r i
 differ_before {r} rule i l d =
-    let step = PairBegins-endless_step rule d.pair d.endless.begins in
-    let p : d.pair < pair_count r = pair-below rule d.pair (BeginTogether-below (d.endless.begins 0)).0 in
-    let letters = node_letter-follow rule d.pair step.0 step.1 step.2 i p step.3 step.4 step.5 l in
+    let (q, step, begins) = PairGoes-endless_step Right rule d.pair d.endless.begins in
+    let letters = node_letter-follow rule d.pair step.a step.b q i step.in_pairs step.a_letter step.b_letter step.follows l in
     record {
-      pair = step.2;
-      endless = record {
-        begins = step.6;
-        ends = λ n. EndTogether-less rule n (omega arith) (PairEnds-push {j = n} rule refl d.pair step.0 step.1 step.2 step.3 step.4 step.5 (d.endless.ends n));
-      };
+      pair = q;
+      endless = record { begins = begins; ends = λ n. Together-less Left rule _ _ n _ (omega arith) (PairGoes-push Left rule q d.pair n (n + 1) refl step (d.endless.ends n)) };
       different = λ e. d.different (sym letters.0 ∙ e ∙ letters.1);
     }
 
 -- and one step before, at the letter behind
 differ_behind : {r : LocalRule} → IsRule r → (i : ℕ) → i + 1 < r.width - 1 → DifferAt r i → DifferAt r (i + 1)
 differ_behind {r} rule i l d =
-    let step = PairEnds-endless_step rule d.pair d.endless.ends in
-    let letters = node_letter-follow rule step.2 step.0 step.1 d.pair i step.3 step.4 step.5 step.6 l in
+    let (q, step, ends) = PairGoes-endless_step Left rule d.pair d.endless.ends in
+    let letters = node_letter-follow rule q step.a step.b d.pair i step.in_pairs step.a_letter step.b_letter step.follows l in
     record {
-      pair = step.2;
-      endless = record {
-        begins = λ n. BeginTogether-less rule n (omega arith) (PairBegins-push {j = n} rule refl step.2 step.0 step.1 d.pair step.3 step.4 step.5 step.6 (d.endless.begins n));
-        ends = step.7;
-      };
+      pair = q;
+      endless = record { begins = λ n. Together-less Right rule _ _ n _ (omega arith) (PairGoes-push Right rule q d.pair n (n + 1) refl step (d.endless.begins n)); ends = ends };
       different = λ e. d.different (letters.0 ∙ e ∙ sym letters.1);
     }
 
@@ -110,13 +105,13 @@ differ_each {r} rule (suc i) l d = let e : i + 1 ≡ suc i = omega arith in subs
 -- where a window is determined, no two different nodes are endless both ways
 pub IsDetermined-not_both_ways : {r : LocalRule} {n c : ℕ} → IsRule r → IsDetermined r n c → (p : ℕ) → first_of r p ≢ second_of r p → ¬ IsEndlessBothWays r p
 IsDetermined-not_both_ways {r} {n} {c} rule h p different endless =
-    let nodes = BeginTogether-below (endless.begins 0) in
+    let nodes = Together-below Right _ _ _ _ (endless.begins 0) in
     let found = node_letter-different r (first_of r p) (second_of r p) nodes.0 nodes.1 different in
     let inside : c ≤ n + r.width - 2 = h.inside in
     let wide : 2 ≤ r.width = rule.shape.least_width in
     let first : DifferAt r 0 = differ_first rule found.0 found.1 (record { pair = p; endless = endless; different = found.2 }) in
     let d : DifferAt r (c - min c n) = differ_each rule (c - min c n) (omega arith) first in
-    ((IsDetermined-pairs rule n c).0 h).2 d.pair (pair-below rule d.pair (BeginTogether-below (d.endless.begins 0)).0) d.different (d.endless.ends (min c n)) (d.endless.begins (n - min c n))
+    ((IsDetermined-pairs rule n c).0 h).2 d.pair (pair-below rule d.pair (Together-below Right _ _ _ _ (d.endless.begins 0)).0) d.different (d.endless.ends (min c n)) (d.endless.begins (n - min c n))
 
 -- where none are, a window is determined
 pub IsDetermined-none_both_ways : {r : LocalRule} → IsRule r → ((p : ℕ) → p < pair_count r → first_of r p ≢ second_of r p → ¬ IsEndlessBothWays r p)
@@ -129,19 +124,17 @@ IsDetermined-none_both_ways {r} rule none =
       omega arith,
       (λ p l different ends begins.
           none p l (λ same. different (ap (λ u. node_letter r u (pair_count r - min (pair_count r) (pair_count r + pair_count r))) same))
-          (record { begins = BeginTogether-endless rule (omega arith) begins; ends = EndTogether-endless rule (omega arith) ends })),
+          (record { begins = Together-endless Right rule _ _ _ (omega arith) begins; ends = Together-endless Left rule _ _ _ (omega arith) ends })),
     )
 
--- a rule looks ahead for some n exactly where no first pair of the right is endless
-pub IsRightAhead-some : {r : LocalRule} → IsRule r → ((n : ℕ) × IsRightAhead r n) ↔ ((p : ℕ) → IsFirstOfRight r p → ¬ IsEndless (PairBegins r p))
-IsRightAhead-some {r} rule = (
-  (λ h p f endless. ((IsRightAhead-pairs rule h.0).0 h.1).1 p f (endless (h.0 - 1))),
-  (λ none. (pair_count r + 1, (IsRightAhead-pairs rule (pair_count r + 1)).1 (omega arith, (λ p f begins. none p f (BeginTogether-endless rule (omega arith) begins))))),
-)
+-- a rule looks ahead to a side for n exactly where no first pair of this side goes on for n - 1
+pub ahead_pairs : (side : Side) {r : LocalRule} → IsRule r → (n : ℕ) → IsRightAhead (seen_from side r) n ↔ ((1 ≤ n) × ((p : ℕ) → IsFirstOf side r p → ¬ PairGoes side r p (n - 1)))
+ahead_pairs Right rule n = IsRightAhead-pairs rule n
+ahead_pairs Left rule n = IsLeftAhead-pairs rule n
 
--- and to the left exactly where no first pair of the left is
-pub IsLeftAhead-some : {r : LocalRule} → IsRule r → ((n : ℕ) × IsLeftAhead r n) ↔ ((p : ℕ) → IsFirstOfLeft r p → ¬ IsEndless (PairEnds r p))
-IsLeftAhead-some {r} rule = (
-  (λ h p f endless. ((IsLeftAhead-pairs rule h.0).0 h.1).1 p f (endless (h.0 - 1))),
-  (λ none. (pair_count r + 1, (IsLeftAhead-pairs rule (pair_count r + 1)).1 (omega arith, (λ p f ends. none p f (EndTogether-endless rule (omega arith) ends))))),
+-- and for some n exactly where none is endless
+pub some_ahead : (side : Side) {r : LocalRule} → IsRule r → ((n : ℕ) × IsRightAhead (seen_from side r) n) ↔ ((p : ℕ) → IsFirstOf side r p → ¬ IsEndless (PairGoes side r p))
+some_ahead side {r} rule = (
+  (λ h p f endless. ((ahead_pairs side rule h.0).0 h.1).1 p f (endless (h.0 - 1))),
+  (λ none. (pair_count r + 1, (ahead_pairs side rule (pair_count r + 1)).1 (omega arith, (λ p f goes. none p f (Together-endless side rule (first_of r p) (second_of r p) (pair_count r + 1 - 1) (omega arith) goes))))),
 )

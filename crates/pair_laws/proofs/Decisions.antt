@@ -3,21 +3,24 @@ use Rattle.std.proofs.Common.{◌≡◌, ℕ, zero, suc, ◌+◌, ◌<◌, ◌�
 use Rattle.std.proofs.lemmas.Bool.{cases_eq}
 use Rattle.word_image.specs.LocalRules.{LocalRule, IsRule, node_count}
 use Rattle.word_image.specs.Graphs.{next, label, pair_count}
-use Rattle.word_image.specs.Ranks.{BeginTogether, EndTogether, IsRank, IsEndless}
+use Rattle.word_image.specs.Ranks.{BeginTogether, IsRank, IsEndless}
+use Rattle.word_image.specs.declared.side.Side.{Side}
+use Rattle.word_image.specs.declared.side.Side.TheVariants.{Right, Left}
+use Rattle.word_image.specs.Sides.{Together}
 use Rattle.word_image.proofs.laws.Graphs.{next-below}
 use Rattle.word_image.proofs.laws.Images.{IsRule-mirrored}
-use Rattle.pair_laws.proofs.Ranks.{BeginTogether-zero, EndTogether-zero, BeginTogether-step, BeginTogether-push}
+use Rattle.pair_laws.proofs.Ranks.{Together-zero, BeginTogether-step, BeginTogether-push}
 use Rattle.pair_laws.proofs.Mirrors.{mirror_node, mirror_node-below, EndTogether-is_mirrored}
 use Rattle.word_image.proofs.laws.Searches.{some_below}
-use Rattle.pair_laws.proofs.Endless.{BeginTogether-endless, EndTogether-endless}
+use Rattle.pair_laws.proofs.Endless.{Together-endless}
 
 -- what can be decided of two things can be decided of both
 both : {P Q : Type 0} → P ⊎ ¬ P → Q ⊎ ¬ Q → (P × Q) ⊎ ¬ (P × Q)
 both p q = ⊎_elim (λ h. ⊎_elim (λ g. inl (h, g)) (λ none. inr (λ s. none s.1)) q) (λ none. inr (λ s. none s.0)) p
 
 -- two nodes begin together for n or don't
-pub BeginTogether-decide : {r : LocalRule} → IsRule r → (n u v : ℕ) → u < node_count r → v < node_count r → BeginTogether r u v n ⊎ ¬ BeginTogether r u v n
-BeginTogether-decide {r} rule zero u v hu hv = inl (BeginTogether-zero r u v hu hv)
+BeginTogether-decide : {r : LocalRule} → IsRule r → (n u v : ℕ) → u < node_count r → v < node_count r → BeginTogether r u v n ⊎ ¬ BeginTogether r u v n
+BeginTogether-decide {r} rule zero u v hu hv = inl (Together-zero Right r u v hu hv)
 BeginTogether-decide {r} rule (suc n) u v hu hv =
     let Leads : ℕ → ℕ → Type 0 = λ a b. (label r u a ≡ label r v b) × BeginTogether r (next r u a) (next r v b) n in
     let letters : (a b : ℕ) → Leads a b ⊎ ¬ Leads a b = λ a b.
@@ -28,9 +31,10 @@ BeginTogether-decide {r} rule (suc n) u v hu hv =
     (λ none. inr (λ h. let step = BeginTogether-step {j = n} rule (omega arith) h in none step.0 step.2 (step.1, step.3, (step.4, step.5))))
     (some_below (λ a. (b : ℕ) × (b < r.states) × Leads a b) second r.states)
 
--- two nodes end together for n or don't
-pub EndTogether-decide : {r : LocalRule} → IsRule r → (n u v : ℕ) → u < node_count r → v < node_count r → EndTogether r u v n ⊎ ¬ EndTogether r u v n
-EndTogether-decide {r} rule n u v hu hv =
+-- two nodes go on together for n or don't
+pub Together-decide : (side : Side) {r : LocalRule} → IsRule r → (n u v : ℕ) → u < node_count r → v < node_count r → Together side r u v n ⊎ ¬ Together side r u v n
+Together-decide Right rule n u v hu hv = BeginTogether-decide rule n u v hu hv
+Together-decide Left {r} rule n u v hu hv =
     let mirror = EndTogether-is_mirrored rule u v n hu hv in
     ⊎_elim (λ h. inl (mirror.1 h)) (λ none. inr (λ h. none (mirror.0 h)))
     (BeginTogether-decide (IsRule-mirrored rule) n (mirror_node r u) (mirror_node r v) (mirror_node-below r u hu) (mirror_node-below r v hv))
@@ -43,14 +47,8 @@ last_below P decide first (suc k) =
     (λ rank. inr rank)
     (last_below P decide first k)
 
--- two nodes have a rank forward or are endless
-pub BeginTogether-rank : {r : LocalRule} → IsRule r → (u v : ℕ) → u < node_count r → v < node_count r → ((n : ℕ) × IsRank (BeginTogether r u v) n) ⊎ IsEndless (BeginTogether r u v)
-BeginTogether-rank {r} rule u v hu hv =
-    ⊎_elim (λ long. inr (BeginTogether-endless rule (omega arith) long)) (λ rank. inl rank)
-    (last_below (BeginTogether r u v) (λ n. BeginTogether-decide rule n u v hu hv) (BeginTogether-zero r u v hu hv) (pair_count r))
-
--- and backward
-pub EndTogether-rank : {r : LocalRule} → IsRule r → (u v : ℕ) → u < node_count r → v < node_count r → ((n : ℕ) × IsRank (EndTogether r u v) n) ⊎ IsEndless (EndTogether r u v)
-EndTogether-rank {r} rule u v hu hv =
-    ⊎_elim (λ long. inr (EndTogether-endless rule (omega arith) long)) (λ rank. inl rank)
-    (last_below (EndTogether r u v) (λ n. EndTogether-decide rule n u v hu hv) (EndTogether-zero r u v hu hv) (pair_count r))
+-- two nodes have a rank or are endless
+pub Together-rank : (side : Side) {r : LocalRule} → IsRule r → (u v : ℕ) → u < node_count r → v < node_count r → ((n : ℕ) × IsRank (Together side r u v) n) ⊎ IsEndless (Together side r u v)
+Together-rank side {r} rule u v hu hv =
+    ⊎_elim (λ long. inr (Together-endless side rule u v (pair_count r) (omega arith) long)) (λ rank. inl rank)
+    (last_below (Together side r u v) (λ n. Together-decide side rule n u v hu hv) (Together-zero side r u v hu hv) (pair_count r))

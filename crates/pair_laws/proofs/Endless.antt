@@ -6,13 +6,16 @@ use Rattle.std.proofs.lemmas.List.{length-take-le, take-take, take_all, drop-tak
 use Rattle.std.proofs.lemmas.List.Elements.{All-take, All-drop}
 use Rattle.word_image.specs.LocalRules.{LocalRule, IsRule, IsWord, value, node_count}
 use Rattle.word_image.specs.Windows.{HaveOneImage}
-use Rattle.word_image.specs.Graphs.{follow, pair_of, pair_count}
-use Rattle.word_image.specs.Ranks.{BeginTogether, EndTogether, IsRank, IsEndless}
+use Rattle.word_image.specs.Graphs.{first_of, second_of, pair_of, pair_count}
+use Rattle.word_image.specs.Ranks.{IsRank, IsEndless}
+use Rattle.word_image.specs.declared.side.Side.{Side}
+use Rattle.word_image.specs.declared.side.Side.TheVariants.{Right, Left}
+use Rattle.word_image.specs.Sides.{Together, PairGoes, LeadsOn}
 use Rattle.word_image.proofs.laws.Graphs.{value-node}
 use Rattle.pair_laws.proofs.Joins.{HaveOneImage-take, HaveOneImage-drop}
 use Rattle.pair_laws.proofs.Walks.{LeadTogether, LeadTogether-join, LeadTogether-first, LeadTogether-none}
-use Rattle.pair_laws.proofs.Ranks.{LeadTogether-begin, LeadTogether-end, BeginTogether-walk, EndTogether-walk, BeginTogether-below, EndTogether-below, BeginTogether-less, EndTogether-less, BeginTogether-zero, EndTogether-zero}
-use Rattle.pair_laws.proofs.Pairs.{PairBegins, PairEnds, pair-below, first_of-below, second_of-below, pair_of-below, PairBegins-follow, PairBegins-push, PairEnds-follow, PairEnds-push}
+use Rattle.pair_laws.proofs.Ranks.{LeadTogether-begin, LeadTogether-end, BeginTogether-walk, EndTogether-walk, Together-less, Together-zero}
+use Rattle.pair_laws.proofs.Pairs.{first_of-below, second_of-below, pair_of-below, LeadsOn-from, PairGoes-step, PairGoes-push}
 use Rattle.word_image.proofs.laws.Searches.{twice_below}
 
 -- the node at place i of a word
@@ -85,72 +88,36 @@ around : {r : LocalRule} {s t l : ℕ} → IsRule r → LeadTogether r s t (suc 
 around {r} {s} {t} rule loop zero = let nodes = LeadTogether-first loop in (0, omega arith, LeadTogether-none r s t nodes.0 nodes.1)
 around {l = l} rule loop (suc n) = let rest = around rule loop n in (suc l + rest.0, omega (arith, rest.1), LeadTogether-join rule refl loop rest.2)
 
--- two nodes that begin together for as many letters as there are pairs do for all
-pub BeginTogether-endless : {r : LocalRule} {u v n : ℕ} → IsRule r → pair_count r ≤ n → BeginTogether r u v n → IsEndless (BeginTogether r u v)
-BeginTogether-endless rule many h n =
+-- two nodes that go on together for as many letters as there are pairs do for all
+pub Together-endless : (side : Side) {r : LocalRule} → IsRule r → (u v m : ℕ) → pair_count r ≤ m → Together side r u v m → IsEndless (Together side r u v)
+Together-endless Right rule u v m many h n =
     let w = Loops-long rule many (BeginTogether-walk h).2 in
     let rounds = around rule w.loop n in
-    BeginTogether-less rule n (omega (arith, rounds.1)) (LeadTogether-begin (LeadTogether-join {n = w.i + rounds.0} rule refl w.before rounds.2))
-
--- two nodes that end together for as many do for all
-pub EndTogether-endless : {r : LocalRule} {u v n : ℕ} → IsRule r → pair_count r ≤ n → EndTogether r u v n → IsEndless (EndTogether r u v)
-EndTogether-endless rule many h n =
+    Together-less Right rule u v n _ (omega (arith, rounds.1)) (LeadTogether-begin (LeadTogether-join {n = w.i + rounds.0} rule refl w.before rounds.2))
+Together-endless Left rule u v m many h n =
     let w = Loops-long rule many (EndTogether-walk h).2 in
     let rounds = around rule w.loop n in
-    EndTogether-less rule n (omega (arith, rounds.1)) (LeadTogether-end (LeadTogether-join {n = rounds.0 + w.k} rule refl rounds.2 w.after))
+    Together-less Left rule u v n _ (omega (arith, rounds.1)) (LeadTogether-end (LeadTogether-join {n = rounds.0 + w.k} rule refl rounds.2 w.after))
 
 -- a rank is below the number of pairs
-pub IsRank-begin : {r : LocalRule} {u v n : ℕ} → IsRule r → IsRank (BeginTogether r u v) n → n < pair_count r
-IsRank-begin {r} {n = n} rule rank = ⊎_elim (λ l. l) (λ many. absurd (rank.no_more (BeginTogether-endless rule many rank.holds (n + 1)))) (cases_lt n (pair_count r))
+pub IsRank-below : (side : Side) {r : LocalRule} → IsRule r → (u v n : ℕ) → IsRank (Together side r u v) n → n < pair_count r
+IsRank-below side {r} rule u v n rank = ⊎_elim (λ l. l) (λ many. absurd (rank.no_more (Together-endless side rule u v n many rank.holds (n + 1)))) (cases_lt n (pair_count r))
 
--- and so is a rank backward
-pub IsRank-end : {r : LocalRule} {u v n : ℕ} → IsRule r → IsRank (EndTogether r u v) n → n < pair_count r
-IsRank-end {r} {n = n} rule rank = ⊎_elim (λ l. l) (λ many. absurd (rank.no_more (EndTogether-endless rule many rank.holds (n + 1)))) (cases_lt n (pair_count r))
+-- an endless pair leads on to an endless pair
+pub PairGoes-endless_step : (side : Side) {r : LocalRule} → IsRule r → (p : ℕ) → IsEndless (PairGoes side r p) → (q : ℕ) × LeadsOn side r p q × IsEndless (PairGoes side r q)
+PairGoes-endless_step side {r} rule p h =
+    let (q, step, rest) = PairGoes-step side rule p (pair_count r) (pair_count r + 1) refl (h (pair_count r + 1)) in
+    (q, step, Together-endless side rule (first_of r q) (second_of r q) (pair_count r) (omega arith) rest)
 
--- an endless pair leads to an endless pair
-pub PairBegins-endless_step : {r : LocalRule} → IsRule r → (p : ℕ) → IsEndless (PairBegins r p)
-    → (a : ℕ) × (b : ℕ) × (q : ℕ) × (a < r.states) × (b < r.states) × (follow r p a b ≡ Some q) × IsEndless (PairBegins r q)
-PairBegins-endless_step {r} rule p h =
-    let step = PairBegins-follow {j = pair_count r} rule refl p (h (1 + pair_count r)) in
-    (step.0, step.1, step.2, step.3, step.4, step.5, BeginTogether-endless rule (omega arith) step.6)
+-- pairs of which each leads on to one of them are endless
+pub PairGoes-closed : (side : Side) {r : LocalRule} → IsRule r → (Q : ℕ → Type 0) → ((p : ℕ) → Q p → (q : ℕ) × LeadsOn side r p q × Q q) → (n p : ℕ) → Q p → PairGoes side r p n
+PairGoes-closed side {r} rule Q closed zero p h =
+    let (q, step, rest) = closed p h in
+    Together-zero side r _ _ (first_of-below rule p (LeadsOn-from side rule p q step)) (second_of-below rule p)
+PairGoes-closed side rule Q closed (suc n) p h =
+    let (q, step, rest) = closed p h in
+    PairGoes-push side rule p q n (suc n) (omega arith) step (PairGoes-closed side rule Q closed n q rest)
 
--- to an endless pair leads an endless pair
-pub PairEnds-endless_step : {r : LocalRule} → IsRule r → (q : ℕ) → IsEndless (PairEnds r q)
-    → (a : ℕ) × (b : ℕ) × (p : ℕ) × (p < pair_count r) × (a < r.states) × (b < r.states) × (follow r p a b ≡ Some q) × IsEndless (PairEnds r p)
-PairEnds-endless_step {r} rule q h =
-    let step = PairEnds-follow {j = pair_count r} rule refl q (h (pair_count r + 1)) in
-    (step.0, step.1, step.2, step.3, step.4, step.5, step.6, EndTogether-endless rule (omega arith) step.7)
-
--- pairs of which each leads to one of them are endless
-pub PairBegins-closed : {r : LocalRule} → IsRule r → (Q : ℕ → Type 0)
-    → ((p : ℕ) → Q p → (a : ℕ) × (b : ℕ) × (q : ℕ) × (p < pair_count r) × (a < r.states) × (b < r.states) × (follow r p a b ≡ Some q) × Q q)
-    → (n p : ℕ) → Q p → PairBegins r p n
-PairBegins-closed {r} rule Q closed zero p h = let step = closed p h in BeginTogether-zero r _ _ (first_of-below rule p step.3) (second_of-below rule p)
-PairBegins-closed rule Q closed (suc n) p h =
-    let step = closed p h in
-    PairBegins-push {j = n} rule (omega arith) p step.0 step.1 step.2 step.3 step.4 step.5 step.6 (PairBegins-closed rule Q closed n step.2 step.7)
-
--- pairs to each of which one of them leads are endless backward
-pub PairEnds-closed : {r : LocalRule} → IsRule r → (Q : ℕ → Type 0)
-    → ((q : ℕ) → Q q → (a : ℕ) × (b : ℕ) × (p : ℕ) × (q < pair_count r) × (a < r.states) × (b < r.states) × (follow r p a b ≡ Some q) × Q p)
-    → (n q : ℕ) → Q q → PairEnds r q n
-PairEnds-closed {r} rule Q closed zero q h = let step = closed q h in EndTogether-zero r _ _ (first_of-below rule q step.3) (second_of-below rule q)
-PairEnds-closed rule Q closed (suc n) q h =
-    let step = closed q h in
-    PairEnds-push {j = n} rule (omega arith) step.2 step.0 step.1 q step.4 step.5 step.6 (PairEnds-closed rule Q closed n step.2 step.7)
-
--- where all pairs that begin together for n do for n + 1, they are endless
-pub PairBegins-stable : {r : LocalRule} → IsRule r → (n : ℕ) → ((p : ℕ) → PairBegins r p n → PairBegins r p (n + 1)) → (p : ℕ) → PairBegins r p n → IsEndless (PairBegins r p)
-PairBegins-stable {r} rule n stable p h j =
-    PairBegins-closed rule (λ q. PairBegins r q n)
-    (λ q g. let step = PairBegins-follow {j = n} rule (omega arith) q (stable q g) in
-    (step.0, step.1, step.2, pair-below rule q (BeginTogether-below g).0, step.3, step.4, step.5, step.6))
-    j p h
-
--- where all pairs that end together for n do for n + 1, they are endless backward
-pub PairEnds-stable : {r : LocalRule} → IsRule r → (n : ℕ) → ((q : ℕ) → PairEnds r q n → PairEnds r q (n + 1)) → (q : ℕ) → PairEnds r q n → IsEndless (PairEnds r q)
-PairEnds-stable {r} rule n stable q h j =
-    PairEnds-closed rule (λ p. PairEnds r p n)
-    (λ p g. let step = PairEnds-follow {j = n} rule (omega arith) p (stable p g) in
-    (step.0, step.1, step.2, pair-below rule p (EndTogether-below g).0, step.4, step.5, step.6, step.7))
-    j q h
+-- where all pairs that go on for n do for n + 1, they are endless
+pub PairGoes-stable : (side : Side) {r : LocalRule} → IsRule r → (n : ℕ) → ((p : ℕ) → PairGoes side r p n → PairGoes side r p (n + 1)) → (p : ℕ) → PairGoes side r p n → IsEndless (PairGoes side r p)
+PairGoes-stable side {r} rule n stable p h j = PairGoes-closed side rule (λ q. PairGoes side r q n) (λ q g. PairGoes-step side rule q n (n + 1) refl (stable q g)) j p h

@@ -8,11 +8,13 @@ use Rattle.word_image.specs.LocalRules.{LocalRule, IsRule, IsWord, value, word_o
 use Rattle.word_image.specs.Windows.{HaveOneImage, IsLeftAhead}
 use Rattle.word_image.specs.Graphs.{label, first_of, second_of, pair_of, node_letter}
 use Rattle.word_image.specs.Ranks.{EndTogether}
+use Rattle.word_image.specs.declared.side.Side.TheVariants.{Left}
+use Rattle.word_image.specs.Sides.{PairGoes}
 use Rattle.word_image.proofs.laws.Values.{length-word_of, word_of-value}
 use Rattle.pair_laws.proofs.Edges.{image-one, HaveOneImage-push}
 use Rattle.pair_laws.proofs.Joins.{HaveOneImage-drop}
-use Rattle.pair_laws.proofs.Ranks.{EndTogether-below}
-use Rattle.pair_laws.proofs.Pairs.{PairEnds, first_of-pair_of, second_of-pair_of, pair_of-below, PairEnds-pair_of}
+use Rattle.pair_laws.proofs.Ranks.{Together-below}
+use Rattle.pair_laws.proofs.Pairs.{first_of-pair_of, second_of-pair_of, pair_of-below, PairGoes-pair_of}
 use Rattle.pair_laws.proofs.Windows.{node_letter-at, HaveOneImage-end}
 use Rattle.word_image.proofs.laws.Images.{IsRule-mirrored}
 use Rattle.pair_laws.proofs.Aheads.{IsRightAhead-more}
@@ -98,7 +100,7 @@ IsLeftAhead-apart {r} {n} rule some apart = (IsLeftAhead-words rule n).1 (
       let u : ℕ = value r.states (take (r.width - 1) (drop (n - 1) x)) in
       let v : ℕ = value r.states (take (r.width - 1) (drop (n - 1) y)) in
       let ends : EndTogether r u v (n - 1) = HaveOneImage-end rule (n - 1) 1 n before h in
-      let nodes = EndTogether-below ends in
+      let nodes = Together-below Left _ _ _ _ ends in
       let window : HaveOneImage r 1 (drop (n - 1) x) (drop (n - 1) y) = HaveOneImage-drop (n - 1) 1 n before h in
       let letters : get_or (drop (n - 1) x) (r.width - 1) 0 ≡ get_or (drop (n - 1) y) (r.width - 1) 0 =
       last_letter rule (n - 1) n x before ∙ ap (λ z. get_or z (r.width - 1 - 1) 0) same ∙ sym (last_letter rule (n - 1) n y before) in
@@ -121,7 +123,7 @@ IsLeftAhead-apart {r} {n} rule some apart = (IsLeftAhead-words rule n).1 (
 )
 
 -- a rule looks ahead to the left for n exactly where no first pair of the left ends together for n - 1
-pub IsLeftAhead-pairs : {r : LocalRule} → IsRule r → (n : ℕ) → IsLeftAhead r n ↔ ((1 ≤ n) × ((p : ℕ) → IsFirstOfLeft r p → ¬ PairEnds r p (n - 1)))
+pub IsLeftAhead-pairs : {r : LocalRule} → IsRule r → (n : ℕ) → IsLeftAhead r n ↔ ((1 ≤ n) × ((p : ℕ) → IsFirstOfLeft r p → ¬ PairGoes Left r p (n - 1)))
 IsLeftAhead-pairs {r} rule n = (
   (λ h. (h.some, (λ p f. EndTogether-ahead rule h (record { letter = f.letter; in_letters = f.in_letters; different = f.different; same_rest = f.same_rest; one_label = f.one_label })))),
   (λ h. IsLeftAhead-apart rule h.0 (λ u v hu hv f ends.
@@ -129,7 +131,7 @@ IsLeftAhead-pairs {r} rule n = (
       let g : IsLeftPair r (first_of r p) (second_of r p) = subst₂ (λ (s t : ℕ). IsLeftPair r s t) (sym (first_of-pair_of r u v hv)) (sym (second_of-pair_of r u v hv)) f in
       h.1 p
       (record { letter = g.letter; in_pairs = pair_of-below r u v hu hv; in_letters = g.in_letters; different = g.different; same_rest = g.same_rest; one_label = g.one_label })
-      ((PairEnds-pair_of r u v (n - 1) hv).1 ends))),
+      ((PairGoes-pair_of Left r u v (n - 1) hv).1 ends))),
 )
 
 -- a rule that looks ahead to the left for n does for more

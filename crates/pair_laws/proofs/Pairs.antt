@@ -1,13 +1,15 @@
 -- Pairs of nodes by their numbers: how walks, and so the lengths for which a pair begins and ends together, go along `follow`.
-use Rattle.std.proofs.Common.{◌≡◌, ℕ, ◌+◌, ◌<◌, ◌↔◌, Some, None, refl, sym, ap, ap₂, subst, subst₂, ◌∙◌, ⊎_elim, arith, mod-lt}
+use Rattle.std.proofs.Common.{◌≡◌, ℕ, ◌+◌, ◌<◌, ◌≤◌, ◌↔◌, Some, None, refl, sym, ap, ap₂, subst, subst₂, ◌∙◌, ⊎_elim, arith, mod-lt}
 use Rattle.std.specs.Prelude.{◌==◌, if◌then◌else◌}
 use Rattle.std.proofs.lemmas.Bool.{cases_eq, eq-eqb, ne_eqb, cond-true, cond-false}
 use Rattle.std.proofs.lemmas.Nat.{mul-add-lt, div_below, div-mul-add, mod-mul-add, div-add-mod'}
 use Rattle.word_image.specs.LocalRules.{LocalRule, IsRule, node_count}
 use Rattle.word_image.specs.Graphs.{next, label, follow, pair_of, first_of, second_of, pair_count}
-use Rattle.word_image.specs.Ranks.{BeginTogether, EndTogether}
+use Rattle.word_image.specs.declared.side.Side.{Side}
+use Rattle.word_image.specs.declared.side.Side.TheVariants.{Right, Left}
+use Rattle.word_image.specs.Sides.{Together, PairGoes, LeadsOn}
 use Rattle.word_image.proofs.laws.Graphs.{node_count_pos, next-below}
-use Rattle.pair_laws.proofs.Ranks.{EndTogether-below, BeginTogether-step, BeginTogether-push, EndTogether-step, EndTogether-push}
+use Rattle.pair_laws.proofs.Ranks.{Together-below, Together-less, BeginTogether-step, BeginTogether-push, EndTogether-step, EndTogether-push}
 
 -- the first node of the pair of two nodes
 pub first_of-pair_of : (r : LocalRule) (u v : ℕ) → v < node_count r → first_of r (pair_of r u v) ≡ u
@@ -67,84 +69,63 @@ pub follow-below : {r : LocalRule} → IsRule r → (p a b q : ℕ) → follow r
 follow-below {r} rule p a b q e =
     subst (λ s. s < pair_count r) (follow-some r p a b q e).1 (pair_of-below r _ _ (next-below rule (first_of r p) a) (next-below rule (second_of r p) b))
 
--- the nodes of the pair p begin together for n
-abbrev pub PairBegins : LocalRule → ℕ → ℕ → Type 0
-PairBegins r p n = BeginTogether r (first_of r p) (second_of r p) n
+-- a pair that leads on is a pair
+pub LeadsOn-from : (side : Side) {r : LocalRule} → IsRule r → (p q : ℕ) → LeadsOn side r p q → p < pair_count r
+LeadsOn-from Right rule p q s = s.in_pairs
+LeadsOn-from Left rule p q s = follow-below rule q s.a s.b p s.follows
 
--- and end together
-abbrev pub PairEnds : LocalRule → ℕ → ℕ → Type 0
-PairEnds r p n = EndTogether r (first_of r p) (second_of r p) n
+-- and so is that to which it does
+pub LeadsOn-below : (side : Side) {r : LocalRule} → IsRule r → (p q : ℕ) → LeadsOn side r p q → q < pair_count r
+LeadsOn-below Right rule p q s = follow-below rule p s.a s.b q s.follows
+LeadsOn-below Left rule p q s = s.in_pairs
 
--- two nodes begin together exactly where their pair does
-pub PairBegins-pair_of : (r : LocalRule) (u v n : ℕ) → v < node_count r → PairBegins r (pair_of r u v) n ↔ BeginTogether r u v n
-PairBegins-pair_of r u v n h = (
-  (λ b. subst₂ (λ (s t : ℕ). BeginTogether r s t n) (first_of-pair_of r u v h) (second_of-pair_of r u v h) b),
-  (λ b. rw (first_of-pair_of r u v h, second_of-pair_of r u v h) b),
-)
+-- two nodes go on together exactly where their pair does
+pub PairGoes-pair_of : (side : Side) (r : LocalRule) (u v n : ℕ) → v < node_count r → PairGoes side r (pair_of r u v) n ↔ Together side r u v n
+PairGoes-pair_of side r u v n h =
+    let first = first_of-pair_of r u v h in
+    let second = second_of-pair_of r u v h in
+    ((λ b. subst₂ (λ (s t : ℕ). Together side r s t n) first second b), (λ b. subst₂ (λ (s t : ℕ). Together side r s t n) (sym first) (sym second) b))
 
--- and end together
-pub PairEnds-pair_of : (r : LocalRule) (u v n : ℕ) → v < node_count r → PairEnds r (pair_of r u v) n ↔ EndTogether r u v n
-PairEnds-pair_of r u v n h = (
-  (λ b. subst₂ (λ (s t : ℕ). EndTogether r s t n) (first_of-pair_of r u v h) (second_of-pair_of r u v h) b),
-  (λ b. rw (first_of-pair_of r u v h, second_of-pair_of r u v h) b),
-)
+-- a pair that goes on does for less
+pub PairGoes-less : (side : Side) {r : LocalRule} → IsRule r → (p i n : ℕ) → i ≤ n → PairGoes side r p n → PairGoes side r p i
+PairGoes-less side {r} rule p i n l h = Together-less side rule (first_of r p) (second_of r p) i n l h
 
--- a pair that begins together for one more leads to one that begins together
-pub PairBegins-follow : {r : LocalRule} {n j : ℕ} → IsRule r → 1 + j ≡ n → (p : ℕ) → PairBegins r p n
-    → (a : ℕ) × (b : ℕ) × (q : ℕ) × (a < r.states) × (b < r.states) × (follow r p a b ≡ Some q) × PairBegins r q j
-PairBegins-follow {r} {j = j} rule e p h =
-    let step = BeginTogether-step rule e h in
-    let u : ℕ = next r (first_of r p) step.0 in
-    let v : ℕ = next r (second_of r p) step.1 in
-    (step.0, step.1, pair_of r u v, step.2, step.3, follow-edges r p step.0 step.1 step.4, (PairBegins-pair_of r u v j (next-below rule (second_of r p) step.1)).1 step.5)
-
--- a pair that leads to one that begins together does for one more
-pub PairBegins-push : {r : LocalRule} {n j : ℕ} → IsRule r → 1 + j ≡ n → (p a b q : ℕ) → p < pair_count r → a < r.states → b < r.states
-    → follow r p a b ≡ Some q → PairBegins r q j → PairBegins r p n
-PairBegins-push {r} {j = j} rule e p a b q hp ha hb f h =
+-- a pair that goes on for one more leads on to one that goes on
+pub PairGoes-step : (side : Side) {r : LocalRule} → IsRule r → (p j n : ℕ) → j + 1 ≡ n → PairGoes side r p n → (q : ℕ) × LeadsOn side r p q × PairGoes side r q j
+PairGoes-step Right {r} rule p j n e h =
+    let (a, b, in_a, in_b, one_label, rest) = BeginTogether-step {j = j} rule (omega arith) h in
     let u : ℕ = next r (first_of r p) a in
-    let v : ℕ = next r (second_of r p) b in
-    let edges = follow-some r p a b q f in
-    BeginTogether-push rule e (first_of r p) (second_of r p) a b (first_of-below rule p hp) (second_of-below rule p) ha hb edges.0
-    ((PairBegins-pair_of r u v j (next-below rule (second_of r p) b)).0 (subst (λ (s : ℕ). PairBegins r s j) (sym edges.1) h))
-
--- to a pair that ends together for one more leads one that ends together
-pub PairEnds-follow : {r : LocalRule} {n j : ℕ} → IsRule r → j + 1 ≡ n → (q : ℕ) → PairEnds r q n
-    → (a : ℕ) × (b : ℕ) × (p : ℕ) × (p < pair_count r) × (a < r.states) × (b < r.states) × (follow r p a b ≡ Some q) × PairEnds r p j
-PairEnds-follow {r} {j = j} rule e q h =
-    let step = EndTogether-step rule e h in
-    let nodes = EndTogether-below step.6 in (
-      step.2,
-      step.3,
-      pair_of r step.0 step.1,
-      pair_of-below r step.0 step.1 nodes.0 nodes.1,
-      step.4,
-      step.5,
-      follow-pair_of r step.0 step.1 step.2 step.3 nodes.1 step.7 ∙ ap₂ (λ (s t : ℕ). Some (pair_of r s t)) step.8 step.9 ∙ ap (λ s. Some s) (pair_of-first_of r q),
-      (PairEnds-pair_of r step.0 step.1 j nodes.1).1 step.6,
+    let v : ℕ = next r (second_of r p) b in (
+      pair_of r u v,
+      record { a = a; b = b; in_pairs = pair-below rule p (Together-below Right r _ _ _ h).0; a_letter = in_a; b_letter = in_b; follows = follow-edges r p a b one_label },
+      (PairGoes-pair_of Right r u v j (next-below rule (second_of r p) b)).1 rest,
+    )
+PairGoes-step Left {r} rule p j n e h =
+    let (u, v, a, b, in_a, in_b, rest, one_label, at_u, at_v) = EndTogether-step {j = j} rule e h in
+    let nodes = Together-below Left r u v j rest in (
+      pair_of r u v,
+      record {
+        a = a;
+        b = b;
+        in_pairs = pair_of-below r u v nodes.0 nodes.1;
+        a_letter = in_a;
+        b_letter = in_b;
+        follows = follow-pair_of r u v a b nodes.1 one_label ∙ ap₂ (λ (s t : ℕ). Some (pair_of r s t)) at_u at_v ∙ ap (λ s. Some s) (pair_of-first_of r p);
+      },
+      (PairGoes-pair_of Left r u v j nodes.1).1 rest,
     )
 
--- a pair to which one that ends together leads does for one more
-pub PairEnds-push : {r : LocalRule} {n j : ℕ} → IsRule r → j + 1 ≡ n → (p a b q : ℕ) → a < r.states → b < r.states
-    → follow r p a b ≡ Some q → PairEnds r p j → PairEnds r q n
-PairEnds-push {r} {n = n} rule e p a b q ha hb f h =
-    let u : ℕ = next r (first_of r p) a in
-    let v : ℕ = next r (second_of r p) b in
-    let edges = follow-some r p a b q f in
-    subst (λ (s : ℕ). PairEnds r s n) edges.1 ((PairEnds-pair_of r u v n (next-below rule (second_of r p) b)).1 (EndTogether-push rule e a b ha hb edges.0 h))
-
--- a pair begins together for n + 1 exactly where it leads to a pair that does for n
-pub PairBegins-steps : {r : LocalRule} → IsRule r → (p n : ℕ) → p < pair_count r
-    → PairBegins r p (n + 1) ↔ ((a : ℕ) × (b : ℕ) × (q : ℕ) × (a < r.states) × (b < r.states) × (follow r p a b ≡ Some q) × PairBegins r q n)
-PairBegins-steps {r} rule p n h = (
-  PairBegins-follow {j = n} rule (omega arith) p,
-  (λ s. PairBegins-push {j = n} rule (omega arith) p s.0 s.1 s.2 h s.3 s.4 s.5 s.6),
-)
-
--- and ends together exactly where a pair that does for n leads to it
-pub PairEnds-steps : {r : LocalRule} → IsRule r → (q n : ℕ)
-    → PairEnds r q (n + 1) ↔ ((a : ℕ) × (b : ℕ) × (p : ℕ) × (p < pair_count r) × (a < r.states) × (b < r.states) × (follow r p a b ≡ Some q) × PairEnds r p n)
-PairEnds-steps {r} rule q n = (
-  PairEnds-follow {j = n} rule refl q,
-  (λ s. PairEnds-push {j = n} rule refl s.2 s.0 s.1 q s.4 s.5 s.6 s.7),
-)
+-- a pair that leads on to one that goes on does for one more
+pub PairGoes-push : (side : Side) {r : LocalRule} → IsRule r → (p q j n : ℕ) → j + 1 ≡ n → LeadsOn side r p q → PairGoes side r q j → PairGoes side r p n
+PairGoes-push Right {r} rule p q j n e s h =
+    let u : ℕ = next r (first_of r p) s.a in
+    let v : ℕ = next r (second_of r p) s.b in
+    let edges = follow-some r p s.a s.b q s.follows in
+    BeginTogether-push {j = j} rule (omega arith) (first_of r p) (second_of r p) s.a s.b (first_of-below rule p s.in_pairs) (second_of-below rule p) s.a_letter s.b_letter edges.0
+    ((PairGoes-pair_of Right r u v j (next-below rule (second_of r p) s.b)).0 (subst (λ (t : ℕ). PairGoes Right r t j) (sym edges.1) h))
+PairGoes-push Left {r} rule p q j n e s h =
+    let u : ℕ = next r (first_of r q) s.a in
+    let v : ℕ = next r (second_of r q) s.b in
+    let edges = follow-some r q s.a s.b p s.follows in
+    subst (λ (t : ℕ). PairGoes Left r t n) edges.1
+    ((PairGoes-pair_of Left r u v n (next-below rule (second_of r q) s.b)).1 (EndTogether-push {j = j} rule e s.a s.b s.a_letter s.b_letter edges.0 h))

@@ -7,9 +7,10 @@ use Rattle.word_image.specs.LocalRules.{LocalRule, IsRule, IsWord, value, word_o
 use Rattle.word_image.specs.Windows.{HaveOneImage, IsDetermined}
 use Rattle.word_image.specs.Graphs.{first_of, second_of, pair_of, pair_count, node_letter}
 use Rattle.word_image.specs.Ranks.{BeginTogether, EndTogether}
+use Rattle.word_image.specs.declared.side.Side.TheVariants.{Right}
 use Rattle.word_image.proofs.laws.Values.{word_of-value}
 use Rattle.pair_laws.proofs.Joins.{drop-join, same_node, HaveOneImage-take, HaveOneImage-drop, HaveOneImage-join}
-use Rattle.pair_laws.proofs.Ranks.{BeginTogether-below}
+use Rattle.pair_laws.proofs.Ranks.{Together-below}
 use Rattle.pair_laws.proofs.Pairs.{first_of-pair_of, second_of-pair_of, pair_of-below}
 
 -- the letters of the node at place j of a word are the word's letters from there on
@@ -86,7 +87,7 @@ IsDetermined-apart {r} {n} {c} rule some inside apart =
       letter = λ x y h.
           let place : min c n + (c - min c n) ≡ c = omega arith in
           let begins = HaveOneImage-begin (min c n) (n - min c n) n (omega arith) h in
-          let nodes = BeginTogether-below begins in
+          let nodes = Together-below Right _ _ _ _ begins in
           let first = node_letter-at r _ (min c n) (c - min c n) x h.first (omega arith) refl (omega arith) in
           let second = node_letter-at r _ (min c n) (c - min c n) y h.second (omega arith) refl (omega arith) in
           ⊎_elim (λ same. same)

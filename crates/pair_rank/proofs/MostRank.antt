@@ -9,9 +9,11 @@ use Rattle.word_image.specs.Graphs.{pair_of, pair_count}
 use Rattle.word_image.specs.Ranks.{IsRank, IsEndless}
 use Rattle.word_image.proofs.laws.Searches.{twice_below}
 use Rattle.pair_laws.proofs.Pairs.{pair_of-below}
-use Rattle.pair_graph.specs.declared.edges.Side.{Side}
-use Rattle.pair_rank.specs.Sides.{Together}
-use Rattle.pair_rank.proofs.Sides.{Together-below, Together-less, Together-same, Together-step}
+use Rattle.word_image.specs.declared.side.Side.{Side}
+use Rattle.word_image.specs.Sides.{Together}
+use Rattle.pair_laws.proofs.Ranks.{Together-below, Together-less}
+use Rattle.pair_laws.proofs.Mirrors.{Together-same}
+use Rattle.pair_rank.proofs.Sides.{Together-step}
 
 -- there are two nodes of each rank up to that of any two
 lesser_rank : (side : Side) {r : LocalRule} → IsRule r → (n u v : ℕ) → IsRank (Together side r u v) n → (i : ℕ) → i ≤ n

@@ -7,11 +7,12 @@ use Rattle.std.proofs.lemmas.Grind.{get_or-set_at}
 use Rattle.word_image.specs.LocalRules.{LocalRule, IsRule, node_count}
 use Rattle.word_image.specs.Graphs.{pair_of}
 use Rattle.word_image.specs.Ranks.{IsRank, IsEndless}
-use Rattle.pair_graph.specs.declared.edges.Side.{Side}
+use Rattle.word_image.specs.declared.side.Side.{Side}
 use Rattle.pair_graph.specs.PairSets.{holds}
-use Rattle.pair_rank.specs.Sides.{Together, AreRanks, HasFallen, AreEndless, rank_at}
-use Rattle.pair_rank.proofs.Sides.{Together-zero, PairGoes-pair_of}
-use Rattle.pair_laws.proofs.Pairs.{pair_of-below}
+use Rattle.word_image.specs.Sides.{Together}
+use Rattle.pair_rank.specs.Sides.{AreRanks, HasFallen, AreEndless, rank_at}
+use Rattle.pair_laws.proofs.Ranks.{Together-zero}
+use Rattle.pair_laws.proofs.Pairs.{pair_of-below, PairGoes-pair_of}
 use Rattle.pair_laws.proofs.Sets.{IsBitSet-minus}
 use Rattle.pair_rank.proofs.TrimmedSets.{AreTogether, AreTogether-nodes}
 

@@ -5,11 +5,15 @@ use Rattle.std.proofs.lemmas.List.{get_or-replicate, get_or_past, length-replica
 use Rattle.word_image.specs.LocalRules.{LocalRule, IsRule, node_count}
 use Rattle.word_image.specs.Graphs.{first_of, second_of, pair_of, pair_count}
 use Rattle.word_image.specs.Ranks.{IsEndless}
-use Rattle.pair_laws.proofs.Pairs.{first_of-below, second_of-below, pair_of-below, pair-below}
-use Rattle.pair_graph.specs.declared.edges.Side.{Side}
+use Rattle.pair_laws.proofs.Pairs.{first_of-below, second_of-below, pair_of-below, pair-below, PairGoes-pair_of}
+use Rattle.word_image.specs.declared.side.Side.{Side}
 use Rattle.pair_graph.specs.PairSets.{holds, IsTrimmed}
-use Rattle.pair_rank.specs.Sides.{Together, PairGoes, AreEndless}
-use Rattle.pair_rank.proofs.Sides.{Together-zero, Together-below, Together-less, Together-rank, PairGoes-pair_of, PairGoes-steps, PairGoes-stable}
+use Rattle.word_image.specs.Sides.{Together, PairGoes}
+use Rattle.pair_rank.specs.Sides.{AreEndless}
+use Rattle.pair_laws.proofs.Ranks.{Together-zero, Together-below, Together-less}
+use Rattle.pair_laws.proofs.Decisions.{Together-rank}
+use Rattle.pair_laws.proofs.Endless.{PairGoes-stable}
+use Rattle.pair_rank.proofs.Sides.{PairGoes-steps}
 use Rattle.pair_rank.proofs.MostRank.{IsRank-most}
 
 -- what is in a set is one of its pairs

@@ -1,20 +1,11 @@
 -- What ranks and endless pairs are, forward and backward.
 use Rattle.std.specs.Prelude.{◌≡◌, ℕ, ◌+◌, ◌*◌, ◌<◌, ◌↔◌, List, Bool, Option, None, IsTrue, MatchOption, length, slice_index_or}
 use Rattle.word_image.specs.LocalRules.{LocalRule, node_count}
-use Rattle.word_image.specs.Graphs.{first_of, second_of, pair_count}
-use Rattle.word_image.specs.Ranks.{BeginTogether, EndTogether, IsRank, IsEndless}
-use Rattle.pair_graph.specs.declared.edges.Side.{Side}
-use Rattle.pair_graph.specs.declared.edges.Side.TheVariants.{Forward, Backward}
+use Rattle.word_image.specs.Graphs.{pair_count}
+use Rattle.word_image.specs.Ranks.{IsRank, IsEndless}
+use Rattle.word_image.specs.declared.side.Side.{Side}
+use Rattle.word_image.specs.Sides.{Together, PairGoes}
 use Rattle.pair_graph.specs.PairSets.{holds}
-
--- two nodes go on together for n: forward they begin together, and backward they end together
-abbrev pub Together : Side → LocalRule → ℕ → ℕ → ℕ → Type 0
-Together Forward = BeginTogether
-Together Backward = EndTogether
-
--- the nodes of a pair do
-abbrev pub PairGoes : Side → LocalRule → ℕ → ℕ → Type 0
-PairGoes side r p = Together side r (first_of r p) (second_of r p)
 
 -- this is the rank of the pair, and nothing where it is endless
 abbrev pub IsRankOf : Side → LocalRule → ℕ → Option ℕ → Type 0

@@ -5,9 +5,9 @@ ghost use Rattle.word_image.specs.LocalRules.{IsRule, node_count};
 ghost use Rattle.word_image.specs.Ranks.{BeginTogether, EndTogether, IsEndless};
 
 use crate::rounds::endless_pairs;
-use pair_graph::{PairSet, Pairs, Side};
+use pair_graph::{PairSet, Pairs};
 use std::marker::Model;
-use word_image::Rule;
+use word_image::{Rule, Side};
 
 /// The pairs of nodes of a rule that are endless, forward and backward, seen as that rule.
 #[derive(Debug, Drop)]
@@ -23,13 +23,13 @@ pub struct Endless {
 impl Model for Endless {
     ghost use Rattle.word_image.specs.LocalRules.{LocalRule, IsRule};
     ghost use Rattle.pair_rank.specs.Sides.{AreEndless};
-    ghost use Rattle.pair_graph.specs.declared.edges.Side.TheVariants.{Forward, Backward};
+    ghost use Rattle.word_image.specs.declared.side.Side.TheVariants.{Right, Left};
 
     ghost Value = { LocalRule };
 
     ghost view = { λ e. e.rule };
 
-    ghost invariant = { λ e. IsRule e.rule × AreEndless Forward e.rule e.forward × AreEndless Backward e.rule e.backward };
+    ghost invariant = { λ e. IsRule e.rule × AreEndless Right e.rule e.forward × AreEndless Left e.rule e.backward };
 }
 
 impl Endless {
@@ -39,8 +39,8 @@ impl Endless {
     {
         Endless {
             rule: *pairs.rule(),
-            forward: endless_pairs(pairs, Side::Forward),
-            backward: endless_pairs(pairs, Side::Backward),
+            forward: endless_pairs(pairs, Side::Right),
+            backward: endless_pairs(pairs, Side::Left),
         }
     }
 

@@ -3,12 +3,13 @@
 ghost use Rattle.std.specs.Prelude.{◌≡◌, ◌<◌, ◌≤◌, IfSome, MatchOption};
 ghost use Rattle.word_image.specs.LocalRules.{IsRule, node_count};
 ghost use Rattle.word_image.specs.Ranks.{BeginTogether, EndTogether, IsRank, IsEndless};
+ghost use Rattle.word_image.specs.Sides.{Together};
 
 use crate::endless::Endless;
 use crate::rounds::{MOST, RankTable, exact_ranks};
-use pair_graph::{Pairs, Side};
+use pair_graph::Pairs;
 use std::marker::Model;
-use word_image::Rule;
+use word_image::{Rule, Side};
 
 /// The forward and backward ranks of all pairs of nodes of a rule, seen as that rule.
 #[derive(Drop)]
@@ -24,13 +25,13 @@ pub struct Ranks {
 impl Model for Ranks {
     ghost use Rattle.word_image.specs.LocalRules.{LocalRule, IsRule};
     ghost use Rattle.pair_rank.specs.Sides.{AreRanks};
-    ghost use Rattle.pair_graph.specs.declared.edges.Side.TheVariants.{Forward, Backward};
+    ghost use Rattle.word_image.specs.declared.side.Side.TheVariants.{Right, Left};
 
     ghost Value = { LocalRule };
 
     ghost view = { λ r. r.endless };
 
-    ghost invariant = { λ r. IsRule r.endless × AreRanks Forward r.endless r.forward × AreRanks Backward r.endless r.backward };
+    ghost invariant = { λ r. IsRule r.endless × AreRanks Right r.endless r.forward × AreRanks Left r.endless r.backward };
 }
 
 impl Ranks {
@@ -38,8 +39,8 @@ impl Ranks {
     pub fn of(pairs: &Pairs) -> Ranks
         ensures { result ≡ pairs.now }
     {
-        let (forward, begins) = exact_ranks(pairs, Side::Forward);
-        let (backward, ends) = exact_ranks(pairs, Side::Backward);
+        let (forward, begins) = exact_ranks(pairs, Side::Right);
+        let (backward, ends) = exact_ranks(pairs, Side::Left);
         Ranks {
             endless: Endless {
                 rule: *pairs.rule(),
@@ -64,6 +65,19 @@ impl Ranks {
         ensures { result.now ≡ self.now }
     {
         &self.endless
+    }
+
+    /// For how long two nodes go on together to this side: forward to the right, and backward to the left.
+    pub fn rank(&self, side: Side, u: u8, v: u8) -> Option<u16>
+        requires first { u < node_count self.now }
+        requires second { v < node_count self.now }
+        ensures rank { MatchOption result (IsEndless (Together side self.now u v)) (IsRank (Together side self.now u v)) }
+        ensures most { IfSome result (λ n. n ≤ 239) }
+    {
+        match side {
+            Side::Right => self.forward(u, v),
+            Side::Left => self.backward(u, v),
+        }
     }
 
     /// For how long two nodes begin together: the greatest n such that two words of n + m - 1 letters

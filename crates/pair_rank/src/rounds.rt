@@ -4,7 +4,8 @@ ghost use Rattle.std.specs.Prelude.{◌≡◌, ℕ, ◌*◌, ◌<◌, ◌≤◌,
 ghost use Rattle.word_image.specs.LocalRules.{IsRule, node_count};
 ghost use Rattle.pair_rank.specs.Sides.{AreEndless, AreRanks, HasFallen, rank_at};
 
-use pair_graph::{PairSet, Pairs, Side};
+use pair_graph::{PairSet, Pairs};
+use word_image::Side;
 
 /// The most nodes.
 pub const MOST: usize = 16;

@@ -12,11 +12,11 @@ use crate::parts::{first_orphan, injective_part, side_part, sum_part, surjective
 use cert_format::{Cert, CertVersion, InjectivePart, SidePart, SumPart};
 use closing_test::{left, right};
 use least_walk::Walker;
-use pair_graph::{Pairs, Side};
+use pair_graph::Pairs;
 use pair_rank::Ranks;
 use std::alloc::{AllocError, Global};
 use std::marker::Model;
-use word_image::{Rule, Weights, Word};
+use word_image::{Rule, Side, Weights, Word};
 
 /// The verdicts of a rule, each with the least evidence for it.
 #[derive(Drop)]
@@ -101,8 +101,8 @@ impl Evidence {
         ensures parts { IfOk result (HasWrittenParts version self.rule self.weights) }
     {
         let rule = self.rule;
-        let forward = self.ranks.row(alloc, Side::Forward)?;
-        let backward = self.ranks.row(alloc, Side::Backward)?;
+        let forward = self.ranks.row(alloc, Side::Right)?;
+        let backward = self.ranks.row(alloc, Side::Left)?;
         Ok(Cert {
             version,
             rule,

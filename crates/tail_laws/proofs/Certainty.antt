@@ -8,10 +8,12 @@ use Rattle.word_image.specs.Graphs.{next, label, first_of, second_of, pair_count
 use Rattle.word_image.specs.Ranks.{BeginTogether}
 use Rattle.word_image.proofs.laws.Graphs.{next-below}
 use Rattle.word_image.proofs.laws.Images.{IsRule-mirrored}
-use Rattle.pair_laws.proofs.Pairs.{PairBegins, PairEnds, first_of-below, second_of-below, PairBegins-pair_of}
+use Rattle.word_image.specs.declared.side.Side.TheVariants.{Right, Left}
+use Rattle.word_image.specs.Sides.{PairGoes}
+use Rattle.pair_laws.proofs.Pairs.{first_of-below, second_of-below, PairGoes-pair_of}
 use Rattle.word_image.proofs.laws.Searches.{some_below}
-use Rattle.pair_laws.proofs.Decisions.{BeginTogether-decide, EndTogether-decide}
-use Rattle.pair_laws.proofs.BothWays.{IsDetermined-none_both_ways, IsRightAhead-some}
+use Rattle.pair_laws.proofs.Decisions.{Together-decide}
+use Rattle.pair_laws.proofs.BothWays.{IsDetermined-none_both_ways, some_ahead}
 use Rattle.tail_config.specs.Tails.{IsInjective, IsRightClosing, IsLeftClosing}
 use Rattle.tail_laws.proofs.Injective.{IsInjective-determined}
 use Rattle.tail_laws.proofs.Closing.{IsRightClosing-ahead}
@@ -39,14 +41,14 @@ differ_or_not a b = ⊎_elim (λ e. inr (λ n. n e)) (λ n. inl n) (cases_eq a b
 
 -- the nodes of a pair differ, and end and begin together for as long as there are pairs
 abbrev pub IsLongBothWays : LocalRule → ℕ → Type 0
-IsLongBothWays r p = (first_of r p ≢ second_of r p) × (PairEnds r p (pair_count r) × PairBegins r p (pair_count r))
+IsLongBothWays r p = (first_of r p ≢ second_of r p) × (PairGoes Left r p (pair_count r) × PairGoes Right r p (pair_count r))
 
 -- that is decided of each pair
 long_or_not : {r : LocalRule} → IsRule r → (p : ℕ) → ((p < pair_count r) × IsLongBothWays r p) ⊎ ¬ ((p < pair_count r) × IsLongBothWays r p)
 long_or_not {r} rule p =
     ⊎_elim (λ l. both (inl l) (both (differ_or_not (first_of r p) (second_of r p)) (both
-    (EndTogether-decide rule (pair_count r) (first_of r p) (second_of r p) (first_of-below rule p l) (second_of-below rule p))
-    (BeginTogether-decide rule (pair_count r) (first_of r p) (second_of r p) (first_of-below rule p l) (second_of-below rule p)))))
+    (Together-decide Left rule (pair_count r) (first_of r p) (second_of r p) (first_of-below rule p l) (second_of-below rule p))
+    (Together-decide Right rule (pair_count r) (first_of r p) (second_of r p) (first_of-below rule p l) (second_of-below rule p)))))
     (λ l. inr (λ h. let within : p < pair_count r = h.0 in absurd (omega arith))) (cases_lt p (pair_count r))
 
 -- a rule has a determined window or twins
@@ -72,17 +74,17 @@ first_split : {r : LocalRule} → IsRule r → (node a b : ℕ) → node < node_
 first_split {r} rule node a b hn ha hb h =
     normal_split-begins rule
     (record { node = node; a = a; b = b; in_nodes = hn; a_letter = ha; b_letter = hb; different = h.0; one_label = h.1.0; pair = refl })
-    ((PairBegins-pair_of r (next r node a) (next r node b) (pair_count r) (next-below rule node b)).1 h.1.1)
+    ((PairGoes-pair_of Right r (next r node a) (next r node b) (pair_count r) (next-below rule node b)).1 h.1.1)
 
 -- a rule looks ahead to the right or has a normal right split
 pub ahead_or_split : {r : LocalRule} → IsRule r → ((n : ℕ) × IsRightAhead r n) ⊎ HasNormalSplit r
 ahead_or_split {r} rule =
     let at : (node a b : ℕ) → IsLongFirst r node a b ⊎ ¬ IsLongFirst r node a b = λ node a b.
-    both (differ_or_not a b) (both (cases_eq (label r node a) (label r node b)) (BeginTogether-decide rule (pair_count r) (next r node a) (next r node b) (next-below rule node a) (next-below rule node b))) in
+    both (differ_or_not a b) (both (cases_eq (label r node a) (label r node b)) (Together-decide Right rule (pair_count r) (next r node a) (next r node b) (next-below rule node a) (next-below rule node b))) in
     let letter = λ (node a : ℕ). exists_below (IsLongFirst r node a) (at node a) r.states in
     let letters = λ (node : ℕ). exists_below (λ a. (b : ℕ) × (b < r.states) × IsLongFirst r node a b) (letter node) r.states in
     ⊎_elim (λ h. inr (first_split rule h.0 h.2.0 h.2.2.0 h.1 h.2.1 h.2.2.1 h.2.2.2))
-    (λ none. inl ((IsRightAhead-some rule).1 (λ p f endless. none f.node f.in_nodes (
+    (λ none. inl ((some_ahead Right rule).1 (λ p f endless. none f.node f.in_nodes (
       f.a,
       f.a_letter,
       (
@@ -92,8 +94,8 @@ ahead_or_split {r} rule =
           f.different,
           (
             f.one_label,
-            (PairBegins-pair_of r (next r f.node f.a) (next r f.node f.b) (pair_count r) (next-below rule f.node f.b)).0
-                (subst (λ q. PairBegins r q (pair_count r)) f.pair (endless (pair_count r))),
+            (PairGoes-pair_of Right r (next r f.node f.a) (next r f.node f.b) (pair_count r) (next-below rule f.node f.b)).0
+                (subst (λ q. PairGoes Right r q (pair_count r)) f.pair (endless (pair_count r))),
           ),
         ),
       ),

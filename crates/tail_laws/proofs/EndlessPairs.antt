@@ -9,8 +9,10 @@ use Rattle.word_image.specs.Graphs.{pair_of, follow, pair_count}
 use Rattle.word_image.specs.Ranks.{BeginTogether, EndTogether}
 use Rattle.word_image.specs.Erasure.{IsFirstOfRight}
 use Rattle.pair_laws.proofs.Walks.{LeadTogether, LeadTogether-first, LeadTogether-last}
+use Rattle.word_image.specs.declared.side.Side.TheVariants.{Right}
+use Rattle.word_image.specs.Sides.{PairGoes}
 use Rattle.pair_laws.proofs.Ranks.{BeginTogether-walk, EndTogether-walk}
-use Rattle.pair_laws.proofs.Pairs.{PairBegins, pair_of-first_of}
+use Rattle.pair_laws.proofs.Pairs.{pair_of-first_of}
 use Rattle.pair_laws.proofs.Endless.{Loops-long}
 use Rattle.tail_config.specs.Tails.{TailConfig, IsTail, Different, cells}
 use Rattle.tail_config.specs.Splits.{IsNormalRightSplit}
@@ -74,7 +76,7 @@ abbrev pub HasNormalSplit : LocalRule → Type 0
 HasNormalSplit r = (x : TailConfig) × (y : TailConfig) × IsNormalRightSplit r x y
 
 -- a first pair that begins together for as long gives one
-pub normal_split-begins : {r : LocalRule} {p : ℕ} → IsRule r → IsFirstOfRight r p → PairBegins r p (pair_count r) → HasNormalSplit r
+pub normal_split-begins : {r : LocalRule} {p : ℕ} → IsRule r → IsFirstOfRight r p → PairGoes Right r p (pair_count r) → HasNormalSplit r
 normal_split-begins {r} {p} rule f h =
     let w : LeadsToLoop r p = subst (LeadsToLoop r) (pair_of-first_of r p) (LeadsToLoop-begin rule h) in
     (_, _, normal_split-loop rule f w)

@@ -5,6 +5,7 @@ pub mod Windows
 pub mod Graphs
 pub mod Ranks
 pub mod Erasure
+pub mod Sides
 pub mod RuleFaults
 pub mod ImageFaults
 pub mod RingFaults

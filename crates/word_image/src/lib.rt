@@ -23,7 +23,9 @@ mod images;
 mod letters;
 mod lists;
 mod local_rule;
+mod pairs;
 mod rings;
+mod side;
 mod weights;
 
 pub use images::{ImageFault, image};
@@ -31,6 +33,7 @@ pub use letters::{digit, letter, word_text};
 pub use lists::{FluxRow, RankRow, SetList, Word};
 pub use local_rule::{MOST_ENTRIES, Rule, RuleFault, check_shape};
 pub use rings::{RingFault, ring_apply, ring_image};
+pub use side::Side;
 pub use weights::{WeightFault, Weights};
 
 #[cfg(test)]

@@ -7,11 +7,11 @@ ghost use Rattle.ca_cli.specs.StatusLines.{accepted_lines, weights_lines, with_c
 
 use crate::lines::fault_kind;
 use crate::output::Output;
-use cert_check::{Refusal, Side, SplitCause, TwinCause, Verdicts};
+use cert_check::{Refusal, SplitCause, TwinCause, Verdicts};
 use cert_format::{Key, ShapeFault};
 use rule_text::{TextFault, print};
 use std::alloc::{AllocError, Global};
-use word_image::{Rule, Weights};
+use word_image::{Rule, Side, Weights};
 
 /// Appends the seven lines of an accepted certificate, and that of its weights.
 pub fn write_accepted(

@@ -7,8 +7,9 @@ use Rattle.std.proofs.lemmas.List.Elements.{All-push}
 use Rattle.word_image.specs.LocalRules.{LocalRule, word_of}
 use Rattle.word_image.specs.Rings.{ring_image}
 use Rattle.word_image.specs.Graphs.{full_set, first_of, second_of, pair_count}
-use Rattle.word_image.specs.Erasure.{IsFirstOfRight, IsFirstOfLeft}
-use Rattle.tail_config.specs.Tails.{TailConfig, Different, ShareImage, AgreeLeft, AgreeRight}
+use Rattle.word_image.specs.declared.side.Side.TheVariants as side
+use Rattle.word_image.specs.Sides.{IsFirstOf}
+use Rattle.tail_config.specs.Tails.{TailConfig, Different, ShareImage}
 use Rattle.cert_format.specs.Certificates.{Certificate}
 use Rattle.cert_check.specs.declared.conditions.Condition.{Condition}
 use Rattle.cert_check.specs.declared.conditions.Condition.TheVariants as condition
@@ -19,10 +20,11 @@ use Rattle.cert_check.specs.Breaches.{EachBelow, IsFirstBreach}
 use Rattle.cert_check.specs.Sets.{StepIsKept, LeadsTo}
 use Rattle.cert_check.specs.Pairs.{FirstIsListed, StepsAreListed}
 use Rattle.cert_check.specs.Windows.{IsWindowPair, IsAheadPair}
+use Rattle.cert_check.specs.Sides.{AgreeBehind, claims_on}
 use Rattle.cert_check.specs.Sums.{Flows, IsLossy}
 use Rattle.cert_check.specs.Conditions.{conditions, Holds, MeetsConditions, OfSets, OfPairs, OfOrphan, OfWindow, OfTwins, OfAhead, OfSplit, OfFlux, OfRing}
 use Rattle.cert_check.specs.Refusals.{IsBreach, IsTwinsBreach, IsSplitBreach, IsFirstUnmet}
-use Rattle.cert_check.specs.Refusals.IsBreach.{Forward, Backward, NoFull, Empty, NotClosed, NoFirst, Diagonal, Leaves, NoOrphan, NoWindow, NoTwins, NoRightAhead, NoRightSplit, NoLeftAhead, NoLeftSplit, NoFlux, NoRing}
+use Rattle.cert_check.specs.Refusals.IsBreach.{Rising, NoFull, Empty, NotClosed, NoFirst, Diagonal, Leaves, NoOrphan, NoWindow, NoTwins, NoAhead, NoSplit, NoFlux, NoRing}
 use Rattle.cert_check.specs.Refusals.IsTwinsBreach.{Length, Same as SameWords, Image as OtherRings}
 use Rattle.cert_check.specs.Refusals.IsSplitBreach.{Same as SameCells, Apart, Image as OtherImages}
 
@@ -42,8 +44,7 @@ split_fails (OtherImages _ _ none) h = none h.2
 
 -- a condition with a breach isn't met
 pub breach_fails : {c : Certificate} {one : Condition} {f : Refusal} → IsBreach c one f → ¬ Holds c one
-breach_fails (Forward p first) h = first_fails first h
-breach_fails (Backward p first) h = first_fails first h
+breach_fails (Rising side p first) h = first_fails first h
 breach_fails {c} (NoFull sets same other) h = other (subst (λ e. OfSets e (λ sets. Contains sets (full_set c.rule))) same h)
 breach_fails {c} (Empty sets i same first) h = first_fails first (subst (λ e. OfSets e (λ sets. EachBelow (length sets) (λ i. slice_index sets i ≢ 0))) same h)
 breach_fails {c} (NotClosed sets i a same first_set first_letter) h =
@@ -58,12 +59,9 @@ breach_fails {c} (NoWindow n at p same first) h =
     first_fails first (subst (λ e. OfWindow e (λ n at. EachBelow (pair_count c.rule) (IsWindowPair c.rule c.forward c.backward n at))) same h)
 breach_fails {c} (NoTwins x y cause same fails) h =
     twins_fail fails (subst (λ e. OfTwins e (λ x y. ((length x ≡ length y) × (1 ≤ length x)) × (x ≢ y) × (ring_image c.rule x ≡ ring_image c.rule y))) same h)
-breach_fails {c} (NoRightAhead n p same first) h =
-    first_fails first (subst (λ e. OfAhead e (λ n. EachBelow (pair_count c.rule) (IsAheadPair (IsFirstOfRight c.rule) c.forward n))) same h)
-breach_fails {c} (NoRightSplit x y cause same fails) h = split_fails fails (subst (λ e. OfSplit e (λ x y. Different x y × AgreeLeft x y × ShareImage c.rule x y)) same h)
-breach_fails {c} (NoLeftAhead n p same first) h =
-    first_fails first (subst (λ e. OfAhead e (λ n. EachBelow (pair_count c.rule) (IsAheadPair (IsFirstOfLeft c.rule) c.backward n))) same h)
-breach_fails {c} (NoLeftSplit x y cause same fails) h = split_fails fails (subst (λ e. OfSplit e (λ x y. Different x y × AgreeRight x y × ShareImage c.rule x y)) same h)
+breach_fails {c} (NoAhead side n p same first) h =
+    first_fails first (subst (λ e. OfAhead e (λ n. EachBelow (pair_count c.rule) (IsAheadPair (IsFirstOf side c.rule) (claims_on c side) n))) same h)
+breach_fails {c} (NoSplit side x y cause same fails) h = split_fails fails (subst (λ e. OfSplit e (λ x y. Different x y × AgreeBehind side x y × ShareImage c.rule x y)) same h)
 breach_fails {c} (NoFlux phi v same first) h =
     first_fails first (subst (λ e. OfFlux e (λ phi. EachBelow (c.rule.states ^ c.rule.width) (λ v. Flows (slice_index c.weights) c.rule phi (word_of c.rule.states c.rule.width v)))) same h)
 breach_fails {c} (NoRing p same other) h = other (subst (λ e. OfRing e (IsLossy (slice_index c.weights) c.rule)) same h)
@@ -94,20 +92,20 @@ All-more P xs i d inside before here = subst (All P) (sym (take_more xs i d insi
 
 -- where each condition of the list is met, all are
 pub MeetsConditions-all : (c : Certificate) → All (Holds c) conditions → MeetsConditions c
-MeetsConditions-all c all condition.ForwardClaims = all 0 condition.ForwardClaims (omega arith)
-MeetsConditions-all c all condition.BackwardClaims = all 1 condition.ForwardClaims (omega arith)
-MeetsConditions-all c all condition.FullListed = all 2 condition.ForwardClaims (omega arith)
-MeetsConditions-all c all condition.NoneEmpty = all 3 condition.ForwardClaims (omega arith)
-MeetsConditions-all c all condition.Closed = all 4 condition.ForwardClaims (omega arith)
-MeetsConditions-all c all condition.FirstsListed = all 5 condition.ForwardClaims (omega arith)
-MeetsConditions-all c all condition.OffDiagonal = all 6 condition.ForwardClaims (omega arith)
-MeetsConditions-all c all condition.PairsClosed = all 7 condition.ForwardClaims (omega arith)
-MeetsConditions-all c all condition.OrphanRead = all 8 condition.ForwardClaims (omega arith)
-MeetsConditions-all c all condition.WindowClaims = all 9 condition.ForwardClaims (omega arith)
-MeetsConditions-all c all condition.TwinsAlike = all 10 condition.ForwardClaims (omega arith)
-MeetsConditions-all c all condition.RightAhead = all 11 condition.ForwardClaims (omega arith)
-MeetsConditions-all c all condition.RightSplit = all 12 condition.ForwardClaims (omega arith)
-MeetsConditions-all c all condition.LeftAhead = all 13 condition.ForwardClaims (omega arith)
-MeetsConditions-all c all condition.LeftSplit = all 14 condition.ForwardClaims (omega arith)
-MeetsConditions-all c all condition.FluxFlows = all 15 condition.ForwardClaims (omega arith)
-MeetsConditions-all c all condition.RingLossy = all 16 condition.ForwardClaims (omega arith)
+MeetsConditions-all c all (condition.SideClaims side.Right) = all 0 condition.FullListed (omega arith)
+MeetsConditions-all c all (condition.SideClaims side.Left) = all 1 condition.FullListed (omega arith)
+MeetsConditions-all c all condition.FullListed = all 2 condition.FullListed (omega arith)
+MeetsConditions-all c all condition.NoneEmpty = all 3 condition.FullListed (omega arith)
+MeetsConditions-all c all condition.Closed = all 4 condition.FullListed (omega arith)
+MeetsConditions-all c all condition.FirstsListed = all 5 condition.FullListed (omega arith)
+MeetsConditions-all c all condition.OffDiagonal = all 6 condition.FullListed (omega arith)
+MeetsConditions-all c all condition.PairsClosed = all 7 condition.FullListed (omega arith)
+MeetsConditions-all c all condition.OrphanRead = all 8 condition.FullListed (omega arith)
+MeetsConditions-all c all condition.WindowClaims = all 9 condition.FullListed (omega arith)
+MeetsConditions-all c all condition.TwinsAlike = all 10 condition.FullListed (omega arith)
+MeetsConditions-all c all (condition.SideAhead side.Right) = all 11 condition.FullListed (omega arith)
+MeetsConditions-all c all (condition.SideSplit side.Right) = all 12 condition.FullListed (omega arith)
+MeetsConditions-all c all (condition.SideAhead side.Left) = all 13 condition.FullListed (omega arith)
+MeetsConditions-all c all (condition.SideSplit side.Left) = all 14 condition.FullListed (omega arith)
+MeetsConditions-all c all condition.FluxFlows = all 15 condition.FullListed (omega arith)
+MeetsConditions-all c all condition.RingLossy = all 16 condition.FullListed (omega arith)

@@ -4,10 +4,13 @@ use Rattle.std.proofs.lemmas.Bool.{false≢true}
 use Rattle.std.specs.Prelude.{◌↔◌, IsTrue}
 use Rattle.word_image.specs.LocalRules.{LocalRule, IsRule, IsWord}
 use Rattle.word_image.specs.Rings.{ring_image, IsTwins}
-use Rattle.word_image.specs.Windows.{IsDetermined, IsRightAhead, IsLeftAhead}
+use Rattle.word_image.specs.Windows.{IsDetermined, IsRightAhead}
 use Rattle.word_image.specs.Graphs.{pair_count}
 use Rattle.word_image.specs.Erasure.{IsFirstOfRight, IsFirstOfLeft}
-use Rattle.pair_laws.proofs.Evidence.{IsDetermined-claims, IsRightAhead-claims, IsLeftAhead-claims}
+use Rattle.word_image.specs.declared.side.Side.{Side}
+use Rattle.word_image.specs.declared.side.Side.TheVariants.{Right, Left}
+use Rattle.word_image.specs.Sides.{IsFirstOf, seen_from}
+use Rattle.pair_laws.proofs.Evidence.{IsDetermined-claims, ahead-claims}
 use Rattle.tail_config.specs.Tails.{TailConfig, Different, ShareImage, AgreeLeft, AgreeRight, IsInjective, IsRightSplit, IsLeftSplit, IsRightClosing, IsLeftClosing}
 use Rattle.tail_config.specs.TailTexts.{IsShortTail}
 use Rattle.tail_laws.proofs.Injective.{IsInjective-determined}
@@ -20,18 +23,14 @@ use Rattle.cert_format.specs.Certificates.{IsInjectiveShape, IsSideShape}
 use Rattle.cert_format.specs.Evidence.InjectiveEvidence.{Window, Twins}
 use Rattle.cert_format.specs.Evidence.SideEvidence.{Ahead, Split}
 use Rattle.cert_check.specs.Breaches.{EachBelow}
-use Rattle.cert_check.specs.Claims.{claim, IsForwardClaim, IsBackwardClaim}
+use Rattle.cert_check.specs.Claims.{claim, Falls}
 use Rattle.cert_check.specs.Windows.{IsWindowPair, IsAheadPair}
 use Rattle.cert_check.specs.Conditions.{OfWindow, OfTwins, OfAhead, OfSplit}
 use Rattle.cert_check.specs.Accepted.{says_injective, says_closing}
 
--- the claims of each pair fall forward
-abbrev pub ClaimForward : LocalRule → List (Option ℕ) → Type 0
-ClaimForward r row = EachBelow (pair_count r) (IsForwardClaim r row)
-
--- and backward
-abbrev pub ClaimBackward : LocalRule → List (Option ℕ) → Type 0
-ClaimBackward r row = EachBelow (pair_count r) (IsBackwardClaim r row)
+-- the claim of each pair falls
+abbrev pub AllFall : Side → LocalRule → List (Option ℕ) → Type 0
+AllFall side r row = EachBelow (pair_count r) (Falls side r row)
 
 -- two configurations that differ, agree on a side, and share an image
 abbrev pub AreApart : (TailConfig → TailConfig → Type 0) → LocalRule → TailConfig → TailConfig → Type 0
@@ -42,19 +41,14 @@ abbrev pub AreAlike : LocalRule → List ℕ → List ℕ → Type 0
 AreAlike r x y = ((length x ≡ length y) × (1 ≤ length x)) × (x ≢ y) × (ring_image r x ≡ ring_image r y)
 
 -- a window that is claimed is determined
-pub IsDetermined-claimed : {r : LocalRule} → IsRule r → (forward backward : List (Option ℕ)) → ClaimForward r forward → ClaimBackward r backward → (n c : ℕ)
+pub IsDetermined-claimed : {r : LocalRule} → IsRule r → (forward backward : List (Option ℕ)) → AllFall Right r forward → AllFall Left r backward → (n c : ℕ)
     → IsInjectiveShape r (Window n c) → EachBelow (pair_count r) (IsWindowPair r forward backward n c) → IsDetermined r n c
 IsDetermined-claimed rule forward backward falls back n c shape pairs = IsDetermined-claims {forward = claim forward} {backward = claim backward} rule falls back n c shape.0 shape.2 pairs
 
--- a right look-ahead that is claimed is one
-pub IsRightAhead-claimed : {r : LocalRule} → IsRule r → (forward : List (Option ℕ)) → ClaimForward r forward → (n : ℕ) → IsSideShape r (Ahead n)
-    → EachBelow (pair_count r) (IsAheadPair (IsFirstOfRight r) forward n) → IsRightAhead r n
-IsRightAhead-claimed rule forward falls n shape pairs = IsRightAhead-claims {forward = claim forward} rule falls n shape.0 pairs
-
--- a left look-ahead that is claimed is one
-pub IsLeftAhead-claimed : {r : LocalRule} → IsRule r → (backward : List (Option ℕ)) → ClaimBackward r backward → (n : ℕ) → IsSideShape r (Ahead n)
-    → EachBelow (pair_count r) (IsAheadPair (IsFirstOfLeft r) backward n) → IsLeftAhead r n
-IsLeftAhead-claimed rule backward back n shape pairs = IsLeftAhead-claims {backward = claim backward} rule back n shape.0 pairs
+-- a look-ahead that is claimed is one
+pub ahead-claimed : (side : Side) {r : LocalRule} → IsRule r → (row : List (Option ℕ)) → AllFall side r row → (n : ℕ) → IsSideShape r (Ahead n)
+    → EachBelow (pair_count r) (IsAheadPair (IsFirstOf side r) row n) → IsRightAhead (seen_from side r) n
+ahead-claimed side rule row falls n shape pairs = ahead-claims side {claim = claim row} rule falls n shape.0 pairs
 
 -- words that are alike are twins
 pub IsTwins-alike : {r : LocalRule} {x y : List ℕ} → IsWord r.states x → IsWord r.states y → AreAlike r x y → IsTwins r x y
@@ -76,22 +70,22 @@ pub IsLeftSplit-apart : {r : LocalRule} {x y : TailConfig} → IsShortTail r.sta
 IsLeftSplit-apart hx hy apart = record { first = hx.tail; second = hy.tail; different = apart.0; share = apart.2; agree = apart.1 }
 
 -- what is said of injectivity is true where its conditions are met
-pub IsInjective-said : {r : LocalRule} → IsRule r → (forward backward : List (Option ℕ)) → ClaimForward r forward → ClaimBackward r backward
+pub IsInjective-said : {r : LocalRule} → IsRule r → (forward backward : List (Option ℕ)) → AllFall Right r forward → AllFall Left r backward
     → (e : InjectiveEvidence) → IsInjectiveShape r e → OfWindow e (λ n c. EachBelow (pair_count r) (IsWindowPair r forward backward n c)) → OfTwins e (AreAlike r)
     → IsTrue (says_injective e) ↔ IsInjective r
 IsInjective-said rule forward backward falls back (Window n c) shape pairs alike = ((λ _. IsInjective-determined rule (IsDetermined-claimed rule forward backward falls back n c shape pairs)), (λ _. refl))
 IsInjective-said {r} rule forward backward falls back (Twins x y) shape pairs alike = ((λ no. absurd (false≢true no)), (λ injective. absurd (no_twins (IsTwins-alike {r = r} shape.0 shape.1 alike) injective)))
 
 -- of closing on the right
-pub IsRightClosing-said : {r : LocalRule} → IsRule r → (forward : List (Option ℕ)) → ClaimForward r forward → (e : SideEvidence) → IsSideShape r e
+pub IsRightClosing-said : {r : LocalRule} → IsRule r → (forward : List (Option ℕ)) → AllFall Right r forward → (e : SideEvidence) → IsSideShape r e
     → OfAhead e (λ n. EachBelow (pair_count r) (IsAheadPair (IsFirstOfRight r) forward n)) → OfSplit e (AreApart AgreeLeft r) → IsTrue (says_closing e) ↔ IsRightClosing r
-IsRightClosing-said rule forward falls (Ahead n) shape pairs apart = ((λ _. IsRightClosing-ahead rule (IsRightAhead-claimed rule forward falls n shape pairs)), (λ _. refl))
+IsRightClosing-said rule forward falls (Ahead n) shape pairs apart = ((λ _. IsRightClosing-ahead rule (ahead-claimed Right rule forward falls n shape pairs)), (λ _. refl))
 IsRightClosing-said {r} rule forward falls (Split x y) shape pairs apart =
     ((λ no. absurd (false≢true no)), (λ closing. absurd ((IsRightClosing-none r).0 closing x y (IsRightSplit-apart shape.0 shape.1 apart))))
 
 -- of closing on the left
-pub IsLeftClosing-said : {r : LocalRule} → IsRule r → (backward : List (Option ℕ)) → ClaimBackward r backward → (e : SideEvidence) → IsSideShape r e
+pub IsLeftClosing-said : {r : LocalRule} → IsRule r → (backward : List (Option ℕ)) → AllFall Left r backward → (e : SideEvidence) → IsSideShape r e
     → OfAhead e (λ n. EachBelow (pair_count r) (IsAheadPair (IsFirstOfLeft r) backward n)) → OfSplit e (AreApart AgreeRight r) → IsTrue (says_closing e) ↔ IsLeftClosing r
-IsLeftClosing-said rule backward back (Ahead n) shape pairs apart = ((λ _. IsLeftClosing-ahead rule (IsLeftAhead-claimed rule backward back n shape pairs)), (λ _. refl))
+IsLeftClosing-said rule backward back (Ahead n) shape pairs apart = ((λ _. IsLeftClosing-ahead rule (ahead-claimed Left rule backward back n shape pairs)), (λ _. refl))
 IsLeftClosing-said {r} rule backward back (Split x y) shape pairs apart =
     ((λ no. absurd (false≢true no)), (λ closing. absurd ((IsLeftClosing-none r).0 closing x y (IsLeftSplit-apart shape.0 shape.1 apart))))

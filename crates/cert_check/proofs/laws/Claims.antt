@@ -7,9 +7,10 @@ use Rattle.word_image.specs.Graphs.{next, label, follow, pair_of, first_of, seco
 use Rattle.word_image.proofs.laws.Graphs.{node_count_pos, next-below}
 use Rattle.word_image.proofs.laws.WindowParts.{some_letter}
 use Rattle.pair_laws.proofs.Pairs.{first_of-pair_of, second_of-pair_of, pair_of-first_of, pair_of-below, first_of-below, second_of-below, follow-pair_of, follow-some}
-use Rattle.cert_check.specs.declared.refusal.Side.{Side}
-use Rattle.cert_check.specs.declared.refusal.Side.TheVariants.{Right, Left}
-use Rattle.cert_check.specs.Claims.{claim, IsBelow, Falls, FallsBy, window_with}
+use Rattle.word_image.specs.declared.side.Side.{Side}
+use Rattle.word_image.specs.declared.side.Side.TheVariants.{Right, Left}
+use Rattle.word_image.specs.Sides.{window_with}
+use Rattle.cert_check.specs.Claims.{claim, IsBelow, Falls, FallsBy}
 
 -- on each letter of the first node and each of the second less than n is claimed
 abbrev pub FallsByAll : Side → LocalRule → List (Option ℕ) → ℕ → ℕ → Type 0
@@ -27,28 +28,29 @@ node_before {r} rule s a node letter =
 
 -- where nothing is claimed, the claim falls
 pub Falls-none : (side : Side) (r : LocalRule) (row : List (Option ℕ)) (p : ℕ) → claim row p ≡ None → Falls side r row p
-Falls-none Right r row p none = λ n a b q has _ _ _. absurd (none-some n (sym none ∙ has))
-Falls-none Left r row p none = λ n a b q has _ _ _ _. absurd (none-some n (sym none ∙ has))
+Falls-none side r row p none = λ n q has _. absurd (none-some n (sym none ∙ has))
 
 -- a claim that falls by all windows falls
 pub Falls-windows : (side : Side) {r : LocalRule} → IsRule r → (row : List (Option ℕ)) (p n : ℕ) → claim row p ≡ Some n → FallsByAll side r row p n → p < pair_count r → Falls side r row p
-Falls-windows Right {r} rule row p n has falls in_p = λ m a b q has_m in_a in_b leads.
-    let edges = follow-some r p a b q leads in
-    subst (IsBelow row q) (same_Some n m (sym has ∙ has_m)) (subst (λ x. IsBelow row x n) edges.1 (falls a b in_a in_b edges.0))
-Falls-windows Left {r} rule row q n has falls in_q = λ m c d p has_m in_p in_c in_d leads.
+Falls-windows Right {r} rule row p n has falls in_p = λ m q has_m s.
+    let edges = follow-some r p s.a s.b q s.follows in
+    subst (IsBelow row q) (same_Some n m (sym has ∙ has_m)) (subst (λ x. IsBelow row x n) edges.1 (falls s.a s.b s.a_letter s.b_letter edges.0))
+Falls-windows Left {r} rule row q n has falls in_q = λ m p has_m s.
+    let c : ℕ = s.a in
+    let d : ℕ = s.b in
     let u : ℕ = first_of r p in
     let v : ℕ = second_of r p in
-    let edges = follow-some r p c d q leads in
+    let edges = follow-some r p c d q s.follows in
     let x : ℕ = u * r.states + c in
     let y : ℕ = v * r.states + d in
     let first : x % node_count r ≡ first_of r q = sym (first_of-pair_of r (next r u c) (next r v d) (next-below rule v d)) ∙ ap (first_of r) edges.1 in
     let second : y % node_count r ≡ second_of r q = sym (second_of-pair_of r (next r u c) (next r v d) (next-below rule v d)) ∙ ap (second_of r) edges.1 in
     let at_x : window_with Left r (first_of r q) (x / node_count r) ≡ x = ap (λ s. (x / node_count r) * node_count r + s) (sym first) ∙ div-add-mod' x (node_count r) in
     let at_y : window_with Left r (second_of r q) (y / node_count r) ≡ y = ap (λ s. (y / node_count r) * node_count r + s) (sym second) ∙ div-add-mod' y (node_count r) in
-    let below = falls (x / node_count r) (y / node_count r) (first_letter rule u c (first_of-below rule p in_p) in_c) (first_letter rule v d (second_of-below rule p) in_d)
+    let below = falls (x / node_count r) (y / node_count r) (first_letter rule u c (first_of-below rule p s.in_pairs) s.a_letter) (first_letter rule v d (second_of-below rule p) s.b_letter)
     (ap (slice_index r.table) at_x ∙ edges.0 ∙ ap (slice_index r.table) (sym at_y)) in
     let pair : pair_of r (window_with Left r (first_of r q) (x / node_count r) / r.states) (window_with Left r (second_of r q) (y / node_count r) / r.states) ≡ p =
-    ap₂ (λ (i j : ℕ). pair_of r (i / r.states) (j / r.states)) at_x at_y ∙ ap₂ (pair_of r) (div-mul-add u r.states c in_c) (div-mul-add v r.states d in_d) ∙ pair_of-first_of r p in
+    ap₂ (λ (i j : ℕ). pair_of r (i / r.states) (j / r.states)) at_x at_y ∙ ap₂ (pair_of r) (div-mul-add u r.states c s.a_letter) (div-mul-add v r.states d s.b_letter) ∙ pair_of-first_of r p in
     subst (IsBelow row p) (same_Some n m (sym has ∙ has_m)) (subst (λ z. IsBelow row z n) pair below)
 
 -- and a claim that falls falls by all windows
@@ -56,8 +58,8 @@ pub FallsByAll-falls : (side : Side) {r : LocalRule} → IsRule r → (row : Lis
 FallsByAll-falls Right {r} rule row p n has in_p falls a b in_a in_b one_label =
     let u : ℕ = first_of r p in
     let v : ℕ = second_of r p in
-    falls n a b (pair_of r (next r u a) (next r v b)) has in_a in_b
-    (ap (λ z. follow r z a b) (sym (pair_of-first_of r p)) ∙ follow-pair_of r u v a b (second_of-below rule p) one_label)
+    falls n (pair_of r (next r u a) (next r v b)) has
+    (record { a = a; b = b; in_pairs = in_p; a_letter = in_a; b_letter = in_b; follows = ap (λ z. follow r z a b) (sym (pair_of-first_of r p)) ∙ follow-pair_of r u v a b (second_of-below rule p) one_label })
 FallsByAll-falls Left {r} rule row q n has in_q falls a b in_a in_b one_label =
     let s : ℕ = first_of r q in
     let t : ℕ = second_of r q in
@@ -70,7 +72,12 @@ FallsByAll-falls Left {r} rule row q n has in_q falls a b in_a in_b one_label =
     ap (slice_index r.table) (split x) ∙ one_label ∙ ap (slice_index r.table) (sym (split y)) in
     let leads : (w c z : ℕ) → w ≡ c * node_count r + z → z < node_count r → next r (w / r.states) (w % r.states) ≡ z = λ w c z is node.
     ap (λ i. i % node_count r) (split w ∙ is) ∙ mod-mul-add c (node_count r) z node in
-    falls n (x % r.states) (y % r.states) (pair_of r (x / r.states) (y / r.states)) has (pair_of-below r (x / r.states) (y / r.states) in_x in_y)
-    (mod-lt x (some_letter rule)) (mod-lt y (some_letter rule))
-    (follow-pair_of r (x / r.states) (y / r.states) (x % r.states) (y % r.states) in_y labels
-    ∙ ap₂ (λ (i j : ℕ). Some (pair_of r i j)) (leads x a s refl (first_of-below rule q in_q)) (leads y b t refl (second_of-below rule q)) ∙ ap Some (pair_of-first_of r q))
+    falls n (pair_of r (x / r.states) (y / r.states)) has (record {
+      a = x % r.states;
+      b = y % r.states;
+      in_pairs = pair_of-below r (x / r.states) (y / r.states) in_x in_y;
+      a_letter = mod-lt x (some_letter rule);
+      b_letter = mod-lt y (some_letter rule);
+      follows = follow-pair_of r (x / r.states) (y / r.states) (x % r.states) (y % r.states) in_y labels
+          ∙ ap₂ (λ (i j : ℕ). Some (pair_of r i j)) (leads x a s refl (first_of-below rule q in_q)) (leads y b t refl (second_of-below rule q)) ∙ ap Some (pair_of-first_of r q);
+    })

@@ -4,16 +4,17 @@ use Rattle.std.proofs.lemmas.List.Elements.{Contains-get_or}
 use Rattle.word_image.specs.LocalRules.{LocalRule, IsRule, word_of}
 use Rattle.word_image.specs.Words.{IsSurjective, IsOrphan}
 use Rattle.word_image.specs.Rings.{IsTwins, IsFlux, IsLossyRing}
-use Rattle.word_image.specs.Windows.{IsDetermined, IsRightAhead, IsLeftAhead}
+use Rattle.word_image.specs.Windows.{IsDetermined, IsRightAhead}
 use Rattle.word_image.specs.Graphs.{IsStep, full_set, pair_count}
-use Rattle.word_image.specs.Erasure.{IsFirstOfRight, IsFirstOfLeft}
+use Rattle.word_image.specs.declared.side.Side.{Side}
+use Rattle.word_image.specs.declared.side.Side.TheVariants.{Right, Left}
+use Rattle.word_image.specs.Sides.{IsFirstOf, seen_from}
 use Rattle.word_image.specs.Ranks.{IsLastSet}
 use Rattle.word_image.proofs.laws.LastSets.{IsLastSet-full, IsLastSet-step, IsOrphan-empty_set, IsOrphan-not_surjective}
 use Rattle.search_laws.specs.SearchQueues.Leads.{Here, On}
 use Rattle.search_laws.proofs.StepSets.{LeadsToSet, LeadsToSet-last, IsLastSet-orphan, IsStep-some}
-use Rattle.pair_laws.proofs.Pairs.{PairBegins, PairEnds}
-use Rattle.pair_laws.proofs.Claims.{ClaimsRanks, FallsForward-ranks, FallsBackward-ranks}
-use Rattle.pair_laws.proofs.Evidence.{IsClaimedApart-ranks, IsRightAhead-ranks, IsLeftAhead-ranks}
+use Rattle.pair_laws.proofs.Claims.{ClaimsRanks, FallsOn-ranks}
+use Rattle.pair_laws.proofs.Evidence.{IsClaimedApart-ranks, ahead-ranks}
 use Rattle.ring_laws.proofs.FluxWindows.{Flows-flux}
 use Rattle.tail_config.specs.Tails.{TailConfig, AgreeLeft, AgreeRight, IsRightSplit, IsLeftSplit}
 use Rattle.cert_format.specs.declared.cert_version.CertVersion.TheVariants.{One}
@@ -23,7 +24,7 @@ use Rattle.cert_check.specs.Sets.{StepIsKept, LeadsTo}
 use Rattle.cert_check.specs.Sets.LeadsTo.{Stays, Steps}
 use Rattle.cert_check.specs.Sums.{Flows, IsLossy}
 use Rattle.cert_check.specs.Windows.{IsWindowPair, IsAheadPair}
-use Rattle.cert_check.proofs.laws.ClaimConditions.{ClaimForward, ClaimBackward, AreApart, AreAlike}
+use Rattle.cert_check.proofs.laws.ClaimConditions.{AllFall, AreApart, AreAlike}
 use Rattle.cert_check.proofs.laws.WindowFlows.{Flows-value}
 
 -- the list has the last nodes of each word, and no other set
@@ -66,28 +67,19 @@ LeadsTo-last rule last = LeadsTo-leads (LeadsToSet-last rule last)
 pub LeadsTo-orphan : {r : LocalRule} {w : List ℕ} → IsRule r → IsOrphan r w → LeadsTo r (full_set r) w 0
 LeadsTo-orphan rule orphan = LeadsTo-last rule (IsLastSet-orphan rule orphan)
 
--- the exact ranks fall forward
-pub ClaimForward-ranks : {r : LocalRule} → IsRule r → (row : List (Option ℕ)) → ClaimsRanks r (PairBegins r) (claim row) → ClaimForward r row
-ClaimForward-ranks rule row ranks = FallsForward-ranks rule (claim row) ranks
-
--- and backward
-pub ClaimBackward-ranks : {r : LocalRule} → IsRule r → (row : List (Option ℕ)) → ClaimsRanks r (PairEnds r) (claim row) → ClaimBackward r row
-ClaimBackward-ranks rule row ranks = FallsBackward-ranks rule (claim row) ranks
+-- the exact ranks fall
+pub AllFall-ranks : (side : Side) {r : LocalRule} → IsRule r → (row : List (Option ℕ)) → ClaimsRanks side r (claim row) → AllFall side r row
+AllFall-ranks side rule row ranks = FallsOn-ranks side rule (claim row) ranks
 
 -- with the exact ranks a determined window is claimed
-pub IsWindowPair-determined : {r : LocalRule} → IsRule r → (forward backward : List (Option ℕ)) → ClaimsRanks r (PairBegins r) (claim forward) → ClaimsRanks r (PairEnds r) (claim backward)
+pub IsWindowPair-determined : {r : LocalRule} → IsRule r → (forward backward : List (Option ℕ)) → ClaimsRanks Right r (claim forward) → ClaimsRanks Left r (claim backward)
     → (n c : ℕ) → IsDetermined r n c → EachBelow (pair_count r) (IsWindowPair r forward backward n c)
 IsWindowPair-determined rule forward backward ranks back n c determined = IsClaimedApart-ranks rule (claim forward) (claim backward) ranks back n c determined
 
--- so is a right look-ahead
-pub IsAheadPair-right : {r : LocalRule} → IsRule r → (forward : List (Option ℕ)) → ClaimsRanks r (PairBegins r) (claim forward) → (n : ℕ) → IsRightAhead r n
-    → EachBelow (pair_count r) (IsAheadPair (IsFirstOfRight r) forward n)
-IsAheadPair-right rule forward ranks n ahead p l first = IsRightAhead-ranks rule (claim forward) ranks n ahead p first
-
--- and a left one
-pub IsAheadPair-left : {r : LocalRule} → IsRule r → (backward : List (Option ℕ)) → ClaimsRanks r (PairEnds r) (claim backward) → (n : ℕ) → IsLeftAhead r n
-    → EachBelow (pair_count r) (IsAheadPair (IsFirstOfLeft r) backward n)
-IsAheadPair-left rule backward back n ahead p l first = IsLeftAhead-ranks rule (claim backward) back n ahead p first
+-- so is a look-ahead
+pub IsAheadPair-ranks : (side : Side) {r : LocalRule} → IsRule r → (row : List (Option ℕ)) → ClaimsRanks side r (claim row) → (n : ℕ) → IsRightAhead (seen_from side r) n
+    → EachBelow (pair_count r) (IsAheadPair (IsFirstOf side r) row n)
+IsAheadPair-ranks side rule row ranks n ahead p l first = ahead-ranks side rule (claim row) ranks n ahead p first
 
 -- twins are alike
 pub AreAlike-twins : {r : LocalRule} {x y : List ℕ} → IsTwins r x y → AreAlike r x y

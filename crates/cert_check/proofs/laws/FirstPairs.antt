@@ -8,10 +8,11 @@ use Rattle.word_image.proofs.laws.Values.{value-word_of}
 use Rattle.word_image.proofs.laws.Graphs.{next-below}
 use Rattle.word_image.proofs.laws.WindowParts.{rest_count, power-below, node_count-rest, window_parts, node_parts}
 use Rattle.pair_laws.proofs.Pairs.{first_of-pair_of, second_of-pair_of, pair_of-first_of, first_of-below, second_of-below}
-use Rattle.cert_check.specs.declared.refusal.Side.{Side}
-use Rattle.cert_check.specs.declared.refusal.Side.TheVariants.{Right, Left}
-use Rattle.cert_check.specs.Claims.{window_with}
-use Rattle.cert_check.specs.Sides.{IsFirstOf, other, rest_of}
+use Rattle.word_image.specs.declared.side.Side.{Side}
+use Rattle.word_image.specs.declared.side.Side.TheVariants.{Right, Left}
+use Rattle.word_image.specs.Sides.{window_with}
+use Rattle.word_image.specs.Sides.{IsFirstOf, other}
+use Rattle.cert_check.specs.Sides.{rest_of}
 
 -- some letter on this side of two nodes makes windows with one label of them
 abbrev pub HaveOneLabel : Side → LocalRule → ℕ → ℕ → Type 0

@@ -3,24 +3,24 @@ use Rattle.std.proofs.Common.{◌≡◌, ◌≢◌, refl, ap, ap₂, subst, subs
 use Rattle.std.proofs.lemmas.Bool.{cases_lt}
 use Rattle.word_image.specs.LocalRules.{LocalRule, word_of}
 use Rattle.word_image.specs.Graphs.{first_of, second_of, pair_count}
-use Rattle.word_image.specs.Erasure.{IsFirstOfRight, IsFirstOfLeft}
-use Rattle.tail_config.specs.Tails.{TailConfig, AgreeLeft, AgreeRight}
+use Rattle.tail_config.specs.Tails.{TailConfig}
 use Rattle.cert_format.specs.Certificates.{Certificate}
 use Rattle.cert_format.proofs.laws.ShapeFaults.{IsFirstWithout-unique}
 use Rattle.cert_check.specs.declared.conditions.Condition.{Condition}
-use Rattle.cert_check.specs.declared.refusal.Side.TheVariants as side
+use Rattle.word_image.specs.Sides.{IsFirstOf}
 use Rattle.cert_check.specs.declared.refusal.TwinCause.{TwinCause}
 use Rattle.cert_check.specs.declared.refusal.SplitCause.{SplitCause}
 use Rattle.cert_check.specs.declared.refusal.Refusal.{Refusal}
 use Rattle.cert_check.specs.declared.refusal.Refusal.TheVariants as refusal
 use Rattle.cert_check.specs.Breaches.{EachBelow, IsFirstBreach}
-use Rattle.cert_check.specs.Claims.{IsForwardClaim, IsBackwardClaim}
+use Rattle.cert_check.specs.Claims.{Falls}
 use Rattle.cert_check.specs.Sets.{StepIsKept}
 use Rattle.cert_check.specs.Pairs.{FirstIsListed, StepIsListed, StepsAreListed, IsFirstLeaving}
 use Rattle.cert_check.specs.Windows.{IsWindowPair, IsAheadPair}
+use Rattle.cert_check.specs.Sides.{AgreeBehind, claims_on}
 use Rattle.cert_check.specs.Sums.{Flows}
 use Rattle.cert_check.specs.Refusals.{IsBreach, IsTwinsBreach, IsSplitBreach, IsFirstUnmet}
-use Rattle.cert_check.specs.Refusals.IsBreach.{Forward, Backward, NoFull, Empty, NotClosed, NoFirst, Diagonal, Leaves, NoOrphan, NoWindow, NoTwins, NoRightAhead, NoRightSplit, NoLeftAhead, NoLeftSplit, NoFlux, NoRing}
+use Rattle.cert_check.specs.Refusals.IsBreach.{Rising, NoFull, Empty, NotClosed, NoFirst, Diagonal, Leaves, NoOrphan, NoWindow, NoTwins, NoAhead, NoSplit, NoFlux, NoRing}
 use Rattle.cert_check.specs.Refusals.IsTwinsBreach.{Length, Same as SameWords, Image as OtherRings}
 use Rattle.cert_check.specs.Refusals.IsSplitBreach.{Same as SameCells, Apart, Image as OtherImages}
 
@@ -64,8 +64,7 @@ one_leaving {r} {pairs} {p} {a} {b} {d} {e} h k =
 
 -- what is said of a condition is one
 one_said : {c : Certificate} {one : Condition} {f g : Refusal} → IsBreach c one f → IsBreach c one g → f ≡ g
-one_said {c} (Forward p h) (Forward q k) = ap (refusal.Rank side.Right) (one_breach (pair_count c.rule) (IsForwardClaim c.rule c.forward) p q h k)
-one_said {c} (Backward p h) (Backward q k) = ap (refusal.Rank side.Left) (one_breach (pair_count c.rule) (IsBackwardClaim c.rule c.backward) p q h k)
+one_said {c} (Rising side p h) (Rising _ q k) = ap (refusal.Rank side) (one_breach (pair_count c.rule) (Falls side c.rule (claims_on c side)) p q h k)
 one_said (NoFull _ _ _) (NoFull _ _ _) = refl
 one_said {c} (Empty s i p h) (Empty t j q k) =
     let same : s ≡ t = cc in
@@ -101,22 +100,14 @@ one_said {c} (NoTwins x y a s h) (NoTwins u v b t k) =
     let first : x ≡ u = cc in
     let second : y ≡ v = cc in
     ap refusal.Twins (one_twin_cause (subst₂ (λ (x y : List ℕ). IsTwinsBreach c.rule x y a) first second h) k)
-one_said {c} (NoRightAhead n p s h) (NoRightAhead m q t k) =
+one_said {c} (NoAhead side n p s h) (NoAhead _ m q t k) =
     let same : n ≡ m = cc in
-    ap (refusal.Ahead side.Right)
-    (one_breach (pair_count c.rule) (IsAheadPair (IsFirstOfRight c.rule) c.forward m) p q (subst (λ n. IsFirstBreach (pair_count c.rule) (IsAheadPair (IsFirstOfRight c.rule) c.forward n) p) same h) k)
-one_said {c} (NoRightSplit x y a s h) (NoRightSplit u v b t k) =
+    let Claimed = λ (n : ℕ). IsAheadPair (IsFirstOf side c.rule) (claims_on c side) n in
+    ap (refusal.Ahead side) (one_breach (pair_count c.rule) (Claimed m) p q (subst (λ n. IsFirstBreach (pair_count c.rule) (Claimed n) p) same h) k)
+one_said {c} (NoSplit side x y a s h) (NoSplit _ u v b t k) =
     let first : x ≡ u = cc in
     let second : y ≡ v = cc in
-    ap (refusal.Split side.Right) (one_split_cause (subst₂ (λ (x y : TailConfig). IsSplitBreach c.rule AgreeLeft x y a) first second h) k)
-one_said {c} (NoLeftAhead n p s h) (NoLeftAhead m q t k) =
-    let same : n ≡ m = cc in
-    ap (refusal.Ahead side.Left)
-    (one_breach (pair_count c.rule) (IsAheadPair (IsFirstOfLeft c.rule) c.backward m) p q (subst (λ n. IsFirstBreach (pair_count c.rule) (IsAheadPair (IsFirstOfLeft c.rule) c.backward n) p) same h) k)
-one_said {c} (NoLeftSplit x y a s h) (NoLeftSplit u v b t k) =
-    let first : x ≡ u = cc in
-    let second : y ≡ v = cc in
-    ap (refusal.Split side.Left) (one_split_cause (subst₂ (λ (x y : TailConfig). IsSplitBreach c.rule AgreeRight x y a) first second h) k)
+    ap (refusal.Split side) (one_split_cause (subst₂ (λ (x y : TailConfig). IsSplitBreach c.rule (AgreeBehind side) x y a) first second h) k)
 one_said {c} (NoFlux phi v s h) (NoFlux psi w t k) =
     let same : phi ≡ psi = cc in
     ap refusal.Flux (one_breach (c.rule.states ^ c.rule.width) (λ v. Flows (slice_index c.weights) c.rule psi (word_of c.rule.states c.rule.width v)) v w

@@ -7,7 +7,8 @@ use Rattle.cert_format.specs.Certificates.{Certificate}
 use Rattle.cert_format.specs.Parts.{IsShaped}
 use Rattle.cert_format.specs.CertificateTexts.{IsCertificateText}
 use Rattle.cert_format.proofs.laws.WeightMembers.{IsWeightShape-has}
-use Rattle.cert_check.specs.declared.conditions.Condition.TheVariants.{ForwardClaims, BackwardClaims, FullListed, NoneEmpty, Closed, FirstsListed, OffDiagonal, PairsClosed, OrphanRead, WindowClaims, TwinsAlike, RightAhead, RightSplit, LeftAhead, LeftSplit, FluxFlows, RingLossy}
+use Rattle.cert_check.specs.declared.conditions.Condition.TheVariants.{SideClaims, FullListed, NoneEmpty, Closed, FirstsListed, OffDiagonal, PairsClosed, OrphanRead, WindowClaims, TwinsAlike, SideAhead, SideSplit, FluxFlows, RingLossy}
+use Rattle.word_image.specs.declared.side.Side.TheVariants.{Right, Left}
 use Rattle.cert_check.specs.declared.verdicts.Verdicts.{Verdicts}
 use Rattle.cert_check.specs.Conditions.{MeetsConditions}
 use Rattle.cert_check.specs.Accepted.{IsAccepted, AreTrue, verdicts_of}
@@ -24,12 +25,12 @@ both_true false b first second = ((λ no. absurd (false≢true no)), (λ both. f
 -- the verdicts of a certificate within its limits that meets the conditions are true of its rule
 pub AreTrue-meets : {c : Certificate} → IsShaped c → MeetsConditions c → AreTrue (verdicts_of c)
 AreTrue-meets {c} shaped meets =
-    let right = IsRightClosing-said shaped.rule c.forward (meets ForwardClaims) c.right shaped.right (meets RightAhead) (meets RightSplit) in
-    let left = IsLeftClosing-said shaped.rule c.backward (meets BackwardClaims) c.left shaped.left (meets LeftAhead) (meets LeftSplit) in
+    let right = IsRightClosing-said shaped.rule c.forward (meets (SideClaims Right)) c.right shaped.right (meets (SideAhead Right)) (meets (SideSplit Right)) in
+    let left = IsLeftClosing-said shaped.rule c.backward (meets (SideClaims Left)) c.left shaped.left (meets (SideAhead Left)) (meets (SideSplit Left)) in
     record {
       surjective = IsSurjective-said shaped.rule c.version c.surjective shaped.surjective (meets FullListed) (meets NoneEmpty) (meets Closed)
           (meets FirstsListed) (meets OffDiagonal) (meets PairsClosed) (meets OrphanRead);
-      injective = IsInjective-said shaped.rule c.forward c.backward (meets ForwardClaims) (meets BackwardClaims) c.injective shaped.injective (meets WindowClaims) (meets TwinsAlike);
+      injective = IsInjective-said shaped.rule c.forward c.backward (meets (SideClaims Right)) (meets (SideClaims Left)) c.injective shaped.injective (meets WindowClaims) (meets TwinsAlike);
       right = right;
       left = left;
       open_ = both_true _ _ right left;

@@ -3,8 +3,9 @@ use Rattle.std.proofs.Common.{◌≡◌, ℕ, ◌<◌, List, length, get_or, sub
 use Rattle.std.specs.Prelude.{Option, None}
 use Rattle.word_image.specs.LocalRules.{LocalRule}
 use Rattle.word_image.specs.Graphs.{pair_count}
-use Rattle.pair_graph.specs.declared.edges.Side.{Side}
-use Rattle.pair_rank.specs.Sides.{Together, IsRankOf}
+use Rattle.word_image.specs.declared.side.Side.{Side}
+use Rattle.word_image.specs.Sides.{Together}
+use Rattle.pair_rank.specs.Sides.{IsRankOf}
 use Rattle.certificate_laws.specs.WrittenCertificates.{AreRanks}
 
 -- a row of the ranks of an equal rule

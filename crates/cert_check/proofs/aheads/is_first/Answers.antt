@@ -2,7 +2,7 @@ use Rattle.std.proofs.Common.{◌≡◌, ℕ, ◌/◌, ◌%◌, sym, ap, subst, 
 use Rattle.std.proofs.lemmas.Bool.{false≢true}
 use Rattle.word_image.specs.LocalRules.{LocalRule}
 use Rattle.word_image.specs.Graphs.{first_of, second_of}
-use Rattle.cert_check.specs.declared.refusal.Side.{Side}
+use Rattle.word_image.specs.declared.side.Side.{Side}
 use Rattle.cert_check.specs.Sides.{rest_of}
 use Rattle.cert_check.proofs.laws.FirstPairs.{HaveOneLabel, DifferAtEnd, IsFirstOf-differ, DifferAtEnd-first}
 use Rattle.cert_check.proofs.aheads.is_first.Goals as goal

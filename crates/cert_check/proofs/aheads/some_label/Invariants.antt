@@ -1,5 +1,5 @@
 use Rattle.std.proofs.Common.{◌≢◌, ℕ, ◌<◌, slice_index}
-use Rattle.cert_check.specs.Claims.{window_with}
+use Rattle.word_image.specs.Sides.{window_with}
 use Rattle.cert_check.proofs.aheads.some_label.Given as goal
 
 -- no letter so far makes windows with one label

@@ -1,7 +1,7 @@
-use Rattle.std.proofs.Common.{◌≡◌, ℕ, ◌/◌, ◌%◌, ◌<◌, Some, refl, sym, ap, subst₂, ◌∙◌, arith, below_more}
-use Rattle.word_image.specs.LocalRules.{node_count}
+use Rattle.std.proofs.Common.{◌≡◌, ℕ, ◌<◌, Some, refl, sym, ap, subst₂, ◌∙◌, arith, below_more}
 use Rattle.word_image.specs.Graphs.{first_of, second_of}
-use Rattle.cert_check.specs.Claims.{claim, FallsBy, window_with}
+use Rattle.word_image.specs.Sides.{window_with}
+use Rattle.cert_check.specs.Claims.{claim, FallsBy}
 use Rattle.cert_check.proofs.laws.Claims.{Falls-windows, FallsByAll-falls}
 use Rattle.cert_check.proofs.claims.falls.Goals as goal
 
@@ -12,11 +12,11 @@ loop-letter-preserved c =
     let row = c.args.claims.now in
     let p = c.args.pair in
     let most = c.in-Some.most in
-    let nodes : c.from-nodes.result ≡ node_count r = c.from-nodes.ensures ∙ c.nodes.ensures.nodes in
+    let nodes = c.nodes_of-first.ensures in
     let window : c.window_with-window.result ≡ window_with side r (first_of r p) c.loop-letter.letter =
-    c.window_with-window.ensures.window ∙ ap (λ n. window_with side r (p / n) c.loop-letter.letter) nodes in
+    c.window_with-window.ensures.value ∙ ap (λ u. window_with side r u c.loop-letter.letter) nodes.first in
     below_more (λ a. (b : ℕ) → b < r.states → FallsBy side r row (window_with side r (first_of r p) a) (second_of r p) most b) c.loop-letter.letter c.loop-letter.invariant
-    (subst₂ (λ (w v : ℕ). (b : ℕ) → b < r.states → FallsBy side r row w v most b) window (ap (λ n. p % n) nodes) (c.falls_along.ensures.0 c.if-not-falls_along.false))
+    (subst₂ (λ (w v : ℕ). (b : ℕ) → b < r.states → FallsBy side r row w v most b) window nodes.second (c.falls_along.ensures.0 c.if-not-falls_along.false))
 
 pub returns : goal.returns
 returns c =
@@ -34,11 +34,11 @@ returns-then-not-falls_along c =
     let p = c.args.pair in
     let most = c.in-Some.most in
     let has : claim row p ≡ Some most = ap (claim row) (sym c.from.ensures) ∙ c.in-Some.is in
-    let nodes : c.from-nodes.result ≡ node_count r = c.from-nodes.ensures ∙ c.nodes.ensures.nodes in
+    let nodes = c.nodes_of-first.ensures in
     let window : c.window_with-window.result ≡ window_with side r (first_of r p) c.loop-letter.letter =
-    c.window_with-window.ensures.window ∙ ap (λ n. window_with side r (p / n) c.loop-letter.letter) nodes in (
+    c.window_with-window.ensures.value ∙ ap (λ u. window_with side r u c.loop-letter.letter) nodes.first in (
       (λ no. absurd (cc)),
       (λ falls. sym c.if-not-falls_along.true ∙ c.falls_along.ensures.1
-          (subst₂ (λ (w v : ℕ). (b : ℕ) → b < r.states → FallsBy side r row w v most b) (sym window) (ap (λ n. p % n) (sym nodes))
+          (subst₂ (λ (w v : ℕ). (b : ℕ) → b < r.states → FallsBy side r row w v most b) (sym window) (sym nodes.second)
           (λ b in_b. FallsByAll-falls side c.k-letter-end.ensures.rule row p most has c.requires.pair falls c.loop-letter.letter b (omega arith) in_b))),
     )

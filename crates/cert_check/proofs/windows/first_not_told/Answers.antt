@@ -1,11 +1,11 @@
-use Rattle.std.proofs.Common.{◌*◌, ◌<◌, sym, subst, ◌∙◌, below_more}
+use Rattle.std.proofs.Common.{sym, ◌∙◌, arith, below_more}
 use Rattle.std.proofs.lemmas.Bool.{false≢true}
 use Rattle.cert_check.specs.Windows.{IsWindowPair}
 use Rattle.cert_check.proofs.windows.first_not_told.Goals as goal
 
 pub returns-then-not-is_told : goal.returns-then-not-is_told
 returns-then-not-is_told c = record {
-  within = subst (λ n. c.loop-pair.pair < n * n) (c.from-nodes.ensures ∙ c.nodes.ensures.nodes) c.loop-pair-test.true;
+  within = omega (arith, c.loop-pair-test.true, c.pairs-pair-end.ensures.count);
   fails = λ told. false≢true (sym c.if-not-is_told.true ∙ c.is_told.ensures.1 told);
   earlier = c.loop-pair.invariant;
 }

@@ -1,7 +1,7 @@
 use Rattle.std.proofs.Common.{◌==◌, ◌/◌, ◌^◌, ◌<◌, ◌↔◌, IsBitSet, IsTrue, bit_and, ◌∙◌, sym, subst, arith}
 use Rattle.word_image.specs.LocalRules.{LocalRule}
 use Rattle.word_image.specs.Ranks.{IsEndless}
-use Rattle.closing_test.specs.Sides.{GoTogether}
+use Rattle.word_image.specs.Sides.{Together}
 use Rattle.closing_test.specs.EndlessFirsts.{IsEndlessWith}
 use Rattle.closing_test.proofs.LookAheads.{found}
 use Rattle.closing_test.proofs.EndlessFirsts.{IsEndlessWith-bit}
@@ -21,4 +21,4 @@ returns c =
     let few = c.end_node-2.ensures.rule.shape.most_nodes in
     subst (λ q. IsTrue (bit_and (row / 2 ^ v) 1 == 1) ↔ IsEndlessWith c.args.side q c.args.window c.args.letter) same
     (IsEndlessWith-bit c.args.side r c.args.window c.args.letter u v row here
-    (subst (λ q. IsBitSet row v ↔ IsEndless (GoTogether c.args.side q u v)) (sym same) (c.endless_nodes-nodes.ensures v (omega arith))))
+    (subst (λ q. IsBitSet row v ↔ IsEndless (Together c.args.side q u v)) (sym same) (c.endless_nodes-nodes.ensures v (omega arith))))

@@ -1,5 +1,5 @@
 use Rattle.std.proofs.Common.{◌≡◌, ◌^◌, refl, sym, subst, true≢false, arith}
-use Rattle.closing_test.specs.Sides.{PairGoes, IsFirst}
+use Rattle.word_image.specs.Sides.{PairGoes, IsFirstOf}
 use Rattle.closing_test.specs.LeastAheads.{IsLeastFor, IsFirstAt}
 use Rattle.closing_test.proofs.LookAheads.{Below, IsLeastFor-next, IsLeastFor-windows, ord_max-le, IsLeastRightAhead-first, IsClosing-first, no_ahead, not_closing}
 use Rattle.closing_test.proofs.look_ahead.least_ahead.Goals as goal
@@ -17,7 +17,7 @@ returns-in_err-ahead_at-clause-closing c =
 pub returns-in_err-ahead_at-clause-none : goal.returns-in_err-ahead_at-clause-none
 returns-in_err-ahead_at-clause-none c = rw c.from_residual.ensures (no_ahead c.args.side c.size-window-end.ensures.rule c.in_err-ahead_at.ensures.least)
 
-all_windows : (c : goal.After-loop-window) → IsLeastFor (IsFirst c.args.side c.args.rule.now) (PairGoes c.args.side c.args.rule.now) c.loop-window.ahead
+all_windows : (c : goal.After-loop-window) → IsLeastFor (IsFirstOf c.args.side c.args.rule.now) (PairGoes c.args.side c.args.rule.now) c.loop-window.ahead
 all_windows c =
     let all : c.loop-window.window ≡ c.args.rule.now.states ^ c.args.rule.now.width = omega (arith, c.loop-window.auto.window-end, c.loop-window-test.false, c.size-window-end.ensures.size) in
     IsLeastFor-windows c.args.side c.loop-window.ahead c.size-window-end.ensures.rule

@@ -11,5 +11,5 @@ loop-a-preserved c =
     let few = shape.most_nodes in
     let letters = shape.most_states in
     AreAdded-next c.loop-a.invariant c.from.result c.from-in-loop-a.result c.end_at.result
-    (c.from.ensures ∙ c.at-label.ensures.entry ∙ ap (slice_index c.args.rule.now.table) c.window_at.ensures.window)
+    (c.from.ensures ∙ c.at-label.ensures.entry ∙ ap (slice_index c.args.rule.now.table) c.window_with.ensures.value)
     c.from-in-loop-a.ensures c.end_at.ensures.node (omega arith) (omega arith) (omega arith)

@@ -6,7 +6,7 @@ pub loop-a-preserved : goal.loop-a-preserved
 loop-a-preserved c =
     rw (c.among-hits.ensures.lanes)
     (AreLanes-next c.loop-a.invariant c.from-in-loop-a.result c.from.result
-    (c.from-in-loop-a.ensures ∙ c.at-label.ensures.entry ∙ ap (slice_index c.args.rule.now.table) c.window_at.ensures.window)
+    (c.from-in-loop-a.ensures ∙ c.at-label.ensures.entry ∙ ap (slice_index c.args.rule.now.table) c.window_with.ensures.value)
     (c.from.ensures ∙ c.end_at.ensures.node)
     c.among-hits.ensures.wide (omega arith))
 

@@ -1,15 +1,10 @@
-use Rattle.std.proofs.Common.{◌≡◌, ◌-◌, ◌^◌, ◌≤◌, ap, ◌∙◌, arith}
-use Rattle.std.proofs.lemmas.Nat.Bits.{ones_shr}
-use Rattle.word_image.specs.LocalRules.{node_count}
-use Rattle.word_image.proofs.laws.Graphs.{node_count_pos}
+use Rattle.std.proofs.Common.{ap, subst, ◌∙◌}
+use Rattle.word_image.specs.LocalRules.{IsRule}
+use Rattle.word_image.specs.Graphs.{full_set}
 use Rattle.cert_check.proofs.steps.Steps.full.Goals as goal
 
-pub overflow_shr-result : goal.overflow_shr-result
-overflow_shr-result c = omega (arith, node_count_pos c.nodes.ensures.rule, c.nodes.ensures.nodes)
-
 pub returns-clause-set : goal.returns-clause-set
-returns-clause-set c =
-    let n = c.nodes.result in
-    let most : n ≤ 16 = omega (arith, c.nodes.ensures.rule.shape.most_nodes, c.nodes.ensures.nodes) in
-    let left : 16 - (16 - n) ≡ n = omega arith in
-    ones_shr 16 (16 - n) (omega arith) ∙ ap (λ j. 2 ^ j - 1) (left ∙ c.nodes.ensures.nodes ∙ ap node_count c.self.view_is)
+returns-clause-set c = c.all_nodes.ensures ∙ ap full_set c.self.view_is
+
+pub returns-clause-rule : goal.returns-clause-rule
+returns-clause-rule c = subst IsRule c.self.view_is c.self.invariant.0

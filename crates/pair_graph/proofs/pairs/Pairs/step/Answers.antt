@@ -7,5 +7,5 @@ if_some : (o : Option ℕ) (P : ℕ → Type 0) → ((q : ℕ) → o ≡ Some q 
 if_some None P all = tt
 if_some (Some q) P all = all q refl
 
-pub returns-in-Backward-clause-below : goal.returns-in-Backward-clause-below
-returns-in-Backward-clause-below c = if_some c.back.result (λ q. q < _) (λ q some. ((c.back.ensures.exactly q).0 some).in_pairs)
+pub returns-in-Left-clause-below : goal.returns-in-Left-clause-below
+returns-in-Left-clause-below c = if_some c.back.result (λ q. q < _) (λ q some. ((c.back.ensures.exactly q).0 some).in_pairs)

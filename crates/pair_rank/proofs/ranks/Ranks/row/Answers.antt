@@ -28,10 +28,10 @@ loop-pair-preserved c =
 
 pub returns-clause-each_pair : goal.returns-clause-each_pair
 returns-clause-each_pair c =
-    let all : c.loop-pair.pair ≡ pair_count c.args.self.now = omega (arith, c.count_of_pairs-pair-end.ensures) in
+    let all : c.loop-pair.pair ≡ pair_count c.args.self.now = omega (arith, c.pairs-pair-end.ensures.count, ap pair_count c.rule.ensures.value) in
     subst (λ (xs : List (Option ℕ)). length xs ≡ pair_count c.args.self.now) (sym c.of.ensures) (c.loop-pair.invariant.0 ∙ all)
 
 pub returns-clause-ranks : goal.returns-clause-ranks
 returns-clause-ranks c p below =
-    let all : c.loop-pair.pair ≡ pair_count c.args.self.now = omega (arith, c.count_of_pairs-pair-end.ensures) in
+    let all : c.loop-pair.pair ≡ pair_count c.args.self.now = omega (arith, c.pairs-pair-end.ensures.count, ap pair_count c.rule.ensures.value) in
     subst (λ (xs : List (Option ℕ)). IsRankOf c.args.side c.args.self.now p (get_or xs p None)) (sym c.of.ensures) (c.loop-pair.invariant.1 p (omega (arith, all, below)))

@@ -1,5 +1,5 @@
 use Rattle.std.proofs.Common.{refl, subst}
-use Rattle.pair_graph.specs.declared.edges.Side.TheVariants.{Forward, Backward}
+use Rattle.word_image.specs.declared.side.Side.TheVariants.{Right, Left}
 use Rattle.cert_format.specs.Certificates.{Certificate}
 use Rattle.cert_format.specs.Parts.{surjective_of, injective_of, side_of, sum_of}
 use Rattle.word_image.specs.LocalRules.{LocalRule}
@@ -43,8 +43,8 @@ HasWrittenParts-made c =
         conserving = least.conserving;
       };
       list = subst (λ (r : LocalRule). IsListPart c.args.version r part) c.of.ensures c.in_ok-surjective_part.ensures.list;
-      forward = AreRanks-row Forward same c.in_ok-forward.ensures.each_pair c.in_ok-forward.ensures.ranks;
-      backward = AreRanks-row Backward same c.in_ok-backward.ensures.each_pair c.in_ok-backward.ensures.ranks;
+      forward = AreRanks-row Right same c.in_ok-forward.ensures.each_pair c.in_ok-forward.ensures.ranks;
+      backward = AreRanks-row Left same c.in_ok-backward.ensures.each_pair c.in_ok-backward.ensures.ranks;
     }
 
 pub invariant_of-result : goal.invariant_of-result

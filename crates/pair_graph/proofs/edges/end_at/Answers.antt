@@ -5,7 +5,7 @@ use Rattle.word_image.proofs.laws.WindowParts.{some_letter, rest_count, node_cou
 use Rattle.pair_graph.specs.Edges.{end_at}
 use Rattle.pair_graph.proofs.EdgeRows.{end_forward, end_backward}
 use Rattle.pair_graph.proofs.PairSteps.{end_at-below}
-use Rattle.pair_graph.proofs.edges.Side.end_at.Goals as goal
+use Rattle.pair_graph.proofs.edges.end_at.Goals as goal
 
 -- so many words of m - 2 letters
 rest : {r : LocalRule} → IsRule r → (nodes k : ℕ) → nodes ≡ node_count r → k ≡ r.states → nodes / k ≡ rest_count r
@@ -19,18 +19,18 @@ nonzero_rem-result c =
     let width = rule.shape.least_width in
     omega (arith, rest rule c.nodes.result c.k.result c.nodes.ensures.nodes c.k.ensures.states, (power-below rule (c.args.rule.now.width - 2) (omega arith)).0)
 
-pub returns-in-Forward-clause-node : goal.returns-in-Forward-clause-node
-returns-in-Forward-clause-node c =
+pub returns-in-Right-clause-node : goal.returns-in-Right-clause-node
+returns-in-Right-clause-node c =
     let rule = c.k.ensures.rule in
-    ap₂ (λ (x k : ℕ). c.args.node % x * k + c.args.letter) (rest rule c.nodes.result c.k.result c.nodes.ensures.nodes c.k.ensures.states) c.k-in-Forward.ensures.states
-    ∙ sym (end_forward rule c.args.node c.args.letter c.requires.letter) ∙ ap (λ side. end_at side c.args.rule.now c.args.node c.args.letter) (sym c.in-Forward.is)
+    ap₂ (λ (x k : ℕ). c.args.node % x * k + c.args.letter) (rest rule c.nodes.result c.k.result c.nodes.ensures.nodes c.k.ensures.states) c.k-in-Right.ensures.states
+    ∙ sym (end_forward rule c.args.node c.args.letter c.requires.letter) ∙ ap (λ side. end_at side c.args.rule.now c.args.node c.args.letter) (sym c.in-Right.is)
 
-pub returns-in-Forward-clause-below : goal.returns-in-Forward-clause-below
-returns-in-Forward-clause-below c =
-    subst (λ x. x < node_count c.args.rule.now) (sym (returns-in-Forward-clause-node c)) (end_at-below c.args.self c.k.ensures.rule c.args.node c.args.letter c.requires.node c.requires.letter)
+pub returns-in-Right-clause-below : goal.returns-in-Right-clause-below
+returns-in-Right-clause-below c =
+    subst (λ x. x < node_count c.args.rule.now) (sym (returns-in-Right-clause-node c)) (end_at-below c.args.side c.k.ensures.rule c.args.node c.args.letter c.requires.node c.requires.letter)
 
-pub returns-in-Backward-clause-node : goal.returns-in-Backward-clause-node
-returns-in-Backward-clause-node c =
+pub returns-in-Left-clause-node : goal.returns-in-Left-clause-node
+returns-in-Left-clause-node c =
     let rule = c.k.ensures.rule in
-    ap₂ (λ (x k : ℕ). c.args.letter * x + c.args.node / k) (rest rule c.nodes.result c.k.result c.nodes.ensures.nodes c.k.ensures.states) c.k-in-Backward.ensures.states
-    ∙ sym (end_backward rule c.args.node c.args.letter) ∙ ap (λ side. end_at side c.args.rule.now c.args.node c.args.letter) (sym c.in-Backward.is)
+    ap₂ (λ (x k : ℕ). c.args.letter * x + c.args.node / k) (rest rule c.nodes.result c.k.result c.nodes.ensures.nodes c.k.ensures.states) c.k-in-Left.ensures.states
+    ∙ sym (end_backward rule c.args.node c.args.letter) ∙ ap (λ side. end_at side c.args.rule.now c.args.node c.args.letter) (sym c.in-Left.is)

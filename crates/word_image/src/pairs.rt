@@ -1,0 +1,48 @@
+//! The pairs of nodes of a rule, by their numbers, and the set of all nodes.
+
+ghost use Rattle.std.specs.Prelude.{◌≡◌, ◌<◌};
+ghost use Rattle.word_image.specs.LocalRules.{IsRule, node_count};
+ghost use Rattle.word_image.specs.Graphs.{full_set, first_of, second_of, pair_of, pair_count};
+
+use crate::local_rule::Rule;
+
+impl Rule {
+    /// The set of all nodes: node u is bit u.
+    pub fn all_nodes(&self) -> u16
+        ensures { result ≡ full_set self.now }
+    {
+        u16::MAX >> (16 - self.nodes())
+    }
+
+    /// How many pairs of nodes there are: N * N for the N nodes, from 4 to 256. The pair of u and v has
+    /// the number u * N + v.
+    pub fn pairs(&self) -> u16
+        ensures count { result ≡ pair_count self.now }
+        ensures rule { IsRule self.now }
+    {
+        let nodes = u16::from(self.nodes());
+        nodes * nodes
+    }
+
+    /// The two nodes of the pair with this number.
+    pub fn nodes_of(&self, pair: u16) -> (u8, u8)
+        requires { pair < pair_count self.now }
+        ensures first { result.0 ≡ first_of self.now pair }
+        ensures second { result.1 ≡ second_of self.now pair }
+        ensures first_below { result.0 < node_count self.now }
+        ensures second_below { result.1 < node_count self.now }
+    {
+        let nodes = u16::from(self.nodes());
+        ((pair / nodes) as u8, (pair % nodes) as u8)
+    }
+
+    /// The number of the pair of two nodes.
+    pub fn pair_of(&self, first: u8, second: u8) -> u16
+        requires first { first < node_count self.now }
+        requires second { second < node_count self.now }
+        ensures pair { result ≡ pair_of self.now first second }
+        ensures below { result < pair_count self.now }
+    {
+        u16::from(first) * u16::from(self.nodes()) + u16::from(second)
+    }
+}

@@ -1,0 +1,54 @@
+//! The two sides of the line, and the ends of windows that lie on them.
+
+ghost use Rattle.std.specs.Prelude.{◌≡◌, ◌^◌, ◌<◌};
+ghost use Rattle.word_image.specs.LocalRules.{IsRule, node_count};
+ghost use Rattle.word_image.specs.Sides.{other, window_with, end_node};
+
+use crate::local_rule::Rule;
+
+/// A side of the line, and so an end of each window. Edges are read along them to the right, and
+/// against them to the left.
+#[derive(Clone, Copy, Debug, PartialEq, Eq)]
+pub enum Side {
+    Right,
+    Left,
+}
+
+impl Side {
+    /// The other side.
+    pub fn other(self) -> Side
+        ensures { result ≡ other self }
+    {
+        match self {
+            Side::Right => Side::Left,
+            Side::Left => Side::Right,
+        }
+    }
+
+    /// The value of the window of a node and a letter on this side of it.
+    pub fn window_with(self, rule: &Rule, node: u8, letter: u8) -> u16
+        requires node { node < node_count rule.now }
+        requires letter { letter < rule.now.states }
+        ensures value { result ≡ window_with self rule.now node letter }
+        ensures window { result < rule.now.states ^ rule.now.width }
+    {
+        let (node, letter) = (u16::from(node), u16::from(letter));
+        match self {
+            Side::Right => node * u16::from(rule.k()) + letter,
+            Side::Left => letter * u16::from(rule.nodes()) + node,
+        }
+    }
+
+    /// The node of a window's letters at its end on this side, all but one.
+    pub fn end_node(self, rule: &Rule, window: u16) -> u8
+        requires { window < rule.now.states ^ rule.now.width }
+        ensures value { result ≡ end_node self rule.now window }
+        ensures node { result < node_count rule.now }
+        ensures rule { IsRule rule.now }
+    {
+        match self {
+            Side::Right => (window % u16::from(rule.nodes())) as u8,
+            Side::Left => (window / u16::from(rule.k())) as u8,
+        }
+    }
+}
