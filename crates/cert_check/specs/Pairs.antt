@@ -2,7 +2,7 @@
 use Rattle.std.specs.Prelude.{◌≡◌, ℕ, List, Contains, Some}
 use Rattle.word_image.specs.LocalRules.{LocalRule}
 use Rattle.word_image.specs.Graphs.{follow}
-use Rattle.word_image.specs.Erasure.{IsFirstOfRight}
+use Rattle.word_image.specs.FirstPairs.{IsFirstOfRight}
 use Rattle.cert_check.specs.Breaches.{EachBelow, IsFirstBreach}
 
 -- a first pair of the right is listed

@@ -2,7 +2,8 @@
 use Rattle.std.specs.Prelude.{ℕ, ◌-◌, ◌/◌, ◌%◌, ◌^◌, List, Option}
 use Rattle.word_image.specs.LocalRules.{LocalRule}
 use Rattle.tail_config.specs.Tails.{TailConfig, AgreeLeft, AgreeRight}
-use Rattle.cert_format.specs.Certificates.{Certificate, SideEvidence}
+use Rattle.cert_format.specs.Evidence.{SideEvidence}
+use Rattle.cert_format.specs.Certificates.{Certificate}
 use Rattle.word_image.specs.declared.side.Side.{Side}
 use Rattle.word_image.specs.declared.side.Side.TheVariants.{Right, Left}
 

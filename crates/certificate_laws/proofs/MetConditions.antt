@@ -5,7 +5,7 @@ use Rattle.std.proofs.lemmas.List.Elements.{Contains-get_or}
 use Rattle.word_image.specs.LocalRules.{LocalRule, IsRule, word_of}
 use Rattle.word_image.specs.Words.{IsSurjective}
 use Rattle.word_image.specs.Graphs.{full_set, first_of, second_of, pair_count}
-use Rattle.word_image.specs.Erasure.{IsFirstOfRight, IsFirstOfLeft}
+use Rattle.word_image.specs.FirstPairs.{IsFirstOfRight, IsFirstOfLeft}
 use Rattle.word_image.specs.declared.side.Side.TheVariants as side
 use Rattle.word_image.specs.Families.{IsFamily, IsLeastWordOf, covers_of}
 use Rattle.word_image.specs.Ranks.{IsLastSet, BeginTogether, EndTogether}

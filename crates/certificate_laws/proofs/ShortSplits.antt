@@ -7,7 +7,7 @@ use Rattle.word_image.specs.LocalRules.{LocalRule, IsRule, word_of}
 use Rattle.word_image.specs.Windows.{IsRightAhead}
 use Rattle.word_image.specs.Rings.{IsRing}
 use Rattle.word_image.specs.Graphs.{pair_of, pair_count}
-use Rattle.word_image.specs.Erasure.{IsFirstOfRight}
+use Rattle.word_image.specs.FirstPairs.{IsFirstOfRight}
 use Rattle.word_image.proofs.laws.Values.{length-word_of}
 use Rattle.word_image.specs.declared.side.Side.TheVariants.{Right}
 use Rattle.word_image.specs.Sides.{PairGoes}

@@ -9,7 +9,8 @@ use Rattle.std.proofs.lemmas.Nat.{div-mul-add, mod-mul-add, div-add-mod', same_f
 use Rattle.std.proofs.lemmas.Nat.Bits.{shr_and_one}
 use Rattle.std.proofs.Math.Nat.{pow-succ', one-le-pow}
 use Rattle.word_image.specs.LocalRules.{LocalRule, IsRule, node_count}
-use Rattle.word_image.specs.Graphs.{next, label, first_of, second_of, pair_of, pair_count, marked}
+use Rattle.word_image.specs.Graphs.{next, label, first_of, second_of, pair_of, pair_count}
+use Rattle.word_image.specs.MarkedPairs.{marked}
 use Rattle.word_image.proofs.laws.Bits.{bit_at-IsBitSet, IsBitSet-or, IsBitSet-zero}
 use Rattle.word_image.proofs.laws.Graphs.{next-below, node_count_pos}
 use Rattle.pair_laws.proofs.Sets.{IsBitSet-shl, IsBitSet-shr, IsBitSet-and, IsBitSet-minus, IsBitSet-decide}

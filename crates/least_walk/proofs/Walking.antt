@@ -10,7 +10,8 @@ use Rattle.std.proofs.lemmas.Nat.{div-mul-add, mod-mul-add}
 use Rattle.std.proofs.lemmas.Option.{slice_get_within, slice_get-map, slice_get-get_or, get_or_from_slice_get, none-some, same_Some}
 use Rattle.std.proofs.Math.Nat.{mul-le-mul_right, suc-mul}
 use Rattle.word_image.specs.LocalRules.{LocalRule, IsRule, node_count}
-use Rattle.word_image.specs.Graphs.{marked, pair_count}
+use Rattle.word_image.specs.Graphs.{pair_count}
+use Rattle.word_image.specs.MarkedPairs.{marked}
 use Rattle.word_image.proofs.laws.Places.{slice_get-append, slice_get-push, slice_get-push_cases, only_place}
 use Rattle.search_laws.specs.SearchQueues.{Place, Spells, IsQueue}
 use Rattle.search_laws.specs.SearchQueues.Spells.{Root, Branch}

@@ -1,7 +1,8 @@
 -- The marked pairs that a search has reached, as a breadth first queue.
 use Rattle.std.specs.Prelude.{◌≡◌, ◌≢◌, ℕ, ◌+◌, ◌*◌, ◌<◌, ◌≤◌, List, ◌++◌, map, reverse, slice_get, Some, IsBitSet}
 use Rattle.word_image.specs.LocalRules.{LocalRule, IsRule}
-use Rattle.word_image.specs.Graphs.{marked, pair_count}
+use Rattle.word_image.specs.Graphs.{pair_count}
+use Rattle.word_image.specs.MarkedPairs.{marked}
 use Rattle.search_laws.specs.SearchQueues.{Place, Spells, IsQueue}
 use Rattle.search_laws.proofs.PairWalks.{CodeStep}
 use Rattle.search_laws.proofs.LeastSteps.{NoEdgeBefore}

@@ -2,7 +2,7 @@
 use Rattle.std.specs.Prelude.{◌≡◌, ◌≢◌, ℕ, ◌<◌, ◌≤◌, List, length, slice_get, slice_index, Some, None}
 use Rattle.std.specs.declared.cmp.Ordering.TheVariants.{Greater}
 use Rattle.word_image.specs.LocalRules.{LocalRule}
-use Rattle.word_image.specs.Graphs.{marked}
+use Rattle.word_image.specs.MarkedPairs.{marked}
 use Rattle.word_image.specs.Rings.{pairs_cmp}
 use Rattle.search_laws.specs.PairWalks.{PairWalk}
 use Rattle.least_walk.specs.declared.queue.Reached.{Reached}

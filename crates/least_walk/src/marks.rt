@@ -3,7 +3,8 @@
 ghost use Rattle.std.specs.Prelude.{◌≡◌, ℕ, ◌+◌, ◌*◌, ◌<◌, ◌↔◌, IsTrue, IsBitSet, IfSome, Some};
 ghost use Rattle.std.specs.Option.{option_map};
 ghost use Rattle.word_image.specs.LocalRules.{LocalRule, IsRule, node_count};
-ghost use Rattle.word_image.specs.Graphs.{pair_count, pair_of, marked};
+ghost use Rattle.word_image.specs.Graphs.{pair_count, pair_of};
+ghost use Rattle.word_image.specs.MarkedPairs.{marked};
 ghost use Rattle.least_walk.specs.Marks.{ArePartsOf, HasPair, IsAdded, IsMarked};
 
 use pair_graph::Pairs;

@@ -2,7 +2,8 @@
 
 ghost use Rattle.std.specs.Prelude.{◌≡◌, ℕ, ◌+◌, ◌*◌, ◌<◌, ◌≤◌, [], ◌∷◌, ◌++◌, length, vec_len, vec_capacity, IfSome, IfNone, IsBitSet, Some, slice_get};
 ghost use Rattle.word_image.specs.LocalRules.{IsRule};
-ghost use Rattle.word_image.specs.Graphs.{marked, pair_count};
+ghost use Rattle.word_image.specs.Graphs.{pair_count};
+ghost use Rattle.word_image.specs.MarkedPairs.{marked};
 ghost use Rattle.least_walk.specs.Marks.{HasPair, IsMarked};
 ghost use Rattle.least_walk.specs.declared.queue.Reached.{Reached};
 ghost use Rattle.least_walk.specs.Queues.{IsSearch, IsArrival, IsNear, IsEnded, IsOldBut};

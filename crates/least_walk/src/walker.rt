@@ -31,7 +31,8 @@ impl Model for Walker {
 }
 
 impl Walker {
-    ghost use Rattle.word_image.specs.Graphs.{marked, pair_count};
+    ghost use Rattle.word_image.specs.Graphs.{pair_count};
+    ghost use Rattle.word_image.specs.MarkedPairs.{marked};
     ghost use Rattle.search_laws.specs.PairWalks.{IsLeastWalk, PairWalk, uncode};
 
     /// A walker that has found no walk. It takes all the memory that it needs.

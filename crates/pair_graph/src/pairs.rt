@@ -36,7 +36,8 @@ impl Model for Pairs {
 }
 
 impl Pairs {
-    ghost use Rattle.word_image.specs.Graphs.{follow, marked};
+    ghost use Rattle.word_image.specs.Graphs.{follow};
+    ghost use Rattle.word_image.specs.MarkedPairs.{marked};
     ghost use Rattle.pair_graph.specs.BackSteps.{LeadsBack};
     ghost use Rattle.pair_graph.specs.Edges.{AreEdges};
     ghost use Rattle.pair_graph.specs.PairSets.{Leads};

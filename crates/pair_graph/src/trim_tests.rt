@@ -84,8 +84,8 @@ fn has_rounds(rt: &impl Abort, pairs: &Pairs, side: Side, sizes: &[u16]) {
 
 fn has_rounds_of_both(rt: &impl Abort, rule: &Rule, forward: &[u16], backward: &[u16]) {
     let pairs = Pairs::of(rule);
-    has_rounds(rt, &pairs, Side::Forward, forward);
-    has_rounds(rt, &pairs, Side::Backward, backward);
+    has_rounds(rt, &pairs, Side::Right, forward);
+    has_rounds(rt, &pairs, Side::Left, backward);
 }
 
 #[test]

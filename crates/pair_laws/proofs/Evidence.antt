@@ -4,7 +4,7 @@ use Rattle.std.proofs.lemmas.Bool.{cases_eq}
 use Rattle.word_image.specs.LocalRules.{LocalRule, IsRule}
 use Rattle.word_image.specs.Windows.{IsDetermined, IsRightAhead}
 use Rattle.word_image.specs.Graphs.{first_of, second_of, pair_count, node_letter}
-use Rattle.word_image.specs.Erasure.{IsFirstOfRight}
+use Rattle.word_image.specs.FirstPairs.{IsFirstOfRight}
 use Rattle.word_image.specs.declared.side.Side.{Side}
 use Rattle.word_image.specs.declared.side.Side.TheVariants.{Right, Left}
 use Rattle.word_image.specs.Sides.{IsFirstOf, seen_from}

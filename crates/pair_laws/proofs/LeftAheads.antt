@@ -3,7 +3,7 @@ use Rattle.std.proofs.Common.{◌≡◌, ◌≢◌, ℕ, ◌+◌, ◌-◌, ◌<�
 use Rattle.std.proofs.lemmas.Bool.{cases_eq}
 use Rattle.std.proofs.lemmas.List.{length-take-le, drop-append-le, drop-drop, drop-take, get_or-drop, get_or_append_left}
 use Rattle.std.proofs.lemmas.List.Elements.{All-take, All-drop}
-use Rattle.word_image.specs.Erasure.{IsFirstOfLeft}
+use Rattle.word_image.specs.FirstPairs.{IsFirstOfLeft}
 use Rattle.word_image.specs.LocalRules.{LocalRule, IsRule, IsWord, value, word_of, node_count}
 use Rattle.word_image.specs.Windows.{HaveOneImage, IsLeftAhead}
 use Rattle.word_image.specs.Graphs.{label, first_of, second_of, pair_of, node_letter}

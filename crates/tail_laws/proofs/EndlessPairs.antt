@@ -7,7 +7,7 @@ use Rattle.std.proofs.lemmas.List.Elements.{All-append, All-drop}
 use Rattle.word_image.specs.LocalRules.{LocalRule, IsRule, IsWord, value, node_count}
 use Rattle.word_image.specs.Graphs.{pair_of, follow, pair_count}
 use Rattle.word_image.specs.Ranks.{BeginTogether, EndTogether}
-use Rattle.word_image.specs.Erasure.{IsFirstOfRight}
+use Rattle.word_image.specs.FirstPairs.{IsFirstOfRight}
 use Rattle.pair_laws.proofs.Walks.{LeadTogether, LeadTogether-first, LeadTogether-last}
 use Rattle.word_image.specs.declared.side.Side.TheVariants.{Right}
 use Rattle.word_image.specs.Sides.{PairGoes}

@@ -7,7 +7,7 @@ use Rattle.word_image.specs.LocalRules.{LocalRule, IsRule, IsWord, value, word_o
 use Rattle.word_image.specs.Windows.{HaveOneImage}
 use Rattle.word_image.specs.Graphs.{pair_of, follow}
 use Rattle.word_image.specs.Rings.{IsRing}
-use Rattle.word_image.specs.Erasure.{IsFirstOfRight}
+use Rattle.word_image.specs.FirstPairs.{IsFirstOfRight}
 use Rattle.word_image.proofs.laws.Values.{length-word_of, IsWord-word_of, value-word_of}
 use Rattle.word_image.proofs.laws.Graphs.{node_count_pos}
 use Rattle.tail_config.specs.Tails.{TailConfig, IsTail}

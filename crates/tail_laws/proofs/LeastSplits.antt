@@ -11,7 +11,8 @@ use Rattle.std.proofs.lemmas.Cmp.{then_total, on_total, lists_total, nat_cmp_tot
 use Rattle.std.proofs.lemmas.List.{length-map, length_push}
 use Rattle.std.proofs.lemmas.Slice.Zip.{firsts-zip, seconds-zip}
 use Rattle.word_image.specs.LocalRules.{LocalRule, IsRule}
-use Rattle.word_image.specs.Graphs.{pair_count, marked}
+use Rattle.word_image.specs.Graphs.{pair_count}
+use Rattle.word_image.specs.MarkedPairs.{marked}
 use Rattle.word_image.specs.Rings.{pair_cmp, pairs_cmp}
 use Rattle.search_laws.specs.PairWalks.{PairWalk, IsLeastWalk}
 use Rattle.search_laws.specs.PairWalks.PairWalk.{Stay, Go}

@@ -9,7 +9,8 @@ use Rattle.std.proofs.lemmas.Bool.{cases_eq}
 use Rattle.std.proofs.lemmas.Cmp.{upto, on_total, then_total, lists_total, nat_cmp_total}
 use Rattle.std.proofs.lemmas.Nat.{mul-le}
 use Rattle.word_image.specs.LocalRules.{LocalRule, IsRule, node_count}
-use Rattle.word_image.specs.Graphs.{pair_count, marked}
+use Rattle.word_image.specs.Graphs.{pair_count}
+use Rattle.word_image.specs.MarkedPairs.{marked}
 use Rattle.word_image.specs.Rings.{IsTwins, IsLeastTwins, pairs_cmp}
 use Rattle.search_laws.specs.PairWalks.{IsLeastWalk}
 use Rattle.tail_laws.specs.Turns.{IsTurn, NoTurnBelow, IsFirstTurn}

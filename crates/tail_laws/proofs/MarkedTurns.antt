@@ -4,7 +4,8 @@ use Rattle.std.specs.List.{zip}
 use Rattle.std.proofs.Math.Nat.{add-mod_right}
 use Rattle.std.proofs.lemmas.List.Elements.{All-nil, All-cons, All-head, All-tail}
 use Rattle.word_image.specs.LocalRules.{LocalRule, IsRule, IsWord}
-use Rattle.word_image.specs.Graphs.{pair_of, first_of, second_of, pair_count, marked}
+use Rattle.word_image.specs.Graphs.{pair_of, first_of, second_of, pair_count}
+use Rattle.word_image.specs.MarkedPairs.{marked}
 use Rattle.word_image.specs.Rings.{IsTwins}
 use Rattle.search_laws.proofs.PairWalks.{ArePairs, ArePairs-walk}
 use Rattle.pair_laws.proofs.Pairs.{pair_of-below, pair_of-first_of, first_of-below, second_of-below}

@@ -6,7 +6,8 @@ use Rattle.std.proofs.Math.Nat.{add-mod_right}
 use Rattle.std.proofs.lemmas.Bool.{cases_lt, cases_eq}
 use Rattle.std.proofs.lemmas.Bool.Decides.{nat_tests}
 use Rattle.word_image.specs.LocalRules.{LocalRule, IsRule}
-use Rattle.word_image.specs.Graphs.{next, label, pair_of, first_of, second_of, follow, pair_count, marked}
+use Rattle.word_image.specs.Graphs.{next, label, pair_of, first_of, second_of, follow, pair_count}
+use Rattle.word_image.specs.MarkedPairs.{marked}
 use Rattle.word_image.proofs.laws.Graphs.{next-below}
 use Rattle.pair_laws.proofs.Pairs.{pair_of-below}
 use Rattle.tail_laws.proofs.PairLeads.{Follows, PairLeads}

@@ -8,7 +8,8 @@ use Rattle.std.proofs.lemmas.List.{length-map}
 use Rattle.std.proofs.lemmas.Slice.Zip.{length-zip}
 use Rattle.std.proofs.lemmas.List.Elements.{All-nil, All-cons, All-head, All-tail, All-map}
 use Rattle.word_image.specs.LocalRules.{LocalRule, IsRule, IsWord}
-use Rattle.word_image.specs.Graphs.{pair_count, marked}
+use Rattle.word_image.specs.Graphs.{pair_count}
+use Rattle.word_image.specs.MarkedPairs.{marked}
 use Rattle.word_image.proofs.laws.Graphs.{node_count_pos}
 use Rattle.search_laws.proofs.PairWalks.{ArePairs, ArePairs-walk}
 use Rattle.tail_config.specs.Tails.{TailConfig, IsTail}

@@ -2,7 +2,8 @@
 use Rattle.std.specs.Prelude.{◌≢◌, ℕ, ◌+◌, ◌%◌, ◌<◌, List, [], ◌∷◌, length, map}
 use Rattle.std.specs.declared.cmp.Ordering.TheVariants.{Greater}
 use Rattle.word_image.specs.LocalRules.{LocalRule}
-use Rattle.word_image.specs.Graphs.{pair_count, marked}
+use Rattle.word_image.specs.Graphs.{pair_count}
+use Rattle.word_image.specs.MarkedPairs.{marked}
 use Rattle.word_image.specs.Rings.{pairs_cmp}
 use Rattle.search_laws.specs.PairWalks.{PairWalk}
 use Rattle.tail_config.specs.Tails.{TailConfig}

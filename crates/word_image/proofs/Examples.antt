@@ -17,7 +17,8 @@ use Rattle.word_image.specs.Rings.{IsRing, IsTwins, IsLossyRing, IsFlux}
 use Rattle.word_image.specs.Windows.{HaveOneImage, WindowBefore, IsDetermined, IsLeastDetermined, IsRightAhead, IsLeftAhead, IsLeastRightAhead}
 use Rattle.word_image.specs.Graphs.{label}
 use Rattle.word_image.specs.Ranks.{BeginTogether, EndTogether, IsRank, IsEndless}
-use Rattle.word_image.specs.Erasure.{IsErasable, IsFirstOfRight, IsFirstOfLeft, IsPairList}
+use Rattle.word_image.specs.Erasure.{IsErasable, IsPairList}
+use Rattle.word_image.specs.FirstPairs.{IsFirstOfRight, IsFirstOfLeft}
 use Rattle.word_image.specs.Examples.{rule184, lossy_at_three, shift, stay, both, zero_rule}
 use Rattle.word_image.proofs.laws.Values.{value-below, word_of-value}
 

@@ -3,10 +3,12 @@
 use Rattle.std.specs.Prelude.{◌≡◌, true, false, [], ◌∷◌, length, map, sum_by, codes, refl, pos, negsuc, Some, None}
 use Rattle.std.specs.List.{range_with_len, zip}
 use Rattle.std.specs.declared.cmp.Ordering.TheVariants.{Less, Equal, Greater}
-use Rattle.word_image.specs.LocalRules.{LocalRule, value, word_of, local_map, node_count, wolfram_number, mirrored, same_rule}
+use Rattle.word_image.specs.LocalRules.{LocalRule, value, word_of, local_map, node_count, wolfram_number, mirrored}
+use Rattle.word_image.specs.SameRules.{same_rule}
 use Rattle.word_image.specs.Words.{image, word_cmp}
 use Rattle.word_image.specs.Rings.{ring_letter, ring_letters, ring_image, pair_cmp, pairs_cmp}
-use Rattle.word_image.specs.Graphs.{next, label, node_letter, full_set, pair_of, first_of, second_of, follow, pair_count, marked}
+use Rattle.word_image.specs.Graphs.{next, label, node_letter, full_set, pair_of, first_of, second_of, follow, pair_count}
+use Rattle.word_image.specs.MarkedPairs.{marked}
 use Rattle.word_image.specs.Digits.{lower_digit, hex_value, letter_at, word_text}
 use Rattle.word_image.specs.RuleFaults.{shape_fault, table_fault, rule_fault}
 use Rattle.word_image.specs.ImageFaults.{image_fault}

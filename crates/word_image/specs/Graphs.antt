@@ -46,12 +46,3 @@ follow r p a b =
 -- how many pairs of nodes there are
 abbrev pub pair_count : LocalRule → ℕ
 pair_count r = node_count r * node_count r
-
--- the marked graph: a pair p with mark 0 is p, and with mark 1 it is p plus the number of pairs.
--- The mark becomes 1 where the two letters differ, and stays 1.
-abbrev pub marked : LocalRule → ℕ → ℕ → ℕ → Option ℕ
-marked r t a b =
-    if label r (first_of r (t % pair_count r)) a == label r (second_of r (t % pair_count r)) b
-    then Some (pair_of r (next r (first_of r (t % pair_count r)) a) (next r (second_of r (t % pair_count r)) b)
-    + (if nat_le (pair_count r) t || not (a == b) then pair_count r else 0))
-    else None

@@ -1,8 +1,11 @@
 pub mod LocalRules
+pub mod SameRules
 pub mod Words
 pub mod Rings
 pub mod Windows
 pub mod Graphs
+pub mod MarkedPairs
+pub mod FirstPairs
 pub mod Ranks
 pub mod Erasure
 pub mod Sides

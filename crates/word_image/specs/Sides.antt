@@ -3,7 +3,7 @@ use Rattle.std.specs.Prelude.{◌≡◌, ℕ, ◌+◌, ◌*◌, ◌/◌, ◌%◌
 use Rattle.word_image.specs.LocalRules.{LocalRule, node_count, mirrored}
 use Rattle.word_image.specs.Graphs.{first_of, second_of, follow, pair_count}
 use Rattle.word_image.specs.Ranks.{BeginTogether, EndTogether}
-use Rattle.word_image.specs.Erasure.{IsFirstOfRight, IsFirstOfLeft}
+use Rattle.word_image.specs.FirstPairs.{IsFirstOfRight, IsFirstOfLeft}
 use Rattle.word_image.specs.declared.side.Side.{Side}
 use Rattle.word_image.specs.declared.side.Side.TheVariants.{Right, Left}
 

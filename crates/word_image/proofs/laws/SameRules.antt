@@ -4,7 +4,8 @@ use Rattle.std.specs.Bool.{Decides}
 use Rattle.std.proofs.lemmas.Bool.Decides.{Decides-and, Decides-eqb, Decides-int_eq}
 use Rattle.std.proofs.lemmas.Slice.Eq.{slice_eq-Decides}
 use lib.Pointwise.{pointwise}
-use Rattle.word_image.specs.LocalRules.{LocalRule, same_rule}
+use Rattle.word_image.specs.LocalRules.{LocalRule}
+use Rattle.word_image.specs.SameRules.{same_rule}
 
 -- rules with equal parts are one
 pub rule_from_parts : {r s : LocalRule} → r.states ≡ s.states → r.width ≡ s.width → r.offset ≡ s.offset → r.table ≡ s.table → r ≡ s

@@ -2,7 +2,7 @@ use Rattle.std.proofs.Common.{◌≡◌, ℕ, ◌+◌, ◌%◌, ◌-◌, List, l
 use Rattle.std.specs.Prelude.{MatchOption}
 use Rattle.std.proofs.lemmas.List.{length-map}
 use Rattle.word_image.specs.LocalRules.{LocalRule}
-use Rattle.word_image.specs.Graphs.{marked}
+use Rattle.word_image.specs.MarkedPairs.{marked}
 use Rattle.search_laws.specs.PairWalks.{PairWalk, IsLeastWalk, uncode}
 use Rattle.least_walk.specs.Trees.{WalkSource, IsLeastWalkTo}
 use Rattle.tail_laws.specs.SplitWalks.{IsLeastReach}

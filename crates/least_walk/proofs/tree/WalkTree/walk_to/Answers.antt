@@ -1,7 +1,7 @@
 use Rattle.std.proofs.Common.{List, ℕ, length, map, sym, ap, ◌∙◌, subst, arith}
 use Rattle.std.specs.List.{slice_get}
 use Rattle.std.proofs.lemmas.Option.{slice_get_within}
-use Rattle.word_image.specs.Graphs.{marked}
+use Rattle.word_image.specs.MarkedPairs.{marked}
 use Rattle.search_laws.specs.PairWalks.{PairWalk, uncode}
 use Rattle.least_walk.specs.Queues.{IsBackward, SpellsBefore}
 use Rattle.least_walk.specs.Trees.{IsLeastWalkTo}

@@ -2,7 +2,8 @@ use Rattle.std.proofs.Common.{◌≡◌, ◌^◌, ℕ, List, take, sym, ap, ap�
 use Rattle.std.proofs.lemmas.Bool.Decides.{Decides-eqb, same_from_decides, nat_tests}
 use Rattle.std.proofs.lemmas.Slice.Eq.{slice_eq-Decides}
 use Rattle.std.proofs.lemmas.Int.{ints}
-use Rattle.word_image.specs.LocalRules.{LocalRule, same_rule}
+use Rattle.word_image.specs.LocalRules.{LocalRule}
+use Rattle.word_image.specs.SameRules.{same_rule}
 use Rattle.word_image.specs.Storage.{padded, in_row-take}
 use Rattle.word_image.proofs.laws.SameRules.{rule_from_parts, Decides-same_rule}
 use Rattle.word_image.proofs.local_rule.RulePartialEq.eq.Goals as goal

@@ -1,0 +1,25 @@
+-- The pairs of nodes with which two walks part, on the right and on the left.
+use Rattle.std.specs.Prelude.{◌≡◌, ◌≢◌, ℕ, ◌-◌, ◌<◌, drop}
+use Rattle.word_image.specs.LocalRules.{LocalRule, node_count, word_of}
+use Rattle.word_image.specs.Graphs.{next, label, node_letter, pair_count, pair_of, first_of, second_of}
+
+-- a pair to which two different letters lead from one node, with one label
+pub record IsFirstOfRight (r : LocalRule) (p : ℕ) : Type 0 where
+  pub node : ℕ
+  pub a : ℕ
+  pub b : ℕ
+  pub in_nodes : node < node_count r
+  pub a_letter : a < r.states
+  pub b_letter : b < r.states
+  pub different : a ≢ b
+  pub one_label : label r node a ≡ label r node b
+  pub pair : p ≡ pair_of r (next r node a) (next r node b)
+
+-- a pair of nodes that differ in their first letter and only there, from which one letter leads with one label
+pub record IsFirstOfLeft (r : LocalRule) (p : ℕ) : Type 0 where
+  pub letter : ℕ
+  pub in_pairs : p < pair_count r
+  pub in_letters : letter < r.states
+  pub different : node_letter r (first_of r p) 0 ≢ node_letter r (second_of r p) 0
+  pub same_rest : drop 1 (word_of r.states (r.width - 1) (first_of r p)) ≡ drop 1 (word_of r.states (r.width - 1) (second_of r p))
+  pub one_label : label r (first_of r p) letter ≡ label r (second_of r p) letter
