@@ -1,5 +1,6 @@
 """An atlas of a shape: each class of rules with its verdicts and their least evidence, as a page for the
-elementary rules and as CSV for any shape with Wolfram numbers.
+elementary rules and as CSV for any shape with Wolfram numbers. Verdicts and evidence are those of the class's least
+rule: of the mirrored ones right and left are exchanged, and whether a sum is kept is a matter of each rule alone.
 """
 from __future__ import annotations
 
@@ -8,7 +9,7 @@ import io
 from collections.abc import Iterable, Iterator
 from dataclasses import dataclass
 
-from .commands import decide, least, number, survey
+from .commands import decide, least, survey
 from .report import Closing, Report
 
 HEAD = ("least", "members", "surjective", "orphan", "injective", "window", "twins", "right", "right evidence", "left",
@@ -26,13 +27,11 @@ class Class:
 def classes_of(states: int, width: int) -> Iterator[Class]:
     """The classes of all rules of a shape, by their least numbers."""
     survey(states, width, 0, 1)                 # a shape that is refused is refused here
-    members: dict[int, list[int]] = {}
+    members: dict[str, list[int]] = {}
     for rule in range(states ** states ** width):
-        first = number(least(f"{states}:{width}:0:w{rule}"))
-        assert first is not None                # where there is a least rule there is a number
-        members.setdefault(first, []).append(rule)
-    for first, rules in sorted(members.items()):
-        yield Class(tuple(rules), decide(f"{states}:{width}:0:w{first}"))
+        members.setdefault(least(f"{states}:{width}:0:w{rule}"), []).append(rule)
+    for first, rules in members.items():        # in the order of their least rules
+        yield Class(tuple(rules), decide(first))
 
 
 def said(verdict: bool | Closing) -> str:
@@ -85,18 +84,13 @@ def summary_lines(entries: list[Class]) -> Iterator[str]:
     """For each property how many rules and classes have it, and which these are."""
     properties = {"surjective": "surjective", "injective": "injective", "right": "right-closing",
                   "left": "left-closing", "open": "open", "conserving": "conserving the number of ones"}
+    counts = survey(2, 3, 0, 256)
     yield "| Property | Rules | Classes | The least rules of these |"
     yield "|---|---|---|---|"
     for name, title in properties.items():
         having = [entry for entry in entries if getattr(entry.report, name)]
         firsts = " ".join(str(entry.members[0]) for entry in having)
-        count = survey_count(name)
-        yield f"| {title} | {count} | {len(having)} | {firsts} |"
-
-
-def survey_count(name: str) -> int:
-    """How many elementary rules have a property."""
-    return int(getattr(survey(2, 3, 0, 256), name))
+        yield f"| {title} | {getattr(counts, name)} | {len(having)} | {firsts} |"
 
 
 def cell(verdict: bool | Closing, evidence: str) -> str:

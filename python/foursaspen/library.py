@@ -60,7 +60,7 @@ class Library:
                 break
             room = self._rooms.room = ctypes.create_string_buffer(length.value)
         if code == MEMORY:
-            raise OutOfMemory()
+            raise OutOfMemory("there was no memory")
         if code == NO_WORDS:
             raise WordsFault("the words aren't UTF-8")
         return Outcome(code, ctypes.string_at(room, length.value))

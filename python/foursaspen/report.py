@@ -21,7 +21,7 @@ class Answer:
         return self.text
 
     def _repr_html_(self) -> str:
-        return table((line.split(" ", 1) + [""])[:2] for line in self.text.splitlines())
+        return table((head, text) for head, _, text in (line.partition(" ") for line in self.text.splitlines()))
 
 
 def table(rows: Iterable[tuple[str, str]]) -> str:
@@ -154,10 +154,10 @@ class Verdicts(Answer):
     @staticmethod
     def of(text: str) -> Verdicts:
         line = lines_of(text)
-        verdicts = [line[part.name][0] == "yes" for part in fields(Verdicts)[2:-1]]
-        weights = line.get("weights")
-        return Verdicts(text, line["accepted"][0], *verdicts,
-                        tuple(map(int, weights[0].split(","))) if weights else None)
+        said = {name: words[0] == "yes" for name, words in line.items()}
+        weights = tuple(map(int, line["weights"][0].split(","))) if "weights" in line else None
+        return Verdicts(text, line["accepted"][0], said["surjective"], said["injective"], said["right"], said["left"],
+                        said["open"], said["conserving"], weights)
 
 
 @dataclass(frozen=True)
@@ -182,9 +182,9 @@ class Language(Answer):
             here = self.after[here][int(digit, 16)]
         return here
 
-    def __contains__(self, word: str) -> bool:
+    def __contains__(self, word: object) -> bool:
         """Whether the word has a preimage."""
-        return self.class_of(word) != self.dead
+        return self.class_of(str(word)) != self.dead
 
 
 @dataclass(frozen=True)
