@@ -7,6 +7,7 @@ from html import escape
 
 DARK, GREY, LIGHT = "#1a1a1a", "#5a5a5a", "#d0d0d0"
 BLUE, ORANGE = "#0b57c2", "#b84500"
+MARGIN = 24                                     # left of all, and below it
 FONT = "DejaVu Sans, Verdana, sans-serif"
 Point = tuple[float, float]
 
@@ -25,7 +26,7 @@ class Canvas:
     def text(self, x: float, y: float, text: str, size: float = 12, anchor: str = "middle", color: str = DARK,
              bold: bool = False) -> None:
         """A text with its base line at y."""
-        beyond = {"start": 1.0, "middle": 0.5, "end": 0.0}[anchor] * len(text) * size * 0.62
+        beyond = {"start": 1.0, "middle": 0.5, "end": 0.0}[anchor] * len(text) * size * 0.58
         self._reach(x + beyond, y + size / 3)
         weight = ' font-weight="bold"' if bold else ""
         self._parts.append(f'<text x="{x:.1f}" y="{y:.1f}" font-size="{size:g}" text-anchor="{anchor}" '
@@ -59,9 +60,9 @@ class Canvas:
         corners = " ".join(f"{a:.1f},{b:.1f}" for a, b in [(x, y), *sides])
         self._parts.append(f'<polygon points="{corners}" fill="{color}"/>')
 
-    def svg(self, margin: float) -> str:
+    def svg(self) -> str:
         """The picture, on white."""
-        width, height = math.ceil(self.width + margin), math.ceil(self.height + margin)
+        width, height = math.ceil(self.width + MARGIN), math.ceil(self.height + MARGIN)
         return "\n".join([
             f'<svg xmlns="http://www.w3.org/2000/svg" width="{width}" height="{height}" '
             f'viewBox="0 0 {width} {height}" font-family="{FONT}">',

@@ -1,6 +1,7 @@
 """Pictures: what they show is so, they can be read, and docs/ has what the package makes."""
 from __future__ import annotations
 
+import math
 import unittest
 import xml.etree.ElementTree as tree
 
@@ -65,7 +66,8 @@ class Walks(unittest.TestCase):
                     first, second = walks_of(graph, report, show)
                     self.assertEqual([edge.image for edge in first], [edge.image for edge in second])
                     self.assertNotEqual(first, second)
-                    self.assertTrue(all(a.target == b.source for walk in (first, second) for a, b in zip(walk, walk[1:])))
+                    for walk in (first, second):
+                        self.assertTrue(all(a.target == b.source for a, b in zip(walk, walk[1:])))
                     seen += 1
         self.assertGreater(seen, 60)
 
@@ -86,7 +88,7 @@ class Layouts(unittest.TestCase):
             ring = Ring(Graph(f"{states}:{width}:0:t" + "0" * states ** width))
             for edge, line in ring.lines.items():
                 others = [place for node, place in ring.nodes.items() if node not in (edge.source, edge.target)]
-                nearest = min((abs(complex(*point) - complex(*place)) for point in line for place in others), default=99)
+                nearest = min((math.dist(point, place) for point in line for place in others), default=99)
                 self.assertGreater(nearest, RADIUS, (states, width, edge))
 
     def test_a_cycle_meets_each_node_once(self) -> None:
