@@ -77,11 +77,13 @@ def heading(report: Report, show: str) -> str:
 
 def draw_graph(canvas: Canvas, graph: Graph, walks: Walks) -> None:
     """The graph as nodes and edges, or as a table where there are too many edges."""
+    said = "letter read / letter of the image"
     if fits(graph):
         draw_ring(canvas, Ring(graph), walks)
     else:
         draw_table(canvas, graph, walks)
-    canvas.text(MARGIN, canvas.height + 22, "letter read / letter of the image", anchor="start", color=GREY)
+        said += "; the edge leads to the node of the letter read"
+    canvas.text(MARGIN, canvas.height + 22, said, anchor="start", color=GREY)
 
 
 def draw_ring(canvas: Canvas, ring: Ring, walks: Walks) -> None:

@@ -6,7 +6,7 @@ import math
 from .drawing import BLUE, DARK, GREY, LIGHT, MARGIN, ORANGE, Canvas
 from .graphs import Edge, Graph
 
-COLUMN, ROW = 46, 24
+ROW = 24
 Walks = tuple[list[Edge], list[Edge]]
 
 
@@ -15,7 +15,8 @@ class Trellis:
 
     def __init__(self, canvas: Canvas, graph: Graph, image: str, top: float) -> None:
         self.canvas, self.top = canvas, top
-        self.left = MARGIN + 92.0
+        self.left: float = MARGIN + 92.0
+        self.column: float = 38.0 + 3.5 * graph.nodes
         for node in range(graph.nodes):
             canvas.text(self.left - 22, self.y(node) + 4.3, graph.name(node), anchor="end", bold=True)
             for column in range(len(image) + 1):
@@ -23,7 +24,7 @@ class Trellis:
         self.letters("image", image, top - 14, DARK)
 
     def x(self, column: float) -> float:
-        return self.left + COLUMN * column
+        return self.left + self.column * column
 
     def y(self, node: int) -> float:
         return self.top + ROW * (node + 0.5)

@@ -3,6 +3,7 @@ from __future__ import annotations
 
 import unittest
 from collections.abc import Callable
+from concurrent.futures import ThreadPoolExecutor
 
 import foursaspen as ca
 from foursaspen.commands import said
@@ -141,6 +142,13 @@ class Drawn(unittest.TestCase):
                 self.assertEqual((0, str(certificate).encode()), program(["brief", rule]))
                 self.assertEqual((0, str(ca.check(certificate)).encode()), verdicts)
         self.assertTrue(50 < surjective < 250, surjective)
+
+
+class Threads(unittest.TestCase):
+    def test_calls_of_threads_do_not_meet(self) -> None:
+        rules: list[ca.Rule] = [n % 256 for n in range(1000)]
+        with ThreadPoolExecutor(8) as pool:
+            self.assertEqual(list(pool.map(ca.decide, rules)), [ca.decide(rule) for rule in rules])
 
 
 class Functions(unittest.TestCase):
