@@ -68,7 +68,7 @@ def as_csv(states: int, width: int) -> str:
 INTRODUCTION = """# The elementary rules
 
 The 256 rules of two states and width 3, by their Wolfram numbers, in the 88 classes of rules that differ by a mirror
-and by an exchange of 0 and 1. Made by `python -m foursaspen atlas`, which calls the proved program for each; the
+and by an exchange of 0 and 1. Made by `python -m foursaspen atlas`, which calls the proved library for each; the
 tests compare this page with what that prints.
 
 Bold is yes. Behind a verdict stands its least evidence, that of the class's least rule, as `decide` prints it: the
