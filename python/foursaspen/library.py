@@ -1,0 +1,91 @@
+"""The shared library, called through ctypes.
+
+It is looked for where the environment variable CA_LIBRARY says, and else in the repository that this package
+lies in. `./library` at the top of the repository proves and builds it.
+"""
+from __future__ import annotations
+
+import ctypes
+import functools
+import os
+import threading
+from collections.abc import Iterable
+from pathlib import Path
+from typing import NamedTuple
+
+from .faults import LibraryMissing, OutOfMemory, WordsFault
+
+VERSION = 1                                     # of the C interface
+BUILT = Path("crates", "ca_c", "out", "library", "libca_c.so")
+ROOM = 1 << 16                                  # bytes, at first
+
+MEMORY, NO_WORDS, NO_ROOM = 8, 9, 10            # codes that come without an output
+
+
+class Outcome(NamedTuple):
+    """What the program comes to: the code of its status, and what it prints."""
+    code: int
+    output: bytes
+
+
+class Library:
+    """A loaded library. Calls of several threads don't meet: each thread has a buffer of its own."""
+
+    def __init__(self, path: Path) -> None:
+        try:
+            loaded = ctypes.CDLL(str(path))
+            self._run = loaded.ca_run
+            version = int(loaded.ca_version())
+        except (OSError, AttributeError) as fault:
+            raise LibraryMissing(f"no library could be loaded: {fault}; run ./library at the top of the repository,"
+                                 " or name a library by CA_LIBRARY") from fault
+        if version != VERSION:
+            raise LibraryMissing(f"the library {path} has version {version}, and not {VERSION}: run ./library")
+        text, size = ctypes.c_char_p, ctypes.c_size_t
+        self._run.argtypes = [text, size, text, size, text, size, ctypes.POINTER(size)]
+        self._run.restype = ctypes.c_uint8
+        self._rooms = threading.local()
+        self.path = path
+
+    def run(self, words: Iterable[str], data: bytes = b"") -> Outcome:
+        """What the program comes to on these words and this input."""
+        block = encoded(words)
+        length = ctypes.c_size_t()
+        room: ctypes.Array[ctypes.c_char] | None = getattr(self._rooms, "room", None)
+        if room is None:
+            room = self._rooms.room = ctypes.create_string_buffer(ROOM)
+        while True:
+            code = self._run(block, len(block), data, len(data), room, len(room), ctypes.byref(length))
+            if code != NO_ROOM:
+                break
+            room = self._rooms.room = ctypes.create_string_buffer(length.value)
+        if code == MEMORY:
+            raise OutOfMemory("there was no memory")
+        if code == NO_WORDS:
+            raise WordsFault("the words aren't UTF-8")
+        return Outcome(code, ctypes.string_at(room, length.value))
+
+
+def encoded(words: Iterable[str]) -> bytes:
+    """The block of the words, each ended by a 0 byte."""
+    block = bytearray()
+    for word in words:
+        if "\0" in word:
+            raise WordsFault("a word has a character 0")
+        try:
+            block += word.encode() + b"\0"
+        except UnicodeEncodeError as fault:
+            raise WordsFault(f"a word has no UTF-8: {fault}") from fault
+    return bytes(block)
+
+
+def place() -> Path:
+    """Where the library is looked for."""
+    named = os.environ.get("CA_LIBRARY")
+    return Path(named) if named else Path(__file__).resolve().parents[2] / BUILT
+
+
+@functools.cache
+def library() -> Library:
+    """The library, loaded at the first call."""
+    return Library(place())

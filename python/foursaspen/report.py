@@ -1,0 +1,286 @@
+"""What the commands answer, as frozen dataclasses. The text of each, `str(answer)`, is what the program prints,
+to the byte; the parts are read from it.
+
+Words are texts of hexadecimal digits, one for a letter, as the program prints them.
+"""
+from __future__ import annotations
+
+import html
+import json
+from collections.abc import Iterable
+from dataclasses import dataclass, field, fields
+from typing import Any
+
+
+@dataclass(frozen=True)
+class Answer:
+    """What is common: the text, and a table of its lines for a notebook."""
+    text: str = field(repr=False)
+
+    def __str__(self) -> str:
+        return self.text
+
+    def _repr_html_(self) -> str:
+        return table((head, text) for head, _, text in (line.partition(" ") for line in self.text.splitlines()))
+
+
+def table(rows: Iterable[tuple[str, str]]) -> str:
+    """An HTML table with a row for each pair of a heading and a text."""
+    cells = "".join(f"<tr><th style='text-align:left'>{html.escape(head)}</th>"
+                    f"<td style='text-align:left'>{html.escape(text)}</td></tr>" for head, text in rows)
+    return f"<table>{cells}</table>"
+
+
+def lines_of(text: str) -> dict[str, list[str]]:
+    """The words of each line by its first one."""
+    return {line.split()[0]: line.split()[1:] for line in text.splitlines()}
+
+
+# The parts of reports
+
+@dataclass(frozen=True)
+class Tail:
+    """A configuration: the left period over and over, the middle from cell 0 on, the right period over and
+    over."""
+    left: str
+    middle: str
+    right: str
+
+    def __str__(self) -> str:
+        return f"{self.left}|{self.middle}|{self.right}"
+
+    @staticmethod
+    def of(text: str) -> Tail:
+        return Tail(*text.split("|"))
+
+
+@dataclass(frozen=True)
+class Window:
+    """`letters` letters of the image tell the letter at `place` of each preimage."""
+    letters: int
+    place: int
+
+
+@dataclass(frozen=True)
+class Pair:
+    """Two words of one length: twins, whose rings have one image, or an erasable pair."""
+    first: str
+    second: str
+
+
+@dataclass(frozen=True)
+class Split:
+    """Two configurations that agree to one side, differ, and share an image."""
+    first: Tail
+    second: Tail
+
+
+@dataclass(frozen=True)
+class Closing:
+    """Whether a rule closes on a side, with the least look-ahead or the least normal split. It is true exactly
+    where the rule closes."""
+    ahead: int | None
+    split: Split | None
+
+    def __bool__(self) -> bool:
+        return self.ahead is not None
+
+    @staticmethod
+    def of(words: list[str]) -> Closing:
+        if words[0] == "yes":
+            return Closing(int(words[2]), None)
+        return Closing(None, Split(Tail.of(words[2]), Tail.of(words[3])))
+
+
+# Answers about one rule
+
+@dataclass(frozen=True)
+class Report(Answer):
+    """The report of `decide`: five verdicts and whether the rule is open, each with its least evidence."""
+    rule: str
+    number: int | None
+    surjective: bool
+    orphan: str | None
+    injective: bool
+    window: Window | None
+    twins: Pair | None
+    right: Closing
+    left: Closing
+    open: bool
+    conserving: bool
+    flux: tuple[int, ...] | None
+    ring: str | None
+
+    @staticmethod
+    def of(text: str) -> Report:
+        line = lines_of(text)
+        onto, one, kept, number = line["surjective"], line["injective"], line["conserving"], line["number"][0]
+        surjective, injective, conserving = (words[0] == "yes" for words in (onto, one, kept))
+        return Report(
+            text, line["rule"][0], None if number == "none" else int(number),
+            surjective, None if surjective else onto[2],
+            injective, Window(int(one[2]), int(one[3])) if injective else None,
+            None if injective else Pair(one[2], one[3]),
+            Closing.of(line["right"]), Closing.of(line["left"]), line["open"][0] == "yes",
+            conserving, tuple(map(int, kept[2:])) if conserving else None, None if conserving else kept[2])
+
+
+@dataclass(frozen=True)
+class Certificate(Answer):
+    """A certificate, as one JSON text without a line end."""
+
+    @property
+    def data(self) -> dict[str, Any]:
+        """The object that the text writes, as docs/CERTIFICATES.md has its keys."""
+        data: dict[str, Any] = json.loads(self.text)
+        return data
+
+    def _repr_html_(self) -> str:
+        return table((key, json.dumps(value)) for key, value in self.data.items() if key != "ranks")
+
+
+@dataclass(frozen=True)
+class Verdicts(Answer):
+    """What `check` says of an accepted certificate; `weights` exactly where a letter doesn't weigh its value."""
+    rule: str
+    surjective: bool
+    injective: bool
+    right: bool
+    left: bool
+    open: bool
+    conserving: bool
+    weights: tuple[int, ...] | None
+
+    @staticmethod
+    def of(text: str) -> Verdicts:
+        line = lines_of(text)
+        said = {name: words[0] == "yes" for name, words in line.items()}
+        weights = tuple(map(int, line["weights"][0].split(","))) if "weights" in line else None
+        return Verdicts(text, line["accepted"][0], said["surjective"], said["injective"], said["right"], said["left"],
+                        said["open"], said["conserving"], weights)
+
+
+@dataclass(frozen=True)
+class Language(Answer):
+    """The least automaton of the words that have a preimage: how many classes there are, the class of the
+    orphans, and for each class the class after it on each letter. It begins in class 0."""
+    classes: int
+    dead: int | None
+    after: tuple[tuple[int, ...], ...] = field(repr=False)
+
+    @staticmethod
+    def of(text: str) -> Language:
+        classes, dead, *rows = text.splitlines()
+        last = dead.split()[1]
+        return Language(text, int(classes.split()[1]), None if last == "none" else int(last),
+                        tuple(tuple(map(int, row.split())) for row in rows))
+
+    def class_of(self, word: str) -> int:
+        """The class of a word."""
+        here = 0
+        for digit in word:
+            here = self.after[here][int(digit, 16)]
+        return here
+
+    def __contains__(self, word: object) -> bool:
+        """Whether the word has a preimage."""
+        return self.class_of(str(word)) != self.dead
+
+
+@dataclass(frozen=True)
+class Inverse(Answer):
+    """The map that gives every cell back from the image: the least window, the offset from which on it reads
+    the image, its letter for each word, and the map as a rule where that is within the limits."""
+    window: Window
+    offset: int
+    map: str = field(repr=False)
+    rule: str | None
+
+    @staticmethod
+    def of(text: str) -> Inverse:
+        line = lines_of(text)
+        rule = line["rule"][0]
+        return Inverse(text, Window(*map(int, line["window"])), int(line["offset"][0]), line["map"][0],
+                       None if rule == "none" else rule)
+
+
+@dataclass(frozen=True)
+class Same(Answer):
+    """Whether two rules have the same orphans, or the first word that is one of exactly one of them. It is true
+    exactly where they have."""
+    word: str | None
+
+    def __bool__(self) -> bool:
+        return self.word is None
+
+    @staticmethod
+    def of(text: str) -> Same:
+        return Same(text, text.split()[2] if text.split()[1] == "no" else None)
+
+
+@dataclass(frozen=True)
+class Preimage(Answer):
+    """The first configuration that maps to the given one, whose middle begins at the cell `start`. It is
+    true."""
+    start: int
+    tail: Tail
+
+
+@dataclass(frozen=True)
+class Gap(Answer):
+    """That nothing maps to the given configuration: `left` of its left periods, its middle and `right` of its
+    right ones are an orphan, `word`. It is false."""
+    left: int
+    right: int
+    word: str
+
+    def __bool__(self) -> bool:
+        return False
+
+
+def preimage_of(text: str) -> Preimage | Gap:
+    words = text.split()
+    if words[0] == "no":
+        return Gap(text, int(words[2]), int(words[3]), words[4])
+    return Preimage(text, int(words[1]), Tail.of(words[2]))
+
+
+# Answers about many rules
+
+@dataclass(frozen=True)
+class Summary:
+    """How many rules there are, and how many of them have each property. Summaries of different rules are
+    added, many of them by `sum(summaries, Summary())`."""
+    rules: int = 0
+    surjective: int = 0
+    injective: int = 0
+    right: int = 0
+    left: int = 0
+    open: int = 0
+    conserving: int = 0
+
+    @staticmethod
+    def of(text: str) -> Summary:
+        return Summary(*(int(line.split()[1]) for line in text.splitlines()[:7]))
+
+    def __add__(self, other: Summary) -> Summary:
+        if not isinstance(other, Summary):
+            return NotImplemented
+        return Summary(*(getattr(self, part.name) + getattr(other, part.name) for part in fields(Summary)))
+
+    def __str__(self) -> str:
+        return "".join(f"{part.name} {getattr(self, part.name)}\n" for part in fields(Summary))
+
+    def _repr_html_(self) -> str:
+        return table((part.name, f"{getattr(self, part.name):,}") for part in fields(Summary))
+
+
+@dataclass(frozen=True)
+class ClassSummary(Answer):
+    """A summary, and in how many classes the rules lie. Two of these can't be added: they may share a class."""
+    counts: Summary
+    classes: int
+
+    @staticmethod
+    def of(text: str) -> ClassSummary:
+        return ClassSummary(text, Summary.of(text), int(text.split()[-1]))

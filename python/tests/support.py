@@ -1,0 +1,34 @@
+"""The program that the tests compare with, and the rules that they draw."""
+from __future__ import annotations
+
+import os
+import random
+import subprocess
+from collections.abc import Sequence
+from pathlib import Path
+
+TOP = Path(__file__).resolve().parents[2]
+PROGRAM = os.environ.get("CA") or str(TOP / "crates" / "ca" / "out" / "ca")
+DIGITS = "0123456789abcdef"
+SHAPES = ((2, 2), (2, 3), (2, 4), (2, 5), (3, 2), (3, 3), (4, 2), (4, 3), (5, 2), (7, 2), (11, 2), (16, 2))
+
+
+def program(words: Sequence[str], data: bytes = b"") -> tuple[int, bytes]:
+    """The exit status and the output of the program."""
+    done = subprocess.run([PROGRAM, *words], input=data, stdout=subprocess.PIPE, check=False)
+    return done.returncode, done.stdout
+
+
+def drawn(count: int, seed: int) -> list[str]:
+    """Rules of all shapes. A half has any tables; where the other half has a permutation of the letters for each
+    node, a rule is surjective."""
+    dice = random.Random(seed)
+    rules = []
+    for place in range(count):
+        states, width = SHAPES[place % len(SHAPES)]
+        nodes = states ** (width - 1)
+        rows = [dice.sample(range(states), states) if place % 2 else dice.choices(range(states), k=states)
+                for _ in range(nodes)]
+        table = "".join(DIGITS[letter] for row in rows for letter in row)
+        rules.append(f"{states}:{width}:{dice.randint(-3, 3)}:t{table}")
+    return rules

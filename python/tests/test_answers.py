@@ -1,0 +1,151 @@
+"""The parts of answers, by what docs/COMMANDS.md and docs/CERTIFICATES.md show, and the exceptions."""
+from __future__ import annotations
+
+import dataclasses
+import os
+import pickle
+import subprocess
+import sys
+import unittest
+
+import foursaspen as ca
+from foursaspen import faults
+
+from .support import TOP
+
+
+class Reports(unittest.TestCase):
+    def test_parts_of_a_no(self) -> None:
+        report = ca.decide(110)
+        self.assertEqual((report.rule, report.number), ("2:3:-1:t01110110", 110))
+        self.assertEqual((report.surjective, report.orphan), (False, "01010"))
+        self.assertEqual((report.injective, report.window, report.twins), (False, None, ca.Pair("0", "1")))
+        self.assertEqual(report.right, ca.Closing(None, ca.Split(ca.Tail("0", "100", "0"), ca.Tail("0", "111", "1"))))
+        self.assertEqual(str(report.left.split and report.left.split.second), "110|11|0")
+        self.assertEqual((bool(report.right), report.open, report.conserving), (False, False, False))
+        self.assertEqual((report.flux, report.ring), (None, "1"))
+
+    def test_parts_of_a_yes(self) -> None:
+        report = ca.decide("2:2:0:t0101", weights=[0, 2])
+        self.assertEqual((report.surjective, report.orphan, report.injective), (True, None, True))
+        self.assertEqual((report.window, report.twins), (ca.Window(1, 1), None))
+        self.assertEqual((report.right, report.left), (ca.Closing(1, None), ca.Closing(2, None)))
+        self.assertEqual((report.open, report.conserving, report.flux, report.ring), (True, True, (0, -2), None))
+
+    def test_answers_are_frozen(self) -> None:
+        with self.assertRaises(dataclasses.FrozenInstanceError):
+            ca.decide(110).orphan = ""          # type: ignore[misc]
+
+    def test_notebooks_show_every_line(self) -> None:
+        shown = ca.decide("2:2:0:t0101")._repr_html_()
+        self.assertEqual(shown.count("<tr>"), 8)
+        self.assertIn("<td style='text-align:left'>yes window 1 1</td>", shown)
+
+    def test_no_number_and_no_rule(self) -> None:
+        self.assertIsNone(ca.decide("7:2:0:t" + "0" * 49).number)
+        wide = "".join(f"{(x + 2 * y) % 16:x}" for x in range(16) for y in range(16))
+        self.assertIsNone(ca.inverse(f"16:2:0:t{wide}").rule)
+
+    def test_verdicts_of_a_certificate(self) -> None:
+        verdicts = ca.check(ca.certify("2:2:0:t0101", [0, 2]))
+        self.assertEqual((verdicts.rule, verdicts.open, verdicts.weights), ("2:2:0:t0101", True, (0, 2)))
+        self.assertEqual(ca.check(str(ca.brief(110)).encode()).weights, None)
+        self.assertEqual(ca.certify("2:2:0:t0101").data["surjective"], {"sets": [3, 1, 2]})
+
+    def test_languages(self) -> None:
+        language = ca.language("2:2:0:t0001")
+        self.assertEqual(language.after, ((0, 1), (2, 1), (0, 3), (3, 3)))
+        self.assertEqual([language.class_of(word) for word in ("", "1", "10", "101", "1011")], [0, 1, 2, 3, 3])
+        self.assertIn("0110", language)
+        self.assertNotIn("01010", language)
+        self.assertIn("01010", ca.language(90))
+
+    def test_preimages(self) -> None:
+        found, gap = ca.preimage(204, "011|01|0"), ca.preimage(110, "0|101|0")
+        self.assertEqual((found.text, bool(found)), ("preimage -1 101|101|0\n", True))
+        assert isinstance(found, ca.Preimage) and isinstance(gap, ca.Gap)
+        self.assertEqual((found.start, found.tail), (-1, ca.Tail("101", "101", "0")))
+        self.assertEqual((gap.left, gap.right, gap.word, bool(gap)), (1, 1, "01010", False))
+
+
+class Shapes(unittest.TestCase):
+    WHOLE = ca.Summary(256, 30, 6, 22, 22, 14, 5)
+
+    def test_parts_come_in_order(self) -> None:
+        parts = list(ca.survey_shape(2, 3, chunk=100))
+        self.assertEqual(parts, [ca.survey(2, 3, 0, 100), ca.survey(2, 3, 100, 100), ca.survey(2, 3, 200, 56)])
+        self.assertEqual(sum(parts, ca.Summary()), self.WHOLE)
+
+    def test_several_processes_count_the_same(self) -> None:
+        self.assertEqual(list(ca.survey_shape(2, 3, chunk=7, processes=3)), list(ca.survey_shape(2, 3, chunk=7)))
+
+    def test_a_part_of_a_shape(self) -> None:
+        halves = [sum(ca.survey_shape(2, 3, 50, 1, *ends), ca.Summary()) for ends in ((0, 99), (99, 1000))]
+        self.assertEqual([half.rules for half in halves], [99, 157])
+        self.assertEqual(halves[0] + halves[1], self.WHOLE)
+
+    def test_refusals_come_at_once(self) -> None:
+        with self.assertRaises(ca.RuleFault):
+            ca.survey_shape(7, 2)
+        for chunk in (0, 4097):
+            with self.assertRaises(ValueError):
+                ca.survey_shape(2, 3, chunk)
+
+
+class Faults(unittest.TestCase):
+    def test_each_status_has_its_exception(self) -> None:
+        with self.assertRaises(ca.UsageFault) as usage:
+            ca.preimage(110, "0|1")
+        self.assertEqual((str(usage.exception), usage.exception.output), ("usage error", "usage error\n"))
+        with self.assertRaises(ca.RuleFault) as rule:
+            ca.same("3:2:0:w0", "2:3")
+        self.assertEqual((rule.exception.operand, rule.exception.kind, rule.exception.place), (2, "form", 3))
+        with self.assertRaises(ca.RuleFault) as kind:
+            ca.decide(-1)
+        self.assertEqual((kind.exception.kind, kind.exception.place, kind.exception.code), ("form", 0, 3))
+        with self.assertRaises(ca.RuleFault) as number:
+            ca.decide(256)
+        self.assertEqual((number.exception.kind, number.exception.place), ("number", None))
+        with self.assertRaises(ca.TooLong) as long:
+            ca.check(" " * 4194305)
+        self.assertEqual(long.exception.output, "too long\n")
+
+    def test_causes_and_reasons(self) -> None:
+        with self.assertRaises(ca.NotFit) as twins:
+            ca.inverse(90)
+        self.assertEqual((twins.exception.cause, twins.exception.parts), ("twins", ("0", "1")))
+        with self.assertRaises(ca.NotFit) as tail:
+            ca.preimage(110, "|1|0")
+        self.assertEqual((tail.exception.cause, tail.exception.parts), ("tail", ("leftempty",)))
+        with self.assertRaises(ca.Refused) as refused:
+            ca.check("")
+        self.assertEqual((refused.exception.reason, refused.exception.output),
+                         ("format notjson", "refused format notjson\n"))
+
+    def test_words_that_cannot_be_handed_over(self) -> None:
+        for word in ("1\0", "\udc80"):
+            with self.assertRaises(ca.WordsFault):
+                ca.decide(word)
+
+    def test_faults_go_between_processes(self) -> None:
+        for text in ("refused orphan\n", "usage error\n", "rule fault 1 form 3\n", "notfit wide 17\n", "too long\n"):
+            for kind in faults.KINDS.values():
+                if text.startswith({1: "ref", 2: "us", 3: "ru", 4: "no", 5: "too"}.get(kind.code or 0, "-")):
+                    fault = kind(text)
+                    again = pickle.loads(pickle.dumps(fault))
+                    self.assertEqual((type(again), vars(again), str(again)), (kind, vars(fault), str(fault)))
+
+    def test_no_library(self) -> None:
+        code = "import foursaspen\ntry: foursaspen.decide(110)\nexcept foursaspen.LibraryMissing as m: print(m)"
+        environment = dict(os.environ, CA_LIBRARY="/nowhere/libca_c.so", PYTHONPATH=str(TOP / "python"))
+        done = subprocess.run([sys.executable, "-c", code], env=environment, capture_output=True, text=True, check=True)
+        self.assertIn("/nowhere/libca_c.so", done.stdout)
+        self.assertIn("run ./library", done.stdout)
+
+    def test_all_are_faults(self) -> None:
+        for kind in [*faults.KINDS.values(), ca.LibraryMissing]:
+            self.assertTrue(issubclass(kind, ca.Fault))
+
+
+if __name__ == "__main__":
+    unittest.main()

@@ -1,0 +1,23 @@
+"""The examples of docs/PYTHON.md and of the package print what stands there."""
+from __future__ import annotations
+
+import doctest
+import unittest
+
+import foursaspen
+
+from .support import TOP
+
+
+class Examples(unittest.TestCase):
+    def test_the_page(self) -> None:
+        failed, attempted = doctest.testfile(str(TOP / "docs" / "PYTHON.md"), module_relative=False)
+        self.assertEqual(failed, 0)
+        self.assertGreater(attempted, 30)
+
+    def test_the_package(self) -> None:
+        self.assertEqual(doctest.testmod(foursaspen), (0, 2))
+
+
+if __name__ == "__main__":
+    unittest.main()
