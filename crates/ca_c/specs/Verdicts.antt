@@ -1,5 +1,5 @@
 -- What a call hands back of a rule.
-use Rattle.std.specs.Prelude.{◌≡◌, ℕ, Bool, false, List, Option, Some, None, pos}
+use Rattle.std.specs.Prelude.{◌≡◌, ℕ, false, List, Option, Some, None, pos}
 use Rattle.word_image.specs.LocalRules.{LocalRule}
 use Rattle.word_image.specs.Weights.{own_weights}
 use Rattle.word_image.specs.declared.local_rule.RuleFault.{RuleFault}
