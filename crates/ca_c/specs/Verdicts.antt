@@ -22,8 +22,8 @@ fault_code (Some Length) = 5
 fault_code (Some (Letter place)) = 6
 
 -- what is said of a rule each letter of which weighs its own value
-abbrev pub verdicts_of : LocalRule → RuleVerdicts → Verdicts
-verdicts_of r v = record {
+abbrev pub verdicts_about : LocalRule → RuleVerdicts → Verdicts
+verdicts_about r v = record {
   rule = r;
   weights = own_weights r.states;
   surjective = v.surjective;
