@@ -1,5 +1,5 @@
 -- What a call of the interface hands back.
-use Rattle.std.specs.Prelude.{◌≡◌, ℕ, ◌<◌, ◌≤◌, List, ◌++◌, length, drop, Some}
+use Rattle.std.specs.Prelude.{ℕ, ◌<◌, ◌≤◌, List, ◌++◌, length, drop, Some}
 use Rattle.ca_cli.specs.declared.status.Status.{Status}
 use Rattle.ca_cli.specs.Statuses.{code_of}
 use Rattle.ca_cli.specs.RightAnswers.{IsAnswer}

@@ -1,5 +1,5 @@
 -- What a call hands back of a rule.
-use Rattle.std.specs.Prelude.{◌≡◌, ℕ, Bool, false, List, Option, Some, None, pos}
+use Rattle.std.specs.Prelude.{◌≡◌, ℕ, false, List, Option, Some, None, pos}
 use Rattle.word_image.specs.LocalRules.{LocalRule}
 use Rattle.word_image.specs.Weights.{own_weights}
 use Rattle.word_image.specs.declared.local_rule.RuleFault.{RuleFault}
@@ -22,8 +22,8 @@ fault_code (Some Length) = 5
 fault_code (Some (Letter place)) = 6
 
 -- what is said of a rule each letter of which weighs its own value
-abbrev pub verdicts_of : LocalRule → RuleVerdicts → Verdicts
-verdicts_of r v = record {
+abbrev pub verdicts_about : LocalRule → RuleVerdicts → Verdicts
+verdicts_about r v = record {
   rule = r;
   weights = own_weights r.states;
   surjective = v.surjective;

@@ -1,7 +1,7 @@
 //! What is handed back of a rule.
 ghost use Rattle.std.specs.Prelude.{◌≡◌, Some};
 ghost use Rattle.cert_check.specs.Accepted.{AreTrue, is_open};
-ghost use Rattle.ca_c.specs.Verdicts.{AreNone, fault_code, verdicts_of};
+ghost use Rattle.ca_c.specs.Verdicts.{AreNone, fault_code, verdicts_about};
 
 use rule_verdicts::verdicts;
 use word_image::{Rule, RuleFault};
@@ -30,8 +30,8 @@ impl RuleVerdicts {
     /// Those of a rule. It takes no memory.
     pub fn of(rule: &Rule) -> RuleVerdicts
         ensures fault { result.fault ≡ 0 }
-        ensures are_true { AreTrue (verdicts_of rule.now result) }
-        ensures both { result.is_open ≡ is_open (verdicts_of rule.now result) }
+        ensures are_true { AreTrue (verdicts_about rule.now result) }
+        ensures both { result.is_open ≡ is_open (verdicts_about rule.now result) }
     {
         let verdicts = verdicts(rule);
         RuleVerdicts {

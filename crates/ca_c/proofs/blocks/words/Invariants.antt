@@ -1,4 +1,4 @@
-use Rattle.std.proofs.Common.{◌≡◌, ℕ, length, map, string_bytes}
+use Rattle.std.proofs.Common.{length, map, string_bytes}
 use Rattle.ca_c.proofs.laws.Blocks.{Walk}
 use Rattle.ca_c.proofs.blocks.words.Given as goal
 
