@@ -56,9 +56,13 @@ fn each_text_gives_its_tail_or_its_first_fault(rt: HostRuntime) -> Result<(), Fa
 fn a_refusal_hands_the_parts_back(rt: HostRuntime) -> Result<(), Fail> {
     let most = [0; 1024];
     let long = [0; 1025];
-    let cases: [(&[u8], &[u8], &[u8], Option<TailFault>); 3] = [
+    let cases: [(&[u8], &[u8], &[u8], Option<TailFault>); 7] = [
         (&most, &most, &most, None),
+        (&long, &[2], &[], Some(TailFault::RightEmpty)),
+        (&[], &long, &[], Some(TailFault::LeftEmpty)),
         (&[2], &long, &long, Some(TailFault::Long(Part::Middle))),
+        (&[2], &[], &long, Some(TailFault::Long(Part::Right))),
+        (&long, &long, &[3], Some(TailFault::Long(Part::Left))),
         (
             &[1],
             &[0, 1, 2],
