@@ -10,6 +10,9 @@ from .report import Tail
 DIGITS = "0123456789abcdef"
 
 
+Way = tuple[int, int]                           # a node, and the letter that is read there
+
+
 @dataclass(frozen=True)
 class Edge:
     """An edge: from where, the letter that is read, the letter that is written, to where."""
@@ -17,6 +20,10 @@ class Edge:
     letter: int
     image: int
     target: int
+
+    @property
+    def way(self) -> Way:
+        return self.source, self.letter
 
     @property
     def label(self) -> str:

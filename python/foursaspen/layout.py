@@ -3,11 +3,10 @@ label beside its edge, where it is clear of all else.
 """
 from __future__ import annotations
 
+import functools
 import math
-from dataclasses import dataclass, field
-
 from .drawing import Point
-from .graphs import Edge, Graph
+from .graphs import Edge, Graph, Way
 
 RADIUS = 17                                     # of a node
 SIZE = 12                                       # of a label's letters
@@ -24,27 +23,28 @@ def fits(graph: Graph) -> bool:
     return (graph.states, graph.width) in RADII
 
 
-@dataclass
-class Ring:
-    """The drawn graph."""
-    graph: Graph
-    nodes: dict[int, Point] = field(init=False)
-    lines: dict[Edge, list[Point]] = field(init=False)
-    labels: dict[Edge, Point] = field(init=False)
+@functools.cache
+def ring(states: int, width: int) -> Ring:
+    """The layout of the graphs of a shape, found once."""
+    return Ring(Graph(f"{states}:{width}:0:t" + "0" * states ** width))
 
-    def __post_init__(self) -> None:
-        graph = self.graph
+
+class Ring:
+    """Where all lies. Places depend on the shape alone: an edge is named by its node and the letter that it
+    reads."""
+
+    def __init__(self, graph: Graph) -> None:
         self.radius = RADII[graph.states, graph.width]
         self.middle = self.radius + 80.0
         self.order = graph.cycle()
         turn = 2 * math.pi / len(self.order)
         self.nodes = {node: self._round(math.pi + place * turn, self.radius) for place, node in enumerate(self.order)}
-        self.lines = {edge: self._line(edge) for edge in graph.edges()}
-        self._near: dict[tuple[int, int], list[tuple[Edge, Point]]] = {}
+        self.lines = {edge.way: self._line(edge) for edge in graph.edges()}
+        self._near: dict[tuple[int, int], list[tuple[Way, Point]]] = {}
         for edge, line in self.lines.items():
             for x, y in dense(line):
                 self._near.setdefault((int(x // CELL), int(y // CELL)), []).append((edge, (x, y)))
-        self.labels = {}
+        self.labels: dict[Way, Point] = {}
         for edge in sorted(self.lines, key=lambda edge: -length(self.lines[edge])):
             self.labels[edge] = self._best(edge)
 
@@ -83,14 +83,14 @@ class Ring:
         angles = [out + math.pi + gap + (2 * math.pi - 2 * gap) * step / STEPS for step in range(STEPS + 1)]
         return [(center[0] + radius * math.cos(a), center[1] + radius * math.sin(a)) for a in angles]
 
-    def _best(self, edge: Edge) -> Point:
+    def _best(self, edge: Way) -> Point:
         """The place beside an edge that is clearest of all else, and of those that are clear enough the one
         nearest to its middle."""
         def worth(place: tuple[float, Point]) -> float:
             return min(self.room(place[1], edge), ENOUGH) - abs(place[0] - 0.5)
         return max(self._places(edge), key=worth)[1]
 
-    def _places(self, edge: Edge) -> list[tuple[float, Point]]:
+    def _places(self, edge: Way) -> list[tuple[float, Point]]:
         """Places beside an edge, each with how far along it is."""
         line, places = self.lines[edge], []
         for step in range(2, STEPS - 2):
@@ -103,7 +103,7 @@ class Ring:
                 places.append((step / STEPS, (x + side * across[0], y + side * across[1])))
         return places
 
-    def room(self, place: Point, edge: Edge) -> float:
+    def room(self, place: Point, edge: Way) -> float:
         """How far the label of an edge would be from all else, up to what is near; negative where it lies on
         something."""
         nodes = min(distance(place, node) for node in self.nodes.values()) - RADIUS

@@ -6,7 +6,7 @@ from __future__ import annotations
 from .commands import Rule, decide
 from .drawing import BLUE, DARK, GREY, MARGIN, ORANGE, Canvas
 from .graphs import Edge, Graph
-from .layout import RADIUS, Ring, fits
+from .layout import RADIUS, fits, ring
 from .report import Report, Split
 from .trellis import Walks, draw_reading, draw_walks
 
@@ -79,29 +79,30 @@ def draw_graph(canvas: Canvas, graph: Graph, walks: Walks) -> None:
     """The graph as nodes and edges, or as a table where there are too many edges."""
     said = "letter read / letter of the image"
     if fits(graph):
-        draw_ring(canvas, Ring(graph), walks)
+        draw_ring(canvas, graph, walks)
     else:
         draw_table(canvas, graph, walks)
         said += "; the edge leads to the node of the letter read"
     canvas.text(MARGIN, canvas.height + 22, said, anchor="start", color=GREY)
 
 
-def draw_ring(canvas: Canvas, ring: Ring, walks: Walks) -> None:
+def draw_ring(canvas: Canvas, graph: Graph, walks: Walks) -> None:
     """Nodes and edges; those of the walks in their colours."""
-    down = 12.0
-    for edge, line in ring.lines.items():
-        points = [(x, y + down) for x, y in line]
+    placed, down = ring(graph.states, graph.width), 12.0
+    for edge in graph.edges():
+        points = [(x, y + down) for x, y in placed.lines[edge.way]]
         first, second = edge in walks[0], edge in walks[1]
         canvas.arrow(points, BLUE if first else ORANGE if second else GREY, 2.4 if first or second else 1.2)
         if first and second:
             canvas.line(points, ORANGE, 2.4, "7 7")
-    for edge, (x, y) in ring.labels.items():
+    for edge in graph.edges():
+        x, y = placed.labels[edge.way]
         canvas.text(x, y + down + 4.3, edge.label)
-    for node, (x, y) in ring.nodes.items():
-        name = ring.graph.name(node)
+    for node, (x, y) in placed.nodes.items():
+        name = graph.name(node)
         canvas.disc(x, y + down, RADIUS, "#ffffff", DARK)
         canvas.text(x, y + down + 4.3, name, size=12 if len(name) < 4 else 11, bold=True)
-    canvas.height = max(canvas.height, 2 * ring.middle + down - 40)
+    canvas.height = max(canvas.height, 2 * placed.middle + down - 40)
 
 
 def draw_table(canvas: Canvas, graph: Graph, walks: Walks) -> None:

@@ -7,7 +7,7 @@ import xml.etree.ElementTree as tree
 
 import foursaspen as ca
 from foursaspen.graphs import Graph
-from foursaspen.layout import RADII, RADIUS, Ring, fits
+from foursaspen.layout import RADII, RADIUS, fits, ring
 from foursaspen.pictures import SHOWN, walks_of
 
 from .support import TOP, drawn
@@ -18,6 +18,11 @@ SVG = "{http://www.w3.org/2000/svg}"
 def texts(svg: str) -> list[str]:
     """The texts of a picture."""
     return [part.text or "" for part in tree.fromstring(svg).iter(f"{SVG}text")]
+
+
+def blank(states: int, width: int) -> Graph:
+    """The graph of the rule of this shape that gives 0 everywhere."""
+    return Graph(f"{states}:{width}:0:t" + "0" * states ** width)
 
 
 class Pictures(unittest.TestCase):
@@ -76,24 +81,24 @@ class Layouts(unittest.TestCase):
     def test_labels_are_clear(self) -> None:
         """No label lies on another one, on an edge or on a node."""
         for states, width in RADII:
-            graph = Graph(f"{states}:{width}:0:t" + "0" * states ** width)
-            ring = Ring(graph)
+            graph, placed = blank(states, width), ring(states, width)
             with self.subTest(states=states, width=width):
                 self.assertTrue(fits(graph))
-                self.assertEqual(set(ring.labels), set(graph.edges()))
-                self.assertGreater(min(ring.room(place, edge) for edge, place in ring.labels.items()), 0)
+                self.assertEqual(set(placed.labels), {edge.way for edge in graph.edges()})
+                self.assertGreater(min(placed.room(place, edge) for edge, place in placed.labels.items()), 0)
 
     def test_edges_pass_nodes_by(self) -> None:
         for states, width in RADII:
-            ring = Ring(Graph(f"{states}:{width}:0:t" + "0" * states ** width))
-            for edge, line in ring.lines.items():
-                others = [place for node, place in ring.nodes.items() if node not in (edge.source, edge.target)]
+            placed = ring(states, width)
+            for edge in blank(states, width).edges():
+                others = [place for node, place in placed.nodes.items() if node not in (edge.source, edge.target)]
+                line = placed.lines[edge.way]
                 nearest = min((math.dist(point, place) for point in line for place in others), default=99)
                 self.assertGreater(nearest, RADIUS, (states, width, edge))
 
     def test_a_cycle_meets_each_node_once(self) -> None:
         for states, width in ((2, 2), (2, 5), (3, 3), (4, 3), (16, 2)):
-            graph = Graph(f"{states}:{width}:0:t" + "0" * states ** width)
+            graph = blank(states, width)
             cycle = graph.cycle()
             self.assertEqual(sorted(cycle), list(range(graph.nodes)))
             for node, after in zip(cycle, cycle[1:] + cycle[:1]):
