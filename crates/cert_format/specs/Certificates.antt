@@ -1,6 +1,6 @@
 -- What a certificate of a rule says, and the limits of each part.
 use Rattle.std.specs.Prelude.{◌≡◌, ℕ, ◌+◌, ◌-◌, ◌^◌, ◌<◌, ◌≤◌, List, length, Option, Some, None, All, ℤ, pos, negsuc, ◌≤ℤ◌, ⊤, true, false}
-use Rattle.word_image.specs.LocalRules.{LocalRule, IsRule, IsWord, node_count}
+use Rattle.word_image.specs.LocalRules.{LocalRule, IsWord, node_count}
 use Rattle.word_image.specs.Weights.{AreWeights, own_weights}
 use Rattle.word_image.specs.Graphs.{pair_count}
 use Rattle.tail_config.specs.TailTexts.{IsShortTail}

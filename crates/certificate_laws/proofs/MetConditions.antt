@@ -1,5 +1,5 @@
 -- What is written for a rule and weights meets the conditions of the judge: the cover list, the reached pairs or an orphan, the exact ranks, and the least evidence of each other part.
-use Rattle.std.proofs.Common.{◌≡◌, ◌≢◌, ℕ, zero, suc, ◌^◌, List, [], ◌∷◌, length, slice_index, Contains, Option, refl, sym, subst, subst₂, ⊎_elim, arith}
+use Rattle.std.proofs.Common.{◌≢◌, ℕ, zero, suc, ◌^◌, List, [], ◌∷◌, length, slice_index, Contains, Option, refl, sym, subst, subst₂, ⊎_elim, arith}
 use Rattle.std.specs.List.{AllZip}
 use Rattle.std.proofs.lemmas.List.Elements.{Contains-get_or}
 use Rattle.word_image.specs.LocalRules.{LocalRule, IsRule, word_of}

@@ -1,9 +1,9 @@
 -- The inverse map of a rule over a determined window (Amoroso and Patt 1972), and the map as a rule.
-use Rattle.std.specs.Prelude.{◌≡◌, ℕ, ◌+◌, ◌-◌, ◌*◌, ◌/◌, ◌^◌, ◌≤◌, List, length, map, max, slice_index, slice_range, Option, Some, None, nat_lt, ◌==◌, ◌||◌, if◌then◌else◌, ℤ, pos, negsuc, neg_ℤ, ◌+ℤ◌, ◌-ℤ◌, ◌≤ℤ◌, int_lt}
+use Rattle.std.specs.Prelude.{◌≡◌, ℕ, ◌+◌, ◌-◌, ◌*◌, ◌/◌, ◌^◌, List, length, map, max, slice_index, Option, Some, None, nat_lt, ◌==◌, ◌||◌, if◌then◌else◌, ℤ, pos, negsuc, neg_ℤ, ◌+ℤ◌, ◌-ℤ◌, int_lt}
 use Rattle.std.specs.List.{range_with_len}
-use Rattle.word_image.specs.LocalRules.{LocalRule, IsWord, value, local_map}
+use Rattle.word_image.specs.LocalRules.{LocalRule, IsWord, value}
 use Rattle.word_image.specs.Words.{image, IsPreimage}
-use Rattle.tail_config.specs.Tails.{TailConfig, IsTail, cell, image_cell}
+use Rattle.tail_config.specs.Tails.{cell}
 use Rattle.word_image.specs.declared.local_rule.RuleFault.{RuleFault}
 use Rattle.word_image.specs.declared.local_rule.RuleFault.TheVariants.{Width, Nodes, Offset}
 

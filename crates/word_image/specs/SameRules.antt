@@ -1,5 +1,5 @@
 -- When two rules are the same.
-use Rattle.std.specs.Prelude.{ℕ, Bool, ◌==◌}
+use Rattle.std.specs.Prelude.{Bool, ◌==◌}
 use Rattle.std.specs.Ordering.{eq_of_both, int_eq, on}
 use lib.Pointwise.{pointwise}
 use Rattle.word_image.specs.LocalRules.{LocalRule}

@@ -18,7 +18,7 @@ use Rattle.word_image.specs.Graphs.{pair_count}
 use Rattle.word_image.specs.Digits.{word_text}
 use Rattle.word_image.proofs.laws.Words.{IsWord-le}
 use Rattle.tail_config.specs.Tails.{TailConfig}
-use Rattle.tail_config.specs.TailTexts.{HasParts, IsShortTail}
+use Rattle.tail_config.specs.TailTexts.{IsShortTail}
 use Rattle.tail_config.specs.TailTexts as tail
 use Rattle.tail_config.proofs.laws.TailTexts.{Spells-word_text}
 use Rattle.rule_text.specs.PrintedRules.{printed}

@@ -1,6 +1,6 @@
 use Rattle.std.proofs.Common.{sym, subst}
 use Rattle.rule_text.specs.RuleTexts.{decimal_value}
-use Rattle.ca_cli.specs.Requests.{Means, asked_of_many, asked_with}
+use Rattle.ca_cli.specs.Requests.{Means, asked_of_many}
 use Rattle.ca_cli.specs.Commands as commands
 use Rattle.ca_cli.specs.Outcomes.{IsOutcome}
 use Rattle.ca_cli.specs.RightAnswers.{IsOperandFault, IsUnfit, IsRight}

@@ -3,7 +3,6 @@ use Rattle.word_image.specs.LocalRules.{LocalRule}
 use Rattle.tail_config.specs.Tails.{Different, ShareImage}
 use Rattle.cert_format.specs.Certificates.{Certificate}
 use Rattle.cert_format.specs.Parts.{side_of, IsOver}
-use Rattle.cert_format.specs.declared.parts.SidePart.{SidePart}
 use Rattle.cert_check.specs.Sides.{AgreeBehind}
 use Rattle.cert_check.specs.Conditions.{OfSplit}
 use Rattle.cert_check.specs.Refusals.{IsSplitBreach}
