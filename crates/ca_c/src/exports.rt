@@ -6,7 +6,7 @@ ghost use Rattle.ca_c.specs.Calls.{IsHandedBack};
 ghost use Rattle.ca_c.specs.Verdicts.{AreNone, fault_code, rule_of, verdicts_about};
 
 use crate::calls::{CallFault, call, put};
-use crate::rule_verdicts::RuleVerdicts;
+use crate::table_verdicts::RuleVerdicts;
 use ca_cli::Status;
 use std::alloc::Global;
 use word_image::Rule;

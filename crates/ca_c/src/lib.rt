@@ -23,11 +23,11 @@
 mod blocks;
 mod calls;
 mod exports;
-mod rule_verdicts;
 mod sinks;
+mod table_verdicts;
 
 pub use exports::{ca_run, ca_verdicts, ca_version};
-pub use rule_verdicts::RuleVerdicts;
+pub use table_verdicts::RuleVerdicts;
 
 #[cfg(test)]
 mod tests;

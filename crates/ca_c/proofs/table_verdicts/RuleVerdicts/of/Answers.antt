@@ -1,5 +1,5 @@
 use Rattle.ca_c.proofs.laws.Verdicts.{AreTrue-renamed}
-use Rattle.ca_c.proofs.rule_verdicts.RuleVerdicts.of.Goals as goal
+use Rattle.ca_c.proofs.table_verdicts.RuleVerdicts.of.Goals as goal
 
 pub returns-clause-are_true : goal.returns-clause-are_true
 returns-clause-are_true c =
