@@ -28,6 +28,3 @@ mod table_verdicts;
 
 pub use exports::{ca_run, ca_verdicts, ca_version};
 pub use table_verdicts::RuleVerdicts;
-
-#[cfg(test)]
-mod tests;
