@@ -77,7 +77,7 @@ impl Source for MemSource {
         ensures count { IfOk result (λ n. n ≡ count_to_give self.old (length buf.old)) }
         ensures gave { IfOk result (λ n. buf.new ≡ take n self.old.left ++ drop n buf.old) }
         ensures rest { IfOk result (λ n. self.new ≡ after_giving self.old n) }
-        ensures failed { OnErr result (self.new ≡ after_failing self.old) }
+        ensures failed { OnErr result ((self.new ≡ after_failing self.old) × (buf.new ≡ buf.old)) }
     {
         let number = self.calls;
         self.calls = number.saturating_add(1);

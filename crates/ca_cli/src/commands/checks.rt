@@ -35,7 +35,7 @@ pub fn check<S: Source>(alloc: Global, source: &mut S) -> Result<Output, Stop>
 
 /// Why the command stops where the judge accepts nothing. Want of memory is no refusal.
 fn stop_for(refusal: Refusal) -> Stop
-    ensures { (result ≡ Stop.Memory alloc_error)
+    ensures { ((result ≡ Stop.Memory alloc_error) × (refusal ≡ Refusal.Memory alloc_error))
         ⊎ ((result ≡ Stop.Refused refusal) × (refusal ≢ Refusal.Memory alloc_error)) }
 {
     match refusal {
