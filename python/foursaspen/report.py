@@ -33,7 +33,7 @@ def table(rows: Iterable[tuple[str, str]]) -> str:
 
 def lines_of(text: str) -> dict[str, list[str]]:
     """The words of each line by its first one."""
-    return {line.split()[0]: line.split()[1:] for line in text.splitlines()}
+    return {head: words for head, *words in map(str.split, text.splitlines())}
 
 
 # The parts of reports

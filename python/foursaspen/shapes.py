@@ -4,6 +4,7 @@ from __future__ import annotations
 from collections import deque
 from collections.abc import Iterable, Iterator
 from concurrent.futures import Executor, Future, ProcessPoolExecutor
+from multiprocessing import get_context
 
 from .commands import survey
 from .report import Summary
@@ -16,7 +17,10 @@ def survey_shape(states: int, width: int, chunk: int = MOST, processes: int = 1,
                  stop: int | None = None) -> Iterator[Summary]:
     """The summaries of consecutive parts of a shape, each of `chunk` rules but for the last, in order. So each is
     progress, and `sum(survey_shape(2, 4), Summary())` the whole. From `start` up to `stop`, where they are given,
-    an earlier survey is taken up again. The first part is begun when the first summary is asked for."""
+    an earlier survey is taken up again. The first part is begun when the first summary is asked for.
+
+    Processes are started anew, and not forked: the library isn't to be called in the fork of a process that has
+    threads. So a script that asks for several does it under `if __name__ == "__main__":`."""
     if not 1 <= chunk <= MOST:
         raise ValueError(f"a part has 1 to {MOST} rules, and not {chunk}")
     survey(states, width, start, 1)             # a shape that is refused is refused here
@@ -31,7 +35,7 @@ def summaries(parts: Iterable[Part], processes: int) -> Iterator[Summary]:
     if processes == 1:
         yield from (survey(*part) for part in parts)
         return
-    with ProcessPoolExecutor(processes) as pool:
+    with ProcessPoolExecutor(processes, mp_context=get_context("spawn")) as pool:
         yield from in_order(pool, parts, 4 * processes)
 
 

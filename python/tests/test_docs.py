@@ -11,12 +11,12 @@ from .support import TOP
 
 class Examples(unittest.TestCase):
     def test_the_page(self) -> None:
-        failed, attempted = doctest.testfile(str(TOP / "docs" / "PYTHON.md"), module_relative=False)
+        failed, attempted = doctest.testfile(str(TOP / "docs" / "PYTHON.md"), module_relative=False, verbose=False)
         self.assertEqual(failed, 0)
         self.assertGreater(attempted, 30)
 
     def test_the_package(self) -> None:
-        self.assertEqual(doctest.testmod(foursaspen), (0, 2))
+        self.assertEqual(doctest.testmod(foursaspen, verbose=False), (0, 2))
 
 
 if __name__ == "__main__":
