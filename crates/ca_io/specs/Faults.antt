@@ -10,9 +10,8 @@ pub record Rose (before now : ℕ) : Type 0 where
   pub higher : count_up before ≤ now
   pub fits : now < 2 ^ 64
 
--- a 64-bit count that never falls, rises where the call fails, and stays where it doesn't
+-- a count that never falls, rises where the call fails, and stays where it doesn't
 pub record CountsFaults {V E : Type 0} (before now : ℕ) (result : Result V E) : Type 0 where
-  pub fits : now < 2 ^ 64
   pub later : before ≤ now
   pub rose : OnErr result (Rose before now)
   pub kept : OnOk result (now ≡ before)
