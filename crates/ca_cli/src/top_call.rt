@@ -65,9 +65,9 @@ pub fn run<S: Source, T: Sink>(
 
     // Where a count neither rose nor stood at its end, no call that it counts failed. Where this holds of
     // both, the answer is right, or there was no memory.
-    ensures complete_write { T.faults sink.new ≡ T.faults sink.old → T.faults sink.old < 2 ^ 64 - 1 →
+    ensures complete_write { T.faults sink.new ≡ T.faults sink.old → T.faults sink.old ≢ 2 ^ 64 - 1 →
         result ≢ Status.WriteFault }
-    ensures complete_read { S.faults source.new ≡ S.faults source.old → S.faults source.old < 2 ^ 64 - 1 →
+    ensures complete_read { S.faults source.new ≡ S.faults source.old → S.faults source.old ≢ 2 ^ 64 - 1 →
         result ≢ Status.ReadFault }
 {
     match answer_to(alloc, words, source) {
