@@ -129,10 +129,12 @@ HasClasses-least {r} {closures} {classes} h =
     let here = slice_get-get_or classes (e / k) 0 inside in
     let (to, step) = IsStep-some r from (e % k) in
     let closed = closed_step h.closed step in
-    let (j, there) = class_after h (e / k) (e % k) from (slice_index closures to) here letter closed in
-    (j, λ i a below place.
-    let (row, column) = same_from_place i a (e / k) (e % k) k below letter (place ∙ same) in
-    subst (λ g. IsNextClass r words g a j) (sym row) (subst (λ b. IsNextClass r words (e / k) b j) (sym column) (are.next (e / k) (e % k) j from (slice_index closures to) here there letter closed)))) in
+    let (j, there) = class_after h (e / k) (e % k) from (slice_index closures to) here letter closed in (
+      j,
+      λ i a below place.
+          let (row, column) = same_from_place i a (e / k) (e % k) k below letter (place ∙ same) in
+          subst (λ g. IsNextClass r words g a j) (sym row) (subst (λ b. IsNextClass r words (e / k) b j) (sym column) (are.next (e / k) (e % k) j from (slice_index closures to) here there letter closed)),
+    )) in
     let dead = place_in classes 0 in (
       record { states = k; classes = length classes; next = next; dead = dead.0 },
       record {

@@ -78,7 +78,8 @@ impl Minimal {
         let mut row = [0; 16];
         for letter in 0..self.subsets.k() {
             let after = steps[letter as usize];
-            row[letter as usize] = self.classes.place(self.closures[usize::from(after)]).unwrap();
+            let class = self.classes.place(self.closures[usize::from(after)]);
+            row[letter as usize] = class.unwrap();
         }
         row
     }

@@ -42,7 +42,7 @@ unwrap-requires c =
     let step = c.steps-steps.ensures a letter in
     let closure = closure_read h.closed (slice_index c.steps-steps.result a) c.from.result c.index.result.now step.within c.from.ensures c.index.ensures in
     let (j, at) = class_after h c.args.i a c.at-set.result _ here letter (closed_step h.closed step) in
-    place_some classes c.index.result.now j (at ∙ ap Some (sym closure)) c.place.result c.place.ensures
+    place_some classes c.index.result.now j (at ∙ ap Some (sym closure)) c.place-class.result c.place-class.ensures
 
 pub loop-letter-preserved : goal.loop-letter-preserved
 loop-letter-preserved c =
@@ -54,7 +54,7 @@ loop-letter-preserved c =
     let steps = c.steps-steps.result in
     let step = c.steps-steps.ensures letter (omega arith) in
     let closure = closure_read c.self.invariant.closed (slice_index steps letter) c.from.result c.index.result.now step.within c.from.ensures c.index.ensures in
-    let stands : slice_get classes place ≡ Some c.index.result.now = subst (IsPlaceOf classes c.index.result.now) c.unwrap.ensures c.place.ensures in
+    let stands : slice_get classes place ≡ Some c.index.result.now = subst (IsPlaceOf classes c.index.result.now) c.unwrap.ensures c.place-class.ensures in
     record {
       long = length-set row letter place ∙ c.loop-letter.invariant.long;
       places = λ a less.
