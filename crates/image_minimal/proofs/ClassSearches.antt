@@ -1,127 +1,152 @@
--- A search through the closures, one closed step more at a time, and the automaton that it makes in the end.
-use Rattle.std.proofs.Common.{◌≡◌, ℕ, suc, ◌+◌, ◌*◌, ◌^◌, ◌<◌, ◌≤◌, List, [], ◌∷◌, ◌++◌, length, slice_index, Option, Some, None, MatchOption, Contains, refl, sym, ap, ◌∙◌, subst, arith, ⊎_elim}
+-- What a search through the closures says of the least automaton in the end.
+use Rattle.std.proofs.Common.{◌≡◌, ℕ, suc, ◌+◌, ◌*◌, ◌/◌, ◌%◌, ◌^◌, ◌<◌, ◌≤◌, List, length, replicate, slice_index, Option, Some, None, Contains, IsSome, refl, sym, ap, ◌∙◌, subst, arith, ⊎_elim}
 use Rattle.std.specs.List.{slice_get}
 use Rattle.std.proofs.lemmas.Bool.{cases_eq}
 use Rattle.std.proofs.lemmas.Nat.{pow_pos, same_from_place}
 use Rattle.std.proofs.Math.Nat.{mul-le-mul_right, suc-mul}
-use Rattle.std.proofs.Math.Pow.{pow_mono}
-use Rattle.std.proofs.lemmas.Option.{slice_get_within, get_or_from_slice_get}
-use Rattle.std.proofs.lemmas.List.{get_or_append_left, length-map, length_push}
+use Rattle.std.proofs.lemmas.Option.{slice_get_within, slice_get-get_or, get_or_from_slice_get}
+use Rattle.std.proofs.lemmas.List.{length-map, length-replicate}
 use Rattle.word_image.specs.LocalRules.{LocalRule, IsRule, node_count}
-use Rattle.word_image.specs.Graphs.{full_set}
-use Rattle.word_image.proofs.laws.Places.{slice_get-push}
+use Rattle.word_image.specs.Graphs.{IsStep}
+use Rattle.word_image.proofs.laws.Places.{Contains-slice_get, slice_get-Contains}
+use Rattle.word_image.proofs.laws.Searches.{some_below}
 use Rattle.search_laws.proofs.QueueStates.{Contains-state, state_of_place}
-use Rattle.image_minimal.specs.ImageLanguages.{IsAutomaton, IsLeastAutomaton, IsDeadClass}
-use Rattle.image_minimal.specs.Closures.{IsClosedStep}
-use Rattle.image_minimal.specs.Indexes.{IsPlaceOf, IsInserted}
-use Rattle.image_minimal.specs.Searches.{IsClassSearch}
-use Rattle.image_minimal.proofs.laws.ClosedSteps.{IsClosedStep-unique, HaveClosures}
+use Rattle.search_laws.proofs.Families.{chosen}
+use Rattle.search_laws.proofs.StepSets.{IsStep-some}
+use Rattle.image_minimal.specs.ImageLanguages.{Automaton, IsClassList, IsNextClass, IsDeadClass, IsLeastAutomaton}
+use Rattle.image_minimal.specs.Closures.{IsClosedStep, AreClosures}
+use Rattle.image_minimal.specs.Indexes.{IsPlaceOf}
+use Rattle.image_minimal.specs.Searches.{IsClassSearch, HasClasses}
+use Rattle.image_minimal.proofs.laws.ClosedSteps.{HaveClosures}
 use Rattle.image_minimal.proofs.laws.Classes.{AreClasses, AreClasses-some, IsClassList-closed, IsNextClass-step, IsDeadClass-some, IsDeadClass-none}
-use Rattle.image_minimal.proofs.Indexes.{IsInserted-kept}
-use Rattle.image_minimal.proofs.Searches.{IsSearch-start, IsSearch-insert, search_place, length-search-le}
-
--- at the beginning no step is followed
-pub IsClassSearch-start : (r : LocalRule) → IsClassSearch r (full_set r ∷ []) [] 0
-IsClassSearch-start r = record {
-  search = IsSearch-start (IsClosedStep r) r.states (full_set r);
-  long = refl;
-  nexts = λ i a letter less. absurd (omega (arith, less));
-}
-
--- one closed step more leads to a class that is put into the list
-pub IsClassSearch-insert : {r : LocalRule} {classes new next : List ℕ} {j : ℕ} (h n from to : ℕ) → IsClassSearch r classes next (h * r.states + n) → n < r.states
-    → slice_get classes h ≡ Some from → IsClosedStep r from n to → IsInserted classes new to j → IsClassSearch r new (next ++ j ∷ []) (h * r.states + n + 1)
-IsClassSearch-insert {r} {classes} {new} {next} {j} h n from to x letter here step added = record {
-  search = IsSearch-insert h n from to x.search letter here step (λ t other. IsClosedStep-unique step other) added;
-  long = length_push next j ∙ ap (λ m. m + 1) x.long;
-  nexts = λ i a below less. ⊎_elim
-      (λ same.
-      let parts : (i ≡ h) × (a ≡ n) = same_from_place i a h n r.states below letter same in
-      let number : slice_index (next ++ j ∷ []) (i * r.states + a) ≡ j =
-      ap (slice_index (next ++ j ∷ [])) (same ∙ sym x.long) ∙ get_or_from_slice_get (next ++ j ∷ []) (length next) j 0 (slice_get-push next j) in
-      record {
-        from = from;
-        to = to;
-        at_from = subst (λ g. slice_get new g ≡ Some from) (sym parts.0) (IsInserted-kept added h from here);
-        at_to = subst (λ g. slice_get new g ≡ Some to) (sym number) added.stands;
-        step = subst (λ b. IsClosedStep r from b to) (sym parts.1) step;
-      })
-      (λ other.
-      let before = x.nexts i a below (omega (arith, less, other)) in
-      let still : slice_index (next ++ j ∷ []) (i * r.states + a) ≡ slice_index next (i * r.states + a) = get_or_append_left next (j ∷ []) 0 (i * r.states + a) (omega (arith, less, other, x.long)) in
-      record {
-        from = before.from;
-        to = before.to;
-        at_from = IsInserted-kept added i before.from before.at_from;
-        at_to = subst (λ g. slice_get new g ≡ Some before.to) (sym still) (IsInserted-kept added (slice_index next (i * r.states + a)) before.to before.at_to);
-        step = before.step;
-      })
-      (cases_eq (i * r.states + a) (h * r.states + n));
-}
+use Rattle.image_minimal.proofs.laws.ClassLists.{IsClassList-long, IsNextClass-unique, IsDeadClass-unique, table_place}
+use Rattle.image_minimal.proofs.Searches.{search_place, search-below, length-search-le}
 
 -- there are no more classes than sets of nodes
-pub length-classes-le : {r : LocalRule} {classes next : List ℕ} {e : ℕ} → IsClassSearch r classes next e → length classes ≤ 2 ^ node_count r
-length-classes-le {r} x = length-search-le x.search (2 ^ node_count r) (omega (arith, pow_pos (node_count r))) (λ s a t step. step.closure.within)
+pub length-classes-le : {r : LocalRule} {classes : List ℕ} {e : ℕ} → IsClassSearch r classes e → length classes ≤ 2 ^ node_count r
+length-classes-le {r} x = length-search-le x (2 ^ node_count r) (omega (arith, pow_pos (node_count r))) (λ s a t step. step.closure.within)
 
--- a class whose steps are followed is one
-pub search_inside : {r : LocalRule} {classes next : List ℕ} → (i : ℕ) → IsRule r → IsClassSearch r classes next ((i + 1) * r.states) → i + 1 ≤ length classes
-search_inside {r} {classes} {next} i rule x =
-    let some : 0 < r.states = omega (arith, rule.shape.least_states) in
-    let h = x.nexts i 0 some (omega (arith, suc-mul i r.states)) in
-    omega (arith, slice_get_within classes i h.from h.at_from)
+-- and each is one
+pub class-below : {r : LocalRule} {classes : List ℕ} {e : ℕ} → IsClassSearch r classes e → (i : ℕ) → i < length classes → slice_index classes i < 2 ^ node_count r
+class-below {r} {classes} x i l = search-below x (2 ^ node_count r) (omega (arith, pow_pos (node_count r))) (λ s a t step. step.closure.within) i (slice_index classes i) (slice_get-get_or classes i 0 l)
+
+-- there is one
+pub classes-some : {r : LocalRule} {classes : List ℕ} {e : ℕ} → IsClassSearch r classes e → 1 ≤ length classes
+classes-some {classes = classes} x =
+    let first = x.queue.first.state in
+    slice_get_within classes 0 first (subst (λ l. slice_get l 0 ≡ Some first) x.states (state_of_place x.tree 0 x.queue.first x.queue.root))
+
+-- a step to a set is a closed step to its closure
+pub closed_step : {r : LocalRule} {closures : List ℕ} {set a to : ℕ} → AreClosures r closures → IsStep r set a to → IsClosedStep r set a (slice_index closures to)
+closed_step {to = to} h step = record { to = to; step = step; closure = h.closure to (omega arith) step.within }
+
+-- a closed step from a class leads to a class
+pub class_after : {r : LocalRule} {closures classes : List ℕ} → HasClasses r closures classes → (i a from to : ℕ) → slice_get classes i ≡ Some from → a < r.states → IsClosedStep r from a to
+    → (j : ℕ) × (slice_get classes j ≡ Some to)
+class_after {r} {closures} {classes} h i a from to here letter step =
+    let x = h.search in
+    let (y, at, state) = search_place x i from here in
+    let row : suc i * r.states ≤ length classes * r.states = mul-le-mul_right r.states (slice_get_within classes i from here) in
+    let (j, z, stands, leads, early) = x.queue.done i a to y at letter (omega (arith, suc-mul i r.states, h.all)) (subst (λ s. IsClosedStep r s a to) (sym state) step) in
+    (j, subst (λ l. slice_get l j ≡ Some to) x.states (state_of_place x.tree j z stands ∙ ap Some leads))
+
+-- a set that stands in a list has a place
+pub place_some : (sets : List ℕ) (set j : ℕ) → slice_get sets j ≡ Some set → (place : Option ℕ) → IsPlaceOf sets set place → IsSome place
+place_some sets set j at None none = absurd (none (Contains-slice_get sets j set at))
+place_some sets set j at (Some i) there = refl
 
 -- the place of the empty set is the class of the orphans
-dead_class : {r : LocalRule} {classes next : List ℕ} {e : ℕ} {words : List (List ℕ)} → IsRule r → HaveClosures r → (x : IsClassSearch r classes next e) → AreClasses x.search.tree words
-    → length x.search.tree * r.states ≤ e → (dead : Option ℕ) → IsPlaceOf classes 0 dead → IsDeadClass r words dead
+dead_class : {r : LocalRule} {classes : List ℕ} {e : ℕ} {words : List (List ℕ)} → IsRule r → HaveClosures r → (x : IsClassSearch r classes e) → AreClasses x.tree words
+    → length x.tree * r.states ≤ e → (dead : Option ℕ) → IsPlaceOf classes 0 dead → IsDeadClass r words dead
 dead_class {words = words} rule closures x c all None none =
-    IsDeadClass-none rule closures x.search.queue all words (λ i y at empty. none (subst (λ l. Contains l 0) x.search.states (Contains-state x.search.tree i y 0 at empty)))
+    IsDeadClass-none rule closures x.queue all words (λ i y at empty. none (subst (λ l. Contains l 0) x.states (Contains-state x.tree i y 0 at empty)))
 dead_class rule closures x c all (Some i) at =
-    let (y, stands, empty) = search_place x.search i 0 at in
-    IsDeadClass-some rule x.search.queue c i y stands empty
+    let (y, stands, empty) = search_place x i 0 at in
+    IsDeadClass-some rule x.queue c i y stands empty
 
--- where all closed steps are followed, it is the least automaton
-pub IsLeastAutomaton-closed : {r : LocalRule} {classes next : List ℕ} {e : ℕ} → IsRule r → HaveClosures r → IsClassSearch r classes next e → e ≡ length classes * r.states
-    → (dead : Option ℕ) → IsPlaceOf classes 0 dead → IsLeastAutomaton r (record { states = r.states; classes = length classes; next = next; dead = dead })
-IsLeastAutomaton-closed {r} {classes} {next} {e} rule closures x closed dead at_dead =
-    let queue = x.search.queue in
-    let tree = x.search.tree in
-    let long : length tree ≡ length classes = sym (length-map tree (λ z. z.state)) ∙ ap length x.search.states in
-    let all : length tree * r.states ≤ e = omega (arith, ap (λ n. n * r.states) long, closed) in
-    let words = AreClasses-some queue in
-    record {
-      words = words.0;
-      states = refl;
-      list = IsClassList-closed rule closures queue all words.1;
-      classes = sym long ∙ words.1.long;
-      long = x.long ∙ closed;
-      next = λ i a inside letter.
-          let row : suc i * r.states ≤ length classes * r.states = mul-le-mul_right r.states inside in
-          let h = x.nexts i a letter (omega (arith, suc-mul i r.states, closed)) in
-          let (y, at_y, of_y) = search_place x.search i h.from h.at_from in
-          let (z, at_z, of_z) = search_place x.search (slice_index next (i * r.states + a)) h.to h.at_to in
-          IsNextClass-step rule queue words.1 i a (slice_index next (i * r.states + a)) y z at_y at_z letter
-          (subst (λ s. IsClosedStep r s a z.state) (sym of_y) (subst (IsClosedStep r h.from a) (sym of_z) h.step));
-      dead = dead_class rule closures x words.1 all dead at_dead;
-    }
+-- the words of the classes
+record AreWords (r : LocalRule) (classes : List ℕ) (words : List (List ℕ)) : Type 0 where
+  pub list : IsClassList r words
+  pub long : length classes ≡ length words
+  pub next : (i a j from to : ℕ) → slice_get classes i ≡ Some from → slice_get classes j ≡ Some to → a < r.states → IsClosedStep r from a to → IsNextClass r words i a j
+  pub dead : (dead : Option ℕ) → IsPlaceOf classes 0 dead → IsDeadClass r words dead
 
--- a place is below the length
-place_within : (sets : List ℕ) (set : ℕ) (place : Option ℕ) → IsPlaceOf sets set place → MatchOption place (Unit {0}) (λ i. i < length sets)
-place_within sets set None none = tt
-place_within sets set (Some i) at = slice_get_within sets i set at
+-- there are such words
+words_of : {r : LocalRule} {closures classes : List ℕ} → HasClasses r closures classes → (words : List (List ℕ)) × AreWords r classes words
+words_of {r} {closures} {classes} h =
+    let x = h.search in
+    let have : HaveClosures r = λ set l. (slice_index closures set, h.closed.closure set (omega arith) l) in
+    let long : length x.tree ≡ length classes = sym (length-map x.tree (λ z. z.state)) ∙ ap length x.states in
+    let all : length x.tree * r.states ≤ h.edges = subst (λ n. n * r.states ≤ h.edges) (sym long) h.all in
+    let (words, are) = AreClasses-some x.queue in (
+      words,
+      record {
+        list = IsClassList-closed h.rule have x.queue all are;
+        long = sym long ∙ are.long;
+        next = λ i a j from to at also letter step.
+            let (y, at_y, of_y) = search_place x i from at in
+            let (z, at_z, of_z) = search_place x j to also in
+            IsNextClass-step h.rule x.queue are i a j y z at_y at_z letter (subst (λ s. IsClosedStep r s a z.state) (sym of_y) (subst (IsClosedStep r from a) (sym of_z) step));
+        dead = dead_class h.rule have x are all;
+      },
+    )
 
--- and its numbers fit
-pub IsAutomaton-closed : {r : LocalRule} {classes next : List ℕ} {e : ℕ} → IsRule r → IsClassSearch r classes next e → e ≡ length classes * r.states
-    → (dead : Option ℕ) → IsPlaceOf classes 0 dead → IsAutomaton (record { states = r.states; classes = length classes; next = next; dead = dead })
-IsAutomaton-closed {r} {classes} {next} {e} rule x closed dead at_dead =
-    let first : slice_get classes 0 ≡ Some x.search.queue.first.state = subst (λ l. slice_get l 0 ≡ Some x.search.queue.first.state) x.search.states (state_of_place x.search.tree 0 x.search.queue.first x.search.queue.root) in
-    record {
-      some = slice_get_within classes 0 x.search.queue.first.state first;
-      most = omega (arith, length-classes-le x, pow_mono {i = node_count r} {j = 16} rule.shape.most_nodes);
-      letters = rule.shape.most_states;
-      long = x.long ∙ closed;
-      within = λ i a inside letter.
-          let row : suc i * r.states ≤ length classes * r.states = mul-le-mul_right r.states inside in
-          let h = x.nexts i a letter (omega (arith, suc-mul i r.states, closed)) in
-          slice_get_within classes (slice_index next (i * r.states + a)) h.to h.at_to;
-      dead = place_within classes 0 dead at_dead;
-    }
+-- there are as many classes as the least automaton has
+pub HasClasses-long : {r : LocalRule} {closures classes : List ℕ} {m : Automaton} → HasClasses r closures classes → IsLeastAutomaton r m → length classes ≡ m.classes
+HasClasses-long h least = let words = words_of h in words.1.long ∙ IsClassList-long words.1.list least.list ∙ sym least.classes
+
+-- a closed step leads to the class that the least automaton has next
+pub HasClasses-next : {r : LocalRule} {closures classes : List ℕ} {m : Automaton} → HasClasses r closures classes → IsLeastAutomaton r m → (i a j from to : ℕ) → slice_get classes i ≡ Some from
+    → slice_get classes j ≡ Some to → a < r.states → IsClosedStep r from a to → j ≡ slice_index m.next (i * m.states + a)
+HasClasses-next {classes = classes} h least i a j from to at also letter step =
+    let words = words_of h in
+    let inside = slice_get_within classes i from at in
+    IsNextClass-unique words.1.list least.list (words.1.next i a j from to at also letter step) (least.next i a (omega (arith, inside, HasClasses-long h least)) (omega (arith, letter, least.states)))
+
+-- the empty set stands where the least automaton has the class of the orphans
+pub HasClasses-dead : {r : LocalRule} {closures classes : List ℕ} {m : Automaton} → HasClasses r closures classes → IsLeastAutomaton r m → (dead : Option ℕ) → IsPlaceOf classes 0 dead → dead ≡ m.dead
+HasClasses-dead {m = m} h least dead at = let words = words_of h in IsDeadClass-unique h.rule words.1.list least.list dead m.dead (words.1.dead dead at) least.dead
+
+-- a set stands somewhere in a list or nowhere
+place_in : (sets : List ℕ) (set : ℕ) → (place : Option ℕ) × IsPlaceOf sets set place
+place_in sets set =
+    ⊎_elim
+    (λ (i, inside, same). (Some i, slice_get-get_or sets i 0 inside ∙ ap Some same))
+    (λ none. (None, λ has. let (i, at) = slice_get-Contains sets set has in none i (slice_get_within sets i set at) (get_or_from_slice_get sets i set 0 at)))
+    (some_below (λ i. slice_index sets i ≡ set) (λ i. cases_eq (slice_index sets i) set) (length sets))
+
+-- there is a least automaton
+pub HasClasses-least : {r : LocalRule} {closures classes : List ℕ} → HasClasses r closures classes → (m : Automaton) × IsLeastAutomaton r m
+HasClasses-least {r} {closures} {classes} h =
+    let k = r.states in
+    let (words, are) = words_of h in
+    let table : List ℕ = replicate (length classes * k) 0 in
+    let long : length table ≡ length classes * k = length-replicate {A = ℕ} (length classes * k) 0 in
+    let Fits : ℕ → ℕ → Type 0 = λ e j. (i a : ℕ) → a < k → i * k + a ≡ e → IsNextClass r words i a j in
+    let (next, size, fits) = chosen table Fits (λ e x at.
+    let (inside, letter, same) = table_place (length classes) k e (omega (arith, slice_get_within table e x at, long)) in
+    let from = slice_index classes (e / k) in
+    let here = slice_get-get_or classes (e / k) 0 inside in
+    let (to, step) = IsStep-some r from (e % k) in
+    let closed = closed_step h.closed step in
+    let (j, there) = class_after h (e / k) (e % k) from (slice_index closures to) here letter closed in (
+      j,
+      λ i a below place.
+          let (row, column) = same_from_place i a (e / k) (e % k) k below letter (place ∙ same) in
+          subst (λ g. IsNextClass r words g a j) (sym row) (subst (λ b. IsNextClass r words (e / k) b j) (sym column) (are.next (e / k) (e % k) j from (slice_index closures to) here there letter closed)),
+    )) in
+    let dead = place_in classes 0 in (
+      record { states = k; classes = length classes; next = next; dead = dead.0 },
+      record {
+        words = words;
+        states = refl;
+        list = are.list;
+        classes = are.long;
+        long = sym size ∙ long;
+        next = λ i a inside letter.
+            let row : suc i * k ≤ length classes * k = mul-le-mul_right k inside in
+            let within : i * k + a < length next = omega (arith, suc-mul i k, size, long) in
+            fits (i * k + a) (slice_index next (i * k + a)) (slice_get-get_or next (i * k + a) 0 within) i a letter refl;
+        dead = are.dead dead.0 dead.1;
+      },
+    )

@@ -3,6 +3,7 @@ pub mod Closures
 pub mod ClosureTables
 pub mod ClosedSteps
 pub mod Classes
+pub mod ClassLists
 pub mod Chains
 pub mod LinkWords
 pub mod Separations

@@ -1,9 +1,9 @@
 -- Searches through sets of nodes, in which some edges have been followed.
-use Rattle.std.specs.Prelude.{◌≡◌, ℕ, ◌+◌, ◌*◌, ◌<◌, ◌↔◌, List, length, map, slice_get, slice_index, Some, Contains}
-use Rattle.word_image.specs.LocalRules.{LocalRule}
+use Rattle.std.specs.Prelude.{◌≡◌, ℕ, ◌*◌, ◌≤◌, ◌↔◌, List, length, map, Contains}
+use Rattle.word_image.specs.LocalRules.{LocalRule, IsRule}
 use Rattle.word_image.specs.Graphs.{full_set}
 use Rattle.search_laws.specs.SearchQueues.{Place, IsQueue}
-use Rattle.image_minimal.specs.Closures.{IsUnreadSet, IsClosedStep}
+use Rattle.image_minimal.specs.Closures.{IsUnreadSet, IsClosedStep, AreClosures}
 
 -- the sets are the states of a breadth first queue, in which the first e edges have been followed: letter a from set i is edge i * k + a
 pub record IsSearch (Step : ℕ → ℕ → ℕ → Type 0) (k start : ℕ) (sets : List ℕ) (e : ℕ) : Type 0 where
@@ -15,16 +15,14 @@ pub record IsSearch (Step : ℕ → ℕ → ℕ → Type 0) (k start : ℕ) (set
 abbrev pub AreUnreadSets : LocalRule → List ℕ → Type 0
 AreUnreadSets r sets = (set : ℕ) → Contains sets set ↔ IsUnreadSet r set
 
--- the class after class i on letter a is that of the closed step
-pub record HasNext (r : LocalRule) (classes next : List ℕ) (i a : ℕ) : Type 0 where
-  pub from : ℕ
-  pub to : ℕ
-  pub at_from : slice_get classes i ≡ Some from
-  pub at_to : slice_get classes (slice_index next (i * r.states + a)) ≡ Some to
-  pub step : IsClosedStep r from a to
+-- closed steps from the full set on lead to the sets
+abbrev pub IsClassSearch : LocalRule → List ℕ → ℕ → Type 0
+IsClassSearch r = IsSearch (IsClosedStep r) r.states (full_set r)
 
--- closed steps have been followed from the full set on, each with the class to which it leads
-pub record IsClassSearch (r : LocalRule) (classes next : List ℕ) (e : ℕ) : Type 0 where
-  pub search : IsSearch (IsClosedStep r) r.states (full_set r) classes e
-  pub long : length next ≡ e
-  pub nexts : (i a : ℕ) → a < r.states → i * r.states + a < e → HasNext r classes next i a
+-- the closures of all sets, and those of the classes in their order: all to which closed steps lead
+pub record HasClasses (r : LocalRule) (closures classes : List ℕ) : Type 0 where
+  pub rule : IsRule r
+  pub closed : AreClosures r closures
+  pub edges : ℕ
+  pub search : IsClassSearch r classes edges
+  pub all : length classes * r.states ≤ edges

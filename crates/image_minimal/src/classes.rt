@@ -1,9 +1,10 @@
 //! The classes of alike words, found breadth first by the closures of their sets.
 
-ghost use Rattle.std.specs.Prelude.{◌≡◌, ◌+◌, ◌*◌, ◌<◌, ◌≤◌, length, slice_index, IfOk};
-ghost use Rattle.image_minimal.specs.ImageLanguages.{IsLeastAutomaton};
+ghost use Rattle.std.specs.Prelude.{◌≡◌, ◌+◌, ◌*◌, ◌<◌, ◌≤◌, ℕ, length, slice_index, IfOk};
+ghost use Rattle.word_image.specs.LocalRules.{LocalRule, IsRule};
+ghost use Rattle.image_minimal.specs.ImageLanguages.{Automaton, IsLeastAutomaton};
 ghost use Rattle.image_minimal.specs.Closures.{AreClosures};
-ghost use Rattle.image_minimal.specs.Searches.{IsClassSearch};
+ghost use Rattle.image_minimal.specs.Searches.{IsClassSearch, HasClasses};
 
 use crate::closures::closures;
 use crate::listed::Listed;
@@ -13,94 +14,105 @@ use std::alloc::{AllocError, Global};
 use std::marker::Model;
 use word_image::Rule;
 
-/// The least automaton of a rule: the classes of alike words, numbered in the order of their least words,
-/// and the class of a word of each class followed by each letter.
+/// The least automaton of a rule, row by row: the classes of alike words, numbered in the order of their
+/// least words, and the classes of a word of each class followed by each letter. It is seen as the rule,
+/// which has one least automaton.
 #[derive(Debug, Drop)]
 pub struct Minimal {
-    // The number of states.
-    k: u8,
-    // The number of classes.
-    len: u32,
-    // The class after class i on letter a, at i * k + a.
-    next: Vec<u16>,
-    // The class of the orphans.
-    dead: Option<u16>,
+    // The steps between the sets of the rule.
+    subsets: Subsets,
+    // For each set its closure.
+    closures: Vec<u16>,
+    // The closure of each class.
+    classes: Listed,
 }
 
 impl Model for Minimal {
-    ghost use Rattle.image_minimal.specs.ImageLanguages.{Automaton, IsAutomaton};
+    ghost use Rattle.word_image.specs.LocalRules.{LocalRule};
+    ghost use Rattle.image_minimal.specs.Searches.{HasClasses};
 
-    ghost Value = { Automaton };
+    ghost Value = { LocalRule };
 
-    ghost view = { λ m. record { states = m.k; classes = m.len; next = m.next.items; dead = m.dead } };
+    ghost view = { λ m. m.subsets };
 
-    ghost invariant = { λ m. IsAutomaton (record { states = m.k; classes = m.len; next = m.next.items; dead = m.dead }) };
+    ghost invariant = { λ m. HasClasses m.subsets m.closures.items m.classes };
 }
 
 /// The least automaton of this rule.
 pub fn least(alloc: Global, rule: &Rule) -> Result<Minimal, AllocError>
-    ensures { IfOk result (IsLeastAutomaton rule.now) }
+    ensures rule { IfOk result (λ minimal. minimal ≡ rule.now) }
+    ensures some { IfOk result (λ _. (a : Automaton) × IsLeastAutomaton rule.now a) }
 {
     let subsets = Subsets::of(alloc, rule)?;
-    let graph = Graph::of(rule);
-    let closures = closures(alloc, &graph)?;
-    Ok(search(alloc, &subsets, &closures)?)
+    let closures = closures(alloc, &Graph::of(rule))?;
+    let classes = search(alloc, &subsets, &closures)?;
+    Ok(Minimal {
+        subsets,
+        closures,
+        classes,
+    })
 }
+
+/// A rule has at most one least automaton.
+pub fn one_least_automaton()
+    ensures { (r : LocalRule) (a b : Automaton) → IsRule r → IsLeastAutomaton r a → IsLeastAutomaton r b → a ≡ b }
+{}
 
 impl Minimal {
     /// How many classes there are, from 1 to 65,536.
     pub fn len(&self) -> u32
-        ensures len { result ≡ self.now.classes }
+        ensures len { (a : Automaton) → IsLeastAutomaton self.now a → result ≡ a.classes }
         ensures some { 1 ≤ result }
         ensures most { result ≤ 65536 }
     {
-        self.len
+        self.classes.len()
     }
 
-    /// The class of a word of class i followed by letter a.
-    pub fn next(&self, i: u32, a: u8) -> u32
-        requires class { i < self.now.classes }
-        requires letter { a < self.now.states }
-        ensures next { result ≡ slice_index self.now.next (i * self.now.states + a) }
-        ensures class { result < self.now.classes }
+    /// The classes of a word of class i followed by each letter, letters ascending.
+    pub fn row(&self, i: u32) -> [u16; 16]
+        requires { (a : Automaton) → IsLeastAutomaton self.now a → i < a.classes }
+        ensures { (a : Automaton) (l : ℕ) → IsLeastAutomaton self.now a → l < a.states → slice_index result l ≡ slice_index a.next (i * a.states + l) }
     {
-        u32::from(self.next[i as usize * usize::from(self.k) + usize::from(a)])
+        let set = self.classes.at(i);
+        let steps = self.subsets.steps(set);
+        let mut row = [0; 16];
+        for letter in 0..self.subsets.k() {
+            let after = steps[letter as usize];
+            let class = self.classes.place(self.closures[usize::from(after)]);
+            row[letter as usize] = class.unwrap();
+        }
+        row
     }
 
     /// The class of the orphans; `None` exactly where the rule is surjective.
     pub fn dead(&self) -> Option<u16>
-        ensures { result ≡ self.now.dead }
+        ensures { (a : Automaton) → IsLeastAutomaton self.now a → result ≡ a.dead }
     {
-        self.dead
+        self.classes.place(0)
     }
 
     /// The number of states k of the rule.
     pub fn k(&self) -> u8
-        ensures { result ≡ self.now.states }
+        ensures states { result ≡ self.now.states }
+        ensures rule { IsRule self.now }
     {
-        self.k
+        self.subsets.k()
     }
 }
 
-/// The automaton of the classes, which are found breadth first from the closure of all nodes.
-fn search(alloc: Global, subsets: &Subsets, closures: &[u16]) -> Result<Minimal, AllocError>
+/// The closures of the classes, which are found breadth first from that of all nodes.
+fn search(alloc: Global, subsets: &Subsets, closures: &[u16]) -> Result<Listed, AllocError>
     requires { AreClosures subsets.now closures.now }
-    ensures { IfOk result (IsLeastAutomaton subsets.now) }
+    ensures { IfOk result (HasClasses subsets.now closures.now) }
 {
     let mut classes = Listed::new(alloc)?;
-    let mut next = Vec::new(alloc);
     classes.insert(subsets.full())?;
     let mut place = 0;
     while place < classes.len() {
-        expand(subsets, closures, &mut classes, &mut next, place)?;
+        expand(subsets, closures, &mut classes, place)?;
         place += 1;
     }
-    Ok(Minimal {
-        k: subsets.k(),
-        len: place,
-        next,
-        dead: classes.place(0),
-    })
+    Ok(classes)
 }
 
 /// Follows the steps from the class at this place, letters ascending.
@@ -108,19 +120,18 @@ fn expand(
     subsets: &Subsets,
     closures: &[u16],
     classes: &mut Listed,
-    next: &mut Vec<u16>,
     place: u32,
 ) -> Result<(), AllocError>
     requires closures { AreClosures subsets.now closures.now }
     requires place { place < length classes.old }
-    requires search { IsClassSearch subsets.now classes.old next.old.items (place * subsets.now.states) }
-    ensures { IfOk result (λ _. IsClassSearch subsets.now classes.new next.new.items ((place + 1) * subsets.now.states)) }
+    requires search { IsClassSearch subsets.now classes.old (place * subsets.now.states) }
+    ensures { IfOk result (λ _. IsClassSearch subsets.now classes.new ((place + 1) * subsets.now.states)) }
 {
     let set = classes.at(place);
     let steps = subsets.steps(set);
-    for a in 0..subsets.k() {
-        let after = steps[a as usize];
-        next.push(classes.insert(closures[usize::from(after)])?)?;
+    for letter in 0..subsets.k() {
+        let after = steps[letter as usize];
+        classes.insert(closures[usize::from(after)])?;
     }
     Ok(())
 }

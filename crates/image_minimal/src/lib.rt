@@ -23,7 +23,8 @@
 //! read, so the set 2 is unread, and so are the sets 0, 1 and 3: each is its own closure. The classes have the least
 //! words of none, 1, 10 and 101, and the last nodes 3, 2, 1 and 0 of these.
 //!
-//! For N nodes, u unread sets and c classes `least` takes **O(u k N + 2^N N + c k)** time and **O(2^N + c k)** space.
+//! For N nodes, u unread sets and c classes `least` takes **O(u k N + 2^N N + c k)** time and **O(2^N)** space. The
+//! classes after each class, c k of them, aren't kept: a row of k is made where it is asked for, in **O(k)** time.
 //! For n sets under both rules together `separate` takes **O(n k log n)** time and **O(n)** space.
 #![tactic(auto)]
 
@@ -35,5 +36,5 @@ mod listed;
 mod separation;
 mod subsets;
 
-pub use classes::{Minimal, least};
+pub use classes::{Minimal, least, one_least_automaton};
 pub use separation::{SepFault, separate};

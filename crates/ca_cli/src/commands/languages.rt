@@ -1,5 +1,6 @@
 //! The commands on the words that are images.
 ghost use Rattle.std.specs.Prelude.{◌≡◌, ◌<◌, ◌≤◌, ◌++◌, IfOk, OnOk};
+ghost use Rattle.image_minimal.specs.ImageLanguages.{Automaton, IsLeastAutomaton};
 ghost use Rattle.ca_cli.specs.LanguageLines.{IsErasedLine, IsLanguage, automaton_lines, class_line, dead_line};
 ghost use Rattle.ca_cli.specs.Outcomes.{Comes};
 ghost use Rattle.ca_cli.specs.Outputs.{IsCauseOfTwo, IsOutputOfTwo};
@@ -18,8 +19,6 @@ use word_image::Rule;
 pub fn language(alloc: Global, rule: &Rule) -> Result<Output, AllocError>
     ensures { IfOk result (IsLanguage rule.now) }
 {
-    // That the rule keeps the limits is what each of its calls says.
-    let _states = rule.k();
     let automaton = image_minimal::least(alloc, rule)?;
     automaton_output(alloc, &automaton)
 }
@@ -52,45 +51,39 @@ pub fn erase(alloc: Global, rule: &Rule) -> Result<Output, AllocError>
 
 /// The lines of an automaton.
 fn automaton_output(alloc: Global, automaton: &Minimal) -> Result<Output, AllocError>
-    requires { 1 ≤ automaton.now.states }
-    ensures { IfOk result (λ output. output ≡ automaton_lines automaton.now) }
+    ensures { IfOk result (λ output. (a : Automaton) → IsLeastAutomaton automaton.now a → output ≡ automaton_lines a) }
 {
     let len = automaton.len();
     // A class below 65,536 has at most five digits, and a blank or a line end behind them.
     let mut output = Output::with_room(alloc, 6 * len as usize * usize::from(automaton.k()))?;
     output.push_line(&format!(in alloc; "classes {len}")?)?;
-    write_dead(alloc, &mut output, automaton)?;
+    write_dead(alloc, &mut output, automaton.dead())?;
     for class in 0..len {
-        write_class(alloc, &mut output, automaton, class)?;
+        write_class(&mut output, automaton, class)?;
     }
     Ok(output)
 }
 
 /// Appends the line that names the class of the orphans.
-fn write_dead(alloc: Global, output: &mut Output, automaton: &Minimal) -> Result<(), AllocError>
-    ensures { OnOk result (output.new ≡ output.old ++ dead_line automaton.now.dead) }
+fn write_dead(alloc: Global, output: &mut Output, dead: Option<u16>) -> Result<(), AllocError>
+    ensures { OnOk result (output.new ≡ output.old ++ dead_line dead) }
 {
-    match automaton.dead() {
+    match dead {
         None => output.push_line("dead none"),
         Some(class) => output.push_line(&format!(in alloc; "dead {class}")?),
     }
 }
 
 /// Appends the line of the classes to which a class leads.
-fn write_class(
-    alloc: Global,
-    output: &mut Output,
-    automaton: &Minimal,
-    class: u32,
-) -> Result<(), AllocError>
-    requires class { class < automaton.now.classes }
-    requires letters { 1 ≤ automaton.now.states }
-    ensures { OnOk result (output.new ≡ output.old ++ class_line automaton.now class) }
+fn write_class(output: &mut Output, automaton: &Minimal, class: u32) -> Result<(), AllocError>
+    requires { (a : Automaton) → IsLeastAutomaton automaton.now a → class < a.classes }
+    ensures { OnOk result ((a : Automaton) → IsLeastAutomaton automaton.now a → output.new ≡ output.old ++ class_line a class) }
 {
-    output.push_number(alloc, automaton.next(class, 0))?;
+    let row = automaton.row(class);
+    output.push_number(u32::from(row[0]))?;
     for letter in 1..automaton.k() {
         output.push(b" ")?;
-        output.push_number(alloc, automaton.next(class, letter))?;
+        output.push_number(u32::from(row[letter as usize]))?;
     }
     output.push(b"\n")
 }

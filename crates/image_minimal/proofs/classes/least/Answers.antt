@@ -1,13 +1,7 @@
-use Rattle.std.proofs.Common.{sym, ◌∙◌, subst, List, ℕ}
-use Rattle.word_image.specs.LocalRules.{LocalRule}
-use Rattle.image_minimal.specs.ImageLanguages.{IsLeastAutomaton}
-use Rattle.image_minimal.specs.Closures.{AreClosures}
+use Rattle.std.proofs.Common.{subst}
+use Rattle.image_minimal.specs.ImageLanguages.{Automaton, IsLeastAutomaton}
+use Rattle.image_minimal.proofs.ClassSearches.{HasClasses-least}
 use Rattle.image_minimal.proofs.classes.least.Goals as goal
 
-pub search-requires : goal.search-requires
-search-requires c =
-    subst (λ (r : LocalRule). AreClosures r c.deref.result.now) (c.of-graph.ensures ∙ sym c.in_ok-subsets.ensures)
-    (subst (λ (closures : List ℕ). AreClosures c.of-graph.result closures) (sym c.deref.ensures.value) c.in_ok-closures.ensures)
-
-pub returns : goal.returns
-returns c = subst (λ (r : LocalRule). IsLeastAutomaton r c.in_ok-search.field-0) c.in_ok-subsets.ensures c.in_ok-search.ensures
+pub returns-clause-some : goal.returns-clause-some
+returns-clause-some c = subst (λ r. (m : Automaton) × IsLeastAutomaton r m) c.in_ok-subsets.ensures (HasClasses-least c.in_ok-classes.ensures)
