@@ -6,7 +6,6 @@ ghost use Rattle.word_image.specs.Digits.{word_text};
 ghost use Rattle.ca_cli.specs.Lines.{line};
 ghost use Rattle.ca_cli.specs.StatusLines.{unfit_line};
 
-use itoa::Buffer;
 use std::alloc::{AllocError, Global};
 use std::marker::Model;
 use word_image::word_text;
@@ -112,10 +111,10 @@ impl Output {
     }
 
     /// Appends the decimal digits of a number.
-    pub fn push_number(&mut self, number: u32) -> Result<(), AllocError>
+    pub fn push_number(&mut self, alloc: Global, number: u32) -> Result<(), AllocError>
         ensures { OnOk result (self.new ≡ self.old ++ decimal number) }
     {
-        self.push(Buffer::new().format(number).as_bytes())
+        self.push(format!(in alloc; "{number}")?.as_bytes())
     }
 
     /// Appends the text as a line.

@@ -59,7 +59,7 @@ fn automaton_output(alloc: Global, automaton: &Minimal) -> Result<Output, AllocE
     output.push_line(&format!(in alloc; "classes {len}")?)?;
     write_dead(alloc, &mut output, automaton.dead())?;
     for class in 0..len {
-        write_class(&mut output, automaton, class)?;
+        write_class(alloc, &mut output, automaton, class)?;
     }
     Ok(output)
 }
@@ -75,15 +75,20 @@ fn write_dead(alloc: Global, output: &mut Output, dead: Option<u16>) -> Result<(
 }
 
 /// Appends the line of the classes to which a class leads.
-fn write_class(output: &mut Output, automaton: &Minimal, class: u32) -> Result<(), AllocError>
+fn write_class(
+    alloc: Global,
+    output: &mut Output,
+    automaton: &Minimal,
+    class: u32,
+) -> Result<(), AllocError>
     requires { (a : Automaton) → IsLeastAutomaton automaton.now a → class < a.classes }
     ensures { OnOk result ((a : Automaton) → IsLeastAutomaton automaton.now a → output.new ≡ output.old ++ class_line a class) }
 {
     let row = automaton.row(class);
-    output.push_number(u32::from(row[0]))?;
+    output.push_number(alloc, u32::from(row[0]))?;
     for letter in 1..automaton.k() {
         output.push(b" ")?;
-        output.push_number(u32::from(row[letter as usize]))?;
+        output.push_number(alloc, u32::from(row[letter as usize]))?;
     }
     output.push(b"\n")
 }
