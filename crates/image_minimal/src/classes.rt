@@ -84,11 +84,26 @@ impl Minimal {
         row
     }
 
-    /// The class of the orphans; `None` exactly where the rule is surjective.
-    pub fn dead(&self) -> Option<u16>
-        ensures { (a : Automaton) → IsLeastAutomaton self.now a → result ≡ a.dead }
+    /// The class of a word of class i followed by letter a.
+    pub fn next(&self, i: u32, a: u8) -> u32
+        requires class { (m : Automaton) → IsLeastAutomaton self.now m → i < m.classes }
+        requires letter { a < self.now.states }
+        ensures { (m : Automaton) → IsLeastAutomaton self.now m → result ≡ slice_index m.next (i * m.states + a) }
     {
-        self.classes.place(0)
+        // That there are at most 16 letters is what this call says.
+        let _states = self.k();
+        let row = self.row(i);
+        u32::from(row[a as usize])
+    }
+
+    /// The class of the orphans; `None` exactly where the rule is surjective.
+    pub fn dead(&self) -> Option<u32>
+        ensures { (m : Automaton) → IsLeastAutomaton self.now m → result ≡ m.dead }
+    {
+        match self.classes.place(0) {
+            None => None,
+            Some(place) => Some(u32::from(place)),
+        }
     }
 
     /// The number of states k of the rule.

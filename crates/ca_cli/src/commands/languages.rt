@@ -65,7 +65,7 @@ fn automaton_output(alloc: Global, automaton: &Minimal) -> Result<Output, AllocE
 }
 
 /// Appends the line that names the class of the orphans.
-fn write_dead(alloc: Global, output: &mut Output, dead: Option<u16>) -> Result<(), AllocError>
+fn write_dead(alloc: Global, output: &mut Output, dead: Option<u32>) -> Result<(), AllocError>
     ensures { OnOk result (output.new ≡ output.old ++ dead_line dead) }
 {
     match dead {

@@ -1,4 +1,4 @@
-use Rattle.std.proofs.Common.{◌≡◌, ◌+◌, ◌*◌, ◌<◌, slice_index, sym, subst, arith}
+use Rattle.std.proofs.Common.{◌<◌, slice_index, sym, subst, arith}
 use Rattle.word_image.specs.Graphs.{IsStep}
 use Rattle.image_minimal.specs.Closures.{IsClosedStep}
 use Rattle.image_minimal.specs.Searches.{IsClassSearch}
