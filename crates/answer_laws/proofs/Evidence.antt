@@ -1,0 +1,81 @@
+-- The least evidence of a rule is one, and so is what is said of it.
+use Rattle.std.proofs.Common.{◌≡◌, ℕ, List, refl, sym, ap, ap₂, ◌∙◌}
+use Rattle.std.specs.Prelude.{Option, None, Some}
+use Rattle.word_image.specs.LocalRules.{LocalRule, IsRule}
+use Rattle.cert_format.specs.Evidence.{InjectiveEvidence, SideEvidence, SumEvidence}
+use Rattle.cert_format.specs.Evidence.InjectiveEvidence.{Window, Twins}
+use Rattle.cert_format.specs.Evidence.SideEvidence.{Ahead, Split}
+use Rattle.cert_format.specs.Evidence.SumEvidence.{Flux, Ring}
+use Rattle.certificate_laws.specs.LeastEvidence.{Evidence, IsOrphanPart, IsInjectivePart, IsRightPart, IsLeftPart, IsConservingPart, IsLeastEvidence}
+use Rattle.ring_laws.proofs.FluxWalks.{IsFlux-unique}
+use Rattle.ca_cli.specs.Reports.{report_of, surjective_line, IsSurjectiveLine, IsReport}
+use Rattle.answer_laws.proofs.Least.{IsLeastOrphan-unique, IsLeastLossyRing-unique, IsLeastTwins-unique, IsLeastDetermined-unique, IsLeastRightAhead-unique, IsLeastRightSplit-unique, IsLeastLeftSplit-unique}
+
+-- whether the rule is surjective, and the least orphan
+pub IsOrphanPart-unique : (r : LocalRule) (o p : Option (List ℕ)) → IsOrphanPart r o → IsOrphanPart r p → o ≡ p
+IsOrphanPart-unique r None None h g = refl
+IsOrphanPart-unique r None (Some w) h g = let (x, is) = h w g.orphan.word in absurd (g.orphan.none x is)
+IsOrphanPart-unique r (Some w) None h g = let (x, is) = g w h.orphan.word in absurd (h.orphan.none x is)
+IsOrphanPart-unique r (Some v) (Some w) h g = ap Some (IsLeastOrphan-unique h g)
+
+-- whether it is injective, and the least window or twins
+pub IsInjectivePart-unique : (r : LocalRule) (e f : InjectiveEvidence) → IsInjectivePart r e → IsInjectivePart r f → e ≡ f
+IsInjectivePart-unique r (Window n c) (Window m d) h g = let (long, place) = IsLeastDetermined-unique h.1 g.1 in ap₂ (λ (i j : ℕ). Window i j) long place
+IsInjectivePart-unique r (Window n c) (Twins x y) h g = absurd (g.0 h.0)
+IsInjectivePart-unique r (Twins x y) (Window n c) h g = absurd (h.0 g.0)
+IsInjectivePart-unique r (Twins x y) (Twins u v) h g = let (first, second) = IsLeastTwins-unique h.1 g.1 in ap₂ (λ (a b : List ℕ). Twins a b) first second
+
+-- whether it closes on the right, and the least look-ahead or split
+pub IsRightPart-unique : (r : LocalRule) (e f : SideEvidence) → IsRightPart r e → IsRightPart r f → e ≡ f
+IsRightPart-unique r (Ahead n) (Ahead m) h g = ap Ahead (IsLeastRightAhead-unique h.1 g.1)
+IsRightPart-unique r (Ahead n) (Split x y) h g = absurd (g.0 h.0)
+IsRightPart-unique r (Split x y) (Ahead n) h g = absurd (h.0 g.0)
+IsRightPart-unique r (Split x y) (Split u v) h g = let (first, second) = IsLeastRightSplit-unique h.1 g.1 in ap₂ Split first second
+
+-- and on the left
+pub IsLeftPart-unique : (r : LocalRule) (e f : SideEvidence) → IsLeftPart r e → IsLeftPart r f → e ≡ f
+IsLeftPart-unique r (Ahead n) (Ahead m) h g = ap Ahead (IsLeastRightAhead-unique h.1 g.1)
+IsLeftPart-unique r (Ahead n) (Split x y) h g = absurd (g.0 h.0)
+IsLeftPart-unique r (Split x y) (Ahead n) h g = absurd (h.0 g.0)
+IsLeftPart-unique r (Split x y) (Split u v) h g = let (first, second) = IsLeastLeftSplit-unique h.1 g.1 in ap₂ Split first second
+
+-- whether it conserves weights, and the flux or the least ring
+pub IsConservingPart-unique : (weight : ℕ → ℕ) {r : LocalRule} → IsRule r → (e f : SumEvidence) → IsConservingPart weight r e → IsConservingPart weight r f → e ≡ f
+IsConservingPart-unique weight rule (Flux phi) (Flux psi) h g = ap Flux (IsFlux-unique rule h.1 h.2 ∙ sym (IsFlux-unique rule g.1 g.2))
+IsConservingPart-unique weight rule (Flux phi) (Ring q) h g = absurd (g.0 h.0)
+IsConservingPart-unique weight rule (Ring p) (Flux psi) h g = absurd (h.0 g.0)
+IsConservingPart-unique weight rule (Ring p) (Ring q) h g = ap Ring (IsLeastLossyRing-unique h.1 g.1)
+
+-- evidence of the same parts is the same
+same_evidence : {e f : Evidence} → e.rule ≡ f.rule → e.weights ≡ f.weights → e.orphan ≡ f.orphan → e.injective ≡ f.injective → e.right ≡ f.right → e.left ≡ f.left
+    → e.conserving ≡ f.conserving → e ≡ f
+same_evidence {e} {f} rule weights orphan injective right left conserving =
+    ap₂ (λ (r : LocalRule) (ws : List ℕ). record { rule = r; weights = ws; orphan = e.orphan; injective = e.injective; right = e.right; left = e.left; conserving = e.conserving }) rule weights
+    ∙ ap₂ (λ (o : Option (List ℕ)) (i : InjectiveEvidence). record { rule = f.rule; weights = f.weights; orphan = o; injective = i; right = e.right; left = e.left; conserving = e.conserving }) orphan injective
+    ∙ ap₂ (λ (x y : SideEvidence). record { rule = f.rule; weights = f.weights; orphan = f.orphan; injective = f.injective; right = x; left = y; conserving = e.conserving }) right left
+    ∙ ap (λ (s : SumEvidence). record { rule = f.rule; weights = f.weights; orphan = f.orphan; injective = f.injective; right = f.right; left = f.left; conserving = s }) conserving
+
+-- a rule has one least evidence
+pub IsLeastEvidence-unique : {weight : ℕ → ℕ} {r : LocalRule} {e f : Evidence} → IsRule r → e.weights ≡ f.weights → IsLeastEvidence weight r e → IsLeastEvidence weight r f → e ≡ f
+IsLeastEvidence-unique {weight} {r} {e} {f} rule weights h g =
+    same_evidence (h.rule ∙ sym g.rule) weights
+    (IsOrphanPart-unique r e.orphan f.orphan h.surjective g.surjective) (IsInjectivePart-unique r e.injective f.injective h.injective g.injective)
+    (IsRightPart-unique r e.right f.right h.right g.right) (IsLeftPart-unique r e.left f.left h.left g.left)
+    (IsConservingPart-unique weight rule e.conserving f.conserving h.conserving g.conserving)
+
+-- the evidence with other weights
+abbrev weighed : List ℕ → Evidence → Evidence
+weighed ws e = record { rule = e.rule; weights = ws; orphan = e.orphan; injective = e.injective; right = e.right; left = e.left; conserving = e.conserving }
+
+-- which say nothing of its being the least
+IsLeastEvidence-weighed : {weight : ℕ → ℕ} {r : LocalRule} {e : Evidence} (ws : List ℕ) → IsLeastEvidence weight r e → IsLeastEvidence weight r (weighed ws e)
+IsLeastEvidence-weighed ws h = record { rule = h.rule; surjective = h.surjective; injective = h.injective; right = h.right; left = h.left; conserving = h.conserving }
+
+-- one line says whether a rule is surjective
+pub IsSurjectiveLine-unique : {r : LocalRule} {out other : List ℕ} → IsSurjectiveLine r out → IsSurjectiveLine r other → out ≡ other
+IsSurjectiveLine-unique {r} h g = h.lines ∙ ap surjective_line (IsOrphanPart-unique r h.orphan g.orphan h.least g.least) ∙ sym g.lines
+
+-- and eight lines report on it
+pub IsReport-unique : {weight : ℕ → ℕ} {r : LocalRule} {out other : List ℕ} → IsRule r → IsReport weight r out → IsReport weight r other → out ≡ other
+IsReport-unique rule h g =
+    h.lines ∙ ap report_of (IsLeastEvidence-unique {f = weighed (h.evidence).weights g.evidence} rule refl h.least (IsLeastEvidence-weighed (h.evidence).weights g.least)) ∙ sym g.lines

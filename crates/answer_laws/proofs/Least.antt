@@ -1,0 +1,62 @@
+-- What is the least of its kind is one: orphans, twins, rings, windows, look-aheads, splits and erasable pairs.
+use Rattle.std.proofs.Common.{inl, inr, ◌≡◌, ℕ, ◌<◌, List, sym, ap, ap₂, ◌∙◌, arith}
+use Rattle.word_image.specs.LocalRules.{LocalRule}
+use Rattle.word_image.specs.Words.{IsLeastOrphan}
+use Rattle.word_image.specs.Rings.{IsLeastTwins, IsLeastLossyRing}
+use Rattle.word_image.specs.Erasure.{IsLeastErasable}
+use Rattle.word_image.specs.Windows.{IsLeastDetermined, IsLeastRightAhead}
+use Rattle.tail_config.specs.Tails.{TailConfig, config_of, mirror_of}
+use Rattle.tail_config.specs.Splits.{IsLeastRightSplit, IsLeastLeftSplit}
+use Rattle.answer_laws.proofs.Orders.{one_word, one_pair, one_split}
+
+-- a rule has one least orphan
+pub IsLeastOrphan-unique : {r : LocalRule} {v w : List ℕ} → IsLeastOrphan r v → IsLeastOrphan r w → v ≡ w
+IsLeastOrphan-unique {v = v} {w = w} h g = one_word v w (h.least w g.orphan) (g.least v h.orphan)
+
+-- one least ring that doesn't keep its sum
+pub IsLeastLossyRing-unique : {weight : ℕ → ℕ} {r : LocalRule} {p q : List ℕ} → IsLeastLossyRing weight r p → IsLeastLossyRing weight r q → p ≡ q
+IsLeastLossyRing-unique {p = p} {q = q} h g = one_word p q (h.least q g.lossy) (g.least p h.lossy)
+
+-- least twins once
+pub IsLeastTwins-unique : {r : LocalRule} {x y u v : List ℕ} → IsLeastTwins r x y → IsLeastTwins r u v → (x ≡ u) × (y ≡ v)
+IsLeastTwins-unique {x = x} {y = y} {u = u} {v = v} h g = one_pair x y u v h.twins.one_length g.twins.one_length (h.least u v g.twins) (g.least x y h.twins)
+
+-- one least erasable pair
+pub IsLeastErasable-unique : {r : LocalRule} {x y u v : List ℕ} → IsLeastErasable r x y → IsLeastErasable r u v → (x ≡ u) × (y ≡ v)
+IsLeastErasable-unique {x = x} {y = y} {u = u} {v = v} h g =
+    one_pair x y u v h.erasable.one_length g.erasable.one_length (h.least u v g.erasable) (g.least x y h.erasable)
+
+-- one least determined window
+pub IsLeastDetermined-unique : {r : LocalRule} {n c m d : ℕ} → IsLeastDetermined r n c → IsLeastDetermined r m d → (n ≡ m) × (c ≡ d)
+IsLeastDetermined-unique {n = n} {c = c} {m = m} {d = d} h g =
+    let below : ¬ (n < m) = λ less. g.least n c (inl less) h.determined in
+    let above : ¬ (m < n) = λ less. h.least m d (inl less) g.determined in
+    let long : n ≡ m = omega (arith, below, above) in
+    let before : ¬ (c < d) = λ less. g.least n c (inr (long, less)) h.determined in
+    let behind : ¬ (d < c) = λ less. h.least m d (inr (sym long, less)) g.determined in
+    (long, omega (arith, before, behind))
+
+-- one least look-ahead
+pub IsLeastRightAhead-unique : {r : LocalRule} {n m : ℕ} → IsLeastRightAhead r n → IsLeastRightAhead r m → n ≡ m
+IsLeastRightAhead-unique {n = n} {m = m} h g =
+    let below : ¬ (n < m) = λ less. g.least n less h.ahead in
+    let above : ¬ (m < n) = λ less. h.least m less g.ahead in
+    omega (arith, below, above)
+
+-- configurations of the same parts are the same
+same_parts : {x u : TailConfig} → x.left ≡ u.left → x.middle ≡ u.middle → x.right ≡ u.right → x ≡ u
+same_parts {x} {u} left middle right = ap₂ (λ (a b : List ℕ). config_of a b x.right) left middle ∙ ap (config_of u.left u.middle) right
+
+-- one least normal split on the right
+pub IsLeastRightSplit-unique : {r : LocalRule} {x y u v : TailConfig} → IsLeastRightSplit r x y → IsLeastRightSplit r u v → (x ≡ u) × (y ≡ v)
+IsLeastRightSplit-unique {x = x} {y = y} {u = u} {v = v} h g =
+    let (middles, rights) = one_split x y u v h.split.middles h.split.rights g.split.middles g.split.rights (h.least u v g.split) (g.least x y h.split) in (
+      same_parts (h.split.first.left ∙ sym g.split.first.left) middles.0 rights.0,
+      same_parts (h.split.second.left ∙ sym g.split.second.left) middles.1 rights.1,
+    )
+
+-- and on the left
+pub IsLeastLeftSplit-unique : {r : LocalRule} {x y u v : TailConfig} → IsLeastLeftSplit r x y → IsLeastLeftSplit r u v → (x ≡ u) × (y ≡ v)
+IsLeastLeftSplit-unique h g =
+    let (first, second) = IsLeastRightSplit-unique h.right g.right in
+    (h.x_is ∙ ap mirror_of first ∙ sym g.x_is, h.y_is ∙ ap mirror_of second ∙ sym g.y_is)

@@ -1,0 +1,10 @@
+pub mod Orders
+pub mod Least
+pub mod Evidence
+pub mod Summaries
+pub mod Lines
+pub mod Rules
+pub mod Tables
+pub mod Inverses
+pub mod Causes
+pub mod Answers

@@ -1,0 +1,77 @@
+-- The orders of words, of pairs of words and of splits: of two that come no later than each other both are one.
+use Rattle.std.proofs.Common.{◌≡◌, ◌≢◌, ℕ, ◌+◌, List, length, map, sym, ap, ◌∙◌}
+use Rattle.std.specs.List.{zip}
+use Rattle.std.specs.Ordering.{nat_cmp, ordering_reverse}
+use Rattle.std.specs.Cmp.{IsTotalOrder}
+use Rattle.std.specs.Cmp.Lexicographic.{slice_cmp}
+use Rattle.std.specs.FinMap.{slice_cmp-IsAntisymmetric}
+use Rattle.std.specs.declared.cmp.Ordering.TheVariants.{Less, Equal, Greater}
+use Rattle.std.proofs.lemmas.Cmp.{on_total, then_total, lists_total, nat_cmp_total, nat_list_cmp_total}
+use Rattle.std.proofs.lemmas.Map.Lookups.{exact_unsigned, exact_pairs}
+use Rattle.std.proofs.lemmas.Slice.Zip.{firsts-zip, seconds-zip}
+use Rattle.word_image.specs.Rings.{pair_cmp, pairs_cmp}
+use Rattle.word_image.specs.Words.{word_cmp}
+use Rattle.tail_config.specs.Tails.{TailConfig}
+use Rattle.tail_config.specs.Splits.{splits_cmp}
+use Rattle.tail_preimage.proofs.laws.Orders.{then_equal, slice_cmp-equal, tied}
+
+-- letter pairs are in a total order
+pair_cmp_total : IsTotalOrder pair_cmp
+pair_cmp_total = then_total (on_total (λ (p : ℕ × ℕ). p.0) nat_cmp_total) (on_total (λ (p : ℕ × ℕ). p.1) nat_cmp_total)
+
+-- so are lists of them
+pairs_cmp_total : IsTotalOrder pairs_cmp
+pairs_cmp_total = then_total (on_total (λ (w : List (ℕ × ℕ)). length w) nat_cmp_total) (lists_total pair_cmp_total)
+
+-- and words
+word_cmp_total : IsTotalOrder word_cmp
+word_cmp_total = then_total (on_total (λ (w : List ℕ). length w) nat_cmp_total) nat_list_cmp_total
+
+-- and splits
+splits_cmp_total : IsTotalOrder splits_cmp
+splits_cmp_total =
+    then_total (on_total (λ (p : TailConfig × TailConfig). length (p.0).middle + length (p.0).right) nat_cmp_total)
+    (then_total (on_total (λ (p : TailConfig × TailConfig). length (p.0).middle) nat_cmp_total)
+    (then_total (on_total (λ (p : TailConfig × TailConfig). zip (p.0).middle (p.1).middle) (lists_total pair_cmp_total))
+    (on_total (λ (p : TailConfig × TailConfig). zip (p.0).right (p.1).right) (lists_total pair_cmp_total))))
+
+-- lists of letter pairs that compare equal are equal
+letter_pairs-equal : (v w : List (ℕ × ℕ)) → slice_cmp pair_cmp v w ≡ Equal → v ≡ w
+letter_pairs-equal = slice_cmp-IsAntisymmetric {R = pair_cmp} (exact_pairs nat_cmp nat_cmp exact_unsigned exact_unsigned)
+
+-- words side by side are told by their letter pairs
+zip-equal : (x y u v : List ℕ) → length x ≡ length y → length u ≡ length v → zip x y ≡ zip u v → (x ≡ u) × (y ≡ v)
+zip-equal x y u v here there same = (
+  sym (firsts-zip x y (sym here)) ∙ ap (map (λ (p : ℕ × ℕ). p.0)) same ∙ firsts-zip u v (sym there),
+  sym (seconds-zip x y (sym here)) ∙ ap (map (λ (p : ℕ × ℕ). p.1)) same ∙ seconds-zip u v (sym there),
+)
+
+-- of two words that come no later than each other both are one
+pub one_word : (v w : List ℕ) → word_cmp v w ≢ Greater → word_cmp w v ≢ Greater → v ≡ w
+one_word v w here there = slice_cmp-equal v w (then_equal (nat_cmp (length v) (length w)) (slice_cmp nat_cmp v w) (tied word_cmp_total v w here there)).1
+
+-- so it is with pairs of words of one length
+pub one_pair : (x y u v : List ℕ) → length x ≡ length y → length u ≡ length v → pairs_cmp (zip x y) (zip u v) ≢ Greater → pairs_cmp (zip u v) (zip x y) ≢ Greater
+    → (x ≡ u) × (y ≡ v)
+one_pair x y u v first second here there =
+    let one : pairs_cmp (zip x y) (zip u v) ≡ Equal = tied pairs_cmp_total (zip x y) (zip u v) here there in
+    zip-equal x y u v first second
+    (letter_pairs-equal (zip x y) (zip u v) (then_equal (nat_cmp (length (zip x y)) (length (zip u v))) (slice_cmp pair_cmp (zip x y) (zip u v)) one).1)
+
+-- and with the middles and right periods of splits
+pub one_split : (x y u v : TailConfig) → length x.middle ≡ length y.middle → length x.right ≡ length y.right → length u.middle ≡ length v.middle → length u.right ≡ length v.right
+    → splits_cmp (x, y) (u, v) ≢ Greater → splits_cmp (u, v) (x, y) ≢ Greater
+    → ((x.middle ≡ u.middle) × (y.middle ≡ v.middle)) × ((x.right ≡ u.right) × (y.right ≡ v.right))
+one_split x y u v middles rights middles' rights' here there =
+    let one : splits_cmp (x, y) (u, v) ≡ Equal = tied splits_cmp_total (x, y) (u, v) here there in
+    let first = then_equal _ _ one in
+    let second = then_equal _ _ first.1 in
+    let third = then_equal _ _ second.1 in (
+      zip-equal x.middle y.middle u.middle v.middle middles middles' (letter_pairs-equal _ _ third.0),
+      zip-equal x.right y.right u.right v.right rights rights' (letter_pairs-equal _ _ third.1),
+    )
+
+-- of two words of which neither comes before the other both are one
+pub one_first : (v w : List ℕ) → word_cmp v w ≢ Less → word_cmp w v ≢ Less → v ≡ w
+one_first v w here there =
+    one_word v w (λ greater. there (word_cmp_total.antisymm w v ∙ ap ordering_reverse greater)) (λ greater. here (word_cmp_total.antisymm v w ∙ ap ordering_reverse greater))

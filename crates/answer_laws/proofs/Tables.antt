@@ -1,0 +1,99 @@
+-- Rules of one shape that give the same on each window are one.
+use Rattle.std.proofs.Common.{◌≡◌, ℕ, ◌+◌, ◌-◌, ◌^◌, ◌<◌, ◌≤◌, List, [], ◌∷◌, length, map, get_or, slice_range, ℤ, pos, ◌+ℤ◌, neg_ℤ, sym, ap, ap₂, ◌∙◌, subst, arith}
+use Rattle.std.specs.List.{range_with_len}
+use Rattle.std.proofs.lemmas.Grind.{same_number_lists}
+use Rattle.std.proofs.lemmas.Int.{ints}
+use Rattle.std.proofs.lemmas.List.{take_all}
+use Rattle.word_image.specs.LocalRules.{LocalRule, IsRule, IsWord, local_map, value, word_of}
+use Rattle.word_image.specs.Words.{image}
+use Rattle.word_image.proofs.laws.SameRules.{rule_from_parts}
+use Rattle.word_image.proofs.laws.Values.{length-word_of, IsWord-word_of, value-word_of}
+use Rattle.tail_config.specs.Tails.{TailConfig, IsTail, config_of, cells, image_cell}
+use Rattle.tail_config.proofs.laws.Cells.{IsWord-zero, cells-middle}
+use Rattle.rule_algebra.specs.Algebra.{KeepsImages, IsTrimmed, IsWidened, IsComposed, IsRecolouring, IsRecoloured}
+use Rattle.rule_classes.proofs.laws.Colours.{letters_of}
+use Rattle.rule_classes.proofs.laws.Recoloured.{local_map-back}
+
+-- two such rules
+pub same_letters : {g h : LocalRule} → IsRule g → IsRule h → g.states ≡ h.states → g.width ≡ h.width → g.offset ≡ h.offset
+    → ((w : List ℕ) → IsWord g.states w → length w ≡ g.width → local_map g w ≡ local_map h w) → g ≡ h
+same_letters {g} {h} first second states width offset same =
+    let long : length g.table ≡ length h.table = first.entries ∙ ap₂ (λ (k m : ℕ). k ^ m) states width ∙ sym second.entries in
+    let each : (v : ℕ) → v < length g.table → get_or g.table v 0 ≡ get_or h.table v 0 = λ v l.
+    let below : v < g.states ^ g.width = omega (arith, first.entries) in
+    let w : List ℕ = word_of g.states g.width v in
+    let read : value g.states w ≡ v = value-word_of g.states g.width v below in
+    ap (λ i. get_or g.table i 0) (sym read) ∙ same w (IsWord-word_of g.states g.width v below) (length-word_of g.states g.width v)
+    ∙ ap (λ k. get_or h.table (value k w) 0) (sym states) ∙ ap (λ i. get_or h.table i 0) read in
+    rule_from_parts states width offset (same_number_lists g.table h.table long each)
+
+-- the word with zeros around it
+abbrev around : List ℕ → TailConfig
+around w = config_of (0 ∷ []) w (0 ∷ [])
+
+-- what a rule that keeps the images of r gives on a window is a cell of an image under r
+keeps_window : {r : LocalRule} (g : LocalRule) → IsRule r → KeepsImages r g → (w : List ℕ) → IsWord r.states w → length w ≡ g.width → local_map g w ≡ image_cell r (around w) (neg_ℤ g.offset)
+keeps_window {r} g rule keeps w word long =
+    let some : 0 < r.states = let least = rule.shape.least_states in omega arith in
+    let tail : IsTail r.states (around w) = record {
+      left_some = omega arith;
+      right_some = omega arith;
+      left_word = IsWord-zero some;
+      middle_word = word;
+      right_word = IsWord-zero some;
+    } in
+    let at : neg_ℤ g.offset +ℤ g.offset ≡ pos 0 = omega (arith, ints) in
+    let window : cells (around w) (neg_ℤ g.offset +ℤ g.offset) g.width ≡ w = ap₂ (λ (i : ℤ) (n : ℕ). cells (around w) i n) at (sym long) ∙ cells-middle (around w) in
+    sym (ap (local_map g) window) ∙ keeps (around w) (neg_ℤ g.offset) tail
+
+-- so such rules of one shape are one
+same_images : {r g h : LocalRule} → IsRule r → IsRule g → IsRule h → g.states ≡ r.states → h.states ≡ r.states → g.width ≡ h.width → g.offset ≡ h.offset
+    → KeepsImages r g → KeepsImages r h → g ≡ h
+same_images {r} {g} {h} rule first second states states' width offset keeps keeps' =
+    same_letters first second (states ∙ sym states') width offset (λ w word long.
+    let letters : IsWord r.states w = subst (λ k. IsWord k w) states word in
+    keeps_window g rule keeps w letters long ∙ ap (λ i. image_cell r (around w) (neg_ℤ i)) offset ∙ sym (keeps_window h rule keeps' w letters (long ∙ width)))
+
+-- a rule is widened in one way
+pub IsWidened-unique : {r g h : LocalRule} {m : ℕ} → IsRule r → IsRule g → IsRule h → IsWidened r m g → IsWidened r m h → g ≡ h
+IsWidened-unique rule first second here there =
+    same_images rule first second here.states there.states (here.width ∙ sym there.width) (here.offset ∙ sym there.offset) here.images there.images
+
+-- and trimmed in one way
+pub IsTrimmed-unique : {r g h : LocalRule} → IsRule r → IsRule g → IsRule h → IsTrimmed r g → IsTrimmed r h → g ≡ h
+IsTrimmed-unique {r} {g} {h} rule first second here there =
+    let firsts : here.first ≡ there.first =
+    omega (arith, here.most_firsts there.first (omega (arith, there.two_left)) there.firsts_ignored, there.most_firsts here.first (omega (arith, here.two_left)) here.firsts_ignored) in
+    let lasts : here.last ≡ there.last =
+    omega (arith, here.most_lasts there.last (omega (arith, there.two_left, firsts)) there.lasts_ignored, there.most_lasts here.last (omega (arith, here.two_left, firsts)) here.lasts_ignored) in
+    same_images rule first second here.states there.states (omega (arith, here.width, there.width, firsts, lasts))
+    (here.offset ∙ ap (λ n. r.offset +ℤ pos n) firsts ∙ sym there.offset) here.images there.images
+
+-- the image of a window is the letter that the rule gives on it
+image-window : (g : LocalRule) (w : List ℕ) → 1 ≤ g.width → length w ≡ g.width → image g w ≡ local_map g w ∷ []
+image-window g w some long =
+    let one : length w - (g.width - 1) ≡ 1 = omega (arith, some, long) in
+    let window : slice_range w 0 (0 + g.width) ≡ w = take_all (0 + g.width - 0) w (omega (arith, long)) in
+    ap (λ n. map (λ i. local_map g (slice_range w i (i + g.width))) (range_with_len 0 n)) one ∙ ap (λ z. local_map g z ∷ []) window
+
+-- rules are composed in one way
+pub IsComposed-unique : {r s g h : LocalRule} → IsRule g → IsRule h → IsComposed r s g → IsComposed r s h → g ≡ h
+IsComposed-unique {r} {s} {g} {h} first second here there =
+    let width : g.width ≡ h.width = here.width ∙ sym there.width in
+    let some : 1 ≤ g.width = let least = first.shape.least_width in omega arith in
+    let some' : 1 ≤ h.width = let least = second.shape.least_width in omega arith in
+    same_letters first second (here.states ∙ sym there.states) width (here.offset ∙ sym there.offset) (λ w word long.
+    let letters : IsWord r.states w = subst (λ k. IsWord k w) here.states word in
+    let images : local_map g w ∷ [] ≡ local_map h w ∷ [] =
+    sym (image-window g w some long) ∙ here.images w letters (omega (arith, long)) ∙ sym (there.images w letters (omega (arith, long, width)))
+    ∙ image-window h w some' (long ∙ width) in
+    ap (λ z. get_or z 0 0) images)
+
+-- and recoloured in one way
+pub IsRecoloured-unique : {r g h : LocalRule} {colours : List ℕ} → IsRule g → IsRule h → IsRecolouring r.states colours → g.offset ≡ h.offset
+    → IsRecoloured colours r g → IsRecoloured colours r h → g ≡ h
+IsRecoloured-unique {r} {g} {h} {colours} first second permutes offset here there =
+    let inverse = letters_of permutes in
+    same_letters first second (here.states ∙ sym there.states) (here.width ∙ sym there.width) offset (λ w word long.
+    let letters : IsWord r.states w = subst (λ k. IsWord k w) here.states word in
+    local_map-back inverse.1 here w letters (long ∙ here.width) ∙ sym (local_map-back inverse.1 there w letters (long ∙ here.width)))

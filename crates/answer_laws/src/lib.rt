@@ -1,0 +1,22 @@
+//! That there is exactly one right answer: the words, and what the source has left, determine the
+//! status (a law of the program's own crate) and, with it, each byte of the output.
+//!
+//! What is said of a rule is the least of its kind, or a number that the rule determines, or a rule
+//! that is told by its images. Of two that come no later than each other in a total order both are one.
+//!
+//! The function here does nothing. It carries the law by its contract.
+#![tactic(auto)]
+
+ghost use Rattle.std.specs.Prelude.{◌≡◌, ℕ, List, Some};
+ghost use Rattle.ca_cli.specs.declared.status.Status.{Status};
+ghost use Rattle.ca_cli.specs.Commands.{Command, IsCommand};
+ghost use Rattle.ca_cli.specs.RightAnswers.{IsAnswer};
+ghost use Rattle.answer_laws.specs.OneOutput.{IsOfOneOutput};
+
+/// Words have one right output with each status over a source that tells what it has left, where they
+/// are no command or one of these.
+pub fn one_output()
+    ensures { (words : List (List ℕ)) (left : List ℕ) (s : Status) (out other : List ℕ)
+        → ((c : Command) → IsCommand words c → IsOfOneOutput c)
+        → IsAnswer words (Some left) s out → IsAnswer words (Some left) s other → out ≡ other }
+{}
