@@ -29,7 +29,7 @@ use Rattle.ca_cli.specs.PreimageLines.{IsPreimageLine}
 use Rattle.answer_laws.specs.OneOutput.{SaysOne, SaysOneWith, SaysOneOfTwo, SaysOneOfMany, IsOfOneOutput}
 use Rattle.answer_laws.proofs.Evidence.{IsSurjectiveLine-unique, IsReport-unique}
 use Rattle.answer_laws.proofs.Summaries.{IsSummary-unique}
-use Rattle.answer_laws.proofs.Lines.{IsSameLine-unique, IsErasedLine-unique, IsPreimageLine-unique}
+use Rattle.answer_laws.proofs.Lines.{IsSameLine-unique, IsErasedLine-unique, IsPreimageLine-unique, IsLanguage-unique}
 use Rattle.answer_laws.proofs.Rules.{IsRuleLine-unique}
 use Rattle.answer_laws.proofs.Tables.{IsWidened-unique, IsTrimmed-unique, IsComposed-unique, IsRecoloured-unique}
 use Rattle.answer_laws.proofs.Inverses.{IsInverse-unique}
@@ -55,7 +55,7 @@ IsOutput-unique ask.Brief one rule h g = absurd one
 IsOutput-unique ask.Reflect one rule h g = IsRuleLine-unique refl h g
 IsOutput-unique ask.Trim one rule (p, trimmed, made) (q, trimmed', made') = IsRuleLine-unique (IsTrimmed-unique rule made.0 made'.0 trimmed trimmed') made made'
 IsOutput-unique ask.Inverse one rule h g = IsInverse-unique h g
-IsOutput-unique ask.Language one rule h g = absurd one
+IsOutput-unique ask.Language one rule h g = IsLanguage-unique rule h g
 IsOutput-unique ask.Erase one rule h g = IsErasedLine-unique h g
 IsOutput-unique ask.Least one rule (few, (mirror, p, least, made)) (_, (mirror', q, least', made')) = IsRuleLine-unique (IsLeastOfClass-unique rule mirror mirror' least least') made made'
 IsOutput-unique ask.Lift one rule (fits, made) (_, made') = IsRuleLine-unique refl made made'

@@ -1,16 +1,17 @@
--- What is said of orphans of two rules, of erasable pairs and of preimages is one.
-use Rattle.std.proofs.Common.{inl, inr, ◌≡◌, ◌≢◌, ℕ, List, ◌++◌, codes, refl, ap, ap₂}
+-- What is said of orphans of two rules, of erasable pairs, of preimages and of automata is one.
+use Rattle.std.proofs.Common.{inl, inr, ◌≡◌, ◌≢◌, ℕ, List, ◌++◌, codes, refl, sym, ap, ap₂, ◌∙◌}
 use Rattle.std.specs.declared.cmp.Ordering.TheVariants.{Less}
 use Rattle.word_image.specs.Digits.{word_text}
-use Rattle.word_image.specs.LocalRules.{LocalRule}
+use Rattle.word_image.specs.LocalRules.{LocalRule, IsRule}
 use Rattle.word_image.specs.Words.{IsOrphan, word_cmp}
 use Rattle.image_minimal.specs.ImageLanguages.{Separates}
+use Rattle.image_minimal.proofs.laws.ClassLists.{IsLeastAutomaton-unique}
 use Rattle.tail_config.specs.Tails.{TailConfig}
 use Rattle.tail_preimage.specs.declared.answer.Pre.TheVariants as pre
 use Rattle.tail_preimage.proofs.laws.LeastPreimages.{IsLeastPreimage-unique}
 use Rattle.tail_preimage.proofs.laws.Answers.{IsAnswer-unique}
 use Rattle.ca_cli.specs.Lines.{line}
-use Rattle.ca_cli.specs.LanguageLines.{IsSameLine, IsErasedLine}
+use Rattle.ca_cli.specs.LanguageLines.{IsSameLine, IsErasedLine, IsLanguage, automaton_lines}
 use Rattle.ca_cli.specs.LanguageLines.IsSameLine.{Yes, No}
 use Rattle.ca_cli.specs.LanguageLines.IsErasedLine.{NoPair, Pair}
 use Rattle.ca_cli.specs.PreimageLines.{IsPreimageLine, placed_text}
@@ -56,3 +57,7 @@ IsPreimageLine-unique (From p h) (Gap b a w g) = absurd (g.none p h.least.preima
 IsPreimageLine-unique (Gap b a w h) (From q g) = absurd (h.none q g.least.preimage.maps)
 IsPreimageLine-unique {r} {t} (Gap b a w h) (Gap c d z g) =
     let same : pre.Gap b a w ≡ pre.Gap c d z = IsAnswer-unique r t (pre.Gap b a w) (pre.Gap c d z) h g in cc
+
+-- the lines of the least automaton
+pub IsLanguage-unique : {r : LocalRule} {out other : List ℕ} → IsRule r → IsLanguage r out → IsLanguage r other → out ≡ other
+IsLanguage-unique rule (m, least, is) (n, also, is') = is ∙ ap automaton_lines (IsLeastAutomaton-unique rule least also) ∙ sym is'
