@@ -21,6 +21,11 @@ ROOM = 1 << 16                                  # bytes, at first
 
 MEMORY, NO_WORDS, NO_ROOM = 8, 9, 10            # codes that come without an output
 
+# Of the C library's mallopt, where it is glibc: from which size on a block is asked of the system, and how much free
+# memory at the end of the heap is kept.
+TRIM_THRESHOLD, MMAP_THRESHOLD = -1, -3
+KEPT = 8 << 20                                  # bytes
+
 
 class Outcome(NamedTuple):
     """What the program comes to: the code of its status, and what it prints."""
@@ -46,6 +51,7 @@ class Library:
         self._run.restype = ctypes.c_uint8
         self._rooms = threading.local()
         self.path = path
+        keep_freed_memory()
 
     def run(self, words: Iterable[str], data: bytes = b"") -> Outcome:
         """What the program comes to on these words and this input."""
@@ -64,6 +70,14 @@ class Library:
         if code == NO_WORDS:
             raise WordsFault("the words aren't UTF-8")
         return Outcome(code, ctypes.string_at(room, length.value))
+
+
+def keep_freed_memory() -> None:
+    """Has the heap keep what a call frees for the next one: asking the system each time takes longer than most calls."""
+    mallopt = getattr(ctypes.CDLL(None), "mallopt", None)
+    if mallopt is not None:
+        mallopt(MMAP_THRESHOLD, KEPT // 2)
+        mallopt(TRIM_THRESHOLD, KEPT)
 
 
 def encoded(words: Iterable[str]) -> bytes:
