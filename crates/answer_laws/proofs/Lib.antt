@@ -1,7 +1,10 @@
+pub mod Lists
 pub mod Orders
 pub mod Least
 pub mod Evidence
+pub mod Certificates
 pub mod Summaries
+pub mod Classes
 pub mod Lines
 pub mod Rules
 pub mod Tables

@@ -24,7 +24,7 @@ pairs_cmp_total : IsTotalOrder pairs_cmp
 pairs_cmp_total = then_total (on_total (λ (w : List (ℕ × ℕ)). length w) nat_cmp_total) (lists_total pair_cmp_total)
 
 -- and words
-word_cmp_total : IsTotalOrder word_cmp
+pub word_cmp_total : IsTotalOrder word_cmp
 word_cmp_total = then_total (on_total (λ (w : List ℕ). length w) nat_cmp_total) nat_list_cmp_total
 
 -- and splits

@@ -9,14 +9,10 @@
 
 ghost use Rattle.std.specs.Prelude.{◌≡◌, ℕ, List, Some};
 ghost use Rattle.ca_cli.specs.declared.status.Status.{Status};
-ghost use Rattle.ca_cli.specs.Commands.{Command, IsCommand};
 ghost use Rattle.ca_cli.specs.RightAnswers.{IsAnswer};
-ghost use Rattle.answer_laws.specs.OneOutput.{IsOfOneOutput};
 
-/// Words have one right output with each status over a source that tells what it has left, where they
-/// are no command or one of these.
+/// Words have one right output with each status over a source that tells what it has left.
 pub fn one_output()
     ensures { (words : List (List ℕ)) (left : List ℕ) (s : Status) (out other : List ℕ)
-        → ((c : Command) → IsCommand words c → IsOfOneOutput c)
         → IsAnswer words (Some left) s out → IsAnswer words (Some left) s other → out ≡ other }
 {}

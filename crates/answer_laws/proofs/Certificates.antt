@@ -1,0 +1,142 @@
+-- The certificate that is written for a rule is one: its least evidence, its cover list or reached pairs, and its ranks.
+use Rattle.std.proofs.Common.{◌≡◌, ℕ, ◌+◌, ◌<◌, ◌≤◌, ⊎_elim, List, [], length, get_or, Contains, refl, sym, ap, ap₂, ◌∙◌, subst, arith}
+use Rattle.std.specs.Prelude.{Option, None, Some, MatchOption}
+use Rattle.std.specs.List.Sorted.{IsStrictlySortedBy}
+use Rattle.std.proofs.lemmas.Cmp.{nat_cmp_total}
+use Rattle.std.proofs.lemmas.Grind.{same_number_lists}
+use Rattle.std.proofs.lemmas.List.{get_or_default, same_lists}
+use Rattle.std.proofs.lemmas.List.Elements.{Contains-get_or}
+use Rattle.std.proofs.lemmas.Map.Keys.{sorted_from_strictly_increasing, sorted_from_all_adjacent}
+use Rattle.std.proofs.lemmas.Option.{none-some, same_Some, slice_get-get_or}
+use Rattle.word_image.specs.LocalRules.{LocalRule, IsRule}
+use Rattle.word_image.specs.Words.{IsSurjective, word_cmp}
+use Rattle.word_image.specs.Graphs.{first_of, second_of, full_set}
+use Rattle.word_image.specs.Ranks.{IsRank, IsEndless, IsLastSet}
+use Rattle.word_image.specs.Families.{IsLeastWordOf, IsFamily, covers_of, IsCoverList}
+use Rattle.word_image.specs.declared.side.Side.{Side}
+use Rattle.word_image.specs.declared.side.Side.TheVariants.{Right, Left}
+use Rattle.word_image.specs.Sides.{Together}
+use Rattle.word_image.proofs.laws.LastSets.{IsOrphan-empty_set, IsOrphan-not_surjective}
+use Rattle.word_image.proofs.laws.Lists.{paired_at, paired_length}
+use Rattle.pair_laws.proofs.Ranks.{Together-less}
+use Rattle.search_laws.proofs.StepSets.{IsLastSet-unique}
+use Rattle.cert_format.specs.declared.cert_version.CertVersion.{CertVersion}
+use Rattle.cert_format.specs.declared.cert_version.CertVersion.TheVariants.{Two, Three}
+use Rattle.cert_format.specs.Evidence.{SurjectiveEvidence}
+use Rattle.cert_format.specs.Evidence.SurjectiveEvidence.{Sets, Pairs, Orphan}
+use Rattle.cert_format.specs.Certificates.{Certificate}
+use Rattle.cert_format.specs.WrittenTexts.{certificate_text}
+use Rattle.certificate_laws.specs.LeastEvidence.{Evidence, IsOrphanPart}
+use Rattle.certificate_laws.specs.WrittenCertificates.{orphan_of, evidence_of, AreReached, IsListPart, AreRanks, HasWrittenParts}
+use Rattle.ca_cli.specs.Outputs.{IsCertified}
+use Rattle.answer_laws.proofs.Orders.{word_cmp_total, one_word}
+use Rattle.answer_laws.proofs.Lists.{same_members}
+use Rattle.answer_laws.proofs.Evidence.{IsLeastEvidence-unique}
+
+-- what holds for each lesser length has one rank, or none
+IsRank-unique : (P : ℕ → Type 0) → ((i n : ℕ) → i ≤ n → P n → P i) → (o p : Option ℕ) → MatchOption o (IsEndless P) (IsRank P) → MatchOption p (IsEndless P) (IsRank P) → o ≡ p
+IsRank-unique P less None None h g = refl
+IsRank-unique P less None (Some n) h g = absurd (g.no_more (h (n + 1)))
+IsRank-unique P less (Some n) None h g = absurd (h.no_more (g (n + 1)))
+IsRank-unique P less (Some n) (Some m) h g =
+    let below : ¬ (n < m) = λ l. h.no_more (less (n + 1) m (omega (arith, l)) g.holds) in
+    let above : ¬ (m < n) = λ l. g.no_more (less (m + 1) n (omega (arith, l)) h.holds) in
+    ap Some (omega (arith, below, above))
+
+-- so the ranks of all pairs are one list
+AreRanks-unique : (side : Side) {r : LocalRule} {row other : List (Option ℕ)} → IsRule r → AreRanks r (Together side r) row → AreRanks r (Together side r) other → row ≡ other
+AreRanks-unique side {r} {row} {other} rule here there =
+    same_lists row other (here.each_pair ∙ sym there.each_pair) (λ p d within.
+    let inside : p < length other = omega (arith, within, here.each_pair, there.each_pair) in
+    get_or_default row p d None within
+    ∙ IsRank-unique (Together side r (first_of r p) (second_of r p)) (λ i n. Together-less side rule (first_of r p) (second_of r p) i n) (get_or row p None) (get_or other p None)
+    (here.ranks p (omega (arith, within, here.each_pair))) (there.ranks p (omega (arith, inside, there.each_pair)))
+    ∙ get_or_default other p None d inside)
+
+-- the reached pairs are one list
+AreReached-unique : {r : LocalRule} {pairs others : List ℕ} → AreReached r pairs → AreReached r others → pairs ≡ others
+AreReached-unique {r} {pairs} {others} here there =
+    same_members nat_cmp_total pairs others (sorted_from_strictly_increasing pairs here.ascending) (sorted_from_strictly_increasing others there.ascending)
+    (λ p. ((λ h. (there.exactly p).1 ((here.exactly p).0 h)), (λ h. (here.exactly p).1 ((there.exactly p).0 h))))
+
+-- a set has one least word
+IsLeastWordOf-unique : {r : LocalRule} {set : ℕ} {v w : List ℕ} → IsLeastWordOf r set v → IsLeastWordOf r set w → v ≡ w
+IsLeastWordOf-unique {v = v} {w = w} h g = one_word v w (h.least w g.set_of) (g.least v h.set_of)
+
+-- the words of a family ascend
+words-sorted : {r : LocalRule} {sets : List ℕ} → (family : IsFamily r sets) → IsStrictlySortedBy word_cmp family.words
+words-sorted family =
+    let ws = family.words in
+    sorted_from_all_adjacent word_cmp_total ws [] (λ k within.
+    family.ascending k (get_or ws k []) (get_or ws (k + 1) []) (slice_get-get_or ws k [] (omega (arith, within))) (slice_get-get_or ws (k + 1) [] within))
+
+-- the families of a surjective rule have the same words
+words_within : {r : LocalRule} {sets others : List ℕ} → IsSurjective r → (here : IsFamily r sets) (there : IsFamily r others) (w : List ℕ) → Contains here.words w → Contains there.words w
+words_within {r} {sets} {others} every here there w (k, within, at) =
+    let inside : k < length sets = omega (arith, within, paired_length (IsLeastWordOf r) sets here.words here.each) in
+    let first : IsLeastWordOf r (get_or sets k 0) w = subst (IsLeastWordOf r (get_or sets k 0)) at (paired_at (IsLeastWordOf r) sets here.words k 0 w here.each inside) in
+    ⊎_elim
+    (λ (j, among, stands).
+    let also = paired_at (IsLeastWordOf r) others there.words j (get_or sets k 0) w there.each among in
+    let second : IsLeastWordOf r (get_or sets k 0) (get_or there.words j w) = subst (λ s. IsLeastWordOf r s (get_or there.words j w)) stands also in
+    (j, omega (arith, among, paired_length (IsLeastWordOf r) others there.words there.each), IsLeastWordOf-unique second first))
+    (λ (e, none, _, _). absurd (IsOrphan-not_surjective (IsOrphan-empty_set none) every))
+    (there.all w (get_or sets k 0) first.set_of)
+
+-- so it has one family
+IsFamily-unique : {r : LocalRule} {sets others : List ℕ} → IsSurjective r → IsFamily r sets → IsFamily r others → sets ≡ others
+IsFamily-unique {r} {sets} {others} every here there =
+    let words = same_members word_cmp_total here.words there.words (words-sorted here) (words-sorted there) (λ w. (words_within every here there w, words_within every there here w)) in
+    let long = paired_length (IsLeastWordOf r) sets here.words here.each ∙ ap length words ∙ sym (paired_length (IsLeastWordOf r) others there.words there.each) in
+    same_number_lists sets others long (λ k within.
+    let first = (paired_at (IsLeastWordOf r) sets here.words k 0 [] here.each within).set_of in
+    let second = (paired_at (IsLeastWordOf r) others there.words k 0 [] there.each (omega (arith, within, long))).set_of in
+    IsLastSet-unique first (subst (λ ws. IsLastSet r (get_or ws k []) (get_or others k 0)) (sym words) second))
+
+-- and one cover list
+IsCoverList-unique : {r : LocalRule} {covers others : List ℕ} → IsSurjective r → IsCoverList r covers → IsCoverList r others → covers ≡ others
+IsCoverList-unique {r} every (family, is, here) (sets, also, there) = here ∙ ap (covers_of (full_set r)) (IsFamily-unique every is also) ∙ sym there
+
+-- no certificate is of both versions
+one_version : {v : CertVersion} → v ≡ Two → v ≡ Three → ⊥
+one_version here there = let both : Two ≡ Three = sym here ∙ there in absurd (cc)
+
+-- what shows whether a rule is surjective is one in each version
+IsListPart-unique : {v : CertVersion} {r : LocalRule} (e f : SurjectiveEvidence) → orphan_of e ≡ orphan_of f → IsOrphanPart r (orphan_of e) → IsListPart v r e → IsListPart v r f → e ≡ f
+IsListPart-unique (Sets sets) (Sets others) same every h g = ap Sets (IsCoverList-unique every h.1 g.1)
+IsListPart-unique (Sets sets) (Pairs pairs) same every h g = absurd (one_version h.0 g.0)
+IsListPart-unique (Sets sets) (Orphan w) same every h g = absurd (none-some w same)
+IsListPart-unique (Pairs pairs) (Sets sets) same every h g = absurd (one_version g.0 h.0)
+IsListPart-unique (Pairs pairs) (Pairs others) same every h g = ap Pairs (AreReached-unique h.1 g.1)
+IsListPart-unique (Pairs pairs) (Orphan w) same every h g = absurd (none-some w same)
+IsListPart-unique (Orphan v) (Sets sets) same least h g = absurd (none-some v (sym same))
+IsListPart-unique (Orphan v) (Pairs pairs) same least h g = absurd (none-some v (sym same))
+IsListPart-unique (Orphan v) (Orphan w) same least h g = ap Orphan (same_Some v w same)
+
+-- the certificate with this evidence, list and ranks
+abbrev certificate_of : CertVersion → Evidence → SurjectiveEvidence → List (Option ℕ) → List (Option ℕ) → Certificate
+certificate_of version e surjective forward backward = record {
+  version = version;
+  rule = e.rule;
+  surjective = surjective;
+  injective = e.injective;
+  right = e.right;
+  left = e.left;
+  conserving = e.conserving;
+  weights = e.weights;
+  forward = forward;
+  backward = backward;
+}
+
+-- the parts that are written for a rule and weights are one certificate
+HasWrittenParts-unique : {v : CertVersion} {r : LocalRule} {weights : List ℕ} {c d : Certificate} → IsRule r → HasWrittenParts v r weights c → HasWrittenParts v r weights d → c ≡ d
+HasWrittenParts-unique {c = c} {d = d} rule h g =
+    let evidence : evidence_of c ≡ evidence_of d = IsLeastEvidence-unique rule (h.weights_are ∙ sym g.weights_are) h.least g.least in
+    let surjective : c.surjective ≡ d.surjective = IsListPart-unique c.surjective d.surjective (ap (λ e. e.orphan) evidence) (h.least).surjective h.list g.list in
+    ap₂ (λ (v : CertVersion) (e : Evidence). certificate_of v e c.surjective c.forward c.backward) (h.version_is ∙ sym g.version_is) evidence
+    ∙ ap₂ (λ (f b : List (Option ℕ)). certificate_of d.version (evidence_of d) c.surjective f b) (AreRanks-unique Right rule h.forward g.forward) (AreRanks-unique Left rule h.backward g.backward)
+    ∙ ap (λ s. certificate_of d.version (evidence_of d) s d.forward d.backward) surjective
+
+-- and so is its text
+pub IsCertified-unique : {v : CertVersion} {r : LocalRule} {weights out other : List ℕ} → IsRule r → IsCertified v r weights out → IsCertified v r weights other → out ≡ other
+IsCertified-unique rule (c, written, says) (d, also, says') = says ∙ ap certificate_text (HasWrittenParts-unique rule written.parts also.parts) ∙ sym says'
