@@ -8,14 +8,14 @@ use Rattle.std.specs.declared.cmp.Ordering.{Ordering}
 use Rattle.std.specs.declared.cmp.Ordering.TheVariants.{Less, Equal, Greater}
 use Rattle.std.proofs.lemmas.Bool.{cases_lt, cases_eq}
 use Rattle.std.proofs.lemmas.Cmp.{then_total, on_total, lists_total, nat_cmp_total, ranked}
-use Rattle.std.proofs.lemmas.List.{length-map, length_push}
+use Rattle.std.proofs.lemmas.List.{length-map}
+use Rattle.std.proofs.lemmas.List.Elements.{All-nil}
 use Rattle.std.proofs.lemmas.Slice.Zip.{firsts-zip, seconds-zip}
 use Rattle.word_image.specs.LocalRules.{LocalRule, IsRule}
 use Rattle.word_image.specs.Graphs.{pair_count}
 use Rattle.word_image.specs.MarkedPairs.{marked}
 use Rattle.word_image.specs.Rings.{pair_cmp, pairs_cmp}
 use Rattle.search_laws.specs.PairWalks.{PairWalk, IsLeastWalk}
-use Rattle.search_laws.specs.PairWalks.PairWalk.{Stay, Go}
 use Rattle.tail_config.specs.Tails.{TailConfig}
 use Rattle.tail_config.specs.Splits.{IsNormalRightSplit, IsLeastRightSplit, splits_cmp}
 use Rattle.tail_laws.specs.SplitWalks.{IsSplitAt, IsNoSplitAt, IsNoSplitBelow, IsLeastReach, IsLeastSplitAt, IsLeastBelow, with_mark, first_tail, second_tail, split_of}
@@ -112,12 +112,12 @@ slice_cmp-none (ab ∷ v) e = true≢false (ap is_gt (sym e))
 
 -- to that pair itself, without a mark, it is the walk of no step
 pub IsLeastReach-none : (r : LocalRule) → IsLeastReach r 0 []
-IsLeastReach-none r = record { walk = Stay; least = λ v walk. then_not_greater _ _ (nat_cmp-le 0 (length v) (omega arith)) (λ tie. slice_cmp-none v) }
+IsLeastReach-none r = record { walk = record { steps = refl; letters = All-nil (λ p. (p.0 < r.states) × (p.1 < r.states)) }; least = λ v walk. then_not_greater _ _ (nat_cmp-le 0 (length v) (omega arith)) (λ tie. slice_cmp-none v) }
 
 -- to each other state a walk has some steps
 some_steps : (go : ℕ → ℕ → ℕ → Option ℕ) (k start t : ℕ) (w : List (ℕ × ℕ)) → start ≢ t → PairWalk go k start w t → 0 < length w
-some_steps go k start _ [] other Stay = absurd (other refl)
-some_steps go k start t _ other (Go w a b s _ before first second follows) = omega (arith, length_push w (a, b))
+some_steps go k start t [] other walk = absurd (other walk.steps)
+some_steps go k start t (ab ∷ w) other walk = omega arith
 
 -- so the first one of at least one step is the first one
 pub IsLeastReach-walk : {r : LocalRule} {t : ℕ} {w : List (ℕ × ℕ)} → 0 < t → IsLeastWalk (marked r) r.states 0 t w → IsLeastReach r t w
