@@ -1,8 +1,9 @@
 -- Sets of nodes, each a number in which node u is bit u, the steps between them (Sutner 1991), and rows of bits.
-use Rattle.std.specs.Prelude.{◌≡◌, ℕ, ◌+◌, ◌*◌, ◌/◌, ◌%◌, ◌^◌, ◌<◌, ◌≤◌, ◌↔◌, List, [], ◌∷◌, slice_index, Contains, IsBitSet, bit_and}
+use Rattle.std.specs.Prelude.{◌≡◌, ℕ, ◌+◌, ◌*◌, ◌/◌, ◌%◌, ◌^◌, ◌<◌, ◌≤◌, ◌↔◌, List, slice_index, Contains, IsBitSet, bit_and}
 use Rattle.std.specs.Int.{bit_not, w16}
 use Rattle.word_image.specs.LocalRules.{LocalRule, node_count}
 use Rattle.word_image.specs.Graphs.{IsStep}
+use Rattle.search_laws.specs.Walks.{Walk}
 use Rattle.cert_format.specs.declared.cert_version.CertVersion.{CertVersion}
 use Rattle.cert_format.specs.declared.cert_version.CertVersion.TheVariants.{One, Two, Three}
 
@@ -21,9 +22,8 @@ abbrev pub StepIsKept : CertVersion → LocalRule → List ℕ → ℕ → ℕ �
 StepIsKept version r sets set a = (after : ℕ) × IsStep r set a after × IsKept version sets after
 
 -- the letters of a word, one step after another, lead from one set to the other
-pub data LeadsTo (r : LocalRule) : ℕ → List ℕ → ℕ → Type 0 where
-  Stays : (set : ℕ) → LeadsTo r set [] set
-  Steps : (set a next : ℕ) (w : List ℕ) (end : ℕ) → IsStep r set a next → LeadsTo r next w end → LeadsTo r set (a ∷ w) end
+abbrev pub LeadsTo : LocalRule → ℕ → List ℕ → ℕ → Type 0
+LeadsTo r = Walk (IsStep r)
 
 -- a set without one of 16 nodes
 abbrev pub without : ℕ → ℕ → ℕ

@@ -5,12 +5,13 @@ use Rattle.std.proofs.lemmas.Bool.{cases_eq}
 use Rattle.std.proofs.lemmas.Nat.{pow_pos, same_from_place}
 use Rattle.std.proofs.Math.Nat.{mul-le-mul_right, suc-mul}
 use Rattle.std.proofs.lemmas.Option.{slice_get_within, slice_get-get_or, get_or_from_slice_get}
-use Rattle.std.proofs.lemmas.List.{length-map, length-replicate}
+use Rattle.std.proofs.lemmas.List.{length-replicate}
 use Rattle.word_image.specs.LocalRules.{LocalRule, IsRule, node_count}
 use Rattle.word_image.specs.Graphs.{IsStep}
 use Rattle.word_image.proofs.laws.Places.{Contains-slice_get, slice_get-Contains}
 use Rattle.word_image.proofs.laws.Searches.{some_below}
-use Rattle.search_laws.proofs.QueueStates.{Contains-state, state_of_place}
+use Rattle.search_laws.proofs.QueueStates.{Contains-state, mapped_at}
+use Rattle.search_laws.proofs.Searches.{search_place, search-below, length-search, length-search-le}
 use Rattle.search_laws.proofs.Families.{chosen}
 use Rattle.search_laws.proofs.StepSets.{IsStep-some}
 use Rattle.image_minimal.specs.ImageLanguages.{Automaton, IsClassList, IsNextClass, IsDeadClass, IsLeastAutomaton}
@@ -20,7 +21,6 @@ use Rattle.image_minimal.specs.Searches.{IsClassSearch, HasClasses}
 use Rattle.image_minimal.proofs.laws.ClosedSteps.{HaveClosures}
 use Rattle.image_minimal.proofs.laws.Classes.{AreClasses, AreClasses-some, IsClassList-closed, IsNextClass-step, IsDeadClass-some, IsDeadClass-none}
 use Rattle.image_minimal.proofs.laws.ClassLists.{IsClassList-long, IsNextClass-unique, IsDeadClass-unique, table_place}
-use Rattle.image_minimal.proofs.Searches.{search_place, search-below, length-search-le}
 
 -- there are no more classes than sets of nodes
 pub length-classes-le : {r : LocalRule} {classes : List ℕ} {e : ℕ} → IsClassSearch r classes e → length classes ≤ 2 ^ node_count r
@@ -33,8 +33,8 @@ class-below {r} {classes} x i l = search-below x (2 ^ node_count r) (omega (arit
 -- there is one
 pub classes-some : {r : LocalRule} {classes : List ℕ} {e : ℕ} → IsClassSearch r classes e → 1 ≤ length classes
 classes-some {classes = classes} x =
-    let first = x.queue.first.state in
-    slice_get_within classes 0 first (subst (λ l. slice_get l 0 ≡ Some first) x.states (state_of_place x.tree 0 x.queue.first x.queue.root))
+    let first = x.queue.fills.first.state in
+    slice_get_within classes 0 first (subst (λ l. slice_get l 0 ≡ Some first) x.lists (mapped_at (λ z. z.state) x.tree 0 x.queue.fills.first x.queue.fills.root))
 
 -- a step to a set is a closed step to its closure
 pub closed_step : {r : LocalRule} {closures : List ℕ} {set a to : ℕ} → AreClosures r closures → IsStep r set a to → IsClosedStep r set a (slice_index closures to)
@@ -47,8 +47,8 @@ class_after {r} {closures} {classes} h i a from to here letter step =
     let x = h.search in
     let (y, at, state) = search_place x i from here in
     let row : suc i * r.states ≤ length classes * r.states = mul-le-mul_right r.states (slice_get_within classes i from here) in
-    let (j, z, stands, leads, early) = x.queue.done i a to y at letter (omega (arith, suc-mul i r.states, h.all)) (subst (λ s. IsClosedStep r s a to) (sym state) step) in
-    (j, subst (λ l. slice_get l j ≡ Some to) x.states (state_of_place x.tree j z stands ∙ ap Some leads))
+    let (j, z, stands, leads, early) = x.queue.fills.done i a to y at letter (omega (arith, suc-mul i r.states, h.all)) (subst (λ s. IsClosedStep r s a to) (sym state) step) in
+    (j, subst (λ l. slice_get l j ≡ Some to) x.lists (mapped_at (λ v. v.state) x.tree j z stands ∙ ap Some leads))
 
 -- a set that stands in a list has a place
 pub place_some : (sets : List ℕ) (set j : ℕ) → slice_get sets j ≡ Some set → (place : Option ℕ) → IsPlaceOf sets set place → IsSome place
@@ -59,7 +59,7 @@ place_some sets set j at (Some i) there = refl
 dead_class : {r : LocalRule} {classes : List ℕ} {e : ℕ} {words : List (List ℕ)} → IsRule r → HaveClosures r → (x : IsClassSearch r classes e) → AreClasses x.tree words
     → length x.tree * r.states ≤ e → (dead : Option ℕ) → IsPlaceOf classes 0 dead → IsDeadClass r words dead
 dead_class {words = words} rule closures x c all None none =
-    IsDeadClass-none rule closures x.queue all words (λ i y at empty. none (subst (λ l. Contains l 0) x.states (Contains-state x.tree i y 0 at empty)))
+    IsDeadClass-none rule closures x.queue all words (λ i y at empty. none (subst (λ l. Contains l 0) x.lists (Contains-state x.tree i y 0 at empty)))
 dead_class rule closures x c all (Some i) at =
     let (y, stands, empty) = search_place x i 0 at in
     IsDeadClass-some rule x.queue c i y stands empty
@@ -76,7 +76,7 @@ words_of : {r : LocalRule} {closures classes : List ℕ} → HasClasses r closur
 words_of {r} {closures} {classes} h =
     let x = h.search in
     let have : HaveClosures r = λ set l. (slice_index closures set, h.closed.closure set (omega arith) l) in
-    let long : length x.tree ≡ length classes = sym (length-map x.tree (λ z. z.state)) ∙ ap length x.states in
+    let long = length-search x in
     let all : length x.tree * r.states ≤ h.edges = subst (λ n. n * r.states ≤ h.edges) (sym long) h.all in
     let (words, are) = AreClasses-some x.queue in (
       words,

@@ -1,26 +1,26 @@
 -- A search through linked sets of two rules, one edge more at a time.
-use Rattle.std.proofs.Common.{◌≡◌, ◌≢◌, ℕ, suc, ◌+◌, ◌*◌, ◌^◌, ◌<◌, ◌≤◌, ◌⊎◌, ◌↔◌, inl, inr, List, [], ◌∷◌, ◌++◌, length, slice_index, Some, refl, sym, ◌∙◌, subst, arith, ⊎_elim, not, nat_eq, true, false, true≢false}
+use Rattle.std.proofs.Common.{◌≡◌, ◌≢◌, ℕ, ◌+◌, ◌*◌, ◌^◌, ◌<◌, ◌≤◌, ◌⊎◌, ◌↔◌, inl, inr, List, [], ◌∷◌, ◌++◌, length, slice_index, Some, refl, sym, ap₂, ◌∙◌, subst, subst₂, arith, ⊎_elim, not, nat_eq, true, false, true≢false}
 use Rattle.std.specs.List.{slice_get, range_with_len}
 use Rattle.std.proofs.lemmas.Bool.{cases_eq, eq-eqb, ne_eqb}
-use Rattle.std.proofs.lemmas.Nat.{same_from_place}
-use Rattle.std.proofs.Math.Nat.{mul-le-mul_right, suc-mul}
 use Rattle.std.proofs.Math.Pow.{pow-lt}
 use Rattle.std.proofs.Math.Bool.{beq}
 use Rattle.std.proofs.lemmas.Option.{slice_get_within}
-use Rattle.std.proofs.lemmas.List.{length_push}
+use Rattle.std.proofs.lemmas.List.{length_push, map-append}
 use Rattle.std.proofs.lemmas.List.FromFn.{get_or-range_with_len, length-range_with_len}
 use Rattle.word_image.specs.LocalRules.{LocalRule, IsRule, node_count}
 use Rattle.word_image.specs.Graphs.{full_set, IsStep}
 use Rattle.word_image.proofs.laws.Graphs.{node_count_pos}
-use Rattle.word_image.proofs.laws.Places.{only_place, slice_get-append, slice_get-push, slice_get-push_cases}
+use Rattle.word_image.proofs.laws.Places.{only_place, slice_get-push, slice_get-push_cases}
+use Rattle.search_laws.specs.SearchQueues.{IsFilled}
+use Rattle.search_laws.proofs.QueueSteps.{filled-later, IsFilled-start, IsFilled-there, IsFilled-new}
 use Rattle.search_laws.proofs.StepSets.{IsStep-unique}
 use Rattle.image_minimal.specs.declared.links.Link.{Link}
-use Rattle.image_minimal.specs.Links.{Chain, linked, IsLinking, IsLinkBranch, set_count, AreJoined, IsLinkSearch}
+use Rattle.image_minimal.specs.Links.{Chain, link_place, LinkStep, HasChain, IsLinking, set_count, AreJoined, IsLinkSearch}
 use Rattle.image_minimal.specs.Links.Chain.{Stay, Forth}
 use Rattle.image_minimal.specs.Joins.{Rises, IsHalved, IsUnited}
 use Rattle.image_minimal.specs.Joins.Rises.{Rest, Rise}
 use Rattle.image_minimal.proofs.laws.Chains.{Chain-then, Chain-sym, Chain-more, Chain-later}
-use Rattle.image_minimal.proofs.laws.LinkWords.{linked-later}
+use Rattle.image_minimal.proofs.laws.LinkWords.{place_at}
 
 -- a number is joined to each one to which it leads
 Chain-rises : {r q : LocalRule} {links : List Link} {e : ℕ} {parents : List ℕ} {x y : ℕ} → AreJoined r q links e parents → Rises parents x y → Chain (2 ^ node_count r) r.states links e x y
@@ -54,88 +54,25 @@ AreJoined-united {r} {q} {links} {e} {parents} {new} {s} {t} h united y later l 
 
 -- one edge more leads to a pair that is joined
 IsLinking-there : {r q : LocalRule} {links : List Link} (h a : ℕ) → IsLinking r q links (h * r.states + a) → (x : Link) (s t : ℕ) → slice_get links h ≡ Some x → a < r.states
-    → IsStep r x.first a s → IsStep q x.second a t → Chain (2 ^ node_count r) r.states links (h * r.states + a + 1) s (2 ^ node_count r + t)
-    → IsLinking r q links (h * r.states + a + 1)
+    → IsStep r x.first a s → IsStep q x.second a t → HasChain r links (s, t) (h * r.states + a + 1) → IsLinking r q links (h * r.states + a + 1)
 IsLinking-there {r} {q} {links} h a linking x s t head letter one two chain = record {
-  root = linking.root;
-  at_root = linking.at_root;
-  starts = linking.starts;
-  starts_also = linking.starts_also;
-  branches = linking.branches;
-  so_far = λ i y at. omega (arith, linking.so_far i y at);
-  ascending = linking.ascending;
+  fills = IsFilled-there linking.fills h a (link_place x) refl letter (place_at links h x head)
+      (λ p step. subst₂ (λ u v. HasChain r links (u, v) (h * r.states + a + 1)) (IsStep-unique one step.0) (IsStep-unique two step.1) chain);
   even = linking.even;
-  done = λ i b u v y at below less step also. ⊎_elim
-      (λ same.
-      let parts : (i ≡ h) × (b ≡ a) = same_from_place i b h a r.states below letter same in
-      let alike : y ≡ x = let there = subst (λ j. slice_get links j ≡ Some y) parts.0 at in cc in
-      let is_s : s ≡ u = IsStep-unique one (subst (λ c. IsStep r x.first c u) parts.1 (subst (λ z. IsStep r z.first b u) alike step)) in
-      let is_t : t ≡ v = IsStep-unique two (subst (λ c. IsStep q x.second c v) parts.1 (subst (λ z. IsStep q z.second b v) alike also)) in
-      subst (λ e. Chain (2 ^ node_count r) r.states links e u (2 ^ node_count r + v)) (omega (arith, same)) (subst (λ z. Chain (2 ^ node_count r) r.states links (h * r.states + a + 1) u (2 ^ node_count r + z)) is_t (subst (λ z. Chain (2 ^ node_count r) r.states links (h * r.states + a + 1) z (2 ^ node_count r + t)) is_s chain)))
-      (λ differs. linking.done i b u v y at below (omega (arith, differs)) step also)
-      (cases_eq (i * r.states + b) (h * r.states + a));
 }
 
 -- or to one that isn't, which is linked
-IsLinking-new : {r q : LocalRule} {links : List Link} (h a : ℕ) → IsLinking r q links (h * r.states + a) → (x : Link) (s t : ℕ) → slice_get links h ≡ Some x → a < r.states
-    → IsStep r x.first a s → IsStep q x.second a t → (s ≡ 0 ↔ (t ≡ 0))
-    → IsLinking r q (links ++ record { first = s; second = t; parent = h; letter = a } ∷ []) (h * r.states + a + 1)
-IsLinking-new {r} {q} {links} h a linking x s t head letter one two even =
-    let k = r.states in
-    let n = 2 ^ node_count r in
-    let y : Link = record { first = s; second = t; parent = h; letter = a } in
-    let longer : (i : ℕ) (z : Link) → slice_get links i ≡ Some z → slice_get (links ++ y ∷ []) i ≡ Some z = slice_get-append links (y ∷ []) in
-    let some : 0 < length links = omega (arith, slice_get_within links h x head) in
-    let late : (i : ℕ) → i ≡ length links → linked k i y ≡ h * k + a + 1 = λ i last. linked-later k i y (omega (arith, last)) in
+IsLinking-new : {r q : LocalRule} {links : List Link} (h a : ℕ) → IsLinking r q links (h * r.states + a) → (x y : Link) → slice_get links h ≡ Some x → a < r.states → y.parent ≡ h → y.letter ≡ a
+    → IsStep r x.first a y.first → IsStep q x.second a y.second → (y.first ≡ 0 ↔ (y.second ≡ 0)) → HasChain r (links ++ y ∷ []) (y.first, y.second) (h * r.states + a + 1)
+    → IsLinking r q (links ++ y ∷ []) (h * r.states + a + 1)
+IsLinking-new {r} {q} {links} h a linking x y head letter parent by one two even chain =
+    let e = h * r.states + a + 1 in
     record {
-      root = linking.root;
-      at_root = longer 0 linking.root linking.at_root;
-      starts = linking.starts;
-      starts_also = linking.starts_also;
-      branches = λ i z positive at. ⊎_elim
-          (λ before. let b = linking.branches i z positive before in
-          record { parent = b.parent; stands = longer z.parent b.parent b.stands; earlier = b.earlier; letter = b.letter; first_step = b.first_step; second_step = b.second_step })
-          (λ last. subst (IsLinkBranch r q (links ++ y ∷ []) i) last.1 (record {
-            parent = x;
-            stands = longer h x head;
-            earlier = omega (arith, last.0, slice_get_within links h x head);
-            letter = letter;
-            first_step = one;
-            second_step = two;
-          }))
-          (slice_get-push_cases links y i z at);
-      so_far = λ i z at. ⊎_elim
-          (λ before. omega (arith, linking.so_far i z before))
-          (λ last. subst (λ v. linked k i v ≤ h * k + a + 1) last.1 (omega (arith, late i last.0)))
-          (slice_get-push_cases links y i z at);
-      ascending = λ i j v z less at also. ⊎_elim
-          (λ before. ⊎_elim
-          (λ earlier. linking.ascending i j v z less earlier before)
-          (λ last. absurd (omega (arith, last.0, slice_get_within links j z before)))
-          (slice_get-push_cases links y i v at))
-          (λ last. ⊎_elim
-          (λ earlier. subst (λ u. linked k i v < linked k j u) last.1 (omega (arith, late j last.0, linking.so_far i v earlier)))
-          (λ both. absurd (omega (arith, last.0, both.0)))
-          (slice_get-push_cases links y i v at))
-          (slice_get-push_cases links y j z also);
+      fills = subst (λ tree. IsFilled (LinkStep r q) (HasChain r (links ++ y ∷ [])) r.states (full_set r, full_set q) tree e) (sym (map-append link_place links (y ∷ [])))
+          (IsFilled-new linking.fills h a (link_place x) (link_place y) refl letter (place_at links h x head) parent by (one, two)
+          (λ p f met. Chain-more met (y ∷ []) f (omega arith))
+          (λ p step _. subst₂ (λ u v. HasChain r (links ++ y ∷ []) (u, v) e) (IsStep-unique one step.0) (IsStep-unique two step.1) chain));
       even = λ i z at. ⊎_elim (λ before. linking.even i z before) (λ last. subst (λ (v : Link). v.first ≡ 0 ↔ (v.second ≡ 0)) last.1 even) (slice_get-push_cases links y i z at);
-      done = λ i b u v z at below less step also. ⊎_elim
-          (λ before. ⊎_elim
-          (λ same.
-          let parts : (i ≡ h) × (b ≡ a) = same_from_place i b h a k below letter same in
-          let alike : z ≡ x = let there = subst (λ j. slice_get links j ≡ Some z) parts.0 before in cc in
-          let is_s : s ≡ u = IsStep-unique one (subst (λ c. IsStep r x.first c u) parts.1 (subst (λ w. IsStep r w.first b u) alike step)) in
-          let is_t : t ≡ v = IsStep-unique two (subst (λ c. IsStep q x.second c v) parts.1 (subst (λ w. IsStep q w.second b v) alike also)) in
-          let chain : Chain n k (links ++ y ∷ []) (h * k + a + 1) s (n + t) = Forth (length links) y (n + t) (slice_get-push links y) (omega (arith, late (length links) refl)) (Stay (n + t)) in
-          subst (λ e. Chain n k (links ++ y ∷ []) e u (n + v)) (omega (arith, same))
-          (subst (λ w. Chain n k (links ++ y ∷ []) (h * k + a + 1) u (n + w)) is_t (subst (λ w. Chain n k (links ++ y ∷ []) (h * k + a + 1) w (n + t)) is_s chain)))
-          (λ differs. Chain-more (linking.done i b u v z before below (omega (arith, differs)) step also) (y ∷ []) (i * k + b + 1) (omega arith))
-          (cases_eq (i * k + b) (h * k + a)))
-          (λ last.
-          let past : length links * k ≤ i * k = mul-le-mul_right k (omega (arith, last.0)) in
-          let row : suc h * k ≤ length links * k = mul-le-mul_right k (slice_get_within links h x head) in
-          absurd (omega (arith, suc-mul h k)))
-          (slice_get-push_cases links y i z at);
     }
 
 -- a pair whose sets are in one class is joined
@@ -157,10 +94,10 @@ IsLinkSearch-new {r} {q} {links} {parents} {new} {s} {t} h letter search x head 
     let k = r.states in
     let n = 2 ^ node_count r in
     let y : Link = record { first = s; second = t; parent = h; letter = letter } in
-    let late = linked-later k (length links) y (omega (arith, slice_get_within links h x head)) in
+    let late = filled-later k (length links) (link_place y) (omega (arith, slice_get_within links h x head)) in
     let link : Chain n k (links ++ y ∷ []) (h * k + letter + 1) s (n + t) = Forth (length links) y (n + t) (slice_get-push links y) (omega (arith, late)) (Stay (n + t)) in
     record {
-      linking = IsLinking-new h letter search.linking x s t head below one two even;
+      linking = IsLinking-new h letter search.linking x y head below refl refl one two even link;
       joined = AreJoined-united search.joined united y (h * k + letter + 1) (omega arith) link;
     }
 
@@ -175,16 +112,9 @@ IsLinkSearch-start {r} {q} rule other y first second =
     let count = set_count r q in
     record {
       linking = record {
-        root = y;
-        at_root = refl;
-        starts = first;
-        starts_also = second;
-        branches = λ i x positive at. absurd (omega (arith, (only_place y x i at).0));
-        so_far = λ i x at. subst (λ j. linked r.states j x ≤ 0) (sym (only_place y x i at).0) (omega arith);
-        ascending = λ i j x z less at also. absurd (omega (arith, (only_place y z j also).0));
+        fills = IsFilled-start (link_place y) (ap₂ (λ (a b : ℕ). (a, b)) first second);
         even = λ i x at. subst (λ (z : Link). z.first ≡ 0 ↔ (z.second ≡ 0)) (only_place y x i at).1
             ((λ none. absurd (full-some rule (sym first ∙ none))), (λ none. absurd (full-some other (sym second ∙ none))));
-        done = λ i a s t x at letter less one two. absurd (omega (arith, less));
       };
       joined = record {
         long = length-range_with_len 0 count;

@@ -1,7 +1,7 @@
 -- Pairs of sets to which one word leads under two rules, linked (Hopcroft and Karp 1971).
-use Rattle.std.specs.Prelude.{◌≡◌, ◌≢◌, ℕ, zero, suc, ◌+◌, ◌*◌, ◌<◌, ◌≤◌, ◌↔◌, ◌⊎◌, ◌^◌, List, [], ◌∷◌, length, slice_get, slice_index, Option, Some, None}
+use Rattle.std.specs.Prelude.{◌≡◌, ◌≢◌, ℕ, ◌+◌, ◌*◌, ◌<◌, ◌≤◌, ◌↔◌, ◌⊎◌, ◌^◌, List, length, map, slice_get, slice_index, Option, Some, None}
 use Rattle.std.specs.List.{range_with_len}
-use Rattle.search_laws.specs.SearchQueues.{Place, Spells}
+use Rattle.search_laws.specs.SearchQueues.{Place, Spells, IsFilled, filled}
 use Rattle.word_image.specs.LocalRules.{LocalRule, node_count}
 use Rattle.word_image.specs.Graphs.{full_set, IsStep}
 use Rattle.image_minimal.specs.Joins.{total}
@@ -11,49 +11,32 @@ use Rattle.image_minimal.specs.declared.links.Link.{Link}
 abbrev pub second_state : ℕ → Link → ℕ
 second_state n x = n + x.second
 
--- how many edges had been followed when the link was made
-abbrev pub linked : ℕ → ℕ → Link → ℕ
-linked k zero x = 0
-linked k (suc i) x = x.parent * k + x.letter + 1
+-- a link as a place of a search through pairs of sets
+abbrev pub link_place : Link → Place (ℕ × ℕ)
+link_place x = record { state = (x.first, x.second); parent = x.parent; letter = x.letter }
+
+abbrev pub places_of : List Link → List (Place (ℕ × ℕ))
+places_of = map link_place
 
 -- one state is joined to the other by links that were made by the time so many edges had been followed
 pub data Chain (n k : ℕ) (links : List Link) (e : ℕ) : ℕ → ℕ → Type 0 where
   Stay : (x : ℕ) → Chain n k links e x x
-  Forth : (i : ℕ) (y : Link) (z : ℕ) → slice_get links i ≡ Some y → linked k i y ≤ e → Chain n k links e (second_state n y) z → Chain n k links e y.first z
-  Back : (i : ℕ) (y : Link) (z : ℕ) → slice_get links i ≡ Some y → linked k i y ≤ e → Chain n k links e y.first z → Chain n k links e (second_state n y) z
+  Forth : (i : ℕ) (y : Link) (z : ℕ) → slice_get links i ≡ Some y → filled k i (link_place y) ≤ e → Chain n k links e (second_state n y) z → Chain n k links e y.first z
+  Back : (i : ℕ) (y : Link) (z : ℕ) → slice_get links i ≡ Some y → filled k i (link_place y) ≤ e → Chain n k links e y.first z → Chain n k links e (second_state n y) z
 
--- a link that was made by a step from an earlier one, on one letter on both sides
-pub record IsLinkBranch (r q : LocalRule) (links : List Link) (i : ℕ) (x : Link) : Type 0 where
-  pub parent : Link
-  pub stands : slice_get links x.parent ≡ Some parent
-  pub earlier : x.parent < i
-  pub letter : x.letter < r.states
-  pub first_step : IsStep r parent.first x.letter x.first
-  pub second_step : IsStep q parent.second x.letter x.second
+-- a step on one letter on both sides
+abbrev pub LinkStep : LocalRule → LocalRule → ℕ × ℕ → ℕ → ℕ × ℕ → Type 0
+LinkStep r q from a to = IsStep r from.0 a to.0 × IsStep q from.1 a to.1
 
--- links of the sets of two rules, from all nodes on both sides on, that are made breadth first, where the first e edges have been
--- followed: letter a from link i is edge i * k + a. A pair that is joined already makes no link, and each pair that was met is empty
--- on both sides or on neither.
+-- two sets are joined by links that were made by the time so many edges had been followed
+abbrev pub HasChain : LocalRule → List Link → ℕ × ℕ → ℕ → Type 0
+HasChain r links pair e = Chain (2 ^ node_count r) r.states links e pair.0 (2 ^ node_count r + pair.1)
+
+-- links of the sets of two rules, from all nodes on both sides on, that are made breadth first. A pair that is joined already makes
+-- no link, and each pair that was met is empty on both sides or on neither.
 pub record IsLinking (r q : LocalRule) (links : List Link) (e : ℕ) : Type 0 where
-  pub root : Link
-  pub at_root : slice_get links 0 ≡ Some root
-  pub starts : root.first ≡ full_set r
-  pub starts_also : root.second ≡ full_set q
-  pub branches : (i : ℕ) (x : Link) → 0 < i → slice_get links i ≡ Some x → IsLinkBranch r q links i x
-  pub so_far : (i : ℕ) (x : Link) → slice_get links i ≡ Some x → linked r.states i x ≤ e
-  pub ascending : (i j : ℕ) (x y : Link) → i < j → slice_get links i ≡ Some x → slice_get links j ≡ Some y → linked r.states i x < linked r.states j y
+  pub fills : IsFilled (LinkStep r q) (HasChain r links) r.states (full_set r, full_set q) (places_of links) e
   pub even : (i : ℕ) (x : Link) → slice_get links i ≡ Some x → (x.first ≡ 0 ↔ (x.second ≡ 0))
-  pub done : (i a s t : ℕ) (x : Link) → slice_get links i ≡ Some x → a < r.states → i * r.states + a < e → IsStep r x.first a s → IsStep q x.second a t
-      → Chain (2 ^ node_count r) r.states links (i * r.states + a + 1) s (2 ^ node_count r + t)
-
--- a link as a place of a queue, with its number as its state
-abbrev pub link_place : ℕ → Link → Place
-link_place i x = record { state = i; parent = x.parent; letter = x.letter }
-
--- the links as places, numbered from i on
-abbrev pub places_from : ℕ → List Link → List Place
-places_from i [] = []
-places_from i (x ∷ links) = link_place i x ∷ places_from (suc i) links
 
 -- on letter a the pair of link i leads to two sets of which exactly one is empty
 pub record IsConflict (r q : LocalRule) (links : List Link) (i a : ℕ) : Type 0 where
@@ -92,4 +75,4 @@ IsLinkedOn r q links parents i (Some a) = IsLinkSearch r q links parents (i * r.
 
 -- the word on the way to a link
 abbrev pub Reaches : List Link → ℕ → List ℕ → Type 0
-Reaches links = Spells (places_from 0 links)
+Reaches links = Spells (places_of links)

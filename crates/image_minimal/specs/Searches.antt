@@ -1,15 +1,9 @@
 -- Searches through sets of nodes, in which some edges have been followed.
-use Rattle.std.specs.Prelude.{◌≡◌, ℕ, ◌*◌, ◌≤◌, ◌↔◌, List, length, map, Contains}
+use Rattle.std.specs.Prelude.{◌≡◌, ℕ, ◌*◌, ◌≤◌, ◌↔◌, List, length, Contains}
 use Rattle.word_image.specs.LocalRules.{LocalRule, IsRule}
 use Rattle.word_image.specs.Graphs.{full_set}
-use Rattle.search_laws.specs.SearchQueues.{Place, IsQueue}
+use Rattle.search_laws.specs.SearchQueues.{IsSearch}
 use Rattle.image_minimal.specs.Closures.{IsUnreadSet, IsClosedStep, AreClosures}
-
--- the sets are the states of a breadth first queue, in which the first e edges have been followed: letter a from set i is edge i * k + a
-pub record IsSearch (Step : ℕ → ℕ → ℕ → Type 0) (k start : ℕ) (sets : List ℕ) (e : ℕ) : Type 0 where
-  pub tree : List Place
-  pub queue : IsQueue Step k start tree e
-  pub states : map (λ x. x.state) tree ≡ sets
 
 -- exactly the unread sets are listed
 abbrev pub AreUnreadSets : LocalRule → List ℕ → Type 0

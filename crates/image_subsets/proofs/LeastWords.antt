@@ -11,7 +11,7 @@ use Rattle.word_image.specs.Families.{IsLeastWordOf, IsFamily}
 use Rattle.word_image.proofs.laws.Lists.{paired_at, paired_length}
 use Rattle.word_image.proofs.laws.LastSets.{IsLastSet-full, IsLastSet-step}
 use Rattle.search_laws.proofs.WordOrder.{word_number, word_number-snoc, word_cmp-not_greater, word_number-le, word_number-less}
-use Rattle.search_laws.specs.SearchQueues.Leads.{Here, On}
+use Rattle.search_laws.proofs.Walks.{Leads-induct}
 use Rattle.search_laws.proofs.StepSets.{LeadsToSet, LeadsToSet-last, IsLastSet-leads}
 use Rattle.image_subsets.specs.FamilyTrees.{IsLeastParent}
 
@@ -62,12 +62,14 @@ empty_last family z below empty = ⊎_elim (λ less. absurd (family.nonempty z l
 parent-le : {r : LocalRule} {sets : List ℕ} {i p a : ℕ} → IsRule r → (family : IsFamily r sets) → i < length sets → IsLeastParent r sets i p a
     → (v : List ℕ) → IsLeastWordOf r (slice_index sets p) v → (u : List ℕ) (set : ℕ) → LeadsToSet r u set → set ≡ slice_index sets i
     → word_number r.states u ≤ word_number r.states (word_at family i) → word_number r.states v * r.states + a + 1 ≤ word_number r.states u
-parent-le {r} {sets} {i} {p} {a} rule family below parent v first _ _ Here same most =
+parent-le {r} {sets} {i} {p} {a} rule family below parent v first =
+    let k = r.states in
+    Leads-induct (λ u set. set ≡ slice_index sets i → word_number k u ≤ word_number k (word_at family i) → word_number k v * k + a + 1 ≤ word_number k u)
+    (λ same most.
     let before = word_at-before family p i parent.earlier below in
     let none : word_number r.states [] ≡ 0 = refl in
-    absurd (omega (arith, word_at-le family i below [] (full_set r) (IsLastSet-full r) (sym same)))
-parent-le {r} {sets} {i} {p} {a} rule family below parent v first _ _ (On w b s t before letter step) same most =
-    let k = r.states in
+    absurd (omega (arith, word_at-le family i below [] (full_set r) (IsLastSet-full r) (sym same))))
+    (λ w b s t before letter step _ same most.
     let last = IsLastSet-leads rule before in
     let longer = word_number-snoc k w b in
     let inside : p < length sets = omega (arith, parent.earlier) in
@@ -98,7 +100,7 @@ parent-le {r} {sets} {i} {p} {a} rule family below parent v first _ _ (On w b s 
     let order : word_number k (word_at family i) ≤ word_number k (word_at family z) =
     ⊎_elim (λ one. omega (arith, ap (λ j. word_number k (word_at family j)) one)) (λ other. omega (arith, word_at-before family i z (omega (arith, other)) within)) (cases_eq i z) in
     absurd (omega (arith, mul-one (word_number k w))))
-    (family.all w s last)
+    (family.all w s last))
 
 -- the word of the parent followed by its letter is the least one of the set
 pub IsLeastWordOf-parent : {r : LocalRule} {sets : List ℕ} {i p a : ℕ} → IsRule r → IsFamily r sets → i < length sets → IsLeastParent r sets i p a

@@ -1,5 +1,5 @@
 -- A breadth first search through the marked pairs, one step more at a time.
-use Rattle.std.proofs.Common.{◌≡◌, ◌≢◌, ℕ, zero, suc, ◌+◌, ◌-◌, ◌*◌, ◌/◌, ◌%◌, ◌<◌, ◌≤◌, ◌↔◌, ◌⊎◌, inl, inr, List, [], ◌∷◌, ◌++◌, length, get_or, map, reverse, append_assoc, zero-mul, Option, Some, None, Bool, true, false, true≢false, refl, sym, ap, ap₂, ◌∙◌, subst, subst₂, arith, ⊎_elim, option_map}
+use Rattle.std.proofs.Common.{◌≡◌, ◌≢◌, ℕ, zero, suc, ◌+◌, ◌-◌, ◌*◌, ◌/◌, ◌%◌, ◌<◌, ◌≤◌, ◌↔◌, ◌⊎◌, inl, inr, List, [], ◌∷◌, ◌++◌, length, get_or, map, reverse, append_assoc, zero-mul, Option, Some, None, Bool, true, false, true≢false, refl, sym, ap, ap₂, ◌∙◌, subst, subst₂, arith, ⊎_elim}
 use Rattle.std.specs.List.{slice_get}
 use Rattle.std.specs.Option.{option_eq}
 use Rattle.std.specs.Prelude.{◌==◌}
@@ -7,7 +7,7 @@ use Rattle.std.proofs.lemmas.Bool.{cases_lt}
 use Rattle.std.proofs.lemmas.Bool.Decides.{Decides-eqb}
 use Rattle.std.proofs.lemmas.List.{map-append, length-map, length_push, reverse-append}
 use Rattle.std.proofs.lemmas.Nat.{div-mul-add, mod-mul-add}
-use Rattle.std.proofs.lemmas.Option.{slice_get_within, slice_get-map, slice_get-get_or, get_or_from_slice_get, none-some, same_Some}
+use Rattle.std.proofs.lemmas.Option.{slice_get_within, slice_get-get_or, get_or_from_slice_get, none-some, same_Some}
 use Rattle.std.proofs.Math.Nat.{mul-le-mul_right, suc-mul}
 use Rattle.word_image.specs.LocalRules.{LocalRule, IsRule, node_count}
 use Rattle.word_image.specs.Graphs.{pair_count}
@@ -15,9 +15,9 @@ use Rattle.word_image.specs.MarkedPairs.{marked}
 use Rattle.word_image.proofs.laws.Places.{slice_get-append, slice_get-push, slice_get-push_cases, only_place}
 use Rattle.search_laws.specs.SearchQueues.{Place, Spells, IsQueue}
 use Rattle.search_laws.specs.SearchQueues.Spells.{Root, Branch}
-use Rattle.search_laws.proofs.QueueSteps.{IsQueue-start, IsQueue-there, IsQueue-new}
-use Rattle.search_laws.proofs.QueueStates.{length-queue-le, state-below}
-use Rattle.search_laws.proofs.LeastSteps.{NoEdgeBefore, NoEdgeBefore-start, NoEdgeBefore-next, NoEdgeBefore-push, edge-within, IsLeastStepsTo, IsLeastStepsTo-edge, no_steps_to}
+use Rattle.search_laws.proofs.QueueSteps.{HaveMet-next, HaveMet-push, edge-within, IsQueue-start, IsQueue-there, IsQueue-new}
+use Rattle.search_laws.proofs.QueueStates.{mapped_at, unmapped_at, length-queue-le, state-below}
+use Rattle.search_laws.proofs.LeastSteps.{NoEdgeBefore, IsLeastStepsTo, IsLeastStepsTo-edge, no_steps_to}
 use Rattle.search_laws.proofs.QueueDepths.{AreDepths, depths-ascending, no_word_within}
 use Rattle.search_laws.proofs.SpelledWords.{Spells-some, length-spelled-le}
 use Rattle.search_laws.proofs.PairWalks.{code, Leads-walk, CodeStep-some, CodeStep-follows, IsLeastWalk-steps, no_walk}
@@ -34,13 +34,11 @@ places_of-push queue x = map-append place_of queue (x ∷ [])
 
 -- what stands at a place stands there as a place
 pub place_at : (queue : List Reached) (i : ℕ) (x : Reached) → slice_get queue i ≡ Some x → slice_get (places_of queue) i ≡ Some (place_of x)
-place_at queue i x at = slice_get-map place_of queue i ∙ ap (option_map place_of) at
+place_at = mapped_at place_of
 
 -- and back
-pub reached_at : (queue : List Reached) (i : ℕ) (z : Place) → slice_get (places_of queue) i ≡ Some z → (x : Reached) × (slice_get queue i ≡ Some x) × (place_of x ≡ z)
-reached_at [] i z at = absurd (none-some z at)
-reached_at (y ∷ queue) zero z at = (y, refl, cc)
-reached_at (y ∷ queue) (suc i) z at = reached_at queue i z at
+pub reached_at : (queue : List Reached) (i : ℕ) (z : Place ℕ) → slice_get (places_of queue) i ≡ Some z → (x : Reached) × (slice_get queue i ≡ Some x) × (place_of x ≡ z)
+reached_at = unmapped_at place_of
 
 -- a step leads to a marked pair, and to one alone
 MarkedStep-below : {r : LocalRule} → IsRule r → (s c t : ℕ) → MarkedStep r s c t → t < 2 * pair_count r
@@ -67,7 +65,7 @@ IsWalking-start {r} {ends} rule start x at none = record {
     root = λ y there. ap (λ z. z.depth) (sym (only_place x y 0 there).1) ∙ none;
     more = λ i y some there. absurd (omega (arith, some, (only_place x y i there).0));
   };
-  none = λ t sought. NoEdgeBefore-start (MarkedStep r) (step_count r) (places_of (x ∷ [])) t;
+  none = λ t sought i a u y there letter less step. absurd (omega (arith, less));
 }
 
 -- a marked pair has been reached
@@ -87,7 +85,8 @@ IsWalking-old {r} {ends} {queue} h n w x at letter old =
           (IsQueue-there w.filled h n (place_of x) refl letter there (λ t step. let (i, y, here, same) = (old t step).1 in (i, place_of y, place_at queue i y here, same)));
       depths = w.depths;
       none = λ t sought. subst (λ e. NoEdgeBefore (MarkedStep r) (step_count r) (places_of queue) e t) more
-          (NoEdgeBefore-next (w.none t sought) h n (place_of x) refl letter there (λ step. (old t step).0 sought));
+          (HaveMet-next (MarkedStep r) (λ u _. u ≢ t) (step_count r) (places_of queue) (h * step_count r + n) h n (place_of x) (w.none t sought) refl letter there
+          (λ u step same. (old u step).0 (sought ∙ ap Some (sym same))));
     }
 
 -- and so do some more
@@ -130,9 +129,11 @@ IsWalking-new {r} {ends} {queue} h n w x y at letter parent by deeper step other
           (IsQueue-new w.filled h n (place_of x) (place_of y) refl letter there parent by step (λ t also. MarkedStep-unique r x.pair n t y.pair also step)
           (λ j z here same. let (x', there', alike) = reached_at queue j z here in new (j, x', there', ap (λ p. p.state) alike ∙ same)));
       depths = HasDepths-push w.depths x y (ap (slice_get queue) parent ∙ at) deeper;
-      none = λ t sought. subst₂ (λ (tree : List Place) (e : ℕ). NoEdgeBefore (MarkedStep r) (step_count r) tree e t) (sym longer) more
-          (NoEdgeBefore-push (NoEdgeBefore-next (w.none t sought) h n (place_of x) refl letter there (λ also. other (sought ∙ ap Some (MarkedStep-unique r x.pair n t y.pair also step))))
-          (omega (arith, edge-within (step_count r) (places_of queue) h (n + 1) (place_of x) there (omega arith))) (place_of y));
+      none = λ t sought. subst₂ (λ (tree : List (Place ℕ)) (e : ℕ). NoEdgeBefore (MarkedStep r) (step_count r) tree e t) (sym longer) more
+          (HaveMet-push (MarkedStep r) (λ u _. u ≢ t) (step_count r) (places_of queue) (h * step_count r + n + 1) (place_of y)
+          (HaveMet-next (MarkedStep r) (λ u _. u ≢ t) (step_count r) (places_of queue) (h * step_count r + n) h n (place_of x) (w.none t sought) refl letter there
+          (λ u also same. other (sought ∙ ap Some (sym same ∙ MarkedStep-unique r x.pair n u y.pair also step))))
+          (omega (arith, edge-within (step_count r) (places_of queue) h (n + 1) (place_of x) there (omega arith))));
     }
 
 -- what has been reached stays so
@@ -248,7 +249,7 @@ IsSearch-next {r} {ends} {queue} {rows} h a all s =
 
 -- a search that has reached a place leads back from it
 pub IsBackward-walking : {r : LocalRule} {ends : Ends} {queue : List Reached} {e : ℕ} → IsWalking r ends queue e → IsBackward queue
-IsBackward-walking {queue = queue} w i x positive at = (w.filled.branches i (place_of x) positive (place_at queue i x at)).earlier
+IsBackward-walking {queue = queue} w i x positive at = (w.filled.fills.branches i (place_of x) positive (place_at queue i x at)).earlier
 
 -- how many steps lead to a place
 abbrev depth_at : List Reached → ℕ → ℕ
@@ -260,7 +261,7 @@ depth_at-place queue i x at = ap (λ z. z.depth) (get_or_from_slice_get queue i 
 -- these are the depths of the places
 AreDepths-queue : {r : LocalRule} {ends : Ends} {queue : List Reached} {e : ℕ} → IsWalking r ends queue e → AreDepths (places_of queue) (depth_at queue)
 AreDepths-queue {queue = queue} w =
-    let (first, root, _) = reached_at queue 0 w.filled.first w.filled.root in
+    let (first, root, _) = reached_at queue 0 w.filled.fills.first w.filled.fills.root in
     record {
       root = depth_at-place queue 0 first root ∙ w.depths.root first root;
       more = λ i z some at.
@@ -271,17 +272,17 @@ AreDepths-queue {queue = queue} w =
     }
 
 -- the word that is spelled to a place has as many letters as its depth
-length-spelled : {tree : List Place} {depth : ℕ → ℕ} → AreDepths tree depth → (i : ℕ) (w : List ℕ) → Spells tree i w → length w ≡ depth i
+length-spelled : {tree : List (Place ℕ)} {depth : ℕ → ℕ} → AreDepths tree depth → (i : ℕ) (w : List ℕ) → Spells tree i w → length w ≡ depth i
 length-spelled d _ _ Root = sym d.root
 length-spelled d _ _ (Branch i x w some at spells) = length_push w x.letter ∙ ap (λ n. n + 1) (length-spelled d x.parent w spells) ∙ sym (d.more i x some at)
 
 -- there are fewer steps to a place than places, so fewer than 512
 pub depth-below : {r : LocalRule} {ends : Ends} {queue : List Reached} {e : ℕ} → IsWalking r ends queue e → (i : ℕ) (x : Reached) → slice_get queue i ≡ Some x → x.depth < 512
 depth-below {queue = queue} w i x at =
-    let (v, spells) = Spells-some w.filled i (place_of x) (place_at queue i x at) in
+    let (v, spells) = Spells-some w.filled.fills i (place_of x) (place_at queue i x at) in
     omega (
       arith,
-      length-spelled-le w.filled spells,
+      length-spelled-le w.filled.fills spells,
       length-spelled (AreDepths-queue w) i v spells,
       depth_at-place queue i x at,
       slice_get_within queue i x at,

@@ -19,10 +19,10 @@ abbrev pub step_count : LocalRule → ℕ
 step_count r = r.states * 16
 
 -- what has been reached, as a place of a queue
-abbrev pub place_of : Reached → Place
+abbrev pub place_of : Reached → Place ℕ
 place_of x = record { state = x.pair; parent = x.parent; letter = x.step }
 
-abbrev pub places_of : List Reached → List Place
+abbrev pub places_of : List Reached → List (Place ℕ)
 places_of = map place_of
 
 -- so many steps lead to each place: none to the first one, and one more than to its parent to each other

@@ -11,18 +11,18 @@ use Rattle.word_image.specs.Ranks.{IsLastSet}
 use Rattle.word_image.specs.Families.{IsLeastWordOf, IsFamily}
 use Rattle.word_image.proofs.laws.Lists.{paired}
 use Rattle.search_laws.specs.SearchQueues.{Place, Spells, IsQueue}
-use Rattle.search_laws.proofs.QueueStates.{states_of, place_of_state, state_of_place, Contains-state}
+use Rattle.search_laws.proofs.QueueStates.{states_of, mapped_at, unmapped_at, Contains-state}
 use Rattle.search_laws.proofs.SpelledWords.{Spells-some, Spells-ascending}
 use Rattle.search_laws.proofs.LeastFirst.{IsLeastTo-spelled, reached_all, reached_or_after}
 use Rattle.search_laws.proofs.StepSets.{IsLastSet-leads, LeadsToSet-last}
 
 -- a queue of sets, from the full one on
-abbrev pub IsSetQueue : LocalRule → List Place → ℕ → Type 0
+abbrev pub IsSetQueue : LocalRule → List (Place ℕ) → ℕ → Type 0
 IsSetQueue r = IsQueue (IsStep r) r.states (full_set r)
 
 -- the word that is spelled to a place is the least one of its set
-IsLeastWordOf-spelled : {r : LocalRule} {tree : List Place} {e i : ℕ} {w : List ℕ} → IsRule r → IsSetQueue r tree e
-    → Spells tree i w → (x : Place) → slice_get tree i ≡ Some x → IsLeastWordOf r x.state w
+IsLeastWordOf-spelled : {r : LocalRule} {tree : List (Place ℕ)} {e i : ℕ} {w : List ℕ} → IsRule r → IsSetQueue r tree e
+    → Spells tree i w → (x : Place ℕ) → slice_get tree i ≡ Some x → IsLeastWordOf r x.state w
 IsLeastWordOf-spelled rule q s x at =
     let first = IsLeastTo-spelled q s x at in
     record { set_of = IsLastSet-leads rule first.leads; least = λ v last. first.least v (LeadsToSet-last rule last) }
@@ -43,7 +43,7 @@ chosen {Y = Y} (x ∷ xs) P find =
     (first.0 ∷ rest.0, ap suc rest.1, chosen_cons P first.0 first.1 rest.0 rest.2)
 
 -- something stands at each place below the length
-pub stands_at : (tree : List Place) (i : ℕ) → i < length tree → (x : Place) × (slice_get tree i ≡ Some x)
+pub stands_at : (tree : List (Place ℕ)) (i : ℕ) → i < length tree → (x : Place ℕ) × (slice_get tree i ≡ Some x)
 stands_at tree i l = (get_or tree i (record { state = 0; parent = 0; letter = 0 }), slice_get-get_or tree i (record { state = 0; parent = 0; letter = 0 }) l)
 
 -- no set is missing, but for those of words after a word with the empty set
@@ -51,39 +51,39 @@ abbrev pub HasAllSets : LocalRule → List ℕ → Type 0
 HasAllSets r sets = (v : List ℕ) (set : ℕ) → IsLastSet r v set → Contains sets set ⊎ ((e : List ℕ) × IsLastSet r e 0 × (word_cmp e v ≡ Less) × Contains sets 0)
 
 -- the sets of a queue are a family if no set is missing and only the last may be empty
-family_with : {r : LocalRule} {tree : List Place} {e : ℕ} → IsRule r → IsSetQueue r tree e
-    → ((i : ℕ) (x : Place) → i + 1 < length tree → slice_get tree i ≡ Some x → x.state ≢ 0) → HasAllSets r (states_of tree) → IsFamily r (states_of tree)
+family_with : {r : LocalRule} {tree : List (Place ℕ)} {e : ℕ} → IsRule r → IsSetQueue r tree e
+    → ((i : ℕ) (x : Place ℕ) → i + 1 < length tree → slice_get tree i ≡ Some x → x.state ≢ 0) → HasAllSets r (states_of tree) → IsFamily r (states_of tree)
 family_with {r} {tree} rule q some all =
-    let words = chosen tree (Spells tree) (Spells-some q) in
+    let words = chosen tree (Spells tree) (Spells-some q.fills) in
     let long : length (states_of tree) ≡ length words.0 = length-map tree (λ x. x.state) ∙ words.1 in
     record {
       words = words.0;
       each = paired (IsLeastWordOf r) (states_of tree) words.0 long (λ i set w at also.
-          let found = place_of_state tree i set at in
+          let found = unmapped_at (λ x. x.state) tree i set at in
           subst (λ s. IsLeastWordOf r s w) found.2 (IsLeastWordOf-spelled rule q (words.2 i w also) found.0 found.1));
       ascending = λ i v w at also.
           let first = stands_at tree i (omega (arith, words.1, slice_get_within words.0 i v at)) in
           let second = stands_at tree (i + 1) (omega (arith, words.1, slice_get_within words.0 (i + 1) w also)) in
-          Spells-ascending q (omega arith) (words.2 i v at) (words.2 (i + 1) w also) first.0 second.0 first.1 second.1;
+          Spells-ascending q.fills (omega arith) (words.2 i v at) (words.2 (i + 1) w also) first.0 second.0 first.1 second.1;
       nonempty = λ i less empty.
           let before : i + 1 < length tree = omega (arith, length-map tree (λ x. x.state)) in
           let here = stands_at tree i (omega arith) in
-          some i here.0 before here.1 (sym (get_or_from_slice_get (states_of tree) i here.0.state 0 (state_of_place tree i here.0 here.1)) ∙ empty);
+          some i here.0 before here.1 (sym (get_or_from_slice_get (states_of tree) i here.0.state 0 (mapped_at (λ x. x.state) tree i here.0 here.1)) ∙ empty);
       all = all;
     }
 
 -- where all edges were followed and only the last set may be empty, the sets are a family
-pub IsFamily-closed : {r : LocalRule} {tree : List Place} {e : ℕ} → IsRule r → IsSetQueue r tree e → length tree * r.states ≤ e
-    → ((i : ℕ) (x : Place) → i + 1 < length tree → slice_get tree i ≡ Some x → x.state ≢ 0) → IsFamily r (states_of tree)
+pub IsFamily-closed : {r : LocalRule} {tree : List (Place ℕ)} {e : ℕ} → IsRule r → IsSetQueue r tree e → length tree * r.states ≤ e
+    → ((i : ℕ) (x : Place ℕ) → i + 1 < length tree → slice_get tree i ≡ Some x → x.state ≢ 0) → IsFamily r (states_of tree)
 IsFamily-closed {r} {tree} rule q closed some = family_with rule q some (λ v set last.
     let reached = reached_all q closed v set (LeadsToSet-last rule last) in
     inl (Contains-state tree reached.at reached.place set reached.stands reached.of_state))
 
 -- where the last set is the empty one, the sets are a family
-pub IsFamily-stopped : {r : LocalRule} {tree : List Place} {e : ℕ} → IsRule r → IsSetQueue r tree e → (i : ℕ) (x : Place) → i + 1 ≡ length tree → slice_get tree i ≡ Some x → x.state ≡ 0
+pub IsFamily-stopped : {r : LocalRule} {tree : List (Place ℕ)} {e : ℕ} → IsRule r → IsSetQueue r tree e → (i : ℕ) (x : Place ℕ) → i + 1 ≡ length tree → slice_get tree i ≡ Some x → x.state ≡ 0
     → IsFamily r (states_of tree)
 IsFamily-stopped {r} {tree} rule q i x ends at empty =
-    let spelled = Spells-some q i x at in
+    let spelled = Spells-some q.fills i x at in
     family_with rule q
     (λ j y before there also. let same = q.apart j i y x there at (also ∙ sym empty) in omega (arith, same))
     (λ v set last. ⊎_elim

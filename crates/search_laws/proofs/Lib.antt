@@ -1,8 +1,10 @@
+pub mod Walks
 pub mod WordOrder
 pub mod QueueSteps
 pub mod QueueStates
 pub mod SpelledWords
 pub mod LeastFirst
+pub mod Searches
 pub mod StepSets
 pub mod Families
 pub mod LeastSteps

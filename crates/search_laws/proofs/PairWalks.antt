@@ -1,21 +1,21 @@
 -- Walks by letter pairs, the first of them found breadth first: a pair of letters is followed as one letter of a code.
-use Rattle.std.proofs.Common.{◌≡◌, ℕ, ◌+◌, ◌*◌, ◌/◌, ◌%◌, ◌^◌, ◌<◌, ◌≤◌, List, [], ◌∷◌, length, map, All, Option, Some, refl, sym, ap, ap₂, ◌∙◌, subst, arith, pow-suc, one-mul, mul-one, mul_comm}
+use Rattle.std.proofs.Common.{◌≡◌, ℕ, ◌+◌, ◌*◌, ◌/◌, ◌%◌, ◌^◌, ◌<◌, ◌≤◌, List, [], ◌∷◌, length, map, get_or, Option, Some, refl, sym, ap, ap₂, ◌∙◌, arith, ⊎_elim, pow-suc, one-mul, mul-one, mul_comm}
 use Rattle.std.specs.Ordering.{ordering_then, nat_cmp}
+use Rattle.std.specs.Cmp.{nat_cmp_is}
 use Rattle.std.specs.Cmp.Lexicographic.{slice_cmp}
 use Rattle.std.specs.declared.cmp.Ordering.{Ordering}
 use Rattle.std.specs.declared.cmp.Ordering.TheVariants.{Less, Equal, Greater}
 use Rattle.std.proofs.Math.Nat.{pow-zero}
 use Rattle.std.proofs.lemmas.Nat.{mul-add-lt, div-mul-add, mod-mul-add, div-add-mod'}
-use Rattle.std.proofs.lemmas.List.{map-append, length-map}
-use Rattle.std.proofs.lemmas.List.Elements.{All-nil, All-cons, All-head, All-tail, All-push}
+use Rattle.std.proofs.lemmas.List.{length-map}
+use Rattle.std.proofs.lemmas.List.Elements.{All-nil, All-cons, All-head, All-tail, All-map}
 use Rattle.word_image.specs.LocalRules.{IsWord, value}
 use Rattle.word_image.specs.Words.{word_cmp}
 use Rattle.word_image.specs.Rings.{pair_cmp, pairs_cmp}
 use Rattle.word_image.proofs.laws.Orders.{slice_cmp-value}
-use Rattle.search_laws.specs.PairWalks.{PairWalk, IsLeastWalk, uncode}
-use Rattle.search_laws.specs.PairWalks.PairWalk.{Stay, Go}
-use Rattle.search_laws.specs.SearchQueues.{Leads}
-use Rattle.search_laws.specs.SearchQueues.Leads.{Here, On}
+use Rattle.search_laws.specs.Walks.{Leads}
+use Rattle.search_laws.specs.PairWalks.{PairStep, ArePairs, PairWalk, IsLeastWalk, uncode}
+use Rattle.search_laws.proofs.Walks.{Walk-each, Walk-map, All-walk, Walk-shortened}
 use Rattle.search_laws.proofs.LeastSteps.{IsLeastStepsTo}
 
 -- the number of a letter pair, in base n
@@ -27,10 +27,6 @@ pub record CodeStep (follow : ℕ → ℕ → ℕ → Option ℕ) (k n s c t : �
   pub first : c / n < k
   pub second : c % n < k
   pub follows : follow s (c / n) (c % n) ≡ Some t
-
--- both letters of each pair are below n
-abbrev pub ArePairs : ℕ → List (ℕ × ℕ) → Type 0
-ArePairs n = All (λ p. (p.0 < n) × (p.1 < n))
 
 -- nothing after an order that is told
 then_equal : (o : Ordering) → ordering_then o Equal ≡ o
@@ -74,33 +70,7 @@ pairs_cmp-codes n p q small_p small_q =
 
 -- the letters of a walk are below k, and so below n
 pub ArePairs-walk : {follow : ℕ → ℕ → ℕ → Option ℕ} {k start t : ℕ} {w : List (ℕ × ℕ)} (n : ℕ) → k ≤ n → PairWalk follow k start w t → ArePairs n w
-ArePairs-walk n le Stay = All-nil (λ p. (p.0 < n) × (p.1 < n))
-ArePairs-walk n le (Go w a b s t before first second follows) =
-    All-push (λ p. (p.0 < n) × (p.1 < n)) w (a, b) (ArePairs-walk n le before) (omega arith, omega arith)
-
--- a walk by letter pairs is a walk by their numbers
-pub Leads-walk : {follow : ℕ → ℕ → ℕ → Option ℕ} {k start t : ℕ} {w : List (ℕ × ℕ)} (n : ℕ) → k ≤ n → PairWalk follow k start w t
-    → Leads (CodeStep follow k n) (k * n) start (map (code n) w) t
-Leads-walk {follow} {k} {start} n le Stay = Here
-Leads-walk {follow} {k} {start} n le (Go w a b s t before first second follows) =
-    let quotient : code n (a, b) / n ≡ a = div-mul-add a n b (omega arith) in
-    let rest : code n (a, b) % n ≡ b = mod-mul-add a n b (omega arith) in
-    let below : a * n + b < n * k = mul-add-lt a n b k first (omega arith) in
-    let step : CodeStep follow k n s (code n (a, b)) t = record {
-      first = omega arith;
-      second = omega arith;
-      follows = ap₂ (follow s) quotient rest ∙ follows;
-    } in
-    subst (λ v. Leads (CodeStep follow k n) (k * n) start v t) (sym (map-append (code n) w ((a, b) ∷ [])))
-    (On (map (code n) w) (code n (a, b)) s t (Leads-walk n le before) (omega (arith, mul_comm n k)) step)
-
--- and back
-pub PairWalk-leads : {follow : ℕ → ℕ → ℕ → Option ℕ} {k n start t : ℕ} {w : List ℕ} → Leads (CodeStep follow k n) (k * n) start w t
-    → PairWalk follow k start (map (uncode n) w) t
-PairWalk-leads Here = Stay
-PairWalk-leads {follow} {k} {n} {start} (On w c s t before below step) =
-    subst (λ v. PairWalk follow k start v t) (sym (map-append (uncode n) w (c ∷ [])))
-    (Go (map (uncode n) w) (c / n) (c % n) s t (PairWalk-leads before) step.first step.second step.follows)
+ArePairs-walk {w = w} n le walk i d l = let here = walk.letters i d l in (omega (arith, here.0), omega (arith, here.1))
 
 -- the number of a letter pair has these two letters
 uncode-code : (n a b : ℕ) → b < n → ((a * n + b) / n ≡ a) × ((a * n + b) % n ≡ b)
@@ -117,6 +87,28 @@ pub CodeStep-follows : {follow : ℕ → ℕ → ℕ → Option ℕ} {k n s t : 
 CodeStep-follows {follow} {k} {n} {s} a b below step =
     let parts = uncode-code n a b below in
     ap₂ (follow s) (sym parts.0) (sym parts.1) ∙ step.follows
+
+-- a walk by letter pairs is a walk by their numbers
+pub Leads-walk : {follow : ℕ → ℕ → ℕ → Option ℕ} {k start t : ℕ} {w : List (ℕ × ℕ)} (n : ℕ) → k ≤ n → PairWalk follow k start w t
+    → Leads (CodeStep follow k n) (k * n) start (map (code n) w) t
+Leads-walk {follow} {k} {start} {t} {w} n le walk = record {
+  walk = Walk-map (CodeStep follow k n) (code n) w start t
+      (Walk-each (PairStep follow) (λ s p. CodeStep follow k n s (code n p)) (λ s. s) (λ p. (p.0 < k) × (p.1 < k))
+      (λ s p u small follows. CodeStep-some follow k n s p.0 p.1 u le small.0 small.1 follows) w start t walk.letters walk.steps);
+  word = All-map (λ c. c < k * n) (code n) w (λ i d l.
+      let p = get_or w i d in
+      let here = walk.letters i d l in
+      omega (arith, mul-add-lt p.0 n p.1 k here.0 (omega (arith, here.1)), mul_comm n k));
+}
+
+-- and back
+pub PairWalk-leads : {follow : ℕ → ℕ → ℕ → Option ℕ} {k n start t : ℕ} {w : List ℕ} → Leads (CodeStep follow k n) (k * n) start w t
+    → PairWalk follow k start (map (uncode n) w) t
+PairWalk-leads {follow} {k} {n} {start} {t} {w} leads = record {
+  steps = Walk-map (PairStep follow) (uncode n) w start t
+      (Walk-each (CodeStep follow k n) (λ s c. PairStep follow s (uncode n c)) (λ s. s) (λ c. c < k * n) (λ s c u _ step. step.follows) w start t leads.word leads.walk);
+  letters = All-map (λ p. (p.0 < k) × (p.1 < k)) (uncode n) w (All-walk (CodeStep follow k n) (λ c. (c / n < k) × (c % n < k)) (λ s c u step. (step.first, step.second)) w start t leads.walk);
+}
 
 -- the numbers of the letter pairs of numbers
 pub codes-uncode : (n : ℕ) (w : List ℕ) → map (code n) (map (uncode n) w) ≡ w
@@ -141,3 +133,14 @@ IsLeastWalk-steps {follow} {k} {n} {start} {t} {w} le first =
 pub no_walk : {follow : ℕ → ℕ → ℕ → Option ℕ} {k start : ℕ} (n t : ℕ) → k ≤ n → ((v : List ℕ) → 0 < length v → ¬ Leads (CodeStep follow k n) (k * n) start v t)
     → (w : List (ℕ × ℕ)) → 0 < length w → ¬ PairWalk follow k start w t
 no_walk n t le none w some walk = none (map (code n) w) (omega (arith, length-map w (code n))) (Leads-walk n le walk)
+
+-- a longer list of letter pairs comes later
+pairs_cmp-longer : (v w : List (ℕ × ℕ)) → length v < length w → pairs_cmp w v ≡ Greater
+pairs_cmp-longer v w l = ap (λ (o : Ordering). ordering_then o (slice_cmp pair_cmp w v)) (sym (nat_cmp_is (length w) (length v) Greater l))
+
+-- a least walk has no more steps than there are states
+pub length-IsLeastWalk : {follow : ℕ → ℕ → ℕ → Option ℕ} {k start t n : ℕ} {w : List (ℕ × ℕ)} → ((s a b u : ℕ) → follow s a b ≡ Some u → u < n) → IsLeastWalk follow k start t w → length w ≤ n
+length-IsLeastWalk {follow} {k} {start} {t} {n} {w} below first =
+    ⊎_elim (λ few. few)
+    (λ h. absurd (first.least h.shorter h.some (record { steps = h.walk; letters = h.letters }) (pairs_cmp-longer h.shorter w h.less)))
+    (Walk-shortened (PairStep follow) (λ p. (p.0 < k) × (p.1 < k)) n (λ s p u. below s p.0 p.1 u) w start t first.walk.letters first.walk.steps)

@@ -8,58 +8,62 @@ use Rattle.std.proofs.lemmas.Map.Made.{IsDistinct-from_AllPairs}
 use Rattle.std.proofs.lemmas.Map.Steps.{length-le_from_distinct_below}
 use Rattle.std.proofs.lemmas.Map.Views.{Contains-from_any}
 use Rattle.std.proofs.lemmas.Option.{slice_get_within, slice_get-get_or, get_or_from_slice_get, slice_get-map, none-some}
-use Rattle.search_laws.specs.SearchQueues.{Place, IsQueue}
+use Rattle.search_laws.specs.SearchQueues.{Place, IsFilled, IsQueue}
 
 -- the states of a list, in its order
-abbrev pub states_of : List Place → List ℕ
+abbrev pub states_of : List (Place ℕ) → List ℕ
 states_of = map (λ x. x.state)
 
--- the place of a state
-pub place_of_state : (tree : List Place) (i set : ℕ) → slice_get (states_of tree) i ≡ Some set → (x : Place) × (slice_get tree i ≡ Some x) × (x.state ≡ set)
-place_of_state [] i set at = absurd (none-some set at)
-place_of_state (y ∷ tree) zero set at = (y, refl, cc)
-place_of_state (y ∷ tree) (suc i) set at = place_of_state tree i set at
+-- what stands in a list stands there when all is mapped
+pub mapped_at : {X Y : Type 0} (f : X → Y) (xs : List X) (i : ℕ) (x : X) → slice_get xs i ≡ Some x → slice_get (map f xs) i ≡ Some (f x)
+mapped_at f xs i x at = slice_get-map f xs i ∙ ap (option_map f) at
 
--- the state of a place
-pub state_of_place : (tree : List Place) (i : ℕ) (x : Place) → slice_get tree i ≡ Some x → slice_get (states_of tree) i ≡ Some x.state
-state_of_place tree i x at = slice_get-map (λ y. y.state) tree i ∙ ap (option_map (λ y. y.state)) at
+-- and back
+pub unmapped_at : {X Y : Type 0} (f : X → Y) (xs : List X) (i : ℕ) (y : Y) → slice_get (map f xs) i ≡ Some y → (x : X) × (slice_get xs i ≡ Some x) × (f x ≡ y)
+unmapped_at f [] i y at = absurd (none-some y at)
+unmapped_at f (x ∷ xs) zero y at = (x, refl, cc)
+unmapped_at f (x ∷ xs) (suc i) y at = unmapped_at f xs i y at
 
 -- the state of a place is listed
-pub Contains-state : (tree : List Place) (i : ℕ) (x : Place) (set : ℕ) → slice_get tree i ≡ Some x → x.state ≡ set → Contains (states_of tree) set
+pub Contains-state : (tree : List (Place ℕ)) (i : ℕ) (x : Place ℕ) (set : ℕ) → slice_get tree i ≡ Some x → x.state ≡ set → Contains (states_of tree) set
 Contains-state tree i x set at same =
-    let there : slice_get (states_of tree) i ≡ Some set = state_of_place tree i x at ∙ ap Some same in
+    let there : slice_get (states_of tree) i ≡ Some set = mapped_at (λ y. y.state) tree i x at ∙ ap Some same in
     (i, slice_get_within (states_of tree) i set there, get_or_from_slice_get (states_of tree) i set set there)
 
 -- a listed state has a place
-pub place_of_listed : (tree : List Place) (set : ℕ) → Contains (states_of tree) set → (i : ℕ) × (x : Place) × (slice_get tree i ≡ Some x) × (x.state ≡ set)
+pub place_of_listed : (tree : List (Place ℕ)) (set : ℕ) → Contains (states_of tree) set → (i : ℕ) × (x : Place ℕ) × (slice_get tree i ≡ Some x) × (x.state ≡ set)
 place_of_listed tree set (i, below, same) =
-    let found = place_of_state tree i set (slice_get-get_or (states_of tree) i set below ∙ ap Some same) in
+    let found = unmapped_at (λ x. x.state) tree i set (slice_get-get_or (states_of tree) i set below ∙ ap Some same) in
     (i, found.0, found.1, found.2)
 
--- each state is below n if the start is, and each step leads below n
-pub state-below : {Step : ℕ → ℕ → ℕ → Type 0} {k start : ℕ} {tree : List Place} {e : ℕ} → IsQueue Step k start tree e
-    → (n : ℕ) → start < n → ((s a t : ℕ) → Step s a t → t < n) → (i : ℕ) (x : Place) → slice_get tree i ≡ Some x → x.state < n
-state-below {tree = tree} q n first steps i x at =
+-- what holds of the start, and where each step leads, holds of each state
+pub state-all : {S : Type 0} {Step : S → ℕ → S → Type 0} {Met : S → ℕ → Type 0} {k : ℕ} {start : S} {tree : List (Place S)} {e : ℕ} → IsFilled Step Met k start tree e
+    → (P : S → Type 0) → P start → ((s : S) (a : ℕ) (t : S) → Step s a t → P t) → (i : ℕ) (x : Place S) → slice_get tree i ≡ Some x → P x.state
+state-all {tree = tree} q P first steps i x at =
     ⊎_elim
     (λ none.
     let root = q.root in
-    let starts = q.starts in
     let here : slice_get tree 0 ≡ Some x = subst (λ j. slice_get tree j ≡ Some x) none at in
     let same : q.first ≡ x = cc in
-    subst (λ s. s < n) (sym starts ∙ ap (λ z. z.state) same) first)
+    subst P (sym q.starts ∙ ap (λ z. z.state) same) first)
     (λ some. let b = q.branches i x (omega (arith, some)) at in steps b.parent.state x.letter x.state b.step)
     (cases_eq i 0)
 
+-- each state is below n if the start is, and each step leads below n
+pub state-below : {Step : ℕ → ℕ → ℕ → Type 0} {k start : ℕ} {tree : List (Place ℕ)} {e : ℕ} → IsQueue Step k start tree e
+    → (n : ℕ) → start < n → ((s a t : ℕ) → Step s a t → t < n) → (i : ℕ) (x : Place ℕ) → slice_get tree i ≡ Some x → x.state < n
+state-below q n first steps = state-all q.fills (λ s. s < n) first steps
+
 -- no state is listed twice
-pub states-apart : {Step : ℕ → ℕ → ℕ → Type 0} {k start : ℕ} {tree : List Place} {e : ℕ} → IsQueue Step k start tree e → AllPairs (λ s t. s ≢ t) (states_of tree)
+pub states-apart : {Step : ℕ → ℕ → ℕ → Type 0} {k start : ℕ} {tree : List (Place ℕ)} {e : ℕ} → IsQueue Step k start tree e → AllPairs (λ s t. s ≢ t) (states_of tree)
 states-apart {tree = tree} q i j d less within same =
-    let first = place_of_state tree i _ (slice_get-get_or (states_of tree) i d (omega arith)) in
-    let second = place_of_state tree j _ (slice_get-get_or (states_of tree) j d within) in
+    let first = unmapped_at (λ x. x.state) tree i _ (slice_get-get_or (states_of tree) i d (omega arith)) in
+    let second = unmapped_at (λ x. x.state) tree j _ (slice_get-get_or (states_of tree) j d within) in
     let one = q.apart i j first.0 second.0 first.1 second.1 (first.2 ∙ same ∙ sym second.2) in
     omega (arith, one)
 
 -- so there are no more places than states
-pub length-queue-le : {Step : ℕ → ℕ → ℕ → Type 0} {k start : ℕ} {tree : List Place} {e : ℕ} → IsQueue Step k start tree e
+pub length-queue-le : {Step : ℕ → ℕ → ℕ → Type 0} {k start : ℕ} {tree : List (Place ℕ)} {e : ℕ} → IsQueue Step k start tree e
     → (n : ℕ) → start < n → ((s a t : ℕ) → Step s a t → t < n) → length tree ≤ n
 length-queue-le {tree = tree} q n first steps =
     let few = length-le_from_distinct_below (states_of tree) n (IsDistinct-from_AllPairs Decides-eqb (states_of tree) (states-apart q)) (λ s any.

@@ -6,64 +6,89 @@ use Rattle.std.proofs.lemmas.Nat.{same_from_place}
 use Rattle.std.proofs.lemmas.Option.{slice_get_within}
 use Rattle.std.proofs.Math.Nat.{mul-le-mul_right, suc-mul}
 use Rattle.word_image.proofs.laws.Places.{slice_get-append, slice_get-push, slice_get-push_cases, only_place}
-use Rattle.search_laws.specs.SearchQueues.{Place, IsBranch, IsQueue, HasPlace, filled}
+use Rattle.search_laws.specs.SearchQueues.{Place, IsBranch, HaveMet, IsFilled, IsQueue, filled}
 
 -- when a place that isn't the first was filled
-pub filled-later : (k i : ℕ) (x : Place) → 0 < i → filled k i x ≡ x.parent * k + x.letter + 1
+pub filled-later : {S : Type 0} (k i : ℕ) (x : Place S) → 0 < i → filled k i x ≡ x.parent * k + x.letter + 1
 filled-later k zero x h = absurd (omega arith)
 filled-later k (suc i) x h = refl
 
+-- one more edge is followed
+pub HaveMet-next : {S : Type 0} (Step : S → ℕ → S → Type 0) (Met : S → ℕ → Type 0) (k : ℕ) (tree : List (Place S)) (e h n : ℕ) (x : Place S) → HaveMet Step Met k tree e
+    → e ≡ h * k + n → n < k → slice_get tree h ≡ Some x → ((t : S) → Step x.state n t → Met t (e + 1)) → HaveMet Step Met k tree (e + 1)
+HaveMet-next Step Met k tree e h n x met edge below head next i a t y at letter less step = ⊎_elim
+    (λ same.
+    let parts : (i ≡ h) × (a ≡ n) = same_from_place i a h n k letter below (same ∙ edge) in
+    let alike : y ≡ x = let there = subst (λ j. slice_get tree j ≡ Some y) parts.0 at in cc in
+    subst (λ f. Met t (f + 1)) (sym same) (next t (subst (λ b. Step x.state b t) parts.1 (subst (λ z. Step z.state a t) alike step))))
+    (λ other. met i a t y at letter (omega (arith, other)) step)
+    (cases_eq (i * k + a) e)
+
+-- a place that is added has no edge yet
+pub HaveMet-push : {S : Type 0} (Step : S → ℕ → S → Type 0) (Met : S → ℕ → Type 0) (k : ℕ) (tree : List (Place S)) (e : ℕ) (y : Place S) → HaveMet Step Met k tree e
+    → e ≤ length tree * k → HaveMet Step Met k (tree ++ y ∷ []) e
+HaveMet-push Step Met k tree e y met all i a t z at letter less step =
+    ⊎_elim
+    (λ there. met i a t z there letter less step)
+    (λ last. let past : i * k ≡ length tree * k = ap (λ j. j * k) last.0 in absurd (omega arith))
+    (slice_get-push_cases tree y i z at)
+
+-- an edge from a place of the list comes before all edges from places past its end
+pub edge-within : {S : Type 0} (k : ℕ) (tree : List (Place S)) (h n : ℕ) (x : Place S) → slice_get tree h ≡ Some x → n ≤ k → h * k + n ≤ length tree * k
+edge-within k tree h n x at most =
+    let next : suc h * k ≤ length tree * k = mul-le-mul_right k (slice_get_within tree h x at) in
+    omega (arith, suc-mul h k)
+
 -- at the beginning the start stands alone
-pub IsQueue-start : {Step : ℕ → ℕ → ℕ → Type 0} {k start : ℕ} (x : Place) → x.state ≡ start → IsQueue Step k start (x ∷ []) 0
-IsQueue-start {Step} {k} {start} x starts = record {
+pub IsFilled-start : {S : Type 0} {Step : S → ℕ → S → Type 0} {Met : S → ℕ → Type 0} {k : ℕ} {start : S} (x : Place S) → x.state ≡ start → IsFilled Step Met k start (x ∷ []) 0
+IsFilled-start {k = k} x starts = record {
   first = x;
   root = refl;
   starts = starts;
   branches = λ i y positive at. absurd (omega (arith, (only_place x y i at).0));
   so_far = λ i y at. subst (λ j. filled k j y ≤ 0) (sym (only_place x y i at).0) (omega arith);
   ascending = λ i j y z less at_i at_j. absurd (omega (arith, (only_place x z j at_j).0));
-  apart = λ i j y z at_i at_j same. (only_place x y i at_i).0 ∙ sym (only_place x z j at_j).0;
   done = λ i a t y at letter less step. absurd (omega arith);
 }
 
--- a state that stood in time stands in time where the list grows
-HasPlace-push : (k : ℕ) (tree : List Place) (y : Place) (t e : ℕ) → HasPlace k tree t e → HasPlace k (tree ++ y ∷ []) t e
-HasPlace-push k tree y t e (j, z, at, same, early) = (j, z, slice_get-append tree (y ∷ []) j z at, same, early)
+pub IsQueue-start : {Step : ℕ → ℕ → ℕ → Type 0} {k start : ℕ} (x : Place ℕ) → x.state ≡ start → IsQueue Step k start (x ∷ []) 0
+IsQueue-start x starts = record {
+  fills = IsFilled-start x starts;
+  apart = λ i j y z at_i at_j same. (only_place x y i at_i).0 ∙ sym (only_place x z j at_j).0;
+}
 
--- one more edge is followed: it leads to no state, or to states that are there
-pub IsQueue-there : {Step : ℕ → ℕ → ℕ → Type 0} {k start : ℕ} {tree : List Place} {e : ℕ} → IsQueue Step k start tree e
-    → (h n : ℕ) (x : Place) → e ≡ h * k + n → n < k → slice_get tree h ≡ Some x
-    → ((t : ℕ) → Step x.state n t → (j : ℕ) × (y : Place) × (slice_get tree j ≡ Some y) × (y.state ≡ t))
-    → IsQueue Step k start tree (e + 1)
-IsQueue-there {Step} {k} {start} {tree} {e} q h n x edge below head there = record {
+-- one more edge is followed, and nothing is added
+pub IsFilled-there : {S : Type 0} {Step : S → ℕ → S → Type 0} {Met : S → ℕ → Type 0} {k : ℕ} {start : S} {tree : List (Place S)} {e : ℕ} → IsFilled Step Met k start tree e
+    → (h n : ℕ) (x : Place S) → e ≡ h * k + n → n < k → slice_get tree h ≡ Some x → ((t : S) → Step x.state n t → Met t (e + 1)) → IsFilled Step Met k start tree (e + 1)
+IsFilled-there {Step = Step} {Met = Met} {k = k} {tree = tree} {e = e} q h n x edge below head met = record {
   first = q.first;
   root = q.root;
   starts = q.starts;
   branches = q.branches;
   so_far = λ i y at. omega (arith, q.so_far i y at);
   ascending = q.ascending;
-  apart = q.apart;
-  done = λ i a t y at letter less step. ⊎_elim
-      (λ same.
-      let parts : (i ≡ h) × (a ≡ n) = same_from_place i a h n k letter below (same ∙ edge) in
-      let alike : y ≡ x = let there = subst (λ j. slice_get tree j ≡ Some y) parts.0 at in cc in
-      let found = there t (subst (λ b. Step x.state b t) parts.1 (subst (λ z. Step z.state a t) alike step)) in
-      (found.0, found.1, found.2, found.3, omega (arith, same, q.so_far found.0 found.1 found.2)))
-      (λ other. q.done i a t y at letter (omega (arith, other)) step)
-      (cases_eq (i * k + a) e);
+  done = HaveMet-next Step Met k tree e h n x q.done edge below head met;
 }
 
--- one more edge is followed: it leads to a state that isn't there, which is added
-pub IsQueue-new : {Step : ℕ → ℕ → ℕ → Type 0} {k start : ℕ} {tree : List Place} {e : ℕ} → IsQueue Step k start tree e
-    → (h n : ℕ) (x y : Place) → e ≡ h * k + n → n < k → slice_get tree h ≡ Some x → y.parent ≡ h → y.letter ≡ n → Step x.state n y.state
-    → ((t : ℕ) → Step x.state n t → t ≡ y.state)
-    → ((j : ℕ) (z : Place) → slice_get tree j ≡ Some z → z.state ≢ y.state)
-    → IsQueue Step k start (tree ++ y ∷ []) (e + 1)
-IsQueue-new {Step} {k} {start} {tree} {e} q h n x y edge below head parent letter step only new =
+-- it leads to no state, or to states that are there
+pub IsQueue-there : {Step : ℕ → ℕ → ℕ → Type 0} {k start : ℕ} {tree : List (Place ℕ)} {e : ℕ} → IsQueue Step k start tree e
+    → (h n : ℕ) (x : Place ℕ) → e ≡ h * k + n → n < k → slice_get tree h ≡ Some x
+    → ((t : ℕ) → Step x.state n t → (j : ℕ) × (y : Place ℕ) × (slice_get tree j ≡ Some y) × (y.state ≡ t))
+    → IsQueue Step k start tree (e + 1)
+IsQueue-there q h n x edge below head there = record {
+  fills = IsFilled-there q.fills h n x edge below head (λ t step. let (j, y, at, same) = there t step in (j, y, at, same, omega (arith, q.fills.so_far j y at)));
+  apart = q.apart;
+}
+
+-- one more edge is followed, and where it leads is added: what was met stays so, and where the edge leads is met
+pub IsFilled-new : {S : Type 0} {Step : S → ℕ → S → Type 0} {Met More : S → ℕ → Type 0} {k : ℕ} {start : S} {tree : List (Place S)} {e : ℕ} → IsFilled Step Met k start tree e
+    → (h n : ℕ) (x y : Place S) → e ≡ h * k + n → n < k → slice_get tree h ≡ Some x → y.parent ≡ h → y.letter ≡ n → Step x.state n y.state
+    → ((t : S) (f : ℕ) → Met t f → More t f) → ((t : S) → Step x.state n t → filled k (length tree) y ≡ e + 1 → More t (e + 1)) → IsFilled Step More k start (tree ++ y ∷ []) (e + 1)
+IsFilled-new {Step = Step} {More = More} {k = k} {tree = tree} {e = e} q h n x y edge below head parent letter step stays met =
     let within : h < length tree = slice_get_within tree h x head in
     let late : (i : ℕ) → i ≡ length tree → filled k i y ≡ e + 1 = λ i last.
     filled-later k i y (omega (arith, last)) ∙ ap₂ (λ (p l : ℕ). p * k + l + 1) parent letter ∙ ap (λ j. j + 1) (sym edge) in
-    let longer : (i : ℕ) (z : Place) → slice_get tree i ≡ Some z → slice_get (tree ++ y ∷ []) i ≡ Some z = slice_get-append tree (y ∷ []) in
+    let longer : (i : ℕ) (z : Place _) → slice_get tree i ≡ Some z → slice_get (tree ++ y ∷ []) i ≡ Some z = slice_get-append tree (y ∷ []) in
     record {
       first = q.first;
       root = longer 0 q.first q.root;
@@ -93,34 +118,28 @@ IsQueue-new {Step} {k} {start} {tree} {e} q h n x y edge below head parent lette
           (λ also. absurd (omega (arith, last.0, also.0)))
           (slice_get-push_cases tree y i v at_i))
           (slice_get-push_cases tree y j z at_j);
-      apart = λ i j v z at_i at_j same. ⊎_elim
-          (λ first. ⊎_elim
-          (λ second. q.apart i j v z first second same)
-          (λ last. absurd (new i v first (same ∙ ap (λ u. u.state) (sym last.1))))
-          (slice_get-push_cases tree y j z at_j))
-          (λ last. ⊎_elim
-          (λ second. absurd (new j z second (sym same ∙ ap (λ u. u.state) (sym last.1))))
-          (λ also. last.0 ∙ sym also.0)
-          (slice_get-push_cases tree y j z at_j))
-          (slice_get-push_cases tree y i v at_i);
-      done = λ i a t z at letter less follows. ⊎_elim
-          (λ before. ⊎_elim
-          (λ same.
-          let parts : (i ≡ h) × (a ≡ n) = same_from_place i a h n k letter below (same ∙ edge) in
-          let alike : z ≡ x = let there = subst (λ j. slice_get tree j ≡ Some z) parts.0 before in cc in
-          let found : t ≡ y.state = only t (subst (λ b. Step x.state b t) parts.1 (subst (λ u. Step u.state a t) alike follows)) in
-          (length tree, y, slice_get-push tree y, sym found, omega (arith, same, late (length tree) refl)))
-          (λ other. HasPlace-push k tree y t (i * k + a + 1) (q.done i a t z before letter (omega (arith, other)) follows))
-          (cases_eq (i * k + a) e))
-          (λ last.
-          let past : suc h * k ≤ i * k = mul-le-mul_right k (omega (arith, last.0)) in
-          absurd (omega (arith, suc-mul h k)))
-          (slice_get-push_cases tree y i z at);
+      done = HaveMet-push Step More k tree (e + 1) y (HaveMet-next Step More k tree e h n x (λ i a t z at letter less follows. stays t (i * k + a + 1) (q.done i a t z at letter less follows))
+          edge below head (λ t follows. met t follows (late (length tree) refl))) (omega (arith, edge-within k tree h (n + 1) x head (omega arith)));
     }
 
--- behind the last letter from a place the first one from the next place is followed
-pub IsQueue-next : {Step : ℕ → ℕ → ℕ → Type 0} {k start : ℕ} {tree : List Place} (h n : ℕ) → IsQueue Step k start tree (h * k + n) → n ≡ k → IsQueue Step k start tree ((h + 1) * k + 0)
-IsQueue-next {Step} {k} {start} {tree} h n q all =
-    let next : suc h * k ≡ (h + 1) * k = ap (λ i. i * k) (omega arith) in
-    let e : h * k + n ≡ (h + 1) * k + 0 = omega (arith, suc-mul h k) in
-    subst (IsQueue Step k start tree) e q
+-- it leads to a state that isn't there
+pub IsQueue-new : {Step : ℕ → ℕ → ℕ → Type 0} {k start : ℕ} {tree : List (Place ℕ)} {e : ℕ} → IsQueue Step k start tree e
+    → (h n : ℕ) (x y : Place ℕ) → e ≡ h * k + n → n < k → slice_get tree h ≡ Some x → y.parent ≡ h → y.letter ≡ n → Step x.state n y.state
+    → ((t : ℕ) → Step x.state n t → t ≡ y.state)
+    → ((j : ℕ) (z : Place ℕ) → slice_get tree j ≡ Some z → z.state ≢ y.state)
+    → IsQueue Step k start (tree ++ y ∷ []) (e + 1)
+IsQueue-new {tree = tree} q h n x y edge below head parent letter step only new = record {
+  fills = IsFilled-new q.fills h n x y edge below head parent letter step
+      (λ t f (j, z, at, same, early). (j, z, slice_get-append tree (y ∷ []) j z at, same, early))
+      (λ t follows last. (length tree, y, slice_get-push tree y, sym (only t follows), omega (arith, last)));
+  apart = λ i j v z at_i at_j same. ⊎_elim
+      (λ first. ⊎_elim
+      (λ second. q.apart i j v z first second same)
+      (λ last. absurd (new i v first (same ∙ ap (λ u. u.state) (sym last.1))))
+      (slice_get-push_cases tree y j z at_j))
+      (λ last. ⊎_elim
+      (λ second. absurd (new j z second (sym same ∙ ap (λ u. u.state) (sym last.1))))
+      (λ also. last.0 ∙ sym also.0)
+      (slice_get-push_cases tree y j z at_j))
+      (slice_get-push_cases tree y i v at_i);
+}

@@ -4,20 +4,19 @@ use Rattle.std.specs.List.{slice_get}
 use Rattle.std.proofs.lemmas.Bool.{cases_eq, cases_lt}
 use Rattle.std.proofs.lemmas.Nat.{same_from_place}
 use Rattle.std.proofs.lemmas.List.{length_push}
-use Rattle.std.proofs.lemmas.List.Elements.{All-nil, All-push}
 use Rattle.std.proofs.Math.Nat.{mul-le-mul_right, suc-mul}
 use Rattle.std.specs.declared.cmp.Ordering.TheVariants.{Less}
-use Rattle.word_image.specs.LocalRules.{IsWord}
 use Rattle.word_image.specs.Words.{word_cmp}
-use Rattle.search_laws.specs.SearchQueues.{Place, Spells, Leads, IsQueue, filled}
+use Rattle.search_laws.specs.SearchQueues.{Place, Spells, IsFilled, filled}
 use Rattle.search_laws.specs.SearchQueues.Spells.{Root, Branch}
-use Rattle.search_laws.specs.SearchQueues.Leads.{Here, On}
+use Rattle.search_laws.specs.Walks.{Leads}
+use Rattle.search_laws.proofs.Walks.{Leads-none, Leads-push}
 use Rattle.search_laws.proofs.QueueSteps.{filled-later}
 use Rattle.search_laws.proofs.WordOrder.{word_number, word_number-snoc, word_cmp-less}
 
 -- the last letter of a word is that of its place, and the others are spelled to the parent
-pub record IsLonger (tree : List Place) (i : ℕ) (w : List ℕ) : Type 0 where
-  pub place : Place
+pub record IsLonger {S : Type 0} (tree : List (Place S)) (i : ℕ) (w : List ℕ) : Type 0 where
+  pub place : Place S
   pub front : List ℕ
   pub positive : 0 < i
   pub stands : slice_get tree i ≡ Some place
@@ -25,25 +24,25 @@ pub record IsLonger (tree : List Place) (i : ℕ) (w : List ℕ) : Type 0 where
   pub splits : w ≡ front ++ place.letter ∷ []
 
 -- a word is empty and spelled to the first place, or it has a last letter
-pub Spells-cases : {tree : List Place} {i : ℕ} {w : List ℕ} → Spells tree i w → ((i ≡ 0) × (w ≡ [])) ⊎ IsLonger tree i w
+pub Spells-cases : {S : Type 0} {tree : List (Place S)} {i : ℕ} {w : List ℕ} → Spells tree i w → ((i ≡ 0) × (w ≡ [])) ⊎ IsLonger tree i w
 Spells-cases Root = inl (refl, refl)
 Spells-cases (Branch i x w positive at before) = inr (record { place = x; front = w; positive = positive; stands = at; before = before; splits = refl })
 
 -- one word is spelled to a place
-pub Spells-unique : {tree : List Place} {i : ℕ} {v w : List ℕ} → Spells tree i v → Spells tree i w → v ≡ w
-Spells-unique {tree} Root s = ⊎_elim (λ same. sym same.1) (λ longer. absurd (omega (arith, longer.positive))) (Spells-cases s)
-Spells-unique {tree} (Branch i x v positive at before) s =
+pub Spells-unique : {S : Type 0} {tree : List (Place S)} {i : ℕ} {v w : List ℕ} → Spells tree i v → Spells tree i w → v ≡ w
+Spells-unique Root s = ⊎_elim (λ same. sym same.1) (λ longer. absurd (omega (arith, longer.positive))) (Spells-cases s)
+Spells-unique {tree = tree} (Branch i x v positive at before) s =
     ⊎_elim
     (λ same. absurd (omega (arith, same.0)))
     (λ longer.
     let alike : longer.place ≡ x = let there = longer.stands in cc in
     let fronts : v ≡ longer.front = Spells-unique before (subst (λ z. Spells tree z.parent longer.front) alike longer.before) in
-    ap₂ (λ (u : List ℕ) (z : Place). u ++ z.letter ∷ []) fronts (sym alike) ∙ sym longer.splits)
+    ap₂ (λ (u : List ℕ) (z : Place _). u ++ z.letter ∷ []) fronts (sym alike) ∙ sym longer.splits)
     (Spells-cases s)
 
 -- `Spells-some` at the first n places
-spelled_below : {Step : ℕ → ℕ → ℕ → Type 0} {k start : ℕ} {tree : List Place} {e : ℕ} → IsQueue Step k start tree e
-    → (n i : ℕ) → i < n → (x : Place) → slice_get tree i ≡ Some x → (w : List ℕ) × Spells tree i w
+spelled_below : {S : Type 0} {Step : S → ℕ → S → Type 0} {Met : S → ℕ → Type 0} {k : ℕ} {start : S} {tree : List (Place S)} {e : ℕ} → IsFilled Step Met k start tree e
+    → (n i : ℕ) → i < n → (x : Place S) → slice_get tree i ≡ Some x → (w : List ℕ) × Spells tree i w
 spelled_below q zero i less x at = absurd (omega arith)
 spelled_below {tree = tree} q (suc n) zero less x at = ([], Root)
 spelled_below {tree = tree} q (suc n) (suc i) less x at =
@@ -52,37 +51,31 @@ spelled_below {tree = tree} q (suc n) (suc i) less x at =
     (front.0 ++ x.letter ∷ [], Branch (suc i) x front.0 (omega arith) at front.1)
 
 -- to each place a word is spelled
-pub Spells-some : {Step : ℕ → ℕ → ℕ → Type 0} {k start : ℕ} {tree : List Place} {e : ℕ} → IsQueue Step k start tree e
-    → (i : ℕ) (x : Place) → slice_get tree i ≡ Some x → (w : List ℕ) × Spells tree i w
+pub Spells-some : {S : Type 0} {Step : S → ℕ → S → Type 0} {Met : S → ℕ → Type 0} {k : ℕ} {start : S} {tree : List (Place S)} {e : ℕ} → IsFilled Step Met k start tree e
+    → (i : ℕ) (x : Place S) → slice_get tree i ≡ Some x → (w : List ℕ) × Spells tree i w
 Spells-some q i x at = spelled_below q (i + 1) i (omega arith) x at
 
 -- the word that is spelled to a place leads to its state
-pub Leads-spelled : {Step : ℕ → ℕ → ℕ → Type 0} {k start : ℕ} {tree : List Place} {e i : ℕ} {w : List ℕ} → IsQueue Step k start tree e
-    → Spells tree i w → (x : Place) → slice_get tree i ≡ Some x → Leads Step k start w x.state
-Leads-spelled {Step} {k} {start} q Root x at =
+pub Leads-spelled : {S : Type 0} {Step : S → ℕ → S → Type 0} {Met : S → ℕ → Type 0} {k : ℕ} {start : S} {tree : List (Place S)} {e i : ℕ} {w : List ℕ} → IsFilled Step Met k start tree e
+    → Spells tree i w → (x : Place S) → slice_get tree i ≡ Some x → Leads Step k start w x.state
+Leads-spelled {Step = Step} {k = k} {start = start} q Root x at =
     let first : start ≡ x.state = let also = q.root in let starts = q.starts in cc in
-    subst (Leads Step k start []) first Here
-Leads-spelled {Step} {k} {start} q (Branch i y w positive here before) x at =
+    subst (Leads Step k start []) first Leads-none
+Leads-spelled {Step = Step} {k = k} {start = start} q (Branch i y w positive here before) x at =
     let b = q.branches i y positive here in
     let alike : y ≡ x = cc in
-    subst (λ z. Leads Step k start (w ++ y.letter ∷ []) z.state) alike
-    (On w y.letter b.parent.state y.state (Leads-spelled q before b.parent b.stands) b.letter b.step)
+    subst (λ z. Leads Step k start (w ++ y.letter ∷ []) z.state) alike (Leads-push (Leads-spelled q before b.parent b.stands) b.letter b.step)
 
 -- a word has no more letters than there are places before its own
-pub length-spelled-le : {Step : ℕ → ℕ → ℕ → Type 0} {k start : ℕ} {tree : List Place} {e i : ℕ} {w : List ℕ} → IsQueue Step k start tree e → Spells tree i w → length w ≤ i
+pub length-spelled-le : {S : Type 0} {Step : S → ℕ → S → Type 0} {Met : S → ℕ → Type 0} {k : ℕ} {start : S} {tree : List (Place S)} {e i : ℕ} {w : List ℕ} → IsFilled Step Met k start tree e → Spells tree i w → length w ≤ i
 length-spelled-le q Root = omega arith
 length-spelled-le q (Branch i x w positive at before) =
     let b = q.branches i x positive at in
     omega (arith, length-spelled-le q before, length_push w x.letter, b.earlier)
 
--- a word that leads somewhere has letters below k
-pub IsWord-leads : {Step : ℕ → ℕ → ℕ → Type 0} {k start : ℕ} {w : List ℕ} {t : ℕ} → Leads Step k start w t → IsWord k w
-IsWord-leads {k = k} Here = All-nil (λ a. a < k)
-IsWord-leads {k = k} (On w a s t before letter step) = All-push (λ b. b < k) w a (IsWord-leads before) letter
-
--- where f ascends, two numbers in base k stay in order as their first digits p and q become f p and f q
-digits-ascend : (p q l m k f g : ℕ) → m < k → p * k + l < q * k + m → (p < q → f < g) → (p ≡ q → f ≡ g) → l < k → f * k + l < g * k + m
-digits-ascend p q l m k f g small less ascends same first =
+-- where f ascends, two numbers in base k stay in order as their first digits p and q become f and g
+digits-ascend : (p q l m k f g : ℕ) → m < k → p * k + l ≤ q * k + m → (p < q → f < g) → (p ≡ q → f ≡ g) → l ≤ k → f * k + l ≤ g * k + m
+digits-ascend p q l m k f g small most ascends same first =
     ⊎_elim
     (λ below.
     let next : suc f * k ≤ g * k = mul-le-mul_right k (ascends below) in
@@ -99,9 +92,9 @@ digits-ascend p q l m k f g small less ascends same first =
     (cases_lt p q)
 
 -- `spelled-before`, where the words of the places before i are known to be less
-before_edge : {Step : ℕ → ℕ → ℕ → Type 0} {k start : ℕ} {tree : List Place} {e i : ℕ} {w : List ℕ} → IsQueue Step k start tree e → Spells tree i w
-    → ((p : ℕ) (z : Place) (u : List ℕ) → slice_get tree p ≡ Some z → Spells tree p u → p < i → word_number k u < word_number k w)
-    → (a : ℕ) → a < k → (j : ℕ) (y : Place) (v : List ℕ) → slice_get tree j ≡ Some y → Spells tree j v → filled k j y < i * k + a + 1
+before_edge : {S : Type 0} {Step : S → ℕ → S → Type 0} {Met : S → ℕ → Type 0} {k : ℕ} {start : S} {tree : List (Place S)} {e i : ℕ} {w : List ℕ} → IsFilled Step Met k start tree e → Spells tree i w
+    → ((p : ℕ) (z : Place S) (u : List ℕ) → slice_get tree p ≡ Some z → Spells tree p u → p < i → word_number k u < word_number k w)
+    → (a : ℕ) → a < k → (j : ℕ) (y : Place S) (v : List ℕ) → slice_get tree j ≡ Some y → Spells tree j v → filled k j y < i * k + a + 1
     → word_number k v < word_number k w * k + a + 1
 before_edge {k = k} {tree = tree} {i = i} {w = w} q s lesser a letter j y v at spells less =
     ⊎_elim
@@ -112,18 +105,18 @@ before_edge {k = k} {tree = tree} {i = i} {w = w} q s lesser a letter j y v at s
     let front : Spells tree y.parent longer.front = subst (λ z. Spells tree z.parent longer.front) alike longer.before in
     let splits : word_number k v ≡ word_number k longer.front * k + y.letter + 1 =
     ap (word_number k) (longer.splits ∙ ap (λ z. longer.front ++ z.letter ∷ []) alike) ∙ word_number-snoc k longer.front y.letter in
-    let earlier : y.parent * k + y.letter < i * k + a = omega (arith, filled-later k j y longer.positive) in
-    let step : word_number k longer.front * k + y.letter < word_number k w * k + a =
-    digits-ascend y.parent i y.letter a k (word_number k longer.front) (word_number k w) letter earlier
+    let earlier : y.parent * k + (y.letter + 1) ≤ i * k + a = omega (arith, filled-later k j y longer.positive) in
+    let step : word_number k longer.front * k + (y.letter + 1) ≤ word_number k w * k + a =
+    digits-ascend y.parent i (y.letter + 1) a k (word_number k longer.front) (word_number k w) letter earlier
     (lesser y.parent b.parent longer.front b.stands front)
     (λ same. ap (word_number k) (Spells-unique (subst (λ n. Spells tree n longer.front) same front) s))
-    b.letter in
+    (omega (arith, b.letter)) in
     omega (arith, splits, step))
     (Spells-cases spells)
 
 -- a place that was filled before letter a from place i was followed has a lesser word than that edge
-pub spelled-before : {Step : ℕ → ℕ → ℕ → Type 0} {k start : ℕ} {tree : List Place} {e i : ℕ} {w : List ℕ} → IsQueue Step k start tree e → Spells tree i w
-    → (a : ℕ) → a < k → (j : ℕ) (y : Place) (v : List ℕ) → slice_get tree j ≡ Some y → Spells tree j v → filled k j y < i * k + a + 1
+pub spelled-before : {S : Type 0} {Step : S → ℕ → S → Type 0} {Met : S → ℕ → Type 0} {k : ℕ} {start : S} {tree : List (Place S)} {e i : ℕ} {w : List ℕ} → IsFilled Step Met k start tree e → Spells tree i w
+    → (a : ℕ) → a < k → (j : ℕ) (y : Place S) (v : List ℕ) → slice_get tree j ≡ Some y → Spells tree j v → filled k j y < i * k + a + 1
     → word_number k v < word_number k w * k + a + 1
 spelled-before q Root = before_edge q Root (λ p z u at spells l. absurd (omega arith))
 spelled-before {k = k} q (Branch i x w positive here before) = before_edge q (Branch i x w positive here before) (λ p z u at spells l.
@@ -132,8 +125,8 @@ spelled-before {k = k} q (Branch i x w positive here before) = before_edge q (Br
     omega (arith, spelled-before q before x.letter b.letter p z u at spells earlier, word_number-snoc k w x.letter))
 
 -- a place that was filled by then has a word that isn't greater than that edge's
-pub spelled-within : {Step : ℕ → ℕ → ℕ → Type 0} {k start : ℕ} {tree : List Place} {e i : ℕ} {w : List ℕ} → IsQueue Step k start tree e → Spells tree i w
-    → (a : ℕ) → a < k → (j : ℕ) (y : Place) (v : List ℕ) → slice_get tree j ≡ Some y → Spells tree j v → filled k j y ≤ i * k + a + 1
+pub spelled-within : {S : Type 0} {Step : S → ℕ → S → Type 0} {Met : S → ℕ → Type 0} {k : ℕ} {start : S} {tree : List (Place S)} {e i : ℕ} {w : List ℕ} → IsFilled Step Met k start tree e → Spells tree i w
+    → (a : ℕ) → a < k → (j : ℕ) (y : Place S) (v : List ℕ) → slice_get tree j ≡ Some y → Spells tree j v → filled k j y ≤ i * k + a + 1
     → word_number k v ≤ word_number k w * k + a + 1
 spelled-within {k = k} {tree = tree} {i = i} {w = w} q s a letter j y v at spells most =
     ⊎_elim
@@ -153,8 +146,8 @@ spelled-within {k = k} {tree = tree} {i = i} {w = w} q s a letter j y v at spell
     (cases_eq (filled k j y) (i * k + a + 1))
 
 -- a later place has a greater word
-pub spelled-ascending : {Step : ℕ → ℕ → ℕ → Type 0} {k start : ℕ} {tree : List Place} {e i j : ℕ} {v w : List ℕ} → IsQueue Step k start tree e
-    → i < j → Spells tree i v → Spells tree j w → (x : Place) → slice_get tree i ≡ Some x → word_number k v < word_number k w
+pub spelled-ascending : {S : Type 0} {Step : S → ℕ → S → Type 0} {Met : S → ℕ → Type 0} {k : ℕ} {start : S} {tree : List (Place S)} {e i j : ℕ} {v w : List ℕ} → IsFilled Step Met k start tree e
+    → i < j → Spells tree i v → Spells tree j w → (x : Place S) → slice_get tree i ≡ Some x → word_number k v < word_number k w
 spelled-ascending q less first Root x at = absurd (omega arith)
 spelled-ascending {k = k} {i = i} {v = v} q less first (Branch j z w positive here before) x at =
     let b = q.branches j z positive here in
@@ -162,7 +155,15 @@ spelled-ascending {k = k} {i = i} {v = v} q less first (Branch j z w positive he
     omega (arith, spelled-before q before z.letter b.letter i x v at first earlier, word_number-snoc k w z.letter)
 
 -- the words of the places ascend
-pub Spells-ascending : {Step : ℕ → ℕ → ℕ → Type 0} {k start : ℕ} {tree : List Place} {e i j : ℕ} {v w : List ℕ} → IsQueue Step k start tree e
-    → i < j → Spells tree i v → Spells tree j w → (x y : Place) → slice_get tree i ≡ Some x → slice_get tree j ≡ Some y → word_cmp v w ≡ Less
+pub Spells-ascending : {S : Type 0} {Step : S → ℕ → S → Type 0} {Met : S → ℕ → Type 0} {k : ℕ} {start : S} {tree : List (Place S)} {e i j : ℕ} {v w : List ℕ} → IsFilled Step Met k start tree e
+    → i < j → Spells tree i v → Spells tree j w → (x y : Place S) → slice_get tree i ≡ Some x → slice_get tree j ≡ Some y → word_cmp v w ≡ Less
 Spells-ascending {k = k} {v = v} {w = w} q less first second x y at_i at_j =
-    word_cmp-less k v w (IsWord-leads (Leads-spelled q first x at_i)) (IsWord-leads (Leads-spelled q second y at_j)) (spelled-ascending q less first second x at_i)
+    word_cmp-less k v w (Leads-spelled q first x at_i).word (Leads-spelled q second y at_j).word (spelled-ascending q less first second x at_i)
+
+-- of two edges the earlier one has the lesser word
+pub edges-ascending : {S : Type 0} {Step : S → ℕ → S → Type 0} {Met : S → ℕ → Type 0} {k : ℕ} {start : S} {tree : List (Place S)} {e i j : ℕ} {v w : List ℕ} → IsFilled Step Met k start tree e
+    → Spells tree i v → Spells tree j w → (x : Place S) → slice_get tree i ≡ Some x → (a b : ℕ) → a < k → b < k → i * k + a ≤ j * k + b
+    → word_number k v * k + a ≤ word_number k w * k + b
+edges-ascending {k = k} {tree = tree} {i = i} {j} {v} {w} q first second x at a b letter_a letter_b most =
+    digits-ascend i j a b k (word_number k v) (word_number k w) letter_b most (λ less. spelled-ascending q less first second x at)
+    (λ same. ap (word_number k) (Spells-unique first (subst (λ n. Spells tree n w) (sym same) second))) (omega arith)

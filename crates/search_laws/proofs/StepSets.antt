@@ -1,11 +1,9 @@
 -- Each step leads to one set of nodes, each word has one set of last nodes, and steps lead along words from set to set.
-use Rattle.std.proofs.Common.{◌≡◌, ℕ, zero, suc, ◌-◌, ◌^◌, ◌<◌, ◌≤◌, ◌⊎◌, ◌↔◌, inl, inr, List, [], ◌∷◌, ◌++◌, length, take, get_or, IsBitSet, bit_or, refl, sym, ◌∙◌, subst, arith, add-one, ⊎_elim}
+use Rattle.std.proofs.Common.{◌≡◌, ℕ, zero, suc, ◌-◌, ◌^◌, ◌<◌, ◌≤◌, ◌⊎◌, ◌↔◌, inl, inr, List, [], ◌∷◌, ◌++◌, IsBitSet, bit_or, refl, sym, ◌∙◌, subst, arith, add-one, ⊎_elim}
 use Rattle.std.specs.Int.{bit_at}
 use Rattle.std.proofs.lemmas.Bool.{cases_eq}
 use Rattle.std.proofs.Math.Pow.{pow-lt}
 use Rattle.std.proofs.lemmas.Nat.{pow_pos}
-use Rattle.std.proofs.lemmas.List.{nil_from_length, length-take-le}
-use Rattle.std.proofs.lemmas.List.Elements.{All-take}
 use Rattle.std.proofs.lemmas.Nat.Bits.{bit_at-lt, same_from_bits_below}
 use Rattle.word_image.specs.LocalRules.{LocalRule, IsRule, IsWord, node_count}
 use Rattle.word_image.specs.Words.{IsOrphan}
@@ -13,10 +11,9 @@ use Rattle.word_image.specs.Graphs.{full_set, IsStep, next, label}
 use Rattle.word_image.specs.Ranks.{IsLastSet}
 use Rattle.word_image.proofs.laws.Bits.{bit_at-IsBitSet, IsBitSet-pow, IsBitSet-zero}
 use Rattle.word_image.proofs.laws.Unions.{IsUnion, IsUnion-skip, IsUnion-take}
-use Rattle.word_image.proofs.laws.Words.{split_last}
 use Rattle.word_image.proofs.laws.LastSets.{IsLastSet-full, IsLastSet-step, IsPreimage-nonempty_set}
-use Rattle.search_laws.specs.SearchQueues.{Leads}
-use Rattle.search_laws.specs.SearchQueues.Leads.{Here, On}
+use Rattle.search_laws.specs.Walks.{Walk, Leads}
+use Rattle.search_laws.proofs.Walks.{Leads-induct}
 use Rattle.word_image.proofs.laws.Searches.{some_below}
 
 -- two sets of n nodes with the same nodes are one
@@ -111,24 +108,17 @@ LeadsToSet r = Leads (IsStep r) r.states (full_set r)
 
 -- where it leads is that set
 pub IsLastSet-leads : {r : LocalRule} {w : List ℕ} {set : ℕ} → IsRule r → LeadsToSet r w set → IsLastSet r w set
-IsLastSet-leads {r} rule Here = IsLastSet-full r
-IsLastSet-leads {r} rule (On w a s t before letter step) = IsLastSet-step {set = s} {after = t} rule (IsLastSet-leads rule before) letter step
+IsLastSet-leads {r} {w} {set} rule leads =
+    Leads-induct (IsLastSet r) (IsLastSet-full r) (λ v a s t before letter step last. IsLastSet-step {set = s} {after = t} rule last letter step) w set leads
 
--- `LeadsToSet-some` at the words of n letters
-leads_of_length : (r : LocalRule) (n : ℕ) (w : List ℕ) → length w ≡ n → IsWord r.states w → (set : ℕ) × LeadsToSet r w set
-leads_of_length r zero w e word =
-    subst (λ v. (set : ℕ) × LeadsToSet r v set) (sym (nil_from_length w e)) (full_set r, Here)
-leads_of_length r (suc n) w e word =
-    let front : List ℕ = take (length w - 1) w in
-    let a : ℕ = get_or w (length w - 1) 0 in
-    let split : w ≡ front ++ a ∷ [] = split_last w (omega arith) in
-    let before = leads_of_length r n front (omega (arith, length-take-le (length w - 1) w (omega arith))) (All-take (λ b. b < r.states) (length w - 1) w word) in
-    let after = IsStep-some r before.0 a in
-    subst (λ v. (set : ℕ) × LeadsToSet r v set) (sym split) (after.0, On front a before.0 after.0 before.1 (word (length w - 1) 0 (omega arith)) after.1)
+-- from each set a word leads to a set
+walk_from : (r : LocalRule) (w : List ℕ) (set : ℕ) → (end : ℕ) × Walk (IsStep r) set w end
+walk_from r [] set = (set, refl)
+walk_from r (a ∷ w) set = let (after, step) = IsStep-some r set a in let (end, rest) = walk_from r w after in (end, (after, step, rest))
 
--- each word leads to a set
+-- so does each word from the full one
 pub LeadsToSet-some : (r : LocalRule) (w : List ℕ) → IsWord r.states w → (set : ℕ) × LeadsToSet r w set
-LeadsToSet-some r w word = leads_of_length r (length w) w refl word
+LeadsToSet-some r w word = let (end, walk) = walk_from r w (full_set r) in (end, record { walk = walk; word = word })
 
 -- a word leads to its set of last nodes
 pub LeadsToSet-last : {r : LocalRule} {w : List ℕ} {set : ℕ} → IsRule r → IsLastSet r w set → LeadsToSet r w set

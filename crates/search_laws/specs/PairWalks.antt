@@ -1,12 +1,22 @@
 -- Walks by pairs of letters, and the first of them.
-use Rattle.std.specs.Prelude.{◌≡◌, ◌≢◌, ℕ, ◌/◌, ◌%◌, ◌<◌, List, [], ◌∷◌, ◌++◌, length, Option, Some}
+use Rattle.std.specs.Prelude.{◌≡◌, ◌≢◌, ℕ, ◌/◌, ◌%◌, ◌<◌, List, length, Option, Some}
+use Rattle.std.specs.List.{All}
 use Rattle.std.specs.declared.cmp.Ordering.TheVariants.{Greater}
 use Rattle.word_image.specs.Rings.{pairs_cmp}
+use Rattle.search_laws.specs.Walks.{Walk}
 
--- the letter pairs lead from the start to the state, each pair to where `follow` leads, if it does
-pub data PairWalk (follow : ℕ → ℕ → ℕ → Option ℕ) (k start : ℕ) : List (ℕ × ℕ) → ℕ → Type 0 where
-  Stay : PairWalk follow k start [] start
-  Go : (w : List (ℕ × ℕ)) (a b s t : ℕ) → PairWalk follow k start w s → a < k → b < k → follow s a b ≡ Some t → PairWalk follow k start (w ++ (a, b) ∷ []) t
+-- a step on a letter pair, to where `follow` leads, if it does
+abbrev pub PairStep : (ℕ → ℕ → ℕ → Option ℕ) → ℕ → ℕ × ℕ → ℕ → Type 0
+PairStep follow s p t = follow s p.0 p.1 ≡ Some t
+
+-- both letters of each pair are below n
+abbrev pub ArePairs : ℕ → List (ℕ × ℕ) → Type 0
+ArePairs n = All (λ p. (p.0 < n) × (p.1 < n))
+
+-- the letter pairs, of letters below k, lead from the start to the state
+pub record PairWalk (follow : ℕ → ℕ → ℕ → Option ℕ) (k start : ℕ) (w : List (ℕ × ℕ)) (t : ℕ) : Type 0 where
+  pub steps : Walk (PairStep follow) start w t
+  pub letters : ArePairs k w
 
 -- the first walk of at least one step to the state: the shortest, and of these the first in dictionary order
 pub record IsLeastWalk (follow : ℕ → ℕ → ℕ → Option ℕ) (k start t : ℕ) (w : List (ℕ × ℕ)) : Type 0 where

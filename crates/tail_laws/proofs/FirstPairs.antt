@@ -14,7 +14,9 @@ use Rattle.tail_config.specs.Tails.{TailConfig, IsTail}
 use Rattle.tail_config.specs.Splits.{IsNormalRightSplit}
 use Rattle.tail_config.proofs.laws.Cells.{IsWord-zero}
 use Rattle.pair_laws.proofs.Pairs.{follow-pair_of}
-use Rattle.tail_laws.proofs.PairLeads.{PairLeads, Follows-join}
+use Rattle.search_laws.specs.PairWalks.{PairStep}
+use Rattle.search_laws.proofs.Walks.{Walk-join}
+use Rattle.tail_laws.proofs.PairLeads.{PairLeads}
 use Rattle.tail_laws.proofs.WordWalks.{PairLeads-words, zip-append}
 use Rattle.tail_laws.proofs.Settled.{IsNormalRightSplit-walk}
 
@@ -79,7 +81,7 @@ normal_split-loop {r} {p} rule f w =
     let none : pair_of r 0 0 ≡ 0 = omega arith in
     let there : PairLeads r 0 (zip z z) twice = subst (λ q. PairLeads r q (zip z z) twice) none (PairLeads-diagonal rule 0 f.node (node_count_pos rule) f.in_nodes) in
     let step : follow r twice f.a f.b ≡ Some p = follow-pair_of r f.node f.node f.a f.b f.in_nodes f.one_label ∙ ap (λ q. Some q) (sym f.pair) in
-    let whole : PairLeads r 0 (zip z z ++ (f.a, f.b) ∷ zip w.first w.second) w.pair = Follows-join (follow r) (zip z z) ((f.a, f.b) ∷ zip w.first w.second) 0 twice w.pair there (p, step, w.reach) in
+    let whole : PairLeads r 0 (zip z z ++ (f.a, f.b) ∷ zip w.first w.second) w.pair = Walk-join (PairStep (follow r)) (zip z z) ((f.a, f.b) ∷ zip w.first w.second) 0 twice w.pair there (p, step, w.reach) in
     let letter : (a : ℕ) (walk : List ℕ) → get_or (z ++ a ∷ walk) m 0 ≡ a = λ a walk. get_or_at z a walk 0 m long in
     IsNormalRightSplit-walk rule (record {
       first = IsTail-split_of rule f.node f.a w.first w.first_turn f.in_nodes f.a_letter w.first_word w.first_ring;

@@ -8,14 +8,13 @@ use Rattle.std.specs.declared.cmp.Ordering.{Ordering}
 use Rattle.std.specs.declared.cmp.Ordering.TheVariants.{Less, Equal, Greater}
 use Rattle.std.proofs.lemmas.Bool.{cases_lt, cases_eq}
 use Rattle.std.proofs.lemmas.Cmp.{then_total, on_total, lists_total, nat_cmp_total, ranked}
-use Rattle.std.proofs.lemmas.List.{length-map, length_push}
+use Rattle.std.proofs.lemmas.List.{length-map}
 use Rattle.std.proofs.lemmas.Slice.Zip.{firsts-zip, seconds-zip}
 use Rattle.word_image.specs.LocalRules.{LocalRule, IsRule}
 use Rattle.word_image.specs.Graphs.{pair_count}
 use Rattle.word_image.specs.MarkedPairs.{marked}
 use Rattle.word_image.specs.Rings.{pair_cmp, pairs_cmp}
 use Rattle.search_laws.specs.PairWalks.{PairWalk, IsLeastWalk}
-use Rattle.search_laws.specs.PairWalks.PairWalk.{Stay, Go}
 use Rattle.tail_config.specs.Tails.{TailConfig}
 use Rattle.tail_config.specs.Splits.{IsNormalRightSplit, IsLeastRightSplit, splits_cmp}
 use Rattle.tail_laws.specs.SplitWalks.{IsSplitAt, IsNoSplitAt, IsNoSplitBelow, IsLeastReach, IsLeastSplitAt, IsLeastBelow, with_mark, first_tail, second_tail, split_of}
@@ -105,29 +104,7 @@ walks_cmp-fewer w v w' v' less =
 
 -- Candidates
 
--- no letter pairs come first in dictionary order
-slice_cmp-none : (v : List (ℕ × ℕ)) → slice_cmp pair_cmp [] v ≢ Greater
-slice_cmp-none [] e = true≢false (ap is_gt (sym e))
-slice_cmp-none (ab ∷ v) e = true≢false (ap is_gt (sym e))
-
--- to that pair itself, without a mark, it is the walk of no step
-pub IsLeastReach-none : (r : LocalRule) → IsLeastReach r 0 []
-IsLeastReach-none r = record { walk = Stay; least = λ v walk. then_not_greater _ _ (nat_cmp-le 0 (length v) (omega arith)) (λ tie. slice_cmp-none v) }
-
--- to each other state a walk has some steps
-some_steps : (go : ℕ → ℕ → ℕ → Option ℕ) (k start t : ℕ) (w : List (ℕ × ℕ)) → start ≢ t → PairWalk go k start w t → 0 < length w
-some_steps go k start _ [] other Stay = absurd (other refl)
-some_steps go k start t _ other (Go w a b s _ before first second follows) = omega (arith, length_push w (a, b))
-
--- so the first one of at least one step is the first one
-pub IsLeastReach-walk : {r : LocalRule} {t : ℕ} {w : List (ℕ × ℕ)} → 0 < t → IsLeastWalk (marked r) r.states 0 t w → IsLeastReach r t w
-IsLeastReach-walk {r} {t} other h = record { walk = h.walk; least = λ v walk. h.least v (some_steps (marked r) r.states 0 t v (omega arith) walk) walk }
-
--- where no walk leads to it
-pub IsNoSplitAt-reach : {r : LocalRule} {t : ℕ} → 0 < t → ((w : List (ℕ × ℕ)) → 0 < length w → ¬ PairWalk (marked r) r.states 0 w t) → IsNoSplitAt r t
-IsNoSplitAt-reach {r} {t} other none w v h = none w (some_steps (marked r) r.states 0 t w (omega arith) h.reach) h.reach
-
--- or none leads round it
+-- where no walk leads round it
 pub IsNoSplitAt-round : {r : LocalRule} {t : ℕ} → ((v : List (ℕ × ℕ)) → 0 < length v → ¬ PairWalk (marked r) r.states t v (with_mark r t)) → IsNoSplitAt r t
 IsNoSplitAt-round none w v h = none v h.some h.round
 

@@ -14,8 +14,7 @@ use Rattle.word_image.specs.MarkedPairs.{marked}
 use Rattle.word_image.specs.Rings.{IsTwins, IsLeastTwins, pairs_cmp}
 use Rattle.search_laws.specs.PairWalks.{IsLeastWalk}
 use Rattle.tail_laws.specs.Turns.{IsTurn, NoTurnBelow, IsFirstTurn}
-use Rattle.tail_laws.proofs.BreadthFirst.{Follows-walk}
-use Rattle.tail_laws.proofs.ShortWalks.{length-IsLeastWalk}
+use Rattle.search_laws.proofs.PairWalks.{length-IsLeastWalk}
 use Rattle.tail_laws.proofs.SplitWalks.{pair_count_pos}
 use Rattle.tail_laws.proofs.MarkedTurns.{marked-below, twins-turn, turn-twins}
 
@@ -47,7 +46,7 @@ IsLeastTurn r p w = IsLeastWalk (marked r) r.states p (p + pair_count r) w
 -- such a walk has a step
 pub turn-some : {r : LocalRule} → IsRule r → (p : ℕ) (w : List (ℕ × ℕ)) → IsTurn r p w → 0 < length w
 turn-some {r} rule p [] turn =
-    let here : p ≡ p + pair_count r = Follows-walk turn in
+    let here : p ≡ p + pair_count r = turn.steps in
     let pairs : 0 < pair_count r = pair_count_pos rule in
     absurd (omega arith)
 turn-some rule p (ab ∷ w) turn = omega arith

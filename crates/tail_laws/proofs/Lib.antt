@@ -17,9 +17,7 @@ pub mod TwoLoops
 pub mod FirstPairs
 pub mod EndlessPairs
 pub mod Certainty
-pub mod BreadthFirst
 pub mod SplitWalks
 pub mod LeastSplits
 pub mod MarkedTurns
-pub mod ShortWalks
 pub mod LeastTwins

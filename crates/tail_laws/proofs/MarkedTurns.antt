@@ -7,14 +7,13 @@ use Rattle.word_image.specs.LocalRules.{LocalRule, IsRule, IsWord}
 use Rattle.word_image.specs.Graphs.{pair_of, first_of, second_of, pair_count}
 use Rattle.word_image.specs.MarkedPairs.{marked}
 use Rattle.word_image.specs.Rings.{IsTwins}
-use Rattle.search_laws.proofs.PairWalks.{ArePairs, ArePairs-walk}
+use Rattle.search_laws.specs.PairWalks.{ArePairs}
 use Rattle.pair_laws.proofs.Pairs.{pair_of-below, pair_of-first_of, first_of-below, second_of-below}
 use Rattle.tail_laws.specs.Turns.{IsTurn}
 use Rattle.tail_laws.proofs.PairLeads.{PairLeads}
 use Rattle.tail_laws.proofs.TwinWalks.{IsTwinWalk, IsTwins-walk}
 use Rattle.tail_laws.proofs.MarkedWalks.{MarkedLeads, HasOther, HasOther-zip, HasOther-different, follow-marked, IsMarkedWalk-leads, leads-marked}
 use Rattle.tail_laws.proofs.SplitWalks.{ArePairs-zip, mark-below, MarkedLeads-below, with_mark-marked}
-use Rattle.tail_laws.proofs.BreadthFirst.{Follows-walk, PairWalk-follows}
 
 -- each step of the marked graph ends at one of twice as many states as there are pairs
 pub marked-below : {r : LocalRule} → IsRule r → (t a b s : ℕ) → marked r t a b ≡ Some s → s < pair_count r + pair_count r
@@ -52,17 +51,16 @@ twins-turn {r} {x} {y} rule twins =
     let end : s ≡ p + n = with_mark-marked rule s p within has_mark walk.2 in (
       p,
       below,
-      PairWalk-follows (marked r) r.states p (zip x y) (p + n) (ArePairs-zip r.states x y t.first.word t.second.word)
-          (subst (MarkedLeads r p (zip x y)) end walk.1),
+      record { steps = subst (MarkedLeads r p (zip x y)) end walk.1; letters = ArePairs-zip r.states x y t.first.word t.second.word },
     )
 
 -- and each such walk is made of twins
 pub turn-twins : {r : LocalRule} → IsRule r → (x y : List ℕ) (p : ℕ) → length x ≡ length y → p < pair_count r → IsTurn r p (zip x y) → IsTwins r x y
 turn-twins {r} rule x y p long below turn =
     let n : ℕ = pair_count r in
-    let w = IsMarkedWalk-leads rule (zip x y) p (p + n) (Follows-walk turn) in
+    let w = IsMarkedWalk-leads rule (zip x y) p (p + n) turn.steps in
     let other : HasOther (zip x y) = ⊎_elim (λ l. absurd (omega arith)) (λ h. h) (w.mark.0 (omega arith)) in
-    let words = IsWord-zip r.states x y long (ArePairs-walk r.states (omega arith) turn) in
+    let words = IsWord-zip r.states x y long turn.letters in
     let some = HasOther-some x y other in
     let start : p % n ≡ p = mod-eq_of_lt {n = p} below in
     let same : pair_of r (first_of r p) (second_of r p) ≡ p = pair_of-first_of r p in

@@ -1,35 +1,22 @@
 -- Two configurations in step, as a walk in the graph of pairs of nodes.
-use Rattle.std.proofs.Common.{◌≡◌, ℕ, zero, suc, ◌+◌, ◌-◌, ◌<◌, List, [], ◌∷◌, ◌++◌, length, ℤ, pos, ◌+ℤ◌, Option, Some, refl, sym, ap, ap₂, ◌∙◌, subst, subst₂, ⊎_elim, arith}
+use Rattle.std.proofs.Common.{◌≡◌, ℕ, zero, suc, ◌+◌, ◌-◌, ◌<◌, List, [], ◌∷◌, ◌++◌, length, ℤ, pos, ◌+ℤ◌, Some, sym, ap, ap₂, ◌∙◌, subst, subst₂, ⊎_elim, arith}
 use Rattle.std.specs.List.{zip}
 use Rattle.std.proofs.lemmas.Bool.{cases_lt}
 use Rattle.std.proofs.lemmas.Nat.{same_from_place}
 use Rattle.std.proofs.lemmas.Int.{ints}
 use Rattle.word_image.specs.LocalRules.{LocalRule, IsRule, node_count}
 use Rattle.word_image.specs.Graphs.{next, label, pair_of, follow}
+use Rattle.search_laws.specs.Walks.{Walk}
+use Rattle.search_laws.specs.PairWalks.{PairStep}
 use Rattle.tail_config.specs.Tails.{TailConfig, IsTail, ShareImage, cell, cells}
 use Rattle.tail_config.proofs.laws.Cells.{cells-cons, cells-middle, cells-right, same_left_part}
 use Rattle.pair_laws.proofs.Pairs.{first_of-pair_of, second_of-pair_of, follow-pair_of, follow-some}
 use Rattle.tail_laws.proofs.Nodes.{node_at, label_at, node_at-below, label-node_at, next-node_at, labels-ShareImage}
 use Rattle.tail_laws.proofs.Loops.{IsLooped, IsInStep, labels-left, ShareImage-in_step}
 
--- from state p along a list of letter pairs to state q, each pair to where `go` leads, if it does
-abbrev pub Follows : (ℕ → ℕ → ℕ → Option ℕ) → ℕ → List (ℕ × ℕ) → ℕ → Type 0
-Follows go p [] q = p ≡ q
-Follows go p (ab ∷ rest) q = (s : ℕ) × (go p ab.0 ab.1 ≡ Some s) × Follows go s rest q
-
--- in the graph of pairs of nodes: at each step the two labels are equal
+-- a walk in the graph of pairs of nodes: at each step the two labels are equal
 abbrev pub PairLeads : LocalRule → ℕ → List (ℕ × ℕ) → ℕ → Type 0
-PairLeads r = Follows (follow r)
-
--- a walk that goes on where another one ends
-pub Follows-join : (go : ℕ → ℕ → ℕ → Option ℕ) (a b : List (ℕ × ℕ)) (p s q : ℕ) → Follows go p a s → Follows go s b q → Follows go p (a ++ b) q
-Follows-join go [] b p s q h g = subst (λ n. Follows go n b q) (sym h) g
-Follows-join go (ab ∷ rest) b p s q h g = (h.0, h.1, Follows-join go rest b h.0 s q h.2 g)
-
--- and a walk that is cut in two
-pub Follows-cut : (go : ℕ → ℕ → ℕ → Option ℕ) (a b : List (ℕ × ℕ)) (p q : ℕ) → Follows go p (a ++ b) q → (s : ℕ) × Follows go p a s × Follows go s b q
-Follows-cut go [] b p q h = (p, refl, h)
-Follows-cut go (ab ∷ rest) b p q h = let cut = Follows-cut go rest b h.0 q h.2 in (cut.0, (h.0, h.1, cut.1), cut.2)
+PairLeads r = Walk (PairStep (follow r))
 
 -- a step from a pair of nodes has two equal labels, and this is where it leads
 follow-back : (r : LocalRule) (u v a b s : ℕ) → v < node_count r → follow r (pair_of r u v) a b ≡ Some s → (label r u a ≡ label r v b) × (pair_of r (next r u a) (next r v b) ≡ s)

@@ -11,7 +11,7 @@ use Rattle.word_image.specs.LocalRules.{LocalRule, IsRule, IsWord}
 use Rattle.word_image.specs.Graphs.{pair_count}
 use Rattle.word_image.specs.MarkedPairs.{marked}
 use Rattle.word_image.proofs.laws.Graphs.{node_count_pos}
-use Rattle.search_laws.proofs.PairWalks.{ArePairs, ArePairs-walk}
+use Rattle.search_laws.specs.PairWalks.{ArePairs}
 use Rattle.tail_config.specs.Tails.{TailConfig, IsTail}
 use Rattle.tail_config.specs.Splits.{IsNormalRightSplit}
 use Rattle.tail_config.proofs.laws.Cells.{IsWord-zero}
@@ -19,7 +19,6 @@ use Rattle.tail_config.proofs.laws.Differences.{same_or_differ, DifferAt-differe
 use Rattle.tail_laws.specs.SplitWalks.{IsSplitAt, with_mark, tail_of, first_tail, second_tail}
 use Rattle.tail_laws.proofs.PairLeads.{PairLeads}
 use Rattle.tail_laws.proofs.MarkedWalks.{MarkedLeads, HasOther, HasOther-zip, HasOther-different, follow-marked, IsMarkedWalk-leads, leads-marked}
-use Rattle.tail_laws.proofs.BreadthFirst.{Follows-walk, PairWalk-follows}
 use Rattle.tail_laws.proofs.Settled.{IsNormalRightSplit-walk, IsSplitWalk-normal}
 
 -- letter pairs are those of their first letters and their second letters
@@ -73,8 +72,8 @@ IsTail-tail_of {r} {t} {w} {v} rule h side small =
       left_some = omega arith;
       right_some = omega (arith, h.some, length-map v side);
       left_word = IsWord-zero (omega (arith, rule.shape.least_states));
-      middle_word = word w (ArePairs-walk r.states (omega arith) h.reach);
-      right_word = word v (ArePairs-walk r.states (omega arith) h.round);
+      middle_word = word w h.reach.letters;
+      right_word = word v h.round.letters;
     }
 
 -- two such walks are a normal right split
@@ -82,8 +81,8 @@ pub IsNormalRightSplit-walks : {r : LocalRule} {t : ℕ} {w v : List (ℕ × ℕ
 IsNormalRightSplit-walks {r} {t} {w} {v} rule h =
     let p : ℕ = pair_count r in
     let some : 0 < p = pair_count_pos rule in
-    let reach = IsMarkedWalk-leads rule w 0 t (Follows-walk h.reach) in
-    let round = IsMarkedWalk-leads rule v t (with_mark r t) (Follows-walk h.round) in
+    let reach = IsMarkedWalk-leads rule w 0 t h.reach.steps in
+    let round = IsMarkedWalk-leads rule v t (with_mark r t) h.round.steps in
     let back : with_mark r t % p ≡ t % p = add-mod_right (t % p) p ∙ mod-mod t p in
     let sides : (u : List (ℕ × ℕ)) → HasOther u → map (λ a. a.0) u ≢ map (λ a. a.1) u = λ u other. HasOther-different _ _ (subst HasOther (sym (zip-sides u)) other) in
     IsNormalRightSplit-walk rule (record {
@@ -128,9 +127,11 @@ normal_split-at {r} {x} {y} rule n =
       t,
       within,
       record {
-        reach = PairWalk-follows (marked r) r.states 0 middles t (ArePairs-zip r.states x.middle y.middle walk.first.middle_word walk.second.middle_word) reach.1;
+        reach = record { steps = reach.1; letters = ArePairs-zip r.states x.middle y.middle walk.first.middle_word walk.second.middle_word };
         some = omega (arith, length-zip x.right y.right, walk.rights);
-        round = PairWalk-follows (marked r) r.states t rights (with_mark r t) (ArePairs-zip r.states x.right y.right walk.first.right_word walk.second.right_word)
-            (subst (λ n. MarkedLeads r t rights n) there round.1);
+        round = record {
+          steps = subst (λ n. MarkedLeads r t rights n) there round.1;
+          letters = ArePairs-zip r.states x.right y.right walk.first.right_word walk.second.right_word;
+        };
       },
     )

@@ -5,14 +5,13 @@ use Rattle.word_image.specs.LocalRules.{LocalRule, IsRule, word_of}
 use Rattle.word_image.specs.Words.{IsSurjective, IsOrphan}
 use Rattle.word_image.specs.Rings.{IsTwins, IsFlux, IsLossyRing}
 use Rattle.word_image.specs.Windows.{IsDetermined, IsRightAhead}
-use Rattle.word_image.specs.Graphs.{IsStep, full_set, pair_count}
+use Rattle.word_image.specs.Graphs.{full_set, pair_count}
 use Rattle.word_image.specs.declared.side.Side.{Side}
 use Rattle.word_image.specs.declared.side.Side.TheVariants.{Right, Left}
 use Rattle.word_image.specs.Sides.{IsFirstOf, seen_from}
 use Rattle.word_image.specs.Ranks.{IsLastSet}
 use Rattle.word_image.proofs.laws.LastSets.{IsLastSet-full, IsLastSet-step, IsOrphan-empty_set, IsOrphan-not_surjective}
-use Rattle.search_laws.specs.SearchQueues.Leads.{Here, On}
-use Rattle.search_laws.proofs.StepSets.{LeadsToSet, LeadsToSet-last, IsLastSet-orphan, IsStep-some}
+use Rattle.search_laws.proofs.StepSets.{LeadsToSet-last, IsLastSet-orphan, IsStep-some}
 use Rattle.pair_laws.proofs.Claims.{ClaimsRanks, FallsOn-ranks}
 use Rattle.pair_laws.proofs.Evidence.{IsClaimedApart-ranks, ahead-ranks}
 use Rattle.ring_laws.proofs.FluxWindows.{Flows-flux}
@@ -21,7 +20,6 @@ use Rattle.cert_format.specs.declared.cert_version.CertVersion.TheVariants.{One}
 use Rattle.cert_check.specs.Breaches.{EachBelow}
 use Rattle.cert_check.specs.Claims.{claim}
 use Rattle.cert_check.specs.Sets.{StepIsKept, LeadsTo}
-use Rattle.cert_check.specs.Sets.LeadsTo.{Stays, Steps}
 use Rattle.cert_check.specs.Sums.{Flows, IsLossy}
 use Rattle.cert_check.specs.Windows.{IsWindowPair, IsAheadPair}
 use Rattle.cert_check.proofs.laws.ClaimConditions.{AllFall, AreApart, AreAlike}
@@ -49,23 +47,9 @@ StepIsKept-last_sets {r} {sets} rule last i l a letter =
     let step = IsStep-some r (slice_index sets i) a in
     (step.0, step.1, last.all (found.0 ++ a ∷ []) step.0 (IsLastSet-step {set = slice_index sets i} {after = step.0} rule found.1 letter step.1))
 
--- one more step at the end
-pub LeadsTo-push : {r : LocalRule} {set middle end a : ℕ} {w : List ℕ} → LeadsTo r set w middle → IsStep r middle a end → LeadsTo r set (w ++ a ∷ []) end
-LeadsTo-push {end} {a} (Stays set) step = Steps set a end [] end step (Stays end)
-LeadsTo-push {end} {a} (Steps set b next w middle first leads) step = Steps set b next (w ++ a ∷ []) end first (LeadsTo-push leads step)
-
--- steps one behind another lead on letter by letter
-pub LeadsTo-leads : {r : LocalRule} {w : List ℕ} {set : ℕ} → LeadsToSet r w set → LeadsTo r (full_set r) w set
-LeadsTo-leads {r} Here = Stays (full_set r)
-LeadsTo-leads (On w a s t before letter step) = LeadsTo-push (LeadsTo-leads before) step
-
--- from the full set a word leads to its last nodes
-pub LeadsTo-last : {r : LocalRule} {w : List ℕ} {set : ℕ} → IsRule r → IsLastSet r w set → LeadsTo r (full_set r) w set
-LeadsTo-last rule last = LeadsTo-leads (LeadsToSet-last rule last)
-
 -- an orphan leads to the empty set
 pub LeadsTo-orphan : {r : LocalRule} {w : List ℕ} → IsRule r → IsOrphan r w → LeadsTo r (full_set r) w 0
-LeadsTo-orphan rule orphan = LeadsTo-last rule (IsLastSet-orphan rule orphan)
+LeadsTo-orphan rule orphan = (LeadsToSet-last rule (IsLastSet-orphan rule orphan)).walk
 
 -- the exact ranks fall
 pub AllFall-ranks : (side : Side) {r : LocalRule} → IsRule r → (row : List (Option ℕ)) → ClaimsRanks side r (claim row) → AllFall side r row

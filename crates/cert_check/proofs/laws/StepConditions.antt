@@ -9,15 +9,15 @@ use Rattle.std.proofs.lemmas.List.Elements.{All-tail}
 use Rattle.word_image.specs.LocalRules.{LocalRule, IsRule, IsWord, node_count}
 use Rattle.word_image.specs.Words.{IsSurjective, IsOrphan}
 use Rattle.word_image.specs.Graphs.{full_set}
-use Rattle.word_image.specs.Ranks.{IsLastNode, IsLastSet}
+use Rattle.word_image.specs.Ranks.{IsLastNode}
 use Rattle.word_image.proofs.laws.Bits.{bit_at-IsBitSet, IsBitSet-some}
 use Rattle.word_image.proofs.laws.LastNodes.{IsLastNode-empty, IsLastNode-push}
-use Rattle.word_image.proofs.laws.LastSets.{IsLastSet-full, IsLastSet-step, IsOrphan-empty_set}
+use Rattle.word_image.proofs.laws.LastSets.{IsOrphan-empty_set}
+use Rattle.search_laws.proofs.StepSets.{IsLastSet-leads}
 use Rattle.cert_format.specs.declared.cert_version.CertVersion.{CertVersion}
 use Rattle.cert_format.specs.declared.cert_version.CertVersion.TheVariants.{One, Two, Three}
 use Rattle.cert_check.specs.Breaches.{EachBelow}
 use Rattle.cert_check.specs.Sets.{IsKept, HasPart, StepIsKept, LeadsTo}
-use Rattle.cert_check.specs.Sets.LeadsTo.{Stays, Steps}
 
 -- a fact of each listed set, at a set that is listed
 pub at_listed : (P : ℕ → Type 0) (sets : List ℕ) → EachBelow (length sets) (λ i. P (slice_index sets i)) → (set : ℕ) → Contains sets set → P set
@@ -83,13 +83,6 @@ IsSurjective-sets {r} version rule sets full some closed w word =
     let last : IsLastNode r w node.0 = h.last node.0 node.1 node.2 in
     (last.x, last.preimage)
 
--- from the last nodes of v a word leads to the last nodes of both in a row
-pub IsLastSet-leads_to : {r : LocalRule} {v w : List ℕ} {set end : ℕ} → IsRule r → IsLastSet r v set → IsWord r.states w → LeadsTo r set w end → IsLastSet r (v ++ w) end
-IsLastSet-leads_to {r} {v} rule last word (Stays set) = subst (λ x. IsLastSet r x set) (sym (append-nil v)) last
-IsLastSet-leads_to {r} {v} rule last word (Steps set a next w end step leads) =
-    subst (λ x. IsLastSet r x end) (append_assoc v (a ∷ []) w)
-    (IsLastSet-leads_to rule (IsLastSet-step {set = set} {after = next} rule last (word 0 0 (omega arith)) step) (All-tail (λ b. b < r.states) a w word) leads)
-
 -- a word that leads from the full set to the empty one is an orphan
 pub IsOrphan-read : {r : LocalRule} {w : List ℕ} → IsRule r → IsWord r.states w → LeadsTo r (full_set r) w 0 → IsOrphan r w
-IsOrphan-read {r} rule word leads = IsOrphan-empty_set (IsLastSet-leads_to rule (IsLastSet-full r) word leads)
+IsOrphan-read {r} rule word leads = IsOrphan-empty_set (IsLastSet-leads rule (record { walk = leads; word = word }))

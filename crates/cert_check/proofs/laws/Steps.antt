@@ -1,5 +1,5 @@
 -- Steps of sets, as the ends of edges give them, and the set to which a word leads.
-use Rattle.std.proofs.Common.{◌≡◌, ℕ, ◌+◌, ◌*◌, ◌/◌, ◌%◌, ◌^◌, ◌<◌, ◌≤◌, ◌↔◌, List, [], ◌∷◌, ◌++◌, IsBitSet, slice_index, refl, sym, ap, subst, ◌∙◌, arith, mod-lt, ⊎_elim}
+use Rattle.std.proofs.Common.{◌≡◌, ℕ, ◌+◌, ◌*◌, ◌/◌, ◌%◌, ◌^◌, ◌<◌, ◌≤◌, ◌↔◌, List, [], ◌∷◌, IsBitSet, slice_index, sym, ap, subst, ◌∙◌, arith, mod-lt, ⊎_elim}
 use Rattle.std.proofs.Math.Nat.{div-le_self}
 use Rattle.std.proofs.lemmas.Bool.{cases_lt}
 use Rattle.std.proofs.lemmas.Nat.{pow_pos, le-div, div_below, div-mul-add, div-add-mod', mul-add-lt}
@@ -11,7 +11,6 @@ use Rattle.pair_laws.proofs.Sets.{IsBitSet-below, IsBitSet-shr}
 use Rattle.search_laws.proofs.StepSets.{IsStep-unique}
 use Rattle.word_image.proofs.laws.WindowParts.{some_letter, windows-nodes}
 use Rattle.cert_check.specs.Sets.{HasBit, AreEnds, LeadsTo}
-use Rattle.cert_check.specs.Sets.LeadsTo.{Stays, Steps}
 
 -- a number whose bits are all below n is a set of n nodes
 small_set : (n a : ℕ) → a < 2 ^ 16 → ((i : ℕ) → IsBitSet a i → i < n) → a < 2 ^ n
@@ -64,13 +63,7 @@ IsStep-ends {r} rule ends are set a after letter small made =
       );
     }
 
--- one more step at the end
-pub LeadsTo-push : {r : LocalRule} {set middle end a : ℕ} {w : List ℕ} → LeadsTo r set w middle → IsStep r middle a end → LeadsTo r set (w ++ a ∷ []) end
-LeadsTo-push {end} {a} (Stays set) step = Steps set a end [] end step (Stays end)
-LeadsTo-push {end} {a} (Steps set b next w middle first leads) step = Steps set b next (w ++ a ∷ []) end first (LeadsTo-push leads step)
-
 -- a word leads from a set to one set
-pub LeadsTo-unique : {r : LocalRule} {set end other : ℕ} {w : List ℕ} → LeadsTo r set w end → LeadsTo r set w other → end ≡ other
-LeadsTo-unique (Stays set) (Stays _) = refl
-LeadsTo-unique {r} {other = other} (Steps set a next w end step leads) (Steps _ _ next' _ _ step' leads') =
-    LeadsTo-unique leads (subst (λ s. LeadsTo r s w other) (IsStep-unique step' step) leads')
+pub LeadsTo-unique : (r : LocalRule) (w : List ℕ) (set end other : ℕ) → LeadsTo r set w end → LeadsTo r set w other → end ≡ other
+LeadsTo-unique r [] set end other first second = sym first ∙ second
+LeadsTo-unique r (a ∷ w) set end other (next, step, rest) (after, also, more) = LeadsTo-unique r w next end other rest (subst (λ s. LeadsTo r s w other) (IsStep-unique also step) more)

@@ -1,12 +1,12 @@
 -- Steps of closures: from the set of all nodes a word leads to the closure of its last nodes, and to no other set.
-use Rattle.std.proofs.Common.{◌≡◌, ℕ, ◌^◌, ◌<◌, List, sym, subst}
+use Rattle.std.proofs.Common.{◌≡◌, ℕ, ◌^◌, ◌<◌, List, [], ◌∷◌, refl, sym, subst}
 use Rattle.word_image.specs.LocalRules.{LocalRule, IsRule, IsWord, node_count}
 use Rattle.word_image.specs.Graphs.{full_set}
 use Rattle.word_image.specs.Ranks.{IsLastSet}
 use Rattle.word_image.proofs.laws.LastSets.{IsLastSet-full, IsLastSet-step}
-use Rattle.search_laws.specs.SearchQueues.{Leads}
-use Rattle.search_laws.specs.SearchQueues.Leads.{Here, On}
-use Rattle.search_laws.proofs.StepSets.{IsStep-some, IsStep-unique, LeadsToSet, LeadsToSet-some}
+use Rattle.search_laws.specs.Walks.{Walk, Leads}
+use Rattle.search_laws.proofs.Walks.{Leads-induct}
+use Rattle.search_laws.proofs.StepSets.{IsStep-some, IsStep-unique}
 use Rattle.image_minimal.specs.Closures.{IsClosure, IsClosedStep}
 use Rattle.image_minimal.proofs.laws.Closures.{AreReadAlike-closure, AreReadAlike-step, IsClosure-alike, IsClosure-unique, IsClosure-full}
 
@@ -28,28 +28,27 @@ pub record IsLastClosure (r : LocalRule) (w : List ℕ) (closure : ℕ) : Type 0
 
 -- where a word leads is the closure of its last nodes
 pub IsLastClosure-leads : {r : LocalRule} {w : List ℕ} {closure : ℕ} → IsRule r → LeadsToClosure r w closure → IsLastClosure r w closure
-IsLastClosure-leads {r} rule Here = record { set = full_set r; last = IsLastSet-full r; closes = IsClosure-full r }
-IsLastClosure-leads {r} rule (On w a before after leads letter step) =
-    let h = IsLastClosure-leads rule leads in
+IsLastClosure-leads {r} {w} {closure} rule = Leads-induct (IsLastClosure r) (record { set = full_set r; last = IsLastSet-full r; closes = IsClosure-full r })
+    (λ v a before after leads letter step h.
     let next = IsStep-some r h.set a in
     record {
       set = next.0;
       last = IsLastSet-step {set = h.set} rule h.last letter next.1;
       closes = IsClosure-alike (AreReadAlike-step {s = before} {t = h.set} rule letter (AreReadAlike-closure h.closes) step.step next.1) step.closure;
-    }
+    }) w closure
 
 -- each set of nodes has a closure
 abbrev pub HaveClosures : LocalRule → Type 0
 HaveClosures r = (set : ℕ) → set < 2 ^ node_count r → (closure : ℕ) × IsClosure r set closure
 
--- then each word leads to some set by closed steps, as it does by steps
-leads_along : {r : LocalRule} {w : List ℕ} {set : ℕ} → HaveClosures r → LeadsToSet r w set → (closure : ℕ) × LeadsToClosure r w closure
-leads_along {r} closures Here = (full_set r, Here)
-leads_along {r} closures (On w a s t before letter _) =
-    let front = leads_along closures before in
-    let next = IsStep-some r front.0 a in
-    let after = closures next.0 next.1.within in
-    (after.0, On w a front.0 after.0 front.1 letter (record { to = next.0; step = next.1; closure = after.1 }))
+-- then from each set a word leads to some set by closed steps
+closed_walk : {r : LocalRule} → HaveClosures r → (w : List ℕ) (set : ℕ) → (end : ℕ) × Walk (IsClosedStep r) set w end
+closed_walk closures [] set = (set, refl)
+closed_walk {r} closures (a ∷ w) set =
+    let (next, step) = IsStep-some r set a in
+    let (after, closure) = closures next step.within in
+    let (end, rest) = closed_walk closures w after in
+    (end, (after, record { to = next; step = step; closure = closure }, rest))
 
 pub LeadsToClosure-some : {r : LocalRule} → HaveClosures r → (w : List ℕ) → IsWord r.states w → (closure : ℕ) × LeadsToClosure r w closure
-LeadsToClosure-some {r} closures w word = leads_along closures (LeadsToSet-some r w word).1
+LeadsToClosure-some {r} closures w word = let (end, walk) = closed_walk closures w (full_set r) in (end, record { walk = walk; word = word })

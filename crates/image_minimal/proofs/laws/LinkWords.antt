@@ -1,154 +1,50 @@
 -- The words of links, and the words that come early enough after them: such a word is read from both sets of a link or from neither.
-use Rattle.std.proofs.Common.{◌≡◌, ℕ, zero, suc, ◌+◌, ◌*◌, ◌^◌, ◌<◌, ◌≤◌, ◌⊎◌, ◌↔◌, inl, inr, List, [], ◌∷◌, ◌++◌, Some, refl, sym, ap, ap₂, ◌∙◌, subst, arith, ⊎_elim, append-nil, append_assoc}
+use Rattle.std.proofs.Common.{◌≡◌, ℕ, ◌+◌, ◌*◌, ◌^◌, ◌<◌, ◌≤◌, ◌⊎◌, ◌↔◌, inl, inr, List, [], ◌∷◌, ◌++◌, Some, refl, sym, ap, ◌∙◌, subst, arith, ⊎_elim, append-nil, append_assoc}
 use Rattle.std.specs.List.{slice_get}
-use Rattle.std.proofs.lemmas.Bool.{cases_eq}
 use Rattle.std.proofs.lemmas.Nat.{pow_pos}
-use Rattle.std.proofs.lemmas.Option.{none-some}
 use Rattle.std.proofs.Math.Nat.{mul-le-mul_left, mul-le-mul_right, mul-one}
-use Rattle.word_image.specs.LocalRules.{LocalRule, IsRule, node_count}
-use Rattle.search_laws.specs.SearchQueues.{Place, IsBranch, IsQueue, filled}
-use Rattle.search_laws.specs.SearchQueues.Spells.{Root, Branch}
-use Rattle.search_laws.specs.SearchQueues.Leads.{Here, On}
+use Rattle.word_image.specs.LocalRules.{LocalRule, IsRule, IsWord, node_count}
+use Rattle.word_image.specs.Graphs.{full_set, IsStep}
+use Rattle.word_image.proofs.laws.Places.{slice_get-unique}
+use Rattle.search_laws.specs.SearchQueues.{Place, filled}
+use Rattle.search_laws.specs.SearchQueues.Spells.{Root}
+use Rattle.search_laws.proofs.Walks.{Walk-each}
 use Rattle.search_laws.proofs.WordOrder.{word_number, word_number-snoc}
-use Rattle.search_laws.proofs.SpelledWords.{Spells-unique, Spells-some, Spells-cases}
+use Rattle.search_laws.proofs.QueueStates.{mapped_at, state-all}
+use Rattle.search_laws.proofs.SpelledWords.{Spells-unique, Spells-some, Spells-cases, Leads-spelled}
 use Rattle.search_laws.proofs.StepSets.{IsStep-some, LeadsToSet}
 use Rattle.image_minimal.specs.Closures.{IsWithin, IsUnread}
 use Rattle.image_minimal.specs.declared.links.Link.{Link}
-use Rattle.image_minimal.specs.Links.{linked, IsLinking, link_place, places_from, Reaches}
+use Rattle.image_minimal.specs.Links.{LinkStep, IsLinking, link_place, places_of, Reaches}
 use Rattle.image_minimal.proofs.laws.Unread.{IsWithin-back, IsWithin-zero}
 use Rattle.image_minimal.proofs.laws.Chains.{Chain-both}
 
--- the place of a link
-place_of_link : (m : ℕ) (links : List Link) (i : ℕ) (x : Link) → slice_get links i ≡ Some x → slice_get (places_from m links) i ≡ Some (link_place (m + i) x)
-place_of_link m [] i x at = absurd (none-some x at)
-place_of_link m (y ∷ links) zero x at =
-    let same : y ≡ x = cc in
-    let number : m ≡ m + 0 = omega arith in
-    ap₂ (λ (n : ℕ) (z : Link). Some (link_place n z)) number same
-place_of_link m (y ∷ links) (suc i) x at =
-    let number : suc m + i ≡ m + suc i = omega arith in
-    place_of_link (suc m) links i x at ∙ ap (λ (n : ℕ). Some (link_place n x)) number
-
--- a place is that of a link
-link_of_place : (m : ℕ) (links : List Link) (i : ℕ) (y : Place) → slice_get (places_from m links) i ≡ Some y
-    → (x : Link) × (slice_get links i ≡ Some x) × (link_place (m + i) x ≡ y)
-link_of_place m [] i y at = absurd (none-some y at)
-link_of_place m (x ∷ links) zero y at =
-    let same : link_place m x ≡ y = cc in
-    let number : m + 0 ≡ m = omega arith in
-    (x, refl, ap (λ (n : ℕ). link_place n x) number ∙ same)
-link_of_place m (x ∷ links) (suc i) y at =
-    let number : m + suc i ≡ suc m + i = omega arith in
-    let rest = link_of_place (suc m) links i y at in
-    (rest.0, rest.1, ap (λ (n : ℕ). link_place n rest.0) number ∙ rest.2)
-
--- the links as places, from the first one on
-abbrev pub places_of : List Link → List Place
-places_of = places_from 0
-
--- a link as the place of its number
-pub place_at : (links : List Link) (i : ℕ) (x : Link) → slice_get links i ≡ Some x → slice_get (places_of links) i ≡ Some (link_place i x)
-place_at links i x at = let number : 0 + i ≡ i = omega arith in place_of_link 0 links i x at ∙ ap (λ (n : ℕ). Some (link_place n x)) number
-
--- the link of a place
-pub link_at : (links : List Link) (i : ℕ) (y : Place) → slice_get (places_of links) i ≡ Some y → (x : Link) × (slice_get links i ≡ Some x) × (link_place i x ≡ y)
-link_at links i y at =
-    let number : i ≡ 0 + i = omega arith in
-    let found = link_of_place 0 links i y at in
-    (found.0, found.1, ap (λ (n : ℕ). link_place n found.0) number ∙ found.2)
-
--- a link was made by this edge
-pub record IsTreeEdge (links : List Link) (s a t : ℕ) : Type 0 where
-  pub link : Link
-  pub later : 0 < t
-  pub stands : slice_get links t ≡ Some link
-  pub parent : link.parent ≡ s
-  pub letter : link.letter ≡ a
-
--- a place is filled when its link is made
-pub filled-linked : (k i : ℕ) (x : Link) → filled k i (link_place i x) ≡ linked k i x
-filled-linked k zero x = refl
-filled-linked k (suc i) x = refl
-
--- when a link that isn't the first was made
-pub linked-later : (k i : ℕ) (x : Link) → 0 < i → linked k i x ≡ x.parent * k + x.letter + 1
-linked-later k zero x h = absurd (omega arith)
-linked-later k (suc i) x h = refl
-
--- the links are a breadth first queue of their numbers
-pub IsQueue-links : {r q : LocalRule} {links : List Link} {e : ℕ} → IsLinking r q links e → IsQueue (IsTreeEdge links) r.states 0 (places_of links) e
-IsQueue-links {r} {q} {links} {e} h =
-    let k = r.states in
-    record {
-      first = link_place 0 h.root;
-      root = place_at links 0 h.root h.at_root;
-      starts = refl;
-      branches = λ i y positive at.
-          let found = link_at links i y at in
-          let b = h.branches i found.0 positive found.1 in
-          subst (IsBranch (IsTreeEdge links) k (places_of links) i) found.2 (record {
-            parent = link_place found.0.parent b.parent;
-            stands = place_at links found.0.parent b.parent b.stands;
-            earlier = b.earlier;
-            letter = b.letter;
-            step = record { link = found.0; later = positive; stands = found.1; parent = refl; letter = refl };
-          });
-      so_far = λ i y at.
-          let found = link_at links i y at in
-          subst (λ z. filled k i z ≤ e) found.2 (omega (arith, filled-linked k i found.0, h.so_far i found.0 found.1));
-      ascending = λ i j y z less at also.
-          let one = link_at links i y at in
-          let two = link_at links j z also in
-          let order = h.ascending i j one.0 two.0 less one.1 two.1 in
-          subst (λ v. filled k i v < filled k j z) one.2 (subst (λ v. filled k i (link_place i one.0) < filled k j v) two.2
-          (omega (arith, filled-linked k i one.0, filled-linked k j two.0)));
-      apart = λ i j y z at also same.
-          let one = link_at links i y at in
-          let two = link_at links j z also in
-          ap (λ (v : Place). v.state) one.2 ∙ same ∙ ap (λ (v : Place). v.state) (sym two.2);
-      done = λ i a t y at letter less edge.
-          let from = link_at links i y at in
-          let number : y.state ≡ i = ap (λ (v : Place). v.state) (sym from.2) in (
-            t,
-            link_place t edge.link,
-            place_at links t edge.link edge.stands,
-            refl,
-            omega (arith, filled-linked k t edge.link, linked-later k t edge.link edge.later, ap (λ j. j * k) (edge.parent ∙ number), edge.letter),
-          );
-    }
+-- a link as a place
+pub place_at : (links : List Link) (i : ℕ) (x : Link) → slice_get links i ≡ Some x → slice_get (places_of links) i ≡ Some (link_place x)
+place_at = mapped_at link_place
 
 -- the word on the way to a link leads to its sets on both sides
 pub Leads-link : {r q : LocalRule} {links : List Link} {e i : ℕ} {w : List ℕ} → IsLinking r q links e → r.states ≡ q.states
     → Reaches links i w → (x : Link) → slice_get links i ≡ Some x → LeadsToSet r w x.first × LeadsToSet q w x.second
-Leads-link {r} {q} h states Root x at =
-    let also = h.at_root in
-    let same : h.root ≡ x = cc in (
-      subst (LeadsToSet r []) (sym h.starts ∙ ap (λ (z : Link). z.first) same) Here,
-      subst (LeadsToSet q []) (sym h.starts_also ∙ ap (λ (z : Link). z.second) same) Here,
+Leads-link {r} {q} {links} {i = i} {w} h states reaches x at =
+    let leads = Leads-spelled h.fills reaches (link_place x) (place_at links i x at) in
+    let start = (full_set r, full_set q) in (
+      record {
+        walk = Walk-each (LinkStep r q) (IsStep r) (λ p. p.0) (λ a. a < r.states) (λ s a t _ step. step.0) w start (x.first, x.second) leads.word leads.walk;
+        word = leads.word;
+      },
+      record {
+        walk = Walk-each (LinkStep r q) (IsStep q) (λ p. p.1) (λ a. a < r.states) (λ s a t _ step. step.1) w start (x.first, x.second) leads.word leads.walk;
+        word = subst (λ k. IsWord k w) states leads.word;
+      },
     )
-Leads-link {r} {q} {links} h states (Branch i y w positive here before) x at =
-    let found = link_at links i y here in
-    let same : found.0 ≡ x = let there = found.1 in cc in
-    let b = h.branches i found.0 positive found.1 in
-    let stands : slice_get links y.parent ≡ Some b.parent = subst (λ (z : Place). slice_get links z.parent ≡ Some b.parent) found.2 b.stands in
-    let front = Leads-link h states before b.parent stands in
-    subst (λ (z : Link). LeadsToSet r (w ++ y.letter ∷ []) z.first × LeadsToSet q (w ++ y.letter ∷ []) z.second) same
-    (subst (λ (z : Place). LeadsToSet r (w ++ z.letter ∷ []) found.0.first × LeadsToSet q (w ++ z.letter ∷ []) found.0.second) found.2
-    (On w found.0.letter b.parent.first found.0.first front.0 b.letter b.first_step, On w found.0.letter b.parent.second found.0.second front.1 (omega (arith, b.letter, states)) b.second_step))
 
 -- the sets of a link are sets of nodes
 pub link-below : {r q : LocalRule} {links : List Link} {e : ℕ} → IsLinking r q links e → (i : ℕ) (x : Link) → slice_get links i ≡ Some x
     → (x.first < 2 ^ node_count r) × (x.second < 2 ^ node_count q)
 link-below {r} {q} {links} h i x at =
-    ⊎_elim
-    (λ none.
-    let here : slice_get links 0 ≡ Some x = subst (λ j. slice_get links j ≡ Some x) none at in
-    let root = h.at_root in
-    let same : h.root ≡ x = cc in
-    subst (λ (z : Link). (z.first < 2 ^ node_count r) × (z.second < 2 ^ node_count q)) same
-    (omega (arith, h.starts, pow_pos (node_count r)), omega (arith, h.starts_also, pow_pos (node_count q))))
-    (λ some. let b = h.branches i x (omega (arith, some)) at in (b.first_step.within, b.second_step.within))
-    (cases_eq i 0)
+    state-all h.fills (λ p. (p.0 < 2 ^ node_count r) × (p.1 < 2 ^ node_count q)) (omega (arith, pow_pos (node_count r)), omega (arith, pow_pos (node_count q)))
+    (λ s a t step. (step.0.within, step.1.within)) i (link_place x) (place_at links i x at)
 
 -- the number of a longer word grows with that of its front
 pub word_number-append : (k : ℕ) (u v z : List ℕ) → word_number k u ≤ word_number k v → word_number k (u ++ z) ≤ word_number k (v ++ z)
@@ -187,7 +83,7 @@ within_second r q first second t = (
 -- the words after links that come early enough: before them and between them all edges have been followed
 pub record AreEarly (k : ℕ) (links : List Link) (e : ℕ) (Early : ℕ → List ℕ → Type 0) : Type 0 where
   pub edge : (i a : ℕ) (z : List ℕ) (x : Link) → slice_get links i ≡ Some x → a < k → Early i (a ∷ z) → i * k + a < e
-  pub next : (i a j : ℕ) (z : List ℕ) (x y : Link) → slice_get links i ≡ Some x → slice_get links j ≡ Some y → a < k → linked k j y ≤ i * k + a + 1 → Early i (a ∷ z) → Early j z
+  pub next : (i a j : ℕ) (z : List ℕ) (x y : Link) → slice_get links i ≡ Some x → slice_get links j ≡ Some y → a < k → filled k j (link_place y) ≤ i * k + a + 1 → Early i (a ∷ z) → Early j z
 
 -- an early word is read from both sets of a link or from neither
 pub both_within : {r q : LocalRule} {links : List Link} {e : ℕ} {Early : ℕ → List ℕ → Type 0} → IsRule r → IsRule q → IsLinking r q links e → AreEarly r.states links e Early
@@ -202,7 +98,7 @@ both_within {r} {q} rule other h early [] u v none also i x at soon =
 both_within {r} {q} {links} rule other h early (a ∷ z) u v (rest, letter, unread, back) (also, _, unread_also, back_also) i x at soon =
     let s = IsStep-some r x.first a in
     let t = IsStep-some q x.second a in
-    let chain = h.done i a s.0 t.0 x at letter (early.edge i a z x at letter soon) s.1 t.1 in
+    let chain = h.fills.done i a (s.0, t.0) (link_place x) (place_at links i x at) letter (early.edge i a z x at letter soon) (s.1, t.1) in
     let both = Chain-both (IsWithinSide r q rest also) (λ j y there when.
     let ends = both_within rule other h early z rest also unread unread_also j y there (early.next i a j z x y at there letter when soon) in
     let one = within_first r q rest also y.first (link-below h j y there).0 in
@@ -222,12 +118,10 @@ Reaches-parent links i w reaches positive x at =
     ⊎_elim
     (λ none. absurd (omega (arith, none.0)))
     (λ longer.
-    let found = link_at links i longer.place longer.stands in
-    let same : found.0 ≡ x = let there = found.1 in cc in
-    let place : longer.place ≡ link_place i x = sym found.2 ∙ ap (link_place i) same in (
+    let place : longer.place ≡ link_place x = slice_get-unique (places_of links) i longer.place (link_place x) longer.stands (place_at links i x at) in (
       longer.front,
-      subst (λ (z : Place). Reaches links z.parent longer.front) place longer.before,
-      longer.splits ∙ ap (λ (z : Place). longer.front ++ z.letter ∷ []) place,
+      subst (λ (z : Place (ℕ × ℕ)). Reaches links z.parent longer.front) place longer.before,
+      longer.splits ∙ ap (λ (z : Place (ℕ × ℕ)). longer.front ++ z.letter ∷ []) place,
     ))
     (Spells-cases reaches)
 
@@ -237,4 +131,4 @@ Reaches-first links w reaches = Spells-unique reaches Root
 
 -- there is a word on the way to each link
 pub Reaches-some : {r q : LocalRule} {links : List Link} {e : ℕ} → IsLinking r q links e → (i : ℕ) (x : Link) → slice_get links i ≡ Some x → (w : List ℕ) × Reaches links i w
-Reaches-some {links = links} h i x at = Spells-some (IsQueue-links h) i (link_place i x) (place_at links i x at)
+Reaches-some {links = links} h i x at = Spells-some h.fills i (link_place x) (place_at links i x at)

@@ -1,26 +1,26 @@
 -- What links say of the orphans of two rules: links that are closed under steps show that they are the same, and the first
 -- pair with exactly one empty set gives the least word that is an orphan of exactly one.
-use Rattle.std.proofs.Common.{◌≡◌, ℕ, suc, ◌+◌, ◌*◌, ◌<◌, ◌≤◌, ◌↔◌, inl, inr, List, [], ◌∷◌, ◌++◌, length, Some, sym, ap, subst, arith, ⊎_elim, append_assoc}
+use Rattle.std.proofs.Common.{◌≡◌, ℕ, ◌+◌, ◌*◌, ◌<◌, ◌≤◌, ◌↔◌, inl, inr, List, [], ◌∷◌, ◌++◌, length, Some, sym, ap, subst, arith, ⊎_elim, append_assoc}
 use Rattle.std.specs.List.{slice_get}
-use Rattle.std.proofs.lemmas.Bool.{cases_eq, cases_lt}
-use Rattle.std.proofs.lemmas.Option.{slice_get_within}
-use Rattle.std.proofs.Math.Nat.{mul-le-mul_right, suc-mul}
+use Rattle.std.proofs.lemmas.Bool.{cases_lt}
 use Rattle.word_image.specs.LocalRules.{LocalRule, IsRule, IsWord}
 use Rattle.word_image.specs.Words.{IsOrphan}
 use Rattle.word_image.specs.Graphs.{full_set}
 use Rattle.word_image.specs.Ranks.{IsLastSet}
 use Rattle.word_image.proofs.laws.LastSets.{IsLastSet-full}
 use Rattle.search_laws.specs.SearchQueues.Spells.{Root}
-use Rattle.search_laws.specs.SearchQueues.Leads.{On}
+use Rattle.search_laws.proofs.Walks.{Leads-push}
 use Rattle.search_laws.proofs.WordOrder.{word_number, word_number-snoc, word_number-less}
-use Rattle.search_laws.proofs.SpelledWords.{Spells-unique, Spells-some, spelled-within, spelled-ascending}
+use Rattle.search_laws.proofs.SpelledWords.{Spells-unique, Spells-some, spelled-within, edges-ascending}
+use Rattle.search_laws.proofs.QueueSteps.{edge-within}
+use Rattle.search_laws.proofs.QueueStates.{unmapped_at}
 use Rattle.search_laws.proofs.StepSets.{IsLastSet-leads}
 use Rattle.image_minimal.specs.ImageLanguages.{HaveSameOrphans, Separates}
 use Rattle.image_minimal.specs.Closures.{IsWithin, IsUnread}
 use Rattle.image_minimal.specs.declared.links.Link.{Link}
 use Rattle.image_minimal.specs.Links.{IsLinking, IsConflict, link_place, Reaches}
 use Rattle.image_minimal.proofs.laws.Unread.{IsUnread-some, IsOrphan-last, IsOrphan-unread}
-use Rattle.image_minimal.proofs.laws.LinkWords.{AreEarly, IsQueue-links, Leads-link, place_at, filled-linked, both_within, word_number-append, word_number-front}
+use Rattle.image_minimal.proofs.laws.LinkWords.{AreEarly, Leads-link, place_at, both_within, word_number-append, word_number-front}
 
 -- a word that is read from all nodes of both rules or of neither is an orphan of both or of neither
 same_orphan : {r q : LocalRule} → IsRule r → IsRule q → r.states ≡ q.states → (v : List ℕ)
@@ -43,48 +43,21 @@ same_orphan {r} {q} rule other states v both = (
 -- where all words that don't come after v are early, it is an orphan of both rules or of neither
 orphan_early : {r q : LocalRule} {links : List Link} {e : ℕ} {Early : ℕ → List ℕ → Type 0} → IsRule r → IsRule q → r.states ≡ q.states → IsLinking r q links e
     → AreEarly r.states links e Early → (v : List ℕ) → (IsWord r.states v → Early 0 v) → (IsOrphan r v ↔ IsOrphan q v)
-orphan_early {r} {q} rule other states h early v soon = same_orphan rule other states v (λ word s t unread also.
-    subst (λ n. IsWithin r n s ↔ IsWithin q (full_set q) t) h.starts
-    (subst (λ n. IsWithin r h.root.first s ↔ IsWithin q n t) h.starts_also
-    (both_within rule other h early v s t unread also 0 h.root h.at_root (soon word))))
-
--- an edge from a link comes before all edges from links past the end
-edge_below : (k : ℕ) (links : List Link) (i a : ℕ) (x : Link) → slice_get links i ≡ Some x → a < k → i * k + a < length links * k
-edge_below k links i a x at letter =
-    let next : suc i * k ≤ length links * k = mul-le-mul_right k (slice_get_within links i x at) in
-    omega (arith, suc-mul i k)
+orphan_early {r} {q} {links} rule other states h early v soon = same_orphan rule other states v (λ word s t unread also.
+    let (root, at, alike) = unmapped_at link_place links 0 h.fills.first h.fills.root in
+    let starts = ap (λ y. y.state) alike ∙ h.fills.starts in
+    subst (λ n. IsWithin r n s ↔ IsWithin q (full_set q) t) (ap (λ p. p.0) starts)
+    (subst (λ n. IsWithin r root.first s ↔ IsWithin q n t) (ap (λ p. p.1) starts)
+    (both_within rule other h early v s t unread also 0 root at (soon word))))
 
 -- where all edges are followed the two rules have the same orphans
 pub HaveSameOrphans-closed : {r q : LocalRule} {links : List Link} {e : ℕ} → IsRule r → IsRule q → r.states ≡ q.states → IsLinking r q links e → length links * r.states ≤ e → HaveSameOrphans r q
 HaveSameOrphans-closed {r} {q} {links} {e} rule other states h closed v =
     let early : AreEarly r.states links e (λ i z. Unit {0}) = record {
-      edge = λ i a z x at letter _. omega (arith, edge_below r.states links i a x at letter);
+      edge = λ i a z x at letter _. omega (arith, edge-within r.states links i (a + 1) x at (omega arith));
       next = λ i a j z x y at also letter when _. tt;
     } in
     orphan_early rule other states h early v (λ _. tt)
-
--- of two edges the earlier one has the lesser word
-edges_ascending : {r q : LocalRule} {links : List Link} {e i j : ℕ} {v w : List ℕ} → IsLinking r q links e → Reaches links i v → Reaches links j w
-    → (x : Link) → slice_get links i ≡ Some x → (a b : ℕ) → a < r.states → b < r.states → i * r.states + a ≤ j * r.states + b
-    → word_number r.states v * r.states + a ≤ word_number r.states w * r.states + b
-edges_ascending {r} {q} {links} {e} {i} {j} {v} {w} h first second x at a b letter_a letter_b most =
-    let k = r.states in
-    let queue = IsQueue-links h in
-    ⊎_elim
-    (λ less.
-    let next : suc (word_number k v) * k ≤ word_number k w * k = mul-le-mul_right k (spelled-ascending queue less first second (link_place i x) (place_at links i x at)) in
-    omega (arith, suc-mul (word_number k v) k))
-    (λ above. ⊎_elim
-    (λ same.
-    let one : v ≡ w = Spells-unique first (subst (λ n. Reaches links n w) (sym same) second) in
-    let old : i * k ≡ j * k = ap (λ n. n * k) same in
-    let number : word_number k v * k ≡ word_number k w * k = ap (λ u. word_number k u * k) one in
-    omega arith)
-    (λ not_same.
-    let next : suc j * k ≤ i * k = mul-le-mul_right k (omega arith) in
-    absurd (omega (arith, suc-mul j k)))
-    (cases_eq i j))
-    (cases_lt i j)
 
 -- before the edge that is followed next all lesser words are early
 abbrev IsBefore : ℕ → List Link → ℕ → ℕ → List ℕ → Type 0
@@ -94,21 +67,20 @@ early_before : {r q : LocalRule} {links : List Link} {h a : ℕ} {w : List ℕ} 
     → AreEarly r.states links (h * r.states + a) (IsBefore r.states links (word_number r.states w * r.states + a))
 early_before {r} {q} {links} {h} {a} {w} {x} rule linking reaches here letter =
     let k = r.states in
-    let queue = IsQueue-links linking in
     record {
       edge = λ i b z y at below before.
-          let v = Spells-some queue i (link_place i y) (place_at links i y at) in
+          let v = Spells-some linking.fills i (link_place y) (place_at links i y at) in
           let front = word_number-front k (v.0 ++ b ∷ []) z (omega (arith, rule.shape.least_states)) in
           let whole : word_number k ((v.0 ++ b ∷ []) ++ z) ≤ word_number k w * k + a = rw (append_assoc v.0 (b ∷ []) z) (before v.0 v.1) in
           let long = word_number-snoc k v.0 b in
           ⊎_elim (λ less. less)
           (λ past.
-          let order = edges_ascending linking reaches v.1 x here a b letter below past in
+          let order = edges-ascending linking.fills reaches v.1 (link_place x) (place_at links h x here) a b letter below past in
           absurd (omega arith))
           (cases_lt (i * k + b) (h * k + a));
       next = λ i b j z y l at also below when before u to_j.
-          let v = Spells-some queue i (link_place i y) (place_at links i y at) in
-          let within = spelled-within queue v.1 b below j (link_place j l) u (place_at links j l also) to_j (omega (arith, filled-linked k j l)) in
+          let v = Spells-some linking.fills i (link_place y) (place_at links i y at) in
+          let within = spelled-within linking.fills v.1 b below j (link_place l) u (place_at links j l also) to_j when in
           let whole : word_number k ((v.0 ++ b ∷ []) ++ z) ≤ word_number k w * k + a = rw (append_assoc v.0 (b ∷ []) z) (before v.0 v.1) in
           let longer = word_number-append k u (v.0 ++ b ∷ []) z (omega (arith, word_number-snoc k v.0 b)) in
           omega arith;
@@ -120,8 +92,8 @@ pub Separates-conflict : {r q : LocalRule} {links : List Link} {i a : ℕ} {w : 
 Separates-conflict {r} {q} {links} {i} {a} {w} rule other states h c reaches =
     let k = r.states in
     let both = Leads-link h states reaches c.link c.stands in
-    let first : IsLastSet r (w ++ a ∷ []) c.first = IsLastSet-leads rule (On w a c.link.first c.first both.0 c.letter c.first_step) in
-    let second : IsLastSet q (w ++ a ∷ []) c.second = IsLastSet-leads other (On w a c.link.second c.second both.1 (omega (arith, c.letter, states)) c.second_step) in
+    let first : IsLastSet r (w ++ a ∷ []) c.first = IsLastSet-leads rule (Leads-push both.0 c.letter c.first_step) in
+    let second : IsLastSet q (w ++ a ∷ []) c.second = IsLastSet-leads other (Leads-push both.1 (omega (arith, c.letter, states)) c.second_step) in
     let one = IsOrphan-last rule first in
     let two = IsOrphan-last other second in
     record {

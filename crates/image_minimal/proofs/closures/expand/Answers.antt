@@ -1,6 +1,6 @@
 use Rattle.std.proofs.Common.{◌≡◌, ◌+◌, ◌*◌, ◌<◌, subst, arith}
 use Rattle.image_minimal.specs.Closures.{IsBack}
-use Rattle.image_minimal.specs.Searches.{IsSearch}
+use Rattle.search_laws.specs.SearchQueues.{IsSearch}
 use Rattle.image_minimal.proofs.laws.Unread.{IsBack-unique}
 use Rattle.image_minimal.proofs.Indexes.{IsInserted-kept}
 use Rattle.image_minimal.proofs.Searches.{IsSearch-insert}

@@ -1,7 +1,7 @@
 use Rattle.std.proofs.Common.{◌≡◌, ◌+◌, ◌*◌, Some}
 use Rattle.std.specs.List.{slice_get}
 use Rattle.image_minimal.specs.Closures.{IsBack}
-use Rattle.image_minimal.specs.Searches.{IsSearch}
+use Rattle.search_laws.specs.SearchQueues.{IsSearch}
 use Rattle.image_minimal.proofs.closures.expand.Given as goal
 
 -- the edges on the first letters are followed

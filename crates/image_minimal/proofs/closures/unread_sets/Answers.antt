@@ -3,9 +3,10 @@ use Rattle.std.proofs.Math.Nat.{mul-le-mul_right}
 use Rattle.std.proofs.lemmas.Nat.{pow_pos}
 use Rattle.word_image.specs.LocalRules.{node_count}
 use Rattle.image_minimal.specs.Closures.{IsBack}
-use Rattle.image_minimal.specs.Searches.{IsSearch}
+use Rattle.search_laws.specs.SearchQueues.{IsSearch}
 use Rattle.image_minimal.proofs.Indexes.{inserted_first}
-use Rattle.image_minimal.proofs.Searches.{IsSearch-start, length-search-le, AreUnreadSets-closed}
+use Rattle.search_laws.proofs.Searches.{IsSearch-start, length-search-le}
+use Rattle.image_minimal.proofs.Searches.{AreUnreadSets-closed}
 use Rattle.image_minimal.proofs.closures.unread_sets.Goals as goal
 
 pub loop-place-init : goal.loop-place-init

@@ -1,7 +1,7 @@
 use Rattle.std.proofs.Common.{◌-◌, ◌*◌, ◌^◌}
 use Rattle.word_image.specs.LocalRules.{node_count}
 use Rattle.image_minimal.specs.Closures.{IsBack}
-use Rattle.image_minimal.specs.Searches.{IsSearch}
+use Rattle.search_laws.specs.SearchQueues.{IsSearch}
 use Rattle.image_minimal.proofs.closures.unread_sets.Given as goal
 
 -- the edges from the first sets are followed

@@ -6,8 +6,8 @@ use Rattle.std.proofs.lemmas.Option.{slice_get_within}
 use Rattle.word_image.specs.LocalRules.{LocalRule, IsRule, node_count}
 use Rattle.image_minimal.specs.declared.links.Link.{Link}
 use Rattle.image_minimal.specs.ImageLanguages.{Separates}
-use Rattle.image_minimal.specs.Links.{IsLinkSearch, IsLinkedOn, Reaches, set_count}
-use Rattle.image_minimal.proofs.laws.LinkWords.{Reaches-some}
+use Rattle.image_minimal.specs.Links.{link_place, IsLinkSearch, IsLinkedOn, Reaches, set_count}
+use Rattle.image_minimal.proofs.laws.LinkWords.{place_at, Reaches-some}
 use Rattle.image_minimal.proofs.laws.Separations.{HaveSameOrphans-closed, Separates-conflict}
 use Rattle.image_minimal.proofs.LinkSearches.{IsLinkSearch-start}
 use Rattle.image_minimal.proofs.separation.search.Goals as goal
@@ -39,7 +39,7 @@ word_to-requires-clause-at c =
 
 pub word_to-requires-clause-earlier : goal.word_to-requires-clause-earlier
 word_to-requires-clause-earlier c i x positive at =
-    ((conflict c).0.linking.branches i x positive (subst (λ l. slice_get l i ≡ Some x) c.deref.ensures.value at)).earlier
+    ((conflict c).0.linking.fills.branches i (link_place x) positive (place_at c.expand.new.links.items i x (subst (λ l. slice_get l i ≡ Some x) c.deref.ensures.value at))).earlier
 
 pub returns-in-Some : goal.returns-in-Some
 returns-in-Some c =

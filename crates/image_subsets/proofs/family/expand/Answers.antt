@@ -5,7 +5,7 @@ use Rattle.word_image.specs.Graphs.{IsStep}
 use Rattle.image_subsets.specs.Masks.{IsInserted}
 use Rattle.image_subsets.specs.StepTables.{Rows, AreTables}
 use Rattle.image_subsets.proofs.Steps.{HasRows-tables}
-use Rattle.image_subsets.proofs.Searches.{IsSearch-expanding, IsExpanding-there, IsExpanding-new, EndsEmpty-push, set-below, length-search-most}
+use Rattle.image_subsets.proofs.Searches.{IsTreeSearch-expanding, IsExpanding-there, IsExpanding-new, EndsEmpty-push, set-below, length-search-most}
 use Rattle.image_subsets.proofs.family.expand.Goals as goal
 use Rattle.image_subsets.proofs.family.expand.Goals.{then-insert+else-after-eq0, else-insert}
 
@@ -30,7 +30,7 @@ push_reserved-requires c =
     let step = stepped _ _ _ _ _ _ _ _ c.steps-steps.ensures c.requires.tables (set-below c.requires.search.0 c.args.place c.requires.place) c.at.ensures c.from.ensures
     c.loop-letter-test.true c.k-letter-end.ensures.states in
     let new = subst (IsInserted c.loop-letter.sets c.insert.new.self _) c.if-insert.true c.insert.ensures in
-    let longer = IsSearch-expanding search _ (omega (arith, c.loop-letter-test.true, c.k-letter-end.ensures.states)) step new.0 in
+    let longer = IsTreeSearch-expanding search _ (omega (arith, c.loop-letter-test.true, c.k-letter-end.ensures.states)) step new.0 in
     omega (
       arith,
       length-search-most c.requires.tables.rule longer,
@@ -45,7 +45,7 @@ returns-then-after-eq0-clause-search c =
     let step = stepped _ _ _ _ _ _ _ _ c.steps-steps.ensures c.requires.tables (set-below c.requires.search.0 c.args.place c.requires.place) c.at.ensures c.from.ensures
     c.loop-letter-test.true c.k-letter-end.ensures.states in
     let new = subst (IsInserted c.loop-letter.sets c.insert.new.self _) c.if-insert.true c.insert.ensures in
-    let longer = IsSearch-expanding c.loop-letter.invariant.search _ (omega (arith, c.loop-letter-test.true, c.k-letter-end.ensures.states)) step new.0 in
+    let longer = IsTreeSearch-expanding c.loop-letter.invariant.search _ (omega (arith, c.loop-letter-test.true, c.k-letter-end.ensures.states)) step new.0 in
     rw (new.1, c.push_reserved.ensures.items) ((_, longer), EndsEmpty-push c.loop-letter.sets _ c.if-after-eq0.true)
 
 pub loop-letter-preserved : goal.loop-letter-preserved

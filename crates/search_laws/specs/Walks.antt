@@ -1,0 +1,13 @@
+-- Walks along a step relation with letters.
+use Rattle.std.specs.Prelude.{◌≡◌, ℕ, List, [], ◌∷◌}
+use Rattle.word_image.specs.LocalRules.{IsWord}
+
+-- the letters lead from one state to the other, one step after another
+abbrev pub Walk : {S L : Type 0} → (S → L → S → Type 0) → S → List L → S → Type 0
+Walk Step s [] t = s ≡ t
+Walk {S} Step s (a ∷ w) t = (u : S) × Step s a u × Walk Step u w t
+
+-- the letters of the word, which are below k, lead from the start to the state
+pub record Leads {S : Type 0} (Step : S → ℕ → S → Type 0) (k : ℕ) (start : S) (w : List ℕ) (t : S) : Type 0 where
+  pub walk : Walk Step start w t
+  pub word : IsWord k w
