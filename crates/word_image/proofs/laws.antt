@@ -13,6 +13,7 @@ pub mod Unions
 pub mod LastNodes
 pub mod LastSets
 pub mod RuleFaults
+pub mod RulesBy
 pub mod Searches
 pub mod SameRules
 pub mod Weights

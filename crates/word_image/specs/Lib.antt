@@ -10,6 +10,7 @@ pub mod Ranks
 pub mod Erasure
 pub mod Sides
 pub mod RuleFaults
+pub mod RulesBy
 pub mod ImageFaults
 pub mod RingFaults
 pub mod Families

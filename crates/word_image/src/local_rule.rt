@@ -66,7 +66,8 @@ impl Model for Rule {
 }
 
 impl Rule {
-    ghost use Rattle.word_image.specs.LocalRules.{IsRule, local_map, mirrored, node_count};
+    ghost use Rattle.word_image.specs.LocalRules.{LocalRule, IsRule, local_map, mirrored, node_count};
+    ghost use Rattle.word_image.specs.RulesBy.{IsRuleBy};
     ghost use Rattle.word_image.specs.RuleFaults.{rule_fault};
     ghost use Rattle.word_image.specs.Graphs.{node_letter};
     ghost use Rattle.word_image.specs.Words.{image};
@@ -80,12 +81,20 @@ impl Rule {
     {
         check_shape(k, m, o)?;
         check_table(k, m, table)?;
-        Ok(Rule {
-            k,
-            m,
-            o,
-            entries: in_memory(table),
-        })
+        Ok(Rule::by(k, m, o, |window| table[usize::from(window)]))
+    }
+
+    /// The rule of this shape whose table has the letter that a function gives at each value of a window.
+    pub fn by<F: Fn(u16) -> u8>(k: u8, m: u8, o: i8, letter: F) -> Rule
+        requires rule { (r : LocalRule) × IsRuleBy k m o (F.post letter) r }
+        requires callable { (v : ℕ) → v < k ^ m → F.pre letter v }
+        ensures { (r : LocalRule) → IsRuleBy k m o (F.post letter) r → result ≡ r }
+    {
+        let mut entries = [0; MOST_ENTRIES];
+        for window in 0..u16::from(k).pow(u32::from(m)) {
+            entries[usize::from(window)] = letter(window);
+        }
+        Rule { k, m, o, entries }
     }
 
     /// The number of states k, from 2 to 16.
@@ -170,12 +179,13 @@ impl Rule {
         ensures mirrored { result ≡ mirrored self.now }
         ensures image { (x : List ℕ) → IsWord self.now.states x → image result (reverse x) ≡ reverse (image self.now x) }
     {
-        Rule {
-            k: self.k(),
-            m: self.m(),
-            o: self.mirrored_offset(),
-            entries: self.backward_entries(),
-        }
+        let (k, m) = (self.k(), self.m());
+        Rule::by(
+            k,
+            m,
+            self.mirrored_offset(),
+            |window| self.at(backwards(k, m, window)),
+        )
     }
 
     /// The offset of a window that lies as far on the other side of the cell.
@@ -183,17 +193,6 @@ impl Rule {
         ensures { result ≡ (mirrored self.now).offset }
     {
         -(self.o() + (self.m() as i8 - 1))
-    }
-
-    /// The letters that the rule gives on the windows read backwards, and zeros after them.
-    fn backward_entries(&self) -> [u8; MOST_ENTRIES]
-        ensures { result ≡ padded (mirrored self.now).table }
-    {
-        let mut entries = [0; MOST_ENTRIES];
-        for window in 0..self.size() {
-            entries[usize::from(window)] = self.at(backwards(self.k(), self.m(), window));
-        }
-        entries
     }
 }
 
@@ -213,16 +212,6 @@ impl PartialEq for Rule {
 
 impl Eq for Rule {
     ghost laws = { Prim.search (comparing, rules) depth 9 };
-}
-
-/// The letters of a table, and zeros after them.
-fn in_memory(table: &[u8]) -> [u8; MOST_ENTRIES]
-    requires { length table.now ≤ 256 }
-    ensures { result ≡ padded table.now }
-{
-    let mut entries = [0; MOST_ENTRIES];
-    entries[..table.len()].copy_from_slice(table);
-    entries
 }
 
 /// Whether a rule may have k states, width m and offset o; else the first of `States`, `Width`,

@@ -1,36 +1,25 @@
-use Rattle.std.proofs.Common.{◌≡◌, ℕ, ◌^◌, List, take, drop, replicate, reverse, ◌-◌, sym, ap, ap₂, subst, ◌∙◌, w8, FitsSigned, to_z, of_z, arith}
-use Rattle.std.specs.Prelude.{ℤ}
-use Rattle.std.proofs.lemmas.Int.{to_z-of_z, ints}
-use Rattle.word_image.specs.LocalRules.{LocalRule, IsRule, mirrored}
-use Rattle.word_image.specs.Storage.{padded}
+use Rattle.std.proofs.Common.{◌≡◌, ℕ, ◌^◌, ◌<◌, reverse, slice_index, ap, ap₂, ◌∙◌, ℤ, w8, to_z, of_z, refl, rules}
+use Rattle.word_image.specs.LocalRules.{LocalRule, IsRule, local_map, mirrored, value, word_of}
+use Rattle.word_image.specs.RulesBy.{IsRuleBy}
 use Rattle.word_image.specs.Words.{image}
 use Rattle.word_image.proofs.laws.Images.{image-mirrored, IsRule-mirrored}
-use Rattle.word_image.proofs.Storage.{take-in_row, drop-in_row}
+use Rattle.word_image.proofs.laws.RulesBy.{IsRuleBy-map}
 use Rattle.word_image.proofs.local_rule.Rule.reflect.Goals as goal
 
--- the mirrored rule, by its parts as they lie in memory
-mirrored-parts : (r : LocalRule) (k m : ℕ) (o : ℤ) (entries : List ℕ) → IsRule r → k ≡ r.states → m ≡ r.width → o ≡ (mirrored r).offset → entries ≡ padded (mirrored r).table
-    → (record { states = k; width = m; offset = to_z w8 (of_z w8 o); table = take (k ^ m) entries } ≡ mirrored r) × (drop (k ^ m) entries ≡ replicate (256 - k ^ m) 0)
-mirrored-parts r k m o entries rule states width offset table =
-    let accepted = IsRule-mirrored rule in
-    let low = accepted.shape.least_offset in
-    let high = accepted.shape.most_offset in
-    let fits : FitsSigned w8 (mirrored r).offset = grind (arith, ints) in
-    let same = take-in_row 256 (r.states ^ r.width) (mirrored r).table accepted.entries in
-    rw (states, width, offset, table) (
-      ap₂ (λ (p : ℤ) (t : List ℕ). record { states = r.states; width = r.width; offset = p; table = t }) (to_z-of_z w8 (mirrored r).offset fits) same,
-      drop-in_row 256 (r.states ^ r.width) (mirrored r).table accepted.entries,
-    )
+-- what is given on the windows read backwards makes the mirrored rule
+by_backwards : {r : LocalRule} {k m : ℕ} {o : ℤ} {gives : ℕ → ℕ → Type 0} → IsRule r → k ≡ r.states → m ≡ r.width → o ≡ (mirrored r).offset
+    → ((v a : ℕ) → v < r.states ^ r.width → gives v a → a ≡ slice_index r.table (value k (reverse (word_of k m v)))) → IsRuleBy k m (to_z w8 (of_z w8 o)) gives (mirrored r)
+by_backwards {r} rule states width offset given =
+    IsRuleBy-map (λ v. local_map r (reverse (word_of r.states r.width v))) (IsRule-mirrored rule) states width offset refl
+    (λ v a l h. given v a l h ∙ ap₂ (λ (k m : ℕ). slice_index r.table (value k (reverse (word_of k m v)))) states width)
 
-pub invariant_of-result : goal.invariant_of-result
-invariant_of-result c =
-    let parts = mirrored-parts _ _ _ _ _ c.k.ensures.rule c.k.ensures.states c.m.ensures.width c.mirrored_offset.ensures c.backward_entries.ensures in
-    (subst IsRule (sym parts.0) (IsRule-mirrored c.k.ensures.rule), parts.1)
+pub by-requires-clause-rule : goal.by-requires-clause-rule
+by-requires-clause-rule c = (_, by_backwards c.k-k.ensures.rule c.k-k.ensures.states c.m-m.ensures.width c.mirrored_offset.ensures (λ v a l h. search rules))
 
 pub returns-clause-mirrored : goal.returns-clause-mirrored
-returns-clause-mirrored c = (mirrored-parts _ _ _ _ _ c.k.ensures.rule c.k.ensures.states c.m.ensures.width c.mirrored_offset.ensures c.backward_entries.ensures).0
+returns-clause-mirrored c = c.by.ensures _ (by_backwards c.k-k.ensures.rule c.k-k.ensures.states c.m-m.ensures.width c.mirrored_offset.ensures (λ v a l h. search rules))
 
 pub returns-clause-image : goal.returns-clause-image
 returns-clause-image c = λ x word.
-    let parts = mirrored-parts _ _ _ _ _ c.k.ensures.rule c.k.ensures.states c.m.ensures.width c.mirrored_offset.ensures c.backward_entries.ensures in
-    ap (λ r. image r (reverse x)) parts.0 ∙ image-mirrored c.k.ensures.rule x word
+    ap (λ r. image r (reverse x)) (c.by.ensures _ (by_backwards c.k-k.ensures.rule c.k-k.ensures.states c.m-m.ensures.width c.mirrored_offset.ensures (λ v a l h. search rules)))
+    ∙ image-mirrored c.k-k.ensures.rule x word

@@ -1,0 +1,65 @@
+use Rattle.std.proofs.Common.{◌≡◌, ℕ, ◌-◌, ◌^◌, ◌<◌, ◌≤◌, List, length, take, drop, map, replicate, set, slice_index, refl, sym, ap, ap₂, subst, ◌∙◌, ℤ, w8, w16, FitsSigned, to_z, of_z, arith}
+use Rattle.std.specs.List.{range_with_len}
+use Rattle.std.proofs.lemmas.Int.{to_z-of_z}
+use Rattle.std.proofs.lemmas.List.{ext_get_or}
+use Rattle.std.proofs.lemmas.List.FromFn.{length-map-range_with_len, get_or-map-range_with_len}
+use Rattle.word_image.specs.LocalRules.{LocalRule, IsRule}
+use Rattle.word_image.specs.RulesBy.{IsRuleBy}
+use Rattle.word_image.specs.Storage.{padded}
+use Rattle.word_image.proofs.Storage.{in_row-more, take-in_row, drop-in_row}
+use Rattle.word_image.proofs.laws.RuleFaults.{window_count-le}
+use Rattle.word_image.proofs.laws.SameRules.{rule_from_parts}
+use Rattle.word_image.proofs.local_rule.Rule.by.Goals as goal
+
+-- a rule, and how its table lies in memory
+record IsMade (k m : ℕ) (o : ℤ) (entries : List ℕ) (r : LocalRule) : Type 0 where
+  same : record { states = k; width = m; offset = to_z w8 (of_z w8 o); table = take (k ^ m) entries } ≡ r
+  zeros : drop (k ^ m) entries ≡ replicate (256 - k ^ m) 0
+
+-- the number of its windows
+windows : {k m : ℕ} {o : ℤ} {gives : ℕ → ℕ → Type 0} {r : LocalRule} → IsRuleBy k m o gives r → k ^ m ≡ length r.table
+windows by = ap₂ (λ (a b : ℕ). a ^ b) (sym by.states) (sym by.width) ∙ sym by.rule.entries
+
+-- are few
+few : {k m : ℕ} {o : ℤ} {gives : ℕ → ℕ → Type 0} {r : LocalRule} → IsRuleBy k m o gives r → k ^ m ≤ 256
+few {k} {m} {o} {gives} {r} by = omega (arith, windows by, by.rule.entries, window_count-le r.states r.width r.offset by.rule.shape)
+
+-- it is made where all its entries are there
+made : {k m : ℕ} {o : ℤ} {gives : ℕ → ℕ → Type 0} {r : LocalRule} → IsRuleBy k m o gives r → FitsSigned w8 o → (n : ℕ) (entries : List ℕ) → n ≡ k ^ m
+    → entries ≡ padded (map (slice_index r.table) (range_with_len 0 n)) → IsMade k m o entries r
+made {k} {m} {o} {gives} {r} by fits n entries all filled =
+    let f : ℕ → ℕ = slice_index r.table in
+    let listed : map f (range_with_len 0 n) ≡ r.table =
+    ext_get_or 0 (map f (range_with_len 0 n)) r.table (length-map-range_with_len f 0 n ∙ all ∙ windows by)
+    (λ i l. get_or-map-range_with_len f 0 n i i 0 (omega (arith, length-map-range_with_len f 0 n)) (omega arith)) in
+    let whole : entries ≡ padded r.table = filled ∙ ap padded listed in
+    let long : length r.table ≡ k ^ m = sym (windows by) in
+    record {
+      same = rule_from_parts (sym by.states) (sym by.width) (to_z-of_z w8 o fits ∙ sym by.offset) (ap (take (k ^ m)) whole ∙ take-in_row 256 (k ^ m) r.table long);
+      zeros = ap (drop (k ^ m)) whole ∙ drop-in_row 256 (k ^ m) r.table long;
+    }
+
+pub loop-window-init : goal.loop-window-init
+loop-window-init g c = λ o r by. refl
+
+pub loop-window-preserved : goal.loop-window-preserved
+loop-window-preserved g c = λ o r by.
+    let v = c.loop-window.window in
+    let size : c.pow-window-end.result ≡ c.args.k ^ c.args.m = c.pow-window-end.ensures ∙ ap₂ (λ (a b : ℕ). a ^ b) c.from.ensures c.from-2.ensures in
+    let below : v < c.args.k ^ c.args.m = omega arith in
+    rw c.from-in-loop-window.ensures (ap (λ xs. set xs v c.letter.result) (c.loop-window.invariant o r by)
+    ∙ in_row-more 256 (slice_index r.table) v c.letter.result (omega (arith, few by)) (by.entries v c.letter.result below c.letter.ensures))
+
+pub invariant_of-result : goal.invariant_of-result
+invariant_of-result g c =
+    let size : c.pow-window-end.result ≡ c.args.k ^ c.args.m = c.pow-window-end.ensures ∙ ap₂ (λ (a b : ℕ). a ^ b) c.from.ensures c.from-2.ensures in
+    let all : c.loop-window.window ≡ c.args.k ^ c.args.m = omega arith in
+    let by = c.requires.rule.1 in
+    let is = made by c.ranges.o c.loop-window.window c.loop-window.entries all (c.loop-window.invariant _ _ by) in
+    (subst IsRule (sym is.same) by.rule, is.zeros)
+
+pub returns : goal.returns
+returns g c = λ r by.
+    let size : c.pow-window-end.result ≡ c.args.k ^ c.args.m = c.pow-window-end.ensures ∙ ap₂ (λ (a b : ℕ). a ^ b) c.from.ensures c.from-2.ensures in
+    let all : c.loop-window.window ≡ c.args.k ^ c.args.m = omega arith in
+    (made by c.ranges.o c.loop-window.window c.loop-window.entries all (c.loop-window.invariant _ r by)).same

@@ -1,0 +1,11 @@
+-- Rules by what they give at each value of a window.
+use Rattle.std.specs.Prelude.{◌≡◌, ℕ, ◌^◌, ◌<◌, slice_index, ℤ}
+use Rattle.word_image.specs.LocalRules.{LocalRule, IsRule}
+
+-- an accepted rule of this shape, whose table has at each value of a window what is given there
+pub record IsRuleBy (k m : ℕ) (o : ℤ) (gives : ℕ → ℕ → Type 0) (r : LocalRule) : Type 0 where
+  pub rule : IsRule r
+  pub states : r.states ≡ k
+  pub width : r.width ≡ m
+  pub offset : r.offset ≡ o
+  pub entries : (v a : ℕ) → v < k ^ m → gives v a → a ≡ slice_index r.table v
