@@ -54,17 +54,6 @@ marked-step r t a b q e =
     (cases_eq a b))
     (leb_tells c t)
 
--- it leads to a marked pair
-pub marked-below : {r : LocalRule} → IsRule r → (t a b q : ℕ) → marked r t a b ≡ Some q → q < 2 * pair_count r
-marked-below {r} rule t a b q e =
-    let step = marked-step r t a b q e in
-    omega (
-      arith,
-      step.leads,
-      mul-add-lt step.mark (pair_count r) _ 2 step.small
-          (pair_of-below r (next r (first_of r (pair_part r t)) a) (next r (second_of r (pair_part r t)) b) (next-below rule _ a) (next-below rule _ b)),
-    )
-
 -- the parts of the pair of u and v with this mark
 pub record HasParts (r : LocalRule) (q mark u v : ℕ) : Type 0 where
   pub half : q / pair_count r ≡ mark

@@ -22,11 +22,11 @@ use Rattle.search_laws.proofs.QueueDepths.{AreDepths, depths-ascending, no_word_
 use Rattle.search_laws.proofs.SpelledWords.{Spells-some, length-spelled-le}
 use Rattle.search_laws.proofs.PairWalks.{code, Leads-walk, CodeStep-some, CodeStep-follows, IsLeastWalk-steps, no_walk}
 use Rattle.search_laws.specs.PairWalks.{PairWalk, IsLeastWalk, uncode}
+use Rattle.pair_laws.proofs.Pairs.{marked-below}
 use Rattle.least_walk.specs.declared.queue.Reached.{Reached}
 use Rattle.least_walk.specs.declared.queue.Ends.{Ends}
 use Rattle.least_walk.specs.Marks.{HasPair}
 use Rattle.least_walk.specs.Queues.{MarkedStep, step_count, place_of, places_of, HasDepths, IsWalking, IsSearch, IsEnded, IsArrival, IsNear, IsOldBut, IsBackward, SpellsBefore}
-use Rattle.least_walk.proofs.MarkedRows.{marked-below}
 
 -- the places of a longer queue
 places_of-push : (queue : List Reached) (x : Reached) → places_of (queue ++ x ∷ []) ≡ places_of queue ++ place_of x ∷ []

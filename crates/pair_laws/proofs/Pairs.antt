@@ -1,10 +1,12 @@
 -- Pairs of nodes by their numbers: how walks, and so the lengths for which a pair begins and ends together, go along `follow`.
-use Rattle.std.proofs.Common.{◌≡◌, ℕ, ◌+◌, ◌<◌, ◌≤◌, ◌↔◌, Some, None, sym, ap, ap₂, subst, subst₂, ◌∙◌, ⊎_elim, arith, mod-lt}
-use Rattle.std.specs.Prelude.{◌==◌, if◌then◌else◌}
+use Rattle.std.proofs.Common.{◌≡◌, ℕ, ◌+◌, ◌<◌, ◌≤◌, ◌↔◌, Some, None, sym, ap, ap₂, subst, subst₂, ◌∙◌, ⊎_elim, arith, mod-lt, ◌*◌, ◌%◌}
+use Rattle.std.specs.Prelude.{◌==◌, if◌then◌else◌, ◌||◌, not, nat_le}
 use Rattle.std.proofs.lemmas.Bool.{cases_eq, eq-eqb, ne_eqb, cond-true, cond-false}
+use Rattle.std.proofs.lemmas.Bool.Decides.{nat_tests}
 use Rattle.std.proofs.lemmas.Nat.{mul-add-lt, div_below, div-mul-add, mod-mul-add, div-add-mod'}
 use Rattle.word_image.specs.LocalRules.{LocalRule, IsRule, node_count}
 use Rattle.word_image.specs.Graphs.{next, label, follow, pair_of, first_of, second_of, pair_count}
+use Rattle.word_image.specs.MarkedPairs.{marked}
 use Rattle.word_image.specs.declared.side.Side.{Side}
 use Rattle.word_image.specs.declared.side.Side.TheVariants.{Right, Left}
 use Rattle.word_image.specs.Sides.{Together, PairGoes, LeadsOn}
@@ -68,6 +70,18 @@ follow-pair_of r u v a b h e =
 pub follow-below : {r : LocalRule} → IsRule r → (p a b q : ℕ) → follow r p a b ≡ Some q → q < pair_count r
 follow-below {r} rule p a b q e =
     subst (λ s. s < pair_count r) (follow-some r p a b q e).1 (pair_of-below r _ _ (next-below rule (first_of r p) a) (next-below rule (second_of r p) b))
+
+-- the mark adds at most once as many states as there are pairs
+pub mark-below : (p t a b : ℕ) → (if nat_le p t || not (a == b) then p else 0) ≤ p
+mark-below p t a b = grind (arith, nat_tests)
+
+-- a step of the marked graph leads to one of its states
+pub marked-below : {r : LocalRule} → IsRule r → (t a b q : ℕ) → marked r t a b ≡ Some q → q < 2 * pair_count r
+marked-below {r} rule t a b q e =
+    let u : ℕ = first_of r (t % pair_count r) in
+    let v : ℕ = second_of r (t % pair_count r) in
+    let step = some_if_equal (label r u a) (label r v b) _ q e in
+    omega (arith, step.1, pair_of-below r (next r u a) (next r v b) (next-below rule u a) (next-below rule v b), mark-below (pair_count r) t a b)
 
 -- a pair that leads on is a pair
 pub LeadsOn-from : (side : Side) {r : LocalRule} → IsRule r → (p q : ℕ) → LeadsOn side r p q → p < pair_count r

@@ -14,9 +14,10 @@ use Rattle.word_image.specs.MarkedPairs.{marked}
 use Rattle.word_image.specs.Rings.{IsTwins, IsLeastTwins, pairs_cmp}
 use Rattle.search_laws.specs.PairWalks.{IsLeastWalk}
 use Rattle.tail_laws.specs.Turns.{IsTurn, NoTurnBelow, IsFirstTurn}
+use Rattle.pair_laws.proofs.Pairs.{marked-below}
 use Rattle.search_laws.proofs.PairWalks.{length-IsLeastWalk}
 use Rattle.tail_laws.proofs.SplitWalks.{pair_count_pos}
-use Rattle.tail_laws.proofs.MarkedTurns.{marked-below, twins-turn, turn-twins}
+use Rattle.tail_laws.proofs.MarkedTurns.{twins-turn, turn-twins}
 
 -- pairs of words are in a total order
 pairs_cmp_total : IsTotalOrder pairs_cmp

@@ -12,12 +12,8 @@ use Rattle.pair_laws.proofs.Pairs.{pair_of-below, pair_of-first_of, first_of-bel
 use Rattle.tail_laws.specs.Turns.{IsTurn}
 use Rattle.tail_laws.proofs.PairLeads.{PairLeads}
 use Rattle.tail_laws.proofs.TwinWalks.{IsTwinWalk, IsTwins-walk}
-use Rattle.tail_laws.proofs.MarkedWalks.{MarkedLeads, HasOther, HasOther-zip, HasOther-different, follow-marked, IsMarkedWalk-leads, leads-marked}
-use Rattle.tail_laws.proofs.SplitWalks.{ArePairs-zip, mark-below, MarkedLeads-below, with_mark-marked}
-
--- each step of the marked graph ends at one of twice as many states as there are pairs
-pub marked-below : {r : LocalRule} → IsRule r → (t a b s : ℕ) → marked r t a b ≡ Some s → s < pair_count r + pair_count r
-marked-below {r} rule t a b s e = let step = follow-marked rule t a b s e in omega (arith, step.2, step.3, mark-below (pair_count r) t a b)
+use Rattle.tail_laws.proofs.MarkedWalks.{MarkedLeads, HasOther, HasOther-zip, HasOther-different, IsMarkedWalk-leads, leads-marked}
+use Rattle.tail_laws.proofs.SplitWalks.{ArePairs-zip, MarkedLeads-below, with_mark-marked}
 
 -- letter pairs below k are made of two words over k letters
 IsWord-zip : (k : ℕ) (x y : List ℕ) → length x ≡ length y → ArePairs k (zip x y) → IsWord k x × IsWord k y

@@ -1,9 +1,7 @@
 -- Normal right splits as two walks in the marked graph: the one spells the middles, the other the right periods.
-use Rattle.std.proofs.Common.{◌≡◌, ◌≢◌, ◌⊎◌, ℕ, ◌+◌, ◌-◌, ◌%◌, ◌<◌, ◌≤◌, List, [], ◌∷◌, length, map, if◌then◌else◌, ◌==◌, ◌||◌, not, inl, inr, refl, sym, ap, ◌∙◌, subst, ⊎_elim, arith, mul-pos, mod-eq_of_lt}
-use Rattle.std.specs.Prelude.{nat_le}
+use Rattle.std.proofs.Common.{◌≡◌, ◌≢◌, ◌⊎◌, ℕ, ◌+◌, ◌-◌, ◌%◌, ◌<◌, ◌≤◌, List, [], ◌∷◌, length, map, inl, inr, refl, sym, ap, ◌∙◌, subst, ⊎_elim, arith, mul-pos, mod-eq_of_lt}
 use Rattle.std.specs.List.{zip}
 use Rattle.std.proofs.Math.Nat.{add-mod_right, zero-mod, mod-mod}
-use Rattle.std.proofs.lemmas.Bool.Decides.{nat_tests}
 use Rattle.std.proofs.lemmas.List.{length-map}
 use Rattle.std.proofs.lemmas.Slice.Zip.{length-zip}
 use Rattle.std.proofs.lemmas.List.Elements.{All-nil, All-cons, All-head, All-tail, All-map}
@@ -11,6 +9,7 @@ use Rattle.word_image.specs.LocalRules.{LocalRule, IsRule, IsWord}
 use Rattle.word_image.specs.Graphs.{pair_count}
 use Rattle.word_image.specs.MarkedPairs.{marked}
 use Rattle.word_image.proofs.laws.Graphs.{node_count_pos}
+use Rattle.pair_laws.proofs.Pairs.{mark-below}
 use Rattle.search_laws.specs.PairWalks.{ArePairs}
 use Rattle.tail_config.specs.Tails.{TailConfig, IsTail}
 use Rattle.tail_config.specs.Splits.{IsNormalRightSplit}
@@ -43,11 +42,7 @@ HasOther-some x y e = ⊎_elim (λ same. inl same) (λ d. inr (HasOther-zip x y 
 pub pair_count_pos : {r : LocalRule} → IsRule r → 0 < pair_count r
 pair_count_pos rule = mul-pos (node_count_pos rule) (node_count_pos rule)
 
--- a step of the marked graph leads to one of its states
-pub mark-below : (p t a b : ℕ) → (if nat_le p t || not (a == b) then p else 0) ≤ p
-mark-below p t a b = grind (arith, nat_tests)
-
--- and so does a walk from one
+-- a walk from a state of the marked graph leads to one
 pub MarkedLeads-below : {r : LocalRule} → IsRule r → (abs : List (ℕ × ℕ)) (t s : ℕ) → t < pair_count r + pair_count r → MarkedLeads r t abs s → s < pair_count r + pair_count r
 MarkedLeads-below {r} rule [] t s below h = omega (arith, h)
 MarkedLeads-below {r} rule (ab ∷ rest) t s below h =

@@ -23,6 +23,7 @@ use Rattle.cert_check.specs.Sets.{StepIsKept, LeadsTo}
 use Rattle.cert_check.specs.Sums.{Flows, IsLossy}
 use Rattle.cert_check.specs.Windows.{IsWindowPair, IsAheadPair}
 use Rattle.cert_check.proofs.laws.ClaimConditions.{AllFall, AreApart, AreAlike}
+use Rattle.cert_check.proofs.laws.Steps.{LeadsTo-push}
 use Rattle.cert_check.proofs.laws.WindowFlows.{Flows-value}
 
 -- the list has the last nodes of each word, and no other set
