@@ -5,11 +5,18 @@ use Rattle.std.proofs.lemmas.List.{length-map}
 use Rattle.word_image.specs.LocalRules.{LocalRule, IsRule}
 use Rattle.word_image.specs.Graphs.{pair_count}
 use Rattle.word_image.specs.Rings.{IsLeastTwins}
-use Rattle.search_laws.specs.PairWalks.{uncode, first_word, second_word}
+use Rattle.search_laws.specs.PairWalks.{uncode}
 use Rattle.tail_laws.specs.Turns.{IsFirstTurn}
 use Rattle.tail_laws.proofs.LeastTwins.{IsLeastTwins-first, length-IsFirstTurn}
 
--- the letter pairs of the two words of some steps are those of the steps
+-- the two words of some steps
+abbrev pub first_word : List ℕ → List ℕ
+first_word steps = map (λ step. step / 16) steps
+
+abbrev pub second_word : List ℕ → List ℕ
+second_word steps = map (λ step. step % 16) steps
+
+-- their letter pairs are those of the steps
 zip-words : (steps : List ℕ) → zip (first_word steps) (second_word steps) ≡ map (uncode 16) steps
 zip-words [] = refl
 zip-words (step ∷ steps) = ap (λ w. uncode 16 step ∷ w) (zip-words steps)

@@ -1,5 +1,5 @@
 -- Walks by pairs of letters, and the first of them.
-use Rattle.std.specs.Prelude.{◌≡◌, ◌≢◌, ℕ, ◌/◌, ◌%◌, ◌<◌, List, length, Option, Some, map}
+use Rattle.std.specs.Prelude.{◌≡◌, ◌≢◌, ℕ, ◌/◌, ◌%◌, ◌<◌, List, length, Option, Some}
 use Rattle.std.specs.List.{All}
 use Rattle.std.specs.declared.cmp.Ordering.TheVariants.{Greater}
 use Rattle.word_image.specs.Rings.{pairs_cmp}
@@ -27,11 +27,3 @@ pub record IsLeastWalk (follow : ℕ → ℕ → ℕ → Option ℕ) (k start t 
 -- the letter pair of a number
 abbrev pub uncode : ℕ → ℕ → ℕ × ℕ
 uncode n c = (c / n, c % n)
-
--- the first word of some steps, each of them the letter pair (a, b) as 16 a + b
-abbrev pub first_word : List ℕ → List ℕ
-first_word steps = map (λ step. step / 16) steps
-
--- and the second
-abbrev pub second_word : List ℕ → List ℕ
-second_word steps = map (λ step. step % 16) steps

@@ -6,8 +6,7 @@ use Rattle.tail_laws.proofs.TwinTails.{no_twins}
 use Rattle.tail_laws.proofs.NoTwins.{IsInjective-no_twins}
 use Rattle.tail_laws.specs.Turns.{IsFirstTurn, NoTurnBelow}
 use Rattle.tail_laws.proofs.LeastTwins.{no_twins-none}
-use Rattle.search_laws.specs.PairWalks.{first_word, second_word}
-use Rattle.inverse_window.proofs.SpelledTwins.{IsLeastTwins-spelled, length-spelled}
+use Rattle.inverse_window.proofs.SpelledTwins.{first_word, second_word, IsLeastTwins-spelled, length-spelled}
 use Rattle.inverse_window.proofs.twin_pairs.twins.Goals as goal
 
 pub returns-in_ok-x-in-Some-clause-least : goal.returns-in_ok-x-in-Some-clause-least
