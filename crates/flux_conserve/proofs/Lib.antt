@@ -1,4 +1,3 @@
 pub mod Counter
 pub mod LeastRings
 pub mod FluxRows
-pub mod OwnWeights

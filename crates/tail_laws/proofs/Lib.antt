@@ -22,4 +22,5 @@ pub mod SplitWalks
 pub mod LeastSplits
 pub mod MarkedTurns
 pub mod ShortWalks
+pub mod FirstLists
 pub mod LeastTwins

@@ -5,7 +5,7 @@ use Rattle.word_image.specs.LocalRules.{LocalRule, IsRule, word_of}
 use Rattle.word_image.specs.Words.{IsSurjective, IsOrphan}
 use Rattle.word_image.specs.Rings.{IsTwins, IsFlux, IsLossyRing}
 use Rattle.word_image.specs.Windows.{IsDetermined, IsRightAhead}
-use Rattle.word_image.specs.Graphs.{IsStep, full_set, pair_count}
+use Rattle.word_image.specs.Graphs.{full_set, pair_count}
 use Rattle.word_image.specs.declared.side.Side.{Side}
 use Rattle.word_image.specs.declared.side.Side.TheVariants.{Right, Left}
 use Rattle.word_image.specs.Sides.{IsFirstOf, seen_from}
@@ -21,11 +21,12 @@ use Rattle.cert_format.specs.declared.cert_version.CertVersion.TheVariants.{One}
 use Rattle.cert_check.specs.Breaches.{EachBelow}
 use Rattle.cert_check.specs.Claims.{claim}
 use Rattle.cert_check.specs.Sets.{StepIsKept, LeadsTo}
-use Rattle.cert_check.specs.Sets.LeadsTo.{Stays, Steps}
+use Rattle.cert_check.specs.Sets.LeadsTo.{Stays}
 use Rattle.cert_check.specs.Sums.{Flows, IsLossy}
 use Rattle.cert_check.specs.Windows.{IsWindowPair, IsAheadPair}
 use Rattle.cert_check.proofs.laws.ClaimConditions.{AllFall, AreApart, AreAlike}
 use Rattle.cert_check.proofs.laws.WindowFlows.{Flows-value}
+use Rattle.cert_check.proofs.laws.Steps.{LeadsTo-push}
 
 -- the list has the last nodes of each word, and no other set
 pub record AreLastSets (r : LocalRule) (sets : List ℕ) : Type 0 where
@@ -48,11 +49,6 @@ StepIsKept-last_sets {r} {sets} rule last i l a letter =
     let found = last.each (slice_index sets i) (Contains-get_or sets i 0 l) in
     let step = IsStep-some r (slice_index sets i) a in
     (step.0, step.1, last.all (found.0 ++ a ∷ []) step.0 (IsLastSet-step {set = slice_index sets i} {after = step.0} rule found.1 letter step.1))
-
--- one more step at the end
-pub LeadsTo-push : {r : LocalRule} {set middle end a : ℕ} {w : List ℕ} → LeadsTo r set w middle → IsStep r middle a end → LeadsTo r set (w ++ a ∷ []) end
-LeadsTo-push {end} {a} (Stays set) step = Steps set a end [] end step (Stays end)
-LeadsTo-push {end} {a} (Steps set b next w middle first leads) step = Steps set b next (w ++ a ∷ []) end first (LeadsTo-push leads step)
 
 -- steps one behind another lead on letter by letter
 pub LeadsTo-leads : {r : LocalRule} {w : List ℕ} {set : ℕ} → LeadsToSet r w set → LeadsTo r (full_set r) w set

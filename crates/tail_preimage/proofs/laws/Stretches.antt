@@ -3,11 +3,11 @@ use Rattle.std.proofs.Common.{◌≡◌, ℕ, zero, suc, ◌+◌, ◌-◌, ◌*�
 use Rattle.std.specs.List.{repeat}
 use Rattle.std.proofs.Math.Nat.{suc-mul, zero-mul}
 use Rattle.std.proofs.lemmas.Int.{ints}
-use Rattle.std.proofs.lemmas.List.{take-append-drop, append-nil}
+use Rattle.std.proofs.lemmas.List.{append-nil}
 use Rattle.std.proofs.lemmas.List.Elements.{All-nil, All-append}
 use Rattle.word_image.specs.LocalRules.{IsWord}
 use Rattle.tail_config.specs.Tails.{TailConfig, IsTail, cell, cells}
-use Rattle.tail_config.proofs.laws.Cells.{cells-same, take-cells, drop-cells, cells-middle, cells-left, cells-right}
+use Rattle.tail_config.proofs.laws.Cells.{cells-same, cells-middle, cells-left, cells-right, cells-append}
 use Rattle.tail_config.proofs.laws.Periods.{RepeatsLeft-times}
 use Rattle.tail_config.proofs.laws.Repeats.{cell-left_period, cell-right_period}
 use Rattle.tail_preimage.specs.Preimages.{stretch}
@@ -65,11 +65,6 @@ pub IsWord-stretch : {k : ℕ} {t : TailConfig} → IsTail k t → (b a : ℕ) �
 IsWord-stretch {k} {t} h b a =
     All-append (λ c. c < k) (repeat b t.left ++ t.middle) (repeat a t.right)
     (All-append (λ c. c < k) (repeat b t.left) t.middle (IsWord-repeat t.left h.left_word b) h.middle_word) (IsWord-repeat t.right h.right_word a)
-
--- a run is two runs
-pub cells-append : (t : TailConfig) (i j : ℤ) (m n : ℕ) → i +ℤ pos m ≡ j → cells t i (m + n) ≡ cells t i m ++ cells t j n
-cells-append t i j m n e =
-    sym (take-append-drop m (cells t i (m + n))) ∙ ap₂ (λ (x y : List ℕ). x ++ y) (take-cells t i (m + n) m (omega arith)) (drop-cells t i j m n e)
 
 -- left of place 0 stand copies of the left period
 pub cells-lefts : (t : TailConfig) (b : ℕ) → cells t (neg_ℤ (pos (b * length t.left))) (b * length t.left) ≡ repeat b t.left
