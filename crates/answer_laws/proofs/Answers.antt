@@ -35,7 +35,8 @@ use Rattle.answer_laws.proofs.Lines.{IsSameLine-unique, IsErasedLine-unique, IsP
 use Rattle.answer_laws.proofs.Rules.{IsRuleLine-unique}
 use Rattle.answer_laws.proofs.Tables.{IsWidened-unique, IsTrimmed-unique, IsComposed-unique, IsRecoloured-unique}
 use Rattle.answer_laws.proofs.Inverses.{IsInverse-unique}
-use Rattle.answer_laws.proofs.Causes.{IsOffset-unique, IsUnfit-unique}
+use Rattle.ca_cli.proofs.laws.Causes.{IsOffset-unique}
+use Rattle.answer_laws.proofs.Causes.{IsUnfit-unique}
 
 -- a command has one first operand with a fault, and that one first fault
 IsOperandFault-unique : {c : Command} {i j : ℕ} {f g : TextFault} → IsOperandFault c i f → IsOperandFault c j g → operand_fault_line i f ≡ operand_fault_line j g

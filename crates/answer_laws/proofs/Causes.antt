@@ -1,13 +1,11 @@
 -- That nothing can be made as a command asks has one cause.
-use Rattle.std.proofs.Common.{◌≡◌, ℕ, List, refl, sym, ap, ap₂, ◌∙◌, subst, arith}
-use Rattle.std.specs.Prelude.{Option, Some, ℤ}
+use Rattle.std.proofs.Common.{◌≡◌, ℕ, List, refl, sym, ap, ap₂, ◌∙◌, subst}
+use Rattle.std.specs.Prelude.{Option, Some}
 use Rattle.std.proofs.lemmas.Option.{same_Some}
 use Rattle.word_image.specs.LocalRules.{LocalRule, IsRule}
 use Rattle.tail_config.specs.TailFaults.{tail_fault}
 use Rattle.tail_config.proofs.laws.TailTexts.{HasParts-unique}
 use Rattle.tail_laws.proofs.Injective.{IsInjective-determined}
-use Rattle.rule_text.specs.RuleTexts.{IsOffset}
-use Rattle.rule_text.specs.RuleTexts.IsOffset.{Plain, Minus}
 use Rattle.rule_text.proofs.laws.AcceptedRules.{IsRule-text}
 use Rattle.rule_text.proofs.laws.Texts.{IsRuleText-unique}
 use Rattle.rule_algebra.specs.AlgebraFaults.{shift_fault}
@@ -21,14 +19,8 @@ use Rattle.ca_cli.specs.Outputs.IsCause.{Twins, Wide, Colours, Lift, Unlift}
 use Rattle.ca_cli.specs.Outputs.IsCauseWith.{Shift, Widen, Permute, Tail, Decide, Certify, Brief}
 use Rattle.ca_cli.specs.Outputs.IsCauseOfTwo.{Compose, States}
 use Rattle.ca_cli.specs.RightAnswers.{IsUnfit}
+use Rattle.ca_cli.proofs.laws.Causes.{IsOffset-unique}
 use Rattle.answer_laws.proofs.Least.{IsLeastTwins-unique, IsLeastDetermined-unique}
-
--- a text names one offset
-pub IsOffset-unique : {text : List ℕ} {o p : ℤ} → IsOffset text o → IsOffset text p → o ≡ p
-IsOffset-unique (Plain digits plain) (Plain _ also) = refl
-IsOffset-unique (Plain _ plain) (Minus digits minus) = absurd (omega (arith, (plain.digits 0 0 (omega arith)).0))
-IsOffset-unique (Minus digits minus) (Plain _ plain) = absurd (omega (arith, (plain.digits 0 0 (omega arith)).0))
-IsOffset-unique (Minus digits minus) (Minus _ also) = refl
 
 -- of two faults of which both are found both are one
 one_fault : {F : Type 0} {fault other : Option F} (f g : F) → fault ≡ other → fault ≡ Some f → other ≡ Some g → f ≡ g

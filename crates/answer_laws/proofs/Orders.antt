@@ -1,39 +1,25 @@
 -- The orders of words, of pairs of words and of splits: of two that come no later than each other both are one.
-use Rattle.std.proofs.Common.{◌≡◌, ◌≢◌, ℕ, ◌+◌, List, length, map, sym, ap, ◌∙◌}
+use Rattle.std.proofs.Common.{◌≡◌, ◌≢◌, ℕ, List, length, map, sym, ap, ◌∙◌}
 use Rattle.std.specs.List.{zip}
 use Rattle.std.specs.Ordering.{nat_cmp, ordering_reverse}
 use Rattle.std.specs.Cmp.{IsTotalOrder}
 use Rattle.std.specs.Cmp.Lexicographic.{slice_cmp}
 use Rattle.std.specs.FinMap.{slice_cmp-IsAntisymmetric}
 use Rattle.std.specs.declared.cmp.Ordering.TheVariants.{Less, Equal, Greater}
-use Rattle.std.proofs.lemmas.Cmp.{on_total, then_total, lists_total, nat_cmp_total, nat_list_cmp_total}
+use Rattle.std.proofs.lemmas.Cmp.{on_total, then_total, nat_cmp_total, nat_list_cmp_total}
 use Rattle.std.proofs.lemmas.Map.Lookups.{exact_unsigned, exact_pairs}
 use Rattle.std.proofs.lemmas.Slice.Zip.{firsts-zip, seconds-zip}
+use Rattle.tail_laws.proofs.LeastSplits.{splits_cmp_total}
 use Rattle.word_image.specs.Rings.{pair_cmp, pairs_cmp}
 use Rattle.word_image.specs.Words.{word_cmp}
+use Rattle.word_image.proofs.laws.Comparisons.{pairs_cmp_total}
 use Rattle.tail_config.specs.Tails.{TailConfig}
 use Rattle.tail_config.specs.Splits.{splits_cmp}
 use Rattle.tail_preimage.proofs.laws.Orders.{then_equal, slice_cmp-equal, tied}
 
--- letter pairs are in a total order
-pair_cmp_total : IsTotalOrder pair_cmp
-pair_cmp_total = then_total (on_total (λ (p : ℕ × ℕ). p.0) nat_cmp_total) (on_total (λ (p : ℕ × ℕ). p.1) nat_cmp_total)
-
--- so are lists of them
-pairs_cmp_total : IsTotalOrder pairs_cmp
-pairs_cmp_total = then_total (on_total (λ (w : List (ℕ × ℕ)). length w) nat_cmp_total) (lists_total pair_cmp_total)
-
--- and words
+-- words are in a total order
 pub word_cmp_total : IsTotalOrder word_cmp
 word_cmp_total = then_total (on_total (λ (w : List ℕ). length w) nat_cmp_total) nat_list_cmp_total
-
--- and splits
-splits_cmp_total : IsTotalOrder splits_cmp
-splits_cmp_total =
-    then_total (on_total (λ (p : TailConfig × TailConfig). length (p.0).middle + length (p.0).right) nat_cmp_total)
-    (then_total (on_total (λ (p : TailConfig × TailConfig). length (p.0).middle) nat_cmp_total)
-    (then_total (on_total (λ (p : TailConfig × TailConfig). zip (p.0).middle (p.1).middle) (lists_total pair_cmp_total))
-    (on_total (λ (p : TailConfig × TailConfig). zip (p.0).right (p.1).right) (lists_total pair_cmp_total))))
 
 -- lists of letter pairs that compare equal are equal
 letter_pairs-equal : (v w : List (ℕ × ℕ)) → slice_cmp pair_cmp v w ≡ Equal → v ≡ w

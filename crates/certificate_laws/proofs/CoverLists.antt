@@ -3,7 +3,7 @@ use Rattle.std.proofs.Common.{◌≡◌, ◌≢◌, ℕ, zero, suc, ◌+◌, ◌
 use Rattle.std.specs.Prelude.{◌==◌, ◌&&◌, not}
 use Rattle.std.specs.List.{filter, list_any}
 use Rattle.std.specs.Int.Bits.{and_self}
-use Rattle.std.proofs.lemmas.Bool.{cases_eq, ne_eqb, eqb-true, eqb-false, false≢true}
+use Rattle.std.proofs.lemmas.Bool.{cases_eq, ne_eqb, eqb-true, eqb-false, and_parts, not-true}
 use Rattle.std.proofs.lemmas.Nat.{and_le_r}
 use Rattle.std.proofs.lemmas.List.Elements.{All-filter, All-contains_itself}
 use Rattle.std.proofs.lemmas.List.Folds.{Any-from_list_any}
@@ -43,16 +43,6 @@ pub record HasCover (full : ℕ) (sets : List ℕ) (set : ℕ) : Type 0 where
   pub listed : Contains (covers_of full sets) cover
   pub part : bit_and cover set ≡ cover
 
--- both sides of a true `&&`
-both : (a b : Bool) → (a && b) ≡ true → (a ≡ true) × (b ≡ true)
-both true b h = (refl, h)
-both false b h = absurd (false≢true h)
-
--- a test that doesn't pass, denied
-denied : (a : Bool) → not a ≡ true → a ≡ false
-denied true h = absurd (false≢true h)
-denied false h = refl
-
 -- an element that passes
 found : (p : ℕ → Bool) (sets : List ℕ) → list_any p sets ≡ true → (t : ℕ) × Contains sets t × (p t ≡ true)
 found p sets any = let h = Any-from_list_any p sets any in (h.1, (h.0, h.2, h.3), h.4)
@@ -66,9 +56,9 @@ cover_below full sets (suc n) set l there =
     (λ other. elim (list_any (λ t. not (t == set) && is_subset t set) sets) as (λ b. list_any (λ t. not (t == set) && is_subset t set) sets ≡ b → HasCover full sets set) [
       | true ↦ (λ any.
           let h = found (λ t. not (t == set) && is_subset t set) sets any in
-          let parts = both (not (h.0 == set)) (is_subset h.0 set) h.2 in
+          let parts = and_parts (not (h.0 == set)) (is_subset h.0 set) h.2 in
           let part : bit_and h.0 set ≡ h.0 = eqb-true (bit_and h.0 set) h.0 parts.1 in
-          let apart : h.0 ≢ set = eqb-false h.0 set (denied (h.0 == set) parts.0) in
+          let apart : h.0 ≢ set = eqb-false h.0 set (not-true (h.0 == set) parts.0) in
           let less : h.0 < set = omega (arith, and_le_r h.0 set) in
           let before = cover_below full sets n h.0 (omega arith) h.1 in
           record { cover = before.cover; listed = before.listed; part = part-of_part before.cover h.0 set before.part part })

@@ -1,25 +1,21 @@
 -- The least normal right split is short: its middle and right period have together at most as many letters as there are pairs, and m more.
-use Rattle.std.proofs.Common.{◌≡◌, ℕ, ◌+◌, ◌-◌, ◌<◌, ◌≤◌, List, ◌∷◌, length, sym, subst, ◌∙◌, ⊎_elim, arith, length-append}
-use Rattle.std.specs.List.{zip}
+use Rattle.std.proofs.Common.{◌≡◌, ℕ, ◌+◌, ◌-◌, ◌<◌, ◌≤◌, List, ◌∷◌, length, subst, ⊎_elim, arith, length-append}
 use Rattle.std.specs.declared.cmp.Ordering.TheVariants.{Greater}
 use Rattle.std.proofs.lemmas.Bool.{cases_lt}
 use Rattle.word_image.specs.LocalRules.{LocalRule, IsRule, word_of}
 use Rattle.word_image.specs.Windows.{IsRightAhead}
-use Rattle.word_image.specs.Rings.{IsRing}
-use Rattle.word_image.specs.Graphs.{pair_of, pair_count}
+use Rattle.word_image.specs.Graphs.{pair_count}
 use Rattle.word_image.specs.FirstPairs.{IsFirstOfRight}
 use Rattle.word_image.proofs.laws.Values.{length-word_of}
 use Rattle.word_image.specs.declared.side.Side.TheVariants.{Right}
 use Rattle.word_image.specs.Sides.{PairGoes}
-use Rattle.pair_laws.proofs.Ranks.{BeginTogether-walk}
 use Rattle.pair_laws.proofs.Pairs.{pair_of-first_of}
 use Rattle.pair_laws.proofs.Aheads.{IsRightAhead-pairs}
-use Rattle.pair_laws.proofs.Endless.{Loops-long, Together-endless}
+use Rattle.pair_laws.proofs.Endless.{Together-endless}
 use Rattle.tail_config.specs.Tails.{TailConfig}
 use Rattle.tail_config.specs.Splits.{IsNormalRightSplit, IsLeastRightSplit, splits_cmp}
-use Rattle.tail_laws.proofs.PairLeads.{PairLeads}
 use Rattle.tail_laws.proofs.FirstPairs.{LeadsToLoop, split_of, normal_split-loop}
-use Rattle.tail_laws.proofs.EndlessPairs.{IsLetterWalk-walk}
+use Rattle.tail_laws.proofs.EndlessPairs.{LeadsToLoop-begin}
 use Rattle.tail_laws.proofs.Closing.{IsRightClosing-ahead}
 use Rattle.tail_laws.proofs.Verdicts.{no_right_closing}
 use Rattle.certificate_laws.proofs.LongerWords.{later_by_number}
@@ -38,31 +34,12 @@ length-split_of r node a walk turn = omega (arith, length-append (word_of r.stat
 -- a first pair that begins together for as long as there are pairs gives one
 HasShortSplit-begins : {r : LocalRule} {p : ℕ} → IsRule r → IsFirstOfRight r p → PairGoes Right r p (pair_count r) → HasShortSplit r
 HasShortSplit-begins {r} {p} rule f begins =
-    let loops = Loops-long rule (omega arith) (BeginTogether-walk begins).2 in
-    let before = IsLetterWalk-walk rule loops.before in
-    let loop = IsLetterWalk-walk rule loops.loop in
-    let first_turn : IsRing r.states loop.a = record { word = loop.a_word; some = omega (arith, loop.a_long) } in
-    let second_turn : IsRing r.states loop.b = record { word = loop.b_word; some = omega (arith, loop.b_long) } in
-    let way : LeadsToLoop r p = record {
-      first = before.a;
-      second = before.b;
-      first_word = before.a_word;
-      second_word = before.b_word;
-      one_length = before.a_long ∙ sym before.b_long;
-      first_turn = loop.a;
-      second_turn = loop.b;
-      first_ring = first_turn;
-      second_ring = second_turn;
-      one_turn = loop.a_long ∙ sym loop.b_long;
-      pair = pair_of r loops.s loops.t;
-      reach = subst (λ q. PairLeads r q (zip before.a before.b) (pair_of r loops.s loops.t)) (pair_of-first_of r p) before.leads;
-      loop = loop.leads;
-    } in
+    let way : LeadsToLoop r p = subst (LeadsToLoop r) (pair_of-first_of r p) (LeadsToLoop-begin rule begins) in
     record {
-      x = split_of r f.node f.a before.a loop.a;
-      y = split_of r f.node f.b before.b loop.b;
+      x = split_of r f.node f.a way.first way.first_turn;
+      y = split_of r f.node f.b way.second way.second_turn;
       split = normal_split-loop rule f way;
-      short = omega (arith, length-split_of r f.node f.a before.a loop.a, before.a_long, loop.a_long, loops.within);
+      short = omega (arith, length-split_of r f.node f.a way.first way.first_turn, way.within);
     }
 
 -- a split with more letters of middle and period together comes later

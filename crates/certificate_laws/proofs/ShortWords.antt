@@ -11,20 +11,21 @@ use Rattle.word_image.specs.Rings.{IsTwins, IsLeastTwins, IsLeastLossyRing, ring
 use Rattle.word_image.specs.Graphs.{pair_count}
 use Rattle.ring_laws.proofs.Fluxes.{IsConserving-flux}
 use Rattle.ring_laws.proofs.LossyRings.{ShortRingsKeepSum, IsFlux-short_rings}
-use Rattle.tail_laws.specs.Turns.{IsTurn, IsFirstTurn}
+use Rattle.tail_laws.specs.FirstLists.{IsFirstBelow}
+use Rattle.tail_laws.specs.Turns.{IsTurn}
 use Rattle.tail_laws.proofs.SplitWalks.{zip-sides}
 use Rattle.tail_laws.proofs.MarkedTurns.{twins-turn, turn-twins}
 use Rattle.tail_laws.proofs.LeastTwins.{length-IsFirstTurn}
 use Rattle.certificate_laws.proofs.LongerWords.{word_cmp-longer}
 
 -- the least twins are the first of all walks from a pair to itself with the mark
-IsFirstTurn-twins : {r : LocalRule} {x y : List ℕ} → IsRule r → IsLeastTwins r x y → IsFirstTurn r (pair_count r) (zip x y)
+IsFirstTurn-twins : {r : LocalRule} {x y : List ℕ} → IsRule r → IsLeastTwins r x y → IsFirstBelow (IsTurn r) (pair_count r) (zip x y)
 IsFirstTurn-twins {r} {x} {y} rule least =
     let turn = twins-turn rule least.twins in
     record {
-      pair = turn.0;
+      number = turn.0;
       below = turn.1;
-      turn = turn.2;
+      has = turn.2;
       least = λ p v below other.
           let u : List ℕ = map (λ (c : ℕ × ℕ). c.0) v in
           let w : List ℕ = map (λ (c : ℕ × ℕ). c.1) v in

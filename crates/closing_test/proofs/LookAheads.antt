@@ -27,10 +27,6 @@ closing_ahead Left rule = IsLeftClosing-window rule
 
 -- The least number for some pairs
 
--- without a pair it is 1
-pub IsLeastFor-none : (Among : ℕ → Type 0) (Goes : ℕ → ℕ → Type 0) → ((p : ℕ) → ¬ Among p) → IsLeastFor Among Goes 1
-IsLeastFor-none Among Goes none = record { some = omega arith; apart = λ p here. absurd (none p here); needed = λ j e. absurd (omega arith) }
-
 -- of one pair it is 2 more than its rank
 pub IsLeastFor-rank : (Goes : ℕ → ℕ → Type 0) (p n : ℕ) → IsRank (Goes p) n → IsLeastFor (λ q. q ≡ p) Goes (n + 2)
 IsLeastFor-rank Goes p n rank =
@@ -86,10 +82,6 @@ below_next Of i p = (
   λ here. ⊎_elim (λ before. (before.0, omega (arith, before.1), before.2)) (λ last. (i, omega arith, last)) here,
   λ (j, l, here). ⊎_elim (λ same. inr (subst (λ n. Of n p) same here)) (λ other. inl (j, omega arith, here)) (cases_eq j i),
 )
-
--- so far no number has been passed
-pub IsLeastFor-start : (Of : ℕ → ℕ → Type 0) (Goes : ℕ → ℕ → Type 0) → IsLeastFor (Below Of 0) Goes 1
-IsLeastFor-start Of Goes = IsLeastFor-none (Below Of 0) Goes (λ p (j, l, here). omega arith)
 
 -- one number more
 pub IsLeastFor-next : (side : Side) {r : LocalRule} {Of : ℕ → ℕ → Type 0} {i m n k : ℕ} → IsRule r → IsLeastFor (Below Of i) (PairGoes side r) m → IsLeastFor (Of i) (PairGoes side r) n

@@ -7,7 +7,6 @@ use Rattle.word_image.specs.Graphs.{pair_count}
 use Rattle.search_laws.specs.PairWalks.{uncode}
 use Rattle.tail_config.specs.Tails.{TailConfig, IsTail, IsRightClosing}
 use Rattle.tail_config.specs.Splits.{IsLeastRightSplit}
-use Rattle.tail_config.specs.TailTexts.{IsShortTail}
 use Rattle.tail_config.specs.TailValues.{TailOver}
 use Rattle.tail_laws.specs.SplitWalks.{tail_of}
 use Rattle.tail_laws.proofs.NormalSplits.{IsRightClosing-no_normal}
@@ -25,16 +24,7 @@ split_by-tails w =
     λ side. ap₂ (λ (m p : List ℕ). record { left = 0 ∷ []; middle = m; right = p }) (map-map side (uncode 16) w.middle.items) (map-map side (uncode 16) w.period.items) in
     ap₂ (λ (x y : TailConfig). (x, y)) (tail (λ p. p.0)) (tail (λ p. p.1))
 
--- their parts have at most 512 letters, so they can be Tails
-pub IsShortTail-walks : {k : ℕ} (w : Walks) (letter : Letter) → IsTail k (tail_by letter w) → IsShortTail k (tail_by letter w)
-IsShortTail-walks {k} w letter h = record {
-  tail = h;
-  left = omega arith;
-  middle = omega (arith, w.short_middle, length-map w.middle.items (letter_of letter));
-  right = omega (arith, w.short_period, length-map w.period.items (letter_of letter));
-}
-
--- and are short ones
+-- they are short
 IsShortOver-walks : (r : LocalRule) (w : Walks) (letter : Letter) → IsShortOver r (record { states = r.states; config = tail_by letter w })
 IsShortOver-walks r w letter = record {
   states = refl;

@@ -1,6 +1,5 @@
 pub mod LetterPairs
 pub mod ErasureWalks
-pub mod FirstLists
 pub mod LeastErasures
 pub mod FoundErasures
 pub mod ReachedSearches

@@ -1,4 +1,3 @@
 pub mod Erasures
-pub mod FirstLists
 pub mod ReachedSearches
 pub mod ReachedRows

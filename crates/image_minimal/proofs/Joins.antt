@@ -73,13 +73,6 @@ pub rise_to_one : {old middle new : List ℕ} {x y root : ℕ} → IsHalved old 
     → IsHalved old new × ((root : ℕ) × Rises old x root × Rises old y root)
 rise_to_one {old} {middle} {new} {x} {y} {root} first second of_x of_y = (IsHalved-then first second, (root, of_x, Rises-halved first of_y))
 
--- a root that leads to a lesser number
-pub IsFalling-set : (parents : List ℕ) → IsFalling parents → (high low : ℕ) → high < length parents → low < high → IsFalling (set parents high low)
-IsFalling-set parents falling high low inside lower x below = ⊎_elim
-    (λ same. let value : slice_index (set parents high low) x ≡ low = ap (slice_index (set parents high low)) same ∙ get_or-set_same parents high low 0 inside in omega arith)
-    (λ other. let before = falling x (omega (arith, length-set parents high low)) in omega (arith, get_or-set_other parents high x low 0 other))
-    (cases_eq x high)
-
 -- of two different roots the greater one is led to the lesser one
 pub IsUnited-roots : {old middle new : List ℕ} {x y a b : ℕ} → IsHalved old middle → IsHalved middle new → Rises old x a → Rises middle y b
     → slice_index middle a ≡ a → slice_index new b ≡ b → a < length old → b < length old → (high low : ℕ) → ((high ≡ b) × (low ≡ a)) ⊎ ((high ≡ a) × (low ≡ b)) → low < high

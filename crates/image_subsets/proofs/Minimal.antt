@@ -3,7 +3,7 @@ use Rattle.std.proofs.Common.{◌≡◌, ◌≢◌, ℕ, ◌^◌, ◌<◌, ◌�
 use Rattle.std.specs.Prelude.{◌==◌, ◌&&◌, not}
 use Rattle.std.specs.List.{list_any}
 use Rattle.std.specs.Int.{bit_at}
-use Rattle.std.proofs.lemmas.Bool.{cases_eq, cases_lt, eqb-true, eqb-false, ne_eqb, eq-eqb, false≢true}
+use Rattle.std.proofs.lemmas.Bool.{cases_eq, cases_lt, eqb-true, eqb-false, ne_eqb, eq-eqb, false≢true, and_parts, not-true}
 use Rattle.std.proofs.lemmas.List.Folds.{Any-from_list_any, list_any_at}
 use Rattle.std.proofs.lemmas.List.{get_or_default}
 use Rattle.std.proofs.lemmas.Nat.{and_le_l}
@@ -27,15 +27,6 @@ part-is_subset s x same i some =
     let both : min (bit_at s i) (bit_at x i) ≡ bit_at s i = sym (bit_at_and s x i) ∙ ap (λ n. bit_at n i) same in
     (bit_at-IsBitSet x i).1 (omega (arith, bit_at-lt x i))
 
--- both tests of a part that differs
-both_tests : (a b : Bool) → (a && b) ≡ true → (a ≡ true) × (b ≡ true)
-both_tests true b h = (refl, h)
-both_tests false b h = absurd (false≢true h)
-
-not_true : (a : Bool) → not a ≡ true → a ≡ false
-not_true true h = absurd (false≢true h)
-not_true false h = refl
-
 -- a set is minimal exactly where the test says so
 pub is_minimal-IsMinimal : (sets : List ℕ) → ((j : ℕ) → j < length sets → slice_index sets j < 2 ^ 16) → AllPairs (λ s t. s ≢ t) sets → (i : ℕ) → i < length sets
     → IsMinimal sets i ↔ IsTrue (is_minimal sets (slice_index sets i))
@@ -46,8 +37,8 @@ is_minimal-IsMinimal sets small apart i inside =
         | true ↦ (λ any.
             let (j, t, below, found, passes) = Any-from_list_any test sets any in
             let at : slice_index sets j ≡ t = get_or_default sets j 0 t below ∙ found in
-            let tests = both_tests (not (t == x)) (is_subset t x) passes in
-            let other : t ≢ x = eqb-false t x (not_true (t == x) tests.0) in
+            let tests = and_parts (not (t == x)) (is_subset t x) passes in
+            let other : t ≢ x = eqb-false t x (not-true (t == x) tests.0) in
             absurd (least j below (λ same. other (sym at ∙ ap (slice_index sets) same)) (subst (λ s. IsPart s x) (sym at) (part-is_subset t x (eqb-true (bit_and t x) t tests.1)))))
         | false ↦ (λ none. refl)
       ] refl),

@@ -1,28 +1,18 @@
 -- Steps of sets, part by part, and the tables that are made of them.
-use Rattle.std.proofs.Common.{◌≡◌, ℕ, ◌+◌, ◌-◌, ◌*◌, ◌/◌, ◌%◌, ◌^◌, ◌<◌, List, [], ◌∷◌, ◌++◌, length, map, get_or, slice_index, replicate, min, inl, inr, bit_or, refl, sym, ap, ap₂, ◌∙◌, subst, subst₂, arith, ⊎_elim}
+use Rattle.std.proofs.Common.{◌≡◌, ℕ, ◌+◌, ◌-◌, ◌*◌, ◌/◌, ◌%◌, ◌^◌, ◌<◌, List, [], ◌++◌, length, map, get_or, slice_index, min, inl, inr, bit_or, refl, sym, ap, ap₂, ◌∙◌, subst, subst₂, arith, ⊎_elim}
 use Rattle.std.specs.Simd.Lanes.{zip2}
 use Rattle.std.specs.Int.Bits.{or_shifted_r}
 use Rattle.std.proofs.Math.Pow.{pow_mono}
-use Rattle.std.proofs.Math.Nat.{mul-lt-mul_of_pos_right, zero-mul, one-mul, mul-one, mul_comm, add-mul, mod-add-div}
+use Rattle.std.proofs.Math.Nat.{mul-lt-mul_of_pos_right, one-mul, mul-one, mul_comm, add-mul, mod-add-div}
 use Rattle.std.proofs.lemmas.Bool.{cases_lt}
-use Rattle.std.proofs.lemmas.List.{get_or_append_left, get_or_default, get_or-replicate, get_or-append-add, length-append, length-map, get_or-map}
+use Rattle.std.proofs.lemmas.List.{get_or_append_left, get_or_default, get_or-append-add, length-append, length-map, get_or-map}
 use Rattle.std.proofs.lemmas.Nat.{pow_pos, pow-add, or_lt, div_below}
 use Rattle.std.proofs.lemmas.Simd.{get_or-zip2, length-zip2}
 use Rattle.word_image.specs.LocalRules.{LocalRule, IsRule, node_count}
 use Rattle.word_image.specs.Graphs.{IsStep, next, label}
-use Rattle.word_image.proofs.laws.Bits.{IsBitSet-or, IsBitSet-zero, IsBitSet-pow}
+use Rattle.word_image.proofs.laws.Bits.{IsBitSet-or, IsBitSet-pow}
 use Rattle.debruijn.specs.Ends.{IsEnds}
 use Rattle.image_subsets.specs.StepTables.{AreSteps, Rows, AreTables, HasRows}
-
--- no step leads from the empty set
-pub IsStep-empty : (r : LocalRule) (a : ℕ) → IsStep r 0 a 0
-IsStep-empty r a = record {
-  within = pow_pos (node_count r);
-  nodes = λ v inside. (
-    (λ some. absurd (IsBitSet-zero v some)),
-    (λ (u, b, node, letter, present, labelled, ends). absurd (IsBitSet-zero u present)),
-  );
-}
 
 -- a step of a union is the union of the steps
 pub IsStep-or : {r : LocalRule} {s t a p q : ℕ} → IsStep r s a p → IsStep r t a q → IsStep r (bit_or s t) a (bit_or p q)
@@ -53,22 +43,6 @@ IsStep-node {r} {u} {a} {ends} node h = record {
         (h.nodes v inside).1 (b, letter, subst (λ x. label r x b ≡ a) same labelled, subst (λ x. next r x b ≡ v) same leads)),
   );
 }
-
--- the empty set alone
-pub AreSteps-empty : {r : LocalRule} → IsRule r → (first count : ℕ) → count ≡ 0 → AreSteps r first count (replicate 16 0 ∷ [])
-AreSteps-empty {r} rule first count none =
-    let one : 2 ^ count ≡ 1 = ap (λ n. 2 ^ n) none in
-    let first_row = λ (x : ℕ) (below : x < 2 ^ count). let zeroth : x ≡ 0 = omega arith in zeroth in
-    record {
-      long = sym one;
-      wide = λ x below. ap (λ i. length {A = ℕ} (get_or (replicate 16 0 ∷ []) i [])) (first_row x below);
-      steps = λ x a below letter.
-          let zeroth : x ≡ 0 = first_row x below in
-          let set : 0 ≡ x * 2 ^ first = sym (ap (λ i. i * 2 ^ first) zeroth ∙ zero-mul (2 ^ first)) in
-          let entry : 0 ≡ slice_index (get_or (replicate 16 0 ∷ []) x []) a =
-          sym (ap (λ i. slice_index (get_or (replicate 16 0 ∷ []) i []) a) zeroth ∙ get_or-replicate 16 a 0 0 (omega (arith, rule.shape.most_states))) in
-          subst₂ (λ s t. IsStep r s a t) set entry (IsStep-empty r a);
-    }
 
 -- the set of x with one node more
 upper_set : (y count first u : ℕ) → u ≡ first + count → y < 2 ^ count → bit_or (y * 2 ^ first) (2 ^ u) ≡ (2 ^ count + y) * 2 ^ first

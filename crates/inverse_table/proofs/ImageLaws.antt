@@ -1,16 +1,16 @@
 -- The values of the images of all words of one length.
-use Rattle.std.proofs.Common.{◌≡◌, ℕ, suc, ◌+◌, ◌-◌, ◌*◌, ◌%◌, ◌^◌, ◌<◌, ◌≤◌, List, [], ◌∷◌, ◌++◌, All, length, map, take, drop, get_or, slice_index, replicate, sym, ap, ap₂, subst, ◌∙◌, ⊎_elim, arith, length-append, length-drop, pow-suc}
+use Rattle.std.proofs.Common.{◌≡◌, ℕ, suc, ◌+◌, ◌-◌, ◌*◌, ◌%◌, ◌^◌, ◌<◌, ◌≤◌, List, [], ◌∷◌, ◌++◌, All, length, map, take, drop, get_or, slice_index, sym, ap, ap₂, subst, ◌∙◌, ⊎_elim, arith, length-append, length-drop, pow-suc}
 use Rattle.std.proofs.Math.Nat.{mod-lt, mul-le-mul_right, pow-le-pow_right}
 use Rattle.std.proofs.Math.ListN.{get_or-append}
 use Rattle.std.proofs.lemmas.Bool.{cases_lt}
-use Rattle.std.proofs.lemmas.List.{length-map, length-take-le, length-replicate, get_or-append_right, get_or-drop, get_or-map, get_or-replicate, get_or-take}
+use Rattle.std.proofs.lemmas.List.{length-map, length-take-le, get_or-append_right, get_or-drop, get_or-map, get_or-take}
 use Rattle.std.proofs.lemmas.List.Elements.{All-take, All-from_get_or}
 use Rattle.word_image.specs.LocalRules.{LocalRule, IsRule, IsWord, value, word_of, local_map, node_count}
 use Rattle.word_image.specs.Words.{image}
 use Rattle.word_image.specs.Graphs.{label}
 use Rattle.word_image.proofs.laws.Values.{value-drop, value-snoc, value-below, length-word_of, IsWord-word_of, value-word_of}
-use Rattle.word_image.proofs.laws.Words.{split_last, IsWord-image, length-image, image-short, image-snoc}
-use Rattle.word_image.proofs.laws.Graphs.{local_map-label, node_count_pos, value-node}
+use Rattle.word_image.proofs.laws.Words.{split_last, IsWord-image, length-image, image-snoc}
+use Rattle.word_image.proofs.laws.Graphs.{local_map-label, node_count_pos}
 use Rattle.word_image.proofs.laws.WindowParts.{windows-nodes}
 use Rattle.inverse_table.specs.ImageValues.{AreImageValues, labels_from}
 
@@ -26,17 +26,6 @@ row-long {r} rule node l =
     let within : node * k + k ≤ length r.table = omega (arith, row_below node (node_count r) k l, windows-nodes rule, rule.entries) in
     let count : node * k + k - node * k ≡ k = omega arith in
     (within, length-take-le (node * k + k - node * k) (drop (node * k) r.table) (omega (arith, length-drop (node * k) r.table)) ∙ count)
-
--- the words of m - 1 letters have the empty image
-pub AreImageValues-none : {r : LocalRule} → IsRule r → AreImageValues r 0 (replicate (node_count r) 0)
-AreImageValues-none {r} rule =
-    let none : 0 + (r.width - 1) ≡ r.width - 1 = omega arith in
-    record {
-      long = length-replicate (node_count r) 0 ∙ ap (λ n. r.states ^ n) (sym none);
-      each = λ x h e.
-          let below : value r.states x < node_count r = value-node r x h (e ∙ none) in
-          get_or-replicate (node_count r) (value r.states x) 0 0 below ∙ sym (ap (value r.states) (image-short r x (omega arith)));
-    }
 
 -- the images of the words that are one letter longer than the first ones: after the image of the word without its last letter, what the rule gives on the last window
 pub record AreLonger (r : LocalRule) (images : List ℕ) (count : ℕ) (values : List ℕ) : Type 0 where

@@ -1,4 +1,3 @@
 pub mod Starts
 pub mod FirstWindows
-pub mod FirstTurns
 pub mod BothWays

@@ -6,7 +6,8 @@ ghost use Rattle.word_image.specs.Graphs.{pair_count};
 ghost use Rattle.word_image.specs.Words.{word_cmp};
 ghost use Rattle.word_image.specs.Rings.{IsTwins, IsLeastTwins};
 ghost use Rattle.tail_config.specs.Tails.{IsInjective};
-ghost use Rattle.inverse_window.specs.FirstTurns.{IsFirstFound};
+ghost use Rattle.tail_laws.specs.FirstLists.{IsFirstFound};
+ghost use Rattle.tail_laws.specs.Turns.{IsTurn};
 
 use least_walk::{MOST_STEPS, Walker, is_before, spelled};
 use pair_graph::Pairs;
@@ -48,7 +49,7 @@ fn first_turn(
     pairs: &Pairs,
     walker: &mut Walker,
 ) -> Result<Option<Vec<u8>>, AllocError>
-    ensures turn { IfOk result (IsFirstFound pairs.now (pair_count pairs.now)) }
+    ensures turn { IfOk result (IsFirstFound (IsTurn pairs.now) (pair_count pairs.now)) }
     ensures rule { IsRule pairs.now }
 {
     let count = pairs.count();

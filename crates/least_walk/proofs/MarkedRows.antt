@@ -12,16 +12,13 @@ use Rattle.word_image.specs.LocalRules.{LocalRule, IsRule, node_count}
 use Rattle.word_image.specs.Graphs.{next, label, first_of, second_of, pair_of, pair_count}
 use Rattle.word_image.specs.MarkedPairs.{marked}
 use Rattle.word_image.proofs.laws.Bits.{bit_at-IsBitSet, IsBitSet-or, IsBitSet-zero}
-use Rattle.word_image.proofs.laws.Graphs.{next-below, node_count_pos}
+use Rattle.word_image.proofs.laws.Graphs.{next-below, pair_count_pos}
+use Rattle.word_image.proofs.laws.Lists.{slice_index-zeros}
 use Rattle.pair_laws.proofs.Sets.{IsBitSet-shl, IsBitSet-shr, IsBitSet-and, IsBitSet-minus, IsBitSet-decide}
 use Rattle.pair_laws.proofs.Pairs.{some_if_equal, first_of-pair_of, second_of-pair_of, pair_of-first_of, pair_of-below, first_of-below, second_of-below}
 use Rattle.debruijn.specs.Ends.{IsEnds}
 use Rattle.least_walk.specs.declared.marks.Parts.{Parts}
 use Rattle.least_walk.specs.Marks.{pair_part, row_of, HasPair, ArePartsOf}
-
--- there are pairs
-pub pair_count-pos : {r : LocalRule} → IsRule r → 0 < pair_count r
-pair_count-pos {r} rule = omega (arith, pair_of-below r 0 0 (node_count_pos rule) (node_count_pos rule))
 
 -- a step of the marked graph is two edges with one label, and the mark stays, and comes where the letters differ
 pub record IsMarkedStep (r : LocalRule) (t a b q : ℕ) : Type 0 where
@@ -127,7 +124,7 @@ pub row_of-injective : {r : LocalRule} → IsRule r → (s t : ℕ) → s < 2 * 
     → second_of r (pair_part r s) ≡ second_of r (pair_part r t) → s ≡ t
 row_of-injective {r} rule s t in_s in_t rows seconds =
     let few : node_count r ≤ 16 = rule.shape.most_nodes in
-    let small : (q : ℕ) → first_of r (pair_part r q) < 16 = λ q. omega (arith, first_of-below rule (pair_part r q) (mod-lt q (pair_count-pos rule))) in
+    let small : (q : ℕ) → first_of r (pair_part r q) < 16 = λ q. omega (arith, first_of-below rule (pair_part r q) (mod-lt q (pair_count_pos rule))) in
     let same = same_from_place (s / pair_count r) (first_of r (pair_part r s)) (t / pair_count r) (first_of r (pair_part r t)) 16 (small s) (small t) (omega arith) in
     let parts : pair_part r s ≡ pair_part r t = sym (pair_of-first_of r (pair_part r s)) ∙ ap₂ (pair_of r) same.1 seconds ∙ pair_of-first_of r (pair_part r t) in
     sym (div-add-mod' s (pair_count r)) ∙ ap₂ (λ (h p : ℕ). h * pair_count r + p) same.0 parts ∙ div-add-mod' t (pair_count r)
@@ -137,8 +134,8 @@ pub HasPair-add : {r : LocalRule} → IsRule r → (rows : List ℕ) (t i j : �
     → (s : ℕ) → s < 2 * pair_count r → HasPair r (slice_set rows i (bit_or (slice_index rows i) (1 * 2 ^ j % 2 ^ 16))) s ↔ ((s ≡ t) ⊎ HasPair r rows s)
 HasPair-add {r} rule rows t i j long in_t row place s in_s =
     let few : node_count r ≤ 16 = rule.shape.most_nodes in
-    let half : t / pair_count r < 2 = div_below t (pair_count r) 2 (pair_count-pos rule) in_t in
-    let first = first_of-below rule (pair_part r t) (mod-lt t (pair_count-pos rule)) in
+    let half : t / pair_count r < 2 = div_below t (pair_count r) 2 (pair_count_pos rule) in_t in
+    let first = first_of-below rule (pair_part r t) (mod-lt t (pair_count_pos rule)) in
     let second = second_of-below rule (pair_part r t) in
     let bit : ℕ = 1 * 2 ^ j % 2 ^ 16 in
     let here : IsBitSet bit (second_of r (pair_part r s)) ↔ (second_of r (pair_part r s) ≡ j) = IsBitSet-shl j (second_of r (pair_part r s)) (omega arith) in
@@ -177,15 +174,9 @@ HasPair-test r rows t i j row place =
       (λ some. test.1 (shr_and_one (slice_index rows i) j ∙ bit.0 (subst₂ (λ (x y : ℕ). IsBitSet (slice_index rows x) y) (sym row) (sym place) some))),
     )
 
--- zeros at every place
-zeros : (n i : ℕ) → slice_index (replicate n 0) i ≡ 0
-zeros zero i = refl
-zeros (suc n) zero = refl
-zeros (suc n) (suc i) = zeros n i
-
 -- no marked pair is in rows of zeros
 pub HasPair-none : (r : LocalRule) (t : ℕ) → ¬ HasPair r (replicate 32 0) t
-HasPair-none r t some = IsBitSet-zero (second_of r (pair_part r t)) (subst (λ a. IsBitSet a (second_of r (pair_part r t))) (zeros 32 (row_of r t)) some)
+HasPair-none r t some = IsBitSet-zero (second_of r (pair_part r t)) (subst (λ a. IsBitSet a (second_of r (pair_part r t))) (slice_index-zeros 32 (row_of r t)) some)
 
 -- of the ends of v's edges, moved down to the first of them, and without those of a row: where the bit of letter b is missing, the row has that end
 end-old : {r : LocalRule} → IsRule r → (v b ends row end : ℕ) → b < r.states → row < 2 ^ 16 → end ≡ next r v 0 → IsBitSet ends (next r v b)
@@ -232,7 +223,7 @@ fresh-without {r} rule rows parts t a b q ends row plain end same of without let
     let step = marked-step r t a b q e in
     let split = div-add-mod' t (pair_count r) in
     let half : (t / pair_count r) * pair_count r ≡ 0 * pair_count r = ap (λ h. h * pair_count r) (sym of.mark ∙ without) in
-    let below : t < pair_count r = omega (arith, mod-lt t (pair_count-pos rule)) in
+    let below : t < pair_count r = omega (arith, mod-lt t (pair_count_pos rule)) in
     let with_mark : ℕ = bit_and ends (65535 - row) / 2 ^ end in
     let without_mark : ℕ = bit_and ends (65535 - plain) / 2 ^ end in
     let is_same : IsBitSet same b ↔ (b ≡ a) = subst (λ x. IsBitSet x b ↔ (b ≡ a)) (sym shift) (IsBitSet-shl a b first) in

@@ -206,22 +206,7 @@ IsTrimmed-kept side {r} rule n ends rows kept set same seen edges h =
 abbrev pub removed : List ℕ → ℕ → ℕ → List ℕ
 removed rows i j = slice_set rows i (bit_and (slice_index rows i) (65535 - 1 * 2 ^ j % 2 ^ 16))
 
--- they are rows
-pub AreRows-removed : (n : ℕ) (rows : List ℕ) (i j : ℕ) → i < n → AreRows n rows → AreRows n (removed rows i j)
-AreRows-removed n rows i j inside h =
-    let row = bit_and (slice_index rows i) (65535 - 1 * 2 ^ j % 2 ^ 16) in
-    record {
-      least = h.least;
-      most = h.most;
-      long = length-set rows i row ∙ h.long;
-      within = λ u less. ⊎_elim
-          (λ same. omega (arith, get_or-set_at rows i u row 0 same (omega (arith, h.long, inside, h.most)), and_le_l (slice_index rows i) (65535 - 1 * 2 ^ j % 2 ^ 16), h.within i inside))
-          (λ other. omega (arith, get_or-set_other rows i u row 0 other, h.within u less))
-          (cases_eq u i);
-      past = λ u more. get_or-set_other rows i u row 0 (omega arith) ∙ h.past u more;
-    }
-
--- and have every pair but one
+-- they have every pair but one
 pub holds-removed : (n : ℕ) (rows : List ℕ) (set : List Bool) (p i m : ℕ) → truths n rows ≡ set → AreRows n rows → i ≡ p / n → m ≡ n → p < length set
     → (q : ℕ) → q < length set → IsTrue (holds (truths n (removed rows i (p % m))) q) ↔ (IsTrue (holds set q) × (q ≢ p))
 holds-removed n rows set p i m seen h at nodes inside q within =

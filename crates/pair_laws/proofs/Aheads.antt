@@ -4,7 +4,7 @@ use Rattle.std.proofs.lemmas.Bool.{cases_eq}
 use Rattle.std.proofs.lemmas.List.{append_assoc, length-take-le, take_at, get_or_at}
 use Rattle.std.proofs.lemmas.List.Elements.{All-take}
 use Rattle.word_image.specs.LocalRules.{LocalRule, IsRule, IsWord, value, word_of, node_count}
-use Rattle.word_image.specs.Windows.{HaveOneImage, IsRightAhead, IsLeastRightAhead}
+use Rattle.word_image.specs.Windows.{HaveOneImage, IsRightAhead}
 use Rattle.word_image.specs.Graphs.{next, label, pair_of}
 use Rattle.word_image.specs.Ranks.{BeginTogether}
 use Rattle.word_image.specs.declared.side.Side.TheVariants.{Right}
@@ -14,7 +14,6 @@ use Rattle.word_image.proofs.laws.Values.{length-word_of, IsWord-word_of, value-
 use Rattle.word_image.proofs.laws.Graphs.{value-node, value-next, next-below}
 use Rattle.pair_laws.proofs.Edges.{image-first, value-first, HaveOneImage-none, HaveOneImage-push}
 use Rattle.pair_laws.proofs.Joins.{HaveOneImage-take, HaveOneImage-join}
-use Rattle.pair_laws.proofs.Ranks.{Together-less}
 use Rattle.pair_laws.proofs.Pairs.{PairGoes-pair_of}
 use Rattle.pair_laws.proofs.Windows.{HaveOneImage-begin}
 
@@ -82,19 +81,3 @@ IsRightAhead-pairs {r} rule n = (
       (record { node = u; a = a; b = b; in_nodes = hu; a_letter = ha; b_letter = hb; different = different; one_label = l; pair = refl })
       ((PairGoes-pair_of Right r (next r u a) (next r u b) (n - 1) (next-below rule u b)).1 begins))),
 )
-
--- a rule that looks ahead for n does for more
-pub IsRightAhead-more : {r : LocalRule} {n : ℕ} → IsRule r → (k : ℕ) → n ≤ k → IsRightAhead r n → IsRightAhead r k
-IsRightAhead-more {r} {n} rule k l h =
-    let some : 1 ≤ n = h.some in
-    IsRightAhead-apart rule (omega arith) (λ u a b hu ha hb different e begins.
-    BeginTogether-ahead rule h u a b hu ha hb different e (Together-less Right rule _ _ (n - 1) _ (omega arith) begins))
-
--- 1 is the least look-ahead wherever it is one
-pub IsLeastRightAhead-one : {r : LocalRule} → IsRightAhead r 1 → IsLeastRightAhead r 1
-IsLeastRightAhead-one ahead = record { ahead = ahead; least = λ n l h. let some = h.some in omega arith }
-
--- a look-ahead of n is the least one where a first pair of the right begins together for n - 2
-pub IsLeastRightAhead-pair : {r : LocalRule} {n p : ℕ} → IsRule r → IsRightAhead r n → 2 ≤ n → IsFirstOfRight r p → PairGoes Right r p (n - 2) → IsLeastRightAhead r n
-IsLeastRightAhead-pair {n = n} {p = p} rule ahead many f begins =
-    record { ahead = ahead; least = λ k l h. ((IsRightAhead-pairs rule k).0 h).1 p f (Together-less Right rule _ _ (k - 1) _ (omega arith) begins) }

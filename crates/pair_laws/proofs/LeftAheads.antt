@@ -16,8 +16,6 @@ use Rattle.pair_laws.proofs.Joins.{HaveOneImage-drop}
 use Rattle.pair_laws.proofs.Ranks.{Together-below}
 use Rattle.pair_laws.proofs.Pairs.{first_of-pair_of, second_of-pair_of, pair_of-below, PairGoes-pair_of}
 use Rattle.pair_laws.proofs.Windows.{node_letter-at, HaveOneImage-end}
-use Rattle.word_image.proofs.laws.Images.{IsRule-mirrored}
-use Rattle.pair_laws.proofs.Aheads.{IsRightAhead-more}
 use Rattle.pair_laws.proofs.Mirrors.{IsLeftAhead-words}
 
 -- two nodes differ in their first letter alone, and a letter leads on from both with one label
@@ -133,7 +131,3 @@ IsLeftAhead-pairs {r} rule n = (
       (record { letter = g.letter; in_pairs = pair_of-below r u v hu hv; in_letters = g.in_letters; different = g.different; same_rest = g.same_rest; one_label = g.one_label })
       ((PairGoes-pair_of Left r u v (n - 1) hv).1 ends))),
 )
-
--- a rule that looks ahead to the left for n does for more
-pub IsLeftAhead-more : {r : LocalRule} {n : ℕ} → IsRule r → (k : ℕ) → n ≤ k → IsLeftAhead r n → IsLeftAhead r k
-IsLeftAhead-more rule k l h = IsRightAhead-more (IsRule-mirrored rule) k l h

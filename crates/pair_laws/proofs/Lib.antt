@@ -11,6 +11,5 @@ pub mod Mirrors
 pub mod LeftAheads
 pub mod Endless
 pub mod Decisions
-pub mod ExactClaims
 pub mod Evidence
 pub mod BothWays

@@ -4,16 +4,14 @@ use Rattle.std.proofs.lemmas.List.{length-reverse, reverse-reverse, reverse-appe
 use Rattle.std.proofs.lemmas.List.Elements.{All-take, All-drop}
 use Rattle.word_image.specs.LocalRules.{LocalRule, IsRule, IsWord, value, word_of, node_count, mirrored}
 use Rattle.word_image.specs.Windows.{HaveOneImage, IsLeftAhead}
-use Rattle.word_image.specs.Graphs.{first_of, second_of, pair_of, pair_count}
 use Rattle.word_image.specs.Ranks.{BeginTogether, EndTogether}
 use Rattle.word_image.specs.declared.side.Side.{Side}
 use Rattle.word_image.specs.declared.side.Side.TheVariants.{Right, Left}
-use Rattle.word_image.specs.Sides.{Together, PairGoes}
+use Rattle.word_image.specs.Sides.{Together}
 use Rattle.word_image.proofs.laws.Values.{length-word_of, IsWord-word_of, value-word_of, word_of-value}
 use Rattle.word_image.proofs.laws.Images.{IsWord-reverse, image-mirrored, IsRule-mirrored, mirrored-mirrored}
 use Rattle.word_image.proofs.laws.Graphs.{value-node}
 use Rattle.pair_laws.proofs.Ranks.{BeginTogether-same}
-use Rattle.pair_laws.proofs.Pairs.{first_of-below, second_of-below, PairGoes-pair_of}
 
 -- a word of i + j letters read backwards begins with its last j letters read backwards, and goes on with the others
 reverse-cut : (i j : ℕ) (x : List ℕ) → length x ≡ i + j → (take j (reverse x) ≡ reverse (drop i x)) × (drop j (reverse x) ≡ reverse (take i x))
@@ -98,14 +96,6 @@ EndTogether-is_mirrored {r} rule u v n hu hv = (
   (λ h. subst (λ (s : LocalRule). EndTogether s u v n) (mirrored-mirrored rule)
       (subst₂ (λ (s t : ℕ). EndTogether (mirrored (mirrored r)) s t n) (mirror_node-mirror_node r u hu) (mirror_node-mirror_node r v hv) (EndTogether-mirrored (IsRule-mirrored rule) h))),
 )
-
--- a pair ends together exactly where the mirrored pair begins together under the mirrored rule
-pub PairEnds-is_mirrored : {r : LocalRule} → IsRule r → (p n : ℕ) → p < pair_count r
-    → PairGoes Left r p n ↔ PairGoes Right (mirrored r) (pair_of r (mirror_node r (first_of r p)) (mirror_node r (second_of r p))) n
-PairEnds-is_mirrored {r} rule p n h =
-    let mirror = EndTogether-is_mirrored rule (first_of r p) (second_of r p) n (first_of-below rule p h) (second_of-below rule p) in
-    let pair = PairGoes-pair_of Right (mirrored r) (mirror_node r (first_of r p)) (mirror_node r (second_of r p)) n (mirror_node-below r (second_of r p) (second_of-below rule p)) in
-    ((λ e. pair.1 (mirror.0 e)), (λ b. mirror.1 (pair.0 b)))
 
 -- a node goes on together with itself for every n
 pub Together-same : (side : Side) {r : LocalRule} → IsRule r → (n u : ℕ) → u < node_count r → Together side r u u n

@@ -105,32 +105,3 @@ IsDetermined-pairs {r} rule n c = (
   (λ h. IsDetermined-apart rule h.0 h.1 (λ u v hu hv.
       subst₂ (λ (s t : ℕ). IsApart r n c s t) (first_of-pair_of r u v hv) (second_of-pair_of r u v hv) (h.2 (pair_of r u v) (pair_of-below r u v hu hv)))),
 )
-
--- one more letter of the image behind a window: it stays determined
-pub IsDetermined-more : {r : LocalRule} {n c : ℕ} → IsRule r → IsDetermined r n c → IsDetermined r (n + 1) c
-IsDetermined-more {r} {n} {c} rule h =
-    let some : 1 ≤ n = h.some in
-    let inside : c ≤ n + r.width - 2 = h.inside in
-    record {
-      some = omega arith;
-      inside = omega arith;
-      letter = λ x y g.
-          let wide : 2 ≤ r.width = rule.shape.least_width in
-          sym (get_or-take (n + (r.width - 1)) x c 0 (omega arith))
-          ∙ h.letter (take (n + (r.width - 1)) x) (take (n + (r.width - 1)) y) (HaveOneImage-take rule n 1 (n + 1) refl g)
-          ∙ get_or-take (n + (r.width - 1)) y c 0 (omega arith);
-    }
-
--- and one more before it: the same letter of the preimage, one place on
-pub IsDetermined-later : {r : LocalRule} {n c : ℕ} → IsRule r → IsDetermined r n c → IsDetermined r (n + 1) (c + 1)
-IsDetermined-later {r} {n} {c} rule h =
-    let some : 1 ≤ n = h.some in
-    let inside : c ≤ n + r.width - 2 = h.inside in
-    let wide : 2 ≤ r.width = rule.shape.least_width in
-    let place : 1 + c ≡ c + 1 = omega arith in
-    record {
-      some = omega arith;
-      inside = omega arith;
-      letter = λ x y g.
-          ap (slice_index x) (sym place) ∙ sym (get_or-drop 1 x c 0) ∙ h.letter (drop 1 x) (drop 1 y) (HaveOneImage-drop 1 n (n + 1) (omega arith) g) ∙ get_or-drop 1 y c 0 ∙ ap (slice_index y) place;
-    }

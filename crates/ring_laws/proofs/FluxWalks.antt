@@ -1,5 +1,5 @@
 -- What the walks from each node to node 0 gain is a flux if two rings for each window keep their sums, and the only one that has 0 at node 0.
-use Rattle.std.proofs.Common.{◌≡◌, ℕ, zero, suc, ◌-◌, ◌^◌, zero-mul, ◌<◌, ◌≤◌, List, ◌++◌, length, map, take, drop, get_or, slice_index, ℤ, pos, ◌+ℤ◌, ◌-ℤ◌, refl, sym, ap, ◌∙◌, arith, length-drop, length-append, append_assoc, replicate, Some}
+use Rattle.std.proofs.Common.{◌≡◌, ℕ, ◌-◌, ◌<◌, ◌≤◌, List, ◌++◌, length, map, take, drop, get_or, slice_index, ℤ, pos, ◌+ℤ◌, ◌-ℤ◌, sym, ap, ◌∙◌, arith, length-drop, length-append, append_assoc, replicate, Some}
 use Rattle.std.specs.List.{range_with_len, slice_get}
 use Rattle.std.proofs.lemmas.Int.{ints}
 use Rattle.std.proofs.Math.Seq.{drop-append_seam}
@@ -9,7 +9,7 @@ use Rattle.std.proofs.lemmas.List.FromFn.{length-map-range_with_len, get_or-map-
 use Rattle.std.proofs.lemmas.Option.{slice_get-get_or, get_or_from_slice_get}
 use Rattle.word_image.specs.LocalRules.{LocalRule, IsRule, IsWord, local_map, value, word_of, node_count}
 use Rattle.word_image.specs.Rings.{KeepsSum, IsFlux}
-use Rattle.word_image.proofs.laws.Values.{length-word_of, IsWord-word_of, value-word_of, word_of-value}
+use Rattle.word_image.proofs.laws.Values.{length-word_of, IsWord-word_of, value-word_of, word_of-value, value-zeros}
 use Rattle.word_image.proofs.laws.Graphs.{value-node, node_count_pos}
 use Rattle.ring_laws.proofs.Gains.{gain, gain-window, gain-append, gain-closed}
 use Rattle.ring_laws.proofs.Fluxes.{flow_at, gain-flux}
@@ -104,11 +104,6 @@ IsFlux-rings {r} rule weight keep = record {
       omega (arith, ints);
 }
 
--- a word of letters 0 has the value 0
-pub value-replicate : (k n : ℕ) → value k (replicate n 0) ≡ 0
-value-replicate k zero = refl
-value-replicate k (suc n) = let w : List ℕ = replicate n 0 in omega (arith, value-replicate k n, zero-mul (k ^ length w))
-
 -- each flux differs from the walks' gains by what it has at node 0
 pub walk_gain-flux : {weight : ℕ → ℕ} {r : LocalRule} {phi : List ℤ} → IsRule r → IsFlux weight r phi → (v : ℕ) → v < node_count r
     → walk_gain weight r v ≡ get_or phi v (pos 0) -ℤ get_or phi 0 (pos 0)
@@ -121,7 +116,7 @@ walk_gain-flux {weight} {r} {phi} rule flux v l =
     let first : flow_at r phi (take d (z ++ zeros r)) ≡ get_or phi v (pos 0) =
     ap (flow_at r phi) (take-append-le d z (zeros r) (omega arith) ∙ take_all d z (omega arith)) ∙ ap (λ i. get_or phi i (pos 0)) (value-word_of r.states d v l) in
     let last : flow_at r phi (drop d (z ++ zeros r)) ≡ get_or phi 0 (pos 0) =
-    ap (λ n. flow_at r phi (drop n (z ++ zeros r))) (sym long) ∙ ap (flow_at r phi) (drop-append_seam z (zeros r)) ∙ ap (λ i. get_or phi i (pos 0)) (value-replicate r.states d) in
+    ap (λ n. flow_at r phi (drop n (z ++ zeros r))) (sym long) ∙ ap (flow_at r phi) (drop-append_seam z (zeros r)) ∙ ap (λ i. get_or phi i (pos 0)) (value-zeros r.states d) in
     omega (arith, ints)
 
 -- where a flux exists, the walks' gains have 0 at node 0

@@ -1,15 +1,14 @@
 -- A flux by the values of the windows: what a decider computes and a checker tests.
-use Rattle.std.proofs.Common.{◌≡◌, ℕ, zero, suc, ◌+◌, ◌-◌, ◌*◌, ◌/◌, ◌%◌, ◌^◌, ◌<◌, List, [], ◌∷◌, ◌++◌, length, take, drop, get_or, slice_index, replicate, ℤ, pos, ◌+ℤ◌, ◌-ℤ◌, sym, ap, ap₂, subst, ◌∙◌, arith, length-drop, length-append, append_assoc, pow-suc, mod-lt}
+use Rattle.std.proofs.Common.{◌≡◌, ℕ, zero, suc, ◌+◌, ◌-◌, ◌*◌, ◌/◌, ◌%◌, ◌^◌, ◌<◌, List, [], ◌∷◌, ◌++◌, length, take, drop, get_or, slice_index, replicate, ℤ, pos, ◌+ℤ◌, ◌-ℤ◌, sym, ap, ap₂, subst, ◌∙◌, arith, length-drop, length-append, append_assoc, pow-suc}
 use Rattle.std.proofs.Math.Nat.{pow-zero}
-use Rattle.std.proofs.lemmas.Nat.{div-mul-add, div_below}
+use Rattle.std.proofs.lemmas.Nat.{div-mul-add}
 use Rattle.std.proofs.lemmas.List.{length_push, take-append-drop}
 use Rattle.std.proofs.lemmas.List.Elements.{All-push, All-drop, All-tail}
 use Rattle.std.proofs.lemmas.Option.{get_or_from_slice_get}
 use Rattle.word_image.specs.LocalRules.{LocalRule, IsRule, IsWord, local_map, value, word_of, node_count}
 use Rattle.word_image.specs.Rings.{IsFlux}
 use Rattle.word_image.proofs.laws.Values.{value-below, value-snoc, value-take, length-word_of, IsWord-word_of, value-word_of}
-use Rattle.word_image.proofs.laws.Graphs.{value-tail, node_count_pos}
-use Rattle.word_image.proofs.laws.WindowParts.{windows-nodes}
+use Rattle.word_image.proofs.laws.Graphs.{value-tail}
 use Rattle.ring_laws.proofs.Gains.{gain, gain-short, gain-window, gain-append}
 use Rattle.ring_laws.proofs.Fluxes.{flow_at, window-flux}
 use Rattle.ring_laws.proofs.FluxWalks.{walk_gain}
@@ -118,10 +117,3 @@ Flows-flux {weight} {r} {phi} rule flux v l =
     ∙ sym (window_gain-value rule weight w word long)
     ∙ window-flux rule flux w word long
     ∙ ap₂ (λ (i j : ℤ). i -ℤ j) begins ends
-
--- the nodes of a window are nodes
-pub window-nodes : {r : LocalRule} → IsRule r → (v : ℕ) → v < r.states ^ r.width → (v / r.states < node_count r) × (v % node_count r < node_count r)
-window-nodes {r} rule v l =
-    let states = rule.shape.least_states in
-    let power = windows-nodes rule in
-    (div_below v r.states (node_count r) (omega arith) (omega arith), mod-lt v (node_count_pos rule))

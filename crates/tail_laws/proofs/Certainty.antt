@@ -2,7 +2,7 @@
 use Rattle.std.proofs.Common.{◌≡◌, ◌≢◌, ◌⊎◌, ℕ, ◌<◌, inl, inr, refl, ⊎_elim, subst, arith}
 use Rattle.std.specs.Prelude.{◌↔◌}
 use Rattle.std.proofs.lemmas.Bool.{cases_eq, cases_lt}
-use Rattle.word_image.specs.LocalRules.{LocalRule, IsRule, node_count, mirrored}
+use Rattle.word_image.specs.LocalRules.{LocalRule, IsRule, node_count}
 use Rattle.word_image.specs.Windows.{IsDetermined, IsRightAhead, IsLeftAhead}
 use Rattle.word_image.specs.Graphs.{next, label, first_of, second_of, pair_count}
 use Rattle.word_image.specs.Ranks.{BeginTogether}
@@ -11,7 +11,7 @@ use Rattle.word_image.proofs.laws.Images.{IsRule-mirrored}
 use Rattle.word_image.specs.declared.side.Side.TheVariants.{Right, Left}
 use Rattle.word_image.specs.Sides.{PairGoes}
 use Rattle.pair_laws.proofs.Pairs.{first_of-below, second_of-below, PairGoes-pair_of}
-use Rattle.word_image.proofs.laws.Searches.{some_below}
+use Rattle.word_image.proofs.laws.Searches.{some_below, both, exists_below}
 use Rattle.pair_laws.proofs.Decisions.{Together-decide}
 use Rattle.pair_laws.proofs.BothWays.{IsDetermined-none_both_ways, some_ahead}
 use Rattle.tail_config.specs.Tails.{IsInjective, IsRightClosing, IsLeftClosing}
@@ -26,14 +26,6 @@ use Rattle.tail_laws.proofs.EndlessPairs.{HasNormalSplit, normal_split-begins, h
 -- a rule has a determined window
 abbrev pub HasWindow : LocalRule → Type 0
 HasWindow r = (n : ℕ) × (c : ℕ) × IsDetermined r n c
-
--- what can be decided can be decided of two things at once
-both : {P Q : Type 0} → P ⊎ ¬ P → Q ⊎ ¬ Q → (P × Q) ⊎ ¬ (P × Q)
-both p q = ⊎_elim (λ h. ⊎_elim (λ g. inl (h, g)) (λ none. inr (λ s. none s.1)) q) (λ none. inr (λ s. none s.0)) p
-
--- and whether it holds of some number below k
-exists_below : (P : ℕ → Type 0) → ((a : ℕ) → P a ⊎ ¬ P a) → (k : ℕ) → ((a : ℕ) × (a < k) × P a) ⊎ ¬ ((a : ℕ) × (a < k) × P a)
-exists_below P decide k = ⊎_elim (λ h. inl h) (λ none. inr (λ e. none e.0 e.1 e.2)) (some_below P decide k)
 
 -- two numbers are different or not
 differ_or_not : (a b : ℕ) → (a ≢ b) ⊎ ¬ (a ≢ b)
@@ -115,7 +107,3 @@ IsLeftClosing-window {r} rule = (
   λ closing. (IsRightClosing-window (IsRule-mirrored rule)).0 ((IsLeftClosing-mirrored rule).0 closing),
   λ a. IsLeftClosing-ahead rule a.1,
 )
-
--- and it looks ahead to the left, or its mirrored rule has a normal right split
-pub left_ahead_or_split : {r : LocalRule} → IsRule r → ((n : ℕ) × IsLeftAhead r n) ⊎ HasNormalSplit (mirrored r)
-left_ahead_or_split {r} rule = ahead_or_split (IsRule-mirrored rule)

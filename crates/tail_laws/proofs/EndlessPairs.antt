@@ -71,6 +71,7 @@ LeadsToLoop-begin {r} {u} {v} rule h =
       pair = pair_of r w.s w.t;
       reach = before.leads;
       loop = loop.leads;
+      within = omega (arith, before.a_long, loop.a_long, w.within);
     }
 
 -- a rule has a normal right split

@@ -1,11 +1,11 @@
 -- A first pair from which a walk leads into a loop gives a normal right split.
-use Rattle.std.proofs.Common.{◌≡◌, ℕ, ◌+◌, ◌-◌, ◌<◌, List, [], ◌∷◌, ◌++◌, length, take, drop, get_or, Some, refl, sym, ap, ap₂, ◌∙◌, subst, subst₂, arith, length-append, take_at, drop_at}
+use Rattle.std.proofs.Common.{◌≡◌, ℕ, ◌+◌, ◌-◌, ◌<◌, List, [], ◌∷◌, ◌++◌, length, take, drop, get_or, Some, refl, sym, ap, ap₂, ◌∙◌, subst, subst₂, arith, length-append, take_at, drop_at, ◌≤◌}
 use Rattle.std.specs.List.{zip}
 use Rattle.std.proofs.lemmas.List.Elements.{All-append, All-push}
 use Rattle.std.proofs.lemmas.List.{get_or_at}
 use Rattle.word_image.specs.LocalRules.{LocalRule, IsRule, IsWord, value, word_of, node_count}
 use Rattle.word_image.specs.Windows.{HaveOneImage}
-use Rattle.word_image.specs.Graphs.{pair_of, follow}
+use Rattle.word_image.specs.Graphs.{pair_of, follow, pair_count}
 use Rattle.word_image.specs.Rings.{IsRing}
 use Rattle.word_image.specs.FirstPairs.{IsFirstOfRight}
 use Rattle.word_image.proofs.laws.Values.{length-word_of, IsWord-word_of, value-word_of}
@@ -52,6 +52,7 @@ pub record LeadsToLoop (r : LocalRule) (p : ℕ) : Type 0 where
   pub pair : ℕ
   pub reach : PairLeads r p (zip first second) pair
   pub loop : PairLeads r pair (zip first_turn second_turn) pair
+  pub within : length first + length first_turn ≤ pair_count r
 
 -- the configuration of a node, a letter, a walk and a loop
 abbrev pub split_of : LocalRule → ℕ → ℕ → List ℕ → List ℕ → TailConfig

@@ -1,65 +1,33 @@
 -- The least normal right split: the least of at most one candidate for each state of the marked graph, made of two least walks.
-use Rattle.std.proofs.Common.{◌≡◌, ◌≢◌, ℕ, ◌+◌, ◌<◌, ◌≤◌, List, [], ◌∷◌, length, map, Option, false, refl, sym, ap, ap₂, ◌∙◌, subst, ⊎_elim, arith, true≢false}
+use Rattle.std.proofs.Common.{◌≡◌, ◌≢◌, ℕ, ◌+◌, ◌≤◌, List, [], ◌∷◌, length, map, sym, ap, ap₂, ◌∙◌, subst, ⊎_elim, arith}
 use Rattle.std.specs.List.{zip}
-use Rattle.std.specs.Ordering.{ordering_then, ordering_reverse, nat_cmp, is_gt, MatchOrdering}
-use Rattle.std.specs.Cmp.{IsTotalOrder, nat_cmp_is, upto}
+use Rattle.std.specs.Ordering.{ordering_then, nat_cmp}
+use Rattle.std.specs.Cmp.{IsTotalOrder, nat_cmp_is}
 use Rattle.std.specs.Cmp.Lexicographic.{slice_cmp}
 use Rattle.std.specs.declared.cmp.Ordering.{Ordering}
-use Rattle.std.specs.declared.cmp.Ordering.TheVariants.{Less, Equal, Greater}
+use Rattle.std.specs.declared.cmp.Ordering.TheVariants.{Equal, Greater}
 use Rattle.std.proofs.lemmas.Bool.{cases_lt, cases_eq}
-use Rattle.std.proofs.lemmas.Cmp.{then_total, on_total, lists_total, nat_cmp_total, ranked}
+use Rattle.std.proofs.lemmas.Cmp.{then_total, on_total, lists_total, nat_cmp_total}
 use Rattle.std.proofs.lemmas.List.{length-map}
 use Rattle.std.proofs.lemmas.Slice.Zip.{firsts-zip, seconds-zip}
 use Rattle.word_image.specs.LocalRules.{LocalRule, IsRule}
 use Rattle.word_image.specs.Graphs.{pair_count}
 use Rattle.word_image.specs.MarkedPairs.{marked}
 use Rattle.word_image.specs.Rings.{pair_cmp, pairs_cmp}
-use Rattle.search_laws.specs.PairWalks.{PairWalk, IsLeastWalk}
+use Rattle.word_image.proofs.laws.Comparisons.{then_not_greater, nat_cmp-le, nat_cmp-equal, no_later, pair_cmp_total, not_before}
+use Rattle.search_laws.specs.PairWalks.{IsLeastWalk}
 use Rattle.tail_config.specs.Tails.{TailConfig}
 use Rattle.tail_config.specs.Splits.{IsNormalRightSplit, IsLeastRightSplit, splits_cmp}
 use Rattle.tail_laws.specs.SplitWalks.{IsSplitAt, IsNoSplitAt, IsNoSplitBelow, IsLeastReach, IsLeastSplitAt, IsLeastBelow, with_mark, first_tail, second_tail, split_of}
 use Rattle.tail_laws.proofs.SplitWalks.{zip-sides, IsNormalRightSplit-walks, normal_split-at}
 
--- the order of two comparisons that follow one another: neither is greater, if the second one isn't where the first one tells nothing
-then_not_greater : (a b : Ordering) → a ≢ Greater → (a ≡ Equal → b ≢ Greater) → ordering_then a b ≢ Greater
-then_not_greater Less b first second = first
-then_not_greater Equal b first second = second refl
-then_not_greater Greater b first second = first
-
--- what isn't greater, as a test
-is_gt_false : (o : Ordering) → o ≢ Greater → is_gt o ≡ false
-is_gt_false Less h = refl
-is_gt_false Equal h = refl
-is_gt_false Greater h = absurd (h refl)
-
--- and back
-not_greater : (o : Ordering) → is_gt o ≡ false → o ≢ Greater
-not_greater o h e = true≢false (sym (ap is_gt e) ∙ h)
-
--- a number that is at most another one isn't greater
-nat_cmp-le : (m n : ℕ) → m ≤ n → nat_cmp m n ≢ Greater
-nat_cmp-le m n l e = let above : n < m = subst (λ o. MatchOrdering o (m < n) (m ≡ n) (n < m)) e (ranked m n (nat_cmp m n) refl) in omega arith
-
--- and is it, if they are compared as equal
-nat_cmp-equal : (m n : ℕ) → nat_cmp m n ≡ Equal → m ≡ n
-nat_cmp-equal m n e = subst (λ o. MatchOrdering o (m < n) (m ≡ n) (n < m)) e (ranked m n (nat_cmp m n) refl)
-
 -- splits are in a total order
-splits_cmp_total : IsTotalOrder splits_cmp
+pub splits_cmp_total : IsTotalOrder splits_cmp
 splits_cmp_total =
-    let pair_cmp_total : IsTotalOrder pair_cmp = then_total (on_total (λ p. p.0) nat_cmp_total) (on_total (λ p. p.1) nat_cmp_total) in
     then_total (on_total (λ p. length (p.0).middle + length (p.0).right) nat_cmp_total)
     (then_total (on_total (λ p. length (p.0).middle) nat_cmp_total)
     (then_total (on_total (λ p. zip (p.0).middle (p.1).middle) (lists_total pair_cmp_total))
     (on_total (λ p. zip (p.0).right (p.1).right) (lists_total pair_cmp_total))))
-
--- of three splits the first comes no later than the last
-splits_cmp-trans : (p q s : TailConfig × TailConfig) → splits_cmp p q ≢ Greater → splits_cmp q s ≢ Greater → splits_cmp p s ≢ Greater
-splits_cmp-trans p q s h g = not_greater _ (upto splits_cmp_total p q s (is_gt_false _ h) (is_gt_false _ g))
-
--- of two splits one comes no later
-splits_cmp-back : (p q : TailConfig × TailConfig) → splits_cmp p q ≡ Greater → splits_cmp q p ≢ Greater
-splits_cmp-back p q h g = true≢false (ap is_gt (sym h ∙ splits_cmp_total.antisymm p q ∙ ap ordering_reverse g))
 
 -- the order of such splits, said of the walks
 abbrev pub walks_cmp : List (ℕ × ℕ) → List (ℕ × ℕ) → List (ℕ × ℕ) → List (ℕ × ℕ) → Ordering
@@ -96,19 +64,9 @@ walks_cmp-not_greater w v w' v' h g =
     then_not_greater _ _ (nat_cmp-le (length w) (length w') first.0)
     (λ _. then_not_greater _ _ (first.1 (omega (arith, first.0, second.0))) (λ _. second.1 (omega (arith, first.0, second.0)))))
 
--- nor do walks of fewer letters together
-walks_cmp-fewer : (w v w' v' : List (ℕ × ℕ)) → length w + length v < length w' + length v' → walks_cmp w v w' v' ≢ Greater
-walks_cmp-fewer w v w' v' less =
-    then_not_greater _ _ (nat_cmp-le (length w + length v) (length w' + length v') (omega arith))
-    (λ tie. let sums : length w + length v ≡ length w' + length v' = nat_cmp-equal _ _ tie in absurd (omega arith))
-
 -- Candidates
 
--- where no walk leads round it
-pub IsNoSplitAt-round : {r : LocalRule} {t : ℕ} → ((v : List (ℕ × ℕ)) → 0 < length v → ¬ PairWalk (marked r) r.states t v (with_mark r t)) → IsNoSplitAt r t
-IsNoSplitAt-round none w v h = none v h.some h.round
-
--- is made of the first walk to it and of the first one round
+-- the first walk to a state and the first one round it make its least split
 pub IsLeastSplitAt-walks : {r : LocalRule} {t : ℕ} {w v : List (ℕ × ℕ)} → IsLeastReach r t w → IsLeastWalk (marked r) r.states t (with_mark r t) v → IsLeastSplitAt r t w v
 IsLeastSplitAt-walks {r} {t} {w} {v} reach round =
     record {
@@ -118,18 +76,10 @@ IsLeastSplitAt-walks {r} {t} {w} {v} reach round =
 
 -- The search, state by state
 
--- it comes no later than each split at a state to which the first walk has as many letters as both of its walks
-pub no_earlier-long : {r : LocalRule} {t : ℕ} {u w' v' : List (ℕ × ℕ)} → IsLeastReach r t u → (w v : List (ℕ × ℕ)) → length w + length v ≤ length u → IsSplitAt r t w' v'
-    → splits_cmp (split_of w v) (split_of w' v') ≢ Greater
-no_earlier-long {u = u} {w'} {v'} reach w v long at greater =
-    let more = (pairs_cmp-parts u w' (reach.least w' at.reach)).0 in
-    let less : length w + length v < length w' + length v' = omega (arith, more, at.some) in
-    walks_cmp-fewer w v w' v' less (sym (splits_cmp-walks w v w' v') ∙ greater)
-
--- and where it comes no later than the least one
+-- what comes no later than the least split at a state comes no later than each one there
 pub no_earlier-least : {r : LocalRule} {t : ℕ} {a b w' v' : List (ℕ × ℕ)} → IsLeastSplitAt r t a b → (w v : List (ℕ × ℕ)) → splits_cmp (split_of w v) (split_of a b) ≢ Greater → IsSplitAt r t w' v'
     → splits_cmp (split_of w v) (split_of w' v') ≢ Greater
-no_earlier-least {a = a} {b} {w'} {v'} here w v first at = splits_cmp-trans (split_of w v) (split_of a b) (split_of w' v') first (here.least w' v' at)
+no_earlier-least {a = a} {b} {w'} {v'} here w v first at = no_later splits_cmp_total (split_of w v) (split_of a b) (split_of w' v') first (here.least w' v' at)
 
 -- then it stays the least with one state more
 pub IsLeastBelow-next : {r : LocalRule} {t : ℕ} {w v : List (ℕ × ℕ)} → IsLeastBelow r t w v
@@ -147,11 +97,11 @@ IsLeastBelow-taken {r} {t} {w} {v} {w'} {v'} rule h here after =
     IsLeastBelow-next
     (record {
       split = IsNormalRightSplit-walks rule here.split;
-      least = λ s a b l at. splits_cmp-trans (split_of w' v') (split_of w v) (split_of a b) (splits_cmp-back (split_of w v) (split_of w' v') after) (h.least s a b l at);
+      least = λ s a b l at. no_later splits_cmp_total (split_of w' v') (split_of w v) (split_of a b) (not_before splits_cmp_total (split_of w v) (split_of w' v') (λ less. cc)) (h.least s a b l at);
     })
     here.least
 
--- nor at one more
+-- where none is at a state below t, nor at t, none is below t + 1
 pub IsNoSplitBelow-next : {r : LocalRule} {t : ℕ} → IsNoSplitBelow r t → IsNoSplitAt r t → IsNoSplitBelow r (t + 1)
 IsNoSplitBelow-next {r} {t} h here s l = ⊎_elim (λ e. subst (IsNoSplitAt r) (sym e) here) (λ other. h s (omega arith)) (cases_eq s t)
 

@@ -20,4 +20,5 @@ pub mod Certainty
 pub mod SplitWalks
 pub mod LeastSplits
 pub mod MarkedTurns
+pub mod FirstLists
 pub mod LeastTwins

@@ -3,10 +3,10 @@ use Rattle.std.proofs.Common.{◌≡◌, ℕ, ◌+◌, ◌-◌, ◌%◌, ◌<◌
 use Rattle.std.specs.Prelude.{◌<ℤ◌, ◌≤ℤ◌, ◌↔◌}
 use Rattle.std.proofs.lemmas.Bool.{cases_lt}
 use Rattle.std.proofs.lemmas.Int.{ints, by_lt_z}
-use Rattle.word_image.specs.LocalRules.{LocalRule, IsRule, local_map}
+use Rattle.word_image.specs.LocalRules.{LocalRule, IsRule}
 use Rattle.word_image.specs.Rings.{IsRing, IsTwins}
 use Rattle.tail_config.specs.Tails.{TailConfig, IsTail, Same, Different, ShareImage, AgreeLeft, AgreeRight, IsInjective, cell, cells, image_cell}
-use Rattle.tail_config.proofs.laws.Cells.{length-cells, get_or-cells, IsWord-cells, cells-same}
+use Rattle.tail_config.proofs.laws.Cells.{length-cells, get_or-cells, IsWord-cells, image_cell-window}
 use Rattle.tail_config.proofs.laws.Decisions.{Different-from_not_same, agree_left_or_not, agree_right_or_not}
 use Rattle.tail_config.proofs.laws.Periods.{RepeatsLeft, RepeatsRight, repeats-mod, right_from, left_from}
 use Rattle.tail_config.specs.Differences.{most_middle}
@@ -67,10 +67,6 @@ cell-run_left t n some repeats (negsuc j) l =
 Different-runs : {k : ℕ} {x y : TailConfig} → IsTail k x → IsTail k y → (i : ℤ) (n : ℕ) → 1 ≤ n → ¬ Same (round (cells x i n)) (round (cells y i n)) → Different (round (cells x i n)) (round (cells y i n))
 Different-runs {k} {x} {y} hx hy i n some other = Different-from_not_same (IsTail-round (IsRing-cells hx i n some)) (IsTail-round (IsRing-cells hy i n some)) other
 
--- equal windows give equal image cells
-window_cell : (r : LocalRule) (x y : TailConfig) (i j : ℤ) → ((a : ℕ) → a < r.width → cell x (i +ℤ r.offset +ℤ pos a) ≡ cell y (j +ℤ r.offset +ℤ pos a)) → image_cell r x i ≡ image_cell r y j
-window_cell r x y i j h = ap (local_map r) (cells-same x y (i +ℤ r.offset) (j +ℤ r.offset) r.width h)
-
 -- twins of two configurations that share an image and don't agree on the right
 twins_right : {r : LocalRule} {x y : TailConfig} → IsTail r.states x → IsTail r.states y → ShareImage r x y → ¬ AgreeRight x y → HasTwins r
 twins_right {r} {x} {y} hx hy share apart =
@@ -80,7 +76,7 @@ twins_right {r} {x} {y} hx hy share apart =
     let at_x : (j : ℤ) → pos 0 ≤ℤ j → cell (round (cells x i n)) j ≡ cell x (i +ℤ j) = cell-run_right x i n some (right_turns x y).0 in
     let at_y : (j : ℤ) → pos 0 ≤ℤ j → cell (round (cells y i n)) j ≡ cell y (i +ℤ j) = cell-run_right y i n some (right_turns x y).1 in
     let window : (t : TailConfig) → ((j : ℤ) → pos 0 ≤ℤ j → cell (round (cells t i n)) j ≡ cell t (i +ℤ j)) → (j : ℤ) → neg_ℤ r.offset ≤ℤ j → image_cell r (round (cells t i n)) j ≡ image_cell r t (i +ℤ j) =
-    λ t at j l. window_cell r (round (cells t i n)) t j (i +ℤ j) (λ a h.
+    λ t at j l. image_cell-window r (round (cells t i n)) t j (i +ℤ j) (λ a h.
     let place : i +ℤ (j +ℤ r.offset +ℤ pos a) ≡ i +ℤ j +ℤ r.offset +ℤ pos a = omega (arith, ints) in
     at (j +ℤ r.offset +ℤ pos a) (omega (arith, ints)) ∙ ap (cell t) place) in
     twins_of_runs hx hy i n some
@@ -103,7 +99,7 @@ twins_left {r} {x} {y} hx hy share apart =
     let at_y : (j : ℤ) → j <ℤ pos 0 → cell (round (cells y i n)) j ≡ cell y j = cell-run_left y n some (left_turns x y).1 in
     let start : ℤ = neg_ℤ (r.offset +ℤ pos (r.width + n)) in
     let window : (t : TailConfig) → ((j : ℤ) → j <ℤ pos 0 → cell (round (cells t i n)) j ≡ cell t j) → (d : ℕ) → d < n → image_cell r (round (cells t i n)) (start +ℤ pos d) ≡ image_cell r t (start +ℤ pos d) =
-    λ t at d l. window_cell r (round (cells t i n)) t (start +ℤ pos d) (start +ℤ pos d) (λ a h. at (start +ℤ pos d +ℤ r.offset +ℤ pos a) (omega (arith, ints))) in
+    λ t at d l. image_cell-window r (round (cells t i n)) t (start +ℤ pos d) (start +ℤ pos d) (λ a h. at (start +ℤ pos d +ℤ r.offset +ℤ pos a) (omega (arith, ints))) in
     twins_of_runs hx hy i n some
     (Different-runs hx hy i n some (λ same. apart (pos 0, λ j l. sym (at_x j l) ∙ same j ∙ at_y j l)))
     (ShareImage-turn r (cells x i n) (cells y i n) (omega (arith, length-cells x i n)) (length-cells x i n ∙ sym (length-cells y i n)) start (λ d l.
@@ -141,13 +137,13 @@ ShareImage-ends {r} rule x y i n ends share =
     let some : 1 ≤ n = ends.some in
     let start : ℤ = neg_ℤ r.offset in
     let inside : (t : TailConfig) (k : ℕ) → k + d < n → image_cell r (round (cells t i n)) (start +ℤ pos k) ≡ image_cell r t (i +ℤ (start +ℤ pos k)) = λ t k l.
-    window_cell r (round (cells t i n)) t (start +ℤ pos k) (i +ℤ (start +ℤ pos k)) (λ a h.
+    image_cell-window r (round (cells t i n)) t (start +ℤ pos k) (i +ℤ (start +ℤ pos k)) (λ a h.
     let new : start +ℤ pos k +ℤ r.offset +ℤ pos a ≡ pos (k + a) = omega (arith, ints) in
     let old : i +ℤ pos (k + a) ≡ i +ℤ (start +ℤ pos k) +ℤ r.offset +ℤ pos a = omega (arith, ints) in
     ap (cell (round (cells t i n))) new ∙ cell-run t i n (k + a) (omega arith) ∙ ap (cell t) old) in
     ShareImage-turn r (cells x i n) (cells y i n) (omega (arith, length-cells x i n)) (length-cells x i n ∙ sym (length-cells y i n)) start (λ k l.
     ⊎_elim (λ h. inside x k h ∙ share (i +ℤ (start +ℤ pos k)) ∙ sym (inside y k h))
-    (λ h. window_cell r (round (cells x i n)) (round (cells y i n)) (start +ℤ pos k) (start +ℤ pos k) (λ a b.
+    (λ h. image_cell-window r (round (cells x i n)) (round (cells y i n)) (start +ℤ pos k) (start +ℤ pos k) (λ a b.
     let new : start +ℤ pos k +ℤ r.offset +ℤ pos a ≡ pos (k + a) = omega (arith, ints) in
     let within : k < n = omega (arith, length-cells x i n) in
     ap (cell (round (cells x i n))) new ∙ seam_cells x y i n d ends (k + a) (omega arith) (omega arith) ∙ sym (ap (cell (round (cells y i n))) new)))

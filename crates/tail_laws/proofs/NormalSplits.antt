@@ -2,13 +2,11 @@
 use Rattle.std.proofs.Common.{◌≡◌, ℕ, ◌+◌, ◌-◌, ◌<◌, ◌≤◌, [], ◌∷◌, length, ℤ, pos, negsuc, ◌+ℤ◌, ◌-ℤ◌, neg_ℤ, unsigned_abs, refl, sym, ap, ◌∙◌, arith}
 use Rattle.std.specs.Prelude.{◌<ℤ◌, ◌≤ℤ◌, ◌↔◌}
 use Rattle.std.proofs.lemmas.Int.{ints, by_lt_z}
-use Rattle.word_image.specs.LocalRules.{LocalRule, IsRule, local_map, mirrored}
-use Rattle.word_image.proofs.laws.Images.{IsRule-mirrored}
-use Rattle.tail_config.specs.Tails.{TailConfig, IsTail, ShareImage, Different, IsRightSplit, IsRightClosing, IsLeftClosing, cell, cells}
+use Rattle.word_image.specs.LocalRules.{LocalRule, IsRule, local_map}
+use Rattle.tail_config.specs.Tails.{TailConfig, IsTail, ShareImage, Different, IsRightSplit, IsRightClosing, cell, cells}
 use Rattle.tail_config.specs.Splits.{IsNormalRightSplit}
 use Rattle.tail_config.proofs.laws.Cells.{IsWord-zero, length-cells, cells-same, same_left_part}
 use Rattle.tail_laws.proofs.Middles.{recut, IsTail-recut, cell-recut}
-use Rattle.tail_laws.proofs.Sides.{IsLeftClosing-mirrored}
 use Rattle.tail_config.proofs.laws.Periods.{RepeatsRight}
 use Rattle.tail_config.specs.Differences.{most_middle}
 use Rattle.tail_config.proofs.laws.Spans.{right_turn, right_turn-some, right_turns, agree_left_of_0}
@@ -121,11 +119,4 @@ pub IsRightClosing-no_normal : {r : LocalRule} → IsRule r → IsRightClosing r
 IsRightClosing-no_normal {r} rule = (
   λ closing x y s. (IsRightClosing-none r).0 closing x y s.split,
   λ none. (IsRightClosing-none r).1 (λ x y s. let normal = normal_split rule s in none normal.0 normal.1 normal.2),
-)
-
--- and left-closing exactly where its mirrored rule has none
-pub IsLeftClosing-no_normal : {r : LocalRule} → IsRule r → IsLeftClosing r ↔ ((x y : TailConfig) → ¬ IsNormalRightSplit (mirrored r) x y)
-IsLeftClosing-no_normal {r} rule = (
-  λ closing. (IsRightClosing-no_normal (IsRule-mirrored rule)).0 ((IsLeftClosing-mirrored rule).0 closing),
-  λ none. (IsLeftClosing-mirrored rule).1 ((IsRightClosing-no_normal (IsRule-mirrored rule)).1 none),
 )

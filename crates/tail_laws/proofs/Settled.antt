@@ -1,11 +1,12 @@
 -- Normal right splits are the walks in the graph of pairs that lead from the pair of the nodes of zeros into a loop.
-use Rattle.std.proofs.Common.{◌≡◌, ℕ, zero, suc, ◌+◌, ◌-◌, ◌%◌, List, [], ◌∷◌, ◌++◌, length, drop, replicate, slice_index, ℤ, pos, negsuc, ◌+ℤ◌, ◌-ℤ◌, neg_ℤ, refl, sym, ap, ap₂, ◌∙◌, subst, arith}
+use Rattle.std.proofs.Common.{◌≡◌, ℕ, ◌+◌, ◌-◌, ◌%◌, List, [], ◌∷◌, ◌++◌, length, drop, replicate, slice_index, ℤ, pos, negsuc, ◌+ℤ◌, ◌-ℤ◌, neg_ℤ, sym, ap, ap₂, ◌∙◌, subst, arith}
 use Rattle.std.specs.List.{zip}
 use Rattle.std.proofs.lemmas.Int.{ints}
 use Rattle.std.proofs.lemmas.List.{length-replicate, get_or-replicate}
 use Rattle.std.proofs.lemmas.List.FromFn.{fill_by_all}
 use Rattle.word_image.specs.LocalRules.{LocalRule, IsRule, value}
 use Rattle.word_image.specs.Graphs.{pair_of}
+use Rattle.word_image.proofs.laws.Values.{value-zeros}
 use Rattle.tail_config.specs.Tails.{TailConfig, IsTail, Same, cell, cells}
 use Rattle.tail_config.specs.Splits.{last_letters, IsSettled, IsNormalRightSplit}
 use Rattle.tail_config.proofs.laws.Cells.{length-cells, cells-same, cells-middle, cells-right, drop-cells, same_left_part, cells-append}
@@ -70,11 +71,6 @@ IsSettled-looped {r} {t} h left loop =
       left = left;
       back = last-middle t (r.width - 1) left ∙ same_nodes r h h (pos (length t.middle)) (pos (length t.middle + length t.right)) loop ∙ sym (last-right h (r.width - 1) left);
     }
-
--- the word of zeros has the value 0
-value-zeros : (k n : ℕ) → value k (replicate n 0) ≡ 0
-value-zeros k zero = refl
-value-zeros k (suc n) = omega (arith, value-zeros k n)
 
 -- where the left period is the letter 0 the node before place 0 is that of zeros
 node_at-zeros : (r : LocalRule) (t : TailConfig) → t.left ≡ 0 ∷ [] → node_at r t (pos 0) ≡ 0

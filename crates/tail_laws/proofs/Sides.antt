@@ -69,17 +69,6 @@ IsLeftSplit-mirror {r} {x} {y} rule long h =
       agree = AgreeRight-mirror h.first h.second long h.agree;
     }
 
--- and a left split is a right split of the mirrored rule
-pub IsRightSplit-mirror : {r : LocalRule} {x y : TailConfig} → IsRule r → length x.middle ≡ length y.middle → IsLeftSplit r x y → IsRightSplit (mirrored r) (mirror_of x) (mirror_of y)
-IsRightSplit-mirror {r} {x} {y} rule long h =
-    record {
-      first = IsTail-mirror h.first;
-      second = IsTail-mirror h.second;
-      different = Different-mirror h.first h.second long h.different;
-      share = ShareImage-mirror rule h.first h.second long h.share;
-      agree = AgreeLeft-mirror h.first h.second long h.agree;
-    }
-
 -- what is the same with longer middles is the same
 same_with_longer : {k : ℕ} {x y : TailConfig} → IsTail k x → IsTail k y → (m n : ℕ) → Same (longer x m) (longer y n) → Same x y
 same_with_longer {k} {x} {y} hx hy m n same i = sym (Same-longer hx m i) ∙ same i ∙ Same-longer hy n i
@@ -89,29 +78,29 @@ share_with_longer : (r : LocalRule) {x y : TailConfig} → IsTail r.states x →
 share_with_longer r {x} {y} hx hy m n share i =
     image_cell-same r (longer x m) x (Same-longer hx m) i ∙ share i ∙ sym (image_cell-same r (longer y n) y (Same-longer hy n) i)
 
--- a rule is left-closing if the mirrored rule is right-closing
-pub IsLeftClosing-from_mirrored : {r : LocalRule} → IsRule r → IsRightClosing (mirrored r) → IsLeftClosing r
-IsLeftClosing-from_mirrored {r} rule closing x y hx hy share (p, right) =
+-- configurations that share an image are the same if what the mirrored rule shares is the same, read backwards, with longer middles of one length
+same_mirrored : {r : LocalRule} {x y : TailConfig} → IsRule r → IsTail r.states x → IsTail r.states y → ShareImage r x y
+    → ((u v : TailConfig) → IsTail r.states u → IsTail r.states v → length u.middle ≡ length v.middle → Same u x → Same v y → ShareImage (mirrored r) (mirror_of u) (mirror_of v) → Same (mirror_of u) (mirror_of v))
+    → Same x y
+same_mirrored {r} {x} {y} rule hx hy share same =
     let m : ℕ = length y.middle in
     let n : ℕ = length x.middle in
     let long : length (longer x m).middle ≡ length (longer y n).middle = omega (arith, length-longer x m, length-longer y n) in
     let first = IsTail-longer hx m in
     let second = IsTail-longer hy n in
-    let agree : AgreeRight (longer x m) (longer y n) = (p, λ i l. Same-longer hx m i ∙ right i l ∙ sym (Same-longer hy n i)) in
-    same_with_longer hx hy m n (Same-from_mirror first second long (closing (mirror_of (longer x m)) (mirror_of (longer y n)) (IsTail-mirror first) (IsTail-mirror second)
-    (ShareImage-mirror rule first second long (share_with_longer r hx hy m n share)) (AgreeLeft-mirror first second long agree)))
+    same_with_longer hx hy m n (Same-from_mirror first second long (same (longer x m) (longer y n) first second long (Same-longer hx m) (Same-longer hy n)
+    (ShareImage-mirror rule first second long (share_with_longer r hx hy m n share))))
+
+-- a rule is left-closing if the mirrored rule is right-closing
+pub IsLeftClosing-from_mirrored : {r : LocalRule} → IsRule r → IsRightClosing (mirrored r) → IsLeftClosing r
+IsLeftClosing-from_mirrored rule closing x y hx hy share (p, right) = same_mirrored rule hx hy share (λ u v hu hv long at_u at_v shared.
+    closing (mirror_of u) (mirror_of v) (IsTail-mirror hu) (IsTail-mirror hv) shared (AgreeLeft-mirror hu hv long (p, λ i l. at_u i ∙ right i l ∙ sym (at_v i))))
 
 -- and the mirrored rule of a left-closing rule is right-closing
 pub IsRightClosing-mirrored : {r : LocalRule} → IsRule r → IsLeftClosing r → IsRightClosing (mirrored r)
-IsRightClosing-mirrored {r} rule closing x y hx hy share (p, left) =
-    let m : ℕ = length y.middle in
-    let n : ℕ = length x.middle in
-    let long : length (longer x m).middle ≡ length (longer y n).middle = omega (arith, length-longer x m, length-longer y n) in
-    let first = IsTail-longer hx m in
-    let second = IsTail-longer hy n in
-    let agree : AgreeLeft (longer x m) (longer y n) = (p, λ i l. Same-longer hx m i ∙ left i l ∙ sym (Same-longer hy n i)) in
-    same_with_longer hx hy m n (Same-from_mirror first second long (closing (mirror_of (longer x m)) (mirror_of (longer y n)) (IsTail-mirror first) (IsTail-mirror second)
-    (ShareImage-from_mirrored rule first second long (share_with_longer (mirrored r) hx hy m n share)) (AgreeRight-mirror first second long agree)))
+IsRightClosing-mirrored {r} rule closing x y hx hy share (p, left) = same_mirrored (IsRule-mirrored rule) hx hy share (λ u v hu hv long at_u at_v shared.
+    closing (mirror_of u) (mirror_of v) (IsTail-mirror hu) (IsTail-mirror hv) (subst (λ q. ShareImage q (mirror_of u) (mirror_of v)) (mirrored-mirrored rule) shared)
+    (AgreeRight-mirror hu hv long (p, λ i l. at_u i ∙ left i l ∙ sym (at_v i))))
 
 -- a rule is left-closing exactly where the mirrored rule is right-closing
 pub IsLeftClosing-mirrored : {r : LocalRule} → IsRule r → IsLeftClosing r ↔ IsRightClosing (mirrored r)

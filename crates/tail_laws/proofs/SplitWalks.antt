@@ -1,5 +1,5 @@
 -- Normal right splits as two walks in the marked graph: the one spells the middles, the other the right periods.
-use Rattle.std.proofs.Common.{◌≡◌, ◌≢◌, ◌⊎◌, ℕ, ◌+◌, ◌-◌, ◌%◌, ◌<◌, ◌≤◌, List, [], ◌∷◌, length, map, inl, inr, refl, sym, ap, ◌∙◌, subst, ⊎_elim, arith, mul-pos, mod-eq_of_lt}
+use Rattle.std.proofs.Common.{◌≡◌, ◌≢◌, ◌⊎◌, ℕ, ◌+◌, ◌-◌, ◌%◌, ◌<◌, ◌≤◌, List, [], ◌∷◌, length, map, inl, inr, refl, sym, ap, ◌∙◌, subst, ⊎_elim, arith, mod-eq_of_lt}
 use Rattle.std.specs.List.{zip}
 use Rattle.std.proofs.Math.Nat.{add-mod_right, zero-mod, mod-mod}
 use Rattle.std.proofs.lemmas.List.{length-map}
@@ -8,7 +8,7 @@ use Rattle.std.proofs.lemmas.List.Elements.{All-nil, All-cons, All-head, All-tai
 use Rattle.word_image.specs.LocalRules.{LocalRule, IsRule, IsWord}
 use Rattle.word_image.specs.Graphs.{pair_count}
 use Rattle.word_image.specs.MarkedPairs.{marked}
-use Rattle.word_image.proofs.laws.Graphs.{node_count_pos}
+use Rattle.word_image.proofs.laws.Graphs.{pair_count_pos}
 use Rattle.pair_laws.proofs.Pairs.{mark-below}
 use Rattle.search_laws.specs.PairWalks.{ArePairs}
 use Rattle.tail_config.specs.Tails.{TailConfig, IsTail}
@@ -37,10 +37,6 @@ ArePairs-zip k (a ∷ x) (b ∷ y) hx hy =
 -- some letters differ in one of two lists if the words are not the same
 HasOther-some : (x y : List ℕ) → length x ≡ length y → (x ≡ y) ⊎ HasOther (zip x y)
 HasOther-some x y e = ⊎_elim (λ same. inl same) (λ d. inr (HasOther-zip x y e (DifferAt-different d))) (same_or_differ x y e)
-
--- there are pairs
-pub pair_count_pos : {r : LocalRule} → IsRule r → 0 < pair_count r
-pair_count_pos rule = mul-pos (node_count_pos rule) (node_count_pos rule)
 
 -- a walk from a state of the marked graph leads to one
 pub MarkedLeads-below : {r : LocalRule} → IsRule r → (abs : List (ℕ × ℕ)) (t s : ℕ) → t < pair_count r + pair_count r → MarkedLeads r t abs s → s < pair_count r + pair_count r

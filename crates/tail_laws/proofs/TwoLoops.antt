@@ -31,22 +31,15 @@ pub pair_at-loop : {r : LocalRule} {x y : TailConfig} → IsRule r → IsTail r.
 pair_at-loop {r} {x} {y} rule hx hy lefts u v hu hv before =
     ap₂ (pair_of r) (node_at-left r x) (node_at-left r y) ∙ loop_nodes rule (IsRing-left hx) (IsRing-left hy) lefts u v hu hv before
 
--- left periods that lead from a pair back to it, middles that lead from there to a pair, and right periods that lead from that back to it: these share an image
-ShareImage-loops : {r : LocalRule} {x y : TailConfig} → IsRule r → IsTail r.states x → IsTail r.states y
+-- left periods that lead from a pair back to it, middles that lead from there to a pair, and right periods that lead from that back to it: these share an image, so if they are different the rule has twins
+pub has_twins-loops : {r : LocalRule} {x y : TailConfig} → IsRule r → IsTail r.states x → IsTail r.states y
     → length x.left ≡ length y.left → length x.middle ≡ length y.middle → length x.right ≡ length y.right → (u v q : ℕ) → u < node_count r → v < node_count r
-    → PairLeads r (pair_of r u v) (zip x.left y.left) (pair_of r u v) → PairLeads r (pair_of r u v) (zip x.middle y.middle) q → PairLeads r q (zip x.right y.right) q → ShareImage r x y
-ShareImage-loops {r} {x} {y} rule hx hy lefts middles rights u v q hu hv before reach after =
+    → PairLeads r (pair_of r u v) (zip x.left y.left) (pair_of r u v) → PairLeads r (pair_of r u v) (zip x.middle y.middle) q → PairLeads r q (zip x.right y.right) q → Different x y → HasTwins r
+has_twins-loops {r} {x} {y} rule hx hy lefts middles rights u v q hu hv before reach after =
     let nodes : pair_at r x y (pos 0) ≡ pair_of r u v = pair_at-loop rule hx hy lefts u v hu hv before in
     let share : ShareImage r (round x.left) (round y.left) = ShareImage-loop rule (IsRing-left hx) (IsRing-left hy) lefts u v hu hv before in
     let left : (i : ℤ) → i <ℤ pos 0 → label_at r x i ≡ label_at r y i = λ i l.
     labels-left r x (round x.left) (same_left_part x (round x.left) refl) i l
     ∙ labels-ShareImage r (round x.left) (round y.left) share i
     ∙ sym (labels-left r y (round y.left) (same_left_part y (round y.left) refl) i l) in
-    ShareImage-in_step rule hx hy left middles rights (IsInStep-walk rule hx hy middles rights q (subst (λ p. PairLeads r p (zip x.middle y.middle) q) (sym nodes) reach) after)
-
--- so if they are different the rule has twins
-pub has_twins-loops : {r : LocalRule} {x y : TailConfig} → IsRule r → IsTail r.states x → IsTail r.states y
-    → length x.left ≡ length y.left → length x.middle ≡ length y.middle → length x.right ≡ length y.right → (u v q : ℕ) → u < node_count r → v < node_count r
-    → PairLeads r (pair_of r u v) (zip x.left y.left) (pair_of r u v) → PairLeads r (pair_of r u v) (zip x.middle y.middle) q → PairLeads r q (zip x.right y.right) q → Different x y → HasTwins r
-has_twins-loops {r} {x} {y} rule hx hy lefts middles rights u v q hu hv before reach after apart =
-    has_twins rule hx hy (ShareImage-loops rule hx hy lefts middles rights u v q hu hv before reach after) apart
+    has_twins rule hx hy (ShareImage-in_step rule hx hy left middles rights (IsInStep-walk rule hx hy middles rights q (subst (λ p. PairLeads r p (zip x.middle y.middle) q) (sym nodes) reach) after))

@@ -32,14 +32,6 @@ IsLeftClosing-none r = (
   λ none x y hx hy share agree. same_from_none hx hy (λ d. none x y (record { first = hx; second = hy; different = d; share = share; agree = agree })),
 )
 
--- an injective rule is right-closing
-pub IsRightClosing-injective : (r : LocalRule) → IsInjective r → IsRightClosing r
-IsRightClosing-injective r injective x y hx hy share agree = injective x y hx hy share
-
--- and left-closing
-pub IsLeftClosing-injective : (r : LocalRule) → IsInjective r → IsLeftClosing r
-IsLeftClosing-injective r injective x y hx hy share agree = injective x y hx hy share
-
 -- the least right split forbids right-closing
 pub no_right_closing : {r : LocalRule} {x y : TailConfig} → IsLeastRightSplit r x y → ¬ IsRightClosing r
 no_right_closing {r} {x} {y} least closing = (IsRightClosing-none r).0 closing x y least.split.split
@@ -48,7 +40,3 @@ no_right_closing {r} {x} {y} least closing = (IsRightClosing-none r).0 closing x
 pub IsLeftSplit-least : {r : LocalRule} {x y : TailConfig} → IsRule r → IsLeastLeftSplit r x y → IsLeftSplit r x y
 IsLeftSplit-least {r} {x} {y} rule least =
     rw (least.x_is, least.y_is) (IsLeftSplit-mirror rule least.right.split.middles least.right.split.split)
-
--- so it forbids left-closing
-pub no_left_closing : {r : LocalRule} {x y : TailConfig} → IsRule r → IsLeastLeftSplit r x y → ¬ IsLeftClosing r
-no_left_closing {r} {x} {y} rule least closing = (IsLeftClosing-none r).0 closing x y (IsLeftSplit-least rule least)

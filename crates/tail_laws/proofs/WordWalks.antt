@@ -2,12 +2,12 @@
 use Rattle.std.proofs.Common.{◌≡◌, ℕ, ◌+◌, ◌-◌, ◌<◌, List, [], ◌∷◌, ◌++◌, length, take, drop, ℤ, pos, ◌+ℤ◌, ◌-ℤ◌, neg_ℤ, refl, sym, ap, ap₂, ◌∙◌, subst, subst₂, arith}
 use Rattle.std.specs.List.{zip}
 use Rattle.std.proofs.lemmas.Int.{ints}
-use Rattle.word_image.specs.LocalRules.{LocalRule, IsRule, IsWord, value}
+use Rattle.word_image.specs.LocalRules.{LocalRule, IsRule, value}
 use Rattle.word_image.specs.Words.{image}
 use Rattle.word_image.specs.Windows.{HaveOneImage}
 use Rattle.word_image.specs.Graphs.{pair_of}
-use Rattle.tail_config.specs.Tails.{TailConfig, IsTail, cells, image_cell}
-use Rattle.tail_config.proofs.laws.Cells.{IsWord-zero, cells-middle, take-cells, drop-cells, image_cells, image-cells, same-image_cells}
+use Rattle.tail_config.specs.Tails.{TailConfig, cells, image_cell}
+use Rattle.tail_config.proofs.laws.Cells.{cells-middle, take-cells, drop-cells, image_cells, image-cells, same-image_cells, inside_zeros, IsTail-inside_zeros}
 use Rattle.tail_laws.proofs.Nodes.{node_at, label_at, image_cell-label}
 use Rattle.tail_laws.proofs.PairLeads.{PairLeads, pair_at, PairLeads-cells}
 
@@ -17,14 +17,6 @@ zip-append [] b [] d e = refl
 zip-append [] b (v ∷ c) d e = absurd (omega arith)
 zip-append (u ∷ a) b [] d e = absurd (omega arith)
 zip-append (u ∷ a) b (v ∷ c) d e = ap (λ (w : List (ℕ × ℕ)). (u, v) ∷ w) (zip-append a b c d (omega arith))
-
--- a word inside zeros
-abbrev pub inside_zeros : List ℕ → TailConfig
-inside_zeros w = record { left = 0 ∷ []; middle = w; right = 0 ∷ [] }
-
--- it is a configuration over the word's letters
-IsTail-inside_zeros : {k : ℕ} {w : List ℕ} → 0 < k → IsWord k w → IsTail k (inside_zeros w)
-IsTail-inside_zeros {k} {w} some h = record { left_some = omega arith; right_some = omega arith; left_word = IsWord-zero some; middle_word = h; right_word = IsWord-zero some }
 
 -- a word of n + m letters is a run
 run-all : (w : List ℕ) (n m : ℕ) → length w ≡ n + m → cells (inside_zeros w) (pos 0) (n + m) ≡ w

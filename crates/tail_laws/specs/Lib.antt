@@ -1,2 +1,3 @@
 pub mod SplitWalks
+pub mod FirstLists
 pub mod Turns

@@ -1,9 +1,8 @@
 -- The sets of nodes that the periods of one side make.
 use Rattle.std.proofs.Common.{◌≡◌, ◌↔◌, ℕ, ◌<◌, ◌≤◌, [], get_or, IsBitSet, sym, subst}
-use Rattle.std.proofs.lemmas.Nat.Bits.{bit_at_ones}
 use Rattle.word_image.specs.LocalRules.{LocalRule, node_count}
 use Rattle.word_image.specs.Graphs.{full_set}
-use Rattle.word_image.proofs.laws.Bits.{bit_at-IsBitSet}
+use Rattle.word_image.proofs.laws.LastSets.{IsBitSet-full}
 use Rattle.pair_laws.proofs.Sets.{IsBitSet-below}
 use Rattle.tail_preimage.specs.Relations.{IsNodeSet, Rows, Steps, Open, Rounds}
 use Rattle.tail_preimage.specs.Sides.{IsSide}
@@ -19,10 +18,6 @@ IsSide-row {r} {side} h n place u v few e l =
       (λ bit. (IsRelation-below rel u v l bit).1),
       (λ steps. ((rel.rows u l).nodes v (IsSide-end h l steps)).1 steps),
     )
-
--- the set of all nodes has each
-IsBitSet-full : (r : LocalRule) (u : ℕ) → u < node_count r → IsBitSet (full_set r) u
-IsBitSet-full r u l = (bit_at-IsBitSet (full_set r) u).1 (bit_at_ones (node_count r) u l)
 
 -- the nodes from which they lead anywhere
 pub IsNodeSet-open : {r : LocalRule} {side : Side} {set all : ℕ} → IsSide r side → (n place : ℕ) → n ≤ 16 → place ≡ n → all ≡ full_set r

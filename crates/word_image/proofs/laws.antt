@@ -6,6 +6,7 @@ pub mod Words
 pub mod Images
 pub mod Rings
 pub mod Orders
+pub mod Comparisons
 pub mod Graphs
 pub mod WindowParts
 pub mod Bits

@@ -72,10 +72,6 @@ no_words : {block : List ℕ} (words : List (List ℕ)) → All (λ b. b ≢ 0) 
 no_words [] unended other h = other h.written
 no_words (u ∷ us) unended other h = has_zero u (block_of us) (subst (All (λ b. b ≢ 0)) h.written unended)
 
--- before the first word nothing is done
-pub Walk-start : (block : List ℕ) → Walk block block []
-Walk-start block = record { built = λ words h. h; only = λ words h. (words, refl, h) }
-
 -- then one word more
 pub Walk-step : {block rest word after : List ℕ} {done : List (List ℕ)} → Walk block rest done → rest ≡ word ++ 0 ∷ after → IsWordText word
     → Walk block after (done ++ word ∷ [])

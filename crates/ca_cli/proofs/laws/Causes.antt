@@ -18,7 +18,7 @@ use Rattle.ca_cli.specs.Outputs.IsCauseWith.{Shift, Widen, Permute, Tail, Decide
 use Rattle.ca_cli.specs.Outputs.IsCauseOfTwo.{Compose, States}
 
 -- a text names one offset
-IsOffset-unique : {text : List ℕ} {o p : ℤ} → IsOffset text o → IsOffset text p → o ≡ p
+pub IsOffset-unique : {text : List ℕ} {o p : ℤ} → IsOffset text o → IsOffset text p → o ≡ p
 IsOffset-unique (Plain digits plain) (Plain _ also) = refl
 IsOffset-unique (Plain _ plain) (Minus digits minus) = absurd (omega (arith, (plain.digits 0 0 (omega arith)).0))
 IsOffset-unique (Minus digits minus) (Plain _ plain) = absurd (omega (arith, (plain.digits 0 0 (omega arith)).0))

@@ -5,7 +5,7 @@ use Rattle.std.specs.Map.{keys_of, lookup}
 use Rattle.std.proofs.lemmas.Bool.{cases_eq}
 use Rattle.std.proofs.lemmas.Cmp.{nat_eq_equiv}
 use Rattle.std.proofs.lemmas.List.{get_or_append_left, get_or_push, get_or-map, length-map, length_push}
-use Rattle.std.proofs.lemmas.List.Elements.{All-nil, All-push, All-map, All-weaker, All-contains, Contains-get_or, Contains-append_left, Contains-push}
+use Rattle.std.proofs.lemmas.List.Elements.{All-push, All-map, All-weaker, All-contains, Contains-get_or, Contains-append_left, Contains-push}
 use Rattle.std.proofs.lemmas.Map.Views.{Contains-from_lookup, IsSome-lookup_from_Contains}
 use Rattle.word_image.specs.LocalRules.{LocalRule, IsRule, wolfram_number}
 use Rattle.rule_classes.specs.Classes.{IsLeastOfClass}
@@ -32,14 +32,6 @@ AllPairs-push R xs y pairs all i j d less within =
       | inl before ↦ subst (R (get_or xs i d)) (sym (get_or_append_left xs (y ∷ []) d j before)) (pairs i j d less before)
       | inr last ↦ subst (R (get_or xs i d)) (sym (get_or_push xs y d j last)) (all i d inside)
     ])
-
--- no rules have no classes
-pub AreLeastRules-nil : AreLeastRules [] []
-AreLeastRules-nil = record {
-  distinct = λ i j d less within. absurd (omega (arith, within));
-  complete = All-nil _;
-  no_others = All-nil _;
-}
 
 -- one rule more, with its least rule added to the list
 pub AreLeastRules-push : {rules leasts more : List LocalRule} {r g : LocalRule} → IsLeastOf r g → IsAdded g leasts more → AreLeastRules rules leasts → AreLeastRules (rules ++ r ∷ []) more

@@ -1,5 +1,5 @@
 -- With own weights what is found of a rule is what the values of its letters say.
-use Rattle.std.proofs.Common.{◌≡◌, ◌↔◌, ℕ, List, [], ◌++◌, length, slice_index, Bool, true, false, cond, codes, bytes_eq, IsTrue, refl, ap, subst}
+use Rattle.std.proofs.Common.{◌≡◌, ◌↔◌, ℕ, List, [], ◌++◌, length, slice_index, Bool, true, false, cond, codes, bytes_eq, IsTrue, refl, subst}
 use Rattle.std.proofs.lemmas.Slice.Eq.{bytes_eq-Decides}
 use Rattle.word_image.specs.LocalRules.{LocalRule, IsRule}
 use Rattle.word_image.specs.Rings.{IsConserving}
@@ -41,12 +41,7 @@ IsReport-own {r} {weights} out rule own is =
       lines = is.lines;
     }
 
--- own weights have no line
-pub weights_lines-own : (weights : List ℕ) → weights ≡ own_weights (length weights) → weights_lines weights ≡ []
-weights_lines-own weights own =
-    ap (λ b. cond b [] (line (codes "weights " ++ with_commas weights))) ((bytes_eq-Decides weights (own_weights (length weights))).1 own)
-
--- and other ones have
+-- weights that are not own ones have a line
 pub weights_lines-other : (weights : List ℕ) → ¬ (weights ≡ own_weights (length weights)) → weights_lines weights ≡ line (codes "weights " ++ with_commas weights)
 weights_lines-other weights other =
     let same = bytes_eq-Decides weights (own_weights (length weights)) in

@@ -296,10 +296,6 @@ pub one_status_told : {words : List (List ℕ)} {left : List ℕ} {s t : Status}
     → IsAnswer words (Some left) s out → IsAnswer words (Some left) t other → s ≡ t
 one_status_told {left = left} = one_status (λ c is. one_told left c)
 
--- an answer by another name
-pub answer_named : {words : List (List ℕ)} {input : Option (List ℕ)} {s t : Status} {out other : List ℕ} → s ≡ t → out ≡ other → IsAnswer words input t other → IsAnswer words input s out
-answer_named {words} {input} {s} {t} {out} {other} status output answer = subst (λ u. IsAnswer words input u out) (sym status) (subst (IsAnswer words input t) (sym output) answer)
-
 -- what an answer of status Usage says
 pub usage_says : {words : List (List ℕ)} {input : Option (List ℕ)} {out : List ℕ} → IsAnswer words input status.Usage out
     → ((c : Command) → ¬ IsCommand words c) × (out ≡ usage_line)

@@ -1,7 +1,7 @@
 -- The rules of a survey and of a sample, one by one.
 use Rattle.std.proofs.Common.{◌≡◌, ℕ, suc, ◌+◌, ◌-◌, ◌*◌, ◌/◌, ◌%◌, ◌^◌, ◌<◌, ◌≤◌, List, [], ◌∷◌, ◌++◌, map, None, refl, sym, ap, ap₂, ◌∙◌, arith, add-one, mod-lt, get_or, append_assoc, append-nil}
 use Rattle.std.specs.List.{range_with_len}
-use Rattle.std.specs.Prelude.{Option, Some, pos}
+use Rattle.std.specs.Prelude.{Some, pos}
 use Rattle.std.specs.Option.{option_or}
 use Rattle.std.proofs.lemmas.List.FromFn.{map-range_with_len_more, length-map-range_with_len}
 use Rattle.std.proofs.lemmas.Bool.Decides.{nat_tests}
@@ -12,7 +12,6 @@ use Rattle.word_image.specs.LocalRules.{LocalRule, IsShape, IsRule}
 use Rattle.word_image.specs.RuleFaults.{shape_fault}
 use Rattle.word_image.proofs.laws.RuleFaults.{IsShape-shape_fault}
 use Rattle.rule_text.specs.RuleTexts.{in_text, number_fault}
-use Rattle.rule_text.specs.declared.text_fault.TextFault.{TextFault}
 use Rattle.rule_text.specs.declared.text_fault.TextFault.TheVariants as fault
 use Rattle.rule_text.proofs.laws.Numbers.{number_limit}
 use Rattle.rule_text.proofs.laws.AcceptedRules.{none_or, none_map, number-below}
@@ -104,11 +103,6 @@ pub survey-accepted : (k m first count i : ℕ) → survey_fault k m first count
 survey-accepted k m first count i none below =
     let parts = none_or (sample_fault k m) (number_fault k m (first + count - 1)) none in
     sample_fault-none k m (first + i) parts.0 ∙ number_fault-below k m (first + count - 1) (first + i) parts.1 (omega arith)
-
--- what the last number of a survey comes to is the survey's fault
-pub survey_fault-last : (k m first count : ℕ) {last : ℕ} {f : Option TextFault} → last ≡ first + count - 1 → option_or (sample_fault k m) (number_fault k m last) ≡ f
-    → survey_fault k m first count ≡ f
-survey_fault-last k m first count is fault = ap (λ n. option_or (sample_fault k m) (number_fault k m n)) (sym is) ∙ fault
 
 -- a shape without a fault is accepted
 pub IsShape-sample_fault : (k m : ℕ) → sample_fault k m ≡ None → IsShape k m (pos 0)

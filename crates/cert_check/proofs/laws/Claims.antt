@@ -1,7 +1,7 @@
 -- Claims that fall, read on the windows of the two nodes of a pair.
-use Rattle.std.proofs.Common.{◌≡◌, ℕ, ◌+◌, ◌*◌, ◌/◌, ◌%◌, ◌<◌, List, slice_index, Option, Some, None, sym, ap, ap₂, subst, ◌∙◌, refl, mod-lt}
+use Rattle.std.proofs.Common.{◌≡◌, ℕ, ◌+◌, ◌*◌, ◌/◌, ◌%◌, ◌<◌, List, slice_index, Option, Some, sym, ap, ap₂, subst, ◌∙◌, refl, mod-lt}
 use Rattle.std.proofs.lemmas.Nat.{div-mul-add, mod-mul-add, div-add-mod', div_below, mul-add-lt}
-use Rattle.std.proofs.lemmas.Option.{none-some, same_Some}
+use Rattle.std.proofs.lemmas.Option.{same_Some}
 use Rattle.word_image.specs.LocalRules.{LocalRule, IsRule, node_count}
 use Rattle.word_image.specs.Graphs.{next, label, follow, pair_of, first_of, second_of, pair_count}
 use Rattle.word_image.proofs.laws.Graphs.{node_count_pos, next-below}
@@ -25,10 +25,6 @@ first_letter {r} rule u a node letter =
 node_before : {r : LocalRule} → IsRule r → (s a : ℕ) → s < node_count r → a < r.states → (a * node_count r + s) / r.states < node_count r
 node_before {r} rule s a node letter =
     div_below (a * node_count r + s) r.states (node_count r) (some_letter rule) (mul-add-lt a (node_count r) s r.states letter node)
-
--- where nothing is claimed, the claim falls
-pub Falls-none : (side : Side) (r : LocalRule) (row : List (Option ℕ)) (p : ℕ) → claim row p ≡ None → Falls side r row p
-Falls-none side r row p none = λ n q has _. absurd (none-some n (sym none ∙ has))
 
 -- a claim that falls by all windows falls
 pub Falls-windows : (side : Side) {r : LocalRule} → IsRule r → (row : List (Option ℕ)) (p n : ℕ) → claim row p ≡ Some n → FallsByAll side r row p n → p < pair_count r → Falls side r row p

@@ -4,11 +4,11 @@ use Rattle.std.specs.List.{list_any}
 use Rattle.std.specs.Map.{keys_of as names_of}
 use Rattle.std.specs.Ordering.{match_ordering}
 use Rattle.std.specs.Cmp.Lexicographic.{slice_cmp}
-use Rattle.std.proofs.lemmas.Cmp.{nat_list_cmp_total, tied_itself}
 use Rattle.std.proofs.lemmas.Map.Text.{is_eq-slice_cmp}
 use Rattle.std.proofs.lemmas.Slice.Eq.{bytes_eq-Decides}
 use Rattle.std.proofs.lemmas.Option.{none-some, same_Some}
 use Rattle.std.proofs.lemmas.List.Elements.{All-contains, All-map}
+use Rattle.word_image.proofs.laws.Comparisons.{slice_cmp-same}
 use Rattle.serde_json.specs.Data.{Data, null, boolean, number, string, array, object}
 use Rattle.serde_json.specs.Find.{get_member, as_object}
 use Rattle.serde_json.specs.Events.{members_len}
@@ -56,7 +56,7 @@ HasOnlyBoth-entries d (e ∷ f ∷ []) name other u x is long first second key l
 HasOnlyBoth-entries d (e ∷ f ∷ g ∷ es) name other u x is long first second key last = absurd (omega (arith, long))
 
 -- a member that is found has one of the keys
-found_at : (o : Ordering) (k l : List ℕ) (e d : Data) (rest : Option Data) (ks : List (List ℕ)) → slice_cmp nat_cmp k l ≡ o → (rest ≡ Some d → Contains ks k)
+pub found_at : (o : Ordering) (k l : List ℕ) (e d : Data) (rest : Option Data) (ks : List (List ℕ)) → slice_cmp nat_cmp k l ≡ o → (rest ≡ Some d → Contains ks k)
     → match_ordering o rest (Some e) rest ≡ Some d → Contains (l ∷ ks) k
 found_at Less k l e d rest ks is later found = let c = later found in (suc c.0, omega (arith, c.1), c.2)
 found_at Equal k l e d rest ks is later found = (0, omega arith, sym ((bytes_eq-Decides k l).0 (sym (is_eq-slice_cmp k l) ∙ ap is_eq is)))
@@ -77,13 +77,10 @@ member_at Less k e d rest is = (d, is)
 member_at Equal k e d rest is = (e, refl)
 member_at Greater k e d rest is = (d, is)
 
-same_key : (k l : List ℕ) → k ≡ l → slice_cmp nat_cmp k l ≡ Equal
-same_key k l same = ap (slice_cmp nat_cmp k) (sym same) ∙ tied_itself nat_list_cmp_total k
-
 member_of_key : (es : List Entry) (i : ℕ) (name : String Global) → slice_get (names_of es) i ≡ Some name → (d : Data) × (get_member (string_bytes name) (members_view es) ≡ Some d)
 member_of_key [] i name is = absurd (none-some name is)
 member_of_key (e ∷ es) zero name is =
-    (view e.1, ap (λ o. match_ordering o (get_member (string_bytes name) (members_view es)) (Some (view e.1)) (get_member (string_bytes name) (members_view es))) (same_key (string_bytes name) (string_bytes e.0) (ap string_bytes (sym (same_Some _ _ is)))))
+    (view e.1, ap (λ o. match_ordering o (get_member (string_bytes name) (members_view es)) (Some (view e.1)) (get_member (string_bytes name) (members_view es))) (slice_cmp-same (string_bytes name) (string_bytes e.0) (ap string_bytes (sym (same_Some _ _ is)))))
 member_of_key (e ∷ es) (suc i) name is = let later = member_of_key es i name is in member_at (slice_cmp nat_cmp (string_bytes name) (string_bytes e.0)) (string_bytes name) (view e.1) later.0 _ later.1
 
 -- where some key is no certificate's, there is another

@@ -1,15 +1,12 @@
 -- What is written for a certificate within its limits is read back as it.
-use Rattle.std.proofs.Common.{◌≡◌, ℕ, suc, ◌-◌, ◌^◌, ◌<◌, ◌≤◌, List, [], ◌∷◌, codes, map, Option, Some, None, All, Ordering, Less, Equal, Greater, is_eq, nat_cmp, Contains, refl, sym, ap, subst, ◌∙◌, ⊎_elim, ◌++◌, arith}
+use Rattle.std.proofs.Common.{◌≡◌, ℕ, ◌-◌, ◌^◌, ◌<◌, ◌≤◌, List, [], ◌∷◌, codes, map, Option, Some, None, All, nat_cmp, Contains, refl, sym, ap, subst, ⊎_elim, ◌++◌, arith}
 use Rattle.std.specs.Prelude.{ℤ, pos, negsuc, ◌≤ℤ◌, if◌then◌else◌}
 use Rattle.std.specs.List.{AllZip}
-use Rattle.std.specs.Ordering.{match_ordering}
 use Rattle.std.specs.Cmp.Lexicographic.{slice_cmp}
 use Rattle.std.proofs.lemmas.Bool.Decides.{nat_tests}
 use Rattle.std.proofs.lemmas.Int.{ints}
 use Rattle.std.proofs.lemmas.List.Elements.{All-head, All-tail, Contains-append_left}
-use Rattle.std.proofs.lemmas.Map.Text.{is_eq-slice_cmp}
 use Rattle.std.proofs.lemmas.Option.{none-some}
-use Rattle.std.proofs.lemmas.Slice.Eq.{bytes_eq-Decides}
 use Rattle.serde_json.specs.Data.{Data, string, Members, no_members, member}
 use Rattle.serde_json.specs.Find.{get_member}
 use Rattle.serde_json.specs.View.{items_of}
@@ -37,23 +34,17 @@ use Rattle.cert_format.specs.CertificateTexts.HasWeights.{Named, Own}
 use Rattle.cert_format.specs.CertificateTexts.{IsJson, IsWhole, IsSigned, IsDigits, IsTailString, IsClaimValue, IsArrayOf, IsSurjectiveValue, IsInjectiveValue, IsSideValue, IsSumValue, IsRanksValue, HasWeights, HasNoOther, IsCertificateText, keys, list_of}
 use Rattle.cert_format.specs.WrittenTexts.{array_from, whole_value, signed_value, word_value, tail_value, claim_value, surjective_value, injective_value, side_value, sum_value, ranks_value, members_before, certificate_members, certificate_value}
 use Rattle.cert_format.proofs.laws.WeightMembers.{names_weights-other, weights_member, weights_members-cases}
+use Rattle.cert_format.proofs.laws.Objects.{found_at}
 
 -- the names of an object
 abbrev names_of : Members → List (List ℕ)
 names_of no_members = []
 names_of (member k d ms) = k ∷ names_of ms
 
--- what is found has one of them
-found_at : (o : Ordering) (k l : List ℕ) (e d : Data) (ms : Members) → slice_cmp nat_cmp k l ≡ o → (get_member k ms ≡ Some d → Contains (names_of ms) k)
-    → match_ordering o (get_member k ms) (Some e) (get_member k ms) ≡ Some d → Contains (l ∷ names_of ms) k
-found_at Less k l e d ms is rest found = let c = rest found in (suc c.0, omega (arith, c.1), c.2)
-found_at Equal k l e d ms is rest found = (0, omega arith, sym ((bytes_eq-Decides k l).0 (sym (is_eq-slice_cmp k l) ∙ ap is_eq is)))
-found_at Greater k l e d ms is rest found = let c = rest found in (suc c.0, omega (arith, c.1), c.2)
-
 -- and so it is in an object
 Contains-found : (ms : Members) (k : List ℕ) (d : Data) → get_member k ms ≡ Some d → Contains (names_of ms) k
 Contains-found no_members k d found = absurd (none-some d found)
-Contains-found (member l e ms) k d found = found_at (slice_cmp nat_cmp k l) k l e d ms refl (Contains-found ms k d) found
+Contains-found (member l e ms) k d found = found_at (slice_cmp nat_cmp k l) k l e d _ _ refl (Contains-found ms k d) found
 
 -- the values of a list's elements, of which all are within a limit
 AllZip-values : {A : Type 0} (R : Data → A → Type 0) (P : A → Type 0) (f : A → Data) → ((x : A) → P x → R (f x) x) → (xs : List A) → All P xs

@@ -9,11 +9,11 @@ use Rattle.word_image.specs.LocalRules.{LocalRule, node_count}
 use Rattle.word_image.specs.Graphs.{full_set}
 use Rattle.word_image.proofs.laws.Bits.{IsBitSet-or, IsBitSet-pow}
 use Rattle.word_image.proofs.laws.Searches.{some_below}
+use Rattle.word_image.proofs.laws.LastSets.{IsBitSet-full}
 use Rattle.pair_laws.proofs.Sets.{IsBitSet-decide, IsBitSet-and}
 use Rattle.search_laws.proofs.StepSets.{same_set}
 use Rattle.image_minimal.specs.Closures.{IsWithin, IsUnreadSet, IsClosure, AreClosuresFrom}
 use Rattle.image_minimal.proofs.laws.Unread.{IsUnreadSet-below}
-use Rattle.image_minimal.proofs.laws.Closures.{full-node}
 
 -- an unread set is its own closure
 pub IsClosure-unread : {r : LocalRule} {set : ℕ} → IsUnreadSet r set → IsClosure r set set
@@ -67,7 +67,7 @@ pub record IsShared (r : LocalRule) (set n : ℕ) (closures : List ℕ) (shared 
 -- at the beginning they are all nodes
 pub IsShared-start : {r : LocalRule} (set : ℕ) (closures : List ℕ) → IsShared r set 0 closures (full_set r)
 IsShared-start {r} set closures =
-    record { within = omega (arith, pow_pos (node_count r)); nodes = λ v l. ((λ _ u less. absurd (omega (arith, less))), (λ _. full-node r v l)) }
+    record { within = omega (arith, pow_pos (node_count r)); nodes = λ v l. ((λ _ u less. absurd (omega (arith, less))), (λ _. IsBitSet-full r v l)) }
 
 -- the next node is in the set
 pub IsShared-skip : {r : LocalRule} {set n shared : ℕ} {closures : List ℕ} → IsShared r set n closures shared → IsBitSet set n → IsShared r set (n + 1) closures shared

@@ -1,12 +1,10 @@
 -- The closure of a set: two words are alike exactly where the sets of their last nodes have one closure.
 use Rattle.std.proofs.Common.{◌≡◌, ℕ, ◌^◌, ◌<◌, ◌↔◌, List, [], ◌∷◌, refl, sym, subst, arith}
 use Rattle.std.proofs.lemmas.Nat.{pow_pos}
-use Rattle.std.proofs.lemmas.Nat.Bits.{bit_at_ones}
-use Rattle.std.specs.Prelude.{IsBitSet}
 use Rattle.word_image.specs.LocalRules.{LocalRule, IsRule, node_count}
 use Rattle.word_image.specs.Graphs.{full_set, IsStep}
 use Rattle.word_image.specs.Ranks.{IsLastSet}
-use Rattle.word_image.proofs.laws.Bits.{bit_at-IsBitSet}
+use Rattle.word_image.proofs.laws.LastSets.{IsBitSet-full}
 use Rattle.search_laws.proofs.StepSets.{same_set}
 use Rattle.image_minimal.specs.ImageLanguages.{Alike}
 use Rattle.image_minimal.specs.Closures.{IsWithin, IsUnreadSet, IsClosure}
@@ -99,15 +97,11 @@ Alike-closure {r} {x} {y} {s} {t} {closure} {other} rule first second of_s of_t 
       (λ same. read.1 (AreReadAlike-one of_s (subst (IsClosure r t) (sym same) of_t))),
     )
 
--- a node is one of all nodes
-pub full-node : (r : LocalRule) (u : ℕ) → u < node_count r → IsBitSet (full_set r) u
-full-node r u l = (bit_at-IsBitSet (full_set r) u).1 (bit_at_ones (node_count r) u l)
-
 -- all nodes are their own closure
 pub IsClosure-full : (r : LocalRule) → IsClosure r (full_set r) (full_set r)
 IsClosure-full r = record {
   within = omega (arith, pow_pos (node_count r));
-  nodes = λ u l. ((λ some unread is within. within u l some), (λ _. full-node r u l));
+  nodes = λ u l. ((λ some unread is within. within u l some), (λ _. IsBitSet-full r u l));
 }
 
 -- and so is the empty set, which is the closure of no other

@@ -1,7 +1,5 @@
 -- Words, rules and images in new colours.
-use Rattle.std.proofs.Common.{◌≡◌, ◌≢◌, ℕ, suc, ◌+◌, ◌-◌, ◌/◌, ◌%◌, ◌^◌, ◌<◌, ◌≤◌, List, [], ◌∷◌, length, take, drop, get_or, slice_index, slice_range, set, refl, sym, ap, ap₂, subst, ◌∙◌, ⊎_elim, arith, length-drop, pow-suc, one-mul, mul-one, ◌*◌}
-use Rattle.std.proofs.Math.Nat.{pow-zero}
-use Rattle.std.proofs.Math.Seq.{drop-cons}
+use Rattle.std.proofs.Common.{◌≡◌, ◌≢◌, ℕ, ◌+◌, ◌-◌, ◌/◌, ◌%◌, ◌^◌, ◌<◌, ◌≤◌, List, [], ◌∷◌, length, take, drop, get_or, slice_index, slice_range, set, refl, sym, ap, ap₂, subst, ◌∙◌, ⊎_elim, arith, length-drop}
 use Rattle.std.proofs.lemmas.Bool.{cases_lt}
 use Rattle.std.proofs.lemmas.List.{length-map, length-take-le, take-map, drop-map, get_or-take, get_or-map, get_or_past, get_or-set_same, get_or-set_other, length-set}
 use Rattle.std.proofs.lemmas.List.Elements.{All-map, All-take, All-drop, All-head, All-tail, All-set}
@@ -11,10 +9,10 @@ use Rattle.word_image.proofs.laws.Values.{value-below, value-injective, value-wo
 use Rattle.word_image.proofs.laws.RuleFaults.{window_count-le}
 use Rattle.word_image.proofs.laws.Words.{length-image}
 use Rattle.word_image.proofs.laws.Images.{get_or-image, image-by_letters}
+use Rattle.word_image.proofs.laws.WindowParts.{letter-value}
 use Rattle.rule_algebra.specs.Algebra.{IsRecolouring, IsRecoloured, recoloured}
 use Rattle.rule_algebra.specs.MadeImages.{RecoloursImages}
 use Rattle.rule_algebra.specs.Tables.{IsRecolouredTable}
-use Rattle.rule_algebra.proofs.laws.WindowValues.{value-slice_range-word_of}
 
 -- the first n colours are letters, and each is none of those before it
 abbrev pub DifferentBelow : ℕ → List ℕ → ℕ → Type 0
@@ -56,17 +54,8 @@ recoloured_value-injective {k} {colours} h m u v some below also e =
 -- letter i of the window of a value
 pub get_or-word_of : (k i m v : ℕ) → i < m → v < k ^ m → get_or (word_of k m v) i 0 ≡ v / k ^ (m - 1 - i) % k
 get_or-word_of k i m v l below =
-    let w : List ℕ = word_of k m v in
-    let long : length w ≡ m = length-word_of k m v in
-    let one : i + 1 - i ≡ suc 0 = omega arith in
-    let first : slice_range w i (i + 1) ≡ get_or w i 0 ∷ [] = ap₂ (λ (n : ℕ) (y : List ℕ). take n y) one (drop-cons w i 0 (omega arith)) in
-    let zeroth : k ^ 0 ≡ 1 = pow-zero k in
-    let by_k : k ^ 1 ≡ k = pow-suc k 0 ∙ ap (λ n. n * k) zeroth ∙ one-mul k in
-    let after : m - (i + 1) ≡ m - 1 - i = omega arith in
-    let whole : get_or w i 0 * k ^ 0 + 0 ≡ v / k ^ (m - (i + 1)) % k ^ 1 = ap (value k) (sym first) ∙ value-slice_range-word_of k i 1 m v (omega arith) below in
-    let letter : get_or w i 0 * k ^ 0 ≡ get_or w i 0 = ap (λ n. get_or w i 0 * n) zeroth ∙ mul-one (get_or w i 0) in
-    let same : get_or w i 0 ≡ v / k ^ (m - (i + 1)) % k ^ 1 = omega arith in
-    same ∙ ap₂ (λ (d j : ℕ). v / k ^ d % j) after by_k
+    sym (letter-value k (word_of k m v) i (m - 1 - i) (IsWord-word_of k m v below) (omega (arith, length-word_of k m v)))
+    ∙ ap (λ x. x / k ^ (m - 1 - i) % k) (value-word_of k m v below)
 
 -- one more window
 pub IsRecolouredTable-more : {r : LocalRule} {colours : List ℕ} {n : ℕ} {entries : List ℕ} → IsRule r → IsRecolouring r.states colours → n < r.states ^ r.width → (place y : ℕ)

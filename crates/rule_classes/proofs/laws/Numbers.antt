@@ -1,12 +1,12 @@
 -- Of rules of one shape the Wolfram numbers are in the order of the tables, read from the greatest window on.
-use Rattle.std.proofs.Common.{◌≡◌, ℕ, ◌+◌, ◌-◌, ◌*◌, ◌^◌, ◌<◌, List, length, reverse, take, drop, get_or, sym, ap, ap₂, ◌∙◌, subst, arith, mul_comm, length-drop}
-use Rattle.std.proofs.lemmas.Nat.{mul-add-lt}
+use Rattle.std.proofs.Common.{◌≡◌, ℕ, ◌+◌, ◌-◌, ◌*◌, ◌^◌, ◌<◌, List, length, reverse, take, drop, get_or, sym, ap, ap₂, ◌∙◌, subst, arith, length-drop}
 use Rattle.std.proofs.lemmas.List.{length-reverse, length-take-le, reverse-reverse, reverse-append, take-append-drop, get_or-drop, ext_get_or}
 use Rattle.std.proofs.lemmas.List.Elements.{All-take}
 use Rattle.word_image.specs.LocalRules.{LocalRule, IsRule, IsWord, value, wolfram_number}
 use Rattle.word_image.proofs.laws.Values.{value-append, value-below, value-injective}
 use Rattle.word_image.proofs.laws.Images.{IsWord-reverse}
 use Rattle.word_image.proofs.laws.SameRules.{rule_from_parts}
+use Rattle.word_image.proofs.laws.Orders.{digits-lt}
 use Rattle.rule_text.proofs.laws.Numbers.{value-reverse_drop, wolfram_number-value}
 
 -- two tables of one shape have one length
@@ -38,13 +38,6 @@ number-split {f} rule v l =
     ∙ value-append k (reverse (drop v t)) (reverse (take v t))
     ∙ ap₂ (λ (a n : ℕ). a * k ^ n + value k (reverse (take v t))) here long
 
--- of two numbers in base n the one with the lesser first digit is less
-less_digits : (a b n u v : ℕ) → u < n → a < b → a * n + u < b * n + v
-less_digits a b n u v h l =
-    let below : a * n + u < n * b = mul-add-lt a n u b l h in
-    let swapped : n * b ≡ b * n = mul_comm n b in
-    omega arith
-
 -- the rule with the lesser letter at the greatest window on which the two differ has the lesser number
 pub wolfram_number-less : {f g : LocalRule} → IsRule f → IsRule g → f.states ≡ g.states → f.width ≡ g.width → (v : ℕ) → v < length f.table
     → ((u : ℕ) → v < u → u < length f.table → get_or f.table u 0 ≡ get_or g.table u 0) → get_or f.table v 0 < get_or g.table v 0 → wolfram_number f < wolfram_number g
@@ -66,5 +59,5 @@ wolfram_number-less {f} {g} first second states width v l same less =
     number-split second v (omega arith)
     ∙ ap (λ n. (value n (reverse (drop (v + 1) g.table)) * n + b) * n ^ v + value n (reverse (take v g.table))) (sym states)
     ∙ ap (λ x. (value k (reverse x) * k + b) * k ^ v + value k (reverse (take v g.table))) (sym rest) in
-    let below : (high * k + a) * k ^ v + low < (high * k + b) * k ^ v + value k (reverse (take v g.table)) = less_digits (high * k + a) (high * k + b) (k ^ v) low _ fewer (omega arith) in
+    let below : (high * k + a) * k ^ v + low < (high * k + b) * k ^ v + value k (reverse (take v g.table)) = digits-lt (high * k + a) (high * k + b) low _ (k ^ v) fewer (omega arith) in
     omega (arith, mine, other, below)

@@ -1,13 +1,13 @@
 -- Tables that are filled: from the table of another rule, window by window, to that of the recoloured rule.
 use Rattle.std.proofs.Common.{◌≡◌, ℕ, ◌+◌, ◌-◌, ◌^◌, ◌<◌, ◌≤◌, List, length, get_or, set, replicate, slice_index, false, sym, ap, ◌∙◌, subst, ⊎_elim, arith}
-use Rattle.std.proofs.Math.ListN.{get_or-eq_default}
 use Rattle.std.proofs.Math.Seq.{get_or-append_right}
 use Rattle.std.proofs.lemmas.Bool.{cases_lt}
-use Rattle.std.proofs.lemmas.List.{length-set, length-map, length-append, length-replicate, get_or-map, get_or-replicate, get_or-set_same, get_or-set_other, get_or_append_left, ext_get_or}
+use Rattle.std.proofs.lemmas.List.{length-set, length-map, length-append, length-replicate, get_or-map, get_or-set_same, get_or-set_other, get_or_append_left, ext_get_or}
 use Rattle.word_image.specs.LocalRules.{LocalRule, IsRule, IsWord, word_of, local_map}
 use Rattle.word_image.specs.Storage.{padded}
 use Rattle.word_image.proofs.laws.RuleFaults.{window_count-le}
 use Rattle.word_image.proofs.laws.Values.{IsWord-word_of, value-word_of}
+use Rattle.word_image.proofs.laws.Lists.{slice_index-zeros}
 use Rattle.rule_algebra.specs.Algebra.{recoloured}
 use Rattle.rule_algebra.proofs.laws.Tables.{length-table_by}
 use Rattle.rule_classes.specs.Classes.{turned}
@@ -18,15 +18,11 @@ use Rattle.rule_classes.proofs.laws.Colourings.{get_or-in_colours, turned-below}
 
 -- Room and zeros
 
-zeros-only : (n i : ℕ) → slice_index (replicate n 0) i ≡ 0
-zeros-only n i =
-    ⊎_elim (λ less. get_or-replicate n i 0 0 less) (λ past. get_or-eq_default (replicate n 0) 0 (omega (arith, length-replicate {A = ℕ} n 0))) (cases_lt i n)
-
 length-padded : (table : List ℕ) → length table ≤ 256 → length (padded table) ≡ 256
 length-padded table few = length-append table (replicate (256 - length table) 0) ∙ ap (λ n. length table + n) (length-replicate {A = ℕ} (256 - length table) 0) ∙ omega arith
 
 past-padded : (table : List ℕ) (v : ℕ) → length table ≤ v → slice_index (padded table) v ≡ 0
-past-padded table v past = get_or-append_right table (replicate (256 - length table) 0) v 0 past ∙ zeros-only (256 - length table) (v - length table)
+past-padded table v past = get_or-append_right table (replicate (256 - length table) 0) v 0 past ∙ slice_index-zeros (256 - length table) (v - length table)
 
 -- a table of the rule's length that is padded has zeros after it
 pub HasZeros-padded : {r : LocalRule} {entries : List ℕ} (table : List ℕ) → IsRule r → length table ≡ r.states ^ r.width → entries ≡ padded table → HasZeros r entries

@@ -207,7 +207,3 @@ Kinds-unique {k} {m} {o} place x s t f g = f.tells.1 ∙ sym (Kinds-after f.kd f
 -- something may come after M:
 pub AfterWidth-more : (k m place : ℕ) → (y : List ℕ) × (s : Said) × Signed (λ o. Kinds k m o) place y s
 AfterWidth-more k m place = Signed-more {After = λ o. Kinds k m o} (λ o. Kinds-more k m o) place false [] no_digits
-
--- and after K:
-pub AfterStates-more : (k place : ℕ) → (y : List ℕ) × (s : Said) × AfterStates k place y s
-AfterStates-more k place = Field-more {After = λ m. Signed (λ o. Kinds k m o)} (AfterWidth-more k) place [] no_digits

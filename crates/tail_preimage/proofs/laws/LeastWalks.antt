@@ -7,10 +7,11 @@ use Rattle.std.proofs.lemmas.Bool.{cases_lt}
 use Rattle.std.proofs.lemmas.List.{take-append-drop, take_all, take_more, take-take, take_at, length-take-le, nil_from_length}
 use Rattle.word_image.specs.LocalRules.{LocalRule, IsRule, value, node_count}
 use Rattle.word_image.specs.Graphs.{next, label}
+use Rattle.word_image.proofs.laws.Comparisons.{then_not_greater, slice_cmp-same}
 use Rattle.tail_preimage.specs.Walks.{IsWalk, Reaches, IsLeastWalk}
 use Rattle.tail_preimage.specs.Relations.{Edge}
 use Rattle.tail_preimage.proofs.laws.Walks.{HasLastEdge, IsWalk-none, IsWalk-stays, IsWalk-cut, IsWalk-push, IsWalk-snoc, HasWalk-cons, IsWalk-last, same_first}
-use Rattle.tail_preimage.proofs.laws.Orders.{then_not_greater, slice_cmp-append, slice_cmp-equal, slice_cmp-same, key_not_greater}
+use Rattle.tail_preimage.proofs.laws.Orders.{slice_cmp-append, slice_cmp-equal, key_not_greater}
 
 -- at the end of the word the set is reached from its nodes
 pub Reaches-none : {r : LocalRule} → (goal u : ℕ) → u < node_count r → Reaches r [] goal u ↔ IsBitSet goal u

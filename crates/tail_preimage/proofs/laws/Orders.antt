@@ -1,11 +1,11 @@
 -- Orderings in turn: which aren't greater, and that two things of which neither is greater are tied.
-use Rattle.std.proofs.Common.{◌≡◌, ◌≢◌, ℕ, ◌<◌, ◌≤◌, List, [], ◌∷◌, ◌++◌, length, refl, sym, ap, ap₂, ◌∙◌, subst, arith}
+use Rattle.std.proofs.Common.{◌≡◌, ◌≢◌, ℕ, ◌≤◌, List, [], ◌∷◌, ◌++◌, length, refl, sym, ap, ap₂, ◌∙◌, arith}
 use Rattle.std.specs.Ordering.{ordering_then, ordering_reverse, nat_cmp}
 use Rattle.std.specs.Cmp.{IsTotalOrder}
 use Rattle.std.specs.Cmp.Lexicographic.{slice_cmp}
 use Rattle.std.specs.declared.cmp.Ordering.{Ordering}
 use Rattle.std.specs.declared.cmp.Ordering.TheVariants.{Less, Equal, Greater}
-use Rattle.std.proofs.lemmas.Cmp.{ranked, by_ranked, tied_itself, nat_list_cmp_total}
+use Rattle.word_image.proofs.laws.Comparisons.{then_not_greater, nat_cmp-le, nat_cmp-equal}
 
 -- three orderings in turn
 then_assoc : (a b c : Ordering) → ordering_then (ordering_then a b) c ≡ ordering_then a (ordering_then b c)
@@ -21,12 +21,6 @@ slice_cmp-append (x ∷ a) b [] d e = absurd (omega arith)
 slice_cmp-append (x ∷ a) b (y ∷ c) d e =
     ap (ordering_then (nat_cmp x y)) (slice_cmp-append a b c d (omega arith)) ∙ sym (then_assoc (nat_cmp x y) (slice_cmp nat_cmp a c) (slice_cmp nat_cmp b d))
 
--- two in turn aren't greater where the first isn't, and where it is equal the second isn't
-pub then_not_greater : (a b : Ordering) → a ≢ Greater → (a ≡ Equal → b ≢ Greater) → ordering_then a b ≢ Greater
-then_not_greater Less b h g e = cc
-then_not_greater Equal b h g e = g refl e
-then_not_greater Greater b h g e = h refl
-
 -- the first isn't greater if both together aren't
 pub first_not_greater : (a b : Ordering) → ordering_then a b ≢ Greater → a ≢ Greater
 first_not_greater Less b h e = cc
@@ -39,12 +33,6 @@ then_equal Less b e = absurd (cc)
 then_equal Equal b e = (refl, e)
 then_equal Greater b e = absurd (cc)
 
--- numbers that compare equal are equal
-pub nat_cmp-equal : (m n : ℕ) → nat_cmp m n ≡ Equal → m ≡ n
-nat_cmp-equal m n e =
-    by_ranked (m < n) (m ≡ n) (n < m) (nat_cmp m n) (ranked m n (nat_cmp m n) refl)
-    (λ is l. let other : Less ≡ Equal = sym is ∙ e in absurd (cc)) (λ is same. same) (λ is l. let other : Greater ≡ Equal = sym is ∙ e in absurd (cc))
-
 -- words that compare equal are equal
 pub slice_cmp-equal : (x y : List ℕ) → slice_cmp nat_cmp x y ≡ Equal → x ≡ y
 slice_cmp-equal [] [] e = refl
@@ -53,16 +41,6 @@ slice_cmp-equal (a ∷ x) [] e = absurd (cc)
 slice_cmp-equal (a ∷ x) (b ∷ y) e =
     let both = then_equal (nat_cmp a b) (slice_cmp nat_cmp x y) e in
     ap₂ (λ (c : ℕ) (z : List ℕ). c ∷ z) (nat_cmp-equal a b both.0) (slice_cmp-equal x y both.1)
-
--- and equal ones compare equal
-pub slice_cmp-same : (x y : List ℕ) → x ≡ y → slice_cmp nat_cmp x y ≡ Equal
-slice_cmp-same x y e = subst (λ z. slice_cmp nat_cmp x z ≡ Equal) e (tied_itself nat_list_cmp_total x)
-
--- a number that isn't more isn't greater
-pub nat_cmp-le : (m n : ℕ) → m ≤ n → nat_cmp m n ≢ Greater
-nat_cmp-le m n l e =
-    by_ranked (m < n) (m ≡ n) (n < m) (nat_cmp m n) (ranked m n (nat_cmp m n) refl)
-    (λ is h. let other : Less ≡ Greater = sym is ∙ e in cc) (λ is h. let other : Equal ≡ Greater = sym is ∙ e in cc) (λ is h. absurd (omega arith))
 
 -- a key that isn't more decides, with the rest where it is the same
 pub key_not_greater : (m n : ℕ) (rest : Ordering) → m ≤ n → (m ≡ n → rest ≢ Greater) → ordering_then (nat_cmp m n) rest ≢ Greater

@@ -3,13 +3,14 @@ use Rattle.std.proofs.Common.{◌≡◌, ◌↔◌, ℕ, ◌+◌, ◌-◌, ◌<�
 use Rattle.std.specs.Ordering.{ordering_then, nat_cmp}
 use Rattle.std.proofs.lemmas.Bool.{cases_lt}
 use Rattle.word_image.specs.LocalRules.{LocalRule, node_count}
+use Rattle.word_image.proofs.laws.Comparisons.{nat_cmp-le}
 use Rattle.pair_laws.proofs.Sets.{IsBitSet-below}
 use Rattle.tail_config.specs.Tails.{TailConfig}
 use Rattle.tail_preimage.specs.Preimages.{Shape}
 use Rattle.tail_preimage.specs.Relations.{IsNodeSet, Rows, Open, Rounds, SomeRounds, Meets, IsFirst}
 use Rattle.tail_preimage.specs.Sides.{AreParts, Through, Passes, IsPossible, IsFirstShape}
 use Rattle.tail_preimage.specs.declared.shapes.Parts.{Parts}
-use Rattle.tail_preimage.proofs.laws.Orders.{nat_cmp-le, key_not_greater}
+use Rattle.tail_preimage.proofs.laws.Orders.{key_not_greater}
 use Rattle.tail_preimage.proofs.laws.Steps.{Open-rounds}
 use Rattle.tail_preimage.proofs.laws.Sides.{IsSide-end, SomeRounds-side}
 

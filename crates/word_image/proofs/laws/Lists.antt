@@ -1,5 +1,5 @@
 -- Lists that know no rule: a list that grows by what a function gives at each place, and two lists that are paired.
-use Rattle.std.proofs.Common.{◌≡◌, ℕ, zero, suc, ◌+◌, ◌-◌, ◌<◌, List, [], ◌∷◌, ◌++◌, length, get_or, map, set, replicate, Some, refl, sym, ap, ap₂, ◌∙◌, arith, append_assoc}
+use Rattle.std.proofs.Common.{◌≡◌, ℕ, zero, suc, ◌+◌, ◌-◌, ◌<◌, List, [], ◌∷◌, ◌++◌, length, get_or, map, set, replicate, Some, refl, sym, ap, ap₂, ◌∙◌, arith, append_assoc, slice_index}
 use Rattle.std.specs.List.{AllZip, range_with_len, slice_get}
 use Rattle.std.proofs.lemmas.List.FromFn.{length-map-range_with_len, map-range_with_len_more}
 use Rattle.std.proofs.Math.Seq.{set-append_seam}
@@ -45,3 +45,9 @@ paired_length R [] [] all = refl
 paired_length R [] (y ∷ ys) all = absurd all
 paired_length R (x ∷ xs) [] all = absurd all
 paired_length R (x ∷ xs) (y ∷ ys) all = ap suc (paired_length R xs ys all.1)
+
+-- zeros at every place
+pub slice_index-zeros : (n i : ℕ) → slice_index (replicate n 0) i ≡ 0
+slice_index-zeros zero i = refl
+slice_index-zeros (suc n) zero = refl
+slice_index-zeros (suc n) (suc i) = slice_index-zeros n i

@@ -12,14 +12,14 @@ use Rattle.word_image.specs.LocalRules.{IsWord, value}
 use Rattle.word_image.proofs.laws.Values.{value-below}
 
 -- of two numbers in base n the one with the lesser first digit is less
-digits-lt : (a b u v n : ℕ) → u < n → a < b → a * n + u < b * n + v
+pub digits-lt : (a b u v n : ℕ) → u < n → a < b → a * n + u < b * n + v
 digits-lt a b u v n h l =
     let below : a * n + u < n * b = mul-add-lt a n u b l h in
     let swapped : n * b ≡ b * n = mul_comm n b in
     omega arith
 
 -- two numbers with one first digit are compared by the last one
-nat_cmp-add : (m u v : ℕ) → nat_cmp u v ≡ nat_cmp (m + u) (m + v)
+pub nat_cmp-add : (m u v : ℕ) → nat_cmp u v ≡ nat_cmp (m + u) (m + v)
 nat_cmp-add m u v =
     by_ranked (u < v) (u ≡ v) (v < u) (nat_cmp u v) (ranked u v (nat_cmp u v) refl)
     (λ is l. is ∙ nat_cmp_is (m + u) (m + v) Less (omega arith))

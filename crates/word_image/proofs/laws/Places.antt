@@ -41,10 +41,6 @@ Contains-slice_get xs i x at = (i, slice_get_within xs i x at, get_or_from_slice
 pub slice_get-Contains : {X : Type 0} (xs : List X) (x : X) → Contains xs x → (i : ℕ) × (slice_get xs i ≡ Some x)
 slice_get-Contains xs x (i, below, same) = (i, slice_get-get_or xs i x below ∙ ap Some same)
 
--- an element of a list is one of a longer list
-pub Contains-more : {X : Type 0} (xs : List X) (x y : X) → Contains xs x → Contains (xs ++ y ∷ []) x
-Contains-more xs x y has = let (i, at) = slice_get-Contains xs x has in Contains-slice_get (xs ++ y ∷ []) i x (slice_get-append xs (y ∷ []) i x at)
-
 -- what is stored at a place stands there
 pub slice_get-set_same : {X : Type 0} (xs : List X) (i : ℕ) (x : X) → i < length xs → slice_get (set xs i x) i ≡ Some x
 slice_get-set_same xs i x l = slice_get-get_or (set xs i x) i x (omega (arith, length-set xs i x)) ∙ ap Some (get_or-set_same xs i x x l)

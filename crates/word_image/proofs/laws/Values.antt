@@ -1,5 +1,5 @@
 -- Words and their values: each word of n letters is one number below k ^ n.
-use Rattle.std.proofs.Common.{◌≡◌, ℕ, zero, suc, ◌+◌, ◌-◌, ◌*◌, ◌/◌, ◌%◌, ◌^◌, ◌<◌, ◌≤◌, List, [], ◌∷◌, ◌++◌, length, take, drop, get_or, refl, sym, ap, ap₂, ◌∙◌, arith, length-append, length-drop, take-append-drop, add-mul, mul_assoc, mul_comm, mul-one, zero-mul, one-mul, pow-suc, mod-lt, length-take-le}
+use Rattle.std.proofs.Common.{◌≡◌, ℕ, zero, suc, ◌+◌, ◌-◌, ◌*◌, ◌/◌, ◌%◌, ◌^◌, ◌<◌, ◌≤◌, List, [], ◌∷◌, ◌++◌, length, take, drop, get_or, refl, sym, ap, ap₂, ◌∙◌, arith, length-append, length-drop, take-append-drop, add-mul, mul_assoc, mul_comm, mul-one, zero-mul, one-mul, pow-suc, mod-lt, length-take-le, replicate}
 use Rattle.std.proofs.Math.Nat.{pow-zero, pow-le-pow_right, pos_of_ne-zero}
 use Rattle.std.proofs.lemmas.Nat.{pow-add, mul-add-lt, same_from_place, div_below, div-add-mod', div-mul-add, mod-mul-add}
 use Rattle.std.proofs.lemmas.List.{nil_from_length, take_more}
@@ -124,3 +124,8 @@ value-take k n w word h =
 pub value-drop : (k n : ℕ) (w : List ℕ) → IsWord k w → n ≤ length w → value k (drop n w) ≡ value k w % k ^ (length w - n)
 value-drop k n w word h =
     sym (ap (λ v. v % k ^ (length w - n)) (value-cut k n w h) ∙ mod-mul-add (value k (take n w)) (k ^ (length w - n)) (value k (drop n w)) (rest_below k n w word))
+
+-- a word of zeros has the value 0
+pub value-zeros : (k n : ℕ) → value k (replicate n 0) ≡ 0
+value-zeros k zero = refl
+value-zeros k (suc n) = omega (arith, value-zeros k n)

@@ -1,6 +1,6 @@
 use Rattle.std.proofs.Common.{◌≡◌, ◌+◌, sym, subst, arith}
 use Rattle.word_image.specs.Graphs.{pair_count}
-use Rattle.tail_laws.proofs.SplitWalks.{pair_count_pos}
+use Rattle.word_image.proofs.laws.Graphs.{pair_count_pos}
 use Rattle.closing_test.specs.Walks.{IsLeastSoFar}
 use Rattle.closing_test.proofs.LeastWalks.{IsLeastSoFar-next}
 use Rattle.closing_test.proofs.split.least_walks.Goals as goal

@@ -7,7 +7,7 @@ use Rattle.std.proofs.lemmas.List.Elements.{All-replicate, All-take}
 use Rattle.word_image.specs.LocalRules.{LocalRule, IsWord, value}
 use Rattle.word_image.specs.Rings.{IsRing, KeepsSum}
 use Rattle.word_image.proofs.laws.Values.{value-below, value-injective}
-use Rattle.ring_laws.proofs.FluxWalks.{value-replicate}
+use Rattle.word_image.proofs.laws.Values.{value-zeros}
 use Rattle.flux_conserve.proofs.rings.first_lossy_of.Goals as goal
 
 pub pow-end-requires : goal.pow-end-requires
@@ -23,7 +23,7 @@ loop-init c =
     let some = c.k-k.ensures.rule.shape.least_states in (
       refl,
       All-take (λ a. a < k) c.args.count (replicate 9 0) (All-replicate (λ a. a < k) 9 0 (omega arith)),
-      λ l. ap (value k) (take-replicate c.args.count 9 0 c.requires.short) ∙ value-replicate k c.args.count,
+      λ l. ap (value k) (take-replicate c.args.count 9 0 c.requires.short) ∙ value-zeros k c.args.count,
       λ q ring long l. absurd (omega arith),
     )
 

@@ -1,9 +1,12 @@
 use Rattle.std.proofs.Common.{◌+◌, map, sym, subst}
 use Rattle.word_image.specs.LocalRules.{LocalRule}
 use Rattle.search_laws.specs.PairWalks.{uncode}
-use Rattle.tail_laws.proofs.LeastTwins.{IsLeastTurn}
-use Rattle.inverse_window.specs.FirstTurns.{IsFirstFound}
-use Rattle.inverse_window.proofs.TurnSteps.{IsFirstFound-next, IsFirstFound-none}
+use Rattle.search_laws.proofs.PairWalks.{ArePairs-walk}
+use Rattle.tail_laws.specs.FirstLists.{IsFirstFound}
+use Rattle.tail_laws.specs.Turns.{IsTurn}
+use Rattle.tail_laws.proofs.FirstLists.{IsFirstFound-next}
+use Rattle.tail_laws.proofs.LeastTwins.{IsLeastTurn, IsLeastOf-turn}
+use Rattle.inverse_window.proofs.TurnSteps.{IsFirstFound-later}
 use Rattle.inverse_window.proofs.twin_pairs.first_turn.Goals as goal
 use Rattle.inverse_window.proofs.twin_pairs.first_turn.Goals.{in-Some+in_ok-earlier_walk, in_default}
 
@@ -13,10 +16,10 @@ loop-p-preserved c =
     elim c.match-walk_within.branch [
       | in-Some+in_ok-earlier_walk w ↦
           let turn : IsLeastTurn r c.loop-p.p (map (uncode 16) w.in-Some.turn.now) = rw c.count-count.ensures.count at w.in-Some.ensures.least in
-          subst (IsFirstFound r (c.loop-p.p + 1)) (sym w.first-is)
-          (IsFirstFound-next c.count-count.ensures.rule c.loop-p.first w.in-Some.turn.now w.in_ok-earlier_walk.field-0.items w.in_ok-earlier_walk.ensures c.loop-p.invariant turn)
+          subst (IsFirstFound (IsTurn r) (c.loop-p.p + 1)) (sym w.first-is)
+          (IsFirstFound-next (λ q w l e. ArePairs-walk 16 c.count-count.ensures.rule.shape.most_states e) c.loop-p.first w.in-Some.turn.now w.in_ok-earlier_walk.field-0.items w.in_ok-earlier_walk.ensures c.loop-p.invariant (IsLeastOf-turn c.count-count.ensures.rule turn))
       | in_default w ↦
           let ends = c.count-count.ensures.count in
-          subst (IsFirstFound r (c.loop-p.p + 1)) (sym w.first-is)
-          (IsFirstFound-none c.count-count.ensures.rule c.loop-p.p c.most_steps-most.result c.loop-p.first c.most_steps-most.ensures c.loop-p.invariant (rw ends at w.in_default.ensures.none) (rw ends at w.in_default.ensures.all))
+          subst (IsFirstFound (IsTurn r) (c.loop-p.p + 1)) (sym w.first-is)
+          (IsFirstFound-later c.count-count.ensures.rule c.loop-p.p c.most_steps-most.result c.loop-p.first c.most_steps-most.ensures c.loop-p.invariant (rw ends at w.in_default.ensures.none) (rw ends at w.in_default.ensures.all))
     ]

@@ -1,5 +1,6 @@
-use Rattle.inverse_window.specs.FirstTurns.{IsFirstFound}
+use Rattle.tail_laws.specs.FirstLists.{IsFirstFound}
+use Rattle.tail_laws.specs.Turns.{IsTurn}
 use Rattle.inverse_window.proofs.twin_pairs.first_turn.Given as goal
 
 abbrev pub invariant-loop-p : goal.invariant-loop-p
-invariant-loop-p l = IsFirstFound l.pairs l.p l.first
+invariant-loop-p l = IsFirstFound (IsTurn l.pairs) l.p l.first

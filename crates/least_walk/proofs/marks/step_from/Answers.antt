@@ -2,8 +2,9 @@ use Rattle.std.proofs.Common.{◌≡◌, ℕ, ◌*◌, Some, cond, sym, ap, ap�
 use Rattle.std.specs.Prelude.{◌==◌, ◌||◌, not, nat_le}
 use Rattle.word_image.specs.LocalRules.{LocalRule}
 use Rattle.word_image.specs.Graphs.{next, label, pair_of, pair_count, first_of, second_of}
+use Rattle.word_image.proofs.laws.Graphs.{pair_count_pos}
 use Rattle.least_walk.specs.Marks.{pair_part}
-use Rattle.least_walk.proofs.MarkedRows.{marked-edges, mark-stays, mark-comes, pair_count-pos}
+use Rattle.least_walk.proofs.MarkedRows.{marked-edges, mark-stays, mark-comes}
 use Rattle.least_walk.proofs.marks.step_from.Goals as goal
 use Rattle.least_walk.proofs.marks.step_from.Goals.{then-a-b, else-a-b}
 
@@ -24,7 +25,7 @@ returns-clause-step c =
     ap₂ (pair_of r) (c.next.ensures.node ∙ ap₂ (λ (z : LocalRule) (n : ℕ). next z n a) same parts.first) (c.next-2.ensures.node ∙ ap₂ (λ (z : LocalRule) (n : ℕ). next z n b) same parts.second) in
     let mark : cond (nat_le (pair_count r) t || not (a == b)) (pair_count r) 0 ≡ c.if-a-b.mark * pair_count r =
     elim c.if-a-b.branch [
-      | then-a-b w ↦ mark-stays r t a b c.if-a-b.mark c.requires.from.below (pair_count-pos c.requires.rule) (w.mark-is ∙ parts.mark) w.if-a-b.true
+      | then-a-b w ↦ mark-stays r t a b c.if-a-b.mark c.requires.from.below (pair_count_pos c.requires.rule) (w.mark-is ∙ parts.mark) w.if-a-b.true
       | else-a-b w ↦ mark-comes r t a b w.if-a-b.false ∙ ap (λ m. m * pair_count r) (sym w.mark-is)
     ] in
     let edges = marked-edges r t a b (sym first ∙ c.if-label.false ∙ second) in

@@ -1,0 +1,78 @@
+-- The first list of letter pairs that the numbers below n have, number by number, and in bytes: a letter pair (a, b) is the byte 16 a + b.
+use Rattle.std.proofs.Common.{◌≡◌, ◌≢◌, ℕ, ◌+◌, ◌/◌, ◌%◌, ◌<◌, ◌≤◌, List, length, map, Option, Some, None, Vec, Global, if◌then◌else◌, sym, ap, ap₂, ◌∙◌, subst, ⊎_elim, arith}
+use Rattle.std.specs.Prelude.{MatchOption}
+use Rattle.std.specs.Ordering.{is_lt}
+use Rattle.std.specs.declared.cmp.Ordering.{Ordering}
+use Rattle.std.specs.declared.cmp.Ordering.TheVariants.{Less, Equal, Greater}
+use Rattle.std.proofs.lemmas.Bool.{cases_eq}
+use Rattle.std.proofs.lemmas.List.{length-map}
+use Rattle.word_image.specs.Words.{word_cmp}
+use Rattle.word_image.specs.Rings.{pairs_cmp}
+use Rattle.word_image.proofs.laws.Comparisons.{no_later, not_before, pairs_cmp_total}
+use Rattle.search_laws.specs.PairWalks.{uncode}
+use Rattle.search_laws.proofs.PairWalks.{ArePairs, pairs_cmp-codes, codes-uncode}
+use Rattle.tail_laws.specs.FirstLists.{IsLeastOf, NoneBelow, IsFirstBelow, IsFirstFound}
+
+-- one number more has none
+NoneBelow-none : {Has : ℕ → List (ℕ × ℕ) → Type 0} {n : ℕ} → NoneBelow Has n → ((v : List (ℕ × ℕ)) → ¬ Has n v) → NoneBelow Has (n + 1)
+NoneBelow-none {Has} {n} before none p v l has = ⊎_elim (λ same. none v (subst (λ q. Has q v) same has)) (λ other. before p v (omega (arith, other)) has) (cases_eq p n)
+
+-- the first of the number n is the first up to n if it comes no later than those before
+IsFirstBelow-new : {Has : ℕ → List (ℕ × ℕ) → Type 0} {n : ℕ} {u : List (ℕ × ℕ)} → IsLeastOf Has n u → ((p : ℕ) (v : List (ℕ × ℕ)) → p < n → Has p v → pairs_cmp u v ≢ Greater) → IsFirstBelow Has (n + 1) u
+IsFirstBelow-new {Has} {n} {u} first before = record {
+  number = n;
+  below = omega arith;
+  has = first.has;
+  least = λ p v l has. ⊎_elim (λ same. first.least v (subst (λ q. Has q v) same has)) (λ other. before p v (omega (arith, other)) has) (cases_eq p n);
+}
+
+-- else that one stays the first, where the number n has none before it
+pub IsFirstBelow-old : {Has : ℕ → List (ℕ × ℕ) → Type 0} {n : ℕ} {w : List (ℕ × ℕ)} → IsFirstBelow Has n w → ((v : List (ℕ × ℕ)) → Has n v → pairs_cmp w v ≢ Greater) → IsFirstBelow Has (n + 1) w
+IsFirstBelow-old {Has} {n} best here = record {
+  number = best.number;
+  below = omega (arith, best.below);
+  has = best.has;
+  least = λ p v l has. ⊎_elim (λ same. here v (subst (λ q. Has q v) same has)) (λ other. best.least p v (omega (arith, other)) has) (cases_eq p n);
+}
+
+-- the earlier of the first so far and the first of the number n is the first up to n
+IsFirstBelow-earlier : {Has : ℕ → List (ℕ × ℕ) → Type 0} {n : ℕ} (old other : List ℕ) → IsFirstBelow Has n (map (uncode 16) old) → IsLeastOf Has n (map (uncode 16) other)
+    → (o : Ordering) → pairs_cmp (map (uncode 16) other) (map (uncode 16) old) ≡ o → IsFirstBelow Has (n + 1) (map (uncode 16) (if is_lt o then other else old))
+IsFirstBelow-earlier old other best least Less is = IsFirstBelow-new least (λ p v l has. no_later pairs_cmp_total (map (uncode 16) other) _ v (λ greater. cc) (best.least p v l has))
+IsFirstBelow-earlier old other best least Equal is = IsFirstBelow-old best (λ v has. no_later pairs_cmp_total _ (map (uncode 16) other) v (not_before pairs_cmp_total _ _ (λ less. cc)) (least.least v has))
+IsFirstBelow-earlier old other best least Greater is = IsFirstBelow-old best (λ v has. no_later pairs_cmp_total _ (map (uncode 16) other) v (not_before pairs_cmp_total _ _ (λ less. cc)) (least.least v has))
+
+-- letter pairs are ordered as their bytes are
+pairs_cmp-bytes : (v w : List ℕ) → ArePairs 16 (map (uncode 16) v) → ArePairs 16 (map (uncode 16) w) → pairs_cmp (map (uncode 16) v) (map (uncode 16) w) ≡ word_cmp v w
+pairs_cmp-bytes v w small_v small_w = pairs_cmp-codes 16 (map (uncode 16) v) (map (uncode 16) w) small_v small_w ∙ ap₂ word_cmp (codes-uncode 16 v) (codes-uncode 16 w)
+
+-- one more number, which has some
+pub IsFirstFound-next : {Has : ℕ → List (ℕ × ℕ) → Type 0} {n : ℕ} → ((p : ℕ) (abs : List (ℕ × ℕ)) → p ≤ n → Has p abs → ArePairs 16 abs) → (found : Option (Vec ℕ Global)) (other steps : List ℕ)
+    → MatchOption found (steps ≡ other) (λ old. steps ≡ (if is_lt (word_cmp other old.items) then other else old.items))
+    → IsFirstFound Has n found → IsLeastOf Has n (map (uncode 16) other) → IsFirstBelow Has (n + 1) (map (uncode 16) steps)
+IsFirstFound-next {Has} {n} small None other steps is none least =
+    subst (λ s. IsFirstBelow Has (n + 1) (map (uncode 16) s)) (sym is) (IsFirstBelow-new least (λ p v l has. absurd (none p v l has)))
+IsFirstFound-next {Has} {n} small (Some old) other steps is best least =
+    subst (λ s. IsFirstBelow Has (n + 1) (map (uncode 16) s)) (sym is)
+    (IsFirstBelow-earlier old.items other best least (word_cmp other old.items)
+    (pairs_cmp-bytes other old.items (small n (map (uncode 16) other) (omega arith) least.has) (small best.number (map (uncode 16) old.items) (omega (arith, best.below)) best.has)))
+
+-- one more number, which has none
+pub IsFirstFound-none : (Has : ℕ → List (ℕ × ℕ) → Type 0) {n : ℕ} → (found : Option (Vec ℕ Global)) → IsFirstFound Has n found → ((abs : List (ℕ × ℕ)) → ¬ Has n abs) → IsFirstFound Has (n + 1) found
+IsFirstFound-none Has None before none = NoneBelow-none before none
+IsFirstFound-none Has (Some old) best none = IsFirstBelow-old best (λ v has. absurd (none v has))
+
+-- the two words of some bytes
+abbrev pub first_word : List ℕ → List ℕ
+first_word steps = map (λ step. step / 16) steps
+
+abbrev pub second_word : List ℕ → List ℕ
+second_word steps = map (λ step. step % 16) steps
+
+-- are as long as the letter pairs
+pub length-spelled : {most : ℕ} (steps x y : List ℕ) → x ≡ first_word steps → y ≡ second_word steps → length (map (uncode 16) steps) ≤ most → (length x ≤ most) × (length y ≤ most)
+length-spelled steps x y first second few =
+    let long = length-map steps (uncode 16) in (
+      omega (arith, few, long, ap length first, length-map steps (λ step. step / 16)),
+      omega (arith, few, long, ap length second, length-map steps (λ step. step % 16)),
+    )
