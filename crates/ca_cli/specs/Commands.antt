@@ -1,5 +1,5 @@
 -- The commands of the program, the words of each, and the form of their operands.
-use Rattle.std.specs.Prelude.{◌≡◌, ◌≢◌, ℕ, ◌^◌, ◌<◌, ◌≤◌, List, [], ◌∷◌, length, codes, All, ℤ, ⊤}
+use Rattle.std.specs.Prelude.{◌≡◌, ℕ, ◌^◌, ◌<◌, ◌≤◌, List, [], ◌∷◌, length, codes, All, ℤ, ⊤}
 use Rattle.word_image.specs.Digits.{IsHexDigit}
 use Rattle.tail_config.specs.TailTexts.{HasForm}
 use Rattle.rule_text.specs.RuleTexts.{IsDecimal, IsOffset, decimal_value}
@@ -134,7 +134,3 @@ IsWellFormed Check = ⊤
 pub record IsCommand (words : List (List ℕ)) (c : Command) : Type 0 where
   pub words_are : words ≡ words_of c
   pub well_formed : IsWellFormed c
-
--- the command reads nothing from the source
-abbrev pub ReadsNothing : Command → Type 0
-ReadsNothing c = c ≢ Check

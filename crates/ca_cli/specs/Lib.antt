@@ -4,6 +4,7 @@ pub mod Commands
 pub mod Requests
 pub mod CertificateCommands
 pub mod Inputs
+pub mod Readings
 pub mod Lines
 pub mod StatusLines
 pub mod Reports
