@@ -5,7 +5,8 @@ use Rattle.rule_classes.specs.Classes.{IsLeastOfClass}
 use Rattle.cert_check.specs.Accepted.{AreTrue}
 use Rattle.cert_check.specs.declared.verdicts.Verdicts.{Verdicts}
 use Rattle.ca_cli.specs.declared.commands.class_tally.ClassTally.{ClassTally}
-use Rattle.ca_cli.specs.Summaries.{IsSummary, IsTally, count_line}
+use Rattle.ca_cli.specs.Summaries.{IsSummary, count_line}
+use Rattle.ca_cli.specs.Tallies.{IsTally}
 
 -- g is the least rule of the class of r
 abbrev pub IsLeastOf : LocalRule → LocalRule → Type 0

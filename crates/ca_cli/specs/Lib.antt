@@ -14,6 +14,7 @@ pub mod LanguageLines
 pub mod PreimageLines
 pub mod Samples
 pub mod Summaries
+pub mod Tallies
 pub mod ClassSummaries
 pub mod Outputs
 pub mod RightAnswers

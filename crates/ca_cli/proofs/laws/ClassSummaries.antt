@@ -13,7 +13,8 @@ use Rattle.rule_classes.proofs.laws.Numbers.{same_number}
 use Rattle.cert_check.specs.Accepted.{AreTrue}
 use Rattle.cert_check.specs.declared.verdicts.Verdicts.{Verdicts}
 use Rattle.ca_cli.specs.declared.commands.class_tally.ClassTally.{ClassTally}
-use Rattle.ca_cli.specs.Summaries.{count_line, summary_of}
+use Rattle.ca_cli.specs.Summaries.{count_line}
+use Rattle.ca_cli.specs.Tallies.{summary_of}
 use Rattle.ca_cli.specs.ClassSummaries.{AreLeastRules, HasLeast, IsAdded, IsClassSummary, IsClassTally, IsDecided, IsLeastOf, IsNeeded, rule_in, rules_in}
 use Rattle.ca_cli.specs.ClassSummaries.IsAdded.{Old, New}
 use Rattle.ca_cli.proofs.laws.Summaries.{IsSummary-tally}

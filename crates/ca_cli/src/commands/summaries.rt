@@ -8,7 +8,8 @@ ghost use Rattle.ca_cli.specs.Requests.{BeginsAt, asked_of_many};
 ghost use Rattle.ca_cli.specs.Outcomes.{IsShapeStop};
 ghost use Rattle.ca_cli.specs.Outputs.{IsOutputOfMany, rules_of, rules_fault};
 ghost use Rattle.ca_cli.specs.Samples.{numbered_rule, survey_rules, sample_rules, survey_fault, sample_fault};
-ghost use Rattle.ca_cli.specs.Summaries.{IsSummary, IsTally};
+ghost use Rattle.ca_cli.specs.Summaries.{IsSummary};
+ghost use Rattle.ca_cli.specs.Tallies.{IsTally};
 
 use crate::commands::class_tally::ClassTally;
 use crate::commands::generator::Generator;

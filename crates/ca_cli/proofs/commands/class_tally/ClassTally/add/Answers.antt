@@ -3,7 +3,7 @@ use Rattle.word_image.specs.LocalRules.{LocalRule}
 use Rattle.word_image.specs.Weights.{own_weights}
 use Rattle.rule_classes.specs.Classes.{IsLeastOfClass, HaveOneVerdict}
 use Rattle.ca_cli.specs.ClassSummaries.{IsDecided}
-use Rattle.ca_cli.specs.Summaries.{IsTally}
+use Rattle.ca_cli.specs.Tallies.{IsTally}
 use Rattle.ca_cli.proofs.laws.ClassSummaries.{AreLeastRules-push, least_shape}
 use Rattle.ca_cli.proofs.commands.class_tally.ClassTally.add.Goals as goal
 
