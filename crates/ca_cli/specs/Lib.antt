@@ -16,6 +16,7 @@ pub mod Samples
 pub mod Summaries
 pub mod Tallies
 pub mod ClassSummaries
+pub mod ClassTallies
 pub mod Outputs
 pub mod RightAnswers
 pub mod Outcomes

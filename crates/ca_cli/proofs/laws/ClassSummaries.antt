@@ -15,8 +15,9 @@ use Rattle.cert_check.specs.declared.verdicts.Verdicts.{Verdicts}
 use Rattle.ca_cli.specs.declared.commands.class_tally.ClassTally.{ClassTally}
 use Rattle.ca_cli.specs.Summaries.{count_line}
 use Rattle.ca_cli.specs.Tallies.{summary_of}
-use Rattle.ca_cli.specs.ClassSummaries.{AreLeastRules, HasLeast, IsAdded, IsClassSummary, IsClassTally, IsDecided, IsLeastOf, IsNeeded, rule_in, rules_in}
-use Rattle.ca_cli.specs.ClassSummaries.IsAdded.{Old, New}
+use Rattle.ca_cli.specs.ClassSummaries.{AreLeastRules, HasLeast, IsClassSummary, IsLeastOf, IsNeeded}
+use Rattle.ca_cli.specs.ClassTallies.{IsAdded, IsClassTally, IsDecided, rule_in, rules_in}
+use Rattle.ca_cli.specs.ClassTallies.IsAdded.{Old, New}
 use Rattle.ca_cli.proofs.laws.Summaries.{IsSummary-tally}
 
 -- a place of one item more is one of those before, or the last
