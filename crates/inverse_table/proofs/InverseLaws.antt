@@ -17,7 +17,8 @@ use Rattle.tail_laws.proofs.Injective.{IsInjective-determined}
 use Rattle.eden_laws.proofs.Preinjective.{IsSurjective-injective}
 use Rattle.word_image.proofs.laws.WindowParts.{letter-value}
 use Rattle.inverse_table.specs.InverseMaps.{WindowMap, IsInverseMap, map_letter}
-use Rattle.inverse_table.specs.GivenBack.{IsWindowMap, GivesBack, map_image}
+use Rattle.inverse_table.specs.GivenBack.{GivesBack, map_image}
+use Rattle.inverse_table.specs.MapLimits.{IsWindowMap}
 use Rattle.inverse_table.specs.InverseFaults.{IsApartAt}
 use Rattle.inverse_table.specs.ImageValues.{AreImageValues, AreReadBack, AreApart, letter_at}
 use Rattle.inverse_table.proofs.ImageLaws.{image-at}

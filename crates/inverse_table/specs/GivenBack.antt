@@ -1,22 +1,10 @@
 -- The maps that there are, and how the inverse map of a determined window gives letters back.
-use Rattle.std.specs.Prelude.{◌≡◌, ℕ, ◌+◌, ◌-◌, ◌^◌, ◌≤◌, List, length, map, slice_index, slice_range, ℤ, pos, negsuc, ◌+ℤ◌, ◌≤ℤ◌}
+use Rattle.std.specs.Prelude.{◌≡◌, ℕ, ◌+◌, ◌-◌, List, length, map, slice_index, slice_range, ℤ, pos, ◌+ℤ◌}
 use Rattle.std.specs.List.{range_with_len}
 use Rattle.word_image.specs.LocalRules.{LocalRule, IsWord, local_map}
 use Rattle.word_image.specs.Words.{image, IsPreimage}
 use Rattle.tail_config.specs.Tails.{TailConfig, IsTail, cell, image_cell}
 use Rattle.inverse_table.specs.InverseMaps.{WindowMap, map_letter}
-
--- the maps that there are: a letter for each of at most 65,536 words
-pub record IsWindowMap (g : WindowMap) : Type 0 where
-  pub least_states : 2 ≤ g.states
-  pub most_states : g.states ≤ 16
-  pub least_width : 1 ≤ g.width
-  pub most_width : g.width ≤ 16
-  pub least_offset : negsuc 30 ≤ℤ g.offset
-  pub most_offset : g.offset ≤ℤ pos 16
-  pub entries : length g.table ≡ g.states ^ g.width
-  pub most_entries : g.states ^ g.width ≤ 65536
-  pub letters : IsWord g.states g.table
 
 -- what it gives on the consecutive words of `width` letters of a word
 abbrev pub map_image : WindowMap → List ℕ → List ℕ

@@ -1,11 +1,9 @@
 -- The inverse map of a rule over a determined window (Amoroso and Patt 1972), and the map as a rule.
-use Rattle.std.specs.Prelude.{◌≡◌, ℕ, ◌+◌, ◌-◌, ◌*◌, ◌/◌, ◌^◌, List, length, map, max, slice_index, Option, Some, None, nat_lt, ◌==◌, ◌||◌, if◌then◌else◌, ℤ, pos, negsuc, neg_ℤ, ◌+ℤ◌, ◌-ℤ◌, int_lt}
+use Rattle.std.specs.Prelude.{◌≡◌, ℕ, ◌+◌, ◌*◌, ◌/◌, ◌^◌, List, length, map, max, slice_index, ◌==◌, if◌then◌else◌, ℤ, pos, neg_ℤ, ◌-ℤ◌}
 use Rattle.std.specs.List.{range_with_len}
 use Rattle.word_image.specs.LocalRules.{LocalRule, IsWord, value}
 use Rattle.word_image.specs.Words.{image, IsPreimage}
 use Rattle.tail_config.specs.Tails.{cell}
-use Rattle.word_image.specs.declared.local_rule.RuleFault.{RuleFault}
-use Rattle.word_image.specs.declared.local_rule.RuleFault.TheVariants.{Width, Nodes, Offset}
 
 -- what reads `width` letters of an image from cell i + offset on, and gives a letter for cell i
 pub record WindowMap : Type 0 where
@@ -35,11 +33,3 @@ rule_of g = record {
   offset = g.offset;
   table = if g.width == 1 then map (λ v. slice_index g.table (v / g.states)) (range_with_len 0 (g.states * g.states)) else g.table;
 }
-
--- the first limit of a rule that it breaks
-abbrev pub limit_fault : LocalRule → Option RuleFault
-limit_fault r =
-    if nat_lt 5 r.width then Some Width
-    else (if nat_lt 16 (r.states ^ (r.width - 1)) then Some Nodes
-    else (if int_lt r.offset (negsuc 15) || int_lt (pos 16) (r.offset +ℤ pos (r.width - 1)) then Some Offset
-    else None))
