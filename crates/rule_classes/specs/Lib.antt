@@ -1,4 +1,5 @@
 pub mod Classes
+pub mod ClassVerdicts
 pub mod Colourings
 pub mod Tables
 pub mod Best
