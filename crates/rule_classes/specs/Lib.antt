@@ -4,6 +4,7 @@ pub mod Colourings
 pub mod Tables
 pub mod Best
 pub mod Lifts
+pub mod UndoneRules
 pub mod LiftFaults
 pub mod Members
 pub mod Examples
