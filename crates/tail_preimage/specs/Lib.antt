@@ -1,5 +1,6 @@
 pub mod Preimages
 pub mod Answers
+pub mod GivenAnswers
 pub mod Walks
 pub mod Relations
 pub mod Sides

@@ -1,0 +1,23 @@
+-- What an answer says that is handed back.
+use Rattle.std.specs.Prelude.{Bool, true, false}
+use Rattle.word_image.specs.LocalRules.{LocalRule}
+use Rattle.tail_config.specs.Tails.{TailConfig, config_of}
+use Rattle.tail_preimage.specs.Preimages.{PlacedConfig}
+use Rattle.tail_preimage.specs.declared.answer.Placed.{Placed}
+use Rattle.tail_preimage.specs.declared.answer.Pre.{Pre}
+use Rattle.tail_preimage.specs.declared.answer.Pre.TheVariants.{From, Gap}
+use Rattle.tail_preimage.specs.Answers.{IsFrom, IsGap}
+
+-- the placed configuration of four parts
+abbrev pub placed_config : Placed → PlacedConfig
+placed_config p = record { at = p.at; config = config_of p.left p.middle p.right }
+
+-- an answer is right
+abbrev pub IsAnswer : LocalRule → TailConfig → Pre → Type 0
+IsAnswer r t (From p) = IsFrom r t (placed_config p)
+IsAnswer r t (Gap before after w) = IsGap r t before after w
+
+-- a placed configuration is answered
+abbrev pub is_from : Pre → Bool
+is_from (From p) = true
+is_from (Gap before after w) = false
