@@ -4,8 +4,7 @@ use Rattle.std.proofs.lemmas.Grind.{same_number_lists}
 use Rattle.word_image.specs.LocalRules.{LocalRule, value, word_of}
 use Rattle.word_image.specs.Words.{IsPreimage}
 use Rattle.word_image.proofs.laws.Values.{length-word_of, IsWord-word_of, value-word_of}
-use Rattle.inverse_table.specs.InverseMaps.{WindowMap, IsInverseMap}
-use Rattle.inverse_table.specs.GivenBack.{GivesBack}
+use Rattle.inverse_table.specs.InverseMaps.{WindowMap, IsInverseMap, GivesBack}
 use Rattle.ca_cli.specs.Lines.{line}
 use Rattle.ca_cli.specs.InverseLines.{window_text, offset_line, map_line, map_rule_line, IsMapRule, IsInverse}
 use Rattle.ca_cli.specs.InverseLines.IsMapRule.{Rule, NoRule}

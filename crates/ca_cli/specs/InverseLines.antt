@@ -5,8 +5,7 @@ use Rattle.word_image.specs.Digits.{word_text}
 use Rattle.word_image.specs.LocalRules.{LocalRule, IsRule}
 use Rattle.word_image.specs.Windows.{IsLeastDetermined}
 use Rattle.tail_config.specs.Tails.{IsInjective}
-use Rattle.inverse_table.specs.InverseMaps.{WindowMap, IsInverseMap, rule_of}
-use Rattle.inverse_table.specs.GivenBack.{GivesBack}
+use Rattle.inverse_table.specs.InverseMaps.{WindowMap, IsInverseMap, rule_of, GivesBack}
 use Rattle.rule_text.specs.PrintedRules.{printed, offset_text}
 use Rattle.ca_cli.specs.Lines.{line}
 

@@ -1,5 +1,4 @@
 pub mod InverseMaps
 pub mod MapLimits
-pub mod GivenBack
 pub mod ImageValues
 pub mod InverseFaults

@@ -24,7 +24,7 @@ pub struct InverseMap {
 
 impl Model for InverseMap {
     ghost use Rattle.inverse_table.specs.InverseMaps.{WindowMap};
-    ghost use Rattle.inverse_table.specs.GivenBack.{IsWindowMap};
+    ghost use Rattle.inverse_table.specs.MapLimits.{IsWindowMap};
 
     ghost Value = { WindowMap };
 
