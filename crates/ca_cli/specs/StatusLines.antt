@@ -1,6 +1,6 @@
 -- The lines of the statuses: what is said of words, operands, inputs and certificates.
-use Rattle.std.specs.Prelude.{ℕ, Bool, List, [], ◌∷◌, ◌++◌, length, codes, bytes_eq, if◌then◌else◌}
-use Rattle.std.specs.List.{flat_map}
+use Rattle.std.specs.Prelude.{ℕ, Bool, List, [], ◌++◌, length, codes, bytes_eq, if◌then◌else◌}
+use Rattle.std.specs.List.{join_by}
 use Rattle.std.specs.Fmt.{decimal}
 use Rattle.word_image.specs.Digits.{word_text}
 use Rattle.word_image.specs.Weights.{own_weights}
@@ -68,26 +68,13 @@ unfit_line text = line (codes "notfit " ++ text)
 
 -- Of an accepted certificate
 
--- yes or no, behind a blank
-abbrev pub verdict_text : Bool → List ℕ
-verdict_text verdict = if verdict then codes " yes" else codes " no"
-
 -- a verdict by its name
 abbrev pub verdict_line : List ℕ → Bool → List ℕ
-verdict_line name verdict = line (name ++ verdict_text verdict)
-
--- numbers, a comma before each
-abbrev pub after_commas : List ℕ → List ℕ
-after_commas ns = flat_map (λ n. codes "," ++ decimal n) ns
-
--- numbers with a comma between
-abbrev pub with_commas : List ℕ → List ℕ
-with_commas [] = []
-with_commas (n ∷ ns) = decimal n ++ after_commas ns
+verdict_line name verdict = line (name ++ (if verdict then codes " yes" else codes " no"))
 
 -- what each letter weighs, exactly where one doesn't weigh its own value
 abbrev pub weights_lines : List ℕ → List ℕ
-weights_lines weights = if bytes_eq weights (own_weights (length weights)) then [] else line (codes "weights " ++ with_commas weights)
+weights_lines weights = if bytes_eq weights (own_weights (length weights)) then [] else line (codes "weights " ++ join_by decimal (codes ",") weights)
 
 -- the seven lines, and that of the weights
 abbrev pub accepted_lines : Verdicts → List ℕ

@@ -3,7 +3,7 @@ use Rattle.std.specs.Prelude.{codes}
 use Rattle.std.specs.Fmt.{decimal}
 use Rattle.std.proofs.lemmas.List.{take_more}
 use Rattle.std.proofs.lemmas.Grind.{flat_map-append}
-use Rattle.ca_cli.specs.StatusLines.{after_commas}
+use Rattle.ca_cli.proofs.lines.verdicts.write_others.Invariants.{after_commas}
 use Rattle.ca_cli.proofs.lines.verdicts.write_others.Goals as goal
 
 -- one number more
