@@ -7,6 +7,7 @@ pub mod Inputs
 pub mod Readings
 pub mod Lines
 pub mod StatusLines
+pub mod LiftTexts
 pub mod Reports
 pub mod Digits
 pub mod InverseLines

@@ -33,7 +33,8 @@ use Rattle.ca_cli.specs.declared.words.request.AskOfTwo.TheVariants as two
 use Rattle.ca_cli.specs.Commands.{AskWith, AskOfMany}
 use Rattle.ca_cli.specs.WeightTexts.{weights_said}
 use Rattle.ca_cli.specs.Lines.{line}
-use Rattle.ca_cli.specs.StatusLines.{algebra_text, lift_text, twins_text, wide_text}
+use Rattle.ca_cli.specs.StatusLines.{algebra_text, twins_text, wide_text}
+use Rattle.ca_cli.specs.LiftTexts.{lift_text}
 use Rattle.ca_cli.specs.Reports.{IsSurjectiveLine, number_line, IsReport}
 use Rattle.ca_cli.specs.InverseLines.{IsInverse}
 use Rattle.ca_cli.specs.LanguageLines.{IsLanguage, IsSameLine, IsErasedLine}

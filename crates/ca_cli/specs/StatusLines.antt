@@ -8,8 +8,6 @@ use Rattle.rule_text.specs.PrintedRules.{printed}
 use Rattle.rule_text.specs.declared.text_fault.TextFault.{TextFault}
 use Rattle.rule_algebra.specs.declared.fault.AlgebraFault.{AlgebraFault}
 use Rattle.rule_algebra.specs.declared.fault.AlgebraFault.TheVariants as algebra
-use Rattle.rule_classes.specs.declared.lifts.LiftFault.{LiftFault}
-use Rattle.rule_classes.specs.declared.lifts.LiftFault.TheVariants as lift
 use Rattle.cert_format.specs.declared.shape_fault.Key.{Key}
 use Rattle.cert_format.specs.declared.shape_fault.Key.TheVariants as key
 use Rattle.cert_format.specs.declared.shape_fault.ShapeFault.{ShapeFault}
@@ -47,12 +45,6 @@ algebra_text algebra.NotPermutation = codes "permutation"
 algebra_text algebra.Width = codes "width"
 algebra_text algebra.Nodes = codes "nodes"
 algebra_text algebra.Offset = codes "offset"
-
--- why a rule has no lift
-abbrev pub lift_text : LiftFault → List ℕ
-lift_text lift.States = codes "states"
-lift_text lift.Nodes = codes "nodes"
-lift_text lift.Centre = codes "centre"
 
 -- the rule has these twins, and so no inverse
 abbrev pub twins_text : List ℕ → List ℕ → List ℕ
