@@ -4,7 +4,7 @@ use Rattle.std.specs.Fmt.{decimal, signed_decimal}
 use Rattle.std.proofs.lemmas.List.{take_more}
 use Rattle.std.proofs.lemmas.Grind.{flat_map-append}
 use Rattle.rule_text.specs.PrintedRules.{offset_text}
-use Rattle.ca_cli.specs.Reports.{after_blanks}
+use Rattle.ca_cli.proofs.lines.report.write_flux.Invariants.{after_blanks}
 use Rattle.ca_cli.proofs.lines.report.write_flux.Goals as goal
 
 -- an integer is written as an offset is
