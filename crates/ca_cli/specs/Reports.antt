@@ -6,10 +6,7 @@ use Rattle.word_image.specs.Digits.{word_text}
 use Rattle.word_image.specs.LocalRules.{LocalRule, wolfram_number}
 use Rattle.tail_config.specs.TailTexts as tail
 use Rattle.rule_text.specs.PrintedRules.{printed, offset_text}
-use Rattle.cert_format.specs.Evidence.{InjectiveEvidence, SideEvidence, SumEvidence}
-use Rattle.cert_format.specs.Evidence.InjectiveEvidence.{Window, Twins}
-use Rattle.cert_format.specs.Evidence.SideEvidence.{Ahead, Split}
-use Rattle.cert_format.specs.Evidence.SumEvidence.{Flux, Ring}
+use Rattle.cert_format.specs.Evidence.{InjectiveEvidence, SideEvidence, SumEvidence, Window, Twins, Ahead, Split, Flux, Ring}
 use Rattle.certificate_laws.specs.LeastEvidence.{Evidence, IsOrphanPart, IsLeastEvidence, close_both}
 use Rattle.ca_cli.specs.Lines.{line}
 

@@ -9,9 +9,8 @@ use Rattle.word_image.specs.Families.{IsCoverList}
 use Rattle.eden_laws.specs.ReachedPairs.{IsReached}
 use Rattle.cert_format.specs.declared.cert_version.CertVersion.{CertVersion}
 use Rattle.cert_format.specs.declared.cert_version.CertVersion.TheVariants.{Two, Three}
-use Rattle.cert_format.specs.Evidence.{SurjectiveEvidence}
+use Rattle.cert_format.specs.Evidence.{SurjectiveEvidence, Sets, Pairs, Orphan}
 use Rattle.cert_format.specs.Certificates.{Certificate}
-use Rattle.cert_format.specs.Evidence.SurjectiveEvidence.{Sets, Pairs, Orphan}
 use Rattle.cert_format.specs.WrittenTexts.{certificate_text}
 use Rattle.cert_check.specs.Accepted.{IsAccepted, verdicts_of}
 use Rattle.certificate_laws.specs.LeastEvidence.{Evidence, IsLeastEvidence}
