@@ -5,12 +5,8 @@ use Rattle.word_image.specs.Rings.{ring_image}
 use Rattle.word_image.specs.Graphs.{full_set, first_of, second_of, pair_count}
 use Rattle.tail_config.specs.Tails.{TailConfig, Different, ShareImage}
 use Rattle.cert_format.specs.declared.cert_version.CertVersion.TheVariants.{Two}
-use Rattle.cert_format.specs.Evidence.{SurjectiveEvidence, InjectiveEvidence, SideEvidence, SumEvidence}
+use Rattle.cert_format.specs.Evidence.{SurjectiveEvidence, InjectiveEvidence, SideEvidence, SumEvidence, Sets, Pairs, Orphan, Window, Twins, Ahead, Split, Flux, Ring}
 use Rattle.cert_format.specs.Certificates.{Certificate}
-use Rattle.cert_format.specs.Evidence.SurjectiveEvidence.{Sets, Pairs, Orphan}
-use Rattle.cert_format.specs.Evidence.InjectiveEvidence.{Window, Twins}
-use Rattle.cert_format.specs.Evidence.SideEvidence.{Ahead, Split}
-use Rattle.cert_format.specs.Evidence.SumEvidence.{Flux, Ring}
 use Rattle.cert_check.specs.declared.conditions.Condition.{Condition}
 use Rattle.cert_check.specs.declared.conditions.Condition.TheVariants.{SideClaims, FullListed, NoneEmpty, Closed, FirstsListed, OffDiagonal, PairsClosed, OrphanRead, WindowClaims, TwinsAlike, SideAhead, SideSplit, FluxFlows, RingLossy}
 use Rattle.word_image.specs.declared.side.Side.TheVariants.{Right, Left}

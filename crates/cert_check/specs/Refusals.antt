@@ -5,10 +5,7 @@ use Rattle.word_image.specs.Rings.{ring_image}
 use Rattle.word_image.specs.Graphs.{full_set, first_of, second_of, pair_count}
 use Rattle.tail_config.specs.Tails.{TailConfig, Different, ShareImage}
 use Rattle.cert_format.specs.Certificates.{Certificate}
-use Rattle.cert_format.specs.Evidence.SurjectiveEvidence.{Sets, Pairs, Orphan}
-use Rattle.cert_format.specs.Evidence.InjectiveEvidence.{Window, Twins}
-use Rattle.cert_format.specs.Evidence.SideEvidence.{Ahead, Split}
-use Rattle.cert_format.specs.Evidence.SumEvidence.{Flux, Ring}
+use Rattle.cert_format.specs.Evidence.{Sets, Pairs, Orphan, Window, Twins, Ahead, Split, Flux, Ring}
 use Rattle.cert_format.specs.CertificateTexts.{IsCertificateText}
 use Rattle.cert_format.specs.ShapeFaults.{IsShapeFault, IsFirstWithout}
 use Rattle.cert_format.specs.declared.shape_fault.ShapeFault.{ShapeFault}
