@@ -6,5 +6,6 @@ pub mod Windows
 pub mod Sides
 pub mod Sums
 pub mod Conditions
+pub mod CertificateVersions
 pub mod Refusals
 pub mod Accepted
