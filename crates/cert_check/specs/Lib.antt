@@ -1,6 +1,7 @@
 pub mod Breaches
 pub mod Claims
 pub mod Sets
+pub mod Rows
 pub mod Pairs
 pub mod Windows
 pub mod Sides

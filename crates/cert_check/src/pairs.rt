@@ -4,7 +4,7 @@ ghost use Rattle.std.specs.Prelude.{◌≡◌, ◌≢◌, ◌<◌, ℕ, List, le
 ghost use Rattle.word_image.specs.Graphs.{first_of, second_of, follow, pair_count};
 ghost use Rattle.cert_check.specs.Breaches.{EachBelow, IsFirstBreach, FirstBreach};
 ghost use Rattle.cert_check.specs.Pairs.{FirstIsListed, StepIsListed, StepsAreListed, IsFirstLeaving};
-ghost use Rattle.cert_check.specs.Sets.{AreMarked};
+ghost use Rattle.cert_check.specs.Rows.{AreMarked};
 ghost use Rattle.cert_check.specs.Refusals.{IsChecked};
 
 use crate::aheads::is_first;
