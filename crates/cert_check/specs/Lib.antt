@@ -9,4 +9,5 @@ pub mod Sums
 pub mod Conditions
 pub mod CertificateVersions
 pub mod Refusals
+pub mod Checks
 pub mod Accepted

@@ -1,5 +1,5 @@
 -- Why bytes are refused: the first fault of their shape, or the first condition that isn't met, with what is said of it.
-use Rattle.std.specs.Prelude.{◌≡◌, ◌≢◌, ℕ, ◌^◌, ◌≤◌, List, length, slice_index, Contains, ℤ, Result, MatchResult}
+use Rattle.std.specs.Prelude.{◌≡◌, ◌≢◌, ℕ, ◌^◌, ◌≤◌, List, length, slice_index, Contains, ℤ}
 use Rattle.word_image.specs.LocalRules.{LocalRule, word_of}
 use Rattle.word_image.specs.Rings.{ring_image}
 use Rattle.word_image.specs.Graphs.{full_set, first_of, second_of, pair_count}
@@ -65,10 +65,6 @@ pub data IsBreach (c : Certificate) : Condition → Refusal → Type 0 where
   NoFlux : (phi : List ℤ) (v : ℕ) → c.conserving ≡ Flux phi
       → IsFirstBreach (c.rule.states ^ c.rule.width) (λ v. Flows (slice_index c.weights) c.rule phi (word_of c.rule.states c.rule.width v)) v → IsBreach c condition.FluxFlows (refusal.Flux v)
   NoRing : (p : List ℕ) → c.conserving ≡ Ring p → ¬ IsLossy (slice_index c.weights) c.rule p → IsBreach c condition.RingLossy refusal.Ring
-
--- what the check of one condition answers: it is met, or this is said of it
-abbrev pub IsChecked : Certificate → Condition → Result Unit Refusal → Type 0
-IsChecked c one result = MatchResult result (λ _. Holds c one) (IsBreach c one)
 
 -- the first condition that isn't met, and what is said of it
 pub record IsFirstUnmet (c : Certificate) (f : Refusal) : Type 0 where

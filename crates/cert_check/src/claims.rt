@@ -3,9 +3,8 @@
 ghost use Rattle.std.specs.Prelude.{◌≡◌, ◌↔◌, ◌^◌, ◌<◌, ℕ, length, IsTrue, Some};
 ghost use Rattle.word_image.specs.LocalRules.{node_count, IsRule};
 ghost use Rattle.word_image.specs.Graphs.{pair_count};
-ghost use Rattle.cert_check.specs.Breaches.{FirstBreach};
 ghost use Rattle.cert_check.specs.Sides.{claims_on};
-ghost use Rattle.cert_check.specs.Refusals.{IsChecked};
+ghost use Rattle.cert_check.specs.Checks.{IsChecked, FirstBreach};
 ghost use Rattle.cert_check.specs.Claims.{claim, IsBelow, Falls, FallsBy};
 
 use crate::conditions::Condition;
