@@ -1,9 +1,8 @@
 -- Claims of ranks: a bound of the rank of each pair, by the number of the pair, or nothing.
-use Rattle.std.specs.Prelude.{◌≡◌, ℕ, ◌<◌, List, slice_index, slice_index_or, Option, Some, None}
+use Rattle.std.specs.Prelude.{◌≡◌, ℕ, ◌<◌, List, slice_index_or, Option, Some, None}
 use Rattle.word_image.specs.LocalRules.{LocalRule}
-use Rattle.word_image.specs.Graphs.{pair_of}
 use Rattle.word_image.specs.declared.side.Side.{Side}
-use Rattle.word_image.specs.Sides.{window_with, end_node, LeadsOn}
+use Rattle.word_image.specs.Sides.{LeadsOn}
 
 -- what is claimed of a pair
 abbrev pub claim : List (Option ℕ) → ℕ → Option ℕ
@@ -16,8 +15,3 @@ IsBelow row p n = (m : ℕ) × (claim row p ≡ Some m) × (m < n)
 -- the claim of a pair falls on this side: where n is claimed of it, less is claimed of each pair to which it leads on
 abbrev pub Falls : Side → LocalRule → List (Option ℕ) → ℕ → Type 0
 Falls side r row p = (n q : ℕ) → claim row p ≡ Some n → LeadsOn side r p q → IsBelow row q n
-
--- where the window w and that of node v with a letter have one label, less than n is claimed of the pair of the nodes at their ends
-abbrev pub FallsBy : Side → LocalRule → List (Option ℕ) → ℕ → ℕ → ℕ → ℕ → Type 0
-FallsBy side r row w v n b =
-    slice_index r.table w ≡ slice_index r.table (window_with side r v b) → IsBelow row (pair_of r (end_node side r w) (end_node side r (window_with side r v b))) n

@@ -1,5 +1,6 @@
 pub mod Breaches
 pub mod Claims
+pub mod SideWindows
 pub mod Sets
 pub mod Rows
 pub mod Pairs

@@ -7,7 +7,8 @@ ghost use Rattle.cert_check.specs.Checks.{IsChecked, FirstBreach};
 ghost use Rattle.word_image.specs.Sides.{IsFirstOf, window_with};
 ghost use Rattle.cert_format.specs.Certificates.{IsSideShape};
 ghost use Rattle.cert_format.specs.Parts.{side_of, IsOver};
-ghost use Rattle.cert_check.specs.Sides.{evidence_on, rest_of};
+ghost use Rattle.cert_check.specs.Sides.{evidence_on};
+ghost use Rattle.cert_check.specs.SideWindows.{rest_of};
 ghost use Rattle.cert_check.specs.Windows.{IsAheadPair};
 
 use crate::claims::{claims_below, claims_on};

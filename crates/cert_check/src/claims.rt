@@ -5,7 +5,8 @@ ghost use Rattle.word_image.specs.LocalRules.{node_count, IsRule};
 ghost use Rattle.word_image.specs.Graphs.{pair_count};
 ghost use Rattle.cert_check.specs.Sides.{claims_on};
 ghost use Rattle.cert_check.specs.Checks.{IsChecked, FirstBreach};
-ghost use Rattle.cert_check.specs.Claims.{claim, IsBelow, Falls, FallsBy};
+ghost use Rattle.cert_check.specs.Claims.{claim, IsBelow, Falls};
+ghost use Rattle.cert_check.specs.SideWindows.{FallsBy};
 
 use crate::conditions::Condition;
 use crate::refusal::Refusal;

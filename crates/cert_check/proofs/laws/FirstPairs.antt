@@ -12,7 +12,7 @@ use Rattle.word_image.specs.declared.side.Side.{Side}
 use Rattle.word_image.specs.declared.side.Side.TheVariants.{Right, Left}
 use Rattle.word_image.specs.Sides.{window_with}
 use Rattle.word_image.specs.Sides.{IsFirstOf, other}
-use Rattle.cert_check.specs.Sides.{rest_of}
+use Rattle.cert_check.specs.SideWindows.{rest_of}
 
 -- some letter on this side of two nodes makes windows with one label of them
 abbrev pub HaveOneLabel : Side → LocalRule → ℕ → ℕ → Type 0
