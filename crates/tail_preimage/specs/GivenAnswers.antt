@@ -1,7 +1,8 @@
 -- What an answer says that is handed back.
 use Rattle.std.specs.Prelude.{Bool, true, false}
 use Rattle.word_image.specs.LocalRules.{LocalRule}
-use Rattle.tail_config.specs.Tails.{TailConfig, config_of}
+use Rattle.tail_config.specs.Tails.{TailConfig}
+use Rattle.tail_config.specs.TailValues.{config_of}
 use Rattle.tail_preimage.specs.Preimages.{PlacedConfig}
 use Rattle.tail_preimage.specs.declared.answer.Placed.{Placed}
 use Rattle.tail_preimage.specs.declared.answer.Pre.{Pre}

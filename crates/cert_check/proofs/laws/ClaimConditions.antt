@@ -11,7 +11,8 @@ use Rattle.word_image.specs.declared.side.Side.{Side}
 use Rattle.word_image.specs.declared.side.Side.TheVariants.{Right, Left}
 use Rattle.word_image.specs.Sides.{IsFirstOf, seen_from}
 use Rattle.pair_laws.proofs.Evidence.{IsDetermined-claims, ahead-claims}
-use Rattle.tail_config.specs.Tails.{TailConfig, Different, ShareImage, AgreeLeft, AgreeRight, IsInjective, IsRightSplit, IsLeftSplit, IsRightClosing, IsLeftClosing}
+use Rattle.tail_config.specs.Tails.{TailConfig, Different, ShareImage, AgreeLeft, AgreeRight, IsInjective, IsRightSplit, IsRightClosing, IsLeftClosing}
+use Rattle.tail_config.specs.LeftSplits.{IsLeftSplit}
 use Rattle.tail_config.specs.TailTexts.{IsShortTail}
 use Rattle.tail_laws.proofs.Injective.{IsInjective-determined}
 use Rattle.tail_laws.proofs.Closing.{IsRightClosing-ahead}

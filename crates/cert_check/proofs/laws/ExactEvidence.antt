@@ -16,7 +16,8 @@ use Rattle.search_laws.proofs.StepSets.{LeadsToSet, LeadsToSet-last, IsLastSet-o
 use Rattle.pair_laws.proofs.Claims.{ClaimsRanks, FallsOn-ranks}
 use Rattle.pair_laws.proofs.Evidence.{IsClaimedApart-ranks, ahead-ranks}
 use Rattle.ring_laws.proofs.FluxWindows.{Flows-flux}
-use Rattle.tail_config.specs.Tails.{TailConfig, AgreeLeft, AgreeRight, IsRightSplit, IsLeftSplit}
+use Rattle.tail_config.specs.Tails.{TailConfig, AgreeLeft, AgreeRight, IsRightSplit}
+use Rattle.tail_config.specs.LeftSplits.{IsLeftSplit}
 use Rattle.cert_format.specs.declared.cert_version.CertVersion.TheVariants.{One}
 use Rattle.cert_check.specs.Breaches.{EachBelow}
 use Rattle.cert_check.specs.Claims.{claim}

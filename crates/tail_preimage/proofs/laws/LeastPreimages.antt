@@ -13,7 +13,8 @@ use Rattle.std.proofs.lemmas.List.Elements.{All-take}
 use Rattle.word_image.specs.LocalRules.{LocalRule, IsRule, value}
 use Rattle.word_image.proofs.laws.Bits.{IsBitSet-pow}
 use Rattle.word_image.proofs.laws.Orders.{slice_cmp-value}
-use Rattle.tail_config.specs.Tails.{TailConfig, IsTail, config_of}
+use Rattle.tail_config.specs.Tails.{TailConfig, IsTail}
+use Rattle.tail_config.specs.TailValues.{config_of}
 use Rattle.tail_preimage.specs.Walks.{IsWalk, before_last}
 use Rattle.tail_preimage.specs.Preimages.{PlacedConfig, Shape, HasShape, IsShapedPreimage, IsLeastPreimage, shape_cmp, letters, stretch}
 use Rattle.tail_preimage.specs.Answers.{IsSmall, IsFrom}
