@@ -2,7 +2,7 @@
 use Rattle.std.specs.Prelude.{◌≡◌, ℕ, ◌<◌, List, slice_index_or, Option, Some, None}
 use Rattle.word_image.specs.LocalRules.{LocalRule}
 use Rattle.word_image.specs.declared.side.Side.{Side}
-use Rattle.word_image.specs.Sides.{LeadsOn}
+use Rattle.word_image.specs.Graphs.{LeadsOn}
 
 -- what is claimed of a pair
 abbrev pub claim : List (Option ℕ) → ℕ → Option ℕ

@@ -12,7 +12,7 @@ use Rattle.cert_format.specs.declared.shape_fault.ShapeFault.{ShapeFault}
 use Rattle.cert_check.specs.declared.conditions.Condition.{Condition}
 use Rattle.cert_check.specs.declared.conditions.Condition.TheVariants as condition
 use Rattle.word_image.specs.declared.side.Side.{Side}
-use Rattle.word_image.specs.Sides.{IsFirstOf}
+use Rattle.word_image.specs.FirstPairs.{IsFirstOf}
 use Rattle.cert_check.specs.declared.refusal.TwinCause.{TwinCause}
 use Rattle.cert_check.specs.declared.refusal.TwinCause.TheVariants as twin
 use Rattle.cert_check.specs.declared.refusal.SplitCause.{SplitCause}

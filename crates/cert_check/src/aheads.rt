@@ -4,7 +4,8 @@ ghost use Rattle.std.specs.Prelude.{◌≡◌, ◌↔◌, ◌<◌, ◌≤◌, �
 ghost use Rattle.word_image.specs.LocalRules.{node_count};
 ghost use Rattle.word_image.specs.Graphs.{pair_count};
 ghost use Rattle.cert_check.specs.Checks.{IsChecked, FirstBreach};
-ghost use Rattle.word_image.specs.Sides.{IsFirstOf, window_with};
+ghost use Rattle.word_image.specs.Sides.{window_with};
+ghost use Rattle.word_image.specs.FirstPairs.{IsFirstOf};
 ghost use Rattle.cert_format.specs.Certificates.{IsSideShape};
 ghost use Rattle.cert_format.specs.Parts.{side_of, IsOver};
 ghost use Rattle.cert_check.specs.Sides.{evidence_on};

@@ -2,10 +2,10 @@
 use Rattle.std.proofs.Common.{◌≡◌, ℕ, zero, suc, ◌+◌, ◌<◌, Option, Some, None, refl, arith}
 use Rattle.std.specs.Prelude.{MatchOption}
 use Rattle.word_image.specs.LocalRules.{LocalRule, IsRule}
-use Rattle.word_image.specs.Graphs.{pair_count}
+use Rattle.word_image.specs.Graphs.{pair_count, LeadsOn}
 use Rattle.word_image.specs.Ranks.{IsRank, IsEndless}
 use Rattle.word_image.specs.declared.side.Side.{Side}
-use Rattle.word_image.specs.Sides.{PairGoes, LeadsOn}
+use Rattle.word_image.specs.Sides.{PairGoes}
 use Rattle.pair_laws.proofs.Ranks.{Together-zero}
 use Rattle.pair_laws.proofs.Pairs.{first_of-below, second_of-below, LeadsOn-below, PairGoes-push}
 use Rattle.pair_laws.proofs.Claims.{FallsOn, ClaimsRanks, PairGoes-claim}

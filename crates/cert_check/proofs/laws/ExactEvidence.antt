@@ -8,7 +8,8 @@ use Rattle.word_image.specs.Windows.{IsDetermined, IsRightAhead}
 use Rattle.word_image.specs.Graphs.{IsStep, full_set, pair_count}
 use Rattle.word_image.specs.declared.side.Side.{Side}
 use Rattle.word_image.specs.declared.side.Side.TheVariants.{Right, Left}
-use Rattle.word_image.specs.Sides.{IsFirstOf, seen_from}
+use Rattle.word_image.specs.Sides.{seen_from}
+use Rattle.word_image.specs.FirstPairs.{IsFirstOf}
 use Rattle.word_image.specs.Ranks.{IsLastSet}
 use Rattle.word_image.proofs.laws.LastSets.{IsLastSet-full, IsLastSet-step, IsOrphan-empty_set, IsOrphan-not_surjective}
 use Rattle.search_laws.specs.SearchQueues.Leads.{Here, On}

@@ -7,7 +7,7 @@ use Rattle.tail_config.specs.Tails.{TailConfig}
 use Rattle.cert_format.specs.Certificates.{Certificate}
 use Rattle.cert_format.proofs.laws.ShapeFaults.{IsFirstWithout-unique}
 use Rattle.cert_check.specs.declared.conditions.Condition.{Condition}
-use Rattle.word_image.specs.Sides.{IsFirstOf}
+use Rattle.word_image.specs.FirstPairs.{IsFirstOf}
 use Rattle.cert_check.specs.declared.refusal.TwinCause.{TwinCause}
 use Rattle.cert_check.specs.declared.refusal.SplitCause.{SplitCause}
 use Rattle.cert_check.specs.declared.refusal.Refusal.{Refusal}

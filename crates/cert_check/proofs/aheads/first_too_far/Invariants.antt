@@ -1,5 +1,5 @@
 use Rattle.cert_check.specs.Breaches.{EachBelow}
-use Rattle.word_image.specs.Sides.{IsFirstOf}
+use Rattle.word_image.specs.FirstPairs.{IsFirstOf}
 use Rattle.cert_check.specs.Windows.{IsAheadPair}
 use Rattle.cert_check.proofs.aheads.first_too_far.Given as goal
 
