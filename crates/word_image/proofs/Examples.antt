@@ -14,7 +14,8 @@ use Rattle.std.proofs.lemmas.List.Elements.{All-head, All-replicate}
 use Rattle.word_image.specs.LocalRules.{IsWord, word_of, value, local_map}
 use Rattle.word_image.specs.Words.{image, IsOrphan, IsLeastOrphan, word_cmp}
 use Rattle.word_image.specs.Rings.{IsRing, IsTwins, IsLossyRing, IsFlux}
-use Rattle.word_image.specs.Windows.{HaveOneImage, WindowBefore, IsDetermined, IsLeastDetermined, IsRightAhead, IsLeftAhead, IsLeastRightAhead}
+use Rattle.word_image.specs.Windows.{HaveOneImage, WindowBefore, IsDetermined, IsLeastDetermined, IsRightAhead, IsLeastRightAhead}
+use Rattle.word_image.specs.Sides.{IsLeftAhead}
 use Rattle.word_image.specs.Graphs.{label}
 use Rattle.word_image.specs.Ranks.{BeginTogether, EndTogether, IsRank, IsEndless}
 use Rattle.word_image.specs.Erasure.{IsErasable, IsPairList}

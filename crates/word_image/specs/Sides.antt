@@ -5,6 +5,7 @@ use Rattle.word_image.specs.Graphs.{first_of, second_of}
 use Rattle.word_image.specs.Ranks.{BeginTogether, EndTogether}
 use Rattle.word_image.specs.declared.side.Side.{Side}
 use Rattle.word_image.specs.declared.side.Side.TheVariants.{Right, Left}
+use Rattle.word_image.specs.Windows.{IsRightAhead}
 
 -- the other side
 abbrev pub other : Side → Side
@@ -34,3 +35,7 @@ Together Left = EndTogether
 -- the nodes of a pair do
 abbrev pub PairGoes : Side → LocalRule → ℕ → ℕ → Type 0
 PairGoes side r p = Together side r (first_of r p) (second_of r p)
+
+-- n letters of the image and the last m - 1 letters determine the letter before these: a right look-ahead on the line that is read backwards
+abbrev pub IsLeftAhead : LocalRule → ℕ → Type 0
+IsLeftAhead r n = IsRightAhead (mirrored r) n
