@@ -9,7 +9,7 @@ use Rattle.std.proofs.lemmas.Map.Steps.{length-le_from_distinct_below}
 use Rattle.std.proofs.lemmas.Map.Views.{Contains-from_any}
 use Rattle.word_image.specs.LocalRules.{LocalRule, IsRule}
 use Rattle.word_image.specs.Graphs.{first_of, second_of, pair_count}
-use Rattle.word_image.specs.Erasure.{IsPairList}
+use Rattle.word_image.specs.PairLists.{IsPairList}
 use Rattle.eden_laws.proofs.ReachedPairs.{IsReached-below}
 use Rattle.cert_check.specs.Breaches.{EachBelow}
 use Rattle.cert_check.specs.Pairs.{FirstIsListed, StepsAreListed}

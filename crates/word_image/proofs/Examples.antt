@@ -18,7 +18,8 @@ use Rattle.word_image.specs.Windows.{HaveOneImage, WindowBefore, IsDetermined, I
 use Rattle.word_image.specs.Sides.{IsLeftAhead}
 use Rattle.word_image.specs.Graphs.{label}
 use Rattle.word_image.specs.Ranks.{BeginTogether, EndTogether, IsRank, IsEndless}
-use Rattle.word_image.specs.Erasure.{IsErasable, IsPairList}
+use Rattle.word_image.specs.Erasure.{IsErasable}
+use Rattle.word_image.specs.PairLists.{IsPairList}
 use Rattle.word_image.specs.FirstPairs.{IsFirstOfRight, IsFirstOfLeft}
 use Rattle.word_image.specs.Examples.{rule184, lossy_at_three, shift, stay, both, zero_rule}
 use Rattle.word_image.proofs.laws.Values.{value-below, word_of-value}
