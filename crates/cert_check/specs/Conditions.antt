@@ -11,10 +11,9 @@ use Rattle.cert_check.specs.declared.conditions.Condition.TheVariants.{SideClaim
 use Rattle.word_image.specs.declared.side.Side.TheVariants.{Right, Left}
 use Rattle.word_image.specs.FirstPairs.{IsFirstOf}
 use Rattle.cert_check.specs.Breaches.{EachBelow}
-use Rattle.cert_check.specs.Claims.{Falls}
+use Rattle.cert_check.specs.Claims.{Falls, IsWindowPair, IsAheadPair}
 use Rattle.cert_check.specs.Sets.{StepIsKept, LeadsTo}
 use Rattle.cert_check.specs.Pairs.{FirstIsListed, StepsAreListed}
-use Rattle.cert_check.specs.Windows.{IsWindowPair, IsAheadPair}
 use Rattle.cert_check.specs.Sides.{AgreeBehind, claims_on, evidence_on}
 use Rattle.cert_check.specs.Sums.{Flows, IsLossy}
 

@@ -4,7 +4,6 @@ pub mod SideWindows
 pub mod Sets
 pub mod Rows
 pub mod Pairs
-pub mod Windows
 pub mod Sides
 pub mod Sums
 pub mod Conditions

@@ -10,7 +10,7 @@ ghost use Rattle.cert_format.specs.Certificates.{IsSideShape};
 ghost use Rattle.cert_format.specs.Parts.{side_of, IsOver};
 ghost use Rattle.cert_check.specs.Sides.{evidence_on};
 ghost use Rattle.cert_check.specs.SideWindows.{rest_of};
-ghost use Rattle.cert_check.specs.Windows.{IsAheadPair};
+ghost use Rattle.cert_check.specs.Claims.{IsAheadPair};
 
 use crate::claims::{claims_below, claims_on};
 use crate::conditions::Condition;

@@ -24,8 +24,7 @@ use Rattle.cert_format.specs.Certificates.{IsInjectiveShape, IsSideShape}
 use Rattle.cert_format.specs.Evidence.InjectiveEvidence.{Window, Twins}
 use Rattle.cert_format.specs.Evidence.SideEvidence.{Ahead, Split}
 use Rattle.cert_check.specs.Breaches.{EachBelow}
-use Rattle.cert_check.specs.Claims.{claim, Falls}
-use Rattle.cert_check.specs.Windows.{IsWindowPair, IsAheadPair}
+use Rattle.cert_check.specs.Claims.{claim, Falls, IsWindowPair, IsAheadPair}
 use Rattle.cert_check.specs.Conditions.{OfWindow, OfTwins, OfAhead, OfSplit}
 use Rattle.cert_check.specs.Accepted.{says_injective, says_closing}
 

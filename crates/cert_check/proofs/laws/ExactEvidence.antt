@@ -21,11 +21,10 @@ use Rattle.tail_config.specs.Tails.{TailConfig, AgreeLeft, AgreeRight, IsRightSp
 use Rattle.tail_config.specs.LeftSplits.{IsLeftSplit}
 use Rattle.cert_format.specs.declared.cert_version.CertVersion.TheVariants.{One}
 use Rattle.cert_check.specs.Breaches.{EachBelow}
-use Rattle.cert_check.specs.Claims.{claim}
+use Rattle.cert_check.specs.Claims.{claim, IsWindowPair, IsAheadPair}
 use Rattle.cert_check.specs.Sets.{StepIsKept, LeadsTo}
 use Rattle.cert_check.specs.Sets.LeadsTo.{Stays, Steps}
 use Rattle.cert_check.specs.Sums.{Flows, IsLossy}
-use Rattle.cert_check.specs.Windows.{IsWindowPair, IsAheadPair}
 use Rattle.cert_check.proofs.laws.ClaimConditions.{AllFall, AreApart, AreAlike}
 use Rattle.cert_check.proofs.laws.WindowFlows.{Flows-value}
 

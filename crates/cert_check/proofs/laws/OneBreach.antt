@@ -13,10 +13,9 @@ use Rattle.cert_check.specs.declared.refusal.SplitCause.{SplitCause}
 use Rattle.cert_check.specs.declared.refusal.Refusal.{Refusal}
 use Rattle.cert_check.specs.declared.refusal.Refusal.TheVariants as refusal
 use Rattle.cert_check.specs.Breaches.{EachBelow, IsFirstBreach}
-use Rattle.cert_check.specs.Claims.{Falls}
+use Rattle.cert_check.specs.Claims.{Falls, IsWindowPair, IsAheadPair}
 use Rattle.cert_check.specs.Sets.{StepIsKept}
 use Rattle.cert_check.specs.Pairs.{FirstIsListed, StepIsListed, StepsAreListed, IsFirstLeaving}
-use Rattle.cert_check.specs.Windows.{IsWindowPair, IsAheadPair}
 use Rattle.cert_check.specs.Sides.{AgreeBehind, claims_on}
 use Rattle.cert_check.specs.Sums.{Flows}
 use Rattle.cert_check.specs.Refusals.{IsBreach, IsTwinsBreach, IsSplitBreach, IsFirstUnmet}

@@ -6,7 +6,7 @@ use Rattle.cert_format.specs.Certificates.{Certificate, IsSideShape}
 use Rattle.cert_format.specs.Parts.{side_of}
 use Rattle.cert_format.specs.declared.parts.SidePart.{SidePart}
 use Rattle.cert_check.specs.Breaches.{EachBelow, IsFirstBreach}
-use Rattle.cert_check.specs.Windows.{IsAheadPair}
+use Rattle.cert_check.specs.Claims.{IsAheadPair}
 use Rattle.cert_check.specs.Sides.{claims_on}
 use Rattle.cert_check.specs.Conditions.{OfAhead}
 use Rattle.cert_check.specs.Refusals.IsBreach.{NoAhead}
