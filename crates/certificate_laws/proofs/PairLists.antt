@@ -13,7 +13,7 @@ use Rattle.word_image.specs.PairLists.{IsPairList}
 use Rattle.eden_laws.proofs.ReachedPairs.{IsReached-below}
 use Rattle.cert_check.specs.Breaches.{EachBelow}
 use Rattle.cert_check.specs.Pairs.{FirstIsListed, StepsAreListed}
-use Rattle.certificate_laws.specs.WrittenCertificates.{AreReached}
+use Rattle.eden_laws.specs.ReachedPairs.{AreReached}
 
 -- a pair list meets the conditions
 pub pair_list-met : {r : LocalRule} {pairs : List ℕ} → IsPairList r pairs
