@@ -1,7 +1,7 @@
 -- The commands of the program, the words of each, and the form of their operands.
 use Rattle.std.specs.Prelude.{◌≡◌, ℕ, ◌^◌, ◌<◌, ◌≤◌, List, [], ◌∷◌, length, codes, All, ℤ, ⊤}
 use Rattle.word_image.specs.Digits.{IsHexDigit}
-use Rattle.tail_config.specs.TailTexts.{HasForm}
+use Rattle.tail_config.specs.TailFaults.{HasForm}
 use Rattle.rule_text.specs.RuleTexts.{IsDecimal, IsOffset, decimal_value}
 use Rattle.ca_cli.specs.WeightTexts.{AreWeightTexts}
 use Rattle.ca_cli.specs.declared.words.request.Ask.{Ask}

@@ -23,8 +23,8 @@ use Rattle.rule_classes.specs.Lifts.{lifted, unlifted}
 use Rattle.rule_classes.specs.LiftFaults.{lift_fault}
 use Rattle.rule_classes.specs.declared.lifts.LiftFault.{LiftFault}
 use Rattle.tail_config.specs.Tails.{TailConfig}
-use Rattle.tail_config.specs.TailTexts.{HasParts, IsTailText}
-use Rattle.tail_config.specs.TailFaults.{tail_fault}
+use Rattle.tail_config.specs.TailTexts.{HasParts}
+use Rattle.tail_config.specs.TailFaults.{tail_fault, IsTailText}
 use Rattle.tail_config.specs.declared.faults.TailFault.{TailFault}
 use Rattle.ca_cli.specs.declared.words.request.Ask.{Ask}
 use Rattle.ca_cli.specs.declared.words.request.Ask.TheVariants as ask

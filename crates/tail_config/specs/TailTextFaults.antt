@@ -4,8 +4,8 @@ use Rattle.word_image.specs.Digits.{IsHexDigit, letter_at}
 use Rattle.word_image.specs.Grammars.{IsFormFault}
 use Rattle.tail_config.specs.Tails.{TailConfig}
 use Rattle.tail_config.specs.TailValues.{config_of}
-use Rattle.tail_config.specs.TailTexts.{HasParts, HasForm}
-use Rattle.tail_config.specs.TailFaults.{tail_fault}
+use Rattle.tail_config.specs.TailTexts.{HasParts}
+use Rattle.tail_config.specs.TailFaults.{tail_fault, HasForm}
 use Rattle.tail_config.specs.declared.faults.TailFault.{TailFault}
 use Rattle.tail_config.specs.declared.texts.TailTextFault.{TailTextFault}
 use Rattle.tail_config.specs.declared.texts.TailTextFault.TheVariants as fault
