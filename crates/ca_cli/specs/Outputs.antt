@@ -5,7 +5,7 @@ use Rattle.word_image.specs.LocalRules.{LocalRule, IsRule, mirrored}
 use Rattle.word_image.specs.Rings.{IsLeastTwins}
 use Rattle.word_image.specs.Weights.{own_weights}
 use Rattle.word_image.specs.Windows.{IsLeastDetermined}
-use Rattle.tail_config.specs.Tails.{IsInjective}
+use Rattle.tail_config.specs.Tails.{TailConfig, IsInjective}
 use Rattle.rule_algebra.specs.Algebra.{shifted, IsTrimmed, IsWidened, IsRecolouring, IsRecoloured, IsComposed}
 use Rattle.rule_algebra.specs.AlgebraFaults.{shift_fault, widen_fault, compose_fault}
 use Rattle.rule_algebra.specs.declared.fault.AlgebraFault.{AlgebraFault}
@@ -22,7 +22,6 @@ use Rattle.rule_classes.specs.Classes.{IsLeastOfClass}
 use Rattle.rule_classes.specs.Lifts.{lifted, unlifted}
 use Rattle.rule_classes.specs.LiftFaults.{lift_fault}
 use Rattle.rule_classes.specs.declared.lifts.LiftFault.{LiftFault}
-use Rattle.tail_config.specs.Tails.{TailConfig}
 use Rattle.tail_config.specs.TailTexts.{HasParts}
 use Rattle.tail_config.specs.TailFaults.{tail_fault, IsTailText}
 use Rattle.tail_config.specs.declared.faults.TailFault.{TailFault}
