@@ -1,22 +1,23 @@
--- The two answers: a least preimage, or a least gap, which shows that nothing maps to the configuration.
-use Rattle.std.specs.Prelude.{ℕ, ◌+◌, ◌≤◌, List}
+-- What an answer says that is handed back.
+use Rattle.std.specs.Prelude.{Bool, true, false}
 use Rattle.word_image.specs.LocalRules.{LocalRule}
 use Rattle.tail_config.specs.Tails.{TailConfig}
-use Rattle.tail_preimage.specs.Preimages.{PlacedConfig, Shape, MapsTo, IsLeastPreimage, IsLeastGap}
+use Rattle.tail_config.specs.TailValues.{config_of}
+use Rattle.tail_preimage.specs.Preimages.{PlacedConfig, IsFrom, IsGap}
+use Rattle.tail_preimage.specs.declared.answer.Placed.{Placed}
+use Rattle.tail_preimage.specs.declared.answer.Pre.{Pre}
+use Rattle.tail_preimage.specs.declared.answer.Pre.TheVariants.{From, Gap}
 
--- at most 16 periods on either side
-pub record IsSmall (s : Shape) : Type 0 where
-  pub left : s.back + s.before ≤ 16
-  pub right : s.on + s.after ≤ 16
+-- the placed configuration of four parts
+abbrev pub placed_config : Placed → PlacedConfig
+placed_config p = record { at = p.at; config = config_of p.left p.middle p.right }
 
--- the first placed configuration that maps to t
-pub record IsFrom (r : LocalRule) (t : TailConfig) (p : PlacedConfig) : Type 0 where
-  pub least : IsLeastPreimage r t p
-  pub small : IsSmall least.shape
+-- an answer is right
+abbrev pub IsAnswer : LocalRule → TailConfig → Pre → Type 0
+IsAnswer r t (From p) = IsFrom r t (placed_config p)
+IsAnswer r t (Gap before after w) = IsGap r t before after w
 
--- the first gap, where none does
-pub record IsGap (r : LocalRule) (t : TailConfig) (before after : ℕ) (w : List ℕ) : Type 0 where
-  pub least : IsLeastGap r t before after w
-  pub before_few : before ≤ 16
-  pub after_few : after ≤ 16
-  pub none : (p : PlacedConfig) → ¬ MapsTo r p t
+-- a placed configuration is answered
+abbrev pub is_from : Pre → Bool
+is_from (From p) = true
+is_from (Gap before after w) = false

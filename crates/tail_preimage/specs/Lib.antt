@@ -1,6 +1,5 @@
 pub mod Preimages
 pub mod Answers
-pub mod GivenAnswers
 pub mod Walks
 pub mod Relations
 pub mod Sides

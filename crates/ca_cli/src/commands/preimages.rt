@@ -2,7 +2,7 @@
 ghost use Rattle.std.specs.Prelude.{◌≡◌, IfOk};
 ghost use Rattle.tail_config.specs.Tails.{TailConfig};
 ghost use Rattle.tail_config.specs.TailFaults.{HasForm};
-ghost use Rattle.tail_preimage.specs.GivenAnswers.{IsAnswer, placed_config};
+ghost use Rattle.tail_preimage.specs.Answers.{IsAnswer, placed_config};
 ghost use Rattle.word_image.specs.LocalRules.{IsWord};
 ghost use Rattle.ca_cli.specs.Lines.{line};
 ghost use Rattle.ca_cli.specs.Commands.{AskWith};

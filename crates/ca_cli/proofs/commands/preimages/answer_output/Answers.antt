@@ -1,6 +1,6 @@
 use Rattle.std.proofs.Common.{ℕ, List, sym, ap, ◌∙◌, subst}
 use Rattle.std.proofs.lemmas.Result.{IfOk-weaker}
-use Rattle.tail_preimage.specs.GivenAnswers.{IsAnswer, placed_config}
+use Rattle.tail_preimage.specs.Answers.{IsAnswer, placed_config}
 use Rattle.ca_cli.specs.Lines.{line}
 use Rattle.ca_cli.specs.PreimageLines.{IsPreimageLine, gap_text}
 use Rattle.ca_cli.specs.PreimageLines.IsPreimageLine.{From, Gap}
