@@ -19,8 +19,7 @@ use Rattle.cert_format.specs.Certificates.{Certificate}
 use Rattle.cert_format.specs.WrittenTexts.{certificate_text}
 use Rattle.certificate_laws.specs.WrittenCertificates.{IsWritten}
 use Rattle.rule_classes.specs.Classes.{IsLeastOfClass}
-use Rattle.rule_classes.specs.Lifts.{lifted, unlifted}
-use Rattle.rule_classes.specs.LiftFaults.{lift_fault}
+use Rattle.rule_classes.specs.Lifts.{lifted, unlifted, lift_fault}
 use Rattle.rule_classes.specs.declared.lifts.LiftFault.{LiftFault}
 use Rattle.tail_config.specs.TailTexts.{HasParts}
 use Rattle.tail_config.specs.TailFaults.{tail_fault, IsTailText}

@@ -5,6 +5,5 @@ pub mod Tables
 pub mod Best
 pub mod Lifts
 pub mod UndoneRules
-pub mod LiftFaults
 pub mod Members
 pub mod Examples
