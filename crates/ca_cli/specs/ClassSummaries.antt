@@ -8,19 +8,11 @@ use Rattle.ca_cli.specs.Summaries.{IsSummary, count_line}
 abbrev pub IsLeastOf : LocalRule → LocalRule → Type 0
 IsLeastOf r g = (mirror : Bool) × IsLeastOfClass r mirror g
 
--- the least rule of the class of r is in the list
-abbrev pub HasLeast : List LocalRule → LocalRule → Type 0
-HasLeast leasts r = (g : LocalRule) × Contains leasts g × IsLeastOf r g
-
--- g is the least rule of the class of some rule of the list
-abbrev pub IsNeeded : List LocalRule → LocalRule → Type 0
-IsNeeded rules g = (r : LocalRule) × Contains rules r × IsLeastOf r g
-
--- the least rules of the classes of some rules, each once
+-- the least rules of the classes of some rules, each once: that of each rule is in the list, and each of the list is that of some rule
 pub record AreLeastRules (rules leasts : List LocalRule) : Type 0 where
   pub distinct : AllPairs ◌≢◌ leasts
-  pub complete : All (HasLeast leasts) rules
-  pub no_others : All (IsNeeded rules) leasts
+  pub complete : All (λ r. (g : LocalRule) × Contains leasts g × IsLeastOf r g) rules
+  pub no_others : All (λ g. (r : LocalRule) × Contains rules r × IsLeastOf r g) leasts
 
 -- the seven lines of the summary, and that of how many classes the rules have
 pub record IsClassSummary (rules : List LocalRule) (out : List ℕ) : Type 0 where

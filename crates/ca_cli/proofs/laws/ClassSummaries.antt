@@ -15,7 +15,7 @@ use Rattle.cert_check.specs.declared.verdicts.Verdicts.{Verdicts}
 use Rattle.ca_cli.specs.declared.commands.class_tally.ClassTally.{ClassTally}
 use Rattle.ca_cli.specs.Summaries.{count_line}
 use Rattle.ca_cli.specs.Tallies.{summary_of}
-use Rattle.ca_cli.specs.ClassSummaries.{AreLeastRules, HasLeast, IsClassSummary, IsLeastOf, IsNeeded}
+use Rattle.ca_cli.specs.ClassSummaries.{AreLeastRules, IsClassSummary, IsLeastOf}
 use Rattle.ca_cli.specs.ClassTallies.{IsAdded, IsClassTally, IsDecided, rule_in, rules_in}
 use Rattle.ca_cli.specs.ClassTallies.IsAdded.{Old, New}
 use Rattle.ca_cli.proofs.laws.Summaries.{IsSummary-tally}
@@ -42,6 +42,14 @@ AreLeastRules-nil = record {
   complete = All-nil _;
   no_others = All-nil _;
 }
+
+-- the least rule of the class of r is in the list
+abbrev HasLeast : List LocalRule → LocalRule → Type 0
+HasLeast leasts r = (g : LocalRule) × Contains leasts g × IsLeastOf r g
+
+-- g is the least rule of the class of some rule of the list
+abbrev IsNeeded : List LocalRule → LocalRule → Type 0
+IsNeeded rules g = (r : LocalRule) × Contains rules r × IsLeastOf r g
 
 -- one rule more, with its least rule added to the list
 pub AreLeastRules-push : {rules leasts more : List LocalRule} {r g : LocalRule} → IsLeastOf r g → IsAdded g leasts more → AreLeastRules rules leasts → AreLeastRules (rules ++ r ∷ []) more
