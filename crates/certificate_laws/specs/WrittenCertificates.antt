@@ -11,7 +11,7 @@ use Rattle.cert_format.specs.Evidence.{SurjectiveEvidence, Sets, Pairs, Orphan}
 use Rattle.cert_format.specs.Certificates.{Certificate}
 use Rattle.cert_format.specs.WrittenTexts.{certificate_text}
 use Rattle.cert_check.specs.Accepted.{IsAccepted, verdicts_of}
-use Rattle.certificate_laws.specs.LeastEvidence.{Evidence, IsLeastEvidence}
+use Rattle.certificate_laws.specs.LeastEvidence.{IsLeastEvidence}
 use Rattle.eden_laws.specs.ReachedPairs.{AreReached}
 
 -- the orphan, where there is one
@@ -19,18 +19,6 @@ abbrev pub orphan_of : SurjectiveEvidence → Option (List ℕ)
 orphan_of (Sets sets) = None
 orphan_of (Pairs pairs) = None
 orphan_of (Orphan w) = Some w
-
--- what a certificate has of it: all but the version, the list of sets or of pairs, and the ranks
-abbrev pub evidence_of : Certificate → Evidence
-evidence_of c = record {
-  rule = c.rule;
-  weights = c.weights;
-  orphan = orphan_of c.surjective;
-  injective = c.injective;
-  right = c.right;
-  left = c.left;
-  conserving = c.conserving;
-}
 
 -- in version 2 the sets are the cover list, and in version 3 the pairs are the reached ones
 abbrev pub IsListPart : CertVersion → LocalRule → SurjectiveEvidence → Type 0
@@ -48,7 +36,8 @@ pub record AreRanks (r : LocalRule) (Together : ℕ → ℕ → ℕ → Type 0) 
 pub record HasWrittenParts (version : CertVersion) (r : LocalRule) (weights : List ℕ) (c : Certificate) : Type 0 where
   pub version_is : c.version ≡ version
   pub weights_are : c.weights ≡ weights
-  pub least : IsLeastEvidence (slice_index weights) r (evidence_of c)
+  pub least : IsLeastEvidence (slice_index weights) r
+      (record { rule = c.rule; weights = c.weights; orphan = orphan_of c.surjective; injective = c.injective; right = c.right; left = c.left; conserving = c.conserving })
   pub list : IsListPart version r c.surjective
   pub forward : AreRanks r (BeginTogether r) c.forward
   pub backward : AreRanks r (EndTogether r) c.backward
