@@ -12,7 +12,8 @@ use Rattle.rule_algebra.specs.AlgebraFaults.{shift_fault}
 use Rattle.ca_cli.specs.declared.words.request.Ask.{Ask}
 use Rattle.ca_cli.specs.declared.words.request.AskOfTwo.{AskOfTwo}
 use Rattle.ca_cli.specs.Commands.{AskWith, Command}
-use Rattle.ca_cli.specs.StatusLines.{algebra_text, lift_text, twins_text, wide_text}
+use Rattle.ca_cli.specs.StatusLines.{algebra_text, twins_text, wide_text}
+use Rattle.ca_cli.specs.LiftTexts.{lift_text}
 use Rattle.ca_cli.specs.PreimageLines.{tail_text}
 use Rattle.ca_cli.specs.Outputs.{IsCause, IsCauseWith, IsCauseOfTwo}
 use Rattle.ca_cli.specs.Outputs.IsCause.{Twins, Wide, Colours, Lift, Unlift}

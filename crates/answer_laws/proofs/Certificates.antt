@@ -27,7 +27,8 @@ use Rattle.cert_format.specs.Evidence.SurjectiveEvidence.{Sets, Pairs, Orphan}
 use Rattle.cert_format.specs.Certificates.{Certificate}
 use Rattle.cert_format.specs.WrittenTexts.{certificate_text}
 use Rattle.certificate_laws.specs.LeastEvidence.{Evidence, IsOrphanPart}
-use Rattle.certificate_laws.specs.WrittenCertificates.{orphan_of, evidence_of, AreReached, IsListPart, AreRanks, HasWrittenParts}
+use Rattle.certificate_laws.specs.WrittenCertificates.{orphan_of, IsListPart, AreRanks, HasWrittenParts}
+use Rattle.eden_laws.specs.ReachedPairs.{AreReached}
 use Rattle.ca_cli.specs.Outputs.{IsCertified}
 use Rattle.answer_laws.proofs.Orders.{word_cmp_total, one_word}
 use Rattle.answer_laws.proofs.Lists.{same_members}
@@ -112,6 +113,11 @@ IsListPart-unique (Pairs pairs) (Orphan w) same every h g = absurd (none-some w 
 IsListPart-unique (Orphan v) (Sets sets) same least h g = absurd (none-some v (sym same))
 IsListPart-unique (Orphan v) (Pairs pairs) same least h g = absurd (none-some v (sym same))
 IsListPart-unique (Orphan v) (Orphan w) same least h g = ap Orphan (same_Some v w same)
+
+-- the least evidence of a certificate
+abbrev evidence_of : Certificate → Evidence
+evidence_of c =
+    record { rule = c.rule; weights = c.weights; orphan = orphan_of c.surjective; injective = c.injective; right = c.right; left = c.left; conserving = c.conserving }
 
 -- the certificate with this evidence, list and ranks
 abbrev certificate_of : CertVersion → Evidence → SurjectiveEvidence → List (Option ℕ) → List (Option ℕ) → Certificate

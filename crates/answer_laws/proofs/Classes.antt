@@ -9,7 +9,8 @@ use Rattle.rule_text.proofs.laws.AcceptedRules.{IsRule-said}
 use Rattle.rule_classes.proofs.laws.Classes.{IsLeastOfClass-unique}
 use Rattle.ca_cli.specs.Samples.{numbered_rule, survey_rules, survey_fault}
 use Rattle.ca_cli.specs.Summaries.{count_line}
-use Rattle.ca_cli.specs.ClassSummaries.{HasLeast, AreLeastRules, IsClassSummary}
+use Rattle.ca_cli.specs.ClassSummaries.{AreLeastRules, IsClassSummary}
+use Rattle.ca_cli.proofs.laws.ClassSummaries.{HasLeast}
 use Rattle.ca_cli.proofs.laws.Samples.{survey-accepted}
 use Rattle.answer_laws.proofs.Lists.{length-le_from_contained}
 use Rattle.answer_laws.proofs.Summaries.{IsSummary-unique}

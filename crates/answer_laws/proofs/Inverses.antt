@@ -1,13 +1,11 @@
 -- The inverse map of a rule over its least determined window is one.
-use Rattle.std.proofs.Common.{◌≡◌, ℕ, ◌^◌, ◌<◌, List, ◌++◌, get_or, slice_index, ℤ, refl, sym, ap, ap₂, ◌∙◌, subst, arith}
+use Rattle.std.proofs.Common.{◌≡◌, ℕ, ◌^◌, ◌<◌, List, get_or, slice_index, ℤ, refl, sym, ap, ap₂, ◌∙◌, subst, arith}
 use Rattle.std.proofs.lemmas.Grind.{same_number_lists}
 use Rattle.word_image.specs.LocalRules.{LocalRule, value, word_of}
 use Rattle.word_image.specs.Words.{IsPreimage}
 use Rattle.word_image.proofs.laws.Values.{length-word_of, IsWord-word_of, value-word_of}
-use Rattle.inverse_table.specs.InverseMaps.{WindowMap, IsInverseMap}
-use Rattle.inverse_table.specs.GivenBack.{GivesBack}
-use Rattle.ca_cli.specs.Lines.{line}
-use Rattle.ca_cli.specs.InverseLines.{window_text, offset_line, map_line, map_rule_line, IsMapRule, IsInverse}
+use Rattle.inverse_table.specs.InverseMaps.{WindowMap, IsInverseMap, GivesBack}
+use Rattle.ca_cli.specs.InverseLines.{map_lines, IsMapRule, IsInverse}
 use Rattle.ca_cli.specs.InverseLines.IsMapRule.{Rule, NoRule}
 use Rattle.answer_laws.proofs.Least.{IsLeastDetermined-unique}
 
@@ -41,10 +39,6 @@ IsMapRule-unique (Rule rule) (NoRule none) = absurd (none rule)
 IsMapRule-unique (NoRule none) (Rule rule) = absurd (none rule)
 IsMapRule-unique (NoRule none) (NoRule _) = refl
 
--- the four lines
-abbrev lines_of : ℕ → ℕ → WindowMap → List ℕ → List ℕ
-lines_of n c g rule = line (window_text n c) ++ offset_line g ++ map_line g ++ map_rule_line rule
-
 -- and four lines say it
 pub IsInverse-unique : {r : LocalRule} {out other : List ℕ} → IsInverse r out → IsInverse r other → out ≡ other
 IsInverse-unique {r} here there =
@@ -53,4 +47,4 @@ IsInverse-unique {r} here there =
     subst (λ c. IsInverseMap r here.n c there.inverse) (sym place) (subst (λ n. IsInverseMap r n there.c there.inverse) (sym long) there.map) in
     let maps : here.inverse ≡ there.inverse = IsInverseMap-unique here.gives_back here.map map in
     let rules : here.rule ≡ there.rule = IsMapRule-unique (subst (λ g. IsMapRule g here.rule) maps here.as_rule) there.as_rule in
-    here.lines ∙ ap₂ (λ (n c : ℕ). lines_of n c here.inverse here.rule) long place ∙ ap₂ (λ (g : WindowMap) (rule : List ℕ). lines_of there.n there.c g rule) maps rules ∙ sym there.lines
+    here.lines ∙ ap₂ (λ (n c : ℕ). map_lines n c here.inverse here.rule) long place ∙ ap₂ (λ (g : WindowMap) (rule : List ℕ). map_lines there.n there.c g rule) maps rules ∙ sym there.lines

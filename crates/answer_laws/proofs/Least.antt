@@ -5,7 +5,8 @@ use Rattle.word_image.specs.Words.{IsLeastOrphan}
 use Rattle.word_image.specs.Rings.{IsLeastTwins, IsLeastLossyRing}
 use Rattle.word_image.specs.Erasure.{IsLeastErasable}
 use Rattle.word_image.specs.Windows.{IsLeastDetermined, IsLeastRightAhead}
-use Rattle.tail_config.specs.Tails.{TailConfig, config_of, mirror_of}
+use Rattle.tail_config.specs.Tails.{TailConfig, mirror_of}
+use Rattle.tail_config.specs.TailValues.{config_of}
 use Rattle.tail_config.specs.Splits.{IsLeastRightSplit, IsLeastLeftSplit}
 use Rattle.answer_laws.proofs.Orders.{one_word, one_pair, one_split}
 

@@ -8,7 +8,8 @@ use Rattle.word_image.specs.LocalRules.{LocalRule, IsRule, IsWord, local_map, va
 use Rattle.word_image.specs.Words.{image}
 use Rattle.word_image.proofs.laws.SameRules.{rule_from_parts}
 use Rattle.word_image.proofs.laws.Values.{length-word_of, IsWord-word_of, value-word_of}
-use Rattle.tail_config.specs.Tails.{TailConfig, IsTail, config_of, cells, image_cell}
+use Rattle.tail_config.specs.Tails.{TailConfig, IsTail, cells, image_cell}
+use Rattle.tail_config.specs.TailValues.{config_of}
 use Rattle.tail_config.proofs.laws.Cells.{IsWord-zero, cells-middle}
 use Rattle.rule_algebra.specs.Algebra.{KeepsImages, IsTrimmed, IsWidened, IsComposed, IsRecolouring, IsRecoloured}
 use Rattle.rule_classes.proofs.laws.Colours.{letters_of}

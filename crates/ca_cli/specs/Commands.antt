@@ -1,7 +1,7 @@
 -- The commands of the program, the words of each, and the form of their operands.
-use Rattle.std.specs.Prelude.{◌≡◌, ◌≢◌, ℕ, ◌^◌, ◌<◌, ◌≤◌, List, [], ◌∷◌, length, codes, All, ℤ, ⊤}
+use Rattle.std.specs.Prelude.{◌≡◌, ℕ, ◌^◌, ◌<◌, ◌≤◌, List, [], ◌∷◌, length, codes, All, ℤ, ⊤}
 use Rattle.word_image.specs.Digits.{IsHexDigit}
-use Rattle.tail_config.specs.TailTexts.{HasForm}
+use Rattle.tail_config.specs.TailFaults.{HasForm}
 use Rattle.rule_text.specs.RuleTexts.{IsDecimal, IsOffset, decimal_value}
 use Rattle.ca_cli.specs.WeightTexts.{AreWeightTexts}
 use Rattle.ca_cli.specs.declared.words.request.Ask.{Ask}
@@ -78,10 +78,6 @@ words_of Check = codes "check" ∷ []
 
 -- The form of the operands
 
--- one or two decimal digits, after a minus sign or none
-abbrev pub IsOffsetText : List ℕ → Type 0
-IsOffsetText text = (o : ℤ) × IsOffset text o
-
 -- from one to sixteen hexadecimal digits, one for each new letter
 pub record AreColours (text : List ℕ) : Type 0 where
   pub digits : All IsHexDigit text
@@ -101,7 +97,7 @@ pub record IsSeed (seed : List ℕ) : Type 0 where
 
 -- the operand beside a rule
 abbrev pub IsOperand : AskWith → List ℕ → Type 0
-IsOperand Shift text = IsOffsetText text
+IsOperand Shift text = (o : ℤ) × IsOffset text o
 IsOperand Widen text = IsDecimal 1 1 text
 IsOperand Permute text = AreColours text
 IsOperand Preimage text = HasForm text
@@ -115,26 +111,15 @@ IsBeginning Survey text = IsDecimal 1 39 text
 IsBeginning Sample text = IsSeed text
 IsBeginning Classes text = IsDecimal 1 39 text
 
--- the operands of many rules: their shape, where they begin, and how many there are
-pub record AreRules (asked : AskOfMany) (k m first many : List ℕ) : Type 0 where
-  pub states : IsDecimal 1 2 k
-  pub width : IsDecimal 1 2 m
-  pub from : IsBeginning asked first
-  pub count : IsCount many
-
 -- the operands that aren't rules have the form that is asked of them
 abbrev pub IsWellFormed : Command → Type 0
 IsWellFormed (OfRule asked rule) = ⊤
 IsWellFormed (OfRuleWith asked rule operand) = IsOperand asked operand
 IsWellFormed (OfTwo asked first second) = ⊤
-IsWellFormed (OfMany asked states width from count) = AreRules asked states width from count
+IsWellFormed (OfMany asked states width from count) = IsDecimal 1 2 states × IsDecimal 1 2 width × IsBeginning asked from × IsCount count
 IsWellFormed Check = ⊤
 
 -- the words are those of the command, and its operands are well formed
 pub record IsCommand (words : List (List ℕ)) (c : Command) : Type 0 where
   pub words_are : words ≡ words_of c
   pub well_formed : IsWellFormed c
-
--- the command reads nothing from the source
-abbrev pub ReadsNothing : Command → Type 0
-ReadsNothing c = c ≢ Check

@@ -1,9 +1,7 @@
 -- Evidence whose letters have one digit each.
 use Rattle.std.specs.Prelude.{⊤}
 use Rattle.word_image.specs.LocalRules.{IsWord}
-use Rattle.cert_format.specs.Evidence.{InjectiveEvidence, SumEvidence}
-use Rattle.cert_format.specs.Evidence.InjectiveEvidence.{Window, Twins}
-use Rattle.cert_format.specs.Evidence.SumEvidence.{Flux, Ring}
+use Rattle.cert_format.specs.Evidence.{InjectiveEvidence, SumEvidence, Window, Twins, Flux, Ring}
 
 -- twins have such letters
 abbrev pub HasTwinDigits : InjectiveEvidence → Type 0

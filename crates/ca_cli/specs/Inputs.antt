@@ -1,9 +1,5 @@
--- How much of its input the command `check` reads, and what is then left of the source.
-use Rattle.std.specs.Prelude.{◌≡◌, ℕ, ◌+◌, ◌≤◌, List, length, Option, is_some, MatchOption, ⊤}
-use Rattle.std.specs.Io.KnownBytes.{Consumes, IsAtEnd}
-use Rattle.ca_io.specs.Faults.{Rose}
-use Rattle.ca_cli.specs.declared.status.Status.{Status}
-use Rattle.ca_cli.specs.declared.status.Status.TheVariants as status
+-- The input of the command `check`: the whole of it, or that it is too long.
+use Rattle.std.specs.Prelude.{◌≡◌, ℕ, ◌+◌, ◌≤◌, List, length, Option, MatchOption, ⊤}
 
 -- the longest input that is judged
 abbrev pub most_input : ℕ
@@ -17,34 +13,3 @@ pub record IsWholeInput (input : Option (List ℕ)) (bytes : List ℕ) : Type 0 
 -- the source had too many left, where it tells
 abbrev pub IsLongInput : Option (List ℕ) → Type 0
 IsLongInput input = MatchOption input ⊤ (λ left. most_input + 1 ≤ length left)
-
--- at most this many bytes were taken, those that came first
-pub record TakesAtMost (most : ℕ) (before after : Option (List ℕ)) : Type 0 where
-  pub bytes : List ℕ
-  pub few : length bytes ≤ most
-  pub first : Consumes before after bytes
-
--- exactly this many bytes were taken, those that came first
-pub record TakesExactly (count : ℕ) (before after : Option (List ℕ)) : Type 0 where
-  pub bytes : List ℕ
-  pub many : length bytes ≡ count
-  pub first : Consumes before after bytes
-
--- what `check` has read where it ends with this status: all that there was, or one byte more than is judged
-abbrev pub IsReadFor : Status → Option (List ℕ) → Option (List ℕ) → Type 0
-IsReadFor status.Done before after = IsAtEnd after
-IsReadFor status.Refused before after = IsAtEnd after
-IsReadFor status.Usage before after = ⊤
-IsReadFor status.RuleFault before after = ⊤
-IsReadFor status.NotFit before after = ⊤
-IsReadFor status.TooLong before after = TakesExactly (most_input + 1) before after
-IsReadFor status.ReadFault before after = ⊤
-IsReadFor status.WriteFault before after = ⊤
-IsReadFor status.Memory before after = ⊤
-
--- what a call did to a source in which a read may have failed: what it has left, and its count of faults
-pub record Reading (failed : Type 0) (before after : Option (List ℕ)) (faults faults_after : ℕ) : Type 0 where
-  pub most : TakesAtMost (most_input + 1) before after
-  pub counted : failed → Rose faults faults_after
-  pub kept : ¬ failed → faults_after ≡ faults
-  pub telling : is_some after ≡ is_some before

@@ -5,28 +5,15 @@ use Rattle.word_image.specs.Digits.{word_text}
 use Rattle.word_image.specs.LocalRules.{LocalRule, IsRule}
 use Rattle.word_image.specs.Windows.{IsLeastDetermined}
 use Rattle.tail_config.specs.Tails.{IsInjective}
-use Rattle.inverse_table.specs.InverseMaps.{WindowMap, IsInverseMap, rule_of}
-use Rattle.inverse_table.specs.GivenBack.{GivesBack}
+use Rattle.inverse_table.specs.InverseMaps.{WindowMap, IsInverseMap, rule_of, GivesBack}
 use Rattle.rule_text.specs.PrintedRules.{printed, offset_text}
 use Rattle.ca_cli.specs.Lines.{line}
 
--- The lines of an inverse map
-
--- a window
-abbrev pub window_text : ℕ → ℕ → List ℕ
-window_text n c = codes "window " ++ decimal n ++ codes " " ++ decimal c
-
--- where the cells that the map reads begin
-abbrev pub offset_line : WindowMap → List ℕ
-offset_line g = line (codes "offset " ++ offset_text g.offset)
-
--- its letters
-abbrev pub map_line : WindowMap → List ℕ
-map_line g = line (codes "map " ++ word_text g.table)
-
--- what is said of the map as a rule
-abbrev pub map_rule_line : List ℕ → List ℕ
-map_rule_line text = line (codes "rule " ++ text)
+-- the four lines of a map over a window: the window, where the cells that it reads begin, its letters, and what is said of it as a rule
+abbrev pub map_lines : ℕ → ℕ → WindowMap → List ℕ → List ℕ
+map_lines n c g rule =
+    line (codes "window " ++ decimal n ++ codes " " ++ decimal c) ++ line (codes "offset " ++ offset_text g.offset)
+    ++ line (codes "map " ++ word_text g.table) ++ line (codes "rule " ++ rule)
 
 -- the map is a rule with this text, or it breaks a limit of rules
 pub data IsMapRule (g : WindowMap) : List ℕ → Type 0 where
@@ -45,4 +32,4 @@ pub record IsInverse (r : LocalRule) (out : List ℕ) : Type 0 where
   pub map : IsInverseMap r n c inverse
   pub gives_back : GivesBack r n c inverse
   pub as_rule : IsMapRule inverse rule
-  pub lines : out ≡ line (window_text n c) ++ offset_line inverse ++ map_line inverse ++ map_rule_line rule
+  pub lines : out ≡ map_lines n c inverse rule

@@ -4,8 +4,10 @@ pub mod Commands
 pub mod Requests
 pub mod CertificateCommands
 pub mod Inputs
+pub mod Readings
 pub mod Lines
 pub mod StatusLines
+pub mod LiftTexts
 pub mod Reports
 pub mod Digits
 pub mod InverseLines
@@ -13,7 +15,9 @@ pub mod LanguageLines
 pub mod PreimageLines
 pub mod Samples
 pub mod Summaries
+pub mod Tallies
 pub mod ClassSummaries
+pub mod ClassTallies
 pub mod Outputs
 pub mod RightAnswers
 pub mod Outcomes

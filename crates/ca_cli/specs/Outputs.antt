@@ -5,7 +5,7 @@ use Rattle.word_image.specs.LocalRules.{LocalRule, IsRule, mirrored}
 use Rattle.word_image.specs.Rings.{IsLeastTwins}
 use Rattle.word_image.specs.Weights.{own_weights}
 use Rattle.word_image.specs.Windows.{IsLeastDetermined}
-use Rattle.tail_config.specs.Tails.{IsInjective}
+use Rattle.tail_config.specs.Tails.{TailConfig, IsInjective}
 use Rattle.rule_algebra.specs.Algebra.{shifted, IsTrimmed, IsWidened, IsRecolouring, IsRecoloured, IsComposed}
 use Rattle.rule_algebra.specs.AlgebraFaults.{shift_fault, widen_fault, compose_fault}
 use Rattle.rule_algebra.specs.declared.fault.AlgebraFault.{AlgebraFault}
@@ -19,12 +19,10 @@ use Rattle.cert_format.specs.Certificates.{Certificate}
 use Rattle.cert_format.specs.WrittenTexts.{certificate_text}
 use Rattle.certificate_laws.specs.WrittenCertificates.{IsWritten}
 use Rattle.rule_classes.specs.Classes.{IsLeastOfClass}
-use Rattle.rule_classes.specs.Lifts.{lifted, unlifted}
-use Rattle.rule_classes.specs.LiftFaults.{lift_fault}
+use Rattle.rule_classes.specs.Lifts.{lifted, unlifted, lift_fault}
 use Rattle.rule_classes.specs.declared.lifts.LiftFault.{LiftFault}
-use Rattle.tail_config.specs.Tails.{TailConfig}
-use Rattle.tail_config.specs.TailTexts.{HasParts, IsTailText}
-use Rattle.tail_config.specs.TailFaults.{tail_fault}
+use Rattle.tail_config.specs.TailTexts.{HasParts}
+use Rattle.tail_config.specs.TailFaults.{tail_fault, IsTailText}
 use Rattle.tail_config.specs.declared.faults.TailFault.{TailFault}
 use Rattle.ca_cli.specs.declared.words.request.Ask.{Ask}
 use Rattle.ca_cli.specs.declared.words.request.Ask.TheVariants as ask
@@ -33,7 +31,8 @@ use Rattle.ca_cli.specs.declared.words.request.AskOfTwo.TheVariants as two
 use Rattle.ca_cli.specs.Commands.{AskWith, AskOfMany}
 use Rattle.ca_cli.specs.WeightTexts.{weights_said}
 use Rattle.ca_cli.specs.Lines.{line}
-use Rattle.ca_cli.specs.StatusLines.{algebra_text, lift_text, twins_text, wide_text}
+use Rattle.ca_cli.specs.StatusLines.{algebra_text, twins_text, wide_text}
+use Rattle.ca_cli.specs.LiftTexts.{lift_text}
 use Rattle.ca_cli.specs.Reports.{IsSurjectiveLine, number_line, IsReport}
 use Rattle.ca_cli.specs.InverseLines.{IsInverse}
 use Rattle.ca_cli.specs.LanguageLines.{IsLanguage, IsSameLine, IsErasedLine}

@@ -8,8 +8,7 @@ use Rattle.tail_config.specs.Tails.{TailConfig}
 use Rattle.tail_config.specs.TailTexts.{printed}
 use Rattle.tail_config.specs.declared.faults.TailFault.{TailFault}
 use Rattle.tail_config.specs.declared.faults.TailFault.TheVariants.{LeftEmpty, RightEmpty, Long, Letter}
-use Rattle.tail_preimage.specs.Preimages.{PlacedConfig}
-use Rattle.tail_preimage.specs.Answers.{IsFrom, IsGap}
+use Rattle.tail_preimage.specs.Preimages.{PlacedConfig, IsFrom, IsGap}
 use Rattle.ca_cli.specs.Lines.{line}
 
 -- the place where its middle begins, and the configuration

@@ -1,34 +1,18 @@
 -- What a report says of a rule, line by line.
-use Rattle.std.specs.Prelude.{◌≡◌, ℕ, List, ◌++◌, codes, nat_lt, Bool, if◌then◌else◌, Option, Some, None, ℤ}
+use Rattle.std.specs.Prelude.{◌≡◌, ℕ, List, ◌++◌, codes, nat_lt, if◌then◌else◌, Option, Some, None}
 use Rattle.std.specs.List.{flat_map}
 use Rattle.std.specs.Fmt.{decimal}
 use Rattle.word_image.specs.Digits.{word_text}
 use Rattle.word_image.specs.LocalRules.{LocalRule, wolfram_number}
-use Rattle.tail_config.specs.Tails.{TailConfig}
 use Rattle.tail_config.specs.TailTexts as tail
 use Rattle.rule_text.specs.PrintedRules.{printed, offset_text}
-use Rattle.cert_format.specs.Evidence.{InjectiveEvidence, SideEvidence, SumEvidence}
-use Rattle.cert_format.specs.Evidence.InjectiveEvidence.{Window, Twins}
-use Rattle.cert_format.specs.Evidence.SideEvidence.{Ahead, Split}
-use Rattle.cert_format.specs.Evidence.SumEvidence.{Flux, Ring}
+use Rattle.cert_format.specs.Evidence.{InjectiveEvidence, SideEvidence, SumEvidence, Window, Twins, Ahead, Split, Flux, Ring}
 use Rattle.certificate_laws.specs.LeastEvidence.{Evidence, IsOrphanPart, IsLeastEvidence, close_both}
 use Rattle.ca_cli.specs.Lines.{line}
-
--- the printed rule
-abbrev pub rule_line : LocalRule → List ℕ
-rule_line r = line (codes "rule " ++ printed r)
 
 -- the Wolfram number, of a rule of at most six states
 abbrev pub number_line : LocalRule → List ℕ
 number_line r = line (codes "number " ++ (if nat_lt r.states 7 then decimal (wolfram_number r) else codes "none"))
-
--- two configurations with a blank between
-abbrev pub tails_text : TailConfig → TailConfig → List ℕ
-tails_text x y = tail.printed x ++ codes " " ++ tail.printed y
-
--- numbers, a blank before each
-abbrev pub after_blanks : List ℤ → List ℕ
-after_blanks zs = flat_map (λ z. codes " " ++ offset_text z) zs
 
 -- every word has a preimage, or else this is an orphan
 abbrev pub surjective_line : Option (List ℕ) → List ℕ
@@ -43,22 +27,18 @@ injective_line (Twins x y) = line (codes "injective no twins " ++ word_text x ++
 -- of a side by its name: a look-ahead, or else a split
 abbrev pub side_line : List ℕ → SideEvidence → List ℕ
 side_line name (Ahead n) = line (name ++ codes " yes ahead " ++ decimal n)
-side_line name (Split x y) = line (name ++ codes " no split " ++ tails_text x y)
-
--- whether the rule closes on both sides
-abbrev pub open_line : Bool → List ℕ
-open_line both = line (if both then codes "open yes" else codes "open no")
+side_line name (Split x y) = line (name ++ codes " no split " ++ tail.printed x ++ codes " " ++ tail.printed y)
 
 -- a flux, or else a ring
 abbrev pub conserving_line : SumEvidence → List ℕ
-conserving_line (Flux phi) = line (codes "conserving yes flux" ++ after_blanks phi)
+conserving_line (Flux phi) = line (codes "conserving yes flux" ++ flat_map (λ z. codes " " ++ offset_text z) phi)
 conserving_line (Ring p) = line (codes "conserving no ring " ++ word_text p)
 
 -- the eight lines
 abbrev pub report_of : Evidence → List ℕ
 report_of e =
-    rule_line e.rule ++ number_line e.rule ++ surjective_line e.orphan ++ injective_line e.injective
-    ++ side_line (codes "right") e.right ++ side_line (codes "left") e.left ++ open_line (close_both e.right e.left)
+    line (codes "rule " ++ printed e.rule) ++ number_line e.rule ++ surjective_line e.orphan ++ injective_line e.injective
+    ++ side_line (codes "right") e.right ++ side_line (codes "left") e.left ++ line (if close_both e.right e.left then codes "open yes" else codes "open no")
     ++ conserving_line e.conserving
 
 -- the line on surjectivity, true and with the least orphan

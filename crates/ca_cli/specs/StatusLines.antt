@@ -1,6 +1,6 @@
 -- The lines of the statuses: what is said of words, operands, inputs and certificates.
-use Rattle.std.specs.Prelude.{ℕ, Bool, List, [], ◌∷◌, ◌++◌, length, codes, bytes_eq, if◌then◌else◌}
-use Rattle.std.specs.List.{flat_map}
+use Rattle.std.specs.Prelude.{ℕ, Bool, List, [], ◌++◌, length, codes, bytes_eq, if◌then◌else◌}
+use Rattle.std.specs.List.{join_by}
 use Rattle.std.specs.Fmt.{decimal}
 use Rattle.word_image.specs.Digits.{word_text}
 use Rattle.word_image.specs.Weights.{own_weights}
@@ -8,8 +8,6 @@ use Rattle.rule_text.specs.PrintedRules.{printed}
 use Rattle.rule_text.specs.declared.text_fault.TextFault.{TextFault}
 use Rattle.rule_algebra.specs.declared.fault.AlgebraFault.{AlgebraFault}
 use Rattle.rule_algebra.specs.declared.fault.AlgebraFault.TheVariants as algebra
-use Rattle.rule_classes.specs.declared.lifts.LiftFault.{LiftFault}
-use Rattle.rule_classes.specs.declared.lifts.LiftFault.TheVariants as lift
 use Rattle.cert_format.specs.declared.shape_fault.Key.{Key}
 use Rattle.cert_format.specs.declared.shape_fault.Key.TheVariants as key
 use Rattle.cert_format.specs.declared.shape_fault.ShapeFault.{ShapeFault}
@@ -48,12 +46,6 @@ algebra_text algebra.Width = codes "width"
 algebra_text algebra.Nodes = codes "nodes"
 algebra_text algebra.Offset = codes "offset"
 
--- why a rule has no lift
-abbrev pub lift_text : LiftFault → List ℕ
-lift_text lift.States = codes "states"
-lift_text lift.Nodes = codes "nodes"
-lift_text lift.Centre = codes "centre"
-
 -- the rule has these twins, and so no inverse
 abbrev pub twins_text : List ℕ → List ℕ → List ℕ
 twins_text x y = codes "twins " ++ word_text x ++ codes " " ++ word_text y
@@ -68,26 +60,13 @@ unfit_line text = line (codes "notfit " ++ text)
 
 -- Of an accepted certificate
 
--- yes or no, behind a blank
-abbrev pub verdict_text : Bool → List ℕ
-verdict_text verdict = if verdict then codes " yes" else codes " no"
-
 -- a verdict by its name
 abbrev pub verdict_line : List ℕ → Bool → List ℕ
-verdict_line name verdict = line (name ++ verdict_text verdict)
-
--- numbers, a comma before each
-abbrev pub after_commas : List ℕ → List ℕ
-after_commas ns = flat_map (λ n. codes "," ++ decimal n) ns
-
--- numbers with a comma between
-abbrev pub with_commas : List ℕ → List ℕ
-with_commas [] = []
-with_commas (n ∷ ns) = decimal n ++ after_commas ns
+verdict_line name verdict = line (name ++ (if verdict then codes " yes" else codes " no"))
 
 -- what each letter weighs, exactly where one doesn't weigh its own value
 abbrev pub weights_lines : List ℕ → List ℕ
-weights_lines weights = if bytes_eq weights (own_weights (length weights)) then [] else line (codes "weights " ++ with_commas weights)
+weights_lines weights = if bytes_eq weights (own_weights (length weights)) then [] else line (codes "weights " ++ join_by decimal (codes ",") weights)
 
 -- the seven lines, and that of the weights
 abbrev pub accepted_lines : Verdicts → List ℕ

@@ -1,7 +1,7 @@
 //! From the words to the answer, which is whole in memory before anything is written.
 ghost use Rattle.std.specs.Prelude.{◌≡◌, ◌↔◌, ℕ, List, Option, Result, map, IfOk, string_bytes};
 ghost use Rattle.ca_cli.specs.Commands.{Command, IsCommand};
-ghost use Rattle.ca_cli.specs.Inputs.{IsReadFor, Reading};
+ghost use Rattle.ca_cli.specs.Readings.{IsReadFor, Reading};
 ghost use Rattle.ca_cli.specs.Outcomes.{IsOutcome, outcome_status};
 ghost use Rattle.ca_cli.specs.RightAnswers.{IsAnswer};
 

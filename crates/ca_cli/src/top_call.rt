@@ -3,7 +3,8 @@ ghost use Rattle.std.specs.Prelude.{◌≡◌, ◌≢◌, ℕ, ◌+◌, ◌-◌,
 ghost use Rattle.std.specs.Io.KnownBytes.{Appends};
 ghost use Rattle.ca_io.specs.Faults.{Rose};
 ghost use Rattle.ca_cli.specs.Commands.{Command, IsCommand};
-ghost use Rattle.ca_cli.specs.Inputs.{most_input, IsReadFor, TakesAtMost};
+ghost use Rattle.ca_cli.specs.Inputs.{most_input};
+ghost use Rattle.ca_cli.specs.Readings.{IsReadFor, TakesAtMost};
 ghost use Rattle.ca_cli.specs.RightAnswers.{IsAnswer};
 ghost use Rattle.ca_cli.specs.Statuses.{IsAnswered};
 

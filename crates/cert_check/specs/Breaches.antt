@@ -1,5 +1,5 @@
 -- The first number at which something isn't so.
-use Rattle.std.specs.Prelude.{ℕ, ◌<◌, Option, MatchOption}
+use Rattle.std.specs.Prelude.{ℕ, ◌<◌}
 
 -- P of each number below n
 abbrev pub EachBelow : ℕ → (ℕ → Type 0) → Type 0
@@ -10,7 +10,3 @@ pub record IsFirstBreach (n : ℕ) (P : ℕ → Type 0) (i : ℕ) : Type 0 where
   pub within : i < n
   pub fails : ¬ P i
   pub earlier : EachBelow i P
-
--- the first number below n of which P isn't true, or none where P is true of each
-abbrev pub FirstBreach : ℕ → (ℕ → Type 0) → Option ℕ → Type 0
-FirstBreach n P found = MatchOption found (EachBelow n P) (IsFirstBreach n P)

@@ -4,22 +4,16 @@ use Rattle.word_image.specs.LocalRules.{word_of}
 use Rattle.word_image.specs.Rings.{ring_image}
 use Rattle.word_image.specs.Graphs.{full_set, first_of, second_of, pair_count}
 use Rattle.tail_config.specs.Tails.{TailConfig, Different, ShareImage}
-use Rattle.cert_format.specs.declared.cert_version.CertVersion.TheVariants.{Two}
-use Rattle.cert_format.specs.Evidence.{SurjectiveEvidence, InjectiveEvidence, SideEvidence, SumEvidence}
+use Rattle.cert_format.specs.Evidence.{SurjectiveEvidence, InjectiveEvidence, SideEvidence, SumEvidence, Sets, Pairs, Orphan, Window, Twins, Ahead, Split, Flux, Ring}
 use Rattle.cert_format.specs.Certificates.{Certificate}
-use Rattle.cert_format.specs.Evidence.SurjectiveEvidence.{Sets, Pairs, Orphan}
-use Rattle.cert_format.specs.Evidence.InjectiveEvidence.{Window, Twins}
-use Rattle.cert_format.specs.Evidence.SideEvidence.{Ahead, Split}
-use Rattle.cert_format.specs.Evidence.SumEvidence.{Flux, Ring}
 use Rattle.cert_check.specs.declared.conditions.Condition.{Condition}
 use Rattle.cert_check.specs.declared.conditions.Condition.TheVariants.{SideClaims, FullListed, NoneEmpty, Closed, FirstsListed, OffDiagonal, PairsClosed, OrphanRead, WindowClaims, TwinsAlike, SideAhead, SideSplit, FluxFlows, RingLossy}
 use Rattle.word_image.specs.declared.side.Side.TheVariants.{Right, Left}
-use Rattle.word_image.specs.Sides.{IsFirstOf}
+use Rattle.word_image.specs.FirstPairs.{IsFirstOf}
 use Rattle.cert_check.specs.Breaches.{EachBelow}
-use Rattle.cert_check.specs.Claims.{Falls}
+use Rattle.cert_check.specs.Claims.{Falls, IsWindowPair, IsAheadPair}
 use Rattle.cert_check.specs.Sets.{StepIsKept, LeadsTo}
 use Rattle.cert_check.specs.Pairs.{FirstIsListed, StepsAreListed}
-use Rattle.cert_check.specs.Windows.{IsWindowPair, IsAheadPair}
 use Rattle.cert_check.specs.Sides.{AgreeBehind, claims_on, evidence_on}
 use Rattle.cert_check.specs.Sums.{Flows, IsLossy}
 
@@ -96,18 +90,3 @@ Holds c RingLossy = OfRing c.conserving (IsLossy (slice_index c.weights) c.rule)
 -- the certificate meets all of them
 abbrev pub MeetsConditions : Certificate → Type 0
 MeetsConditions c = (condition : Condition) → Holds c condition
-
--- the same certificate as one of version 2
-abbrev pub as_two : Certificate → Certificate
-as_two c = record {
-  version = Two;
-  rule = c.rule;
-  surjective = c.surjective;
-  injective = c.injective;
-  right = c.right;
-  left = c.left;
-  conserving = c.conserving;
-  weights = c.weights;
-  forward = c.forward;
-  backward = c.backward;
-}

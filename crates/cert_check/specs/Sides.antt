@@ -1,16 +1,10 @@
 -- What is asked on a side of the line, right or left.
-use Rattle.std.specs.Prelude.{ℕ, ◌-◌, ◌/◌, ◌%◌, ◌^◌, List, Option}
-use Rattle.word_image.specs.LocalRules.{LocalRule}
+use Rattle.std.specs.Prelude.{ℕ, List, Option}
 use Rattle.tail_config.specs.Tails.{TailConfig, AgreeLeft, AgreeRight}
 use Rattle.cert_format.specs.Evidence.{SideEvidence}
 use Rattle.cert_format.specs.Certificates.{Certificate}
 use Rattle.word_image.specs.declared.side.Side.{Side}
 use Rattle.word_image.specs.declared.side.Side.TheVariants.{Right, Left}
-
--- a node without its last letter, or on the left without its first one, as a number
-abbrev pub rest_of : Side → LocalRule → ℕ → ℕ
-rest_of Right r u = u / r.states
-rest_of Left r u = u % r.states ^ (r.width - 2)
 
 -- two configurations are equal far on the other side
 abbrev pub AgreeBehind : Side → TailConfig → TailConfig → Type 0

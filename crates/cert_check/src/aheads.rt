@@ -3,13 +3,14 @@
 ghost use Rattle.std.specs.Prelude.{◌≡◌, ◌↔◌, ◌<◌, ◌≤◌, ℕ, length, slice_index, IsTrue};
 ghost use Rattle.word_image.specs.LocalRules.{node_count};
 ghost use Rattle.word_image.specs.Graphs.{pair_count};
-ghost use Rattle.cert_check.specs.Breaches.{FirstBreach};
-ghost use Rattle.cert_check.specs.Refusals.{IsChecked};
-ghost use Rattle.word_image.specs.Sides.{IsFirstOf, window_with};
+ghost use Rattle.cert_check.specs.Checks.{IsChecked, FirstBreach};
+ghost use Rattle.word_image.specs.Sides.{window_with};
+ghost use Rattle.word_image.specs.FirstPairs.{IsFirstOf};
 ghost use Rattle.cert_format.specs.Certificates.{IsSideShape};
 ghost use Rattle.cert_format.specs.Parts.{side_of, IsOver};
-ghost use Rattle.cert_check.specs.Sides.{evidence_on, rest_of};
-ghost use Rattle.cert_check.specs.Windows.{IsAheadPair};
+ghost use Rattle.cert_check.specs.Sides.{evidence_on};
+ghost use Rattle.cert_check.specs.SideWindows.{rest_of};
+ghost use Rattle.cert_check.specs.Claims.{IsAheadPair};
 
 use crate::claims::{claims_below, claims_on};
 use crate::conditions::Condition;

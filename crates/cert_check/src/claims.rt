@@ -3,10 +3,10 @@
 ghost use Rattle.std.specs.Prelude.{◌≡◌, ◌↔◌, ◌^◌, ◌<◌, ℕ, length, IsTrue, Some};
 ghost use Rattle.word_image.specs.LocalRules.{node_count, IsRule};
 ghost use Rattle.word_image.specs.Graphs.{pair_count};
-ghost use Rattle.cert_check.specs.Breaches.{FirstBreach};
 ghost use Rattle.cert_check.specs.Sides.{claims_on};
-ghost use Rattle.cert_check.specs.Refusals.{IsChecked};
-ghost use Rattle.cert_check.specs.Claims.{claim, IsBelow, Falls, FallsBy};
+ghost use Rattle.cert_check.specs.Checks.{IsChecked, FirstBreach};
+ghost use Rattle.cert_check.specs.Claims.{claim, IsBelow, Falls};
+ghost use Rattle.cert_check.specs.SideWindows.{FallsBy};
 
 use crate::conditions::Condition;
 use crate::refusal::Refusal;

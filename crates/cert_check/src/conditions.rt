@@ -2,7 +2,8 @@
 
 ghost use Rattle.std.specs.Prelude.{MatchResult};
 ghost use Rattle.cert_check.specs.Conditions.{MeetsConditions};
-ghost use Rattle.cert_check.specs.Refusals.{IsChecked, IsFirstUnmet};
+ghost use Rattle.cert_check.specs.Refusals.{IsFirstUnmet};
+ghost use Rattle.cert_check.specs.Checks.{IsChecked};
 
 use crate::aheads::side_ahead;
 use crate::claims::side_claims;

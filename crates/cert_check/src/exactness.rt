@@ -1,7 +1,8 @@
 //! What the definitions say of all bytes, as the contract of a function with nothing to run.
 ghost use Rattle.std.specs.Prelude.{◌≡◌, ℕ, List};
 ghost use Rattle.cert_format.specs.Certificates.{Certificate};
-ghost use Rattle.cert_check.specs.Conditions.{MeetsConditions, as_two};
+ghost use Rattle.cert_check.specs.Conditions.{MeetsConditions};
+ghost use Rattle.cert_check.specs.CertificateVersions.{as_two};
 ghost use Rattle.cert_check.specs.Accepted.{IsAccepted};
 ghost use Rattle.cert_check.specs.Refusals.{IsRefusal};
 

@@ -1,7 +1,8 @@
 //! Marks on sets of nodes.
 
 ghost use Rattle.std.specs.Prelude.{◌≡◌, ◌+◌, ◌<◌, ◌↔◌, ◌⊎◌, ℕ, IsTrue};
-ghost use Rattle.cert_check.specs.Sets.{HasPart, IsMarked, AreMarked, AreKept, without};
+ghost use Rattle.cert_check.specs.Sets.{HasPart};
+ghost use Rattle.cert_check.specs.Rows.{IsMarked, AreMarked, AreKept, without};
 
 use cert_format::CertVersion;
 

@@ -3,7 +3,7 @@
 ghost use Rattle.word_image.specs.LocalRules.{IsWord};
 ghost use Rattle.word_image.specs.Graphs.{full_set};
 ghost use Rattle.cert_check.specs.Sets.{LeadsTo};
-ghost use Rattle.cert_check.specs.Refusals.{IsChecked};
+ghost use Rattle.cert_check.specs.Checks.{IsChecked};
 
 use crate::conditions::Condition;
 use crate::refusal::Refusal;

@@ -2,10 +2,10 @@
 
 ghost use Rattle.std.specs.Prelude.{◌≡◌, ◌≢◌, ◌<◌, ℕ, List, length, slice_index, All, IsTrue, ◌↔◌, MatchOption};
 ghost use Rattle.word_image.specs.Graphs.{first_of, second_of, follow, pair_count};
-ghost use Rattle.cert_check.specs.Breaches.{EachBelow, IsFirstBreach, FirstBreach};
+ghost use Rattle.cert_check.specs.Breaches.{EachBelow, IsFirstBreach};
 ghost use Rattle.cert_check.specs.Pairs.{FirstIsListed, StepIsListed, StepsAreListed, IsFirstLeaving};
-ghost use Rattle.cert_check.specs.Sets.{AreMarked};
-ghost use Rattle.cert_check.specs.Refusals.{IsChecked};
+ghost use Rattle.cert_check.specs.Rows.{AreMarked};
+ghost use Rattle.cert_check.specs.Checks.{IsChecked, FirstBreach};
 
 use crate::aheads::is_first;
 use crate::conditions::Condition;

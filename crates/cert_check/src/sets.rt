@@ -2,9 +2,10 @@
 
 ghost use Rattle.std.specs.Prelude.{◌≢◌, ◌^◌, ◌<◌, ℕ, List, length, slice_index, Contains, IsTrue, MatchOption};
 ghost use Rattle.word_image.specs.Graphs.{full_set};
-ghost use Rattle.cert_check.specs.Breaches.{EachBelow, IsFirstBreach, FirstBreach};
-ghost use Rattle.cert_check.specs.Sets.{StepIsKept, AreKept};
-ghost use Rattle.cert_check.specs.Refusals.{IsChecked};
+ghost use Rattle.cert_check.specs.Breaches.{EachBelow, IsFirstBreach};
+ghost use Rattle.cert_check.specs.Sets.{StepIsKept};
+ghost use Rattle.cert_check.specs.Rows.{AreKept};
+ghost use Rattle.cert_check.specs.Checks.{IsChecked, FirstBreach};
 
 use crate::conditions::Condition;
 use crate::marks::Marks;

@@ -2,7 +2,8 @@
 
 ghost use Rattle.std.specs.Prelude.{◌≡◌, ◌↔◌, IsTrue, MatchOption};
 ghost use Rattle.tail_config.specs.Tails.{Different, ShareImage};
-ghost use Rattle.cert_check.specs.Refusals.{IsChecked, IsSplitBreach};
+ghost use Rattle.cert_check.specs.Refusals.{IsSplitBreach};
+ghost use Rattle.cert_check.specs.Checks.{IsChecked};
 ghost use Rattle.cert_check.specs.Sides.{AgreeBehind};
 
 use crate::aheads::part_on;

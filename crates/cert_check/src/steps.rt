@@ -3,7 +3,7 @@
 ghost use Rattle.std.specs.Prelude.{◌≡◌, ◌+◌, ◌*◌, ◌^◌, ◌<◌, ◌≤◌, ◌↔◌, ℕ, IsBitSet};
 ghost use Rattle.word_image.specs.LocalRules.{IsRule};
 ghost use Rattle.word_image.specs.Graphs.{full_set, IsStep};
-ghost use Rattle.cert_check.specs.Sets.{HasBit, AreEnds};
+ghost use Rattle.cert_check.specs.Rows.{HasBit, AreEnds};
 
 use std::marker::Model;
 use word_image::Rule;
@@ -23,7 +23,7 @@ pub struct Steps {
 impl Model for Steps {
     ghost use Rattle.std.specs.Prelude.{◌^◌};
     ghost use Rattle.word_image.specs.LocalRules.{LocalRule, IsRule};
-    ghost use Rattle.cert_check.specs.Sets.{AreEnds};
+    ghost use Rattle.cert_check.specs.Rows.{AreEnds};
 
     ghost Value = { LocalRule };
 

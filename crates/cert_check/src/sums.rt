@@ -3,8 +3,7 @@
 ghost use Rattle.std.specs.Prelude.{◌≡◌, ◌↔◌, ◌/◌, ◌^◌, ◌<◌, length, slice_index, IsTrue};
 ghost use Rattle.word_image.specs.LocalRules.{node_count, word_of};
 ghost use Rattle.word_image.specs.Rings.{IsRing, KeepsSum};
-ghost use Rattle.cert_check.specs.Breaches.{FirstBreach};
-ghost use Rattle.cert_check.specs.Refusals.{IsChecked};
+ghost use Rattle.cert_check.specs.Checks.{IsChecked, FirstBreach};
 ghost use Rattle.cert_check.specs.Sums.{Flows};
 
 use crate::conditions::Condition;

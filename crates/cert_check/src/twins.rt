@@ -3,7 +3,8 @@
 ghost use Rattle.std.specs.Prelude.{◌≡◌, ◌≢◌, ◌↔◌, ◌≤◌, length, IsTrue, MatchOption};
 ghost use Rattle.word_image.specs.LocalRules.{IsWord};
 ghost use Rattle.word_image.specs.Rings.{IsRing, ring_image};
-ghost use Rattle.cert_check.specs.Refusals.{IsChecked, IsTwinsBreach};
+ghost use Rattle.cert_check.specs.Refusals.{IsTwinsBreach};
+ghost use Rattle.cert_check.specs.Checks.{IsChecked};
 
 use crate::conditions::Condition;
 use crate::refusal::{Refusal, TwinCause};

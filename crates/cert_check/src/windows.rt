@@ -2,9 +2,8 @@
 
 ghost use Rattle.std.specs.Prelude.{◌≡◌, ◌↔◌, ◌+◌, ◌-◌, ◌<◌, ◌≤◌, length, IsTrue};
 ghost use Rattle.word_image.specs.Graphs.{pair_count};
-ghost use Rattle.cert_check.specs.Breaches.{FirstBreach};
-ghost use Rattle.cert_check.specs.Refusals.{IsChecked};
-ghost use Rattle.cert_check.specs.Windows.{IsWindowPair};
+ghost use Rattle.cert_check.specs.Checks.{IsChecked, FirstBreach};
+ghost use Rattle.cert_check.specs.Claims.{IsWindowPair};
 
 use crate::claims::claims_below;
 use crate::conditions::Condition;

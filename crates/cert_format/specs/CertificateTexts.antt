@@ -11,12 +11,8 @@ use Rattle.tail_config.specs.TailTexts.{Spells, HasParts}
 use Rattle.rule_text.specs.RuleTexts.{IsRuleText}
 use Rattle.cert_format.specs.declared.cert_version.CertVersion.{CertVersion}
 use Rattle.cert_format.specs.Versions.{number_of, names_weights}
-use Rattle.cert_format.specs.Evidence.{SurjectiveEvidence, InjectiveEvidence, SideEvidence, SumEvidence}
+use Rattle.cert_format.specs.Evidence.{SurjectiveEvidence, InjectiveEvidence, SideEvidence, SumEvidence, Sets, Pairs, Orphan, Window, Twins, Ahead, Split, Flux, Ring}
 use Rattle.cert_format.specs.Certificates.{Certificate, IsSurjectiveShape, IsInjectiveShape, IsSideShape, IsSumShape, IsRankShape}
-use Rattle.cert_format.specs.Evidence.SurjectiveEvidence.{Sets, Pairs, Orphan}
-use Rattle.cert_format.specs.Evidence.InjectiveEvidence.{Window, Twins}
-use Rattle.cert_format.specs.Evidence.SideEvidence.{Ahead, Split}
-use Rattle.cert_format.specs.Evidence.SumEvidence.{Flux, Ring}
 
 -- The JSON value of each part
 

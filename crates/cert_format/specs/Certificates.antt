@@ -1,16 +1,11 @@
 -- What a certificate of a rule says, and the limits of each part.
-use Rattle.std.specs.Prelude.{◌≡◌, ℕ, ◌+◌, ◌-◌, ◌^◌, ◌<◌, ◌≤◌, List, length, Option, Some, None, All, ℤ, pos, negsuc, ◌≤ℤ◌, ⊤, true, false}
+use Rattle.std.specs.Prelude.{◌≡◌, ℕ, ◌+◌, ◌-◌, ◌^◌, ◌<◌, ◌≤◌, List, length, Option, Some, None, All, pos, negsuc, ◌≤ℤ◌, ⊤, true}
 use Rattle.word_image.specs.LocalRules.{LocalRule, IsWord, node_count}
-use Rattle.word_image.specs.Weights.{AreWeights, own_weights}
 use Rattle.word_image.specs.Graphs.{pair_count}
 use Rattle.tail_config.specs.TailTexts.{IsShortTail}
 use Rattle.cert_format.specs.declared.cert_version.CertVersion.{CertVersion}
-use Rattle.cert_format.specs.Versions.{names_weights, lists_pairs}
-use Rattle.cert_format.specs.Evidence.{SurjectiveEvidence, InjectiveEvidence, SideEvidence, SumEvidence}
-use Rattle.cert_format.specs.Evidence.SurjectiveEvidence.{Sets, Pairs, Orphan}
-use Rattle.cert_format.specs.Evidence.InjectiveEvidence.{Window, Twins}
-use Rattle.cert_format.specs.Evidence.SideEvidence.{Ahead, Split}
-use Rattle.cert_format.specs.Evidence.SumEvidence.{Flux, Ring}
+use Rattle.cert_format.specs.Versions.{lists_pairs}
+use Rattle.cert_format.specs.Evidence.{SurjectiveEvidence, InjectiveEvidence, SideEvidence, SumEvidence, Sets, Pairs, Orphan, Window, Twins, Ahead, Split, Flux, Ring}
 
 -- the weights are a number for each letter, and the claims a bound of the rank of each pair, or None where nothing is claimed
 pub record Certificate : Type 0 where
@@ -47,11 +42,6 @@ IsSideShape r (Split x y) = IsShortTail r.states x × IsShortTail r.states y
 abbrev pub IsSumShape : LocalRule → SumEvidence → Type 0
 IsSumShape r (Flux phi) = (length phi ≡ node_count r) × All (λ z. (negsuc 999999 ≤ℤ z) × (z ≤ℤ pos 1000000)) phi
 IsSumShape r (Ring p) = IsWord r.states p
-
--- a weight for each letter, which is its own value where the version names no weights
-pub record IsWeightShape (version : CertVersion) (r : LocalRule) (weights : List ℕ) : Type 0 where
-  pub each : AreWeights r.states weights
-  pub own : names_weights version ≡ false → weights ≡ own_weights r.states
 
 -- a claim is nothing or a number of sixteen bits
 abbrev pub IsClaim : Option ℕ → Type 0

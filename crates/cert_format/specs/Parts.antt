@@ -1,6 +1,6 @@
 -- What the parts of a certificate are seen as, and all their limits.
-use Rattle.std.specs.Prelude.{◌≡◌, ℕ, ⊤}
-use Rattle.word_image.specs.LocalRules.{IsRule}
+use Rattle.std.specs.Prelude.{◌≡◌, ℕ, ⊤, List, false}
+use Rattle.word_image.specs.LocalRules.{IsRule, LocalRule}
 use Rattle.cert_format.specs.declared.parts.SurjectivePart.{SurjectivePart}
 use Rattle.cert_format.specs.declared.parts.SurjectivePart.TheVariants.{Sets, Pairs, Orphan}
 use Rattle.cert_format.specs.declared.parts.InjectivePart.{InjectivePart}
@@ -10,7 +10,10 @@ use Rattle.cert_format.specs.declared.parts.SidePart.TheVariants.{Ahead, Split}
 use Rattle.cert_format.specs.declared.parts.SumPart.{SumPart}
 use Rattle.cert_format.specs.declared.parts.SumPart.TheVariants.{Flux, Ring}
 use Rattle.cert_format.specs.Evidence.{SurjectiveEvidence, InjectiveEvidence, SideEvidence, SumEvidence}
-use Rattle.cert_format.specs.Certificates.{Certificate, IsSurjectiveShape, IsInjectiveShape, IsSideShape, IsSumShape, IsWeightShape, IsRankShape}
+use Rattle.cert_format.specs.Certificates.{Certificate, IsSurjectiveShape, IsInjectiveShape, IsSideShape, IsSumShape, IsRankShape}
+use Rattle.word_image.specs.Weights.{AreWeights, own_weights}
+use Rattle.cert_format.specs.declared.cert_version.CertVersion.{CertVersion}
+use Rattle.cert_format.specs.Versions.{names_weights}
 
 -- the evidence of a part
 abbrev pub surjective_of : SurjectivePart → SurjectiveEvidence
@@ -34,6 +37,11 @@ sum_of (Ring p) = SumEvidence.Ring p
 abbrev pub IsOver : ℕ → SidePart → Type 0
 IsOver k (Ahead n) = ⊤
 IsOver k (Split x y) = (x.states ≡ k) × (y.states ≡ k)
+
+-- a weight for each letter, which is its own value where the version names no weights
+pub record IsWeightShape (version : CertVersion) (r : LocalRule) (weights : List ℕ) : Type 0 where
+  pub each : AreWeights r.states weights
+  pub own : names_weights version ≡ false → weights ≡ own_weights r.states
 
 -- a certificate keeps all its limits
 pub record IsShaped (c : Certificate) : Type 0 where

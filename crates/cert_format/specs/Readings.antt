@@ -1,4 +1,4 @@
--- What reading a part of a certificate asks of its JSON value.
+-- What reading a certificate and a part of it asks of the bytes and of a JSON value, and its faults.
 use Rattle.std.specs.Prelude.{◌≡◌, ℕ, ◌⊎◌, ◌+◌, ◌-◌, ◌≤◌, length, All, ◌≤ℤ◌, ℤ, pos, negsuc, List, [], ◌∷◌, Option, codes, alloc_error}
 use Rattle.serde_json.specs.Data.{Data, null, boolean, number, string, array, object, Members, no_members}
 use Rattle.word_image.specs.LocalRules.{LocalRule, IsWord, node_count}
@@ -13,7 +13,8 @@ use Rattle.cert_format.specs.declared.shape_fault.CertFault.TheVariants as fault
 use Rattle.cert_format.specs.Evidence.{SurjectiveEvidence, InjectiveEvidence, SideEvidence, SumEvidence}
 use Rattle.cert_format.specs.Certificates.{Certificate, IsSurjectiveShape, IsInjectiveShape, IsSideShape, IsSumShape, IsRankShape, IsClaim}
 use Rattle.cert_format.specs.CertificateTexts.{IsWhole, IsSigned, IsDigits, IsTailString, IsClaimValue, IsArrayOf, IsSurjectiveValue, IsInjectiveValue, IsSideValue, IsSumValue, IsRanksValue, HasSurjective, HasInjective, HasSide, HasConserving, HasWeights, HasRanks, HasNoOther}
-use Rattle.cert_format.specs.ShapeFaults.{IsFirstWithout, Passes, part_steps}
+use Rattle.cert_format.specs.ShapeFaults.{IsFirstWithout, Passes, part_steps, IsShapeFault}
+use Rattle.cert_format.specs.declared.shape_fault.ShapeFault.{ShapeFault}
 
 -- the members of a value; one that is no object has none
 abbrev pub members_in : Data → Members
@@ -126,3 +127,7 @@ pub record AreParts (ms : Members) (c : Certificate) : Type 0 where
 -- the first of the steps that fails, or there is not enough memory
 abbrev pub IsPartFault : CertVersion → LocalRule → Members → CertFault → Type 0
 IsPartFault version r ms f = (f ≡ fault.Memory alloc_error) ⊎ ((k : Key) × (f ≡ fault.Format (shape.Shape k)) × IsFirstWithout (Passes version r ms) part_steps k)
+
+-- why the bytes give no certificate: want of memory, or their first fault
+abbrev pub IsCertFault : List ℕ → CertFault → Type 0
+IsCertFault bytes f = (f ≡ fault.Memory alloc_error) ⊎ ((s : ShapeFault) × (f ≡ fault.Format s) × IsShapeFault bytes s)

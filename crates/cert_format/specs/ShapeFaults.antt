@@ -1,5 +1,5 @@
 -- Which step the bytes fail first that are no text of a certificate.
-use Rattle.std.specs.Prelude.{◌≡◌, ◌≢◌, ℕ, ◌⊎◌, alloc_error, List, [], ◌∷◌, ◌++◌, codes, Option, None, All, ⊤}
+use Rattle.std.specs.Prelude.{◌≡◌, ◌≢◌, ℕ, List, [], ◌∷◌, ◌++◌, codes, Option, None, All, ⊤}
 use Rattle.serde_json.specs.Data.{Data, Members}
 use Rattle.serde_json.specs.Find.{as_object}
 use Rattle.word_image.specs.LocalRules.{LocalRule}
@@ -10,8 +10,6 @@ use Rattle.cert_format.specs.declared.shape_fault.Key.{Key}
 use Rattle.cert_format.specs.declared.shape_fault.Key.TheVariants as key
 use Rattle.cert_format.specs.declared.shape_fault.ShapeFault.{ShapeFault}
 use Rattle.cert_format.specs.declared.shape_fault.ShapeFault.TheVariants as fault
-use Rattle.cert_format.specs.declared.shape_fault.CertFault.{CertFault}
-use Rattle.cert_format.specs.declared.shape_fault.CertFault.TheVariants as cert_fault
 use Rattle.cert_format.specs.Evidence.{SurjectiveEvidence, InjectiveEvidence, SideEvidence, SumEvidence}
 use Rattle.cert_format.specs.Versions.{number_of}
 use Rattle.cert_format.specs.CertificateTexts.{IsJson, IsObject, HasVersion, HasRuleText, HasSurjective, HasInjective, HasSide, HasConserving, HasWeights, HasRanks, HasNoOther}
@@ -54,7 +52,3 @@ pub data IsShapeFault (bytes : List ℕ) : ShapeFault → Type 0 where
       → (f : TextFault) → IsTextFault text f → IsShapeFault bytes (fault.Rule f)
   BadPart : (ms : Members) (version : CertVersion) (text : List ℕ) (r : LocalRule) (k : Key) → IsObject bytes ms → HasVersion ms (number_of version) → HasRuleText ms text
       → IsRuleText text r → IsFirstWithout (Passes version r ms) part_steps k → IsShapeFault bytes (fault.Shape k)
-
--- why the bytes give no certificate: want of memory, or their first fault
-abbrev pub IsCertFault : List ℕ → CertFault → Type 0
-IsCertFault bytes f = (f ≡ cert_fault.Memory alloc_error) ⊎ ((s : ShapeFault) × (f ≡ cert_fault.Format s) × IsShapeFault bytes s)

@@ -9,11 +9,11 @@ use Rattle.std.proofs.lemmas.Map.Steps.{length-le_from_distinct_below}
 use Rattle.std.proofs.lemmas.Map.Views.{Contains-from_any}
 use Rattle.word_image.specs.LocalRules.{LocalRule, IsRule}
 use Rattle.word_image.specs.Graphs.{first_of, second_of, pair_count}
-use Rattle.word_image.specs.Erasure.{IsPairList}
+use Rattle.word_image.specs.PairLists.{IsPairList}
 use Rattle.eden_laws.proofs.ReachedPairs.{IsReached-below}
 use Rattle.cert_check.specs.Breaches.{EachBelow}
 use Rattle.cert_check.specs.Pairs.{FirstIsListed, StepsAreListed}
-use Rattle.certificate_laws.specs.WrittenCertificates.{AreReached}
+use Rattle.eden_laws.specs.ReachedPairs.{AreReached}
 
 -- a pair list meets the conditions
 pub pair_list-met : {r : LocalRule} {pairs : List ℕ} → IsPairList r pairs

@@ -6,10 +6,7 @@ use Rattle.word_image.specs.Rings.{IsConserving, IsFlux, IsLeastLossyRing, IsLea
 use Rattle.word_image.specs.Windows.{IsLeastDetermined, IsLeastRightAhead}
 use Rattle.tail_config.specs.Tails.{IsInjective, IsRightClosing, IsLeftClosing}
 use Rattle.tail_config.specs.Splits.{IsLeastRightSplit, IsLeastLeftSplit}
-use Rattle.cert_format.specs.Evidence.{InjectiveEvidence, SideEvidence, SumEvidence}
-use Rattle.cert_format.specs.Evidence.InjectiveEvidence.{Window, Twins}
-use Rattle.cert_format.specs.Evidence.SideEvidence.{Ahead, Split}
-use Rattle.cert_format.specs.Evidence.SumEvidence.{Flux, Ring}
+use Rattle.cert_format.specs.Evidence.{InjectiveEvidence, SideEvidence, SumEvidence, Window, Twins, Ahead, Split, Flux, Ring}
 
 -- of a rule and weights of its letters: an orphan, or none where it is surjective, and what is said of the other four questions
 pub record Evidence : Type 0 where

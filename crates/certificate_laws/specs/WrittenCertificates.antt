@@ -1,43 +1,24 @@
 -- The certificate that is written for a rule and weights of its letters: the least evidence, and the exact ranks. That a rule
 -- is surjective is shown by its cover list in version 2, and by its reached pairs in version 3.
-use Rattle.std.specs.Prelude.{◌≡◌, ℕ, ◌<◌, ◌↔◌, List, length, Contains, slice_index, get_or, Option, Some, None, MatchOption, ⊤}
-use Rattle.std.specs.List.Sorted.{IsStrictlyIncreasing}
+use Rattle.std.specs.Prelude.{◌≡◌, ℕ, ◌<◌, List, length, slice_index, get_or, Option, Some, None, MatchOption, ⊤}
 use Rattle.word_image.specs.LocalRules.{LocalRule}
 use Rattle.word_image.specs.Graphs.{first_of, second_of, pair_count}
 use Rattle.word_image.specs.Ranks.{BeginTogether, EndTogether, IsRank, IsEndless}
 use Rattle.word_image.specs.Families.{IsCoverList}
-use Rattle.eden_laws.specs.ReachedPairs.{IsReached}
 use Rattle.cert_format.specs.declared.cert_version.CertVersion.{CertVersion}
 use Rattle.cert_format.specs.declared.cert_version.CertVersion.TheVariants.{Two, Three}
-use Rattle.cert_format.specs.Evidence.{SurjectiveEvidence}
+use Rattle.cert_format.specs.Evidence.{SurjectiveEvidence, Sets, Pairs, Orphan}
 use Rattle.cert_format.specs.Certificates.{Certificate}
-use Rattle.cert_format.specs.Evidence.SurjectiveEvidence.{Sets, Pairs, Orphan}
 use Rattle.cert_format.specs.WrittenTexts.{certificate_text}
 use Rattle.cert_check.specs.Accepted.{IsAccepted, verdicts_of}
-use Rattle.certificate_laws.specs.LeastEvidence.{Evidence, IsLeastEvidence}
+use Rattle.certificate_laws.specs.LeastEvidence.{IsLeastEvidence}
+use Rattle.eden_laws.specs.ReachedPairs.{AreReached}
 
 -- the orphan, where there is one
 abbrev pub orphan_of : SurjectiveEvidence → Option (List ℕ)
 orphan_of (Sets sets) = None
 orphan_of (Pairs pairs) = None
 orphan_of (Orphan w) = Some w
-
--- what a certificate has of it: all but the version, the list of sets or of pairs, and the ranks
-abbrev pub evidence_of : Certificate → Evidence
-evidence_of c = record {
-  rule = c.rule;
-  weights = c.weights;
-  orphan = orphan_of c.surjective;
-  injective = c.injective;
-  right = c.right;
-  left = c.left;
-  conserving = c.conserving;
-}
-
--- the list has the reached pairs and no others, each once and ascending
-pub record AreReached (r : LocalRule) (pairs : List ℕ) : Type 0 where
-  pub exactly : (p : ℕ) → Contains pairs p ↔ IsReached r p
-  pub ascending : IsStrictlyIncreasing pairs
 
 -- in version 2 the sets are the cover list, and in version 3 the pairs are the reached ones
 abbrev pub IsListPart : CertVersion → LocalRule → SurjectiveEvidence → Type 0
@@ -55,7 +36,8 @@ pub record AreRanks (r : LocalRule) (Together : ℕ → ℕ → ℕ → Type 0) 
 pub record HasWrittenParts (version : CertVersion) (r : LocalRule) (weights : List ℕ) (c : Certificate) : Type 0 where
   pub version_is : c.version ≡ version
   pub weights_are : c.weights ≡ weights
-  pub least : IsLeastEvidence (slice_index weights) r (evidence_of c)
+  pub least : IsLeastEvidence (slice_index weights) r
+      (record { rule = c.rule; weights = c.weights; orphan = orphan_of c.surjective; injective = c.injective; right = c.right; left = c.left; conserving = c.conserving })
   pub list : IsListPart version r c.surjective
   pub forward : AreRanks r (BeginTogether r) c.forward
   pub backward : AreRanks r (EndTogether r) c.backward

@@ -7,7 +7,8 @@ use Rattle.word_image.specs.Ranks.{IsEndless}
 use Rattle.word_image.proofs.laws.Bits.{bit_at-IsBitSet}
 use Rattle.pair_laws.proofs.BothWays.{some_ahead}
 use Rattle.word_image.specs.declared.side.Side.{Side}
-use Rattle.word_image.specs.Sides.{Together, IsFirstOf, PairGoes}
+use Rattle.word_image.specs.Sides.{Together, PairGoes}
+use Rattle.word_image.specs.FirstPairs.{IsFirstOf}
 use Rattle.closing_test.specs.Sides.{IsClosing, end_pair}
 use Rattle.closing_test.specs.EndlessFirsts.{IsEndlessWith}
 use Rattle.closing_test.proofs.FirstWindows.{IsFirst-ends, first_ends}

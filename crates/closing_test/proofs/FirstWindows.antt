@@ -4,14 +4,14 @@ use Rattle.std.proofs.Math.Nat.{one-le-pow}
 use Rattle.std.proofs.lemmas.Nat.{mul-add-lt, div_below, div-mul-add, mod-mul-add, div-add-mod'}
 use Rattle.word_image.specs.LocalRules.{LocalRule, IsRule, node_count, value, word_of}
 use Rattle.word_image.specs.Graphs.{next, label, node_letter, pair_of, first_of, second_of, pair_count}
-use Rattle.word_image.specs.FirstPairs.{IsFirstOfRight, IsFirstOfLeft}
+use Rattle.word_image.specs.FirstPairs.{IsFirstOfRight, IsFirstOfLeft, IsFirstOf}
 use Rattle.word_image.proofs.laws.Values.{value-word_of}
 use Rattle.word_image.proofs.laws.Graphs.{node_count_pos}
 use Rattle.word_image.proofs.laws.WindowParts.{windows-nodes, rest_count, node_count-rest, window_parts, node_parts}
 use Rattle.pair_laws.proofs.Pairs.{first_of-pair_of, second_of-pair_of, pair_of-below, pair_of-first_of, first_of-below, second_of-below}
 use Rattle.word_image.specs.declared.side.Side.{Side}
 use Rattle.word_image.specs.declared.side.Side.TheVariants.{Right, Left}
-use Rattle.word_image.specs.Sides.{end_node, IsFirstOf}
+use Rattle.word_image.specs.Sides.{end_node}
 use Rattle.closing_test.specs.Sides.{with_end, end_pair, AreFirst}
 
 -- there are words of m - 2 letters

@@ -13,7 +13,8 @@ use Rattle.pair_laws.proofs.BothWays.{ahead_pairs}
 use Rattle.tail_laws.proofs.Certainty.{IsRightClosing-window, IsLeftClosing-window}
 use Rattle.word_image.specs.declared.side.Side.{Side}
 use Rattle.word_image.specs.declared.side.Side.TheVariants.{Right, Left}
-use Rattle.word_image.specs.Sides.{seen_from, end_node, IsFirstOf, Together, PairGoes}
+use Rattle.word_image.specs.Sides.{seen_from, end_node, Together, PairGoes}
+use Rattle.word_image.specs.FirstPairs.{IsFirstOf}
 use Rattle.closing_test.specs.Sides.{with_end, end_pair, AreFirst, IsClosing}
 use Rattle.closing_test.specs.LeastAheads.{IsLeastFor, IsFirstWith, IsFirstAt, HasEndlessFirst}
 use Rattle.closing_test.proofs.FirstWindows.{IsFirst-ends, first_ends}

@@ -3,7 +3,8 @@ use Rattle.std.specs.Prelude.{◌≡◌, ℕ, ◌+◌, ◌-◌, ◌≤◌}
 use Rattle.word_image.specs.LocalRules.{LocalRule}
 use Rattle.word_image.specs.Ranks.{IsEndless}
 use Rattle.word_image.specs.declared.side.Side.{Side}
-use Rattle.word_image.specs.Sides.{IsFirstOf, PairGoes}
+use Rattle.word_image.specs.Sides.{PairGoes}
+use Rattle.word_image.specs.FirstPairs.{IsFirstOf}
 use Rattle.closing_test.specs.Sides.{AreFirst, end_pair}
 
 -- n is the least number from 1 on for which none of these pairs goes on together for n - 1

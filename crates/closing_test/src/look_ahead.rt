@@ -3,9 +3,9 @@
 ghost use Rattle.std.specs.Prelude.{◌≡◌, ◌^◌, ◌<◌, ◌≤◌, ◌↔◌, ℕ, IsSome, IfSome, IfNone, MatchOption};
 ghost use Rattle.word_image.specs.LocalRules.{IsRule, mirrored};
 ghost use Rattle.word_image.specs.Words.{IsSurjective};
-ghost use Rattle.word_image.specs.Windows.{IsRightAhead, IsLeftAhead, IsLeastRightAhead};
+ghost use Rattle.word_image.specs.Windows.{IsRightAhead, IsLeastRightAhead};
 ghost use Rattle.tail_config.specs.Tails.{IsRightClosing, IsLeftClosing};
-ghost use Rattle.word_image.specs.Sides.{PairGoes, seen_from};
+ghost use Rattle.word_image.specs.Sides.{PairGoes, seen_from, IsLeftAhead};
 ghost use Rattle.closing_test.specs.Sides.{IsClosing};
 ghost use Rattle.closing_test.specs.LeastAheads.{IsLeastFor, IsFirstAt, IsFirstWith, HasEndlessFirst};
 

@@ -7,7 +7,8 @@ use Rattle.word_image.specs.LocalRules.{LocalRule, IsRule, IsWord, value, word_o
 use Rattle.word_image.specs.Words.{IsSurjective}
 use Rattle.word_image.specs.Windows.{HaveOneImage}
 use Rattle.word_image.specs.Graphs.{next, label, follow, pair_of, first_of, second_of, pair_count}
-use Rattle.word_image.specs.Erasure.{IsErasable, IsPairList}
+use Rattle.word_image.specs.Erasure.{IsErasable}
+use Rattle.word_image.specs.PairLists.{IsPairList}
 use Rattle.word_image.specs.FirstPairs.{IsFirstOfRight}
 use Rattle.word_image.proofs.laws.Values.{value-injective, length-word_of, IsWord-word_of, value-word_of}
 use Rattle.pair_laws.proofs.Edges.{HaveOneImage-none}

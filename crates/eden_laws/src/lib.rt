@@ -23,7 +23,8 @@ ghost use Rattle.std.specs.Prelude.{◌≡◌, ◌≢◌, ◌<◌, ◌↔◌, �
 ghost use Rattle.word_image.specs.LocalRules.{LocalRule, IsRule};
 ghost use Rattle.word_image.specs.Words.{IsSurjective};
 ghost use Rattle.word_image.specs.Graphs.{first_of, second_of};
-ghost use Rattle.word_image.specs.Erasure.{IsErasable, IsPairList};
+ghost use Rattle.word_image.specs.Erasure.{IsErasable};
+ghost use Rattle.word_image.specs.PairLists.{IsPairList};
 ghost use Rattle.tail_config.specs.Tails.{IsInjective, IsRightClosing, IsLeftClosing};
 ghost use Rattle.eden_laws.specs.ReachedPairs.{IsReached};
 ghost use Rattle.eden_laws.specs.Preinjective.{IsPreinjective};

@@ -16,8 +16,8 @@ use Rattle.tail_config.proofs.laws.Cells.{length-cells, get_or-cells, IsWord-cel
 use Rattle.tail_laws.proofs.Injective.{IsInjective-determined}
 use Rattle.eden_laws.proofs.Preinjective.{IsSurjective-injective}
 use Rattle.word_image.proofs.laws.WindowParts.{letter-value}
-use Rattle.inverse_table.specs.InverseMaps.{WindowMap, IsInverseMap, map_letter}
-use Rattle.inverse_table.specs.GivenBack.{IsWindowMap, GivesBack, map_image}
+use Rattle.inverse_table.specs.InverseMaps.{WindowMap, IsInverseMap, map_letter, GivesBack, map_image}
+use Rattle.inverse_table.specs.MapLimits.{IsWindowMap}
 use Rattle.inverse_table.specs.InverseFaults.{IsApartAt}
 use Rattle.inverse_table.specs.ImageValues.{AreImageValues, AreReadBack, AreApart, letter_at}
 use Rattle.inverse_table.proofs.ImageLaws.{image-at}

@@ -12,8 +12,8 @@ use Rattle.std.proofs.lemmas.List.Elements.{All-map}
 use Rattle.word_image.specs.LocalRules.{LocalRule, IsWord}
 use Rattle.word_image.specs.RuleFaults.{shape_fault, rule_fault}
 use Rattle.word_image.proofs.laws.RuleFaults.{table_fault-IsWord}
-use Rattle.inverse_table.specs.InverseMaps.{WindowMap, rule_of, limit_fault}
-use Rattle.inverse_table.specs.GivenBack.{IsWindowMap}
+use Rattle.inverse_table.specs.InverseMaps.{WindowMap, rule_of}
+use Rattle.inverse_table.specs.MapLimits.{IsWindowMap, limit_fault}
 
 -- an entry of the map is a letter
 entry-below : {g : WindowMap} → IsWindowMap g → (v : ℕ) → slice_index g.table v < g.states

@@ -1,11 +1,9 @@
--- The inverse map of a rule over a determined window (Amoroso and Patt 1972), and the map as a rule.
-use Rattle.std.specs.Prelude.{◌≡◌, ℕ, ◌+◌, ◌-◌, ◌*◌, ◌/◌, ◌^◌, List, length, map, max, slice_index, Option, Some, None, nat_lt, ◌==◌, ◌||◌, if◌then◌else◌, ℤ, pos, negsuc, neg_ℤ, ◌+ℤ◌, ◌-ℤ◌, int_lt}
+-- The inverse map of a rule over a determined window (Amoroso and Patt 1972), how it gives letters back, and the map as a rule.
+use Rattle.std.specs.Prelude.{◌≡◌, ℕ, ◌+◌, ◌*◌, ◌/◌, ◌^◌, List, length, map, max, slice_index, ◌==◌, if◌then◌else◌, ℤ, pos, neg_ℤ, ◌-ℤ◌, ◌-◌, slice_range, ◌+ℤ◌}
 use Rattle.std.specs.List.{range_with_len}
-use Rattle.word_image.specs.LocalRules.{LocalRule, IsWord, value}
+use Rattle.word_image.specs.LocalRules.{LocalRule, IsWord, value, local_map}
 use Rattle.word_image.specs.Words.{image, IsPreimage}
-use Rattle.tail_config.specs.Tails.{cell}
-use Rattle.word_image.specs.declared.local_rule.RuleFault.{RuleFault}
-use Rattle.word_image.specs.declared.local_rule.RuleFault.TheVariants.{Width, Nodes, Offset}
+use Rattle.tail_config.specs.Tails.{cell, TailConfig, IsTail, image_cell}
 
 -- what reads `width` letters of an image from cell i + offset on, and gives a letter for cell i
 pub record WindowMap : Type 0 where
@@ -36,10 +34,17 @@ rule_of g = record {
   table = if g.width == 1 then map (λ v. slice_index g.table (v / g.states)) (range_with_len 0 (g.states * g.states)) else g.table;
 }
 
--- the first limit of a rule that it breaks
-abbrev pub limit_fault : LocalRule → Option RuleFault
-limit_fault r =
-    if nat_lt 5 r.width then Some Width
-    else (if nat_lt 16 (r.states ^ (r.width - 1)) then Some Nodes
-    else (if int_lt r.offset (negsuc 15) || int_lt (pos 16) (r.offset +ℤ pos (r.width - 1)) then Some Offset
-    else None))
+-- what it gives on the consecutive words of `width` letters of a word
+abbrev pub map_image : WindowMap → List ℕ → List ℕ
+map_image g x = map (λ i. map_letter g (slice_range x i (i + g.width))) (range_with_len 0 (length x + 1 - g.width))
+
+-- what the map of a determined window does with configurations, with words of n + m - 1 letters, and with their images
+pub record GivesBack (r : LocalRule) (n c : ℕ) (g : WindowMap) : Type 0 where
+  -- it gives each cell of a configuration back from the n cells of its image from the offset on
+  pub cells : (t : TailConfig) → IsTail r.states t → (i : ℤ) → map_letter g (map (λ j. image_cell r t (i +ℤ g.offset +ℤ pos j)) (range_with_len 0 n)) ≡ cell t i
+  -- it gives a letter of a word back from the word's image
+  pub back : (x : List ℕ) → IsWord r.states x → length x ≡ n + (r.width - 1) → map_letter g (image r x) ≡ slice_index x c
+  -- and the rule gives the letter back from what the map makes of the word
+  pub forth : (x : List ℕ) → IsWord r.states x → length x ≡ n + (r.width - 1) → local_map r (map_image g x) ≡ slice_index x c
+  -- every word of n letters has a preimage, so no letter is 0 for want of one
+  pub onto : (w : List ℕ) → IsWord r.states w → length w ≡ n → (x : List ℕ) × IsPreimage r w x

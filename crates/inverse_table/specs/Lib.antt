@@ -1,4 +1,4 @@
 pub mod InverseMaps
-pub mod GivenBack
+pub mod MapLimits
 pub mod ImageValues
 pub mod InverseFaults

@@ -2,8 +2,8 @@
 ghost use Rattle.std.specs.Prelude.{◌≡◌, ◌*◌, ◌↔◌, take, IfOk, IsOk};
 ghost use Rattle.std.specs.Result.{result_err};
 ghost use Rattle.word_image.specs.LocalRules.{IsRule};
-ghost use Rattle.inverse_table.specs.InverseMaps.{rule_of, limit_fault};
-ghost use Rattle.inverse_table.specs.GivenBack.{IsWindowMap};
+ghost use Rattle.inverse_table.specs.InverseMaps.{rule_of};
+ghost use Rattle.inverse_table.specs.MapLimits.{IsWindowMap, limit_fault};
 
 use std::marker::Model;
 use word_image::{MOST_ENTRIES, Rule, RuleFault};
@@ -24,7 +24,7 @@ pub struct InverseMap {
 
 impl Model for InverseMap {
     ghost use Rattle.inverse_table.specs.InverseMaps.{WindowMap};
-    ghost use Rattle.inverse_table.specs.GivenBack.{IsWindowMap};
+    ghost use Rattle.inverse_table.specs.MapLimits.{IsWindowMap};
 
     ghost Value = { WindowMap };
 

@@ -8,7 +8,8 @@ use Rattle.word_image.specs.Windows.{IsDetermined, IsRightAhead}
 use Rattle.word_image.specs.Graphs.{next, follow, pair_of, first_of, second_of, pair_count, node_letter}
 use Rattle.word_image.specs.declared.side.Side.{Side}
 use Rattle.word_image.specs.declared.side.Side.TheVariants.{Right, Left}
-use Rattle.word_image.specs.Sides.{PairGoes, IsFirstOf, seen_from}
+use Rattle.word_image.specs.Sides.{PairGoes, seen_from}
+use Rattle.word_image.specs.FirstPairs.{IsFirstOf}
 use Rattle.word_image.specs.Ranks.{IsEndless}
 use Rattle.word_image.proofs.laws.Values.{length-word_of, IsWord-word_of, value-word_of}
 use Rattle.word_image.proofs.laws.Graphs.{value-next, next-below, node_count_pos}

@@ -3,10 +3,10 @@ use Rattle.std.proofs.Common.{◌≡◌, ℕ, zero, suc, ◌+◌, ◌<◌, ◌�
 use Rattle.std.specs.Prelude.{MatchOption}
 use Rattle.std.proofs.lemmas.Bool.{cases_lt}
 use Rattle.word_image.specs.LocalRules.{LocalRule, IsRule}
-use Rattle.word_image.specs.Graphs.{pair_count}
+use Rattle.word_image.specs.Graphs.{pair_count, LeadsOn}
 use Rattle.word_image.specs.Ranks.{IsRank, IsEndless}
 use Rattle.word_image.specs.declared.side.Side.{Side}
-use Rattle.word_image.specs.Sides.{PairGoes, LeadsOn}
+use Rattle.word_image.specs.Sides.{PairGoes}
 use Rattle.pair_laws.proofs.Pairs.{LeadsOn-from, LeadsOn-below, PairGoes-less, PairGoes-step, PairGoes-push}
 
 -- less than n is claimed of the pair

@@ -6,11 +6,11 @@ use Rattle.std.proofs.lemmas.List.{length-take-le, take-take, take_all, drop-tak
 use Rattle.std.proofs.lemmas.List.Elements.{All-take, All-drop}
 use Rattle.word_image.specs.LocalRules.{LocalRule, IsRule, IsWord, value, node_count}
 use Rattle.word_image.specs.Windows.{HaveOneImage}
-use Rattle.word_image.specs.Graphs.{first_of, second_of, pair_of, pair_count}
+use Rattle.word_image.specs.Graphs.{first_of, second_of, pair_of, pair_count, LeadsOn}
 use Rattle.word_image.specs.Ranks.{IsRank, IsEndless}
 use Rattle.word_image.specs.declared.side.Side.{Side}
 use Rattle.word_image.specs.declared.side.Side.TheVariants.{Right, Left}
-use Rattle.word_image.specs.Sides.{Together, PairGoes, LeadsOn}
+use Rattle.word_image.specs.Sides.{Together, PairGoes}
 use Rattle.word_image.proofs.laws.Graphs.{value-node}
 use Rattle.pair_laws.proofs.Joins.{HaveOneImage-take, HaveOneImage-drop}
 use Rattle.pair_laws.proofs.Walks.{LeadTogether, LeadTogether-join, LeadTogether-first, LeadTogether-none}

@@ -5,11 +5,11 @@ use Rattle.std.proofs.lemmas.List.{length-take-le, drop-append-le, drop-drop, dr
 use Rattle.std.proofs.lemmas.List.Elements.{All-take, All-drop}
 use Rattle.word_image.specs.FirstPairs.{IsFirstOfLeft}
 use Rattle.word_image.specs.LocalRules.{LocalRule, IsRule, IsWord, value, word_of, node_count}
-use Rattle.word_image.specs.Windows.{HaveOneImage, IsLeftAhead}
+use Rattle.word_image.specs.Windows.{HaveOneImage}
 use Rattle.word_image.specs.Graphs.{label, first_of, second_of, pair_of, node_letter}
 use Rattle.word_image.specs.Ranks.{EndTogether}
 use Rattle.word_image.specs.declared.side.Side.TheVariants.{Left}
-use Rattle.word_image.specs.Sides.{PairGoes}
+use Rattle.word_image.specs.Sides.{PairGoes, IsLeftAhead}
 use Rattle.word_image.proofs.laws.Values.{length-word_of, word_of-value}
 use Rattle.pair_laws.proofs.Edges.{image-one, HaveOneImage-push}
 use Rattle.pair_laws.proofs.Joins.{HaveOneImage-drop}

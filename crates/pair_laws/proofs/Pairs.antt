@@ -5,11 +5,11 @@ use Rattle.std.proofs.lemmas.Bool.{cases_eq, eq-eqb, ne_eqb, cond-true, cond-fal
 use Rattle.std.proofs.lemmas.Bool.Decides.{nat_tests}
 use Rattle.std.proofs.lemmas.Nat.{mul-add-lt, div_below, div-mul-add, mod-mul-add, div-add-mod'}
 use Rattle.word_image.specs.LocalRules.{LocalRule, IsRule, node_count}
-use Rattle.word_image.specs.Graphs.{next, label, follow, pair_of, first_of, second_of, pair_count}
+use Rattle.word_image.specs.Graphs.{next, label, follow, pair_of, first_of, second_of, pair_count, LeadsOn}
 use Rattle.word_image.specs.MarkedPairs.{marked}
 use Rattle.word_image.specs.declared.side.Side.{Side}
 use Rattle.word_image.specs.declared.side.Side.TheVariants.{Right, Left}
-use Rattle.word_image.specs.Sides.{Together, PairGoes, LeadsOn}
+use Rattle.word_image.specs.Sides.{Together, PairGoes}
 use Rattle.word_image.proofs.laws.Graphs.{node_count_pos, next-below}
 use Rattle.pair_laws.proofs.Ranks.{Together-below, Together-less, BeginTogether-step, BeginTogether-push, EndTogether-step, EndTogether-push}
 

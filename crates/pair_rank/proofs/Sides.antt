@@ -1,10 +1,10 @@
 -- Steps of two nodes that go on together, and steps of pairs with the letters that a trim takes.
 use Rattle.std.proofs.Common.{ℕ, ◌+◌, ◌-◌, ◌<◌, ◌≤◌, ◌↔◌, refl, arith}
 use Rattle.word_image.specs.LocalRules.{LocalRule, IsRule, node_count}
-use Rattle.word_image.specs.Graphs.{first_of, second_of, pair_of, pair_count, node_letter}
+use Rattle.word_image.specs.Graphs.{first_of, second_of, pair_of, pair_count, node_letter, LeadsOn}
 use Rattle.word_image.specs.declared.side.Side.{Side}
 use Rattle.word_image.specs.declared.side.Side.TheVariants.{Right, Left}
-use Rattle.word_image.specs.Sides.{Together, PairGoes, LeadsOn}
+use Rattle.word_image.specs.Sides.{Together, PairGoes}
 use Rattle.word_image.proofs.laws.Values.{IsWord-word_of, length-word_of}
 use Rattle.pair_laws.proofs.Ranks.{Together-below}
 use Rattle.pair_laws.proofs.Pairs.{first_of-below, second_of-below, PairGoes-pair_of, PairGoes-step, PairGoes-push}

@@ -1,8 +1,6 @@
 -- Classes of rules that differ by a mirror and by the names of their letters, and the least rule of a class.
-use Rattle.std.specs.Prelude.{◌≡◌, ℕ, ◌≤◌, ◌↔◌, List, Bool, false, IsTrue, IsFalse, if◌then◌else◌, pos}
+use Rattle.std.specs.Prelude.{◌≡◌, ℕ, ◌≤◌, ◌↔◌, List, Bool, false, IsTrue, if◌then◌else◌, pos}
 use Rattle.word_image.specs.LocalRules.{LocalRule, mirrored, wolfram_number}
-use Rattle.word_image.specs.Words.{IsSurjective}
-use Rattle.tail_config.specs.Tails.{IsInjective, IsRightClosing, IsLeftClosing}
 use Rattle.rule_algebra.specs.Algebra.{IsRecolouring, IsRecoloured}
 
 -- g stands at offset 0, and its table is that of the rule, recoloured by some permutation of the letters
@@ -25,12 +23,3 @@ pub record IsLeastOfClass (r : LocalRule) (mirror : Bool) (g : LocalRule) : Type
   pub member : IsInClass r mirror g
   pub least : (other : Bool) (h : LocalRule) → IsInClass r other h → wolfram_number g ≤ wolfram_number h
   pub needed : IsTrue mirror ↔ (¬ IsInClass r false g)
-
--- the verdicts on r are those on g, where a mirror exchanges right and left
-pub record HaveOneVerdict (r : LocalRule) (mirror : Bool) (g : LocalRule) : Type 0 where
-  pub surjective : IsSurjective r ↔ IsSurjective g
-  pub injective : IsInjective r ↔ IsInjective g
-  pub right : IsFalse mirror → (IsRightClosing r ↔ IsRightClosing g)
-  pub left : IsFalse mirror → (IsLeftClosing r ↔ IsLeftClosing g)
-  pub right_mirrored : IsTrue mirror → (IsRightClosing r ↔ IsLeftClosing g)
-  pub left_mirrored : IsTrue mirror → (IsLeftClosing r ↔ IsRightClosing g)

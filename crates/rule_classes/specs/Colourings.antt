@@ -2,7 +2,7 @@
 use Rattle.std.specs.Prelude.{◌≡◌, ◌⊎◌, ℕ, ◌^◌, ◌<◌, ◌≤◌, List, length, reverse, slice_index, Bool, if◌then◌else◌, pos}
 use Rattle.word_image.specs.LocalRules.{LocalRule, value, word_of, local_map, wolfram_number}
 use Rattle.rule_algebra.specs.Algebra.{recoloured}
-use Rattle.rule_algebra.specs.Tables.{table_by}
+use Rattle.rule_algebra.specs.Tabulated.{table_by}
 use Rattle.rule_classes.specs.Classes.{turned}
 use Rattle.rule_classes.specs.declared.colourings.Colouring.{Colouring}
 

@@ -1,8 +1,9 @@
 pub mod Classes
+pub mod ClassVerdicts
 pub mod Colourings
 pub mod Tables
 pub mod Best
 pub mod Lifts
-pub mod LiftFaults
+pub mod UndoneRules
 pub mod Members
 pub mod Examples

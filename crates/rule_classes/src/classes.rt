@@ -1,6 +1,7 @@
 //! The place of a rule in its class.
 ghost use Rattle.std.specs.Prelude.{◌≡◌, ◌≤◌, ◌↔◌, IfOk, IsOk};
-ghost use Rattle.rule_classes.specs.Classes.{IsLeastOfClass, HaveOneVerdict};
+ghost use Rattle.rule_classes.specs.Classes.{IsLeastOfClass};
+ghost use Rattle.rule_classes.specs.ClassVerdicts.{HaveOneVerdict};
 
 use crate::best::Best;
 use crate::colourings::Colouring;

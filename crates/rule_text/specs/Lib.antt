@@ -1,4 +1,5 @@
 pub mod PrintedRules
 pub mod RuleTexts
+pub mod TextReadings
 pub mod Heads
 pub mod Examples

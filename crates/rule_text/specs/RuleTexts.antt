@@ -1,5 +1,5 @@
 -- The texts of a rule: their grammar, what each means, and which fault comes first.
-use Rattle.std.specs.Prelude.{◌≡◌, ℕ, ◌+◌, ◌-◌, ◌^◌, ◌≤◌, List, ◌++◌, length, map, codes, Option, Some, None, Result, Ok, Err, All, nat_lt, nat_le, if◌then◌else◌, ℤ, pos, negsuc, neg_ℤ, reverse}
+use Rattle.std.specs.Prelude.{◌≡◌, ℕ, ◌+◌, ◌-◌, ◌^◌, ◌≤◌, List, ◌++◌, length, map, codes, Option, Some, None, All, nat_lt, nat_le, if◌then◌else◌, ℤ, pos, negsuc, neg_ℤ, reverse}
 use Rattle.std.specs.Option.{option_map, option_or}
 use Rattle.word_image.specs.LocalRules.{LocalRule, value, word_of}
 use Rattle.word_image.specs.Digits.{IsHexDigit, letter_at}
@@ -95,11 +95,6 @@ table_of s (Entries.Number n) = reverse (word_of s.states (s.states ^ s.width) n
 -- the rule that a text says
 abbrev pub rule_of : Said → LocalRule
 rule_of s = record { states = s.states; width = s.width; offset = s.offset; table = table_of s s.entries }
-
--- the answer to what a text says: the rule where it's accepted, else the first fault
-abbrev pub IsReading : Said → Result LocalRule TextFault → Type 0
-IsReading s (Ok r) = (fault_of s ≡ None) × (r ≡ rule_of s)
-IsReading s (Err f) = fault_of s ≡ Some f
 
 -- the text is a text of the rule
 pub record IsRuleText (text : List ℕ) (r : LocalRule) : Type 0 where

@@ -3,7 +3,8 @@ ghost use Rattle.std.specs.Prelude.{◌≡◌, ◌+◌, ◌^◌, ◌<◌, IfOk, 
 ghost use Rattle.word_image.specs.LocalRules.{LocalRule, IsShape};
 ghost use Rattle.rule_text.specs.declared.text_fault.TextFault.{TextFault};
 ghost use Rattle.word_image.specs.Digits.{IsHexDigit, letter_at};
-ghost use Rattle.rule_text.specs.RuleTexts.{IsRuleText, IsTextFault, IsReading, IsDecimal, Table, Number, decimal_value};
+ghost use Rattle.rule_text.specs.RuleTexts.{IsRuleText, IsTextFault, IsDecimal, Table, Number, decimal_value};
+ghost use Rattle.rule_text.specs.TextReadings.{IsReading};
 ghost use Rattle.rule_text.specs.Heads.{IsEntries, said_of, said_with};
 
 use crate::decimals::decimal_number;

@@ -4,7 +4,8 @@ ghost use Rattle.std.specs.Option.{SomeIff, option_map};
 ghost use Rattle.std.specs.Result.{result_err};
 ghost use Rattle.word_image.specs.LocalRules.{IsShape};
 ghost use Rattle.word_image.specs.RuleFaults.{shape_fault};
-ghost use Rattle.rule_text.specs.RuleTexts.{IsReading, by_number, in_text, rule_of};
+ghost use Rattle.rule_text.specs.RuleTexts.{by_number, in_text, rule_of};
+ghost use Rattle.rule_text.specs.TextReadings.{IsReading};
 
 use crate::digits::write_number;
 use crate::text_fault::{TextFault, in_text};

@@ -2,7 +2,8 @@
 use Rattle.std.specs.Prelude.{◌≡◌, ℕ, List, [], ◌∷◌, map, codes, replicate, refl, pos, negsuc, ◌+ℤ◌, Some, None}
 use Rattle.std.specs.List.{range_with_len}
 use Rattle.word_image.specs.LocalRules.{LocalRule}
-use Rattle.tail_config.specs.Tails.{TailConfig, config_of, cell, cells, image_cell, mirror_of}
+use Rattle.tail_config.specs.Tails.{TailConfig, cell, cells, image_cell, mirror_of}
+use Rattle.tail_config.specs.TailValues.{config_of}
 use Rattle.tail_config.specs.TailTexts.{printed}
 use Rattle.tail_config.specs.TailFaults.{tail_fault}
 use Rattle.tail_config.specs.declared.faults.Part.TheVariants as part

@@ -1,4 +1,5 @@
 pub mod Tails
+pub mod LeftSplits
 pub mod Splits
 pub mod TailTexts
 pub mod TailValues

@@ -1,4 +1,4 @@
--- Which fault of the three parts of a configuration is the first.
+-- Which texts have the form of a configuration and are accepted, and which fault of the three parts is the first.
 use Rattle.std.specs.Prelude.{ℕ, List, [], ◌∷◌, ◌++◌, length, Option, Some, None, nat_lt, nat_le, ◌==◌, if◌then◌else◌, position}
 use Rattle.std.specs.Option.{option_map, option_or}
 use Rattle.tail_config.specs.Tails.{TailConfig}
@@ -6,6 +6,7 @@ use Rattle.tail_config.specs.declared.faults.Part.{Part}
 use Rattle.tail_config.specs.declared.faults.Part.TheVariants as part
 use Rattle.tail_config.specs.declared.faults.TailFault.{TailFault}
 use Rattle.tail_config.specs.declared.faults.TailFault.TheVariants as fault
+use Rattle.tail_config.specs.TailTexts.{IsShortTail, HasParts}
 
 -- the first that comes of faults in a row
 abbrev pub first_fault : List (Option TailFault) → Option TailFault
@@ -37,3 +38,12 @@ letter_faults k t = letter_fault k part.Left t.left ∷ letter_fault k part.Midd
 -- the first fault of three parts over the letters below k
 abbrev pub tail_fault : ℕ → TailConfig → Option TailFault
 tail_fault k t = first_fault (length_faults t.left t.middle t.right ++ letter_faults k t)
+
+-- the grammar: the text is one of some configuration, accepted or not
+abbrev pub HasForm : List ℕ → Type 0
+HasForm text = (t : TailConfig) × HasParts text t
+
+-- the text is accepted as one of this configuration over k letters
+pub record IsTailText (k : ℕ) (text : List ℕ) (t : TailConfig) : Type 0 where
+  pub parts : HasParts text t
+  pub accepted : IsShortTail k t

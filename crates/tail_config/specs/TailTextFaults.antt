@@ -2,9 +2,10 @@
 use Rattle.std.specs.Prelude.{◌≡◌, ◌≢◌, ℕ, ◌<◌, ◌≤◌, List, ◌++◌, length, map, codes, slice_index, slice_range, Some, All}
 use Rattle.word_image.specs.Digits.{IsHexDigit, letter_at}
 use Rattle.word_image.specs.Grammars.{IsFormFault}
-use Rattle.tail_config.specs.Tails.{TailConfig, config_of}
-use Rattle.tail_config.specs.TailTexts.{HasParts, HasForm}
-use Rattle.tail_config.specs.TailFaults.{tail_fault}
+use Rattle.tail_config.specs.Tails.{TailConfig}
+use Rattle.tail_config.specs.TailValues.{config_of}
+use Rattle.tail_config.specs.TailTexts.{HasParts}
+use Rattle.tail_config.specs.TailFaults.{tail_fault, HasForm}
 use Rattle.tail_config.specs.declared.faults.TailFault.{TailFault}
 use Rattle.tail_config.specs.declared.texts.TailTextFault.{TailTextFault}
 use Rattle.tail_config.specs.declared.texts.TailTextFault.TheVariants as fault

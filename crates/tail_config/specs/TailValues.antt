@@ -1,5 +1,5 @@
 -- What a Tail is seen as: a configuration, and how many letters it is over.
-use Rattle.std.specs.Prelude.{ℕ, ◌≤◌}
+use Rattle.std.specs.Prelude.{ℕ, ◌≤◌, List}
 use Rattle.tail_config.specs.Tails.{TailConfig}
 use Rattle.tail_config.specs.TailTexts.{IsShortTail}
 
@@ -13,3 +13,7 @@ pub record IsAccepted (t : TailOver) : Type 0 where
   pub least_states : 2 ≤ t.states
   pub most_states : t.states ≤ 16
   pub short : IsShortTail t.states t.config
+
+-- the configuration of these three parts
+abbrev pub config_of : List ℕ → List ℕ → List ℕ → TailConfig
+config_of left middle right = record { left = left; middle = middle; right = right }

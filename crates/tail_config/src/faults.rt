@@ -1,7 +1,7 @@
 //! Why three parts make no Tail.
 ghost use Rattle.std.specs.Prelude.{◌≡◌, nat_le, position};
 ghost use Rattle.std.specs.Result.{result_err};
-ghost use Rattle.tail_config.specs.Tails.{config_of};
+ghost use Rattle.tail_config.specs.TailValues.{config_of};
 ghost use Rattle.tail_config.specs.TailFaults.{first_fault, length_faults, long_fault, letter_fault, tail_fault};
 
 /// The most letters that a part has.

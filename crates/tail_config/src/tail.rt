@@ -3,9 +3,9 @@ ghost use Rattle.std.specs.Prelude.{◌≡◌, ◌^◌, ◌<◌, ◌≤◌, ◌�
 ghost use Rattle.std.specs.Option.{option_map};
 ghost use Rattle.std.specs.Result.{result_err};
 ghost use Rattle.word_image.specs.LocalRules.{LocalRule, IsRule, mirrored};
-ghost use Rattle.tail_config.specs.Tails.{TailConfig, IsTail, config_of, cell, cells, image_cell, mirror_of};
+ghost use Rattle.tail_config.specs.Tails.{TailConfig, IsTail, cell, cells, image_cell, mirror_of};
 ghost use Rattle.tail_config.specs.TailTexts.{IsShortTail};
-ghost use Rattle.tail_config.specs.TailValues.{IsAccepted};
+ghost use Rattle.tail_config.specs.TailValues.{IsAccepted, config_of};
 ghost use Rattle.tail_config.specs.TailFaults.{tail_fault};
 
 use crate::faults::{TailRefusal, check_parts};
@@ -30,8 +30,7 @@ pub struct Tail {
 }
 
 impl Model for Tail {
-    ghost use Rattle.tail_config.specs.Tails.{config_of};
-    ghost use Rattle.tail_config.specs.TailValues.{TailOver, IsAccepted};
+    ghost use Rattle.tail_config.specs.TailValues.{TailOver, IsAccepted, config_of};
 
     ghost Value = { TailOver };
 

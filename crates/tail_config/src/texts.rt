@@ -4,8 +4,8 @@ ghost use Rattle.std.specs.Result.{result_err};
 ghost use Rattle.word_image.specs.Digits.{letter_at};
 ghost use Rattle.word_image.specs.Grammars.{IsFormFault};
 ghost use Rattle.tail_config.specs.Tails.{TailConfig};
-ghost use Rattle.tail_config.specs.TailTexts.{HasForm, IsShortTail, IsTailText, printed};
-ghost use Rattle.tail_config.specs.TailFaults.{letter_fault, tail_fault};
+ghost use Rattle.tail_config.specs.TailTexts.{IsShortTail, printed};
+ghost use Rattle.tail_config.specs.TailFaults.{letter_fault, tail_fault, HasForm, IsTailText};
 ghost use Rattle.tail_config.specs.TailValues.{TailOver, IsAccepted};
 ghost use Rattle.tail_config.specs.TailTextFaults.{IsTailTextFault, IsDigitsEnd, IsBarAfter, LacksBar, IsFormAt, IsCut, letters_of};
 

@@ -9,8 +9,8 @@ use Rattle.std.proofs.lemmas.List.{length-map}
 use Rattle.word_image.specs.Words.{word_cmp}
 use Rattle.word_image.specs.Rings.{pairs_cmp}
 use Rattle.word_image.proofs.laws.Comparisons.{no_later, not_before, pairs_cmp_total}
-use Rattle.search_laws.specs.PairWalks.{uncode}
-use Rattle.search_laws.proofs.PairWalks.{ArePairs, pairs_cmp-codes, codes-uncode}
+use Rattle.search_laws.specs.PairWalks.{ArePairs, uncode}
+use Rattle.search_laws.proofs.PairWalks.{pairs_cmp-codes, codes-uncode}
 use Rattle.tail_laws.specs.FirstLists.{IsLeastOf, NoneBelow, IsFirstBelow, IsFirstFound}
 
 -- one number more has none

@@ -3,9 +3,10 @@ use Rattle.std.proofs.Common.{◌≡◌, ℕ, length, ℤ, pos, ◌-ℤ◌, sym,
 use Rattle.std.specs.Prelude.{◌↔◌}
 use Rattle.std.proofs.lemmas.Int.{ints}
 use Rattle.word_image.specs.LocalRules.{LocalRule, IsRule, mirrored}
-use Rattle.word_image.specs.Windows.{IsLeftAhead}
+use Rattle.word_image.specs.Sides.{IsLeftAhead}
 use Rattle.word_image.proofs.laws.Images.{IsRule-mirrored, mirrored-mirrored}
-use Rattle.tail_config.specs.Tails.{TailConfig, IsTail, Same, Different, ShareImage, AgreeLeft, AgreeRight, IsRightSplit, IsLeftSplit, IsRightClosing, IsLeftClosing, cell, mirror_of}
+use Rattle.tail_config.specs.Tails.{TailConfig, IsTail, Same, Different, ShareImage, AgreeLeft, AgreeRight, IsRightSplit, IsRightClosing, IsLeftClosing, cell, mirror_of}
+use Rattle.tail_config.specs.LeftSplits.{IsLeftSplit}
 use Rattle.tail_laws.proofs.Closing.{IsRightClosing-ahead}
 use Rattle.tail_laws.proofs.Middles.{longer, length-longer, IsTail-longer, Same-longer, image_cell-same}
 use Rattle.tail_config.proofs.laws.Mirror.{cell-mirror, image_cell-mirror, IsTail-mirror}

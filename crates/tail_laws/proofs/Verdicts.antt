@@ -2,7 +2,8 @@
 use Rattle.std.proofs.Common.{ℕ, ⊎_elim}
 use Rattle.std.specs.Prelude.{◌↔◌}
 use Rattle.word_image.specs.LocalRules.{LocalRule, IsRule}
-use Rattle.tail_config.specs.Tails.{TailConfig, IsTail, Same, Different, ShareImage, IsInjective, IsRightSplit, IsLeftSplit, IsRightClosing, IsLeftClosing}
+use Rattle.tail_config.specs.Tails.{TailConfig, IsTail, Same, Different, ShareImage, IsInjective, IsRightSplit, IsRightClosing, IsLeftClosing}
+use Rattle.tail_config.specs.LeftSplits.{IsLeftSplit}
 use Rattle.tail_config.specs.Splits.{IsLeastRightSplit, IsLeastLeftSplit}
 use Rattle.tail_config.proofs.laws.Decisions.{same_or_different}
 use Rattle.tail_laws.proofs.Sides.{IsLeftSplit-mirror}

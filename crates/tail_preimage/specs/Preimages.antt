@@ -1,4 +1,4 @@
--- Placed configurations that a rule maps to a given one: their shapes and their order, and the words that show that none does.
+-- Placed configurations that a rule maps to a given one: their shapes and their order, the words that show that none does, and which of these is the answer.
 use Rattle.std.specs.Prelude.{◌≡◌, ◌≢◌, ℕ, ◌+◌, ◌*◌, ◌-◌, ◌≤◌, List, ◌++◌, length, map, ℤ, pos, ◌+ℤ◌, ◌-ℤ◌}
 use Rattle.std.specs.List.{range_with_len, repeat}
 use Rattle.std.specs.Ordering.{ordering_then, nat_cmp}
@@ -76,3 +76,20 @@ pub record IsLeastGap (r : LocalRule) (t : TailConfig) (before after : ℕ) (w :
   pub orphan : IsOrphan r w
   pub before_least : (b a : ℕ) → IsOrphan r (stretch t b a) → before ≤ b
   pub after_least : (a : ℕ) → IsOrphan r (stretch t before a) → after ≤ a
+
+-- at most 16 periods on either side
+pub record IsSmall (s : Shape) : Type 0 where
+  pub left : s.back + s.before ≤ 16
+  pub right : s.on + s.after ≤ 16
+
+-- the first placed configuration that maps to t
+pub record IsFrom (r : LocalRule) (t : TailConfig) (p : PlacedConfig) : Type 0 where
+  pub least : IsLeastPreimage r t p
+  pub small : IsSmall least.shape
+
+-- the first gap, where none does
+pub record IsGap (r : LocalRule) (t : TailConfig) (before after : ℕ) (w : List ℕ) : Type 0 where
+  pub least : IsLeastGap r t before after w
+  pub before_few : before ≤ 16
+  pub after_few : after ≤ 16
+  pub none : (p : PlacedConfig) → ¬ MapsTo r p t

@@ -4,8 +4,7 @@ use Rattle.std.specs.declared.cmp.Ordering.TheVariants.{Greater}
 use Rattle.word_image.specs.LocalRules.{LocalRule, IsRule, node_count}
 use Rattle.tail_config.specs.Tails.{TailConfig}
 use Rattle.tail_preimage.specs.Walks.{HasWalk}
-use Rattle.tail_preimage.specs.Preimages.{Shape, shape_cmp}
-use Rattle.tail_preimage.specs.Answers.{IsSmall}
+use Rattle.tail_preimage.specs.Preimages.{Shape, shape_cmp, IsSmall}
 use Rattle.tail_preimage.specs.Relations.{IsRelation, AreSets, Rows, Steps, Open, Rounds}
 use Rattle.tail_preimage.specs.declared.sides.Side.{Side}
 use Rattle.tail_preimage.specs.declared.shapes.Parts.{Parts}

@@ -3,8 +3,8 @@
 ghost use Rattle.std.specs.Prelude.{◌≡◌, ◌-◌, ◌^◌, ◌<◌, ◌+◌, ◌≤◌, ℕ, ◌↔◌, IfOk, IsTrue, length, pos, ◌-ℤ◌, ◌*◌};
 ghost use Rattle.std.specs.List.{repeat};
 ghost use Rattle.word_image.specs.LocalRules.{IsRule, IsWord, node_count};
-ghost use Rattle.tail_preimage.specs.Preimages.{PlacedConfig, MapsTo};
-ghost use Rattle.tail_preimage.specs.Answers.{IsFrom, IsAnswer, is_from, placed_config};
+ghost use Rattle.tail_preimage.specs.Preimages.{PlacedConfig, MapsTo, IsFrom};
+ghost use Rattle.tail_preimage.specs.Answers.{IsAnswer, is_from, placed_config};
 ghost use Rattle.tail_preimage.specs.Walks.{HasWalk, IsLeastWalk, before_last};
 ghost use Rattle.tail_preimage.specs.Relations.{IsNodeSet};
 ghost use Rattle.tail_preimage.specs.Sides.{AreParts, HaveParts, IsFirstShape, IsPossible, Starts, shape_of};

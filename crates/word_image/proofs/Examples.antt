@@ -14,10 +14,12 @@ use Rattle.std.proofs.lemmas.List.Elements.{All-head, All-replicate}
 use Rattle.word_image.specs.LocalRules.{IsWord, word_of, value, local_map}
 use Rattle.word_image.specs.Words.{image, IsOrphan, IsLeastOrphan, word_cmp}
 use Rattle.word_image.specs.Rings.{IsRing, IsTwins, IsLossyRing, IsFlux}
-use Rattle.word_image.specs.Windows.{HaveOneImage, WindowBefore, IsDetermined, IsLeastDetermined, IsRightAhead, IsLeftAhead, IsLeastRightAhead}
+use Rattle.word_image.specs.Windows.{HaveOneImage, WindowBefore, IsDetermined, IsLeastDetermined, IsRightAhead, IsLeastRightAhead}
+use Rattle.word_image.specs.Sides.{IsLeftAhead}
 use Rattle.word_image.specs.Graphs.{label}
 use Rattle.word_image.specs.Ranks.{BeginTogether, EndTogether, IsRank, IsEndless}
-use Rattle.word_image.specs.Erasure.{IsErasable, IsPairList}
+use Rattle.word_image.specs.Erasure.{IsErasable}
+use Rattle.word_image.specs.PairLists.{IsPairList}
 use Rattle.word_image.specs.FirstPairs.{IsFirstOfRight, IsFirstOfLeft}
 use Rattle.word_image.specs.Examples.{rule184, lossy_at_three, shift, stay, both, zero_rule}
 use Rattle.word_image.proofs.laws.Values.{value-below, word_of-value}

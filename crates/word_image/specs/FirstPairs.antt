@@ -2,6 +2,8 @@
 use Rattle.std.specs.Prelude.{◌≡◌, ◌≢◌, ℕ, ◌-◌, ◌<◌, drop}
 use Rattle.word_image.specs.LocalRules.{LocalRule, node_count, word_of}
 use Rattle.word_image.specs.Graphs.{next, label, node_letter, pair_count, pair_of, first_of, second_of}
+use Rattle.word_image.specs.declared.side.Side.{Side}
+use Rattle.word_image.specs.declared.side.Side.TheVariants.{Right, Left}
 
 -- a pair to which two different letters lead from one node, with one label
 pub record IsFirstOfRight (r : LocalRule) (p : ℕ) : Type 0 where
@@ -23,3 +25,8 @@ pub record IsFirstOfLeft (r : LocalRule) (p : ℕ) : Type 0 where
   pub different : node_letter r (first_of r p) 0 ≢ node_letter r (second_of r p) 0
   pub same_rest : drop 1 (word_of r.states (r.width - 1) (first_of r p)) ≡ drop 1 (word_of r.states (r.width - 1) (second_of r p))
   pub one_label : label r (first_of r p) letter ≡ label r (second_of r p) letter
+
+-- the first pairs of this side
+abbrev pub IsFirstOf : Side → LocalRule → ℕ → Type 0
+IsFirstOf Right = IsFirstOfRight
+IsFirstOf Left = IsFirstOfLeft

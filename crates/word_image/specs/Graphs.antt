@@ -1,6 +1,8 @@
--- The de Bruijn graph of a rule (Sutner 1991): a node is a word of m - 1 letters by its value, an edge a window.
+-- The de Bruijn graph of a rule (Sutner 1991): a node is a word of m - 1 letters by its value, an edge a window. Its pairs of nodes, and the steps between these.
 use Rattle.std.specs.Prelude.{◌≡◌, ℕ, ◌+◌, ◌-◌, ◌*◌, ◌/◌, ◌%◌, ◌^◌, ◌<◌, Option, Some, None, ◌==◌, if◌then◌else◌, slice_index, ◌↔◌, IsBitSet}
 use Rattle.word_image.specs.LocalRules.{LocalRule, node_count, word_of}
+use Rattle.word_image.specs.declared.side.Side.{Side}
+use Rattle.word_image.specs.declared.side.Side.TheVariants.{Right, Left}
 
 -- where letter a leads from node u: to the last m - 1 letters of their window
 abbrev pub next : LocalRule → ℕ → ℕ → ℕ
@@ -46,3 +48,17 @@ follow r p a b =
 -- how many pairs of nodes there are
 abbrev pub pair_count : LocalRule → ℕ
 pair_count r = node_count r * node_count r
+
+-- some letters lead from one pair to another, along two edges with one label
+pub record PairStep (r : LocalRule) (p q : ℕ) : Type 0 where
+  pub a : ℕ
+  pub b : ℕ
+  pub in_pairs : p < pair_count r
+  pub a_letter : a < r.states
+  pub b_letter : b < r.states
+  pub follows : follow r p a b ≡ Some q
+
+-- a pair leads on to another: to the right by a step to it, and to the left by a step from it
+abbrev pub LeadsOn : Side → LocalRule → ℕ → ℕ → Type 0
+LeadsOn Right r p q = PairStep r p q
+LeadsOn Left r p q = PairStep r q p

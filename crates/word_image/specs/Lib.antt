@@ -8,6 +8,7 @@ pub mod MarkedPairs
 pub mod FirstPairs
 pub mod Ranks
 pub mod Erasure
+pub mod PairLists
 pub mod Sides
 pub mod RuleFaults
 pub mod RulesBy

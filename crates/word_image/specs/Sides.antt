@@ -1,11 +1,11 @@
 -- The two sides of the line: what is said of the right is said of the left, where what stands first and last change places.
-use Rattle.std.specs.Prelude.{◌≡◌, ℕ, ◌+◌, ◌*◌, ◌/◌, ◌%◌, ◌<◌, Some}
+use Rattle.std.specs.Prelude.{ℕ, ◌+◌, ◌*◌, ◌/◌, ◌%◌}
 use Rattle.word_image.specs.LocalRules.{LocalRule, node_count, mirrored}
-use Rattle.word_image.specs.Graphs.{first_of, second_of, follow, pair_count}
+use Rattle.word_image.specs.Graphs.{first_of, second_of}
 use Rattle.word_image.specs.Ranks.{BeginTogether, EndTogether}
-use Rattle.word_image.specs.FirstPairs.{IsFirstOfRight, IsFirstOfLeft}
 use Rattle.word_image.specs.declared.side.Side.{Side}
 use Rattle.word_image.specs.declared.side.Side.TheVariants.{Right, Left}
+use Rattle.word_image.specs.Windows.{IsRightAhead}
 
 -- the other side
 abbrev pub other : Side → Side
@@ -27,11 +27,6 @@ abbrev pub end_node : Side → LocalRule → ℕ → ℕ
 end_node Right r w = w % node_count r
 end_node Left r w = w / r.states
 
--- the first pairs of this side
-abbrev pub IsFirstOf : Side → LocalRule → ℕ → Type 0
-IsFirstOf Right = IsFirstOfRight
-IsFirstOf Left = IsFirstOfLeft
-
 -- two nodes go on together for n: to the right they begin together, and to the left they end together
 abbrev pub Together : Side → LocalRule → ℕ → ℕ → ℕ → Type 0
 Together Right = BeginTogether
@@ -41,16 +36,6 @@ Together Left = EndTogether
 abbrev pub PairGoes : Side → LocalRule → ℕ → ℕ → Type 0
 PairGoes side r p = Together side r (first_of r p) (second_of r p)
 
--- some letters lead from one pair to another, along two edges with one label
-pub record PairStep (r : LocalRule) (p q : ℕ) : Type 0 where
-  pub a : ℕ
-  pub b : ℕ
-  pub in_pairs : p < pair_count r
-  pub a_letter : a < r.states
-  pub b_letter : b < r.states
-  pub follows : follow r p a b ≡ Some q
-
--- a pair leads on to another: to the right by a step to it, and to the left by a step from it
-abbrev pub LeadsOn : Side → LocalRule → ℕ → ℕ → Type 0
-LeadsOn Right r p q = PairStep r p q
-LeadsOn Left r p q = PairStep r q p
+-- n letters of the image and the last m - 1 letters determine the letter before these: a right look-ahead on the line that is read backwards
+abbrev pub IsLeftAhead : LocalRule → ℕ → Type 0
+IsLeftAhead r n = IsRightAhead (mirrored r) n

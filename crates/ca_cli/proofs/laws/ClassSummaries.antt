@@ -13,9 +13,11 @@ use Rattle.rule_classes.proofs.laws.Numbers.{same_number}
 use Rattle.cert_check.specs.Accepted.{AreTrue}
 use Rattle.cert_check.specs.declared.verdicts.Verdicts.{Verdicts}
 use Rattle.ca_cli.specs.declared.commands.class_tally.ClassTally.{ClassTally}
-use Rattle.ca_cli.specs.Summaries.{count_line, summary_of}
-use Rattle.ca_cli.specs.ClassSummaries.{AreLeastRules, HasLeast, IsAdded, IsClassSummary, IsClassTally, IsDecided, IsLeastOf, IsNeeded, rule_in, rules_in}
-use Rattle.ca_cli.specs.ClassSummaries.IsAdded.{Old, New}
+use Rattle.ca_cli.specs.Summaries.{count_line}
+use Rattle.ca_cli.specs.Tallies.{summary_of}
+use Rattle.ca_cli.specs.ClassSummaries.{AreLeastRules, IsClassSummary, IsLeastOf}
+use Rattle.ca_cli.specs.ClassTallies.{IsAdded, IsClassTally, IsDecided, rule_in, rules_in}
+use Rattle.ca_cli.specs.ClassTallies.IsAdded.{Old, New}
 use Rattle.ca_cli.proofs.laws.Summaries.{IsSummary-tally}
 
 -- a place of one item more is one of those before, or the last
@@ -32,6 +34,14 @@ AllPairs-push R xs y pairs all i j d less within =
       | inl before ↦ subst (R (get_or xs i d)) (sym (get_or_append_left xs (y ∷ []) d j before)) (pairs i j d less before)
       | inr last ↦ subst (R (get_or xs i d)) (sym (get_or_push xs y d j last)) (all i d inside)
     ])
+
+-- the least rule of the class of r is in the list
+abbrev pub HasLeast : List LocalRule → LocalRule → Type 0
+HasLeast leasts r = (g : LocalRule) × Contains leasts g × IsLeastOf r g
+
+-- g is the least rule of the class of some rule of the list
+abbrev IsNeeded : List LocalRule → LocalRule → Type 0
+IsNeeded rules g = (r : LocalRule) × Contains rules r × IsLeastOf r g
 
 -- one rule more, with its least rule added to the list
 pub AreLeastRules-push : {rules leasts more : List LocalRule} {r g : LocalRule} → IsLeastOf r g → IsAdded g leasts more → AreLeastRules rules leasts → AreLeastRules (rules ++ r ∷ []) more

@@ -8,9 +8,10 @@ use Rattle.ca_cli.specs.declared.stop.Stop.TheVariants as stop
 use Rattle.cert_check.specs.declared.refusal.Refusal.{Refusal}
 use Rattle.cert_check.specs.declared.refusal.Refusal.TheVariants as refusal
 use Rattle.cert_check.specs.Refusals.{IsRefusal}
-use Rattle.ca_cli.specs.Commands.{Command, ReadsNothing}
+use Rattle.ca_cli.specs.Commands.{Command}
 use Rattle.ca_cli.specs.Commands as commands
-use Rattle.ca_cli.specs.Inputs.{most_input, IsWholeInput, IsLongInput, IsReadFor, Reading}
+use Rattle.ca_cli.specs.Inputs.{most_input, IsWholeInput, IsLongInput}
+use Rattle.ca_cli.specs.Readings.{IsReadFor, Reading, ReadsNothing}
 use Rattle.ca_cli.specs.Outcomes.{IsOutcome, IsStop, status_of}
 use Rattle.ca_cli.specs.RightAnswers.IsRight.{Refused}
 

@@ -1,5 +1,7 @@
 -- With own weights what is found of a rule is what the values of its letters say.
 use Rattle.std.proofs.Common.{◌≡◌, ◌↔◌, ℕ, List, [], ◌++◌, length, slice_index, Bool, true, false, cond, codes, bytes_eq, IsTrue, refl, subst}
+use Rattle.std.specs.List.{join_by}
+use Rattle.std.specs.Fmt.{decimal}
 use Rattle.std.proofs.lemmas.Slice.Eq.{bytes_eq-Decides}
 use Rattle.word_image.specs.LocalRules.{LocalRule, IsRule}
 use Rattle.word_image.specs.Rings.{IsConserving}
@@ -10,7 +12,7 @@ use Rattle.cert_format.specs.Evidence.SumEvidence.{Flux, Ring}
 use Rattle.certificate_laws.specs.LeastEvidence.{IsConservingPart}
 use Rattle.ca_cli.specs.Lines.{line}
 use Rattle.ca_cli.specs.Reports.{IsReport}
-use Rattle.ca_cli.specs.StatusLines.{weights_lines, with_commas}
+use Rattle.ca_cli.specs.StatusLines.{weights_lines}
 
 -- of one verdict
 pub IsConserving-tested : {r : LocalRule} {weights : List ℕ} {keeps : Bool} → IsRule r → weights ≡ own_weights r.states → IsTrue keeps ↔ IsConserving (slice_index weights) r → IsTrue keeps ↔ IsConserving (λ a. a) r
@@ -42,10 +44,10 @@ IsReport-own {r} {weights} out rule own is =
     }
 
 -- weights that are not own ones have a line
-pub weights_lines-other : (weights : List ℕ) → ¬ (weights ≡ own_weights (length weights)) → weights_lines weights ≡ line (codes "weights " ++ with_commas weights)
+pub weights_lines-other : (weights : List ℕ) → ¬ (weights ≡ own_weights (length weights)) → weights_lines weights ≡ line (codes "weights " ++ join_by decimal (codes ",") weights)
 weights_lines-other weights other =
     let same = bytes_eq-Decides weights (own_weights (length weights)) in
-    let text = line (codes "weights " ++ with_commas weights) in
+    let text = line (codes "weights " ++ join_by decimal (codes ",") weights) in
     elim (bytes_eq weights (own_weights (length weights))) as (λ b. bytes_eq weights (own_weights (length weights)) ≡ b → cond b [] text ≡ text) [
       | true ↦ (λ is. absurd (other (same.0 is)))
       | false ↦ (λ is. refl)

@@ -2,7 +2,8 @@
 use Rattle.std.proofs.Common.{◌≡◌, ◌<◌, ◌≤◌, List, [], ◌∷◌, length, get_or, refl, arith}
 use Rattle.ca_cli.specs.declared.words.request.Unread.{Unread}
 use Rattle.ca_cli.specs.declared.words.request.Unread.TheVariants as unread
-use Rattle.ca_cli.specs.Commands.{Command, ReadsNothing}
+use Rattle.ca_cli.specs.Commands.{Command}
+use Rattle.ca_cli.specs.Readings.{ReadsNothing}
 use Rattle.ca_cli.specs.Requests.{Means}
 
 -- a list of five is its first five

@@ -16,7 +16,8 @@ use Rattle.cert_check.specs.Refusals.{IsRefusal}
 use Rattle.cert_check.specs.declared.verdicts.Verdicts.{Verdicts}
 use Rattle.cert_check.specs.declared.refusal.Refusal.{Refusal}
 use Rattle.cert_check.proofs.laws.OneAnswer.{accepted_not_refused}
-use Rattle.ca_cli.specs.Commands.{AskWith, AskOfMany, Command, name_of, name_with, name_of_two, name_of_many, words_of, IsCommand, ReadsNothing}
+use Rattle.ca_cli.specs.Commands.{AskWith, AskOfMany, Command, name_of, name_with, name_of_two, name_of_many, words_of, IsCommand}
+use Rattle.ca_cli.specs.Readings.{ReadsNothing}
 use Rattle.ca_cli.specs.Commands as commands
 use Rattle.ca_cli.specs.Statuses.{IsAnswered}
 use Rattle.ca_cli.specs.StatusLines.{usage_line, operand_fault_line}

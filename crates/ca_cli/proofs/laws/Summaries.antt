@@ -5,7 +5,8 @@ use Rattle.std.specs.Int.{from_bool}
 use Rattle.std.proofs.lemmas.Bool.{false≢true}
 use Rattle.word_image.specs.LocalRules.{LocalRule}
 use Rattle.ca_cli.specs.declared.commands.tally.Tally.{Tally}
-use Rattle.ca_cli.specs.Summaries.{AreMany, IsSummary, IsTally, summary_of}
+use Rattle.ca_cli.specs.Summaries.{AreMany, IsSummary}
+use Rattle.ca_cli.specs.Tallies.{IsTally, summary_of}
 use Rattle.ca_cli.specs.Summaries.AreMany.{None, One, Other}
 
 -- no more rules have a property than there are

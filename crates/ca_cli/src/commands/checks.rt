@@ -2,7 +2,8 @@
 ghost use Rattle.std.specs.Prelude.{◌≡◌, ◌≢◌, ◌⊎◌, alloc_error, MatchResult};
 ghost use Rattle.std.specs.Io.KnownBytes.{IsAtEnd};
 ghost use Rattle.ca_cli.specs.Commands.{Command};
-ghost use Rattle.ca_cli.specs.Inputs.{IsWholeInput, IsReadFor, Reading};
+ghost use Rattle.ca_cli.specs.Inputs.{IsWholeInput};
+ghost use Rattle.ca_cli.specs.Readings.{IsReadFor, Reading};
 ghost use Rattle.ca_cli.specs.Outcomes.{IsOutcome, IsStop, outcome_status, status_of};
 
 use crate::lines::verdicts::write_accepted;

@@ -3,10 +3,11 @@ ghost use Rattle.std.specs.Prelude.{◌≡◌, ◌<◌, ◌≤◌, ◌+◌, ℕ,
 ghost use Rattle.indexmap.specs.IndexMap.{get};
 ghost use Rattle.word_image.specs.LocalRules.{LocalRule};
 ghost use Rattle.word_image.specs.Weights.{own_weights};
-ghost use Rattle.rule_classes.specs.Classes.{HaveOneVerdict};
+ghost use Rattle.rule_classes.specs.ClassVerdicts.{HaveOneVerdict};
 ghost use Rattle.cert_check.specs.Accepted.{AreTrue};
-ghost use Rattle.ca_cli.specs.ClassSummaries.{IsAdded, IsClassTally, IsDecided, rules_in};
-ghost use Rattle.ca_cli.specs.Summaries.{count_line, summary_of};
+ghost use Rattle.ca_cli.specs.ClassTallies.{IsAdded, IsClassTally, IsDecided, rules_in};
+ghost use Rattle.ca_cli.specs.Summaries.{count_line};
+ghost use Rattle.ca_cli.specs.Tallies.{summary_of};
 
 use crate::commands::tally::Tally;
 use crate::output::Output;

@@ -1,7 +1,7 @@
 //! The commands on the class of a rule, and on its lifts.
 ghost use Rattle.ca_cli.specs.Outcomes.{Comes};
 ghost use Rattle.ca_cli.specs.Outputs.{IsCause, IsOutput};
-ghost use Rattle.ca_cli.specs.StatusLines.{lift_text};
+ghost use Rattle.ca_cli.specs.LiftTexts.{lift_text};
 ghost use Rattle.std.specs.Prelude.{◌≡◌};
 
 use crate::commands::algebra::rule_output;

@@ -1,10 +1,13 @@
 //! The command that inverts a rule.
-ghost use Rattle.std.specs.Prelude.{◌≡◌, ◌≤◌, ◌++◌, ℕ, List, IfOk, OnOk};
+ghost use Rattle.std.specs.Prelude.{◌≡◌, ◌≤◌, ◌++◌, ℕ, List, IfOk, OnOk, codes};
+ghost use Rattle.std.specs.Fmt.{decimal};
+ghost use Rattle.word_image.specs.Digits.{word_text};
 ghost use Rattle.word_image.specs.LocalRules.{IsWord};
 ghost use Rattle.word_image.specs.Windows.{IsLeastDetermined};
 ghost use Rattle.tail_config.specs.Tails.{IsInjective};
+ghost use Rattle.rule_text.specs.PrintedRules.{offset_text};
 ghost use Rattle.ca_cli.specs.Lines.{line};
-ghost use Rattle.ca_cli.specs.InverseLines.{IsInverse, IsMapRule, window_text, offset_line, map_line, map_rule_line};
+ghost use Rattle.ca_cli.specs.InverseLines.{IsInverse, IsMapRule, map_lines};
 ghost use Rattle.ca_cli.specs.Outcomes.{Comes};
 ghost use Rattle.ca_cli.specs.Outputs.{IsCause};
 ghost use Rattle.ca_cli.specs.StatusLines.{twins_text, wide_text, unfit_line};
@@ -52,7 +55,7 @@ fn inverse_over(alloc: Global, rule: &Rule, at: WindowAt) -> Result<Output, Stop
 /// The four lines of an inverse map over a window.
 fn map_output(alloc: Global, at: WindowAt, map: &InverseMap) -> Result<Output, AllocError>
     ensures { IfOk result (λ output. (rule : List ℕ) × IsMapRule map.now rule
-        × (output ≡ line (window_text at.n at.c) ++ offset_line map.now ++ map_line map.now ++ map_rule_line rule)) }
+        × (output ≡ map_lines at.n at.c map.now rule)) }
 {
     let mut output = Output::new(alloc);
     write_window(alloc, &mut output, at)?;
@@ -64,7 +67,7 @@ fn map_output(alloc: Global, at: WindowAt, map: &InverseMap) -> Result<Output, A
 
 /// Appends the line that names the window.
 fn write_window(alloc: Global, output: &mut Output, at: WindowAt) -> Result<(), AllocError>
-    ensures { OnOk result (output.new ≡ output.old ++ line (window_text at.n at.c)) }
+    ensures { OnOk result (output.new ≡ output.old ++ line (codes "window " ++ decimal at.n ++ codes " " ++ decimal at.c)) }
 {
     let (n, c) = (at.n, at.c);
     output.push_line(&format!(in alloc; "window {n} {c}")?)
@@ -72,7 +75,7 @@ fn write_window(alloc: Global, output: &mut Output, at: WindowAt) -> Result<(), 
 
 /// Appends the line that says where the window lies.
 fn write_offset(alloc: Global, output: &mut Output, map: &InverseMap) -> Result<(), AllocError>
-    ensures { OnOk result (output.new ≡ output.old ++ offset_line map.now) }
+    ensures { OnOk result (output.new ≡ output.old ++ line (codes "offset " ++ offset_text map.now.offset)) }
 {
     let offset = map.offset();
     output.push_line(&format!(in alloc; "offset {offset}")?)
@@ -80,7 +83,7 @@ fn write_offset(alloc: Global, output: &mut Output, map: &InverseMap) -> Result<
 
 /// Appends the line of the letters.
 fn write_map(alloc: Global, output: &mut Output, map: &InverseMap) -> Result<(), AllocError>
-    ensures { OnOk result (output.new ≡ output.old ++ map_line map.now) }
+    ensures { OnOk result (output.new ≡ output.old ++ line (codes "map " ++ word_text map.now.table)) }
 {
     output.push(b"map ")?;
     output.push_word(alloc, map.table())?;
@@ -90,7 +93,7 @@ fn write_map(alloc: Global, output: &mut Output, map: &InverseMap) -> Result<(),
 /// Appends the line of the map as a rule.
 fn write_map_rule(alloc: Global, output: &mut Output, map: &InverseMap) -> Result<(), AllocError>
     ensures { OnOk result ((rule : List ℕ) × IsMapRule map.now rule
-        × (output.new ≡ output.old ++ map_rule_line rule)) }
+        × (output.new ≡ output.old ++ line (codes "rule " ++ rule))) }
 {
     match as_rule(map) {
         Ok(rule) => write_rule(alloc, output, &rule),

@@ -1,7 +1,7 @@
 //! The command that looks for a preimage of a configuration.
 ghost use Rattle.std.specs.Prelude.{◌≡◌, IfOk};
 ghost use Rattle.tail_config.specs.Tails.{TailConfig};
-ghost use Rattle.tail_config.specs.TailTexts.{HasForm};
+ghost use Rattle.tail_config.specs.TailFaults.{HasForm};
 ghost use Rattle.tail_preimage.specs.Answers.{IsAnswer, placed_config};
 ghost use Rattle.word_image.specs.LocalRules.{IsWord};
 ghost use Rattle.ca_cli.specs.Lines.{line};

@@ -3,12 +3,14 @@ ghost use Rattle.std.specs.Prelude.{◌≡◌, ℕ, ◌+◌, ◌^◌, ◌<◌, �
 ghost use Rattle.std.specs.Option.{option_or};
 ghost use Rattle.word_image.specs.LocalRules.{IsShape};
 ghost use Rattle.rule_text.specs.RuleTexts.{number_fault};
-ghost use Rattle.ca_cli.specs.ClassSummaries.{IsClassSummary, IsClassTally};
+ghost use Rattle.ca_cli.specs.ClassSummaries.{IsClassSummary};
+ghost use Rattle.ca_cli.specs.ClassTallies.{IsClassTally};
 ghost use Rattle.ca_cli.specs.Requests.{BeginsAt, asked_of_many};
 ghost use Rattle.ca_cli.specs.Outcomes.{IsShapeStop};
 ghost use Rattle.ca_cli.specs.Outputs.{IsOutputOfMany, rules_of, rules_fault};
 ghost use Rattle.ca_cli.specs.Samples.{numbered_rule, survey_rules, sample_rules, survey_fault, sample_fault};
-ghost use Rattle.ca_cli.specs.Summaries.{IsSummary, IsTally};
+ghost use Rattle.ca_cli.specs.Summaries.{IsSummary};
+ghost use Rattle.ca_cli.specs.Tallies.{IsTally};
 
 use crate::commands::class_tally::ClassTally;
 use crate::commands::generator::Generator;

@@ -3,7 +3,8 @@ ghost use Rattle.std.specs.Prelude.{◌≡◌, ◌<◌, ℕ, List, [], ◌∷◌
 ghost use Rattle.word_image.specs.LocalRules.{LocalRule};
 ghost use Rattle.word_image.specs.Weights.{own_weights};
 ghost use Rattle.cert_check.specs.Accepted.{AreTrue};
-ghost use Rattle.ca_cli.specs.Summaries.{IsTally, count_line, summary_of};
+ghost use Rattle.ca_cli.specs.Summaries.{count_line};
+ghost use Rattle.ca_cli.specs.Tallies.{IsTally, summary_of};
 
 use crate::output::Output;
 use cert_check::Verdicts;

@@ -1,11 +1,14 @@
 //! The lines of a report.
-ghost use Rattle.std.specs.Prelude.{◌≡◌, ◌++◌, codes, IfSome, OnOk};
+ghost use Rattle.std.specs.Prelude.{◌≡◌, ◌++◌, codes, if◌then◌else◌, IfSome, OnOk};
+ghost use Rattle.std.specs.List.{flat_map};
 ghost use Rattle.word_image.specs.LocalRules.{IsWord};
 ghost use Rattle.word_image.specs.Digits.{word_text};
+ghost use Rattle.tail_config.specs.TailTexts as tail;
+ghost use Rattle.rule_text.specs.PrintedRules.{printed, offset_text};
 ghost use Rattle.cert_format.specs.Evidence.InjectiveEvidence.{Window};
 ghost use Rattle.cert_format.specs.Parts.{injective_of, side_of, sum_of};
 ghost use Rattle.ca_cli.specs.Lines.{line};
-ghost use Rattle.ca_cli.specs.Reports.{rule_line, tails_text, after_blanks, surjective_line, injective_line, side_line, open_line, conserving_line, report_of};
+ghost use Rattle.ca_cli.specs.Reports.{surjective_line, injective_line, side_line, conserving_line, report_of};
 ghost use Rattle.ca_cli.specs.Digits.{HasTwinDigits, HasRingDigits};
 
 use crate::lines::write_number;
@@ -37,7 +40,7 @@ pub fn write_report(
 
 /// Appends the printed rule.
 pub fn write_rule(alloc: Global, output: &mut Output, rule: &Rule) -> Result<(), AllocError>
-    ensures { OnOk result (output.new ≡ output.old ++ rule_line rule.now) }
+    ensures { OnOk result (output.new ≡ output.old ++ line (codes "rule " ++ printed rule.now)) }
 {
     output.push(b"rule ")?;
     output.push(&print(alloc, rule)?)?;
@@ -120,7 +123,7 @@ fn write_split(
     x: &Tail,
     y: &Tail,
 ) -> Result<(), AllocError>
-    ensures { OnOk result (output.new ≡ output.old ++ line (name.now ++ codes " no split " ++ tails_text x.now.config y.now.config)) }
+    ensures { OnOk result (output.new ≡ output.old ++ line (name.now ++ codes " no split " ++ tail.printed x.now.config ++ codes " " ++ tail.printed y.now.config)) }
 {
     let x = tail_config::print(alloc, x)?;
     let y = tail_config::print(alloc, y)?;
@@ -141,7 +144,7 @@ fn write_texts(output: &mut Output, name: &str, x: &[u8], y: &[u8]) -> Result<()
 
 /// Appends the line that says whether the rule closes on both sides.
 fn write_open(output: &mut Output, both: bool) -> Result<(), AllocError>
-    ensures { OnOk result (output.new ≡ output.old ++ open_line both) }
+    ensures { OnOk result (output.new ≡ output.old ++ line (if both then codes "open yes" else codes "open no")) }
 {
     output.push_line(if both { "open yes" } else { "open no" })
 }
@@ -159,7 +162,7 @@ fn write_conserving(alloc: Global, output: &mut Output, found: &SumPart) -> Resu
 
 /// Appends the line that names a flux.
 fn write_flux(alloc: Global, output: &mut Output, flows: &[i32]) -> Result<(), AllocError>
-    ensures { OnOk result (output.new ≡ output.old ++ line (codes "conserving yes flux" ++ after_blanks flows.now)) }
+    ensures { OnOk result (output.new ≡ output.old ++ line (codes "conserving yes flux" ++ flat_map (λ z. codes " " ++ offset_text z) flows.now)) }
 {
     output.push(b"conserving yes flux")?;
     for flow in flows {

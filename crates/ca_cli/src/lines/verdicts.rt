@@ -1,9 +1,10 @@
 //! What is said of a certificate: its verdicts, or why it is refused.
-ghost use Rattle.std.specs.Prelude.{◌≡◌, ◌++◌, codes, IfOk, OnOk, string_bytes};
+ghost use Rattle.std.specs.Prelude.{◌≡◌, ◌++◌, codes, if◌then◌else◌, IfOk, OnOk, string_bytes};
+ghost use Rattle.std.specs.List.{flat_map, join_by};
 ghost use Rattle.std.specs.Fmt.{decimal};
 ghost use Rattle.rule_text.specs.PrintedRules.{printed};
 ghost use Rattle.ca_cli.specs.Lines.{line, fault_text};
-ghost use Rattle.ca_cli.specs.StatusLines.{accepted_lines, weights_lines, with_commas, after_commas, verdict_line, verdict_text, refused_line, refusal_text, shape_text, key_text, side_text, twin_text, split_text};
+ghost use Rattle.ca_cli.specs.StatusLines.{accepted_lines, weights_lines, verdict_line, refused_line, refusal_text, shape_text, key_text, side_text, twin_text, split_text};
 
 use crate::lines::fault_kind;
 use crate::output::Output;
@@ -62,7 +63,7 @@ fn write_weights(alloc: Global, output: &mut Output, weights: &Weights) -> Resul
 
 /// Appends numbers with a comma between.
 fn write_numbers(alloc: Global, output: &mut Output, numbers: &[u8]) -> Result<(), AllocError>
-    ensures { OnOk result (output.new ≡ output.old ++ with_commas numbers.now) }
+    ensures { OnOk result (output.new ≡ output.old ++ join_by decimal (codes ",") numbers.now) }
 {
     let Some((first, rest)) = numbers.split_first() else {
         return Ok(());
@@ -73,7 +74,7 @@ fn write_numbers(alloc: Global, output: &mut Output, numbers: &[u8]) -> Result<(
 
 /// Appends numbers with a comma before each.
 fn write_others(alloc: Global, output: &mut Output, numbers: &[u8]) -> Result<(), AllocError>
-    ensures { OnOk result (output.new ≡ output.old ++ after_commas numbers.now) }
+    ensures { OnOk result (output.new ≡ output.old ++ flat_map (λ n. codes "," ++ decimal n) numbers.now) }
 {
     for number in numbers {
         output.push(format!(in alloc; ",{number}")?.as_bytes())?;
@@ -82,7 +83,7 @@ fn write_others(alloc: Global, output: &mut Output, numbers: &[u8]) -> Result<()
 }
 
 fn verdict_name(yes: bool) -> &'static str
-    ensures { result.now ≡ verdict_text yes }
+    ensures { result.now ≡ (if yes then codes " yes" else codes " no") }
 {
     if yes { " yes" } else { " no" }
 }

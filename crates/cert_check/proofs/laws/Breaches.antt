@@ -8,7 +8,7 @@ use Rattle.word_image.specs.LocalRules.{LocalRule, word_of}
 use Rattle.word_image.specs.Rings.{ring_image}
 use Rattle.word_image.specs.Graphs.{full_set, first_of, second_of, pair_count}
 use Rattle.word_image.specs.declared.side.Side.TheVariants as side
-use Rattle.word_image.specs.Sides.{IsFirstOf}
+use Rattle.word_image.specs.FirstPairs.{IsFirstOf}
 use Rattle.tail_config.specs.Tails.{TailConfig, Different, ShareImage}
 use Rattle.cert_format.specs.Certificates.{Certificate}
 use Rattle.cert_check.specs.declared.conditions.Condition.{Condition}
@@ -19,7 +19,7 @@ use Rattle.cert_check.specs.declared.refusal.Refusal.{Refusal}
 use Rattle.cert_check.specs.Breaches.{EachBelow, IsFirstBreach}
 use Rattle.cert_check.specs.Sets.{StepIsKept, LeadsTo}
 use Rattle.cert_check.specs.Pairs.{FirstIsListed, StepsAreListed}
-use Rattle.cert_check.specs.Windows.{IsWindowPair, IsAheadPair}
+use Rattle.cert_check.specs.Claims.{IsWindowPair, IsAheadPair}
 use Rattle.cert_check.specs.Sides.{AgreeBehind, claims_on}
 use Rattle.cert_check.specs.Sums.{Flows, IsLossy}
 use Rattle.cert_check.specs.Conditions.{conditions, Holds, MeetsConditions, OfSets, OfPairs, OfOrphan, OfWindow, OfTwins, OfAhead, OfSplit, OfFlux, OfRing}

@@ -6,12 +6,13 @@ use Rattle.word_image.specs.LocalRules.{LocalRule, IsRule, IsWord}
 use Rattle.word_image.specs.Rings.{ring_image, IsTwins}
 use Rattle.word_image.specs.Windows.{IsDetermined, IsRightAhead}
 use Rattle.word_image.specs.Graphs.{pair_count}
-use Rattle.word_image.specs.FirstPairs.{IsFirstOfRight, IsFirstOfLeft}
+use Rattle.word_image.specs.FirstPairs.{IsFirstOfRight, IsFirstOfLeft, IsFirstOf}
 use Rattle.word_image.specs.declared.side.Side.{Side}
 use Rattle.word_image.specs.declared.side.Side.TheVariants.{Right, Left}
-use Rattle.word_image.specs.Sides.{IsFirstOf, seen_from}
+use Rattle.word_image.specs.Sides.{seen_from}
 use Rattle.pair_laws.proofs.Evidence.{IsDetermined-claims, ahead-claims}
-use Rattle.tail_config.specs.Tails.{TailConfig, Different, ShareImage, AgreeLeft, AgreeRight, IsInjective, IsRightSplit, IsLeftSplit, IsRightClosing, IsLeftClosing}
+use Rattle.tail_config.specs.Tails.{TailConfig, Different, ShareImage, AgreeLeft, AgreeRight, IsInjective, IsRightSplit, IsRightClosing, IsLeftClosing}
+use Rattle.tail_config.specs.LeftSplits.{IsLeftSplit}
 use Rattle.tail_config.specs.TailTexts.{IsShortTail}
 use Rattle.tail_laws.proofs.Injective.{IsInjective-determined}
 use Rattle.tail_laws.proofs.Closing.{IsRightClosing-ahead}
@@ -23,8 +24,7 @@ use Rattle.cert_format.specs.Certificates.{IsInjectiveShape, IsSideShape}
 use Rattle.cert_format.specs.Evidence.InjectiveEvidence.{Window, Twins}
 use Rattle.cert_format.specs.Evidence.SideEvidence.{Ahead, Split}
 use Rattle.cert_check.specs.Breaches.{EachBelow}
-use Rattle.cert_check.specs.Claims.{claim, Falls}
-use Rattle.cert_check.specs.Windows.{IsWindowPair, IsAheadPair}
+use Rattle.cert_check.specs.Claims.{claim, Falls, IsWindowPair, IsAheadPair}
 use Rattle.cert_check.specs.Conditions.{OfWindow, OfTwins, OfAhead, OfSplit}
 use Rattle.cert_check.specs.Accepted.{says_injective, says_closing}
 

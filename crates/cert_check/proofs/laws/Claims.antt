@@ -10,7 +10,8 @@ use Rattle.pair_laws.proofs.Pairs.{first_of-pair_of, second_of-pair_of, pair_of-
 use Rattle.word_image.specs.declared.side.Side.{Side}
 use Rattle.word_image.specs.declared.side.Side.TheVariants.{Right, Left}
 use Rattle.word_image.specs.Sides.{window_with}
-use Rattle.cert_check.specs.Claims.{claim, IsBelow, Falls, FallsBy}
+use Rattle.cert_check.specs.Claims.{claim, IsBelow, Falls}
+use Rattle.cert_check.specs.SideWindows.{FallsBy}
 
 -- on each letter of the first node and each of the second less than n is claimed
 abbrev pub FallsByAll : Side → LocalRule → List (Option ℕ) → ℕ → ℕ → Type 0

@@ -8,22 +8,22 @@ use Rattle.word_image.specs.Windows.{IsDetermined, IsRightAhead}
 use Rattle.word_image.specs.Graphs.{full_set, pair_count}
 use Rattle.word_image.specs.declared.side.Side.{Side}
 use Rattle.word_image.specs.declared.side.Side.TheVariants.{Right, Left}
-use Rattle.word_image.specs.Sides.{IsFirstOf, seen_from}
+use Rattle.word_image.specs.Sides.{seen_from}
+use Rattle.word_image.specs.FirstPairs.{IsFirstOf}
 use Rattle.word_image.specs.Ranks.{IsLastSet}
 use Rattle.word_image.proofs.laws.LastSets.{IsLastSet-full, IsLastSet-step, IsOrphan-empty_set, IsOrphan-not_surjective}
 use Rattle.search_laws.proofs.StepSets.{LeadsToSet-last, IsLastSet-orphan, IsStep-some}
 use Rattle.pair_laws.proofs.Claims.{ClaimsRanks, FallsOn-ranks}
 use Rattle.pair_laws.proofs.Evidence.{IsClaimedApart-ranks, ahead-ranks}
 use Rattle.ring_laws.proofs.FluxWindows.{Flows-flux}
-use Rattle.tail_config.specs.Tails.{TailConfig, AgreeLeft, AgreeRight, IsRightSplit, IsLeftSplit}
+use Rattle.tail_config.specs.Tails.{TailConfig, AgreeLeft, AgreeRight, IsRightSplit}
+use Rattle.tail_config.specs.LeftSplits.{IsLeftSplit}
 use Rattle.cert_format.specs.declared.cert_version.CertVersion.TheVariants.{One}
 use Rattle.cert_check.specs.Breaches.{EachBelow}
-use Rattle.cert_check.specs.Claims.{claim}
+use Rattle.cert_check.specs.Claims.{claim, IsWindowPair, IsAheadPair}
 use Rattle.cert_check.specs.Sets.{StepIsKept, LeadsTo}
 use Rattle.cert_check.specs.Sums.{Flows, IsLossy}
-use Rattle.cert_check.specs.Windows.{IsWindowPair, IsAheadPair}
 use Rattle.cert_check.proofs.laws.ClaimConditions.{AllFall, AreApart, AreAlike}
-use Rattle.cert_check.proofs.laws.Steps.{LeadsTo-push}
 use Rattle.cert_check.proofs.laws.WindowFlows.{Flows-value}
 
 -- the list has the last nodes of each word, and no other set

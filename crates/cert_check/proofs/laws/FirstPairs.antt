@@ -3,7 +3,7 @@ use Rattle.std.proofs.Common.{◌≡◌, ◌≢◌, ℕ, ◌+◌, ◌-◌, ◌*�
 use Rattle.std.proofs.lemmas.Nat.{mul-add-lt, div_below, div-mul-add, mod-mul-add, div-add-mod'}
 use Rattle.word_image.specs.LocalRules.{LocalRule, IsRule, node_count, value, word_of}
 use Rattle.word_image.specs.Graphs.{next, node_letter, pair_of, first_of, second_of, pair_count}
-use Rattle.word_image.specs.FirstPairs.{IsFirstOfRight, IsFirstOfLeft}
+use Rattle.word_image.specs.FirstPairs.{IsFirstOfRight, IsFirstOfLeft, IsFirstOf}
 use Rattle.word_image.proofs.laws.Values.{value-word_of}
 use Rattle.word_image.proofs.laws.Graphs.{next-below}
 use Rattle.word_image.proofs.laws.WindowParts.{rest_count, power-below, node_count-rest, window_parts, node_parts}
@@ -11,8 +11,8 @@ use Rattle.pair_laws.proofs.Pairs.{first_of-pair_of, second_of-pair_of, pair_of-
 use Rattle.word_image.specs.declared.side.Side.{Side}
 use Rattle.word_image.specs.declared.side.Side.TheVariants.{Right, Left}
 use Rattle.word_image.specs.Sides.{window_with}
-use Rattle.word_image.specs.Sides.{IsFirstOf, other}
-use Rattle.cert_check.specs.Sides.{rest_of}
+use Rattle.word_image.specs.Sides.{other}
+use Rattle.cert_check.specs.SideWindows.{rest_of}
 
 -- some letter on this side of two nodes makes windows with one label of them
 abbrev pub HaveOneLabel : Side → LocalRule → ℕ → ℕ → Type 0

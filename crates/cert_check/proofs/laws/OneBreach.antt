@@ -7,16 +7,15 @@ use Rattle.tail_config.specs.Tails.{TailConfig}
 use Rattle.cert_format.specs.Certificates.{Certificate}
 use Rattle.cert_format.proofs.laws.ShapeFaults.{IsFirstWithout-unique}
 use Rattle.cert_check.specs.declared.conditions.Condition.{Condition}
-use Rattle.word_image.specs.Sides.{IsFirstOf}
+use Rattle.word_image.specs.FirstPairs.{IsFirstOf}
 use Rattle.cert_check.specs.declared.refusal.TwinCause.{TwinCause}
 use Rattle.cert_check.specs.declared.refusal.SplitCause.{SplitCause}
 use Rattle.cert_check.specs.declared.refusal.Refusal.{Refusal}
 use Rattle.cert_check.specs.declared.refusal.Refusal.TheVariants as refusal
 use Rattle.cert_check.specs.Breaches.{EachBelow, IsFirstBreach}
-use Rattle.cert_check.specs.Claims.{Falls}
+use Rattle.cert_check.specs.Claims.{Falls, IsWindowPair, IsAheadPair}
 use Rattle.cert_check.specs.Sets.{StepIsKept}
 use Rattle.cert_check.specs.Pairs.{FirstIsListed, StepIsListed, StepsAreListed, IsFirstLeaving}
-use Rattle.cert_check.specs.Windows.{IsWindowPair, IsAheadPair}
 use Rattle.cert_check.specs.Sides.{AgreeBehind, claims_on}
 use Rattle.cert_check.specs.Sums.{Flows}
 use Rattle.cert_check.specs.Refusals.{IsBreach, IsTwinsBreach, IsSplitBreach, IsFirstUnmet}

@@ -2,7 +2,7 @@
 use Rattle.std.proofs.Common.{◌≢◌, ℕ, List, length, slice_index}
 use Rattle.word_image.specs.LocalRules.{LocalRule, IsRule}
 use Rattle.word_image.specs.Graphs.{first_of, second_of, pair_count}
-use Rattle.word_image.specs.Erasure.{IsPairList}
+use Rattle.word_image.specs.PairLists.{IsPairList}
 use Rattle.pair_laws.proofs.Evidence.{IsFirstOfRight-below}
 use Rattle.cert_check.specs.Breaches.{EachBelow}
 use Rattle.cert_check.specs.Pairs.{FirstIsListed, StepsAreListed}

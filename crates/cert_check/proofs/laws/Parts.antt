@@ -5,7 +5,8 @@ use Rattle.std.specs.Int.Bits.{and_self}
 use Rattle.std.proofs.lemmas.Bool.{cases_eq}
 use Rattle.std.proofs.lemmas.Nat.{and_le_l, and_le_r, and_assoc}
 use Rattle.std.proofs.lemmas.Nat.Bits.{bit_at_and, bit_at-lt, bit_at_clear_same, bit_at_clear_other, same_from_bits, same_from_bits_below}
-use Rattle.cert_check.specs.Sets.{HasPart, IsMarked, AreMarked, without}
+use Rattle.cert_check.specs.Sets.{HasPart}
+use Rattle.cert_check.specs.Rows.{IsMarked, AreMarked, without}
 
 -- a part of a part is a part
 pub part-of_part : (s t u : ℕ) → bit_and s t ≡ s → bit_and t u ≡ t → bit_and s u ≡ s

@@ -10,7 +10,7 @@ use Rattle.std.proofs.lemmas.Nat.Bits.{shr_and_one}
 use Rattle.word_image.proofs.laws.Bits.{bit_at-IsBitSet, IsBitSet-or, IsBitSet-zero}
 use Rattle.pair_laws.proofs.Sets.{IsBitSet-shl}
 use Rattle.word_image.specs.LocalRules.{LocalRule, node_count}
-use Rattle.cert_check.specs.Sets.{HasBit, IsMarked, AreEnds}
+use Rattle.cert_check.specs.Rows.{HasBit, IsMarked, AreEnds}
 
 -- rows with one bit more, as a shift makes it
 pub HasBit-more : (rows : List ℕ) (i v : ℕ) → i < length rows → v < 16 → (j w : ℕ)

@@ -10,7 +10,8 @@ use Rattle.word_image.proofs.laws.Graphs.{node_count_pos}
 use Rattle.pair_laws.proofs.Sets.{IsBitSet-below, IsBitSet-shr}
 use Rattle.search_laws.proofs.StepSets.{IsStep-unique}
 use Rattle.word_image.proofs.laws.WindowParts.{some_letter, windows-nodes}
-use Rattle.cert_check.specs.Sets.{HasBit, AreEnds, LeadsTo}
+use Rattle.cert_check.specs.Sets.{LeadsTo}
+use Rattle.cert_check.specs.Rows.{HasBit, AreEnds}
 
 -- a number whose bits are all below n is a set of n nodes
 small_set : (n a : ℕ) → a < 2 ^ 16 → ((i : ℕ) → IsBitSet a i → i < n) → a < 2 ^ n

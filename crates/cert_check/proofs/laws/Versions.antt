@@ -10,7 +10,8 @@ use Rattle.cert_format.specs.Evidence.SurjectiveEvidence.{Sets, Pairs, Orphan}
 use Rattle.cert_check.specs.declared.conditions.Condition.TheVariants.{SideClaims, FullListed, NoneEmpty, Closed, FirstsListed, OffDiagonal, PairsClosed, OrphanRead, WindowClaims, TwinsAlike, SideAhead, SideSplit, FluxFlows, RingLossy}
 use Rattle.cert_check.specs.Breaches.{EachBelow}
 use Rattle.cert_check.specs.Sets.{StepIsKept}
-use Rattle.cert_check.specs.Conditions.{MeetsConditions, OfSets, as_two}
+use Rattle.cert_check.specs.Conditions.{MeetsConditions, OfSets}
+use Rattle.cert_check.specs.CertificateVersions.{as_two}
 use Rattle.cert_check.proofs.laws.StepConditions.{HasPart-kept}
 
 -- what is asked of the steps in some version is enough for version 2

@@ -20,7 +20,8 @@ use Rattle.cert_format.specs.declared.cert_version.CertVersion.{CertVersion}
 use Rattle.cert_format.specs.Certificates.{Certificate}
 use Rattle.cert_format.specs.Versions.{number_of}
 use Rattle.cert_format.specs.CertificateTexts.{IsCertificateText, IsJson, IsObject, HasVersion, HasRuleText, IsWhole}
-use Rattle.cert_format.specs.ShapeFaults.{IsShapeFault, IsCertFault, IsFirstWithout, Passes, part_steps}
+use Rattle.cert_format.specs.ShapeFaults.{IsShapeFault, IsFirstWithout, Passes, part_steps}
+use Rattle.cert_format.specs.Readings.{IsCertFault}
 use Rattle.cert_format.specs.ShapeFaults.IsShapeFault.{NoJson, NoObject, NoVersion, OtherVersion, NoRule, BadRule, BadPart}
 use Rattle.cert_format.proofs.laws.Uniqueness.{one_some, number_of-injective, IsWhole-unique, HasMember-unique, IsObject-unique, HasRuleText-unique, IsCertificateText-unique}
 

@@ -21,9 +21,9 @@ use Rattle.cert_format.specs.Certificates.{Certificate}
 use Rattle.cert_format.specs.Versions.{number_of, names_weights}
 use Rattle.cert_format.specs.CertificateTexts.{IsCertificateText, IsObject, IsWhole, IsArrayOf, IsRanksValue, HasVersion, HasRuleText, HasWeights, HasRanks}
 use Rattle.cert_format.specs.CertificateTexts.HasWeights.{Named, Own}
-use Rattle.cert_format.specs.ShapeFaults.{IsCertFault, Passes, part_steps}
+use Rattle.cert_format.specs.ShapeFaults.{Passes, part_steps}
 use Rattle.cert_format.specs.ShapeFaults.IsShapeFault.{NoJson, NoObject, BadPart}
-use Rattle.cert_format.specs.Readings.{AreParts, IsWeightsFor, AreRanksFor, IsStepFault, IsPartFault}
+use Rattle.cert_format.specs.Readings.{AreParts, IsWeightsFor, AreRanksFor, IsStepFault, IsPartFault, IsCertFault}
 use Rattle.cert_format.proofs.laws.Uniqueness.{one_some}
 
 -- the step of the ranks fails where the member is no ranks

@@ -8,7 +8,7 @@ use Rattle.word_image.specs.Weights.{AreWeights, own_weights}
 use Rattle.word_image.proofs.laws.Weights.{AreWeights-own}
 use Rattle.cert_format.specs.declared.cert_version.CertVersion.{CertVersion}
 use Rattle.cert_format.specs.Versions.{names_weights}
-use Rattle.cert_format.specs.Certificates.{IsWeightShape}
+use Rattle.cert_format.specs.Parts.{IsWeightShape}
 use Rattle.cert_format.specs.CertificateTexts.{HasWeights}
 use Rattle.cert_format.specs.CertificateTexts.HasWeights.{Named, Own}
 use Rattle.cert_format.specs.WrittenTexts.{array_from, whole_value, weights_members}

@@ -24,8 +24,8 @@ use Rattle.cert_format.specs.declared.cert_version.CertVersion.{CertVersion}
 use Rattle.cert_format.specs.declared.cert_version.CertVersion.TheVariants.{One, Two, Three}
 use Rattle.cert_format.specs.Versions.{number_of, names_weights}
 use Rattle.cert_format.specs.Evidence.{SurjectiveEvidence, InjectiveEvidence, SideEvidence, SumEvidence}
-use Rattle.cert_format.specs.Certificates.{Certificate, IsClaim, IsSurjectiveShape, IsInjectiveShape, IsSideShape, IsSumShape, IsWeightShape, IsRankShape}
-use Rattle.cert_format.specs.Parts.{IsShaped}
+use Rattle.cert_format.specs.Certificates.{Certificate, IsClaim, IsSurjectiveShape, IsInjectiveShape, IsSideShape, IsSumShape, IsRankShape}
+use Rattle.cert_format.specs.Parts.{IsShaped, IsWeightShape}
 use Rattle.cert_format.specs.Evidence.SurjectiveEvidence.{Sets, Pairs, Orphan}
 use Rattle.cert_format.specs.Evidence.InjectiveEvidence.{Window, Twins}
 use Rattle.cert_format.specs.Evidence.SideEvidence.{Ahead, Split}

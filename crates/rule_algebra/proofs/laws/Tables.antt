@@ -5,7 +5,7 @@ use Rattle.std.proofs.lemmas.List.FromFn.{length-map-range_with_len, get_or-map-
 use Rattle.std.proofs.lemmas.List.Elements.{All-map}
 use Rattle.word_image.specs.LocalRules.{IsWord, value, word_of}
 use Rattle.word_image.proofs.laws.Values.{value-below, word_of-value}
-use Rattle.rule_algebra.specs.Tables.{table_by}
+use Rattle.rule_algebra.specs.Tabulated.{table_by}
 
 -- there is an entry for each window
 pub length-table_by : (k m : ℕ) (f : List ℕ → ℕ) → length (table_by k m f) ≡ k ^ m

@@ -6,7 +6,8 @@ use Rattle.std.proofs.lemmas.List.{length-reverse, length-replicate, reverse-rev
 use Rattle.std.proofs.lemmas.List.Elements.{All-drop, All-append, All-replicate}
 use Rattle.word_image.specs.LocalRules.{LocalRule, IsRule, IsWord, local_map, mirrored}
 use Rattle.word_image.proofs.laws.Images.{IsWord-reverse, local_map-mirrored}
-use Rattle.tail_config.specs.Tails.{TailConfig, IsTail, image_cell, mirror_of, config_of}
+use Rattle.tail_config.specs.Tails.{TailConfig, IsTail, image_cell, mirror_of}
+use Rattle.tail_config.specs.TailValues.{config_of}
 use Rattle.tail_config.proofs.laws.Mirror.{IsTail-mirror, image_cell-mirror}
 use Rattle.rule_algebra.specs.Algebra.{KeepsImages, Ignores, IsTrimmed}
 use Rattle.rule_algebra.specs.Tables.{IsRest, DropsFirsts}

@@ -8,7 +8,8 @@ use Rattle.word_image.proofs.laws.Images.{IsRule-mirrored}
 use Rattle.tail_config.specs.Tails.{IsInjective, IsRightClosing, IsLeftClosing}
 use Rattle.tail_laws.proofs.Sides.{IsLeftClosing-mirrored}
 use Rattle.rule_algebra.specs.Algebra.{IsRecoloured}
-use Rattle.rule_classes.specs.Classes.{IsInClass, IsLeastOfClass, HaveOneVerdict}
+use Rattle.rule_classes.specs.Classes.{IsInClass, IsLeastOfClass}
+use Rattle.rule_classes.specs.ClassVerdicts.{HaveOneVerdict}
 use Rattle.rule_classes.specs.Colourings.{AreInverse, IsColouring, Completes, IsLeastOf, in_colours, number_of}
 use Rattle.rule_classes.specs.declared.colourings.Colouring.{Colouring}
 use Rattle.rule_classes.proofs.laws.Colours.{AreInverse-swap, letters_of}

@@ -9,7 +9,7 @@ use Rattle.word_image.proofs.laws.Words.{entry-below}
 use Rattle.word_image.proofs.laws.Images.{IsRule-mirrored}
 use Rattle.word_image.proofs.laws.SameRules.{rule_from_parts}
 use Rattle.rule_algebra.specs.Algebra.{recoloured}
-use Rattle.rule_algebra.specs.Tables.{table_by}
+use Rattle.rule_algebra.specs.Tabulated.{table_by}
 use Rattle.rule_algebra.proofs.laws.Tables.{length-table_by, IsWord-table_by, table_by-at}
 use Rattle.rule_classes.specs.Classes.{turned, HasRecolouredTable, IsInClass}
 use Rattle.rule_classes.specs.Colourings.{AreInverse, IsColouring, new_letter, entry, in_colours, number_of}

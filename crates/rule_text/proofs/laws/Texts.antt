@@ -4,7 +4,8 @@ use Rattle.std.specs.Prelude.{IfOk, IfErr}
 use Rattle.word_image.specs.LocalRules.{LocalRule}
 use Rattle.rule_text.specs.declared.text_fault.TextFault.{TextFault}
 use Rattle.rule_text.specs.declared.text_fault.TextFault.TheVariants as fault
-use Rattle.rule_text.specs.RuleTexts.{Said, Says, IsRuleText, IsTextFault, NoForm, Refused, IsReading, fault_of, rule_of}
+use Rattle.rule_text.specs.RuleTexts.{Said, Says, IsRuleText, IsTextFault, NoForm, Refused, fault_of, rule_of}
+use Rattle.rule_text.specs.TextReadings.{IsReading}
 use Rattle.word_image.proofs.laws.Prefixes.{IsFormFault-unique}
 use Rattle.rule_text.proofs.laws.Heads.{Says-unique}
 

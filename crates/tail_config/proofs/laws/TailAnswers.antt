@@ -3,9 +3,8 @@ use Rattle.std.proofs.Common.{◌≡◌, ◌⊎◌, ℕ, List, Result, Ok, Err, 
 use Rattle.std.proofs.lemmas.Option.{none-some, same_Some}
 use Rattle.word_image.proofs.laws.Prefixes.{IsFormFault-unique}
 use Rattle.tail_config.specs.Tails.{TailConfig}
-use Rattle.tail_config.specs.TailTexts.{IsTailText}
 use Rattle.tail_config.specs.TailValues.{TailOver}
-use Rattle.tail_config.specs.TailFaults.{tail_fault}
+use Rattle.tail_config.specs.TailFaults.{tail_fault, IsTailText}
 use Rattle.tail_config.specs.TailTextFaults.{IsTailTextFault, NoForm, Refused}
 use Rattle.tail_config.specs.declared.texts.TailTextFault.{TailTextFault}
 use Rattle.tail_config.specs.declared.texts.TailTextFault.TheVariants as fault

@@ -10,7 +10,8 @@ use Rattle.word_image.specs.Digits.{hex_value, lower_digit, IsHexDigit, letter_a
 use Rattle.word_image.specs.Grammars.{Begins, IsFormFault}
 use Rattle.word_image.proofs.laws.Prefixes.{Begins-text, Begins-prefix, IsFormFault-stuck}
 use Rattle.tail_config.specs.Tails.{TailConfig}
-use Rattle.tail_config.specs.TailTexts.{Spells, HasParts, HasForm}
+use Rattle.tail_config.specs.TailTexts.{Spells, HasParts}
+use Rattle.tail_config.specs.TailFaults.{HasForm}
 use Rattle.tail_config.specs.TailTextFaults.{IsDigitsEnd, IsBarAfter, LacksBar, IsCut, letters_of, bar}
 
 -- what is some value is its value

@@ -4,8 +4,8 @@ use Rattle.std.proofs.lemmas.Bool.{cases_lt}
 use Rattle.word_image.specs.LocalRules.{LocalRule}
 use Rattle.word_image.specs.Words.{IsOrphan}
 use Rattle.tail_config.specs.Tails.{TailConfig, IsTail}
-use Rattle.tail_preimage.specs.Preimages.{PlacedConfig, Shape, IsLeastGap, stretch}
-use Rattle.tail_preimage.specs.Answers.{IsGap, IsAnswer, placed_config}
+use Rattle.tail_preimage.specs.Preimages.{PlacedConfig, Shape, IsLeastGap, stretch, IsGap}
+use Rattle.tail_preimage.specs.Answers.{IsAnswer, placed_config}
 use Rattle.tail_preimage.specs.Relations.{IsNodeSet, Rows, Open}
 use Rattle.tail_preimage.specs.Sides.{AreParts, Passes, Starts, IsFirstGap}
 use Rattle.tail_preimage.specs.FirstWalks.{AreLoopWalks, IsLeastNode}

@@ -14,10 +14,10 @@ use Rattle.word_image.specs.LocalRules.{LocalRule, IsRule, value}
 use Rattle.word_image.proofs.laws.Bits.{IsBitSet-pow}
 use Rattle.word_image.proofs.laws.Orders.{slice_cmp-value}
 use Rattle.word_image.proofs.laws.Comparisons.{then_not_greater, nat_cmp-equal, slice_cmp-same}
-use Rattle.tail_config.specs.Tails.{TailConfig, IsTail, config_of}
+use Rattle.tail_config.specs.Tails.{TailConfig, IsTail}
+use Rattle.tail_config.specs.TailValues.{config_of}
 use Rattle.tail_preimage.specs.Walks.{IsWalk, before_last}
-use Rattle.tail_preimage.specs.Preimages.{PlacedConfig, Shape, HasShape, IsShapedPreimage, IsLeastPreimage, shape_cmp, letters, stretch}
-use Rattle.tail_preimage.specs.Answers.{IsSmall, IsFrom}
+use Rattle.tail_preimage.specs.Preimages.{PlacedConfig, Shape, HasShape, IsShapedPreimage, IsLeastPreimage, shape_cmp, letters, stretch, IsSmall, IsFrom}
 use Rattle.tail_preimage.specs.FirstWalks.{AreLoopWalks, AreFirstWalks, placed_of}
 use Rattle.tail_preimage.proofs.laws.Walks.{same_first, IsWalk-last}
 use Rattle.tail_preimage.proofs.laws.Placements.{IsShapedPreimage-placed_of, join-before_last, length-before_last, IsWalk-then}

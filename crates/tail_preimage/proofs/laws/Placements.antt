@@ -11,7 +11,8 @@ use Rattle.word_image.specs.LocalRules.{LocalRule, IsRule, IsWord, value, word_o
 use Rattle.word_image.proofs.laws.Values.{length-word_of, value-injective}
 use Rattle.word_image.proofs.laws.Images.{get_or-image}
 use Rattle.pair_laws.proofs.Joins.{same_node}
-use Rattle.tail_config.specs.Tails.{TailConfig, IsTail, config_of, cell, cells}
+use Rattle.tail_config.specs.Tails.{TailConfig, IsTail, cell, cells}
+use Rattle.tail_config.specs.TailValues.{config_of}
 use Rattle.tail_config.proofs.laws.Cells.{length-cells, get_or-cells, IsWord-cells, slice_range-cells, take-cells}
 use Rattle.tail_preimage.specs.Walks.{IsWalk, before_last}
 use Rattle.tail_preimage.specs.Preimages.{PlacedConfig, MapsTo, Shape, IsShapedPreimage, stretch, placed_cell, placed_cells}

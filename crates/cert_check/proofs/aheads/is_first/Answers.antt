@@ -3,7 +3,7 @@ use Rattle.std.proofs.lemmas.Bool.{false≢true}
 use Rattle.word_image.specs.LocalRules.{LocalRule}
 use Rattle.word_image.specs.Graphs.{first_of, second_of}
 use Rattle.word_image.specs.declared.side.Side.{Side}
-use Rattle.cert_check.specs.Sides.{rest_of}
+use Rattle.cert_check.specs.SideWindows.{rest_of}
 use Rattle.cert_check.proofs.laws.FirstPairs.{HaveOneLabel, DifferAtEnd, IsFirstOf-differ, DifferAtEnd-first}
 use Rattle.cert_check.proofs.aheads.is_first.Goals as goal
 use Rattle.cert_check.proofs.aheads.is_first.Goals.{then-u-v-via-then-u-v, then-u-v-via-else-u-v+then-rest_of}

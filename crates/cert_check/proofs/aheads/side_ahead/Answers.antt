@@ -1,12 +1,12 @@
 use Rattle.std.proofs.Common.{ℕ, List, Option, sym, ap, subst, subst₂, ◌∙◌}
 use Rattle.word_image.specs.LocalRules.{LocalRule}
 use Rattle.word_image.specs.Graphs.{pair_count}
-use Rattle.word_image.specs.Sides.{IsFirstOf}
+use Rattle.word_image.specs.FirstPairs.{IsFirstOf}
 use Rattle.cert_format.specs.Certificates.{Certificate, IsSideShape}
 use Rattle.cert_format.specs.Parts.{side_of}
 use Rattle.cert_format.specs.declared.parts.SidePart.{SidePart}
 use Rattle.cert_check.specs.Breaches.{EachBelow, IsFirstBreach}
-use Rattle.cert_check.specs.Windows.{IsAheadPair}
+use Rattle.cert_check.specs.Claims.{IsAheadPair}
 use Rattle.cert_check.specs.Sides.{claims_on}
 use Rattle.cert_check.specs.Conditions.{OfAhead}
 use Rattle.cert_check.specs.Refusals.IsBreach.{NoAhead}

@@ -1,7 +1,8 @@
 use Rattle.std.proofs.Common.{◌≡◌, ℕ, ◌<◌, Some, refl, sym, ap, subst₂, ◌∙◌, arith, below_more}
 use Rattle.word_image.specs.Graphs.{first_of, second_of}
 use Rattle.word_image.specs.Sides.{window_with}
-use Rattle.cert_check.specs.Claims.{claim, FallsBy}
+use Rattle.cert_check.specs.Claims.{claim}
+use Rattle.cert_check.specs.SideWindows.{FallsBy}
 use Rattle.cert_check.proofs.laws.Claims.{Falls-windows, FallsByAll-falls}
 use Rattle.cert_check.proofs.claims.falls.Goals as goal
 

@@ -1,7 +1,7 @@
 use Rattle.std.proofs.Common.{ℕ, ◌<◌}
 use Rattle.word_image.specs.Graphs.{first_of, second_of}
 use Rattle.word_image.specs.Sides.{window_with}
-use Rattle.cert_check.specs.Claims.{FallsBy}
+use Rattle.cert_check.specs.SideWindows.{FallsBy}
 use Rattle.cert_check.proofs.claims.falls.Given as goal
 
 -- less is claimed along the letters of the first node so far, and each letter of the second

@@ -1,7 +1,8 @@
 use Rattle.std.proofs.Common.{◌≡◌, slice_index, refl, sym, ap, ap₂, subst, ◌∙◌, arith, below_more}
 use Rattle.word_image.specs.Graphs.{pair_of}
 use Rattle.word_image.specs.Sides.{window_with, end_node}
-use Rattle.cert_check.specs.Claims.{IsBelow, FallsBy}
+use Rattle.cert_check.specs.Claims.{IsBelow}
+use Rattle.cert_check.specs.SideWindows.{FallsBy}
 use Rattle.cert_check.proofs.claims.falls_along.Goals as goal
 use Rattle.cert_check.proofs.claims.falls_along.Goals.{else-at-via-then-at+else-not-claims_below, else-at-via-else-at}
 

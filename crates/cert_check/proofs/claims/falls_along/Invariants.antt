@@ -1,5 +1,5 @@
 use Rattle.std.proofs.Common.{ℕ, ◌<◌}
-use Rattle.cert_check.specs.Claims.{FallsBy}
+use Rattle.cert_check.specs.SideWindows.{FallsBy}
 use Rattle.cert_check.proofs.claims.falls_along.Given as goal
 
 -- less is claimed along the letters so far

@@ -1,7 +1,7 @@
 use Rattle.std.proofs.Common.{ℕ, slice_index}
 use Rattle.cert_check.specs.Breaches.{EachBelow}
 use Rattle.cert_check.specs.Pairs.{StepsAreListed}
-use Rattle.cert_check.specs.Sets.{IsMarked}
+use Rattle.cert_check.specs.Rows.{IsMarked}
 use Rattle.cert_check.proofs.pairs.first_leaving.Given as goal
 
 -- all steps of the pairs so far are listed, and those of each pair that is marked

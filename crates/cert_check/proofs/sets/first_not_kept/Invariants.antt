@@ -2,7 +2,8 @@ use Rattle.std.proofs.Common.{ℕ, List}
 use Rattle.cert_format.specs.declared.cert_version.CertVersion.{CertVersion}
 use Rattle.word_image.specs.Graphs.{full_set}
 use Rattle.cert_check.specs.Breaches.{EachBelow}
-use Rattle.cert_check.specs.Sets.{StepIsKept, AreKept}
+use Rattle.cert_check.specs.Sets.{StepIsKept}
+use Rattle.cert_check.specs.Rows.{AreKept}
 use Rattle.cert_check.proofs.sets.first_not_kept.Given as goal
 
 -- the steps so far are as they should be

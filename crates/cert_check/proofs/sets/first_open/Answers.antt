@@ -1,7 +1,8 @@
 use Rattle.std.proofs.Common.{slice_index, sym, subst, ⊎_elim, arith, below_more}
 use Rattle.word_image.specs.Graphs.{full_set}
 use Rattle.cert_check.specs.Breaches.{EachBelow}
-use Rattle.cert_check.specs.Sets.{StepIsKept, AreKept}
+use Rattle.cert_check.specs.Sets.{StepIsKept}
+use Rattle.cert_check.specs.Rows.{AreKept}
 use Rattle.cert_check.proofs.sets.first_open.Goals as goal
 
 pub loop-place-preserved-then-has : goal.loop-place-preserved-then-has

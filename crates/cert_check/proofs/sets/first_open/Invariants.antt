@@ -1,6 +1,7 @@
 use Rattle.std.proofs.Common.{ℕ, slice_index}
 use Rattle.cert_check.specs.Breaches.{EachBelow}
-use Rattle.cert_check.specs.Sets.{StepIsKept, IsMarked}
+use Rattle.cert_check.specs.Sets.{StepIsKept}
+use Rattle.cert_check.specs.Rows.{IsMarked}
 use Rattle.cert_check.proofs.sets.first_open.Given as goal
 
 -- all steps of the sets so far are listed, and those of each set that is marked

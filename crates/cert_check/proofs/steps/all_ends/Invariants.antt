@@ -1,5 +1,5 @@
 use Rattle.std.proofs.Common.{◌≡◌, length}
-use Rattle.cert_check.specs.Sets.{AreEnds}
+use Rattle.cert_check.specs.Rows.{AreEnds}
 use Rattle.cert_check.proofs.steps.all_ends.Given as goal
 
 -- the windows so far are noted

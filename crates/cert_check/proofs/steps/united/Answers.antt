@@ -2,7 +2,7 @@ use Rattle.std.proofs.Common.{◌≡◌, ◌+◌, ◌*◌, ◌^◌, ◌<◌, sli
 use Rattle.std.proofs.lemmas.Nat.Bits.{shr_and_one}
 use Rattle.word_image.proofs.laws.Bits.{bit_at-IsBitSet}
 use Rattle.word_image.proofs.laws.Unions.{IsUnion, IsUnion-skip, IsUnion-take}
-use Rattle.cert_check.specs.Sets.{HasBit}
+use Rattle.cert_check.specs.Rows.{HasBit}
 use Rattle.cert_check.proofs.steps.united.Goals as goal
 use Rattle.cert_check.proofs.steps.united.Goals.{then-set-u-eq1, else-set-u-eq1}
 

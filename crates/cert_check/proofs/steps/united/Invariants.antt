@@ -1,6 +1,6 @@
 use Rattle.std.proofs.Common.{◌+◌, ◌*◌, IsBitSet}
 use Rattle.word_image.proofs.laws.Unions.{IsUnion}
-use Rattle.cert_check.specs.Sets.{HasBit}
+use Rattle.cert_check.specs.Rows.{HasBit}
 use Rattle.cert_check.proofs.steps.united.Given as goal
 
 -- the nodes so far are done

@@ -6,7 +6,7 @@ use Rattle.cert_format.specs.declared.parts.InjectivePart.{InjectivePart}
 use Rattle.cert_check.specs.declared.conditions.Condition.TheVariants.{WindowClaims}
 use Rattle.cert_check.specs.declared.refusal.Refusal.TheVariants as refusal
 use Rattle.cert_check.specs.Breaches.{EachBelow, IsFirstBreach}
-use Rattle.cert_check.specs.Windows.{IsWindowPair}
+use Rattle.cert_check.specs.Claims.{IsWindowPair}
 use Rattle.cert_check.specs.Conditions.{Holds, OfWindow}
 use Rattle.cert_check.specs.Refusals.{IsBreach}
 use Rattle.cert_check.specs.Refusals.IsBreach.{NoWindow}

@@ -2,7 +2,7 @@ use Rattle.std.proofs.Common.{◌≡◌, ◌∙◌, refl, sym, [], ◌∷◌, tr
 use Rattle.std.proofs.lemmas.Result.{err_from_is_err_and}
 use Rattle.serde_json.specs.View.{view}
 use Rattle.cert_format.specs.declared.shape_fault.Key.TheVariants as key
-use Rattle.cert_format.specs.Certificates.{IsWeightShape}
+use Rattle.cert_format.specs.Parts.{IsWeightShape}
 use Rattle.cert_format.specs.CertificateTexts.{HasNoOther}
 use Rattle.cert_format.specs.Readings.{members_in}
 use Rattle.cert_format.proofs.laws.WeightMembers.{IsWeightShape-has}

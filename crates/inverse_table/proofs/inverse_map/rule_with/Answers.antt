@@ -3,8 +3,8 @@ use Rattle.std.specs.Prelude.{IsOk, ◌↔◌}
 use Rattle.std.proofs.lemmas.Int.{ints, to_z-of_z}
 use Rattle.word_image.specs.LocalRules.{LocalRule, IsRule}
 use Rattle.word_image.specs.RuleFaults.{rule_fault}
-use Rattle.inverse_table.specs.InverseMaps.{WindowMap, rule_of, limit_fault}
-use Rattle.inverse_table.specs.GivenBack.{IsWindowMap}
+use Rattle.inverse_table.specs.InverseMaps.{WindowMap, rule_of}
+use Rattle.inverse_table.specs.MapLimits.{IsWindowMap, limit_fault}
 use Rattle.inverse_table.proofs.MapRules.{rule_fault-limit}
 use Rattle.inverse_table.proofs.inverse_map.rule_with.Goals as goal
 

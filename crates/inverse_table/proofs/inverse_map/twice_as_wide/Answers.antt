@@ -8,7 +8,7 @@ use Rattle.std.proofs.lemmas.List.{take-append-le, take_all}
 use Rattle.std.proofs.lemmas.List.FromFn.{length-map-range_with_len}
 use Rattle.word_image.proofs.laws.Lists.{filled_more}
 use Rattle.inverse_table.specs.InverseMaps.{WindowMap}
-use Rattle.inverse_table.specs.GivenBack.{IsWindowMap}
+use Rattle.inverse_table.specs.MapLimits.{IsWindowMap}
 use Rattle.inverse_table.proofs.inverse_map.twice_as_wide.Goals as goal
 
 -- a window of two letters, of which the first is read

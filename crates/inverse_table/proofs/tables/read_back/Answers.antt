@@ -1,8 +1,7 @@
 use Rattle.std.proofs.Common.{◌≡◌, ℕ, ◌+◌, ◌-◌, ◌%◌, ◌<◌, ◌++◌, List, All, length, take, drop, w32, FitsSigned, refl, sym, ap₂, subst, subst₂, ◌∙◌, rules, arith}
 use Rattle.std.proofs.lemmas.Int.{to_z-of_z}
 use Rattle.std.proofs.lemmas.List.{take-append-le, take_all}
-use Rattle.inverse_table.specs.InverseMaps.{IsInverseMap}
-use Rattle.inverse_table.specs.GivenBack.{GivesBack}
+use Rattle.inverse_table.specs.InverseMaps.{IsInverseMap, GivesBack}
 use Rattle.inverse_table.specs.InverseFaults.{IsApartAt}
 use Rattle.inverse_table.specs.ImageValues.{AreReadBack, letter_at}
 use Rattle.inverse_table.proofs.WordCounts.{power-divides}

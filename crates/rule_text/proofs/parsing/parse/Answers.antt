@@ -6,7 +6,8 @@ use Rattle.word_image.specs.Grammars.{IsFormFault}
 use Rattle.rule_text.specs.declared.head.Head.{Head}
 use Rattle.rule_text.specs.declared.text_fault.TextFault.{TextFault}
 use Rattle.rule_text.specs.declared.text_fault.TextFault.TheVariants as fault
-use Rattle.rule_text.specs.RuleTexts.{IsRuleText, IsTextFault, IsReading, NoForm}
+use Rattle.rule_text.specs.RuleTexts.{IsRuleText, IsTextFault, NoForm}
+use Rattle.rule_text.specs.TextReadings.{IsReading}
 use Rattle.rule_text.specs.Heads.{IsHead, IsEntries, said_of}
 use Rattle.rule_text.proofs.laws.Texts.{IsReading-rule, IsReading-fault, every_rule, every_fault}
 use Rattle.rule_text.proofs.parsing.parse.Goals as goal

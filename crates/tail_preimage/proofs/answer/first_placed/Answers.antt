@@ -5,10 +5,10 @@ use Rattle.std.proofs.lemmas.Int.{to_z-of_z}
 use Rattle.word_image.specs.LocalRules.{LocalRule, IsWord, node_count}
 use Rattle.word_image.proofs.laws.Bits.{IsBitSet-zero}
 use Rattle.pair_laws.proofs.Sets.{IsBitSet-below}
-use Rattle.tail_config.specs.Tails.{TailConfig, IsTail, config_of}
+use Rattle.tail_config.specs.Tails.{TailConfig, IsTail}
+use Rattle.tail_config.specs.TailValues.{config_of}
 use Rattle.tail_preimage.specs.Walks.{HasWalk, IsLeastWalk, before_last}
-use Rattle.tail_preimage.specs.Preimages.{PlacedConfig, Shape}
-use Rattle.tail_preimage.specs.Answers.{IsFrom}
+use Rattle.tail_preimage.specs.Preimages.{PlacedConfig, Shape, IsFrom}
 use Rattle.tail_preimage.specs.Relations.{IsNodeSet, Rows, Steps}
 use Rattle.tail_preimage.specs.Sides.{AreParts, Starts, IsPossible, shape_of}
 use Rattle.tail_preimage.specs.FirstWalks.{AreLoopWalks, AreFirstWalks, IsLeastNode, placed_of}

@@ -1,7 +1,6 @@
 use Rattle.std.proofs.Common.{ℕ, sym, ◌∙◌, subst, subst₂}
 use Rattle.word_image.specs.LocalRules.{LocalRule}
-use Rattle.tail_preimage.specs.Preimages.{stretch}
-use Rattle.tail_preimage.specs.Answers.{IsGap}
+use Rattle.tail_preimage.specs.Preimages.{stretch, IsGap}
 use Rattle.tail_preimage.proofs.laws.Answers.{IsGap-first, IsAnswer-unique}
 use Rattle.tail_preimage.proofs.answer.preimage.Goals as goal
 

@@ -6,8 +6,8 @@ use Rattle.std.proofs.lemmas.List.Elements.{All-push}
 use Rattle.word_image.specs.LocalRules.{LocalRule, IsRule, wolfram_number}
 use Rattle.cert_check.specs.Accepted.{AreTrue}
 use Rattle.cert_check.specs.declared.verdicts.Verdicts.{Verdicts}
-use Rattle.ca_cli.specs.ClassSummaries.{IsAdded, IsDecided, rule_in, rules_in}
-use Rattle.ca_cli.specs.ClassSummaries.IsAdded.{Old, New}
+use Rattle.ca_cli.specs.ClassTallies.{IsAdded, IsDecided, rule_in, rules_in}
+use Rattle.ca_cli.specs.ClassTallies.IsAdded.{Old, New}
 use Rattle.ca_cli.proofs.laws.ClassSummaries.{decided_found, decided_absent}
 use Rattle.ca_cli.proofs.commands.class_tally.decided.Goals as goal
 

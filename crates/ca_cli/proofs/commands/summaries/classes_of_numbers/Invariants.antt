@@ -1,5 +1,5 @@
 use Rattle.ca_cli.specs.Samples.{survey_rules}
-use Rattle.ca_cli.specs.ClassSummaries.{IsClassTally}
+use Rattle.ca_cli.specs.ClassTallies.{IsClassTally}
 use Rattle.ca_cli.proofs.commands.summaries.classes_of_numbers.Given as goal
 
 -- the rules so far are counted

@@ -1,6 +1,7 @@
 use Rattle.std.proofs.Common.{◌+◌, pos, ap, sym, ◌∙◌, subst, arith}
 use Rattle.std.proofs.lemmas.Option.{none-some}
-use Rattle.rule_text.specs.RuleTexts.{IsReading, by_number, fault_of}
+use Rattle.rule_text.specs.RuleTexts.{by_number, fault_of}
+use Rattle.rule_text.specs.TextReadings.{IsReading}
 use Rattle.ca_cli.proofs.laws.Samples.{survey-accepted, survey-fits}
 use Rattle.ca_cli.proofs.commands.summaries.surveyed.Goals as goal
 

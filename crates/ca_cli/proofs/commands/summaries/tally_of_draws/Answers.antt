@@ -1,7 +1,7 @@
 use Rattle.std.proofs.Common.{◌+◌, [], ◌∷◌, ◌++◌, ap, sym, ◌∙◌, subst, refl, arith, length-append}
 use Rattle.word_image.specs.LocalRules.{LocalRule}
 use Rattle.word_image.specs.Weights.{own_weights}
-use Rattle.ca_cli.specs.Summaries.{IsTally}
+use Rattle.ca_cli.specs.Tallies.{IsTally}
 use Rattle.ca_cli.proofs.laws.Samples.{sample-begin, sample-step, sample-end}
 use Rattle.ca_cli.proofs.commands.summaries.tally_of_draws.Goals as goal
 

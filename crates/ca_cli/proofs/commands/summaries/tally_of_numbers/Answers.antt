@@ -3,7 +3,7 @@ use Rattle.std.proofs.lemmas.List.FromFn.{length-map-range_with_len}
 use Rattle.word_image.specs.LocalRules.{LocalRule}
 use Rattle.word_image.specs.Weights.{own_weights}
 use Rattle.ca_cli.specs.Samples.{numbered_rule, survey_rules}
-use Rattle.ca_cli.specs.Summaries.{IsTally}
+use Rattle.ca_cli.specs.Tallies.{IsTally}
 use Rattle.ca_cli.proofs.laws.Samples.{survey_rules-more}
 use Rattle.ca_cli.proofs.commands.summaries.tally_of_numbers.Goals as goal
 

@@ -1,5 +1,5 @@
 use Rattle.ca_cli.specs.Samples.{survey_rules}
-use Rattle.ca_cli.specs.Summaries.{IsTally}
+use Rattle.ca_cli.specs.Tallies.{IsTally}
 use Rattle.ca_cli.proofs.commands.summaries.tally_of_numbers.Given as goal
 
 -- the rules so far are counted

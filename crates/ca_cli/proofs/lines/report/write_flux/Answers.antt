@@ -4,13 +4,17 @@ use Rattle.std.specs.Fmt.{decimal, signed_decimal}
 use Rattle.std.proofs.lemmas.List.{take_more}
 use Rattle.std.proofs.lemmas.Grind.{flat_map-append}
 use Rattle.rule_text.specs.PrintedRules.{offset_text}
-use Rattle.ca_cli.specs.Reports.{after_blanks}
+use Rattle.std.specs.List.{flat_map}
 use Rattle.ca_cli.proofs.lines.report.write_flux.Goals as goal
 
 -- an integer is written as an offset is
 signed_decimal-offset_text : (z : ℤ) → signed_decimal z ≡ offset_text z
 signed_decimal-offset_text (pos n) = refl
 signed_decimal-offset_text (negsuc n) = ap (λ m. 45 ∷ decimal m) (sym (add-one n))
+
+-- numbers, a blank before each
+abbrev after_blanks : List ℤ → List ℕ
+after_blanks zs = flat_map (λ z. codes " " ++ offset_text z) zs
 
 -- one number more
 after_blanks-more : (zs : List ℤ) (i : ℕ) → i < length zs → after_blanks (take (i + 1) zs) ≡ after_blanks (take i zs) ++ (codes " " ++ offset_text (get_or zs i (pos 0)))

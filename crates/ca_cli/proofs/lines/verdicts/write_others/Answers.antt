@@ -3,8 +3,12 @@ use Rattle.std.specs.Prelude.{codes}
 use Rattle.std.specs.Fmt.{decimal}
 use Rattle.std.proofs.lemmas.List.{take_more}
 use Rattle.std.proofs.lemmas.Grind.{flat_map-append}
-use Rattle.ca_cli.specs.StatusLines.{after_commas}
+use Rattle.std.specs.List.{flat_map}
 use Rattle.ca_cli.proofs.lines.verdicts.write_others.Goals as goal
+
+-- numbers, a comma before each
+abbrev after_commas : List ℕ → List ℕ
+after_commas ns = flat_map (λ n. codes "," ++ decimal n) ns
 
 -- one number more
 after_commas-more : (ns : List ℕ) (i : ℕ) → i < length ns → after_commas (take (i + 1) ns) ≡ after_commas (take i ns) ++ (codes "," ++ decimal (get_or ns i 0))

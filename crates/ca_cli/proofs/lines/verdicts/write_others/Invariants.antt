@@ -1,7 +1,9 @@
 use Rattle.std.proofs.Common.{◌≡◌, ◌++◌, take}
-use Rattle.ca_cli.specs.StatusLines.{after_commas}
+use Rattle.std.specs.Prelude.{codes}
+use Rattle.std.specs.List.{flat_map}
+use Rattle.std.specs.Fmt.{decimal}
 use Rattle.ca_cli.proofs.lines.verdicts.write_others.Given as goal
 
 -- the numbers so far
 abbrev pub invariant-loop-number : goal.invariant-loop-number
-invariant-loop-number l = l.output ≡ l.fn.output ++ after_commas (take l.number-index l.numbers)
+invariant-loop-number l = l.output ≡ l.fn.output ++ flat_map (λ n. codes "," ++ decimal n) (take l.number-index l.numbers)

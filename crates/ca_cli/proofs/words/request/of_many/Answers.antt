@@ -16,7 +16,7 @@ returns c =
       commands.OfMany (asked_of_many c.in_ok-rules.rules) states width from count,
       record {
         words_are = ap (λ name. name ∷ states ∷ width ∷ from ∷ count ∷ []) (sym named);
-        well_formed = record { states = k.0; width = m.0; from = begins; count = many.0 };
+        well_formed = (k.0, m.0, begins, many.0);
       },
       (states, width, from, count, sym k.1, sym m.1, at, sym many.1, refl),
     )

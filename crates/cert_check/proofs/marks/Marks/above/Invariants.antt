@@ -1,5 +1,6 @@
 use Rattle.std.proofs.Common.{ℕ, ◌<◌, ◌↔◌}
-use Rattle.cert_check.specs.Sets.{HasPart, IsMarked}
+use Rattle.cert_check.specs.Sets.{HasPart}
+use Rattle.cert_check.specs.Rows.{IsMarked}
 use Rattle.cert_check.proofs.marks.Marks.above.Given as goal
 
 -- the sets so far are marked that contain a listed one, and no others

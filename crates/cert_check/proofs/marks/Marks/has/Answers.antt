@@ -1,6 +1,6 @@
 use Rattle.std.proofs.Common.{◌/◌, ◌%◌, ◌^◌, ◌↔◌, slice_index, bit_and, IsTrue, subst}
 use Rattle.std.specs.Prelude.{◌==◌}
-use Rattle.cert_check.specs.Sets.{HasBit}
+use Rattle.cert_check.specs.Rows.{HasBit}
 use Rattle.cert_check.proofs.laws.Rows.{HasBit-test}
 use Rattle.cert_check.proofs.marks.Marks.has.Goals as goal
 

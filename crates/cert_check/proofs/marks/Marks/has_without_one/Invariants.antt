@@ -1,5 +1,5 @@
 use Rattle.std.proofs.Common.{ℕ, ◌<◌}
-use Rattle.cert_check.specs.Sets.{IsMarked, without}
+use Rattle.cert_check.specs.Rows.{IsMarked, without}
 use Rattle.cert_check.proofs.marks.Marks.has_without_one.Given as goal
 
 -- it isn't marked without one of the nodes so far

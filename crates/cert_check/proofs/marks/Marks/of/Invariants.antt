@@ -1,5 +1,5 @@
 use Rattle.std.proofs.Common.{take}
-use Rattle.cert_check.specs.Sets.{AreMarked}
+use Rattle.cert_check.specs.Rows.{AreMarked}
 use Rattle.cert_check.proofs.marks.Marks.of.Given as goal
 
 -- the sets so far are marked

@@ -1,7 +1,7 @@
 use Rattle.std.proofs.Common.{ℕ, ◌+◌, ◌*◌, ◌<◌, ◌↔◌, IsBitSet, sym, subst, arith}
 use Rattle.word_image.specs.LocalRules.{LocalRule}
 use Rattle.word_image.specs.Graphs.{IsStep}
-use Rattle.cert_check.specs.Sets.{HasBit}
+use Rattle.cert_check.specs.Rows.{HasBit}
 use Rattle.cert_check.proofs.laws.Steps.{IsStep-ends}
 use Rattle.cert_check.proofs.steps.Steps.step.Goals as goal
 

@@ -1,9 +1,10 @@
 use Rattle.std.proofs.Common.{[], ◌∷◌, ◌++◌, All, IfOk, sym, ap, ◌∙◌, subst, subst₂}
 use Rattle.word_image.specs.LocalRules.{LocalRule}
 use Rattle.word_image.specs.Weights.{own_weights}
-use Rattle.rule_classes.specs.Classes.{IsLeastOfClass, HaveOneVerdict}
-use Rattle.ca_cli.specs.ClassSummaries.{IsDecided}
-use Rattle.ca_cli.specs.Summaries.{IsTally}
+use Rattle.rule_classes.specs.Classes.{IsLeastOfClass}
+use Rattle.rule_classes.specs.ClassVerdicts.{HaveOneVerdict}
+use Rattle.ca_cli.specs.ClassTallies.{IsDecided}
+use Rattle.ca_cli.specs.Tallies.{IsTally}
 use Rattle.ca_cli.proofs.laws.ClassSummaries.{AreLeastRules-push, least_shape}
 use Rattle.ca_cli.proofs.commands.class_tally.ClassTally.add.Goals as goal
 

@@ -1,0 +1,14 @@
+-- What a rule of a class says of the other ones.
+use Rattle.std.specs.Prelude.{◌↔◌, Bool, IsTrue, IsFalse}
+use Rattle.word_image.specs.LocalRules.{LocalRule}
+use Rattle.word_image.specs.Words.{IsSurjective}
+use Rattle.tail_config.specs.Tails.{IsInjective, IsRightClosing, IsLeftClosing}
+
+-- the verdicts on r are those on g, where a mirror exchanges right and left
+pub record HaveOneVerdict (r : LocalRule) (mirror : Bool) (g : LocalRule) : Type 0 where
+  pub surjective : IsSurjective r ↔ IsSurjective g
+  pub injective : IsInjective r ↔ IsInjective g
+  pub right : IsFalse mirror → (IsRightClosing r ↔ IsRightClosing g)
+  pub left : IsFalse mirror → (IsLeftClosing r ↔ IsLeftClosing g)
+  pub right_mirrored : IsTrue mirror → (IsRightClosing r ↔ IsLeftClosing g)
+  pub left_mirrored : IsTrue mirror → (IsLeftClosing r ↔ IsRightClosing g)

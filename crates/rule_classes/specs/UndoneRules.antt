@@ -1,0 +1,10 @@
+-- When one rule undoes another.
+use Rattle.std.specs.Prelude.{◌≡◌, ℕ, ◌+◌, ◌-◌, ◌*◌, ◌<◌, List, length, slice_index, pos, ◌-ℤ◌}
+use Rattle.word_image.specs.LocalRules.{LocalRule, IsWord}
+use Rattle.word_image.specs.Words.{image}
+
+-- the second rule's image of the first rule's image of a word of n + 2 (m - 1) letters has n letters, and its letter j is the word's letter j - 2 o
+abbrev pub IsUndone : LocalRule → LocalRule → Type 0
+IsUndone first second = (n : ℕ) (x : List ℕ) → IsWord first.states x → length x ≡ n + 2 * (first.width - 1)
+    → (length (image second (image first x)) ≡ n)
+    × ((i j : ℕ) → j < n → pos i ≡ (pos j -ℤ first.offset -ℤ first.offset) → slice_index (image second (image first x)) j ≡ slice_index x i)
