@@ -26,7 +26,7 @@ IsFirstBelow-new {Has} {n} {u} first before = record {
   least = λ p v l has. ⊎_elim (λ same. first.least v (subst (λ q. Has q v) same has)) (λ other. before p v (omega (arith, other)) has) (cases_eq p n);
 }
 
--- else that one stays the first, where the number n has none before it
+-- else that one stays the first, where the number n has none that comes before
 pub IsFirstBelow-old : {Has : ℕ → List (ℕ × ℕ) → Type 0} {n : ℕ} {w : List (ℕ × ℕ)} → IsFirstBelow Has n w → ((v : List (ℕ × ℕ)) → Has n v → pairs_cmp w v ≢ Greater) → IsFirstBelow Has (n + 1) w
 IsFirstBelow-old {Has} {n} best here = record {
   number = best.number;
@@ -35,12 +35,16 @@ IsFirstBelow-old {Has} {n} best here = record {
   least = λ p v l has. ⊎_elim (λ same. here v (subst (λ q. Has q v) same has)) (λ other. best.least p v (omega (arith, other)) has) (cases_eq p n);
 }
 
+-- or where the first that it has doesn't come before
+IsFirstBelow-after : {Has : ℕ → List (ℕ × ℕ) → Type 0} {n : ℕ} {u w : List (ℕ × ℕ)} → IsFirstBelow Has n w → IsLeastOf Has n u → pairs_cmp u w ≢ Less → IsFirstBelow Has (n + 1) w
+IsFirstBelow-after {u = u} {w = w} best first other = IsFirstBelow-old best (λ v has. no_later pairs_cmp_total w u v (not_before pairs_cmp_total u w other) (first.least v has))
+
 -- the earlier of the first so far and the first of the number n is the first up to n
 IsFirstBelow-earlier : {Has : ℕ → List (ℕ × ℕ) → Type 0} {n : ℕ} (old other : List ℕ) → IsFirstBelow Has n (map (uncode 16) old) → IsLeastOf Has n (map (uncode 16) other)
     → (o : Ordering) → pairs_cmp (map (uncode 16) other) (map (uncode 16) old) ≡ o → IsFirstBelow Has (n + 1) (map (uncode 16) (if is_lt o then other else old))
-IsFirstBelow-earlier old other best least Less is = IsFirstBelow-new least (λ p v l has. no_later pairs_cmp_total (map (uncode 16) other) _ v (λ greater. cc) (best.least p v l has))
-IsFirstBelow-earlier old other best least Equal is = IsFirstBelow-old best (λ v has. no_later pairs_cmp_total _ (map (uncode 16) other) v (not_before pairs_cmp_total _ _ (λ less. cc)) (least.least v has))
-IsFirstBelow-earlier old other best least Greater is = IsFirstBelow-old best (λ v has. no_later pairs_cmp_total _ (map (uncode 16) other) v (not_before pairs_cmp_total _ _ (λ less. cc)) (least.least v has))
+IsFirstBelow-earlier old other best least Less is = IsFirstBelow-new least (λ p v l has. no_later pairs_cmp_total (map (uncode 16) other) (map (uncode 16) old) v (λ greater. cc) (best.least p v l has))
+IsFirstBelow-earlier old other best least Equal is = IsFirstBelow-after best least (λ less. cc)
+IsFirstBelow-earlier old other best least Greater is = IsFirstBelow-after best least (λ less. cc)
 
 -- letter pairs are ordered as their bytes are
 pairs_cmp-bytes : (v w : List ℕ) → ArePairs 16 (map (uncode 16) v) → ArePairs 16 (map (uncode 16) w) → pairs_cmp (map (uncode 16) v) (map (uncode 16) w) ≡ word_cmp v w
