@@ -5,7 +5,7 @@ use Rattle.ca_io.specs.Faults.{Rose}
 use Rattle.ca_cli.specs.declared.status.Status.{Status}
 use Rattle.ca_cli.specs.declared.status.Status.TheVariants as status
 use Rattle.ca_cli.specs.Inputs.{most_input}
-use Rattle.ca_cli.specs.Commands.{Command}
+use Rattle.ca_cli.specs.Commands.{Command, Check}
 
 -- at most this many bytes were taken, those that came first
 pub record TakesAtMost (most : ℕ) (before after : Option (List ℕ)) : Type 0 where
