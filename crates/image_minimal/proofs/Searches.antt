@@ -4,7 +4,7 @@ use Rattle.std.specs.List.{slice_get}
 use Rattle.std.proofs.Math.Nat.{mul-le-mul_right, suc-mul}
 use Rattle.std.proofs.lemmas.Option.{slice_get_within}
 use Rattle.word_image.specs.LocalRules.{LocalRule}
-use Rattle.word_image.proofs.laws.Places.{slice_get-Contains}
+use Rattle.word_image.proofs.laws.Places.{Contains-slice_get}
 use Rattle.search_laws.specs.Walks.{Leads}
 use Rattle.search_laws.specs.SearchQueues.{Place, IsQueue, IsSearch}
 use Rattle.search_laws.proofs.Walks.{Leads-induct}
@@ -21,7 +21,7 @@ pub IsSearch-insert : {Step : ℕ → ℕ → ℕ → Type 0} {k start : ℕ} {s
 IsSearch-insert {Step} {k} {start} {sets} {new} {place} h n from to x letter here step only added =
     ⊎_elim
     (λ same. subst (λ l. IsSearch Step k start l (h * k + n + 1)) (sym same) (IsSearch-there h n from x letter here
-    (λ t other. slice_get-Contains sets place t (subst (λ l. slice_get l place ≡ Some t) same (added.stands ∙ ap Some (only t other))))))
+    (λ t other. Contains-slice_get sets place t (subst (λ l. slice_get l place ≡ Some t) same (added.stands ∙ ap Some (only t other))))))
     (λ (absent, longer). subst (λ l. IsSearch Step k start l (h * k + n + 1)) (sym longer) (IsSearch-new h n from to x letter here step (λ t other. sym (only t other)) absent))
     added.grown
 

@@ -41,7 +41,7 @@ IsTreeSearch-start r =
 -- a way stays one where places are added
 IsWay-more : (tree more : List (Place ℕ)) (i : ℕ) (way : Option (ℕ × ℕ)) → IsWay tree i way → IsWay (tree ++ more) i way
 IsWay-more tree more i None none = none
-IsWay-more tree more i (Some (p, a)) (later, x, at, from) = (later, x, slice_get-append tree more i x at, from)
+IsWay-more tree more i (Some (p, a)) (x, later, at, from, by) = (x, later, slice_get-append tree more i x at, from, by)
 
 -- and it isn't empty
 pub IsExpanded-start : {r : LocalRule} → IsRule r → IsExpanded r (full_set r ∷ []) (None ∷ []) (0 * r.states) false
@@ -69,7 +69,7 @@ length-search-most {r} rule h = omega (arith, length-search-le h, pow_mono {i = 
 IsLeastParent-search : {r : LocalRule} {sets : List ℕ} {parents : List (Option (ℕ × ℕ))} {e : ℕ} → IsTreeSearch r sets parents e
     → (i p a : ℕ) → slice_get parents i ≡ Some (Some (p, a)) → IsLeastParent r sets i p a
 IsLeastParent-search {r} {sets} {parents} h i p a way =
-    let (positive, x, at, from_p, by_a) = h.ways i (Some (p, a)) way in
+    let (x, positive, at, from_p, by_a) = h.ways i (Some (p, a)) way in
     let set = slice_index sets i in
     let state : x.state ≡ set = sym (state_at h i x at).1 in
     let branch = h.search.queue.fills.branches i x positive at in
@@ -183,7 +183,7 @@ IsTreeSearch-expanding {r} {sets} {parents} {h} {set} {n} x after letter step ne
           (λ before. IsWay-more tree (z ∷ []) i way (old.ways i way before))
           (λ last.
           let there : slice_get (tree ++ z ∷ []) i ≡ Some z = subst (λ j. slice_get (tree ++ z ∷ []) j ≡ Some z) (omega (arith, last.0, old.one_each, length-search old.search)) (slice_get-push tree z) in
-          subst (IsWay (tree ++ z ∷ []) i) last.1 (omega (arith, last.0, old.one_each, x.within), z, there, refl, refl))
+          subst (IsWay (tree ++ z ∷ []) i) last.1 (z, omega (arith, last.0, old.one_each, x.within), there, refl, refl))
           (slice_get-push_cases parents (Some (h, n)) i way at);
     })
 

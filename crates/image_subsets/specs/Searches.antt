@@ -6,7 +6,7 @@ use Rattle.search_laws.specs.SearchQueues.{Place, IsSearch}
 
 -- no way leads to the first place of a tree, and to each other the step from its parent
 abbrev pub IsWay : List (Place ℕ) → ℕ → Option (ℕ × ℕ) → Type 0
-IsWay tree i way = MatchOption way (i ≡ 0) (λ (p, a). (0 < i) × ((x : Place ℕ) × (slice_get tree i ≡ Some x) × (x.parent ≡ p) × (x.letter ≡ a)))
+IsWay tree i way = MatchOption way (i ≡ 0) (λ (p, a). (x : Place ℕ) × (0 < i) × (slice_get tree i ≡ Some x) × (x.parent ≡ p) × (x.letter ≡ a))
 
 -- the first e edges have been followed: letter a from place i is edge i * k + a. Each set has its parent.
 pub record IsTreeSearch (r : LocalRule) (sets : List ℕ) (parents : List (Option (ℕ × ℕ))) (e : ℕ) : Type 0 where

@@ -28,7 +28,7 @@ pub Leads-link : {r q : LocalRule} {links : List Link} {e i : ℕ} {w : List ℕ
     → Reaches links i w → (x : Link) → slice_get links i ≡ Some x → LeadsToSet r w x.first × LeadsToSet q w x.second
 Leads-link {r} {q} {links} {i = i} {w} h states reaches x at =
     let leads = Leads-spelled h.fills reaches (link_place x) (place_at links i x at) in
-    let start = (full_set r, full_set q) in (
+    let start : ℕ × ℕ = (full_set r, full_set q) in (
       record {
         walk = Walk-each (LinkStep r q) (IsStep r) (λ p. p.0) (λ a. a < r.states) (λ s a t _ step. step.0) w start (x.first, x.second) leads.word leads.walk;
         word = leads.word;

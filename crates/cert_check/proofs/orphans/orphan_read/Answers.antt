@@ -15,4 +15,4 @@ pub returns-else-reached-eq0 : goal.returns-else-reached-eq0
 returns-else-reached-eq0 c =
     let leads = subst₂ (λ (r : LocalRule) (w : List ℕ). LeadsTo r (full_set r) w c.reached.result) c.of.ensures c.as_slice.ensures c.reached.ensures in
     subst (λ (x : Certificate). IsBreach x condition.OrphanRead refusal.Orphan) c.cert.view_is
-    (NoOrphan c.in-Orphan.word (ap surjective_of c.in-Orphan.is) (λ empty. c.if-reached-eq0.false (LeadsTo-unique c.cert.view.rule c.in-Orphan.word (full_set c.cert.view.rule) c.reached.result 0 leads empty)))
+    (NoOrphan c.in-Orphan.word (ap surjective_of c.in-Orphan.is) (λ empty. c.if-reached-eq0.false (LeadsTo-unique c.cert.inside.rule c.in-Orphan.word (full_set c.cert.inside.rule) c.reached.result 0 leads empty)))

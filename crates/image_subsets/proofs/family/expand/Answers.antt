@@ -1,8 +1,10 @@
-use Rattle.std.proofs.Common.{◌≡◌, ℕ, ◌^◌, ◌<◌, List, slice_index, sym, ap, ◌∙◌, subst, subst₂, arith, vec_capacity}
+use Rattle.std.proofs.Common.{◌≡◌, ℕ, ◌+◌, ◌*◌, ◌^◌, ◌<◌, List, slice_index, refl, sym, ap, ◌∙◌, subst, subst₂, arith, vec_capacity}
 use Rattle.std.proofs.lemmas.List.{length_push}
+use Rattle.std.proofs.Math.Nat.{suc-mul}
 use Rattle.word_image.specs.LocalRules.{LocalRule, node_count}
 use Rattle.word_image.specs.Graphs.{IsStep}
 use Rattle.image_subsets.specs.Masks.{IsInserted}
+use Rattle.image_subsets.specs.Searches.{IsTreeSearch}
 use Rattle.image_subsets.specs.StepTables.{Rows, AreTables}
 use Rattle.image_subsets.proofs.Steps.{HasRows-tables}
 use Rattle.image_subsets.proofs.Searches.{IsTreeSearch-expanding, IsExpanding-there, IsExpanding-new, EndsEmpty-push, set-below, length-search-most}
@@ -23,6 +25,17 @@ stepped : (r : LocalRule) (rows : Rows) (steps : List ℕ) (set here letter at e
 stepped r rows steps set here letter at end leads tables within same lane before states =
     subst₂ (λ s i. IsStep r s letter (slice_index steps i)) same (sym lane)
     (leads r letter tables (subst (λ s. s < 2 ^ node_count r) (sym same) within) (omega (arith, before, states)))
+
+pub loop-letter-init : goal.loop-letter-init
+loop-letter-init c = record {
+  search = record {
+    so_far = subst (IsTreeSearch c.args.graph.now c.args.sets.now c.args.parents.now.items) (omega arith) c.requires.search.0;
+    nonempty = c.requires.search.1;
+    within = c.requires.place;
+    here = refl;
+  };
+  capacity = refl;
+}
 
 pub push_reserved-requires : goal.push_reserved-requires
 push_reserved-requires c =
@@ -69,3 +82,10 @@ loop-letter-preserved c =
             capacity = ap vec_capacity w.parents-is ∙ c.loop-letter.invariant.capacity;
           }
     ]
+
+pub returns-clause-search : goal.returns-clause-search
+returns-clause-search c =
+    let k = c.args.graph.now.states in
+    let x = c.loop-letter.invariant.search in
+    let all : c.args.place * k + c.loop-letter.letter ≡ (c.args.place + 1) * k = omega (arith, suc-mul c.args.place k, c.loop-letter-test.false, c.k-letter-end.ensures.states) in
+    (subst (IsTreeSearch c.args.graph.now c.loop-letter.sets c.loop-letter.parents.items) all x.so_far, x.nonempty)
