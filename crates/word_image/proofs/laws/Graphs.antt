@@ -1,15 +1,19 @@
 -- The de Bruijn graph of a rule read on words: nodes are ends of words, edges are windows.
 use Rattle.std.proofs.Common.{◌≡◌, ℕ, ◌+◌, ◌-◌, ◌*◌, ◌%◌, ◌^◌, ◌<◌, List, [], ◌∷◌, ◌++◌, length, drop, slice_index, sym, ap, ◌∙◌, subst, arith, length-drop, mod-lt}
-use Rattle.std.proofs.Math.Nat.{one-le-pow}
+use Rattle.std.proofs.Math.Nat.{mul-pos, one-le-pow}
 use Rattle.std.proofs.lemmas.List.{drop-append-le, drop-drop, length_push}
 use Rattle.std.proofs.lemmas.List.Elements.{All-drop, All-push}
 use Rattle.word_image.specs.LocalRules.{LocalRule, IsRule, IsWord, value, local_map, node_count}
-use Rattle.word_image.specs.Graphs.{next, label}
+use Rattle.word_image.specs.Graphs.{next, label, pair_count}
 use Rattle.word_image.proofs.laws.Values.{value-below, value-snoc, value-drop}
 
 -- there are nodes
 pub node_count_pos : {r : LocalRule} → IsRule r → 0 < node_count r
 node_count_pos {r} rule = one-le-pow (r.width - 1) r.states (omega arith)
+
+-- and pairs of them
+pub pair_count_pos : {r : LocalRule} → IsRule r → 0 < pair_count r
+pair_count_pos rule = mul-pos (node_count_pos rule) (node_count_pos rule)
 
 -- an edge leads to a node
 pub next-below : {r : LocalRule} → IsRule r → (u a : ℕ) → next r u a < node_count r
