@@ -64,19 +64,18 @@ pub fn is_first(rule: &Rule, side: Side, pair: u16) -> bool
     requires { pair < pair_count rule.now }
     ensures { IsTrue result ↔ IsFirstOf side rule.now pair }
 {
-    let nodes = u16::from(rule.nodes());
-    let (u, v) = (pair / nodes, pair % nodes);
+    let (u, v) = rule.nodes_of(pair);
     if u == v || rest_of(rule, side, u) != rest_of(rule, side, v) {
         return false;
     }
-    some_label(rule, side.other(), u as u8, v as u8)
+    some_label(rule, side.other(), u, v)
 }
 
 /// A node without the letter at its end on this side.
-fn rest_of(rule: &Rule, side: Side, node: u16) -> u16
+fn rest_of(rule: &Rule, side: Side, node: u8) -> u8
     ensures { result ≡ rest_of side rule.now node }
 {
-    let k = u16::from(rule.k());
+    let k = rule.k();
     match side {
         Side::Right => node / k,
         Side::Left => node % k.pow(u32::from(rule.m()) - 2),

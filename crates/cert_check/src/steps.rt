@@ -6,10 +6,7 @@ ghost use Rattle.word_image.specs.Graphs.{full_set, IsStep};
 ghost use Rattle.cert_check.specs.Rows.{HasBit, AreEnds};
 
 use std::marker::Model;
-use word_image::Rule;
-
-/// The most states, and the most nodes, of an accepted rule.
-const MOST: usize = 16;
+use word_image::{MOST_NODES, MOST_STATES, Rule};
 
 /// The steps of sets of nodes under a rule, seen as that rule. Node u is bit u of a set.
 #[derive(Drop)]
@@ -17,7 +14,7 @@ pub struct Steps {
     // The rule.
     rule: Rule,
     // For each label and node, at 16 * label + node, the nodes where edges with that label lead from it.
-    ends: [u16; MOST * MOST],
+    ends: [u16; MOST_STATES * MOST_NODES],
 }
 
 impl Model for Steps {
@@ -69,12 +66,12 @@ impl Steps {
 }
 
 /// The nodes where edges labelled a lead from the nodes of a set.
-fn united(ends: &[u16; MOST * MOST], nodes: u8, set: u16, a: u8) -> u16
+fn united(ends: &[u16; MOST_STATES * MOST_NODES], nodes: u8, set: u16, a: u8) -> u16
     requires label { a < 16 }
     requires nodes { nodes ≤ 16 }
     ensures { (v : ℕ) → v < 16 → (IsBitSet result v ↔ ((u : ℕ) × (u < nodes) × IsBitSet set u × HasBit ends.now (16 * a + u) v)) }
 {
-    let row = MOST * usize::from(a);
+    let row = MOST_NODES * usize::from(a);
     let mut after = 0;
     for u in 0..nodes {
         if set >> u & 1 == 1 {
@@ -85,15 +82,15 @@ fn united(ends: &[u16; MOST * MOST], nodes: u8, set: u16, a: u8) -> u16
 }
 
 /// For each label and node, at 16 * label + node, the nodes where edges with that label lead from it.
-fn all_ends(rule: &Rule) -> [u16; MOST * MOST]
+fn all_ends(rule: &Rule) -> [u16; MOST_STATES * MOST_NODES]
     ensures ends { AreEnds rule.now (rule.now.states ^ rule.now.width) result }
     ensures rule { IsRule rule.now }
 {
-    let mut ends = [0; MOST * MOST];
+    let mut ends = [0; MOST_STATES * MOST_NODES];
     for window in 0..rule.size() {
         let from = usize::from(window / u16::from(rule.k()));
         let to = window % u16::from(rule.nodes());
-        ends[MOST * usize::from(rule.at(window)) + from] |= 1u16 << to;
+        ends[MOST_NODES * usize::from(rule.at(window)) + from] |= 1u16 << to;
     }
     ends
 }

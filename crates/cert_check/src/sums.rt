@@ -2,14 +2,13 @@
 
 ghost use Rattle.std.specs.Prelude.{◌≡◌, ◌↔◌, ◌/◌, ◌^◌, ◌<◌, length, slice_index, IsTrue};
 ghost use Rattle.word_image.specs.LocalRules.{node_count, word_of};
-ghost use Rattle.word_image.specs.Rings.{IsRing, KeepsSum};
 ghost use Rattle.cert_check.specs.Checks.{IsChecked, FirstBreach};
 ghost use Rattle.cert_check.specs.Sums.{Flows};
 
 use crate::conditions::Condition;
 use crate::refusal::Refusal;
 use cert_format::{Cert, SumPart};
-use word_image::{Rule, Weights, ring_apply};
+use word_image::{Rule, Weights, keeps_sum};
 
 /// Whether the flux balances what each window gains; else the least window that it doesn't.
 pub fn flux_flows(cert: &Cert) -> Result<(), Refusal>
@@ -74,19 +73,4 @@ fn first_letter(rule: &Rule, window: u16) -> u8
     ensures below { result < rule.now.states }
 {
     (window / u16::from(rule.nodes())) as u8
-}
-
-/// Whether a ring and its image have one sum of weights.
-fn keeps_sum(rule: &Rule, weights: &Weights, ring: &[u8]) -> bool
-    requires letters { length weights.now ≡ rule.now.states }
-    requires ring { IsRing rule.now.states ring.now }
-    ensures { IsTrue result ↔ KeepsSum (slice_index weights.now) rule.now ring.now }
-{
-    let mut before = 0u128;
-    let mut after = 0u128;
-    for place in 0..ring.len() {
-        before += u128::from(weights.at(ring[place]));
-        after += u128::from(weights.at(ring_apply(rule, ring, place)));
-    }
-    before == after
 }

@@ -64,8 +64,8 @@ fn is_told(
     ensures { IsTrue result ↔ IsWindowPair rule.now forward.now backward.now n c pair }
 {
     let j = c.min(n);
-    let nodes = u16::from(rule.nodes());
-    let (first, second, place) = ((pair / nodes) as u8, (pair % nodes) as u8, (c - j) as u8);
+    let (first, second) = rule.nodes_of(pair);
+    let place = (c - j) as u8;
     rule.node_letter(first, place) == rule.node_letter(second, place)
         || claims_below(backward, pair, j)
         || claims_below(forward, pair, n - j)

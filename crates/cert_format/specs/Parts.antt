@@ -9,6 +9,7 @@ use Rattle.cert_format.specs.declared.parts.SidePart.{SidePart}
 use Rattle.cert_format.specs.declared.parts.SidePart.TheVariants.{Ahead, Split}
 use Rattle.cert_format.specs.declared.parts.SumPart.{SumPart}
 use Rattle.cert_format.specs.declared.parts.SumPart.TheVariants.{Flux, Ring}
+use Rattle.cert_format.specs.declared.cert.Cert.TheInside.{Inside}
 use Rattle.cert_format.specs.Evidence.{SurjectiveEvidence, InjectiveEvidence, SideEvidence, SumEvidence}
 use Rattle.cert_format.specs.Certificates.{Certificate, IsSurjectiveShape, IsInjectiveShape, IsSideShape, IsSumShape, IsRankShape}
 use Rattle.word_image.specs.Weights.{AreWeights, own_weights}
@@ -32,6 +33,21 @@ side_of (Split x y) = SideEvidence.Split x.config y.config
 abbrev pub sum_of : SumPart → SumEvidence
 sum_of (Flux phi) = SumEvidence.Flux phi
 sum_of (Ring p) = SumEvidence.Ring p
+
+-- what the parts of a certificate say
+abbrev pub certificate_of : Inside → Certificate
+certificate_of c = record {
+  version = c.version;
+  rule = c.rule;
+  surjective = surjective_of c.surjective;
+  injective = injective_of c.injective;
+  right = side_of c.right;
+  left = side_of c.left;
+  conserving = sum_of c.conserving;
+  weights = c.weights;
+  forward = c.forward;
+  backward = c.backward;
+}
 
 -- the configurations of a part are over this many letters
 abbrev pub IsOver : ℕ → SidePart → Type 0

@@ -32,36 +32,14 @@ pub struct Cert {
 
 impl Model for Cert {
     ghost use Rattle.cert_format.specs.Certificates.{Certificate};
-    ghost use Rattle.cert_format.specs.Parts.{IsShaped};
-    ghost use Rattle.cert_format.specs.Parts.{surjective_of, injective_of, side_of, sum_of, IsOver};
 
     ghost Value = { Certificate };
 
-    ghost view = { λ c. record {
-      version = c.version;
-      rule = c.rule;
-      surjective = surjective_of c.surjective;
-      injective = injective_of c.injective;
-      right = side_of c.right;
-      left = side_of c.left;
-      conserving = sum_of c.conserving;
-      weights = c.weights;
-      forward = c.forward;
-      backward = c.backward;
-    } };
+    ghost use Rattle.cert_format.specs.Parts.{certificate_of, IsOver, IsShaped};
+
+    ghost view = { certificate_of };
 
     ghost invariant = { λ c. IsOver (c.rule).states c.right
         × IsOver (c.rule).states c.left
-        × IsShaped (record {
-          version = c.version;
-          rule = c.rule;
-          surjective = surjective_of c.surjective;
-          injective = injective_of c.injective;
-          right = side_of c.right;
-          left = side_of c.left;
-          conserving = sum_of c.conserving;
-          weights = c.weights;
-          forward = c.forward;
-          backward = c.backward;
-        }) };
+        × IsShaped (certificate_of c) };
 }

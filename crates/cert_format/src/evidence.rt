@@ -1,14 +1,12 @@
 //! The evidence of each question, which is an object.
-ghost use Rattle.std.specs.Prelude.{◌≡◌, ℕ, ◌+◌, ◌-◌, ◌^◌, ◌≤◌, ◌↔◌, List, Option, ℤ, codes, length, All, IfOk, IfErr, IfSome, IfNone, IsTrue};
+ghost use Rattle.std.specs.Prelude.{◌≡◌, ℕ, ◌≤◌, ◌↔◌, List, Option, ℤ, codes, length, All, IfOk, IfErr, IfSome, IfNone, IsTrue};
 ghost use Rattle.serde_json.specs.View.{view};
-ghost use Rattle.word_image.specs.LocalRules.{node_count};
-ghost use Rattle.word_image.specs.Graphs.{full_set, pair_count};
 ghost use Rattle.cert_format.specs.Evidence.{SurjectiveEvidence, InjectiveEvidence, SideEvidence, SumEvidence};
 ghost use Rattle.cert_format.specs.Parts.{surjective_of, injective_of, side_of, sum_of, IsOver};
 ghost use Rattle.cert_format.specs.Readings.{AreNumbers, IsWindowFor, IsAhead, IsFluxFor, IsWeightsFor, IsRowFor, IsSurjectiveFor, IsInjectiveFor, IsSideFor, IsSumFor, AreRanksFor};
 
 use crate::cert_version::CertVersion;
-use crate::items::{Item, array};
+use crate::items::{Item, array, array_of};
 use crate::members::{only, only_both};
 use crate::misread::Misread;
 use crate::parts::{InjectivePart, SidePart, SumPart, SurjectivePart};
@@ -30,12 +28,12 @@ pub fn surjective(
         → (e : SurjectiveEvidence) → ¬ IsSurjectiveFor version rule.now (view value.now) e) }
 {
     if let Some(listed) = only(value, "sets") {
-        let sets = numbers(alloc, full(rule), listed)?;
+        let sets = numbers(alloc, rule.all_nodes(), listed)?;
         return Ok(SurjectivePart::Sets(sets));
     }
     if version.lists_pairs() {
         if let Some(listed) = only(value, "pairs") {
-            let pairs = numbers(alloc, last_pair(rule), listed)?;
+            let pairs = numbers(alloc, rule.pairs() - 1, listed)?;
             return Ok(SurjectivePart::Pairs(pairs));
         }
     }
@@ -56,21 +54,6 @@ fn numbers(alloc: Global, most: u16, value: &Value) -> Result<SetList, Misread>
         return Err(Misread::Shape);
     }
     Ok(SetList::of(numbers))
-}
-
-/// The greatest pair of nodes of a rule.
-fn last_pair(rule: &Rule) -> u16
-    ensures { result + 1 ≡ pair_count rule.now }
-{
-    u16::from(rule.nodes()) * u16::from(rule.nodes()) - 1
-}
-
-/// The set of all nodes of a rule.
-fn full(rule: &Rule) -> u16
-    ensures set { result ≡ full_set rule.now }
-    ensures short { result ≤ 65535 }
-{
-    u16::MAX >> (16 - rule.nodes())
 }
 
 /// Whether no number is above the most.
@@ -173,10 +156,7 @@ fn flux(alloc: Global, rule: &Rule, value: &Value) -> Result<FluxRow, Misread>
     ensures none { IfErr result (λ f. f ≡ Misread.Shape
         → (phi : List ℤ) → ¬ IsFluxFor rule.now (view value.now) phi) }
 {
-    let flows: Vec<i32> = array(alloc, value)?;
-    if flows.len() != usize::from(rule.nodes()) {
-        return Err(Misread::Shape);
-    }
+    let flows = array_of(alloc, usize::from(rule.nodes()), value)?;
     Ok(FluxRow::of(flows))
 }
 
@@ -213,9 +193,6 @@ fn row(alloc: Global, rule: &Rule, value: &Value) -> Result<RankRow, Misread>
     ensures none { IfErr result (λ f. f ≡ Misread.Shape
         → (row : List (Option ℕ)) → ¬ IsRowFor rule.now (view value.now) row) }
 {
-    let claims: Vec<Option<u16>> = array(alloc, value)?;
-    if claims.len() != usize::from(rule.nodes()) * usize::from(rule.nodes()) {
-        return Err(Misread::Shape);
-    }
+    let claims = array_of(alloc, usize::from(rule.pairs()), value)?;
     Ok(RankRow::of(claims))
 }

@@ -1,5 +1,5 @@
 //! Arrays of numbers.
-ghost use Rattle.std.specs.Prelude.{◌≡◌, ◌≢◌, List, IfOk, IfErr, IfSome, IfNone};
+ghost use Rattle.std.specs.Prelude.{◌≡◌, ◌≢◌, List, length, IfOk, IfErr, IfSome, IfNone};
 ghost use Rattle.serde_json.specs.Data.{Data, array, item, no_items};
 ghost use Rattle.serde_json.specs.View.{view};
 ghost use Rattle.cert_format.specs.CertificateTexts.{IsArrayOf};
@@ -81,6 +81,24 @@ pub fn array<T: Item + Drop>(alloc: Global, value: &Value) -> Result<Vec<T>, Mis
             return Err(Misread::Shape);
         };
         items.push(item)?;
+    }
+    Ok(items)
+}
+
+/// The items of an array of so many.
+pub fn array_of<T: Item + Drop>(
+    alloc: Global,
+    count: usize,
+    value: &Value,
+) -> Result<Vec<T>, Misread>
+    ensures items { IfOk result (λ v. IsArrayOf T.is_item (view value.now) v.items) }
+    ensures count { IfOk result (λ v. length v.items ≡ count) }
+    ensures none { IfErr result (λ e. e ≡ Misread.Shape
+        → (xs : List T) → length xs ≡ count → ¬ IsArrayOf T.is_item (view value.now) xs) }
+{
+    let items: Vec<T> = array(alloc, value)?;
+    if items.len() != count {
+        return Err(Misread::Shape);
     }
     Ok(items)
 }

@@ -5,13 +5,7 @@ ghost use Rattle.word_image.specs.LocalRules.{IsRule, node_count};
 ghost use Rattle.debruijn.specs.Storage.{ends_row, ends_rows};
 
 use std::marker::Model;
-use word_image::Rule;
-
-/// The most states of an accepted rule, and so the most labels.
-const MOST_STATES: usize = 16;
-
-/// The most nodes of an accepted rule.
-const MOST_NODES: usize = 16;
+use word_image::{MOST_NODES, MOST_STATES, Rule};
 
 /// The de Bruijn graph of a rule, seen as that rule. A node or a set of nodes is looked up in tables
 /// that are made once.

@@ -8,12 +8,10 @@ ghost use Rattle.eden_law.specs.ReachedRows.{InRows, LeadsApart, LeadsBeside, Ar
 
 use debruijn::Graph;
 use image_subsets::step;
-
-/// The most nodes of an accepted rule.
-const MOST: usize = 16;
+use word_image::MOST_NODES;
 
 /// For each node u the set of the nodes v whose pair with u is in a set of pairs; node v is bit v.
-type Rows = [u16; MOST];
+type Rows = [u16; MOST_NODES];
 
 /// Whether the rule of this graph is surjective: whether no reached pair has two equal nodes. Where it
 /// isn't, the rule is neither injective nor closing on a side. It takes no memory.
@@ -23,8 +21,8 @@ pub fn is_surjective(graph: &Graph) -> bool
     ensures right { IsRightClosing graph.now → IsTrue result }
     ensures left { IsLeftClosing graph.now → IsTrue result }
 {
-    let mut found = [0; MOST];
-    let mut followed = [0; MOST];
+    let mut found = [0; MOST_NODES];
+    let mut followed = [0; MOST_NODES];
     for node in 0..graph.nodes() {
         add_firsts(graph, node, &mut found);
         if !follow_all(graph, &mut found, &mut followed) {

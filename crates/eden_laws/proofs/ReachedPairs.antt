@@ -161,6 +161,7 @@ IsSurjective-pair_list rule list = (IsSurjective-reached rule).1 (λ p reached. 
 -- and where a rule is surjective, the list of the reached pairs is a pair list
 pub IsPairList-reached : {r : LocalRule} {pairs : List ℕ} → IsRule r → IsSurjective r → ((p : ℕ) → Contains pairs p ↔ IsReached r p) → IsPairList r pairs
 IsPairList-reached rule every are = record {
+  below = λ p listed. IsReached-below rule ((are p).0 listed);
   firsts = λ p h. (are p).1 (First p h);
   closed = λ p a b q listed ha hb f. (are q).1 (On p a b q ((are p).0 listed) ha hb f);
   off_diagonal = λ p listed. (IsSurjective-reached rule).0 every p ((are p).0 listed);

@@ -5,10 +5,7 @@ ghost use Rattle.word_image.specs.Rings.{IsFlux};
 ghost use Rattle.ring_laws.proofs.FluxWalks.{walk_gain, walk_gains};
 ghost use Rattle.ring_laws.proofs.FluxWindows.{window_gain, Flows};
 
-use word_image::{Rule, Weights};
-
-/// The most nodes that a rule has.
-pub(crate) const MOST_NODES: usize = 16;
+use word_image::{MOST_NODES, Rule, Weights};
 
 /// What the walk from each node gains that reads m - 1 letters 0, and zeros after the last node.
 pub(crate) fn walk_flows(rule: &Rule, weights: &Weights) -> [i32; MOST_NODES]

@@ -1,11 +1,11 @@
 //! The first ring that doesn't keep its sum.
-ghost use Rattle.std.specs.Prelude.{◌≡◌, ℕ, ◌+◌, ◌-◌, ◌*◌, ◌^◌, ◌<◌, ◌≤◌, ◌↔◌, length, slice_index, IsTrue, IfSome, IfNone};
-ghost use Rattle.word_image.specs.LocalRules.{IsRule, IsWord, value};
-ghost use Rattle.word_image.specs.Rings.{IsRing, IsConserving, KeepsSum, IsLeastLossyRing};
+ghost use Rattle.std.specs.Prelude.{◌≡◌, ℕ, ◌+◌, ◌-◌, ◌*◌, ◌^◌, ◌<◌, ◌≤◌, length, slice_index, IfSome, IfNone};
+ghost use Rattle.word_image.specs.LocalRules.{IsWord, value};
+ghost use Rattle.word_image.specs.Rings.{IsConserving, IsLeastLossyRing};
 ghost use Rattle.flux_conserve.specs.LeastRings.{IsFirstLossyRing, KeepSumAt};
 
 use std::marker::Model;
-use word_image::{Rule, Weights, ring_apply};
+use word_image::{Rule, Weights, keeps_sum};
 
 /// The most letters that the first ring has that doesn't keep its sum: 2m - 1 at width 5.
 pub const LONGEST_RING: usize = 9;
@@ -72,23 +72,6 @@ pub(crate) fn first_lossy_of(rule: &Rule, weights: &Weights, count: u8) -> Optio
         advance(k, &mut letters[..long]);
     }
     None
-}
-
-/// Whether a ring and its image have one sum of weights.
-fn keeps_sum(rule: &Rule, weights: &Weights, ring: &[u8]) -> bool
-    requires letters { length weights.now ≡ rule.now.states }
-    requires rule { IsRule rule.now }
-    requires ring { IsRing rule.now.states ring.now }
-    requires short { length ring.now ≤ 9 }
-    ensures { IsTrue result ↔ KeepsSum (slice_index weights.now) rule.now ring.now }
-{
-    let mut before = 0u16;
-    let mut after = 0u16;
-    for place in 0..ring.len() {
-        before += u16::from(weights.at(ring[place]));
-        after += u16::from(weights.at(ring_apply(rule, ring, place)));
-    }
-    before == after
 }
 
 /// The next word of the same length in dictionary order; after the last one, the first.

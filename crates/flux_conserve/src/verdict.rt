@@ -3,9 +3,9 @@ ghost use Rattle.std.specs.Prelude.{◌≡◌, ◌↔◌, length, slice_index, I
 ghost use Rattle.word_image.specs.Rings.{IsConserving};
 ghost use Rattle.flux_conserve.specs.Keepings.{IsShown, has_flux};
 
-use crate::flows::{MOST_NODES, is_flux, walk_flows};
+use crate::flows::{is_flux, walk_flows};
 use crate::rings::{SmallRing, first_lossy_of, first_lossy_ring};
-use word_image::{Rule, Weights};
+use word_image::{MOST_NODES, Rule, Weights};
 
 /// What shows that a rule is conserving, or that it isn't.
 #[derive(Debug, Drop)]

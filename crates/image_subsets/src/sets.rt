@@ -12,7 +12,7 @@ pub fn full(graph: &Graph) -> u16
     ensures set { result ≡ full_set graph.now }
     ensures rule { IsRule graph.now }
 {
-    u16::MAX >> (16 - graph.nodes())
+    graph.rule().all_nodes()
 }
 
 /// The nodes to which an edge labelled a leads from a node of the set. Where the set is that of a word,

@@ -1,6 +1,6 @@
 //! The searches for walks, and their room.
 
-ghost use Rattle.std.specs.Prelude.{◌≡◌, ℕ, ◌+◌, ◌*◌, ◌<◌, ◌≤◌, List, [], ◌∷◌, ◌++◌, length, map, vec_len, vec_capacity, IfOk, IfSome, IfNone, Some};
+ghost use Rattle.std.specs.Prelude.{◌≡◌, ℕ, ◌+◌, ◌*◌, ◌<◌, ◌≤◌, List, [], ◌∷◌, ◌++◌, length, map, vec_len, vec_capacity, IfSome, IfNone, Some};
 ghost use Rattle.least_walk.specs.Queues.{IsBackward, SpellsBefore};
 
 use crate::queue::{Ends, MOST_STATES, Reached, search};
@@ -11,7 +11,8 @@ use std::marker::Model;
 /// The most steps of a least walk: it visits no marked pair twice.
 pub const MOST_STEPS: usize = 512;
 
-/// Searches for least walks. It is seen as the walk that it found last, and reuses its room.
+/// Searches for least walks. It reuses its room, and is seen as nothing: no call tells what an earlier
+/// one left.
 #[derive(Debug, Drop)]
 pub struct Walker {
     // The marked pairs that the last search reached, with room for all.
@@ -21,11 +22,11 @@ pub struct Walker {
 }
 
 impl Model for Walker {
-    ghost use Rattle.std.specs.Prelude.{List, ℕ, ◌≤◌, vec_capacity};
+    ghost use Rattle.std.specs.Prelude.{⊤, ◌≤◌, vec_capacity};
 
-    ghost Value = { List ℕ };
+    ghost Value = { ⊤ };
 
-    ghost view = { λ w. w.steps.items };
+    ghost view = { λ w. tt };
 
     ghost invariant = { λ w. (512 ≤ vec_capacity w.queue) × (512 ≤ vec_capacity w.steps) };
 }
@@ -35,10 +36,8 @@ impl Walker {
     ghost use Rattle.word_image.specs.MarkedPairs.{marked};
     ghost use Rattle.search_laws.specs.PairWalks.{IsLeastWalk, PairWalk, uncode};
 
-    /// A walker that has found no walk. It takes all the memory that it needs.
-    pub fn new(alloc: Global) -> Result<Walker, AllocError>
-        ensures { IfOk result (λ walker. walker ≡ []) }
-    {
+    /// A walker, with all the memory that it needs.
+    pub fn new(alloc: Global) -> Result<Walker, AllocError> {
         Ok(Walker {
             queue: Vec::with_capacity(alloc, MOST_STATES)?,
             steps: Vec::with_capacity(alloc, MOST_STEPS)?,

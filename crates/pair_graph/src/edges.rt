@@ -4,14 +4,11 @@ ghost use Rattle.std.specs.Prelude.{◌≡◌, ◌≢◌, ℕ, ◌<◌};
 ghost use Rattle.word_image.specs.LocalRules.{IsRule, node_count};
 ghost use Rattle.pair_graph.specs.Edges.{AreEdges, AreEdgesOf, IsSquare, end_at, ends_at};
 
-use word_image::{Rule, Side};
-
-/// The most nodes, and the most labels, of an accepted rule.
-pub(crate) const MOST: usize = 16;
+use word_image::{MOST_NODES, MOST_STATES, Rule, Side};
 
 /// For each label and node the set of the nodes where the edges with that label lead from it; node v
 /// is bit v.
-pub(crate) type Edges = [[u16; MOST]; MOST];
+pub(crate) type Edges = [[u16; MOST_NODES]; MOST_STATES];
 
 /// The node to which the letter leads from the node.
 pub(crate) fn end_at(side: Side, rule: &Rule, node: u8, letter: u8) -> u8
@@ -33,7 +30,7 @@ pub(crate) fn end_at(side: Side, rule: &Rule, node: u8, letter: u8) -> u8
 pub(crate) fn edges(rule: &Rule, side: Side) -> Edges
     ensures { AreEdges side rule.now (node_count rule.now) result }
 {
-    let mut ends = [[0; MOST]; MOST];
+    let mut ends = [[0; MOST_NODES]; MOST_STATES];
     for u in 0..rule.nodes() {
         add_edges(rule, side, u, &mut ends);
     }

@@ -7,14 +7,14 @@ ghost use Rattle.word_image.specs.LocalRules.{IsRule, node_count};
 ghost use Rattle.word_image.specs.Graphs.{pair_count};
 ghost use Rattle.pair_graph.specs.PairSets.{holds, AreKept, AreRows, GoesOn, IsTrimmed};
 
-use crate::edges::{Edges, MOST, end_at};
+use crate::edges::{Edges, end_at};
 use crate::pairs::Pairs;
 use std::marker::Model;
 use std::simd::prelude::*;
-use word_image::{Rule, Side};
+use word_image::{MOST_NODES, Rule, Side};
 
 /// For each node u the set of the nodes v whose pair with u is in a set of pairs; node v is bit v.
-pub(crate) type Rows = [u16; MOST];
+pub(crate) type Rows = [u16; MOST_NODES];
 
 /// A set of pairs of the nodes of a rule, seen as one truth value for each pair.
 #[derive(Clone, Copy, Debug)]
@@ -54,7 +54,7 @@ impl PairSet {
     {
         let nodes = pairs.graph().nodes();
         let row = u16::MAX >> (16 - nodes);
-        let mut rows = [0; MOST];
+        let mut rows = [0; MOST_NODES];
         for u in 0..nodes {
             rows[usize::from(u)] = row;
         }
@@ -129,7 +129,7 @@ fn trimmed(rule: &Rule, side: Side, ends: &Edges, rows: &Rows) -> Rows
     ensures kept { AreKept (GoesOn side rule.now ends.now rows.now) rows.now (node_count rule.now) result }
     ensures rule { IsRule rule.now }
 {
-    let mut kept = [0; MOST];
+    let mut kept = [0; MOST_NODES];
     for u in 0..rule.nodes() {
         kept[usize::from(u)] = rows[usize::from(u)] & going_on(rule, side, ends, rows, u);
     }
@@ -152,7 +152,7 @@ fn going_on(rule: &Rule, side: Side, ends: &Edges, rows: &Rows, u: u8) -> u16
 }
 
 /// For each node the nodes of its ends that are in the set, one lane a node.
-fn among(ends: &[u16; MOST], set: u16) -> u16x16
+fn among(ends: &[u16; MOST_NODES], set: u16) -> u16x16
     ensures lanes { result ≡ zip2 bit_and ends.now (replicate 16 set) }
     ensures wide { length ends.now ≡ 16 }
 {

@@ -5,7 +5,6 @@ ghost use Rattle.word_image.specs.LocalRules.{IsRule, node_count};
 ghost use Rattle.word_image.specs.Graphs.{pair_of, pair_count};
 ghost use Rattle.pair_graph.specs.PairSets.{holds, IsTrimmed, Leads, LeadsInto, LeadsIntoBy};
 
-use crate::edges::MOST;
 use crate::pair_set::PairSet;
 use crate::pairs::Pairs;
 use word_image::Side;

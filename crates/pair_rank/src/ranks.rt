@@ -6,10 +6,10 @@ ghost use Rattle.word_image.specs.Ranks.{BeginTogether, EndTogether, IsRank, IsE
 ghost use Rattle.word_image.specs.Sides.{Together};
 
 use crate::endless::Endless;
-use crate::rounds::{MOST, RankTable, exact_ranks};
+use crate::rounds::{RankTable, exact_ranks};
 use pair_graph::Pairs;
 use std::marker::Model;
-use word_image::{Rule, Side};
+use word_image::{MOST_NODES, Rule, Side};
 
 /// The forward and backward ranks of all pairs of nodes of a rule, seen as that rule.
 #[derive(Drop)]
@@ -88,7 +88,7 @@ impl Ranks {
         ensures rank { MatchOption result (IsEndless (BeginTogether self.now u v)) (IsRank (BeginTogether self.now u v)) }
         ensures most { IfSome result (λ n. n ≤ 239) }
     {
-        self.forward[MOST * usize::from(u) + usize::from(v)]
+        self.forward[MOST_NODES * usize::from(u) + usize::from(v)]
     }
 
     /// For how long two nodes end together: the greatest n such that two words of n + m - 1 letters
@@ -99,6 +99,6 @@ impl Ranks {
         ensures rank { MatchOption result (IsEndless (EndTogether self.now u v)) (IsRank (EndTogether self.now u v)) }
         ensures most { IfSome result (λ n. n ≤ 239) }
     {
-        self.backward[MOST * usize::from(u) + usize::from(v)]
+        self.backward[MOST_NODES * usize::from(u) + usize::from(v)]
     }
 }

@@ -5,16 +5,10 @@ ghost use Rattle.word_image.specs.LocalRules.{IsRule, node_count};
 ghost use Rattle.pair_rank.specs.Sides.{AreEndless, AreRanks, HasFallen, rank_at};
 
 use pair_graph::{PairSet, Pairs};
-use word_image::Side;
-
-/// The most nodes.
-pub const MOST: usize = 16;
+use word_image::{MOST_NODES, MOST_PAIRS, Side};
 
 /// The greatest finite rank that is possible.
 const MOST_RANK: u16 = 239;
-
-/// The most pairs of nodes.
-const MOST_PAIRS: usize = 256;
 
 /// The rank of each two nodes u and v, at 16 * u + v; `None` where they are endless.
 pub type RankTable = [Option<u16>; MOST_PAIRS];
@@ -74,8 +68,8 @@ fn give_rank(ranks: &mut RankTable, u: u8, set: u16, n: u16)
     ensures given { (v : ℕ) → v < 16 → IsBitSet set v → rank_at ranks.new u v ≡ Some n }
     ensures kept { (s v : ℕ) → v < 16 → (s ≡ u → ¬ IsBitSet set v) → rank_at ranks.new s v ≡ rank_at ranks.old s v }
 {
-    let row = MOST * usize::from(u);
-    for v in 0..MOST {
+    let row = MOST_NODES * usize::from(u);
+    for v in 0..MOST_NODES {
         if set >> v & 1 == 1 {
             ranks[row + v] = Some(n);
         }

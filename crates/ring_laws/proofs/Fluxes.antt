@@ -10,7 +10,8 @@ use Rattle.word_image.proofs.laws.Words.{split_last}
 use Rattle.word_image.proofs.laws.Graphs.{value-node}
 use Rattle.ring_laws.proofs.Gains.{gain, gain-snoc, gain-short, gain-ring}
 use Rattle.word_image.proofs.laws.Rings.{IsWord-ring_letters}
-use Rattle.ring_laws.proofs.Rings.{ring_letters-turn, length-ring_letters, take-ring_letters, drop-ring_letters}
+use Rattle.word_image.proofs.laws.RingSums.{ring_letters-turn}
+use Rattle.ring_laws.proofs.Rings.{length-ring_letters, take-ring_letters, drop-ring_letters}
 
 -- what flows over the node that a word is
 abbrev pub flow_at : LocalRule → List ℤ → List ℕ → ℤ

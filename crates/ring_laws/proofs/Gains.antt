@@ -9,7 +9,8 @@ use Rattle.word_image.specs.Words.{image}
 use Rattle.word_image.specs.Rings.{ring_letters, ring_image, KeepsSum}
 use Rattle.word_image.proofs.laws.Words.{split_last, image-short, image-snoc}
 use Rattle.word_image.proofs.laws.Images.{image-take, image-drop}
-use Rattle.ring_laws.proofs.Rings.{sum_by-ring_letters, sum_by-ring_image, ring_letters-closed, length-ring_letters, take-ring_letters}
+use Rattle.word_image.proofs.laws.RingSums.{sum_by-ring_letters}
+use Rattle.ring_laws.proofs.Rings.{sum_by-ring_image, ring_letters-closed, length-ring_letters, take-ring_letters}
 
 -- how much more the image of a word weighs than the letters at which its windows begin
 abbrev pub gain : (ℕ → ℕ) → LocalRule → List ℕ → ℤ

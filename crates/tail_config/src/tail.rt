@@ -10,10 +10,7 @@ ghost use Rattle.tail_config.specs.TailFaults.{tail_fault};
 
 use crate::faults::{TailRefusal, check_parts};
 use std::marker::Model;
-use word_image::Rule;
-
-/// The greatest width of a rule.
-const MOST_WIDTH: usize = 5;
+use word_image::{MOST_WIDTH, Rule};
 
 /// A configuration over the letters below k: a left period, a middle and a right period of at most
 /// 1,024 letters each.

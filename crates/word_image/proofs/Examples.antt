@@ -237,6 +237,7 @@ label-shift (suc (suc u)) a h l = absurd (omega arith)
 
 pairs-shift : IsPairList shift []
 pairs-shift = record {
+  below = λ p contains. absurd (omega (arith, contains.1));
   firsts = λ p first. absurd (first.different
       (sym (label-shift first.node first.a first.in_nodes first.a_letter) ∙ first.one_label ∙ label-shift first.node first.b first.in_nodes first.b_letter));
   closed = λ p a b q contains. absurd (omega (arith, contains.1));

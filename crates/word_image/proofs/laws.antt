@@ -5,6 +5,7 @@ pub mod Values
 pub mod Words
 pub mod Images
 pub mod Rings
+pub mod RingSums
 pub mod Orders
 pub mod Comparisons
 pub mod Graphs

@@ -1,11 +1,12 @@
 -- Lists of pairs of nodes that prove a rule surjective.
 use Rattle.std.specs.Prelude.{◌≡◌, ◌≢◌, ℕ, ◌<◌, List, Contains, Some}
 use Rattle.word_image.specs.LocalRules.{LocalRule}
-use Rattle.word_image.specs.Graphs.{follow, first_of, second_of}
+use Rattle.word_image.specs.Graphs.{pair_count, follow, first_of, second_of}
 use Rattle.word_image.specs.FirstPairs.{IsFirstOfRight}
 
 -- a list of pairs that proves surjectivity
 pub record IsPairList (r : LocalRule) (pairs : List ℕ) : Type 0 where
+  pub below : (p : ℕ) → Contains pairs p → p < pair_count r
   pub firsts : (p : ℕ) → IsFirstOfRight r p → Contains pairs p
   pub closed : (p a b q : ℕ) → Contains pairs p → a < r.states → b < r.states → follow r p a b ≡ Some q → Contains pairs q
   pub off_diagonal : (p : ℕ) → Contains pairs p → first_of r p ≢ second_of r p

@@ -31,8 +31,10 @@ mod weights;
 pub use images::{ImageFault, image};
 pub use letters::{digit, letter, word_text};
 pub use lists::{FluxRow, RankRow, SetList, Word};
-pub use local_rule::{MOST_ENTRIES, Rule, RuleFault, check_shape};
-pub use rings::{RingFault, ring_apply, ring_image};
+pub use local_rule::{
+    MOST_ENTRIES, MOST_NODES, MOST_PAIRS, MOST_STATES, MOST_WIDTH, Rule, RuleFault, check_shape,
+};
+pub use rings::{RingFault, keeps_sum, ring_apply, ring_image};
 pub use side::Side;
 pub use weights::{WeightFault, Weights};
 

@@ -10,6 +10,18 @@ ghost use Rattle.word_image.specs.Storage.{padded};
 
 use std::marker::Model;
 
+/// The most states of an accepted rule.
+pub const MOST_STATES: usize = 16;
+
+/// The widest window of an accepted rule.
+pub const MOST_WIDTH: usize = 5;
+
+/// The most nodes: words of m - 1 letters.
+pub const MOST_NODES: usize = 16;
+
+/// The most pairs of nodes.
+pub const MOST_PAIRS: usize = 256;
+
 /// The most letters that a table has: 16 states at width 2.
 pub const MOST_ENTRIES: usize = 256;
 

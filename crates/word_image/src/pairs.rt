@@ -9,7 +9,8 @@ use crate::local_rule::Rule;
 impl Rule {
     /// The set of all nodes: node u is bit u.
     pub fn all_nodes(&self) -> u16
-        ensures { result ≡ full_set self.now }
+        ensures set { result ≡ full_set self.now }
+        ensures rule { IsRule self.now }
     {
         u16::MAX >> (16 - self.nodes())
     }
@@ -31,6 +32,7 @@ impl Rule {
         ensures second { result.1 ≡ second_of self.now pair }
         ensures first_below { result.0 < node_count self.now }
         ensures second_below { result.1 < node_count self.now }
+        ensures rule { IsRule self.now }
     {
         let nodes = u16::from(self.nodes());
         ((pair / nodes) as u8, (pair % nodes) as u8)

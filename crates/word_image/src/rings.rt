@@ -1,15 +1,13 @@
-//! The image of a ring.
-ghost use Rattle.std.specs.Prelude.{◌≡◌, ◌^◌, ◌<◌, length, pos, alloc_error, IfOk, IfSome, IfNone, IsOkUnless};
+//! The image of a ring, and its sum.
+ghost use Rattle.std.specs.Prelude.{◌≡◌, ◌^◌, ◌<◌, ◌↔◌, length, pos, slice_index, alloc_error, IfOk, IfSome, IfNone, IsOkUnless, IsTrue};
 ghost use Rattle.std.specs.Int.{int_rem_euclid};
 ghost use Rattle.word_image.specs.LocalRules.{IsRule, local_map};
-ghost use Rattle.word_image.specs.Rings.{IsRing, ring_letters, ring_image};
+ghost use Rattle.word_image.specs.Rings.{IsRing, KeepsSum, ring_letters, ring_image};
 ghost use Rattle.word_image.specs.RingFaults.{ring_fault};
 
-use crate::local_rule::{Rule, first_foreign};
+use crate::local_rule::{MOST_WIDTH, Rule, first_foreign};
+use crate::weights::Weights;
 use std::alloc::{AllocError, Global};
-
-/// The most letters that a window has.
-const WIDEST: usize = 5;
 
 /// Why a ring gets no image.
 #[derive(Clone, Copy, Debug, PartialEq, Eq)]
@@ -73,9 +71,24 @@ pub fn ring_apply(rule: &Rule, ring: &[u8], first: usize) -> u8
     ensures letter { result < rule.now.states }
 {
     let width = usize::from(rule.m());
-    let mut window = [0; WIDEST];
+    let mut window = [0; MOST_WIDTH];
     for i in 0..width {
         window[i] = ring[(first + i) % ring.len()];
     }
     rule.apply(&window[..width])
+}
+
+/// Whether a ring and its image have one sum of weights.
+pub fn keeps_sum(rule: &Rule, weights: &Weights, ring: &[u8]) -> bool
+    requires letters { length weights.now ≡ rule.now.states }
+    requires ring { IsRing rule.now.states ring.now }
+    ensures { IsTrue result ↔ KeepsSum (slice_index weights.now) rule.now ring.now }
+{
+    let mut before = 0u128;
+    let mut after = 0u128;
+    for place in 0..ring.len() {
+        before += u128::from(weights.at(ring[place]));
+        after += u128::from(weights.at(ring_apply(rule, ring, place)));
+    }
+    before == after
 }

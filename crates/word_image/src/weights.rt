@@ -2,10 +2,8 @@
 ghost use Rattle.std.specs.Prelude.{◌≡◌, ◌<◌, ◌≤◌, ◌↔◌, length, slice_index, IfOk, IsOk, IsTrue};
 ghost use Rattle.word_image.specs.Weights.{own_weights};
 
+use crate::local_rule::MOST_STATES;
 use std::marker::Model;
-
-/// The most letters that there are.
-const MOST_STATES: usize = 16;
 
 /// Why a list gives no weights.
 #[derive(Clone, Copy, Debug, PartialEq, Eq)]

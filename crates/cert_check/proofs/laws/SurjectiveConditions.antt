@@ -26,6 +26,6 @@ pub IsSurjective-said : {r : LocalRule} → IsRule r → (version : CertVersion)
     → OfPairs e (λ pairs. EachBelow (length pairs) (λ i. StepsAreListed r pairs (slice_index pairs i)))
     → OfOrphan e (λ w. LeadsTo r (full_set r) w 0) → IsTrue (says_surjective e) ↔ IsSurjective r
 IsSurjective-said rule version (Sets sets) shape full some closed firsts apart steps read = ((λ _. IsSurjective-sets version rule sets full some closed), (λ _. refl))
-IsSurjective-said rule version (Pairs pairs) shape full some closed firsts apart steps read = ((λ _. IsSurjective-pair_list rule (IsPairList-met rule pairs firsts apart steps)), (λ _. refl))
+IsSurjective-said rule version (Pairs pairs) shape full some closed firsts apart steps read = ((λ _. IsSurjective-pair_list rule (IsPairList-met rule pairs shape.1 firsts apart steps)), (λ _. refl))
 IsSurjective-said rule version (Orphan w) shape full some closed firsts apart steps read =
     ((λ no. absurd (false≢true no)), (λ surjective. absurd (IsOrphan-not_surjective (IsOrphan-read rule shape read) surjective)))

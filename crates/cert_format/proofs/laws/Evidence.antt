@@ -14,7 +14,7 @@ use Rattle.cert_format.specs.Evidence.InjectiveEvidence.{Window, Twins}
 use Rattle.cert_format.specs.Evidence.SumEvidence.{Flux, Ring}
 use Rattle.cert_format.specs.CertificateTexts.{IsWhole, IsSigned, IsDigits, IsClaimValue, IsArrayOf, HasOnly, list_of}
 use Rattle.cert_format.specs.Readings.{IsWordValue, IsWordsValue, IsShort, IsRank, IsNear, IsFlow, AreNumbers, IsFluxFor, IsByte, IsWeightsFor, IsRowFor, IsSurjectiveFor, IsInjectiveFor, IsSumFor}
-use Rattle.cert_format.proofs.laws.Uniqueness.{HasOnly-unique, not_both, sets_or_orphan, sets_or_pairs, pairs_or_orphan, flux_or_ring, IsArrayOf-unique, IsWhole-unique, IsSigned-unique, IsClaimValue-unique}
+use Rattle.cert_format.proofs.laws.Uniqueness.{HasOnly-unique, not_both, sets_or_orphan, sets_or_pairs, pairs_or_orphan, flux_or_ring, IsArrayOf-unique, IsWhole-unique}
 
 -- the values of one key are one
 at_key : (d : Data) {v u : Data} {k : List ℕ} (P : Data → Type 0) → HasOnly k v d → HasOnly k u d → P u → P v
@@ -98,25 +98,15 @@ no_numbers_above d most xs array above ns h =
 pub IsFluxFor-array : (r : LocalRule) (d : Data) (xs : List ℤ) → IsArrayOf IsFlow d xs → length xs ≡ node_count r → IsFluxFor r d xs
 IsFluxFor-array r d xs array long = let parts = within-IsArrayOf IsSigned IsNear d xs array in (parts.0, long, parts.1)
 
-pub no_flux_array : (r : LocalRule) (d : Data) → ((xs : List ℤ) → ¬ IsArrayOf IsFlow d xs) → (phi : List ℤ) → ¬ IsFluxFor r d phi
-no_flux_array r d none phi h = none phi (IsArrayOf-within IsSigned IsNear d phi h.0 h.2)
-
-pub no_flux_long : (r : LocalRule) (d : Data) (xs : List ℤ) → IsArrayOf IsFlow d xs → length xs ≢ node_count r → (phi : List ℤ) → ¬ IsFluxFor r d phi
-no_flux_long r d xs array long phi h =
-    let same : xs ≡ phi = IsArrayOf-unique IsSigned IsSigned-unique d xs phi (within-IsArrayOf IsSigned IsNear d xs array).0 h.0 in
-    long (ap length same ∙ h.1)
+pub no_flux : (r : LocalRule) (d : Data) → ((xs : List ℤ) → length xs ≡ node_count r → ¬ IsArrayOf IsFlow d xs) → (phi : List ℤ) → ¬ IsFluxFor r d phi
+no_flux r d none phi h = none phi h.1 (IsArrayOf-within IsSigned IsNear d phi h.0 h.2)
 
 -- a row is an array with a claim for each pair
 pub IsRowFor-array : (r : LocalRule) (d : Data) (xs : List (Option ℕ)) → IsArrayOf IsRank d xs → length xs ≡ pair_count r → IsRowFor r d xs
 IsRowFor-array r d xs array long = let parts = within-IsArrayOf IsClaimValue IsClaim d xs array in (parts.0, record { each_pair = long; claims = parts.1 })
 
-pub no_row_array : (r : LocalRule) (d : Data) → ((xs : List (Option ℕ)) → ¬ IsArrayOf IsRank d xs) → (row : List (Option ℕ)) → ¬ IsRowFor r d row
-no_row_array r d none row h = none row (IsArrayOf-within IsClaimValue IsClaim d row h.0 h.1.claims)
-
-pub no_row_long : (r : LocalRule) (d : Data) (xs : List (Option ℕ)) → IsArrayOf IsRank d xs → length xs ≢ pair_count r → (row : List (Option ℕ)) → ¬ IsRowFor r d row
-no_row_long r d xs array long row h =
-    let same : xs ≡ row = IsArrayOf-unique IsClaimValue IsClaimValue-unique d xs row (within-IsArrayOf IsClaimValue IsClaim d xs array).0 h.0 in
-    long (ap length same ∙ h.1.each_pair)
+pub no_row : (r : LocalRule) (d : Data) → ((xs : List (Option ℕ)) → length xs ≡ pair_count r → ¬ IsArrayOf IsRank d xs) → (row : List (Option ℕ)) → ¬ IsRowFor r d row
+no_row r d none row h = none row h.1.each_pair (IsArrayOf-within IsClaimValue IsClaim d row h.0 h.1.claims)
 
 -- weights are an array with a byte for each letter
 pub IsWeightsFor-array : (r : LocalRule) (d : Data) (xs : List ℕ) → IsArrayOf IsByte d xs → length xs ≡ r.states → IsWeightsFor r d xs

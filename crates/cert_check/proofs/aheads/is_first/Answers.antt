@@ -1,4 +1,4 @@
-use Rattle.std.proofs.Common.{◌≡◌, ℕ, ◌/◌, ◌%◌, sym, ap, subst, ◌∙◌}
+use Rattle.std.proofs.Common.{◌≡◌, sym, ap, subst, ◌∙◌}
 use Rattle.std.proofs.lemmas.Bool.{false≢true}
 use Rattle.word_image.specs.LocalRules.{LocalRule}
 use Rattle.word_image.specs.Graphs.{first_of, second_of}
@@ -17,16 +17,14 @@ pub returns-then-u-v : goal.returns-then-u-v
 returns-then-u-v c =
     let r = c.args.rule.now in
     let p = c.args.pair in
-    let nodes = c.from-nodes.ensures ∙ c.nodes.ensures.nodes in
-    let first : p / c.from-nodes.result ≡ first_of r p = ap (λ n. p / n) nodes in
-    let second : p % c.from-nodes.result ≡ second_of r p = ap (λ n. p % n) nodes in (
+    let nodes = c.nodes_of-u.ensures in (
       λ no. absurd (false≢true no),
       λ f.
-          let h : DifferAtEnd c.args.side r (first_of r p) (second_of r p) = DifferAtEnd-first c.args.side p c.nodes.ensures.rule f in
+          let h : DifferAtEnd c.args.side r (first_of r p) (second_of r p) = DifferAtEnd-first c.args.side p nodes.rule f in
           absurd (elim c.then-u-v.branch [
-            | then-u-v-via-then-u-v w ↦ h.0 (sym first ∙ w.if-u-v.true ∙ second)
-            | then-u-v-via-else-u-v+then-rest_of w ↦ w.if-rest_of.true (w.rest_of.ensures ∙ ap (rest_of c.args.side r) first ∙ h.1
-                ∙ sym (w.rest_of-else-u-v.ensures ∙ ap (rest_of c.args.side r) second))
+            | then-u-v-via-then-u-v w ↦ h.0 (sym nodes.first ∙ w.if-u-v.true ∙ nodes.second)
+            | then-u-v-via-else-u-v+then-rest_of w ↦ w.if-rest_of.true (w.rest_of.ensures ∙ ap (rest_of c.args.side r) nodes.first ∙ h.1
+                ∙ sym (w.rest_of-else-u-v.ensures ∙ ap (rest_of c.args.side r) nodes.second))
           ]),
     )
 
@@ -34,12 +32,10 @@ pub returns : goal.returns
 returns c =
     let r = c.args.rule.now in
     let p = c.args.pair in
-    let nodes = c.from-nodes.ensures ∙ c.nodes.ensures.nodes in
-    let first : p / c.from-nodes.result ≡ first_of r p = ap (λ n. p / n) nodes in
-    let second : p % c.from-nodes.result ≡ second_of r p = ap (λ n. p % n) nodes in
+    let nodes = c.nodes_of-u.ensures in
     let rest : rest_of c.args.side r (first_of r p) ≡ rest_of c.args.side r (second_of r p) =
-    ap (rest_of c.args.side r) (sym first) ∙ sym c.rest_of.ensures ∙ c.if-rest_of.false ∙ c.rest_of-else-u-v.ensures ∙ ap (rest_of c.args.side r) second in (
-      λ yes. IsFirstOf-differ c.args.side p c.nodes.ensures.rule c.requires
-          (λ e. c.if-u-v.false (first ∙ e ∙ sym second), rest, same_nodes r c.other.ensures first second (c.some_label.ensures.0 yes)),
-      λ f. c.some_label.ensures.1 (same_nodes r (sym c.other.ensures) (sym first) (sym second) (DifferAtEnd-first c.args.side p c.nodes.ensures.rule f).2),
+    ap (rest_of c.args.side r) (sym nodes.first) ∙ sym c.rest_of.ensures ∙ c.if-rest_of.false ∙ c.rest_of-else-u-v.ensures ∙ ap (rest_of c.args.side r) nodes.second in (
+      λ yes. IsFirstOf-differ c.args.side p nodes.rule c.requires
+          (λ e. c.if-u-v.false (nodes.first ∙ e ∙ sym nodes.second), rest, same_nodes r c.other.ensures nodes.first nodes.second (c.some_label.ensures.0 yes)),
+      λ f. c.some_label.ensures.1 (same_nodes r (sym c.other.ensures) (sym nodes.first) (sym nodes.second) (DifferAtEnd-first c.args.side p nodes.rule f).2),
     )

@@ -6,8 +6,8 @@ use Rattle.word_image.proofs.local_rule.Rule.all_nodes.Goals as goal
 pub overflow_shr-result : goal.overflow_shr-result
 overflow_shr-result c = omega (arith, node_count_pos c.nodes.ensures.rule, c.nodes.ensures.nodes)
 
-pub returns : goal.returns
-returns c =
+pub returns-clause-set : goal.returns-clause-set
+returns-clause-set c =
     let n = c.nodes.result in
     let most : n ≤ 16 = omega (arith, c.nodes.ensures.rule.shape.most_nodes, c.nodes.ensures.nodes) in
     let left : 16 - (16 - n) ≡ n = omega arith in

@@ -6,8 +6,8 @@ use Rattle.std.proofs.lemmas.List.Sums.{sum_by_more}
 use Rattle.std.proofs.lemmas.Bool.Decides.{nat_tests}
 use Rattle.word_image.specs.LocalRules.{local_map}
 use Rattle.word_image.specs.Rings.{ring_letters, ring_image}
-use Rattle.ring_laws.proofs.Rings.{sum_by-ring_image-start}
-use Rattle.flux_conserve.proofs.rings.keeps_sum.Goals as goal
+use Rattle.word_image.proofs.laws.RingSums.{sum_by-ring_image-start}
+use Rattle.word_image.proofs.rings.keeps_sum.Goals as goal
 
 pub at-requires : goal.at-requires
 at-requires c =
@@ -25,7 +25,9 @@ loop-place-preserved c =
     let new = sum_by-map-range_with_len_more weight (λ j. local_map r (ring_letters p (pos j) r.width)) 0 i i (omega arith) in
     let old : c.from-before.result ≡ weight (slice_index p i) = c.from-before.ensures ∙ c.at.ensures in
     let gives : c.from-after.result ≡ weight (local_map r (ring_letters p (pos i) r.width)) = c.from-after.ensures ∙ c.at-in-loop-place.ensures ∙ ap weight c.ring_apply.ensures.value in
-    (omega (arith, more, before, old), omega (arith, few_before), omega (arith, new, after, gives), omega (arith, few_after))
+    let small = c.at.type_inv in
+    let below = c.at-in-loop-place.type_inv in
+    (omega (arith, more, before, old), omega (arith, few_before, small), omega (arith, new, after, gives), omega (arith, few_after, below))
 
 pub returns : goal.returns
 returns c =

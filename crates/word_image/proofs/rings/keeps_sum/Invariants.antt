@@ -2,7 +2,7 @@ use Rattle.std.proofs.Common.{◌≡◌, slice_index, ◌*◌, ◌≤◌, map, t
 use Rattle.std.specs.List.{range_with_len}
 use Rattle.word_image.specs.LocalRules.{local_map}
 use Rattle.word_image.specs.Rings.{ring_letters}
-use Rattle.cert_check.proofs.sums.keeps_sum.Given as goal
+use Rattle.word_image.proofs.rings.keeps_sum.Given as goal
 
 -- the sums of the letters and of the new letters so far
 abbrev pub invariant-loop-place : goal.invariant-loop-place
