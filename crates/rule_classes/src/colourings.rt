@@ -2,7 +2,7 @@
 ghost use Rattle.std.specs.Prelude.{◌≡◌, ◌≢◌, ◌+◌, ◌*◌, ◌/◌, ◌%◌, ◌^◌, ◌<◌, ◌≤◌, ℕ, slice_index, if◌then◌else◌};
 ghost use Rattle.word_image.specs.LocalRules.{IsRule, node_count};
 ghost use Rattle.word_image.specs.Storage.{padded};
-ghost use Rattle.rule_classes.specs.Colourings.{IsColouring, in_colours, old_value};
+ghost use Rattle.rule_classes.specs.Colourings.{IsColouring, entry, in_colours, old_value};
 ghost use Rattle.rule_classes.specs.Tables.{AreFilled, HasZeros, IsRow};
 
 use word_image::{MOST_ENTRIES, Rule};
@@ -107,11 +107,26 @@ impl Colouring {
     {
         let first = node * rule.k();
         for letter in 0..rule.k() {
-            let old = row.window(self.letters[usize::from(letter)]);
+            let (old, colour) = self.read(rule, row, letter);
             windows[usize::from(first + letter)] = old;
-            let given = rule.at(u16::from(old));
-            entries[usize::from(first + letter)] = self.colours[usize::from(given)];
+            entries[usize::from(first + letter)] = colour;
         }
+    }
+
+    /// The old value of the window of a node with this last letter, by the row of the node, and the
+    /// colour that the rule gives there.
+    pub fn read(&self, rule: &Rule, row: Row, letter: u8) -> (u8, u8)
+        requires rule { IsRule rule.now }
+        requires states { rule.now.states ≤ 6 }
+        requires colouring { IsColouring rule.now.states self.now }
+        requires row { (u : ℕ) × (u < node_count rule.now) × IsRow rule.now self.now u row }
+        requires letter { letter < rule.now.states }
+        ensures old { (u : ℕ) → u < node_count rule.now → IsRow rule.now self.now u row → result.0 ≡ old_value rule.now self.now (u * rule.now.states + letter) }
+        ensures colour { (u : ℕ) → u < node_count rule.now → IsRow rule.now self.now u row → result.1 ≡ entry rule.now self.now (u * rule.now.states + letter) }
+    {
+        let old = row.window(self.letters[usize::from(letter)]);
+        let given = rule.at(u16::from(old));
+        (old, self.colours[usize::from(given)])
     }
 
     /// The old values of the windows of a node, from that of the window a letter back: its first letter

@@ -122,8 +122,7 @@ fn told(
     let back = colouring.old_window(rule, u16::from(node));
     let row = colouring.row(k, best.nodes, back);
     for letter in (first..k).rev() {
-        let old = row.window(colouring.letters[usize::from(letter)]);
-        let colour = colouring.colours[usize::from(rule.at(u16::from(old)))];
+        let (_, colour) = colouring.read(rule, row, letter);
         let other = best.entries[usize::from(node * k + letter)];
         if is_free(low, high, colour) {
             return Some(low <= other);

@@ -1,5 +1,5 @@
-use Rattle.std.proofs.Common.{◌-◌, subst, arith, ⊎_elim}
-use Rattle.std.proofs.lemmas.Bool.{cases_eq}
+use borrow.Author.Count.{below_more}
+use Rattle.std.proofs.Common.{◌-◌, arith}
 use Rattle.tail_preimage.specs.Relations.{Rows, Rounds, Meets}
 use Rattle.tail_preimage.proofs.Unions.{IsNodeSet-meets}
 use Rattle.tail_preimage.proofs.sides.least_first.Goals as goal
@@ -11,11 +11,9 @@ returns-then-rounds-set-ne0-clause-first c = record {
 }
 
 pub loop-n-preserved : goal.loop-n-preserved
-loop-n-preserved c i l meets =
-    ⊎_elim
-    (λ same. (IsNodeSet-meets c.rounds.ensures c.args.set).1 (subst (λ n. Meets c.args.graph.now (Rounds (Rows c.args.side.now.period) n (c.args.sum - n)) c.args.set) same meets) c.if-rounds-set-ne0.false)
-    (λ other. c.loop-n.invariant i (omega (arith, l, other)) meets)
-    (cases_eq i c.loop-n.n)
+loop-n-preserved c =
+    below_more (λ n. ¬ Meets c.args.graph.now (Rounds (Rows c.args.side.now.period) n (c.args.sum - n)) c.args.set) c.loop-n.n c.loop-n.invariant
+    (λ meets. (IsNodeSet-meets c.rounds.ensures c.args.set).1 meets c.if-rounds-set-ne0.false)
 
 pub unreachable-requires : goal.unreachable-requires
 unreachable-requires c = let (i, l, meets) = c.requires.some in c.loop-n.invariant i (omega (arith, l)) meets

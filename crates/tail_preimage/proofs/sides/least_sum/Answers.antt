@@ -1,5 +1,5 @@
-use Rattle.std.proofs.Common.{subst, arith, ⊎_elim}
-use Rattle.std.proofs.lemmas.Bool.{cases_eq}
+use borrow.Author.Count.{below_more}
+use Rattle.std.proofs.Common.{arith}
 use Rattle.tail_preimage.specs.Relations.{Rows, SomeRounds, Meets}
 use Rattle.tail_preimage.proofs.Unions.{IsNodeSet-meets}
 use Rattle.tail_preimage.proofs.sides.least_sum.Goals as goal
@@ -11,11 +11,9 @@ returns-then-some_rounds-set-ne0-clause-first c = record {
 }
 
 pub loop-sum-preserved : goal.loop-sum-preserved
-loop-sum-preserved c i l meets =
-    ⊎_elim
-    (λ same. (IsNodeSet-meets c.some_rounds.ensures c.args.set).1 (subst (λ sum. Meets c.args.graph.now (SomeRounds (Rows c.args.side.now.period) sum) c.args.set) same meets) c.if-some_rounds-set-ne0.false)
-    (λ other. c.loop-sum.invariant i (omega (arith, l, other)) meets)
-    (cases_eq i c.loop-sum.sum)
+loop-sum-preserved c =
+    below_more (λ sum. ¬ Meets c.args.graph.now (SomeRounds (Rows c.args.side.now.period) sum) c.args.set) c.loop-sum.sum c.loop-sum.invariant
+    (λ meets. (IsNodeSet-meets c.some_rounds.ensures c.args.set).1 meets c.if-some_rounds-set-ne0.false)
 
 pub unreachable-requires : goal.unreachable-requires
 unreachable-requires c = let (i, l, meets) = c.requires.some in c.loop-sum.invariant i (omega (arith, l)) meets
