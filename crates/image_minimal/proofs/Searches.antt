@@ -41,13 +41,12 @@ listed_unread {r} {tree} {e} q closed (a ∷ z) set (rest, letter, unread, back)
 
 -- where all edges are followed exactly the unread sets are listed
 pub AreUnreadSets-closed : {r : LocalRule} {sets : List ℕ} {e : ℕ} → IsSearch (IsBack r) r.states 0 sets e → length sets * r.states ≤ e → AreUnreadSets r sets
-AreUnreadSets-closed {r} {sets} {e} x closed set =
-    (
-      (λ has.
-          let (i, y, at, state) = place_of_listed x.tree set (subst (λ l. Contains l set) (sym x.lists) has) in
-          let word = Spells-some x.queue.fills i y at in
-          subst (IsUnreadSet r) state (unread_leads (Leads-spelled x.queue.fills word.1 y at))),
-      (λ (z, unread).
-          let (i, y, at, state) = listed_unread x.queue (subst (λ n. n * r.states ≤ e) (sym (length-search x)) closed) z set unread in
-          subst (λ l. Contains l set) x.lists (Contains-state x.tree i y set at state)),
-    )
+AreUnreadSets-closed {r} {sets} {e} x closed set = (
+  (λ has.
+      let (i, y, at, state) = place_of_listed x.tree set (subst (λ l. Contains l set) (sym x.lists) has) in
+      let word = Spells-some x.queue.fills i y at in
+      subst (IsUnreadSet r) state (unread_leads (Leads-spelled x.queue.fills word.1 y at))),
+  (λ (z, unread).
+      let (i, y, at, state) = listed_unread x.queue (subst (λ n. n * r.states ≤ e) (sym (length-search x)) closed) z set unread in
+      subst (λ l. Contains l set) x.lists (Contains-state x.tree i y set at state)),
+)
