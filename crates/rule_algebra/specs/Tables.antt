@@ -1,9 +1,9 @@
 -- The composed, the widened and the narrower rule, by their tables.
 use Rattle.std.specs.Prelude.{◌≡◌, ℕ, ◌+◌, ◌-◌, ◌^◌, ◌<◌, ◌≤◌, List, length, map, take, drop, slice_index, pos, ◌+ℤ◌}
 use Rattle.std.specs.List.{range_with_len}
-use Rattle.word_image.specs.LocalRules.{LocalRule, IsWord, value, word_of, local_map, node_count}
+use Rattle.word_image.specs.LocalRules.{LocalRule, IsWord, word_of, local_map, node_count}
 use Rattle.word_image.specs.Words.{image}
-use Rattle.rule_algebra.specs.Algebra.{recoloured, Ignores}
+use Rattle.rule_algebra.specs.Algebra.{Ignores}
 
 -- the table with the letters that a function gives on the windows of m letters below k
 abbrev pub table_by : ℕ → ℕ → (List ℕ → ℕ) → List ℕ

@@ -1,14 +1,13 @@
 -- Words, rules and images in new colours.
-use Rattle.std.proofs.Common.{◌≡◌, ◌≢◌, ℕ, suc, ◌+◌, ◌-◌, ◌/◌, ◌%◌, ◌^◌, ◌<◌, ◌≤◌, List, [], ◌∷◌, length, take, drop, get_or, slice_index, slice_range, set, refl, sym, ap, ap₂, subst, ◌∙◌, ⊎_elim, arith, length-drop, pow-suc, one-mul, mul-one, ◌*◌}
+use Rattle.std.proofs.Common.{◌≡◌, ◌≢◌, ℕ, suc, ◌+◌, ◌-◌, ◌/◌, ◌%◌, ◌^◌, ◌<◌, ◌≤◌, List, [], ◌∷◌, length, take, drop, get_or, slice_index, slice_range, set, refl, sym, ap, ap₂, ◌∙◌, ⊎_elim, arith, length-drop, pow-suc, one-mul, mul-one, ◌*◌}
 use Rattle.std.proofs.Math.Nat.{pow-zero}
 use Rattle.std.proofs.Math.Seq.{drop-cons}
 use Rattle.std.proofs.lemmas.Bool.{cases_lt}
-use Rattle.std.proofs.lemmas.List.{length-map, length-take-le, take-map, drop-map, get_or-take, get_or-map, get_or_past, get_or-set_same, get_or-set_other, length-set}
+use Rattle.std.proofs.lemmas.List.{length-map, length-take-le, take-map, drop-map, get_or-map, get_or_past, get_or-set_same, get_or-set_other, length-set}
 use Rattle.std.proofs.lemmas.List.Elements.{All-map, All-take, All-drop, All-head, All-tail, All-set}
 use Rattle.word_image.specs.LocalRules.{LocalRule, IsRule, IsWord, value, word_of, local_map}
 use Rattle.word_image.specs.Words.{image}
-use Rattle.word_image.proofs.laws.Values.{value-below, value-injective, value-word_of, word_of-value, length-word_of, IsWord-word_of}
-use Rattle.word_image.proofs.laws.RuleFaults.{window_count-le}
+use Rattle.word_image.proofs.laws.Values.{length-word_of}
 use Rattle.word_image.proofs.laws.Words.{length-image}
 use Rattle.word_image.proofs.laws.Images.{get_or-image, image-by_letters}
 use Rattle.rule_algebra.specs.Algebra.{IsRecolouring, IsRecoloured, recoloured}

@@ -1,6 +1,6 @@
-use Rattle.std.proofs.Common.{◌≡◌, ℕ, ◌+◌, ◌-◌, ◌^◌, ◌<◌, ◌≤◌, None, ℤ, ◌+ℤ◌, slice_index, refl, sym, ap, ap₂, ◌∙◌, w8, to_z, of_z, arith, rules}
+use Rattle.std.proofs.Common.{◌≡◌, ℕ, ◌+◌, ◌-◌, ◌^◌, ◌<◌, ◌≤◌, None, ℤ, ◌+ℤ◌, slice_index, refl, ap₂, ◌∙◌, w8, to_z, of_z, arith, rules}
 use Rattle.std.proofs.iter.Serving.{serving}
-use Rattle.word_image.specs.LocalRules.{LocalRule, IsRule, local_map, word_of, value}
+use Rattle.word_image.specs.LocalRules.{LocalRule, IsRule, word_of, value}
 use Rattle.word_image.specs.RulesBy.{IsRuleBy}
 use Rattle.word_image.specs.Words.{image}
 use Rattle.word_image.proofs.laws.RuleFaults.{window_count-le}
