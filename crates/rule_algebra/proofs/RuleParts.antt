@@ -1,17 +1,9 @@
 -- A rule by its parts, as they are passed.
-use Rattle.std.proofs.Common.{◌≡◌, ℕ, ◌^◌, List, take, ℤ, ◌+ℤ◌, ap, ap₂, ◌∙◌, w8, w16, FitsSigned, to_z, of_z, arith}
+use Rattle.std.proofs.Common.{◌≡◌, ℕ, ◌^◌, List, ℤ, ◌+ℤ◌, ap, ap₂, ◌∙◌, w8, w16, FitsSigned, to_z, of_z, arith}
 use Rattle.std.proofs.lemmas.Int.{to_z-of_z, ints}
 use Rattle.word_image.specs.LocalRules.{LocalRule, IsRule}
-use Rattle.word_image.specs.Storage.{padded}
-use Rattle.word_image.proofs.Storage.{take-in_row}
+use Rattle.word_image.proofs.laws.RulesBy.{FitsSigned-offset}
 use Rattle.word_image.proofs.laws.SameRules.{rule_from_parts}
-
--- the offset of an accepted rule is one of an i8
-pub FitsSigned-offset : {r : LocalRule} → IsRule r → FitsSigned w8 r.offset
-FitsSigned-offset {r} rule =
-    let low = rule.shape.least_offset in
-    let high = rule.shape.most_offset in
-    grind (arith, ints)
 
 -- parts that are those of an accepted rule make that rule
 pub rule_of : (r : LocalRule) (k m : ℕ) (o : ℤ) (table : List ℕ) → IsRule r → k ≡ r.states → m ≡ r.width → o ≡ r.offset → table ≡ r.table
@@ -23,13 +15,6 @@ rule_of r k m o table rule states width offset entries =
 pub sum_of : (o p a b : ℤ) → FitsSigned w8 o → FitsSigned w8 p → a ≡ to_z w8 (of_z w8 o) → b ≡ to_z w8 (of_z w8 p)
     → to_z w16 (of_z w16 (to_z w16 (of_z w16 a) +ℤ to_z w16 (of_z w16 b))) ≡ o +ℤ p
 sum_of o p a b first second e f = omega (arith, ints)
-
--- likewise where the table stands first among the entries
-pub rule_of_padded : (r : LocalRule) (k m : ℕ) (o : ℤ) (entries : List ℕ) → IsRule r → k ≡ r.states → m ≡ r.width → o ≡ r.offset → entries ≡ padded r.table
-    → record { states = k; width = m; offset = to_z w8 (of_z w8 o); table = take (k ^ m) entries } ≡ r
-rule_of_padded r k m o entries rule states width offset same =
-    rule_of r k m o (take (k ^ m) entries) rule states width offset
-    (ap₂ (λ (n : ℕ) (xs : List ℕ). take n xs) (ap₂ (λ (b e : ℕ). b ^ e) states width) same ∙ take-in_row 256 (r.states ^ r.width) r.table rule.entries)
 
 -- a power, by its base and exponent
 pub power_of : (k m base exponent v : ℕ) → v ≡ base ^ exponent → base ≡ k → exponent ≡ m → v ≡ k ^ m

@@ -1,8 +1,8 @@
 -- The composed, the widened and the narrower rule, by their tables.
 use Rattle.std.specs.Prelude.{◌≡◌, ℕ, ◌+◌, ◌-◌, ◌<◌, ◌≤◌, List, length, take, drop, slice_index, pos, ◌+ℤ◌}
-use Rattle.word_image.specs.LocalRules.{LocalRule, IsWord, value, word_of, local_map, node_count}
+use Rattle.word_image.specs.LocalRules.{LocalRule, IsWord, word_of, local_map, node_count}
 use Rattle.word_image.specs.Words.{image}
-use Rattle.rule_algebra.specs.Algebra.{recoloured, Ignores}
+use Rattle.rule_algebra.specs.Algebra.{Ignores}
 use Rattle.rule_algebra.specs.Tabulated.{table_by}
 
 -- the second rule after the first
@@ -32,11 +32,11 @@ without_first r = record {
   table = take (node_count r) r.table;
 }
 
--- entries with the new colour of what the rule gives on a window, at the value of the recoloured window, for the windows of a value below n
-pub record IsRecolouredTable (colours : List ℕ) (r : LocalRule) (n : ℕ) (entries : List ℕ) : Type 0 where
-  pub long : length entries ≡ 256
-  pub letters : IsWord r.states entries
-  pub at : (v : ℕ) → v < n → slice_index entries (value r.states (recoloured colours (word_of r.states r.width v))) ≡ slice_index colours (slice_index r.table v)
+-- the letters that have the colours of the letters below n, at these colours, and letters below k elsewhere
+pub record AreOldLetters (k : ℕ) (colours : List ℕ) (n : ℕ) (letters : List ℕ) : Type 0 where
+  pub long : length letters ≡ 16
+  pub word : IsWord k letters
+  pub back : (a : ℕ) → a < n → slice_index letters (slice_index colours a) ≡ a
 
 -- g gives on a window without its first n letters what r gives on the window
 pub record IsRest (r : LocalRule) (n : ℕ) (g : LocalRule) : Type 0 where

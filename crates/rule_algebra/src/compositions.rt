@@ -3,15 +3,13 @@ ghost use Rattle.std.specs.Prelude.{◌≡◌, ◌≤◌, ◌+◌, ◌-◌, ◌<
 ghost use Rattle.std.specs.Result.{result_err};
 ghost use Rattle.word_image.specs.LocalRules.{IsRule, value, word_of};
 ghost use Rattle.word_image.specs.Words.{image};
-ghost use Rattle.word_image.specs.Storage.{padded};
 ghost use Rattle.rule_algebra.specs.Algebra.{IsComposed};
 ghost use Rattle.rule_algebra.specs.MadeImages.{ComposesCells};
 ghost use Rattle.rule_algebra.specs.AlgebraFaults.{compose_fault};
 ghost use Rattle.rule_algebra.specs.Tables.{composed};
 
 use crate::fault::{AlgebraFault, check_limits};
-use crate::parts::accepted_front;
-use word_image::{MOST_ENTRIES, Rule};
+use word_image::Rule;
 
 /// The second rule after the first: its image is the second rule's image of the first rule's image.
 /// Its width is the sum of the widths less 1, its offset the sum of the offsets.
@@ -44,23 +42,14 @@ fn composed_rule(first: &Rule, second: &Rule) -> Rule
     requires { compose_fault first.now second.now ≡ None }
     ensures { result ≡ composed first.now second.now }
 {
-    let m = first.m() + second.m() - 1;
+    let (m, n) = (first.m(), second.m());
     let o = first.o() + second.o();
-    accepted_front(first.k(), m, o, &composed_entries(first, second))
-}
-
-/// The letters of the second rule after the first, and zeros after them.
-fn composed_entries(first: &Rule, second: &Rule) -> [u8; MOST_ENTRIES]
-    requires same { first.now.states ≡ second.now.states }
-    requires fits { first.now.states ^ (first.now.width + second.now.width - 1) ≤ 256 }
-    ensures { result ≡ padded (composed first.now second.now).table }
-{
-    let size = u16::from(first.k()).pow(u32::from(first.m() + second.m() - 1));
-    let mut entries = [0; MOST_ENTRIES];
-    for window in 0..size {
-        entries[usize::from(window)] = second.at(image_value(first, second.m(), window));
-    }
-    entries
+    Rule::by(
+        first.k(),
+        m + n - 1,
+        o,
+        |window| second.at(image_value(first, n, window)),
+    )
 }
 
 /// The value of the image of a window, of which n letters are the image.

@@ -1,13 +1,12 @@
 //! Rules with other names for their letters.
-ghost use Rattle.std.specs.Prelude.{◌≡◌, ◌<◌, ◌^◌, ◌↔◌, IfOk, IfErr, IsOk, IsTrue};
-ghost use Rattle.word_image.specs.LocalRules.{value, word_of};
+ghost use Rattle.std.specs.Prelude.{◌≡◌, ◌<◌, ◌≤◌, ◌^◌, ◌↔◌, length, IfOk, IfErr, IsOk, IsTrue};
+ghost use Rattle.word_image.specs.LocalRules.{IsWord, value, word_of};
 ghost use Rattle.rule_algebra.specs.Algebra.{IsRecolouring, IsRecoloured, recoloured};
 ghost use Rattle.rule_algebra.specs.MadeImages.{RecoloursImages};
-ghost use Rattle.rule_algebra.specs.Tables.{IsRecolouredTable};
+ghost use Rattle.rule_algebra.specs.Tables.{AreOldLetters};
 
 use crate::fault::AlgebraFault;
-use crate::parts::accepted_front;
-use word_image::{MOST_ENTRIES, Rule};
+use word_image::Rule;
 
 /// The rule g of the same width and offset with g(colours of w) = colours[f(w)] for every window w,
 /// so that the image of every recoloured word is the recoloured image; `NotPermutation` exactly
@@ -23,8 +22,10 @@ pub fn permute(rule: &Rule, colours: &[u8]) -> Result<Rule, AlgebraFault>
     if !is_recolouring(rule.k(), colours) {
         return Err(AlgebraFault::NotPermutation);
     }
-    let entries = recoloured_entries(rule, colours);
-    Ok(accepted_front(rule.k(), rule.m(), rule.o(), &entries))
+    let letters = old_letters(rule.k(), colours);
+    Ok(Rule::by(rule.k(), rule.m(), rule.o(), |window| {
+        colours[usize::from(rule.at(recoloured_value(rule, &letters, window)))]
+    }))
 }
 
 /// Whether the colours are k different letters below k.
@@ -42,23 +43,24 @@ fn is_recolouring(k: u8, colours: &[u8]) -> bool
     true
 }
 
-/// At the value of each recoloured window the new colour of the old letter.
-fn recoloured_entries(rule: &Rule, colours: &[u8]) -> [u8; MOST_ENTRIES]
-    requires { IsRecolouring rule.now.states colours.now }
-    ensures { IsRecolouredTable colours.now rule.now
-        (rule.now.states ^ rule.now.width) result }
+/// The letter that has each colour.
+fn old_letters(k: u8, colours: &[u8]) -> [u8; 16]
+    requires some { 0 < k }
+    requires few { k ≤ 16 }
+    requires colours { IsRecolouring k colours.now }
+    ensures { AreOldLetters k colours.now k result }
 {
-    let mut entries = [0; MOST_ENTRIES];
-    for window in 0..rule.size() {
-        let place = recoloured_value(rule, colours, window);
-        entries[usize::from(place)] = colours[usize::from(rule.at(window))];
+    let mut letters = [0; 16];
+    for (letter, colour) in colours.iter().enumerate() {
+        letters[usize::from(*colour)] = letter as u8;
     }
-    entries
+    letters
 }
 
-/// The value of a window in the new colours.
+/// The value of a window in other letters.
 fn recoloured_value(rule: &Rule, colours: &[u8], window: u16) -> u16
-    requires colours { IsRecolouring rule.now.states colours.now }
+    requires colours { IsWord rule.now.states colours.now }
+    requires enough { rule.now.states ≤ length colours.now }
     requires window { window < rule.now.states ^ rule.now.width }
     ensures value { result ≡ value rule.now.states (recoloured colours.now
         (word_of rule.now.states rule.now.width window)) }

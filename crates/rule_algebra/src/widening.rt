@@ -2,14 +2,12 @@
 ghost use Rattle.std.specs.Prelude.{◌≡◌, ◌≤◌, ◌^◌, IfOk};
 ghost use Rattle.std.specs.Result.{result_err};
 ghost use Rattle.word_image.specs.LocalRules.{IsShape};
-ghost use Rattle.word_image.specs.Storage.{padded};
 ghost use Rattle.rule_algebra.specs.Algebra.{IsWidened};
 ghost use Rattle.rule_algebra.specs.AlgebraFaults.{widen_fault};
 ghost use Rattle.rule_algebra.specs.Tables.{widened};
 
 use crate::fault::{AlgebraFault, check_limits};
-use crate::parts::accepted_front;
-use word_image::{MOST_ENTRIES, Rule};
+use word_image::Rule;
 
 /// The rule at width m, with cells on the right that are ignored: its image cells are the old ones.
 ///
@@ -32,21 +30,6 @@ fn widened_rule(rule: &Rule, m: u8) -> Rule
     requires shape { IsShape rule.now.states m rule.now.offset }
     ensures { result ≡ widened rule.now m }
 {
-    accepted_front(rule.k(), m, rule.o(), &widened_entries(rule, m))
-}
-
-/// The letters of the table at width m, and zeros after them: the last digits of a window are left
-/// out.
-fn widened_entries(rule: &Rule, m: u8) -> [u8; MOST_ENTRIES]
-    requires wider { rule.now.width ≤ m }
-    requires fits { rule.now.states ^ m ≤ 256 }
-    ensures { result ≡ padded (widened rule.now m).table }
-{
-    let k = u16::from(rule.k());
-    let ignored = k.pow(u32::from(m - rule.m()));
-    let mut entries = [0; MOST_ENTRIES];
-    for window in 0..k.pow(u32::from(m)) {
-        entries[usize::from(window)] = rule.at(window / ignored);
-    }
-    entries
+    let ignored = u16::from(rule.k()).pow(u32::from(m - rule.m()));
+    Rule::by(rule.k(), m, rule.o(), |window| rule.at(window / ignored))
 }

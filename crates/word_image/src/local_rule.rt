@@ -6,7 +6,6 @@ ghost use Rattle.std.specs.Result.{result_err};
 ghost use Rattle.word_image.specs.LocalRules.{IsWord, value, word_of};
 ghost use Rattle.word_image.specs.SameRules.{same_rule};
 ghost use Rattle.word_image.specs.RuleFaults.{shape_fault, table_fault};
-ghost use Rattle.word_image.specs.Storage.{padded};
 
 use std::marker::Model;
 

@@ -1,7 +1,8 @@
 use Rattle.std.proofs.Common.{ℕ, ◌+◌, ◌-◌, ap, ap₂, ◌∙◌, sym, w8, to_z, of_z}
 use Rattle.rule_algebra.proofs.laws.Limits.{limit_fault-parts}
 use Rattle.rule_algebra.proofs.laws.Compositions.{compose_fault-same}
-use Rattle.rule_algebra.proofs.RuleParts.{FitsSigned-offset, sum_of}
+use Rattle.word_image.proofs.laws.RulesBy.{FitsSigned-offset}
+use Rattle.rule_algebra.proofs.RuleParts.{sum_of}
 use Rattle.rule_algebra.proofs.compositions.check_composed.Goals as goal
 
 pub returns-clause-fault : goal.returns-clause-fault

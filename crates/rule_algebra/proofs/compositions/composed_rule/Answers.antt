@@ -1,34 +1,44 @@
-use Rattle.std.proofs.Common.{◌≡◌, ℕ, ◌+◌, ◌-◌, ◌^◌, List, take, None, ℤ, ◌+ℤ◌, ap₂, ◌∙◌, sym, subst, w8, to_z, of_z}
-use Rattle.word_image.specs.LocalRules.{LocalRule, IsRule}
-use Rattle.word_image.specs.Storage.{padded}
+use Rattle.std.proofs.Common.{◌≡◌, ℕ, ◌+◌, ◌-◌, ◌^◌, ◌<◌, ◌≤◌, None, ℤ, ◌+ℤ◌, slice_index, refl, ap₂, ◌∙◌, w8, to_z, of_z, arith, rules}
+use Rattle.std.proofs.iter.Serving.{serving}
+use Rattle.word_image.specs.LocalRules.{LocalRule, IsRule, word_of, value}
+use Rattle.word_image.specs.RulesBy.{IsRuleBy}
+use Rattle.word_image.specs.Words.{image}
 use Rattle.word_image.proofs.laws.RuleFaults.{window_count-le}
+use Rattle.word_image.proofs.laws.RulesBy.{IsRuleBy-map}
 use Rattle.rule_algebra.specs.AlgebraFaults.{compose_fault}
 use Rattle.rule_algebra.specs.Tables.{composed}
 use Rattle.rule_algebra.proofs.laws.Compositions.{compose_fault-states, IsRule-composed_fault}
-use Rattle.rule_algebra.proofs.RuleParts.{rule_of_padded, offsets_of}
+use Rattle.rule_algebra.proofs.RuleParts.{offsets_of}
 use Rattle.rule_algebra.proofs.compositions.composed_rule.Goals as goal
 
-pub composed_entries-requires-clause-same : goal.composed_entries-requires-clause-same
-composed_entries-requires-clause-same c = compose_fault-states c.args.first.now c.args.second.now c.requires
+-- the letters that are given make the composed rule
+by_letters : {first second : LocalRule} {k m n : ℕ} {o p : ℤ} {gives : ℕ → ℕ → Type 0} → IsRule first → IsRule second → compose_fault first second ≡ None
+    → k ≡ first.states → m ≡ first.width → n ≡ second.width → o ≡ first.offset → p ≡ second.offset
+    → ((v a : ℕ) → v < first.states ^ (first.width + second.width - 1) → gives v a → a ≡ slice_index second.table (value first.states (image first (word_of first.states (first.width + n - 1) v))))
+    → IsRuleBy k (m + n - 1) (to_z w8 (of_z w8 (to_z w8 (of_z w8 o) +ℤ to_z w8 (of_z w8 p)))) gives (composed first second)
+by_letters {first} {second} {k} {m} {n} {o} {p} before after none states one two offset other given =
+    let same = compose_fault-states first second none in
+    let give : ℕ → ℕ → ℕ → ℕ = λ k n v. slice_index second.table (value k (image first (word_of first.states (first.width + n - 1) v))) in
+    IsRuleBy-map (give second.states second.width) (IsRule-composed_fault before after none) states (ap₂ (λ (i j : ℕ). i + j - 1) one two) (offsets_of before after o p offset other) refl
+    (λ v a l h. given v a l h ∙ ap₂ (λ (k n : ℕ). give k n v) same two)
 
-pub composed_entries-requires-clause-fits : goal.composed_entries-requires-clause-fits
-composed_entries-requires-clause-fits c = window_count-le _ _ _ (IsRule-composed_fault c.m.ensures.rule c.m-2.ensures.rule c.requires).shape
+pub by-requires-clause-rule : goal.by-requires-clause-rule
+by-requires-clause-rule c =
+    (_, by_letters c.m-m.ensures.rule c.m-n.ensures.rule c.requires c.k.ensures.states c.m-m.ensures.width c.m-n.ensures.width c.o.ensures.offset c.o-2.ensures.offset (λ v a l h. search rules))
 
--- the second rule after the first, by its parts
-composed_parts : {first second : LocalRule} → IsRule first → IsRule second → compose_fault first second ≡ None → (k m n : ℕ) (o p : ℤ) (entries : List ℕ)
-    → k ≡ first.states → m ≡ first.width → n ≡ second.width → o ≡ first.offset → p ≡ second.offset → entries ≡ padded (composed first second).table
-    → IsRule (composed first second)
-    × (record { states = k; width = m + n - 1; offset = to_z w8 (of_z w8 (to_z w8 (of_z w8 o) +ℤ to_z w8 (of_z w8 p))); table = take (k ^ (m + n - 1)) entries } ≡ composed first second)
-composed_parts {first} {second} before after none k m n o p entries states one two offset other same =
-    let rule = IsRule-composed_fault before after none in
-    (rule, rule_of_padded (composed first second) k (m + n - 1) _ entries rule states (ap₂ (λ (i j : ℕ). i + j - 1) one two) (offsets_of before after o p offset other) same)
-
-pub accepted_front-requires : goal.accepted_front-requires
-accepted_front-requires c =
-    let parts = composed_parts c.m.ensures.rule c.m-2.ensures.rule c.requires _ _ _ _ _ _ c.k.ensures.states c.m.ensures.width c.m-2.ensures.width c.o.ensures.offset c.o-2.ensures.offset c.composed_entries.ensures in
-    subst IsRule (sym parts.1) parts.0
+pub by-requires-clause-callable : goal.by-requires-clause-callable
+by-requires-clause-callable c = λ v l.
+    let first = c.args.first.now in
+    let second = c.args.second.now in
+    let n = c.m-n.result in
+    let two : n ≡ second.width = c.m-n.ensures.width in
+    let some : 1 ≤ n = omega (arith, c.m-n.ensures.rule.shape.least_width) in
+    let whole : first.width + second.width - 1 ≡ first.width + n - 1 = omega arith in
+    let fits : first.states ^ (first.width + n - 1) ≤ 256 = rw whole at (window_count-le _ _ _ (IsRule-composed_fault c.m-m.ensures.rule c.m-n.ensures.rule c.requires).shape) in
+    let below : v < first.states ^ (first.width + n - 1) = rw (c.k.ensures.states, c.m-m.ensures.width) at l in
+    let power : first.states ^ n ≡ second.states ^ second.width = ap₂ (λ (b e : ℕ). b ^ e) (compose_fault-states first second c.requires) two in
+    grind (serving, some, fits, below, power)
 
 pub returns : goal.returns
 returns c =
-    let parts = composed_parts c.m.ensures.rule c.m-2.ensures.rule c.requires _ _ _ _ _ _ c.k.ensures.states c.m.ensures.width c.m-2.ensures.width c.o.ensures.offset c.o-2.ensures.offset c.composed_entries.ensures in
-    c.accepted_front.ensures ∙ parts.1
+    c.by.ensures _ (by_letters c.m-m.ensures.rule c.m-n.ensures.rule c.requires c.k.ensures.states c.m-m.ensures.width c.m-n.ensures.width c.o.ensures.offset c.o-2.ensures.offset (λ v a l h. search rules))

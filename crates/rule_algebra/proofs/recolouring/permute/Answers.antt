@@ -1,26 +1,59 @@
-use Rattle.std.proofs.Common.{◌≡◌, ℕ, ◌^◌, List, take, refl, sym, ap₂, subst, ◌∙◌, ℤ, w8, to_z, of_z}
-use Rattle.word_image.specs.LocalRules.{LocalRule, IsRule}
-use Rattle.rule_algebra.specs.Algebra.{IsRecolouring, IsRecoloured}
-use Rattle.rule_algebra.specs.Tables.{IsRecolouredTable}
-use Rattle.rule_algebra.proofs.laws.Recolouring.{recoloured_rule, IsRule-recoloured, IsRecoloured-entries, RecoloursImages-recoloured}
-use Rattle.rule_algebra.proofs.RuleParts.{rule_of}
+use Rattle.std.proofs.Common.{◌≡◌, ℕ, ◌^◌, ◌<◌, ◌≤◌, List, length, slice_index, refl, sym, ap, ap₂, subst, ◌∙◌, ℤ, w8, to_z, of_z, arith, rules}
+use Rattle.std.proofs.iter.Serving.{serving}
+use Rattle.word_image.specs.LocalRules.{LocalRule, IsRule, value, word_of}
+use Rattle.word_image.specs.RulesBy.{IsRuleBy}
+use Rattle.word_image.proofs.laws.RulesBy.{IsRuleBy-map}
+use Rattle.rule_algebra.specs.Algebra.{IsRecolouring, IsRecoloured, recoloured}
+use Rattle.rule_algebra.specs.Tables.{AreOldLetters}
+use Rattle.rule_algebra.proofs.laws.Recolouring.{new_colour, recoloured_rule, IsRule-recoloured, IsRecoloured-rule, RecoloursImages-recoloured}
 use Rattle.rule_algebra.proofs.recolouring.permute.Goals as goal
 
--- the rule that is made has the new colours
-recoloured_parts : {r : LocalRule} {colours : List ℕ} (entries : List ℕ) → IsRule r → IsRecolouring r.states colours → IsRecolouredTable colours r (r.states ^ r.width) entries
-    → (g : LocalRule) (k m : ℕ) (o : ℤ) → g ≡ record { states = k; width = m; offset = to_z w8 (of_z w8 o); table = take (k ^ m) entries }
-    → k ≡ r.states → m ≡ r.width → o ≡ r.offset → IsRecoloured colours r g
-recoloured_parts {r} {colours} entries rule h table g k m o made states width offset =
-    let same = rule_of (recoloured_rule r entries) k m o (take (k ^ m) entries) (IsRule-recoloured entries rule table) states width offset (ap₂ (λ (a b : ℕ). take (a ^ b) entries) states width) in
-    subst (IsRecoloured colours r) (sym (made ∙ same)) (IsRecoloured-entries entries rule h table)
+-- the new colours that are given make the recoloured rule
+by_colours : {r : LocalRule} {colours : List ℕ} (letters : List ℕ) {k m : ℕ} {o : ℤ} {gives : ℕ → ℕ → Type 0} → IsRule r → IsRecolouring r.states colours → k ≡ r.states → m ≡ r.width → o ≡ r.offset
+    → ((v a : ℕ) → v < r.states ^ r.width → gives v a → a ≡ slice_index colours (slice_index r.table (value r.states (recoloured letters (word_of r.states r.width v)))))
+    → IsRuleBy k m (to_z w8 (of_z w8 o)) gives (recoloured_rule r colours letters)
+by_colours {r} {colours} letters rule h states width offset given =
+    IsRuleBy-map (λ v. new_colour r colours letters (word_of r.states r.width v)) (IsRule-recoloured colours letters rule h.word) states width offset refl given
+
+pub old_letters-letters-requires-clause-some : goal.old_letters-letters-requires-clause-some
+old_letters-letters-requires-clause-some c = omega (arith, c.k-2.ensures.states, c.k.ensures.rule.shape.least_states)
+
+pub old_letters-letters-requires-clause-few : goal.old_letters-letters-requires-clause-few
+old_letters-letters-requires-clause-few c = omega (arith, c.k-2.ensures.states, c.k.ensures.rule.shape.most_states)
+
+pub old_letters-letters-requires-clause-colours : goal.old_letters-letters-requires-clause-colours
+old_letters-letters-requires-clause-colours c = subst (λ k. IsRecolouring k c.args.colours.now) (c.k.ensures.states ∙ sym c.k-2.ensures.states) (c.if-not-is_recolouring.ensures.0 refl)
+
+pub by-requires-clause-rule : goal.by-requires-clause-rule
+by-requires-clause-rule c =
+    let h = subst (λ k. IsRecolouring k c.args.colours.now) c.k.ensures.states (c.if-not-is_recolouring.ensures.0 refl) in
+    (_, by_colours c.old_letters-letters.result c.k.ensures.rule h c.k-3.ensures.states c.m.ensures.width c.o.ensures.offset (λ v a l given. search rules))
+
+pub by-requires-clause-callable : goal.by-requires-clause-callable
+by-requires-clause-callable c = λ v l.
+    let r = c.args.rule.now in
+    let h = subst (λ k. IsRecolouring k c.args.colours.now) c.k.ensures.states (c.if-not-is_recolouring.ensures.0 refl) in
+    let old = subst (λ k. AreOldLetters k c.args.colours.now k c.old_letters-letters.result) c.k-2.ensures.states c.old_letters-letters.ensures in
+    let below : v < r.states ^ r.width = subst (λ n. v < n) (ap₂ (λ (b e : ℕ). b ^ e) c.k-3.ensures.states c.m.ensures.width) l in
+    let word = old.word in
+    let enough : r.states ≤ 16 = c.k.ensures.rule.shape.most_states in
+    let many : r.states ≤ length c.args.colours.now = omega (arith, h.long) in
+    grind (serving, word, enough, below, many)
+
+-- the recoloured rule is what is made
+made : (c : goal.After-by) → c.by.result ≡ recoloured_rule c.args.rule.now c.args.colours.now c.old_letters-letters.result
+made c =
+    let h = subst (λ k. IsRecolouring k c.args.colours.now) c.k.ensures.states (c.if-not-is_recolouring.ensures.0 refl) in
+    c.by.ensures _ (by_colours c.old_letters-letters.result c.k.ensures.rule h c.k-3.ensures.states c.m.ensures.width c.o.ensures.offset (λ v a l given. search rules))
 
 pub returns-clause-recoloured : goal.returns-clause-recoloured
 returns-clause-recoloured c =
     let h = subst (λ k. IsRecolouring k c.args.colours.now) c.k.ensures.states (c.if-not-is_recolouring.ensures.0 refl) in
-    recoloured_parts _ c.k.ensures.rule h c.recoloured_entries-entries.ensures _ _ _ _ c.accepted_front.ensures c.k-2.ensures.states c.m.ensures.width c.o.ensures.offset
+    let old = subst (λ k. AreOldLetters k c.args.colours.now k c.old_letters-letters.result) c.k-2.ensures.states c.old_letters-letters.ensures in
+    subst (IsRecoloured c.args.colours.now c.args.rule.now) (sym (made c)) (IsRecoloured-rule c.k.ensures.rule h old)
+
+pub returns-clause-offset : goal.returns-clause-offset
+returns-clause-offset c = ap (λ (g : LocalRule). g.offset) (made c)
 
 pub returns-clause-images : goal.returns-clause-images
-returns-clause-images c =
-    let h = subst (λ k. IsRecolouring k c.args.colours.now) c.k.ensures.states (c.if-not-is_recolouring.ensures.0 refl) in
-    RecoloursImages-recoloured c.k.ensures.rule
-    (recoloured_parts _ c.k.ensures.rule h c.recoloured_entries-entries.ensures _ _ _ _ c.accepted_front.ensures c.k-2.ensures.states c.m.ensures.width c.o.ensures.offset)
+returns-clause-images c = RecoloursImages-recoloured c.k.ensures.rule (returns-clause-recoloured c)

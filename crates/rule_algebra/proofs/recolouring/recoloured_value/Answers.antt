@@ -4,7 +4,7 @@ use Rattle.std.proofs.lemmas.List.{take_all, length-map, get_or-map}
 use Rattle.word_image.specs.LocalRules.{LocalRule, IsRule, IsWord, value, word_of}
 use Rattle.word_image.proofs.laws.Values.{value-below, value-take_more, value-take-below, length-word_of}
 use Rattle.word_image.proofs.laws.RuleFaults.{window_count-le}
-use Rattle.rule_algebra.specs.Algebra.{IsRecolouring, recoloured}
+use Rattle.rule_algebra.specs.Algebra.{recoloured}
 use Rattle.rule_algebra.proofs.laws.Recolouring.{IsWord-recoloured, get_or-word_of}
 use Rattle.rule_algebra.proofs.recolouring.recoloured_value.Goals as goal
 
@@ -17,14 +17,14 @@ long : (r : LocalRule) (colours : List ℕ) (v : ℕ) → length (window_of r co
 long r colours v = length-map (word_of r.states r.width v) (slice_index colours) ∙ length-word_of r.states r.width v
 
 -- and is a word
-word : {r : LocalRule} {colours : List ℕ} → IsRule r → IsRecolouring r.states colours → (v : ℕ) → IsWord r.states (window_of r colours v)
-word {r} {colours} rule h v = IsWord-recoloured h (omega (arith, rule.shape.least_states)) (word_of r.states r.width v)
+word : {r : LocalRule} (colours : List ℕ) → IsRule r → IsWord r.states colours → (v : ℕ) → IsWord r.states (window_of r colours v)
+word {r} colours rule h v = IsWord-recoloured r.states colours h (omega (arith, rule.shape.least_states)) (word_of r.states r.width v)
 
 -- one letter more fits
-next_below : {r : LocalRule} {colours : List ℕ} → IsRule r → IsRecolouring r.states colours → (i v : ℕ) → i < r.width
+next_below : {r : LocalRule} (colours : List ℕ) → IsRule r → IsWord r.states colours → (i v : ℕ) → i < r.width
     → value r.states (take i (window_of r colours v)) * r.states + get_or (window_of r colours v) i 0 < 256
-next_below {r} {colours} rule h i v l =
-    value-take-below r.states (window_of r colours v) i 256 (word rule h v) (omega (arith, long r colours v))
+next_below {r} colours rule h i v l =
+    value-take-below r.states (window_of r colours v) i 256 (word colours rule h v) (omega (arith, long r colours v))
     (subst (λ n. r.states ^ n ≤ 256) (sym (long r colours v)) (window_count-le r.states r.width r.offset rule.shape))
 
 -- the letter that is written next
@@ -56,13 +56,13 @@ nonzero_div-letter c =
 pub overflow_mul-value : goal.overflow_mul-value
 overflow_mul-value c =
     let within : c.loop-place.place < c.args.rule.now.width = omega arith in
-    let below = next_below c.k.ensures.rule c.requires.colours c.loop-place.place c.args.window within in
+    let below = next_below c.args.colours.now c.k.ensures.rule c.requires.colours c.loop-place.place c.args.window within in
     rw (c.from-k.ensures, c.k.ensures.states, c.loop-place.invariant) (omega (arith, below))
 
 pub overflow_add-value : goal.overflow_add-value
 overflow_add-value c =
     let within : c.loop-place.place < c.args.rule.now.width = omega arith in
-    let below = next_below c.k.ensures.rule c.requires.colours c.loop-place.place c.args.window within in
+    let below = next_below c.args.colours.now c.k.ensures.rule c.requires.colours c.loop-place.place c.args.window within in
     rw (letter c, c.from-k.ensures, c.k.ensures.states, c.loop-place.invariant) (omega (arith, below))
 
 pub loop-place-preserved : goal.loop-place-preserved
@@ -84,5 +84,5 @@ returns-clause-within c =
     let r = c.args.rule.now in
     let whole = window_of r c.args.colours.now c.args.window in
     let all = take_all c.loop-place.place whole (omega (arith, long r c.args.colours.now c.args.window)) in
-    let below = value-below r.states whole (word c.k.ensures.rule c.requires.colours c.args.window) in
+    let below = value-below r.states whole (word c.args.colours.now c.k.ensures.rule c.requires.colours c.args.window) in
     rw (c.loop-place.invariant, all) (subst (λ n. value r.states whole < r.states ^ n) (long r c.args.colours.now c.args.window) below)

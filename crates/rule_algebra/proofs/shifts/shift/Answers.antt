@@ -4,7 +4,8 @@ use Rattle.rule_algebra.specs.Algebra.{shifted}
 use Rattle.rule_algebra.specs.MadeImages.{ShiftsImages}
 use Rattle.rule_algebra.specs.AlgebraFaults.{offset_fault}
 use Rattle.rule_algebra.proofs.laws.Shifts.{ShiftsImages-shifted, IsRule-shifted}
-use Rattle.rule_algebra.proofs.RuleParts.{FitsSigned-offset, rule_of, sum_of}
+use Rattle.word_image.proofs.laws.RulesBy.{FitsSigned-offset}
+use Rattle.rule_algebra.proofs.RuleParts.{rule_of, sum_of}
 use Rattle.rule_algebra.proofs.shifts.shift.Goals as goal
 
 -- the shifted rule, by its parts

@@ -1,4 +1,4 @@
-use Rattle.std.proofs.Common.{◌≡◌, ℕ, ◌-◌, ◌^◌, ◌<◌, ◌≤◌, List, length, take, drop, map, replicate, set, slice_index, refl, sym, ap, ap₂, subst, ◌∙◌, ℤ, w8, w16, FitsSigned, to_z, of_z, arith}
+use Rattle.std.proofs.Common.{◌≡◌, ℕ, ◌-◌, ◌^◌, ◌<◌, ◌≤◌, List, length, take, drop, map, replicate, set, slice_index, refl, sym, ap, ap₂, subst, ◌∙◌, ℤ, w8, FitsSigned, to_z, of_z, arith}
 use Rattle.std.specs.List.{range_with_len}
 use Rattle.std.proofs.lemmas.Int.{to_z-of_z}
 use Rattle.std.proofs.lemmas.List.{ext_get_or}

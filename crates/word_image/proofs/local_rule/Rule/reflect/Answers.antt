@@ -20,6 +20,4 @@ pub returns-clause-mirrored : goal.returns-clause-mirrored
 returns-clause-mirrored c = c.by.ensures _ (by_backwards c.k-k.ensures.rule c.k-k.ensures.states c.m-m.ensures.width c.mirrored_offset.ensures (λ v a l h. search rules))
 
 pub returns-clause-image : goal.returns-clause-image
-returns-clause-image c = λ x word.
-    ap (λ r. image r (reverse x)) (c.by.ensures _ (by_backwards c.k-k.ensures.rule c.k-k.ensures.states c.m-m.ensures.width c.mirrored_offset.ensures (λ v a l h. search rules)))
-    ∙ image-mirrored c.k-k.ensures.rule x word
+returns-clause-image c = λ x word. ap (λ r. image r (reverse x)) (returns-clause-mirrored c) ∙ image-mirrored c.k-k.ensures.rule x word
