@@ -2,13 +2,14 @@
 ghost use Rattle.std.specs.Prelude.{◌≡◌, ◌+◌, ◌-◌, ◌<◌, ◌≤◌, Option, IfSome};
 ghost use Rattle.word_image.specs.LocalRules.{IsRule, node_count};
 ghost use Rattle.word_image.specs.Graphs.{pair_of, pair_count};
-ghost use Rattle.word_image.specs.Ranks.{BeginTogether, EndTogether, IsRank};
+ghost use Rattle.word_image.specs.Ranks.{EndTogether, IsRank};
+ghost use Rattle.word_image.specs.Sides.{Together};
 ghost use Rattle.word_image.specs.Windows.{IsDetermined};
 ghost use Rattle.inverse_window.specs.Starts.{HoldsFrom, later};
 ghost use Rattle.inverse_window.specs.FirstWindows.{DifferAt, Ends, IsPast, IsPastOf, NoneHolds, AreStarts};
 
 use pair_rank::Ranks;
-use word_image::Rule;
+use word_image::{Rule, Side};
 
 /// How many numbers there are from 0 to one more than the greatest rank that is possible.
 const ROWS: usize = 241;
@@ -43,7 +44,7 @@ fn start_of(rule: &Rule, ranks: &Ranks, u: u8, place: u8, start: Option<u16>) ->
     let mut start = start;
     for v in 0..rule.nodes() {
         if rule.node_letter(v, place) != letter {
-            start = later(start, end_apart(ranks, u, v));
+            start = later(start, apart(ranks, Side::Left, u, v));
         }
     }
     start
@@ -111,7 +112,7 @@ fn add_starts(rule: &Rule, ranks: &Ranks, u: u8, past: u16, starts: &mut [Option
     for v in 0..rule.nodes() {
         if rule.node_letter(v, 0) != letter {
             let b = usize::from(ends_for(ranks, u, v, past));
-            starts[b] = later(starts[b], begin_apart(ranks, u, v));
+            starts[b] = later(starts[b], apart(ranks, Side::Right, u, v));
         }
     }
 }
@@ -124,26 +125,15 @@ pub(crate) fn later(a: Option<u16>, b: Option<u16>) -> Option<u16>
     Some(a?.max(b?))
 }
 
-/// From how many letters on two nodes do not begin together.
-fn begin_apart(ranks: &Ranks, u: u8, v: u8) -> Option<u16>
+/// From how many letters on two nodes do not go on together to this side.
+fn apart(ranks: &Ranks, side: Side, u: u8, v: u8) -> Option<u16>
     requires rule { IsRule ranks.now }
     requires first { u < node_count ranks.now }
     requires second { v < node_count ranks.now }
-    ensures start { HoldsFrom result (λ n. ¬ BeginTogether ranks.now u v n) }
+    ensures start { HoldsFrom result (λ n. ¬ Together side ranks.now u v n) }
     ensures most { IfSome result (λ n. n ≤ 240) }
 {
-    Some(ranks.forward(u, v)? + 1)
-}
-
-/// From how many letters on two nodes do not end together.
-fn end_apart(ranks: &Ranks, u: u8, v: u8) -> Option<u16>
-    requires rule { IsRule ranks.now }
-    requires first { u < node_count ranks.now }
-    requires second { v < node_count ranks.now }
-    ensures start { HoldsFrom result (λ n. ¬ EndTogether ranks.now u v n) }
-    ensures most { IfSome result (λ n. n ≤ 240) }
-{
-    Some(ranks.backward(u, v)? + 1)
+    Some(ranks.rank(side, u, v)? + 1)
 }
 
 /// For how many letters two nodes end together, and `past` where they do for all.

@@ -1,15 +1,13 @@
 //! The least twins.
-ghost use Rattle.std.specs.Prelude.{◌≡◌, ◌≤◌, ◌↔◌, ℕ, List, length, map, IfOk, IfSome, IsNone, MatchOption, OnErr, if◌then◌else◌};
-ghost use Rattle.std.specs.Ordering.{is_lt};
+ghost use Rattle.std.specs.Prelude.{◌≡◌, ◌≤◌, ◌↔◌, ℕ, List, length, map, IfOk, IfSome, IsNone, MatchOption, OnErr};
 ghost use Rattle.word_image.specs.LocalRules.{IsRule};
 ghost use Rattle.word_image.specs.Graphs.{pair_count};
-ghost use Rattle.word_image.specs.Words.{word_cmp};
 ghost use Rattle.word_image.specs.Rings.{IsTwins, IsLeastTwins};
 ghost use Rattle.tail_config.specs.Tails.{IsInjective};
 ghost use Rattle.tail_laws.specs.FirstLists.{IsFirstFound};
 ghost use Rattle.tail_laws.specs.Turns.{IsTurn};
 
-use least_walk::{MOST_STEPS, Walker, is_before, spelled};
+use least_walk::{MOST_STEPS, Walker, earlier, spelled};
 use pair_graph::Pairs;
 use std::alloc::{AllocError, Global};
 use word_image::Word;
@@ -58,7 +56,8 @@ fn first_turn(
     for p in 0..count {
         let most = most_steps(&first);
         if let Some(turn) = walker.walk_within(pairs, p, p + count, most) {
-            first = Some(earlier_walk(alloc, first, turn)?);
+            let steps = turn.to_vec(alloc)?;
+            first = Some(earlier(first, steps));
         }
     }
     Ok(first)
@@ -71,15 +70,5 @@ fn most_steps(first: &Option<Vec<u8>>) -> usize
     match first {
         Some(steps) => steps.len(),
         None => MOST_STEPS,
-    }
-}
-
-/// The earlier of the first walk so far, if there is one, and another one.
-fn earlier_walk(alloc: Global, first: Option<Vec<u8>>, other: &[u8]) -> Result<Vec<u8>, AllocError>
-    ensures { IfOk result (λ steps. MatchOption first (steps.items ≡ other.now) (λ old. steps.items ≡ (if is_lt (word_cmp other.now old.items) then other.now else old.items))) }
-{
-    match first {
-        Some(steps) if !is_before(other, &steps) => Ok(steps),
-        _ => other.to_vec(alloc),
     }
 }

@@ -1,6 +1,6 @@
 //! Letter pairs in bytes, as walks have them: the pair (a, b) is 16 a + b.
 
-ghost use Rattle.std.specs.Prelude.{◌≡◌, ◌/◌, ◌%◌, map, IfOk};
+ghost use Rattle.std.specs.Prelude.{◌≡◌, ◌/◌, ◌%◌, map, IfOk, MatchOption, if◌then◌else◌};
 ghost use Rattle.std.specs.Ordering.{is_lt};
 ghost use Rattle.word_image.specs.Words.{word_cmp};
 
@@ -18,9 +18,19 @@ pub fn spelled(alloc: Global, steps: &[u8]) -> Result<(Word, Word), AllocError>
     ))
 }
 
+/// The earlier of the first letter pairs so far, if there are any, and others.
+pub fn earlier(first: Option<Vec<u8>>, other: Vec<u8>) -> Vec<u8>
+    ensures { MatchOption first (result.items ≡ other.items) (λ old. result.items ≡ (if is_lt (word_cmp other.items old.items) then other.items else old.items)) }
+{
+    match first {
+        Some(steps) if !is_before(&other, &steps) => steps,
+        _ => other,
+    }
+}
+
 /// Whether letter pairs come before others: the shorter list, and of two of one length the first in
 /// dictionary order.
-pub fn is_before(steps: &[u8], other: &[u8]) -> bool
+fn is_before(steps: &[u8], other: &[u8]) -> bool
     ensures { result ≡ is_lt (word_cmp steps.now other.now) }
 {
     steps

@@ -30,6 +30,6 @@ mod tests;
 mod tree;
 mod walker;
 
-pub use letter_pairs::{is_before, spelled};
+pub use letter_pairs::{earlier, spelled};
 pub use tree::WalkTree;
 pub use walker::{MOST_STEPS, Walker};

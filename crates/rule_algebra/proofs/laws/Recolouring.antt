@@ -11,7 +11,8 @@ use Rattle.word_image.proofs.laws.Images.{get_or-image, image-by_letters}
 use Rattle.word_image.proofs.laws.WindowParts.{letter-value}
 use Rattle.rule_algebra.specs.Algebra.{IsRecolouring, IsRecoloured, recoloured}
 use Rattle.rule_algebra.specs.MadeImages.{RecoloursImages}
-use Rattle.rule_algebra.specs.Tables.{AreOldLetters, table_by}
+use Rattle.rule_algebra.specs.Tables.{AreOldLetters}
+use Rattle.rule_algebra.specs.Tabulated.{table_by}
 use Rattle.rule_algebra.proofs.laws.Tables.{length-table_by, IsWord-table_by, table_by-at}
 
 -- the first n colours are letters, and each is none of those before it

@@ -25,11 +25,11 @@ loop-v-preserved c =
       | then-node_letter-letter w ↦
           let differ : DifferAt r i p = of_nodes r (λ s t. node_letter r s i ≢ node_letter r t i) u v below
           (λ same. w.if-node_letter-letter.true (c.node_letter.ensures.letter ∙ sym same ∙ sym c.node_letter-letter.ensures.letter)) in
-          let here : HoldsFrom w.end_apart.result (λ n. ¬ Ends r p n) = of_nodes r (λ s t. HoldsFrom w.end_apart.result (λ n. ¬ EndTogether r s t n)) u v below
-          (subst (λ (z : LocalRule). HoldsFrom w.end_apart.result (λ n. ¬ EndTogether z u v n)) c.requires.of_rule w.end_apart.ensures.start) in
+          let here : HoldsFrom w.apart.result (λ n. ¬ Ends r p n) = of_nodes r (λ s t. HoldsFrom w.apart.result (λ n. ¬ EndTogether r s t n)) u v below
+          (subst (λ (z : LocalRule). HoldsFrom w.apart.result (λ n. ¬ EndTogether z u v n)) c.requires.of_rule w.apart.ensures.start) in
           subst Kept (sym (w.start-is ∙ w.later-start.ensures)) (
-            subst (λ q. HoldsFrom (later start w.end_apart.result) (NoneHolds q (DifferAt r i) (Ends r))) more (HoldsFrom-next start w.end_apart.result p (DifferAt r i) (Ends r) differ c.loop-v.invariant.0 here),
-            later-most start w.end_apart.result 240 c.loop-v.invariant.1 w.end_apart.ensures.most,
+            subst (λ q. HoldsFrom (later start w.apart.result) (NoneHolds q (DifferAt r i) (Ends r))) more (HoldsFrom-next start w.apart.result p (DifferAt r i) (Ends r) differ c.loop-v.invariant.0 here),
+            later-most start w.apart.result 240 c.loop-v.invariant.1 w.apart.ensures.most,
           )
       | else-node_letter-letter w ↦
           let same : ¬ DifferAt r i p = λ differ. nodes_differ r i u v below differ (sym c.node_letter-letter.ensures.letter ∙ sym w.if-node_letter-letter.false ∙ c.node_letter.ensures.letter) in

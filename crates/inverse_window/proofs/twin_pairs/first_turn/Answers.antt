@@ -2,22 +2,24 @@ use Rattle.std.proofs.Common.{◌+◌, map, sym, subst}
 use Rattle.word_image.specs.LocalRules.{LocalRule}
 use Rattle.search_laws.specs.PairWalks.{uncode}
 use Rattle.search_laws.proofs.PairWalks.{ArePairs-walk}
-use Rattle.tail_laws.specs.FirstLists.{IsFirstFound}
+use Rattle.tail_laws.specs.FirstLists.{IsLeastOf, IsFirstFound}
 use Rattle.tail_laws.specs.Turns.{IsTurn}
 use Rattle.tail_laws.proofs.FirstLists.{IsFirstFound-next}
 use Rattle.tail_laws.proofs.LeastTwins.{IsLeastTurn, IsLeastOf-turn}
 use Rattle.inverse_window.proofs.TurnSteps.{IsFirstFound-later}
 use Rattle.inverse_window.proofs.twin_pairs.first_turn.Goals as goal
-use Rattle.inverse_window.proofs.twin_pairs.first_turn.Goals.{in-Some+in_ok-earlier_walk, in_default}
+use Rattle.inverse_window.proofs.twin_pairs.first_turn.Goals.{in_default, in-Some+in_ok-steps}
 
 pub loop-p-preserved : goal.loop-p-preserved
 loop-p-preserved c =
     let r : LocalRule = c.args.pairs.now in
     elim c.match-walk_within.branch [
-      | in-Some+in_ok-earlier_walk w ↦
+      | in-Some+in_ok-steps w ↦
           let turn : IsLeastTurn r c.loop-p.p (map (uncode 16) w.in-Some.turn.now) = rw c.count-count.ensures.count at w.in-Some.ensures.least in
+          let items = sym (w.in_ok-steps.ensures.items_if_clones_equal (λ x y e. e)) in
           subst (IsFirstFound (IsTurn r) (c.loop-p.p + 1)) (sym w.first-is)
-          (IsFirstFound-next (λ q w l e. ArePairs-walk 16 c.count-count.ensures.rule.shape.most_states e) c.loop-p.first w.in-Some.turn.now w.in_ok-earlier_walk.field-0.items w.in_ok-earlier_walk.ensures c.loop-p.invariant (IsLeastOf-turn c.count-count.ensures.rule turn))
+          (IsFirstFound-next (λ q w l e. ArePairs-walk 16 c.count-count.ensures.rule.shape.most_states e) c.loop-p.first w.in_ok-steps.steps.items w.earlier.result.items w.earlier.ensures c.loop-p.invariant
+          (subst (λ steps. IsLeastOf (IsTurn r) c.loop-p.p (map (uncode 16) steps)) items (IsLeastOf-turn c.count-count.ensures.rule turn)))
       | in_default w ↦
           let ends = c.count-count.ensures.count in
           subst (IsFirstFound (IsTurn r) (c.loop-p.p + 1)) (sym w.first-is)

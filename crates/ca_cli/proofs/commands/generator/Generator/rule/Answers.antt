@@ -23,19 +23,13 @@ unreachable-requires c =
     let same = of_letters k m c.args.self.now c.pow-size.result _ c.fill.new.letters long c.fill.ensures.letters in
     false≢true (c.in-Err.ensures.accepted.1 (subst IsRule (sym same) (IsRule-drawn k m c.args.self.now c.requires)))
 
-pub returns-clause-rule : goal.returns-clause-rule
-returns-clause-rule c =
+pub returns : goal.returns
+returns c =
     let k = c.args.k in
     let m = c.args.m in
     let size : c.pow-size.result ≡ k ^ m = search rules in
     let long = part_long c.pow-size.result (k ^ m) _ refl size (window_count-le k m (pos 0) c.requires) in
-    let same = of_letters k m c.args.self.now c.pow-size.result _ c.fill.new.letters long c.fill.ensures.letters in
-    c.in-Ok.ensures.rule ∙ same
-
-pub returns-clause-state : goal.returns-clause-state
-returns-clause-state c =
-    let k = c.args.k in
-    let m = c.args.m in
-    let size : c.pow-size.result ≡ k ^ m = search rules in
-    let long = part_long c.pow-size.result (k ^ m) _ refl size (window_count-le k m (pos 0) c.requires) in
-    c.fill.ensures.state ∙ ap (state_after c.args.self.now) long
+    record {
+      rule = c.in-Ok.ensures.rule ∙ of_letters k m c.args.self.now c.pow-size.result _ c.fill.new.letters long c.fill.ensures.letters;
+      state = c.fill.ensures.state ∙ ap (state_after c.args.self.now) long;
+    }

@@ -1,8 +1,0 @@
-use Rattle.word_image.specs.Ranks.{EndTogether}
-use Rattle.word_image.specs.declared.side.Side.TheVariants.{Left}
-use Rattle.pair_laws.proofs.Ranks.{Together-less}
-use Rattle.inverse_window.proofs.StartLaws.{HoldsFrom-rank}
-use Rattle.inverse_window.proofs.starts.end_apart.Goals as goal
-
-pub returns-clause-start : goal.returns-clause-start
-returns-clause-start c = HoldsFrom-rank (EndTogether c.args.ranks.now c.args.u c.args.v) c.in_ok-backward.field-0 (λ i n l h. Together-less Left c.requires.rule _ _ i _ l h) c.in_ok-backward.ensures.rank
