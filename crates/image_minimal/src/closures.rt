@@ -3,7 +3,8 @@
 ghost use Rattle.std.specs.Prelude.{◌+◌, ◌*◌, ◌^◌, ◌<◌, length, IfOk};
 ghost use Rattle.word_image.specs.LocalRules.{node_count};
 ghost use Rattle.image_minimal.specs.Closures.{IsBack, IsUnreadSet, IsClosure, AreClosures, AreClosuresFrom};
-ghost use Rattle.image_minimal.specs.Searches.{IsSearch, AreUnreadSets};
+ghost use Rattle.search_laws.specs.SearchQueues.{IsSearch};
+ghost use Rattle.image_minimal.specs.Searches.{AreUnreadSets};
 
 use crate::listed::Listed;
 use debruijn::Graph;
