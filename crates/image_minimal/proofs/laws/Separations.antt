@@ -1,8 +1,9 @@
 -- What links say of the orphans of two rules: links that are closed under steps show that they are the same, and the first
 -- pair with exactly one empty set gives the least word that is an orphan of exactly one.
-use Rattle.std.proofs.Common.{◌≡◌, ℕ, ◌+◌, ◌*◌, ◌<◌, ◌≤◌, ◌↔◌, inl, inr, List, [], ◌∷◌, ◌++◌, length, Some, sym, ap, subst, arith, ⊎_elim, append_assoc}
+use Rattle.std.proofs.Common.{◌≡◌, ℕ, ◌+◌, ◌*◌, ◌<◌, ◌≤◌, ◌↔◌, inl, inr, List, [], ◌∷◌, ◌++◌, length, Some, sym, ap, ◌∙◌, subst, arith, ⊎_elim, append_assoc}
 use Rattle.std.specs.List.{slice_get}
 use Rattle.std.proofs.lemmas.Bool.{cases_lt}
+use Rattle.std.proofs.lemmas.List.{length-map}
 use Rattle.word_image.specs.LocalRules.{LocalRule, IsRule, IsWord}
 use Rattle.word_image.specs.Words.{IsOrphan}
 use Rattle.word_image.specs.Graphs.{full_set}
@@ -18,7 +19,7 @@ use Rattle.search_laws.proofs.StepSets.{IsLastSet-leads}
 use Rattle.image_minimal.specs.ImageLanguages.{HaveSameOrphans, Separates}
 use Rattle.image_minimal.specs.Closures.{IsWithin, IsUnread}
 use Rattle.image_minimal.specs.declared.links.Link.{Link}
-use Rattle.image_minimal.specs.Links.{IsLinking, IsConflict, link_place, Reaches}
+use Rattle.image_minimal.specs.Links.{IsLinking, IsConflict, link_place, places_of, Reaches}
 use Rattle.image_minimal.proofs.laws.Unread.{IsUnread-some, IsOrphan-last, IsOrphan-unread}
 use Rattle.image_minimal.proofs.laws.LinkWords.{AreEarly, Leads-link, place_at, both_within, word_number-append, word_number-front}
 
@@ -54,7 +55,7 @@ orphan_early {r} {q} {links} rule other states h early v soon = same_orphan rule
 pub HaveSameOrphans-closed : {r q : LocalRule} {links : List Link} {e : ℕ} → IsRule r → IsRule q → r.states ≡ q.states → IsLinking r q links e → length links * r.states ≤ e → HaveSameOrphans r q
 HaveSameOrphans-closed {r} {q} {links} {e} rule other states h closed v =
     let early : AreEarly r.states links e (λ i z. Unit {0}) = record {
-      edge = λ i a z x at letter _. omega (arith, edge-within r.states links i (a + 1) x at (omega arith));
+      edge = λ i a z x at letter _. omega (arith, edge-within r.states (places_of links) i (a + 1) (link_place x) (place_at links i x at) (omega arith), ap (λ n. n * r.states) (length-map links link_place));
       next = λ i a j z x y at also letter when _. tt;
     } in
     orphan_early rule other states h early v (λ _. tt)
