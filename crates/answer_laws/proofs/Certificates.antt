@@ -27,7 +27,7 @@ use Rattle.cert_format.specs.Evidence.SurjectiveEvidence.{Sets, Pairs, Orphan}
 use Rattle.cert_format.specs.Certificates.{Certificate}
 use Rattle.cert_format.specs.WrittenTexts.{certificate_text}
 use Rattle.certificate_laws.specs.LeastEvidence.{Evidence, IsOrphanPart}
-use Rattle.certificate_laws.specs.WrittenCertificates.{orphan_of, IsListPart, AreRanks, HasWrittenParts}
+use Rattle.certificate_laws.specs.WrittenCertificates.{orphan_of, IsListPart, IsRankRow, HasWrittenParts}
 use Rattle.eden_laws.specs.ReachedPairs.{AreReached}
 use Rattle.ca_cli.specs.Outputs.{IsCertified}
 use Rattle.answer_laws.proofs.Orders.{word_cmp_total, one_word}
@@ -45,8 +45,8 @@ IsRank-unique P less (Some n) (Some m) h g =
     ap Some (omega (arith, below, above))
 
 -- so the ranks of all pairs are one list
-AreRanks-unique : (side : Side) {r : LocalRule} {row other : List (Option ℕ)} → IsRule r → AreRanks r (Together side r) row → AreRanks r (Together side r) other → row ≡ other
-AreRanks-unique side {r} {row} {other} rule here there =
+IsRankRow-unique : (side : Side) {r : LocalRule} {row other : List (Option ℕ)} → IsRule r → IsRankRow r (Together side r) row → IsRankRow r (Together side r) other → row ≡ other
+IsRankRow-unique side {r} {row} {other} rule here there =
     same_lists row other (here.each_pair ∙ sym there.each_pair) (λ p d within.
     let inside : p < length other = omega (arith, within, here.each_pair, there.each_pair) in
     get_or_default row p d None within
@@ -140,7 +140,7 @@ HasWrittenParts-unique {c = c} {d = d} rule h g =
     let evidence : evidence_of c ≡ evidence_of d = IsLeastEvidence-unique rule (h.weights_are ∙ sym g.weights_are) h.least g.least in
     let surjective : c.surjective ≡ d.surjective = IsListPart-unique c.surjective d.surjective (ap (λ e. e.orphan) evidence) (h.least).surjective h.list g.list in
     ap₂ (λ (v : CertVersion) (e : Evidence). certificate_of v e c.surjective c.forward c.backward) (h.version_is ∙ sym g.version_is) evidence
-    ∙ ap₂ (λ (f b : List (Option ℕ)). certificate_of d.version (evidence_of d) c.surjective f b) (AreRanks-unique Right rule h.forward g.forward) (AreRanks-unique Left rule h.backward g.backward)
+    ∙ ap₂ (λ (f b : List (Option ℕ)). certificate_of d.version (evidence_of d) c.surjective f b) (IsRankRow-unique Right rule h.forward g.forward) (IsRankRow-unique Left rule h.backward g.backward)
     ∙ ap (λ s. certificate_of d.version (evidence_of d) s d.forward d.backward) surjective
 
 -- and so is its text

@@ -12,7 +12,7 @@ use Rattle.tail_config.specs.Tails.{TailConfig, IsTail, cells, image_cell}
 use Rattle.tail_config.specs.TailValues.{config_of}
 use Rattle.tail_config.proofs.laws.Cells.{IsWord-zero, cells-middle}
 use Rattle.rule_algebra.specs.Algebra.{KeepsImages, IsTrimmed, IsWidened, IsComposed, IsRecolouring, IsRecoloured}
-use Rattle.rule_classes.proofs.laws.Colours.{letters_of}
+use Rattle.rule_classes.proofs.laws.Colours.{inverse_letters}
 use Rattle.rule_classes.proofs.laws.Recoloured.{local_map-back}
 
 -- two such rules
@@ -94,7 +94,7 @@ IsComposed-unique {r} {s} {g} {h} first second here there =
 pub IsRecoloured-unique : {r g h : LocalRule} {colours : List ℕ} → IsRule g → IsRule h → IsRecolouring r.states colours → g.offset ≡ h.offset
     → IsRecoloured colours r g → IsRecoloured colours r h → g ≡ h
 IsRecoloured-unique {r} {g} {h} {colours} first second permutes offset here there =
-    let inverse = letters_of permutes in
+    let inverse = inverse_letters permutes in
     same_letters first second (here.states ∙ sym there.states) (here.width ∙ sym there.width) offset (λ w word long.
     let letters : IsWord r.states w = subst (λ k. IsWord k w) here.states word in
     local_map-back inverse.1 here w letters (long ∙ here.width) ∙ sym (local_map-back inverse.1 there w letters (long ∙ here.width)))

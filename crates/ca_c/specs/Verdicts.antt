@@ -8,8 +8,8 @@ use Rattle.cert_check.specs.declared.verdicts.Verdicts.{Verdicts}
 use Rattle.ca_c.specs.declared.table_verdicts.RuleVerdicts.{RuleVerdicts}
 
 -- the rule with this table, whose window begins at its cell
-abbrev pub rule_of : ℕ → ℕ → List ℕ → LocalRule
-rule_of states width table = record { states = states; width = width; offset = pos 0; table = table }
+abbrev pub rule_of_table : ℕ → ℕ → List ℕ → LocalRule
+rule_of_table states width table = record { states = states; width = width; offset = pos 0; table = table }
 
 -- the number that stands for a fault, and 0 for none
 abbrev pub fault_code : Option RuleFault → ℕ

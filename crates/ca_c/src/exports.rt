@@ -3,7 +3,7 @@ ghost use Rattle.std.specs.Prelude.{◌≡◌, ◌≢◌, ◌<◌, pos};
 ghost use Rattle.word_image.specs.RuleFaults.{rule_fault};
 ghost use Rattle.cert_check.specs.Accepted.{AreTrue, is_open};
 ghost use Rattle.ca_c.specs.Calls.{IsHandedBack};
-ghost use Rattle.ca_c.specs.Verdicts.{AreNone, fault_code, rule_of, verdicts_about};
+ghost use Rattle.ca_c.specs.Verdicts.{AreNone, fault_code, rule_of_table, verdicts_about};
 
 use crate::calls::{CallFault, call, put};
 use crate::table_verdicts::RuleVerdicts;
@@ -71,8 +71,8 @@ pub extern "C" fn ca_run(
 #[unsafe(no_mangle)]
 pub extern "C" fn ca_verdicts(states: u8, width: u8, table: &[u8]) -> RuleVerdicts
     ensures fault { result.fault ≡ fault_code (rule_fault states width (pos 0) table.now) }
-    ensures are_true { result.fault ≡ 0 → AreTrue (verdicts_about (rule_of states width table.now) result) }
-    ensures both { result.is_open ≡ is_open (verdicts_about (rule_of states width table.now) result) }
+    ensures are_true { result.fault ≡ 0 → AreTrue (verdicts_about (rule_of_table states width table.now) result) }
+    ensures both { result.is_open ≡ is_open (verdicts_about (rule_of_table states width table.now) result) }
     ensures none { 0 < result.fault → AreNone result }
 {
     match Rule::new(states, width, 0, table) {

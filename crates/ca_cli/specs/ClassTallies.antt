@@ -24,9 +24,9 @@ abbrev pub rules_in : List (ℕ × Verdicts) → List LocalRule
 rules_in entries = map rule_in entries
 
 -- the list has the rule, as before or at its end
-pub data IsAdded (g : LocalRule) : List LocalRule → List LocalRule → Type 0 where
-  Old : (rules : List LocalRule) → Contains rules g → IsAdded g rules rules
-  New : (rules : List LocalRule) → ¬ Contains rules g → IsAdded g rules (rules ++ g ∷ [])
+pub data IsRuleAdded (g : LocalRule) : List LocalRule → List LocalRule → Type 0 where
+  Old : (rules : List LocalRule) → Contains rules g → IsRuleAdded g rules rules
+  New : (rules : List LocalRule) → ¬ Contains rules g → IsRuleAdded g rules (rules ++ g ∷ [])
 
 -- the rules are counted, and the least rules of their classes are decided
 pub record IsClassTally (k m : ℕ) (rules : List LocalRule) (t : ClassTally) : Type 0 where

@@ -5,8 +5,8 @@ use Rattle.word_image.specs.Digits.{word_text}
 use Rattle.word_image.specs.LocalRules.{LocalRule, IsRule}
 use Rattle.word_image.specs.Windows.{IsLeastDetermined}
 use Rattle.tail_config.specs.Tails.{IsInjective}
-use Rattle.inverse_table.specs.InverseMaps.{WindowMap, IsInverseMap, rule_of, GivesBack}
-use Rattle.rule_text.specs.PrintedRules.{printed, offset_text}
+use Rattle.inverse_table.specs.InverseMaps.{WindowMap, IsInverseMap, map_rule, GivesBack}
+use Rattle.rule_text.specs.PrintedRules.{printed_rule, offset_text}
 use Rattle.ca_cli.specs.Lines.{line}
 
 -- the four lines of a map over a window: the window, where the cells that it reads begin, its letters, and what is said of it as a rule
@@ -17,8 +17,8 @@ map_lines n c g rule =
 
 -- the map is a rule with this text, or it breaks a limit of rules
 pub data IsMapRule (g : WindowMap) : List ℕ → Type 0 where
-  Rule : IsRule (rule_of g) → IsMapRule g (printed (rule_of g))
-  NoRule : ¬ IsRule (rule_of g) → IsMapRule g (codes "none")
+  Rule : IsRule (map_rule g) → IsMapRule g (printed_rule (map_rule g))
+  NoRule : ¬ IsRule (map_rule g) → IsMapRule g (codes "none")
 
 -- the rule is injective, and these are the four lines of its inverse over the least determined window
 pub record IsInverse (r : LocalRule) (out : List ℕ) : Type 0 where

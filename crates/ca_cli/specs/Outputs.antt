@@ -11,7 +11,7 @@ use Rattle.rule_algebra.specs.AlgebraFaults.{shift_fault, widen_fault, compose_f
 use Rattle.rule_algebra.specs.declared.fault.AlgebraFault.{AlgebraFault}
 use Rattle.rule_algebra.specs.declared.fault.AlgebraFault.TheVariants as algebra
 use Rattle.rule_text.specs.RuleTexts.{IsOffset, decimal_value}
-use Rattle.rule_text.specs.PrintedRules.{printed}
+use Rattle.rule_text.specs.PrintedRules.{printed_rule}
 use Rattle.rule_text.specs.declared.text_fault.TextFault.{TextFault}
 use Rattle.cert_format.specs.declared.cert_version.CertVersion.{CertVersion}
 use Rattle.cert_format.specs.declared.cert_version.CertVersion.TheVariants as version
@@ -43,7 +43,7 @@ use Rattle.ca_cli.specs.ClassSummaries.{IsClassSummary}
 
 -- the line of an accepted rule
 abbrev pub IsRuleLine : LocalRule → List ℕ → Type 0
-IsRuleLine g out = IsRule g × (out ≡ line (printed g))
+IsRuleLine g out = IsRule g × (out ≡ line (printed_rule g))
 
 -- the certificate that is written for a rule and weights of its letters
 abbrev pub IsCertified : CertVersion → LocalRule → List ℕ → List ℕ → Type 0

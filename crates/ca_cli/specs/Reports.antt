@@ -5,7 +5,7 @@ use Rattle.std.specs.Fmt.{decimal}
 use Rattle.word_image.specs.Digits.{word_text}
 use Rattle.word_image.specs.LocalRules.{LocalRule, wolfram_number}
 use Rattle.tail_config.specs.TailTexts as tail
-use Rattle.rule_text.specs.PrintedRules.{printed, offset_text}
+use Rattle.rule_text.specs.PrintedRules.{printed_rule, offset_text}
 use Rattle.cert_format.specs.Evidence.{InjectiveEvidence, SideEvidence, SumEvidence, Window, Twins, Ahead, Split, Flux, Ring}
 use Rattle.certificate_laws.specs.LeastEvidence.{Evidence, IsOrphanPart, IsLeastEvidence, close_both}
 use Rattle.ca_cli.specs.Lines.{line}
@@ -37,7 +37,7 @@ conserving_line (Ring p) = line (codes "conserving no ring " ++ word_text p)
 -- the eight lines
 abbrev pub report_of : Evidence → List ℕ
 report_of e =
-    line (codes "rule " ++ printed e.rule) ++ number_line e.rule ++ surjective_line e.orphan ++ injective_line e.injective
+    line (codes "rule " ++ printed_rule e.rule) ++ number_line e.rule ++ surjective_line e.orphan ++ injective_line e.injective
     ++ side_line (codes "right") e.right ++ side_line (codes "left") e.left ++ line (if close_both e.right e.left then codes "open yes" else codes "open no")
     ++ conserving_line e.conserving
 

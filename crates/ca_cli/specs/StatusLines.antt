@@ -4,7 +4,7 @@ use Rattle.std.specs.List.{join_by}
 use Rattle.std.specs.Fmt.{decimal}
 use Rattle.word_image.specs.Digits.{word_text}
 use Rattle.word_image.specs.Weights.{own_weights}
-use Rattle.rule_text.specs.PrintedRules.{printed}
+use Rattle.rule_text.specs.PrintedRules.{printed_rule}
 use Rattle.rule_text.specs.declared.text_fault.TextFault.{TextFault}
 use Rattle.rule_algebra.specs.declared.fault.AlgebraFault.{AlgebraFault}
 use Rattle.rule_algebra.specs.declared.fault.AlgebraFault.TheVariants as algebra
@@ -71,7 +71,7 @@ weights_lines weights = if bytes_eq weights (own_weights (length weights)) then 
 -- the seven lines, and that of the weights
 abbrev pub accepted_lines : Verdicts → List ℕ
 accepted_lines v =
-    line (codes "accepted " ++ printed v.rule) ++ verdict_line (codes "surjective") v.surjective ++ verdict_line (codes "injective") v.injective
+    line (codes "accepted " ++ printed_rule v.rule) ++ verdict_line (codes "surjective") v.surjective ++ verdict_line (codes "injective") v.injective
     ++ verdict_line (codes "right") v.right ++ verdict_line (codes "left") v.left ++ verdict_line (codes "open") (is_open v)
     ++ verdict_line (codes "conserving") v.conserving ++ weights_lines v.weights
 

@@ -22,13 +22,13 @@ small_tray = empty_tray 3 1 (1 ∷ [])
 first_write : tray.count_to_take small_tray 2 ≡ 1
 first_write = refl
 
-second_write : tray.fails_next (after_taking small_tray (codes "a")) ≡ true
+second_write : tray.next_write_fails (after_taking small_tray (codes "a")) ≡ true
 second_write = refl
 
-third_write : tray.fails_next (after_fault (after_taking small_tray (codes "a"))) ≡ false
+third_write : tray.next_write_fails (after_fault (after_taking small_tray (codes "a"))) ≡ false
 third_write = refl
 
-full_tray : tray.fails_next (after_taking small_tray (codes "aeg")) ≡ true
+full_tray : tray.next_write_fails (after_taking small_tray (codes "aeg")) ≡ true
 full_tray = refl
 
 -- Three bytes, two in a call, and the call 1 fails
@@ -39,5 +39,5 @@ small_feed = whole_feed (codes "abc") 2 (1 ∷ [])
 first_read : feed.count_to_give small_feed 8 ≡ 2
 first_read = refl
 
-second_read : feed.fails_next (after_giving small_feed 2) ≡ true
+second_read : feed.next_read_fails (after_giving small_feed 2) ≡ true
 second_read = refl

@@ -21,8 +21,8 @@ abbrev pub whole_feed : List ℕ → ℕ → List ℕ → Feed
 whole_feed bytes piece failing = record { piece = piece; failing = failing; calls = 0; faults = 0; left = bytes }
 
 -- the number of the next call is listed
-abbrev pub fails_next : Feed → Bool
-fails_next f = list_any (λ n. n == f.calls) f.failing
+abbrev pub next_read_fails : Feed → Bool
+next_read_fails f = list_any (λ n. n == f.calls) f.failing
 
 -- how many bytes the next call gives into a buffer of this length if it doesn't fail: the most that the longest piece and the bytes left allow
 abbrev pub count_to_give : Feed → ℕ → ℕ

@@ -24,8 +24,8 @@ empty_tray room piece failing =
     record { room = room; piece = piece; failing = failing; calls = 0; faults = 0; taken = [] }
 
 -- the number of the next call is listed, or the room is used up
-abbrev pub fails_next : Tray → Bool
-fails_next t = list_any (λ n. n == t.calls) t.failing || nat_le t.room (length t.taken)
+abbrev pub next_write_fails : Tray → Bool
+next_write_fails t = list_any (λ n. n == t.calls) t.failing || nat_le t.room (length t.taken)
 
 -- how many bytes of this length the next call takes if it doesn't fail: the most that the longest piece and the rest of the room allow
 abbrev pub count_to_take : Tray → ℕ → ℕ

@@ -1,7 +1,7 @@
 //! A sink in memory that fails at calls that its maker names.
 ghost use Rattle.std.specs.Prelude.{◌≡◌, ◌<◌, ◌≤◌, ◌↔◌, Some, length, take, IsErr, IsTrue, IfOk, IfErr, OnErr};
 ghost use Rattle.ca_io.specs.Faults.{CountsFaults};
-ghost use Rattle.ca_io.specs.Trays.{empty_tray, fails_next, count_to_take, after_taking, after_fault};
+ghost use Rattle.ca_io.specs.Trays.{empty_tray, next_write_fails, count_to_take, after_taking, after_fault};
 
 use crate::sinks::Sink;
 use crate::sources::Failed;
@@ -101,7 +101,7 @@ impl Sink for MemSink {
         ensures counted { CountsFaults self.old.faults self.new.faults result }
 
         // What this sink adds to the trait.
-        ensures fails { IsErr result ↔ IsTrue (fails_next self.old) }
+        ensures fails { IsErr result ↔ IsTrue (next_write_fails self.old) }
         ensures count { IfOk result (λ n. n ≡ count_to_take self.old (length piece.now)) }
         ensures took { IfOk result (λ n. self.new ≡ after_taking self.old (take n piece.now)) }
         ensures failed { OnErr result (self.new ≡ after_fault self.old) }

@@ -3,7 +3,7 @@ ghost use Rattle.std.specs.Prelude.{◌≡◌, [], ◌++◌, ◌≤◌, ◌<◌,
 ghost use Rattle.std.specs.Io.{ReadsAtMost};
 ghost use Rattle.std.specs.Io.KnownBytes.{ReadConsumes};
 ghost use Rattle.ca_io.specs.Faults.{CountsFaults};
-ghost use Rattle.ca_io.specs.Feeds.{whole_feed, fails_next, count_to_give, after_giving, after_failing};
+ghost use Rattle.ca_io.specs.Feeds.{whole_feed, next_read_fails, count_to_give, after_giving, after_failing};
 
 use crate::plain_source::PlainSource;
 use crate::sources::{Failed, Source};
@@ -73,7 +73,7 @@ impl Source for MemSource {
         ensures counted { CountsFaults self.old.faults self.new.faults result }
 
         // What this source adds to the trait.
-        ensures fails { IsErr result ↔ IsTrue (fails_next self.old) }
+        ensures fails { IsErr result ↔ IsTrue (next_read_fails self.old) }
         ensures count { IfOk result (λ n. n ≡ count_to_give self.old (length buf.old)) }
         ensures gave { IfOk result (λ n. buf.new ≡ take n self.old.left ++ drop n buf.old) }
         ensures rest { IfOk result (λ n. self.new ≡ after_giving self.old n) }

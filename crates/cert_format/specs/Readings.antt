@@ -50,8 +50,8 @@ abbrev pub IsShort : Data → ℕ → Type 0
 IsShort d n = IsWhole d n × (n ≤ 65535)
 
 -- null, or a whole number of sixteen bits
-abbrev pub IsRank : Data → Option ℕ → Type 0
-IsRank d o = IsClaimValue d o × IsClaim o
+abbrev pub IsRankValue : Data → Option ℕ → Type 0
+IsRankValue d o = IsClaimValue d o × IsClaim o
 
 -- at most a million either way
 abbrev pub IsNear : ℤ → Type 0

@@ -9,7 +9,7 @@ use Rattle.word_image.specs.Weights.{own_weights}
 use Rattle.word_image.specs.Digits.{lower_digit}
 use Rattle.tail_config.specs.Tails.{TailConfig}
 use Rattle.tail_config.specs.TailTexts as tail
-use Rattle.rule_text.specs.PrintedRules.{printed}
+use Rattle.rule_text.specs.PrintedRules.{printed_rule}
 use Rattle.cert_format.specs.Evidence.{SurjectiveEvidence, InjectiveEvidence, SideEvidence, SumEvidence, Sets, Pairs, Orphan, Window, Twins, Ahead, Split, Flux, Ring}
 use Rattle.cert_format.specs.Certificates.{Certificate}
 use Rattle.cert_format.specs.Versions.{number_of}
@@ -81,7 +81,7 @@ members_before rest c =
     (member (codes "left") (side_value c.left)
     (member (codes "ranks") (ranks_value c.forward c.backward)
     (member (codes "right") (side_value c.right)
-    (member (codes "rule") (string (printed c.rule))
+    (member (codes "rule") (string (printed_rule c.rule))
     (member (codes "surjective") (surjective_value c.surjective)
     (member (codes "version") (whole_value (number_of c.version)) rest)))))))
 

@@ -3,7 +3,7 @@ ghost use Rattle.std.specs.Prelude.{◌≡◌, ◌≢◌, List, length, IfOk, If
 ghost use Rattle.serde_json.specs.Data.{Data, array, item, no_items};
 ghost use Rattle.serde_json.specs.View.{view};
 ghost use Rattle.cert_format.specs.CertificateTexts.{IsArrayOf};
-ghost use Rattle.cert_format.specs.Readings.{IsByte, IsShort, IsRank, IsFlow};
+ghost use Rattle.cert_format.specs.Readings.{IsByte, IsShort, IsRankValue, IsFlow};
 
 use crate::misread::Misread;
 use serde_json::Value;
@@ -42,7 +42,7 @@ impl Item for u16 {
 }
 
 impl Item for Option<u16> {
-    ghost is_item = { IsRank };
+    ghost is_item = { IsRankValue };
 
     fn read(value: &Value) -> Option<Option<u16>> {
         if value.is_null() {

@@ -3,7 +3,7 @@ ghost use Rattle.std.specs.Prelude.{◌≡◌, ℕ, List, codes, map, IfOk, OnOk
 ghost use Rattle.serde_json.specs.Data.{string, no_members};
 ghost use Rattle.serde_json.specs.View.{view, members_view};
 ghost use Rattle.word_image.specs.LocalRules.{IsWord};
-ghost use Rattle.rule_text.specs.PrintedRules.{printed};
+ghost use Rattle.rule_text.specs.PrintedRules.{printed_rule};
 ghost use Rattle.cert_format.specs.Certificates.{Certificate};
 ghost use Rattle.cert_format.specs.Parts.{IsShaped};
 ghost use Rattle.cert_format.specs.CertificateTexts.{IsCertificateText};
@@ -199,7 +199,7 @@ fn tail_value(alloc: Global, tail: &Tail) -> Result<Value, AllocError>
 
 /// A rule's text.
 fn rule_value(alloc: Global, rule: &Rule) -> Result<Value, AllocError>
-    ensures { IfOk result (λ v. view v ≡ string (printed rule.now)) }
+    ensures { IfOk result (λ v. view v ≡ string (printed_rule rule.now)) }
 {
     prove!(rule.k() <= 16);
     Ok(text_value(rule_text::print(alloc, rule)?))

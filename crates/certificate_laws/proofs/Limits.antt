@@ -33,7 +33,7 @@ use Rattle.cert_format.specs.Versions.{lists_pairs}
 use Rattle.cert_format.specs.Readings.{IsNear}
 use Rattle.cert_check.proofs.laws.ExactEvidence.{Contains-full}
 use Rattle.certificate_laws.specs.LeastEvidence.{IsOrphanPart, IsInjectivePart, IsConservingPart}
-use Rattle.certificate_laws.specs.WrittenCertificates.{orphan_of, IsListPart, AreRanks}
+use Rattle.certificate_laws.specs.WrittenCertificates.{orphan_of, IsListPart, IsRankRow}
 use Rattle.certificate_laws.proofs.MetConditions.{AreLastSets-family}
 use Rattle.certificate_laws.proofs.PairLists.{below-reached}
 use Rattle.certificate_laws.proofs.CoverLists.{Contains-covers}
@@ -88,7 +88,7 @@ IsClaim-rank P rule few None endless = tt
 IsClaim-rank P rule few (Some n) rank = omega (arith, few n rank, pair_count-le rule)
 
 -- exact ranks, which are below the number of pairs, are within their limits
-pub IsRankShape-exact : {r : LocalRule} {row : List (Option ℕ)} (Together : ℕ → ℕ → ℕ → Type 0) → IsRule r → ((u v n : ℕ) → IsRank (Together u v) n → n < pair_count r) → AreRanks r Together row → IsRankShape r row
+pub IsRankShape-exact : {r : LocalRule} {row : List (Option ℕ)} (Together : ℕ → ℕ → ℕ → Type 0) → IsRule r → ((u v n : ℕ) → IsRank (Together u v) n → n < pair_count r) → IsRankRow r Together row → IsRankShape r row
 IsRankShape-exact {r} {row} Together rule few ranks =
     record {
       each_pair = ranks.each_pair;

@@ -29,12 +29,12 @@ use Rattle.cert_check.specs.Claims.{IsWindowPair, IsAheadPair}
 use Rattle.cert_check.specs.Sums.{Flows, IsLossy}
 use Rattle.cert_check.specs.Conditions.{MeetsConditions, OfSets, OfPairs, OfOrphan, OfWindow, OfTwins, OfAhead, OfSplit, OfFlux, OfRing}
 use Rattle.cert_check.proofs.laws.StepConditions.{at_listed}
-use Rattle.cert_check.proofs.laws.ClaimConditions.{AreApart, AreAlike}
-use Rattle.cert_check.proofs.laws.ExactEvidence.{AreLastSets, Contains-full, nonempty-last_sets, StepIsKept-last_sets, LeadsTo-orphan, AllFall-ranks, IsWindowPair-determined, IsAheadPair-ranks, AreAlike-twins, AreApart-right, AreApart-left, Flows-exact, IsLossy-ring}
+use Rattle.cert_check.proofs.laws.ClaimConditions.{AreSplit, AreAlike}
+use Rattle.cert_check.proofs.laws.ExactEvidence.{AreLastSets, Contains-full, nonempty-last_sets, StepIsKept-last_sets, LeadsTo-orphan, AllFall-ranks, IsWindowPair-determined, IsAheadPair-ranks, AreAlike-twins, AreSplit-right, AreSplit-left, Flows-exact, IsLossy-ring}
 use Rattle.certificate_laws.proofs.CoverLists.{Contains-covers, HasCover-listed}
 use Rattle.certificate_laws.proofs.PairLists.{pair_list-met}
 use Rattle.certificate_laws.specs.LeastEvidence.{IsOrphanPart, IsInjectivePart, IsRightPart, IsLeftPart, IsConservingPart}
-use Rattle.certificate_laws.specs.WrittenCertificates.{orphan_of, IsListPart, AreRanks, HasWrittenParts}
+use Rattle.certificate_laws.specs.WrittenCertificates.{orphan_of, IsListPart, IsRankRow, HasWrittenParts}
 
 -- each set of a family is the last nodes of a word
 pub IsLastSet-each : (r : LocalRule) (sets : List ℕ) (words : List (List ℕ)) → AllZip (IsLeastWordOf r) sets words → (set : ℕ) → Contains sets set → (w : List ℕ) × IsLastSet r w set
@@ -99,23 +99,23 @@ surjective-met version rule (Pairs pairs) surjective (three, reached) = let met 
 surjective-met version rule (Orphan w) least list = (tt, tt, tt, tt, tt, tt, LeadsTo-orphan rule least.orphan)
 
 -- the window is claimed of each pair; the twins are alike
-injective-met : {r : LocalRule} → IsRule r → (e : InjectiveEvidence) (forward backward : List (Option ℕ)) → AreRanks r (BeginTogether r) forward → AreRanks r (EndTogether r) backward
+injective-met : {r : LocalRule} → IsRule r → (e : InjectiveEvidence) (forward backward : List (Option ℕ)) → IsRankRow r (BeginTogether r) forward → IsRankRow r (EndTogether r) backward
     → IsInjectivePart r e → OfWindow e (λ n c. EachBelow (pair_count r) (IsWindowPair r forward backward n c)) × OfTwins e (AreAlike r)
 injective-met rule (Window n c) forward backward ranks back part =
     (IsWindowPair-determined rule forward backward ranks.ranks back.ranks n c part.1.determined, tt)
 injective-met rule (Twins x y) forward backward ranks back part = (tt, AreAlike-twins part.1.twins)
 
 -- the right look-ahead is claimed of each first pair; the right split is one
-right-met : {r : LocalRule} → IsRule r → (e : SideEvidence) (forward : List (Option ℕ)) → AreRanks r (BeginTogether r) forward → IsRightPart r e
-    → OfAhead e (λ n. EachBelow (pair_count r) (IsAheadPair (IsFirstOfRight r) forward n)) × OfSplit e (AreApart AgreeLeft r)
+right-met : {r : LocalRule} → IsRule r → (e : SideEvidence) (forward : List (Option ℕ)) → IsRankRow r (BeginTogether r) forward → IsRightPart r e
+    → OfAhead e (λ n. EachBelow (pair_count r) (IsAheadPair (IsFirstOfRight r) forward n)) × OfSplit e (AreSplit AgreeLeft r)
 right-met rule (Ahead n) forward ranks part = (IsAheadPair-ranks side.Right rule forward ranks.ranks n part.1.ahead, tt)
-right-met rule (Split x y) forward ranks part = (tt, AreApart-right part.1.split.split)
+right-met rule (Split x y) forward ranks part = (tt, AreSplit-right part.1.split.split)
 
 -- the same on the left
-left-met : {r : LocalRule} → IsRule r → (e : SideEvidence) (backward : List (Option ℕ)) → AreRanks r (EndTogether r) backward → IsLeftPart r e
-    → OfAhead e (λ n. EachBelow (pair_count r) (IsAheadPair (IsFirstOfLeft r) backward n)) × OfSplit e (AreApart AgreeRight r)
+left-met : {r : LocalRule} → IsRule r → (e : SideEvidence) (backward : List (Option ℕ)) → IsRankRow r (EndTogether r) backward → IsLeftPart r e
+    → OfAhead e (λ n. EachBelow (pair_count r) (IsAheadPair (IsFirstOfLeft r) backward n)) × OfSplit e (AreSplit AgreeRight r)
 left-met rule (Ahead n) backward back part = (IsAheadPair-ranks side.Left rule backward back.ranks n part.1.ahead, tt)
-left-met rule (Split x y) backward back part = (tt, AreApart-left (IsLeftSplit-least rule part.1))
+left-met rule (Split x y) backward back part = (tt, AreSplit-left (IsLeftSplit-least rule part.1))
 
 -- the flux flows on each window; the ring is lossy
 conserving-met : (weight : ℕ → ℕ) {r : LocalRule} → IsRule r → (e : SumEvidence) → IsConservingPart weight r e

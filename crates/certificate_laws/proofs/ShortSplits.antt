@@ -14,7 +14,7 @@ use Rattle.pair_laws.proofs.Aheads.{IsRightAhead-pairs}
 use Rattle.pair_laws.proofs.Endless.{Together-endless}
 use Rattle.tail_config.specs.Tails.{TailConfig}
 use Rattle.tail_config.specs.Splits.{IsNormalRightSplit, IsLeastRightSplit, splits_cmp}
-use Rattle.tail_laws.proofs.FirstPairs.{LeadsToLoop, split_of, normal_split-loop}
+use Rattle.tail_laws.proofs.FirstPairs.{LeadsToLoop, looped_tail, normal_split-loop}
 use Rattle.tail_laws.proofs.EndlessPairs.{LeadsToLoop-begin}
 use Rattle.tail_laws.proofs.Closing.{IsRightClosing-ahead}
 use Rattle.tail_laws.proofs.Verdicts.{no_right_closing}
@@ -28,18 +28,18 @@ record HasShortSplit (r : LocalRule) : Type 0 where
   pub short : length x.middle + length x.right ≤ r.width - 1 + 1 + pair_count r
 
 -- the middle of the configuration of a node, a letter, a walk and a loop
-length-split_of : (r : LocalRule) (node a : ℕ) (walk turn : List ℕ) → length (split_of r node a walk turn).middle ≡ r.width - 1 + 1 + length walk
-length-split_of r node a walk turn = omega (arith, length-append (word_of r.states (r.width - 1) node) (a ∷ walk), length-word_of r.states (r.width - 1) node)
+length-looped_tail : (r : LocalRule) (node a : ℕ) (walk turn : List ℕ) → length (looped_tail r node a walk turn).middle ≡ r.width - 1 + 1 + length walk
+length-looped_tail r node a walk turn = omega (arith, length-append (word_of r.states (r.width - 1) node) (a ∷ walk), length-word_of r.states (r.width - 1) node)
 
 -- a first pair that begins together for as long as there are pairs gives one
 HasShortSplit-begins : {r : LocalRule} {p : ℕ} → IsRule r → IsFirstOfRight r p → PairGoes Right r p (pair_count r) → HasShortSplit r
 HasShortSplit-begins {r} {p} rule f begins =
     let way : LeadsToLoop r p = subst (LeadsToLoop r) (pair_of-first_of r p) (LeadsToLoop-begin rule begins) in
     record {
-      x = split_of r f.node f.a way.first way.first_turn;
-      y = split_of r f.node f.b way.second way.second_turn;
+      x = looped_tail r f.node f.a way.first way.first_turn;
+      y = looped_tail r f.node f.b way.second way.second_turn;
       split = normal_split-loop rule f way;
-      short = omega (arith, length-split_of r f.node f.a way.first way.first_turn, way.within);
+      short = omega (arith, length-looped_tail r f.node f.a way.first way.first_turn, way.within);
     }
 
 -- a split with more letters of middle and period together comes later

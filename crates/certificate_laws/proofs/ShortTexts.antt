@@ -13,7 +13,7 @@ use Rattle.word_image.specs.Graphs.{pair_count}
 use Rattle.word_image.specs.Weights.{AreWeights}
 use Rattle.word_image.proofs.laws.RuleFaults.{window_count-le}
 use Rattle.tail_config.specs.TailTexts.{IsShortTail}
-use Rattle.rule_text.specs.PrintedRules.{offset_text, printed}
+use Rattle.rule_text.specs.PrintedRules.{offset_text, printed_rule}
 use Rattle.cert_format.specs.declared.cert_version.CertVersion.{CertVersion}
 use Rattle.cert_format.specs.declared.cert_version.CertVersion.TheVariants.{One, Two, Three}
 use Rattle.cert_format.specs.Versions.{number_of, names_weights}
@@ -36,7 +36,7 @@ use Rattle.certificate_laws.proofs.PairLists.{length-reached}
 use Rattle.certificate_laws.proofs.FamilySizes.{length-IsCoverList}
 use Rattle.certificate_laws.proofs.ShortOrphans.{length-IsLeastOrphan}
 use Rattle.certificate_laws.proofs.ShortWords.{length-IsLeastTwins, length-IsLeastLossyRing}
-use Rattle.certificate_laws.proofs.TextLengths.{length-quoted, length-word_value, length-tail_value, length-values, length-pair, length-member, length-only}
+use Rattle.certificate_laws.proofs.TextLengths.{length-quoted, length-word_value, length-tail_value, length-values, length-pair_text, length-member, length-only}
 
 -- a number of sixteen bits has at most five digits
 length-whole_value : (n : ℕ) → n ≤ 65535 → length (compact_text (whole_value n)) ≤ 5
@@ -58,8 +58,8 @@ length-offset_text (pos n) low high = let small : n ≤ 16 = omega (arith, ints)
 length-offset_text (negsuc n) low high = let small : n ≤ 15 = omega (arith, ints) in omega (arith, length-decimal-le 2 (n + 1) (omega arith) (omega arith) (omega arith))
 
 -- the printed form of a rule has at most 267
-length-printed : {r : LocalRule} → IsRule r → length (printed r) ≤ 267
-length-printed {r} rule =
+length-printed_rule : {r : LocalRule} → IsRule r → length (printed_rule r) ≤ 267
+length-printed_rule {r} rule =
     let shape = rule.shape in
     let k = length-decimal-le 2 r.states (omega arith) (omega (arith, shape.most_states)) (omega (arith, shape.most_states)) in
     let m = length-decimal-le 2 r.width (omega arith) (omega (arith, shape.most_width)) (omega (arith, shape.most_width)) in
@@ -93,7 +93,7 @@ length-injective_value rule (Window n c) shape part =
     )
 length-injective_value rule (Twins x y) shape part =
     let brief = length-IsLeastTwins rule part.1 in
-    omega (arith, brief.0, brief.1, length-only (codes "twins") (array_from (word_value x ∷ word_value y ∷ [])), length-pair (word_value x) (word_value y), length-word_value x, length-word_value y)
+    omega (arith, brief.0, brief.1, length-only (codes "twins") (array_from (word_value x ∷ word_value y ∷ [])), length-pair_text (word_value x) (word_value y), length-word_value x, length-word_value y)
 
 -- a look-ahead or a split
 length-side_value : (r : LocalRule) (e : SideEvidence) → IsSideShape r e → length (compact_text (side_value e)) ≤ 6300
@@ -101,7 +101,7 @@ length-side_value r (Ahead n) shape = omega (arith, length-only (codes "ahead") 
 length-side_value r (Split x y) shape =
     let first : IsShortTail r.states x = shape.0 in
     let second : IsShortTail r.states y = shape.1 in
-    omega (arith, length-only (codes "split") (array_from (tail_value x ∷ tail_value y ∷ [])), length-pair (tail_value x) (tail_value y), length-tail_value x, length-tail_value y)
+    omega (arith, length-only (codes "split") (array_from (tail_value x ∷ tail_value y ∷ [])), length-pair_text (tail_value x) (tail_value y), length-tail_value x, length-tail_value y)
 
 -- a flux or a ring
 length-sum_value : (weight : ℕ → ℕ) {r : LocalRule} → IsRule r → (e : SumEvidence) → IsSumShape r e → IsConservingPart weight r e → length (compact_text (sum_value e)) ≤ 200
@@ -147,7 +147,7 @@ short-own {c} shaped parts =
     let weights : Members = weights_members c.rule c.weights in
     let version : Members = member (codes "version") (whole_value (number_of c.version)) weights in
     let surjective : Members = member (codes "surjective") (surjective_value c.surjective) version in
-    let text : Members = member (codes "rule") (string (printed c.rule)) surjective in
+    let text : Members = member (codes "rule") (string (printed_rule c.rule)) surjective in
     let right : Members = member (codes "right") (side_value c.right) text in
     let ranks : Members = member (codes "ranks") (ranks_value c.forward c.backward) right in
     let left : Members = member (codes "left") (side_value c.left) ranks in
@@ -159,7 +159,7 @@ short-own {c} shaped parts =
       length-member true (codes "left") (side_value c.left) ranks,
       length-member true (codes "ranks") (ranks_value c.forward c.backward) right,
       length-member true (codes "right") (side_value c.right) text,
-      length-member true (codes "rule") (string (printed c.rule)) surjective,
+      length-member true (codes "rule") (string (printed_rule c.rule)) surjective,
       length-member true (codes "surjective") (surjective_value c.surjective) version,
       length-member true (codes "version") (whole_value (number_of c.version)) weights,
       length-weights_members rule c.weights (shaped.weights).each,
@@ -168,8 +168,8 @@ short-own {c} shaped parts =
       length-side_value c.rule c.left shaped.left,
       length-ranks_value rule shaped.forward shaped.backward,
       length-side_value c.rule c.right shaped.right,
-      length-quoted (printed c.rule),
-      length-printed rule,
+      length-quoted (printed_rule c.rule),
+      length-printed_rule rule,
       length-surjective_value c.version rule c.surjective shaped.surjective parts.least.surjective parts.list,
       length-whole_value (number_of c.version) (number_of-le c.version),
     )

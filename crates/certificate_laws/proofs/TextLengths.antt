@@ -124,8 +124,8 @@ pub length-values : {A : Type 0} (f : A → Data) (n : ℕ) (xs : List A) → Al
 length-values f n xs all = omega (arith, length-items_text n false (map f xs) (All-map (λ d. length (compact_text d) ≤ n) f xs all), ap (λ k. k * (n + 1)) (length-map xs f))
 
 -- an array of two values
-pub length-pair : (d e : Data) → length (compact_text (array_from (d ∷ e ∷ []))) ≡ length (compact_text d) + length (compact_text e) + 3
-length-pair d e =
+pub length-pair_text : (d e : Data) → length (compact_text (array_from (d ∷ e ∷ []))) ≡ length (compact_text d) + length (compact_text e) + 3
+length-pair_text d e =
     let rest : List ℕ = compact_text e ++ 93 ∷ [] in
     omega (arith, length-append (compact_text d) (44 ∷ rest), length-append (compact_text e) (93 ∷ []))
 

@@ -27,7 +27,7 @@ IsListPart version r (Pairs pairs) = (version ≡ Three) × AreReached r pairs
 IsListPart version r (Orphan w) = ⊤
 
 -- the rank of each pair, and nothing where it is endless
-pub record AreRanks (r : LocalRule) (Together : ℕ → ℕ → ℕ → Type 0) (row : List (Option ℕ)) : Type 0 where
+pub record IsRankRow (r : LocalRule) (Together : ℕ → ℕ → ℕ → Type 0) (row : List (Option ℕ)) : Type 0 where
   pub each_pair : length row ≡ pair_count r
   pub ranks : (p : ℕ) → p < pair_count r
       → MatchOption (get_or row p None) (IsEndless (Together (first_of r p) (second_of r p))) (IsRank (Together (first_of r p) (second_of r p)))
@@ -39,8 +39,8 @@ pub record HasWrittenParts (version : CertVersion) (r : LocalRule) (weights : Li
   pub least : IsLeastEvidence (slice_index weights) r
       (record { rule = c.rule; weights = c.weights; orphan = orphan_of c.surjective; injective = c.injective; right = c.right; left = c.left; conserving = c.conserving })
   pub list : IsListPart version r c.surjective
-  pub forward : AreRanks r (BeginTogether r) c.forward
-  pub backward : AreRanks r (EndTogether r) c.backward
+  pub forward : IsRankRow r (BeginTogether r) c.forward
+  pub backward : IsRankRow r (EndTogether r) c.backward
 
 -- this certificate is written for them: its evidence is the least, its text is accepted, and has fewer than 450,000 bytes
 pub record IsWritten (version : CertVersion) (r : LocalRule) (weights : List ℕ) (c : Certificate) : Type 0 where

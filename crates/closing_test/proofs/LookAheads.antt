@@ -91,20 +91,20 @@ IsLeastFor-next side {r} {Of} {i} {m} {n} rule before here e =
     subst (IsLeastFor (Below Of (i + 1)) (PairGoes side r)) (sym (e ∙ ord_max-max m n)) (IsLeastFor-same (below_next Of i) (IsLeastFor-max side rule before here))
 
 -- the two nodes at these ends
-pub record AreEnds (side : Side) (r : LocalRule) (w a u v : ℕ) : Type 0 where
+pub record AreEndNodes (side : Side) (r : LocalRule) (w a u v : ℕ) : Type 0 where
   pub first : u ≡ end_node side r w
   pub second : v ≡ end_node side r (with_end side r w a)
   pub node : v < node_count r
 
 -- their pair goes on together as they do
-pub end_pair-goes : (side : Side) (r : LocalRule) (w a u v n : ℕ) → AreEnds side r w a u v → PairGoes side r (end_pair side r w a) n ↔ Together side r u v n
+pub end_pair-goes : (side : Side) (r : LocalRule) (w a u v n : ℕ) → AreEndNodes side r w a u v → PairGoes side r (end_pair side r w a) n ↔ Together side r u v n
 end_pair-goes side r w a u v n ends =
     subst (λ p. PairGoes side r p n ↔ Together side r u v n) (ap₂ (pair_of r) ends.first ends.second) (PairGoes-pair_of side r u v n ends.node)
 
 -- what was found of a window and of one with another letter at its end, which has the same label
 pub record IsFound (side : Side) (r : LocalRule) (w a u v : ℕ) : Type 0 where
   pub first : AreFirst side r w a
-  pub ends : AreEnds side r w a u v
+  pub ends : AreEndNodes side r w a u v
 
 pub found : (side : Side) (r : LocalRule) (w a other u v : ℕ) → w < r.states ^ r.width → a < r.states → other ≡ with_end side r w a → other ≢ w
     → slice_index r.table other ≡ slice_index r.table w → u ≡ end_node side r w → v ≡ end_node side r other → v < node_count r → IsFound side r w a u v

@@ -16,7 +16,7 @@ use Rattle.debruijn.specs.Ends.{IsEnds}
 use Rattle.eden_laws.specs.ReachedPairs.{IsReached}
 use Rattle.eden_laws.specs.ReachedPairs.IsReached.{First, On}
 use Rattle.eden_laws.proofs.ReachedPairs.{IsSurjective-reached, IsReached-below, holds-reached}
-use Rattle.eden_law.specs.ReachedRows.{InRows, LeadsApart, LeadsBeside, AreRows, AreAdded, IsRowSearch}
+use Rattle.eden_law.specs.ReachedRows.{InRows, LeadsApart, LeadsBeside, AreNodeRows, AreAdded, IsRowSearch}
 
 -- one row is written, and the others stay
 pub row_cases : (rows : List ℕ) (i row u : ℕ) → i < length rows → ((u ≡ i) × (slice_index (slice_set rows i row) u ≡ row)) ⊎ ((u ≢ i) × (slice_index (slice_set rows i row) u ≡ slice_index rows u))
@@ -24,7 +24,7 @@ row_cases rows i row u inside =
     ⊎_elim (λ same. inl (same, get_or-set_at rows i u row 0 same inside)) (λ other. inr (other, get_or-set_other rows i u row 0 other)) (cases_eq u i)
 
 -- with no letter nothing is added
-pub AreAdded-start : {r : LocalRule} {node : ℕ} (Has : ℕ → ℕ → Type 0) {rows : List ℕ} → AreRows r rows → AreAdded r node Has 0 rows rows
+pub AreAdded-start : {r : LocalRule} {node : ℕ} (Has : ℕ → ℕ → Type 0) {rows : List ℕ} → AreNodeRows r rows → AreAdded r node Has 0 rows rows
 AreAdded-start Has h = record {
   rows = h;
   grown = λ u l. omega arith;
@@ -128,7 +128,7 @@ LeadsBeside-set node set a label_a others labelled h v hv = (
 )
 
 -- at the beginning nothing was found
-pub IsRowSearch-start : {r : LocalRule} {rows : List ℕ} → AreRows r rows → ((u : ℕ) → u < node_count r → slice_index rows u ≡ 0) → IsRowSearch r rows rows
+pub IsRowSearch-start : {r : LocalRule} {rows : List ℕ} → AreNodeRows r rows → ((u : ℕ) → u < node_count r → slice_index rows u ≡ 0) → IsRowSearch r rows rows
 IsRowSearch-start {r} {rows} h none =
     let empty : (u v : ℕ) → u < node_count r → ¬ InRows rows u v = λ u v hu some. IsBitSet-zero v (subst (λ x. IsBitSet x v) (none u hu) some) in
     record {

@@ -27,19 +27,19 @@ pub record LeadsBeside (r : LocalRule) (node set a v : ℕ) : Type 0 where
   pub leads : next r other b ≡ v
 
 -- rows of sets of nodes
-pub record AreRows (r : LocalRule) (rows : List ℕ) : Type 0 where
+pub record AreNodeRows (r : LocalRule) (rows : List ℕ) : Type 0 where
   pub long : length rows ≡ 16
   pub within : (u : ℕ) → u < node_count r → slice_index rows u < 2 ^ node_count r
 
 -- the pairs of where the first n letters lead from the node, each with what it has, were added
 pub record AreAdded (r : LocalRule) (node : ℕ) (Has : ℕ → ℕ → Type 0) (n : ℕ) (old new : List ℕ) : Type 0 where
-  pub rows : AreRows r new
+  pub rows : AreNodeRows r new
   pub grown : (u : ℕ) → u < node_count r → slice_index old u ≤ slice_index new u
   pub pairs : (u v : ℕ) → u < node_count r → v < node_count r → (InRows new u v ↔ (InRows old u v ⊎ ((a : ℕ) × (a < n) × (next r node a ≡ u) × Has a v)))
 
 -- all that was found is reached and has two different nodes, and the steps from what was followed lead to what was found
 pub record IsRowSearch (r : LocalRule) (found followed : List ℕ) : Type 0 where
-  pub rows : AreRows r found
+  pub rows : AreNodeRows r found
   pub long : length followed ≡ 16
   pub behind : (u : ℕ) → u < node_count r → slice_index followed u ≤ slice_index found u
   pub reached : (u v : ℕ) → u < node_count r → v < node_count r → InRows found u v → IsReached r (pair_of r u v)

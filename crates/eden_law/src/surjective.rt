@@ -4,7 +4,7 @@ ghost use Rattle.word_image.specs.LocalRules.{node_count};
 ghost use Rattle.word_image.specs.Graphs.{next};
 ghost use Rattle.word_image.specs.Words.{IsSurjective};
 ghost use Rattle.tail_config.specs.Tails.{IsInjective, IsRightClosing, IsLeftClosing};
-ghost use Rattle.eden_law.specs.ReachedRows.{InRows, LeadsApart, LeadsBeside, AreRows, AreAdded, IsRowSearch};
+ghost use Rattle.eden_law.specs.ReachedRows.{InRows, LeadsApart, LeadsBeside, AreNodeRows, AreAdded, IsRowSearch};
 
 use debruijn::Graph;
 use image_subsets::step;
@@ -35,7 +35,7 @@ pub fn is_surjective(graph: &Graph) -> bool
 /// Adds the first pairs of the right to which letters lead from this node.
 fn add_firsts(graph: &Graph, node: u8, found: &mut Rows)
     requires node { node < node_count graph.now }
-    requires rows { AreRows graph.now found.old }
+    requires rows { AreNodeRows graph.now found.old }
     ensures { AreAdded graph.now node (LeadsApart graph.now node) graph.now.states found.old found.new }
 {
     for a in 0..graph.k() {
@@ -82,7 +82,7 @@ fn open_row(nodes: u8, found: &Rows, followed: &Rows) -> Option<u8>
 fn add_steps(graph: &Graph, node: u8, set: u16, found: &mut Rows) -> bool
     requires node { node < node_count graph.now }
     requires set { set < 2 ^ node_count graph.now }
-    requires rows { AreRows graph.now found.old }
+    requires rows { AreNodeRows graph.now found.old }
     ensures added { IsTrue result → AreAdded graph.now node (LeadsBeside graph.now node set) graph.now.states found.old found.new }
     ensures apart { IsTrue result → (a : ℕ) → a < graph.now.states → ¬ LeadsBeside graph.now node set a (next graph.now node a) }
     ensures meets { IsFalse result → (a : ℕ) × (a < graph.now.states) × LeadsBeside graph.now node set a (next graph.now node a) }

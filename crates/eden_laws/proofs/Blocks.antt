@@ -61,8 +61,8 @@ pub record IsWithout (q v : ℕ) (ds : List ℕ) : Type 0 where
   pub none : All (λ d. d ≢ v) ds
 
 -- such a list as one number: v is left out in the place of q
-abbrev pub code : ℕ → ℕ → List ℕ → ℕ
-code q v ds = value q (map (moved q v) ds)
+abbrev pub block_code : ℕ → ℕ → List ℕ → ℕ
+block_code q v ds = value q (map (moved q v) ds)
 
 -- the numbers are then below q
 IsWord-moved : {q v : ℕ} {ds : List ℕ} → IsWithout q v ds → IsWord q (map (moved q v) ds)
@@ -72,8 +72,8 @@ IsWord-moved {q} {v} {ds} h =
     ⊎_elim (λ at. omega (arith, at.0, at.1, h.left_out, h.none i d l)) (λ at. omega (arith, at.0, at.1)) (but_cases (λ x. x) q v (get_or ds i d)))
 
 -- so this one is below q ^ j
-pub code-below : {q v : ℕ} {ds : List ℕ} → IsWithout q v ds → code q v ds < q ^ length ds
-code-below {q} {v} {ds} h = subst (λ n. code q v ds < q ^ n) (length-map ds (moved q v)) (value-below q (map (moved q v) ds) (IsWord-moved h))
+pub block_code-below : {q v : ℕ} {ds : List ℕ} → IsWithout q v ds → block_code q v ds < q ^ length ds
+block_code-below {q} {v} {ds} h = subst (λ n. block_code q v ds < q ^ n) (length-map ds (moved q v)) (value-below q (map (moved q v) ds) (IsWord-moved h))
 
 -- what is moved comes back
 moved-back : (q v d : ℕ) → d ≢ v → moved v q (moved q v d) ≡ d
@@ -89,8 +89,8 @@ map-moved_back q v (d ∷ ds) none =
     ap₂ (λ (c : ℕ) (es : List ℕ). c ∷ es) (moved-back q v d (All-head (λ d. d ≢ v) d ds none)) (map-moved_back q v ds (All-tail (λ d. d ≢ v) d ds none))
 
 -- lists of one length with one number are one
-pub code-injective : {q v : ℕ} {ds es : List ℕ} → IsWithout q v ds → IsWithout q v es → length ds ≡ length es → code q v ds ≡ code q v es → ds ≡ es
-code-injective {q} {v} {ds} {es} h g long e =
+pub block_code-injective : {q v : ℕ} {ds es : List ℕ} → IsWithout q v ds → IsWithout q v es → length ds ≡ length es → block_code q v ds ≡ block_code q v es → ds ≡ es
+block_code-injective {q} {v} {ds} {es} h g long e =
     sym (map-moved_back q v ds h.none)
     ∙ ap (map (moved v q)) (value-injective q (map (moved q v) ds) (map (moved q v) es) (IsWord-moved h) (IsWord-moved g) (length-map ds (moved q v) ∙ long ∙ sym (length-map es (moved q v))) e)
     ∙ map-moved_back q v es g.none

@@ -12,7 +12,7 @@ use Rattle.word_image.proofs.laws.Words.{IsWord-image, length-image}
 use Rattle.word_image.proofs.laws.Searches.{some_below, twice_below}
 use Rattle.eden_laws.proofs.Powers.{fewer_blocks}
 use Rattle.eden_laws.proofs.Changes.{moved}
-use Rattle.eden_laws.proofs.Blocks.{blocks, length-blocks, IsWord-blocks, spread, spread-blocks, HasBlocks, last-below, IsWithout, IsWithout-moved, code, code-below, code-injective}
+use Rattle.eden_laws.proofs.Blocks.{blocks, length-blocks, IsWord-blocks, spread, spread-blocks, HasBlocks, last-below, IsWithout, IsWithout-moved, block_code, block_code-below, block_code-injective}
 use Rattle.eden_laws.proofs.Exchange.{IsErasable-long, image-replaced}
 use Rattle.eden_laws.proofs.Orphans.{IsErasable-orphan}
 
@@ -80,14 +80,14 @@ image-kept {r} {x} {y} rule h j z word long =
 
 -- these blocks and the last m - 1 letters as one number
 abbrev number : LocalRule → List ℕ → List ℕ → ℕ → List ℕ → ℕ
-number r x y j z = code (r.states ^ length x - 1) (value r.states y) (kept r x y j z) * node_count r + value r.states (drop (j * length x) z)
+number r x y j z = block_code (r.states ^ length x - 1) (value r.states y) (kept r x y j z) * node_count r + value r.states (drop (j * length x) z)
 
 -- the number is below N * q ^ j
 number-below : {r : LocalRule} {x y : List ℕ} → IsErasable r x y → (j : ℕ) (z : List ℕ) → HasBlocks r (length x) j z → number r x y j z < node_count r * (r.states ^ length x - 1) ^ j
 number-below {r} {x} {y} h j z is =
     let q : ℕ = r.states ^ length x - 1 in
-    let below = code-below (IsWithout-kept h j z is.word (omega (arith, is.long))) in
-    mul-add-lt _ (node_count r) _ (q ^ j) (subst (λ n. code q (value r.states y) (kept r x y j z) < q ^ n) (length-kept r x y j z) below) (last-below r (j * length x) z is.word is.long)
+    let below = block_code-below (IsWithout-kept h j z is.word (omega (arith, is.long))) in
+    mul-add-lt _ (node_count r) _ (q ^ j) (subst (λ n. block_code q (value r.states y) (kept r x y j z) < q ^ n) (length-kept r x y j z) below) (last-below r (j * length x) z is.word is.long)
 
 -- words with one number have one image
 image-number : {r : LocalRule} {x y : List ℕ} → IsRule r → IsErasable r x y → (j : ℕ) (u v : List ℕ) → HasBlocks r (length x) j u → HasBlocks r (length x) j v
@@ -99,7 +99,7 @@ image-number {r} {x} {y} rule h j u v hu hv e =
     let long_v : n ≤ length v = omega (arith, hv.long) in
     let parts = same_from_place _ _ _ _ (node_count r) (last-below r n u hu.word hu.long) (last-below r n v hv.word hv.long) e in
     let same : kept r x y j u ≡ kept r x y j v =
-    code-injective (IsWithout-kept h j u hu.word long_u) (IsWithout-kept h j v hv.word long_v) (length-kept r x y j u ∙ sym (length-kept r x y j v)) parts.0 in
+    block_code-injective (IsWithout-kept h j u hu.word long_u) (IsWithout-kept h j v hv.word long_v) (length-kept r x y j u ∙ sym (length-kept r x y j v)) parts.0 in
     let back : drop n u ≡ drop n v =
     value-injective k (drop n u) (drop n v) (All-drop (λ a. a < k) n u hu.word) (All-drop (λ a. a < k) n v hv.word) (omega (arith, length-drop n u, length-drop n v, hu.long, hv.long)) parts.1 in
     image-kept rule h j u hu.word long_u

@@ -3,7 +3,7 @@ ghost use Rattle.std.specs.Prelude.{◌≡◌, ◌-◌, ◌/◌, ◌^◌, ◌<�
 ghost use Rattle.word_image.specs.LocalRules.{node_count};
 ghost use Rattle.word_image.specs.Rings.{IsFlux};
 ghost use Rattle.ring_laws.proofs.FluxWalks.{walk_gain, walk_gains};
-ghost use Rattle.ring_laws.proofs.FluxWindows.{window_gain, Flows};
+ghost use Rattle.ring_laws.proofs.FluxWindows.{window_gain, FlowsAt};
 
 use word_image::{MOST_NODES, Rule, Weights};
 
@@ -75,7 +75,7 @@ fn flows(rule: &Rule, weights: &Weights, numbers: &[i32], window: u16) -> bool
     requires letters { length weights.now ≡ rule.now.states }
     requires nodes { length numbers.now ≡ node_count rule.now }
     requires window { window < rule.now.states ^ rule.now.width }
-    ensures { IsTrue result ↔ Flows (slice_index weights.now) rule.now numbers.now window }
+    ensures { IsTrue result ↔ FlowsAt (slice_index weights.now) rule.now numbers.now window }
 {
     let first = numbers[usize::from(window / u16::from(rule.k()))];
     let last = numbers[usize::from(window % u16::from(rule.nodes()))];

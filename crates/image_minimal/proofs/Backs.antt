@@ -15,8 +15,8 @@ abbrev pub IsLedInto : LocalRule → ℕ → ℕ → ℕ → Type 0
 IsLedInto r set a u = (b : ℕ) → b < r.states → label r u b ≡ a → IsBitSet set (next r u b)
 
 -- node v is u, and all edges labelled a lead from it into the set
-abbrev pub LeadsInto : LocalRule → ℕ → ℕ → ℕ → ℕ → Type 0
-LeadsInto r set a u v = (v ≡ u) × IsLedInto r set a u
+abbrev pub IsNodeLedInto : LocalRule → ℕ → ℕ → ℕ → ℕ → Type 0
+IsNodeLedInto r set a u v = (v ≡ u) × IsLedInto r set a u
 
 -- where the set lacks none of the ends, all edges lead into it
 pub all_led : {r : LocalRule} {u a ends set : ℕ} → IsRule r → set < 2 ^ 16 → IsEnds r u a ends → bit_and ends (65535 - set) ≡ 0 → IsLedInto r set a u
@@ -38,7 +38,7 @@ not_led {r} {u} {a} {ends} {set} rule small h some led =
     missing (subst (IsBitSet set) same (led b letter labelled))
 
 -- the union over all nodes is the nodes from which all edges lead into the set
-pub IsBack-union : {r : LocalRule} {set a before : ℕ} → IsUnion (node_count r) (LeadsInto r set a) (node_count r) before → IsBack r set a before
+pub IsBack-union : {r : LocalRule} {set a before : ℕ} → IsUnion (node_count r) (IsNodeLedInto r set a) (node_count r) before → IsBack r set a before
 IsBack-union {r} {set} {a} {before} h = record {
   within = h.within;
   nodes = λ v l. (

@@ -6,11 +6,11 @@ use Rattle.std.proofs.lemmas.Option.{slice_get-get_or, get_or_from_slice_get, no
 use Rattle.std.proofs.lemmas.List.{get_or-replicate, length-set, length-replicate}
 use Rattle.word_image.proofs.laws.Places.{slice_get-append, slice_get-push, slice_get-push_cases, Contains-slice_get, slice_get-Contains, slice_get-set_same, slice_get-set_other, slice_get-set_before}
 use Rattle.word_image.proofs.laws.Searches.{twice_below}
-use Rattle.image_minimal.specs.Indexes.{IsIndex, IsPlaceOf, IsInserted}
+use Rattle.image_minimal.specs.Indexes.{IsExactIndex, IsPlaceOf, IsInsertedAt}
 
 -- an index of nothing
-pub IsIndex-start : (n : ℕ) → n ≡ 65536 → IsIndex [] (replicate n None)
-IsIndex-start n all = record {
+pub IsExactIndex-start : (n : ℕ) → n ≡ 65536 → IsExactIndex [] (replicate n None)
+IsExactIndex-start n all = record {
   long = length-replicate {A = Option ℕ} n None ∙ all;
   within = λ i set at. absurd (none-some set at);
   each = λ set i l. (
@@ -23,7 +23,7 @@ IsIndex-start n all = record {
 }
 
 -- the place of a set is what the index has at it
-pub IsPlaceOf-index : {sets : List ℕ} {places : List (Option ℕ)} → IsIndex sets places → (set : ℕ) → set < 65536 → (place : Option ℕ) → slice_get places set ≡ Some place → IsPlaceOf sets set place
+pub IsPlaceOf-index : {sets : List ℕ} {places : List (Option ℕ)} → IsExactIndex sets places → (set : ℕ) → set < 65536 → (place : Option ℕ) → slice_get places set ≡ Some place → IsPlaceOf sets set place
 IsPlaceOf-index {sets} {places} h set small None at = λ has.
     let (i, stands) = slice_get-Contains sets set has in
     let there = (h.each set i small).1 stands in
@@ -31,29 +31,29 @@ IsPlaceOf-index {sets} {places} h set small None at = λ has.
 IsPlaceOf-index h set small (Some i) at = (h.each set i small).0 at
 
 -- a set has one place
-IsIndex-apart : {sets : List ℕ} {places : List (Option ℕ)} → IsIndex sets places → (i j set : ℕ) → slice_get sets i ≡ Some set → slice_get sets j ≡ Some set → i ≡ j
-IsIndex-apart {sets} {places} h i j set at also =
+IsExactIndex-apart : {sets : List ℕ} {places : List (Option ℕ)} → IsExactIndex sets places → (i j set : ℕ) → slice_get sets i ≡ Some set → slice_get sets j ≡ Some set → i ≡ j
+IsExactIndex-apart {sets} {places} h i j set at also =
     let small = h.within i set at in
     let one = (h.each set i small).1 at in
     let two = (h.each set j small).1 also in
     cc
 
 -- so there are at most 65,536 sets
-pub length-listed-le : {sets : List ℕ} {places : List (Option ℕ)} → IsIndex sets places → length sets ≤ 65536
+pub length-listed-le : {sets : List ℕ} {places : List (Option ℕ)} → IsExactIndex sets places → length sets ≤ 65536
 length-listed-le {sets} h =
     let at : (i : ℕ) → i < length sets → slice_get sets i ≡ Some (slice_index sets i) = λ i l. slice_get-get_or sets i 0 l in
     ⊎_elim
     (λ past.
     let (i, j, less, most, same) = twice_below 65536 (slice_index sets) (λ i l. h.within i (slice_index sets i) (at i (omega arith))) in
-    let one = IsIndex-apart h i j (slice_index sets i) (at i (omega arith)) (subst (λ s. slice_get sets j ≡ Some s) (sym same) (at j (omega arith))) in
+    let one = IsExactIndex-apart h i j (slice_index sets i) (at i (omega arith)) (subst (λ s. slice_get sets j ≡ Some s) (sym same) (at j (omega arith))) in
     absurd (omega (arith, one, less)))
     (λ le. le)
     (cases_lt 65536 (length sets))
 
 -- a set that is new is put at the end
-pub IsIndex-push : {sets : List ℕ} {places : List (Option ℕ)} → IsIndex sets places → (new : ℕ) → new < 65536 → ¬ Contains sets new
-    → IsIndex (sets ++ new ∷ []) (set places new (Some (length sets)))
-IsIndex-push {sets} {places} h new small none =
+pub IsExactIndex-push : {sets : List ℕ} {places : List (Option ℕ)} → IsExactIndex sets places → (new : ℕ) → new < 65536 → ¬ Contains sets new
+    → IsExactIndex (sets ++ new ∷ []) (set places new (Some (length sets)))
+IsExactIndex-push {sets} {places} h new small none =
     let last = Some (length sets) in
     let there : slice_get (set places new last) new ≡ Some last = slice_get-set_same places new last (omega (arith, h.long)) in
     record {
@@ -81,15 +81,15 @@ IsIndex-push {sets} {places} h new small none =
     }
 
 -- what stood in the list stands there after an insertion
-pub IsInserted-kept : {old new : List ℕ} {set place : ℕ} → IsInserted old new set place → (i x : ℕ) → slice_get old i ≡ Some x → slice_get new i ≡ Some x
-IsInserted-kept {old} {new} {set} h i x at =
+pub IsInsertedAt-kept : {old new : List ℕ} {set place : ℕ} → IsInsertedAt old new set place → (i x : ℕ) → slice_get old i ≡ Some x → slice_get new i ≡ Some x
+IsInsertedAt-kept {old} {new} {set} h i x at =
     ⊎_elim
     (λ same. subst (λ l. slice_get l i ≡ Some x) (sym same) at)
     (λ longer. subst (λ l. slice_get l i ≡ Some x) (sym longer.1) (slice_get-append old (set ∷ []) i x at))
     h.grown
 
 -- what is put into an empty list stands there alone
-pub inserted_first : {old new : List ℕ} {set place : ℕ} → old ≡ [] → IsInserted old new set place → new ≡ set ∷ []
+pub inserted_first : {old new : List ℕ} {set place : ℕ} → old ≡ [] → IsInsertedAt old new set place → new ≡ set ∷ []
 inserted_first {old} {new} {set} {place} none h =
     ⊎_elim
     (λ same.

@@ -20,7 +20,7 @@ use Rattle.image_minimal.specs.Links.Chain.{Stay, Forth}
 use Rattle.image_minimal.specs.Joins.{Rises, IsHalved, IsUnited}
 use Rattle.image_minimal.specs.Joins.Rises.{Rest, Rise}
 use Rattle.image_minimal.proofs.laws.Chains.{Chain-then, Chain-sym, Chain-more, Chain-later}
-use Rattle.image_minimal.proofs.laws.LinkWords.{place_at}
+use Rattle.image_minimal.proofs.laws.LinkWords.{link_place_at}
 
 -- a number is joined to each one to which it leads
 Chain-rises : {r q : LocalRule} {links : List Link} {e : ℕ} {parents : List ℕ} {x y : ℕ} → AreJoined r q links e parents → Rises parents x y → Chain (2 ^ node_count r) r.states links e x y
@@ -56,7 +56,7 @@ AreJoined-united {r} {q} {links} {e} {parents} {new} {s} {t} h united y later l 
 IsLinking-there : {r q : LocalRule} {links : List Link} (h a : ℕ) → IsLinking r q links (h * r.states + a) → (x : Link) (s t : ℕ) → slice_get links h ≡ Some x → a < r.states
     → IsStep r x.first a s → IsStep q x.second a t → HasChain r links (s, t) (h * r.states + a + 1) → IsLinking r q links (h * r.states + a + 1)
 IsLinking-there {r} {q} {links} h a linking x s t head letter one two chain = record {
-  fills = IsFilled-there linking.fills h a (link_place x) refl letter (place_at links h x head)
+  fills = IsFilled-there linking.fills h a (link_place x) refl letter (link_place_at links h x head)
       (λ p step. subst₂ (λ u v. HasChain r links (u, v) (h * r.states + a + 1)) (IsStep-unique one step.0) (IsStep-unique two step.1) chain);
   even = linking.even;
 }
@@ -69,7 +69,7 @@ IsLinking-new {r} {q} {links} h a linking x y head letter parent by one two even
     let e = h * r.states + a + 1 in
     record {
       fills = subst (λ tree. IsFilled (LinkStep r q) (HasChain r (links ++ y ∷ [])) r.states (full_set r, full_set q) tree e) (sym (map-append link_place links (y ∷ [])))
-          (IsFilled-new linking.fills h a (link_place x) (link_place y) refl letter (place_at links h x head) parent by (one, two)
+          (IsFilled-new linking.fills h a (link_place x) (link_place y) refl letter (link_place_at links h x head) parent by (one, two)
           (λ p f met. Chain-more met (y ∷ []) f (omega arith))
           (λ p step _. subst₂ (λ u v. HasChain r (links ++ y ∷ []) (u, v) e) (IsStep-unique one step.0) (IsStep-unique two step.1) chain));
       even = λ i z at. ⊎_elim (λ before. linking.even i z before) (λ last. subst (λ (v : Link). v.first ≡ 0 ↔ (v.second ≡ 0)) last.1 even) (slice_get-push_cases links y i z at);

@@ -10,15 +10,15 @@ use Rattle.search_laws.specs.SearchQueues.{Place, IsQueue, IsSearch}
 use Rattle.search_laws.proofs.Walks.{Leads-induct}
 use Rattle.search_laws.proofs.QueueStates.{place_of_listed, Contains-state}
 use Rattle.search_laws.proofs.Searches.{IsSearch-there, IsSearch-new, length-search}
-use Rattle.search_laws.proofs.SpelledWords.{Spells-some, Leads-spelled}
+use Rattle.search_laws.proofs.SpelledWords.{TreeSpells-some, Leads-spelled}
 use Rattle.image_minimal.specs.Closures.{IsBack, IsUnread, IsUnreadSet}
-use Rattle.image_minimal.specs.Indexes.{IsInserted}
+use Rattle.image_minimal.specs.Indexes.{IsInsertedAt}
 use Rattle.image_minimal.specs.Searches.{AreUnreadSets}
 
 -- one more edge is followed, to a set that is put into the list
-pub IsSearch-insert : {Step : ℕ → ℕ → ℕ → Type 0} {k start : ℕ} {sets new : List ℕ} {place : ℕ} (h n from to : ℕ) → IsSearch Step k start sets (h * k + n) → n < k
-    → slice_get sets h ≡ Some from → Step from n to → ((t : ℕ) → Step from n t → to ≡ t) → IsInserted sets new to place → IsSearch Step k start new (h * k + n + 1)
-IsSearch-insert {Step} {k} {start} {sets} {new} {place} h n from to x letter here step only added =
+pub IsStateSearch-insert : {Step : ℕ → ℕ → ℕ → Type 0} {k start : ℕ} {sets new : List ℕ} {place : ℕ} (h n from to : ℕ) → IsSearch Step k start sets (h * k + n) → n < k
+    → slice_get sets h ≡ Some from → Step from n to → ((t : ℕ) → Step from n t → to ≡ t) → IsInsertedAt sets new to place → IsSearch Step k start new (h * k + n + 1)
+IsStateSearch-insert {Step} {k} {start} {sets} {new} {place} h n from to x letter here step only added =
     ⊎_elim
     (λ same. subst (λ l. IsSearch Step k start l (h * k + n + 1)) (sym same) (IsSearch-there h n from x letter here
     (λ t other. Contains-slice_get sets place t (subst (λ l. slice_get l place ≡ Some t) same (added.stands ∙ ap Some (only t other))))))
@@ -44,7 +44,7 @@ pub AreUnreadSets-closed : {r : LocalRule} {sets : List ℕ} {e : ℕ} → IsSea
 AreUnreadSets-closed {r} {sets} {e} x closed set = (
   (λ has.
       let (i, y, at, state) = place_of_listed x.tree set (subst (λ l. Contains l set) (sym x.lists) has) in
-      let word = Spells-some x.queue.fills i y at in
+      let word = TreeSpells-some x.queue.fills i y at in
       subst (IsUnreadSet r) state (unread_leads (Leads-spelled x.queue.fills word.1 y at))),
   (λ (z, unread).
       let (i, y, at, state) = listed_unread x.queue (subst (λ n. n * r.states ≤ e) (sym (length-search x)) closed) z set unread in

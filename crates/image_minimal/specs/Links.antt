@@ -1,7 +1,7 @@
 -- Pairs of sets to which one word leads under two rules, linked (Hopcroft and Karp 1971).
 use Rattle.std.specs.Prelude.{◌≡◌, ◌≢◌, ℕ, ◌+◌, ◌*◌, ◌<◌, ◌≤◌, ◌↔◌, ◌⊎◌, ◌^◌, List, length, map, slice_get, slice_index, Option, Some, None}
 use Rattle.std.specs.List.{range_with_len}
-use Rattle.search_laws.specs.SearchQueues.{Place, Spells, IsFilled, filled}
+use Rattle.search_laws.specs.SearchQueues.{Place, TreeSpells, IsFilled, filled}
 use Rattle.word_image.specs.LocalRules.{LocalRule, node_count}
 use Rattle.word_image.specs.Graphs.{full_set, IsStep}
 use Rattle.image_minimal.specs.Joins.{total}
@@ -15,8 +15,8 @@ second_state n x = n + x.second
 abbrev pub link_place : Link → Place (ℕ × ℕ)
 link_place x = record { state = (x.first, x.second); parent = x.parent; letter = x.letter }
 
-abbrev pub places_of : List Link → List (Place (ℕ × ℕ))
-places_of = map link_place
+abbrev pub link_places : List Link → List (Place (ℕ × ℕ))
+link_places = map link_place
 
 -- one state is joined to the other by links that were made by the time so many edges had been followed
 pub data Chain (n k : ℕ) (links : List Link) (e : ℕ) : ℕ → ℕ → Type 0 where
@@ -35,7 +35,7 @@ HasChain r links pair e = Chain (2 ^ node_count r) r.states links e pair.0 (2 ^ 
 -- links of the sets of two rules, from all nodes on both sides on, that are made breadth first. A pair that is joined already makes
 -- no link, and each pair that was met is empty on both sides or on neither.
 pub record IsLinking (r q : LocalRule) (links : List Link) (e : ℕ) : Type 0 where
-  pub fills : IsFilled (LinkStep r q) (HasChain r links) r.states (full_set r, full_set q) (places_of links) e
+  pub fills : IsFilled (LinkStep r q) (HasChain r links) r.states (full_set r, full_set q) (link_places links) e
   pub even : (i : ℕ) (x : Link) → slice_get links i ≡ Some x → (x.first ≡ 0 ↔ (x.second ≡ 0))
 
 -- on letter a the pair of link i leads to two sets of which exactly one is empty
@@ -74,5 +74,5 @@ IsLinkedOn r q links parents i None = IsLinkSearch r q links parents ((i + 1) * 
 IsLinkedOn r q links parents i (Some a) = IsLinkSearch r q links parents (i * r.states + a) × IsConflict r q links i a
 
 -- the word on the way to a link
-abbrev pub Reaches : List Link → ℕ → List ℕ → Type 0
-Reaches links = Spells (places_of links)
+abbrev pub SpellsLink : List Link → ℕ → List ℕ → Type 0
+SpellsLink links = TreeSpells (link_places links)

@@ -1,7 +1,7 @@
 //! Different sets of nodes in the order in which they were found, with an index by set.
 
 ghost use Rattle.std.specs.Prelude.{◌≡◌, ◌<◌, ◌≤◌, [], length, slice_index, IfOk};
-ghost use Rattle.image_minimal.specs.Indexes.{IsInserted, IsPlaceOf};
+ghost use Rattle.image_minimal.specs.Indexes.{IsInsertedAt, IsPlaceOf};
 
 use std::alloc::{AllocError, Global};
 use std::marker::Model;
@@ -17,13 +17,13 @@ pub struct Listed {
 
 impl Model for Listed {
     ghost use Rattle.std.specs.Prelude.{List, ℕ};
-    ghost use Rattle.image_minimal.specs.Indexes.{IsIndex};
+    ghost use Rattle.image_minimal.specs.Indexes.{IsExactIndex};
 
     ghost Value = { List ℕ };
 
     ghost view = { λ l. l.sets.items };
 
-    ghost invariant = { λ l. IsIndex l.sets.items l.places.items };
+    ghost invariant = { λ l. IsExactIndex l.sets.items l.places.items };
 }
 
 impl Listed {
@@ -62,7 +62,7 @@ impl Listed {
 
     /// Puts the set at the end, if it isn't there, and gives its place.
     pub fn insert(&mut self, set: u16) -> Result<u16, AllocError>
-        ensures { IfOk result (IsInserted self.old self.new set) }
+        ensures { IfOk result (IsInsertedAt self.old self.new set) }
     {
         match self.place(set) {
             Some(place) => Ok(place),

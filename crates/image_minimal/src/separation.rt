@@ -2,7 +2,7 @@
 
 ghost use Rattle.std.specs.Prelude.{◌≡◌, ◌≢◌, ◌↔◌, ◌∷◌, [], ◌++◌, ◌<◌, List, ℕ, length, slice_get, Some, IfOk, IsErrOf, MatchOption};
 ghost use Rattle.image_minimal.specs.ImageLanguages.{HaveSameOrphans, Separates};
-ghost use Rattle.image_minimal.specs.Links.{Reaches};
+ghost use Rattle.image_minimal.specs.Links.{SpellsLink};
 ghost use Rattle.image_minimal.specs.declared.links.Link.{Link};
 
 use crate::joined::Joined;
@@ -74,7 +74,7 @@ fn search(alloc: Global, first: &Subsets, second: &Subsets) -> Result<Option<Wor
 fn word_to(alloc: Global, links: &[Link], at: usize, last: u8) -> Result<Word, AllocError>
     requires at { at < length links.now }
     requires earlier { (i : ℕ) (x : Link) → 0 < i → slice_get links.now i ≡ Some x → x.parent < i }
-    ensures { IfOk result (λ word. (w : List ℕ) → Reaches links.now at w → word ≡ w ++ last ∷ []) }
+    ensures { IfOk result (λ word. (w : List ℕ) → SpellsLink links.now at w → word ≡ w ++ last ∷ []) }
 {
     let mut letters = Vec::new(alloc);
     letters.push(last)?;

@@ -8,39 +8,39 @@ use Rattle.std.proofs.Math.Pow.{pow-lt, pow_mono}
 use Rattle.word_image.proofs.laws.Searches.{some_below}
 use Rattle.word_image.proofs.laws.Bits.{bit_at-IsBitSet, IsBitSet-pow}
 use Rattle.pair_laws.proofs.Sets.{IsBitSet-minus, IsBitSet-below, IsBitSet-decide}
-use Rattle.image_subsets.specs.Marks.{IsMarked, IsPart, without, IsSpreadTo, AreMarksTo, AreMarks, AreCovers, HoldsSmaller, IsMinimal}
+use Rattle.image_subsets.specs.Marks.{IsSetMarked, IsPart, set_without, IsSpreadTo, AreMarksTo, AreMarks, AreCovers, HoldsSmaller, IsMinimal}
 
 -- the nodes that are left without one
-without-bit : (x u i : ℕ) → u < 16 → i < 16 → IsBitSet (without x u) i ↔ (IsBitSet x i × (i ≢ u))
-without-bit x u i node inside =
+set_without-bit : (x u i : ℕ) → u < 16 → i < 16 → IsBitSet (set_without x u) i ↔ (IsBitSet x i × (i ≢ u))
+set_without-bit x u i node inside =
     let minus = IsBitSet-minus x (2 ^ u) i (pow-lt node) inside in (
       (λ some. let (first, none) = minus.0 some in (first, λ same. none ((IsBitSet-pow u i).1 same))),
       (λ (first, other). minus.1 (first, λ some. other ((IsBitSet-pow u i).0 some))),
     )
 
 -- fewer, where it was there
-without-less : (x u : ℕ) → u < 16 → IsBitSet x u → without x u < x
-without-less x u node some = ⊎_elim
-    (λ same. absurd (((without-bit x u u node node).0 (subst (λ y. IsBitSet y u) (sym same) some)).1 refl))
+set_without-less : (x u : ℕ) → u < 16 → IsBitSet x u → set_without x u < x
+set_without-less x u node some = ⊎_elim
+    (λ same. absurd (((set_without-bit x u u node node).0 (subst (λ y. IsBitSet y u) (sym same) some)).1 refl))
     (λ other. omega (arith, and_le_l x (65535 - 2 ^ u), other))
-    (cases_eq (without x u) x)
+    (cases_eq (set_without x u) x)
 
 -- one set more
 pub IsSpreadTo-next : {u n : ℕ} {old now new : List Bool} → IsSpreadTo u n old now → u < 16 → length new ≡ length now
-    → (IsMarked new n ↔ (IsMarked now n ⊎ (IsBitSet n u × IsMarked now (without n u))))
+    → (IsSetMarked new n ↔ (IsSetMarked now n ⊎ (IsBitSet n u × IsSetMarked now (set_without n u))))
     → ((y : ℕ) → y ≢ n → slice_index_or new y false ≡ slice_index_or now y false) → IsSpreadTo u (n + 1) old new
 IsSpreadTo-next {u} {n} {old} {now} {new} h node long here others =
     let fresh : slice_index_or now n false ≡ slice_index_or old n false = h.rest n (omega arith) in
-    let lower : IsBitSet n u → (IsMarked now (without n u) ↔ IsMarked old (without n u)) = λ some.
-    let exact = h.done (without n u) (without-less n u node some) in (
-      (λ marked. ⊎_elim (λ before. before) (λ (has, _). absurd (((without-bit n u u node node).0 has).1 refl)) (exact.0 marked)),
+    let lower : IsBitSet n u → (IsSetMarked now (set_without n u) ↔ IsSetMarked old (set_without n u)) = λ some.
+    let exact = h.done (set_without n u) (set_without-less n u node some) in (
+      (λ marked. ⊎_elim (λ before. before) (λ (has, _). absurd (((set_without-bit n u u node node).0 has).1 refl)) (exact.0 marked)),
       (λ before. exact.1 (inl before)),
     ) in
     record {
       long = long ∙ h.long;
       done = λ x less. ⊎_elim
           (λ same.
-          subst (λ y. IsMarked new y ↔ (IsMarked old y ⊎ (IsBitSet y u × IsMarked old (without y u)))) (sym same) (
+          subst (λ y. IsSetMarked new y ↔ (IsSetMarked old y ⊎ (IsBitSet y u × IsSetMarked old (set_without y u)))) (sym same) (
             (λ marked. ⊎_elim
                 (λ before. inl (subst (λ (b : Bool). IsTrue b) fresh before))
                 (λ (some, below). inr (some, (lower some).0 below))
@@ -75,7 +75,7 @@ same_nodes s x small_s small_x one other = same_from_bits_below 16 s x small_s s
 
 -- at the beginning the sets alone are marked
 pub AreMarksTo-start : (sets : List ℕ) (n : ℕ) (cleared marks : List Bool) → n ≤ 16 → ((i : ℕ) → i < length sets → slice_index sets i < 2 ^ n)
-    → ((x : ℕ) → x < 2 ^ n → ¬ IsMarked cleared x) → ((x : ℕ) → (IsMarked marks x ↔ (IsMarked cleared x ⊎ ((i : ℕ) × (i < length sets) × (slice_index sets i ≡ x))))) → AreMarksTo sets n 0 marks
+    → ((x : ℕ) → x < 2 ^ n → ¬ IsSetMarked cleared x) → ((x : ℕ) → (IsSetMarked marks x ↔ (IsSetMarked cleared x ⊎ ((i : ℕ) × (i < length sets) × (slice_index sets i ≡ x))))) → AreMarksTo sets n 0 marks
 AreMarksTo-start sets n cleared marks few within none exact x below =
     let most : 2 ^ n ≤ 2 ^ 16 = pow_mono few in (
       (λ marked. ⊎_elim
@@ -100,18 +100,18 @@ AreMarksTo-next sets n u old new count few node all spread marks x below =
     let inside : u < 16 = omega (arith, node, few) in
     let small : (i : ℕ) → IsBitSet x i → i < 16 = λ i some. IsBitSet-below 16 x i (omega (arith, below, most)) some in
     let exact = spread.done x (omega (arith, below, all)) in
-    let smaller : without x u < 2 ^ n = omega (arith, and_le_l x (65535 - 2 ^ u), below) in (
+    let smaller : set_without x u < 2 ^ n = omega (arith, and_le_l x (65535 - 2 ^ u), below) in (
       (λ marked. ⊎_elim
           (λ before. let c = (marks x below).0 before in
           record { place = c.place; below = c.below; part = c.part; agree = λ i past some. c.agree i (omega (arith, past)) some })
-          (λ (has, lower). let c = (marks (without x u) smaller).0 lower in
+          (λ (has, lower). let c = (marks (set_without x u) smaller).0 lower in
           record {
             place = c.place;
             below = c.below;
             part = λ i some.
                 let left = c.part i some in
-                ((without-bit x u i inside (IsBitSet-below 16 (without x u) i (omega (arith, smaller, most)) left)).0 left).0;
-            agree = λ i past some. c.agree i (omega (arith, past)) ((without-bit x u i inside (small i some)).1 (some, λ e. omega (arith, past, e)));
+                ((set_without-bit x u i inside (IsBitSet-below 16 (set_without x u) i (omega (arith, smaller, most)) left)).0 left).0;
+            agree = λ i past some. c.agree i (omega (arith, past)) ((set_without-bit x u i inside (small i some)).1 (some, λ e. omega (arith, past, e)));
           })
           (exact.0 marked)),
       (λ c. exact.1 (⊎_elim
@@ -124,12 +124,12 @@ AreMarksTo-next sets n u old new count few node all spread marks x below =
           (λ lacks. ⊎_elim
           (λ (there : IsBitSet x u). inr (
             there,
-            (marks (without x u) smaller).1 (record {
+            (marks (set_without x u) smaller).1 (record {
               place = c.place;
               below = c.below;
-              part = λ i some. (without-bit x u i inside (small i (c.part i some))).1 (c.part i some, λ e. lacks (subst (IsBitSet (slice_index sets c.place)) e some));
+              part = λ i some. (set_without-bit x u i inside (small i (c.part i some))).1 (c.part i some, λ e. lacks (subst (IsBitSet (slice_index sets c.place)) e some));
               agree = λ i past some.
-                  let left = (without-bit x u i inside (IsBitSet-below 16 (without x u) i (omega (arith, smaller, most)) some)).0 some in
+                  let left = (set_without-bit x u i inside (IsBitSet-below 16 (set_without x u) i (omega (arith, smaller, most)) some)).0 some in
                   c.agree i (let other = left.1 in omega (arith, past, other)) left.0;
             }),
           ))
@@ -175,7 +175,7 @@ IsMinimal-marks {n} {sets} {marks} h i inside =
     let most : 2 ^ n ≤ 2 ^ 16 = pow_mono h.few in
     let below : x < 2 ^ n = h.within i inside in
     let wide : x < 2 ^ 16 = omega (arith, below, most) in
-    let smaller : (u : ℕ) → without x u < 2 ^ n = λ u. omega (arith, and_le_l x (65535 - 2 ^ u), below) in (
+    let smaller : (u : ℕ) → set_without x u < 2 ^ n = λ u. omega (arith, and_le_l x (65535 - 2 ^ u), below) in (
       (λ none j within other part.
           let s = slice_index sets j in
           let small : s < 2 ^ 16 = omega (arith, h.within j within, most) in
@@ -188,18 +188,18 @@ IsMinimal-marks {n} {sets} {marks} h i inside =
             u,
             IsBitSet-below n x u below has,
             has,
-            (h.marked (without x u) (smaller u)).1 (
+            (h.marked (set_without x u) (smaller u)).1 (
               j,
               within,
               λ v some.
-                  (without-bit x u v node (IsBitSet-below 16 s v small some)).1 (part v some, λ e. lacks (subst (IsBitSet s) e some)),
+                  (set_without-bit x u v node (IsBitSet-below 16 s v small some)).1 (part v some, λ e. lacks (subst (IsBitSet s) e some)),
             ),
           )),
       (λ least (u, node, has, marked).
-          let (j, within, part) = (h.marked (without x u) (smaller u)).0 marked in
+          let (j, within, part) = (h.marked (set_without x u) (smaller u)).0 marked in
           let narrow : u < 16 = omega (arith, node, h.few) in
           let bit = λ (v : ℕ) (some : IsBitSet (slice_index sets j) v).
-          (without-bit x u v narrow (IsBitSet-below 16 (slice_index sets j) v (omega (arith, h.within j within, most)) some)).0 (part v some) in
+          (set_without-bit x u v narrow (IsBitSet-below 16 (slice_index sets j) v (omega (arith, h.within j within, most)) some)).0 (part v some) in
           least j within
           (λ same. (bit u (subst (λ k. IsBitSet (slice_index sets k) u) (sym same) has)).1 refl)
           (λ v some. (bit v some).0)),

@@ -58,12 +58,12 @@ set-below {r} {sets} h i below =
     search-below h.search (2 ^ node_count r) (omega (arith, pow_pos (node_count r))) (λ s a t step. step.within) i (slice_index sets i) (slice_get-get_or sets i 0 below)
 
 -- there are no more sets than subsets of the nodes
-pub length-search-le : {r : LocalRule} {sets : List ℕ} {parents : List (Option (ℕ × ℕ))} {e : ℕ} → IsTreeSearch r sets parents e → length sets ≤ 2 ^ node_count r
-length-search-le {r} h = length-listed-le h.search (2 ^ node_count r) (omega (arith, pow_pos (node_count r))) (λ s a t step. step.within)
+pub length-subset_search-le : {r : LocalRule} {sets : List ℕ} {parents : List (Option (ℕ × ℕ))} {e : ℕ} → IsTreeSearch r sets parents e → length sets ≤ 2 ^ node_count r
+length-subset_search-le {r} h = length-listed-le h.search (2 ^ node_count r) (omega (arith, pow_pos (node_count r))) (λ s a t step. step.within)
 
 -- of at most 16 nodes
 pub length-search-most : {r : LocalRule} {sets : List ℕ} {parents : List (Option (ℕ × ℕ))} {e : ℕ} → IsRule r → IsTreeSearch r sets parents e → length sets ≤ 65536
-length-search-most {r} rule h = omega (arith, length-search-le h, pow_mono {i = node_count r} {j = 16} rule.shape.most_nodes)
+length-search-most {r} rule h = omega (arith, length-subset_search-le h, pow_mono {i = node_count r} {j = 16} rule.shape.most_nodes)
 
 -- the parents of a search are the least ones
 IsLeastParent-search : {r : LocalRule} {sets : List ℕ} {parents : List (Option (ℕ × ℕ))} {e : ℕ} → IsTreeSearch r sets parents e

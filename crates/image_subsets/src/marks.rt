@@ -1,7 +1,7 @@
 //! Marks of the sets that contain one of a family.
 
 ghost use Rattle.std.specs.Prelude.{◌≡◌, ◌≢◌, ◌^◌, ◌<◌, ◌≤◌, ◌↔◌, ◌⊎◌, ℕ, false, length, slice_index, slice_index_or, IsTrue, IsBitSet};
-ghost use Rattle.image_subsets.specs.Marks.{IsMarked, IsSpreadTo, AreMarks, HoldsSmaller, without};
+ghost use Rattle.image_subsets.specs.Marks.{IsSetMarked, IsSpreadTo, AreMarks, HoldsSmaller, set_without};
 
 use crate::masks::Masks;
 use std::alloc::{AllocError, Global};
@@ -64,7 +64,7 @@ impl Marks {
     /// Takes the marks from the first sets.
     fn clear(&mut self, count: u32)
         requires { count ≤ 65536 }
-        ensures { (x : ℕ) → x < count → ¬ IsMarked self.new x }
+        ensures { (x : ℕ) → x < count → ¬ IsSetMarked self.new x }
     {
         for x in 0..count {
             self.marks[x as usize] = false;
@@ -73,7 +73,7 @@ impl Marks {
 
     /// Marks these sets.
     fn mark_only(&mut self, sets: &Masks)
-        ensures { (x : ℕ) → (IsMarked self.new x ↔ (IsMarked self.old x ⊎ ((i : ℕ) × (i < length sets.now) × (slice_index sets.now i ≡ x)))) }
+        ensures { (x : ℕ) → (IsSetMarked self.new x ↔ (IsSetMarked self.old x ⊎ ((i : ℕ) × (i < length sets.now) × (slice_index sets.now i ≡ x)))) }
     {
         for i in 0..sets.len() {
             self.marks[usize::from(sets.at(i))] = true;
@@ -95,7 +95,7 @@ impl Marks {
     fn spread_to(&mut self, u: u8, x: u16)
         requires { u < 16 }
         ensures long { length self.new ≡ length self.old }
-        ensures here { IsMarked self.new x ↔ (IsMarked self.old x ⊎ (IsBitSet x u × IsMarked self.old (without x u))) }
+        ensures here { IsSetMarked self.new x ↔ (IsSetMarked self.old x ⊎ (IsBitSet x u × IsSetMarked self.old (set_without x u))) }
         ensures others { (y : ℕ) → y ≢ x → slice_index_or self.new y false ≡ slice_index_or self.old y false }
     {
         if self.is_marked_without(x, u) {
@@ -106,7 +106,7 @@ impl Marks {
     /// Whether the set has node u, and is marked without it.
     fn is_marked_without(&self, set: u16, u: u8) -> bool
         requires { u < 16 }
-        ensures { IsTrue result ↔ (IsBitSet set u × IsMarked self.now (without set u)) }
+        ensures { IsTrue result ↔ (IsBitSet set u × IsSetMarked self.now (set_without set u)) }
     {
         set >> u & 1 == 1 && self.marks[usize::from(set & !(1u16 << u))]
     }

@@ -19,12 +19,12 @@ use Rattle.word_image.proofs.laws.WindowParts.{letter-value}
 use Rattle.inverse_table.specs.InverseMaps.{WindowMap, IsInverseMap, map_letter, GivesBack, map_image}
 use Rattle.inverse_table.specs.MapLimits.{IsWindowMap}
 use Rattle.inverse_table.specs.InverseFaults.{IsApartAt}
-use Rattle.inverse_table.specs.ImageValues.{AreImageValues, AreReadBack, AreApart, letter_at}
+use Rattle.inverse_table.specs.ImageValues.{AreImageValues, AreReadBack, AreUndetermined, letter_by_unit}
 use Rattle.inverse_table.proofs.ImageLaws.{image-at}
 use Rattle.inverse_table.proofs.WordCounts.{length-most}
 
 -- the images of all words of n + m - 1 letters, the letter c of each word, and the letters that are read back
-pub record IsReading (r : LocalRule) (n c : ℕ) (letter : ℕ → ℕ) (images letters : List ℕ) : Type 0 where
+pub record IsReadingBack (r : LocalRule) (n c : ℕ) (letter : ℕ → ℕ) (images letters : List ℕ) : Type 0 where
   pub some : 1 ≤ n
   pub inside : c ≤ n + r.width - 2
   pub values : AreImageValues r n images
@@ -32,25 +32,25 @@ pub record IsReading (r : LocalRule) (n c : ℕ) (letter : ℕ → ℕ) (images 
   pub long : length letters ≡ r.states ^ n
 
 -- the letter at c, by the value of a word
-pub letter_at-place : {r : LocalRule} → IsRule r → (n c k unit : ℕ) → 1 ≤ n → c ≤ n + r.width - 2 → k ≡ r.states → unit ≡ r.states ^ (n + (r.width - 1) - 1 - c)
-    → (x : List ℕ) → IsWord r.states x → length x ≡ n + (r.width - 1) → letter_at k unit (value r.states x) ≡ slice_index x c
-letter_at-place {r} rule n c k unit some inside same behind x h long =
+pub letter_by_unit-place : {r : LocalRule} → IsRule r → (n c k unit : ℕ) → 1 ≤ n → c ≤ n + r.width - 2 → k ≡ r.states → unit ≡ r.states ^ (n + (r.width - 1) - 1 - c)
+    → (x : List ℕ) → IsWord r.states x → length x ≡ n + (r.width - 1) → letter_by_unit k unit (value r.states x) ≡ slice_index x c
+letter_by_unit-place {r} rule n c k unit some inside same behind x h long =
     let wide = rule.shape.least_width in
     ap (λ j. value r.states x / unit % j) same ∙ ap (λ u. value r.states x / u % r.states) behind
     ∙ letter-value r.states x c (n + (r.width - 1) - 1 - c) h (omega arith)
 
 -- the letters at that place
-pub IsReading-place : {r : LocalRule} {n c k unit : ℕ} {images letters : List ℕ} → IsRule r → 1 ≤ n → c ≤ n + r.width - 2 → k ≡ r.states
-    → unit ≡ r.states ^ (n + (r.width - 1) - 1 - c) → AreImageValues r n images → length letters ≡ r.states ^ n → IsReading r n c (letter_at k unit) images letters
-IsReading-place {r} {n} {c} {k} {unit} rule some inside same behind values long =
-    record { some = some; inside = inside; values = values; reads = letter_at-place rule n c k unit some inside same behind; long = long }
+pub IsReadingBack-place : {r : LocalRule} {n c k unit : ℕ} {images letters : List ℕ} → IsRule r → 1 ≤ n → c ≤ n + r.width - 2 → k ≡ r.states
+    → unit ≡ r.states ^ (n + (r.width - 1) - 1 - c) → AreImageValues r n images → length letters ≡ r.states ^ n → IsReadingBack r n c (letter_by_unit k unit) images letters
+IsReadingBack-place {r} {n} {c} {k} {unit} rule some inside same behind values long =
+    record { some = some; inside = inside; values = values; reads = letter_by_unit-place rule n c k unit some inside same behind; long = long }
 
 -- the word of n + m - 1 letters with this value
 abbrev pub word_at : LocalRule → ℕ → ℕ → List ℕ
 word_at r n v = word_of r.states (n + (r.width - 1)) v
 
 -- for a value that a word has, its letter is the word's
-letter-word_at : {r : LocalRule} {n c : ℕ} {letter : ℕ → ℕ} {images letters : List ℕ} → IsReading r n c letter images letters → (v : ℕ) → v < length images
+letter-word_at : {r : LocalRule} {n c : ℕ} {letter : ℕ → ℕ} {images letters : List ℕ} → IsReadingBack r n c letter images letters → (v : ℕ) → v < length images
     → IsWord r.states (word_at r n v) × (letter v ≡ slice_index (word_at r n v) c)
 letter-word_at {r} {n} {c} {letter} h v l =
     let below : v < r.states ^ (n + (r.width - 1)) = omega (arith, h.values.long) in
@@ -62,8 +62,8 @@ length-image-word_at : (r : LocalRule) (n v : ℕ) → length (image r (word_at 
 length-image-word_at r n v = length-image r (word_at r n v) ∙ ap (λ j. j - (r.width - 1)) (length-word_of r.states (n + (r.width - 1)) v) ∙ omega arith
 
 -- two values of words that are apart: the words show that the window isn't determined
-pub IsApartAt-apart : {r : LocalRule} {n c : ℕ} {letter : ℕ → ℕ} {images letters : List ℕ} → IsRule r → IsReading r n c letter images letters → (u v : ℕ)
-    → AreApart letter images u v → IsApartAt r n c (word_at r n u) (word_at r n v)
+pub IsApartAt-apart : {r : LocalRule} {n c : ℕ} {letter : ℕ → ℕ} {images letters : List ℕ} → IsRule r → IsReadingBack r n c letter images letters → (u v : ℕ)
+    → AreUndetermined letter images u v → IsApartAt r n c (word_at r n u) (word_at r n v)
 IsApartAt-apart {r} {n} rule h u v apart =
     let first = letter-word_at h u apart.first in
     let second = letter-word_at h v apart.second in
@@ -80,14 +80,14 @@ IsApartAt-apart {r} {n} rule h u v apart =
     }
 
 -- where the letter of each word is read back, the letter at the image of a word is its letter c
-read_back : {r : LocalRule} {n c : ℕ} {letter : ℕ → ℕ} {images letters : List ℕ} → IsReading r n c letter images letters → AreReadBack letter images (length images) letters
+read_back : {r : LocalRule} {n c : ℕ} {letter : ℕ → ℕ} {images letters : List ℕ} → IsReadingBack r n c letter images letters → AreReadBack letter images (length images) letters
     → (x : List ℕ) → IsWord r.states x → length x ≡ n + (r.width - 1) → slice_index letters (value r.states (image r x)) ≡ slice_index x c
 read_back {r} {images = images} {letters = letters} h all x word long =
     let below : value r.states x < length images = subst (λ j. value r.states x < j) (ap (λ j. r.states ^ j) long ∙ sym h.values.long) (value-below r.states x word) in
     ap (slice_index letters) (sym (h.values.each x word long)) ∙ all (value r.states x) below ∙ h.reads x word long
 
 -- so the window is determined
-pub IsDetermined-read : {r : LocalRule} {n c : ℕ} {letter : ℕ → ℕ} {images letters : List ℕ} → IsReading r n c letter images letters → AreReadBack letter images (length images) letters
+pub IsDetermined-read : {r : LocalRule} {n c : ℕ} {letter : ℕ → ℕ} {images letters : List ℕ} → IsReadingBack r n c letter images letters → AreReadBack letter images (length images) letters
     → IsDetermined r n c
 IsDetermined-read {r} {letters = letters} h all = record {
   some = h.some;
@@ -104,7 +104,7 @@ abbrev pub map_of : LocalRule → ℕ → ℕ → List ℕ → WindowMap
 map_of r n c letters = record { states = r.states; width = n; offset = neg_ℤ r.offset -ℤ pos c; table = letters }
 
 -- is the inverse map
-pub IsInverseMap-read : {r : LocalRule} {n c : ℕ} {letter : ℕ → ℕ} {images letters : List ℕ} → IsRule r → IsReading r n c letter images letters → AreReadBack letter images (length images) letters
+pub IsInverseMap-read : {r : LocalRule} {n c : ℕ} {letter : ℕ → ℕ} {images letters : List ℕ} → IsRule r → IsReadingBack r n c letter images letters → AreReadBack letter images (length images) letters
     → IsInverseMap r n c (map_of r n c letters)
 IsInverseMap-read {r} {n} {c} {letter} {images} {letters} rule h all =
     let k : ℕ = r.states in
@@ -118,7 +118,7 @@ IsInverseMap-read {r} {n} {c} {letter} {images} {letters} rule h all =
     }
 
 -- one of the maps that there are
-pub IsWindowMap-read : {r : LocalRule} {n c : ℕ} {letter : ℕ → ℕ} {images letters : List ℕ} → IsRule r → IsReading r n c letter images letters → AreReadBack letter images (length images) letters
+pub IsWindowMap-read : {r : LocalRule} {n c : ℕ} {letter : ℕ → ℕ} {images letters : List ℕ} → IsRule r → IsReadingBack r n c letter images letters → AreReadBack letter images (length images) letters
     → r.states ^ n ≤ 65536 → IsWindowMap (map_of r n c letters)
 IsWindowMap-read {r} {n} {c} {letters = letters} rule h all few =
     let shape = rule.shape in

@@ -13,8 +13,8 @@ abbrev pub labels_from : LocalRule → ℕ → List ℕ
 labels_from r u = slice_range r.table (u * r.states) (u * r.states + r.states)
 
 -- a letter of the word with this value, where `unit` is k to the power of how many letters stand behind it
-abbrev pub letter_at : ℕ → ℕ → ℕ → ℕ
-letter_at k unit word = word / unit % k
+abbrev pub letter_by_unit : ℕ → ℕ → ℕ → ℕ
+letter_by_unit k unit word = word / unit % k
 
 -- the letter of one of the first words with this image, and 16 where none of them has it
 abbrev pub IsLetterBack : (ℕ → ℕ) → List ℕ → ℕ → ℕ → ℕ → Type 0
@@ -36,7 +36,7 @@ pub record IsRead (letter : ℕ → ℕ) (images : List ℕ) (count : ℕ) (lett
   pub back : AreLettersBack letter images count letters
 
 -- two words that have one image and different letters
-pub record AreApart (letter : ℕ → ℕ) (images : List ℕ) (x y : ℕ) : Type 0 where
+pub record AreUndetermined (letter : ℕ → ℕ) (images : List ℕ) (x y : ℕ) : Type 0 where
   pub first : x < length images
   pub second : y < length images
   pub one_image : slice_index images x ≡ slice_index images y
@@ -44,4 +44,4 @@ pub record AreApart (letter : ℕ → ℕ) (images : List ℕ) (x y : ℕ) : Typ
 
 -- a word that is apart from another one
 abbrev pub HasApart : (ℕ → ℕ) → List ℕ → ℕ → Type 0
-HasApart letter images x = (y : ℕ) × AreApart letter images x y
+HasApart letter images x = (y : ℕ) × AreUndetermined letter images x y

@@ -26,8 +26,8 @@ pub record IsInverseMap (r : LocalRule) (n c : ℕ) (g : WindowMap) : Type 0 whe
   pub none : (w : List ℕ) → IsWord r.states w → length w ≡ n → ((x : List ℕ) → ¬ IsPreimage r w x) → map_letter g w ≡ 0
 
 -- the map as a rule: a map that reads one letter is written at width 2, and ignores the second cell
-abbrev pub rule_of : WindowMap → LocalRule
-rule_of g = record {
+abbrev pub map_rule : WindowMap → LocalRule
+map_rule g = record {
   states = g.states;
   width = max 2 g.width;
   offset = g.offset;

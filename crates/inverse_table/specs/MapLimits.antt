@@ -18,8 +18,8 @@ pub record IsWindowMap (g : WindowMap) : Type 0 where
   pub letters : IsWord g.states g.table
 
 -- the first limit of a rule that it breaks
-abbrev pub limit_fault : LocalRule → Option RuleFault
-limit_fault r =
+abbrev pub rule_limit_fault : LocalRule → Option RuleFault
+rule_limit_fault r =
     if nat_lt 5 r.width then Some Width
     else (if nat_lt 16 (r.states ^ (r.width - 1)) then Some Nodes
     else (if int_lt r.offset (negsuc 15) || int_lt (pos 16) (r.offset +ℤ pos (r.width - 1)) then Some Offset

@@ -2,8 +2,8 @@
 ghost use Rattle.std.specs.Prelude.{◌≡◌, ◌*◌, ◌↔◌, take, IfOk, IsOk};
 ghost use Rattle.std.specs.Result.{result_err};
 ghost use Rattle.word_image.specs.LocalRules.{IsRule};
-ghost use Rattle.inverse_table.specs.InverseMaps.{rule_of};
-ghost use Rattle.inverse_table.specs.MapLimits.{IsWindowMap, limit_fault};
+ghost use Rattle.inverse_table.specs.InverseMaps.{map_rule};
+ghost use Rattle.inverse_table.specs.MapLimits.{IsWindowMap, rule_limit_fault};
 
 use std::marker::Model;
 use word_image::{MOST_ENTRIES, Rule, RuleFault};
@@ -86,9 +86,9 @@ impl InverseMap {
 /// `Width`, `Nodes` and `Offset` come exactly where they are the first limit of a rule, in this order,
 /// that is broken. No other fault comes. It takes no memory.
 pub fn as_rule(map: &InverseMap) -> Result<Rule, RuleFault>
-    ensures rule { IfOk result (λ r. r ≡ rule_of map.now) }
-    ensures fault { result_err result ≡ limit_fault (rule_of map.now) }
-    ensures accepted { IsOk result ↔ IsRule (rule_of map.now) }
+    ensures rule { IfOk result (λ r. r ≡ map_rule map.now) }
+    ensures fault { result_err result ≡ rule_limit_fault (map_rule map.now) }
+    ensures accepted { IsOk result ↔ IsRule (map_rule map.now) }
 {
     if map.n() == 1 {
         let k = usize::from(map.k());
@@ -99,11 +99,11 @@ pub fn as_rule(map: &InverseMap) -> Result<Rule, RuleFault>
 
 /// The map as a rule, whose width and table are known.
 fn rule_with(map: &InverseMap, width: u8, table: &[u8]) -> Result<Rule, RuleFault>
-    requires width { width ≡ (rule_of map.now).width }
-    requires table { table.now ≡ (rule_of map.now).table }
-    ensures rule { IfOk result (λ r. r ≡ rule_of map.now) }
-    ensures fault { result_err result ≡ limit_fault (rule_of map.now) }
-    ensures accepted { IsOk result ↔ IsRule (rule_of map.now) }
+    requires width { width ≡ (map_rule map.now).width }
+    requires table { table.now ≡ (map_rule map.now).table }
+    ensures rule { IfOk result (λ r. r ≡ map_rule map.now) }
+    ensures fault { result_err result ≡ rule_limit_fault (map_rule map.now) }
+    ensures accepted { IsOk result ↔ IsRule (map_rule map.now) }
 {
     Rule::new(map.k(), width, map.offset() as i8, table)
 }
@@ -111,7 +111,7 @@ fn rule_with(map: &InverseMap, width: u8, table: &[u8]) -> Result<Rule, RuleFaul
 /// The letters for the words of two letters, of which a map that reads one letter reads the first.
 fn twice_as_wide(map: &InverseMap) -> [u8; MOST_ENTRIES]
     requires { map.now.width ≡ 1 }
-    ensures { take (map.now.states * map.now.states) result ≡ (rule_of map.now).table }
+    ensures { take (map.now.states * map.now.states) result ≡ (map_rule map.now).table }
 {
     let k = usize::from(map.k());
     let mut entries = [0; MOST_ENTRIES];

@@ -1,6 +1,6 @@
 //! The letters at one place of all words of one length, read back from the images of the words.
 ghost use Rattle.std.specs.Prelude.{◌≡◌, ◌≢◌, ℕ, ◌+◌, ◌*◌, ◌%◌, ◌<◌, ◌≤◌, All, length, replicate, slice_index, MatchOption};
-ghost use Rattle.inverse_table.specs.ImageValues.{AreApart, AreReadBack, HasApart, IsRead, letter_at};
+ghost use Rattle.inverse_table.specs.ImageValues.{AreUndetermined, AreReadBack, HasApart, IsRead, letter_by_unit};
 
 use crate::cycles::after;
 
@@ -23,7 +23,7 @@ pub(crate) struct Place {
 impl Place {
     /// The letter there of the word with this value.
     fn letter(self, word: usize) -> u8
-        ensures { result ≡ letter_at self.k self.unit word }
+        ensures { result ≡ letter_by_unit self.k self.unit word }
     {
         (word / self.unit % self.k) as u8
     }
@@ -41,8 +41,8 @@ pub(crate) fn read_letters(
     requires whole { length images.now % place.unit ≡ 0 }
     ensures long { length letters.new ≡ length letters.old }
     ensures read { MatchOption result
-        (AreReadBack (letter_at place.k place.unit) images.now (length images.now) letters.new)
-        (λ words. AreApart (letter_at place.k place.unit) images.now words.0 words.1) }
+        (AreReadBack (letter_by_unit place.k place.unit) images.now (length images.now) letters.new)
+        (λ words. AreUndetermined (letter_by_unit place.k place.unit) images.now words.0 words.1) }
 {
     let word = first_apart(letters, images, place)?;
     let other = other_apart(images, word, place).unwrap();
@@ -57,8 +57,8 @@ fn first_apart(letters: &mut [u8], images: &[u16], place: Place) -> Option<usize
     requires whole { length images.now % place.unit ≡ 0 }
     ensures long { length letters.new ≡ length letters.old }
     ensures read { MatchOption result
-        (AreReadBack (letter_at place.k place.unit) images.now (length images.now) letters.new)
-        (HasApart (letter_at place.k place.unit) images.now) }
+        (AreReadBack (letter_by_unit place.k place.unit) images.now (length images.now) letters.new)
+        (HasApart (letter_by_unit place.k place.unit) images.now) }
 {
     let mut letter = 0;
     for run in 0..images.len() / place.unit {
@@ -81,12 +81,12 @@ fn read_run(
 ) -> Option<usize>
     requires within { All (λ image. image < length letters.old) images.now }
     requires inside { start + place.unit ≤ length images.now }
-    requires run { (word : ℕ) → start ≤ word → word < start + place.unit → letter_at place.k place.unit word ≡ letter }
-    requires read { IsRead (letter_at place.k place.unit) images.now start letters.old }
+    requires run { (word : ℕ) → start ≤ word → word < start + place.unit → letter_by_unit place.k place.unit word ≡ letter }
+    requires read { IsRead (letter_by_unit place.k place.unit) images.now start letters.old }
     ensures long { length letters.new ≡ length letters.old }
     ensures read { MatchOption result
-        (IsRead (letter_at place.k place.unit) images.now (start + place.unit) letters.new)
-        (HasApart (letter_at place.k place.unit) images.now) }
+        (IsRead (letter_by_unit place.k place.unit) images.now (start + place.unit) letters.new)
+        (HasApart (letter_by_unit place.k place.unit) images.now) }
 {
     for word in start..start + place.unit {
         let image = usize::from(images[word]);
@@ -104,8 +104,8 @@ fn read_run(
 fn other_apart(images: &[u16], word: usize, place: Place) -> Option<usize>
     requires word { word < length images.now }
     ensures { MatchOption result
-        ((other : ℕ) → other < length images.now → slice_index images.now other ≡ slice_index images.now word → letter_at place.k place.unit other ≡ letter_at place.k place.unit word)
-        (AreApart (letter_at place.k place.unit) images.now word) }
+        ((other : ℕ) → other < length images.now → slice_index images.now other ≡ slice_index images.now word → letter_by_unit place.k place.unit other ≡ letter_by_unit place.k place.unit word)
+        (AreUndetermined (letter_by_unit place.k place.unit) images.now word) }
 {
     for (other, image) in images.iter().enumerate() {
         if *image == images[word] && place.letter(other) != place.letter(word) {

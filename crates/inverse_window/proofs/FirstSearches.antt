@@ -9,11 +9,11 @@ use Rattle.word_image.specs.Windows.{IsDetermined}
 use Rattle.pair_laws.proofs.Pairs.{first_of-below, second_of-below}
 use Rattle.inverse_window.specs.declared.windows.WindowAt.{WindowAt}
 use Rattle.inverse_window.specs.Starts.{HoldsFrom, later}
-use Rattle.inverse_window.specs.FirstWindows.{DifferAt, Begins, EndsFor, NoneHolds, AreStarts, IsPast, IsFirstOf, IsEarlier}
+use Rattle.inverse_window.specs.FirstWindows.{PairDiffersAt, PairBegins, EndsFor, NoneHolds, AreStarts, IsPast, IsFirstWindowOf, IsEarlier}
 use Rattle.inverse_window.proofs.StartLaws.{HoldsFrom-same, HoldsFrom-later, later-most}
 use Rattle.inverse_window.proofs.RankStarts.{OfRank}
 use Rattle.inverse_window.proofs.WindowLaws.{IsDetermined-within, NoneHolds-split}
-use Rattle.inverse_window.proofs.FirstWindowLaws.{IsFirstOf-earlier, IsFirstOf-within}
+use Rattle.inverse_window.proofs.FirstWindowLaws.{IsFirstWindowOf-earlier, IsFirstWindowOf-within}
 
 -- the windows with at least c, and at most e, letters of the image before the letter
 abbrev pub HasBefore : ℕ → ℕ → ℕ → ℕ → Type 0
@@ -21,9 +21,9 @@ HasBefore e c n' c' = (c ≤ c') × (c' ≤ e) × (c' ≤ n')
 
 -- what is known once these windows were looked at
 pub record IsSearched (r : LocalRule) (e c : ℕ) (last : Option ℕ) (found : Option WindowAt) : Type 0 where
-  pub start : HoldsFrom last (NoneHolds (pair_count r) (λ p. DifferAt r 0 p × EndsFor r e p c) (Begins r))
+  pub start : HoldsFrom last (NoneHolds (pair_count r) (λ p. PairDiffersAt r 0 p × EndsFor r e p c) (PairBegins r))
   pub start_most : IfSome last (λ n. n ≤ 240)
-  pub first : IsFirstOf r (HasBefore e c) found
+  pub first : IsFirstWindowOf r (HasBefore e c) found
   pub first_most : IfSome found (λ w. w.n ≤ 480)
 
 -- the window with c letters before the letter, where it is found
@@ -41,23 +41,23 @@ pub IsSearched-next : {r : LocalRule} → IsRule r → (e c i : ℕ) (starts : L
     → AreStarts r e (pair_count r) starts → here ≡ later last (get_or starts i None) → made ≡ window_within c here → IfSome made (λ w. w.n ≤ 480) → IsEarlier found made next
     → IsSearched r e (c + 1) last found → IsSearched r e c here next
 IsSearched-next {r} rule e c i starts last here found made next within place table start_is made_is made_most earlier before =
-    let Of : ℕ → Type 0 = λ p. DifferAt r 0 p × EndsFor r e p c in
+    let Of : ℕ → Type 0 = λ p. PairDiffersAt r 0 p × EndsFor r e p c in
     let same : later last (get_or starts c None) ≡ here = sym (start_is ∙ ap (λ a. later last (get_or starts a None)) place) in
-    let start : HoldsFrom here (NoneHolds (pair_count r) Of (Begins r)) =
-    subst (λ o. HoldsFrom o (NoneHolds (pair_count r) Of (Begins r))) same
-    (HoldsFrom-later last (get_or starts c None) (NoneHolds (pair_count r) (λ p. DifferAt r 0 p × EndsFor r e p (c + 1)) (Begins r)) (NoneHolds (pair_count r) (OfRank r e c) (Begins r))
-    (NoneHolds (pair_count r) Of (Begins r))
-    (λ n. let split = NoneHolds-split rule e 0 c n (Begins r) in (λ none. let both = split.0 none in (both.1, both.0), λ both. split.1 (both.1, both.0)))
+    let start : HoldsFrom here (NoneHolds (pair_count r) Of (PairBegins r)) =
+    subst (λ o. HoldsFrom o (NoneHolds (pair_count r) Of (PairBegins r))) same
+    (HoldsFrom-later last (get_or starts c None) (NoneHolds (pair_count r) (λ p. PairDiffersAt r 0 p × EndsFor r e p (c + 1)) (PairBegins r)) (NoneHolds (pair_count r) (OfRank r e c) (PairBegins r))
+    (NoneHolds (pair_count r) Of (PairBegins r))
+    (λ n. let split = NoneHolds-split rule e 0 c n (PairBegins r) in (λ none. let both = split.0 none in (both.1, both.0), λ both. split.1 (both.1, both.0)))
     before.start (table.from c within)) in
     let most : IfSome here (λ n. n ≤ 240) = subst (λ o. IfSome o (λ n. n ≤ 240)) same (later-most last (get_or starts c None) 240 before.start_most (table.most c within)) in
     let at : IsEarlier found (window_within c here) next = subst (λ o. IsEarlier found o next) made_is earlier in
     record {
       start = start;
       start_most = most;
-      first = IsFirstOf-earlier r (HasBefore e (c + 1)) (λ n' c'. (c' ≡ c) × (c ≤ n')) (HasBefore e c)
+      first = IsFirstWindowOf-earlier r (HasBefore e (c + 1)) (λ n' c'. (c' ≡ c) × (c ≤ n')) (HasBefore e c)
           (λ n' c' among. ⊎_elim (λ same. inr (same, omega (arith, among.2))) (λ other. inl (omega (arith, other, among.0), among.1, among.2)) (cases_eq c' c))
           found (window_within c here) next at before.first
-          (IsFirstOf-within r c here (HoldsFrom-same here (NoneHolds (pair_count r) Of (Begins r)) (λ n. IsDetermined r (c + n) c)
+          (IsFirstWindowOf-within r c here (HoldsFrom-same here (NoneHolds (pair_count r) Of (PairBegins r)) (λ n. IsDetermined r (c + n) c)
           (λ n. let known = IsDetermined-within rule c n in (
             λ determined p l of. known.0 determined p l (of.0, of.1.1),
             λ none. known.1 (λ p l of. none p l (of.0, (within, of.1))),
@@ -74,13 +74,13 @@ IsDetermined-fewer {r} rule e n c past many within determined =
     (IsDetermined-within rule e (n - c)).1 (λ p l of. none p l (of.0, past (first_of r p) (first_of-below rule p l) (second_of r p) e (second_of-below rule p) (omega arith) of.1 c))
 
 -- so once the windows with at most e were looked at, all were
-pub IsFirstOf-searched : {r : LocalRule} → IsRule r → (e : ℕ) → IsPast r (node_count r) e → (last : Option ℕ) (found : Option WindowAt) → IsSearched r e 0 last found → IsFirstOf r (λ n c. c < n + 1) found
-IsFirstOf-searched {r} rule e past last None searched = λ n c within determined.
+pub IsFirstWindowOf-searched : {r : LocalRule} → IsRule r → (e : ℕ) → IsPast r (node_count r) e → (last : Option ℕ) (found : Option WindowAt) → IsSearched r e 0 last found → IsFirstWindowOf r (λ n c. c < n + 1) found
+IsFirstWindowOf-searched {r} rule e past last None searched = λ n c within determined.
     ⊎_elim
     (λ many. searched.first (e + (n - c)) e (omega arith, omega arith, omega arith) (IsDetermined-fewer rule e n c past (omega arith) (omega arith) determined))
     (λ few. searched.first n c (omega arith, few, omega arith) determined)
     (cases_lt e c)
-IsFirstOf-searched {r} rule e past last (Some w) searched = record {
+IsFirstWindowOf-searched {r} rule e past last (Some w) searched = record {
   determined = searched.first.determined;
   least = λ n c within before determined.
       ⊎_elim

@@ -9,23 +9,23 @@ use Rattle.tail_config.specs.Tails.{IsInjective}
 use Rattle.tail_laws.proofs.Certainty.{IsInjective-window}
 use Rattle.inverse_window.specs.declared.windows.WindowAt.{WindowAt}
 use Rattle.inverse_window.specs.Starts.{HoldsFrom}
-use Rattle.inverse_window.specs.FirstWindows.{IsFirstOf, IsEarlier}
-use Rattle.inverse_window.proofs.FirstWindowLaws.{IsFirstOf-earlier, IsFirstOf-past}
+use Rattle.inverse_window.specs.FirstWindows.{IsFirstWindowOf, IsEarlier}
+use Rattle.inverse_window.proofs.FirstWindowLaws.{IsFirstWindowOf-earlier, IsFirstWindowOf-past}
 
 -- the windows whose letter stands before place i of the last node
 abbrev pub IsBefore : ℕ → ℕ → ℕ → Type 0
 IsBefore i n c = c < n + i
 
 -- one place more
-pub IsFirstOf-next : (r : LocalRule) (i : ℕ) (start : Option ℕ) (found made next : Option WindowAt) → HoldsFrom start (λ n. IsDetermined r n (n + i)) → made ≡ option_map (λ n. record { n = n; c = n + i }) start
-    → IsEarlier found made next → IsFirstOf r (IsBefore i) found → IsFirstOf r (IsBefore (i + 1)) next
-IsFirstOf-next r i start found made next from made_is earlier before =
-    IsFirstOf-earlier r (IsBefore i) (λ n c. c ≡ n + i) (IsBefore (i + 1))
+pub IsFirstWindowOf-next : (r : LocalRule) (i : ℕ) (start : Option ℕ) (found made next : Option WindowAt) → HoldsFrom start (λ n. IsDetermined r n (n + i)) → made ≡ option_map (λ n. record { n = n; c = n + i }) start
+    → IsEarlier found made next → IsFirstWindowOf r (IsBefore i) found → IsFirstWindowOf r (IsBefore (i + 1)) next
+IsFirstWindowOf-next r i start found made next from made_is earlier before =
+    IsFirstWindowOf-earlier r (IsBefore i) (λ n c. c ≡ n + i) (IsBefore (i + 1))
     (λ n c among. ⊎_elim (λ same. inr same) (λ other. inl (omega (arith, other))) (cases_eq c (n + i)))
-    found made next earlier before (subst (IsFirstOf r (λ n c. c ≡ n + i)) (sym made_is) (IsFirstOf-past r i start from))
+    found made next earlier before (subst (IsFirstWindowOf r (λ n c. c ≡ n + i)) (sym made_is) (IsFirstWindowOf-past r i start from))
 
 -- the last place is that of the last letter of the word
-pub IsLeastDetermined-first : {r : LocalRule} → IsRule r → (found : Option WindowAt) → IsFirstOf r (IsBefore (r.width - 1)) found
+pub IsLeastDetermined-first : {r : LocalRule} → IsRule r → (found : Option WindowAt) → IsFirstWindowOf r (IsBefore (r.width - 1)) found
     → MatchOption found ((n c : ℕ) → ¬ IsDetermined r n c) (λ w. IsLeastDetermined r w.n w.c)
 IsLeastDetermined-first rule None first = λ n c determined. first n c (omega (arith, determined.some, determined.inside, rule.shape.least_width)) determined
 IsLeastDetermined-first rule (Some w) first = record {

@@ -7,7 +7,7 @@ use Rattle.word_image.specs.Graphs.{pair_of, pair_count, node_letter}
 use Rattle.word_image.proofs.laws.Values.{word_of-value}
 use Rattle.word_image.proofs.laws.Graphs.{value-node}
 use Rattle.pair_laws.proofs.Pairs.{first_of-pair_of, second_of-pair_of, pair_of-below}
-use Rattle.inverse_window.specs.FirstWindows.{DifferAt}
+use Rattle.inverse_window.specs.FirstWindows.{PairDiffersAt}
 
 -- the node of one letter, again and again
 abbrev constant_node : LocalRule → ℕ → ℕ
@@ -21,8 +21,8 @@ node_letter-constant_node r a i letter within =
     ∙ ap (λ v. slice_index v i) (word_of-value r.states w (All-replicate (λ c. c < r.states) (r.width - 1) a letter)) ∙ get_or-replicate (r.width - 1) i a 0 within
 
 -- some pair differs at each letter
-pub DifferAt-some : {r : LocalRule} → IsRule r → (i : ℕ) → i < r.width - 1 → (p : ℕ) × (p < pair_count r) × DifferAt r i p
-DifferAt-some {r} rule i within =
+pub PairDiffersAt-some : {r : LocalRule} → IsRule r → (i : ℕ) → i < r.width - 1 → (p : ℕ) × (p < pair_count r) × PairDiffersAt r i p
+PairDiffersAt-some {r} rule i within =
     let node : (a : ℕ) → a < r.states → constant_node r a < node_count r = λ a l. value-node r (replicate (r.width - 1) a) (All-replicate (λ c. c < r.states) (r.width - 1) a l) (length-replicate (r.width - 1) a) in
     let states : 2 ≤ r.states = rule.shape.least_states in
     let zeros : ℕ = constant_node r 0 in

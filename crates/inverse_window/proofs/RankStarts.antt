@@ -9,12 +9,12 @@ use Rattle.word_image.specs.Ranks.{IsRank, IsEndless}
 use Rattle.word_image.specs.declared.side.Side.TheVariants.{Left}
 use Rattle.pair_laws.proofs.Ranks.{Together-less}
 use Rattle.inverse_window.specs.Starts.{HoldsFrom, later}
-use Rattle.inverse_window.specs.FirstWindows.{DifferAt, Begins, EndsFor, NoneHolds, AreStarts}
+use Rattle.inverse_window.specs.FirstWindows.{PairDiffersAt, PairBegins, EndsFor, NoneHolds, AreStarts}
 use Rattle.inverse_window.proofs.StartLaws.{HoldsFrom-first, HoldsFrom-next, HoldsFrom-other, later-most}
 
 -- these are the pairs that a start speaks of
 abbrev pub OfRank : LocalRule → ℕ → ℕ → ℕ → Type 0
-OfRank r e b p = DifferAt r 0 p × IsRank (EndsFor r e p) b
+OfRank r e b p = PairDiffersAt r 0 p × IsRank (EndsFor r e p) b
 
 -- the rank of two nodes, counted to what is above it
 pub IsRank-counted : (rank : Option ℕ) (P : ℕ → Type 0) (e : ℕ) → MatchOption rank (IsEndless P) (IsRank P) → ((n : ℕ) → e ≤ n → P n → IsEndless P)
@@ -32,7 +32,7 @@ AreStarts-first r e few =
     record {
       long = length-replicate 241 zero;
       few = few;
-      from = λ b l. subst (λ (o : Option ℕ). HoldsFrom o (NoneHolds 0 (OfRank r e b) (Begins r))) (zero_at b l) (HoldsFrom-first (OfRank r e b) (Begins r));
+      from = λ b l. subst (λ (o : Option ℕ). HoldsFrom o (NoneHolds 0 (OfRank r e b) (PairBegins r))) (zero_at b l) (HoldsFrom-first (OfRank r e b) (PairBegins r));
       most = λ b l. subst (λ (o : Option ℕ). IfSome o (λ n. n ≤ 240)) (zero_at b l) (omega arith);
     }
 
@@ -43,7 +43,7 @@ one_rank {r} rule e p a b first second =
 
 -- behind a pair that differs at its first letter
 pub AreStarts-next : {r : LocalRule} {e p b : ℕ} {starts : List (Option ℕ)} → IsRule r → (x : Option ℕ) → AreStarts r e p starts
-    → DifferAt r 0 p → b ≤ e → IsRank (EndsFor r e p) b → HoldsFrom x (λ n. ¬ Begins r p n) → IfSome x (λ n. n ≤ 240)
+    → PairDiffersAt r 0 p → b ≤ e → IsRank (EndsFor r e p) b → HoldsFrom x (λ n. ¬ PairBegins r p n) → IfSome x (λ n. n ≤ 240)
     → AreStarts r e (p + 1) (set starts b (later (get_or starts b None) x))
 AreStarts-next {r} {e} {p} {b} {starts} rule x before differ within rank from most =
     let new : Option ℕ = later (get_or starts b None) x in
@@ -57,18 +57,18 @@ AreStarts-next {r} {e} {p} {b} {starts} rule x before differ within rank from mo
     record {
       long = length-set starts b new ∙ long;
       few = few;
-      from = at (λ a o. HoldsFrom o (NoneHolds (p + 1) (OfRank r e a) (Begins r)))
-          (HoldsFrom-next (get_or starts b None) x p (OfRank r e b) (Begins r) (differ, rank) (before.from b within) from)
-          (λ a l other. HoldsFrom-other (get_or starts a None) p (OfRank r e a) (Begins r)
+      from = at (λ a o. HoldsFrom o (NoneHolds (p + 1) (OfRank r e a) (PairBegins r)))
+          (HoldsFrom-next (get_or starts b None) x p (OfRank r e b) (PairBegins r) (differ, rank) (before.from b within) from)
+          (λ a l other. HoldsFrom-other (get_or starts a None) p (OfRank r e a) (PairBegins r)
           (λ of. other (omega (arith, one_rank rule e p a b of.1 rank, one_rank rule e p b a rank of.1))) (before.from a l));
       most = at (λ a o. IfSome o (λ n. n ≤ 240)) (later-most (get_or starts b None) x 240 (before.most b within) most) (λ a l other. before.most a l);
     }
 
 -- behind any other pair
-pub AreStarts-other : {r : LocalRule} {e p : ℕ} {starts : List (Option ℕ)} → AreStarts r e p starts → ¬ DifferAt r 0 p → AreStarts r e (p + 1) starts
+pub AreStarts-other : {r : LocalRule} {e p : ℕ} {starts : List (Option ℕ)} → AreStarts r e p starts → ¬ PairDiffersAt r 0 p → AreStarts r e (p + 1) starts
 AreStarts-other {r} {e} {p} {starts} before same = record {
   long = before.long;
   few = before.few;
-  from = λ b l. HoldsFrom-other (get_or starts b None) p (OfRank r e b) (Begins r) (λ of. same of.0) (before.from b l);
+  from = λ b l. HoldsFrom-other (get_or starts b None) p (OfRank r e b) (PairBegins r) (λ of. same of.0) (before.from b l);
   most = before.most;
 }

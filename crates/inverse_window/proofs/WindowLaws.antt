@@ -10,8 +10,8 @@ use Rattle.pair_laws.proofs.Ranks.{Together-zero, Together-less}
 use Rattle.pair_laws.proofs.Pairs.{first_of-below, second_of-below}
 use Rattle.pair_laws.proofs.Decisions.{Together-decide}
 use Rattle.pair_laws.proofs.Windows.{IsDetermined-pairs}
-use Rattle.inverse_window.specs.FirstWindows.{DifferAt, Begins, Ends, EndsFor, NoneHolds}
-use Rattle.inverse_window.proofs.Letters.{DifferAt-some}
+use Rattle.inverse_window.specs.FirstWindows.{PairDiffersAt, PairBegins, PairEnds, EndsFor, NoneHolds}
+use Rattle.inverse_window.proofs.Letters.{PairDiffersAt-some}
 
 -- a pair ends together for n, counted to e, or doesn't
 EndsFor-decide : {r : LocalRule} → IsRule r → (e p n : ℕ) → p < pair_count r → EndsFor r e p n ⊎ ¬ EndsFor r e p n
@@ -21,25 +21,25 @@ EndsFor-decide {r} rule e p n l =
     (cases_lt e n)
 
 -- no pair differs at letter i, ends together for j and begins together for l
-abbrev pub AreApart : LocalRule → ℕ → ℕ → ℕ → Type 0
-AreApart r i j l = (p : ℕ) → p < pair_count r → DifferAt r i p → Ends r p j → ¬ Begins r p l
+abbrev pub NoPairDiffers : LocalRule → ℕ → ℕ → ℕ → Type 0
+NoPairDiffers r i j l = (p : ℕ) → p < pair_count r → PairDiffersAt r i p → PairEnds r p j → ¬ PairBegins r p l
 
 -- some pair differs at a letter, and every pair ends and begins together for 0
-AreApart-some : {r : LocalRule} → IsRule r → (i j l : ℕ) → i < r.width - 1 → AreApart r i j l → 1 ≤ j + l
-AreApart-some {r} rule i j l within apart =
-    let p = DifferAt-some rule i within in
+NoPairDiffers-some : {r : LocalRule} → IsRule r → (i j l : ℕ) → i < r.width - 1 → NoPairDiffers r i j l → 1 ≤ j + l
+NoPairDiffers-some {r} rule i j l within apart =
+    let p = PairDiffersAt-some rule i within in
     let u : first_of r p.0 < _ = first_of-below rule p.0 p.1 in
     let v = second_of-below rule p.0 in
     ⊎_elim
     (λ none.
     let e : 0 ≡ j = omega arith in
     let d : 0 ≡ l = omega arith in
-    absurd (apart p.0 p.1 p.2 (subst (Ends r p.0) e (Together-zero Left r _ _ u v)) (subst (Begins r p.0) d (Together-zero Right r _ _ u v))))
+    absurd (apart p.0 p.1 p.2 (subst (PairEnds r p.0) e (Together-zero Left r _ _ u v)) (subst (PairBegins r p.0) d (Together-zero Right r _ _ u v))))
     (λ some. some)
     (cases_lt (j + l) 1)
 
 -- where j is the lesser of n and c, and the letter c of a word is letter i of its node at j, this says that (n, c) is determined
-pub IsDetermined-parts : {r : LocalRule} → IsRule r → (i j l n c : ℕ) → j + i ≡ c → j + l ≡ n → min c n ≡ j → i < r.width - 1 → IsDetermined r n c ↔ AreApart r i j l
+pub IsDetermined-parts : {r : LocalRule} → IsRule r → (i j l n c : ℕ) → j + i ≡ c → j + l ≡ n → min c n ≡ j → i < r.width - 1 → IsDetermined r n c ↔ NoPairDiffers r i j l
 IsDetermined-parts {r} rule i j l n c place long least within =
     let letter : c - min c n ≡ i = omega arith in
     let rest : n - min c n ≡ l = omega arith in
@@ -49,21 +49,21 @@ IsDetermined-parts {r} rule i j l n c place long least within =
     → EndTogether r (first_of r p) (second_of r p) b → ¬ BeginTogether r (first_of r p) (second_of r p) d in (
       λ h. subst (λ a. At a j l) letter (subst (λ b. At (c - min c n) b l) least (subst (At (c - min c n) (min c n)) rest ((pairs.0 h).2))),
       λ apart. pairs.1 (
-        omega (arith, AreApart-some rule i j l within apart),
-        omega (arith, AreApart-some rule i j l within apart),
+        omega (arith, NoPairDiffers-some rule i j l within apart),
+        omega (arith, NoPairDiffers-some rule i j l within apart),
         subst (At (c - min c n) (min c n)) (sym rest) (subst (λ b. At (c - min c n) b l) (sym least) (subst (λ a. At a j l) (sym letter) apart)),
       ),
     )
 
 -- n letters of the image past the letter c of the word, and c before it: no pair that differs at its first letter ends together for c and begins together for n
-pub IsDetermined-within : {r : LocalRule} → IsRule r → (c n : ℕ) → IsDetermined r (c + n) c ↔ NoneHolds (pair_count r) (λ p. DifferAt r 0 p × Ends r p c) (Begins r) n
+pub IsDetermined-within : {r : LocalRule} → IsRule r → (c n : ℕ) → IsDetermined r (c + n) c ↔ NoneHolds (pair_count r) (λ p. PairDiffersAt r 0 p × PairEnds r p c) (PairBegins r) n
 IsDetermined-within {r} rule c n =
     let wide : 2 ≤ r.width = rule.shape.least_width in
     let parts = IsDetermined-parts rule 0 c n (c + n) c (omega arith) (omega arith) (omega arith) (omega arith) in
     (λ h p l of. parts.0 h p l of.0 of.1, λ none. parts.1 (λ p l differ ends. none p l (differ, ends)))
 
 -- all letters of the image before a letter of the last node: no pair that differs at it ends together for them
-pub IsDetermined-past : {r : LocalRule} → IsRule r → (i n : ℕ) → i < r.width - 1 → IsDetermined r n (n + i) ↔ NoneHolds (pair_count r) (DifferAt r i) (Ends r) n
+pub IsDetermined-past : {r : LocalRule} → IsRule r → (i n : ℕ) → i < r.width - 1 → IsDetermined r n (n + i) ↔ NoneHolds (pair_count r) (PairDiffersAt r i) (PairEnds r) n
 IsDetermined-past {r} rule i n within =
     let parts = IsDetermined-parts rule i n 0 n (n + i) (omega arith) (omega arith) (omega arith) within in (
       λ h p l differ ends. parts.0 h p l differ ends (Together-zero Right r _ _ (first_of-below rule p l) (second_of-below rule p)),
@@ -71,8 +71,8 @@ IsDetermined-past {r} rule i n within =
     )
 
 -- the pairs that end together for c, counted to e, are those that do for c and no more, and those that do for more
-pub NoneHolds-split : {r : LocalRule} → IsRule r → (e i c n : ℕ) (P : ℕ → ℕ → Type 0) → NoneHolds (pair_count r) (λ p. DifferAt r i p × EndsFor r e p c) P n
-    ↔ (NoneHolds (pair_count r) (λ p. DifferAt r i p × IsRank (EndsFor r e p) c) P n × NoneHolds (pair_count r) (λ p. DifferAt r i p × EndsFor r e p (c + 1)) P n)
+pub NoneHolds-split : {r : LocalRule} → IsRule r → (e i c n : ℕ) (P : ℕ → ℕ → Type 0) → NoneHolds (pair_count r) (λ p. PairDiffersAt r i p × EndsFor r e p c) P n
+    ↔ (NoneHolds (pair_count r) (λ p. PairDiffersAt r i p × IsRank (EndsFor r e p) c) P n × NoneHolds (pair_count r) (λ p. PairDiffersAt r i p × EndsFor r e p (c + 1)) P n)
 NoneHolds-split {r} rule e i c n P = (
   λ none. (
     λ p l of. none p l (of.0, of.1.holds),

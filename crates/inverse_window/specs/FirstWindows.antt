@@ -8,20 +8,20 @@ use Rattle.inverse_window.specs.Starts.{HoldsFrom}
 use Rattle.inverse_window.specs.declared.windows.WindowAt.{WindowAt}
 
 -- the nodes of the pair p differ at letter i
-abbrev pub DifferAt : LocalRule → ℕ → ℕ → Type 0
-DifferAt r i p = node_letter r (first_of r p) i ≢ node_letter r (second_of r p) i
+abbrev pub PairDiffersAt : LocalRule → ℕ → ℕ → Type 0
+PairDiffersAt r i p = node_letter r (first_of r p) i ≢ node_letter r (second_of r p) i
 
 -- they begin together for n
-abbrev pub Begins : LocalRule → ℕ → ℕ → Type 0
-Begins r p n = BeginTogether r (first_of r p) (second_of r p) n
+abbrev pub PairBegins : LocalRule → ℕ → ℕ → Type 0
+PairBegins r p n = BeginTogether r (first_of r p) (second_of r p) n
 
 -- they end together for n
-abbrev pub Ends : LocalRule → ℕ → ℕ → Type 0
-Ends r p n = EndTogether r (first_of r p) (second_of r p) n
+abbrev pub PairEnds : LocalRule → ℕ → ℕ → Type 0
+PairEnds r p n = EndTogether r (first_of r p) (second_of r p) n
 
 -- they end together for n, counted to e
 abbrev pub EndsFor : LocalRule → ℕ → ℕ → ℕ → Type 0
-EndsFor r e p n = (n ≤ e) × Ends r p n
+EndsFor r e p n = (n ≤ e) × PairEnds r p n
 
 -- e is above the finite ranks of u: each node that ends together with it for e letters or more does for all
 abbrev pub IsPastOf : LocalRule → ℕ → ℕ → ℕ → Type 0
@@ -39,7 +39,7 @@ NoneHolds count Of P n = (p : ℕ) → p < count → Of p → ¬ P p n
 pub record AreStarts (r : LocalRule) (e count : ℕ) (starts : List (Option ℕ)) : Type 0 where
   pub long : length starts ≡ 241
   pub few : e ≤ 240
-  pub from : (b : ℕ) → b ≤ e → HoldsFrom (slice_index_or starts b None) (NoneHolds count (λ p. DifferAt r 0 p × IsRank (EndsFor r e p) b) (Begins r))
+  pub from : (b : ℕ) → b ≤ e → HoldsFrom (slice_index_or starts b None) (NoneHolds count (λ p. PairDiffersAt r 0 p × IsRank (EndsFor r e p) b) (PairBegins r))
   pub most : (b : ℕ) → b ≤ e → IfSome (slice_index_or starts b None) (λ n. n ≤ 240)
 
 -- a determined window before which none of these is determined
@@ -48,8 +48,8 @@ pub record IsFirstWindow (r : LocalRule) (Among : ℕ → ℕ → Type 0) (n c :
   pub least : (n' c' : ℕ) → Among n' c' → WindowBefore n' c' n c → ¬ IsDetermined r n' c'
 
 -- it is the first of these windows that is determined, where any is
-abbrev pub IsFirstOf : LocalRule → (ℕ → ℕ → Type 0) → Option WindowAt → Type 0
-IsFirstOf r Among found = MatchOption found ((n c : ℕ) → Among n c → ¬ IsDetermined r n c) (λ w. IsFirstWindow r Among w.n w.c)
+abbrev pub IsFirstWindowOf : LocalRule → (ℕ → ℕ → Type 0) → Option WindowAt → Type 0
+IsFirstWindowOf r Among found = MatchOption found ((n c : ℕ) → Among n c → ¬ IsDetermined r n c) (λ w. IsFirstWindow r Among w.n w.c)
 
 -- w comes no later than v
 abbrev pub IsNoLater : WindowAt → WindowAt → Type 0

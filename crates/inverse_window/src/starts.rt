@@ -6,7 +6,7 @@ ghost use Rattle.word_image.specs.Ranks.{EndTogether, IsRank};
 ghost use Rattle.word_image.specs.Sides.{Together};
 ghost use Rattle.word_image.specs.Windows.{IsDetermined};
 ghost use Rattle.inverse_window.specs.Starts.{HoldsFrom, later};
-ghost use Rattle.inverse_window.specs.FirstWindows.{DifferAt, Ends, IsPast, IsPastOf, NoneHolds, AreStarts};
+ghost use Rattle.inverse_window.specs.FirstWindows.{PairDiffersAt, PairEnds, IsPast, IsPastOf, NoneHolds, AreStarts};
 
 use pair_rank::Ranks;
 use word_image::{Rule, Side};
@@ -35,9 +35,9 @@ fn start_of(rule: &Rule, ranks: &Ranks, u: u8, place: u8, start: Option<u16>) ->
     requires of_rule { ranks.now ≡ rule.now }
     requires place { place < rule.now.width - 1 }
     requires node { u < node_count rule.now }
-    requires start { HoldsFrom start (NoneHolds (pair_of rule.now u 0) (DifferAt rule.now place) (Ends rule.now)) }
+    requires start { HoldsFrom start (NoneHolds (pair_of rule.now u 0) (PairDiffersAt rule.now place) (PairEnds rule.now)) }
     requires most { IfSome start (λ n. n ≤ 240) }
-    ensures start { HoldsFrom result (NoneHolds (pair_of rule.now (u + 1) 0) (DifferAt rule.now place) (Ends rule.now)) }
+    ensures start { HoldsFrom result (NoneHolds (pair_of rule.now (u + 1) 0) (PairDiffersAt rule.now place) (PairEnds rule.now)) }
     ensures most { IfSome result (λ n. n ≤ 240) }
 {
     let letter = rule.node_letter(u, place);

@@ -4,7 +4,7 @@ ghost use Rattle.std.specs.Option.{option_map};
 ghost use Rattle.word_image.specs.Windows.{IsDetermined, IsLeastDetermined};
 ghost use Rattle.word_image.specs.Words.{IsSurjective};
 ghost use Rattle.tail_config.specs.Tails.{IsInjective};
-ghost use Rattle.inverse_window.specs.FirstWindows.{IsEarlier, IsFirstOf};
+ghost use Rattle.inverse_window.specs.FirstWindows.{IsEarlier, IsFirstWindowOf};
 
 use crate::starts::{later, past_ranks, start_past, starts_by_rank};
 use crate::verdicts::is_injective;
@@ -45,7 +45,7 @@ pub fn window(rule: &Rule, ranks: &Ranks) -> Option<WindowAt>
 /// The first determined window of those with c ≤ n.
 fn first_within(rule: &Rule, ranks: &Ranks) -> Option<WindowAt>
     requires of_rule { ranks.now ≡ rule.now }
-    ensures first { IsFirstOf rule.now (λ n c. c < n + 1) result }
+    ensures first { IsFirstWindowOf rule.now (λ n c. c < n + 1) result }
     ensures most { IfSome result (λ w. w.n ≤ 480) }
 {
     let past = past_ranks(ranks);

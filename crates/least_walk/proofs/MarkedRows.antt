@@ -52,12 +52,12 @@ marked-step r t a b q e =
     (leb_tells c t)
 
 -- the parts of the pair of u and v with this mark
-pub record HasParts (r : LocalRule) (q mark u v : ℕ) : Type 0 where
+pub record HasPairParts (r : LocalRule) (q mark u v : ℕ) : Type 0 where
   pub half : q / pair_count r ≡ mark
   pub first : first_of r (pair_part r q) ≡ u
   pub second : second_of r (pair_part r q) ≡ v
 
-pub parts-of : (r : LocalRule) (q mark u v : ℕ) → u < node_count r → v < node_count r → q ≡ mark * pair_count r + pair_of r u v → HasParts r q mark u v
+pub parts-of : (r : LocalRule) (q mark u v : ℕ) → u < node_count r → v < node_count r → q ≡ mark * pair_count r + pair_of r u v → HasPairParts r q mark u v
 parts-of r q mark u v in_u in_v e =
     let below = pair_of-below r u v in_u in_v in
     let part : pair_part r q ≡ pair_of r u v = ap (λ z. z % pair_count r) e ∙ mod-mul-add mark (pair_count r) (pair_of r u v) below in

@@ -13,7 +13,7 @@ use Rattle.word_image.specs.MarkedPairs.{marked}
 use Rattle.word_image.specs.Rings.{pairs_cmp}
 use Rattle.word_image.specs.Words.{word_cmp}
 use Rattle.word_image.proofs.laws.Places.{slice_get-unique}
-use Rattle.search_laws.specs.SearchQueues.{Spells}
+use Rattle.search_laws.specs.SearchQueues.{TreeSpells}
 use Rattle.search_laws.proofs.LeastFirst.{IsLeastTo-spelled, reached_all}
 use Rattle.search_laws.proofs.PairWalks.{PairWalk-leads, ArePairs-walk, pairs_cmp-codes, codes-uncode, code, Leads-walk}
 use Rattle.search_laws.specs.PairWalks.{PairWalk, uncode}
@@ -21,8 +21,8 @@ use Rattle.least_walk.specs.declared.queue.Reached.{Reached}
 use Rattle.least_walk.specs.declared.queue.Arrival.{Arrival}
 use Rattle.least_walk.specs.declared.queue.Ends.{Ends}
 use Rattle.least_walk.specs.Queues.{places_of, place_of, SpellsBefore, IsWalking, IsEnded, IsArrival}
-use Rattle.least_walk.specs.Trees.{AreApart, IsTree, IsLeastWalkTo}
-use Rattle.least_walk.proofs.Walking.{place_at, reached_at, length-walking-le, pair-below, all_followed}
+use Rattle.least_walk.specs.Trees.{AreApart, IsWalkTree, IsLeastWalkTo}
+use Rattle.least_walk.proofs.Walking.{place_at, reached_at, length-walking-le, queued-below, all_followed}
 
 -- marked pairs are below 512
 pub states-few : {r : LocalRule} → IsRule r → 2 * pair_count r ≤ 512
@@ -42,7 +42,7 @@ ended (Some a) found none = absurd (none-some found.goal found.sought)
 pub AreApart-walking : {r : LocalRule} {ends : Ends} {queue : List Reached} {e : ℕ} → IsWalking r ends queue e → AreApart queue
 AreApart-walking {queue = queue} w = record {
   few = length-walking-le w;
-  below = λ i x at. omega (arith, pair-below w i x at, states-few w.rule);
+  below = λ i x at. omega (arith, queued-below w i x at, states-few w.rule);
   apart = λ i j x y at there same. w.filled.apart i j (place_of x) (place_of y) (place_at queue i x at) (place_at queue j y there) same;
 }
 
@@ -59,7 +59,7 @@ index-next queue places i y apart long here before j x less at =
     (cases_eq j i)
 
 -- the steps to a place are the least walk to what stands there
-pub IsLeastWalkTo-spelled : {r : LocalRule} {ends : Ends} {queue : List Reached} {e i : ℕ} {w : List ℕ} → IsWalking r ends queue e → Spells (places_of queue) i w
+pub IsLeastWalkTo-spelled : {r : LocalRule} {ends : Ends} {queue : List Reached} {e i : ℕ} {w : List ℕ} → IsWalking r ends queue e → TreeSpells (places_of queue) i w
     → (x : Reached) → slice_get queue i ≡ Some x → IsLeastWalkTo r ends.start x.pair (map (uncode 16) w)
 IsLeastWalkTo-spelled {r} {queue = queue} {i = i} {w} walking spells x at =
     let le : r.states ≤ 16 = walking.rule.shape.most_states in
@@ -74,7 +74,7 @@ IsLeastWalkTo-spelled {r} {queue = queue} {i = i} {w} walking spells x at =
     }
 
 -- and no walk leads to what stands at no place
-pub no_walk-absent : {r : LocalRule} {start t : ℕ} {queue : List Reached} {places : List ℕ} → IsTree r start queue places → ((i : ℕ) (x : Reached) → slice_get queue i ≡ Some x → x.pair ≢ t)
+pub no_walk-absent : {r : LocalRule} {start t : ℕ} {queue : List Reached} {places : List ℕ} → IsWalkTree r start queue places → ((i : ℕ) (x : Reached) → slice_get queue i ≡ Some x → x.pair ≢ t)
     → (w : List (ℕ × ℕ)) → ¬ PairWalk (marked r) r.states start w t
 no_walk-absent {t = t} {queue} tree absent w walk =
     let walking = tree.ended.walking in
@@ -83,7 +83,7 @@ no_walk-absent {t = t} {queue} tree absent w walk =
     absent reached.at x at (ap (λ z. z.state) alike ∙ reached.of_state)
 
 -- so are those that are written before nothing
-pub IsLeastWalkTo-steps : {r : LocalRule} {start : ℕ} {queue : List Reached} {places : List ℕ} {i : ℕ} {old steps : List ℕ} → IsTree r start queue places
+pub IsLeastWalkTo-steps : {r : LocalRule} {start : ℕ} {queue : List Reached} {places : List ℕ} {i : ℕ} {old steps : List ℕ} → IsWalkTree r start queue places
     → (x : Reached) (t : ℕ) → slice_get queue i ≡ Some x → x.pair ≡ t → old ≡ [] → SpellsBefore queue i old steps → IsLeastWalkTo r start t (map (uncode 16) steps)
 IsLeastWalkTo-steps {r} {start} {steps = steps} tree x t at same none (w, spells, whole) =
     let alone : steps ≡ w = whole ∙ ap (λ o. w ++ reverse o) none ∙ append-nil w in

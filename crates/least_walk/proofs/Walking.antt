@@ -13,20 +13,20 @@ use Rattle.word_image.specs.LocalRules.{LocalRule, IsRule, node_count}
 use Rattle.word_image.specs.Graphs.{pair_count}
 use Rattle.word_image.specs.MarkedPairs.{marked}
 use Rattle.word_image.proofs.laws.Places.{slice_get-append, slice_get-push, slice_get-push_cases, only_place}
-use Rattle.search_laws.specs.SearchQueues.{Place, Spells, IsQueue}
-use Rattle.search_laws.specs.SearchQueues.Spells.{Root, Branch}
+use Rattle.search_laws.specs.SearchQueues.{Place, TreeSpells, IsQueue}
+use Rattle.search_laws.specs.SearchQueues.TreeSpells.{Root, Branch}
 use Rattle.search_laws.proofs.QueueSteps.{HaveMet-next, HaveMet-push, edge-within, IsQueue-start, IsQueue-there, IsQueue-new}
 use Rattle.search_laws.proofs.QueueStates.{mapped_at, unmapped_at, length-queue-le, state-below}
 use Rattle.search_laws.proofs.LeastSteps.{NoEdgeBefore, IsLeastStepsTo, IsLeastStepsTo-edge, no_steps_to}
 use Rattle.search_laws.proofs.QueueDepths.{AreDepths, depths-ascending, no_word_within}
-use Rattle.search_laws.proofs.SpelledWords.{Spells-some, length-spelled-le}
+use Rattle.search_laws.proofs.SpelledWords.{TreeSpells-some, length-spelled-le}
 use Rattle.search_laws.proofs.PairWalks.{code, Leads-walk, CodeStep-some, CodeStep-follows, IsLeastWalk-steps, no_walk}
 use Rattle.search_laws.specs.PairWalks.{PairWalk, IsLeastWalk, uncode}
 use Rattle.pair_laws.proofs.Pairs.{marked-below}
 use Rattle.least_walk.specs.declared.queue.Reached.{Reached}
 use Rattle.least_walk.specs.declared.queue.Ends.{Ends}
 use Rattle.least_walk.specs.Marks.{HasPair}
-use Rattle.least_walk.specs.Queues.{MarkedStep, step_count, place_of, places_of, HasDepths, IsWalking, IsSearch, IsEnded, IsArrival, IsNear, IsOldBut, IsBackward, SpellsBefore}
+use Rattle.least_walk.specs.Queues.{MarkedStep, step_count, place_of, places_of, HasDepths, IsWalking, IsWalkSearch, IsEnded, IsArrival, IsNearStart, IsOldBut, IsBackward, SpellsBefore}
 
 -- the places of a longer queue
 places_of-push : (queue : List Reached) (x : Reached) → places_of (queue ++ x ∷ []) ≡ places_of queue ++ place_of x ∷ []
@@ -141,12 +141,12 @@ IsListed-push : (queue : List Reached) (y : Reached) (t : ℕ) → IsListed queu
 IsListed-push queue y t (i, x, at, same) = (i, x, slice_get-append queue (y ∷ []) i x at, same)
 
 -- what has been reached, but for the goal, is in the rows
-listed_in_rows : {r : LocalRule} {ends : Ends} {queue : List Reached} {rows : List ℕ} {e : ℕ} → IsSearch r ends queue rows e → (t : ℕ) → ends.goal ≢ Some t → IsListed queue t → HasPair r rows t
+listed_in_rows : {r : LocalRule} {ends : Ends} {queue : List Reached} {rows : List ℕ} {e : ℕ} → IsWalkSearch r ends queue rows e → (t : ℕ) → ends.goal ≢ Some t → IsListed queue t → HasPair r rows t
 listed_in_rows {r} {rows = rows} s t other (i, x, at, same) = subst (HasPair r rows) same (s.all i x at (λ e. other (e ∙ ap Some same)))
 
 -- it is a marked pair
-pub pair-below : {r : LocalRule} {ends : Ends} {queue : List Reached} {e : ℕ} → IsWalking r ends queue e → (i : ℕ) (x : Reached) → slice_get queue i ≡ Some x → x.pair < 2 * pair_count r
-pair-below {r} {queue = queue} w i x at =
+pub queued-below : {r : LocalRule} {ends : Ends} {queue : List Reached} {e : ℕ} → IsWalking r ends queue e → (i : ℕ) (x : Reached) → slice_get queue i ≡ Some x → x.pair < 2 * pair_count r
+queued-below {r} {queue = queue} w i x at =
     state-below w.filled (2 * pair_count r) w.start_in (MarkedStep-below w.rule) i (place_of x) (place_at queue i x at)
 
 -- the number of two letters
@@ -154,9 +154,9 @@ code_parts : (a b : ℕ) → b < 16 → ((a * 16 + b) / 16 ≡ a) × ((a * 16 + 
 code_parts a b small = (div-mul-add a 16 b small, mod-mul-add a 16 b small)
 
 -- the steps with first letter a, from second letter b on, lead to nothing that the rows don't have
-pub IsSearch-rest : {r : LocalRule} {ends : Ends} {queue : List Reached} {rows : List ℕ} → (h a b : ℕ) → IsSearch r ends queue rows (h * step_count r + (a * 16 + b)) → (x : Reached) → slice_get queue h ≡ Some x
-    → a < r.states → b ≤ 16 → ((c t : ℕ) → b ≤ c → c < r.states → marked r x.pair a c ≡ Some t → HasPair r rows t) → IsSearch r ends queue rows (h * step_count r + (a + 1) * 16)
-IsSearch-rest {r} {ends} {queue} {rows} h a b s x at letter small old =
+pub IsWalkSearch-rest : {r : LocalRule} {ends : Ends} {queue : List Reached} {rows : List ℕ} → (h a b : ℕ) → IsWalkSearch r ends queue rows (h * step_count r + (a * 16 + b)) → (x : Reached) → slice_get queue h ≡ Some x
+    → a < r.states → b ≤ 16 → ((c t : ℕ) → b ≤ c → c < r.states → marked r x.pair a c ≡ Some t → HasPair r rows t) → IsWalkSearch r ends queue rows (h * step_count r + (a + 1) * 16)
+IsWalkSearch-rest {r} {ends} {queue} {rows} h a b s x at letter small old =
     let more : h * step_count r + (a * 16 + b + (16 - b)) ≡ h * step_count r + (a + 1) * 16 = omega arith in
     record {
       walking = subst (IsWalking r ends queue) more (IsWalking-skip h (a * 16 + b) (16 - b) s.walking x at (omega arith) (λ c t least less step.
@@ -173,9 +173,9 @@ IsSearch-rest {r} {ends} {queue} {rows} h a b s x at letter small old =
     }
 
 -- the next step leads to nothing that the rows don't have
-pub IsSearch-old : {r : LocalRule} {ends : Ends} {queue : List Reached} {rows : List ℕ} → (h a b : ℕ) → IsSearch r ends queue rows (h * step_count r + (a * 16 + b)) → (x : Reached) → slice_get queue h ≡ Some x
-    → a < r.states → b < r.states → ((t : ℕ) → marked r x.pair a b ≡ Some t → HasPair r rows t) → IsSearch r ends queue rows (h * step_count r + (a * 16 + (b + 1)))
-IsSearch-old {r} {ends} {queue} {rows} h a b s x at first second old =
+pub IsWalkSearch-old : {r : LocalRule} {ends : Ends} {queue : List Reached} {rows : List ℕ} → (h a b : ℕ) → IsWalkSearch r ends queue rows (h * step_count r + (a * 16 + b)) → (x : Reached) → slice_get queue h ≡ Some x
+    → a < r.states → b < r.states → ((t : ℕ) → marked r x.pair a b ≡ Some t → HasPair r rows t) → IsWalkSearch r ends queue rows (h * step_count r + (a * 16 + (b + 1)))
+IsWalkSearch-old {r} {ends} {queue} {rows} h a b s x at first second old =
     let states : r.states ≤ 16 = s.walking.rule.shape.most_states in
     let more : h * step_count r + (a * 16 + b + 1) ≡ h * step_count r + (a * 16 + (b + 1)) = omega arith in
     record {
@@ -190,11 +190,11 @@ pub MarkedStep-letters : {r : LocalRule} → IsRule r → (s a b t : ℕ) → a 
 MarkedStep-letters {r} rule s a b t first second leads = CodeStep-some (marked r) r.states 16 s a b t rule.shape.most_states first second leads
 
 -- the next step leads to a marked pair that the rows don't have and that isn't the goal
-pub IsSearch-new : {r : LocalRule} {ends : Ends} {queue : List Reached} {rows : List ℕ} → (h a b : ℕ) → IsSearch r ends queue rows (h * step_count r + (a * 16 + b)) → (x y : Reached) → slice_get queue h ≡ Some x
+pub IsWalkSearch-new : {r : LocalRule} {ends : Ends} {queue : List Reached} {rows : List ℕ} → (h a b : ℕ) → IsWalkSearch r ends queue rows (h * step_count r + (a * 16 + b)) → (x y : Reached) → slice_get queue h ≡ Some x
     → a < r.states → b < r.states → y.parent ≡ h → y.step ≡ a * 16 + b → y.depth ≡ x.depth + 1 → marked r x.pair a b ≡ Some y.pair → ends.goal ≢ Some y.pair → ¬ HasPair r rows y.pair
     → (after : List ℕ) → ((t : ℕ) → t < 2 * pair_count r → (HasPair r after t ↔ ((t ≡ y.pair) ⊎ HasPair r rows t)))
-    → IsSearch r ends (queue ++ y ∷ []) after (h * step_count r + (a * 16 + (b + 1)))
-IsSearch-new {r} {ends} {queue} {rows} h a b s x y at first second parent by deeper leads other new after more_rows =
+    → IsWalkSearch r ends (queue ++ y ∷ []) after (h * step_count r + (a * 16 + (b + 1)))
+IsWalkSearch-new {r} {ends} {queue} {rows} h a b s x y at first second parent by deeper leads other new after more_rows =
     let rule = s.walking.rule in
     let states : r.states ≤ 16 = rule.shape.most_states in
     let step = MarkedStep-letters rule x.pair a b y.pair first second leads in
@@ -210,7 +210,7 @@ IsSearch-new {r} {ends} {queue} {rows} h a b s x y at first second parent by dee
       all = λ i z there apart. ⊎_elim
           (λ before.
           let in_rows = s.all i z before apart in
-          (more_rows z.pair (pair-below s.walking i z before)).1 (inr in_rows))
+          (more_rows z.pair (queued-below s.walking i z before)).1 (inr in_rows))
           (λ last. (more_rows z.pair (subst (λ w. w.pair < 2 * pair_count r) last.1 below)).1 (inl (ap (λ w. w.pair) (sym last.1))))
           (slice_get-push_cases queue y i z there);
     }
@@ -222,9 +222,9 @@ IsOldBut-more rule queue longer rows after h a letters old same more x b q at le
     more q (marked-below rule x.pair a b q leads) (old x b q (sym same ∙ at) letter absent leads)
 
 -- the start alone, which counts as reached unless it is the goal
-pub IsSearch-start : {r : LocalRule} {ends : Ends} → IsRule r → ends.start < 2 * pair_count r → (x : Reached) → x.pair ≡ ends.start → x.depth ≡ 0 → (rows : List ℕ)
-    → ((t : ℕ) → t < 2 * pair_count r → (HasPair r rows t ↔ ((t ≡ ends.start) × (ends.goal ≢ Some ends.start)))) → IsSearch r ends (x ∷ []) rows (0 * step_count r)
-IsSearch-start {r} {ends} rule start x at none rows exact = record {
+pub IsWalkSearch-start : {r : LocalRule} {ends : Ends} → IsRule r → ends.start < 2 * pair_count r → (x : Reached) → x.pair ≡ ends.start → x.depth ≡ 0 → (rows : List ℕ)
+    → ((t : ℕ) → t < 2 * pair_count r → (HasPair r rows t ↔ ((t ≡ ends.start) × (ends.goal ≢ Some ends.start)))) → IsWalkSearch r ends (x ∷ []) rows (0 * step_count r)
+IsWalkSearch-start {r} {ends} rule start x at none rows exact = record {
   walking = subst (IsWalking r ends (x ∷ [])) (sym (zero-mul (step_count r))) (IsWalking-start rule start x at none);
   listed = λ t inside some. let (same, apart) = (exact t inside).0 some in ((λ e. apart (e ∙ ap Some same)), (0, x, refl, at ∙ sym same));
   all = λ i y there apart.
@@ -240,12 +240,12 @@ goal-tells (Some x) q b e =
     let test = Decides-eqb x q in (λ yes. ap Some (test.0 (sym e ∙ yes)), λ no same. true≢false (sym (test.1 (same_Some x q same)) ∙ sym e ∙ no))
 
 -- all first letters from a place are done
-pub IsSearch-next : {r : LocalRule} {ends : Ends} {queue : List Reached} {rows : List ℕ} (h a : ℕ) → a ≡ r.states → IsSearch r ends queue rows (h * step_count r + a * 16) → IsSearch r ends queue rows ((h + 1) * step_count r)
-IsSearch-next {r} {ends} {queue} {rows} h a all s =
+pub IsWalkSearch-next : {r : LocalRule} {ends : Ends} {queue : List Reached} {rows : List ℕ} (h a : ℕ) → a ≡ r.states → IsWalkSearch r ends queue rows (h * step_count r + a * 16) → IsWalkSearch r ends queue rows ((h + 1) * step_count r)
+IsWalkSearch-next {r} {ends} {queue} {rows} h a all s =
     let one : a * 16 ≡ step_count r = ap (λ z. z * 16) all in
     let next : suc h * step_count r ≡ (h + 1) * step_count r = ap (λ i. i * step_count r) (omega arith) in
     let more : h * step_count r + a * 16 ≡ (h + 1) * step_count r = omega (arith, suc-mul h (step_count r)) in
-    subst (IsSearch r ends queue rows) more s
+    subst (IsWalkSearch r ends queue rows) more s
 
 -- a search that has reached a place leads back from it
 pub IsBackward-walking : {r : LocalRule} {ends : Ends} {queue : List Reached} {e : ℕ} → IsWalking r ends queue e → IsBackward queue
@@ -272,14 +272,14 @@ AreDepths-queue {queue = queue} w =
     }
 
 -- the word that is spelled to a place has as many letters as its depth
-length-spelled : {tree : List (Place ℕ)} {depth : ℕ → ℕ} → AreDepths tree depth → (i : ℕ) (w : List ℕ) → Spells tree i w → length w ≡ depth i
+length-spelled : {tree : List (Place ℕ)} {depth : ℕ → ℕ} → AreDepths tree depth → (i : ℕ) (w : List ℕ) → TreeSpells tree i w → length w ≡ depth i
 length-spelled d _ _ Root = sym d.root
 length-spelled d _ _ (Branch i x w some at spells) = length_push w x.letter ∙ ap (λ n. n + 1) (length-spelled d x.parent w spells) ∙ sym (d.more i x some at)
 
 -- there are fewer steps to a place than places, so fewer than 512
 pub depth-below : {r : LocalRule} {ends : Ends} {queue : List Reached} {e : ℕ} → IsWalking r ends queue e → (i : ℕ) (x : Reached) → slice_get queue i ≡ Some x → x.depth < 512
 depth-below {queue = queue} w i x at =
-    let (v, spells) = Spells-some w.filled.fills i (place_of x) (place_at queue i x at) in
+    let (v, spells) = TreeSpells-some w.filled.fills i (place_of x) (place_at queue i x at) in
     omega (
       arith,
       length-spelled-le w.filled.fills spells,
@@ -310,7 +310,7 @@ IsLeastWalk-arrival {r} {ends} {queue} {place} {step} {goal} {steps} a sought sp
     IsLeastWalk-steps a.walking.rule.shape.most_states (subst₂ (IsLeastStepsTo (MarkedStep r) (step_count r) ends.start) one (sym whole) first)
 
 -- it has one step more than the place is away
-pub length-arrival : {r : LocalRule} {ends : Ends} {queue : List Reached} {place step most : ℕ} {steps : List ℕ} → IsArrival r ends queue place step → IsNear queue place most
+pub length-arrival : {r : LocalRule} {ends : Ends} {queue : List Reached} {place step most : ℕ} {steps : List ℕ} → IsArrival r ends queue place step → IsNearStart queue place most
     → SpellsBefore queue place (step ∷ []) steps → length steps ≤ most
 length-arrival {queue = queue} {place} {step} a near (w, spells, whole) =
     omega (
@@ -356,7 +356,7 @@ no_walk-all {goal = goal} x sought large =
 
 -- one step more, from the place of the parent
 pub SpellsBefore-parent : (queue : List Reached) (at i : ℕ) (x : Reached) (old steps longer : List ℕ) → 0 < i → slice_get queue i ≡ Some x → longer ≡ steps ++ x.step ∷ []
-    → ((w : List ℕ) → Spells (places_of queue) i w → SpellsBefore queue at old (w ++ reverse steps)) → (w : List ℕ) → Spells (places_of queue) x.parent w → SpellsBefore queue at old (w ++ reverse longer)
+    → ((w : List ℕ) → TreeSpells (places_of queue) i w → SpellsBefore queue at old (w ++ reverse steps)) → (w : List ℕ) → TreeSpells (places_of queue) x.parent w → SpellsBefore queue at old (w ++ reverse longer)
 SpellsBefore-parent queue at i x old steps longer positive here more completes w spells =
     let back : reverse longer ≡ x.step ∷ reverse steps = ap reverse more ∙ reverse-append steps (x.step ∷ []) in
     let joined : (w ++ x.step ∷ []) ++ reverse steps ≡ w ++ reverse longer = append_assoc w (x.step ∷ []) (reverse steps) ∙ ap (λ v. w ++ v) (sym back) in

@@ -27,7 +27,7 @@ pub record ArePartsOf (r : LocalRule) (parts : Parts) (t : ℕ) : Type 0 where
   pub second : parts.second ≡ second_of r (pair_part r t)
 
 -- the number of a marked pair with its parts, and where its bit stands in rows
-pub record IsMarked (r : LocalRule) (at : Parts) : Type 0 where
+pub record IsMarkedPair (r : LocalRule) (at : Parts) : Type 0 where
   pub parts : ArePartsOf r at at.pair
   pub below : at.pair < 2 * pair_count r
   pub first : at.first < node_count r

@@ -3,7 +3,7 @@ use Rattle.std.specs.Prelude.{◌≡◌, ◌≢◌, ℕ, ◌+◌, ◌*◌, ◌<�
 use Rattle.word_image.specs.LocalRules.{LocalRule, IsRule}
 use Rattle.word_image.specs.Graphs.{pair_count}
 use Rattle.word_image.specs.MarkedPairs.{marked}
-use Rattle.search_laws.specs.SearchQueues.{Place, Spells, IsQueue}
+use Rattle.search_laws.specs.SearchQueues.{Place, TreeSpells, IsQueue}
 use Rattle.search_laws.proofs.PairWalks.{CodeStep}
 use Rattle.search_laws.proofs.LeastSteps.{NoEdgeBefore}
 use Rattle.least_walk.specs.declared.queue.Reached.{Reached}
@@ -39,7 +39,7 @@ pub record IsWalking (r : LocalRule) (ends : Ends) (queue : List Reached) (e : �
   pub none : (t : ℕ) → ends.goal ≡ Some t → NoEdgeBefore (MarkedStep r) (step_count r) (places_of queue) e t
 
 -- and the rows have what has been reached, but for the goal
-pub record IsSearch (r : LocalRule) (ends : Ends) (queue : List Reached) (rows : List ℕ) (e : ℕ) : Type 0 where
+pub record IsWalkSearch (r : LocalRule) (ends : Ends) (queue : List Reached) (rows : List ℕ) (e : ℕ) : Type 0 where
   pub walking : IsWalking r ends queue e
   pub listed : (t : ℕ) → t < 2 * pair_count r → HasPair r rows t → (ends.goal ≢ Some t) × ((i : ℕ) × (x : Reached) × (slice_get queue i ≡ Some x) × (x.pair ≡ t))
   pub all : (i : ℕ) (x : Reached) → slice_get queue i ≡ Some x → ends.goal ≢ Some x.pair → HasPair r rows x.pair
@@ -63,8 +63,8 @@ pub record IsArrival (r : LocalRule) (ends : Ends) (queue : List Reached) (place
   pub arrives : MarkedStep r from.pair step goal
 
 -- fewer than so many steps lead to this place
-abbrev pub IsNear : List Reached → ℕ → ℕ → Type 0
-IsNear queue place most = (x : Reached) → slice_get queue place ≡ Some x → x.depth < most
+abbrev pub IsNearStart : List Reached → ℕ → ℕ → Type 0
+IsNearStart queue place most = (x : Reached) → slice_get queue place ≡ Some x → x.depth < most
 
 -- by the first letter a, and second letters outside this set, the marked pair at this place leads to nothing that the rows don't have
 abbrev pub IsOldBut : LocalRule → List Reached → List ℕ → ℕ → ℕ → ℕ → Type 0
@@ -77,4 +77,4 @@ IsBackward queue = (i : ℕ) (x : Reached) → 0 < i → slice_get queue i ≡ S
 
 -- the steps to a place stand before the old ones, which are turned round
 abbrev pub SpellsBefore : List Reached → ℕ → List ℕ → List ℕ → Type 0
-SpellsBefore queue place old steps = (w : List ℕ) × Spells (places_of queue) place w × (steps ≡ w ++ reverse old)
+SpellsBefore queue place old steps = (w : List ℕ) × TreeSpells (places_of queue) place w × (steps ≡ w ++ reverse old)

@@ -25,10 +25,10 @@ pub record AreApart (queue : List Reached) : Type 0 where
   pub apart : (i j : ℕ) (x y : Reached) → slice_get queue i ≡ Some x → slice_get queue j ≡ Some y → x.pair ≡ y.pair → i ≡ j
 
 -- each marked pair of the queue has its place
-abbrev pub IsIndex : List Reached → List ℕ → Type 0
-IsIndex queue places = (i : ℕ) (x : Reached) → slice_get queue i ≡ Some x → slice_index places x.pair ≡ i
+abbrev pub IsPairIndex : List Reached → List ℕ → Type 0
+IsPairIndex queue places = (i : ℕ) (x : Reached) → slice_get queue i ≡ Some x → slice_index places x.pair ≡ i
 
 -- a search from the start has ended with all that is reached, and these are the places
-pub record IsTree (r : LocalRule) (start : ℕ) (queue : List Reached) (places : List ℕ) : Type 0 where
+pub record IsWalkTree (r : LocalRule) (start : ℕ) (queue : List Reached) (places : List ℕ) : Type 0 where
   pub ended : IsEnded r (record { start = start; goal = None }) queue 512
-  pub index : IsIndex queue places
+  pub index : IsPairIndex queue places

@@ -5,7 +5,7 @@ ghost use Rattle.std.specs.Option.{option_map};
 ghost use Rattle.word_image.specs.LocalRules.{LocalRule, IsRule, node_count};
 ghost use Rattle.word_image.specs.Graphs.{pair_count, pair_of};
 ghost use Rattle.word_image.specs.MarkedPairs.{marked};
-ghost use Rattle.least_walk.specs.Marks.{ArePartsOf, HasPair, IsAdded, IsMarked};
+ghost use Rattle.least_walk.specs.Marks.{ArePartsOf, HasPair, IsAdded, IsMarkedPair};
 
 use pair_graph::Pairs;
 
@@ -30,7 +30,7 @@ pub fn parts_of(pairs: &Pairs, t: u16) -> Parts
     requires { t < 2 * pair_count pairs.now }
     ensures pair { result.pair ≡ t }
     ensures parts { ArePartsOf pairs.now result t }
-    ensures marked { IsMarked pairs.now result }
+    ensures marked { IsMarkedPair pairs.now result }
     ensures mark_below { result.mark < 2 }
     ensures rule { IsRule pairs.now }
 {
@@ -51,7 +51,7 @@ fn with_parts(pairs: &Pairs, mark: u8, first: u8, second: u8) -> Parts
     requires first { first < node_count pairs.now }
     requires second { second < node_count pairs.now }
     ensures pair { result.pair ≡ mark * pair_count pairs.now + pair_of pairs.now first second }
-    ensures marked { IsMarked pairs.now result }
+    ensures marked { IsMarkedPair pairs.now result }
 {
     let nodes = u16::from(pairs.graph().nodes());
     Parts {
@@ -65,11 +65,11 @@ fn with_parts(pairs: &Pairs, mark: u8, first: u8, second: u8) -> Parts
 /// Where the letters a and b lead from a marked pair, as [`Pairs::marked`] says it.
 pub fn step_from(pairs: &Pairs, from: Parts, a: u8, b: u8) -> Option<Parts>
     requires rule { IsRule pairs.now }
-    requires from { IsMarked pairs.now from }
+    requires from { IsMarkedPair pairs.now from }
     requires first { a < pairs.now.states }
     requires second { b < pairs.now.states }
     ensures step { option_map (λ q. q.pair) result ≡ marked pairs.now from.pair a b }
-    ensures marked { IfSome result (IsMarked pairs.now) }
+    ensures marked { IfSome result (IsMarkedPair pairs.now) }
 {
     let graph = pairs.graph();
     if graph.label(from.first, a) != graph.label(from.second, b) {
@@ -88,7 +88,7 @@ pub fn step_from(pairs: &Pairs, from: Parts, a: u8, b: u8) -> Option<Parts>
 pub fn has(rows: &Rows, at: Parts) -> bool
     requires row { 16 * at.mark + at.first < 32 }
     requires place { at.second < 16 }
-    ensures { (r : LocalRule) → IsMarked r at → (IsTrue result ↔ HasPair r rows.now at.pair) }
+    ensures { (r : LocalRule) → IsMarkedPair r at → (IsTrue result ↔ HasPair r rows.now at.pair) }
 {
     rows[16 * usize::from(at.mark) + usize::from(at.first)] >> at.second & 1 == 1
 }
@@ -97,7 +97,7 @@ pub fn has(rows: &Rows, at: Parts) -> bool
 pub fn add(rows: &mut Rows, at: Parts)
     requires row { 16 * at.mark + at.first < 32 }
     requires place { at.second < 16 }
-    ensures { (r : LocalRule) → IsRule r → IsMarked r at → IsAdded r rows.old at.pair rows.new }
+    ensures { (r : LocalRule) → IsRule r → IsMarkedPair r at → IsAdded r rows.old at.pair rows.new }
 {
     rows[16 * usize::from(at.mark) + usize::from(at.first)] |= 1u16 << at.second;
 }

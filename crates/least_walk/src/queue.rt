@@ -4,9 +4,9 @@ ghost use Rattle.std.specs.Prelude.{◌≡◌, ℕ, ◌+◌, ◌*◌, ◌<◌, �
 ghost use Rattle.word_image.specs.LocalRules.{IsRule};
 ghost use Rattle.word_image.specs.Graphs.{pair_count};
 ghost use Rattle.word_image.specs.MarkedPairs.{marked};
-ghost use Rattle.least_walk.specs.Marks.{HasPair, IsMarked};
+ghost use Rattle.least_walk.specs.Marks.{HasPair, IsMarkedPair};
 ghost use Rattle.least_walk.specs.declared.queue.Reached.{Reached};
-ghost use Rattle.least_walk.specs.Queues.{IsSearch, IsArrival, IsNear, IsEnded, IsOldBut};
+ghost use Rattle.least_walk.specs.Queues.{IsWalkSearch, IsArrival, IsNearStart, IsEnded, IsOldBut};
 
 use crate::marks::{Parts, Rows, add, fresh, has, parts_of, step_from};
 use pair_graph::Pairs;
@@ -63,7 +63,7 @@ pub fn search(queue: &mut Vec<Reached>, pairs: &Pairs, ends: Ends, most: usize) 
     requires start { ends.start < 2 * pair_count pairs.now }
     ensures room { 512 ≤ vec_capacity queue.new }
     ensures found { IfSome result (λ a. IsArrival pairs.now ends queue.new.items a.place a.step) }
-    ensures near { IfSome result (λ a. IsNear queue.new.items a.place most) }
+    ensures near { IfSome result (λ a. IsNearStart queue.new.items a.place most) }
     ensures none { IfNone result (IsEnded pairs.now ends queue.new.items most) }
 {
     queue.clear();
@@ -106,10 +106,10 @@ fn follow(
 ) -> Option<u8>
     requires room { 512 ≤ vec_capacity queue.old }
     requires head { head < vec_len queue.old }
-    requires search { IsSearch pairs.now ends queue.old.items rows.old (head * (pairs.now.states * 16)) }
+    requires search { IsWalkSearch pairs.now ends queue.old.items rows.old (head * (pairs.now.states * 16)) }
     ensures room { 512 ≤ vec_capacity queue.new }
     ensures found { IfSome result (IsArrival pairs.now ends queue.new.items head) }
-    ensures none { IfNone result (IsSearch pairs.now ends queue.new.items rows.new ((head + 1) * (pairs.now.states * 16))) }
+    ensures none { IfNone result (IsWalkSearch pairs.now ends queue.new.items rows.new ((head + 1) * (pairs.now.states * 16))) }
     ensures same { slice_get queue.new.items head ≡ slice_get queue.old.items head }
 {
     let t = queue[head].pair;
@@ -142,14 +142,14 @@ fn follow_letter(
 ) -> Option<u8>
     requires room { 512 ≤ vec_capacity queue.old }
     requires head { head.place < vec_len queue.old }
-    requires marked { IsMarked pairs.now head.parts }
+    requires marked { IsMarkedPair pairs.now head.parts }
     requires at { (x : Reached) → slice_get queue.old.items head.place ≡ Some x → x.pair ≡ head.parts.pair }
     requires letter { a < pairs.now.states }
-    requires search { IsSearch pairs.now ends queue.old.items rows.old (head.place * (pairs.now.states * 16) + a * 16) }
+    requires search { IsWalkSearch pairs.now ends queue.old.items rows.old (head.place * (pairs.now.states * 16) + a * 16) }
     requires old { IsOldBut pairs.now queue.old.items rows.old head.place a letters }
     ensures room { 512 ≤ vec_capacity queue.new }
     ensures found { IfSome result (IsArrival pairs.now ends queue.new.items head.place) }
-    ensures none { IfNone result (IsSearch pairs.now ends queue.new.items rows.new (head.place * (pairs.now.states * 16) + (a + 1) * 16)) }
+    ensures none { IfNone result (IsWalkSearch pairs.now ends queue.new.items rows.new (head.place * (pairs.now.states * 16) + (a + 1) * 16)) }
     ensures same { slice_get queue.new.items head.place ≡ slice_get queue.old.items head.place }
 {
     let from = queue[head.place];
@@ -175,11 +175,11 @@ fn follow_letter(
 /// Where the letters lead, if that is not in the rows.
 fn new_step(pairs: &Pairs, rows: &Rows, from: Parts, a: u8, b: u8, letters: u16) -> Option<Parts>
     requires rule { IsRule pairs.now }
-    requires from { IsMarked pairs.now from }
+    requires from { IsMarkedPair pairs.now from }
     requires first { a < pairs.now.states }
     requires second { b < pairs.now.states }
     requires old { (q : ℕ) → ¬ IsBitSet letters b → marked pairs.now from.pair a b ≡ Some q → HasPair pairs.now rows.now q }
-    ensures marked { IfSome result (IsMarked pairs.now) }
+    ensures marked { IfSome result (IsMarkedPair pairs.now) }
     ensures step { IfSome result (λ q. marked pairs.now from.pair a b ≡ Some q.pair) }
     ensures new { IfSome result (λ q. ¬ HasPair pairs.now rows.now q.pair) }
     ensures none { IfNone result ((q : ℕ) → marked pairs.now from.pair a b ≡ Some q → HasPair pairs.now rows.now q) }

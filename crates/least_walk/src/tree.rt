@@ -5,7 +5,7 @@ ghost use Rattle.word_image.specs.Graphs.{pair_count};
 ghost use Rattle.word_image.specs.MarkedPairs.{marked};
 ghost use Rattle.search_laws.specs.PairWalks.{PairWalk, uncode};
 ghost use Rattle.least_walk.specs.declared.queue.Reached.{Reached};
-ghost use Rattle.least_walk.specs.Trees.{AreApart, IsIndex, IsLeastWalkTo};
+ghost use Rattle.least_walk.specs.Trees.{AreApart, IsPairIndex, IsLeastWalkTo};
 
 use crate::queue::{Ends, MOST_STATES, Reached, search};
 use crate::walker::{MOST_STEPS, spell};
@@ -29,13 +29,13 @@ pub struct WalkTree {
 }
 
 impl Model for WalkTree {
-    ghost use Rattle.least_walk.specs.Trees.{WalkSource, IsTree};
+    ghost use Rattle.least_walk.specs.Trees.{WalkSource, IsWalkTree};
 
     ghost Value = { WalkSource };
 
     ghost view = { λ t. record { rule = t.rule; start = t.start } };
 
-    ghost invariant = { λ t. IsTree t.rule t.start t.queue.items t.places };
+    ghost invariant = { λ t. IsWalkTree t.rule t.start t.queue.items t.places };
 }
 
 impl WalkTree {
@@ -75,7 +75,7 @@ impl WalkTree {
 /// For each marked pair in the queue its place.
 fn index(queue: &[Reached]) -> [u16; MOST_STATES]
     requires { AreApart queue.now }
-    ensures { IsIndex queue.now result }
+    ensures { IsPairIndex queue.now result }
 {
     let mut places = [0; MOST_STATES];
     for i in 0..queue.len() {
@@ -87,7 +87,7 @@ fn index(queue: &[Reached]) -> [u16; MOST_STATES]
 /// Where a marked pair stands in the queue, if it does.
 fn place_of(queue: &[Reached], places: &[u16; MOST_STATES], to: u16) -> Option<u16>
     requires pair { to < 512 }
-    requires index { IsIndex queue.now places.now }
+    requires index { IsPairIndex queue.now places.now }
     ensures found { IfSome result (λ i. (x : Reached) × (slice_get queue.now i ≡ Some x) × (x.pair ≡ to)) }
     ensures none { IfNone result ((i : ℕ) (x : Reached) → slice_get queue.now i ≡ Some x → ¬ (x.pair ≡ to)) }
 {

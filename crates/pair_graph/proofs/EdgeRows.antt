@@ -65,14 +65,14 @@ more_ends-other ends i j bit l u in_i square other =
     (cases_eq l i)
 
 -- the edges of the first n letters of a node, and those of the other nodes as before
-pub record AreAdded (side : Side) (r : LocalRule) (u n : ℕ) (old ends : List (List ℕ)) : Type 0 where
+pub record AreEdgesAdded (side : Side) (r : LocalRule) (u n : ℕ) (old ends : List (List ℕ)) : Type 0 where
   pub square : IsSquare ends
   pub here : (label : ℕ) → label < 16 → IsUnion 16 (HasEdge side r u label) n (ends_at ends label u)
   pub others : (label w : ℕ) → w ≢ u → ends_at ends label w ≡ ends_at old label w
 
 -- a node without edges
-pub AreAdded-none : (side : Side) (r : LocalRule) (u : ℕ) (ends : List (List ℕ)) → IsSquare ends → ((label : ℕ) → label < 16 → ends_at ends label u ≡ 0) → AreAdded side r u 0 ends ends
-AreAdded-none side r u ends square none = record {
+pub AreEdgesAdded-none : (side : Side) (r : LocalRule) (u : ℕ) (ends : List (List ℕ)) → IsSquare ends → ((label : ℕ) → label < 16 → ends_at ends label u ≡ 0) → AreEdgesAdded side r u 0 ends ends
+AreEdgesAdded-none side r u ends square none = record {
   square = square;
   here = λ label inside. let zero = none label inside in record {
     within = omega (arith, zero);
@@ -82,9 +82,9 @@ AreAdded-none side r u ends square none = record {
 }
 
 -- the edge of one more letter
-pub AreAdded-next : {side : Side} {r : LocalRule} {u n : ℕ} {old ends : List (List ℕ)} → AreAdded side r u n old ends → (i j end : ℕ)
-    → i ≡ label_at side r u n → j ≡ u → end ≡ end_at side r u n → i < 16 → u < 16 → end < 16 → AreAdded side r u (n + 1) old (more_ends ends i j (1 * 2 ^ end % 2 ^ 16))
-AreAdded-next {side} {r} {u} {n} {old} {ends} h i j end labelled at arrives in_i in_u small = record {
+pub AreEdgesAdded-next : {side : Side} {r : LocalRule} {u n : ℕ} {old ends : List (List ℕ)} → AreEdgesAdded side r u n old ends → (i j end : ℕ)
+    → i ≡ label_at side r u n → j ≡ u → end ≡ end_at side r u n → i < 16 → u < 16 → end < 16 → AreEdgesAdded side r u (n + 1) old (more_ends ends i j (1 * 2 ^ end % 2 ^ 16))
+AreEdgesAdded-next {side} {r} {u} {n} {old} {ends} h i j end labelled at arrives in_i in_u small = record {
   square = IsSquare-more ends i j _ in_i h.square;
   here = λ label inside. ⊎_elim
       (λ same. subst (IsUnion 16 (HasEdge side r u label) (n + 1)) (sym (more_ends-here ends i j _ label u in_i (omega arith) h.square same (sym at)))

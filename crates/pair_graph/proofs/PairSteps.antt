@@ -16,8 +16,8 @@ use Rattle.word_image.specs.declared.side.Side.{Side}
 use Rattle.word_image.specs.declared.side.Side.TheVariants.{Right, Left}
 use Rattle.word_image.specs.Sides.{window_with}
 use Rattle.pair_graph.specs.Edges.{AreEdges, label_at, end_at}
-use Rattle.pair_graph.specs.PairSets.{holds, truths, AreRows, Leads, LeadsInto, IsTrimmed, AreKept, GoesOn}
-use Rattle.pair_graph.specs.PairRows.{holds_bit, length-truths, same_nodes}
+use Rattle.pair_graph.specs.PairSets.{holds, truths, AreRows, LettersLead, LeadsInto, IsTrimmedSet, AreNodesKept, GoesOn}
+use Rattle.pair_graph.specs.PairRows.{holds_bit, length-truths, same_roots}
 use Rattle.pair_graph.proofs.BackSteps.{window_before, window_before-below, LeadsBack-windows, led_back}
 
 -- a test of a bit
@@ -68,7 +68,7 @@ end_at-below Left {r} rule u a node letter =
 
 -- letters lead from a pair to the pair of the nodes to which they lead, where their labels are equal
 leads_by : (side : Side) {r : LocalRule} → IsRule r → (p a b : ℕ) → p < pair_count r → a < r.states → b < r.states → (q : ℕ)
-    → Leads side r p a b q ↔ ((label_at side r (first_of r p) a ≡ label_at side r (second_of r p) b) × (pair_of r (end_at side r (first_of r p) a) (end_at side r (second_of r p) b) ≡ q))
+    → LettersLead side r p a b q ↔ ((label_at side r (first_of r p) a ≡ label_at side r (second_of r p) b) × (pair_of r (end_at side r (first_of r p) a) (end_at side r (second_of r p) b) ≡ q))
 leads_by Right {r} rule p a b inside in_a in_b q = (
   (λ leads. follow-some r p a b q leads),
   (λ (same, pair). follow-edges r p a b same ∙ ap Some pair),
@@ -137,10 +137,10 @@ GoesOn-into side {r} rule ends rows edges p inside =
     )
 
 -- one row more
-pub AreKept-next : {Goes : ℕ → ℕ → Type 0} {rows : List ℕ} {n : ℕ} {kept : List ℕ} → AreKept Goes rows n kept
+pub AreNodesKept-next : {Goes : ℕ → ℕ → Type 0} {rows : List ℕ} {n : ℕ} {kept : List ℕ} → AreNodesKept Goes rows n kept
     → (i j on : ℕ) → i ≡ n → j ≡ n → n < 16 → ((v : ℕ) → v < 16 → (IsBitSet on v ↔ Goes n v))
-    → AreKept Goes rows (n + 1) (slice_set kept i (bit_and (slice_index rows j) on))
-AreKept-next {Goes} {rows} {n} {kept} h i j on at also inside exact =
+    → AreNodesKept Goes rows (n + 1) (slice_set kept i (bit_and (slice_index rows j) on))
+AreNodesKept-next {Goes} {rows} {n} {kept} h i j on at also inside exact =
     let row = bit_and (slice_index rows j) on in
     let new = slice_set kept i row in
     let here : (u : ℕ) → u ≡ n → slice_index new u ≡ row = λ u same. get_or-set_at kept i u row 0 (same ∙ sym at) (omega (arith, h.long, at, inside)) in
@@ -171,7 +171,7 @@ AreKept-next {Goes} {rows} {n} {kept} h i j on at also inside exact =
     }
 
 -- the kept rows are rows again
-pub AreRows-kept : {Goes : ℕ → ℕ → Type 0} {m : ℕ} {rows kept : List ℕ} (n : ℕ) → AreKept Goes rows m kept
+pub AreRows-kept : {Goes : ℕ → ℕ → Type 0} {m : ℕ} {rows kept : List ℕ} (n : ℕ) → AreNodesKept Goes rows m kept
     → n ≡ m → AreRows n rows → AreRows n kept
 AreRows-kept {Goes} {m} {rows} {kept} n h same rows_of = record {
   least = rows_of.least;
@@ -183,14 +183,14 @@ AreRows-kept {Goes} {m} {rows} {kept} n h same rows_of = record {
 
 -- a list of as many truth values as the rule has pairs is one of its nodes
 pub nodes_from_length : (r : LocalRule) (n : ℕ) (rows : List ℕ) (set : List Bool) → truths n rows ≡ set → length set ≡ pair_count r → n ≡ node_count r
-nodes_from_length r n rows set seen long = same_nodes n (node_count r) (sym (length-truths n rows) ∙ ap length seen ∙ long)
+nodes_from_length r n rows set seen long = same_roots n (node_count r) (sym (length-truths n rows) ∙ ap length seen ∙ long)
 
 -- so what is kept is the set trimmed
-pub IsTrimmed-kept : (side : Side) {r : LocalRule} → IsRule r → (n : ℕ) (ends : List (List ℕ)) (rows kept : List ℕ) (set : List Bool) → n ≡ node_count r → truths n rows ≡ set
-    → AreEdges side r (node_count r) ends → AreKept (GoesOn side r ends rows) rows (node_count r) kept → IsTrimmed side r set (truths n kept)
-IsTrimmed-kept side {r} rule n ends rows kept set same seen edges h =
+pub IsTrimmedSet-kept : (side : Side) {r : LocalRule} → IsRule r → (n : ℕ) (ends : List (List ℕ)) (rows kept : List ℕ) (set : List Bool) → n ≡ node_count r → truths n rows ≡ set
+    → AreEdges side r (node_count r) ends → AreNodesKept (GoesOn side r ends rows) rows (node_count r) kept → IsTrimmedSet side r set (truths n kept)
+IsTrimmedSet-kept side {r} rule n ends rows kept set same seen edges h =
     let sets : truths (node_count r) rows ≡ set = subst (λ m. truths m rows ≡ set) same seen in
-    subst (λ m. IsTrimmed side r set (truths m kept)) (sym same) (subst (λ s. IsTrimmed side r s (truths (node_count r) kept)) sets (record {
+    subst (λ m. IsTrimmedSet side r set (truths m kept)) (sym same) (subst (λ s. IsTrimmedSet side r s (truths (node_count r) kept)) sets (record {
       count = length-truths (node_count r) kept;
       pairs = λ p inside.
           let after = holds-truths (node_count r) kept p inside in

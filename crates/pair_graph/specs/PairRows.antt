@@ -21,8 +21,8 @@ pub length-truths : (n : ℕ) (rows : List ℕ) → length (truths n rows) ≡ n
 length-truths n rows = length-map-range_with_len (λ p. bit_at (slice_index rows (p / n)) (p % n) == 1) 0 (n * n)
 
 -- as many nodes where there are as many pairs
-pub same_nodes : (n m : ℕ) → n * n ≡ m * m → n ≡ m
-same_nodes n m same = ⊎_elim
+pub same_roots : (n m : ℕ) → n * n ≡ m * m → n ≡ m
+same_roots n m same = ⊎_elim
     (λ less. absurd (omega (arith, same, mul-lt n n m m less less)))
     (λ most. ⊎_elim (λ more. absurd (omega (arith, same, mul-lt m m n n more more))) (λ least. omega (arith, most, least)) (cases_lt m n))
     (cases_lt n m)
@@ -84,5 +84,5 @@ nodes_of-truths n rows h = ap nodes_of (length-truths n rows) ∙ nodes_of-squar
 -- two sets of as many pairs with one list of truth values have one list of rows
 pub same_rows : (n m : ℕ) (rows others : List ℕ) → AreRows n rows → AreRows m others → truths n rows ≡ truths m others → rows ≡ others
 same_rows n m rows others first second same =
-    let nodes : n ≡ m = same_nodes n m (sym (length-truths n rows) ∙ ap length same ∙ length-truths m others) in
+    let nodes : n ≡ m = same_roots n m (sym (length-truths n rows) ∙ ap length same ∙ length-truths m others) in
     sym (rows_of-truths n rows first) ∙ ap₂ rows_of nodes same ∙ rows_of-truths m others second

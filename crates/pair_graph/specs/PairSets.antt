@@ -35,16 +35,16 @@ pub record AreRows (n : ℕ) (rows : List ℕ) : Type 0 where
   pub past : (u : ℕ) → n ≤ u → slice_index rows u ≡ 0
 
 -- letters a and b lead from the pair p to the pair q: forward along two edges, and backward against them
-abbrev pub Leads : Side → LocalRule → ℕ → ℕ → ℕ → ℕ → Type 0
-Leads Right r p a b q = follow r p a b ≡ Some q
-Leads Left r p a b q = LeadsBack r p a b q
+abbrev pub LettersLead : Side → LocalRule → ℕ → ℕ → ℕ → ℕ → Type 0
+LettersLead Right r p a b q = follow r p a b ≡ Some q
+LettersLead Left r p a b q = LeadsBack r p a b q
 
 -- the letter a and another one lead from the pair into the set
 pub record LeadsIntoBy (side : Side) (r : LocalRule) (set : List Bool) (p a : ℕ) : Type 0 where
   pub second : ℕ
   pub letter : second < r.states
   pub pair : ℕ
-  pub leads : Leads side r p a second pair
+  pub leads : LettersLead side r p a second pair
   pub there : IsTrue (holds set pair)
 
 -- some letters do
@@ -52,7 +52,7 @@ abbrev pub LeadsInto : Side → LocalRule → List Bool → ℕ → Type 0
 LeadsInto side r set p = (a : ℕ) × (a < r.states) × LeadsIntoBy side r set p a
 
 -- what is kept are exactly the pairs of the set from which some letters lead into it
-pub record IsTrimmed (side : Side) (r : LocalRule) (set kept : List Bool) : Type 0 where
+pub record IsTrimmedSet (side : Side) (r : LocalRule) (set kept : List Bool) : Type 0 where
   pub count : length kept ≡ pair_count r
   pub pairs : (p : ℕ) → p < pair_count r → (IsTrue (holds kept p) ↔ (IsTrue (holds set p) × LeadsInto side r set p))
 
@@ -67,7 +67,7 @@ abbrev pub GoesOn : Side → LocalRule → List (List ℕ) → List ℕ → ℕ 
 GoesOn side r ends rows u v = (a : ℕ) × (t : ℕ) × (a < r.states) × GoesOnBy side r ends rows u v a t
 
 -- of the first n rows the nodes that go on are kept
-pub record AreKept (Goes : ℕ → ℕ → Type 0) (rows : List ℕ) (n : ℕ) (kept : List ℕ) : Type 0 where
+pub record AreNodesKept (Goes : ℕ → ℕ → Type 0) (rows : List ℕ) (n : ℕ) (kept : List ℕ) : Type 0 where
   pub long : length kept ≡ 16
   pub done : (u v : ℕ) → u < n → v < 16 → (IsBitSet (slice_index kept u) v ↔ (IsBitSet (slice_index rows u) v × Goes u v))
   pub smaller : (u : ℕ) → slice_index kept u ≤ slice_index rows u

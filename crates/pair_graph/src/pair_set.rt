@@ -5,7 +5,7 @@ ghost use Rattle.std.specs.Int.Bits.{bit_and};
 ghost use Rattle.std.specs.Simd.Lanes.{zip2};
 ghost use Rattle.word_image.specs.LocalRules.{IsRule, node_count};
 ghost use Rattle.word_image.specs.Graphs.{pair_count};
-ghost use Rattle.pair_graph.specs.PairSets.{holds, AreKept, AreRows, GoesOn, IsTrimmed};
+ghost use Rattle.pair_graph.specs.PairSets.{holds, AreNodesKept, AreRows, GoesOn, IsTrimmedSet};
 
 use crate::edges::{Edges, end_at};
 use crate::pairs::Pairs;
@@ -89,7 +89,7 @@ impl PairSet {
     /// The pairs of the set from which some letters lead into it.
     pub fn trim_forward(&self, pairs: &Pairs) -> PairSet
         requires { length self.now ≡ pair_count pairs.now }
-        ensures { IsTrimmed Side.Right pairs.now self.now result }
+        ensures { IsTrimmedSet Side.Right pairs.now self.now result }
     {
         self.trim(pairs, Side::Right)
     }
@@ -97,7 +97,7 @@ impl PairSet {
     /// The pairs of the set from which some letters lead back into it.
     pub fn trim_backward(&self, pairs: &Pairs) -> PairSet
         requires { length self.now ≡ pair_count pairs.now }
-        ensures { IsTrimmed Side.Left pairs.now self.now result }
+        ensures { IsTrimmedSet Side.Left pairs.now self.now result }
     {
         self.trim(pairs, Side::Left)
     }
@@ -105,7 +105,7 @@ impl PairSet {
     /// The pairs of the set from which some letters lead into it, forward or backward.
     pub fn trim(&self, pairs: &Pairs, side: Side) -> PairSet
         requires { length self.now ≡ pair_count pairs.now }
-        ensures { IsTrimmed side pairs.now self.now result }
+        ensures { IsTrimmedSet side pairs.now self.now result }
     {
         PairSet {
             nodes: self.nodes,
@@ -126,7 +126,7 @@ impl PairSet {
 
 /// The pairs of the rows from which edges with one label lead to a pair of the rows.
 fn trimmed(rule: &Rule, side: Side, ends: &Edges, rows: &Rows) -> Rows
-    ensures kept { AreKept (GoesOn side rule.now ends.now rows.now) rows.now (node_count rule.now) result }
+    ensures kept { AreNodesKept (GoesOn side rule.now ends.now rows.now) rows.now (node_count rule.now) result }
     ensures rule { IsRule rule.now }
 {
     let mut kept = [0; MOST_NODES];

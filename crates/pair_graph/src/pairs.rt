@@ -40,7 +40,7 @@ impl Pairs {
     ghost use Rattle.word_image.specs.MarkedPairs.{marked};
     ghost use Rattle.pair_graph.specs.BackSteps.{LeadsBack};
     ghost use Rattle.pair_graph.specs.Edges.{AreEdges};
-    ghost use Rattle.pair_graph.specs.PairSets.{Leads};
+    ghost use Rattle.pair_graph.specs.PairSets.{LettersLead};
 
     /// The pairs of this rule.
     pub fn of(rule: &Rule) -> Pairs
@@ -132,7 +132,7 @@ impl Pairs {
         requires pair { p < pair_count self.now }
         requires first { a < self.now.states }
         requires second { b < self.now.states }
-        ensures exactly { (q : ℕ) → (result ≡ Some q) ↔ Leads side self.now p a b q }
+        ensures exactly { (q : ℕ) → (result ≡ Some q) ↔ LettersLead side self.now p a b q }
         ensures below { IfSome result (λ q. q < pair_count self.now) }
     {
         match side {

@@ -3,7 +3,7 @@
 ghost use Rattle.std.specs.Prelude.{◌≡◌, ℕ, ◌<◌, ◌↔◌, length, IsBitSet, IsTrue};
 ghost use Rattle.word_image.specs.LocalRules.{IsRule, node_count};
 ghost use Rattle.word_image.specs.Graphs.{pair_of, pair_count};
-ghost use Rattle.pair_graph.specs.PairSets.{holds, IsTrimmed, Leads, LeadsInto, LeadsIntoBy};
+ghost use Rattle.pair_graph.specs.PairSets.{holds, IsTrimmedSet, LettersLead, LeadsInto, LeadsIntoBy};
 
 use crate::pair_set::PairSet;
 use crate::pairs::Pairs;
@@ -12,7 +12,7 @@ use word_image::Side;
 /// What `trim_forward` gives.
 pub fn plain_forward(set: &PairSet, pairs: &Pairs) -> PairSet
     requires { length set.now ≡ pair_count pairs.now }
-    ensures { IsTrimmed Side.Right pairs.now set.now result }
+    ensures { IsTrimmedSet Side.Right pairs.now set.now result }
 {
     plain(set, pairs, Side::Right)
 }
@@ -20,14 +20,14 @@ pub fn plain_forward(set: &PairSet, pairs: &Pairs) -> PairSet
 /// What `trim_backward` gives.
 pub fn plain_backward(set: &PairSet, pairs: &Pairs) -> PairSet
     requires { length set.now ≡ pair_count pairs.now }
-    ensures { IsTrimmed Side.Left pairs.now set.now result }
+    ensures { IsTrimmedSet Side.Left pairs.now set.now result }
 {
     plain(set, pairs, Side::Left)
 }
 
 fn plain(set: &PairSet, pairs: &Pairs, side: Side) -> PairSet
     requires { length set.now ≡ pair_count pairs.now }
-    ensures { IsTrimmed side pairs.now set.now result }
+    ensures { IsTrimmedSet side pairs.now set.now result }
 {
     let mut kept = *set;
     for p in 0..pairs.count() {

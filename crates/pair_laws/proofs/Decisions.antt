@@ -11,7 +11,7 @@ use Rattle.word_image.proofs.laws.Graphs.{next-below}
 use Rattle.word_image.proofs.laws.Images.{IsRule-mirrored}
 use Rattle.pair_laws.proofs.Ranks.{Together-zero, BeginTogether-step, BeginTogether-push}
 use Rattle.pair_laws.proofs.Mirrors.{mirror_node, mirror_node-below, EndTogether-is_mirrored}
-use Rattle.word_image.proofs.laws.Searches.{some_below, both, exists_below}
+use Rattle.word_image.proofs.laws.Searches.{some_below, decide_both, exists_below}
 use Rattle.pair_laws.proofs.Endless.{Together-endless}
 
 -- two nodes begin together for n or don't
@@ -20,7 +20,7 @@ BeginTogether-decide {r} rule zero u v hu hv = inl (Together-zero Right r u v hu
 BeginTogether-decide {r} rule (suc n) u v hu hv =
     let Leads : ℕ → ℕ → Type 0 = λ a b. (label r u a ≡ label r v b) × BeginTogether r (next r u a) (next r v b) n in
     let letters : (a b : ℕ) → Leads a b ⊎ ¬ Leads a b = λ a b.
-    both (cases_eq (label r u a) (label r v b)) (BeginTogether-decide rule n (next r u a) (next r v b) (next-below rule u a) (next-below rule v b)) in
+    decide_both (cases_eq (label r u a) (label r v b)) (BeginTogether-decide rule n (next r u a) (next r v b) (next-below rule u a) (next-below rule v b)) in
     ⊎_elim (λ some. inl (BeginTogether-push {j = n} rule (omega arith) u v some.0 some.2.0 hu hv some.1 some.2.1 some.2.2.0 some.2.2.1))
     (λ none. inr (λ h. let step = BeginTogether-step {j = n} rule (omega arith) h in none step.0 step.2 (step.1, step.3, (step.4, step.5))))
     (some_below (λ a. (b : ℕ) × (b < r.states) × Leads a b) (λ a. exists_below (Leads a) (letters a) r.states) r.states)

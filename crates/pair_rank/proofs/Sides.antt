@@ -8,7 +8,7 @@ use Rattle.word_image.specs.Sides.{Together, PairGoes}
 use Rattle.word_image.proofs.laws.Values.{IsWord-word_of, length-word_of}
 use Rattle.pair_laws.proofs.Ranks.{Together-below}
 use Rattle.pair_laws.proofs.Pairs.{first_of-below, second_of-below, PairGoes-pair_of, PairGoes-step, PairGoes-push}
-use Rattle.pair_graph.specs.PairSets.{Leads}
+use Rattle.pair_graph.specs.PairSets.{LettersLead}
 
 -- two nodes lead on to two that go on together for n, and for how long these do, the first two do for one more
 pub record NextNodes (side : Side) (r : LocalRule) (u v n : ℕ) : Type 0 where
@@ -31,12 +31,12 @@ first_letter {r} rule u node =
     IsWord-word_of r.states (r.width - 1) u node 0 0 (omega (arith, length-word_of r.states (r.width - 1) u))
 
 -- some letters lead from a pair to each to which it leads on, and to no other
-Leads-on : (side : Side) {r : LocalRule} → IsRule r → (p q : ℕ) → p < pair_count r → ((a : ℕ) × (b : ℕ) × (a < r.states) × (b < r.states) × Leads side r p a b q) ↔ LeadsOn side r p q
-Leads-on Right rule p q inside = (
+LettersLead-on : (side : Side) {r : LocalRule} → IsRule r → (p q : ℕ) → p < pair_count r → ((a : ℕ) × (b : ℕ) × (a < r.states) × (b < r.states) × LettersLead side r p a b q) ↔ LeadsOn side r p q
+LettersLead-on Right rule p q inside = (
   (λ (a, b, in_a, in_b, leads). record { a = a; b = b; in_pairs = inside; a_letter = in_a; b_letter = in_b; follows = leads }),
   (λ s. (s.a, s.b, s.a_letter, s.b_letter, s.follows)),
 )
-Leads-on Left {r} rule p q inside = (
+LettersLead-on Left {r} rule p q inside = (
   (λ (a, b, in_a, in_b, back). let (c, d, in_c, in_d, follows) = back.leads in record { a = c; b = d; in_pairs = back.in_pairs; a_letter = in_c; b_letter = in_d; follows = follows }),
   (λ s. (
     node_letter r (first_of r q) 0,
@@ -49,11 +49,11 @@ Leads-on Left {r} rule p q inside = (
 
 -- a pair goes on for n + 1 exactly where some letters lead from it to one that does for n
 pub PairGoes-steps : (side : Side) {r : LocalRule} → IsRule r → (p n : ℕ) → p < pair_count r
-    → PairGoes side r p (n + 1) ↔ ((a : ℕ) × (b : ℕ) × (q : ℕ) × (a < r.states) × (b < r.states) × Leads side r p a b q × PairGoes side r q n)
+    → PairGoes side r p (n + 1) ↔ ((a : ℕ) × (b : ℕ) × (q : ℕ) × (a < r.states) × (b < r.states) × LettersLead side r p a b q × PairGoes side r q n)
 PairGoes-steps side rule p n inside = (
   (λ h.
       let (q, step, goes) = PairGoes-step side rule p n (n + 1) refl h in
-      let (a, b, in_a, in_b, leads) = (Leads-on side rule p q inside).1 step in
+      let (a, b, in_a, in_b, leads) = (LettersLead-on side rule p q inside).1 step in
       (a, b, q, in_a, in_b, leads, goes)),
-  (λ (a, b, q, in_a, in_b, leads, goes). PairGoes-push side rule p q n (n + 1) refl ((Leads-on side rule p q inside).0 (a, b, in_a, in_b, leads)) goes),
+  (λ (a, b, q, in_a, in_b, leads, goes). PairGoes-push side rule p q n (n + 1) refl ((LettersLead-on side rule p q inside).0 (a, b, in_a, in_b, leads)) goes),
 )

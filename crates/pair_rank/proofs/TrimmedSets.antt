@@ -7,7 +7,7 @@ use Rattle.word_image.specs.Graphs.{first_of, second_of, pair_of, pair_count}
 use Rattle.word_image.specs.Ranks.{IsEndless}
 use Rattle.pair_laws.proofs.Pairs.{first_of-below, second_of-below, pair_of-below, pair-below, PairGoes-pair_of}
 use Rattle.word_image.specs.declared.side.Side.{Side}
-use Rattle.pair_graph.specs.PairSets.{holds, IsTrimmed}
+use Rattle.pair_graph.specs.PairSets.{holds, IsTrimmedSet}
 use Rattle.word_image.specs.Sides.{Together, PairGoes}
 use Rattle.pair_rank.specs.Sides.{AreEndless}
 use Rattle.pair_laws.proofs.Ranks.{Together-zero, Together-below, Together-less}
@@ -40,7 +40,7 @@ AreTogether-all side {r} rule = record {
 }
 
 -- after a round the set has those that go on for one more
-pub AreTogether-next : {side : Side} {r : LocalRule} → IsRule r → {n : ℕ} {set after : List Bool} → AreTogether side r n set → IsTrimmed side r set after → AreTogether side r (n + 1) after
+pub AreTogether-next : {side : Side} {r : LocalRule} → IsRule r → {n : ℕ} {set after : List Bool} → AreTogether side r n set → IsTrimmedSet side r set after → AreTogether side r (n + 1) after
 AreTogether-next {side} {r} rule {n} {set} {after} h trimmed = record {
   count = trimmed.count;
   pairs = λ p inside.
@@ -59,7 +59,7 @@ AreTogether-next {side} {r} rule {n} {set} {after} h trimmed = record {
 }
 
 -- where a round leaves all, what is left is endless
-pub AreEndless-stable : {side : Side} {r : LocalRule} → IsRule r → {n : ℕ} {set : List Bool} → AreTogether side r n set → IsTrimmed side r set set → AreEndless side r set
+pub AreEndless-stable : {side : Side} {r : LocalRule} → IsRule r → {n : ℕ} {set : List Bool} → AreTogether side r n set → IsTrimmedSet side r set set → AreEndless side r set
 AreEndless-stable {side} {r} rule {n} {set} h trimmed =
     let next = AreTogether-next rule h trimmed in
     record {

@@ -40,8 +40,8 @@ window_gain-value {r} rule weight w word e =
     ap (λ a. pos (weight (local_map r w)) -ℤ pos (weight a)) begins
 
 -- its first node, by its value
-pub value-first : {r : LocalRule} → IsRule r → (w : List ℕ) → IsWord r.states w → length w ≡ r.width → value r.states (take (r.width - 1) w) ≡ value r.states w / r.states
-value-first {r} rule w word e =
+pub value-first_node : {r : LocalRule} → IsRule r → (w : List ℕ) → IsWord r.states w → length w ≡ r.width → value r.states (take (r.width - 1) w) ≡ value r.states w / r.states
+value-first_node {r} rule w word e =
     let wide = rule.shape.least_width in
     let one : length w - (r.width - 1) ≡ 1 = omega arith in
     let letters : r.states ^ 1 ≡ r.states = omega (arith, pow-suc r.states 0, ap (λ n. n * r.states) (pow-zero r.states)) in
@@ -84,11 +84,11 @@ walk_gain-sum {r} rule weight u l =
     ∙ ap (λ v. walk_sum weight r v (r.width - 1)) (value-word_of r.states (r.width - 1) u l)
 
 -- the window of this value gains the difference of a list at its two nodes
-abbrev pub Flows : (ℕ → ℕ) → LocalRule → List ℤ → ℕ → Type 0
-Flows weight r phi v = window_gain weight r v ≡ get_or phi (v / r.states) (pos 0) -ℤ get_or phi (v % node_count r) (pos 0)
+abbrev pub FlowsAt : (ℕ → ℕ) → LocalRule → List ℤ → ℕ → Type 0
+FlowsAt weight r phi v = window_gain weight r v ≡ get_or phi (v / r.states) (pos 0) -ℤ get_or phi (v % node_count r) (pos 0)
 
 -- a list is a flux if each window does
-pub IsFlux-windows : {weight : ℕ → ℕ} {r : LocalRule} {phi : List ℤ} → IsRule r → length phi ≡ node_count r → ((v : ℕ) → v < r.states ^ r.width → Flows weight r phi v)
+pub IsFlux-windows : {weight : ℕ → ℕ} {r : LocalRule} {phi : List ℤ} → IsRule r → length phi ≡ node_count r → ((v : ℕ) → v < r.states ^ r.width → FlowsAt weight r phi v)
     → IsFlux weight r phi
 IsFlux-windows {weight} {r} {phi} rule entries each = record {
   entries = entries;
@@ -96,21 +96,21 @@ IsFlux-windows {weight} {r} {phi} rule entries each = record {
       let v : ℕ = value r.states w in
       let below : v < r.states ^ r.width = subst (λ n. v < r.states ^ n) e (value-below r.states w word) in
       let begins : get_or phi (v / r.states) (pos 0) ≡ first =
-      ap (λ u. get_or phi u (pos 0)) (sym (value-first rule w word e)) ∙ get_or_from_slice_get phi (value r.states (take (r.width - 1) w)) first (pos 0) at_first in
+      ap (λ u. get_or phi u (pos 0)) (sym (value-first_node rule w word e)) ∙ get_or_from_slice_get phi (value r.states (take (r.width - 1) w)) first (pos 0) at_first in
       let ends : get_or phi (v % node_count r) (pos 0) ≡ last =
       ap (λ u. get_or phi u (pos 0)) (sym (value-last rule w word e)) ∙ get_or_from_slice_get phi (value r.states (drop 1 w)) last (pos 0) at_last in
       window_gain-value rule weight w word e ∙ each v below ∙ ap₂ (λ (i j : ℤ). i -ℤ j) begins ends;
 }
 
 -- and under a flux each window does
-pub Flows-flux : {weight : ℕ → ℕ} {r : LocalRule} {phi : List ℤ} → IsRule r → IsFlux weight r phi → (v : ℕ) → v < r.states ^ r.width → Flows weight r phi v
-Flows-flux {weight} {r} {phi} rule flux v l =
+pub FlowsAt-flux : {weight : ℕ → ℕ} {r : LocalRule} {phi : List ℤ} → IsRule r → IsFlux weight r phi → (v : ℕ) → v < r.states ^ r.width → FlowsAt weight r phi v
+FlowsAt-flux {weight} {r} {phi} rule flux v l =
     let w : List ℕ = word_of r.states r.width v in
     let word : IsWord r.states w = IsWord-word_of r.states r.width v l in
     let long : length w ≡ r.width = length-word_of r.states r.width v in
     let number : value r.states w ≡ v = value-word_of r.states r.width v l in
     let begins : flow_at r phi (take (r.width - 1) w) ≡ get_or phi (v / r.states) (pos 0) =
-    ap (λ u. get_or phi u (pos 0)) (value-first rule w word long ∙ ap (λ x. x / r.states) number) in
+    ap (λ u. get_or phi u (pos 0)) (value-first_node rule w word long ∙ ap (λ x. x / r.states) number) in
     let ends : flow_at r phi (drop 1 w) ≡ get_or phi (v % node_count r) (pos 0) =
     ap (λ u. get_or phi u (pos 0)) (value-last rule w word long ∙ ap (λ x. x % node_count r) number) in
     ap (window_gain weight r) (sym number)

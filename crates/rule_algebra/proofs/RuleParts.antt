@@ -6,15 +6,15 @@ use Rattle.word_image.proofs.laws.RulesBy.{FitsSigned-offset}
 use Rattle.word_image.proofs.laws.SameRules.{rule_from_parts}
 
 -- parts that are those of an accepted rule make that rule
-pub rule_of : (r : LocalRule) (k m : ℕ) (o : ℤ) (table : List ℕ) → IsRule r → k ≡ r.states → m ≡ r.width → o ≡ r.offset → table ≡ r.table
+pub rule_of_parts : (r : LocalRule) (k m : ℕ) (o : ℤ) (table : List ℕ) → IsRule r → k ≡ r.states → m ≡ r.width → o ≡ r.offset → table ≡ r.table
     → record { states = k; width = m; offset = to_z w8 (of_z w8 o); table = table } ≡ r
-rule_of r k m o table rule states width offset entries =
+rule_of_parts r k m o table rule states width offset entries =
     rule_from_parts states width (ap (λ p. to_z w8 (of_z w8 p)) offset ∙ to_z-of_z w8 r.offset (FitsSigned-offset rule)) entries
 
 -- two numbers of an i8 are added without a loss as those of an i16
-pub sum_of : (o p a b : ℤ) → FitsSigned w8 o → FitsSigned w8 p → a ≡ to_z w8 (of_z w8 o) → b ≡ to_z w8 (of_z w8 p)
+pub sum-in_w16 : (o p a b : ℤ) → FitsSigned w8 o → FitsSigned w8 p → a ≡ to_z w8 (of_z w8 o) → b ≡ to_z w8 (of_z w8 p)
     → to_z w16 (of_z w16 (to_z w16 (of_z w16 a) +ℤ to_z w16 (of_z w16 b))) ≡ o +ℤ p
-sum_of o p a b first second e f = omega (arith, ints)
+sum-in_w16 o p a b first second e f = omega (arith, ints)
 
 -- a power, by its base and exponent
 pub power_of : (k m base exponent v : ℕ) → v ≡ base ^ exponent → base ≡ k → exponent ≡ m → v ≡ k ^ m

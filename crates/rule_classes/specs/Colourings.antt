@@ -44,8 +44,8 @@ abbrev pub in_colours : LocalRule → Colouring → LocalRule
 in_colours r c = record { states = r.states; width = r.width; offset = pos 0; table = table_by r.states r.width (new_letter r c) }
 
 -- and its Wolfram number
-abbrev pub number_of : LocalRule → Colouring → ℕ
-number_of r c = wolfram_number (in_colours r c)
+abbrev pub recoloured_number : LocalRule → Colouring → ℕ
+recoloured_number r c = wolfram_number (in_colours r c)
 
 -- the free colours are those from low on, below high
 abbrev pub IsChosen : ℕ → ℕ → ℕ → Type 0
@@ -58,10 +58,10 @@ pub record Completes (k : ℕ) (c : Colouring) (low high : ℕ) (d : Colouring) 
   pub letters : (a : ℕ) → a < k → IsChosen low high a → slice_index d.letters a ≡ slice_index c.letters a
 
 -- the least of a colouring and of those that complete c; the colouring where none of these is less
-pub record IsLeastOf (r : LocalRule) (c : Colouring) (low high : ℕ) (before found : Colouring) : Type 0 where
+pub record IsLeastColouring (r : LocalRule) (c : Colouring) (low high : ℕ) (before found : Colouring) : Type 0 where
   pub colouring : IsColouring r.states found
-  pub one : (found ≡ before) ⊎ (Completes r.states c low high found × (number_of r found < number_of r before))
-  pub least : (d : Colouring) → Completes r.states c low high d → number_of r found ≤ number_of r d
+  pub one : (found ≡ before) ⊎ (Completes r.states c low high found × (recoloured_number r found < recoloured_number r before))
+  pub least : (d : Colouring) → Completes r.states c low high d → recoloured_number r found ≤ recoloured_number r d
 
 -- what completes the colouring has the letters of the best rule from this window on
 pub record AgreeFrom (r : LocalRule) (c : Colouring) (low high : ℕ) (best : Colouring) (v : ℕ) : Type 0 where

@@ -2,7 +2,7 @@
 ghost use Rattle.std.specs.Prelude.{◌≡◌, ◌⊎◌, ◌<◌, ◌≤◌, ◌+◌, ◌*◌, IfSome, IsNone, IsTrue, IsFalse};
 ghost use Rattle.word_image.specs.LocalRules.{IsRule, node_count};
 ghost use Rattle.rule_classes.specs.Best.{IsBest};
-ghost use Rattle.rule_classes.specs.Colourings.{AgreeFrom, Completes, IsChosen, IsColouring, IsLeastOf, number_of};
+ghost use Rattle.rule_classes.specs.Colourings.{AgreeFrom, Completes, IsChosen, IsColouring, IsLeastColouring, recoloured_number};
 ghost use Rattle.rule_classes.specs.declared.colourings.Colouring.{Colouring};
 
 use crate::best::Best;
@@ -19,7 +19,7 @@ pub fn least_of(rule: &Rule, colouring: Colouring, low: u8, high: u8, best: &mut
     requires free { low ≤ high }
     requires high { high ≤ rule.now.states }
     ensures best { IsBest rule.now best.new }
-    ensures least { IsLeastOf rule.now colouring low high best.old.colouring best.new.colouring }
+    ensures least { IsLeastColouring rule.now colouring low high best.old.colouring best.new.colouring }
 {
     let k = rule.k();
     if high - low <= 1 {
@@ -47,7 +47,7 @@ fn take_lesser(rule: &Rule, colouring: Colouring, best: &mut Best)
     requires colouring { IsColouring rule.now.states colouring }
     requires best { IsBest rule.now best.old }
     ensures best { IsBest rule.now best.new }
-    ensures least { IsLeastOf rule.now colouring 0 0 best.old.colouring best.new.colouring }
+    ensures least { IsLeastColouring rule.now colouring 0 0 best.old.colouring best.new.colouring }
 {
     if colouring != best.colouring && is_less(rule, &colouring, best) {
         best.take(rule, colouring);
@@ -63,7 +63,7 @@ fn may_be_less(rule: &Rule, colouring: &Colouring, low: u8, high: u8, best: &Bes
     requires best { IsBest rule.now best.now }
     requires high { high ≤ rule.now.states }
     ensures no_less { IsFalse result → (d : Colouring) → Completes rule.now.states colouring.now low high d →
-        number_of rule.now best.now.colouring ≤ number_of rule.now d }
+        recoloured_number rule.now best.now.colouring ≤ recoloured_number rule.now d }
     ensures rule { IsRule rule.now }
 {
     if high == rule.k() {
@@ -81,8 +81,8 @@ fn is_less(rule: &Rule, colouring: &Colouring, best: &Best) -> bool
     requires states { rule.now.states ≤ 6 }
     requires colouring { IsColouring rule.now.states colouring.now }
     requires best { IsBest rule.now best.now }
-    ensures less { IsTrue result → number_of rule.now colouring.now < number_of rule.now best.now.colouring }
-    ensures no_less { IsFalse result → number_of rule.now best.now.colouring ≤ number_of rule.now colouring.now }
+    ensures less { IsTrue result → recoloured_number rule.now colouring.now < recoloured_number rule.now best.now.colouring }
+    ensures no_less { IsFalse result → recoloured_number rule.now best.now.colouring ≤ recoloured_number rule.now colouring.now }
 {
     for node in (0..best.nodes).rev() {
         if let Some(less) = told(rule, colouring, 0, 0, best, node, 0) {
@@ -114,9 +114,9 @@ fn told(
     requires agree { AgreeFrom rule.now colouring.now low high best.now.colouring ((node + 1) * rule.now.states) }
     ensures same { IsNone result → AgreeFrom rule.now colouring.now low high best.now.colouring (node * rule.now.states + first) }
     ensures less { IfSome result (λ less. IsTrue less → low ≡ high →
-        number_of rule.now colouring.now < number_of rule.now best.now.colouring) }
+        recoloured_number rule.now colouring.now < recoloured_number rule.now best.now.colouring) }
     ensures no_less { IfSome result (λ less. IsFalse less → (d : Colouring) → Completes rule.now.states colouring.now low high d →
-        number_of rule.now best.now.colouring ≤ number_of rule.now d) }
+        recoloured_number rule.now best.now.colouring ≤ recoloured_number rule.now d) }
 {
     let k = rule.k();
     let back = colouring.old_window(rule, u16::from(node));

@@ -4,19 +4,19 @@ use Rattle.std.specs.Fmt.{digits}
 use Rattle.rule_text.specs.declared.text_fault.TextFault.TheVariants as fault
 use Rattle.word_image.specs.Digits.{letter_at}
 use Rattle.rule_text.specs.RuleTexts.{Table, Number, bare, by_number, decimal_value, fault_of, rule_of}
-use Rattle.rule_text.specs.PrintedRules.{printed}
+use Rattle.rule_text.specs.PrintedRules.{printed_rule}
 
 -- the digits 110
 value_110 : decimal_value (codes "110") ≡ 110
 value_110 = refl
 
 -- 110, printed
-printed_110 : printed (rule_of (bare 110)) ≡ codes "2:3:-1:t01110110"
+printed_110 : printed_rule (rule_of (bare 110)) ≡ codes "2:3:-1:t01110110"
 unfolding digits
 printed_110 = refl
 
 -- 30, printed
-printed_30 : printed (rule_of (bare 30)) ≡ codes "2:3:-1:t01111000"
+printed_30 : printed_rule (rule_of (bare 30)) ≡ codes "2:3:-1:t01111000"
 unfolding digits
 printed_30 = refl
 
@@ -65,6 +65,6 @@ first_fault_width : fault_of (record { states = 2; width = 6; offset = pos 0; en
 first_fault_width = refl
 
 -- number 6 of two states and width 2
-numbered_6 : printed (rule_of (by_number 2 2 (pos 0) 6)) ≡ codes "2:2:0:t0110"
+numbered_6 : printed_rule (rule_of (by_number 2 2 (pos 0) 6)) ≡ codes "2:2:0:t0110"
 unfolding digits
 numbered_6 = refl

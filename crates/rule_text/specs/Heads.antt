@@ -81,8 +81,8 @@ abbrev pub IsNoKind : ℕ → Type 0
 IsNoKind b = (b ≢ 116) × (b ≢ 119)
 
 -- the fault is one of form, at a place of the text of which this is true
-abbrev pub IsFormAt : List ℕ → TextFault → (ℕ → Type 0) → Type 0
-IsFormAt text f P = (place : ℕ) × (f ≡ fault.Form place) × (place ≤ length text) × P place
+abbrev pub IsRuleFormAt : List ℕ → TextFault → (ℕ → Type 0) → Type 0
+IsRuleFormAt text f P = (place : ℕ) × (f ≡ fault.Form place) × (place ≤ length text) × P place
 
 -- the entries that digits of this kind make
 abbrev pub entries_of : Kind → List ℕ → Entries

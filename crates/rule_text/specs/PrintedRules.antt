@@ -14,5 +14,5 @@ offset_text (pos n) = decimal n
 offset_text (negsuc n) = codes "-" ++ decimal (n + 1)
 
 -- the printed form: the table form in lower case
-abbrev pub printed : LocalRule → List ℕ
-printed r = head (decimal r.states) (decimal r.width) (offset_text r.offset) (codes "t") ++ map lower_digit r.table
+abbrev pub printed_rule : LocalRule → List ℕ
+printed_rule r = head (decimal r.states) (decimal r.width) (offset_text r.offset) (codes "t") ++ map lower_digit r.table

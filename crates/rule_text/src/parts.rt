@@ -2,7 +2,7 @@
 ghost use Rattle.std.specs.Prelude.{◌≡◌, ◌≢◌, false, ◌+◌, ◌<◌, ◌≤◌, ◌∷◌, [], ◌↔◌, IfOk, IfErr, IfSome, IfNone, IsTrue, length, slice_index};
 ghost use Rattle.std.specs.Bool.{OnTrue};
 ghost use Rattle.rule_text.specs.RuleTexts.{IsDigit};
-ghost use Rattle.rule_text.specs.Heads.{GoesOver, GoesOverSmall, GoesOverField, GoesOverOffset, LacksField, LacksOffset, IsFormAt, IsNoKind, kind_text, minus_sign, sign};
+ghost use Rattle.rule_text.specs.Heads.{GoesOver, GoesOverSmall, GoesOverField, GoesOverOffset, LacksField, LacksOffset, IsRuleFormAt, IsNoKind, kind_text, minus_sign, sign};
 
 use crate::decimals::with_sign;
 use crate::head::Kind;
@@ -14,7 +14,7 @@ pub fn field(text: &[u8], from: usize) -> Result<(u8, usize), TextFault>
     ensures number { IfOk result (λ r. GoesOverField text.now from r.1 r.0) }
     ensures below { IfOk result (λ r. r.0 < 100) }
     ensures within { IfOk result (λ r. r.1 ≤ length text.now) }
-    ensures fault { IfErr result (λ f. IsFormAt text.now f (LacksField text.now from)) }
+    ensures fault { IfErr result (λ f. IsRuleFormAt text.now f (LacksField text.now from)) }
 {
     let Some((number, end)) = small(text, from) else {
         return Err(TextFault::Form(from));
@@ -31,7 +31,7 @@ pub fn offset(text: &[u8], from: usize) -> Result<(i8, usize), TextFault>
     requires { from ≤ length text.now }
     ensures offset { IfOk result (λ r. GoesOverOffset text.now from r.1 r.0) }
     ensures within { IfOk result (λ r. r.1 ≤ length text.now) }
-    ensures fault { IfErr result (λ f. IsFormAt text.now f (LacksOffset text.now from)) }
+    ensures fault { IfErr result (λ f. IsRuleFormAt text.now f (LacksOffset text.now from)) }
 {
     let (minus, start) = minus(text, from);
     let (number, end) = field(text, start)?;
@@ -43,7 +43,7 @@ pub fn kind(text: &[u8], from: usize) -> Result<(Kind, usize), TextFault>
     requires { from ≤ length text.now }
     ensures over { IfOk result (λ r. GoesOver text.now from r.1 (kind_text r.0)) }
     ensures within { IfOk result (λ r. r.1 ≤ length text.now) }
-    ensures fault { IfErr result (λ f. IsFormAt text.now f (λ place. (place ≡ from) × IsNoKind (slice_index text.now place))) }
+    ensures fault { IfErr result (λ f. IsRuleFormAt text.now f (λ place. (place ≡ from) × IsNoKind (slice_index text.now place))) }
 {
     if stands(text, from, b't') {
         Ok((Kind::Table, from + 1))

@@ -9,10 +9,10 @@ use Rattle.word_image.specs.Words.{word_cmp}
 use Rattle.word_image.specs.Graphs.{full_set, IsStep}
 use Rattle.word_image.specs.Ranks.{IsLastSet}
 use Rattle.word_image.specs.Families.{IsLeastWordOf, IsFamily}
-use Rattle.word_image.proofs.laws.Lists.{paired}
-use Rattle.search_laws.specs.SearchQueues.{Place, Spells, IsQueue}
+use Rattle.word_image.proofs.laws.Lists.{AllZip-places}
+use Rattle.search_laws.specs.SearchQueues.{Place, TreeSpells, IsQueue}
 use Rattle.search_laws.proofs.QueueStates.{states_of, mapped_at, unmapped_at, Contains-state}
-use Rattle.search_laws.proofs.SpelledWords.{Spells-some, Spells-ascending}
+use Rattle.search_laws.proofs.SpelledWords.{TreeSpells-some, TreeSpells-ascending}
 use Rattle.search_laws.proofs.LeastFirst.{IsLeastTo-spelled, reached_all, reached_or_after}
 use Rattle.search_laws.proofs.StepSets.{IsLastSet-leads, LeadsToSet-last}
 
@@ -22,7 +22,7 @@ IsSetQueue r = IsQueue (IsStep r) r.states (full_set r)
 
 -- the word that is spelled to a place is the least one of its set
 IsLeastWordOf-spelled : {r : LocalRule} {tree : List (Place ℕ)} {e i : ℕ} {w : List ℕ} → IsRule r → IsSetQueue r tree e
-    → Spells tree i w → (x : Place ℕ) → slice_get tree i ≡ Some x → IsLeastWordOf r x.state w
+    → TreeSpells tree i w → (x : Place ℕ) → slice_get tree i ≡ Some x → IsLeastWordOf r x.state w
 IsLeastWordOf-spelled rule q s x at =
     let first = IsLeastTo-spelled q s x at in
     record { set_of = IsLastSet-leads rule first.leads; least = λ v last. first.least v (LeadsToSet-last rule last) }
@@ -54,17 +54,17 @@ HasAllSets r sets = (v : List ℕ) (set : ℕ) → IsLastSet r v set → Contain
 family_with : {r : LocalRule} {tree : List (Place ℕ)} {e : ℕ} → IsRule r → IsSetQueue r tree e
     → ((i : ℕ) (x : Place ℕ) → i + 1 < length tree → slice_get tree i ≡ Some x → x.state ≢ 0) → HasAllSets r (states_of tree) → IsFamily r (states_of tree)
 family_with {r} {tree} rule q some all =
-    let words = chosen tree (Spells tree) (Spells-some q.fills) in
+    let words = chosen tree (TreeSpells tree) (TreeSpells-some q.fills) in
     let long : length (states_of tree) ≡ length words.0 = length-map tree (λ x. x.state) ∙ words.1 in
     record {
       words = words.0;
-      each = paired (IsLeastWordOf r) (states_of tree) words.0 long (λ i set w at also.
+      each = AllZip-places (IsLeastWordOf r) (states_of tree) words.0 long (λ i set w at also.
           let found = unmapped_at (λ x. x.state) tree i set at in
           subst (λ s. IsLeastWordOf r s w) found.2 (IsLeastWordOf-spelled rule q (words.2 i w also) found.0 found.1));
       ascending = λ i v w at also.
           let first = stands_at tree i (omega (arith, words.1, slice_get_within words.0 i v at)) in
           let second = stands_at tree (i + 1) (omega (arith, words.1, slice_get_within words.0 (i + 1) w also)) in
-          Spells-ascending q.fills (omega arith) (words.2 i v at) (words.2 (i + 1) w also) first.0 second.0 first.1 second.1;
+          TreeSpells-ascending q.fills (omega arith) (words.2 i v at) (words.2 (i + 1) w also) first.0 second.0 first.1 second.1;
       nonempty = λ i less empty.
           let before : i + 1 < length tree = omega (arith, length-map tree (λ x. x.state)) in
           let here = stands_at tree i (omega arith) in
@@ -83,7 +83,7 @@ IsFamily-closed {r} {tree} rule q closed some = family_with rule q some (λ v se
 pub IsFamily-stopped : {r : LocalRule} {tree : List (Place ℕ)} {e : ℕ} → IsRule r → IsSetQueue r tree e → (i : ℕ) (x : Place ℕ) → i + 1 ≡ length tree → slice_get tree i ≡ Some x → x.state ≡ 0
     → IsFamily r (states_of tree)
 IsFamily-stopped {r} {tree} rule q i x ends at empty =
-    let spelled = Spells-some q.fills i x at in
+    let spelled = TreeSpells-some q.fills i x at in
     family_with rule q
     (λ j y before there also. let same = q.apart j i y x there at (also ∙ sym empty) in omega (arith, same))
     (λ v set last. ⊎_elim

@@ -7,7 +7,7 @@ use Rattle.std.proofs.lemmas.List.{length_push}
 use Rattle.std.proofs.Math.Nat.{mul-le-mul_left, mul-le-mul_right, suc-mul, mul-one}
 use Rattle.std.specs.declared.cmp.Ordering.TheVariants.{Greater}
 use Rattle.word_image.specs.Words.{word_cmp}
-use Rattle.search_laws.specs.SearchQueues.{Place, Spells, HaveMet, IsQueue, filled}
+use Rattle.search_laws.specs.SearchQueues.{Place, TreeSpells, HaveMet, IsQueue, filled}
 use Rattle.search_laws.specs.Walks.{Leads}
 use Rattle.search_laws.proofs.Walks.{Leads-push, Leads-induct}
 use Rattle.search_laws.proofs.QueueSteps.{filled-later}
@@ -57,7 +57,7 @@ pub record IsLeastStepsTo (Step : ℕ → ℕ → ℕ → Type 0) (k start t : �
 
 -- the word of an edge, where no edge before it leads to the state, isn't greater than one of at least one letter that does
 first_edge : {Step : ℕ → ℕ → ℕ → Type 0} {k start : ℕ} {tree : List (Place ℕ)} {e h : ℕ} {w : List ℕ} → IsQueue Step k start tree e
-    → Spells tree h w → (x : Place ℕ) → slice_get tree h ≡ Some x → (n : ℕ) → n < k → e ≡ h * k + n → (t : ℕ) → NoEdgeBefore Step k tree e t
+    → TreeSpells tree h w → (x : Place ℕ) → slice_get tree h ≡ Some x → (n : ℕ) → n < k → e ≡ h * k + n → (t : ℕ) → NoEdgeBefore Step k tree e t
     → (v : List ℕ) → 0 < length v → Leads Step k start v t → word_number k w * k + n + 1 ≤ word_number k v
 first_edge {Step} {k} {e = e} {w = w} q s x at n letter edge goal none v some leads =
     Leads-induct (λ u t. 0 < length u → t ≡ goal → word_number k w * k + n + 1 ≤ word_number k u) (λ some _. absurd (omega arith))
@@ -77,7 +77,7 @@ first_edge {Step} {k} {e = e} {w = w} q s x at n letter edge goal none v some le
 
 -- the first edge that leads to a state ends the first word of at least one letter that does
 pub IsLeastStepsTo-edge : {Step : ℕ → ℕ → ℕ → Type 0} {k start : ℕ} {tree : List (Place ℕ)} {e h : ℕ} {w : List ℕ} → IsQueue Step k start tree e
-    → Spells tree h w → (x : Place ℕ) → slice_get tree h ≡ Some x → (n : ℕ) → n < k → e ≡ h * k + n → (t : ℕ) → NoEdgeBefore Step k tree e t → Step x.state n t
+    → TreeSpells tree h w → (x : Place ℕ) → slice_get tree h ≡ Some x → (n : ℕ) → n < k → e ≡ h * k + n → (t : ℕ) → NoEdgeBefore Step k tree e t → Step x.state n t
     → IsLeastStepsTo Step k start t (w ++ n ∷ [])
 IsLeastStepsTo-edge {Step} {k} {start} {w = w} q s x at n letter edge t none step =
     let leads : Leads Step k start (w ++ n ∷ []) t = Leads-push (Leads-spelled q.fills s x at) letter step in

@@ -14,7 +14,7 @@ use Rattle.word_image.specs.Words.{word_cmp}
 use Rattle.word_image.specs.Rings.{pair_cmp, pairs_cmp}
 use Rattle.word_image.proofs.laws.Orders.{slice_cmp-value}
 use Rattle.search_laws.specs.Walks.{Leads}
-use Rattle.search_laws.specs.PairWalks.{PairStep, ArePairs, PairWalk, IsLeastWalk, uncode}
+use Rattle.search_laws.specs.PairWalks.{LetterPairStep, ArePairs, PairWalk, IsLeastWalk, uncode}
 use Rattle.search_laws.proofs.Walks.{Walk-each, Walk-map, All-walk, Walk-shortened}
 use Rattle.search_laws.proofs.LeastSteps.{IsLeastStepsTo}
 
@@ -93,7 +93,7 @@ pub Leads-walk : {follow : ℕ → ℕ → ℕ → Option ℕ} {k start t : ℕ}
     → Leads (CodeStep follow k n) (k * n) start (map (code n) w) t
 Leads-walk {follow} {k} {start} {t} {w} n le walk = record {
   walk = Walk-map (CodeStep follow k n) (code n) w start t
-      (Walk-each (PairStep follow) (λ s p. CodeStep follow k n s (code n p)) (λ s. s) (λ p. (p.0 < k) × (p.1 < k))
+      (Walk-each (LetterPairStep follow) (λ s p. CodeStep follow k n s (code n p)) (λ s. s) (λ p. (p.0 < k) × (p.1 < k))
       (λ s p u small follows. CodeStep-some follow k n s p.0 p.1 u le small.0 small.1 follows) w start t walk.letters walk.steps);
   word = All-map (λ c. c < k * n) (code n) w (λ i d l.
       let p = get_or w i d in
@@ -105,8 +105,8 @@ Leads-walk {follow} {k} {start} {t} {w} n le walk = record {
 pub PairWalk-leads : {follow : ℕ → ℕ → ℕ → Option ℕ} {k n start t : ℕ} {w : List ℕ} → Leads (CodeStep follow k n) (k * n) start w t
     → PairWalk follow k start (map (uncode n) w) t
 PairWalk-leads {follow} {k} {n} {start} {t} {w} leads = record {
-  steps = Walk-map (PairStep follow) (uncode n) w start t
-      (Walk-each (CodeStep follow k n) (λ s c. PairStep follow s (uncode n c)) (λ s. s) (λ c. c < k * n) (λ s c u _ step. step.follows) w start t leads.word leads.walk);
+  steps = Walk-map (LetterPairStep follow) (uncode n) w start t
+      (Walk-each (CodeStep follow k n) (λ s c. LetterPairStep follow s (uncode n c)) (λ s. s) (λ c. c < k * n) (λ s c u _ step. step.follows) w start t leads.word leads.walk);
   letters = All-map (λ p. (p.0 < k) × (p.1 < k)) (uncode n) w (All-walk (CodeStep follow k n) (λ c. (c / n < k) × (c % n < k)) (λ s c u step. (step.first, step.second)) w start t leads.walk);
 }
 
@@ -143,4 +143,4 @@ pub length-IsLeastWalk : {follow : ℕ → ℕ → ℕ → Option ℕ} {k start 
 length-IsLeastWalk {follow} {k} {start} {t} {n} {w} below first =
     ⊎_elim (λ few. few)
     (λ h. absurd (first.least h.shorter h.some (record { steps = h.walk; letters = h.letters }) (pairs_cmp-longer h.shorter w h.less)))
-    (Walk-shortened (PairStep follow) (λ p. (p.0 < k) × (p.1 < k)) n (λ s p u. below s p.0 p.1 u) w start t first.walk.letters first.walk.steps)
+    (Walk-shortened (LetterPairStep follow) (λ p. (p.0 < k) × (p.1 < k)) n (λ s p u. below s p.0 p.1 u) w start t first.walk.letters first.walk.steps)

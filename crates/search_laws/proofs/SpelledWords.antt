@@ -7,8 +7,8 @@ use Rattle.std.proofs.lemmas.List.{length_push}
 use Rattle.std.proofs.Math.Nat.{mul-le-mul_right, suc-mul}
 use Rattle.std.specs.declared.cmp.Ordering.TheVariants.{Less}
 use Rattle.word_image.specs.Words.{word_cmp}
-use Rattle.search_laws.specs.SearchQueues.{Place, Spells, IsFilled, filled}
-use Rattle.search_laws.specs.SearchQueues.Spells.{Root, Branch}
+use Rattle.search_laws.specs.SearchQueues.{Place, TreeSpells, IsFilled, filled}
+use Rattle.search_laws.specs.SearchQueues.TreeSpells.{Root, Branch}
 use Rattle.search_laws.specs.Walks.{Leads}
 use Rattle.search_laws.proofs.Walks.{Leads-none, Leads-push}
 use Rattle.search_laws.proofs.QueueSteps.{filled-later}
@@ -20,29 +20,29 @@ pub record IsLonger {S : Type 0} (tree : List (Place S)) (i : ℕ) (w : List ℕ
   pub front : List ℕ
   pub positive : 0 < i
   pub stands : slice_get tree i ≡ Some place
-  pub before : Spells tree place.parent front
+  pub before : TreeSpells tree place.parent front
   pub splits : w ≡ front ++ place.letter ∷ []
 
 -- a word is empty and spelled to the first place, or it has a last letter
-pub Spells-cases : {S : Type 0} {tree : List (Place S)} {i : ℕ} {w : List ℕ} → Spells tree i w → ((i ≡ 0) × (w ≡ [])) ⊎ IsLonger tree i w
-Spells-cases Root = inl (refl, refl)
-Spells-cases (Branch i x w positive at before) = inr (record { place = x; front = w; positive = positive; stands = at; before = before; splits = refl })
+pub TreeSpells-cases : {S : Type 0} {tree : List (Place S)} {i : ℕ} {w : List ℕ} → TreeSpells tree i w → ((i ≡ 0) × (w ≡ [])) ⊎ IsLonger tree i w
+TreeSpells-cases Root = inl (refl, refl)
+TreeSpells-cases (Branch i x w positive at before) = inr (record { place = x; front = w; positive = positive; stands = at; before = before; splits = refl })
 
 -- one word is spelled to a place
-pub Spells-unique : {S : Type 0} {tree : List (Place S)} {i : ℕ} {v w : List ℕ} → Spells tree i v → Spells tree i w → v ≡ w
-Spells-unique Root s = ⊎_elim (λ same. sym same.1) (λ longer. absurd (omega (arith, longer.positive))) (Spells-cases s)
-Spells-unique {tree = tree} (Branch i x v positive at before) s =
+pub TreeSpells-unique : {S : Type 0} {tree : List (Place S)} {i : ℕ} {v w : List ℕ} → TreeSpells tree i v → TreeSpells tree i w → v ≡ w
+TreeSpells-unique Root s = ⊎_elim (λ same. sym same.1) (λ longer. absurd (omega (arith, longer.positive))) (TreeSpells-cases s)
+TreeSpells-unique {tree = tree} (Branch i x v positive at before) s =
     ⊎_elim
     (λ same. absurd (omega (arith, same.0)))
     (λ longer.
     let alike : longer.place ≡ x = let there = longer.stands in cc in
-    let fronts : v ≡ longer.front = Spells-unique before (subst (λ z. Spells tree z.parent longer.front) alike longer.before) in
+    let fronts : v ≡ longer.front = TreeSpells-unique before (subst (λ z. TreeSpells tree z.parent longer.front) alike longer.before) in
     ap₂ (λ (u : List ℕ) (z : Place _). u ++ z.letter ∷ []) fronts (sym alike) ∙ sym longer.splits)
-    (Spells-cases s)
+    (TreeSpells-cases s)
 
--- `Spells-some` at the first n places
+-- `TreeSpells-some` at the first n places
 spelled_below : {S : Type 0} {Step : S → ℕ → S → Type 0} {Met : S → ℕ → Type 0} {k : ℕ} {start : S} {tree : List (Place S)} {e : ℕ} → IsFilled Step Met k start tree e
-    → (n i : ℕ) → i < n → (x : Place S) → slice_get tree i ≡ Some x → (w : List ℕ) × Spells tree i w
+    → (n i : ℕ) → i < n → (x : Place S) → slice_get tree i ≡ Some x → (w : List ℕ) × TreeSpells tree i w
 spelled_below q zero i less x at = absurd (omega arith)
 spelled_below {tree = tree} q (suc n) zero less x at = ([], Root)
 spelled_below {tree = tree} q (suc n) (suc i) less x at =
@@ -51,13 +51,13 @@ spelled_below {tree = tree} q (suc n) (suc i) less x at =
     (front.0 ++ x.letter ∷ [], Branch (suc i) x front.0 (omega arith) at front.1)
 
 -- to each place a word is spelled
-pub Spells-some : {S : Type 0} {Step : S → ℕ → S → Type 0} {Met : S → ℕ → Type 0} {k : ℕ} {start : S} {tree : List (Place S)} {e : ℕ} → IsFilled Step Met k start tree e
-    → (i : ℕ) (x : Place S) → slice_get tree i ≡ Some x → (w : List ℕ) × Spells tree i w
-Spells-some q i x at = spelled_below q (i + 1) i (omega arith) x at
+pub TreeSpells-some : {S : Type 0} {Step : S → ℕ → S → Type 0} {Met : S → ℕ → Type 0} {k : ℕ} {start : S} {tree : List (Place S)} {e : ℕ} → IsFilled Step Met k start tree e
+    → (i : ℕ) (x : Place S) → slice_get tree i ≡ Some x → (w : List ℕ) × TreeSpells tree i w
+TreeSpells-some q i x at = spelled_below q (i + 1) i (omega arith) x at
 
 -- the word that is spelled to a place leads to its state
 pub Leads-spelled : {S : Type 0} {Step : S → ℕ → S → Type 0} {Met : S → ℕ → Type 0} {k : ℕ} {start : S} {tree : List (Place S)} {e i : ℕ} {w : List ℕ} → IsFilled Step Met k start tree e
-    → Spells tree i w → (x : Place S) → slice_get tree i ≡ Some x → Leads Step k start w x.state
+    → TreeSpells tree i w → (x : Place S) → slice_get tree i ≡ Some x → Leads Step k start w x.state
 Leads-spelled {Step = Step} {k = k} {start = start} q Root x at =
     let first : start ≡ x.state = let also = q.root in let starts = q.starts in cc in
     subst (Leads Step k start []) first Leads-none
@@ -67,7 +67,7 @@ Leads-spelled {Step = Step} {k = k} {start = start} q (Branch i y w positive her
     subst (λ z. Leads Step k start (w ++ y.letter ∷ []) z.state) alike (Leads-push (Leads-spelled q before b.parent b.stands) b.letter b.step)
 
 -- a word has no more letters than there are places before its own
-pub length-spelled-le : {S : Type 0} {Step : S → ℕ → S → Type 0} {Met : S → ℕ → Type 0} {k : ℕ} {start : S} {tree : List (Place S)} {e i : ℕ} {w : List ℕ} → IsFilled Step Met k start tree e → Spells tree i w → length w ≤ i
+pub length-spelled-le : {S : Type 0} {Step : S → ℕ → S → Type 0} {Met : S → ℕ → Type 0} {k : ℕ} {start : S} {tree : List (Place S)} {e i : ℕ} {w : List ℕ} → IsFilled Step Met k start tree e → TreeSpells tree i w → length w ≤ i
 length-spelled-le q Root = omega arith
 length-spelled-le q (Branch i x w positive at before) =
     let b = q.branches i x positive at in
@@ -92,9 +92,9 @@ digits-ascend p q l m k f g small most ascends same first =
     (cases_lt p q)
 
 -- `spelled-before`, where the words of the places before i are known to be less
-before_edge : {S : Type 0} {Step : S → ℕ → S → Type 0} {Met : S → ℕ → Type 0} {k : ℕ} {start : S} {tree : List (Place S)} {e i : ℕ} {w : List ℕ} → IsFilled Step Met k start tree e → Spells tree i w
-    → ((p : ℕ) (z : Place S) (u : List ℕ) → slice_get tree p ≡ Some z → Spells tree p u → p < i → word_number k u < word_number k w)
-    → (a : ℕ) → a < k → (j : ℕ) (y : Place S) (v : List ℕ) → slice_get tree j ≡ Some y → Spells tree j v → filled k j y < i * k + a + 1
+before_edge : {S : Type 0} {Step : S → ℕ → S → Type 0} {Met : S → ℕ → Type 0} {k : ℕ} {start : S} {tree : List (Place S)} {e i : ℕ} {w : List ℕ} → IsFilled Step Met k start tree e → TreeSpells tree i w
+    → ((p : ℕ) (z : Place S) (u : List ℕ) → slice_get tree p ≡ Some z → TreeSpells tree p u → p < i → word_number k u < word_number k w)
+    → (a : ℕ) → a < k → (j : ℕ) (y : Place S) (v : List ℕ) → slice_get tree j ≡ Some y → TreeSpells tree j v → filled k j y < i * k + a + 1
     → word_number k v < word_number k w * k + a + 1
 before_edge {k = k} {tree = tree} {i = i} {w = w} q s lesser a letter j y v at spells less =
     ⊎_elim
@@ -102,21 +102,21 @@ before_edge {k = k} {tree = tree} {i = i} {w = w} q s lesser a letter j y v at s
     (λ longer.
     let b = q.branches j y longer.positive at in
     let alike : longer.place ≡ y = let there = longer.stands in cc in
-    let front : Spells tree y.parent longer.front = subst (λ z. Spells tree z.parent longer.front) alike longer.before in
+    let front : TreeSpells tree y.parent longer.front = subst (λ z. TreeSpells tree z.parent longer.front) alike longer.before in
     let splits : word_number k v ≡ word_number k longer.front * k + y.letter + 1 =
     ap (word_number k) (longer.splits ∙ ap (λ z. longer.front ++ z.letter ∷ []) alike) ∙ word_number-snoc k longer.front y.letter in
     let earlier : y.parent * k + (y.letter + 1) ≤ i * k + a = omega (arith, filled-later k j y longer.positive) in
     let step : word_number k longer.front * k + (y.letter + 1) ≤ word_number k w * k + a =
     digits-ascend y.parent i (y.letter + 1) a k (word_number k longer.front) (word_number k w) letter earlier
     (lesser y.parent b.parent longer.front b.stands front)
-    (λ same. ap (word_number k) (Spells-unique (subst (λ n. Spells tree n longer.front) same front) s))
+    (λ same. ap (word_number k) (TreeSpells-unique (subst (λ n. TreeSpells tree n longer.front) same front) s))
     (omega (arith, b.letter)) in
     omega (arith, splits, step))
-    (Spells-cases spells)
+    (TreeSpells-cases spells)
 
 -- a place that was filled before letter a from place i was followed has a lesser word than that edge
-pub spelled-before : {S : Type 0} {Step : S → ℕ → S → Type 0} {Met : S → ℕ → Type 0} {k : ℕ} {start : S} {tree : List (Place S)} {e i : ℕ} {w : List ℕ} → IsFilled Step Met k start tree e → Spells tree i w
-    → (a : ℕ) → a < k → (j : ℕ) (y : Place S) (v : List ℕ) → slice_get tree j ≡ Some y → Spells tree j v → filled k j y < i * k + a + 1
+pub spelled-before : {S : Type 0} {Step : S → ℕ → S → Type 0} {Met : S → ℕ → Type 0} {k : ℕ} {start : S} {tree : List (Place S)} {e i : ℕ} {w : List ℕ} → IsFilled Step Met k start tree e → TreeSpells tree i w
+    → (a : ℕ) → a < k → (j : ℕ) (y : Place S) (v : List ℕ) → slice_get tree j ≡ Some y → TreeSpells tree j v → filled k j y < i * k + a + 1
     → word_number k v < word_number k w * k + a + 1
 spelled-before q Root = before_edge q Root (λ p z u at spells l. absurd (omega arith))
 spelled-before {k = k} q (Branch i x w positive here before) = before_edge q (Branch i x w positive here before) (λ p z u at spells l.
@@ -125,8 +125,8 @@ spelled-before {k = k} q (Branch i x w positive here before) = before_edge q (Br
     omega (arith, spelled-before q before x.letter b.letter p z u at spells earlier, word_number-snoc k w x.letter))
 
 -- a place that was filled by then has a word that isn't greater than that edge's
-pub spelled-within : {S : Type 0} {Step : S → ℕ → S → Type 0} {Met : S → ℕ → Type 0} {k : ℕ} {start : S} {tree : List (Place S)} {e i : ℕ} {w : List ℕ} → IsFilled Step Met k start tree e → Spells tree i w
-    → (a : ℕ) → a < k → (j : ℕ) (y : Place S) (v : List ℕ) → slice_get tree j ≡ Some y → Spells tree j v → filled k j y ≤ i * k + a + 1
+pub spelled-within : {S : Type 0} {Step : S → ℕ → S → Type 0} {Met : S → ℕ → Type 0} {k : ℕ} {start : S} {tree : List (Place S)} {e i : ℕ} {w : List ℕ} → IsFilled Step Met k start tree e → TreeSpells tree i w
+    → (a : ℕ) → a < k → (j : ℕ) (y : Place S) (v : List ℕ) → slice_get tree j ≡ Some y → TreeSpells tree j v → filled k j y ≤ i * k + a + 1
     → word_number k v ≤ word_number k w * k + a + 1
 spelled-within {k = k} {tree = tree} {i = i} {w = w} q s a letter j y v at spells most =
     ⊎_elim
@@ -136,18 +136,18 @@ spelled-within {k = k} {tree = tree} {i = i} {w = w} q s a letter j y v at spell
     let b = q.branches j y longer.positive at in
     let alike : longer.place ≡ y = let there = longer.stands in cc in
     let parts : (y.parent ≡ i) × (y.letter ≡ a) = same_from_place y.parent y.letter i a k b.letter letter (omega (arith, filled-later k j y longer.positive)) in
-    let front : Spells tree i longer.front = subst (λ n. Spells tree n longer.front) parts.0 (subst (λ z. Spells tree z.parent longer.front) alike longer.before) in
+    let front : TreeSpells tree i longer.front = subst (λ n. TreeSpells tree n longer.front) parts.0 (subst (λ z. TreeSpells tree z.parent longer.front) alike longer.before) in
     let splits : v ≡ w ++ a ∷ [] =
-    longer.splits ∙ ap (λ z. longer.front ++ z.letter ∷ []) alike ∙ ap₂ (λ (u : List ℕ) (c : ℕ). u ++ c ∷ []) (Spells-unique front s) parts.1 in
+    longer.splits ∙ ap (λ z. longer.front ++ z.letter ∷ []) alike ∙ ap₂ (λ (u : List ℕ) (c : ℕ). u ++ c ∷ []) (TreeSpells-unique front s) parts.1 in
     let number : word_number k v ≡ word_number k w * k + a + 1 = ap (word_number k) splits ∙ word_number-snoc k w a in
     omega arith)
-    (Spells-cases spells))
+    (TreeSpells-cases spells))
     (λ other. omega (arith, spelled-before q s a letter j y v at spells (omega (arith, other))))
     (cases_eq (filled k j y) (i * k + a + 1))
 
 -- a later place has a greater word
 pub spelled-ascending : {S : Type 0} {Step : S → ℕ → S → Type 0} {Met : S → ℕ → Type 0} {k : ℕ} {start : S} {tree : List (Place S)} {e i j : ℕ} {v w : List ℕ} → IsFilled Step Met k start tree e
-    → i < j → Spells tree i v → Spells tree j w → (x : Place S) → slice_get tree i ≡ Some x → word_number k v < word_number k w
+    → i < j → TreeSpells tree i v → TreeSpells tree j w → (x : Place S) → slice_get tree i ≡ Some x → word_number k v < word_number k w
 spelled-ascending q less first Root x at = absurd (omega arith)
 spelled-ascending {k = k} {i = i} {v = v} q less first (Branch j z w positive here before) x at =
     let b = q.branches j z positive here in
@@ -155,15 +155,15 @@ spelled-ascending {k = k} {i = i} {v = v} q less first (Branch j z w positive he
     omega (arith, spelled-before q before z.letter b.letter i x v at first earlier, word_number-snoc k w z.letter)
 
 -- the words of the places ascend
-pub Spells-ascending : {S : Type 0} {Step : S → ℕ → S → Type 0} {Met : S → ℕ → Type 0} {k : ℕ} {start : S} {tree : List (Place S)} {e i j : ℕ} {v w : List ℕ} → IsFilled Step Met k start tree e
-    → i < j → Spells tree i v → Spells tree j w → (x y : Place S) → slice_get tree i ≡ Some x → slice_get tree j ≡ Some y → word_cmp v w ≡ Less
-Spells-ascending {k = k} {v = v} {w = w} q less first second x y at_i at_j =
+pub TreeSpells-ascending : {S : Type 0} {Step : S → ℕ → S → Type 0} {Met : S → ℕ → Type 0} {k : ℕ} {start : S} {tree : List (Place S)} {e i j : ℕ} {v w : List ℕ} → IsFilled Step Met k start tree e
+    → i < j → TreeSpells tree i v → TreeSpells tree j w → (x y : Place S) → slice_get tree i ≡ Some x → slice_get tree j ≡ Some y → word_cmp v w ≡ Less
+TreeSpells-ascending {k = k} {v = v} {w = w} q less first second x y at_i at_j =
     word_cmp-less k v w (Leads-spelled q first x at_i).word (Leads-spelled q second y at_j).word (spelled-ascending q less first second x at_i)
 
 -- of two edges the earlier one has the lesser word
 pub edges-ascending : {S : Type 0} {Step : S → ℕ → S → Type 0} {Met : S → ℕ → Type 0} {k : ℕ} {start : S} {tree : List (Place S)} {e i j : ℕ} {v w : List ℕ} → IsFilled Step Met k start tree e
-    → Spells tree i v → Spells tree j w → (x : Place S) → slice_get tree i ≡ Some x → (a b : ℕ) → a < k → b < k → i * k + a ≤ j * k + b
+    → TreeSpells tree i v → TreeSpells tree j w → (x : Place S) → slice_get tree i ≡ Some x → (a b : ℕ) → a < k → b < k → i * k + a ≤ j * k + b
     → word_number k v * k + a ≤ word_number k w * k + b
 edges-ascending {k = k} {tree = tree} {i = i} {j} {v} {w} q first second x at a b letter_a letter_b most =
     digits-ascend i j a b k (word_number k v) (word_number k w) letter_b most (λ less. spelled-ascending q less first second x at)
-    (λ same. ap (word_number k) (Spells-unique first (subst (λ n. Spells tree n w) (sym same) second))) (omega arith)
+    (λ same. ap (word_number k) (TreeSpells-unique first (subst (λ n. TreeSpells tree n w) (sym same) second))) (omega arith)

@@ -6,8 +6,8 @@ use Rattle.word_image.specs.Rings.{pairs_cmp}
 use Rattle.search_laws.specs.Walks.{Walk}
 
 -- a step on a letter pair, to where `follow` leads, if it does
-abbrev pub PairStep : (ℕ → ℕ → ℕ → Option ℕ) → ℕ → ℕ × ℕ → ℕ → Type 0
-PairStep follow s p t = follow s p.0 p.1 ≡ Some t
+abbrev pub LetterPairStep : (ℕ → ℕ → ℕ → Option ℕ) → ℕ → ℕ × ℕ → ℕ → Type 0
+LetterPairStep follow s p t = follow s p.0 p.1 ≡ Some t
 
 -- both letters of each pair are below n
 abbrev pub ArePairs : ℕ → List (ℕ × ℕ) → Type 0
@@ -15,7 +15,7 @@ ArePairs n = All (λ p. (p.0 < n) × (p.1 < n))
 
 -- the letter pairs, of letters below k, lead from the start to the state
 pub record PairWalk (follow : ℕ → ℕ → ℕ → Option ℕ) (k start : ℕ) (w : List (ℕ × ℕ)) (t : ℕ) : Type 0 where
-  pub steps : Walk (PairStep follow) start w t
+  pub steps : Walk (LetterPairStep follow) start w t
   pub letters : ArePairs k w
 
 -- the first walk of at least one step to the state: the shortest, and of these the first in dictionary order

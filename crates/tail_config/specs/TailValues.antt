@@ -9,7 +9,7 @@ pub record TailOver : Type 0 where
   pub config : TailConfig
 
 -- there are 2 to 16 letters, and each part has at most 1,024
-pub record IsAccepted (t : TailOver) : Type 0 where
+pub record IsAcceptedTail (t : TailOver) : Type 0 where
   pub least_states : 2 ≤ t.states
   pub most_states : t.states ≤ 16
   pub short : IsShortTail t.states t.config

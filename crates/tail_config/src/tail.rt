@@ -5,7 +5,7 @@ ghost use Rattle.std.specs.Result.{result_err};
 ghost use Rattle.word_image.specs.LocalRules.{LocalRule, IsRule, mirrored};
 ghost use Rattle.tail_config.specs.Tails.{TailConfig, IsTail, cell, cells, image_cell, mirror_of};
 ghost use Rattle.tail_config.specs.TailTexts.{IsShortTail};
-ghost use Rattle.tail_config.specs.TailValues.{IsAccepted, config_of};
+ghost use Rattle.tail_config.specs.TailValues.{IsAcceptedTail, config_of};
 ghost use Rattle.tail_config.specs.TailFaults.{tail_fault};
 
 use crate::faults::{TailRefusal, check_parts};
@@ -27,7 +27,7 @@ pub struct Tail {
 }
 
 impl Model for Tail {
-    ghost use Rattle.tail_config.specs.TailValues.{TailOver, IsAccepted, config_of};
+    ghost use Rattle.tail_config.specs.TailValues.{TailOver, IsAcceptedTail, config_of};
 
     ghost Value = { TailOver };
 
@@ -35,7 +35,7 @@ impl Model for Tail {
         record { states = t.k; config = config_of t.left.items t.middle.items t.right.items } };
 
     ghost invariant = { λ t.
-        IsAccepted (record { states = t.k; config = config_of t.left.items t.middle.items t.right.items }) };
+        IsAcceptedTail (record { states = t.k; config = config_of t.left.items t.middle.items t.right.items }) };
 }
 
 impl Tail {
@@ -73,7 +73,7 @@ impl Tail {
     /// How many letters there are, from 2 to 16.
     pub fn k(&self) -> u8
         ensures states { result ≡ self.now.states }
-        ensures tail { IsAccepted self.now }
+        ensures tail { IsAcceptedTail self.now }
     {
         self.k
     }
@@ -81,7 +81,7 @@ impl Tail {
     /// The left period, which has a letter.
     pub fn left(&self) -> &[u8]
         ensures left { result.now ≡ self.now.config.left }
-        ensures tail { IsAccepted self.now }
+        ensures tail { IsAcceptedTail self.now }
     {
         &self.left
     }
@@ -89,7 +89,7 @@ impl Tail {
     /// The middle, which begins at place 0.
     pub fn middle(&self) -> &[u8]
         ensures middle { result.now ≡ self.now.config.middle }
-        ensures tail { IsAccepted self.now }
+        ensures tail { IsAcceptedTail self.now }
     {
         &self.middle
     }
@@ -97,7 +97,7 @@ impl Tail {
     /// The right period, which has a letter.
     pub fn right(&self) -> &[u8]
         ensures right { result.now ≡ self.now.config.right }
-        ensures tail { IsAccepted self.now }
+        ensures tail { IsAcceptedTail self.now }
     {
         &self.right
     }

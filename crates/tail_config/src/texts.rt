@@ -6,7 +6,7 @@ ghost use Rattle.word_image.specs.Grammars.{IsFormFault};
 ghost use Rattle.tail_config.specs.Tails.{TailConfig};
 ghost use Rattle.tail_config.specs.TailTexts.{IsShortTail, printed};
 ghost use Rattle.tail_config.specs.TailFaults.{letter_fault, tail_fault, HasForm, IsTailText};
-ghost use Rattle.tail_config.specs.TailValues.{TailOver, IsAccepted};
+ghost use Rattle.tail_config.specs.TailValues.{TailOver, IsAcceptedTail};
 ghost use Rattle.tail_config.specs.TailTextFaults.{IsTailTextFault, IsDigitsEnd, IsBarAfter, LacksBar, IsFormAt, IsCut, letters_of};
 
 use crate::faults::{Part, TailFault, check_lengths};
@@ -81,7 +81,7 @@ pub fn print(alloc: Global, tail: &Tail) -> Result<Vec<u8>, AllocError>
 
 /// The printed text of every Tail is a text of that Tail.
 pub fn printed_text_is_read()
-    ensures { (t : TailOver) → IsAccepted t → IsTailText t.states (printed t.config) t.config }
+    ensures { (t : TailOver) → IsAcceptedTail t → IsTailText t.states (printed t.config) t.config }
 {}
 
 /// The parts of a text of the grammar.

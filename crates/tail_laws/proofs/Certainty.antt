@@ -11,7 +11,7 @@ use Rattle.word_image.proofs.laws.Images.{IsRule-mirrored}
 use Rattle.word_image.specs.declared.side.Side.TheVariants.{Right, Left}
 use Rattle.word_image.specs.Sides.{PairGoes, IsLeftAhead}
 use Rattle.pair_laws.proofs.Pairs.{first_of-below, second_of-below, PairGoes-pair_of}
-use Rattle.word_image.proofs.laws.Searches.{some_below, both, exists_below}
+use Rattle.word_image.proofs.laws.Searches.{some_below, decide_both, exists_below}
 use Rattle.pair_laws.proofs.Decisions.{Together-decide}
 use Rattle.pair_laws.proofs.BothWays.{IsDetermined-none_both_ways, some_ahead}
 use Rattle.tail_config.specs.Tails.{IsInjective, IsRightClosing, IsLeftClosing}
@@ -38,7 +38,7 @@ IsLongBothWays r p = (first_of r p ≢ second_of r p) × (PairGoes Left r p (pai
 -- that is decided of each pair
 long_or_not : {r : LocalRule} → IsRule r → (p : ℕ) → ((p < pair_count r) × IsLongBothWays r p) ⊎ ¬ ((p < pair_count r) × IsLongBothWays r p)
 long_or_not {r} rule p =
-    ⊎_elim (λ l. both (inl l) (both (differ_or_not (first_of r p) (second_of r p)) (both
+    ⊎_elim (λ l. decide_both (inl l) (decide_both (differ_or_not (first_of r p) (second_of r p)) (decide_both
     (Together-decide Left rule (pair_count r) (first_of r p) (second_of r p) (first_of-below rule p l) (second_of-below rule p))
     (Together-decide Right rule (pair_count r) (first_of r p) (second_of r p) (first_of-below rule p l) (second_of-below rule p)))))
     (λ l. inr (λ h. let within : p < pair_count r = h.0 in absurd (omega arith))) (cases_lt p (pair_count r))
@@ -72,7 +72,7 @@ first_split {r} rule node a b hn ha hb h =
 pub ahead_or_split : {r : LocalRule} → IsRule r → ((n : ℕ) × IsRightAhead r n) ⊎ HasNormalSplit r
 ahead_or_split {r} rule =
     let at : (node a b : ℕ) → IsLongFirst r node a b ⊎ ¬ IsLongFirst r node a b = λ node a b.
-    both (differ_or_not a b) (both (cases_eq (label r node a) (label r node b)) (Together-decide Right rule (pair_count r) (next r node a) (next r node b) (next-below rule node a) (next-below rule node b))) in
+    decide_both (differ_or_not a b) (decide_both (cases_eq (label r node a) (label r node b)) (Together-decide Right rule (pair_count r) (next r node a) (next r node b) (next-below rule node a) (next-below rule node b))) in
     let letter = λ (node a : ℕ). exists_below (IsLongFirst r node a) (at node a) r.states in
     let letters = λ (node : ℕ). exists_below (λ a. (b : ℕ) × (b < r.states) × IsLongFirst r node a b) (letter node) r.states in
     ⊎_elim (λ h. inr (first_split rule h.0 h.2.0 h.2.2.0 h.1 h.2.1 h.2.2.1 h.2.2.2))

@@ -19,7 +19,7 @@ use Rattle.tail_config.specs.Splits.{IsNormalRightSplit}
 use Rattle.tail_config.proofs.laws.Cells.{cells-same, cells-middle, take-cells}
 use Rattle.tail_config.proofs.laws.Decisions.{Different-from_not_same}
 use Rattle.tail_laws.proofs.Nodes.{node_at, node_at-below}
-use Rattle.search_laws.specs.PairWalks.{PairStep}
+use Rattle.search_laws.specs.PairWalks.{LetterPairStep}
 use Rattle.search_laws.proofs.Walks.{Walk-join}
 use Rattle.tail_laws.proofs.PairLeads.{PairLeads, pair_at, cells-PairLeads}
 use Rattle.tail_laws.proofs.WordWalks.{PairLeads-words, zip-append}
@@ -124,7 +124,7 @@ has_twins-both_ways {r} {u} {v} rule other back on =
     let middles : length (way.a ++ out.a) ≡ length (way.b ++ out.b) = omega (arith, length-append way.a out.a, length-append way.b out.b, out.a_long, out.b_long) in
     let reach : PairLeads r (pair_of r from.s from.t) (zip (way.a ++ out.a) (way.b ++ out.b)) (pair_of r to.s to.t) =
     subst (λ ab. PairLeads r (pair_of r from.s from.t) ab (pair_of r to.s to.t)) (sym (zip-append way.a out.a way.b out.b ins))
-    (Walk-join (PairStep (follow r)) (zip way.a way.b) (zip out.a out.b) (pair_of r from.s from.t) (pair_of r u v) (pair_of r to.s to.t) way.leads out.leads) in
+    (Walk-join (LetterPairStep (follow r)) (zip way.a way.b) (zip out.a out.b) (pair_of r from.s from.t) (pair_of r u v) (pair_of r to.s to.t) way.leads out.leads) in
     let prefix : (t : TailConfig) (a c : List ℕ) → t.middle ≡ a ++ c → length a ≡ from.k → cells t (pos 0) from.k ≡ a = λ t a c e long.
     sym (take-cells t (pos 0) (length t.middle) from.k (omega (arith, ap length e, length-append a c))) ∙ ap (take from.k) (cells-middle t ∙ e) ∙ take_at a c from.k long in
     let inside : PairLeads r (pair_at r x y (pos 0)) (zip (cells x (pos 0) from.k) (cells y (pos 0) from.k)) (pair_of r u v) =

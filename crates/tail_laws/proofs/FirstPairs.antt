@@ -14,7 +14,7 @@ use Rattle.tail_config.specs.Tails.{TailConfig, IsTail}
 use Rattle.tail_config.specs.Splits.{IsNormalRightSplit}
 use Rattle.tail_config.proofs.laws.Cells.{IsWord-zero}
 use Rattle.pair_laws.proofs.Pairs.{follow-pair_of}
-use Rattle.search_laws.specs.PairWalks.{PairStep}
+use Rattle.search_laws.specs.PairWalks.{LetterPairStep}
 use Rattle.search_laws.proofs.Walks.{Walk-join}
 use Rattle.tail_laws.proofs.PairLeads.{PairLeads}
 use Rattle.tail_laws.proofs.WordWalks.{PairLeads-words, zip-append}
@@ -55,12 +55,12 @@ pub record LeadsToLoop (r : LocalRule) (p : ℕ) : Type 0 where
   pub within : length first + length first_turn ≤ pair_count r
 
 -- the configuration of a node, a letter, a walk and a loop
-abbrev pub split_of : LocalRule → ℕ → ℕ → List ℕ → List ℕ → TailConfig
-split_of r node a walk turn = record { left = 0 ∷ []; middle = word_of r.states (r.width - 1) node ++ a ∷ walk; right = turn }
+abbrev pub looped_tail : LocalRule → ℕ → ℕ → List ℕ → List ℕ → TailConfig
+looped_tail r node a walk turn = record { left = 0 ∷ []; middle = word_of r.states (r.width - 1) node ++ a ∷ walk; right = turn }
 
 -- it is a configuration over the rule's letters
-IsTail-split_of : {r : LocalRule} → IsRule r → (node a : ℕ) (walk turn : List ℕ) → node < node_count r → a < r.states → IsWord r.states walk → IsRing r.states turn → IsTail r.states (split_of r node a walk turn)
-IsTail-split_of {r} rule node a walk turn hn ha hw ht =
+IsTail-looped_tail : {r : LocalRule} → IsRule r → (node a : ℕ) (walk turn : List ℕ) → node < node_count r → a < r.states → IsWord r.states walk → IsRing r.states turn → IsTail r.states (looped_tail r node a walk turn)
+IsTail-looped_tail {r} rule node a walk turn hn ha hw ht =
     let m : ℕ = r.width - 1 in
     let one : IsWord r.states (a ∷ []) = All-push (λ c. c < r.states) [] a (λ i d l. absurd (omega arith)) ha in
     record {
@@ -73,7 +73,7 @@ IsTail-split_of {r} rule node a walk turn hn ha hw ht =
 
 -- a first pair that leads to a loop gives a normal right split
 pub normal_split-loop : {r : LocalRule} {p : ℕ} → IsRule r → (f : IsFirstOfRight r p) (w : LeadsToLoop r p)
-    → IsNormalRightSplit r (split_of r f.node f.a w.first w.first_turn) (split_of r f.node f.b w.second w.second_turn)
+    → IsNormalRightSplit r (looped_tail r f.node f.a w.first w.first_turn) (looped_tail r f.node f.b w.second w.second_turn)
 normal_split-loop {r} {p} rule f w =
     let m : ℕ = r.width - 1 in
     let z : List ℕ = word_of r.states m f.node in
@@ -82,11 +82,11 @@ normal_split-loop {r} {p} rule f w =
     let none : pair_of r 0 0 ≡ 0 = omega arith in
     let there : PairLeads r 0 (zip z z) twice = subst (λ q. PairLeads r q (zip z z) twice) none (PairLeads-diagonal rule 0 f.node (node_count_pos rule) f.in_nodes) in
     let step : follow r twice f.a f.b ≡ Some p = follow-pair_of r f.node f.node f.a f.b f.in_nodes f.one_label ∙ ap (λ q. Some q) (sym f.pair) in
-    let whole : PairLeads r 0 (zip z z ++ (f.a, f.b) ∷ zip w.first w.second) w.pair = Walk-join (PairStep (follow r)) (zip z z) ((f.a, f.b) ∷ zip w.first w.second) 0 twice w.pair there (p, step, w.reach) in
+    let whole : PairLeads r 0 (zip z z ++ (f.a, f.b) ∷ zip w.first w.second) w.pair = Walk-join (LetterPairStep (follow r)) (zip z z) ((f.a, f.b) ∷ zip w.first w.second) 0 twice w.pair there (p, step, w.reach) in
     let letter : (a : ℕ) (walk : List ℕ) → get_or (z ++ a ∷ walk) m 0 ≡ a = λ a walk. get_or_at z a walk 0 m long in
     IsNormalRightSplit-walk rule (record {
-      first = IsTail-split_of rule f.node f.a w.first w.first_turn f.in_nodes f.a_letter w.first_word w.first_ring;
-      second = IsTail-split_of rule f.node f.b w.second w.second_turn f.in_nodes f.b_letter w.second_word w.second_ring;
+      first = IsTail-looped_tail rule f.node f.a w.first w.first_turn f.in_nodes f.a_letter w.first_word w.first_ring;
+      second = IsTail-looped_tail rule f.node f.b w.second w.second_turn f.in_nodes f.b_letter w.second_word w.second_ring;
       first_left = refl;
       second_left = refl;
       middles = omega (arith, length-append z (f.a ∷ w.first), length-append z (f.b ∷ w.second), w.one_length);

@@ -7,7 +7,7 @@ use Rattle.tail_config.specs.Tails.{TailConfig, IsTail, ShareImage, cell}
 use Rattle.tail_config.proofs.laws.Cells.{cells-same, same-cells}
 use Rattle.tail_config.proofs.laws.Periods.{RepeatsRight, at_run, same_right-period}
 use Rattle.tail_config.proofs.laws.Repeats.{cell-right_period}
-use Rattle.tail_laws.proofs.Nodes.{node_at, label_at, same_nodes, ShareImage-labels}
+use Rattle.tail_laws.proofs.Nodes.{node_at, label_over, same_nodes, ShareImage-labels}
 
 -- the right period leads back to the node at which it begins
 abbrev pub IsLooped : LocalRule → TailConfig → Type 0
@@ -38,7 +38,7 @@ IsLooped-cells r t repeats =
     sym (repeats (start +ℤ pos a) (omega (arith, ints))) ∙ ap (cell t) place))
 
 -- the labels repeat from the place at which the period begins
-pub looped-labels : {r : LocalRule} {t : TailConfig} → IsRule r → IsTail r.states t → IsLooped r t → RepeatsRight (length t.right) (label_at r t) (pos (length t.middle))
+pub looped-labels : {r : LocalRule} {t : TailConfig} → IsRule r → IsTail r.states t → IsLooped r t → RepeatsRight (length t.right) (label_over r t) (pos (length t.middle))
 looped-labels {r} {t} rule h loop i l =
     let n : ℕ = length t.right in
     let m : ℕ = r.width - 1 in
@@ -48,27 +48,27 @@ looped-labels {r} {t} rule h loop i l =
 
 -- two configurations go in step: the labels are equal through the middles and once through the right periods, which lead back
 pub record IsInStep (r : LocalRule) (x y : TailConfig) : Type 0 where
-  pub labels : (d : ℕ) → d < length x.middle + length x.right → label_at r x (pos d) ≡ label_at r y (pos d)
+  pub labels : (d : ℕ) → d < length x.middle + length x.right → label_over r x (pos d) ≡ label_over r y (pos d)
   pub first : IsLooped r x
   pub second : IsLooped r y
 
 -- equal cells left of place 0 give equal labels there
-pub labels-left : (r : LocalRule) (x y : TailConfig) → ((i : ℤ) → i <ℤ pos 0 → cell x i ≡ cell y i) → (i : ℤ) → i <ℤ pos 0 → label_at r x i ≡ label_at r y i
+pub labels-left : (r : LocalRule) (x y : TailConfig) → ((i : ℤ) → i <ℤ pos 0 → cell x i ≡ cell y i) → (i : ℤ) → i <ℤ pos 0 → label_over r x i ≡ label_over r y i
 labels-left r x y left i l =
     ap (local_map r) (cells-same x y (i -ℤ pos (r.width - 1)) (i -ℤ pos (r.width - 1)) r.width (λ a k. left (i -ℤ pos (r.width - 1) +ℤ pos a) (omega (arith, ints))))
 
 -- configurations that go in step, and have equal labels left of place 0, share an image
 pub ShareImage-in_step : {r : LocalRule} {x y : TailConfig} → IsRule r → IsTail r.states x → IsTail r.states y
-    → ((i : ℤ) → i <ℤ pos 0 → label_at r x i ≡ label_at r y i) → length x.middle ≡ length y.middle → length x.right ≡ length y.right → IsInStep r x y → ShareImage r x y
+    → ((i : ℤ) → i <ℤ pos 0 → label_over r x i ≡ label_over r y i) → length x.middle ≡ length y.middle → length x.right ≡ length y.right → IsInStep r x y → ShareImage r x y
 ShareImage-in_step {r} {x} {y} rule hx hy left middles rights steps =
     let m : ℕ = length x.middle in
     let n : ℕ = length x.right in
-    let first : RepeatsRight n (label_at r x) (pos m) = looped-labels rule hx steps.first in
-    let second : RepeatsRight n (label_at r y) (pos m) =
-    subst (λ p. RepeatsRight p (label_at r y) (pos m)) (sym rights) (subst (λ a. RepeatsRight (length y.right) (label_at r y) (pos a)) (sym middles) (looped-labels rule hy steps.second)) in
+    let first : RepeatsRight n (label_over r x) (pos m) = looped-labels rule hx steps.first in
+    let second : RepeatsRight n (label_over r y) (pos m) =
+    subst (λ p. RepeatsRight p (label_over r y) (pos m)) (sym rights) (subst (λ a. RepeatsRight (length y.right) (label_over r y) (pos a)) (sym middles) (looped-labels rule hy steps.second)) in
     ShareImage-labels r x y (λ i.
     by_lt_z i (pos 0) (left i)
     (λ l. by_lt_z i (pos m)
     (λ k. let place : pos (unsigned_abs i) ≡ i = omega (arith, ints) in
-    ap (label_at r x) (sym place) ∙ steps.labels (unsigned_abs i) (omega (arith, ints)) ∙ ap (label_at r y) place)
-    (same_right-period (label_at r x) (label_at r y) n (pos m) hx.right_some first second (λ d k. steps.labels (m + d) (omega arith)) i)))
+    ap (label_over r x) (sym place) ∙ steps.labels (unsigned_abs i) (omega (arith, ints)) ∙ ap (label_over r y) place)
+    (same_right-period (label_over r x) (label_over r y) n (pos m) hx.right_some first second (λ d k. steps.labels (m + d) (omega arith)) i)))

@@ -10,13 +10,13 @@ use Rattle.word_image.specs.Graphs.{next, label, pair_of, first_of, second_of, f
 use Rattle.word_image.specs.MarkedPairs.{marked}
 use Rattle.word_image.proofs.laws.Graphs.{next-below}
 use Rattle.search_laws.specs.Walks.{Walk}
-use Rattle.search_laws.specs.PairWalks.{PairStep}
+use Rattle.search_laws.specs.PairWalks.{LetterPairStep}
 use Rattle.pair_laws.proofs.Pairs.{pair_of-below}
 use Rattle.tail_laws.proofs.PairLeads.{PairLeads}
 
 -- from state t of the marked graph along a list of letter pairs to state s
 abbrev pub MarkedLeads : LocalRule → ℕ → List (ℕ × ℕ) → ℕ → Type 0
-MarkedLeads r = Walk (PairStep (marked r))
+MarkedLeads r = Walk (LetterPairStep (marked r))
 
 -- some pair has two different letters
 abbrev pub HasOther : List (ℕ × ℕ) → Type 0

@@ -10,7 +10,7 @@ use Rattle.tail_laws.proofs.Middles.{recut, IsTail-recut, cell-recut}
 use Rattle.tail_config.proofs.laws.Periods.{RepeatsRight}
 use Rattle.tail_config.specs.Differences.{most_middle}
 use Rattle.tail_config.proofs.laws.Spans.{right_turn, right_turn-some, right_turns, agree_left_of_0}
-use Rattle.tail_laws.proofs.Nodes.{label_at, ShareImage-labels, labels-ShareImage}
+use Rattle.tail_laws.proofs.Nodes.{label_over, ShareImage-labels, labels-ShareImage}
 use Rattle.tail_laws.proofs.Loops.{IsLooped, IsLooped-cells}
 use Rattle.tail_laws.proofs.Settled.{IsSettled-looped}
 use Rattle.tail_laws.proofs.Verdicts.{IsRightClosing-none}
@@ -48,9 +48,9 @@ IsLooped-zeroed r n p t turn repeats =
     ∙ sym (cell-zeroed d n p t turn repeats i (i -ℤ pos d) (omega (arith, ints)) (omega (arith, ints))))
 
 -- the labels are those of d places before, from there on
-label_at-zeroed : (r : LocalRule) (n p : ℕ) (t : TailConfig) → 1 ≤ p → RepeatsRight p (cell t) (pos n) → (i j : ℤ) → pos (r.width - 1) ≤ℤ i → j +ℤ pos (r.width - 1) ≡ i
-    → label_at r (zeroed (r.width - 1) n p t) i ≡ label_at r t j
-label_at-zeroed r n p t turn repeats i j l e =
+label_over-zeroed : (r : LocalRule) (n p : ℕ) (t : TailConfig) → 1 ≤ p → RepeatsRight p (cell t) (pos n) → (i j : ℤ) → pos (r.width - 1) ≤ℤ i → j +ℤ pos (r.width - 1) ≡ i
+    → label_over r (zeroed (r.width - 1) n p t) i ≡ label_over r t j
+label_over-zeroed r n p t turn repeats i j l e =
     let d : ℕ = r.width - 1 in
     ap (local_map r) (cells-zeroed d n p t turn repeats (i -ℤ pos d) (j -ℤ pos d) r.width (omega (arith, ints)) (omega (arith, ints)))
 
@@ -73,8 +73,8 @@ ShareImage-zeroed {r} rule n p x y turn fx fy left share =
     by_lt_z i (pos d)
     (λ l. ap (local_map r) (cells-same (zeroed d n p x) (zeroed d n p y) (i -ℤ pos d) (i -ℤ pos d) r.width (λ a h.
     zeroed-same d n p x y turn fx fy left (i -ℤ pos d +ℤ pos a) (omega (arith, ints)))))
-    (λ l. label_at-zeroed r n p x turn fx i (i -ℤ pos d) l (omega (arith, ints)) ∙ labels-ShareImage r x y share (i -ℤ pos d)
-    ∙ sym (label_at-zeroed r n p y turn fy i (i -ℤ pos d) l (omega (arith, ints)))))
+    (λ l. label_over-zeroed r n p x turn fx i (i -ℤ pos d) l (omega (arith, ints)) ∙ labels-ShareImage r x y share (i -ℤ pos d)
+    ∙ sym (label_over-zeroed r n p y turn fy i (i -ℤ pos d) l (omega (arith, ints)))))
 
 -- they are different if they were
 Different-zeroed : (d n p : ℕ) (x y : TailConfig) → 1 ≤ p → RepeatsRight p (cell x) (pos n) → RepeatsRight p (cell y) (pos n)

@@ -7,16 +7,16 @@ use Rattle.std.proofs.lemmas.Int.{ints}
 use Rattle.word_image.specs.LocalRules.{LocalRule, IsRule, node_count}
 use Rattle.word_image.specs.Graphs.{next, label, pair_of, follow}
 use Rattle.search_laws.specs.Walks.{Walk}
-use Rattle.search_laws.specs.PairWalks.{PairStep}
+use Rattle.search_laws.specs.PairWalks.{LetterPairStep}
 use Rattle.tail_config.specs.Tails.{TailConfig, IsTail, ShareImage, cell, cells}
 use Rattle.tail_config.proofs.laws.Cells.{cells-cons, cells-middle, cells-right, same_left_part}
 use Rattle.pair_laws.proofs.Pairs.{first_of-pair_of, second_of-pair_of, follow-pair_of, follow-some}
-use Rattle.tail_laws.proofs.Nodes.{node_at, label_at, node_at-below, label-node_at, next-node_at, labels-ShareImage}
+use Rattle.tail_laws.proofs.Nodes.{node_at, label_over, node_at-below, label-node_at, next-node_at, labels-ShareImage}
 use Rattle.tail_laws.proofs.Loops.{IsLooped, IsInStep, labels-left, ShareImage-in_step}
 
 -- a walk in the graph of pairs of nodes: at each step the two labels are equal
 abbrev pub PairLeads : LocalRule → ℕ → List (ℕ × ℕ) → ℕ → Type 0
-PairLeads r = Walk (PairStep (follow r))
+PairLeads r = Walk (LetterPairStep (follow r))
 
 -- a step from a pair of nodes has two equal labels, and this is where it leads
 follow-back : (r : LocalRule) (u v a b s : ℕ) → v < node_count r → follow r (pair_of r u v) a b ≡ Some s → (label r u a ≡ label r v b) × (pair_of r (next r u a) (next r v b) ≡ s)
@@ -27,7 +27,7 @@ abbrev pub pair_at : LocalRule → TailConfig → TailConfig → ℤ → ℕ
 pair_at r x y i = pair_of r (node_at r x i) (node_at r y i)
 
 -- a step over a place with equal labels leads to the pair before the next place
-step_over : {r : LocalRule} {x y : TailConfig} → IsRule r → IsTail r.states x → IsTail r.states y → (i : ℤ) → label_at r x i ≡ label_at r y i
+step_over : {r : LocalRule} {x y : TailConfig} → IsRule r → IsTail r.states x → IsTail r.states y → (i : ℤ) → label_over r x i ≡ label_over r y i
     → follow r (pair_at r x y i) (cell x i) (cell y i) ≡ Some (pair_at r x y (i +ℤ pos 1))
 step_over {r} {x} {y} rule hx hy i e =
     follow-pair_of r (node_at r x i) (node_at r y i) (cell x i) (cell y i) (node_at-below rule hy i) (label-node_at rule x i ∙ e ∙ sym (label-node_at rule y i))
@@ -35,7 +35,7 @@ step_over {r} {x} {y} rule hx hy i e =
 
 -- and a step over a place has equal labels, and leads there
 over_step : {r : LocalRule} {x y : TailConfig} → IsRule r → IsTail r.states x → IsTail r.states y → (i : ℤ) (s : ℕ) → follow r (pair_at r x y i) (cell x i) (cell y i) ≡ Some s
-    → (label_at r x i ≡ label_at r y i) × (pair_at r x y (i +ℤ pos 1) ≡ s)
+    → (label_over r x i ≡ label_over r y i) × (pair_at r x y (i +ℤ pos 1) ≡ s)
 over_step {r} {x} {y} rule hx hy i s e =
     let back = follow-back r (node_at r x i) (node_at r y i) (cell x i) (cell y i) s (node_at-below rule hy i) e in
     (sym (label-node_at rule x i) ∙ back.0 ∙ label-node_at rule y i, ap₂ (pair_of r) (sym (next-node_at rule hx i)) (sym (next-node_at rule hy i)) ∙ back.1)
@@ -46,16 +46,16 @@ zip-cells x y i n = ap₂ (λ (u v : List ℕ). zip u v) (cells-cons x i n) (cel
 
 -- two runs whose labels are equal lead from the pair before them to the pair after them
 pub PairLeads-cells : {r : LocalRule} {x y : TailConfig} → IsRule r → IsTail r.states x → IsTail r.states y → (n : ℕ) (i j : ℤ) → i +ℤ pos n ≡ j
-    → ((d : ℕ) → d < n → label_at r x (i +ℤ pos d) ≡ label_at r y (i +ℤ pos d)) → PairLeads r (pair_at r x y i) (zip (cells x i n) (cells y i n)) (pair_at r x y j)
+    → ((d : ℕ) → d < n → label_over r x (i +ℤ pos d) ≡ label_over r y (i +ℤ pos d)) → PairLeads r (pair_at r x y i) (zip (cells x i n) (cells y i n)) (pair_at r x y j)
 PairLeads-cells {r} {x} {y} rule hx hy zero i j e h = ap (pair_at r x y) (let place : i ≡ j = omega (arith, ints) in place)
 PairLeads-cells {r} {x} {y} rule hx hy (suc n) i j e h =
     let here : i +ℤ pos 0 ≡ i = omega (arith, ints) in
     let after : i +ℤ pos 1 +ℤ pos n ≡ j = omega (arith, ints) in
     let rest = PairLeads-cells rule hx hy n (i +ℤ pos 1) j after (λ d l.
     let place : i +ℤ pos (suc d) ≡ i +ℤ pos 1 +ℤ pos d = omega (arith, ints) in
-    subst (λ p. label_at r x p ≡ label_at r y p) place (h (suc d) (omega arith))) in
+    subst (λ p. label_over r x p ≡ label_over r y p) place (h (suc d) (omega arith))) in
     subst (λ abs. PairLeads r (pair_at r x y i) abs (pair_at r x y j)) (sym (zip-cells x y i n))
-    (pair_at r x y (i +ℤ pos 1), step_over rule hx hy i (subst (λ p. label_at r x p ≡ label_at r y p) here (h 0 (omega arith))), rest)
+    (pair_at r x y (i +ℤ pos 1), step_over rule hx hy i (subst (λ p. label_over r x p ≡ label_over r y p) here (h 0 (omega arith))), rest)
 
 -- what holds at a place and at the n places after it holds at n + 1 places
 at_places : (P : ℤ → Type 0) (i : ℤ) (n : ℕ) → P i → ((d : ℕ) → d < n → P (i +ℤ pos 1 +ℤ pos d)) → (d : ℕ) → d < suc n → P (i +ℤ pos d)
@@ -64,7 +64,7 @@ at_places P i n here after (suc d) l = subst P (let place : i +ℤ pos 1 +ℤ po
 
 -- and where two runs lead, their labels are equal, and it is to the pair after them
 pub cells-PairLeads : {r : LocalRule} {x y : TailConfig} → IsRule r → IsTail r.states x → IsTail r.states y → (n : ℕ) (i j : ℤ) (q : ℕ) → i +ℤ pos n ≡ j
-    → PairLeads r (pair_at r x y i) (zip (cells x i n) (cells y i n)) q → ((d : ℕ) → d < n → label_at r x (i +ℤ pos d) ≡ label_at r y (i +ℤ pos d)) × (pair_at r x y j ≡ q)
+    → PairLeads r (pair_at r x y i) (zip (cells x i n) (cells y i n)) q → ((d : ℕ) → d < n → label_over r x (i +ℤ pos d) ≡ label_over r y (i +ℤ pos d)) × (pair_at r x y j ≡ q)
 cells-PairLeads {r} {x} {y} rule hx hy zero i j q e h = (λ d l. absurd (omega arith), ap (pair_at r x y) (let place : j ≡ i = omega (arith, ints) in place) ∙ h)
 cells-PairLeads {r} {x} {y} rule hx hy (suc n) i j q e h =
     let after : i +ℤ pos 1 +ℤ pos n ≡ j = omega (arith, ints) in
@@ -72,7 +72,7 @@ cells-PairLeads {r} {x} {y} rule hx hy (suc n) i j q e h =
     let g : PairLeads r (pair_at r x y i) ((cell x i, cell y i) ∷ run) q = subst (λ abs. PairLeads r (pair_at r x y i) abs q) (zip-cells x y i n) h in
     let over = over_step rule hx hy i g.0 g.1 in
     let rest = cells-PairLeads rule hx hy n (i +ℤ pos 1) j q after (subst (λ p. PairLeads r p run q) (sym over.1) g.2) in
-    (at_places (λ p. label_at r x p ≡ label_at r y p) i n over.0 rest.0, rest.1)
+    (at_places (λ p. label_over r x p ≡ label_over r y p) i n over.0 rest.0, rest.1)
 
 -- two configurations go in step if their middles lead to a pair of nodes from which their right periods lead back to it
 pub IsInStep-walk : {r : LocalRule} {x y : TailConfig} → IsRule r → IsTail r.states x → IsTail r.states y → length x.middle ≡ length y.middle → length x.right ≡ length y.right
@@ -88,7 +88,7 @@ IsInStep-walk {r} {x} {y} rule hx hy middles rights q reach loop =
     let second = cells-PairLeads rule hx hy n (pos m) (pos (m + n)) q (omega (arith, ints)) (subst (λ p. PairLeads r p (zip (cells x (pos m) n) (cells y (pos m) n)) q) (sym first.1) round) in
     let back = same_from_place (node_at r x (pos m)) (node_at r y (pos m)) (node_at r x (pos (m + n))) (node_at r y (pos (m + n))) (node_count r)
     (node_at-below rule hy (pos m)) (node_at-below rule hy (pos (m + n))) (first.1 ∙ sym second.1) in
-    let same : ℤ → Type 0 = λ p. label_at r x p ≡ label_at r y p in
+    let same : ℤ → Type 0 = λ p. label_over r x p ≡ label_over r y p in
     record {
       labels = λ d l.
           ⊎_elim (λ k. subst same (let place : pos 0 +ℤ pos d ≡ pos d = omega (arith, ints) in place) (first.0 d k))

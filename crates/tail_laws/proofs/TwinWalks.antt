@@ -12,7 +12,7 @@ use Rattle.tail_config.specs.Tails.{TailConfig, IsTail, ShareImage, cell, cells,
 use Rattle.tail_config.proofs.laws.Cells.{cells-same, cells-left, cells-right}
 use Rattle.tail_config.proofs.laws.Periods.{RepeatsRight, same_right-period, RepeatsRight-times}
 use Rattle.tail_laws.proofs.TwinTails.{round, IsTail-round, cell-round_period, ShareImage-turn, ShareImage-rings, ring_image-shared}
-use Rattle.tail_laws.proofs.Nodes.{node_at, label_at, node_at-below, labels-ShareImage}
+use Rattle.tail_laws.proofs.Nodes.{node_at, label_over, node_at-below, labels-ShareImage}
 use Rattle.tail_laws.proofs.Loops.{IsInStep, looped-labels, IsLooped, looped-cells}
 use Rattle.tail_laws.proofs.PairLeads.{PairLeads, pair_at, IsInStep-walk, PairLeads-cells}
 
@@ -47,7 +47,7 @@ cell-from_node r u p (pos i) l = refl
 cell-from_node r u p (negsuc i) l = absurd (omega (arith, ints))
 
 -- there the ring's image cells are the labels of the walk
-image_cell-from_node : {r : LocalRule} → IsRule r → (u : ℕ) (p : List ℕ) (d : ℕ) → image_cell r (round p) (neg_ℤ r.offset +ℤ pos d) ≡ label_at r (from_node r u p) (pos 0 +ℤ pos (d + (r.width - 1)))
+image_cell-from_node : {r : LocalRule} → IsRule r → (u : ℕ) (p : List ℕ) (d : ℕ) → image_cell r (round p) (neg_ℤ r.offset +ℤ pos d) ≡ label_over r (from_node r u p) (pos 0 +ℤ pos (d + (r.width - 1)))
 image_cell-from_node {r} rule u p d =
     let start : ℤ = neg_ℤ r.offset +ℤ pos d +ℤ r.offset in
     let place : ℤ = pos 0 +ℤ pos (d + (r.width - 1)) -ℤ pos (r.width - 1) in
@@ -70,11 +70,11 @@ ShareImage-loop {r} {x} {y} rule hx hy long u v hu hv loop =
     let tx : TailConfig = from_node r u x in
     let ty : TailConfig = from_node r v y in
     let steps : IsInStep r tx ty = loop_steps rule hx hy long u v hu hv loop in
-    let again : RepeatsRight n (label_at r ty) (pos 0) = subst (λ p. RepeatsRight p (label_at r ty) (pos 0)) (sym long) (looped-labels rule (IsTail-from_node rule v hv hy) steps.second) in
-    let labels : (i : ℤ) → pos 0 ≤ℤ i → label_at r tx i ≡ label_at r ty i =
-    same_right-period (label_at r tx) (label_at r ty) n (pos 0) hx.some (looped-labels rule (IsTail-from_node rule u hu hx) steps.first) again (λ d l.
+    let again : RepeatsRight n (label_over r ty) (pos 0) = subst (λ p. RepeatsRight p (label_over r ty) (pos 0)) (sym long) (looped-labels rule (IsTail-from_node rule v hv hy) steps.second) in
+    let labels : (i : ℤ) → pos 0 ≤ℤ i → label_over r tx i ≡ label_over r ty i =
+    same_right-period (label_over r tx) (label_over r ty) n (pos 0) hx.some (looped-labels rule (IsTail-from_node rule u hu hx) steps.first) again (λ d l.
     let place : pos 0 +ℤ pos d ≡ pos d = omega (arith, ints) in
-    subst (λ i. label_at r tx i ≡ label_at r ty i) (sym place) (steps.labels d (omega arith))) in
+    subst (λ i. label_over r tx i ≡ label_over r ty i) (sym place) (steps.labels d (omega arith))) in
     ShareImage-turn r x y hx.some long (neg_ℤ r.offset) (λ d l.
     image_cell-from_node rule u x d ∙ labels (pos 0 +ℤ pos (d + (r.width - 1))) (omega (arith, ints)) ∙ sym (image_cell-from_node rule v y d))
 

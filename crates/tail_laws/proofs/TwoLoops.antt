@@ -9,7 +9,7 @@ use Rattle.word_image.specs.Graphs.{pair_of}
 use Rattle.tail_config.specs.Tails.{TailConfig, IsTail, ShareImage, Different}
 use Rattle.tail_config.proofs.laws.Cells.{cells-same, same_left_part}
 use Rattle.tail_laws.proofs.TwinTails.{round}
-use Rattle.tail_laws.proofs.Nodes.{node_at, label_at, labels-ShareImage}
+use Rattle.tail_laws.proofs.Nodes.{node_at, label_over, labels-ShareImage}
 use Rattle.tail_laws.proofs.Loops.{labels-left, ShareImage-in_step}
 use Rattle.tail_laws.proofs.PairLeads.{PairLeads, pair_at, IsInStep-walk}
 use Rattle.tail_laws.proofs.TwinWalks.{ShareImage-loop, loop_nodes}
@@ -38,7 +38,7 @@ pub has_twins-loops : {r : LocalRule} {x y : TailConfig} → IsRule r → IsTail
 has_twins-loops {r} {x} {y} rule hx hy lefts middles rights u v q hu hv before reach after =
     let nodes : pair_at r x y (pos 0) ≡ pair_of r u v = pair_at-loop rule hx hy lefts u v hu hv before in
     let share : ShareImage r (round x.left) (round y.left) = ShareImage-loop rule (IsRing-left hx) (IsRing-left hy) lefts u v hu hv before in
-    let left : (i : ℤ) → i <ℤ pos 0 → label_at r x i ≡ label_at r y i = λ i l.
+    let left : (i : ℤ) → i <ℤ pos 0 → label_over r x i ≡ label_over r y i = λ i l.
     labels-left r x (round x.left) (same_left_part x (round x.left) refl) i l
     ∙ labels-ShareImage r (round x.left) (round y.left) share i
     ∙ sym (labels-left r y (round y.left) (same_left_part y (round y.left) refl) i l) in

@@ -8,7 +8,7 @@ use Rattle.word_image.specs.Windows.{HaveOneImage}
 use Rattle.word_image.specs.Graphs.{pair_of}
 use Rattle.tail_config.specs.Tails.{TailConfig, cells, image_cell}
 use Rattle.tail_config.proofs.laws.Cells.{cells-middle, take-cells, drop-cells, image_cells, image-cells, same-image_cells, inside_zeros, IsTail-inside_zeros}
-use Rattle.tail_laws.proofs.Nodes.{node_at, label_at, image_cell-label}
+use Rattle.tail_laws.proofs.Nodes.{node_at, label_over, image_cell-label}
 use Rattle.tail_laws.proofs.PairLeads.{PairLeads, pair_at, PairLeads-cells}
 
 -- the letter pairs of two words in a row are those of the first parts and then those of the second
@@ -45,14 +45,14 @@ node-last r w n long =
     ∙ ap (value r.states) (sym (drop-cells (inside_zeros w) (pos 0) (pos n) n m (omega (arith, ints))) ∙ ap (drop n) (run-all w n m long))
 
 -- the labels after the first node are the image
-label-start : (r : LocalRule) (t : TailConfig) (d : ℕ) → image_cell r t (neg_ℤ r.offset +ℤ pos d) ≡ label_at r t (pos (r.width - 1) +ℤ pos d)
+label-start : (r : LocalRule) (t : TailConfig) (d : ℕ) → image_cell r t (neg_ℤ r.offset +ℤ pos d) ≡ label_over r t (pos (r.width - 1) +ℤ pos d)
 label-start r t d =
     let place : neg_ℤ r.offset +ℤ pos d +ℤ r.offset +ℤ pos (r.width - 1) ≡ pos (r.width - 1) +ℤ pos d = omega (arith, ints) in
-    image_cell-label r t (neg_ℤ r.offset +ℤ pos d) ∙ ap (label_at r t) place
+    image_cell-label r t (neg_ℤ r.offset +ℤ pos d) ∙ ap (label_over r t) place
 
 -- two words with one image have equal labels after their first nodes
 labels-words : {r : LocalRule} {n : ℕ} {x y : List ℕ} → IsRule r → HaveOneImage r n x y → (d : ℕ) → d < n
-    → label_at r (inside_zeros x) (pos (r.width - 1) +ℤ pos d) ≡ label_at r (inside_zeros y) (pos (r.width - 1) +ℤ pos d)
+    → label_over r (inside_zeros x) (pos (r.width - 1) +ℤ pos d) ≡ label_over r (inside_zeros y) (pos (r.width - 1) +ℤ pos d)
 labels-words {r} {n} {x} {y} rule h d l =
     let m : ℕ = r.width - 1 in
     let i : ℤ = neg_ℤ r.offset in

@@ -11,7 +11,7 @@ use Rattle.word_image.proofs.laws.Graphs.{next-below}
 use Rattle.pair_laws.proofs.Sets.{IsBitSet-below, IsBitSet-and, IsBitSet-apart}
 use Rattle.debruijn.specs.Ends.{IsEnds}
 use Rattle.tail_preimage.specs.Walks.{Reaches}
-use Rattle.tail_preimage.specs.Relations.{IsNodeSet, IsRelation, Rows, Edge}
+use Rattle.tail_preimage.specs.Relations.{IsNodeSet, IsRelation, Relates, Edge}
 use Rattle.tail_preimage.specs.FirstWalks.{AreOpen, IsLeastNode}
 use Rattle.tail_preimage.proofs.laws.Stretches.{drop-more, drop-first}
 use Rattle.tail_preimage.proofs.laws.Sides.{IsRelation-below}
@@ -31,7 +31,7 @@ AreOpen-start {r} {goal} w small =
 
 -- the set one place back
 IsNodeSet-back : {r : LocalRule} {edges : List ℕ} {set before : ℕ} → IsRule r → (a : ℕ) (w : List ℕ) (goal : ℕ) → IsRelation r (Edge r a) edges → IsNodeSet r (Reaches r w goal) set
-    → IsNodeSet r (λ u. (v : ℕ) × Rows edges u v × IsBitSet set v) before → IsNodeSet r (Reaches r (a ∷ w) goal) before
+    → IsNodeSet r (λ u. (v : ℕ) × Relates edges u v × IsBitSet set v) before → IsNodeSet r (Reaches r (a ∷ w) goal) before
 IsNodeSet-back rule a w goal rel h = IsNodeSet-same (λ u l. (
   (λ (v, row, bit). let (node, edge) = IsRelation-below rel u v l row in (Reaches-cons rule a w goal u l).1 (v, node, edge, (h.nodes v node).0 bit)),
   (λ reach. let (v, node, edge, on) = (Reaches-cons rule a w goal u l).0 reach in (v, ((rel.rows u l).nodes v node).1 edge, (h.nodes v node).1 on)),
@@ -39,7 +39,7 @@ IsNodeSet-back rule a w goal rel h = IsNodeSet-same (λ u l. (
 
 -- one set more
 pub AreOpen-more : {r : LocalRule} {w sets edges : List ℕ} {goal n before : ℕ} → IsRule r → AreOpen r w goal n sets → n < length w → IsRelation r (Edge r (slice_index w (length w - 1 - n))) edges
-    → IsNodeSet r (λ u. (v : ℕ) × Rows edges u v × IsBitSet (slice_index sets n) v) before → AreOpen r w goal (n + 1) (sets ++ before ∷ [])
+    → IsNodeSet r (λ u. (v : ℕ) × Relates edges u v × IsBitSet (slice_index sets n) v) before → AreOpen r w goal (n + 1) (sets ++ before ∷ [])
 AreOpen-more {r} {w} {sets} {edges} {goal} {n} {before} rule h inside rel step =
     let last : IsNodeSet r (Reaches r (drop (length w - (n + 1)) w) goal) before =
     subst (λ z. IsNodeSet r (Reaches r z goal) before) (sym (drop-more w n inside))

@@ -8,23 +8,23 @@ use Rattle.pair_laws.proofs.Sets.{IsBitSet-and, IsBitSet-apart, IsBitSet-below, 
 use Rattle.tail_preimage.specs.Relations.{IsNodeSet, Meets}
 
 -- those of the first n nodes of which it holds
-abbrev pub IsPart : LocalRule → (ℕ → Type 0) → ℕ → ℕ → Type 0
-IsPart r Holds = IsUnion (node_count r) (λ u v. (v ≡ u) × Holds u)
+abbrev pub IsNodeSetTo : LocalRule → (ℕ → Type 0) → ℕ → ℕ → Type 0
+IsNodeSetTo r Holds = IsUnion (node_count r) (λ u v. (v ≡ u) × Holds u)
 
 -- one more node of which it holds
-pub IsPart-take : {r : LocalRule} {u set : ℕ} (Holds : ℕ → Type 0) → IsRule r → u < node_count r → IsPart r Holds u set → Holds u → IsPart r Holds (u + 1) (bit_or set (1 * 2 ^ u % 2 ^ 16))
-IsPart-take {r} {u} {set} Holds rule l h holds =
+pub IsNodeSetTo-take : {r : LocalRule} {u set : ℕ} (Holds : ℕ → Type 0) → IsRule r → u < node_count r → IsNodeSetTo r Holds u set → Holds u → IsNodeSetTo r Holds (u + 1) (bit_or set (1 * 2 ^ u % 2 ^ 16))
+IsNodeSetTo-take {r} {u} {set} Holds rule l h holds =
     let few : u < 16 = omega (arith, rule.shape.most_nodes) in
     let small : 1 * 2 ^ u % 2 ^ 16 < 2 ^ node_count r = subst (λ k. k < 2 ^ node_count r) (sym (one_shl u 16 few)) (pow-lt l) in
     IsUnion-take h small (λ v _. ((λ bit. ((IsBitSet-shl u v few).0 bit, holds)), (λ here. (IsBitSet-shl u v few).1 here.0)))
 
 -- and one of which it doesn't
-pub IsPart-skip : {u set : ℕ} (r : LocalRule) (Holds : ℕ → Type 0) → IsPart r Holds u set → ¬ Holds u → IsPart r Holds (u + 1) set
-IsPart-skip r Holds h none = IsUnion-skip h (λ v here. none here.1)
+pub IsNodeSetTo-skip : {u set : ℕ} (r : LocalRule) (Holds : ℕ → Type 0) → IsNodeSetTo r Holds u set → ¬ Holds u → IsNodeSetTo r Holds (u + 1) set
+IsNodeSetTo-skip r Holds h none = IsUnion-skip h (λ v here. none here.1)
 
 -- of all nodes
-pub IsPart-all : {r : LocalRule} {n set : ℕ} (Holds : ℕ → Type 0) → n ≡ node_count r → IsPart r Holds n set → IsNodeSet r Holds set
-IsPart-all {r} {n} {set} Holds e h = record {
+pub IsNodeSetTo-all : {r : LocalRule} {n set : ℕ} (Holds : ℕ → Type 0) → n ≡ node_count r → IsNodeSetTo r Holds n set → IsNodeSet r Holds set
+IsNodeSetTo-all {r} {n} {set} Holds e h = record {
   within = h.within;
   nodes = λ v l. (
     (λ bit. let (u, less, (same, holds)) = (h.nodes v l).0 bit in subst Holds (sym same) holds),

@@ -4,7 +4,7 @@ use Rattle.std.specs.List.{repeat}
 use Rattle.word_image.specs.LocalRules.{LocalRule}
 use Rattle.tail_config.specs.Tails.{TailConfig}
 use Rattle.tail_config.specs.TailValues.{config_of}
-use Rattle.tail_preimage.specs.Walks.{IsWalk, HasWalk, Reaches, IsLeastWalk, before_last}
+use Rattle.tail_preimage.specs.Walks.{IsWalk, HasWalk, Reaches, IsLeastWalkInto, before_last}
 use Rattle.tail_preimage.specs.Preimages.{PlacedConfig, Shape, stretch}
 use Rattle.tail_preimage.specs.Relations.{IsNodeSet}
 
@@ -25,11 +25,11 @@ pub record AreFirstWalks (r : LocalRule) (t : TailConfig) (s : Shape) (v w : ℕ
   pub back_some : 1 ≤ s.back
   pub on_some : 1 ≤ s.on
   pub start : (u q : ℕ) (a b c : List ℕ) → AreLoopWalks r t s u q a b c → v ≤ u
-  pub left : IsLeastWalk r (repeat s.back t.left) v (2 ^ v) v x
+  pub left : IsLeastWalkInto r (repeat s.back t.left) v (2 ^ v) v x
   pub turns : ℕ
   pub turning : IsNodeSet r (λ u. HasWalk r (repeat s.on t.right) u u) turns
-  pub middle : IsLeastWalk r (stretch t s.before s.after) v turns w y
-  pub right : IsLeastWalk r (repeat s.on t.right) w (2 ^ w) w z
+  pub middle : IsLeastWalkInto r (stretch t s.before s.after) v turns w y
+  pub right : IsLeastWalkInto r (repeat s.on t.right) w (2 ^ w) w z
 
 -- the sets of the last n + 1 places of a word, from its end on
 pub record AreOpen (r : LocalRule) (w : List ℕ) (goal n : ℕ) (sets : List ℕ) : Type 0 where

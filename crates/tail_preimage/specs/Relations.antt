@@ -17,8 +17,8 @@ abbrev pub AreSets : LocalRule → List ℕ → Type 0
 AreSets r table = (u : ℕ) → u < node_count r → slice_index table u < 2 ^ node_count r
 
 -- what a table relates
-abbrev pub Rows : List ℕ → ℕ → ℕ → Type 0
-Rows table u v = IsBitSet (slice_index table u) v
+abbrev pub Relates : List ℕ → ℕ → ℕ → Type 0
+Relates table u v = IsBitSet (slice_index table u) v
 
 -- an edge labelled a leads from node u to node v
 abbrev pub Edge : LocalRule → ℕ → ℕ → ℕ → Type 0

@@ -5,7 +5,7 @@ use Rattle.word_image.specs.LocalRules.{LocalRule, IsRule, node_count}
 use Rattle.tail_config.specs.Tails.{TailConfig}
 use Rattle.tail_preimage.specs.Walks.{HasWalk}
 use Rattle.tail_preimage.specs.Preimages.{Shape, shape_cmp, IsSmall}
-use Rattle.tail_preimage.specs.Relations.{IsRelation, AreSets, Rows, Steps, Open, Rounds}
+use Rattle.tail_preimage.specs.Relations.{IsRelation, AreSets, Relates, Steps, Open, Rounds}
 use Rattle.tail_preimage.specs.declared.sides.Side.{Side}
 use Rattle.tail_preimage.specs.declared.shapes.Parts.{Parts}
 use Rattle.tail_preimage.specs.declared.shapes.Spans.{Spans}
@@ -13,10 +13,10 @@ use Rattle.tail_preimage.specs.declared.shapes.Spans.{Spans}
 -- the relations of 0 to 16 periods are those of so many steps
 pub record IsSide (r : LocalRule) (side : Side) : Type 0 where
   pub period : AreSets r side.period
-  pub powers : (n : ℕ) → n ≤ 16 → IsRelation r (Steps (Rows side.period) n) (get_or side.powers n [])
+  pub powers : (n : ℕ) → n ≤ 16 → IsRelation r (Steps (Relates side.period) n) (get_or side.powers n [])
 
 -- a left period leads from its end to its start, and the others from start to end
-pub record AreParts (r : LocalRule) (t : TailConfig) (parts : Parts) : Type 0 where
+pub record AreTailParts (r : LocalRule) (t : TailConfig) (parts : Parts) : Type 0 where
   pub rule : IsRule r
   pub left_side : IsSide r parts.left
   pub right_side : IsSide r parts.right
@@ -26,15 +26,15 @@ pub record AreParts (r : LocalRule) (t : TailConfig) (parts : Parts) : Type 0 wh
 
 -- some relations are those of a configuration
 abbrev pub HaveParts : LocalRule → Parts → Type 0
-HaveParts r parts = (t : TailConfig) × AreParts r t parts
+HaveParts r parts = (t : TailConfig) × AreTailParts r t parts
 
 -- the middle leads from a node of which one thing holds to one of which another does
 abbrev pub Through : LocalRule → Parts → (ℕ → Type 0) → (ℕ → Type 0) → Type 0
-Through r parts Before Behind = (v : ℕ) × (w : ℕ) × (v < node_count r) × (w < node_count r) × Before v × Rows parts.middle v w × Behind w
+Through r parts Before Behind = (v : ℕ) × (w : ℕ) × (v < node_count r) × (w < node_count r) × Before v × Relates parts.middle v w × Behind w
 
 -- so many left periods, the middle and so many right periods lead through
-abbrev pub Passes : LocalRule → Parts → ℕ → ℕ → Type 0
-Passes r parts b a = Through r parts (Open (Rows parts.left.period) b) (Open (Rows parts.right.period) a)
+abbrev pub PassesThrough : LocalRule → Parts → ℕ → ℕ → Type 0
+PassesThrough r parts b a = Through r parts (Open (Relates parts.left.period) b) (Open (Relates parts.right.period) a)
 
 -- the numbers of periods are a shape
 abbrev pub shape_of : Spans → Shape
@@ -43,9 +43,9 @@ shape_of s = record { before = s.before; back = s.back; after = s.after; on = s.
 -- from node v left periods lead round, and others, the middle and right periods lead on to a loop of right periods, all of this shape
 abbrev pub Starts : LocalRule → Parts → Shape → ℕ → Type 0
 Starts r parts s v =
-    Steps (Rows parts.left.period) s.back v v
-    × ((u : ℕ) × (u < node_count r) × Steps (Rows parts.left.period) s.before u v
-    × ((w : ℕ) × (w < node_count r) × Rows parts.middle u w × Rounds (Rows parts.right.period) s.after s.on w))
+    Steps (Relates parts.left.period) s.back v v
+    × ((u : ℕ) × (u < node_count r) × Steps (Relates parts.left.period) s.before u v
+    × ((w : ℕ) × (w < node_count r) × Relates parts.middle u w × Rounds (Relates parts.right.period) s.after s.on w))
 
 -- some node is such a start
 pub record IsPossible (r : LocalRule) (parts : Parts) (s : Shape) : Type 0 where
@@ -65,6 +65,6 @@ pub record IsFirstShape (r : LocalRule) (parts : Parts) (s : Shape) : Type 0 whe
 pub record IsFirstGap (r : LocalRule) (parts : Parts) (b a : ℕ) : Type 0 where
   pub before_few : b ≤ 16
   pub after_few : a ≤ 16
-  pub closed : ¬ Passes r parts b a
-  pub before_least : (i : ℕ) → i < b → ¬ ¬ Passes r parts i 16
-  pub after_least : (j : ℕ) → j < a → ¬ ¬ Passes r parts b j
+  pub closed : ¬ PassesThrough r parts b a
+  pub before_least : (i : ℕ) → i < b → ¬ ¬ PassesThrough r parts i 16
+  pub after_least : (j : ℕ) → j < a → ¬ ¬ PassesThrough r parts b j

@@ -25,7 +25,7 @@ abbrev pub Reaches : LocalRule → List ℕ → ℕ → ℕ → Type 0
 Reaches r w goal u = (v : ℕ) × IsBitSet goal v × HasWalk r w u v
 
 -- x is the first walk of w from node u into a set of nodes, in dictionary order, and ends with node v
-pub record IsLeastWalk (r : LocalRule) (w : List ℕ) (u goal v : ℕ) (x : List ℕ) : Type 0 where
+pub record IsLeastWalkInto (r : LocalRule) (w : List ℕ) (u goal v : ℕ) (x : List ℕ) : Type 0 where
   pub walk : IsWalk r w u v x
   pub within : IsBitSet goal v
   pub least : (s : ℕ) (y : List ℕ) → IsBitSet goal s → IsWalk r w u s y → slice_cmp nat_cmp x y ≢ Greater

@@ -5,9 +5,9 @@ ghost use Rattle.std.specs.List.{repeat};
 ghost use Rattle.word_image.specs.LocalRules.{IsRule, IsWord, node_count};
 ghost use Rattle.tail_preimage.specs.Preimages.{PlacedConfig, MapsTo, IsFrom};
 ghost use Rattle.tail_preimage.specs.Answers.{IsAnswer, is_from, placed_config};
-ghost use Rattle.tail_preimage.specs.Walks.{HasWalk, IsLeastWalk, before_last};
+ghost use Rattle.tail_preimage.specs.Walks.{HasWalk, IsLeastWalkInto, before_last};
 ghost use Rattle.tail_preimage.specs.Relations.{IsNodeSet};
-ghost use Rattle.tail_preimage.specs.Sides.{AreParts, HaveParts, IsFirstShape, IsPossible, Starts, shape_of};
+ghost use Rattle.tail_preimage.specs.Sides.{AreTailParts, HaveParts, IsFirstShape, IsPossible, Starts, shape_of};
 ghost use Rattle.tail_preimage.specs.FirstWalks.{IsLeastNode};
 
 use crate::gaps::first_gap;
@@ -81,7 +81,7 @@ fn first_placed(
     spans: Spans,
 ) -> Result<Placed, AllocError>
     requires one_k { rule.now.states ≡ tail.now.states }
-    requires parts { AreParts rule.now tail.now.config parts.now }
+    requires parts { AreTailParts rule.now tail.now.config parts.now }
     requires shape { IsFirstShape rule.now parts.now (shape_of spans) }
     ensures { IfOk result (λ p. IsFrom rule.now tail.now.config (placed_config p)) }
 {
@@ -111,7 +111,7 @@ fn first_loop(
     requires word { IsWord rule.now.states part.now }
     requires node { node < node_count rule.now }
     requires turn { HasWalk rule.now (repeat n part.now) node node }
-    ensures { IfOk result (λ walk. IsLeastWalk rule.now (repeat n part.now) node (2 ^ node) node walk.items) }
+    ensures { IfOk result (λ walk. IsLeastWalkInto rule.now (repeat n part.now) node (2 ^ node) node walk.items) }
 {
     prove!(rule.nodes() <= 16);
     let word = copies(alloc, part, n)?;

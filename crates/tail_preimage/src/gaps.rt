@@ -1,7 +1,7 @@
 //! The first numbers of periods with which a configuration's middle is an orphan.
 
 ghost use Rattle.std.specs.Prelude.{MatchOption};
-ghost use Rattle.tail_preimage.specs.Sides.{HaveParts, Passes, IsFirstGap};
+ghost use Rattle.tail_preimage.specs.Sides.{HaveParts, PassesThrough, IsFirstGap};
 
 use crate::relations::{after, before};
 use crate::shapes::Parts;
@@ -12,7 +12,7 @@ use debruijn::Graph;
 /// periods that lead nowhere with these; `None` where 16 periods on either side lead through.
 pub fn first_gap(graph: &Graph, parts: &Parts) -> Option<(u8, u8)>
     requires { HaveParts graph.now parts.now }
-    ensures { MatchOption result (Passes graph.now parts.now 16 16) (λ (b, a). IsFirstGap graph.now parts.now b a) }
+    ensures { MatchOption result (PassesThrough graph.now parts.now 16 16) (λ (b, a). IsFirstGap graph.now parts.now b a) }
 {
     let rears = before(graph, &parts.middle, open(graph, &parts.right, 16));
     let left = least_closed(graph, &parts.left, rears)?;

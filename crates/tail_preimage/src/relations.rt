@@ -3,7 +3,7 @@
 ghost use Rattle.std.specs.Prelude.{◌≡◌, ◌+◌, ◌^◌, ◌<◌, ◌≤◌, ℕ, List, [], slice_index, get_or, IsBitSet};
 ghost use Rattle.word_image.specs.LocalRules.{IsRule, IsWord, node_count};
 ghost use Rattle.tail_preimage.specs.Walks.{HasWalk};
-ghost use Rattle.tail_preimage.specs.Relations.{IsNodeSet, IsRelation, AreSets, Rows, Edge, Steps};
+ghost use Rattle.tail_preimage.specs.Relations.{IsNodeSet, IsRelation, AreSets, Relates, Edge, Steps};
 
 use debruijn::Graph;
 
@@ -38,7 +38,7 @@ pub fn edges(graph: &Graph, label: u8) -> Relation
 /// The nodes to which a node of the set is related.
 pub fn after(graph: &Graph, rows: &Relation, set: u16) -> u16
     requires { AreSets graph.now rows.now }
-    ensures { IsNodeSet graph.now (λ v. (u : ℕ) × (u < node_count graph.now) × IsBitSet set u × Rows rows.now u v) result }
+    ensures { IsNodeSet graph.now (λ v. (u : ℕ) × (u < node_count graph.now) × IsBitSet set u × Relates rows.now u v) result }
 {
     let mut after = 0;
     for u in 0..graph.nodes() {
@@ -51,7 +51,7 @@ pub fn after(graph: &Graph, rows: &Relation, set: u16) -> u16
 
 /// The nodes that are related to a node of the set.
 pub fn before(graph: &Graph, rows: &Relation, set: u16) -> u16
-    ensures { IsNodeSet graph.now (λ u. (v : ℕ) × Rows rows.now u v × IsBitSet set v) result }
+    ensures { IsNodeSet graph.now (λ u. (v : ℕ) × Relates rows.now u v × IsBitSet set v) result }
 {
     let mut before = 0;
     for u in 0..graph.nodes() {
@@ -64,7 +64,7 @@ pub fn before(graph: &Graph, rows: &Relation, set: u16) -> u16
 
 /// The nodes that are related to themselves.
 pub fn returning(graph: &Graph, rows: &Relation) -> u16
-    ensures { IsNodeSet graph.now (λ u. Rows rows.now u u) result }
+    ensures { IsNodeSet graph.now (λ u. Relates rows.now u u) result }
 {
     let mut set = 0;
     for u in 0..graph.nodes() {
@@ -78,7 +78,7 @@ pub fn returning(graph: &Graph, rows: &Relation) -> u16
 /// The relation of a step of the first one and then a step of the second.
 fn joined(graph: &Graph, first: &Relation, second: &Relation) -> Relation
     requires { AreSets graph.now second.now }
-    ensures { IsRelation graph.now (λ u v. (w : ℕ) × (w < node_count graph.now) × Rows first.now u w × Rows second.now w v) result }
+    ensures { IsRelation graph.now (λ u v. (w : ℕ) × (w < node_count graph.now) × Relates first.now u w × Relates second.now w v) result }
 {
     let mut rows = [0; 16];
     for u in 0..graph.nodes() {
@@ -89,7 +89,7 @@ fn joined(graph: &Graph, first: &Relation, second: &Relation) -> Relation
 
 /// The relation read backwards.
 pub fn reversed(graph: &Graph, relation: &Relation) -> Relation
-    ensures { IsRelation graph.now (λ u v. Rows relation.now v u) result }
+    ensures { IsRelation graph.now (λ u v. Relates relation.now v u) result }
 {
     let mut rows = [0; 16];
     for u in 0..graph.nodes() {
@@ -114,7 +114,7 @@ pub fn relation(graph: &Graph, word: &[u8]) -> Relation
 /// The relations of 0 to 16 steps.
 pub fn powers(graph: &Graph, step: &Relation) -> [Relation; 17]
     requires { AreSets graph.now step.now }
-    ensures { (n : ℕ) → n ≤ 16 → IsRelation graph.now (Steps (Rows step.now) n) (get_or result n []) }
+    ensures { (n : ℕ) → n ≤ 16 → IsRelation graph.now (Steps (Relates step.now) n) (get_or result n []) }
 {
     let mut all = [identity(graph); 17];
     for n in 0..16 {

@@ -2,7 +2,7 @@
 
 ghost use Rattle.std.specs.Prelude.{◌≡◌};
 ghost use Rattle.tail_config.specs.Tails.{IsTail};
-ghost use Rattle.tail_preimage.specs.Sides.{AreParts, HaveParts, Passes, IsFirstShape, shape_of};
+ghost use Rattle.tail_preimage.specs.Sides.{AreTailParts, HaveParts, PassesThrough, IsFirstShape, shape_of};
 
 use crate::relations::{Relation, after, before, relation, reversed};
 use crate::sides::{Side, least_first, least_sum, open, rounds, side_of, some_rounds};
@@ -37,7 +37,7 @@ pub struct Spans {
 /// The parts of this configuration.
 pub fn parts_of(graph: &Graph, tail: &Tail) -> Parts
     requires { graph.now.states ≡ tail.now.states }
-    ensures parts { AreParts graph.now tail.now.config result }
+    ensures parts { AreTailParts graph.now tail.now.config result }
     ensures tail { IsTail graph.now.states tail.now.config }
 {
     Parts {
@@ -50,7 +50,7 @@ pub fn parts_of(graph: &Graph, tail: &Tail) -> Parts
 /// The first possible shape, where 16 periods on either side lead through.
 pub fn first_shape(graph: &Graph, parts: &Parts) -> Spans
     requires parts { HaveParts graph.now parts.now }
-    requires some { Passes graph.now parts.now 16 16 }
+    requires some { PassesThrough graph.now parts.now 16 16 }
     ensures { IsFirstShape graph.now parts.now (shape_of result) }
 {
     let rears = before(graph, &parts.middle, open(graph, &parts.right, 16));

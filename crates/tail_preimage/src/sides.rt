@@ -2,7 +2,7 @@
 
 ghost use Rattle.std.specs.Prelude.{◌≡◌, ◌≢◌, ◌+◌, ◌-◌, ◌<◌, ◌≤◌, ℕ, IsBitSet, IfSome, MatchOption};
 ghost use Rattle.word_image.specs.LocalRules.{IsRule};
-ghost use Rattle.tail_preimage.specs.Relations.{IsNodeSet, AreSets, Rows, Steps, Open, Rounds, SomeRounds, IsFirst, Meets};
+ghost use Rattle.tail_preimage.specs.Relations.{IsNodeSet, AreSets, Relates, Steps, Open, Rounds, SomeRounds, IsFirst, Meets};
 ghost use Rattle.tail_preimage.specs.Sides.{IsSide};
 
 use crate::relations::{Relation, before, powers, returning};
@@ -34,7 +34,7 @@ pub fn side_of(graph: &Graph, period: Relation) -> Side
 pub fn open(graph: &Graph, side: &Side, n: u8) -> u16
     requires few { n ≤ 16 }
     requires side { IsSide graph.now side.now }
-    ensures { IsNodeSet graph.now (Open (Rows side.now.period) n) result }
+    ensures { IsNodeSet graph.now (Open (Relates side.now.period) n) result }
 {
     before(graph, &side.powers[usize::from(n)], full(graph))
 }
@@ -43,7 +43,7 @@ pub fn open(graph: &Graph, side: &Side, n: u8) -> u16
 pub fn loops(graph: &Graph, side: &Side, n: u8) -> u16
     requires few { n ≤ 16 }
     requires side { IsSide graph.now side.now }
-    ensures { IsNodeSet graph.now (λ u. Steps (Rows side.now.period) n u u) result }
+    ensures { IsNodeSet graph.now (λ u. Steps (Relates side.now.period) n u u) result }
 {
     returning(graph, &side.powers[usize::from(n)])
 }
@@ -53,7 +53,7 @@ pub fn rounds(graph: &Graph, side: &Side, n: u8, on: u8) -> u16
     requires n_few { n ≤ 16 }
     requires on_few { on ≤ 16 }
     requires side { IsSide graph.now side.now }
-    ensures { IsNodeSet graph.now (Rounds (Rows side.now.period) n on) result }
+    ensures { IsNodeSet graph.now (Rounds (Relates side.now.period) n on) result }
 {
     before(graph, &side.powers[usize::from(n)], loops(graph, side, on))
 }
@@ -62,7 +62,7 @@ pub fn rounds(graph: &Graph, side: &Side, n: u8, on: u8) -> u16
 pub fn some_rounds(graph: &Graph, side: &Side, sum: u8) -> u16
     requires few { sum ≤ 16 }
     requires side { IsSide graph.now side.now }
-    ensures { IsNodeSet graph.now (SomeRounds (Rows side.now.period) sum) result }
+    ensures { IsNodeSet graph.now (SomeRounds (Relates side.now.period) sum) result }
 {
     let mut set = 0;
     for n in 0..sum {
@@ -75,8 +75,8 @@ pub fn some_rounds(graph: &Graph, side: &Side, sum: u8) -> u16
 pub fn least_closed(graph: &Graph, side: &Side, set: u16) -> Option<u8>
     requires side { IsSide graph.now side.now }
     ensures few { IfSome result (λ n. n ≤ 16) }
-    ensures first { MatchOption result (Meets graph.now (Open (Rows side.now.period) 16) set)
-        (IsFirst (λ n. ¬ Meets graph.now (Open (Rows side.now.period) n) set)) }
+    ensures first { MatchOption result (Meets graph.now (Open (Relates side.now.period) 16) set)
+        (IsFirst (λ n. ¬ Meets graph.now (Open (Relates side.now.period) n) set)) }
 {
     for n in 0..17 {
         if open(graph, side, n) & set == 0 {
@@ -89,9 +89,9 @@ pub fn least_closed(graph: &Graph, side: &Side, set: u16) -> Option<u8>
 /// The least sum with which `some_rounds` meets a set of nodes, where some sum up to 16 does.
 pub fn least_sum(graph: &Graph, side: &Side, set: u16) -> u8
     requires side { IsSide graph.now side.now }
-    requires some { (sum : ℕ) × (sum ≤ 16) × Meets graph.now (SomeRounds (Rows side.now.period) sum) set }
+    requires some { (sum : ℕ) × (sum ≤ 16) × Meets graph.now (SomeRounds (Relates side.now.period) sum) set }
     ensures few { result ≤ 16 }
-    ensures first { IsFirst (λ sum. Meets graph.now (SomeRounds (Rows side.now.period) sum) set) result }
+    ensures first { IsFirst (λ sum. Meets graph.now (SomeRounds (Relates side.now.period) sum) set) result }
 {
     for sum in 0..17 {
         if some_rounds(graph, side, sum) & set != 0 {
@@ -105,9 +105,9 @@ pub fn least_sum(graph: &Graph, side: &Side, set: u16) -> u8
 pub fn least_first(graph: &Graph, side: &Side, sum: u8, set: u16) -> u8
     requires few { sum ≤ 16 }
     requires side { IsSide graph.now side.now }
-    requires some { (n : ℕ) × (n < sum) × Meets graph.now (Rounds (Rows side.now.period) n (sum - n)) set }
+    requires some { (n : ℕ) × (n < sum) × Meets graph.now (Rounds (Relates side.now.period) n (sum - n)) set }
     ensures below { result < sum }
-    ensures first { IsFirst (λ n. Meets graph.now (Rounds (Rows side.now.period) n (sum - n)) set) result }
+    ensures first { IsFirst (λ n. Meets graph.now (Rounds (Relates side.now.period) n (sum - n)) set) result }
 {
     for n in 0..sum {
         if rounds(graph, side, n, sum - n) & set != 0 {

@@ -2,7 +2,7 @@
 
 ghost use Rattle.std.specs.Prelude.{◌≡◌, ◌≢◌, ◌-◌, ◌^◌, ◌<◌, length, IfOk};
 ghost use Rattle.word_image.specs.LocalRules.{IsRule, IsWord, word_of, node_count};
-ghost use Rattle.tail_preimage.specs.Walks.{Reaches, IsLeastWalk};
+ghost use Rattle.tail_preimage.specs.Walks.{Reaches, IsLeastWalkInto};
 ghost use Rattle.tail_preimage.specs.FirstWalks.{AreOpen, IsLeastNode};
 
 use crate::relations::{Relation, before, edges};
@@ -58,7 +58,7 @@ pub fn least_walk(
     requires word { IsWord rule.now.states word.now }
     requires goal { goal < 2 ^ node_count rule.now }
     requires reach { Reaches rule.now word.now goal start }
-    ensures { IfOk result (λ (walk, end). IsLeastWalk rule.now word.now start goal end walk.items) }
+    ensures { IfOk result (λ (walk, end). IsLeastWalkInto rule.now word.now start goal end walk.items) }
 {
     let graph = Graph::of(rule);
     let k = graph.k();

@@ -19,7 +19,7 @@ pub record IsWordEnd (block : List ℕ) (end : ℕ) : Type 0 where
   pub unended : All (λ b. b ≢ 0) (take end block)
 
 -- the words that are done and those of the rest are those of the block, and it has no others
-pub record Walk (block rest : List ℕ) (done : List (List ℕ)) : Type 0 where
+pub record HasDone (block rest : List ℕ) (done : List (List ℕ)) : Type 0 where
   pub built : (words : List (List ℕ)) → AreWords rest words → AreWords block (done ++ words)
   pub only : (words : List (List ℕ)) → AreWords block words → (more : List (List ℕ)) × (words ≡ done ++ more) × AreWords rest more
 
@@ -73,9 +73,9 @@ no_words [] unended other h = other h.written
 no_words (u ∷ us) unended other h = has_zero u (block_of us) (subst (All (λ b. b ≢ 0)) h.written unended)
 
 -- then one word more
-pub Walk-step : {block rest word after : List ℕ} {done : List (List ℕ)} → Walk block rest done → rest ≡ word ++ 0 ∷ after → IsWordText word
-    → Walk block after (done ++ word ∷ [])
-Walk-step {block = block} {word = word} {done = done} walk cut text = record {
+pub HasDone-step : {block rest word after : List ℕ} {done : List (List ℕ)} → HasDone block rest done → rest ≡ word ++ 0 ∷ after → IsWordText word
+    → HasDone block after (done ++ word ∷ [])
+HasDone-step {block = block} {word = word} {done = done} walk cut text = record {
   built = λ words h. subst (AreWords block) (sym (append_assoc done (word ∷ []) words)) (walk.built (word ∷ words) (AreWords-cons cut text h));
   only = λ words h.
       let left = walk.only words h in
@@ -84,29 +84,29 @@ Walk-step {block = block} {word = word} {done = done} walk cut text = record {
 }
 
 -- in the words of the code
-pub Walk-next : {block rest word : List ℕ} {done more : List (List ℕ)} (end len : ℕ) → Walk block rest done → IsWordEnd rest end → word ≡ take end rest → IsUtf8 (take end rest)
-    → len ≡ length rest → more ≡ done ++ word ∷ [] → Walk block (take (len - (end + 1)) (drop (end + 1) rest)) more
-Walk-next {block = block} {rest = rest} {word = word} {done = done} {more = more} end len walk at same text long grown =
+pub HasDone-next : {block rest word : List ℕ} {done more : List (List ℕ)} (end len : ℕ) → HasDone block rest done → IsWordEnd rest end → word ≡ take end rest → IsUtf8 (take end rest)
+    → len ≡ length rest → more ≡ done ++ word ∷ [] → HasDone block (take (len - (end + 1)) (drop (end + 1) rest)) more
+HasDone-next {block = block} {rest = rest} {word = word} {done = done} {more = more} end len walk at same text long grown =
     let after = drop (end + 1) rest in
     let whole : take (len - (end + 1)) after ≡ after = take_all (len - (end + 1)) after (omega (arith, length-drop (end + 1) rest)) in
     let cut : rest ≡ word ++ 0 ∷ after = at.cut ∙ ap (λ (v : List ℕ). v ++ 0 ∷ after) (sym same) in
     let next : IsWordText word = record { text = subst IsUtf8 (sym same) text; unended = subst (All (λ b. b ≢ 0)) (sym same) at.unended } in
-    subst (λ x. Walk block x more) (sym whole) (subst (Walk block after) (sym grown) (Walk-step walk cut next))
+    subst (λ x. HasDone block x more) (sym whole) (subst (HasDone block after) (sym grown) (HasDone-step walk cut next))
 
 -- with nothing left these are the words
-pub Walk-end : {block rest : List ℕ} {done : List (List ℕ)} → Walk block rest done → rest ≡ [] → AreWords block done
-Walk-end {block = block} {done = done} walk empty =
+pub HasDone-end : {block rest : List ℕ} {done : List (List ℕ)} → HasDone block rest done → rest ≡ [] → AreWords block done
+HasDone-end {block = block} {done = done} walk empty =
     subst (AreWords block) (append-nil done) (walk.built [] (subst (λ x. AreWords x []) (sym empty) AreWords-nil))
 
 -- with no 0 left there are none
-pub Walk-unended : {block rest : List ℕ} {done : List (List ℕ)} → Walk block rest done → rest ≢ [] → All (λ b. b ≢ 0) rest
+pub HasDone-unended : {block rest : List ℕ} {done : List (List ℕ)} → HasDone block rest done → rest ≢ [] → All (λ b. b ≢ 0) rest
     → (words : List (List ℕ)) → ¬ AreWords block words
-Walk-unended walk other unended words h = let left = walk.only words h in no_words left.0 unended other left.2
+HasDone-unended walk other unended words h = let left = walk.only words h in no_words left.0 unended other left.2
 
 -- with a next word that isn't UTF-8 there are none
-pub Walk-foreign : {block rest word : List ℕ} {done : List (List ℕ)} (after : List ℕ) → Walk block rest done → rest ≡ word ++ 0 ∷ after → All (λ b. b ≢ 0) word → ¬ IsUtf8 word
+pub HasDone-foreign : {block rest word : List ℕ} {done : List (List ℕ)} (after : List ℕ) → HasDone block rest done → rest ≡ word ++ 0 ∷ after → All (λ b. b ≢ 0) word → ¬ IsUtf8 word
     → (words : List (List ℕ)) → ¬ AreWords block words
-Walk-foreign after walk cut unended foreign words h =
+HasDone-foreign after walk cut unended foreign words h =
     let left = walk.only words h in
     let first = first_word left.0 cut unended left.2 in
     foreign (first.1).text

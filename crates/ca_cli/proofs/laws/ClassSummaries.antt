@@ -15,9 +15,9 @@ use Rattle.cert_check.specs.declared.verdicts.Verdicts.{Verdicts}
 use Rattle.ca_cli.specs.declared.commands.class_tally.ClassTally.{ClassTally}
 use Rattle.ca_cli.specs.Summaries.{count_line}
 use Rattle.ca_cli.specs.Tallies.{summary_of}
-use Rattle.ca_cli.specs.ClassSummaries.{AreLeastRules, IsClassSummary, IsLeastOf}
-use Rattle.ca_cli.specs.ClassTallies.{IsAdded, IsClassTally, IsDecided, rule_in, rules_in}
-use Rattle.ca_cli.specs.ClassTallies.IsAdded.{Old, New}
+use Rattle.ca_cli.specs.ClassSummaries.{AreLeastRules, IsClassSummary, IsLeastOfItsClass}
+use Rattle.ca_cli.specs.ClassTallies.{IsRuleAdded, IsClassTally, IsDecided, rule_in, rules_in}
+use Rattle.ca_cli.specs.ClassTallies.IsRuleAdded.{Old, New}
 use Rattle.ca_cli.proofs.laws.Summaries.{IsSummary-tally}
 
 -- a place of one item more is one of those before, or the last
@@ -37,14 +37,14 @@ AllPairs-push R xs y pairs all i j d less within =
 
 -- the least rule of the class of r is in the list
 abbrev pub HasLeast : List LocalRule → LocalRule → Type 0
-HasLeast leasts r = (g : LocalRule) × Contains leasts g × IsLeastOf r g
+HasLeast leasts r = (g : LocalRule) × Contains leasts g × IsLeastOfItsClass r g
 
 -- g is the least rule of the class of some rule of the list
 abbrev IsNeeded : List LocalRule → LocalRule → Type 0
-IsNeeded rules g = (r : LocalRule) × Contains rules r × IsLeastOf r g
+IsNeeded rules g = (r : LocalRule) × Contains rules r × IsLeastOfItsClass r g
 
 -- one rule more, with its least rule added to the list
-pub AreLeastRules-push : {rules leasts more : List LocalRule} {r g : LocalRule} → IsLeastOf r g → IsAdded g leasts more → AreLeastRules rules leasts → AreLeastRules (rules ++ r ∷ []) more
+pub AreLeastRules-push : {rules leasts more : List LocalRule} {r g : LocalRule} → IsLeastOfItsClass r g → IsRuleAdded g leasts more → AreLeastRules rules leasts → AreLeastRules (rules ++ r ∷ []) more
 AreLeastRules-push {rules = rules} {r = r} {g = g} least (Old leasts there) are = record {
   distinct = are.distinct;
   complete = All-push (HasLeast leasts) rules r are.complete (g, there, least);

@@ -45,22 +45,22 @@ read_without_fault good too reading = record {
 }
 
 -- why `check` stops where its input isn't accepted: want of memory, or the refusal
-abbrev pub IsStopFor : Refusal → Stop → Type 0
-IsStopFor f s = ((s ≡ stop.Memory alloc_error) × (f ≡ refusal.Memory alloc_error)) ⊎ ((s ≡ stop.Refused f) × (f ≢ refusal.Memory alloc_error))
+abbrev pub IsCheckStopFor : Refusal → Stop → Type 0
+IsCheckStopFor f s = ((s ≡ stop.Memory alloc_error) × (f ≡ refusal.Memory alloc_error)) ⊎ ((s ≡ stop.Refused f) × (f ≢ refusal.Memory alloc_error))
 
 -- then it has to
 pub stops_for : {input : Option (List ℕ)} {bytes : List ℕ} {f : Refusal} {s : Stop} → IsWholeInput input bytes
-    → (f ≡ refusal.Memory alloc_error) ⊎ IsRefusal bytes f → IsStopFor f s → IsStop input commands.Check s
+    → (f ≡ refusal.Memory alloc_error) ⊎ IsRefusal bytes f → IsCheckStopFor f s → IsStop input commands.Check s
 stops_for {input = input} whole refused (inl memory) = subst (IsStop input commands.Check) (sym memory.0) tt
 stops_for whole (inl memory) (inr stops) = absurd (stops.1 memory)
 stops_for {input = input} {bytes = bytes} {f = f} whole (inr refused) (inr stops) = subst (IsStop input commands.Check) (sym stops.0) (Refused bytes f whole refused)
 
 -- and has read the whole input
-pub read_for : (before after : Option (List ℕ)) (f : Refusal) {s : Stop} → IsAtEnd after → IsStopFor f s → IsReadFor (status_of s) before after
+pub read_for : (before after : Option (List ℕ)) (f : Refusal) {s : Stop} → IsAtEnd after → IsCheckStopFor f s → IsReadFor (status_of s) before after
 read_for before after f end (inl memory) = subst (λ s. IsReadFor (status_of s) before after) (sym memory.0) tt
 read_for before after f end (inr stops) = subst (λ s. IsReadFor (status_of s) before after) (sym stops.0) end
 
 -- and no read has failed
-pub no_read_fault : (f : Refusal) {s : Stop} → IsStopFor f s → s ≢ stop.ReadFault
+pub no_read_fault : (f : Refusal) {s : Stop} → IsCheckStopFor f s → s ≢ stop.ReadFault
 no_read_fault f (inl memory) failed = let is = memory.0 in cc
 no_read_fault f (inr stops) failed = let is = stops.0 in cc

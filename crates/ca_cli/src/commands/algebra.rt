@@ -4,7 +4,7 @@ ghost use Rattle.word_image.specs.Digits.{letter_at};
 ghost use Rattle.word_image.specs.LocalRules.{LocalRule, IsRule, mirrored};
 ghost use Rattle.rule_algebra.specs.Algebra.{IsTrimmed};
 ghost use Rattle.rule_text.specs.RuleTexts.{IsOffset, decimal_value};
-ghost use Rattle.rule_text.specs.PrintedRules.{printed};
+ghost use Rattle.rule_text.specs.PrintedRules.{printed_rule};
 ghost use Rattle.ca_cli.specs.Commands.{AskWith};
 ghost use Rattle.ca_cli.specs.Lines.{line};
 ghost use Rattle.ca_cli.specs.Outcomes.{Comes};

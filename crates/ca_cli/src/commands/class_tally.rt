@@ -5,7 +5,7 @@ ghost use Rattle.word_image.specs.LocalRules.{LocalRule};
 ghost use Rattle.word_image.specs.Weights.{own_weights};
 ghost use Rattle.rule_classes.specs.ClassVerdicts.{HaveOneVerdict};
 ghost use Rattle.cert_check.specs.Accepted.{AreTrue};
-ghost use Rattle.ca_cli.specs.ClassTallies.{IsAdded, IsClassTally, IsDecided, rules_in};
+ghost use Rattle.ca_cli.specs.ClassTallies.{IsRuleAdded, IsClassTally, IsDecided, rules_in};
 ghost use Rattle.ca_cli.specs.Summaries.{count_line};
 ghost use Rattle.ca_cli.specs.Tallies.{summary_of};
 
@@ -69,7 +69,7 @@ fn decided(known: &mut IndexMap<u128, Verdicts>, rule: &Rule) -> Result<Verdicts
     ensures rule { IfOk result (λ verdicts. verdicts.rule ≡ rule.now) }
     ensures are_true { IfOk result (λ verdicts. AreTrue verdicts) }
     ensures known { OnOk result (All (IsDecided rule.now.states rule.now.width) known.new.entries) }
-    ensures added { OnOk result (IsAdded rule.now (rules_in known.old.entries) (rules_in known.new.entries)) }
+    ensures added { OnOk result (IsRuleAdded rule.now (rules_in known.old.entries) (rules_in known.new.entries)) }
 {
     let _states = rule.k();
     let number = number(rule).unwrap();

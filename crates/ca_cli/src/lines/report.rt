@@ -4,7 +4,7 @@ ghost use Rattle.std.specs.List.{flat_map};
 ghost use Rattle.word_image.specs.LocalRules.{IsWord};
 ghost use Rattle.word_image.specs.Digits.{word_text};
 ghost use Rattle.tail_config.specs.TailTexts as tail;
-ghost use Rattle.rule_text.specs.PrintedRules.{printed, offset_text};
+ghost use Rattle.rule_text.specs.PrintedRules.{printed_rule, offset_text};
 ghost use Rattle.cert_format.specs.Evidence.InjectiveEvidence.{Window};
 ghost use Rattle.cert_format.specs.Parts.{injective_of, side_of, sum_of};
 ghost use Rattle.ca_cli.specs.Lines.{line};
@@ -40,7 +40,7 @@ pub fn write_report(
 
 /// Appends the printed rule.
 pub fn write_rule(alloc: Global, output: &mut Output, rule: &Rule) -> Result<(), AllocError>
-    ensures { OnOk result (output.new ≡ output.old ++ line (codes "rule " ++ printed rule.now)) }
+    ensures { OnOk result (output.new ≡ output.old ++ line (codes "rule " ++ printed_rule rule.now)) }
 {
     output.push(b"rule ")?;
     output.push(&print(alloc, rule)?)?;

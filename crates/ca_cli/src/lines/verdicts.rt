@@ -2,7 +2,7 @@
 ghost use Rattle.std.specs.Prelude.{◌≡◌, ◌++◌, codes, if◌then◌else◌, IfOk, OnOk, string_bytes};
 ghost use Rattle.std.specs.List.{flat_map, join_by};
 ghost use Rattle.std.specs.Fmt.{decimal};
-ghost use Rattle.rule_text.specs.PrintedRules.{printed};
+ghost use Rattle.rule_text.specs.PrintedRules.{printed_rule};
 ghost use Rattle.ca_cli.specs.Lines.{line, fault_text};
 ghost use Rattle.ca_cli.specs.StatusLines.{accepted_lines, weights_lines, verdict_line, refused_line, refusal_text, shape_text, key_text, side_text, twin_text, split_text};
 
@@ -34,7 +34,7 @@ pub fn write_accepted(
 
 /// Appends the line that names the rule.
 fn write_rule(alloc: Global, output: &mut Output, rule: &Rule) -> Result<(), AllocError>
-    ensures { OnOk result (output.new ≡ output.old ++ line (codes "accepted " ++ printed rule.now)) }
+    ensures { OnOk result (output.new ≡ output.old ++ line (codes "accepted " ++ printed_rule rule.now)) }
 {
     output.push(b"accepted ")?;
     output.push(&print(alloc, rule)?)?;

@@ -33,8 +33,8 @@ abbrev pub AllFall : Side → LocalRule → List (Option ℕ) → Type 0
 AllFall side r row = EachBelow (pair_count r) (Falls side r row)
 
 -- two configurations that differ, agree on a side, and share an image
-abbrev pub AreApart : (TailConfig → TailConfig → Type 0) → LocalRule → TailConfig → TailConfig → Type 0
-AreApart Agree r x y = Different x y × Agree x y × ShareImage r x y
+abbrev pub AreSplit : (TailConfig → TailConfig → Type 0) → LocalRule → TailConfig → TailConfig → Type 0
+AreSplit Agree r x y = Different x y × Agree x y × ShareImage r x y
 
 -- two different words of one length, with letters, whose rings have one image
 abbrev pub AreAlike : LocalRule → List ℕ → List ℕ → Type 0
@@ -62,11 +62,11 @@ IsTwins-alike hx hy alike =
     }
 
 -- configurations that agree on the left are a right split
-pub IsRightSplit-apart : {r : LocalRule} {x y : TailConfig} → IsShortTail r.states x → IsShortTail r.states y → AreApart AgreeLeft r x y → IsRightSplit r x y
+pub IsRightSplit-apart : {r : LocalRule} {x y : TailConfig} → IsShortTail r.states x → IsShortTail r.states y → AreSplit AgreeLeft r x y → IsRightSplit r x y
 IsRightSplit-apart hx hy apart = record { first = hx.tail; second = hy.tail; different = apart.0; share = apart.2; agree = apart.1 }
 
 -- and those that agree on the right are a left split
-pub IsLeftSplit-apart : {r : LocalRule} {x y : TailConfig} → IsShortTail r.states x → IsShortTail r.states y → AreApart AgreeRight r x y → IsLeftSplit r x y
+pub IsLeftSplit-apart : {r : LocalRule} {x y : TailConfig} → IsShortTail r.states x → IsShortTail r.states y → AreSplit AgreeRight r x y → IsLeftSplit r x y
 IsLeftSplit-apart hx hy apart = record { first = hx.tail; second = hy.tail; different = apart.0; share = apart.2; agree = apart.1 }
 
 -- what is said of injectivity is true where its conditions are met
@@ -78,14 +78,14 @@ IsInjective-said {r} rule forward backward falls back (Twins x y) shape pairs al
 
 -- of closing on the right
 pub IsRightClosing-said : {r : LocalRule} → IsRule r → (forward : List (Option ℕ)) → AllFall Right r forward → (e : SideEvidence) → IsSideShape r e
-    → OfAhead e (λ n. EachBelow (pair_count r) (IsAheadPair (IsFirstOfRight r) forward n)) → OfSplit e (AreApart AgreeLeft r) → IsTrue (says_closing e) ↔ IsRightClosing r
+    → OfAhead e (λ n. EachBelow (pair_count r) (IsAheadPair (IsFirstOfRight r) forward n)) → OfSplit e (AreSplit AgreeLeft r) → IsTrue (says_closing e) ↔ IsRightClosing r
 IsRightClosing-said rule forward falls (Ahead n) shape pairs apart = ((λ _. IsRightClosing-ahead rule (ahead-claimed Right rule forward falls n shape pairs)), (λ _. refl))
 IsRightClosing-said {r} rule forward falls (Split x y) shape pairs apart =
     ((λ no. absurd (false≢true no)), (λ closing. absurd ((IsRightClosing-none r).0 closing x y (IsRightSplit-apart shape.0 shape.1 apart))))
 
 -- of closing on the left
 pub IsLeftClosing-said : {r : LocalRule} → IsRule r → (backward : List (Option ℕ)) → AllFall Left r backward → (e : SideEvidence) → IsSideShape r e
-    → OfAhead e (λ n. EachBelow (pair_count r) (IsAheadPair (IsFirstOfLeft r) backward n)) → OfSplit e (AreApart AgreeRight r) → IsTrue (says_closing e) ↔ IsLeftClosing r
+    → OfAhead e (λ n. EachBelow (pair_count r) (IsAheadPair (IsFirstOfLeft r) backward n)) → OfSplit e (AreSplit AgreeRight r) → IsTrue (says_closing e) ↔ IsLeftClosing r
 IsLeftClosing-said rule backward back (Ahead n) shape pairs apart = ((λ _. IsLeftClosing-ahead rule (ahead-claimed Left rule backward back n shape pairs)), (λ _. refl))
 IsLeftClosing-said {r} rule backward back (Split x y) shape pairs apart =
     ((λ no. absurd (false≢true no)), (λ closing. absurd ((IsLeftClosing-none r).0 closing x y (IsLeftSplit-apart shape.0 shape.1 apart))))

@@ -15,7 +15,7 @@ use Rattle.word_image.proofs.laws.LastSets.{IsLastSet-full, IsLastSet-step, IsOr
 use Rattle.search_laws.proofs.StepSets.{LeadsToSet-last, IsLastSet-orphan, IsStep-some}
 use Rattle.pair_laws.proofs.Claims.{ClaimsRanks, FallsOn-ranks}
 use Rattle.pair_laws.proofs.Evidence.{IsClaimedApart-ranks, ahead-ranks}
-use Rattle.ring_laws.proofs.FluxWindows.{Flows-flux}
+use Rattle.ring_laws.proofs.FluxWindows.{FlowsAt-flux}
 use Rattle.tail_config.specs.Tails.{TailConfig, AgreeLeft, AgreeRight, IsRightSplit}
 use Rattle.tail_config.specs.LeftSplits.{IsLeftSplit}
 use Rattle.cert_format.specs.declared.cert_version.CertVersion.TheVariants.{One}
@@ -23,7 +23,7 @@ use Rattle.cert_check.specs.Breaches.{EachBelow}
 use Rattle.cert_check.specs.Claims.{claim, IsWindowPair, IsAheadPair}
 use Rattle.cert_check.specs.Sets.{StepIsKept, LeadsTo}
 use Rattle.cert_check.specs.Sums.{Flows, IsLossy}
-use Rattle.cert_check.proofs.laws.ClaimConditions.{AllFall, AreApart, AreAlike}
+use Rattle.cert_check.proofs.laws.ClaimConditions.{AllFall, AreSplit, AreAlike}
 use Rattle.cert_check.proofs.laws.WindowFlows.{Flows-value}
 
 -- the list has the last nodes of each word, and no other set
@@ -71,16 +71,16 @@ pub AreAlike-twins : {r : LocalRule} {x y : List ℕ} → IsTwins r x y → AreA
 AreAlike-twins twins = ((twins.one_length, twins.first.some), twins.different, twins.one_image)
 
 -- a right split agrees on the left
-pub AreApart-right : {r : LocalRule} {x y : TailConfig} → IsRightSplit r x y → AreApart AgreeLeft r x y
-AreApart-right split = (split.different, split.agree, split.share)
+pub AreSplit-right : {r : LocalRule} {x y : TailConfig} → IsRightSplit r x y → AreSplit AgreeLeft r x y
+AreSplit-right split = (split.different, split.agree, split.share)
 
 -- and a left split on the right
-pub AreApart-left : {r : LocalRule} {x y : TailConfig} → IsLeftSplit r x y → AreApart AgreeRight r x y
-AreApart-left split = (split.different, split.agree, split.share)
+pub AreSplit-left : {r : LocalRule} {x y : TailConfig} → IsLeftSplit r x y → AreSplit AgreeRight r x y
+AreSplit-left split = (split.different, split.agree, split.share)
 
 -- a flux flows on the word of each number
 pub Flows-exact : {weight : ℕ → ℕ} {r : LocalRule} {phi : List ℤ} → IsRule r → IsFlux weight r phi → EachBelow (r.states ^ r.width) (λ v. Flows weight r phi (word_of r.states r.width v))
-Flows-exact {weight} {phi = phi} rule flux v l = (Flows-value rule weight phi v l).0 (Flows-flux rule flux v l)
+Flows-exact {weight} {phi = phi} rule flux v l = (Flows-value rule weight phi v l).0 (FlowsAt-flux rule flux v l)
 
 -- a lossy ring has letters, and its image another sum
 pub IsLossy-ring : {weight : ℕ → ℕ} {r : LocalRule} {p : List ℕ} → IsLossyRing weight r p → IsLossy weight r p

@@ -12,8 +12,8 @@ use Rattle.std.proofs.lemmas.List.Elements.{All-head, All-tail}
 use Rattle.word_image.specs.LocalRules.{LocalRule, IsShape, IsRule, IsWord}
 use Rattle.word_image.specs.Digits.{lower_digit, word_text}
 use Rattle.tail_config.specs.TailTexts as tail
-use Rattle.tail_config.specs.TailValues.{TailOver, IsAccepted}
-use Rattle.rule_text.specs.PrintedRules.{offset_text, printed}
+use Rattle.tail_config.specs.TailValues.{TailOver, IsAcceptedTail}
+use Rattle.rule_text.specs.PrintedRules.{offset_text, printed_rule}
 
 -- a text of bytes below 128
 record Ascii (text : List ℕ) : Type 0 where
@@ -53,7 +53,7 @@ pub IsUtf8-word : (w : List ℕ) → IsWord 16 w → IsUtf8 (word_text w)
 IsUtf8-word w word = IsUtf8-from_ascii (word_text w) (Ascii-word 16 w (lit≤ tt) word).bytes
 
 -- the text of a configuration
-pub IsUtf8-tail : (t : TailOver) → IsAccepted t → IsUtf8 (tail.printed t.config)
+pub IsUtf8-tail : (t : TailOver) → IsAcceptedTail t → IsUtf8 (tail.printed t.config)
 IsUtf8-tail t accepted =
     let few = accepted.most_states in
     let words = accepted.short.tail in
@@ -64,7 +64,7 @@ IsUtf8-tail t accepted =
     IsUtf8-from_ascii (tail.printed t.config) (both (both (both (both left bar) middle) bar) right).bytes
 
 -- the text of a rule
-pub IsUtf8-rule : (r : LocalRule) → IsRule r → IsUtf8 (printed r)
+pub IsUtf8-rule : (r : LocalRule) → IsRule r → IsUtf8 (printed_rule r)
 IsUtf8-rule r rule =
     let shape = rule.shape in
     let few = shape.most_states in
@@ -74,4 +74,4 @@ IsUtf8-rule r rule =
     let offset = Ascii-offset r.states r.width r.offset shape in
     let table = Ascii-word r.states r.table few rule.letters in
     let colon = one 58 (lit< tt) in
-    IsUtf8-from_ascii (printed r) (both (both (both (both (both (both (both states colon) width) colon) offset) colon) (one 116 (lit< tt))) table).bytes
+    IsUtf8-from_ascii (printed_rule r) (both (both (both (both (both (both (both states colon) width) colon) offset) colon) (one 116 (lit< tt))) table).bytes

@@ -13,7 +13,7 @@ use Rattle.cert_format.specs.Evidence.SurjectiveEvidence.{Sets, Pairs, Orphan}
 use Rattle.cert_format.specs.Evidence.InjectiveEvidence.{Window, Twins}
 use Rattle.cert_format.specs.Evidence.SumEvidence.{Flux, Ring}
 use Rattle.cert_format.specs.CertificateTexts.{IsWhole, IsSigned, IsDigits, IsClaimValue, IsArrayOf, HasOnly, list_of}
-use Rattle.cert_format.specs.Readings.{IsWordValue, IsWordsValue, IsShort, IsRank, IsNear, IsFlow, AreNumbers, IsFluxFor, IsByte, IsWeightsFor, IsRowFor, IsSurjectiveFor, IsInjectiveFor, IsSumFor}
+use Rattle.cert_format.specs.Readings.{IsWordValue, IsWordsValue, IsShort, IsRankValue, IsNear, IsFlow, AreNumbers, IsFluxFor, IsByte, IsWeightsFor, IsRowFor, IsSurjectiveFor, IsInjectiveFor, IsSumFor}
 use Rattle.cert_format.proofs.laws.Uniqueness.{HasOnly-unique, not_both, sets_or_orphan, sets_or_pairs, pairs_or_orphan, flux_or_ring, IsArrayOf-unique, IsWhole-unique}
 
 -- the values of one key are one
@@ -42,9 +42,9 @@ no_orphan version r d only none (Pairs pairs) h = pairs_or_orphan d h.0.1 only
 no_orphan version r d only none (Orphan w) h = none w (at_key d (λ v. IsDigits v w) only h.0.1 h.0.2, h.1)
 
 -- none for injective: the twins are none
-pub no_twins : (r : LocalRule) (d : Data) {v : Data} → HasOnly (codes "twins") v d → ((x y : List ℕ) → ¬ IsWordsValue r.states v x y) → (e : InjectiveEvidence) → ¬ IsInjectiveFor r d e
-no_twins r d only none (Window n c) h = not_both d only h.0.2
-no_twins r d only none (Twins x y) h = none x y (at_key d (λ v. IsArrayOf IsDigits v (x ∷ y ∷ [])) only h.0.1 h.0.2, h.1.0, h.1.1)
+pub no_twins_value : (r : LocalRule) (d : Data) {v : Data} → HasOnly (codes "twins") v d → ((x y : List ℕ) → ¬ IsWordsValue r.states v x y) → (e : InjectiveEvidence) → ¬ IsInjectiveFor r d e
+no_twins_value r d only none (Window n c) h = not_both d only h.0.2
+no_twins_value r d only none (Twins x y) h = none x y (at_key d (λ v. IsArrayOf IsDigits v (x ∷ y ∷ [])) only h.0.1 h.0.2, h.1.0, h.1.1)
 
 -- none for conserving: the ring is none
 pub no_ring : (r : LocalRule) (d : Data) {v : Data} → HasOnly (codes "ring") v d → ((w : List ℕ) → ¬ IsWordValue r.states v w) → (e : SumEvidence) → ¬ IsSumFor r d e
@@ -102,10 +102,10 @@ pub no_flux : (r : LocalRule) (d : Data) → ((xs : List ℤ) → length xs ≡ 
 no_flux r d none phi h = none phi h.1 (IsArrayOf-within IsSigned IsNear d phi h.0 h.2)
 
 -- a row is an array with a claim for each pair
-pub IsRowFor-array : (r : LocalRule) (d : Data) (xs : List (Option ℕ)) → IsArrayOf IsRank d xs → length xs ≡ pair_count r → IsRowFor r d xs
+pub IsRowFor-array : (r : LocalRule) (d : Data) (xs : List (Option ℕ)) → IsArrayOf IsRankValue d xs → length xs ≡ pair_count r → IsRowFor r d xs
 IsRowFor-array r d xs array long = let parts = within-IsArrayOf IsClaimValue IsClaim d xs array in (parts.0, record { each_pair = long; claims = parts.1 })
 
-pub no_row : (r : LocalRule) (d : Data) → ((xs : List (Option ℕ)) → length xs ≡ pair_count r → ¬ IsArrayOf IsRank d xs) → (row : List (Option ℕ)) → ¬ IsRowFor r d row
+pub no_row : (r : LocalRule) (d : Data) → ((xs : List (Option ℕ)) → length xs ≡ pair_count r → ¬ IsArrayOf IsRankValue d xs) → (row : List (Option ℕ)) → ¬ IsRowFor r d row
 no_row r d none row h = none row h.1.each_pair (IsArrayOf-within IsClaimValue IsClaim d row h.0 h.1.claims)
 
 -- weights are an array with a byte for each letter

@@ -6,7 +6,7 @@ use Rattle.serde_json.specs.Data.{Data, string, object, Items, Members, no_membe
 use Rattle.serde_json.specs.View.{items_of}
 use Rattle.serde_json.specs.Written.{has_float, items_have_float, members_have_float}
 use Rattle.word_image.specs.LocalRules.{LocalRule}
-use Rattle.rule_text.specs.PrintedRules.{printed}
+use Rattle.rule_text.specs.PrintedRules.{printed_rule}
 use Rattle.cert_format.specs.Versions.{number_of}
 use Rattle.cert_format.specs.Evidence.{SurjectiveEvidence, InjectiveEvidence, SideEvidence, SumEvidence}
 use Rattle.cert_format.specs.Certificates.{Certificate}
@@ -122,6 +122,6 @@ IsPlain-certificate c =
     (HavePlain-member (codes "left") (IsPlain-side c.left)
     (HavePlain-member (codes "ranks") (IsPlain-ranks c.forward c.backward)
     (HavePlain-member (codes "right") (IsPlain-side c.right)
-    (HavePlain-member (codes "rule") (IsPlain-string 2 (printed c.rule))
+    (HavePlain-member (codes "rule") (IsPlain-string 2 (printed_rule c.rule))
     (HavePlain-member (codes "surjective") (IsPlain-surjective c.surjective)
     (HavePlain-member (codes "version") (IsPlain-whole 2 (number_of c.version)) (HavePlain-weights c.rule c.weights)))))))))

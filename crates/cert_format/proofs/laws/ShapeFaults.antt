@@ -167,8 +167,8 @@ every_cert bytes (Err f) cert (inl memory) c text = inr (ap Err memory)
 every_cert bytes (Err f) cert (inr wrong) c text = absurd (IsCertificateText-no_fault text wrong.2)
 
 -- and so is a first fault
-pub every_fault : (bytes : List ℕ) (answer : Result Certificate CertFault) → IfOk answer (IsCertificateText bytes) → IfErr answer (IsCertFault bytes) → (s : ShapeFault) → IsShapeFault bytes s
+pub every_cert_fault : (bytes : List ℕ) (answer : Result Certificate CertFault) → IfOk answer (IsCertificateText bytes) → IfErr answer (IsCertFault bytes) → (s : ShapeFault) → IsShapeFault bytes s
     → (answer ≡ Err (fault.Format s)) ⊎ (answer ≡ Err (fault.Memory alloc_error))
-every_fault bytes (Ok c) cert wrong s first = absurd (IsCertificateText-no_fault cert first)
-every_fault bytes (Err f) cert (inl memory) s first = inr (ap Err memory)
-every_fault bytes (Err f) cert (inr wrong) s first = inl (ap Err (wrong.1 ∙ ap fault.Format (IsShapeFault-unique wrong.2 first)))
+every_cert_fault bytes (Ok c) cert wrong s first = absurd (IsCertificateText-no_fault cert first)
+every_cert_fault bytes (Err f) cert (inl memory) s first = inr (ap Err memory)
+every_cert_fault bytes (Err f) cert (inr wrong) s first = inl (ap Err (wrong.1 ∙ ap fault.Format (IsShapeFault-unique wrong.2 first)))

@@ -18,8 +18,8 @@ use Rattle.tail_config.specs.Tails.{TailConfig}
 use Rattle.tail_config.specs.TailTexts.{IsShortTail}
 use Rattle.tail_config.specs.TailTexts as tail
 use Rattle.tail_config.proofs.laws.TailTexts.{Spells-word_text}
-use Rattle.rule_text.specs.PrintedRules.{printed}
-use Rattle.rule_text.proofs.laws.Printed.{IsRuleText-printed}
+use Rattle.rule_text.specs.PrintedRules.{printed_rule}
+use Rattle.rule_text.proofs.laws.Printed.{IsRuleText-printed_rule}
 use Rattle.cert_format.specs.declared.cert_version.CertVersion.{CertVersion}
 use Rattle.cert_format.specs.declared.cert_version.CertVersion.TheVariants.{One, Two, Three}
 use Rattle.cert_format.specs.Versions.{number_of, names_weights}
@@ -164,11 +164,11 @@ IsCertificateText-written {bytes} {c} json shaped =
     let rule = shaped.rule in
     record {
       members = certificate_members c;
-      text = printed c.rule;
+      text = printed_rule c.rule;
       json = json;
       version = (whole_value (number_of c.version), refl, IsWhole-version c.version);
-      rule_text = (string (printed c.rule), refl, refl);
-      rule = IsRuleText-printed c.rule rule;
+      rule_text = (string (printed_rule c.rule), refl, refl);
+      rule = IsRuleText-printed_rule c.rule rule;
       surjective = ((surjective_value c.surjective, refl, IsSurjectiveValue-written rule c.version c.surjective shaped.surjective), shaped.surjective);
       injective = ((injective_value c.injective, refl, IsInjectiveValue-written rule c.injective shaped.injective), shaped.injective);
       right = ((side_value c.right, refl, IsSideValue-written rule c.right shaped.right), shaped.right);

@@ -5,9 +5,9 @@ use Rattle.std.proofs.lemmas.Option.{slice_get_within, slice_get-get_or}
 use Rattle.word_image.specs.LocalRules.{LocalRule, IsRule}
 use Rattle.word_image.specs.Graphs.{full_set}
 use Rattle.word_image.proofs.laws.LastSets.{IsPreimage-nonempty_set}
-use Rattle.search_laws.specs.SearchQueues.{Place, Spells, IsQueue}
+use Rattle.search_laws.specs.SearchQueues.{Place, TreeSpells, IsQueue}
 use Rattle.search_laws.proofs.Walks.{Leads-push}
-use Rattle.search_laws.proofs.SpelledWords.{Spells-some, Spells-ascending, Leads-spelled}
+use Rattle.search_laws.proofs.SpelledWords.{TreeSpells-some, TreeSpells-ascending, Leads-spelled}
 use Rattle.search_laws.proofs.LeastFirst.{IsLeastTo-spelled, reached_all}
 use Rattle.search_laws.proofs.Families.{chosen, stands_at}
 use Rattle.image_minimal.specs.ImageLanguages.{Alike, IsClassList, IsNextClass, IsDeadClass}
@@ -23,12 +23,12 @@ IsClosureQueue r = IsQueue (IsClosedStep r) r.states (full_set r)
 -- the words of its places
 pub record AreClasses (tree : List (Place ℕ)) (words : List (List ℕ)) : Type 0 where
   pub long : length tree ≡ length words
-  pub spelled : (i : ℕ) (w : List ℕ) → slice_get words i ≡ Some w → Spells tree i w
+  pub spelled : (i : ℕ) (w : List ℕ) → slice_get words i ≡ Some w → TreeSpells tree i w
 
 -- there are such words
 pub AreClasses-some : {r : LocalRule} {tree : List (Place ℕ)} {e : ℕ} → IsClosureQueue r tree e → (words : List (List ℕ)) × AreClasses tree words
 AreClasses-some {tree = tree} q =
-    let words = chosen tree (Spells tree) (Spells-some q.fills) in
+    let words = chosen tree (TreeSpells tree) (TreeSpells-some q.fills) in
     (words.0, record { long = words.1; spelled = words.2 })
 
 -- words are alike exactly where they lead to one closure
@@ -54,7 +54,7 @@ IsClassList-closed {r} {tree} {e} {words} rule closures q closed c = record {
   ascending = λ i v w at also.
       let x = stands_at tree i (omega (arith, c.long, slice_get_within words i v at)) in
       let y = stands_at tree (i + 1) (omega (arith, c.long, slice_get_within words (i + 1) w also)) in
-      Spells-ascending q.fills (omega arith) (c.spelled i v at) (c.spelled (i + 1) w also) x.0 y.0 x.1 y.1;
+      TreeSpells-ascending q.fills (omega arith) (c.spelled i v at) (c.spelled (i + 1) w also) x.0 y.0 x.1 y.1;
   all = λ v word.
       let leads = LeadsToClosure-some closures v word in
       let reached = reached_all q closed v leads.0 leads.1 in

@@ -7,27 +7,27 @@ use Rattle.word_image.specs.LocalRules.{LocalRule, IsRule, IsWord, node_count}
 use Rattle.word_image.specs.Graphs.{full_set, IsStep}
 use Rattle.word_image.proofs.laws.Places.{slice_get-unique}
 use Rattle.search_laws.specs.SearchQueues.{Place, filled}
-use Rattle.search_laws.specs.SearchQueues.Spells.{Root}
+use Rattle.search_laws.specs.SearchQueues.TreeSpells.{Root}
 use Rattle.search_laws.proofs.Walks.{Walk-each}
 use Rattle.search_laws.proofs.WordOrder.{word_number, word_number-snoc}
 use Rattle.search_laws.proofs.QueueStates.{mapped_at, state-all}
-use Rattle.search_laws.proofs.SpelledWords.{Spells-unique, Spells-some, Spells-cases, Leads-spelled}
+use Rattle.search_laws.proofs.SpelledWords.{TreeSpells-unique, TreeSpells-some, TreeSpells-cases, Leads-spelled}
 use Rattle.search_laws.proofs.StepSets.{IsStep-some, LeadsToSet}
 use Rattle.image_minimal.specs.Closures.{IsWithin, IsUnread}
 use Rattle.image_minimal.specs.declared.links.Link.{Link}
-use Rattle.image_minimal.specs.Links.{LinkStep, IsLinking, link_place, places_of, Reaches}
+use Rattle.image_minimal.specs.Links.{LinkStep, IsLinking, link_place, link_places, SpellsLink}
 use Rattle.image_minimal.proofs.laws.Unread.{IsWithin-back, IsWithin-zero}
 use Rattle.image_minimal.proofs.laws.Chains.{Chain-both}
 
 -- a link as a place
-pub place_at : (links : List Link) (i : ℕ) (x : Link) → slice_get links i ≡ Some x → slice_get (places_of links) i ≡ Some (link_place x)
-place_at = mapped_at link_place
+pub link_place_at : (links : List Link) (i : ℕ) (x : Link) → slice_get links i ≡ Some x → slice_get (link_places links) i ≡ Some (link_place x)
+link_place_at = mapped_at link_place
 
 -- the word on the way to a link leads to its sets on both sides
 pub Leads-link : {r q : LocalRule} {links : List Link} {e i : ℕ} {w : List ℕ} → IsLinking r q links e → r.states ≡ q.states
-    → Reaches links i w → (x : Link) → slice_get links i ≡ Some x → LeadsToSet r w x.first × LeadsToSet q w x.second
+    → SpellsLink links i w → (x : Link) → slice_get links i ≡ Some x → LeadsToSet r w x.first × LeadsToSet q w x.second
 Leads-link {r} {q} {links} {i = i} {w} h states reaches x at =
-    let leads = Leads-spelled h.fills reaches (link_place x) (place_at links i x at) in
+    let leads = Leads-spelled h.fills reaches (link_place x) (link_place_at links i x at) in
     let start : ℕ × ℕ = (full_set r, full_set q) in (
       record {
         walk = Walk-each (LinkStep r q) (IsStep r) (λ p. p.0) (λ a. a < r.states) (λ s a t _ step. step.0) w start (x.first, x.second) leads.word leads.walk;
@@ -44,7 +44,7 @@ pub link-below : {r q : LocalRule} {links : List Link} {e : ℕ} → IsLinking r
     → (x.first < 2 ^ node_count r) × (x.second < 2 ^ node_count q)
 link-below {r} {q} {links} h i x at =
     state-all h.fills (λ p. (p.0 < 2 ^ node_count r) × (p.1 < 2 ^ node_count q)) (omega (arith, pow_pos (node_count r)), omega (arith, pow_pos (node_count q)))
-    (λ s a t step. (step.0.within, step.1.within)) i (link_place x) (place_at links i x at)
+    (λ s a t step. (step.0.within, step.1.within)) i (link_place x) (link_place_at links i x at)
 
 -- the number of a longer word grows with that of its front
 pub word_number-append : (k : ℕ) (u v z : List ℕ) → word_number k u ≤ word_number k v → word_number k (u ++ z) ≤ word_number k (v ++ z)
@@ -98,7 +98,7 @@ both_within {r} {q} rule other h early [] u v none also i x at soon =
 both_within {r} {q} {links} rule other h early (a ∷ z) u v (rest, letter, unread, back) (also, _, unread_also, back_also) i x at soon =
     let s = IsStep-some r x.first a in
     let t = IsStep-some q x.second a in
-    let chain = h.fills.done i a (s.0, t.0) (link_place x) (place_at links i x at) letter (early.edge i a z x at letter soon) (s.1, t.1) in
+    let chain = h.fills.done i a (s.0, t.0) (link_place x) (link_place_at links i x at) letter (early.edge i a z x at letter soon) (s.1, t.1) in
     let both = Chain-both (IsWithinSide r q rest also) (λ j y there when.
     let ends = both_within rule other h early z rest also unread unread_also j y there (early.next i a j z x y at there letter when soon) in
     let one = within_first r q rest also y.first (link-below h j y there).0 in
@@ -113,22 +113,22 @@ both_within {r} {q} {links} rule other h early (a ∷ z) u v (rest, letter, unre
     )
 
 -- the word on the way to a link is that of its parent, followed by its letter
-pub Reaches-parent : (links : List Link) (i : ℕ) (w : List ℕ) → Reaches links i w → 0 < i → (x : Link) → slice_get links i ≡ Some x → (v : List ℕ) × Reaches links x.parent v × (w ≡ v ++ x.letter ∷ [])
-Reaches-parent links i w reaches positive x at =
+pub SpellsLink-parent : (links : List Link) (i : ℕ) (w : List ℕ) → SpellsLink links i w → 0 < i → (x : Link) → slice_get links i ≡ Some x → (v : List ℕ) × SpellsLink links x.parent v × (w ≡ v ++ x.letter ∷ [])
+SpellsLink-parent links i w reaches positive x at =
     ⊎_elim
     (λ none. absurd (omega (arith, none.0)))
     (λ longer.
-    let place : longer.place ≡ link_place x = slice_get-unique (places_of links) i longer.place (link_place x) longer.stands (place_at links i x at) in (
+    let place : longer.place ≡ link_place x = slice_get-unique (link_places links) i longer.place (link_place x) longer.stands (link_place_at links i x at) in (
       longer.front,
-      subst (λ (z : Place (ℕ × ℕ)). Reaches links z.parent longer.front) place longer.before,
+      subst (λ (z : Place (ℕ × ℕ)). SpellsLink links z.parent longer.front) place longer.before,
       longer.splits ∙ ap (λ (z : Place (ℕ × ℕ)). longer.front ++ z.letter ∷ []) place,
     ))
-    (Spells-cases reaches)
+    (TreeSpells-cases reaches)
 
 -- that to the first link is empty
-pub Reaches-first : (links : List Link) (w : List ℕ) → Reaches links 0 w → w ≡ []
-Reaches-first links w reaches = Spells-unique reaches Root
+pub SpellsLink-first : (links : List Link) (w : List ℕ) → SpellsLink links 0 w → w ≡ []
+SpellsLink-first links w reaches = TreeSpells-unique reaches Root
 
 -- there is a word on the way to each link
-pub Reaches-some : {r q : LocalRule} {links : List Link} {e : ℕ} → IsLinking r q links e → (i : ℕ) (x : Link) → slice_get links i ≡ Some x → (w : List ℕ) × Reaches links i w
-Reaches-some {links = links} h i x at = Spells-some h.fills i (link_place x) (place_at links i x at)
+pub SpellsLink-some : {r q : LocalRule} {links : List Link} {e : ℕ} → IsLinking r q links e → (i : ℕ) (x : Link) → slice_get links i ≡ Some x → (w : List ℕ) × SpellsLink links i w
+SpellsLink-some {links = links} h i x at = TreeSpells-some h.fills i (link_place x) (link_place_at links i x at)

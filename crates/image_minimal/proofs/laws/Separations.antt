@@ -9,19 +9,19 @@ use Rattle.word_image.specs.Words.{IsOrphan}
 use Rattle.word_image.specs.Graphs.{full_set}
 use Rattle.word_image.specs.Ranks.{IsLastSet}
 use Rattle.word_image.proofs.laws.LastSets.{IsLastSet-full}
-use Rattle.search_laws.specs.SearchQueues.Spells.{Root}
+use Rattle.search_laws.specs.SearchQueues.TreeSpells.{Root}
 use Rattle.search_laws.proofs.Walks.{Leads-push}
 use Rattle.search_laws.proofs.WordOrder.{word_number, word_number-snoc, word_number-less}
-use Rattle.search_laws.proofs.SpelledWords.{Spells-unique, Spells-some, spelled-within, edges-ascending}
+use Rattle.search_laws.proofs.SpelledWords.{TreeSpells-unique, TreeSpells-some, spelled-within, edges-ascending}
 use Rattle.search_laws.proofs.QueueSteps.{edge-within}
 use Rattle.search_laws.proofs.QueueStates.{unmapped_at}
 use Rattle.search_laws.proofs.StepSets.{IsLastSet-leads}
 use Rattle.image_minimal.specs.ImageLanguages.{HaveSameOrphans, Separates}
 use Rattle.image_minimal.specs.Closures.{IsWithin, IsUnread}
 use Rattle.image_minimal.specs.declared.links.Link.{Link}
-use Rattle.image_minimal.specs.Links.{IsLinking, IsConflict, link_place, places_of, Reaches}
+use Rattle.image_minimal.specs.Links.{IsLinking, IsConflict, link_place, link_places, SpellsLink}
 use Rattle.image_minimal.proofs.laws.Unread.{IsUnread-some, IsOrphan-last, IsOrphan-unread}
-use Rattle.image_minimal.proofs.laws.LinkWords.{AreEarly, Leads-link, place_at, both_within, word_number-append, word_number-front}
+use Rattle.image_minimal.proofs.laws.LinkWords.{AreEarly, Leads-link, link_place_at, both_within, word_number-append, word_number-front}
 
 -- a word that is read from all nodes of both rules or of neither is an orphan of both or of neither
 same_orphan : {r q : LocalRule} → IsRule r → IsRule q → r.states ≡ q.states → (v : List ℕ)
@@ -55,33 +55,33 @@ orphan_early {r} {q} {links} rule other states h early v soon = same_orphan rule
 pub HaveSameOrphans-closed : {r q : LocalRule} {links : List Link} {e : ℕ} → IsRule r → IsRule q → r.states ≡ q.states → IsLinking r q links e → length links * r.states ≤ e → HaveSameOrphans r q
 HaveSameOrphans-closed {r} {q} {links} {e} rule other states h closed v =
     let early : AreEarly r.states links e (λ i z. Unit {0}) = record {
-      edge = λ i a z x at letter _. omega (arith, edge-within r.states (places_of links) i (a + 1) (link_place x) (place_at links i x at) (omega arith), ap (λ n. n * r.states) (length-map links link_place));
+      edge = λ i a z x at letter _. omega (arith, edge-within r.states (link_places links) i (a + 1) (link_place x) (link_place_at links i x at) (omega arith), ap (λ n. n * r.states) (length-map links link_place));
       next = λ i a j z x y at also letter when _. tt;
     } in
     orphan_early rule other states h early v (λ _. tt)
 
 -- before the edge that is followed next all lesser words are early
 abbrev IsBefore : ℕ → List Link → ℕ → ℕ → List ℕ → Type 0
-IsBefore k links bound i z = (w : List ℕ) → Reaches links i w → word_number k (w ++ z) ≤ bound
+IsBefore k links bound i z = (w : List ℕ) → SpellsLink links i w → word_number k (w ++ z) ≤ bound
 
-early_before : {r q : LocalRule} {links : List Link} {h a : ℕ} {w : List ℕ} {x : Link} → IsRule r → IsLinking r q links (h * r.states + a) → Reaches links h w → slice_get links h ≡ Some x → a < r.states
+early_before : {r q : LocalRule} {links : List Link} {h a : ℕ} {w : List ℕ} {x : Link} → IsRule r → IsLinking r q links (h * r.states + a) → SpellsLink links h w → slice_get links h ≡ Some x → a < r.states
     → AreEarly r.states links (h * r.states + a) (IsBefore r.states links (word_number r.states w * r.states + a))
 early_before {r} {q} {links} {h} {a} {w} {x} rule linking reaches here letter =
     let k = r.states in
     record {
       edge = λ i b z y at below before.
-          let v = Spells-some linking.fills i (link_place y) (place_at links i y at) in
+          let v = TreeSpells-some linking.fills i (link_place y) (link_place_at links i y at) in
           let front = word_number-front k (v.0 ++ b ∷ []) z (omega (arith, rule.shape.least_states)) in
           let whole : word_number k ((v.0 ++ b ∷ []) ++ z) ≤ word_number k w * k + a = rw (append_assoc v.0 (b ∷ []) z) (before v.0 v.1) in
           let long = word_number-snoc k v.0 b in
           ⊎_elim (λ less. less)
           (λ past.
-          let order = edges-ascending linking.fills reaches v.1 (link_place x) (place_at links h x here) a b letter below past in
+          let order = edges-ascending linking.fills reaches v.1 (link_place x) (link_place_at links h x here) a b letter below past in
           absurd (omega arith))
           (cases_lt (i * k + b) (h * k + a));
       next = λ i b j z y l at also below when before u to_j.
-          let v = Spells-some linking.fills i (link_place y) (place_at links i y at) in
-          let within = spelled-within linking.fills v.1 b below j (link_place l) u (place_at links j l also) to_j when in
+          let v = TreeSpells-some linking.fills i (link_place y) (link_place_at links i y at) in
+          let within = spelled-within linking.fills v.1 b below j (link_place l) u (link_place_at links j l also) to_j when in
           let whole : word_number k ((v.0 ++ b ∷ []) ++ z) ≤ word_number k w * k + a = rw (append_assoc v.0 (b ∷ []) z) (before v.0 v.1) in
           let longer = word_number-append k u (v.0 ++ b ∷ []) z (omega (arith, word_number-snoc k v.0 b)) in
           omega arith;
@@ -89,7 +89,7 @@ early_before {r} {q} {links} {h} {a} {w} {x} rule linking reaches here letter =
 
 -- where the next edge leads to two sets of which exactly one is empty, its word is the least that is an orphan of exactly one rule
 pub Separates-conflict : {r q : LocalRule} {links : List Link} {i a : ℕ} {w : List ℕ} → IsRule r → IsRule q → r.states ≡ q.states
-    → IsLinking r q links (i * r.states + a) → IsConflict r q links i a → Reaches links i w → Separates r q (w ++ a ∷ [])
+    → IsLinking r q links (i * r.states + a) → IsConflict r q links i a → SpellsLink links i w → Separates r q (w ++ a ∷ [])
 Separates-conflict {r} {q} {links} {i} {a} {w} rule other states h c reaches =
     let k = r.states in
     let both = Leads-link h states reaches c.link c.stands in
@@ -104,6 +104,6 @@ Separates-conflict {r} {q} {links} {i} {a} {w} rule other states h c reaches =
           c.one;
       least = λ v less. orphan_early rule other states h (early_before rule h reaches c.stands c.letter) v (λ word u at_first.
           let number = word_number-less k v (w ++ a ∷ []) word first.word less in
-          let empty : u ≡ [] = Spells-unique at_first Root in
+          let empty : u ≡ [] = TreeSpells-unique at_first Root in
           subst (λ y. word_number k (y ++ v) ≤ word_number k w * k + a) (sym empty) (omega (arith, number, word_number-snoc k w a)));
     }

@@ -10,9 +10,9 @@ use Rattle.tail_laws.proofs.Sides.{IsLeftClosing-mirrored}
 use Rattle.rule_algebra.specs.Algebra.{IsRecoloured}
 use Rattle.rule_classes.specs.Classes.{IsInClass, IsLeastOfClass}
 use Rattle.rule_classes.specs.ClassVerdicts.{HaveOneVerdict}
-use Rattle.rule_classes.specs.Colourings.{AreInverse, IsColouring, Completes, IsLeastOf, in_colours, number_of}
+use Rattle.rule_classes.specs.Colourings.{AreInverse, IsColouring, Completes, IsLeastColouring, in_colours, recoloured_number}
 use Rattle.rule_classes.specs.declared.colourings.Colouring.{Colouring}
-use Rattle.rule_classes.proofs.laws.Colours.{AreInverse-swap, letters_of}
+use Rattle.rule_classes.proofs.laws.Colours.{AreInverse-swap, inverse_letters}
 use Rattle.rule_classes.proofs.laws.Recoloured.{IsRecoloured-back, IsSurjective-recoloured}
 use Rattle.rule_classes.proofs.laws.RecolouredTails.{IsInjective-recoloured, IsRightClosing-recoloured, IsLeftClosing-recoloured}
 use Rattle.rule_classes.proofs.laws.Mirrors.{IsSurjective-mirrored, IsInjective-mirrored, IsRightClosing-left_mirrored}
@@ -57,7 +57,7 @@ through first second = (λ a. second.0 (first.0 a), λ c. first.1 (second.1 c))
 -- the verdicts on a rule are those on each rule of its class, with right and left exchanged by a mirror
 pub HaveOneVerdict-class : {r g : LocalRule} → IsRule r → (mirror : Bool) → IsInClass r mirror g → HaveOneVerdict r mirror g
 HaveOneVerdict-class {r} {g} rule true h =
-    let alike = Alike-recoloured (IsRule-mirrored rule) (IsRule-class rule true h) (letters_of h.recolouring).1 h.recoloured in
+    let alike = Alike-recoloured (IsRule-mirrored rule) (IsRule-class rule true h) (inverse_letters h.recolouring).1 h.recoloured in
     record {
       surjective = through (IsSurjective-mirrored rule) alike.surjective;
       injective = through (IsInjective-mirrored rule) alike.injective;
@@ -67,7 +67,7 @@ HaveOneVerdict-class {r} {g} rule true h =
       left_mirrored = λ e. through (IsLeftClosing-mirrored rule) alike.right;
     }
 HaveOneVerdict-class {r} {g} rule false h =
-    let alike = Alike-recoloured rule (IsRule-class rule false h) (letters_of h.recolouring).1 h.recoloured in
+    let alike = Alike-recoloured rule (IsRule-class rule false h) (inverse_letters h.recolouring).1 h.recoloured in
     record {
       surjective = alike.surjective;
       injective = alike.injective;
@@ -78,7 +78,7 @@ HaveOneVerdict-class {r} {g} rule false h =
     }
 
 -- of the class of a rule the number of each is that of a colouring, mirrored or not
-class_number : (r : LocalRule) {h : LocalRule} → (mirror : Bool) → IsInClass r mirror h → (d : Colouring) × IsColouring r.states d × (d.mirrored ≡ mirror) × (wolfram_number h ≡ number_of r d)
+class_number : (r : LocalRule) {h : LocalRule} → (mirror : Bool) → IsInClass r mirror h → (d : Colouring) × IsColouring r.states d × (d.mirrored ≡ mirror) × (wolfram_number h ≡ recoloured_number r d)
 class_number r {h} mirror inside = let found = colouring_of r mirror inside in (found.0, found.1, found.2, ap wolfram_number found.3)
 
 -- every colouring completes one of which no colour is chosen, mirrored as it is
@@ -91,10 +91,10 @@ Completes-all {k} {c} {d} colouring mirrored = record {
 
 -- the least of all that aren't mirrored, and then of all that are, makes the least rule of the class
 pub IsLeastOfClass-found : {r : LocalRule} {own other first found : Colouring} → IsRule r → own.mirrored ≡ false → other.mirrored ≡ true
-    → IsLeastOf r own 0 r.states own first → IsLeastOf r other 0 r.states first found → IsLeastOfClass r found.mirrored (in_colours r found)
+    → IsLeastColouring r own 0 r.states own first → IsLeastColouring r other 0 r.states first found → IsLeastOfClass r found.mirrored (in_colours r found)
 IsLeastOfClass-found {r} {own} {other} {first} {found} rule straight turned one two =
-    let less : number_of r found ≤ number_of r first = no_greater r two.one in
-    let in_first : (h : LocalRule) → IsInClass r false h → number_of r first ≤ wolfram_number h = λ h inside.
+    let less : recoloured_number r found ≤ recoloured_number r first = no_greater r two.one in
+    let in_first : (h : LocalRule) → IsInClass r false h → recoloured_number r first ≤ wolfram_number h = λ h inside.
     let d = class_number r false inside in omega (arith, d.3, one.least d.0 (Completes-all d.1 (d.2 ∙ sym straight))) in
     let member : IsInClass r found.mirrored (in_colours r found) = IsInClass-colours found.mirrored rule two.colouring in
     record {
@@ -106,9 +106,9 @@ IsLeastOfClass-found {r} {own} {other} {first} {found} rule straight turned one 
       needed = ⊎_elim
           (λ (same : found ≡ first).
           let not : found.mirrored ≡ false =
-          ap (λ c. c.mirrored) same ∙ ⊎_elim (λ (kept : first ≡ own). ap (λ c. c.mirrored) kept ∙ straight) (λ (new : Completes r.states own 0 r.states first × (number_of r first < number_of r own)). new.0.mirrored ∙ straight) one.one in
+          ap (λ c. c.mirrored) same ∙ ⊎_elim (λ (kept : first ≡ own). ap (λ c. c.mirrored) kept ∙ straight) (λ (new : Completes r.states own 0 r.states first × (recoloured_number r first < recoloured_number r own)). new.0.mirrored ∙ straight) one.one in
           (λ is. absurd (false≢true (sym not ∙ is)), λ none. absurd (none (subst (λ mirror. IsInClass r mirror (in_colours r found)) not member))))
-          (λ (new : Completes r.states other 0 r.states found × (number_of r found < number_of r first)).
+          (λ (new : Completes r.states other 0 r.states found × (recoloured_number r found < recoloured_number r first)).
           (λ is inside. absurd (omega (arith, new.1, in_first (in_colours r found) inside)), λ none. new.0.mirrored ∙ turned))
           two.one;
     }

@@ -12,11 +12,11 @@ use Rattle.rule_algebra.specs.Algebra.{recoloured}
 use Rattle.rule_algebra.specs.Tabulated.{table_by}
 use Rattle.rule_algebra.proofs.laws.Tables.{length-table_by, IsWord-table_by, table_by-at}
 use Rattle.rule_classes.specs.Classes.{turned, HasRecolouredTable, IsInClass}
-use Rattle.rule_classes.specs.Colourings.{AreInverse, IsColouring, new_letter, entry, in_colours, number_of}
+use Rattle.rule_classes.specs.Colourings.{AreInverse, IsColouring, new_letter, entry, in_colours, recoloured_number}
 use Rattle.rule_classes.specs.Best.{IsBest}
 use Rattle.rule_classes.specs.declared.best.Best.{Best}
 use Rattle.rule_classes.specs.declared.colourings.Colouring.{Colouring}
-use Rattle.rule_classes.proofs.laws.Colours.{AreInverse-swap, letters_of, IsRecolouring-take, recoloured-take, IsWord-colours, recoloured-back}
+use Rattle.rule_classes.proofs.laws.Colours.{AreInverse-swap, inverse_letters, IsRecolouring-take, recoloured-take, IsWord-colours, recoloured-back}
 use Rattle.rule_classes.proofs.laws.Recoloured.{local_map-back}
 use Rattle.rule_classes.proofs.laws.Numbers.{wolfram_number-less}
 
@@ -61,9 +61,9 @@ slice_index-best {r} b v best l =
     ∙ get_or-in_colours r c v l
 
 -- the lesser entry at the greatest window on which the two differ makes the lesser number
-pub number_of-less : {r : LocalRule} (c d : Colouring) (v : ℕ) → IsRule r → IsColouring r.states c → IsColouring r.states d → v < r.states ^ r.width
-    → ((u : ℕ) → v < u → u < r.states ^ r.width → entry r c u ≡ entry r d u) → entry r c v < entry r d v → number_of r c < number_of r d
-number_of-less {r} c d v rule first second l same less =
+pub recoloured_number-less : {r : LocalRule} (c d : Colouring) (v : ℕ) → IsRule r → IsColouring r.states c → IsColouring r.states d → v < r.states ^ r.width
+    → ((u : ℕ) → v < u → u < r.states ^ r.width → entry r c u ≡ entry r d u) → entry r c v < entry r d v → recoloured_number r c < recoloured_number r d
+recoloured_number-less {r} c d v rule first second l same less =
     let long : length (in_colours r c).table ≡ r.states ^ r.width = length-table_by r.states r.width (new_letter r c) in
     wolfram_number-less (IsRule-in_colours c rule first) (IsRule-in_colours d rule second) refl refl v (omega arith)
     (λ u past within.
@@ -72,8 +72,8 @@ number_of-less {r} c d v rule first second l same less =
     (omega (arith, get_or-in_colours r c v l, get_or-in_colours r d v l))
 
 -- equal entries make one number
-pub number_of-same : (r : LocalRule) (c d : Colouring) → ((u : ℕ) → u < r.states ^ r.width → entry r c u ≡ entry r d u) → number_of r c ≡ number_of r d
-number_of-same r c d same =
+pub recoloured_number-same : (r : LocalRule) (c d : Colouring) → ((u : ℕ) → u < r.states ^ r.width → entry r c u ≡ entry r d u) → recoloured_number r c ≡ recoloured_number r d
+recoloured_number-same r c d same =
     let first : length (in_colours r c).table ≡ r.states ^ r.width = length-table_by r.states r.width (new_letter r c) in
     let second : length (in_colours r d).table ≡ r.states ^ r.width = length-table_by r.states r.width (new_letter r d) in
     ap (λ t. wolfram_number (record { states = r.states; width = r.width; offset = pos 0; table = t }))
@@ -112,7 +112,7 @@ of_colours-recoloured {b} {colours} {letters} rule inverse = record {
 -- a rule with a recoloured table is such a rule
 recoloured-of_colours : {b h : LocalRule} → (has : HasRecolouredTable b h) → (letters : List ℕ) × AreInverse b.states has.colours letters × (h ≡ of_colours b has.colours letters)
 recoloured-of_colours {b} {h} has =
-    let found = letters_of has.recolouring in
+    let found = inverse_letters has.recolouring in
     let new = has.recoloured in (
       found.0,
       found.1,

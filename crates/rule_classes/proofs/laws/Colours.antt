@@ -50,8 +50,8 @@ first_letters {k} {colours} h (suc n) l =
     )
 
 -- every permutation has its letters
-pub letters_of : {k : ℕ} {colours : List ℕ} → IsRecolouring k colours → (letters : List ℕ) × AreInverse k colours letters
-letters_of {k} {colours} h =
+pub inverse_letters : {k : ℕ} {colours : List ℕ} → IsRecolouring k colours → (letters : List ℕ) × AreInverse k colours letters
+inverse_letters {k} {colours} h =
     let found = first_letters h k (omega arith) in
     let letters : List ℕ = found.0 in
     let below : (a : ℕ) → a < k → slice_index colours a < k = λ a l. h.word a 0 (omega (arith, h.long)) in (

@@ -3,9 +3,9 @@ use Rattle.std.proofs.Common.{◌≡◌, ◌≢◌, inl, inr, ◌⊎◌, ℕ, �
 use Rattle.std.specs.Prelude.{◌==◌, if◌then◌else◌}
 use Rattle.std.proofs.lemmas.Bool.{cases_lt, cases_eq, eq-eqb, ne_eqb, cond-true, cond-false}
 use Rattle.word_image.specs.LocalRules.{LocalRule, IsRule}
-use Rattle.rule_classes.specs.Colourings.{IsColouring, IsChosen, Completes, IsLeastOf, AgreeFrom, entry, number_of}
+use Rattle.rule_classes.specs.Colourings.{IsColouring, IsChosen, Completes, IsLeastColouring, AgreeFrom, entry, recoloured_number}
 use Rattle.rule_classes.specs.declared.colourings.Colouring.{Colouring}
-use Rattle.rule_classes.proofs.laws.Colourings.{number_of-less, number_of-same}
+use Rattle.rule_classes.proofs.laws.Colourings.{recoloured_number-less, recoloured_number-same}
 use Rattle.rule_classes.proofs.laws.KnownWindows.{IsKnown, entry-chosen, entry-free}
 
 -- a colouring completes itself
@@ -29,30 +29,30 @@ AgreeFrom-less {r} {c} {best} {low} {high} {v} rule most colouring known chosen 
 
 -- a greater letter makes a greater number
 greater_number : {r : LocalRule} {c best d : Colouring} {low high v : ℕ} → IsRule r → IsColouring r.states best → Completes r.states c low high d → v < r.states ^ r.width
-    → AgreeFrom r c low high best (v + 1) → entry r best v < entry r d v → number_of r best < number_of r d
+    → AgreeFrom r c low high best (v + 1) → entry r best v < entry r d v → recoloured_number r best < recoloured_number r d
 greater_number {r} {c} {best} {d} {low} {high} {v} rule colouring completes below rest less =
-    number_of-less best d v rule colouring completes.colouring below (λ u past within. sym (rest.same d completes u (omega arith) within)) less
+    recoloured_number-less best d v rule colouring completes.colouring below (λ u past within. sym (rest.same d completes u (omega arith) within)) less
 
 -- a lesser one a lesser number
 pub lesser_number : {r : LocalRule} {c best : Colouring} {low high v : ℕ} → IsRule r → IsColouring r.states c → IsColouring r.states best → v < r.states ^ r.width
-    → AgreeFrom r c low high best (v + 1) → entry r c v < entry r best v → number_of r c < number_of r best
+    → AgreeFrom r c low high best (v + 1) → entry r c v < entry r best v → recoloured_number r c < recoloured_number r best
 lesser_number {r} {c} {best} {low} {high} {v} rule first second below rest less =
-    number_of-less c best v rule first second below (λ u past within. rest.same c (Completes-itself first) u (omega arith) within) less
+    recoloured_number-less c best v rule first second below (λ u past within. rest.same c (Completes-itself first) u (omega arith) within) less
 
 -- and equal tables one number
-pub one_number : {r : LocalRule} {c best d : Colouring} {low high : ℕ} → AgreeFrom r c low high best 0 → Completes r.states c low high d → number_of r best ≡ number_of r d
-one_number {r} {c} {best} {d} {low} {high} all completes = sym (number_of-same r d best (λ u l. all.same d completes u (omega arith) l))
+pub one_number : {r : LocalRule} {c best d : Colouring} {low high : ℕ} → AgreeFrom r c low high best 0 → Completes r.states c low high d → recoloured_number r best ≡ recoloured_number r d
+one_number {r} {c} {best} {d} {low} {high} all completes = sym (recoloured_number-same r d best (λ u l. all.same d completes u (omega arith) l))
 
 -- where a free letter stands and the best rule has a lesser one than any free colour, nothing is less
 pub none_less-free : {r : LocalRule} {c best : Colouring} {low high v : ℕ} → IsRule r → high ≤ r.states → IsColouring r.states c → IsColouring r.states best → IsKnown r low high v
-    → AgreeFrom r c low high best (v + 1) → low ≤ entry r c v → entry r best v < low → (d : Colouring) → Completes r.states c low high d → number_of r best ≤ number_of r d
+    → AgreeFrom r c low high best (v + 1) → low ≤ entry r c v → entry r best v < low → (d : Colouring) → Completes r.states c low high d → recoloured_number r best ≤ recoloured_number r d
 none_less-free {r} {c} {best} {low} {high} {v} rule most colouring other known rest free less d completes =
     let from : low ≤ entry r d v = entry-free rule most colouring completes known free in
     omega (arith, greater_number rule other completes known.below rest (omega arith))
 
 -- nor where a chosen letter is greater
 pub none_less-chosen : {r : LocalRule} {c best : Colouring} {low high v : ℕ} → IsRule r → high ≤ r.states → IsColouring r.states c → IsColouring r.states best → IsKnown r low high v
-    → AgreeFrom r c low high best (v + 1) → IsChosen low high (entry r c v) → entry r best v < entry r c v → (d : Colouring) → Completes r.states c low high d → number_of r best ≤ number_of r d
+    → AgreeFrom r c low high best (v + 1) → IsChosen low high (entry r c v) → entry r best v < entry r c v → (d : Colouring) → Completes r.states c low high d → recoloured_number r best ≤ recoloured_number r d
 none_less-chosen {r} {c} {best} {low} {high} {v} rule most colouring other known rest chosen less d completes =
     let same : entry r d v ≡ entry r c v = entry-chosen rule most colouring completes known chosen in
     omega (arith, greater_number rule other completes known.below rest (omega arith))
@@ -109,16 +109,16 @@ Completes-last {k} {c} {d} {low} {high} few most colouring completes = record {
 }
 
 -- where none is free, the two make one rule
-pub number_of-completes : {r : LocalRule} {c d : Colouring} → IsRule r → IsColouring r.states c → Completes r.states c 0 0 d → number_of r c ≡ number_of r d
-number_of-completes {r} {c} {d} rule colouring completes = number_of-same r c d (λ u l.
+pub recoloured_number-completes : {r : LocalRule} {c d : Colouring} → IsRule r → IsColouring r.states c → Completes r.states c 0 0 d → recoloured_number r c ≡ recoloured_number r d
+recoloured_number-completes {r} {c} {d} rule colouring completes = recoloured_number-same r c d (λ u l.
     sym (entry-chosen rule (omega arith) colouring completes (record { below = l; near = inl refl }) (inr (omega arith))))
 
 -- so the lesser of the two is the least
-pub IsLeastOf-last : {r : LocalRule} {c before found : Colouring} {low high : ℕ} → high ≤ low + 1 → high ≤ r.states → IsColouring r.states c → IsLeastOf r c 0 0 before found → IsLeastOf r c low high before found
-IsLeastOf-last {r} {c} {before} {found} {low} {high} few most colouring h = record {
+pub IsLeastColouring-last : {r : LocalRule} {c before found : Colouring} {low high : ℕ} → high ≤ low + 1 → high ≤ r.states → IsColouring r.states c → IsLeastColouring r c 0 0 before found → IsLeastColouring r c low high before found
+IsLeastColouring-last {r} {c} {before} {found} {low} {high} few most colouring h = record {
   colouring = h.colouring;
   one = ⊎_elim (λ (kept : found ≡ before). inl kept)
-      (λ (new : Completes r.states c 0 0 found × (number_of r found < number_of r before)). inr (record { colouring = new.0.colouring; mirrored = new.0.mirrored; letters = λ a l chosen. new.0.letters a l (inr (omega arith)) }, new.1))
+      (λ (new : Completes r.states c 0 0 found × (recoloured_number r found < recoloured_number r before)). inr (record { colouring = new.0.colouring; mirrored = new.0.mirrored; letters = λ a l chosen. new.0.letters a l (inr (omega arith)) }, new.1))
       h.one;
   least = λ d completes. h.least d (Completes-last few most colouring completes);
 }
@@ -195,25 +195,25 @@ Completes-before {k} {c} {d} {e} {low} {high} {next} {colour} {from} {to} h leas
 -- found is the least of one and of those that complete the colouring and have the letter of a colour below n at the next one
 pub record IsLeastOver (r : LocalRule) (c : Colouring) (low high next n : ℕ) (before found : Colouring) : Type 0 where
   pub colouring : IsColouring r.states found
-  pub one : (found ≡ before) ⊎ (Completes r.states c low high found × (number_of r found < number_of r before))
-  pub least : (d : Colouring) → Completes r.states c low high d → (q : ℕ) → low ≤ q → q < n → slice_index d.letters next ≡ slice_index c.letters q → number_of r found ≤ number_of r d
+  pub one : (found ≡ before) ⊎ (Completes r.states c low high found × (recoloured_number r found < recoloured_number r before))
+  pub least : (d : Colouring) → Completes r.states c low high d → (q : ℕ) → low ≤ q → q < n → slice_index d.letters next ≡ slice_index c.letters q → recoloured_number r found ≤ recoloured_number r d
 
 -- one less, or as before
-pub no_greater : (r : LocalRule) {A : Type 0} {before found : Colouring} → (found ≡ before) ⊎ (A × (number_of r found < number_of r before)) → number_of r found ≤ number_of r before
-no_greater r {A} {before} {found} one = ⊎_elim (λ (same : found ≡ before). let number = ap (number_of r) same in omega arith) (λ less. omega (arith, less.1)) one
+pub no_greater : (r : LocalRule) {A : Type 0} {before found : Colouring} → (found ≡ before) ⊎ (A × (recoloured_number r found < recoloured_number r before)) → recoloured_number r found ≤ recoloured_number r before
+no_greater r {A} {before} {found} one = ⊎_elim (λ (same : found ≡ before). let number = ap (recoloured_number r) same in omega arith) (λ less. omega (arith, less.1)) one
 
 -- one colour more is tried
 pub IsLeastOver-more : {r : LocalRule} {c e before found new : Colouring} {low high next n from to : ℕ} → IsNext r.states c low high next n e from to → low ≤ n → n < high
-    → IsLeastOver r c low high next n before found → IsLeastOf r e from to found new → IsLeastOver r c low high next (n + 1) before new
+    → IsLeastOver r c low high next n before found → IsLeastColouring r e from to found new → IsLeastOver r c low high next (n + 1) before new
 IsLeastOver-more {r} {c} {e} {before} {found} {new} {low} {high} {next} {n} {from} {to} h least most over found_new =
-    let less : number_of r new ≤ number_of r found = no_greater r found_new.one in
-    let old : number_of r found ≤ number_of r before = no_greater r over.one in
+    let less : recoloured_number r new ≤ recoloured_number r found = no_greater r found_new.one in
+    let old : recoloured_number r found ≤ recoloured_number r before = no_greater r over.one in
     record {
       colouring = found_new.colouring;
       one = ⊎_elim
           (λ (same : new ≡ found). ⊎_elim (λ (kept : found ≡ before). inl (same ∙ kept))
-          (λ (other : Completes r.states c low high found × (number_of r found < number_of r before)). inr (subst (λ x. Completes r.states c low high x) (sym same) other.0, omega (arith, other.1))) over.one)
-          (λ (other : Completes r.states e from to new × (number_of r new < number_of r found)). inr (Completes-before h least most other.0, omega (arith, other.1)))
+          (λ (other : Completes r.states c low high found × (recoloured_number r found < recoloured_number r before)). inr (subst (λ x. Completes r.states c low high x) (sym same) other.0, omega (arith, other.1))) over.one)
+          (λ (other : Completes r.states e from to new × (recoloured_number r new < recoloured_number r found)). inr (Completes-before h least most other.0, omega (arith, other.1)))
           found_new.one;
       least = λ d completes q start below same.
           ⊎_elim (λ before. omega (arith, over.least d completes q start before same))
@@ -224,9 +224,9 @@ IsLeastOver-more {r} {c} {e} {before} {found} {new} {low} {high} {next} {n} {fro
     }
 
 -- all are tried
-pub IsLeastOf-over : {r : LocalRule} {c before found : Colouring} {low high : ℕ} (next : ℕ) → next < r.states → low ≤ next → next < high → IsColouring r.states c
-    → IsLeastOver r c low high next high before found → IsLeastOf r c low high before found
-IsLeastOf-over {r} {c} {before} {found} {low} {high} next l from to colouring over = record {
+pub IsLeastColouring-over : {r : LocalRule} {c before found : Colouring} {low high : ℕ} (next : ℕ) → next < r.states → low ≤ next → next < high → IsColouring r.states c
+    → IsLeastOver r c low high next high before found → IsLeastColouring r c low high before found
+IsLeastColouring-over {r} {c} {before} {found} {low} {high} next l from to colouring over = record {
   colouring = over.colouring;
   one = over.one;
   least = λ d completes. let at = free_place next l from to colouring completes in over.least d completes at.0 at.1 at.2 at.3;

@@ -46,14 +46,14 @@ IsWord-old_word : (r : LocalRule) (c : Colouring) (v : ℕ) → IsColouring r.st
 IsWord-old_word r c v colouring below = IsWord-colours (AreInverse-swap colouring) (word_of r.states r.width v) (IsWord-word_of r.states r.width v below)
 
 -- when i letters are read: those that are left, a power, and the value of the old letters
-pub record IsRead (r : LocalRule) (c : Colouring) (v i left power old : ℕ) : Type 0 where
+pub record IsReadSoFar (r : LocalRule) (c : Colouring) (v i left power old : ℕ) : Type 0 where
   pub rest : left ≡ value r.states (take (r.width - i) (word_of r.states r.width v))
   pub raised : power ≡ r.states ^ i
   pub reads : old ≡ value r.states (read_as c.mirrored (drop (r.width - i) (old_word r c v)))
 
 -- none is read
-pub IsRead-none : {r : LocalRule} (c : Colouring) (v : ℕ) → v < r.states ^ r.width → IsRead r c v 0 v 1 0
-IsRead-none {r} c v below =
+pub IsReadSoFar-none : {r : LocalRule} (c : Colouring) (v : ℕ) → v < r.states ^ r.width → IsReadSoFar r c v 0 v 1 0
+IsReadSoFar-none {r} c v below =
     let w : List ℕ = word_of r.states r.width v in
     let nothing : drop (r.width - 0) (old_word r c v) ≡ [] = drop_all (r.width - 0) (old_word r c v) (omega (arith, length-old_word r c v)) in
     record {
@@ -63,9 +63,9 @@ IsRead-none {r} c v below =
     }
 
 -- the values are few
-pub IsRead-few : {r : LocalRule} {c : Colouring} {v i left power old : ℕ} → IsRule r → IsColouring r.states c → v < r.states ^ r.width → i ≤ r.width → IsRead r c v i left power old
+pub IsReadSoFar-few : {r : LocalRule} {c : Colouring} {v i left power old : ℕ} → IsRule r → IsColouring r.states c → v < r.states ^ r.width → i ≤ r.width → IsReadSoFar r c v i left power old
     → (old < r.states ^ i) × (r.states ^ i ≤ 256)
-IsRead-few {r} {c} {v} {i} {left} {power} {old} rule colouring below l h =
+IsReadSoFar-few {r} {c} {v} {i} {left} {power} {old} rule colouring below l h =
     let x : List ℕ = drop (r.width - i) (old_word r c v) in
     let word : IsWord r.states x = All-drop (λ a. a < r.states) (r.width - i) (old_word r c v) (IsWord-old_word r c v colouring below) in
     let long : length (read_as c.mirrored x) ≡ i = length-read_as c.mirrored x ∙ length-drop (r.width - i) (old_word r c v) ∙ omega (arith, length-old_word r c v) in
@@ -77,10 +77,10 @@ IsRead-few {r} {c} {v} {i} {left} {power} {old} rule colouring below l h =
     )
 
 -- one letter more is read
-pub IsRead-more : {r : LocalRule} {c : Colouring} {v i left power old : ℕ} → v < r.states ^ r.width → i < r.width → IsRead r c v i left power old
-    → IsRead r c v (i + 1) (left / r.states) (power * r.states)
+pub IsReadSoFar-more : {r : LocalRule} {c : Colouring} {v i left power old : ℕ} → v < r.states ^ r.width → i < r.width → IsReadSoFar r c v i left power old
+    → IsReadSoFar r c v (i + 1) (left / r.states) (power * r.states)
     (if c.mirrored then old * r.states + slice_index c.letters (left % r.states) else slice_index c.letters (left % r.states) * power + old)
-IsRead-more {r} {c} {v} {i} {left} {power} {old} below l h =
+IsReadSoFar-more {r} {c} {v} {i} {left} {power} {old} below l h =
     let k : ℕ = r.states in
     let w : List ℕ = word_of k r.width v in
     let x : List ℕ = old_word r c v in

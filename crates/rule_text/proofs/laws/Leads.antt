@@ -15,38 +15,38 @@ use Rattle.rule_text.specs.declared.text_fault.TextFault.TheVariants as fault
 use Rattle.rule_text.specs.declared.head.Kind.{Kind}
 use Rattle.rule_text.specs.declared.head.Kind.TheVariants as kind
 use Rattle.rule_text.specs.RuleTexts.{IsDigit, IsDecimal, Said, Says, Bare, IsSaid, IsTextFault, NoForm}
-use Rattle.rule_text.specs.Heads.{GoesOver, GoesOverField, GoesOverOffset, LacksField, LacksOffset, IsFormAt, IsNoKind, IsEntries, IsDecimalStop, IsHexStop, colon, entries_of, kind_text, sign}
+use Rattle.rule_text.specs.Heads.{GoesOver, GoesOverField, GoesOverOffset, LacksField, LacksOffset, IsRuleFormAt, IsNoKind, IsEntries, IsDecimalStop, IsHexStop, colon, entries_of, kind_text, sign}
 use Rattle.rule_text.proofs.laws.Parts.{Field, Signed, Kinds, Tells, AfterStates, saying, Field-after, Field-lacks, Field-more, Signed-after, Signed-lacks, Signed-more, Kinds-after, Kinds-lacks, Kinds-more, zero_digit}
 use Rattle.rule_text.proofs.laws.Heads.{Says-parts, parts-Says, no_colon}
 
 -- the text was gone over up to this place: with what may come after, and with nothing else, it is a text of the grammar
-pub record Leads (text : List ℕ) (from : ℕ) (After : ℕ → List ℕ → Said → Type 0) : Type 0 where
+pub record TextLeads (text : List ℕ) (from : ℕ) (After : ℕ → List ℕ → Said → Type 0) : Type 0 where
   pub whole : (y : List ℕ) (s : Said) → After (length (take from text)) y s → Says (take from text ++ y) s
   pub only : (y : List ℕ) (s : Said) → Says (take from text ++ y) s → After (length (take from text)) y s
 
 -- one part more: y comes after it where `join y` comes before it
-Leads-part : {text : List ℕ} {from to : ℕ} {After Next : ℕ → List ℕ → Said → Type 0} → Leads text from After → (join : List ℕ → List ℕ) (step : ℕ → ℕ)
+TextLeads-part : {text : List ℕ} {from to : ℕ} {After Next : ℕ → List ℕ → Said → Type 0} → TextLeads text from After → (join : List ℕ → List ℕ) (step : ℕ → ℕ)
     → ((y : List ℕ) → take to text ++ y ≡ take from text ++ join y) → length (take to text) ≡ step (length (take from text))
     → ((p : ℕ) (y : List ℕ) (s : Said) → Next (step p) y s → After p (join y) s) → ((p : ℕ) (y : List ℕ) (s : Said) → After p (join y) s → Next (step p) y s)
-    → Leads text to Next
-Leads-part {text} {from} {to} {After} {Next} l join step cut long before after = record {
+    → TextLeads text to Next
+TextLeads-part {text} {from} {to} {After} {Next} l join step cut long before after = record {
   whole = λ y s next. subst (λ z. Says z s) (sym (cut y)) (l.whole (join y) s (before _ y s (subst (λ p. Next p y s) long next)));
   only = λ y s says. subst (λ p. Next p y s) (sym long) (after _ y s (l.only (join y) s (subst (λ z. Says z s) (cut y) says)));
 }
 
 -- a text goes wrong where what the beginning leads to doesn't go on
-Leads-stuck : {text : List ℕ} {from : ℕ} {After : ℕ → List ℕ → Said → Type 0} → Leads text from After → (join : List ℕ → List ℕ) (place : ℕ) → place ≤ length text
+TextLeads-stuck : {text : List ℕ} {from : ℕ} {After : ℕ → List ℕ → Said → Type 0} → TextLeads text from After → (join : List ℕ → List ℕ) (place : ℕ) → place ≤ length text
     → ((y : List ℕ) → take place text ++ y ≡ take from text ++ join y) → ((p : ℕ) → (y : List ℕ) × (s : Said) × After p (join y) s)
     → ((p : ℕ) (y : List ℕ) (s : Said) → slice_get y 0 ≡ slice_get text place → ¬ After p (join y) s) → IsFormFault IsSaid text place
-Leads-stuck {text} l join place within cut more none =
+TextLeads-stuck {text} l join place within cut more none =
     let next = more _ in
     IsFormFault-next text place within
     (record { more = next.0; whole = (next.1, subst (λ z. Says z next.1) (sym (cut next.0)) (l.whole (join next.0) next.1 next.2)) })
     (λ y same said. none _ y said.0 same (l.only (join y) said.0 (subst (λ z. Says z said.0) (cut y) said.1)))
 
 -- K and its colon
-pub Leads-states : {text : List ℕ} {to n : ℕ} → GoesOverField text 0 to n → Leads text to (AfterStates n)
-Leads-states {text} {to} {n} h =
+pub TextLeads-states : {text : List ℕ} {to n : ℕ} → GoesOverField text 0 to n → TextLeads text to (AfterStates n)
+TextLeads-states {text} {to} {n} h =
     let d = h.digits in
     let cut : (y : List ℕ) → take to text ++ y ≡ d ++ colon ∷ y = λ y. ap (λ z. z ++ y) h.over ∙ append_assoc d (codes ":") y in
     let long : length (take to text) ≡ 0 + length d + 1 = ap length h.over ∙ omega (arith, length-append d (codes ":")) in
@@ -63,25 +63,25 @@ Leads-states {text} {to} {n} h =
     }
 
 -- M and its colon
-pub Leads-field : {text : List ℕ} {from to n : ℕ} {After : ℕ → ℕ → List ℕ → Said → Type 0} → Leads text from (Field After) → GoesOverField text from to n
-    → Leads text to (After n)
-Leads-field {text} {from} {to} {n} {After} l h =
+pub TextLeads-field : {text : List ℕ} {from to n : ℕ} {After : ℕ → ℕ → List ℕ → Said → Type 0} → TextLeads text from (Field After) → GoesOverField text from to n
+    → TextLeads text to (After n)
+TextLeads-field {text} {from} {to} {n} {After} l h =
     let d = h.digits in
     let t = take from text in
-    Leads-part l (λ y. d ++ colon ∷ y) (λ p. p + length d + 1)
+    TextLeads-part l (λ y. d ++ colon ∷ y) (λ p. p + length d + 1)
     (λ y. ap (λ z. z ++ y) h.over ∙ append_assoc (t ++ d) (codes ":") y ∙ append_assoc t d (colon ∷ y))
     (ap length h.over ∙ omega (arith, length-append (t ++ d) (codes ":"), length-append t d))
     (λ p y s next. record { digits = d; rest = y; decimal = h.decimal; parts = refl; after = subst (λ j. After j (p + length d + 1) y s) h.value next })
     (λ p y s field. subst (λ j. After j (p + length d + 1) y s) (sym h.value) (Field-after {After = After} d y h.decimal field))
 
 -- O and its colon
-pub Leads-offset : {text : List ℕ} {from to : ℕ} {z : ℤ} {After : ℤ → ℕ → List ℕ → Said → Type 0} → Leads text from (Signed After) → GoesOverOffset text from to z
-    → Leads text to (After z)
-Leads-offset {text} {from} {to} {z} {After} l h =
+pub TextLeads-offset : {text : List ℕ} {from to : ℕ} {z : ℤ} {After : ℤ → ℕ → List ℕ → Said → Type 0} → TextLeads text from (Signed After) → GoesOverOffset text from to z
+    → TextLeads text to (After z)
+TextLeads-offset {text} {from} {to} {z} {After} l h =
     let d = h.digits in
     let g = sign h.minus in
     let t = take from text in
-    Leads-part l (λ y. g ++ (d ++ colon ∷ y)) (λ p. p + length g + length d + 1)
+    TextLeads-part l (λ y. g ++ (d ++ colon ∷ y)) (λ p. p + length g + length d + 1)
     (λ y. ap (λ x. x ++ y) h.over ∙ append_assoc (t ++ g ++ d) (codes ":") y ∙ append_assoc (t ++ g) d (colon ∷ y) ∙ append_assoc t g (d ++ colon ∷ y))
     (ap length h.over ∙ omega (arith, length-append (t ++ g ++ d) (codes ":"), length-append (t ++ g) d, length-append t g))
     (λ p y s next. record {
@@ -93,11 +93,11 @@ Leads-offset {text} {from} {to} {z} {After} l h =
     (λ p y s signed. subst (λ o. After o (p + length g + length d + 1) y s) (sym h.value) (Signed-after {After = After} h.minus d y h.decimal signed))
 
 -- a kind
-pub Leads-kind : {text : List ℕ} {from to k m : ℕ} {o : ℤ} → Leads text from (Kinds k m o) → (kd : Kind) → GoesOver text from to (kind_text kd)
-    → Leads text to (Tells k m o kd)
-Leads-kind {text} {from} {to} {k} {m} {o} l kd over =
+pub TextLeads-kind : {text : List ℕ} {from to k m : ℕ} {o : ℤ} → TextLeads text from (Kinds k m o) → (kd : Kind) → GoesOver text from to (kind_text kd)
+    → TextLeads text to (Tells k m o kd)
+TextLeads-kind {text} {from} {to} {k} {m} {o} l kd over =
     let t = take from text in
-    Leads-part l (λ y. kind_text kd ++ y) (λ p. p + 1) (λ y. ap (λ x. x ++ y) over ∙ append_assoc t (kind_text kd) y)
+    TextLeads-part l (λ y. kind_text kd ++ y) (λ p. p + 1) (λ y. ap (λ x. x ++ y) over ∙ append_assoc t (kind_text kd) y)
     (ap length over ∙ omega (arith, length-append t (kind_text kd), one kd))
     (λ p y s tells. record { kd = kd; rest = y; parts = refl; tells = tells })
     (λ p y s kinds. Kinds-after kd y kinds)
@@ -126,39 +126,39 @@ named : {text : List ℕ} {f : TextFault} {place : ℕ} → f ≡ fault.Form pla
 named {text} {f} {place} is form = subst (λ (g : TextFault). IsTextFault text g) (sym is) (NoForm place form)
 
 -- M or its colon is lacking
-pub Leads-lacks_field : {text : List ℕ} {from : ℕ} {f : TextFault} {After : ℕ → ℕ → List ℕ → Said → Type 0} → Leads text from (Field After)
-    → ((n p : ℕ) → (y : List ℕ) × (s : Said) × After n p y s) → IsFormAt text f (LacksField text from) → IsTextFault text f
-Leads-lacks_field {text} {from} {f} {After} l more (place, is, within, h) =
-    named is (Leads-stuck l (λ y. h.digits ++ y) place within (λ y. ap (λ x. x ++ y) h.over ∙ append_assoc (take from text) h.digits y)
+pub TextLeads-lacks_field : {text : List ℕ} {from : ℕ} {f : TextFault} {After : ℕ → ℕ → List ℕ → Said → Type 0} → TextLeads text from (Field After)
+    → ((n p : ℕ) → (y : List ℕ) × (s : Said) × After n p y s) → IsRuleFormAt text f (LacksField text from) → IsTextFault text f
+TextLeads-lacks_field {text} {from} {f} {After} l more (place, is, within, h) =
+    named is (TextLeads-stuck l (λ y. h.digits ++ y) place within (λ y. ap (λ x. x ++ y) h.over ∙ append_assoc (take from text) h.digits y)
     (λ p. Field-more {After = After} more p h.digits h.decimal)
     (λ p y s same. Field-lacks {After = After} h.digits y (get_or text place 0) (byte_at y text place same) h.decimal h.longest h.no_colon))
 
 -- O or its colon is lacking
-pub Leads-lacks_offset : {text : List ℕ} {from : ℕ} {e : TextFault} {After : ℤ → ℕ → List ℕ → Said → Type 0} → Leads text from (Signed After)
-    → ((z : ℤ) (p : ℕ) → (y : List ℕ) × (s : Said) × After z p y s) → IsFormAt text e (LacksOffset text from) → IsTextFault text e
-Leads-lacks_offset {text} {from} {e} {After} l more (place, is, within, h) =
+pub TextLeads-lacks_offset : {text : List ℕ} {from : ℕ} {e : TextFault} {After : ℤ → ℕ → List ℕ → Said → Type 0} → TextLeads text from (Signed After)
+    → ((z : ℤ) (p : ℕ) → (y : List ℕ) × (s : Said) × After z p y s) → IsRuleFormAt text e (LacksOffset text from) → IsTextFault text e
+TextLeads-lacks_offset {text} {from} {e} {After} l more (place, is, within, h) =
     let f = h.field in
     let g = sign h.minus in
     let t = take from text in
-    named is (Leads-stuck l (λ y. g ++ (f.digits ++ y)) place within
+    named is (TextLeads-stuck l (λ y. g ++ (f.digits ++ y)) place within
     (λ y. ap (λ x. x ++ y) (f.over ∙ ap (λ x. x ++ f.digits) h.over) ∙ append_assoc (t ++ g) f.digits y ∙ append_assoc t g (f.digits ++ y))
     (λ p. Signed-more {After = After} more p h.minus f.digits f.decimal)
     (λ p y s same. Signed-lacks {After = After} h.minus f.digits y (get_or text place 0) (byte_at y text place same) f.decimal f.longest f.no_colon
     (λ plain none minus. h.no_sign plain (ap (λ i. get_or text i 0) (sym (f.stays none)) ∙ minus))))
 
 -- neither kind comes
-pub Leads-lacks_kind : {text : List ℕ} {from k m : ℕ} {o : ℤ} {f : TextFault} → Leads text from (Kinds k m o)
-    → IsFormAt text f (λ place. (place ≡ from) × IsNoKind (get_or text place 0)) → IsTextFault text f
-Leads-lacks_kind {text} {from} {k} {m} {o} {f} l (place, is, within, at_none) =
-    named is (Leads-stuck l (λ y. y) place within (λ y. ap (λ j. take j text ++ y) at_none.0) (λ p. Kinds-more k m o p)
+pub TextLeads-lacks_kind : {text : List ℕ} {from k m : ℕ} {o : ℤ} {f : TextFault} → TextLeads text from (Kinds k m o)
+    → IsRuleFormAt text f (λ place. (place ≡ from) × IsNoKind (get_or text place 0)) → IsTextFault text f
+TextLeads-lacks_kind {text} {from} {k} {m} {o} {f} l (place, is, within, at_none) =
+    named is (TextLeads-stuck l (λ y. y) place within (λ y. ap (λ j. take j text ++ y) at_none.0) (λ p. Kinds-more k m o p)
     (λ p y s same. Kinds-lacks y (subst IsNoKind (sym (byte_at y text place same)) at_none.1)))
 
 -- what a head leads to is what it says, and it goes wrong where its entries do
-pub Leads-head : {text : List ℕ} {from k m : ℕ} {z : ℤ} (kd : Kind) (o : ℤ) → o ≡ z → Leads text from (Tells k m z kd) → from ≤ length text
+pub TextLeads-head : {text : List ℕ} {from k m : ℕ} {z : ℤ} (kd : Kind) (o : ℤ) → o ≡ z → TextLeads text from (Tells k m z kd) → from ≤ length text
     → (IsEntries kd (drop from text) → Says text (saying k m o (entries_of kd (drop from text)) from))
     × ((n : ℕ) → IsFormFault (IsEntries kd) (drop from text) n → IsFormFault IsSaid text (from + n))
-Leads-head {text} {from} {k} {m} {z} kd o is leads within =
-    let l = subst (λ (y : ℤ). Leads text from (Tells k m y kd)) (sym is) leads in
+TextLeads-head {text} {from} {k} {m} {z} kd o is leads within =
+    let l = subst (λ (y : ℤ). TextLeads text from (Tells k m y kd)) (sym is) leads in
     let long : length (take from text) ≡ from = length-take-le from text within in
     let says : (y : List ℕ) → IsEntries kd y → Says (take from text ++ y) (saying k m o (entries_of kd y) from) = λ y entries.
     l.whole y _ (entries, ap (saying k m o (entries_of kd y)) (sym long)) in (

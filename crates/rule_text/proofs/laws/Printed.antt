@@ -14,7 +14,7 @@ use Rattle.word_image.specs.LocalRules.{LocalRule, IsShape, IsRule}
 use Rattle.word_image.specs.Digits.{lower_digit, hex_value, IsHexDigit, letter_at}
 use Rattle.word_image.proofs.laws.RuleFaults.{table_fault-IsWord}
 use Rattle.rule_text.specs.RuleTexts.{IsDigit, IsDecimal, IsOffset, Plain, Minus, Says, InTable, Table, IsRuleText, decimal_value, in_text}
-use Rattle.rule_text.specs.PrintedRules.{offset_text, printed, head}
+use Rattle.rule_text.specs.PrintedRules.{offset_text, printed_rule, head}
 use Rattle.rule_text.proofs.laws.Parts.{saying}
 use Rattle.rule_text.proofs.laws.Heads.{Says-same}
 use Rattle.rule_text.proofs.laws.Numbers.{fault_of-shape}
@@ -87,8 +87,8 @@ letters-lower_digits (a ∷ table) all =
     (letters-lower_digits table (All-tail (λ a. a < 16) a table all))
 
 -- the printed form of an accepted rule says the rule
-pub IsRuleText-printed : (r : LocalRule) → IsRule r → IsRuleText (printed r) r
-IsRuleText-printed r rule =
+pub IsRuleText-printed_rule : (r : LocalRule) → IsRule r → IsRuleText (printed_rule r) r
+IsRuleText-printed_rule r rule =
     let shape = rule.shape in
     let most = shape.most_states in
     let width = shape.most_width in
@@ -99,11 +99,11 @@ IsRuleText-printed r rule =
     let begin = head (decimal r.states) (decimal r.width) (offset_text r.offset) (codes "t") in
     let in_table = InTable (decimal r.states) (decimal r.width) (offset_text r.offset) (map lower_digit r.table) r.offset k.decimal m.decimal
     (IsOffset-offset_text r.states r.width r.offset shape) digits in
-    let says : Says (printed r) (saying r.states r.width r.offset (Table (map letter_at (map lower_digit r.table))) (length begin)) =
+    let says : Says (printed_rule r) (saying r.states r.width r.offset (Table (map letter_at (map lower_digit r.table))) (length begin)) =
     Says-same in_table refl (sym k.value) (sym m.value) refl in
     record {
       said = saying r.states r.width r.offset (Table r.table) (length begin);
-      says = subst (λ (t : List ℕ). Says (printed r) (saying r.states r.width r.offset (Table t) (length begin))) (letters-lower_digits r.table small) says;
+      says = subst (λ (t : List ℕ). Says (printed_rule r) (saying r.states r.width r.offset (Table t) (length begin))) (letters-lower_digits r.table small) says;
       accepted = fault_of-shape (saying r.states r.width r.offset (Table r.table) (length begin)) shape
           ∙ ap (option_map (in_text (length begin))) (table_fault-IsWord r.states r.width r.table rule.entries rule.letters);
       rule = refl;

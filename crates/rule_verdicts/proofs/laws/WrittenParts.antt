@@ -6,9 +6,9 @@ use Rattle.word_image.specs.Graphs.{pair_count}
 use Rattle.word_image.specs.declared.side.Side.{Side}
 use Rattle.word_image.specs.Sides.{Together}
 use Rattle.pair_rank.specs.Sides.{IsRankOf}
-use Rattle.certificate_laws.specs.WrittenCertificates.{AreRanks}
+use Rattle.certificate_laws.specs.WrittenCertificates.{IsRankRow}
 
 -- a row of the ranks of an equal rule
-pub AreRanks-row : {q r : LocalRule} {row : List (Option ℕ)} (side : Side) → q ≡ r → length row ≡ pair_count q → ((p : ℕ) → p < pair_count q → IsRankOf side q p (get_or row p None))
-    → AreRanks r (Together side r) row
-AreRanks-row {row = row} side same each_pair ranks = subst (λ (s : LocalRule). AreRanks s (Together side s) row) same (record { each_pair = each_pair; ranks = ranks })
+pub IsRankRow-row : {q r : LocalRule} {row : List (Option ℕ)} (side : Side) → q ≡ r → length row ≡ pair_count q → ((p : ℕ) → p < pair_count q → IsRankOf side q p (get_or row p None))
+    → IsRankRow r (Together side r) row
+IsRankRow-row {row = row} side same each_pair ranks = subst (λ (s : LocalRule). IsRankRow s (Together side s) row) same (record { each_pair = each_pair; ranks = ranks })

@@ -6,8 +6,8 @@ use Rattle.word_image.specs.Words.{IsOrphan}
 use Rattle.tail_config.specs.Tails.{TailConfig, IsTail}
 use Rattle.tail_preimage.specs.Preimages.{PlacedConfig, Shape, IsLeastGap, stretch, IsGap}
 use Rattle.tail_preimage.specs.Answers.{IsAnswer, placed_config}
-use Rattle.tail_preimage.specs.Relations.{IsNodeSet, Rows, Open}
-use Rattle.tail_preimage.specs.Sides.{AreParts, Passes, Starts, IsFirstGap}
+use Rattle.tail_preimage.specs.Relations.{IsNodeSet, Relates, Open}
+use Rattle.tail_preimage.specs.Sides.{AreTailParts, PassesThrough, Starts, IsFirstGap}
 use Rattle.tail_preimage.specs.FirstWalks.{AreLoopWalks, IsLeastNode}
 use Rattle.tail_preimage.specs.declared.answer.Pre.{Pre}
 use Rattle.tail_preimage.specs.declared.answer.Pre.TheVariants.{From, Gap}
@@ -15,28 +15,28 @@ use Rattle.tail_preimage.specs.declared.shapes.Parts.{Parts}
 use Rattle.tail_preimage.proofs.laws.Walks.{IsWalk-first}
 use Rattle.tail_preimage.proofs.laws.Steps.{Open-rounds}
 use Rattle.tail_preimage.proofs.laws.PlacedWalks.{not_MapsTo-orphan}
-use Rattle.tail_preimage.proofs.laws.Sides.{SomeRounds-side, walks-Starts, IsOrphan-Passes, Passes-IsOrphan}
+use Rattle.tail_preimage.proofs.laws.Sides.{SomeRounds-side, walks-Starts, IsOrphan-PassesThrough, PassesThrough-IsOrphan}
 use Rattle.tail_preimage.proofs.laws.Shapes.{Through-map}
 use Rattle.tail_preimage.proofs.laws.LeastPreimages.{IsLeastPreimage-unique}
 
 -- where 16 right periods lead through any number of them does
-Passes-any : {r : LocalRule} {t : TailConfig} {parts : Parts} → AreParts r t parts → (b a : ℕ) → Passes r parts b 16 → Passes r parts b a
-Passes-any {r} {parts = parts} h b a =
-    let C : ℕ → ℕ → Type 0 = Rows parts.right.period in
-    Through-map r parts (Open (Rows parts.left.period) b) (Open C 16) (Open (Rows parts.left.period) b) (Open C a) (λ v _ leads. leads) (λ w node leads.
+PassesThrough-any : {r : LocalRule} {t : TailConfig} {parts : Parts} → AreTailParts r t parts → (b a : ℕ) → PassesThrough r parts b 16 → PassesThrough r parts b a
+PassesThrough-any {r} {parts = parts} h b a =
+    let C : ℕ → ℕ → Type 0 = Relates parts.right.period in
+    Through-map r parts (Open (Relates parts.left.period) b) (Open C 16) (Open (Relates parts.left.period) b) (Open C a) (λ v _ leads. leads) (λ w node leads.
     let (sum, few, (n, on, both, some, rounds)) = SomeRounds-side h.rule h.right node leads in
     Open-rounds C n on w some rounds a)
 
 -- the first numbers of periods that lead nowhere are the least gap
-pub IsGap-first : {r : LocalRule} {t : TailConfig} {parts : Parts} → IsTail r.states t → AreParts r t parts → (b a : ℕ) → IsFirstGap r parts b a → IsGap r t b a (stretch t b a)
+pub IsGap-first : {r : LocalRule} {t : TailConfig} {parts : Parts} → IsTail r.states t → AreTailParts r t parts → (b a : ℕ) → IsFirstGap r parts b a → IsGap r t b a (stretch t b a)
 IsGap-first {r} {t} ht h b a gap =
-    let orphan : IsOrphan r (stretch t b a) = Passes-IsOrphan ht h b a gap.closed in
+    let orphan : IsOrphan r (stretch t b a) = PassesThrough-IsOrphan ht h b a gap.closed in
     record {
       least = record {
         word = refl;
         orphan = orphan;
-        before_least = λ i j other. ⊎_elim (λ l. absurd (gap.before_least i l (λ passes. IsOrphan-Passes h i j other (Passes-any h i j passes)))) (λ l. l) (cases_lt i b);
-        after_least = λ j other. ⊎_elim (λ l. absurd (gap.after_least j l (IsOrphan-Passes h b j other))) (λ l. l) (cases_lt j a);
+        before_least = λ i j other. ⊎_elim (λ l. absurd (gap.before_least i l (λ passes. IsOrphan-PassesThrough h i j other (PassesThrough-any h i j passes)))) (λ l. l) (cases_lt i b);
+        after_least = λ j other. ⊎_elim (λ l. absurd (gap.after_least j l (IsOrphan-PassesThrough h b j other))) (λ l. l) (cases_lt j a);
       };
       before_few = gap.before_few;
       after_few = gap.after_few;
@@ -44,7 +44,7 @@ IsGap-first {r} {t} ht h b a gap =
     }
 
 -- the least of the nodes from which walks of a shape lead
-pub Starts-least : {r : LocalRule} {t : TailConfig} {parts : Parts} {s : Shape} {set v : ℕ} → AreParts r t parts → IsNodeSet r (Starts r parts s) set → IsLeastNode set v
+pub Starts-least : {r : LocalRule} {t : TailConfig} {parts : Parts} {s : Shape} {set v : ℕ} → AreTailParts r t parts → IsNodeSet r (Starts r parts s) set → IsLeastNode set v
     → (u q : ℕ) (a b c : List ℕ) → AreLoopWalks r t s u q a b c → v ≤ u
 Starts-least {v = v} h set least u q a b c walks =
     ⊎_elim (λ l. absurd (least.least u l ((set.nodes u (IsWalk-first walks.left)).1 (walks-Starts h walks)))) (λ l. l) (cases_lt u v)

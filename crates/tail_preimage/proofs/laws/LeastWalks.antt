@@ -8,7 +8,7 @@ use Rattle.std.proofs.lemmas.List.{take-append-drop, take_all, take_more, take-t
 use Rattle.word_image.specs.LocalRules.{LocalRule, IsRule, value, node_count}
 use Rattle.word_image.specs.Graphs.{next, label}
 use Rattle.word_image.proofs.laws.Comparisons.{then_not_greater, slice_cmp-same}
-use Rattle.tail_preimage.specs.Walks.{IsWalk, Reaches, IsLeastWalk}
+use Rattle.tail_preimage.specs.Walks.{IsWalk, Reaches, IsLeastWalkInto}
 use Rattle.tail_preimage.specs.Relations.{Edge}
 use Rattle.tail_preimage.proofs.laws.Walks.{HasLastEdge, IsWalk-none, IsWalk-stays, IsWalk-cut, IsWalk-push, IsWalk-snoc, HasWalk-cons, IsWalk-last, same_first}
 use Rattle.tail_preimage.proofs.laws.Orders.{slice_cmp-append, slice_cmp-equal, key_not_greater}
@@ -116,7 +116,7 @@ IsLeastBegun-push {r} {w} {u} {goal} {n} {v} {x} rule h inside b letter spells r
     }
 
 -- at the end of the word it is the first walk
-pub IsLeastBegun-end : {r : LocalRule} {w : List ℕ} {u goal n v : ℕ} {x : List ℕ} → IsRule r → n ≡ length w → IsLeastBegun r w u goal n v x → IsLeastWalk r w u goal v x
+pub IsLeastBegun-end : {r : LocalRule} {w : List ℕ} {u goal n v : ℕ} {x : List ℕ} → IsRule r → n ≡ length w → IsLeastBegun r w u goal n v x → IsLeastWalkInto r w u goal v x
 IsLeastBegun-end {r} {w} {u} {goal} {n} {v} {x} rule e h =
     let d : ℕ = r.width - 1 in
     let none : drop n w ≡ [] = nil_from_length (drop n w) (omega (arith, length-drop n w)) in

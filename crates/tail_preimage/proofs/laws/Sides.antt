@@ -7,8 +7,8 @@ use Rattle.pair_laws.proofs.Sets.{IsBitSet-below}
 use Rattle.tail_config.specs.Tails.{TailConfig, IsTail}
 use Rattle.tail_preimage.specs.Walks.{HasWalk}
 use Rattle.tail_preimage.specs.Preimages.{Shape, stretch}
-use Rattle.tail_preimage.specs.Relations.{IsRelation, Rows, Steps, Open, SomeRounds}
-use Rattle.tail_preimage.specs.Sides.{IsSide, AreParts, Passes, Starts, IsPossible}
+use Rattle.tail_preimage.specs.Relations.{IsRelation, Relates, Steps, Open, SomeRounds}
+use Rattle.tail_preimage.specs.Sides.{IsSide, AreTailParts, PassesThrough, Starts, IsPossible}
 use Rattle.tail_preimage.specs.FirstWalks.{AreLoopWalks}
 use Rattle.tail_preimage.specs.declared.sides.Side.{Side}
 use Rattle.tail_preimage.specs.declared.shapes.Parts.{Parts}
@@ -17,18 +17,18 @@ use Rattle.tail_preimage.proofs.laws.Stretches.{repeat-more, IsWord-stretch}
 use Rattle.tail_preimage.proofs.laws.Steps.{Steps-none, Steps-stay, Steps-cons, Steps-first, Steps-end, SomeRounds-open}
 
 -- a relation's rows relate nodes to nodes
-pub IsRelation-below : {r : LocalRule} {E : ℕ → ℕ → Type 0} {table : List ℕ} → IsRelation r E table → (u v : ℕ) → u < node_count r → Rows table u v → (v < node_count r) × E u v
+pub IsRelation-below : {r : LocalRule} {E : ℕ → ℕ → Type 0} {table : List ℕ} → IsRelation r E table → (u v : ℕ) → u < node_count r → Relates table u v → (v < node_count r) × E u v
 IsRelation-below {r} {table = table} h u v l bit =
     let row = h.rows u l in
     let below : v < node_count r = IsBitSet-below (node_count r) _ v row.within bit in
     (below, (row.nodes v below).0 bit)
 
 -- periods lead from nodes to nodes
-pub IsSide-end : {r : LocalRule} {side : Side} {n u v : ℕ} → IsSide r side → u < node_count r → Steps (Rows side.period) n u v → v < node_count r
+pub IsSide-end : {r : LocalRule} {side : Side} {n u v : ℕ} → IsSide r side → u < node_count r → Steps (Relates side.period) n u v → v < node_count r
 IsSide-end {r} h node steps = Steps-end (λ a b l bit. IsBitSet-below (node_count r) _ b (h.period a l) bit) node steps
 
 -- steps of a word's relation are walks along copies of it
-pub Steps-repeat : {r : LocalRule} {p table : List ℕ} → IsRule r → IsRelation r (HasWalk r p) table → (n u v : ℕ) → u < node_count r → Steps (Rows table) n u v ↔ HasWalk r (repeat n p) u v
+pub Steps-repeat : {r : LocalRule} {p table : List ℕ} → IsRule r → IsRelation r (HasWalk r p) table → (n u v : ℕ) → u < node_count r → Steps (Relates table) n u v ↔ HasWalk r (repeat n p) u v
 Steps-repeat {r} rule h zero u v l = ((λ steps. subst (HasWalk r [] u) (Steps-stay steps) (_, IsWalk-none r u l)), (λ walk. Steps-none (IsWalk-stays walk.1)))
 Steps-repeat {r} {p} rule h (suc n) u v l = (
   (λ steps.
@@ -41,7 +41,7 @@ Steps-repeat {r} {p} rule h (suc n) u v l = (
 )
 
 -- and read backwards they are such walks backwards
-pub Steps-reversed : {r : LocalRule} {p table : List ℕ} → IsRule r → IsRelation r (λ u v. HasWalk r p v u) table → (n u v : ℕ) → u < node_count r → Steps (Rows table) n u v ↔ HasWalk r (repeat n p) v u
+pub Steps-reversed : {r : LocalRule} {p table : List ℕ} → IsRule r → IsRelation r (λ u v. HasWalk r p v u) table → (n u v : ℕ) → u < node_count r → Steps (Relates table) n u v ↔ HasWalk r (repeat n p) v u
 Steps-reversed {r} rule h zero u v l = ((λ steps. subst (λ n. HasWalk r [] n u) (Steps-stay steps) (_, IsWalk-none r u l)), (λ walk. Steps-none (sym (IsWalk-stays walk.1))))
 Steps-reversed {r} {p} rule h (suc n) u v l =
     let more : repeat (suc n) p ≡ repeat n p ++ p = let e : suc n ≡ n + 1 = omega arith in ap (λ i. repeat i p) e ∙ repeat-more n p in (
@@ -56,7 +56,7 @@ Steps-reversed {r} {p} rule h (suc n) u v l =
     )
 
 -- three walks of a shape lead from its starts, and from no other node
-pub Starts-walks : {r : LocalRule} {t : TailConfig} {parts : Parts} {s : Shape} {v : ℕ} → AreParts r t parts → 1 ≤ s.back → 1 ≤ s.on → v < node_count r → Starts r parts s v
+pub Starts-walks : {r : LocalRule} {t : TailConfig} {parts : Parts} {s : Shape} {v : ℕ} → AreTailParts r t parts → 1 ≤ s.back → 1 ≤ s.on → v < node_count r → Starts r parts s v
     → (w : ℕ) × (x : List ℕ) × (y : List ℕ) × (z : List ℕ) × AreLoopWalks r t s v w x y z
 Starts-walks {r} {t} {parts} {s} {v} h back on node (loop, (u, u_node, lefts, (n, n_node, middle, (w, rights, turn)))) =
     let x = (Steps-reversed h.rule h.left s.back v v node).0 loop in
@@ -67,7 +67,7 @@ Starts-walks {r} {t} {parts} {s} {v} h back on node (loop, (u, u_node, lefts, (n
     let z = (Steps-repeat h.rule h.right s.on w w (IsWalk-last third.1)).0 turn in
     (w, x.0, y.0, z.0, record { back_some = back; on_some = on; left = x.1; middle = y.1; right = z.1 })
 
-pub walks-Starts : {r : LocalRule} {t : TailConfig} {parts : Parts} {s : Shape} {v w : ℕ} {x y z : List ℕ} → AreParts r t parts → AreLoopWalks r t s v w x y z → Starts r parts s v
+pub walks-Starts : {r : LocalRule} {t : TailConfig} {parts : Parts} {s : Shape} {v w : ℕ} {x y z : List ℕ} → AreTailParts r t parts → AreLoopWalks r t s v w x y z → Starts r parts s v
 walks-Starts {r} {t} {parts} {s} {v} {w} {x} {y} {z} h walks =
     let (n, before, third) = HasWalk-cut h.rule (repeat s.before t.left ++ t.middle) (repeat s.after t.right) (y, walks.middle) in
     let (u, first, second) = HasWalk-cut h.rule (repeat s.before t.left) t.middle before in
@@ -88,19 +88,19 @@ walks-Starts {r} {t} {parts} {s} {v} {w} {x} {y} {z} h walks =
     )
 
 -- a shape is possible where three walks have it
-pub walks-IsPossible : {r : LocalRule} {t : TailConfig} {parts : Parts} {s : Shape} {v w : ℕ} {x y z : List ℕ} → AreParts r t parts → AreLoopWalks r t s v w x y z → IsPossible r parts s
+pub walks-IsPossible : {r : LocalRule} {t : TailConfig} {parts : Parts} {s : Shape} {v w : ℕ} {x y z : List ℕ} → AreTailParts r t parts → AreLoopWalks r t s v w x y z → IsPossible r parts s
 walks-IsPossible {v = v} h walks = record { back_some = walks.back_some; on_some = walks.on_some; node = v; below = IsWalk-first walks.left; starts = walks-Starts h walks }
 
 -- periods lead through where some walk leads along them, and nowhere else
-pub Passes-walk : {r : LocalRule} {t : TailConfig} {parts : Parts} → AreParts r t parts → (b a : ℕ) → Passes r parts b a → (u : ℕ) × (s : ℕ) × HasWalk r (stretch t b a) u s
-Passes-walk h b a (v, w, v_node, w_node, (u, lefts), middle, (s, rights)) =
+pub PassesThrough-walk : {r : LocalRule} {t : TailConfig} {parts : Parts} → AreTailParts r t parts → (b a : ℕ) → PassesThrough r parts b a → (u : ℕ) × (s : ℕ) × HasWalk r (stretch t b a) u s
+PassesThrough-walk h b a (v, w, v_node, w_node, (u, lefts), middle, (s, rights)) =
     let first = (Steps-reversed h.rule h.left b v u v_node).0 lefts in
     let second = ((h.middle.rows v v_node).nodes w w_node).0 middle in
     let third = (Steps-repeat h.rule h.right a w s w_node).0 rights in
     (u, s, HasWalk-join h.rule (HasWalk-join h.rule first second) third)
 
-pub walk-Passes : {r : LocalRule} {t : TailConfig} {parts : Parts} {u s : ℕ} → AreParts r t parts → (b a : ℕ) → HasWalk r (stretch t b a) u s → Passes r parts b a
-walk-Passes {r} {t} {parts} {u} {s} h b a walk =
+pub walk-PassesThrough : {r : LocalRule} {t : TailConfig} {parts : Parts} {u s : ℕ} → AreTailParts r t parts → (b a : ℕ) → HasWalk r (stretch t b a) u s → PassesThrough r parts b a
+walk-PassesThrough {r} {t} {parts} {u} {s} h b a walk =
     let (w, before, third) = HasWalk-cut h.rule (repeat b t.left ++ t.middle) (repeat a t.right) walk in
     let (v, first, second) = HasWalk-cut h.rule (repeat b t.left) t.middle before in
     let v_node : v < node_count r = IsWalk-last first.1 in
@@ -115,13 +115,13 @@ walk-Passes {r} {t} {parts} {u} {s} h b a walk =
     )
 
 -- so a stretch is an orphan exactly where its periods lead nowhere
-pub IsOrphan-Passes : {r : LocalRule} {t : TailConfig} {parts : Parts} → AreParts r t parts → (b a : ℕ) → IsOrphan r (stretch t b a) → ¬ Passes r parts b a
-IsOrphan-Passes h b a orphan passes = let walk = Passes-walk h b a passes in IsOrphan-walk orphan walk.2
+pub IsOrphan-PassesThrough : {r : LocalRule} {t : TailConfig} {parts : Parts} → AreTailParts r t parts → (b a : ℕ) → IsOrphan r (stretch t b a) → ¬ PassesThrough r parts b a
+IsOrphan-PassesThrough h b a orphan passes = let walk = PassesThrough-walk h b a passes in IsOrphan-walk orphan walk.2
 
-pub Passes-IsOrphan : {r : LocalRule} {t : TailConfig} {parts : Parts} → IsTail r.states t → AreParts r t parts → (b a : ℕ) → ¬ Passes r parts b a → IsOrphan r (stretch t b a)
-Passes-IsOrphan ht h b a none = IsOrphan-none (IsWord-stretch ht b a) (λ u s walk. none (walk-Passes h b a walk))
+pub PassesThrough-IsOrphan : {r : LocalRule} {t : TailConfig} {parts : Parts} → IsTail r.states t → AreTailParts r t parts → (b a : ℕ) → ¬ PassesThrough r parts b a → IsOrphan r (stretch t b a)
+PassesThrough-IsOrphan ht h b a none = IsOrphan-none (IsWord-stretch ht b a) (λ u s walk. none (walk-PassesThrough h b a walk))
 
 -- where 16 periods lead somewhere, few lead to a loop
-pub SomeRounds-side : {r : LocalRule} {E : ℕ → ℕ → Type 0} {table : List ℕ} {u : ℕ} → IsRule r → IsRelation r E table → u < node_count r → Open (Rows table) 16 u
-    → (sum : ℕ) × (sum ≤ 16) × SomeRounds (Rows table) sum u
+pub SomeRounds-side : {r : LocalRule} {E : ℕ → ℕ → Type 0} {table : List ℕ} {u : ℕ} → IsRule r → IsRelation r E table → u < node_count r → Open (Relates table) 16 u
+    → (sum : ℕ) × (sum ≤ 16) × SomeRounds (Relates table) sum u
 SomeRounds-side rule h l leads = SomeRounds-open rule.shape.most_nodes (λ v w node bit. (IsRelation-below h v w node bit).0) l leads

@@ -25,12 +25,12 @@ filled_more {X} f d n i y l e =
     ∙ ap (λ xs. xs ++ others) (sym (map-range_with_len_more f 0 i i (omega arith)))
 
 -- two lists of one length are paired if their elements at each place are
-pub paired : {X Y : Type 0} (R : X → Y → Type 0) (xs : List X) (ys : List Y) → length xs ≡ length ys
+pub AllZip-places : {X Y : Type 0} (R : X → Y → Type 0) (xs : List X) (ys : List Y) → length xs ≡ length ys
     → ((i : ℕ) (x : X) (y : Y) → slice_get xs i ≡ Some x → slice_get ys i ≡ Some y → R x y) → AllZip R xs ys
-paired R [] [] long each = tt
-paired R [] (y ∷ ys) long each = absurd (omega arith)
-paired R (x ∷ xs) [] long each = absurd (omega arith)
-paired R (x ∷ xs) (y ∷ ys) long each = (each 0 x y refl refl, paired R xs ys (omega arith) (λ i z w at also. each (suc i) z w at also))
+AllZip-places R [] [] long each = tt
+AllZip-places R [] (y ∷ ys) long each = absurd (omega arith)
+AllZip-places R (x ∷ xs) [] long each = absurd (omega arith)
+AllZip-places R (x ∷ xs) (y ∷ ys) long each = (each 0 x y refl refl, AllZip-places R xs ys (omega arith) (λ i z w at also. each (suc i) z w at also))
 
 -- of two lists that are paired the elements at a place are
 pub paired_at : {X Y : Type 0} (R : X → Y → Type 0) (xs : List X) (ys : List Y) (i : ℕ) (d : X) (e : Y) → AllZip R xs ys → i < length xs → R (get_or xs i d) (get_or ys i e)

@@ -1,7 +1,7 @@
 use Rattle.std.proofs.Common.{◌≡◌, ℕ, List, ap, ap₂, ◌∙◌, codes, rules}
 use Rattle.serde_json.specs.Data.{Data, string, Members, no_members, put}
 use Rattle.serde_json.specs.View.{members_view}
-use Rattle.rule_text.specs.PrintedRules.{printed}
+use Rattle.rule_text.specs.PrintedRules.{printed_rule}
 use Rattle.cert_format.specs.Versions.{number_of}
 use Rattle.cert_format.specs.Parts.{side_of}
 use Rattle.cert_format.specs.WrittenTexts.{whole_value, side_value}
@@ -25,6 +25,6 @@ returns c =
     let m3 = c.in_ok-put-3.ensures.ok ∙ put_same (codes "left") (c.in_ok-left.ensures ∙ ap side_value left) m2 in
     let m4 = c.in_ok-put-4.ensures.ok ∙ put_same (codes "ranks") c.in_ok-ranks.ensures m3 in
     let m5 = c.in_ok-put-5.ensures.ok ∙ put_same (codes "right") (c.in_ok-right.ensures ∙ ap side_value right) m4 in
-    let m6 = c.in_ok-put-6.ensures.ok ∙ put_same (codes "rule") (c.in_ok-rule.ensures ∙ ap (λ r. string (printed r)) rule) m5 in
+    let m6 = c.in_ok-put-6.ensures.ok ∙ put_same (codes "rule") (c.in_ok-rule.ensures ∙ ap (λ r. string (printed_rule r)) rule) m5 in
     let m7 = c.in_ok-put-7.ensures.ok ∙ put_same (codes "surjective") c.in_ok-surjective.ensures m6 in
     c.in_ok-put-8.ensures.ok ∙ put_same (codes "version") (c.from-version.ensures ∙ ap whole_value version) m7

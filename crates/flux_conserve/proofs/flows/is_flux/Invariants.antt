@@ -1,7 +1,7 @@
 use Rattle.std.proofs.Common.{ℕ, ◌<◌, slice_index}
-use Rattle.ring_laws.proofs.FluxWindows.{Flows}
+use Rattle.ring_laws.proofs.FluxWindows.{FlowsAt}
 use Rattle.flux_conserve.proofs.flows.is_flux.Given as goal
 
 -- each window so far gains the difference of the numbers of its two nodes
 abbrev pub invariant-loop-window : goal.invariant-loop-window
-invariant-loop-window l = (v : ℕ) → v < l.window → Flows (slice_index l.weights) l.rule l.numbers v
+invariant-loop-window l = (v : ℕ) → v < l.window → FlowsAt (slice_index l.weights) l.rule l.numbers v

@@ -3,8 +3,8 @@ use Rattle.word_image.specs.Graphs.{IsStep}
 use Rattle.image_minimal.specs.Closures.{IsClosedStep}
 use Rattle.image_minimal.specs.Searches.{IsClassSearch}
 use Rattle.image_minimal.proofs.laws.ClosedSteps.{IsClosedStep-unique}
-use Rattle.image_minimal.proofs.Indexes.{IsInserted-kept}
-use Rattle.image_minimal.proofs.Searches.{IsSearch-insert}
+use Rattle.image_minimal.proofs.Indexes.{IsInsertedAt-kept}
+use Rattle.image_minimal.proofs.Searches.{IsStateSearch-insert}
 use Rattle.image_minimal.proofs.ClassSearches.{class-below, closed_step}
 use Rattle.image_minimal.proofs.classes.expand.Goals as goal
 
@@ -23,8 +23,8 @@ loop-letter-preserved c =
     let leads : IsStep r c.at-set.result a after = c.steps-steps.ensures a letter in
     let step : IsClosedStep r c.at-set.result a (slice_index closures c.from.result) =
     subst (λ i. IsClosedStep r c.at-set.result a (slice_index closures i)) (sym c.from.ensures) (closed_step c.requires.closures leads) in
-    let longer = IsSearch-insert place a c.at-set.result (slice_index closures c.from.result) h.search letter h.here step (λ t other. IsClosedStep-unique step other) c.in_ok-insert.ensures in
+    let longer = IsStateSearch-insert place a c.at-set.result (slice_index closures c.from.result) h.search letter h.here step (λ t other. IsClosedStep-unique step other) c.in_ok-insert.ensures in
     record {
       search = subst (IsClassSearch r c.insert.new.self) (omega arith) longer;
-      here = IsInserted-kept c.in_ok-insert.ensures place c.at-set.result h.here;
+      here = IsInsertedAt-kept c.in_ok-insert.ensures place c.at-set.result h.here;
     }

@@ -3,8 +3,8 @@ use Rattle.std.specs.Prelude.{IsOk, ◌↔◌}
 use Rattle.std.proofs.lemmas.Int.{ints, to_z-of_z}
 use Rattle.word_image.specs.LocalRules.{LocalRule, IsRule}
 use Rattle.word_image.specs.RuleFaults.{rule_fault}
-use Rattle.inverse_table.specs.InverseMaps.{WindowMap, rule_of}
-use Rattle.inverse_table.specs.MapLimits.{IsWindowMap, limit_fault}
+use Rattle.inverse_table.specs.InverseMaps.{WindowMap, map_rule}
+use Rattle.inverse_table.specs.MapLimits.{IsWindowMap, rule_limit_fault}
 use Rattle.inverse_table.proofs.MapRules.{rule_fault-limit}
 use Rattle.inverse_table.proofs.inverse_map.rule_with.Goals as goal
 
@@ -20,15 +20,15 @@ offset_is {g} h o e =
     ap (λ z. to_z w8 (of_z w8 z)) (to_z-of_z w32 o wide) ∙ to_z-of_z w8 o narrow ∙ e
 
 -- the first fault of the map's rule
-first_fault : {g : WindowMap} → IsWindowMap g → (k m : ℕ) (o : ℤ) (t : List ℕ) → k ≡ g.states → m ≡ (rule_of g).width → o ≡ g.offset → t ≡ (rule_of g).table
-    → rule_fault k m o t ≡ limit_fault (rule_of g)
+first_fault : {g : WindowMap} → IsWindowMap g → (k m : ℕ) (o : ℤ) (t : List ℕ) → k ≡ g.states → m ≡ (map_rule g).width → o ≡ g.offset → t ≡ (map_rule g).table
+    → rule_fault k m o t ≡ rule_limit_fault (map_rule g)
 first_fault {g} h k m o t states width offset table =
-    ap₂ (λ (i j : ℕ). rule_fault i j o t) states width ∙ ap₂ (λ (z : ℤ) (u : List ℕ). rule_fault g.states (rule_of g).width z u) offset table ∙ rule_fault-limit h
+    ap₂ (λ (i j : ℕ). rule_fault i j o t) states width ∙ ap₂ (λ (z : ℤ) (u : List ℕ). rule_fault g.states (map_rule g).width z u) offset table ∙ rule_fault-limit h
 
 -- it is the map's rule
-same : (g : WindowMap) (k m : ℕ) (o : ℤ) (t : List ℕ) → k ≡ g.states → m ≡ (rule_of g).width → o ≡ g.offset → t ≡ (rule_of g).table → make k m o t ≡ rule_of g
+same : (g : WindowMap) (k m : ℕ) (o : ℤ) (t : List ℕ) → k ≡ g.states → m ≡ (map_rule g).width → o ≡ g.offset → t ≡ (map_rule g).table → make k m o t ≡ map_rule g
 same g k m o t states width offset table =
-    ap₂ (λ (i j : ℕ). make i j o t) states width ∙ ap₂ (λ (z : ℤ) (u : List ℕ). make g.states (rule_of g).width z u) offset table
+    ap₂ (λ (i j : ℕ). make i j o t) states width ∙ ap₂ (λ (z : ℤ) (u : List ℕ). make g.states (map_rule g).width z u) offset table
 
 pub returns-clause-fault : goal.returns-clause-fault
 returns-clause-fault c = c.new.ensures.fault

@@ -1,6 +1,6 @@
 use Rattle.std.proofs.Common.{ℕ, ◌+◌, ◌/◌, ◌<◌, length, sym, ap, subst, ◌∙◌, arith, length-set}
 use Rattle.std.proofs.Math.Nat.{mod-lt}
-use Rattle.inverse_table.specs.ImageValues.{letter_at, IsRead}
+use Rattle.inverse_table.specs.ImageValues.{letter_by_unit, IsRead}
 use Rattle.inverse_table.proofs.ReadLaws.{IsRead-same, IsRead-new, HasApart-read}
 use Rattle.inverse_table.proofs.letters.read_run.Goals as goal
 use Rattle.inverse_table.proofs.letters.read_run.Goals.{then-letters-image+else-letters-image-ne-UNREAD, else-letters-image}
@@ -19,7 +19,7 @@ loop-word-preserved c =
     let within : image < length letters = omega (arith, c.requires.within word 0 (omega arith), c.loop-word.invariant.long) in
     let read = c.loop-word.invariant.read in
     let is = c.requires.run word (omega arith) (omega arith) in
-    let below : (v : ℕ) → letter_at c.args.place.k c.args.place.unit v < 16 = λ v. omega (arith, mod-lt (v / c.args.place.unit) c.args.place.some, c.args.place.most) in
+    let below : (v : ℕ) → letter_by_unit c.args.place.k c.args.place.unit v < 16 = λ v. omega (arith, mod-lt (v / c.args.place.unit) c.args.place.some, c.args.place.most) in
     record {
       long = elim c.if-letters-image.branch [
         | then-letters-image+else-letters-image-ne-UNREAD w ↦ ap length w.letters-is ∙ length-set letters image c.args.letter ∙ c.loop-word.invariant.long
@@ -27,8 +27,8 @@ loop-word-preserved c =
       ];
       read = elim c.if-letters-image.branch [
         | then-letters-image+else-letters-image-ne-UNREAD w ↦
-            subst (IsRead (letter_at c.args.place.k c.args.place.unit) c.args.images.now (word + 1)) (sym w.letters-is) (IsRead-new word image c.args.letter read c.from-image.ensures is (omega arith) within below)
+            subst (IsRead (letter_by_unit c.args.place.k c.args.place.unit) c.args.images.now (word + 1)) (sym w.letters-is) (IsRead-new word image c.args.letter read c.from-image.ensures is (omega arith) within below)
         | else-letters-image w ↦
-            subst (IsRead (letter_at c.args.place.k c.args.place.unit) c.args.images.now (word + 1)) (sym w.letters-is) (IsRead-same word image c.args.letter read c.from-image.ensures is (omega arith) (omega (arith, below word)))
+            subst (IsRead (letter_by_unit c.args.place.k c.args.place.unit) c.args.images.now (word + 1)) (sym w.letters-is) (IsRead-same word image c.args.letter read c.from-image.ensures is (omega arith) (omega (arith, below word)))
       ];
     }

@@ -3,10 +3,10 @@ use Rattle.std.proofs.lemmas.Int.{to_z-of_z}
 use Rattle.std.proofs.lemmas.List.{take-append-le, take_all}
 use Rattle.inverse_table.specs.InverseMaps.{IsInverseMap, GivesBack}
 use Rattle.inverse_table.specs.InverseFaults.{IsApartAt}
-use Rattle.inverse_table.specs.ImageValues.{AreReadBack, letter_at}
+use Rattle.inverse_table.specs.ImageValues.{AreReadBack, letter_by_unit}
 use Rattle.inverse_table.proofs.WordCounts.{power-divides}
 use Rattle.inverse_table.proofs.ImageLaws.{AreImageValues-below}
-use Rattle.inverse_table.proofs.InverseLaws.{IsReading, IsReading-place, IsApartAt-apart, IsDetermined-read, IsInverseMap-read, IsWindowMap-read, GivesBack-determined, map_of}
+use Rattle.inverse_table.proofs.InverseLaws.{IsReadingBack, IsReadingBack-place, IsApartAt-apart, IsDetermined-read, IsInverseMap-read, IsWindowMap-read, GivesBack-determined, map_of}
 use Rattle.inverse_table.proofs.tables.read_back.Goals as goal
 use Rattle.inverse_table.proofs.tables.read_back.Goals.{After-of}
 
@@ -26,7 +26,7 @@ pub returns-in-Some-clause-fault : goal.returns-in-Some-clause-fault
 returns-in-Some-clause-fault c =
     let place = c.place_of-place.ensures in
     let long = c.read_letters.ensures.long ∙ c.deref_mut.ensures.len ∙ c.in_ok-letters.ensures.len ∙ c.requires.count in
-    let reading = IsReading-place place.rule c.requires.some c.requires.inside place.states place.unit c.requires.images long in
+    let reading = IsReadingBack-place place.rule c.requires.some c.requires.inside place.states place.unit c.requires.images long in
     (c.requires.few, subst₂ (IsApartAt c.args.rule.now c.args.at.n c.args.at.c) (sym c.in_ok-word_at.ensures) (sym c.in_ok-word_at-2.ensures) (IsApartAt-apart place.rule reading _ _ c.in-Some.ensures.read))
 
 -- a list that is written to again from the front, as far as it is long
@@ -37,7 +37,7 @@ pub of-requires : goal.of-requires
 of-requires c =
     let place = c.place_of-place.ensures in
     let len = c.read_letters.ensures.long ∙ c.deref_mut.ensures.len in
-    let reading = IsReading-place place.rule c.requires.some c.requires.inside place.states place.unit c.requires.images (len ∙ c.in_ok-letters.ensures.len ∙ c.requires.count) in
+    let reading = IsReadingBack-place place.rule c.requires.some c.requires.inside place.states place.unit c.requires.images (len ∙ c.in_ok-letters.ensures.len ∙ c.requires.count) in
     let fits : FitsSigned w32 c.map_offset.result = search rules in
     let offset = to_z-of_z w32 c.map_offset.result fits ∙ c.map_offset.ensures in
     rw (c.k.ensures.states, offset, written c.in_ok-letters.letters.len c.read_letters.new.letters c.in_ok-letters.letters.items len)
@@ -46,8 +46,8 @@ of-requires c =
 -- the map is made of the letters that are read back
 record IsDone (c : After-of) : Type 0 where
   same : c.of.result ≡ map_of c.args.rule.now c.args.at.n c.args.at.c c.read_letters.new.letters
-  reading : IsReading c.args.rule.now c.args.at.n c.args.at.c (letter_at c.place_of-place.result.k c.place_of-place.result.unit) c.args.images.now c.read_letters.new.letters
-  all : AreReadBack (letter_at c.place_of-place.result.k c.place_of-place.result.unit) c.args.images.now (length c.args.images.now) c.read_letters.new.letters
+  reading : IsReadingBack c.args.rule.now c.args.at.n c.args.at.c (letter_by_unit c.place_of-place.result.k c.place_of-place.result.unit) c.args.images.now c.read_letters.new.letters
+  all : AreReadBack (letter_by_unit c.place_of-place.result.k c.place_of-place.result.unit) c.args.images.now (length c.args.images.now) c.read_letters.new.letters
 
 done : (c : After-of) → IsDone c
 done c =
@@ -57,7 +57,7 @@ done c =
     let offset = to_z-of_z w32 c.map_offset.result fits ∙ c.map_offset.ensures in
     record {
       same = c.of.ensures ∙ rw (c.k.ensures.states, offset, written c.in_ok-letters.letters.len c.read_letters.new.letters c.in_ok-letters.letters.items len) refl;
-      reading = IsReading-place place.rule c.requires.some c.requires.inside place.states place.unit c.requires.images (len ∙ c.in_ok-letters.ensures.len ∙ c.requires.count);
+      reading = IsReadingBack-place place.rule c.requires.some c.requires.inside place.states place.unit c.requires.images (len ∙ c.in_ok-letters.ensures.len ∙ c.requires.count);
       all = c.in_default.ensures.read;
     }
 

@@ -2,7 +2,7 @@ use Rattle.std.proofs.Common.{◌≡◌, ℕ, ◌+◌, ◌-◌, ◌/◌, ◌%◌
 use Rattle.std.proofs.lemmas.List.{take_all, take_more}
 use Rattle.word_image.specs.LocalRules.{word_of}
 use Rattle.word_image.proofs.laws.Values.{value-word_of, IsWord-word_of, length-word_of}
-use Rattle.inverse_table.proofs.InverseLaws.{letter_at-place}
+use Rattle.inverse_table.proofs.InverseLaws.{letter_by_unit-place}
 use Rattle.inverse_table.proofs.WordCounts.{power-most}
 use Rattle.inverse_table.proofs.tables.word_at.Goals as goal
 
@@ -31,7 +31,7 @@ loop-place-preserved c =
     let behind : c.pow.result ≡ r.states ^ (long - 1 - place) = c.pow.ensures ∙ ap₂ (λ (i j : ℕ). i ^ j) same rest in
     let letter : c.args.value / c.pow.result % c.from-k.result ≡ slice_index w place =
     ap (λ v. v / c.pow.result % c.from-k.result) (sym (value-word_of r.states long c.args.value c.requires.value))
-    ∙ letter_at-place c.k.ensures.rule n place c.from-k.result c.pow.result c.requires.some (omega arith) same behind w (IsWord-word_of r.states long c.args.value c.requires.value) (length-word_of r.states long c.args.value) in
+    ∙ letter_by_unit-place c.k.ensures.rule n place c.from-k.result c.pow.result c.requires.some (omega arith) same behind w (IsWord-word_of r.states long c.args.value c.requires.value) (length-word_of r.states long c.args.value) in
     c.in_ok-push.ensures.items
     ∙ ap₂ (λ (xs : List ℕ) (a : ℕ). xs ++ a ∷ []) c.loop-place.invariant letter
     ∙ sym (take_more w place 0 (omega (arith, length-word_of r.states long c.args.value)))

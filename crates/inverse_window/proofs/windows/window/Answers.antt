@@ -4,9 +4,9 @@ use Rattle.word_image.specs.LocalRules.{IsRule}
 use Rattle.tail_config.specs.Tails.{IsInjective}
 use Rattle.tail_laws.proofs.Certainty.{IsInjective-window}
 use Rattle.eden_laws.proofs.Preinjective.{IsSurjective-injective}
-use Rattle.inverse_window.specs.FirstWindows.{IsFirstOf}
+use Rattle.inverse_window.specs.FirstWindows.{IsFirstWindowOf}
 use Rattle.inverse_window.proofs.FirstSearches.{earlier-most}
-use Rattle.inverse_window.proofs.LeastWindows.{IsBefore, IsFirstOf-next, IsLeastDetermined-first, IsInjective-least}
+use Rattle.inverse_window.proofs.LeastWindows.{IsBefore, IsFirstWindowOf-next, IsLeastDetermined-first, IsInjective-least}
 use Rattle.inverse_window.proofs.windows.window.Goals as goal
 
 -- a rule that isn't injective has no determined window
@@ -18,7 +18,7 @@ returns-then-not-is_injective-clause-least c n place determined =
 
 pub loop-place-preserved : goal.loop-place-preserved
 loop-place-preserved c = (
-  IsFirstOf-next c.args.rule.now c.loop-place.place c.start_past-start.result c.loop-place.first c.window_past.result c.earlier-first.result c.start_past-start.ensures.start c.window_past.ensures.window
+  IsFirstWindowOf-next c.args.rule.now c.loop-place.place c.start_past-start.result c.loop-place.first c.window_past.result c.earlier-first.result c.start_past-start.ensures.start c.window_past.ensures.window
       c.earlier-first.ensures c.loop-place.invariant.0,
   earlier-most c.loop-place.first c.window_past.result c.earlier-first.result c.earlier-first.ensures c.loop-place.invariant.1 c.window_past.ensures.most,
 )
@@ -26,7 +26,7 @@ loop-place-preserved c = (
 pub returns-clause-least : goal.returns-clause-least
 returns-clause-least c =
     let all : c.loop-place.place ≡ c.args.rule.now.width - 1 = omega arith in
-    IsLeastDetermined-first c.m-place-end.ensures.rule c.loop-place.first (subst (λ i. IsFirstOf c.args.rule.now (IsBefore i) c.loop-place.first) all c.loop-place.invariant.0)
+    IsLeastDetermined-first c.m-place-end.ensures.rule c.loop-place.first (subst (λ i. IsFirstWindowOf c.args.rule.now (IsBefore i) c.loop-place.first) all c.loop-place.invariant.0)
 
 pub returns-clause-injective : goal.returns-clause-injective
 returns-clause-injective c = IsInjective-least c.m-place-end.ensures.rule c.loop-place.first (returns-clause-least c)

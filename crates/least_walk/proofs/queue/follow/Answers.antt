@@ -6,14 +6,14 @@ use Rattle.word_image.proofs.laws.Bits.{IsBitSet-zero}
 use Rattle.word_image.proofs.laws.Places.{slice_get-unique}
 use Rattle.least_walk.specs.Marks.{ArePartsOf}
 use Rattle.least_walk.specs.declared.queue.Reached.{Reached}
-use Rattle.least_walk.specs.Queues.{IsSearch, step_count}
-use Rattle.least_walk.proofs.Walking.{pair-below, IsSearch-rest, IsSearch-next}
+use Rattle.least_walk.specs.Queues.{IsWalkSearch, step_count}
+use Rattle.least_walk.proofs.Walking.{queued-below, IsWalkSearch-rest, IsWalkSearch-next}
 use Rattle.least_walk.proofs.queue.follow.Goals as goal
 use Rattle.least_walk.proofs.queue.follow.Goals.{then-letters-ne0+in_default, else-letters-ne0}
 
 pub parts_of-from-requires : goal.parts_of-from-requires
 parts_of-from-requires c =
-    pair-below c.requires.search.walking c.args.head c.index.result.now
+    queued-below c.requires.search.walking c.args.head c.index.result.now
     (slice_get-get_or c.args.queue.now.items c.args.head c.index.result.now (omega (arith, c.args.queue.now.ok)) ∙ ap Some (sym c.index.ensures))
 
 pub loop-a-init : goal.loop-a-init
@@ -22,7 +22,7 @@ loop-a-init c =
     let none : c.args.head * step_count r ≡ c.args.head * step_count r + 0 = omega arith in
     record {
       room = c.requires.room;
-      search = subst (IsSearch r c.args.ends c.args.queue.now.items c.args.rows.now) none c.requires.search;
+      search = subst (IsWalkSearch r c.args.ends c.args.queue.now.items c.args.rows.now) none c.requires.search;
       same = refl;
     }
 
@@ -49,7 +49,7 @@ loop-a-preserved c =
           let stays : c.if-letters-ne0.queue.items ≡ w.follow_letter.new.queue.items = ap (λ v. v.items) w.queue-is in
           record {
             room = omega (arith, done.room, ap (λ v. vec_capacity v) w.queue-is);
-            search = subst₂ (λ (q : List Reached) (rows : List ℕ). IsSearch r c.args.ends q rows (c.args.head * step_count r + (c.loop-a.a + 1) * 16)) (sym stays) (sym w.rows-is) done.none;
+            search = subst₂ (λ (q : List Reached) (rows : List ℕ). IsWalkSearch r c.args.ends q rows (c.args.head * step_count r + (c.loop-a.a + 1) * 16)) (sym stays) (sym w.rows-is) done.none;
             same = ap (λ q. slice_get q c.args.head) stays ∙ done.same ∙ inv.same;
           }
       | else-letters-ne0 w ↦
@@ -58,8 +58,8 @@ loop-a-preserved c =
           let start : c.args.head * step_count r + c.loop-a.a * 16 ≡ c.args.head * step_count r + (c.loop-a.a * 16 + 0) = omega arith in
           record {
             room = omega (arith, inv.room, ap (λ v. vec_capacity v) w.queue-is);
-            search = subst₂ (λ (q : List Reached) (rows : List ℕ). IsSearch r c.args.ends q rows (c.args.head * step_count r + (c.loop-a.a + 1) * 16)) (sym stays) (sym w.rows-is)
-                (IsSearch-rest c.args.head c.loop-a.a 0 (subst (IsSearch r c.args.ends c.loop-a.queue.items c.loop-a.rows) start inv.search) c.index.result.now at letter (omega arith)
+            search = subst₂ (λ (q : List Reached) (rows : List ℕ). IsWalkSearch r c.args.ends q rows (c.args.head * step_count r + (c.loop-a.a + 1) * 16)) (sym stays) (sym w.rows-is)
+                (IsWalkSearch-rest c.args.head c.loop-a.a 0 (subst (IsWalkSearch r c.args.ends c.loop-a.queue.items c.loop-a.rows) start inv.search) c.index.result.now at letter (omega arith)
                 (λ b q least below leads. c.fresh-letters.ensures c.index.result.now.pair b q c.parts_of-from.ensures.parts below
                 (λ some. IsBitSet-zero b (subst (λ n. IsBitSet n b) w.if-letters-ne0.false some)) leads));
             same = ap (λ q. slice_get q c.args.head) stays ∙ inv.same;
@@ -67,4 +67,4 @@ loop-a-preserved c =
     ]
 
 pub returns-clause-none : goal.returns-clause-none
-returns-clause-none c = IsSearch-next c.args.head c.loop-a.a (omega (arith, ap (λ (z : LocalRule). z.states) c.rule.ensures)) c.loop-a.invariant.search
+returns-clause-none c = IsWalkSearch-next c.args.head c.loop-a.a (omega (arith, ap (λ (z : LocalRule). z.states) c.rule.ensures)) c.loop-a.invariant.search

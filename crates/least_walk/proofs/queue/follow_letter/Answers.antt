@@ -6,8 +6,8 @@ use Rattle.word_image.specs.LocalRules.{LocalRule}
 use Rattle.word_image.specs.MarkedPairs.{marked}
 use Rattle.word_image.proofs.laws.Places.{slice_get-append}
 use Rattle.least_walk.specs.declared.queue.Reached.{Reached}
-use Rattle.least_walk.specs.Queues.{MarkedStep, IsWalking, IsSearch, IsOldBut, step_count}
-use Rattle.least_walk.proofs.Walking.{length-walking-le, IsSearch-old, IsSearch-new, IsSearch-rest, depth-below, goal-tells, MarkedStep-letters, IsOldBut-more}
+use Rattle.least_walk.specs.Queues.{MarkedStep, IsWalking, IsWalkSearch, IsOldBut, step_count}
+use Rattle.least_walk.proofs.Walking.{length-walking-le, IsWalkSearch-old, IsWalkSearch-new, IsWalkSearch-rest, depth-below, goal-tells, MarkedStep-letters, IsOldBut-more}
 use Rattle.least_walk.proofs.queue.follow_letter.Goals as goal
 use Rattle.least_walk.proofs.queue.follow_letter.Goals.{in-Some+else-eq, in_default}
 
@@ -21,7 +21,7 @@ loop-b-init c =
     let start : c.args.head.place * step_count r + c.args.a * 16 ≡ c.args.head.place * step_count r + (c.args.a * 16 + 0) = omega arith in
     record {
       room = c.requires.room;
-      search = subst (IsSearch r c.args.ends c.args.queue.now.items c.args.rows.now) start c.requires.search;
+      search = subst (IsWalkSearch r c.args.ends c.args.queue.now.items c.args.rows.now) start c.requires.search;
       old = c.requires.old;
       same = refl;
     }
@@ -64,7 +64,7 @@ overflow_add-reached c =
 pub list-requires : goal.list-requires
 list-requires c =
     let y : Reached = record { pair = c.in-Some.q.pair; parent = c.args.head.place; step = 16 * c.args.a + c.loop-b.b; depth = c.index-from.result.now.depth + 1 } in
-    let longer = IsSearch-new c.args.head.place c.args.a c.loop-b.b c.loop-b.invariant.search c.index-from.result.now y
+    let longer = IsWalkSearch-new c.args.head.place c.args.a c.loop-b.b c.loop-b.invariant.search c.index-from.result.now y
     (stands c.args.queue.now.items c.args.head.place c.index-from.result.now c.loop-b.queue.items (omega (arith, c.args.queue.now.ok)) c.index-from.ensures c.loop-b.invariant.same)
     c.requires.letter (omega (arith, ap (λ (z : LocalRule). z.states) c.rule.ensures)) refl (omega arith) refl (ap (λ t. marked c.args.pairs.now t c.args.a c.loop-b.b) (c.requires.at c.index-from.result.now (stands c.args.queue.now.items c.args.head.place c.index-from.result.now c.args.queue.now.items (omega (arith, c.args.queue.now.ok)) c.index-from.ensures refl)) ∙ c.in-Some.ensures.step) ((goal-tells c.args.ends.goal c.in-Some.q.pair c.eq.result c.eq.ensures).1 c.if-eq.false) c.in-Some.ensures.new c.add.new.rows (c.add.ensures c.args.pairs.now c.loop-b.invariant.search.walking.rule c.in-Some.ensures.marked) in
     omega (arith, length-walking-le longer.walking, length_push c.loop-b.queue.items y, c.loop-b.queue.ok, c.loop-b.invariant.room)
@@ -84,8 +84,8 @@ loop-b-preserved c =
           let same : slice_get (old ++ y ∷ []) c.args.head.place ≡ slice_get old c.args.head.place = slice_get-append old (y ∷ []) c.args.head.place x at ∙ sym at in
           record {
             room = omega (arith, inv.room, w.list.ensures.room, ap (λ v. vec_capacity v) w.queue-is);
-            search = subst₂ (λ (q : List Reached) (rows : List ℕ). IsSearch r c.args.ends q rows (c.args.head.place * step_count r + (c.args.a * 16 + (c.loop-b.b + 1)))) (sym longer) (sym w.rows-is)
-                (IsSearch-new c.args.head.place c.args.a c.loop-b.b inv.search x y at c.requires.letter letter refl (omega arith) refl (ap (λ t. marked r t c.args.a c.loop-b.b) (c.requires.at c.index-from.result.now (stands c.args.queue.now.items c.args.head.place c.index-from.result.now c.args.queue.now.items (omega (arith, c.args.queue.now.ok)) c.index-from.ensures refl)) ∙ w.in-Some.ensures.step) ((goal-tells c.args.ends.goal w.in-Some.q.pair w.eq.result w.eq.ensures).1 w.if-eq.false) w.in-Some.ensures.new w.add.new.rows (w.add.ensures r inv.search.walking.rule w.in-Some.ensures.marked));
+            search = subst₂ (λ (q : List Reached) (rows : List ℕ). IsWalkSearch r c.args.ends q rows (c.args.head.place * step_count r + (c.args.a * 16 + (c.loop-b.b + 1)))) (sym longer) (sym w.rows-is)
+                (IsWalkSearch-new c.args.head.place c.args.a c.loop-b.b inv.search x y at c.requires.letter letter refl (omega arith) refl (ap (λ t. marked r t c.args.a c.loop-b.b) (c.requires.at c.index-from.result.now (stands c.args.queue.now.items c.args.head.place c.index-from.result.now c.args.queue.now.items (omega (arith, c.args.queue.now.ok)) c.index-from.ensures refl)) ∙ w.in-Some.ensures.step) ((goal-tells c.args.ends.goal w.in-Some.q.pair w.eq.result w.eq.ensures).1 w.if-eq.false) w.in-Some.ensures.new w.add.new.rows (w.add.ensures r inv.search.walking.rule w.in-Some.ensures.marked));
             old = subst₂ (λ (q : List Reached) (rows : List ℕ). IsOldBut r q rows c.args.head.place c.args.a c.args.letters) (sym longer) (sym w.rows-is)
                 (IsOldBut-more inv.search.walking.rule old (old ++ y ∷ []) c.loop-b.rows w.add.new.rows c.args.head.place c.args.a c.args.letters inv.old same (λ t inside has. ((w.add.ensures r inv.search.walking.rule w.in-Some.ensures.marked) t inside).1 (inr has)));
             same = ap (λ q. slice_get q c.args.head.place) longer ∙ same ∙ inv.same;
@@ -94,8 +94,8 @@ loop-b-preserved c =
           let stays : c.match-new_step.queue.items ≡ old = ap (λ v. v.items) w.queue-is in
           record {
             room = omega (arith, inv.room, ap (λ v. vec_capacity v) w.queue-is);
-            search = subst₂ (λ (q : List Reached) (rows : List ℕ). IsSearch r c.args.ends q rows (c.args.head.place * step_count r + (c.args.a * 16 + (c.loop-b.b + 1)))) (sym stays) (sym w.rows-is)
-                (IsSearch-old c.args.head.place c.args.a c.loop-b.b inv.search x at c.requires.letter letter (λ q step. w.in_default.ensures.none q (ap (λ t. marked r t c.args.a c.loop-b.b) (sym (c.requires.at c.index-from.result.now (stands c.args.queue.now.items c.args.head.place c.index-from.result.now c.args.queue.now.items (omega (arith, c.args.queue.now.ok)) c.index-from.ensures refl))) ∙ step)));
+            search = subst₂ (λ (q : List Reached) (rows : List ℕ). IsWalkSearch r c.args.ends q rows (c.args.head.place * step_count r + (c.args.a * 16 + (c.loop-b.b + 1)))) (sym stays) (sym w.rows-is)
+                (IsWalkSearch-old c.args.head.place c.args.a c.loop-b.b inv.search x at c.requires.letter letter (λ q step. w.in_default.ensures.none q (ap (λ t. marked r t c.args.a c.loop-b.b) (sym (c.requires.at c.index-from.result.now (stands c.args.queue.now.items c.args.head.place c.index-from.result.now c.args.queue.now.items (omega (arith, c.args.queue.now.ok)) c.index-from.ensures refl))) ∙ step)));
             old = subst₂ (λ (q : List Reached) (rows : List ℕ). IsOldBut r q rows c.args.head.place c.args.a c.args.letters) (sym stays) (sym w.rows-is) inv.old;
             same = ap (λ q. slice_get q c.args.head.place) stays ∙ inv.same;
           }
@@ -103,6 +103,6 @@ loop-b-preserved c =
 
 pub returns-clause-none : goal.returns-clause-none
 returns-clause-none c =
-    IsSearch-rest c.args.head.place c.args.a c.loop-b.b c.loop-b.invariant.search c.index-from.result.now
+    IsWalkSearch-rest c.args.head.place c.args.a c.loop-b.b c.loop-b.invariant.search c.index-from.result.now
     (stands c.args.queue.now.items c.args.head.place c.index-from.result.now c.loop-b.queue.items (omega (arith, c.args.queue.now.ok)) c.index-from.ensures c.loop-b.invariant.same)
     c.requires.letter (omega (arith, c.loop-b.invariant.search.walking.rule.shape.most_states)) (λ d t past below leads. absurd (omega (arith, ap (λ (z : LocalRule). z.states) c.rule.ensures)))

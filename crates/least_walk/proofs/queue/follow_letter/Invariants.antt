@@ -1,13 +1,13 @@
 use Rattle.std.proofs.Common.{◌≡◌, ◌≤◌, ◌+◌, ◌*◌, vec_capacity}
 use Rattle.std.specs.List.{slice_get}
-use Rattle.least_walk.specs.Queues.{IsSearch, IsOldBut, step_count}
+use Rattle.least_walk.specs.Queues.{IsWalkSearch, IsOldBut, step_count}
 use Rattle.least_walk.proofs.queue.follow_letter.Given as goal
 
 -- the first second letters are done
 abbrev pub invariant-loop-b : goal.invariant-loop-b
 invariant-loop-b l = record {
   room : 512 ≤ vec_capacity l.queue;
-  search : IsSearch l.pairs l.ends l.queue.items l.rows (l.head.place * step_count l.pairs + (l.a * 16 + l.b));
+  search : IsWalkSearch l.pairs l.ends l.queue.items l.rows (l.head.place * step_count l.pairs + (l.a * 16 + l.b));
   old : IsOldBut l.pairs l.queue.items l.rows l.head.place l.a l.letters;
   same : slice_get l.queue.items l.head.place ≡ slice_get l.initial.queue.items l.head.place;
 }

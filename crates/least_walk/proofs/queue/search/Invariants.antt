@@ -1,12 +1,12 @@
 use Rattle.std.proofs.Common.{◌≤◌, ◌-◌, ◌*◌, vec_capacity}
-use Rattle.least_walk.specs.Queues.{IsSearch, step_count}
+use Rattle.least_walk.specs.Queues.{IsWalkSearch, step_count}
 use Rattle.least_walk.proofs.queue.search.Given as goal
 
 -- the steps from the places before the head have been followed
 abbrev pub invariant-loop-head : goal.invariant-loop-head
 invariant-loop-head l = record {
   room : 512 ≤ vec_capacity l.queue;
-  search : IsSearch l.pairs l.ends l.queue.items l.rows (l.head * step_count l.pairs);
+  search : IsWalkSearch l.pairs l.ends l.queue.items l.rows (l.head * step_count l.pairs);
 }
 
 -- how many marked pairs may still come

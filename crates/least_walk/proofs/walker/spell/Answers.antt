@@ -1,8 +1,8 @@
 use Rattle.std.proofs.Common.{◌≡◌, [], length, get_or, sym, ap, subst, arith}
 use Rattle.std.proofs.lemmas.List.{length_push}
 use Rattle.std.proofs.lemmas.Option.{slice_get-get_or}
-use Rattle.search_laws.specs.SearchQueues.{Spells}
-use Rattle.search_laws.specs.SearchQueues.Spells.{Root}
+use Rattle.search_laws.specs.SearchQueues.{TreeSpells}
+use Rattle.search_laws.specs.SearchQueues.TreeSpells.{Root}
 use Rattle.least_walk.specs.declared.queue.Reached.{Reached}
 use Rattle.least_walk.specs.Queues.{places_of, SpellsBefore}
 use Rattle.least_walk.proofs.Walking.{SpellsBefore-parent}
@@ -23,7 +23,7 @@ loop-place-preserved c =
       within = omega (arith, earlier, place, inv.within);
       few = omega (arith, earlier, place, inv.few, ap length longer, length_push c.loop-place.steps.items x.step);
       completes = λ w spells. SpellsBefore-parent queue c.args.place i x c.args.steps.now.items c.loop-place.steps.items c.put.new.steps.items c.loop-place-test.true here longer inv.completes w
-          (subst (λ p. Spells (places_of queue) p w) place spells);
+          (subst (λ p. TreeSpells (places_of queue) p w) place spells);
     }
 
 pub returns-clause-spelled : goal.returns-clause-spelled
@@ -31,4 +31,4 @@ returns-clause-spelled c =
     let queue = c.args.queue.now in
     let root : c.loop-place.place ≡ 0 = omega arith in
     let back = c.reverse.ensures.items in
-    subst (SpellsBefore queue c.args.place c.args.steps.now.items) (sym back) (c.loop-place.invariant.completes [] (subst (λ i. Spells (places_of queue) i []) (sym root) Root))
+    subst (SpellsBefore queue c.args.place c.args.steps.now.items) (sym back) (c.loop-place.invariant.completes [] (subst (λ i. TreeSpells (places_of queue) i []) (sym root) Root))

@@ -1,5 +1,5 @@
 use Rattle.std.proofs.Common.{ℕ, ◌+◌, ◌<◌, ◌≤◌, List, ◌++◌, length, reverse, vec_capacity}
-use Rattle.search_laws.specs.SearchQueues.{Spells}
+use Rattle.search_laws.specs.SearchQueues.{TreeSpells}
 use Rattle.least_walk.specs.Queues.{places_of, SpellsBefore}
 use Rattle.least_walk.proofs.walker.spell.Given as goal
 
@@ -9,7 +9,7 @@ invariant-loop-place l = record {
   room : 512 ≤ vec_capacity l.steps;
   within : l.place < length l.queue;
   few : length l.steps.items + l.place ≤ 512;
-  completes : (w : List ℕ) → Spells (places_of l.queue) l.place w → SpellsBefore l.queue l.fn.place l.initial.steps.items (w ++ reverse l.steps.items);
+  completes : (w : List ℕ) → TreeSpells (places_of l.queue) l.place w → SpellsBefore l.queue l.fn.place l.initial.steps.items (w ++ reverse l.steps.items);
 }
 
 abbrev pub decreases-loop-place : goal.decreases-loop-place

@@ -1,7 +1,7 @@
 use Rattle.std.proofs.Common.{ℕ, ◌≡◌, ◌+◌, ◌*◌, Option, None, replicate, ap, subst, sym, ◌∙◌, arith}
 use Rattle.std.proofs.lemmas.List.{get_or-replicate}
 use Rattle.word_image.specs.LocalRules.{node_count}
-use Rattle.pair_graph.specs.PairSets.{IsTrimmed}
+use Rattle.pair_graph.specs.PairSets.{IsTrimmedSet}
 use Rattle.pair_rank.proofs.TrimmedSets.{AreTogether, AreTogether-all, AreTogether-next, AreEndless-stable, AreEndless-all}
 use Rattle.pair_rank.proofs.Tables.{AreRanksSoFar-none, AreRanksSoFar-next, AreRanks-endless}
 use Rattle.pair_rank.proofs.rounds.exact_ranks.Goals as goal
@@ -25,12 +25,12 @@ loop-n-preserved c =
 
 pub returns-then-same-clause-endless : goal.returns-then-same-clause-endless
 returns-then-same-clause-endless c =
-    AreEndless-stable c.all-set.ensures.rule c.loop-n.invariant.pairs (subst (IsTrimmed c.args.side c.args.pairs.now c.loop-n.set) (c.same.ensures.0 c.if-same.true) c.trim-after.ensures)
+    AreEndless-stable c.all-set.ensures.rule c.loop-n.invariant.pairs (subst (IsTrimmedSet c.args.side c.args.pairs.now c.loop-n.set) (c.same.ensures.0 c.if-same.true) c.trim-after.ensures)
 
 pub returns-then-same-clause-ranks : goal.returns-then-same-clause-ranks
 returns-then-same-clause-ranks c =
     AreRanks-endless c.loop-n.ranks c.loop-n.invariant.pairs
-    (AreEndless-stable c.all-set.ensures.rule c.loop-n.invariant.pairs (subst (IsTrimmed c.args.side c.args.pairs.now c.loop-n.set) (c.same.ensures.0 c.if-same.true) c.trim-after.ensures))
+    (AreEndless-stable c.all-set.ensures.rule c.loop-n.invariant.pairs (subst (IsTrimmedSet c.args.side c.args.pairs.now c.loop-n.set) (c.same.ensures.0 c.if-same.true) c.trim-after.ensures))
     c.loop-n.invariant.ranks
 
 pub returns-clause-endless : goal.returns-clause-endless

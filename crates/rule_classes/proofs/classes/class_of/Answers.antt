@@ -1,6 +1,6 @@
 use Rattle.std.proofs.Common.{sym, subst, arith}
 use Rattle.rule_classes.specs.Classes.{IsLeastOfClass}
-use Rattle.rule_classes.specs.Colourings.{IsLeastOf}
+use Rattle.rule_classes.specs.Colourings.{IsLeastColouring}
 use Rattle.rule_classes.proofs.laws.Classes.{IsLeastOfClass-found, HaveOneVerdict-class}
 use Rattle.rule_classes.proofs.classes.class_of.Goals as goal
 
@@ -11,8 +11,8 @@ pub returns-clause-least : goal.returns-clause-least
 returns-clause-least c =
     let r = c.args.rule.now in
     let own = c.own-best.result.colouring in
-    let first = subst (λ k. IsLeastOf r own 0 k own c.least_of.new.best.colouring) c.k-k.ensures.states c.least_of.ensures.least in
-    let second = subst (λ k. IsLeastOf r c.unchanged.result 0 k c.least_of.new.best.colouring c.least_of-2.new.best.colouring) c.k-k.ensures.states c.least_of-2.ensures.least in
+    let first = subst (λ k. IsLeastColouring r own 0 k own c.least_of.new.best.colouring) c.k-k.ensures.states c.least_of.ensures.least in
+    let second = subst (λ k. IsLeastColouring r c.unchanged.result 0 k c.least_of.new.best.colouring c.least_of-2.new.best.colouring) c.k-k.ensures.states c.least_of-2.ensures.least in
     subst (IsLeastOfClass r c.least_of-2.new.best.colouring.mirrored) (sym c.rule.ensures)
     (IsLeastOfClass-found c.k-k.ensures.rule c.own-best.ensures.straight c.unchanged.ensures.mirrored first second)
 

@@ -1,12 +1,12 @@
 use Rattle.std.proofs.Common.{◌≡◌, ◌+◌, sym, ◌∙◌, subst, arith}
 use Rattle.rule_classes.specs.Best.{IsBest}
 use Rattle.rule_classes.specs.declared.best.Best.{Best}
-use Rattle.rule_classes.proofs.laws.Completions.{IsLeastOver, IsLeastOf-last, IsLeastOf-over, IsLeastOver-more, IsNext-greatest, IsNext-least, next_of, next_of-within}
+use Rattle.rule_classes.proofs.laws.Completions.{IsLeastOver, IsLeastColouring-last, IsLeastColouring-over, IsLeastOver-more, IsNext-greatest, IsNext-least, next_of, next_of-within}
 use Rattle.rule_classes.proofs.search.+least_of.Goals.{then-low-high, else-low-high}
 use Rattle.rule_classes.proofs.search.+least_of.Goals as goal
 
 pub returns-then-high-low-le1-clause-least : goal.returns-then-high-low-le1-clause-least
-returns-then-high-low-le1-clause-least t c = IsLeastOf-last (omega arith) c.requires.high c.requires.colouring c.take_lesser.ensures.least
+returns-then-high-low-le1-clause-least t c = IsLeastColouring-last (omega arith) c.requires.high c.requires.colouring c.take_lesser.ensures.least
 
 pub loop-colour-preserved : goal.loop-colour-preserved
 loop-colour-preserved t c =
@@ -37,5 +37,5 @@ returns-clause-least t c =
     let r = c.args.rule.now in
     let next = next_of-within r.states c.args.low c.args.high (omega arith) in
     let last : c.loop-colour.colour ≡ c.args.high = omega arith in
-    IsLeastOf-over (next_of r.states c.args.low c.args.high) (omega (arith, next.1, c.requires.high)) next.0 next.1 c.requires.colouring
+    IsLeastColouring-over (next_of r.states c.args.low c.args.high) (omega (arith, next.1, c.requires.high)) next.0 next.1 c.requires.colouring
     (subst (λ n. IsLeastOver r c.args.colouring c.args.low c.args.high (next_of r.states c.args.low c.args.high) n c.args.best.now.colouring c.loop-colour.best.colouring) last c.loop-colour.invariant.least)

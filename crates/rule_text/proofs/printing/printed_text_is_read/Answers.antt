@@ -1,5 +1,5 @@
-use Rattle.rule_text.proofs.laws.Printed.{IsRuleText-printed}
+use Rattle.rule_text.proofs.laws.Printed.{IsRuleText-printed_rule}
 use Rattle.rule_text.proofs.printing.printed_text_is_read.Goals as goal
 
 pub returns : goal.returns
-returns c = IsRuleText-printed
+returns c = IsRuleText-printed_rule

@@ -5,7 +5,7 @@ use Rattle.std.proofs.lemmas.Nat.{one_shl}
 use Rattle.word_image.specs.LocalRules.{IsWord, node_count}
 use Rattle.word_image.proofs.laws.Bits.{IsBitSet-pow}
 use Rattle.pair_laws.proofs.Sets.{IsBitSet-shl}
-use Rattle.tail_preimage.specs.Walks.{HasWalk, IsLeastWalk}
+use Rattle.tail_preimage.specs.Walks.{HasWalk, IsLeastWalkInto}
 use Rattle.tail_preimage.proofs.laws.Stretches.{IsWord-repeat}
 use Rattle.tail_preimage.proofs.answer.first_loop.Goals as goal
 
@@ -28,6 +28,6 @@ returns c =
     let r = c.args.rule.now in
     let node = c.args.node in
     let word = c.deref.ensures.value ∙ c.in_ok-word.ensures in
-    let found = subst (λ w. IsLeastWalk r w node (1 * 2 ^ node % 2 ^ 16) c.in_ok-least_walk.field-0.1 c.in_ok-least_walk.field-0.0.items) word c.in_ok-least_walk.ensures in
-    let least = subst (λ k. IsLeastWalk r (repeat c.args.n c.args.part.now) node k c.in_ok-least_walk.field-0.1 c.in_ok-least_walk.field-0.0.items) (one_shl node 16 (omega arith)) found in
-    subst (λ v. IsLeastWalk r (repeat c.args.n c.args.part.now) node (2 ^ node) v c.in_ok-least_walk.field-0.0.items) ((IsBitSet-pow node c.in_ok-least_walk.field-0.1).0 least.within) least
+    let found = subst (λ w. IsLeastWalkInto r w node (1 * 2 ^ node % 2 ^ 16) c.in_ok-least_walk.field-0.1 c.in_ok-least_walk.field-0.0.items) word c.in_ok-least_walk.ensures in
+    let least = subst (λ k. IsLeastWalkInto r (repeat c.args.n c.args.part.now) node k c.in_ok-least_walk.field-0.1 c.in_ok-least_walk.field-0.0.items) (one_shl node 16 (omega arith)) found in
+    subst (λ v. IsLeastWalkInto r (repeat c.args.n c.args.part.now) node (2 ^ node) v c.in_ok-least_walk.field-0.0.items) ((IsBitSet-pow node c.in_ok-least_walk.field-0.1).0 least.within) least

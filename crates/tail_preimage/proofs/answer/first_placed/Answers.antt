@@ -7,10 +7,10 @@ use Rattle.word_image.proofs.laws.Bits.{IsBitSet-zero}
 use Rattle.pair_laws.proofs.Sets.{IsBitSet-below}
 use Rattle.tail_config.specs.Tails.{TailConfig, IsTail}
 use Rattle.tail_config.specs.TailValues.{config_of}
-use Rattle.tail_preimage.specs.Walks.{HasWalk, IsLeastWalk, before_last}
+use Rattle.tail_preimage.specs.Walks.{HasWalk, IsLeastWalkInto, before_last}
 use Rattle.tail_preimage.specs.Preimages.{PlacedConfig, Shape, IsFrom}
-use Rattle.tail_preimage.specs.Relations.{IsNodeSet, Rows, Steps}
-use Rattle.tail_preimage.specs.Sides.{AreParts, Starts, IsPossible, shape_of}
+use Rattle.tail_preimage.specs.Relations.{IsNodeSet, Relates, Steps}
+use Rattle.tail_preimage.specs.Sides.{AreTailParts, Starts, IsPossible, shape_of}
 use Rattle.tail_preimage.specs.FirstWalks.{AreLoopWalks, AreFirstWalks, IsLeastNode, placed_of}
 use Rattle.tail_preimage.specs.declared.shapes.Parts.{Parts}
 use Rattle.tail_preimage.proofs.laws.Walks.{IsWalk-last}
@@ -37,7 +37,7 @@ record IsStart (r : LocalRule) (t : TailConfig) (s : Shape) (u : ℕ) : Type 0 w
   walks : AreLoopWalks r t s u end left middle right
   least : (v q : ℕ) (a b c : List ℕ) → AreLoopWalks r t s v q a b c → u ≤ v
 
-start_node : (r g : LocalRule) (t : TailConfig) (parts : Parts) (s : Shape) (set u : ℕ) → g ≡ r → AreParts r t parts → IsPossible r parts s → IsNodeSet g (Starts g parts s) set → IsLeastNode set u → IsStart r t s u
+start_node : (r g : LocalRule) (t : TailConfig) (parts : Parts) (s : Shape) (set u : ℕ) → g ≡ r → AreTailParts r t parts → IsPossible r parts s → IsNodeSet g (Starts g parts s) set → IsLeastNode set u → IsStart r t s u
 start_node r g t parts s set u same h possible starts least =
     let nodes : IsNodeSet r (Starts r parts s) set = subst (λ q. IsNodeSet q (Starts q parts s) set) same starts in
     let below : u < node_count r = IsBitSet-below (node_count r) set u nodes.within least.within in
@@ -45,8 +45,8 @@ start_node r g t parts s set u same h possible starts least =
     record { below = below; end = w; left = x; middle = y; right = z; walks = walks; least = Starts-least h nodes least }
 
 -- the nodes with a loop of right periods
-loop_nodes : (r g : LocalRule) (t : TailConfig) (parts : Parts) (on set : ℕ) → g ≡ r → AreParts r t parts → IsNodeSet g (λ u. Steps (Rows parts.right.period) on u u) set → IsNodeSet r (λ u. HasWalk r (repeat on t.right) u u) set
-loop_nodes r g t parts on set same h loops = IsNodeSet-same (λ u l. Steps-repeat h.rule h.right on u u l) (subst (λ q. IsNodeSet q (λ u. Steps (Rows parts.right.period) on u u) set) same loops)
+loop_nodes : (r g : LocalRule) (t : TailConfig) (parts : Parts) (on set : ℕ) → g ≡ r → AreTailParts r t parts → IsNodeSet g (λ u. Steps (Relates parts.right.period) on u u) set → IsNodeSet r (λ u. HasWalk r (repeat on t.right) u u) set
+loop_nodes r g t parts on set same h loops = IsNodeSet-same (λ u l. Steps-repeat h.rule h.right on u u l) (subst (λ q. IsNodeSet q (λ u. Steps (Relates parts.right.period) on u u) set) same loops)
 
 pub first_loop-requires-clause-word : goal.first_loop-requires-clause-word
 first_loop-requires-clause-word c =
@@ -139,11 +139,11 @@ returns c =
       back_some = possible.back_some;
       on_some = possible.on_some;
       start = start.least;
-      left = subst (λ p. IsLeastWalk r (repeat s.back p) u (2 ^ u) u x) c.left.ensures.left c.in_ok-left.ensures;
+      left = subst (λ p. IsLeastWalkInto r (repeat s.back p) u (2 ^ u) u x) c.left.ensures.left c.in_ok-left.ensures;
       turns = c.loops-turns.result;
       turning = loops;
-      middle = subst (λ w. IsLeastWalk r w u c.loops-turns.result end y) word c.in_ok-middle.ensures;
-      right = subst (λ p. IsLeastWalk r (repeat s.on p) end (2 ^ end) end z) c.right.ensures.right c.in_ok-right.ensures;
+      middle = subst (λ w. IsLeastWalkInto r w u c.loops-turns.result end y) word c.in_ok-middle.ensures;
+      right = subst (λ p. IsLeastWalkInto r (repeat s.on p) end (2 ^ end) end z) c.right.ensures.right c.in_ok-right.ensures;
     } in
     same_parts s.before x y z (IsFrom-first h.rule tail c.requires.shape.small (λ v n q a b d other. c.requires.shape.least v (walks-IsPossible h other)) walks)
     (to_z-of_z w64 c.place_of.result (search rules) ∙ c.place_of.ensures) c.without_node.ensures c.without_node-2.ensures c.without_node-3.ensures

@@ -1,6 +1,6 @@
 use Rattle.std.proofs.Common.{ℕ, MatchOption, sym, subst}
-use Rattle.tail_preimage.specs.Relations.{Rows, Open}
-use Rattle.tail_preimage.specs.Sides.{Passes, IsFirstGap}
+use Rattle.tail_preimage.specs.Relations.{Relates, Open}
+use Rattle.tail_preimage.specs.Sides.{PassesThrough, IsFirstGap}
 use Rattle.tail_preimage.proofs.laws.Shapes.{Through-before, Through-behind}
 use Rattle.tail_preimage.proofs.gaps.first_gap.Goals as goal
 
@@ -8,15 +8,15 @@ pub returns-in_err-left : goal.returns-in_err-left
 returns-in_err-left c =
     let r = c.args.graph.now in
     let parts = c.args.parts.now in
-    let through = Through-before parts (Open (Rows parts.left.period) 16) (Open (Rows parts.right.period) 16) c.open.ensures c.before-rears.ensures in
-    subst (λ o. MatchOption o (Passes r parts 16 16) (λ (x : ℕ × ℕ). IsFirstGap r parts x.0 x.1)) (sym c.from_residual.ensures) (through.0 c.in_err-left.ensures.first)
+    let through = Through-before parts (Open (Relates parts.left.period) 16) (Open (Relates parts.right.period) 16) c.open.ensures c.before-rears.ensures in
+    subst (λ o. MatchOption o (PassesThrough r parts 16 16) (λ (x : ℕ × ℕ). IsFirstGap r parts x.0 x.1)) (sym c.from_residual.ensures) (through.0 c.in_err-left.ensures.first)
 
 pub returns-in_err-right : goal.returns-in_err-right
 returns-in_err-right c =
     let r = c.args.graph.now in
     let parts = c.args.parts.now in
-    let A = Rows parts.left.period in
-    let C = Rows parts.right.period in
+    let A = Relates parts.left.period in
+    let C = Relates parts.right.period in
     let left = c.in_ok-left.left in
     let before = Through-before parts (Open A left) (Open C 16) c.open.ensures c.before-rears.ensures in
     let behind = Through-behind parts (Open A left) (Open C 16) c.open-2.ensures c.after-fronts.ensures in
@@ -26,8 +26,8 @@ pub returns : goal.returns
 returns c =
     let r = c.args.graph.now in
     let parts = c.args.parts.now in
-    let A = Rows parts.left.period in
-    let C = Rows parts.right.period in
+    let A = Relates parts.left.period in
+    let C = Relates parts.right.period in
     let left = c.in_ok-left.left in
     let first = c.in_ok-left.ensures.first in
     let second = c.in_ok-right.ensures.first in

@@ -3,7 +3,7 @@ use Rattle.std.proofs.lemmas.Nat.Bits.{shr_and_one}
 use Rattle.word_image.specs.LocalRules.{node_count}
 use Rattle.word_image.proofs.laws.Bits.{bit_at-IsBitSet}
 use Rattle.word_image.proofs.laws.Unions.{IsUnion, IsUnion-skip, IsUnion-take}
-use Rattle.tail_preimage.specs.Relations.{Rows}
+use Rattle.tail_preimage.specs.Relations.{Relates}
 use Rattle.tail_preimage.proofs.relations.after.Goals as goal
 use Rattle.tail_preimage.proofs.relations.after.Goals.{then-set-u-eq1, else-set-u-eq1}
 
@@ -13,7 +13,7 @@ loop-u-preserved c =
     let set = c.args.set in
     let rows = c.args.rows.now in
     let u = c.loop-u.u in
-    let Has : ℕ → ℕ → Type 0 = λ i v. IsBitSet set i × Rows rows i v in
+    let Has : ℕ → ℕ → Type 0 = λ i v. IsBitSet set i × Relates rows i v in
     elim c.if-set-u-eq1.branch [
       | then-set-u-eq1 w ↦
           let present = (bit_at-IsBitSet set u).1 (sym (shr_and_one set u) ∙ w.if-set-u-eq1.true) in

@@ -1,7 +1,7 @@
 use Rattle.std.proofs.Common.{◌≢◌, bit_and, slice_index}
-use Rattle.tail_preimage.proofs.Unions.{IsPart}
+use Rattle.tail_preimage.proofs.Unions.{IsNodeSetTo}
 use Rattle.tail_preimage.proofs.relations.before.Given as goal
 
 -- the first nodes are done
 abbrev pub invariant-loop-u : goal.invariant-loop-u
-invariant-loop-u l = IsPart l.graph (λ u. bit_and (slice_index l.rows u) l.set ≢ 0) l.u l.before
+invariant-loop-u l = IsNodeSetTo l.graph (λ u. bit_and (slice_index l.rows u) l.set ≢ 0) l.u l.before

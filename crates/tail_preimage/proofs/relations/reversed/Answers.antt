@@ -1,12 +1,12 @@
 use Rattle.std.proofs.Common.{◌<◌, refl, subst, arith}
 use Rattle.pair_laws.proofs.Sets.{IsBitSet-shl}
-use Rattle.tail_preimage.specs.Relations.{Rows}
+use Rattle.tail_preimage.specs.Relations.{Relates}
 use Rattle.tail_preimage.proofs.Unions.{IsNodeSet-same}
-use Rattle.tail_preimage.proofs.Rows.{AreFilled-none, AreFilled-more, AreFilled-all}
+use Rattle.tail_preimage.proofs.Rows.{AreRowsFilled-none, AreRowsFilled-more, AreRowsFilled-all}
 use Rattle.tail_preimage.proofs.relations.reversed.Goals as goal
 
 pub loop-u-init : goal.loop-u-init
-loop-u-init c = AreFilled-none c.args.graph.now (λ u v. Rows c.args.relation.now v u) _ refl
+loop-u-init c = AreRowsFilled-none c.args.graph.now (λ u v. Relates c.args.relation.now v u) _ refl
 
 pub loop-u-preserved : goal.loop-u-preserved
 loop-u-preserved c =
@@ -14,11 +14,11 @@ loop-u-preserved c =
     let table = c.args.relation.now in
     let rule = c.nodes-u-end.ensures.rule in
     let few : u < 16 = omega (arith, rule.shape.most_nodes) in
-    AreFilled-more c.from.result rule (omega arith) c.from.ensures c.loop-u.invariant
+    AreRowsFilled-more c.from.result rule (omega arith) c.from.ensures c.loop-u.invariant
     (IsNodeSet-same (λ v _. (
-      (λ (w, row, one). subst (Rows table v) ((IsBitSet-shl u w few).0 one) row),
+      (λ (w, row, one). subst (Relates table v) ((IsBitSet-shl u w few).0 one) row),
       (λ row. (u, row, (IsBitSet-shl u u few).1 refl)),
     )) c.before-in-loop-u.ensures)
 
 pub returns : goal.returns
-returns c = AreFilled-all (omega arith) c.loop-u.invariant
+returns c = AreRowsFilled-all (omega arith) c.loop-u.invariant

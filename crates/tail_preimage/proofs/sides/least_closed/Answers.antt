@@ -1,6 +1,6 @@
 use Rattle.std.proofs.Common.{subst, sym, arith, ⊎_elim}
 use Rattle.std.proofs.lemmas.Bool.{cases_eq}
-use Rattle.tail_preimage.specs.Relations.{Rows, Open, Meets}
+use Rattle.tail_preimage.specs.Relations.{Relates, Open, Meets}
 use Rattle.tail_preimage.proofs.Unions.{IsNodeSet-meets}
 use Rattle.tail_preimage.proofs.sides.least_closed.Goals as goal
 
@@ -13,7 +13,7 @@ returns-then-open-set-eq0-clause-first c = record {
 pub loop-n-preserved : goal.loop-n-preserved
 loop-n-preserved c i l =
     ⊎_elim
-    (λ same. subst (λ k. Meets c.args.graph.now (Open (Rows c.args.side.now.period) k) c.args.set) (sym same) ((IsNodeSet-meets c.open.ensures c.args.set).0 c.if-open-set-eq0.false))
+    (λ same. subst (λ k. Meets c.args.graph.now (Open (Relates c.args.side.now.period) k) c.args.set) (sym same) ((IsNodeSet-meets c.open.ensures c.args.set).0 c.if-open-set-eq0.false))
     (λ other. c.loop-n.invariant i (omega (arith, l, other)))
     (cases_eq i c.loop-n.n)
 

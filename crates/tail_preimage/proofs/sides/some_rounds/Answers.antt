@@ -1,6 +1,6 @@
 use Rattle.std.proofs.Common.{◌≡◌, ◌-◌, subst, arith}
 use Rattle.word_image.proofs.laws.Unions.{IsUnion-take}
-use Rattle.tail_preimage.specs.Relations.{Rows, Rounds}
+use Rattle.tail_preimage.specs.Relations.{Relates, Rounds}
 use Rattle.tail_preimage.proofs.sides.some_rounds.Goals as goal
 
 pub loop-n-preserved : goal.loop-n-preserved
@@ -8,7 +8,7 @@ loop-n-preserved c = let here = c.rounds-set.ensures in IsUnion-take c.loop-n.in
 
 pub returns : goal.returns
 returns c =
-    let E = Rows c.args.side.now.period in
+    let E = Relates c.args.side.now.period in
     let sum = c.args.sum in
     let all = c.loop-n.invariant in
     record {

@@ -1,6 +1,6 @@
 use Rattle.std.proofs.Common.{◌≡◌, ◌+◌, ◌<◌, ℕ, length, slice_index, IsBitSet, [], ◌∷◌, ◌++◌, sym, ◌∙◌, ap, subst, arith}
 use Rattle.std.proofs.lemmas.List.{get_or_default}
-use Rattle.tail_preimage.specs.Relations.{IsNodeSet, Rows}
+use Rattle.tail_preimage.specs.Relations.{IsNodeSet, Relates}
 use Rattle.tail_preimage.specs.FirstWalks.{AreOpen}
 use Rattle.tail_preimage.proofs.OpenSets.{AreOpen-start, AreOpen-more}
 use Rattle.tail_preimage.proofs.walks.open_sets.Goals as goal
@@ -17,6 +17,6 @@ loop-n-preserved c =
     let n = c.loop-n.n in
     let inside : n < length sets = omega (arith, c.loop-n.invariant.long) in
     let last : c.index.result.now ≡ slice_index sets n = c.index.ensures ∙ get_or_default sets n c.index.result.now 0 inside in
-    let step = subst (λ k. IsNodeSet r (λ u. (v : ℕ) × Rows c.edges.result u v × IsBitSet k v) c.before-set.result) last c.before-set.ensures in
+    let step = subst (λ k. IsNodeSet r (λ u. (v : ℕ) × Relates c.edges.result u v × IsBitSet k v) c.before-set.result) last c.before-set.ensures in
     subst (AreOpen r c.args.word.now c.args.goal (n + 1)) (sym c.in_ok-push-2.ensures.items)
     (AreOpen-more c.edges.ensures.rule c.loop-n.invariant (omega arith) c.edges.ensures.relation step)

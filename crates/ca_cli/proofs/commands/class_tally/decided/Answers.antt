@@ -6,8 +6,8 @@ use Rattle.std.proofs.lemmas.List.Elements.{All-push}
 use Rattle.word_image.specs.LocalRules.{LocalRule, IsRule, wolfram_number}
 use Rattle.cert_check.specs.Accepted.{AreTrue}
 use Rattle.cert_check.specs.declared.verdicts.Verdicts.{Verdicts}
-use Rattle.ca_cli.specs.ClassTallies.{IsAdded, IsDecided, rule_in, rules_in}
-use Rattle.ca_cli.specs.ClassTallies.IsAdded.{Old, New}
+use Rattle.ca_cli.specs.ClassTallies.{IsRuleAdded, IsDecided, rule_in, rules_in}
+use Rattle.ca_cli.specs.ClassTallies.IsRuleAdded.{Old, New}
 use Rattle.ca_cli.proofs.laws.ClassSummaries.{decided_found, decided_absent}
 use Rattle.ca_cli.proofs.commands.class_tally.decided.Goals as goal
 
@@ -57,6 +57,6 @@ returns-clause-added c =
     let key = number_is r c.number.ensures c.unwrap-number.ensures in
     let none = subst (λ n. lookup (nat_eq n) entries ≡ None) key (sym c.get.ensures.value ∙ sym c.copied.ensures ∙ c.in_default.is) in
     let absent = decided_absent entries c.requires.known c.k-states.ensures.rule refl refl c.requires.offset none in
-    subst (IsAdded r (rules_in entries))
+    subst (IsRuleAdded r (rules_in entries))
     (sym (ap rules_in c.in_ok-keep.ensures ∙ map_push rule_in entries (c.unwrap-number.result, v) ∙ ap (λ (q : LocalRule). rules_in entries ++ q ∷ []) c.verdicts-verdicts.ensures.rule))
     (New (rules_in entries) absent)

@@ -2,15 +2,15 @@ use Rattle.std.proofs.Common.{refl, sym, subst}
 use Rattle.std.specs.Prelude.{codes}
 use Rattle.std.proofs.lemmas.Bool.{false≢true}
 use Rattle.std.proofs.lemmas.Result.{on_ok_weaker}
-use Rattle.rule_text.specs.PrintedRules.{printed}
+use Rattle.rule_text.specs.PrintedRules.{printed_rule}
 use Rattle.ca_cli.specs.InverseLines.{IsMapRule}
 use Rattle.ca_cli.specs.InverseLines.IsMapRule.{Rule, NoRule}
 use Rattle.ca_cli.proofs.commands.inverses.write_map_rule.Goals as goal
 
 pub returns-in-Ok : goal.returns-in-Ok
 returns-in-Ok c =
-    let is : IsMapRule c.args.map.now (printed c.in-Ok.rule) = subst (λ r. IsMapRule c.args.map.now (printed r)) (sym c.in-Ok.ensures.rule) (Rule (c.in-Ok.ensures.accepted.0 refl)) in
-    on_ok_weaker c.write_rule.result (λ written. (printed c.in-Ok.rule, is, written)) c.write_rule.ensures
+    let is : IsMapRule c.args.map.now (printed_rule c.in-Ok.rule) = subst (λ r. IsMapRule c.args.map.now (printed_rule r)) (sym c.in-Ok.ensures.rule) (Rule (c.in-Ok.ensures.accepted.0 refl)) in
+    on_ok_weaker c.write_rule.result (λ written. (printed_rule c.in-Ok.rule, is, written)) c.write_rule.ensures
 
 pub returns-in-Err : goal.returns-in-Err
 returns-in-Err c =

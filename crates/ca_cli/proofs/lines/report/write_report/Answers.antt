@@ -1,7 +1,7 @@
 use Rattle.std.proofs.Common.{Bool, cond, ℕ, List, slice_index, ◌++◌, ap, ◌∙◌}
 use Rattle.std.specs.Prelude.{codes}
 use Rattle.std.proofs.lemmas.Result.{on_ok_weaker}
-use Rattle.rule_text.specs.PrintedRules.{printed}
+use Rattle.rule_text.specs.PrintedRules.{printed_rule}
 use Rattle.cert_format.specs.Parts.{injective_of, side_of, sum_of}
 use Rattle.certificate_laws.specs.LeastEvidence as found
 use Rattle.ca_cli.specs.Reports.{number_line, surjective_line, injective_line, side_line, conserving_line}
@@ -23,9 +23,9 @@ pub returns : goal.returns
 returns c =
     let f = c.evidence.inside in
     let before = c.args.output.now in
-    let lines : found.Evidence → Bool → List ℕ = λ e both. before ++ (line (codes "rule " ++ printed e.rule) ++ number_line e.rule ++ surjective_line e.orphan ++ injective_line e.injective
+    let lines : found.Evidence → Bool → List ℕ = λ e both. before ++ (line (codes "rule " ++ printed_rule e.rule) ++ number_line e.rule ++ surjective_line e.orphan ++ injective_line e.injective
     ++ side_line (codes "right") e.right ++ side_line (codes "left") e.left ++ line (cond both (codes "open yes") (codes "open no")) ++ conserving_line e.conserving) in
-    let two = appended_twice before (line (codes "rule " ++ printed f.rule)) (number_line f.rule) c.in_ok-write_rule.ensures c.in_ok-write_number.ensures in
+    let two = appended_twice before (line (codes "rule " ++ printed_rule f.rule)) (number_line f.rule) c.in_ok-write_rule.ensures c.in_ok-write_number.ensures in
     let three = appended_twice before _ (surjective_line f.orphan) two c.in_ok-write_surjective.ensures in
     let four = appended_twice before _ (injective_line (injective_of f.injective)) three c.in_ok-write_injective.ensures in
     let five = appended_twice before _ (side_line (codes "right") (side_of f.right)) four c.in_ok-write_side.ensures in

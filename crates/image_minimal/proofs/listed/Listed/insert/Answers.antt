@@ -3,7 +3,7 @@ use Rattle.std.specs.List.{slice_get}
 use Rattle.std.proofs.lemmas.List.{length_push}
 use Rattle.word_image.proofs.laws.Places.{slice_get-push}
 use Rattle.image_minimal.specs.Indexes.{IsPlaceOf}
-use Rattle.image_minimal.proofs.Indexes.{IsIndex-push, length-listed-le}
+use Rattle.image_minimal.proofs.Indexes.{IsExactIndex-push, length-listed-le}
 use Rattle.image_minimal.proofs.listed.Listed.insert.Goals as goal
 
 -- with the new set there are at most 65,536, so its place is below
@@ -13,7 +13,7 @@ overflow_cast-place c =
     let sets = c.self.inside.sets.items in
     let none : ¬ Contains c.args.self.now new = subst (IsPlaceOf c.args.self.now new) c.in-None.is c.place.ensures in
     let absent : ¬ Contains sets new = subst (λ l. ¬ Contains l new) (sym c.self.view_is) none in
-    let index = IsIndex-push c.self.invariant new (omega (arith, c.ranges.set)) absent in
+    let index = IsExactIndex-push c.self.invariant new (omega (arith, c.ranges.set)) absent in
     omega (arith, length-listed-le index, length_push sets new, c.len-place.ensures.len, ap length c.self.view_is)
 
 pub invariant_of-self-in-None : goal.invariant_of-self-in-None
@@ -25,7 +25,7 @@ invariant_of-self-in-None c =
     let absent : ¬ Contains sets new = subst (λ l. ¬ Contains l new) (sym c.self.view_is) none in
     let number : c.len-place.result ≡ length sets = c.len-place.ensures.len ∙ ap length (sym c.self.view_is) in
     let index : set places c.from.result (Some c.len-place.result) ≡ set places new (Some (length sets)) = ap₂ (λ (i j : ℕ). set places i (Some j)) c.from.ensures number in
-    rw (c.in_ok-push-in-None.ensures.items, index) (IsIndex-push c.self.invariant new (omega (arith, c.ranges.set)) absent)
+    rw (c.in_ok-push-in-None.ensures.items, index) (IsExactIndex-push c.self.invariant new (omega (arith, c.ranges.set)) absent)
 
 pub returns-in-Some : goal.returns-in-Some
 returns-in-Some c = record { stands = subst (IsPlaceOf c.args.self.now c.args.set) c.in-Some.is c.place.ensures; grown = inl refl }

@@ -1,10 +1,10 @@
 use Rattle.std.proofs.Common.{◌≡◌, ◌+◌, [], sym, subst, arith, List, Option, ℕ, None, replicate, rules}
-use Rattle.image_minimal.specs.Indexes.{IsIndex}
-use Rattle.image_minimal.proofs.Indexes.{IsIndex-start}
+use Rattle.image_minimal.specs.Indexes.{IsExactIndex}
+use Rattle.image_minimal.proofs.Indexes.{IsExactIndex-start}
 use Rattle.image_minimal.proofs.listed.Listed.new.Goals as goal
 
 pub invariant_of-result : goal.invariant_of-result
 invariant_of-result c =
     let none : c.in_ok-vec.field-0.items ≡ replicate (c.from.result + 1) None = c.in_ok-vec.ensures.items_if_clones_equal (λ y h. search rules) in
-    subst (λ (sets : List ℕ). IsIndex sets c.in_ok-vec.field-0.items) (sym c.new.ensures.items)
-    (subst (λ (places : List (Option ℕ)). IsIndex [] places) (sym none) (IsIndex-start (c.from.result + 1) (omega (arith, c.from.ensures))))
+    subst (λ (sets : List ℕ). IsExactIndex sets c.in_ok-vec.field-0.items) (sym c.new.ensures.items)
+    (subst (λ (places : List (Option ℕ)). IsExactIndex [] places) (sym none) (IsExactIndex-start (c.from.result + 1) (omega (arith, c.from.ensures))))

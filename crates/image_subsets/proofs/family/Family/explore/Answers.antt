@@ -3,7 +3,7 @@ use Rattle.std.proofs.Math.Nat.{mul-le-mul_right}
 use Rattle.std.proofs.lemmas.Option.{slice_get_within, get_or_from_slice_get}
 use Rattle.image_subsets.specs.Masks.{IsInserted}
 use Rattle.image_subsets.specs.Searches.{IsExpanded, EndsEmpty}
-use Rattle.image_subsets.proofs.Searches.{set-below, IsExpanded-start, IsFamilyTree-closed, IsFamilyTree-stopped, length-search-le, IsTree-search}
+use Rattle.image_subsets.proofs.Searches.{set-below, IsExpanded-start, IsFamilyTree-closed, IsFamilyTree-stopped, length-subset_search-le, IsTree-search}
 use Rattle.image_subsets.proofs.family.Family.explore.Goals as goal
 
 -- the first set is put into an empty list
@@ -23,7 +23,7 @@ loop-place-init c =
     }
 
 pub loop-place-smaller : goal.loop-place-smaller
-loop-place-smaller c = omega (arith, length-search-le c.loop-place.invariant.search.0, c.loop-place-test.true, c.len.ensures.len)
+loop-place-smaller c = omega (arith, length-subset_search-le c.loop-place.invariant.search.0, c.loop-place-test.true, c.len.ensures.len)
 
 -- the empty set that was found last is one of the sets
 found_empty : (sets : List ℕ) → EndsEmpty sets → Contains sets 0

@@ -2,16 +2,16 @@ use Rattle.std.proofs.Common.{◌≡◌, ◌-◌, ◌*◌, ◌/◌, ◌%◌, ◌
 use Rattle.std.proofs.lemmas.Bool.{ne_eqb, false≢true}
 use Rattle.std.proofs.lemmas.List.{get_or_default}
 use Rattle.std.proofs.lemmas.Nat.{one_shl, bit_set_by_shift, and_le_l}
-use Rattle.image_subsets.specs.Marks.{without}
+use Rattle.image_subsets.specs.Marks.{set_without}
 use Rattle.image_subsets.proofs.marks.Marks.is_marked_without.Goals as goal
 
 -- the mark that an index reads
 read : (marks now : List Bool) (set u place : ℕ) (mark : Bool) → marks ≡ now → length marks ≡ 65536 → u < 16 → set < 65536 → place ≡ bit_and set (65535 - 1 * 2 ^ u % 2 ^ 16)
-    → mark ≡ get_or marks place mark → mark ≡ slice_index_or now (without set u) false
+    → mark ≡ get_or marks place mark → mark ≡ slice_index_or now (set_without set u) false
 read marks now set u place mark same long node small at found =
-    let there : place ≡ without set u = at ∙ ap (λ b. bit_and set (65535 - b)) (one_shl u 16 node) in
+    let there : place ≡ set_without set u = at ∙ ap (λ b. bit_and set (65535 - b)) (one_shl u 16 node) in
     let inside : place < length marks = omega (arith, there, and_le_l set (65535 - 2 ^ u), small, long) in
-    found ∙ get_or_default marks place mark false inside ∙ ap (λ i. slice_index_or marks i false) there ∙ ap (λ l. slice_index_or l (without set u) false) same
+    found ∙ get_or_default marks place mark false inside ∙ ap (λ i. slice_index_or marks i false) there ∙ ap (λ l. slice_index_or l (set_without set u) false) same
 
 pub returns-then-set-u-eq1 : goal.returns-then-set-u-eq1
 returns-then-set-u-eq1 c =

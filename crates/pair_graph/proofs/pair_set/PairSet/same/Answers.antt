@@ -2,7 +2,7 @@ use Rattle.std.proofs.Common.{◌≡◌, length, refl, Bool, true, false, IsTrue
 use Rattle.std.specs.Cmp.Lexicographic.{told_text}
 use Rattle.std.proofs.lemmas.Bool.{false≢true}
 use Rattle.pair_graph.specs.PairSets.{truths}
-use Rattle.pair_graph.specs.PairRows.{same_rows, same_nodes, length-truths}
+use Rattle.pair_graph.specs.PairRows.{same_rows, same_roots, length-truths}
 use Rattle.pair_graph.proofs.pair_set.PairSet.same.Goals as goal
 
 -- a told test holds where what it tests does
@@ -22,7 +22,7 @@ returns c =
     let told = told_text rows others c.eq.result c.eq.ensures in
     let first = c.self.view_is in
     let second = c.other.view_is in
-    let nodes = same_nodes c.self.inside.nodes c.other.inside.nodes
+    let nodes = same_roots c.self.inside.nodes c.other.inside.nodes
     (sym (length-truths c.self.inside.nodes rows) ∙ ap length first ∙ c.requires ∙ sym (ap length second) ∙ length-truths c.other.inside.nodes others) in (
       (λ t. sym first ∙ ap₂ truths nodes (only_if c.eq.result (rows ≡ others) told t) ∙ second),
       (λ same. holds_if c.eq.result (rows ≡ others) told

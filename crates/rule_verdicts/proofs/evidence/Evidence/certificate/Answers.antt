@@ -7,7 +7,7 @@ use Rattle.certificate_laws.specs.LeastEvidence.{IsOrphanPart}
 use Rattle.certificate_laws.specs.WrittenCertificates.{orphan_of, HasWrittenParts, IsListPart}
 use Rattle.certificate_laws.specs.LeastEvidence as found
 use Rattle.certificate_laws.proofs.WrittenShapes.{IsShaped-written}
-use Rattle.rule_verdicts.proofs.laws.WrittenParts.{AreRanks-row}
+use Rattle.rule_verdicts.proofs.laws.WrittenParts.{IsRankRow-row}
 use Rattle.rule_verdicts.proofs.evidence.Evidence.certificate.Goals as goal
 
 -- what is made
@@ -43,8 +43,8 @@ HasWrittenParts-made c =
         conserving = least.conserving;
       };
       list = subst (λ (r : LocalRule). IsListPart c.args.version r part) c.of.ensures c.in_ok-surjective_part.ensures.list;
-      forward = AreRanks-row Right same c.in_ok-forward.ensures.each_pair c.in_ok-forward.ensures.ranks;
-      backward = AreRanks-row Left same c.in_ok-backward.ensures.each_pair c.in_ok-backward.ensures.ranks;
+      forward = IsRankRow-row Right same c.in_ok-forward.ensures.each_pair c.in_ok-forward.ensures.ranks;
+      backward = IsRankRow-row Left same c.in_ok-backward.ensures.each_pair c.in_ok-backward.ensures.ranks;
     }
 
 pub invariant_of-result : goal.invariant_of-result
