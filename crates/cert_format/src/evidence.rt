@@ -1,6 +1,7 @@
 //! The evidence of each question, which is an object.
-ghost use Rattle.std.specs.Prelude.{◌≡◌, ℕ, ◌≤◌, ◌↔◌, List, Option, ℤ, codes, length, All, IfOk, IfErr, IfSome, IfNone, IsTrue};
+ghost use Rattle.std.specs.Prelude.{◌≡◌, ℕ, ◌+◌, ◌≤◌, ◌↔◌, List, Option, ℤ, codes, length, All, IfOk, IfErr, IfSome, IfNone, IsTrue};
 ghost use Rattle.serde_json.specs.View.{view};
+ghost use Rattle.word_image.specs.Graphs.{pair_count};
 ghost use Rattle.cert_format.specs.Evidence.{SurjectiveEvidence, InjectiveEvidence, SideEvidence, SumEvidence};
 ghost use Rattle.cert_format.specs.Parts.{surjective_of, injective_of, side_of, sum_of, IsOver};
 ghost use Rattle.cert_format.specs.Readings.{AreNumbers, IsWindowFor, IsAhead, IsFluxFor, IsWeightsFor, IsRowFor, IsSurjectiveFor, IsInjectiveFor, IsSideFor, IsSumFor, AreRanksFor};
@@ -33,7 +34,7 @@ pub fn surjective(
     }
     if version.lists_pairs() {
         if let Some(listed) = only(value, "pairs") {
-            let pairs = numbers(alloc, rule.pairs() - 1, listed)?;
+            let pairs = numbers(alloc, last_pair(rule), listed)?;
             return Ok(SurjectivePart::Pairs(pairs));
         }
     }
@@ -41,6 +42,13 @@ pub fn surjective(
         return Err(Misread::Shape);
     };
     Ok(SurjectivePart::Orphan(word(alloc, rule.k(), orphan)?))
+}
+
+/// The greatest pair of nodes of a rule.
+fn last_pair(rule: &Rule) -> u16
+    ensures { result + 1 ≡ pair_count rule.now }
+{
+    rule.pairs() - 1
 }
 
 /// The numbers of an array, each at most this one.

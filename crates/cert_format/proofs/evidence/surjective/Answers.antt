@@ -1,15 +1,7 @@
-use Rattle.std.proofs.Common.{◌≡◌, ℕ, ◌+◌, ◌-◌, arith}
 use Rattle.std.proofs.lemmas.Result.{err_from_is_err_and}
-use Rattle.word_image.specs.LocalRules.{LocalRule, IsRule}
-use Rattle.word_image.specs.Graphs.{pair_count}
-use Rattle.word_image.proofs.laws.Graphs.{pair_count_pos}
 use Rattle.serde_json.specs.View.{view}
 use Rattle.cert_format.proofs.laws.Evidence.{no_sets, no_pairs, no_orphan}
 use Rattle.cert_format.proofs.evidence.surjective.Goals as goal
-
--- the number before the count of the pairs
-last_pair : {r : LocalRule} (count : ℕ) → IsRule r → count ≡ pair_count r → count - 1 + 1 ≡ pair_count r
-last_pair count rule all = omega (arith, pair_count_pos rule, all)
 
 pub returns-in_err-sets-clause-none : goal.returns-in_err-sets-clause-none
 returns-in_err-sets-clause-none c =
@@ -19,7 +11,7 @@ returns-in_err-sets-clause-none c =
 pub returns-in_err-pairs-clause-none : goal.returns-in_err-pairs-clause-none
 returns-in_err-pairs-clause-none c =
     let p = err_from_is_err_and c.from_residual-in_err-pairs.result c.from_residual-in_err-pairs.ensures.1 in
-    rw (p.1, p.2) (λ shape. no_pairs c.args.version c.args.rule.now (view c.args.value.now) (c.pairs.result - 1) (last_pair c.pairs.result c.pairs.ensures.rule c.pairs.ensures.count) c.in-Some-only.ensures.some (c.in_err-pairs.ensures.none shape))
+    rw (p.1, p.2) (λ shape. no_pairs c.args.version c.args.rule.now (view c.args.value.now) c.last_pair.result c.last_pair.ensures c.in-Some-only.ensures.some (c.in_err-pairs.ensures.none shape))
 
 pub returns-in_err-word-clause-none : goal.returns-in_err-word-clause-none
 returns-in_err-word-clause-none c =
