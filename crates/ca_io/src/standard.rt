@@ -19,7 +19,7 @@ pub struct StdSource<R> {
 }
 
 impl<R: Read> StdSource<R> {
-    ghost use Rattle.ca_io.specs.Edges.{source_reader, source_faults};
+    ghost use Rattle.ca_io.specs.StdStreams.{source_reader, source_faults};
 
     /// A source over this reader, with no fault so far.
     pub fn new(inner: R) -> StdSource<R>
@@ -31,7 +31,7 @@ impl<R: Read> StdSource<R> {
 }
 
 impl<R: Read> Source for StdSource<R> {
-    ghost use Rattle.ca_io.specs.Edges.{source_reader, source_faults};
+    ghost use Rattle.ca_io.specs.StdStreams.{source_reader, source_faults};
 
     ghost left = { λ _. None };
 
@@ -67,7 +67,7 @@ pub struct StdSink<W> {
 }
 
 impl<W: Write> StdSink<W> {
-    ghost use Rattle.ca_io.specs.Edges.{sink_writer, sink_faults};
+    ghost use Rattle.ca_io.specs.StdStreams.{sink_writer, sink_faults};
 
     /// A sink over this writer, with no fault so far.
     pub fn new(inner: W) -> StdSink<W>
@@ -79,7 +79,7 @@ impl<W: Write> StdSink<W> {
 }
 
 impl<W: Write> Sink for StdSink<W> {
-    ghost use Rattle.ca_io.specs.Edges.{sink_writer, sink_faults};
+    ghost use Rattle.ca_io.specs.StdStreams.{sink_writer, sink_faults};
 
     ghost taken = { λ _. None };
 
