@@ -5,7 +5,7 @@ use Rattle.std.proofs.lemmas.List.{length-map, length-take-le, take-map, drop-ma
 use Rattle.std.proofs.lemmas.List.Elements.{All-map, All-take, All-drop, All-head, All-tail, All-set}
 use Rattle.word_image.specs.LocalRules.{LocalRule, IsRule, IsWord, value, word_of, local_map}
 use Rattle.word_image.specs.Words.{image}
-use Rattle.word_image.proofs.laws.Values.{length-word_of}
+use Rattle.word_image.proofs.laws.Values.{IsWord-word_of, length-word_of, value-word_of}
 use Rattle.word_image.proofs.laws.Words.{length-image}
 use Rattle.word_image.proofs.laws.Images.{get_or-image, image-by_letters}
 use Rattle.word_image.proofs.laws.WindowParts.{letter-value}
