@@ -1,12 +1,12 @@
 //! The inverse map as a value, and as a rule.
-ghost use Rattle.std.specs.Prelude.{◌≡◌, ◌*◌, ◌↔◌, take, IfOk, IsOk};
+ghost use Rattle.std.specs.Prelude.{◌≡◌, ◌<◌, ◌^◌, ◌↔◌, slice_index, IfOk, IsOk};
 ghost use Rattle.std.specs.Result.{result_err};
 ghost use Rattle.word_image.specs.LocalRules.{IsRule};
 ghost use Rattle.inverse_table.specs.InverseMaps.{map_rule};
 ghost use Rattle.inverse_table.specs.MapLimits.{IsWindowMap, rule_limit_fault};
 
 use std::marker::Model;
-use word_image::{MOST_ENTRIES, Rule, RuleFault};
+use word_image::{Rule, RuleFault, check_shape};
 
 /// What gives a letter of a word back from n letters of its image: a letter for each word of n
 /// letters, in the order of their values.
@@ -90,33 +90,19 @@ pub fn as_rule(map: &InverseMap) -> Result<Rule, RuleFault>
     ensures fault { result_err result ≡ rule_limit_fault (map_rule map.now) }
     ensures accepted { IsOk result ↔ IsRule (map_rule map.now) }
 {
+    let m = map.n().max(2) as u8;
+    let o = map.offset() as i8;
+    check_shape(map.k(), m, o)?;
+    Ok(Rule::by(map.k(), m, o, |window| letter_of(map, window)))
+}
+
+/// The map's letter for a window of the rule, whose second cell is ignored where one letter is read.
+fn letter_of(map: &InverseMap, window: u16) -> u8
+    requires { window < map.now.states ^ (map_rule map.now).width }
+    ensures { result ≡ slice_index (map_rule map.now).table window }
+{
     if map.n() == 1 {
-        let k = usize::from(map.k());
-        return rule_with(map, 2, &twice_as_wide(map)[..k * k]);
+        return map.table()[usize::from(window / u16::from(map.k()))];
     }
-    rule_with(map, map.n() as u8, map.table())
-}
-
-/// The map as a rule, whose width and table are known.
-fn rule_with(map: &InverseMap, width: u8, table: &[u8]) -> Result<Rule, RuleFault>
-    requires width { width ≡ (map_rule map.now).width }
-    requires table { table.now ≡ (map_rule map.now).table }
-    ensures rule { IfOk result (λ r. r ≡ map_rule map.now) }
-    ensures fault { result_err result ≡ rule_limit_fault (map_rule map.now) }
-    ensures accepted { IsOk result ↔ IsRule (map_rule map.now) }
-{
-    Rule::new(map.k(), width, map.offset() as i8, table)
-}
-
-/// The letters for the words of two letters, of which a map that reads one letter reads the first.
-fn twice_as_wide(map: &InverseMap) -> [u8; MOST_ENTRIES]
-    requires { map.now.width ≡ 1 }
-    ensures { take (map.now.states * map.now.states) result ≡ (map_rule map.now).table }
-{
-    let k = usize::from(map.k());
-    let mut entries = [0; MOST_ENTRIES];
-    for window in 0..k * k {
-        entries[window] = map.table()[window / k];
-    }
-    entries
+    map.table()[usize::from(window)]
 }
