@@ -13,9 +13,9 @@ use Rattle.std.proofs.lemmas.List.{length-map}
 use Rattle.word_image.specs.LocalRules.{LocalRule, IsRule}
 use Rattle.word_image.specs.MarkedPairs.{marked}
 use Rattle.word_image.specs.Rings.{pair_cmp}
-use Rattle.search_laws.specs.PairWalks.{PairWalk, uncode}
+use Rattle.search_laws.specs.PairWalks.{PairWalk, IsLeastWalkTo, uncode}
 use Rattle.tail_config.specs.Splits.{splits_cmp}
-use Rattle.tail_laws.specs.SplitWalks.{IsLeastReach, IsLeastSplitAt, split_of, with_mark}
+use Rattle.tail_laws.specs.SplitWalks.{IsLeastSplitAt, split_of, with_mark}
 use Rattle.tail_laws.proofs.LeastSplits.{splits_cmp-walks, no_earlier-least, IsLeastBelow-next, IsLeastBelow-taken, IsLeastBelow-first, IsNoSplitBelow-next}
 use Rattle.closing_test.specs.declared.walks.Walks.{Walks}
 use Rattle.closing_test.specs.Walks.{middle_pairs, period_pairs, split_by, ComesBefore, IsNoneBefore, AreEarlier, IsLeastSoFar}
@@ -86,7 +86,7 @@ pub IsNoneBefore-none : {r : LocalRule} {t : ℕ} (best : Option Walks) → ((w 
 IsNoneBefore-none best none w v at before = none w at.reach
 
 -- a first walk has no more letters than another one
-length-reach : {r : LocalRule} {t : ℕ} {u w : List (ℕ × ℕ)} → IsLeastReach r t u → PairWalk (marked r) r.states 0 w t → length u ≤ length w
+length-reach : {follow : ℕ → ℕ → ℕ → Option ℕ} {k s t : ℕ} {u w : List (ℕ × ℕ)} → IsLeastWalkTo follow k s t u → PairWalk follow k s w t → length u ≤ length w
 length-reach {u = u} {w} reach walk =
     ⊎_elim
     (λ above. absurd (reach.least w walk (ap (λ o. ordering_then o (slice_cmp pair_cmp u w)) (sym (nat_cmp_is (length u) (length w) Greater above)))))
@@ -107,7 +107,7 @@ splits_cmp-more best w v more greater =
 
 -- or no walk leads round it in so few steps as the best one leaves
 pub IsNoneBefore-long : {r : LocalRule} {t most : ℕ} {u : List (ℕ × ℕ)} (best : Option Walks)
-    → MatchOption best (most ≡ 512) (λ walks. most ≡ length walks.middle.items + length walks.period.items - length u) → IsLeastReach r t u
+    → MatchOption best (most ≡ 512) (λ walks. most ≡ length walks.middle.items + length walks.period.items - length u) → IsLeastWalkTo (marked r) r.states 0 t u
     → ((v : List (ℕ × ℕ)) → 0 < length v → length v ≤ most → ¬ PairWalk (marked r) r.states t v (with_mark r t))
     → (512 ≤ most → (v : List (ℕ × ℕ)) → 0 < length v → ¬ PairWalk (marked r) r.states t v (with_mark r t)) → IsNoneBefore r t best
 IsNoneBefore-long None is reach short all w v at before = all (omega arith) v at.some at.round

@@ -16,12 +16,12 @@ use Rattle.word_image.proofs.laws.Places.{slice_get-unique}
 use Rattle.search_laws.specs.SearchQueues.{TreeSpells}
 use Rattle.search_laws.proofs.LeastFirst.{IsLeastTo-spelled, reached_all}
 use Rattle.search_laws.proofs.PairWalks.{PairWalk-leads, ArePairs-walk, pairs_cmp-codes, codes-uncode, code, Leads-walk}
-use Rattle.search_laws.specs.PairWalks.{PairWalk, uncode}
+use Rattle.search_laws.specs.PairWalks.{PairWalk, IsLeastWalkTo, uncode}
 use Rattle.least_walk.specs.declared.queue.Reached.{Reached}
 use Rattle.least_walk.specs.declared.queue.Arrival.{Arrival}
 use Rattle.least_walk.specs.declared.queue.Ends.{Ends}
 use Rattle.least_walk.specs.Queues.{places_of, place_of, SpellsBefore, IsWalking, IsEnded, IsArrival}
-use Rattle.least_walk.specs.Trees.{AreApart, IsWalkTree, IsLeastWalkTo}
+use Rattle.least_walk.specs.Trees.{AreApart, IsWalkTree}
 use Rattle.least_walk.proofs.Walking.{place_at, reached_at, length-walking-le, queued-below, all_followed}
 
 -- marked pairs are below 512
@@ -60,7 +60,7 @@ index-next queue places i y apart long here before j x less at =
 
 -- the steps to a place are the least walk to what stands there
 pub IsLeastWalkTo-spelled : {r : LocalRule} {ends : Ends} {queue : List Reached} {e i : ℕ} {w : List ℕ} → IsWalking r ends queue e → TreeSpells (places_of queue) i w
-    → (x : Reached) → slice_get queue i ≡ Some x → IsLeastWalkTo r ends.start x.pair (map (uncode 16) w)
+    → (x : Reached) → slice_get queue i ≡ Some x → IsLeastWalkTo (marked r) r.states ends.start x.pair (map (uncode 16) w)
 IsLeastWalkTo-spelled {r} {queue = queue} {i = i} {w} walking spells x at =
     let le : r.states ≤ 16 = walking.rule.shape.most_states in
     let first = IsLeastTo-spelled walking.filled spells (place_of x) (place_at queue i x at) in
@@ -84,7 +84,7 @@ no_walk-absent {t = t} {queue} tree absent w walk =
 
 -- so are those that are written before nothing
 pub IsLeastWalkTo-steps : {r : LocalRule} {start : ℕ} {queue : List Reached} {places : List ℕ} {i : ℕ} {old steps : List ℕ} → IsWalkTree r start queue places
-    → (x : Reached) (t : ℕ) → slice_get queue i ≡ Some x → x.pair ≡ t → old ≡ [] → SpellsBefore queue i old steps → IsLeastWalkTo r start t (map (uncode 16) steps)
+    → (x : Reached) (t : ℕ) → slice_get queue i ≡ Some x → x.pair ≡ t → old ≡ [] → SpellsBefore queue i old steps → IsLeastWalkTo (marked r) r.states start t (map (uncode 16) steps)
 IsLeastWalkTo-steps {r} {start} {steps = steps} tree x t at same none (w, spells, whole) =
     let alone : steps ≡ w = whole ∙ ap (λ o. w ++ reverse o) none ∙ append-nil w in
-    subst₂ (λ u s. IsLeastWalkTo r start u (map (uncode 16) s)) same (sym alone) (IsLeastWalkTo-spelled tree.ended.walking spells x at)
+    subst₂ (λ u s. IsLeastWalkTo (marked r) r.states start u (map (uncode 16) s)) same (sym alone) (IsLeastWalkTo-spelled tree.ended.walking spells x at)

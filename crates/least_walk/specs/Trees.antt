@@ -1,10 +1,6 @@
 -- The least walks from one marked pair to all others.
-use Rattle.std.specs.Prelude.{◌≡◌, ◌≢◌, ℕ, ◌<◌, ◌≤◌, List, length, slice_get, slice_index, Some, None}
-use Rattle.std.specs.declared.cmp.Ordering.TheVariants.{Greater}
+use Rattle.std.specs.Prelude.{◌≡◌, ℕ, ◌<◌, ◌≤◌, List, length, slice_get, slice_index, Some, None}
 use Rattle.word_image.specs.LocalRules.{LocalRule}
-use Rattle.word_image.specs.MarkedPairs.{marked}
-use Rattle.word_image.specs.Rings.{pairs_cmp}
-use Rattle.search_laws.specs.PairWalks.{PairWalk}
 use Rattle.least_walk.specs.declared.queue.Reached.{Reached}
 use Rattle.least_walk.specs.Queues.{IsEnded}
 
@@ -12,11 +8,6 @@ use Rattle.least_walk.specs.Queues.{IsEnded}
 pub record WalkSource : Type 0 where
   pub rule : LocalRule
   pub start : ℕ
-
--- the first walk of any number of steps: the shortest, and of these the first in dictionary order
-pub record IsLeastWalkTo (r : LocalRule) (start t : ℕ) (w : List (ℕ × ℕ)) : Type 0 where
-  pub walk : PairWalk (marked r) r.states start w t
-  pub least : (v : List (ℕ × ℕ)) → PairWalk (marked r) r.states start v t → pairs_cmp w v ≢ Greater
 
 -- at most 512 numbers below 512 stand in the queue, each once
 pub record AreApart (queue : List Reached) : Type 0 where

@@ -3,9 +3,9 @@
 ghost use Rattle.std.specs.Prelude.{◌≡◌, ℕ, ◌+◌, ◌*◌, ◌<◌, ◌≤◌, List, length, map, Some, slice_get, IfOk, IfSome, IfNone, MatchOption};
 ghost use Rattle.word_image.specs.Graphs.{pair_count};
 ghost use Rattle.word_image.specs.MarkedPairs.{marked};
-ghost use Rattle.search_laws.specs.PairWalks.{PairWalk, uncode};
+ghost use Rattle.search_laws.specs.PairWalks.{PairWalk, IsLeastWalkTo, uncode};
 ghost use Rattle.least_walk.specs.declared.queue.Reached.{Reached};
-ghost use Rattle.least_walk.specs.Trees.{AreApart, IsPairIndex, IsLeastWalkTo};
+ghost use Rattle.least_walk.specs.Trees.{AreApart, IsPairIndex};
 
 use crate::queue::{Ends, MOST_STATES, Reached, search};
 use crate::walker::{MOST_STEPS, spell};
@@ -60,7 +60,7 @@ impl WalkTree {
     /// of their letter pairs: to the start that of no step. `None` exactly where no walk exists.
     pub fn walk_to(&self, alloc: Global, to: u16) -> Result<Option<Vec<u8>>, AllocError>
         requires { to < 2 * pair_count self.now.rule }
-        ensures walk { IfOk result (λ found. MatchOption found ((w : List (ℕ × ℕ)) → ¬ PairWalk (marked self.now.rule) self.now.rule.states self.now.start w to) (λ steps. IsLeastWalkTo self.now.rule self.now.start to (map (uncode 16) steps.items))) }
+        ensures walk { IfOk result (λ found. MatchOption found ((w : List (ℕ × ℕ)) → ¬ PairWalk (marked self.now.rule) self.now.rule.states self.now.start w to) (λ steps. IsLeastWalkTo (marked self.now.rule) self.now.rule.states self.now.start to (map (uncode 16) steps.items))) }
         ensures most { IfOk result (λ found. IfSome found (λ steps. length steps.items ≤ 512)) }
     {
         let Some(place) = place_of(&self.queue, &self.places, to) else {

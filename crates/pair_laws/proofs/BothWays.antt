@@ -1,5 +1,5 @@
 -- When there is a determined window or a look-ahead at all: no two different nodes are endless both ways, and no first pair is endless.
-use Rattle.std.proofs.Common.{◌≡◌, ◌≢◌, ℕ, zero, suc, ◌+◌, ◌-◌, ◌<◌, ◌≤◌, ◌↔◌, ◌⊎◌, inl, inr, Some, min, List, [], ◌∷◌, ◌++◌, length, take, drop, slice_index, refl, sym, ap, subst, ◌∙◌, ⊎_elim, arith, length-drop, mul-pos}
+use Rattle.std.proofs.Common.{◌≡◌, ◌≢◌, ℕ, zero, suc, ◌+◌, ◌-◌, ◌<◌, ◌≤◌, ◌↔◌, ◌⊎◌, inl, inr, Some, min, List, [], ◌∷◌, ◌++◌, length, take, drop, slice_index, refl, sym, ap, subst, ◌∙◌, ⊎_elim, arith, length-drop}
 use Rattle.std.proofs.lemmas.Bool.{cases_eq}
 use Rattle.std.proofs.lemmas.List.{ext_get_or, length_push, take_all, get_or_append_left}
 use Rattle.std.proofs.lemmas.List.Elements.{All-push}
@@ -12,7 +12,7 @@ use Rattle.word_image.specs.Sides.{PairGoes, seen_from}
 use Rattle.word_image.specs.FirstPairs.{IsFirstOf}
 use Rattle.word_image.specs.Ranks.{IsEndless}
 use Rattle.word_image.proofs.laws.Values.{length-word_of, IsWord-word_of, value-word_of}
-use Rattle.word_image.proofs.laws.Graphs.{value-next, next-below, node_count_pos}
+use Rattle.word_image.proofs.laws.Graphs.{value-next, next-below, pair_count_pos}
 use Rattle.pair_laws.proofs.Ranks.{Together-below, Together-less}
 use Rattle.pair_laws.proofs.Pairs.{first_of-pair_of, second_of-pair_of, pair-below, first_of-below, second_of-below, follow-some, PairGoes-push}
 use Rattle.pair_laws.proofs.Windows.{node_letter-at, IsDetermined-pairs}
@@ -118,11 +118,10 @@ IsDetermined-not_both_ways {r} {n} {c} rule h p different endless =
 pub IsDetermined-none_both_ways : {r : LocalRule} → IsRule r → ((p : ℕ) → p < pair_count r → first_of r p ≢ second_of r p → ¬ IsEndlessBothWays r p)
     → IsDetermined r (pair_count r + pair_count r) (pair_count r)
 IsDetermined-none_both_ways {r} rule none =
-    let some : 0 < pair_count r = mul-pos (node_count_pos rule) (node_count_pos rule) in
     let wide : 2 ≤ r.width = rule.shape.least_width in
     (IsDetermined-pairs rule (pair_count r + pair_count r) (pair_count r)).1 (
-      omega arith,
-      omega arith,
+      omega (arith, pair_count_pos rule),
+      omega (arith, pair_count_pos rule),
       (λ p l different ends begins.
           none p l (λ same. different (ap (λ u. node_letter r u (pair_count r - min (pair_count r) (pair_count r + pair_count r))) same))
           (record { begins = Together-endless Right rule _ _ _ (omega arith) begins; ends = Together-endless Left rule _ _ _ (omega arith) ends })),

@@ -1,5 +1,5 @@
 -- A finite rank is less than the number of pairs of two different nodes: each lesser number is a rank too, and a node is endless with itself.
-use Rattle.std.proofs.Common.{◌≡◌, ℕ, zero, suc, ◌+◌, ◌-◌, ◌*◌, ◌<◌, ◌≤◌, ◌⊎◌, inl, inr, Option, Some, None, refl, sym, subst, subst₂, ◌∙◌, arith, ⊎_elim}
+use Rattle.std.proofs.Common.{◌≡◌, ℕ, zero, suc, ◌+◌, ◌-◌, ◌*◌, ◌<◌, ◌≤◌, ◌⊎◌, inl, inr, Option, Some, None, List, refl, sym, ap, subst, subst₂, ◌∙◌, arith, ⊎_elim}
 use Rattle.std.specs.Prelude.{MatchOption, IfSome}
 use Rattle.std.proofs.lemmas.Bool.{cases_eq, cases_lt}
 use Rattle.std.proofs.lemmas.Nat.{same_from_place}
@@ -13,6 +13,7 @@ use Rattle.word_image.specs.declared.side.Side.{Side}
 use Rattle.word_image.specs.Sides.{Together}
 use Rattle.pair_laws.proofs.Ranks.{Together-below, Together-less}
 use Rattle.pair_laws.proofs.Mirrors.{Together-same}
+use Rattle.pair_rank.specs.Sides.{AreRanks, rank_at}
 use Rattle.pair_rank.proofs.Sides.{Together-step}
 
 -- there are two nodes of each rank up to that of any two
@@ -93,7 +94,12 @@ IsRank-most side {r} rule u v n rank =
     omega (arith, IsRank-apart side rule u v n rank)
 
 -- and so is each rank that is given
-pub rank-most : (side : Side) {r : LocalRule} → IsRule r → (u v : ℕ) (rank : Option ℕ)
+rank-most : (side : Side) {r : LocalRule} → IsRule r → (u v : ℕ) (rank : Option ℕ)
     → MatchOption rank (IsEndless (Together side r u v)) (IsRank (Together side r u v)) → IfSome rank (λ n. n ≤ 239)
 rank-most side rule u v None endless = tt
 rank-most side rule u v (Some n) exact = IsRank-most side rule u v n exact
+
+-- and each rank of a table
+pub AreRanks-most : (side : Side) {q r : LocalRule} (ranks : List (Option ℕ)) → IsRule q → q ≡ r → AreRanks side q ranks → (u v : ℕ) → u < node_count r → v < node_count r → IfSome (rank_at ranks u v) (λ n. n ≤ 239)
+AreRanks-most side ranks rule same exact u v first second =
+    let nodes = ap node_count same in rank-most side rule u v (rank_at ranks u v) (exact u v (omega arith) (omega arith))

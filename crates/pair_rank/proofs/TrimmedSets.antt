@@ -1,5 +1,5 @@
 -- What a round leaves of a set of pairs.
-use Rattle.std.proofs.Common.{◌≡◌, ℕ, ◌+◌, ◌*◌, ◌<◌, ◌≤◌, ◌↔◌, List, Bool, true, false, IsTrue, IsBitSet, length, replicate, sym, ◌∙◌, arith, ⊎_elim}
+use Rattle.std.proofs.Common.{◌≡◌, ℕ, ◌+◌, ◌*◌, ◌<◌, ◌≤◌, ◌↔◌, List, Bool, true, false, IsTrue, IsBitSet, length, replicate, sym, subst, ◌∙◌, arith, ⊎_elim}
 use Rattle.std.proofs.lemmas.Bool.{cases_lt, false≢true}
 use Rattle.std.proofs.lemmas.List.{get_or-replicate, get_or_past, length-replicate}
 use Rattle.word_image.specs.LocalRules.{LocalRule, IsRule, node_count}
@@ -94,13 +94,15 @@ AreTogether-nodes {side} {r} {n} {set} h u v first second =
     ((λ t. nodes.0 (exact.0 t)), (λ goes. exact.1 (nodes.1 goes)))
 
 -- a row of the set has exactly the nodes with which a node is endless
-pub AreEndless-row : {side : Side} {r : LocalRule} {set : List Bool} → AreEndless side r set → (u v row : ℕ) → u < node_count r
-    → (IsBitSet row v ↔ ((v < node_count r) × IsTrue (holds set (u * node_count r + v)))) → IsBitSet row v ↔ IsEndless (Together side r u v)
-AreEndless-row {side} {r} h u v row first exact = (
-  (λ some j.
-      let (second, there) = exact.0 some in
-      (PairGoes-pair_of side r u v j second).0 ((h.pairs (pair_of r u v) (pair_of-below r u v first second)).0 there j)),
-  (λ endless.
-      let second = (Together-below side r u v 0 (endless 0)).1 in
-      exact.1 (second, (h.pairs (pair_of r u v) (pair_of-below r u v first second)).1 (λ j. (PairGoes-pair_of side r u v j second).1 (endless j)))),
-)
+pub AreEndless-row : {side : Side} {q r : LocalRule} {set : List Bool} → AreEndless side q set → q ≡ r → (u row : ℕ) → u < node_count r
+    → ((n v : ℕ) → length set ≡ n * n → u < n → v < 16 → (IsBitSet row v ↔ ((v < n) × IsTrue (holds set (u * n + v))))) → (v : ℕ) → v < 16 → (IsBitSet row v ↔ IsEndless (Together side r u v))
+AreEndless-row {side} {q} {r} {set} of_rule same u row first at v small =
+    let h = subst (λ s. AreEndless side s set) same of_rule in
+    let exact = at (node_count r) v h.count first small in (
+      (λ some j.
+          let (second, there) = exact.0 some in
+          (PairGoes-pair_of side r u v j second).0 ((h.pairs (pair_of r u v) (pair_of-below r u v first second)).0 there j)),
+      (λ endless.
+          let second = (Together-below side r u v 0 (endless 0)).1 in
+          exact.1 (second, (h.pairs (pair_of r u v) (pair_of-below r u v first second)).1 (λ j. (PairGoes-pair_of side r u v j second).1 (endless j)))),
+    )

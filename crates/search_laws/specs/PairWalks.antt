@@ -24,6 +24,11 @@ pub record IsLeastWalk (follow : ℕ → ℕ → ℕ → Option ℕ) (k start t 
   pub walk : PairWalk follow k start w t
   pub least : (v : List (ℕ × ℕ)) → 0 < length v → PairWalk follow k start v t → pairs_cmp w v ≢ Greater
 
+-- the first walk of any number of steps
+pub record IsLeastWalkTo (follow : ℕ → ℕ → ℕ → Option ℕ) (k start t : ℕ) (w : List (ℕ × ℕ)) : Type 0 where
+  pub walk : PairWalk follow k start w t
+  pub least : (v : List (ℕ × ℕ)) → PairWalk follow k start v t → pairs_cmp w v ≢ Greater
+
 -- the letter pair of a number
 abbrev pub uncode : ℕ → ℕ → ℕ × ℕ
 uncode n c = (c / n, c % n)

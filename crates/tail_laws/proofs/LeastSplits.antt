@@ -15,10 +15,10 @@ use Rattle.word_image.specs.Graphs.{pair_count}
 use Rattle.word_image.specs.MarkedPairs.{marked}
 use Rattle.word_image.specs.Rings.{pair_cmp, pairs_cmp}
 use Rattle.word_image.proofs.laws.Comparisons.{then_not_greater, nat_cmp-le, nat_cmp-equal, no_later, pair_cmp_total, not_before}
-use Rattle.search_laws.specs.PairWalks.{IsLeastWalk}
+use Rattle.search_laws.specs.PairWalks.{IsLeastWalk, IsLeastWalkTo}
 use Rattle.tail_config.specs.Tails.{TailConfig}
 use Rattle.tail_config.specs.Splits.{IsNormalRightSplit, IsLeastRightSplit, splits_cmp}
-use Rattle.tail_laws.specs.SplitWalks.{IsSplitAt, IsNoSplitAt, IsNoSplitBelow, IsLeastReach, IsLeastSplitAt, IsLeastBelow, with_mark, first_tail, second_tail, split_of}
+use Rattle.tail_laws.specs.SplitWalks.{IsSplitAt, IsNoSplitAt, IsNoSplitBelow, IsLeastSplitAt, IsLeastBelow, with_mark, first_tail, second_tail, split_of}
 use Rattle.tail_laws.proofs.SplitWalks.{zip-sides, IsNormalRightSplit-walks, normal_split-at}
 
 -- splits are in a total order
@@ -67,7 +67,7 @@ walks_cmp-not_greater w v w' v' h g =
 -- Candidates
 
 -- the first walk to a state and the first one round it make its least split
-pub IsLeastSplitAt-walks : {r : LocalRule} {t : ℕ} {w v : List (ℕ × ℕ)} → IsLeastReach r t w → IsLeastWalk (marked r) r.states t (with_mark r t) v → IsLeastSplitAt r t w v
+pub IsLeastSplitAt-walks : {r : LocalRule} {t : ℕ} {w v : List (ℕ × ℕ)} → IsLeastWalkTo (marked r) r.states 0 t w → IsLeastWalk (marked r) r.states t (with_mark r t) v → IsLeastSplitAt r t w v
 IsLeastSplitAt-walks {r} {t} {w} {v} reach round =
     record {
       split = record { reach = reach.walk; some = round.some; round = round.walk };

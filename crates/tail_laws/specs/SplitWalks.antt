@@ -4,7 +4,6 @@ use Rattle.std.specs.declared.cmp.Ordering.TheVariants.{Greater}
 use Rattle.word_image.specs.LocalRules.{LocalRule}
 use Rattle.word_image.specs.Graphs.{pair_count}
 use Rattle.word_image.specs.MarkedPairs.{marked}
-use Rattle.word_image.specs.Rings.{pairs_cmp}
 use Rattle.search_laws.specs.PairWalks.{PairWalk}
 use Rattle.tail_config.specs.Tails.{TailConfig}
 use Rattle.tail_config.specs.Splits.{IsNormalRightSplit, splits_cmp}
@@ -41,11 +40,6 @@ IsNoSplitAt r t = (w v : List (ℕ × ℕ)) → ¬ IsSplitAt r t w v
 -- no normal split goes round at a state below t
 abbrev pub IsNoSplitBelow : LocalRule → ℕ → Type 0
 IsNoSplitBelow r t = (s : ℕ) → s < t → IsNoSplitAt r s
-
--- the first walk of any number of steps from the pair of the nodes of zeros to a state
-pub record IsLeastReach (r : LocalRule) (t : ℕ) (w : List (ℕ × ℕ)) : Type 0 where
-  pub walk : PairWalk (marked r) r.states 0 w t
-  pub least : (v : List (ℕ × ℕ)) → PairWalk (marked r) r.states 0 v t → pairs_cmp w v ≢ Greater
 
 -- the least normal split that goes round at a state
 pub record IsLeastSplitAt (r : LocalRule) (t : ℕ) (w v : List (ℕ × ℕ)) : Type 0 where

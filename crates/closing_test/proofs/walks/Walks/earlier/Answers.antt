@@ -3,16 +3,15 @@ use Rattle.std.specs.Prelude.{MatchOption}
 use Rattle.std.proofs.lemmas.List.{length-map}
 use Rattle.word_image.specs.LocalRules.{LocalRule}
 use Rattle.word_image.specs.MarkedPairs.{marked}
-use Rattle.search_laws.specs.PairWalks.{PairWalk, IsLeastWalk, uncode}
-use Rattle.least_walk.specs.Trees.{WalkSource, IsLeastWalkTo}
-use Rattle.tail_laws.specs.SplitWalks.{IsLeastReach}
+use Rattle.search_laws.specs.PairWalks.{PairWalk, IsLeastWalk, IsLeastWalkTo, uncode}
+use Rattle.least_walk.specs.Trees.{WalkSource}
 use Rattle.tail_laws.proofs.LeastSplits.{IsLeastSplitAt-walks}
 use Rattle.closing_test.proofs.LeastWalks.{kept_if_before, IsNoneBefore-none, IsNoneBefore-long}
 use Rattle.closing_test.proofs.walks.Walks.earlier.Goals as goal
 
 -- the first walk from the pair of the nodes of zeros
-reach : {r : LocalRule} {t : ℕ} {w : List (ℕ × ℕ)} (s : WalkSource) → s ≡ record { rule = r; start = 0 } → IsLeastWalkTo s.rule s.start t w → IsLeastReach r t w
-reach {r} {t} {w} s same h = let first : IsLeastWalkTo r 0 t w = subst (λ z. IsLeastWalkTo z.rule z.start t w) same h in record { walk = first.walk; least = first.least }
+reach : {r : LocalRule} {t : ℕ} {w : List (ℕ × ℕ)} (s : WalkSource) → s ≡ record { rule = r; start = 0 } → IsLeastWalkTo (marked s.rule) s.rule.states s.start t w → IsLeastWalkTo (marked r) r.states 0 t w
+reach {t = t} {w} s same h = subst (λ (z : WalkSource). IsLeastWalkTo (marked z.rule) z.rule.states z.start t w) same h
 
 pub returns-in_default : goal.returns-in_default
 returns-in_default c =

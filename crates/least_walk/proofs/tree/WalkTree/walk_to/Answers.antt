@@ -2,9 +2,8 @@ use Rattle.std.proofs.Common.{List, ℕ, length, map, sym, ap, ◌∙◌, subst,
 use Rattle.std.specs.List.{slice_get}
 use Rattle.std.proofs.lemmas.Option.{slice_get_within}
 use Rattle.word_image.specs.MarkedPairs.{marked}
-use Rattle.search_laws.specs.PairWalks.{PairWalk, uncode}
+use Rattle.search_laws.specs.PairWalks.{PairWalk, IsLeastWalkTo, uncode}
 use Rattle.least_walk.specs.Queues.{IsBackward, SpellsBefore}
-use Rattle.least_walk.specs.Trees.{IsLeastWalkTo}
 use Rattle.least_walk.proofs.Walking.{IsBackward-walking, length-walking-le}
 use Rattle.least_walk.proofs.TreeLaws.{IsLeastWalkTo-steps, no_walk-absent}
 use Rattle.least_walk.proofs.tree.WalkTree.walk_to.Goals as goal
@@ -34,6 +33,6 @@ spell-requires-clause-backward c = subst IsBackward (sym c.deref-2.ensures.value
 pub returns-clause-walk : goal.returns-clause-walk
 returns-clause-walk c =
     let (x, at, same) = c.in-Some.ensures.found in
-    subst (λ s. IsLeastWalkTo s.rule s.start c.args.to (map (uncode 16) c.spell.new.steps.items)) c.self.view_is
+    subst (λ s. IsLeastWalkTo (marked s.rule) s.rule.states s.start c.args.to (map (uncode 16) c.spell.new.steps.items)) c.self.view_is
     (IsLeastWalkTo-steps c.self.invariant x c.args.to (sym (ap (λ q. slice_get q c.in-Some.place) c.deref.ensures.value) ∙ at) same c.in_ok-steps.ensures.items
     (subst (λ q. SpellsBefore q c.in-Some.place c.in_ok-steps.steps.items c.spell.new.steps.items) c.deref-2.ensures.value c.spell.ensures.spelled))

@@ -1,11 +1,5 @@
-use Rattle.std.proofs.Common.{subst}
-use Rattle.word_image.specs.LocalRules.{node_count}
-use Rattle.word_image.specs.declared.side.Side.TheVariants.{Right}
-use Rattle.pair_rank.specs.Sides.{AreEndless}
 use Rattle.pair_rank.proofs.TrimmedSets.{AreEndless-row}
 use Rattle.pair_rank.proofs.endless.Endless.forward.Goals as goal
 
 pub returns : goal.returns
-returns c v small =
-    let endless = subst (λ r. AreEndless Right r c.self.inside.forward) c.self.view_is c.self.invariant.1 in
-    AreEndless-row endless c.args.u v c.row.result c.requires (c.row.ensures (node_count c.args.self.now) v endless.count c.requires small)
+returns c = AreEndless-row c.self.invariant.1 c.self.view_is c.args.u c.row.result c.requires c.row.ensures
