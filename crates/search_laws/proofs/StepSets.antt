@@ -27,6 +27,10 @@ same_set n a b small_a small_b same = same_from_bits_below n a b small_a small_b
     (cases_eq (bit_at b i) 1))
     (cases_eq (bit_at a i) 1))
 
+-- so sets of the same nodes are one
+pub one_set : {Has : ℕ → Type 0} (n a b : ℕ) → a < 2 ^ n → b < 2 ^ n → ((i : ℕ) → i < n → (IsBitSet a i ↔ Has i)) → ((i : ℕ) → i < n → (IsBitSet b i ↔ Has i)) → a ≡ b
+one_set n a b small_a small_b first second = same_set n a b small_a small_b (λ i l. ((λ has. (second i l).1 ((first i l).0 has)), (λ has. (first i l).1 ((second i l).0 has))))
+
 -- the numbers below n of which something that can be decided holds, as a union
 some_union : (Has : ℕ → Type 0) → ((v : ℕ) → Has v ⊎ ¬ Has v) → (count n : ℕ) → n ≤ count → (set : ℕ) × IsUnion count (λ i v. (v ≡ i) × Has i) n set
 some_union Has decide count zero within = (0, record { within = pow_pos count; nodes = λ v l. ((λ some. absurd (IsBitSet-zero v some)), (λ one. absurd (omega (arith, one.1)))) })
@@ -90,17 +94,11 @@ IsStep-some r set a =
 
 -- and to no other
 pub IsStep-unique : {r : LocalRule} {set a s t : ℕ} → IsStep r set a s → IsStep r set a t → s ≡ t
-IsStep-unique {r} {set} {a} {s} {t} first second = same_set (node_count r) s t first.within second.within (λ v l. (
-  (λ some. (second.nodes v l).1 ((first.nodes v l).0 some)),
-  (λ some. (first.nodes v l).1 ((second.nodes v l).0 some)),
-))
+IsStep-unique {r} {set} {a} {s} {t} first second = one_set (node_count r) s t first.within second.within first.nodes second.nodes
 
 -- a word has one set of last nodes
 pub IsLastSet-unique : {r : LocalRule} {w : List ℕ} {s t : ℕ} → IsLastSet r w s → IsLastSet r w t → s ≡ t
-IsLastSet-unique {r} {w} {s} {t} first second = same_set (node_count r) s t first.within second.within (λ u l. (
-  (λ some. (second.nodes u l).1 ((first.nodes u l).0 some)),
-  (λ some. (first.nodes u l).1 ((second.nodes u l).0 some)),
-))
+IsLastSet-unique {r} {w} {s} {t} first second = one_set (node_count r) s t first.within second.within first.nodes second.nodes
 
 -- from the full set a word leads to its set of last nodes
 abbrev pub LeadsToSet : LocalRule → List ℕ → ℕ → Type 0

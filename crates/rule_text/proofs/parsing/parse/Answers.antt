@@ -12,32 +12,23 @@ use Rattle.rule_text.specs.Heads.{IsHead, IsEntries, said_of}
 use Rattle.rule_text.proofs.laws.Texts.{IsReading-rule, IsReading-fault, every_rule, every_fault}
 use Rattle.rule_text.proofs.parsing.parse.Goals as goal
 
-pub returns-in_err-head-clause-every_rule : goal.returns-in_err-head-clause-every_rule
-returns-in_err-head-clause-every_rule c =
+pub returns-in_err-head : goal.returns-in_err-head
+returns-in_err-head c =
     let text = c.args.text.now in
-    let rule : IfOk c.from_residual.result (λ r. IsRuleText text r) = search rules in
-    let fault : IfErr c.from_residual.result (λ f. IsTextFault text f) = search rules in
-    every_rule text c.from_residual.result rule fault
-
-pub returns-in_err-head-clause-every_fault : goal.returns-in_err-head-clause-every_fault
-returns-in_err-head-clause-every_fault c =
-    let text = c.args.text.now in
-    let rule : IfOk c.from_residual.result (λ r. IsRuleText text r) = search rules in
-    let fault : IfErr c.from_residual.result (λ f. IsTextFault text f) = search rules in
-    every_fault text c.from_residual.result rule fault
+    let a = c.from_residual.result in
+    let rule : IfOk a (λ r. IsRuleText text r) = search rules in
+    let fault : IfErr a (λ f. IsTextFault text f) = search rules in
+    record { rule = rule; fault = fault; every_rule = every_rule text a rule fault; every_fault = every_fault text a rule fault }
 
 -- the place where the digits stop, as the code takes them, is where the text goes wrong
 stop_of : (text : List ℕ) (h : Head) (n : ℕ) → IsHead text h → IsFormFault (IsEntries h.kind) (take (length text - h.place) (drop h.place text)) n → IsTextFault text (fault.Form (h.place + n))
 stop_of text h n head stop = NoForm (h.place + n) (head.stops n (subst (λ (x : List ℕ). IsFormFault (IsEntries h.kind) x n) (take_rest text h.place) stop))
 
-pub returns-in-Some-clause-fault : goal.returns-in-Some-clause-fault
-returns-in-Some-clause-fault c = stop_of c.args.text.now c.in_ok-head.head c.in-Some.stop c.in_ok-head.ensures.head c.in-Some.ensures.some
-
-pub returns-in-Some-clause-every_rule : goal.returns-in-Some-clause-every_rule
-returns-in-Some-clause-every_rule c = every_rule c.args.text.now (Err _) tt (returns-in-Some-clause-fault c)
-
-pub returns-in-Some-clause-every_fault : goal.returns-in-Some-clause-every_fault
-returns-in-Some-clause-every_fault c = every_fault c.args.text.now (Err _) tt (returns-in-Some-clause-fault c)
+pub returns-in-Some : goal.returns-in-Some
+returns-in-Some c =
+    let text = c.args.text.now in
+    let fault = stop_of text c.in_ok-head.head c.in-Some.stop c.in_ok-head.ensures.head c.in-Some.ensures.some in
+    record { rule = tt; fault = fault; every_rule = every_rule text (Err _) tt fault; every_fault = every_fault text (Err _) tt fault }
 
 -- what is read after a head is the rule of the text, or its fault
 read_after : (text : List ℕ) (h : Head) (a : Result LocalRule TextFault) → IsHead text h → IsEntries h.kind (take (length text - h.place) (drop h.place text))
@@ -47,14 +38,9 @@ read_after text h a head entries reading =
     let answer = subst (λ (x : List ℕ). IsReading (said_of h x) a) (take_rest text h.place) reading in
     (IsReading-rule says a answer, IsReading-fault says a answer)
 
-pub returns-clause-rule : goal.returns-clause-rule
-returns-clause-rule c = (read_after c.args.text.now c.in_ok-head.head c.accept.result c.in_ok-head.ensures.head c.in_default.ensures.none c.accept.ensures).0
-
-pub returns-clause-fault : goal.returns-clause-fault
-returns-clause-fault c = (read_after c.args.text.now c.in_ok-head.head c.accept.result c.in_ok-head.ensures.head c.in_default.ensures.none c.accept.ensures).1
-
-pub returns-clause-every_rule : goal.returns-clause-every_rule
-returns-clause-every_rule c = every_rule c.args.text.now c.accept.result (returns-clause-rule c) (returns-clause-fault c)
-
-pub returns-clause-every_fault : goal.returns-clause-every_fault
-returns-clause-every_fault c = every_fault c.args.text.now c.accept.result (returns-clause-rule c) (returns-clause-fault c)
+pub returns : goal.returns
+returns c =
+    let text = c.args.text.now in
+    let a = c.accept.result in
+    let (rule, fault) = read_after text c.in_ok-head.head a c.in_ok-head.ensures.head c.in_default.ensures.none c.accept.ensures in
+    record { rule = rule; fault = fault; every_rule = every_rule text a rule fault; every_fault = every_fault text a rule fault }

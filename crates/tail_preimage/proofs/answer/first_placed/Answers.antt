@@ -48,63 +48,47 @@ start_node r g t parts s set u same h possible starts least =
 loop_nodes : (r g : LocalRule) (t : TailConfig) (parts : Parts) (on set : ℕ) → g ≡ r → AreTailParts r t parts → IsNodeSet g (λ u. Steps (Relates parts.right.period) on u u) set → IsNodeSet r (λ u. HasWalk r (repeat on t.right) u u) set
 loop_nodes r g t parts on set same h loops = IsNodeSet-same (λ u l. Steps-repeat h.rule h.right on u u l) (subst (λ q. IsNodeSet q (λ u. Steps (Relates parts.right.period) on u u) set) same loops)
 
-pub first_loop-requires-clause-word : goal.first_loop-requires-clause-word
-first_loop-requires-clause-word c =
-    let k = c.args.rule.now.states in
-    let tail = subst (λ n. IsTail n c.args.tail.now.config) (sym c.requires.one_k) c.left.ensures.tail.short.tail in
-    subst (IsWord k) (sym c.left.ensures.left) tail.left_word
-
-pub first_loop-requires-clause-node : goal.first_loop-requires-clause-node
-first_loop-requires-clause-node c =
-    let start = start_node c.args.rule.now c.of-graph.result c.args.tail.now.config c.args.parts.now (shape_of c.args.spans) c.starts.result c.least_node-start.result c.of-graph.ensures c.requires.parts c.requires.shape.possible c.starts.ensures c.least_node-start.ensures in
-    start.below
-
-pub first_loop-requires-clause-turn : goal.first_loop-requires-clause-turn
-first_loop-requires-clause-turn c =
+pub first_loop-requires : goal.first_loop-requires
+first_loop-requires c =
     let r = c.args.rule.now in
     let u = c.least_node-start.result in
-    let start = start_node r c.of-graph.result c.args.tail.now.config c.args.parts.now (shape_of c.args.spans) c.starts.result u c.of-graph.ensures c.requires.parts c.requires.shape.possible c.starts.ensures c.least_node-start.ensures in
-    subst (λ p. HasWalk r (repeat c.args.spans.back p) u u) (sym c.left.ensures.left) (start.left, start.walks.left)
-
-pub least_walk-requires-clause-start : goal.least_walk-requires-clause-start
-least_walk-requires-clause-start c =
-    let start = start_node c.args.rule.now c.of-graph.result c.args.tail.now.config c.args.parts.now (shape_of c.args.spans) c.starts.result c.least_node-start.result c.of-graph.ensures c.requires.parts c.requires.shape.possible c.starts.ensures c.least_node-start.ensures in
-    start.below
-
-pub least_walk-requires-clause-word : goal.least_walk-requires-clause-word
-least_walk-requires-clause-word c =
-    let k = c.args.rule.now.states in
     let tail = subst (λ n. IsTail n c.args.tail.now.config) (sym c.requires.one_k) c.left.ensures.tail.short.tail in
-    let word = c.deref.ensures.value ∙ c.in_ok-word.ensures.word in
-    subst (IsWord k) (sym word) (IsWord-stretch tail c.args.spans.before c.args.spans.after)
+    let start = start_node r c.of-graph.result c.args.tail.now.config c.args.parts.now (shape_of c.args.spans) c.starts.result u c.of-graph.ensures c.requires.parts c.requires.shape.possible c.starts.ensures c.least_node-start.ensures in
+    record {
+      word = subst (IsWord r.states) (sym c.left.ensures.left) tail.left_word;
+      node = start.below;
+      turn = subst (λ p. HasWalk r (repeat c.args.spans.back p) u u) (sym c.left.ensures.left) (start.left, start.walks.left);
+    }
 
-pub least_walk-requires-clause-reach : goal.least_walk-requires-clause-reach
-least_walk-requires-clause-reach c =
+pub least_walk-requires : goal.least_walk-requires
+least_walk-requires c =
     let r = c.args.rule.now in
     let t = c.args.tail.now.config in
     let parts = c.args.parts.now in
     let s : Shape = shape_of c.args.spans in
     let u = c.least_node-start.result in
+    let tail = subst (λ n. IsTail n t) (sym c.requires.one_k) c.left.ensures.tail.short.tail in
     let start = start_node r c.of-graph.result t parts s c.starts.result u c.of-graph.ensures c.requires.parts c.requires.shape.possible c.starts.ensures c.least_node-start.ensures in
     let loops = loop_nodes r c.of-graph.result t parts s.on c.loops-turns.result c.of-graph.ensures c.requires.parts c.loops-turns.ensures in
     let word = c.deref.ensures.value ∙ c.in_ok-word.ensures.word in
-    (start.end, (loops.nodes start.end (IsWalk-last start.walks.middle)).1 (start.right, start.walks.right), subst (λ w. HasWalk r w u start.end) (sym word) (start.middle, start.walks.middle))
+    record {
+      start = start.below;
+      word = subst (IsWord r.states) (sym word) (IsWord-stretch tail c.args.spans.before c.args.spans.after);
+      goal = loops.within;
+      reach = (start.end, (loops.nodes start.end (IsWalk-last start.walks.middle)).1 (start.right, start.walks.right), subst (λ w. HasWalk r w u start.end) (sym word) (start.middle, start.walks.middle));
+    }
 
-pub first_loop-requires-2-clause-word : goal.first_loop-requires-2-clause-word
-first_loop-requires-2-clause-word c =
-    let k = c.args.rule.now.states in
-    let tail = subst (λ n. IsTail n c.args.tail.now.config) (sym c.requires.one_k) c.left.ensures.tail.short.tail in
-    subst (IsWord k) (sym c.right.ensures.right) tail.right_word
-
-pub first_loop-requires-2-clause-node : goal.first_loop-requires-2-clause-node
-first_loop-requires-2-clause-node c = IsWalk-last c.in_ok-middle.ensures.walk
-
-pub first_loop-requires-2-clause-turn : goal.first_loop-requires-2-clause-turn
-first_loop-requires-2-clause-turn c =
+pub first_loop-requires-2 : goal.first_loop-requires-2
+first_loop-requires-2 c =
     let r = c.args.rule.now in
     let end = c.in_ok-middle.end in
+    let tail = subst (λ n. IsTail n c.args.tail.now.config) (sym c.requires.one_k) c.left.ensures.tail.short.tail in
     let loops = loop_nodes r c.of-graph.result c.args.tail.now.config c.args.parts.now c.args.spans.on c.loops-turns.result c.of-graph.ensures c.requires.parts c.loops-turns.ensures in
-    subst (λ p. HasWalk r (repeat c.args.spans.on p) end end) (sym c.right.ensures.right) ((loops.nodes end (IsWalk-last c.in_ok-middle.ensures.walk)).0 c.in_ok-middle.ensures.within)
+    record {
+      word = subst (IsWord r.states) (sym c.right.ensures.right) tail.right_word;
+      node = IsWalk-last c.in_ok-middle.ensures.walk;
+      turn = subst (λ p. HasWalk r (repeat c.args.spans.on p) end end) (sym c.right.ensures.right) ((loops.nodes end (IsWalk-last c.in_ok-middle.ensures.walk)).0 c.in_ok-middle.ensures.within);
+    }
 
 -- a placed configuration of the same parts
 same_parts : {r : LocalRule} {t : TailConfig} {left middle right : List ℕ} {at : ℤ} (n : ℕ) (x y z : List ℕ) → IsFrom r t (placed_of r t n x y z) → at ≡ r.offset -ℤ pos (n * length t.left)
