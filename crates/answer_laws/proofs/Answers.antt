@@ -19,7 +19,7 @@ use Rattle.ca_cli.specs.declared.words.request.AskOfTwo.{AskOfTwo}
 use Rattle.ca_cli.specs.declared.words.request.AskOfTwo.TheVariants as two
 use Rattle.ca_cli.specs.declared.status.Status.{Status}
 use Rattle.ca_cli.specs.declared.status.Status.TheVariants as status
-use Rattle.ca_cli.specs.Commands.{AskWith, AskOfMany, Command, IsCommand}
+use Rattle.ca_cli.specs.Commands.{AskWith, AskOfMany, Command}
 use Rattle.ca_cli.specs.Outputs.{IsOutput, IsOutputWith, IsOutputOfTwo, IsOutputOfMany, rules_of, rules_fault}
 use Rattle.ca_cli.specs.StatusLines.{operand_fault_line, unfit_line, accepted_lines, refused_line}
 use Rattle.ca_cli.specs.RightAnswers.{IsAnswer, IsOperandFault, IsRight}

@@ -5,7 +5,6 @@ use Rattle.std.specs.List.Sorted.{IsStrictlySortedBy}
 use Rattle.std.proofs.lemmas.Cmp.{nat_cmp_total}
 use Rattle.std.proofs.lemmas.Grind.{same_number_lists}
 use Rattle.std.proofs.lemmas.List.{get_or_default, same_lists}
-use Rattle.std.proofs.lemmas.List.Elements.{Contains-get_or}
 use Rattle.std.proofs.lemmas.Map.Keys.{sorted_from_strictly_increasing, sorted_from_all_adjacent}
 use Rattle.std.proofs.lemmas.Option.{none-some, same_Some, slice_get-get_or}
 use Rattle.word_image.specs.LocalRules.{LocalRule, IsRule}
@@ -99,20 +98,20 @@ IsCoverList-unique : {r : LocalRule} {covers others : List ℕ} → IsSurjective
 IsCoverList-unique {r} every (family, is, here) (sets, also, there) = here ∙ ap (covers_of (full_set r)) (IsFamily-unique every is also) ∙ sym there
 
 -- no certificate is of both versions
-one_version : {v : CertVersion} → v ≡ Two → v ≡ Three → ⊥
+one_version : {version : CertVersion} → version ≡ Two → version ≡ Three → ⊥
 one_version here there = let both : Two ≡ Three = sym here ∙ there in absurd (cc)
 
 -- what shows whether a rule is surjective is one in each version
-IsListPart-unique : {v : CertVersion} {r : LocalRule} (e f : SurjectiveEvidence) → orphan_of e ≡ orphan_of f → IsOrphanPart r (orphan_of e) → IsListPart v r e → IsListPart v r f → e ≡ f
-IsListPart-unique (Sets sets) (Sets others) same every h g = ap Sets (IsCoverList-unique every h.1 g.1)
-IsListPart-unique (Sets sets) (Pairs pairs) same every h g = absurd (one_version h.0 g.0)
-IsListPart-unique (Sets sets) (Orphan w) same every h g = absurd (none-some w same)
-IsListPart-unique (Pairs pairs) (Sets sets) same every h g = absurd (one_version g.0 h.0)
-IsListPart-unique (Pairs pairs) (Pairs others) same every h g = ap Pairs (AreReached-unique h.1 g.1)
-IsListPart-unique (Pairs pairs) (Orphan w) same every h g = absurd (none-some w same)
-IsListPart-unique (Orphan v) (Sets sets) same least h g = absurd (none-some v (sym same))
-IsListPart-unique (Orphan v) (Pairs pairs) same least h g = absurd (none-some v (sym same))
-IsListPart-unique (Orphan v) (Orphan w) same least h g = ap Orphan (same_Some v w same)
+IsListPart-unique : (version : CertVersion) (r : LocalRule) (e f : SurjectiveEvidence) → orphan_of e ≡ orphan_of f → IsOrphanPart r (orphan_of e) → IsListPart version r e → IsListPart version r f → e ≡ f
+IsListPart-unique version r (Sets sets) (Sets others) same every h g = ap Sets (IsCoverList-unique every h.1 g.1)
+IsListPart-unique version r (Sets sets) (Pairs pairs) same every h g = absurd (one_version h.0 g.0)
+IsListPart-unique version r (Sets sets) (Orphan w) same every h g = absurd (none-some w same)
+IsListPart-unique version r (Pairs pairs) (Sets sets) same every h g = absurd (one_version g.0 h.0)
+IsListPart-unique version r (Pairs pairs) (Pairs others) same every h g = ap Pairs (AreReached-unique h.1 g.1)
+IsListPart-unique version r (Pairs pairs) (Orphan w) same every h g = absurd (none-some w same)
+IsListPart-unique version r (Orphan x) (Sets sets) same least h g = absurd (none-some x (sym same))
+IsListPart-unique version r (Orphan x) (Pairs pairs) same least h g = absurd (none-some x (sym same))
+IsListPart-unique version r (Orphan x) (Orphan w) same least h g = ap Orphan (same_Some x w same)
 
 -- the least evidence of a certificate
 abbrev evidence_of : Certificate → Evidence
@@ -135,10 +134,10 @@ certificate_of version e surjective forward backward = record {
 }
 
 -- the parts that are written for a rule and weights are one certificate
-HasWrittenParts-unique : {v : CertVersion} {r : LocalRule} {weights : List ℕ} {c d : Certificate} → IsRule r → HasWrittenParts v r weights c → HasWrittenParts v r weights d → c ≡ d
-HasWrittenParts-unique {c = c} {d = d} rule h g =
+HasWrittenParts-unique : {version : CertVersion} {r : LocalRule} {weights : List ℕ} {c d : Certificate} → IsRule r → HasWrittenParts version r weights c → HasWrittenParts version r weights d → c ≡ d
+HasWrittenParts-unique {version} {r} {c = c} {d = d} rule h g =
     let evidence : evidence_of c ≡ evidence_of d = IsLeastEvidence-unique rule (h.weights_are ∙ sym g.weights_are) h.least g.least in
-    let surjective : c.surjective ≡ d.surjective = IsListPart-unique c.surjective d.surjective (ap (λ e. e.orphan) evidence) (h.least).surjective h.list g.list in
+    let surjective : c.surjective ≡ d.surjective = IsListPart-unique version r c.surjective d.surjective (ap (λ e. e.orphan) evidence) (h.least).surjective h.list g.list in
     ap₂ (λ (v : CertVersion) (e : Evidence). certificate_of v e c.surjective c.forward c.backward) (h.version_is ∙ sym g.version_is) evidence
     ∙ ap₂ (λ (f b : List (Option ℕ)). certificate_of d.version (evidence_of d) c.surjective f b) (IsRankRow-unique Right rule h.forward g.forward) (IsRankRow-unique Left rule h.backward g.backward)
     ∙ ap (λ s. certificate_of d.version (evidence_of d) s d.forward d.backward) surjective

@@ -2,7 +2,8 @@
 //! status (a law of the program's own crate) and, with it, each byte of the output.
 //!
 //! What is said of a rule is the least of its kind, or a number that the rule determines, or a rule
-//! that is told by its images. Of two that come no later than each other in a total order both are one.
+//! that is told by its images, or a list of all of a kind in their order. Of two that come no later than
+//! each other in a total order both are one.
 //!
 //! The function here does nothing. It carries the law by its contract.
 #![tactic(auto)]
