@@ -6,6 +6,7 @@ ghost use Rattle.std.specs.Result.{result_err};
 ghost use Rattle.word_image.specs.LocalRules.{IsWord, value, word_of};
 ghost use Rattle.word_image.specs.SameRules.{same_rule};
 ghost use Rattle.word_image.specs.RuleFaults.{shape_fault, table_fault};
+ghost use Rattle.word_image.specs.Storage.{padded};
 
 use std::marker::Model;
 
@@ -92,7 +93,12 @@ impl Rule {
     {
         check_shape(k, m, o)?;
         check_table(k, m, table)?;
-        Ok(Rule::by(k, m, o, |window| table[usize::from(window)]))
+        Ok(Rule {
+            k,
+            m,
+            o,
+            entries: in_memory(table),
+        })
     }
 
     /// The rule of this shape whose table has the letter that a function gives at each value of a window.
@@ -223,6 +229,16 @@ impl PartialEq for Rule {
 
 impl Eq for Rule {
     ghost laws = { Prim.search (comparing, rules) depth 9 };
+}
+
+/// The letters of a table, and zeros after them.
+fn in_memory(table: &[u8]) -> [u8; MOST_ENTRIES]
+    requires { length table.now ≤ 256 }
+    ensures { result ≡ padded table.now }
+{
+    let mut entries = [0; MOST_ENTRIES];
+    entries[..table.len()].copy_from_slice(table);
+    entries
 }
 
 /// Whether a rule may have k states, width m and offset o; else the first of `States`, `Width`,

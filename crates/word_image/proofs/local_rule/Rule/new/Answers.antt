@@ -1,13 +1,11 @@
-use Rattle.std.proofs.iter.Serving.{serving}
-use Rattle.std.proofs.Common.{◌≡◌, ℕ, ◌^◌, List, length, None, slice_index, rules, ◌<◌, refl, sym, ap, ◌∙◌, arith, w8, FitsSigned, to_z, of_z}
+use Rattle.std.proofs.Common.{◌≡◌, ℕ, ◌^◌, List, length, take, drop, None, refl, sym, ap, ◌∙◌, arith, w8, FitsSigned, to_z, of_z}
 use Rattle.std.specs.Prelude.{ℤ}
 use Rattle.std.proofs.lemmas.Int.{to_z-of_z}
 use Rattle.std.proofs.lemmas.Option.{none-some}
-use Rattle.word_image.specs.LocalRules.{IsWord, IsShape}
+use Rattle.word_image.specs.LocalRules.{IsWord, IsShape, IsRule}
 use Rattle.word_image.specs.RuleFaults.{shape_fault}
 use Rattle.word_image.proofs.laws.RuleFaults.{IsShape-shape_fault, shape_fault-IsShape, IsWord-table_fault, table_fault-IsWord, window_count-le}
-use Rattle.word_image.specs.RulesBy.{IsRuleBy}
-use Rattle.word_image.proofs.laws.RulesBy.{IsRuleBy-entries}
+use Rattle.word_image.proofs.Storage.{take-in_row, drop-in_row}
 use Rattle.word_image.proofs.local_rule.Rule.new.Goals as goal
 
 -- the fault of a shape whose offset was passed on
@@ -18,10 +16,10 @@ passed k m o fits = ap (shape_fault k m) (to_z-of_z w8 o fits)
 accepted_shape : (k m : ℕ) (o : ℤ) → FitsSigned w8 o → None ≡ shape_fault k m (to_z w8 (of_z w8 o)) → IsShape k m o
 accepted_shape k m o fits none = IsShape-shape_fault k m o (sym (passed k m o fits) ∙ sym none)
 
--- the letters of a table make its rule
-of_table : {k m : ℕ} {o : ℤ} {t : List ℕ} {gives : ℕ → ℕ → Type 0} → IsShape k m o → length t ≡ k ^ m → IsWord k t → ((v a : ℕ) → v < k ^ m → gives v a → a ≡ slice_index t v)
-    → IsRuleBy k m (to_z w8 (of_z w8 o)) gives (record { states = k; width = m; offset = o; table = t })
-of_table shape long word entries = IsRuleBy-entries (record { shape = shape; entries = long; letters = word }) refl refl refl entries
+-- a rule whose offset and table are known by other names
+IsRule-same : (k m : ℕ) (o p : ℤ) (t u : List ℕ) → p ≡ o → u ≡ t → IsShape k m o → length t ≡ k ^ m → IsWord k t
+    → IsRule (record { states = k; width = m; offset = p; table = u })
+IsRule-same k m o p t u offset table shape long word = rw (offset, table) (record { shape = shape; entries = long; letters = word })
 
 pub check_table-requires : goal.check_table-requires
 check_table-requires c =
@@ -29,25 +27,12 @@ check_table-requires c =
     let shape = accepted_shape c.args.k c.args.m o c.ranges.o c.in_ok-check_shape.ensures in
     window_count-le c.args.k c.args.m o shape
 
-pub by-requires-clause-rule : goal.by-requires-clause-rule
-by-requires-clause-rule c =
+pub in_memory-requires : goal.in_memory-requires
+in_memory-requires c =
     let o = c.args.o in
     let shape = accepted_shape c.args.k c.args.m o c.ranges.o c.in_ok-check_shape.ensures in
     let table = IsWord-table_fault c.args.k c.args.m c.args.table.now (sym c.in_ok-check_table.ensures) in
-    (_, of_table shape table.0 table.1 (λ v a l h. search rules))
-
-pub by-requires-clause-callable : goal.by-requires-clause-callable
-by-requires-clause-callable c = λ v l.
-    let table = IsWord-table_fault c.args.k c.args.m c.args.table.now (sym c.in_ok-check_table.ensures) in
-    let within : v < length c.args.table.now = omega (arith, table.0) in
-    grind (serving, within)
-
-pub returns-clause-rule : goal.returns-clause-rule
-returns-clause-rule c =
-    let o = c.args.o in
-    let shape = accepted_shape c.args.k c.args.m o c.ranges.o c.in_ok-check_shape.ensures in
-    let table = IsWord-table_fault c.args.k c.args.m c.args.table.now (sym c.in_ok-check_table.ensures) in
-    c.by.ensures _ (of_table shape table.0 table.1 (λ v a l h. search rules))
+    omega (arith, window_count-le c.args.k c.args.m o shape, table.0)
 
 pub returns-in_err-check_shape-clause-accepted : goal.returns-in_err-check_shape-clause-accepted
 returns-in_err-check_shape-clause-accepted c =
@@ -61,6 +46,17 @@ returns-in_err-check_table-clause-accepted c = (
   λ ok. absurd (grind arith),
   λ rule. absurd (none-some _ (sym (table_fault-IsWord c.args.k c.args.m c.args.table.now rule.entries rule.letters) ∙ sym c.in_err-check_table.ensures)),
 )
+
+pub invariant_of-result : goal.invariant_of-result
+invariant_of-result c =
+    let o = c.args.o in
+    let t = c.args.table.now in
+    let n = c.args.k ^ c.args.m in
+    let shape = accepted_shape c.args.k c.args.m o c.ranges.o c.in_ok-check_shape.ensures in
+    let table = IsWord-table_fault c.args.k c.args.m t (sym c.in_ok-check_table.ensures) in
+    let same = ap (take n) c.in_memory.ensures ∙ take-in_row 256 n t table.0 in
+    let zeros = ap (drop n) c.in_memory.ensures ∙ drop-in_row 256 n t table.0 in
+    (IsRule-same _ _ o _ t _ (to_z-of_z w8 o c.ranges.o) same shape table.0 table.1, zeros)
 
 pub returns-clause-accepted : goal.returns-clause-accepted
 returns-clause-accepted c =

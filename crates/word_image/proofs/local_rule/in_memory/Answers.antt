@@ -1,0 +1,7 @@
+use Rattle.std.proofs.Common.{ℕ, List, ◌++◌, length, ap₂}
+use Rattle.std.proofs.lemmas.List.{drop-replicate}
+use Rattle.word_image.proofs.local_rule.in_memory.Goals as goal
+
+pub returns : goal.returns
+returns c =
+    ap₂ (λ (xs ys : List ℕ). xs ++ ys) c.copy_from_slice.ensures.after (drop-replicate (length c.args.table.now) 256 0)
