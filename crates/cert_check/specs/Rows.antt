@@ -1,7 +1,6 @@
--- Rows of bits, which mark sets of nodes or have the ends of edges.
-use Rattle.std.specs.Prelude.{◌≡◌, ℕ, ◌+◌, ◌*◌, ◌/◌, ◌%◌, ◌^◌, ◌<◌, ◌≤◌, ◌↔◌, List, slice_index, Contains, IsBitSet, bit_and}
+-- Rows of bits, which mark sets of nodes.
+use Rattle.std.specs.Prelude.{ℕ, ◌*◌, ◌/◌, ◌%◌, ◌^◌, ◌≤◌, ◌↔◌, List, slice_index, Contains, IsBitSet, bit_and}
 use Rattle.std.specs.Int.{bit_not, w16}
-use Rattle.word_image.specs.LocalRules.{LocalRule, node_count}
 use Rattle.cert_format.specs.declared.cert_version.CertVersion.{CertVersion}
 use Rattle.cert_check.specs.Sets.{IsKept}
 
@@ -24,8 +23,3 @@ AreMarked rows sets = (s : ℕ) → IsMarked rows s ↔ Contains sets s
 -- the rows mark the sets that are so, among those up to the full one
 abbrev pub AreKept : CertVersion → ℕ → List ℕ → List ℕ → Type 0
 AreKept version full sets rows = (s : ℕ) → s ≤ full → (IsMarked rows s ↔ IsKept version sets s)
-
--- for each label and node, row 16 * label + node has the nodes where edges with that label lead from it, by the first n windows
-abbrev pub AreEnds : LocalRule → ℕ → List ℕ → Type 0
-AreEnds r n rows =
-    (i v : ℕ) → i < 256 → (HasBit rows i v ↔ ((w : ℕ) × (w < n) × (i ≡ 16 * slice_index r.table w + w / r.states) × (v ≡ w % node_count r)))

@@ -12,7 +12,8 @@ use Rattle.word_image.proofs.laws.Bits.{IsBitSet-or, IsBitSet-zero}
 use Rattle.word_image.proofs.laws.Graphs.{next-below}
 use Rattle.pair_laws.proofs.Sets.{IsBitSet-minus, IsBitSet-shl}
 use Rattle.pair_laws.proofs.Pairs.{first_of-pair_of, second_of-pair_of, first_of-below, second_of-below, follow-pair_of, follow-some, follow-below}
-use Rattle.debruijn.specs.Ends.{IsEnds}
+use Rattle.word_image.specs.Edges.{IsEnds}
+use Rattle.word_image.specs.declared.side.Side.TheVariants.{Right}
 use Rattle.eden_laws.specs.ReachedPairs.{IsReached}
 use Rattle.eden_laws.specs.ReachedPairs.IsReached.{First, On}
 use Rattle.eden_laws.proofs.ReachedPairs.{IsSurjective-reached, IsReached-below, holds-reached}
@@ -94,7 +95,7 @@ next-injective {r} rule u a b ha hb e = sym (last a ha) ∙ ap (λ n. n % r.stat
         ap (λ n. (u * r.states + c) % n % r.states) (sym nodes) ∙ mod-mod_of_dvd r.states (u * r.states + c) (dvd-mul_left r.states (r.states ^ (r.width - 2))) ∙ mod-mul-add u r.states c hc
 
 -- the ends of the edges with the label of a, but for the one of a itself
-pub LeadsApart-set : {r : LocalRule} → IsRule r → (node a label_a to ends : ℕ) → a < r.states → label_a ≡ label r node a → to ≡ next r node a → IsEnds r node label_a ends
+pub LeadsApart-set : {r : LocalRule} → IsRule r → (node a label_a to ends : ℕ) → a < r.states → label_a ≡ label r node a → to ≡ next r node a → IsEnds Right r node label_a ends
     → (v : ℕ) → v < node_count r → (IsBitSet (bit_and ends (65535 - 1 * 2 ^ to % 2 ^ 16)) v ↔ LeadsApart r node a v)
 LeadsApart-set {r} rule node a label_a to ends ha labelled at h v hv =
     let few : node_count r ≤ 16 = rule.shape.most_nodes in

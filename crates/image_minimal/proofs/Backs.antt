@@ -7,7 +7,8 @@ use Rattle.word_image.proofs.laws.Bits.{IsBitSet-some, IsBitSet-zero}
 use Rattle.word_image.proofs.laws.Graphs.{next-below}
 use Rattle.word_image.proofs.laws.Unions.{IsUnion}
 use Rattle.pair_laws.proofs.Sets.{IsBitSet-minus, IsBitSet-decide}
-use Rattle.debruijn.specs.Ends.{IsEnds}
+use Rattle.word_image.specs.Edges.{IsEnds}
+use Rattle.word_image.specs.declared.side.Side.TheVariants.{Right}
 use Rattle.image_minimal.specs.Closures.{IsBack}
 
 -- all edges labelled a lead into the set from node u
@@ -19,7 +20,7 @@ abbrev pub IsNodeLedInto : LocalRule → ℕ → ℕ → ℕ → ℕ → Type 0
 IsNodeLedInto r set a u v = (v ≡ u) × IsLedInto r set a u
 
 -- where the set lacks none of the ends, all edges lead into it
-pub all_led : {r : LocalRule} {u a ends set : ℕ} → IsRule r → set < 2 ^ 16 → IsEnds r u a ends → bit_and ends (65535 - set) ≡ 0 → IsLedInto r set a u
+pub all_led : {r : LocalRule} {u a ends set : ℕ} → IsRule r → set < 2 ^ 16 → IsEnds Right r u a ends → bit_and ends (65535 - set) ≡ 0 → IsLedInto r set a u
 all_led {r} {u} {a} {ends} {set} rule small h none b letter labelled =
     let v = next r u b in
     let inside : v < node_count r = next-below rule u b in
@@ -30,7 +31,7 @@ all_led {r} {u} {a} {ends} {set} rule small h none b letter labelled =
     (IsBitSet-decide set v)
 
 -- where it lacks one, not all do
-pub not_led : {r : LocalRule} {u a ends set : ℕ} → IsRule r → set < 2 ^ 16 → IsEnds r u a ends → bit_and ends (65535 - set) ≢ 0 → ¬ IsLedInto r set a u
+pub not_led : {r : LocalRule} {u a ends set : ℕ} → IsRule r → set < 2 ^ 16 → IsEnds Right r u a ends → bit_and ends (65535 - set) ≢ 0 → ¬ IsLedInto r set a u
 not_led {r} {u} {a} {ends} {set} rule small h some led =
     let (v, inside, bit) = IsBitSet-some (node_count r) (bit_and ends (65535 - set)) (omega (arith, and_le_l ends (65535 - set), h.within)) some in
     let (there, missing) = (IsBitSet-minus ends set v small (omega (arith, inside, rule.shape.most_nodes))).0 bit in

@@ -11,7 +11,8 @@ use Rattle.std.proofs.lemmas.Simd.{get_or-zip2, length-zip2}
 use Rattle.word_image.specs.LocalRules.{LocalRule, IsRule, node_count}
 use Rattle.word_image.specs.Graphs.{IsStep, next, label}
 use Rattle.word_image.proofs.laws.Bits.{IsBitSet-or, IsBitSet-pow}
-use Rattle.debruijn.specs.Ends.{IsEnds}
+use Rattle.word_image.specs.Edges.{IsEnds}
+use Rattle.word_image.specs.declared.side.Side.TheVariants.{Right}
 use Rattle.image_subsets.specs.StepTables.{AreSteps, Rows, AreTables, HasRows}
 
 -- a step of a union is the union of the steps
@@ -33,7 +34,7 @@ IsStep-or {r} {s} {t} {a} {p} {q} first second = record {
 }
 
 -- a step of one node leads to the ends of its edges
-pub IsStep-node : {r : LocalRule} {u a ends : ℕ} → u < node_count r → IsEnds r u a ends → IsStep r (2 ^ u) a ends
+pub IsStep-node : {r : LocalRule} {u a ends : ℕ} → u < node_count r → IsEnds Right r u a ends → IsStep r (2 ^ u) a ends
 IsStep-node {r} {u} {a} {ends} node h = record {
   within = h.within;
   nodes = λ v inside. (
@@ -62,7 +63,7 @@ upper_row rows ends x y at below =
 
 -- one node more
 pub AreSteps-double : {r : LocalRule} {first count : ℕ} {rows : List (List ℕ)} → IsRule r → AreSteps r first count rows → (u : ℕ) (ends : List ℕ) → u ≡ first + count → u < node_count r
-    → length ends ≡ 16 → ((a : ℕ) → a < r.states → IsEnds r u a (slice_index ends a))
+    → length ends ≡ 16 → ((a : ℕ) → a < r.states → IsEnds Right r u a (slice_index ends a))
     → AreSteps r first (count + 1) (rows ++ map (λ row. zip2 bit_or row ends) rows)
 AreSteps-double {r} {first} {count} {rows} rule h u ends last node wide leads =
     let more = λ (row : List ℕ). zip2 bit_or row ends in

@@ -5,7 +5,8 @@ ghost use Rattle.std.specs.Int.Bits.{bit_or};
 ghost use Rattle.std.specs.Simd.Lanes.{zip2};
 ghost use Rattle.word_image.specs.LocalRules.{LocalRule, IsRule, node_count};
 ghost use Rattle.word_image.specs.Graphs.{IsStep};
-ghost use Rattle.debruijn.specs.Ends.{IsEnds};
+ghost use Rattle.word_image.specs.Edges.{IsEnds};
+ghost use Rattle.word_image.specs.declared.side.Side.TheVariants.{Right};
 ghost use Rattle.image_subsets.specs.StepTables.{AreSteps, AreTables, HasRows};
 
 use debruijn::Graph;
@@ -100,7 +101,7 @@ fn ends_of(graph: &Graph, u: u8) -> u16x16
     requires { u < node_count graph.now }
     ensures rule { IsRule graph.now }
     ensures wide { length result ≡ 16 }
-    ensures ends { (a : ℕ) → a < graph.now.states → IsEnds graph.now u a (slice_index result a) }
+    ensures ends { (a : ℕ) → a < graph.now.states → IsEnds Right graph.now u a (slice_index result a) }
 {
     let mut row = [0; 16];
     for a in 0..graph.k() {

@@ -16,7 +16,8 @@ use Rattle.word_image.proofs.laws.Graphs.{next-below, pair_count_pos}
 use Rattle.word_image.proofs.laws.Lists.{slice_index-zeros}
 use Rattle.pair_laws.proofs.Sets.{IsBitSet-shl, IsBitSet-shr, IsBitSet-and, IsBitSet-minus, IsBitSet-decide}
 use Rattle.pair_laws.proofs.Pairs.{some_if_equal, first_of-pair_of, second_of-pair_of, pair_of-first_of, pair_of-below, first_of-below, second_of-below}
-use Rattle.debruijn.specs.Ends.{IsEnds}
+use Rattle.word_image.specs.Edges.{IsEnds}
+use Rattle.word_image.specs.declared.side.Side.TheVariants.{Right}
 use Rattle.least_walk.specs.declared.marks.Parts.{Parts}
 use Rattle.least_walk.specs.Marks.{pair_part, row_of, HasPair, ArePartsOf}
 
@@ -193,7 +194,7 @@ end-old {r} rule v b ends row end letter small first leads old =
 -- so the rows have the marked pair where the letters a and b lead, if its bit is missing in the ends without its row
 step-old : {r : LocalRule} → IsRule r → (rows : List ℕ) (t a b q u v mark ends row end : ℕ) → (step : IsMarkedStep r t a b q) → step.mark ≡ mark
     → first_of r (pair_part r t) ≡ u → second_of r (pair_part r t) ≡ v → b < r.states
-    → IsEnds r v (label r u a) ends → end ≡ next r v 0 → row ≡ slice_index rows (16 * mark + next r u a) → row < 2 ^ 16
+    → IsEnds Right r v (label r u a) ends → end ≡ next r v 0 → row ≡ slice_index rows (16 * mark + next r u a) → row < 2 ^ 16
     → ¬ IsBitSet (bit_and ends (65535 - row) / 2 ^ end) b → HasPair r rows q
 step-old {r} rule rows t a b q u v mark ends row end step with first second letter leads start here small old =
     let labels : label r v b ≡ label r u a = ap (λ x. label r x b) (sym second) ∙ sym step.one_label ∙ ap (λ x. label r x a) first in
@@ -204,7 +205,7 @@ step-old {r} rule rows t a b q u v mark ends row end step with first second lett
 
 -- from a marked pair with the mark
 pub fresh-with_mark : {r : LocalRule} → IsRule r → (rows : List ℕ) (parts : Parts) (t a b q ends row end : ℕ) → ArePartsOf r parts t → parts.mark ≡ 1 → b < r.states
-    → IsEnds r parts.second (label r parts.first a) ends → end ≡ next r parts.second 0 → row ≡ slice_index rows (16 + next r parts.first a) → row < 2 ^ 16
+    → IsEnds Right r parts.second (label r parts.first a) ends → end ≡ next r parts.second 0 → row ≡ slice_index rows (16 + next r parts.first a) → row < 2 ^ 16
     → ¬ IsBitSet (bit_and ends (65535 - row) / 2 ^ end) b → marked r t a b ≡ Some q → HasPair r rows q
 fresh-with_mark {r} rule rows parts t a b q ends row end of with letter leads start here small old e =
     let step = marked-step r t a b q e in
@@ -214,7 +215,7 @@ fresh-with_mark {r} rule rows parts t a b q ends row end of with letter leads st
 
 -- from one without it, the mark stays away where the letters are the same
 pub fresh-without : {r : LocalRule} → IsRule r → (rows : List ℕ) (parts : Parts) (t a b q ends row plain end same : ℕ) → ArePartsOf r parts t → parts.mark ≡ 0 → b < r.states → a < 16
-    → IsEnds r parts.second (label r parts.first a) ends → end ≡ next r parts.second 0
+    → IsEnds Right r parts.second (label r parts.first a) ends → end ≡ next r parts.second 0
     → row ≡ slice_index rows (16 + next r parts.first a) → row < 2 ^ 16 → plain ≡ slice_index rows (next r parts.first a) → plain < 2 ^ 16 → same ≡ 1 * 2 ^ a % 2 ^ 16
     → ¬ IsBitSet (bit_or (bit_and (bit_and ends (65535 - row) / 2 ^ end) (65535 - same)) (bit_and (bit_and ends (65535 - plain) / 2 ^ end) same)) b
     → marked r t a b ≡ Some q → HasPair r rows q

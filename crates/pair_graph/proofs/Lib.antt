@@ -1,4 +1,3 @@
 pub mod BackSteps
-mod EdgeRows
 mod PairLanes
 mod PairSteps

@@ -9,13 +9,13 @@ use Rattle.word_image.specs.LocalRules.{LocalRule, IsRule, node_count}
 use Rattle.word_image.specs.Graphs.{first_of, second_of, pair_of, pair_count}
 use Rattle.word_image.proofs.laws.Bits.{bit_at-IsBitSet}
 use Rattle.word_image.proofs.laws.Graphs.{next-below}
-use Rattle.word_image.proofs.laws.WindowParts.{some_letter, windows-nodes}
+use Rattle.word_image.proofs.laws.WindowParts.{window_with-within, end_node-below}
 use Rattle.pair_laws.proofs.Pairs.{first_of-pair_of, second_of-pair_of, pair_of-below, first_of-below, second_of-below, follow-edges, follow-some}
 use Rattle.pair_laws.proofs.Sets.{IsBitSet-and, IsBitSet-below, IsBitSet-minus, IsBitSet-shl}
 use Rattle.word_image.specs.declared.side.Side.{Side}
 use Rattle.word_image.specs.declared.side.Side.TheVariants.{Right, Left}
 use Rattle.word_image.specs.Sides.{window_with}
-use Rattle.pair_graph.specs.Edges.{AreEdges, label_at, end_at}
+use Rattle.word_image.specs.Edges.{AreEdgeRows, label_at, end_at}
 use Rattle.pair_graph.specs.PairSets.{holds, truths, AreRows, LettersLead, LeadsInto, IsTrimmedSet, AreNodesKept, GoesOn}
 use Rattle.pair_graph.specs.PairRows.{holds_bit, length-truths, same_roots}
 use Rattle.pair_graph.proofs.BackSteps.{window_before, window_before-below, LeadsBack-windows, led_back}
@@ -55,16 +55,9 @@ holds-row n rows set u i v {m} same seen h at node =
       (λ (second, there). subst (λ x. IsBitSet x v) (sym row) ((holds-place n rows u v node second).0 (subst (λ s. IsTrue (holds s (u * n + v))) (sym sets) there))),
     )
 
--- the window of a node and a letter is one of the windows
-pub window_with-within : (side : Side) {r : LocalRule} → IsRule r → (u a : ℕ) → u < node_count r → a < r.states → window_with side r u a < r.states ^ r.width
-window_with-within Right {r} rule u a node letter = omega (arith, mul-add-lt u r.states a (node_count r) node letter, windows-nodes rule)
-window_with-within Left {r} rule u a node letter = omega (arith, window_before-below rule a u letter node, windows-nodes rule)
-
--- it leads to a node
-pub end_at-below : (side : Side) {r : LocalRule} → IsRule r → (u a : ℕ) → u < node_count r → a < r.states → end_at side r u a < node_count r
-end_at-below Right {r} rule u a node letter = next-below rule u a
-end_at-below Left {r} rule u a node letter =
-    div_below (window_before r a u) r.states (node_count r) (some_letter rule) (window_before-below rule a u letter node)
+-- a letter leads to a node
+end_at-below : (side : Side) {r : LocalRule} → IsRule r → (u a : ℕ) → u < node_count r → a < r.states → end_at side r u a < node_count r
+end_at-below side {r} rule u a node letter = end_node-below side rule (window_with side r u a) (window_with-within side rule u a node letter)
 
 -- letters lead from a pair to the pair of the nodes to which they lead, where their labels are equal
 leads_by : (side : Side) {r : LocalRule} → IsRule r → (p a b : ℕ) → p < pair_count r → a < r.states → b < r.states → (q : ℕ)
@@ -97,7 +90,7 @@ holds-pair_of r rows s t in_s in_t =
     )
 
 -- the nodes of a pair go on exactly where some letters lead from it into the set
-pub GoesOn-into : (side : Side) {r : LocalRule} → IsRule r → (ends : List (List ℕ)) (rows : List ℕ) → AreEdges side r (node_count r) ends → (p : ℕ) → p < pair_count r
+pub GoesOn-into : (side : Side) {r : LocalRule} → IsRule r → (ends : List (List ℕ)) (rows : List ℕ) → AreEdgeRows side r ends → (p : ℕ) → p < pair_count r
     → GoesOn side r ends rows (first_of r p) (second_of r p) ↔ LeadsInto side r (truths (node_count r) rows) p
 GoesOn-into side {r} rule ends rows edges p inside =
     let u = first_of r p in
@@ -106,7 +99,8 @@ GoesOn-into side {r} rule ends rows edges p inside =
     let in_v : v < node_count r = second_of-below rule p in
     let few : node_count r ≤ 16 = rule.shape.most_nodes in (
       (λ (a, t, letter, goes).
-          let (b, in_b, (same, arrives)) = (edges v in_v (label_at side r u a) t (small_label side rule u a in_u letter) goes.node).0 goes.second in
+          let at = edges.ends (label_at side r u a) v (small_label side rule u a in_u letter) in_v in
+          let (b, in_b, same, arrives) = (at.nodes t (IsBitSet-below (node_count r) _ t at.within goes.second)).0 goes.second in
           let q = pair_of r (end_at side r u a) (end_at side r v b) in (
             a,
             letter,
@@ -129,7 +123,7 @@ GoesOn-into side {r} rule ends rows edges p inside =
             letter,
             record {
               node = omega (arith, below);
-              second = (edges v in_v (label_at side r u a) t (small_label side rule u a in_u letter) (omega arith)).1 (b, into.letter, (sym same, refl));
+              second = ((edges.ends (label_at side r u a) v (small_label side rule u a in_u letter) in_v).nodes t below).1 (b, into.letter, sym same, refl);
               pair = (holds-pair_of r rows (end_at side r u a) t (end_at-below side rule u a in_u letter) below).0
                   (subst (λ q. IsTrue (holds (truths (node_count r) rows) q)) (sym pair) into.there);
             },
@@ -187,7 +181,7 @@ nodes_from_length r n rows set seen long = same_roots n (node_count r) (sym (len
 
 -- so what is kept is the set trimmed
 pub IsTrimmedSet-kept : (side : Side) {r : LocalRule} → IsRule r → (n : ℕ) (ends : List (List ℕ)) (rows kept : List ℕ) (set : List Bool) → n ≡ node_count r → truths n rows ≡ set
-    → AreEdges side r (node_count r) ends → AreNodesKept (GoesOn side r ends rows) rows (node_count r) kept → IsTrimmedSet side r set (truths n kept)
+    → AreEdgeRows side r ends → AreNodesKept (GoesOn side r ends rows) rows (node_count r) kept → IsTrimmedSet side r set (truths n kept)
 IsTrimmedSet-kept side {r} rule n ends rows kept set same seen edges h =
     let sets : truths (node_count r) rows ≡ set = subst (λ m. truths m rows ≡ set) same seen in
     subst (λ m. IsTrimmedSet side r set (truths m kept)) (sym same) (subst (λ s. IsTrimmedSet side r s (truths (node_count r) kept)) sets (record {

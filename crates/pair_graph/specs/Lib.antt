@@ -1,4 +1,3 @@
 pub mod BackSteps
-pub mod Edges
 pub mod PairSets
 pub mod PairRows

@@ -21,7 +21,6 @@
 //! **O(k^2·N^2)**, `all` and `same` **O(N)**, and every other call **O(1)**. No call takes memory.
 #![tactic(auto)]
 
-mod edges;
 mod pair_set;
 mod pairs;
 mod plain;

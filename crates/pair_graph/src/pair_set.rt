@@ -7,11 +7,10 @@ ghost use Rattle.word_image.specs.LocalRules.{IsRule, node_count};
 ghost use Rattle.word_image.specs.Graphs.{pair_count};
 ghost use Rattle.pair_graph.specs.PairSets.{holds, AreNodesKept, AreRows, GoesOn, IsTrimmedSet};
 
-use crate::edges::{Edges, end_at};
 use crate::pairs::Pairs;
 use std::marker::Model;
 use std::simd::prelude::*;
-use word_image::{MOST_NODES, Rule, Side};
+use word_image::{EdgeRows, MOST_NODES, Rule, Side};
 
 /// For each node u the set of the nodes v whose pair with u is in a set of pairs; node v is bit v.
 pub(crate) type Rows = [u16; MOST_NODES];
@@ -125,7 +124,7 @@ impl PairSet {
 }
 
 /// The pairs of the rows from which edges with one label lead to a pair of the rows.
-fn trimmed(rule: &Rule, side: Side, ends: &Edges, rows: &Rows) -> Rows
+fn trimmed(rule: &Rule, side: Side, ends: &EdgeRows, rows: &Rows) -> Rows
     ensures kept { AreNodesKept (GoesOn side rule.now ends.now rows.now) rows.now (node_count rule.now) result }
     ensures rule { IsRule rule.now }
 {
@@ -138,15 +137,15 @@ fn trimmed(rule: &Rule, side: Side, ends: &Edges, rows: &Rows) -> Rows
 
 /// The nodes v such that edges with one label lead from u and v to a pair of the rows: the sixteen are
 /// tried at once, one lane each.
-fn going_on(rule: &Rule, side: Side, ends: &Edges, rows: &Rows, u: u8) -> u16
+fn going_on(rule: &Rule, side: Side, ends: &EdgeRows, rows: &Rows, u: u8) -> u16
     requires { u < node_count rule.now }
     ensures { (v : ℕ) → v < 16 → (IsBitSet result v ↔ GoesOn side rule.now ends.now rows.now u v) }
 {
     let mut hits = u16x16::splat(0);
     for a in 0..rule.k() {
-        let label = rule.at(side.window_with(rule, u, a));
-        let seconds = rows[usize::from(end_at(side, rule, u, a))];
-        hits |= among(&ends[usize::from(label)], seconds);
+        let window = side.window_with(rule, u, a);
+        let seconds = rows[usize::from(side.end_node(rule, window))];
+        hits |= among(&ends[usize::from(rule.at(window))], seconds);
     }
     hits.simd_ne(u16x16::splat(0)).to_bitmask() as u16
 }

@@ -4,10 +4,9 @@ ghost use Rattle.std.specs.Prelude.{◌≡◌, ◌+◌, ◌*◌, ◌/◌, ◌^�
 ghost use Rattle.word_image.specs.LocalRules.{IsRule, node_count};
 ghost use Rattle.word_image.specs.Graphs.{first_of, second_of, pair_of, pair_count};
 
-use crate::edges::{Edges, edges};
 use debruijn::Graph;
 use std::marker::Model;
-use word_image::{Rule, Side};
+use word_image::{EdgeRows, Rule, Side, edge_rows};
 
 /// The pairs of nodes of a rule's de Bruijn graph, seen as that rule. The pair of u and v has the
 /// number u * N + v, for the N nodes.
@@ -15,31 +14,28 @@ use word_image::{Rule, Side};
 pub struct Pairs {
     // The de Bruijn graph of the rule.
     graph: Graph,
-    // For each label and node the nodes to which the edges with that label lead from it.
-    ends: Edges,
-    // And those from which they lead to it.
-    starts: Edges,
+    // For each label and node the nodes from which the edges with that label lead to it.
+    starts: EdgeRows,
 }
 
 impl Model for Pairs {
     ghost use Rattle.std.specs.Prelude.{◌≡◌};
     ghost use Rattle.word_image.specs.LocalRules.{LocalRule};
-    ghost use Rattle.word_image.specs.LocalRules.{node_count};
-    ghost use Rattle.pair_graph.specs.Edges.{AreEdges};
-    ghost use Rattle.word_image.specs.declared.side.Side.TheVariants.{Right, Left};
+    ghost use Rattle.word_image.specs.Edges.{AreEdgeRows};
+    ghost use Rattle.word_image.specs.declared.side.Side.TheVariants.{Left};
 
     ghost Value = { LocalRule };
 
     ghost view = { λ p. p.graph };
 
-    ghost invariant = { λ p. AreEdges Right p.graph (node_count p.graph) p.ends × AreEdges Left p.graph (node_count p.graph) p.starts };
+    ghost invariant = { λ p. AreEdgeRows Left p.graph p.starts };
 }
 
 impl Pairs {
     ghost use Rattle.word_image.specs.Graphs.{follow};
     ghost use Rattle.word_image.specs.MarkedPairs.{marked};
     ghost use Rattle.pair_graph.specs.BackSteps.{LeadsBack};
-    ghost use Rattle.pair_graph.specs.Edges.{AreEdges};
+    ghost use Rattle.word_image.specs.Edges.{AreEdgeRows};
     ghost use Rattle.pair_graph.specs.PairSets.{LettersLead};
 
     /// The pairs of this rule.
@@ -53,13 +49,8 @@ impl Pairs {
     pub fn over(graph: Graph) -> Pairs
         ensures { result ≡ graph }
     {
-        let ends = edges(graph.rule(), Side::Right);
-        let starts = edges(graph.rule(), Side::Left);
-        Pairs {
-            graph,
-            ends,
-            starts,
-        }
+        let starts = edge_rows(graph.rule(), Side::Left);
+        Pairs { graph, starts }
     }
 
     /// The rule that they are of.
@@ -76,12 +67,13 @@ impl Pairs {
         &self.graph
     }
 
-    /// For each label and node the nodes to which the edges with that label lead from it.
-    pub(crate) fn edges(&self, side: Side) -> &Edges
-        ensures { AreEdges side self.now (node_count self.now) result.now }
+    /// For each label and node the nodes to which the edges with that label lead from it, read to this
+    /// side.
+    pub(crate) fn edges(&self, side: Side) -> &EdgeRows
+        ensures { AreEdgeRows side self.now result.now }
     {
         match side {
-            Side::Right => &self.ends,
+            Side::Right => self.graph.edges(),
             Side::Left => &self.starts,
         }
     }
@@ -119,12 +111,13 @@ impl Pairs {
         requires second { b < self.now.states }
         ensures exactly { (p : ℕ) → (result ≡ Some p) ↔ LeadsBack self.now q a b p }
     {
-        let first = self.window_before(a, self.first(q));
-        let second = self.window_before(b, self.second(q));
-        if self.at(first) != self.at(second) {
+        let rule = self.rule();
+        let first = Side::Left.window_with(rule, self.first(q), a);
+        let second = Side::Left.window_with(rule, self.second(q), b);
+        if rule.at(first) != rule.at(second) {
             return None;
         }
-        Some(self.pair_of(self.beginning(first), self.beginning(second)))
+        Some(self.pair_of(Side::Left.end_node(rule, first), Side::Left.end_node(rule, second)))
     }
 
     /// The pair to which the letters a and b lead from p: forward by `follow`, and backward by `back`.
@@ -172,6 +165,7 @@ impl Pairs {
         requires { p < pair_count self.now }
         ensures node { result ≡ first_of self.now p }
         ensures below { result < node_count self.now }
+        ensures rule { IsRule self.now }
     {
         (p / self.nodes()) as u8
     }
@@ -192,33 +186,5 @@ impl Pairs {
         ensures below { result < pair_count self.now }
     {
         u16::from(u) * self.nodes() + u16::from(v)
-    }
-
-    /// The value of the window of letter a before node s.
-    fn window_before(&self, a: u8, s: u8) -> u16
-        requires letter { a < self.now.states }
-        requires node { s < node_count self.now }
-        ensures window { result ≡ a * node_count self.now + s }
-        ensures within { result < self.now.states ^ self.now.width }
-        ensures rule { IsRule self.now }
-    {
-        u16::from(a) * self.nodes() + u16::from(s)
-    }
-
-    /// What the rule gives on the window of this value.
-    fn at(&self, window: u16) -> u8
-        requires { window < self.now.states ^ self.now.width }
-        ensures { result ≡ slice_index self.now.table window }
-    {
-        self.rule().at(window)
-    }
-
-    /// The node with which the window of this value begins.
-    fn beginning(&self, window: u16) -> u8
-        requires { window < self.now.states ^ self.now.width }
-        ensures node { result ≡ window / self.now.states }
-        ensures below { result < node_count self.now }
-    {
-        (window / u16::from(self.graph.k())) as u8
     }
 }

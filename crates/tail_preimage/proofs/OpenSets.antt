@@ -9,7 +9,8 @@ use Rattle.word_image.specs.LocalRules.{LocalRule, IsRule, node_count}
 use Rattle.word_image.specs.Graphs.{next}
 use Rattle.word_image.proofs.laws.Graphs.{next-below}
 use Rattle.pair_laws.proofs.Sets.{IsBitSet-below, IsBitSet-and, IsBitSet-apart}
-use Rattle.debruijn.specs.Ends.{IsEnds}
+use Rattle.word_image.specs.Edges.{IsEnds}
+use Rattle.word_image.specs.declared.side.Side.TheVariants.{Right}
 use Rattle.tail_preimage.specs.Walks.{Reaches}
 use Rattle.tail_preimage.specs.Relations.{IsNodeSet, IsRelation, Relates, Edge}
 use Rattle.tail_preimage.specs.FirstWalks.{AreOpen, IsLeastNode}
@@ -63,7 +64,7 @@ open-after {r} {w} {sets} {goal} {n} h inside =
 
 -- where the rest of a word reaches the goal some edge leads into the next set
 pub some_edge_on : {r : LocalRule} {w sets : List ℕ} {goal n v ends : ℕ} → IsRule r → AreOpen r w goal (length w) sets → n < length w → v < node_count r → Reaches r (drop n w) goal v
-    → IsEnds r v (slice_index w n) ends → bit_and ends (slice_index sets (length w - 1 - n)) ≢ 0
+    → IsEnds Right r v (slice_index w n) ends → bit_and ends (slice_index sets (length w - 1 - n)) ≢ 0
 some_edge_on {r} {w} {sets} {goal} {n} {v} {ends} rule h inside node reach e none =
     let split : drop n w ≡ slice_index w n ∷ drop (n + 1) w = drop-first w n inside in
     let (s, below, edge, on) = (Reaches-cons rule (slice_index w n) (drop (n + 1) w) goal v node).0 (subst (λ z. Reaches r z goal v) split reach) in
@@ -81,7 +82,7 @@ next-letter {r} rule u b l =
 
 -- the first walk goes on to the least node of the next set to which an edge with the next label leads, by its last letter
 pub IsLeastBegun-node : {r : LocalRule} {w sets x : List ℕ} {goal u n v ends node : ℕ} → IsRule r → AreOpen r w goal (length w) sets → n < length w → IsLeastBegun r w u goal n v x
-    → IsEnds r v (slice_index w n) ends → IsLeastNode (bit_and ends (slice_index sets (length w - 1 - n))) node → IsLeastBegun r w u goal (n + 1) node (x ++ node % r.states ∷ [])
+    → IsEnds Right r v (slice_index w n) ends → IsLeastNode (bit_and ends (slice_index sets (length w - 1 - n))) node → IsLeastBegun r w u goal (n + 1) node (x ++ node % r.states ∷ [])
 IsLeastBegun-node {r} {w} {sets} {x} {goal} {u} {n} {v} {ends} {node} rule h inside begun e least =
     let set : ℕ = slice_index sets (length w - 1 - n) in
     let after = open-after h inside in

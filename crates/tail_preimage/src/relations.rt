@@ -28,11 +28,7 @@ pub fn edges(graph: &Graph, label: u8) -> Relation
     ensures relation { IsRelation graph.now (Edge graph.now label) result }
     ensures rule { IsRule graph.now }
 {
-    let mut rows = [0; 16];
-    for u in 0..graph.nodes() {
-        rows[usize::from(u)] = graph.ends(u, label);
-    }
-    rows
+    graph.edges()[usize::from(label)]
 }
 
 /// The nodes to which a node of the set is related.

@@ -12,6 +12,7 @@ pub mod Graphs
 pub mod WindowParts
 pub mod Bits
 pub mod Unions
+pub mod Edges
 pub mod LastNodes
 pub mod LastSets
 pub mod RuleFaults

@@ -10,6 +10,7 @@ pub mod Ranks
 pub mod Erasure
 pub mod PairLists
 pub mod Sides
+pub mod Edges
 pub mod RuleFaults
 pub mod RulesBy
 pub mod ImageFaults

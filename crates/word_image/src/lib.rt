@@ -19,6 +19,7 @@
 //! `Weights` has a number for each letter, by which the sums of rings are taken.
 #![tactic(auto)]
 
+mod edges;
 mod images;
 mod letters;
 mod lists;
@@ -28,6 +29,7 @@ mod rings;
 mod side;
 mod weights;
 
+pub use edges::{EdgeRows, edge_rows};
 pub use images::{ImageFault, image};
 pub use letters::{digit, letter, word_text};
 pub use lists::{FluxRow, RankRow, SetList, Word};

@@ -9,8 +9,7 @@ use Rattle.std.proofs.lemmas.Nat.{div-add-mod'}
 use Rattle.std.proofs.lemmas.Nat.Bits.{shr_and_one}
 use Rattle.word_image.proofs.laws.Bits.{bit_at-IsBitSet, IsBitSet-or, IsBitSet-zero}
 use Rattle.pair_laws.proofs.Sets.{IsBitSet-shl}
-use Rattle.word_image.specs.LocalRules.{LocalRule, node_count}
-use Rattle.cert_check.specs.Rows.{HasBit, IsMarked, AreEnds}
+use Rattle.cert_check.specs.Rows.{HasBit, IsMarked}
 
 -- rows with one bit more, as a shift makes it
 pub HasBit-more : (rows : List ℕ) (i v : ℕ) → i < length rows → v < 16 → (j w : ℕ)
@@ -60,22 +59,3 @@ pub HasBit-none : (n i v : ℕ) → ¬ HasBit (replicate n 0) i v
 HasBit-none n i v some =
     let zero_there : slice_index (replicate n 0) i ≡ 0 = ⊎_elim (λ inside. get_or-replicate n i 0 0 inside) (λ past. get_or_past (replicate n 0) i 0 (omega (arith, length-replicate {A = ℕ} n 0))) (cases_lt i n) in
     IsBitSet-zero v (subst (λ a. IsBitSet a v) zero_there some)
-
--- the ends by no window
-pub AreEnds-none : (r : LocalRule) → AreEnds r 0 (replicate 256 0)
-AreEnds-none r i v inside = ((λ some. absurd (HasBit-none 256 i v some)), (λ edge. absurd (omega (arith, edge.1))))
-
--- and by one window more
-pub AreEnds-more : (r : LocalRule) (n : ℕ) (rows : List ℕ) (at to : ℕ) → length rows ≡ 256 → at < 256 → to < 16 → at ≡ 16 * slice_index r.table n + n / r.states → to ≡ n % node_count r
-    → AreEnds r n rows → AreEnds r (n + 1) (slice_set rows at (bit_or (slice_index rows at) (1 * 2 ^ to % 2 ^ 16)))
-AreEnds-more r n rows at to long inside small row bit ends i v below =
-    let more = HasBit-more rows at to (omega arith) small i v in (
-      (λ some. ⊎_elim
-          (λ here. (n, omega arith, here.0 ∙ row, here.1 ∙ bit))
-          (λ old. let (w, first, at_w, to_w) = (ends i v below).0 old in (w, omega (arith, first), at_w, to_w))
-          (more.0 some)),
-      (λ (w, first, at_w, to_w). more.1 (⊎_elim
-          (λ last. inl (at_w ∙ ap (λ x. 16 * slice_index r.table x + x / r.states) last ∙ sym row, to_w ∙ ap (λ x. x % node_count r) last ∙ sym bit))
-          (λ other. inr ((ends i v below).1 (w, omega (arith, first, other), at_w, to_w)))
-          (cases_eq w n))),
-    )

@@ -2,16 +2,15 @@
 use Rattle.std.proofs.Common.{◌≡◌, ℕ, ◌+◌, ◌*◌, ◌/◌, ◌%◌, ◌^◌, ◌<◌, ◌≤◌, ◌↔◌, List, [], ◌∷◌, IsBitSet, slice_index, sym, ap, subst, ◌∙◌, arith, mod-lt, ⊎_elim}
 use Rattle.std.proofs.Math.Nat.{div-le_self}
 use Rattle.std.proofs.lemmas.Bool.{cases_lt}
-use Rattle.std.proofs.lemmas.Nat.{pow_pos, le-div, div_below, div-mul-add, div-add-mod', mul-add-lt}
+use Rattle.std.proofs.lemmas.Nat.{pow_pos, le-div}
 use Rattle.word_image.specs.LocalRules.{LocalRule, IsRule, node_count}
-use Rattle.word_image.specs.Graphs.{next, IsStep}
+use Rattle.word_image.specs.Graphs.{IsStep}
+use Rattle.word_image.specs.Edges.{IsEnds, AreEdgeRows, ends_at}
+use Rattle.word_image.specs.declared.side.Side.TheVariants.{Right}
 use Rattle.word_image.proofs.laws.Bits.{IsBitSet-some}
-use Rattle.word_image.proofs.laws.Graphs.{node_count_pos}
 use Rattle.pair_laws.proofs.Sets.{IsBitSet-below, IsBitSet-shr}
 use Rattle.search_laws.proofs.StepSets.{IsStep-unique}
-use Rattle.word_image.proofs.laws.WindowParts.{some_letter, windows-nodes}
 use Rattle.cert_check.specs.Sets.{LeadsTo}
-use Rattle.cert_check.specs.Rows.{HasBit, AreEnds}
 
 -- a number whose bits are all below n is a set of n nodes
 small_set : (n a : ℕ) → a < 2 ^ 16 → ((i : ℕ) → IsBitSet a i → i < n) → a < 2 ^ n
@@ -26,41 +25,21 @@ small_set n a small within =
     absurd (omega arith))
     (cases_lt a (2 ^ n))
 
--- a window begins with a node
-pub node-below : {r : LocalRule} → IsRule r → (w : ℕ) → w < r.states ^ r.width → w / r.states < node_count r
-node-below {r} rule w l = div_below w r.states (node_count r) (some_letter rule) (omega (arith, windows-nodes rule))
-
 -- the ends of the nodes of a set are its step
-pub IsStep-ends : {r : LocalRule} → IsRule r → (ends : List ℕ) → AreEnds r (r.states ^ r.width) ends → (set a after : ℕ) → a < r.states → after < 2 ^ 16
-    → ((v : ℕ) → v < 16 → (IsBitSet after v ↔ ((u : ℕ) × (u < node_count r) × IsBitSet set u × HasBit ends (16 * a + u) v))) → IsStep r set a after
-IsStep-ends {r} rule ends are set a after letter small made =
-    let most : r.states ≤ 16 = rule.shape.most_states in
-    let few : node_count r ≤ 16 = rule.shape.most_nodes in
+pub IsStep-ends : {r : LocalRule} → IsRule r → (rows : List (List ℕ)) → AreEdgeRows Right r rows → (set a after : ℕ) → a < r.states → after < 2 ^ 16
+    → ((v : ℕ) → v < 16 → (IsBitSet after v ↔ ((u : ℕ) × (u < node_count r) × IsBitSet set u × IsBitSet (ends_at rows a u) v))) → IsStep r set a after
+IsStep-ends {r} rule rows edges set a after letter small made =
+    let ends : (u : ℕ) → u < node_count r → IsEnds Right r u a (ends_at rows a u) = λ u. edges.ends a u (omega (arith, rule.shape.most_states)) in
     record {
       within = small_set (node_count r) after small (λ v some.
           let (u, node, present, bit) = (made v (IsBitSet-below 16 after v small some)).0 some in
-          let (w, first, at_w, to_w) = (are (16 * a + u) v (omega arith)).0 bit in
-          subst (λ x. x < node_count r) (sym to_w) (mod-lt w (node_count_pos rule)));
-      nodes = λ v inside. (
+          IsBitSet-below (node_count r) (ends_at rows a u) v (ends u node).within bit);
+      nodes = λ v inside. let exact = made v (omega (arith, rule.shape.most_nodes)) in (
         (λ some.
-            let (u, node, present, bit) = (made v (omega arith)).0 some in
-            let (w, first, at_w, to_w) = (are (16 * a + u) v (omega arith)).0 bit in
-            let from : w / r.states < node_count r = node-below rule w first in
-            let labelled : a ≡ slice_index r.table w = omega arith in
-            let leaves : u ≡ w / r.states = omega arith in
-            let window : u * r.states + w % r.states ≡ w = ap (λ x. x * r.states + w % r.states) leaves ∙ div-add-mod' w r.states in
-            (u, w % r.states, node, mod-lt w (some_letter rule), present, ap (slice_index r.table) window ∙ sym labelled, ap (λ x. x % node_count r) window ∙ sym to_w)),
-        (λ (u, b, node, in_letters, present, labelled, leads). (made v (omega arith)).1 (
-          u,
-          node,
-          present,
-          (are (16 * a + u) v (omega arith)).1 (
-            u * r.states + b,
-            omega (arith, windows-nodes rule, mul-add-lt u r.states b (node_count r) node in_letters),
-            omega (arith, labelled, div-mul-add u r.states b in_letters),
-            sym leads,
-          ),
-        )),
+            let (u, node, present, bit) = exact.0 some in
+            let (b, in_letters, labelled, leads) = ((ends u node).nodes v inside).0 bit in
+            (u, b, node, in_letters, present, labelled, leads)),
+        (λ (u, b, node, in_letters, present, labelled, leads). exact.1 (u, node, present, ((ends u node).nodes v inside).1 (b, in_letters, labelled, leads))),
       );
     }
 

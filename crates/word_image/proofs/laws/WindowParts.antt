@@ -1,10 +1,14 @@
 -- Windows and nodes taken apart by their values: a window is a node and a letter from either end, and a node's letters are the digits of its number.
-use Rattle.std.proofs.Common.{◌≡◌, ℕ, zero, suc, ◌+◌, ◌-◌, ◌*◌, ◌/◌, ◌%◌, ◌^◌, ◌<◌, ◌≤◌, List, [], ◌∷◌, length, drop, slice_index, sym, ap, ◌∙◌, arith, mod-eq_of_lt, pow-suc, mul_assoc}
+use Rattle.std.proofs.Common.{◌≡◌, ℕ, zero, suc, ◌+◌, ◌-◌, ◌*◌, ◌/◌, ◌%◌, ◌^◌, ◌<◌, ◌≤◌, List, [], ◌∷◌, length, drop, slice_index, sym, ap, ◌∙◌, arith, mod-eq_of_lt, mod-lt, pow-suc, mul_assoc}
 use Rattle.std.proofs.Math.Nat.{mul-add-div_right, mul-add-mod_self_right, one-le-pow, pow-le-pow_right}
-use Rattle.std.proofs.lemmas.Nat.{pow-add, div-mul-add}
+use Rattle.std.proofs.lemmas.Nat.{pow-add, div-mul-add, mod-mul-add, div-add-mod', div_below, mul-add-lt}
 use Rattle.std.proofs.lemmas.List.Elements.{All-head, All-tail}
 use Rattle.word_image.specs.LocalRules.{LocalRule, IsRule, IsWord, value, word_of, node_count}
 use Rattle.word_image.specs.Graphs.{node_letter}
+use Rattle.word_image.specs.Sides.{other, window_with, end_node}
+use Rattle.word_image.specs.declared.side.Side.{Side}
+use Rattle.word_image.specs.declared.side.Side.TheVariants.{Right, Left}
+use Rattle.word_image.proofs.laws.Graphs.{node_count_pos}
 use Rattle.word_image.proofs.laws.Values.{value-below, value-word_of, length-word_of, IsWord-word_of}
 
 -- there are letters
@@ -73,3 +77,23 @@ pub node_letter-digit : (r : LocalRule) (u i j : ℕ) → u < node_count r → i
 node_letter-digit r u i j below e =
     sym (letter-value r.states (word_of r.states (r.width - 1) u) i j (IsWord-word_of r.states (r.width - 1) u below) (e ∙ sym (length-word_of r.states (r.width - 1) u)))
     ∙ ap (λ v. v / r.states ^ j % r.states) (value-word_of r.states (r.width - 1) u below)
+
+-- the window of a node and a letter is one of the windows
+pub window_with-within : (side : Side) {r : LocalRule} → IsRule r → (u a : ℕ) → u < node_count r → a < r.states → window_with side r u a < r.states ^ r.width
+window_with-within Right {r} rule u a node letter = omega (arith, windows-nodes rule, mul-add-lt u r.states a (node_count r) node letter)
+window_with-within Left {r} rule u a node letter = omega (arith, windows-nodes rule, mul-add-lt a (node_count r) u r.states letter node)
+
+-- a window has a node at each end
+pub end_node-below : (side : Side) {r : LocalRule} → IsRule r → (w : ℕ) → w < r.states ^ r.width → end_node side r w < node_count r
+end_node-below Right {r} rule w within = mod-lt w (node_count_pos rule)
+end_node-below Left {r} rule w within = div_below w r.states (node_count r) (some_letter rule) (omega (arith, windows-nodes rule))
+
+-- the node of a window of a node and a letter is that at its other end
+pub end_node-window_with : (side : Side) {r : LocalRule} → IsRule r → (u a : ℕ) → u < node_count r → a < r.states → end_node (other side) r (window_with side r u a) ≡ u
+end_node-window_with Right {r} rule u a node letter = div-mul-add u r.states a letter
+end_node-window_with Left {r} rule u a node letter = mod-mul-add a (node_count r) u node
+
+-- and each window is one of its node there and a letter
+pub window_with-end_node : (side : Side) {r : LocalRule} → IsRule r → (w : ℕ) → w < r.states ^ r.width → (a : ℕ) × (a < r.states) × (window_with side r (end_node (other side) r w) a ≡ w)
+window_with-end_node Right {r} rule w within = (w % r.states, mod-lt w (some_letter rule), div-add-mod' w r.states)
+window_with-end_node Left {r} rule w within = (w / node_count r, div_below w (node_count r) r.states (node_count_pos rule) (omega (arith, windows-nodes rule)), div-add-mod' w (node_count r))

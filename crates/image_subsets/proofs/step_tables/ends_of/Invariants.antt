@@ -1,10 +1,11 @@
 use Rattle.std.proofs.Common.{◌≡◌, ℕ, ◌<◌, length, slice_index}
-use Rattle.debruijn.specs.Ends.{IsEnds}
+use Rattle.word_image.specs.Edges.{IsEnds}
+use Rattle.word_image.specs.declared.side.Side.TheVariants.{Right}
 use Rattle.image_subsets.proofs.step_tables.ends_of.Given as goal
 
 -- the first letters are done
 abbrev pub invariant-loop-a : goal.invariant-loop-a
 invariant-loop-a l = record {
   long : length l.row ≡ 16;
-  ends : (b : ℕ) → b < l.a → IsEnds l.graph l.u b (slice_index l.row b);
+  ends : (b : ℕ) → b < l.a → IsEnds Right l.graph l.u b (slice_index l.row b);
 }

@@ -1,7 +1,8 @@
 use Rattle.std.proofs.Common.{◌≡◌, ℕ, ◌+◌, slice_index, refl, ap, ◌∙◌, subst, arith}
 use Rattle.word_image.specs.LocalRules.{LocalRule, node_count}
 use Rattle.word_image.specs.Graphs.{next, label}
-use Rattle.debruijn.specs.Ends.{IsEnds}
+use Rattle.word_image.specs.Edges.{IsEnds}
+use Rattle.word_image.specs.declared.side.Side.TheVariants.{Right}
 use Rattle.least_walk.proofs.MarkedRows.{fresh-with_mark, fresh-without}
 use Rattle.least_walk.proofs.marks.fresh.Goals as goal
 
@@ -21,8 +22,8 @@ pub overflow_shl-same : goal.overflow_shl-same
 overflow_shl-same c = omega (arith, c.requires.rule.shape.most_states)
 
 -- the ends that the code looks up
-ends_of : (r g : LocalRule) (u v a l ends : ℕ) → g ≡ r → l ≡ label g u a → IsEnds g v l ends → IsEnds r v (label r u a) ends
-ends_of r g u v a l ends same labelled h = subst (λ (z : LocalRule). IsEnds z v (label z u a) ends) same (subst (λ x. IsEnds g v x ends) labelled h)
+ends_of : (r g : LocalRule) (u v a l ends : ℕ) → g ≡ r → l ≡ label g u a → IsEnds Right g v l ends → IsEnds Right r v (label r u a) ends
+ends_of r g u v a l ends same labelled h = subst (λ (z : LocalRule). IsEnds Right z v (label z u a) ends) same (subst (λ x. IsEnds Right g v x ends) labelled h)
 
 pub returns-then-from-eq1 : goal.returns-then-from-eq1
 returns-then-from-eq1 c t b q of letter old step =

@@ -1,15 +1,11 @@
-use Rattle.std.proofs.Common.{refl, arith}
-use Rattle.tail_preimage.specs.Relations.{Edge}
-use Rattle.tail_preimage.proofs.Rows.{AreRowsFilled-none, AreRowsFilled-more, AreRowsFilled-all}
+use Rattle.std.proofs.Common.{ℕ, sym, subst, arith}
+use Rattle.tail_preimage.specs.Relations.{IsNodeSet, IsRelation, Edge}
+use Rattle.word_image.specs.Edges.{ends_at}
 use Rattle.tail_preimage.proofs.relations.edges.Goals as goal
 
-pub loop-u-init : goal.loop-u-init
-loop-u-init c = AreRowsFilled-none c.args.graph.now (Edge c.args.graph.now c.args.label) _ refl
-
-pub loop-u-preserved : goal.loop-u-preserved
-loop-u-preserved c =
-    let ends = c.ends.ensures in
-    AreRowsFilled-more c.from.result c.nodes-u-end.ensures.rule (omega arith) c.from.ensures c.loop-u.invariant (record { within = ends.within; nodes = ends.nodes })
-
 pub returns-clause-relation : goal.returns-clause-relation
-returns-clause-relation c = AreRowsFilled-all (omega arith) c.loop-u.invariant
+returns-clause-relation c = record {
+  rows = λ u node.
+      let ends = c.edges.ensures.edges.ends c.args.label u (omega (arith, c.edges.ensures.rule.shape.most_states, c.requires)) node in
+      subst (λ i. IsNodeSet c.args.graph.now (Edge c.args.graph.now c.args.label u) (ends_at c.edges.result.now i u)) (sym c.from.ensures) (record { within = ends.within; nodes = ends.nodes });
+}

@@ -1,7 +1,8 @@
 use Rattle.std.proofs.Common.{◌≡◌, ◌+◌, ◌-◌, ◌%◌, ◌<◌, [], ◌∷◌, ◌++◌, length, slice_index, bit_and, sym, ◌∙◌, ap, subst, arith}
 use Rattle.std.proofs.lemmas.List.{get_or_default}
 use Rattle.word_image.specs.LocalRules.{LocalRule, IsRule, node_count}
-use Rattle.debruijn.specs.Ends.{IsEnds}
+use Rattle.word_image.specs.Edges.{IsEnds}
+use Rattle.word_image.specs.declared.side.Side.TheVariants.{Right}
 use Rattle.tail_preimage.specs.FirstWalks.{AreOpen, IsLeastNode}
 use Rattle.tail_preimage.proofs.laws.Walks.{IsWalk-none, IsWalk-last}
 use Rattle.tail_preimage.proofs.laws.LeastWalks.{IsLeastBegun, IsLeastBegun-start, IsLeastBegun-end}
@@ -27,7 +28,7 @@ least_node-node-requires c =
     let place = length w - 1 - n in
     let rule : IsRule r = subst (λ (q : LocalRule). IsRule q) c.of-graph.ensures c.k-k.ensures.rule in
     let all : AreOpen r w c.args.goal (length w) sets = subst (λ (q : LocalRule). AreOpen q w c.args.goal (length w) sets) c.of-graph.ensures c.in_ok-sets.ensures in
-    let ends : IsEnds r c.loop-n.node (slice_index w n) c.ends.result = subst (λ (q : LocalRule). IsEnds q c.loop-n.node (slice_index w n) c.ends.result) c.of-graph.ensures c.ends.ensures in
+    let ends : IsEnds Right r c.loop-n.node (slice_index w n) c.ends.result = subst (λ (q : LocalRule). IsEnds Right q c.loop-n.node (slice_index w n) c.ends.result) c.of-graph.ensures c.ends.ensures in
     let set : c.index.result.now ≡ slice_index sets place = c.index.ensures ∙ get_or_default sets place c.index.result.now 0 (omega (arith, all.long)) in
     λ none. some_edge_on rule all c.loop-n-test.true (IsWalk-last c.loop-n.invariant.walk) c.loop-n.invariant.open_still ends (ap (bit_and c.ends.result) (sym set) ∙ none)
 
@@ -41,7 +42,7 @@ loop-n-preserved c =
     let place = length w - 1 - n in
     let rule : IsRule r = subst (λ (q : LocalRule). IsRule q) c.of-graph.ensures c.k-k.ensures.rule in
     let all : AreOpen r w c.args.goal (length w) sets = subst (λ (q : LocalRule). AreOpen q w c.args.goal (length w) sets) c.of-graph.ensures c.in_ok-sets.ensures in
-    let ends : IsEnds r c.loop-n.node (slice_index w n) c.ends.result = subst (λ (q : LocalRule). IsEnds q c.loop-n.node (slice_index w n) c.ends.result) c.of-graph.ensures c.ends.ensures in
+    let ends : IsEnds Right r c.loop-n.node (slice_index w n) c.ends.result = subst (λ (q : LocalRule). IsEnds Right q c.loop-n.node (slice_index w n) c.ends.result) c.of-graph.ensures c.ends.ensures in
     let set : c.index.result.now ≡ slice_index sets place = c.index.ensures ∙ get_or_default sets place c.index.result.now 0 (omega (arith, all.long)) in
     let least : IsLeastNode (bit_and c.ends.result (slice_index sets place)) node = subst (λ k. IsLeastNode (bit_and c.ends.result k) node) set c.least_node-node.ensures in
     let states : c.k-k.result ≡ r.states = c.k-k.ensures.states ∙ ap (λ (q : LocalRule). q.states) c.of-graph.ensures in

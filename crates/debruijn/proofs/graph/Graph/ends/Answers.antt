@@ -1,19 +1,13 @@
-use Rattle.std.proofs.Common.{◌≡◌, [], get_or, sym, ap, ◌∙◌, subst, arith}
-use Rattle.debruijn.specs.Ends.{IsEnds}
-use Rattle.debruijn.specs.Storage.{ends_rows}
-use Rattle.word_image.specs.LocalRules.{IsRule}
-use Rattle.debruijn.proofs.Ends.{IsEnds-ends_by, ends_rows-at}
+use Rattle.std.proofs.Common.{[], slice_index, slice_index_or, ap, ap₂, sym, ◌∙◌, subst, subst₂, arith}
+use Rattle.word_image.specs.LocalRules.{LocalRule, IsRule}
+use Rattle.word_image.specs.Edges.{IsEnds, AreEdgeRows, ends_at}
+use Rattle.word_image.specs.declared.side.Side.TheVariants.{Right}
 use Rattle.debruijn.proofs.graph.Graph.ends.Goals as goal
 
 pub returns : goal.returns
 returns c =
     let r = c.args.self.now in
-    let u = c.args.u in
-    let label = c.args.label in
     let rule = subst IsRule c.self.view_is c.self.invariant.0 in
-    let rows : c.self.inside.ends ≡ ends_rows r = c.self.invariant.2 ∙ ap ends_rows c.self.view_is in
-    let found = ap (λ t. get_or (get_or t c.from.result []) c.from-2.result 0) rows
-    ∙ ap (λ i. get_or (get_or (ends_rows r) i []) c.from-2.result 0) c.from.ensures
-    ∙ ap (λ i. get_or (get_or (ends_rows r) u []) i 0) c.from-2.ensures
-    ∙ ends_rows-at r u label c.requires.node (omega (arith, rule.shape.most_nodes)) (omega (arith, rule.shape.most_states)) in
-    subst (IsEnds r u label) (sym found) (IsEnds-ends_by rule u label)
+    let edges = subst (λ (g : LocalRule). AreEdgeRows Right g c.self.inside.ends) c.self.view_is c.self.invariant.2 in
+    let ends = edges.ends c.args.label c.args.u (omega (arith, rule.shape.most_states, c.requires.label)) c.requires.node in
+    subst₂ (λ i j. IsEnds Right r c.args.u c.args.label (ends_at c.self.inside.ends i j)) (sym c.from.ensures) (sym c.from-2.ensures) ends
