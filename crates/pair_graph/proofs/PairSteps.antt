@@ -8,7 +8,6 @@ use Rattle.std.proofs.lemmas.Nat.{div-mul-add, mod-mul-add, div-add-mod', div_be
 use Rattle.word_image.specs.LocalRules.{LocalRule, IsRule, node_count}
 use Rattle.word_image.specs.Graphs.{first_of, second_of, pair_of, pair_count}
 use Rattle.word_image.proofs.laws.Bits.{bit_at-IsBitSet}
-use Rattle.word_image.proofs.laws.Graphs.{next-below}
 use Rattle.word_image.proofs.laws.WindowParts.{window_with-within, end_node-below}
 use Rattle.pair_laws.proofs.Pairs.{first_of-pair_of, second_of-pair_of, pair_of-below, first_of-below, second_of-below, follow-edges, follow-some}
 use Rattle.pair_laws.proofs.Sets.{IsBitSet-and, IsBitSet-below, IsBitSet-minus, IsBitSet-shl}
@@ -18,7 +17,7 @@ use Rattle.word_image.specs.Sides.{window_with}
 use Rattle.word_image.specs.Edges.{AreEdgeRows, label_at, end_at}
 use Rattle.pair_graph.specs.PairSets.{holds, truths, AreRows, LettersLead, LeadsInto, IsTrimmedSet, AreNodesKept, GoesOn}
 use Rattle.pair_graph.specs.PairRows.{holds_bit, length-truths, same_roots}
-use Rattle.pair_graph.proofs.BackSteps.{window_before, window_before-below, LeadsBack-windows, led_back}
+use Rattle.pair_graph.proofs.BackSteps.{window_before, LeadsBack-windows, led_back}
 
 -- a test of a bit
 tests_bit : (a i : ℕ) → IsTrue (bit_at a i == 1) ↔ IsBitSet a i

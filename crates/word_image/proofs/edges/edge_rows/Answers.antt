@@ -1,6 +1,6 @@
-use Rattle.std.proofs.Common.{◌≡◌, ℕ, ◌*◌, ◌^◌, ◌%◌, ◌<◌, ap, ◌∙◌, subst, arith}
+use Rattle.std.proofs.Common.{◌*◌, ◌^◌, ◌%◌, ap, ◌∙◌, subst, arith}
 use Rattle.std.proofs.lemmas.Nat.{one_shl}
-use Rattle.word_image.specs.Sides.{other, end_node}
+use Rattle.word_image.specs.Sides.{end_node}
 use Rattle.word_image.proofs.laws.Edges.{HaveEdges, HaveEdges-none, HaveEdges-more, AreEdgeRows-all}
 use Rattle.word_image.proofs.edges.edge_rows.Goals as goal
 

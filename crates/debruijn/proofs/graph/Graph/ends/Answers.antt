@@ -1,4 +1,4 @@
-use Rattle.std.proofs.Common.{[], slice_index, slice_index_or, ap, ap₂, sym, ◌∙◌, subst, subst₂, arith}
+use Rattle.std.proofs.Common.{sym, subst, subst₂, arith}
 use Rattle.word_image.specs.LocalRules.{LocalRule, IsRule}
 use Rattle.word_image.specs.Edges.{IsEnds, AreEdgeRows, ends_at}
 use Rattle.word_image.specs.declared.side.Side.TheVariants.{Right}
