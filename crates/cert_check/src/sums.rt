@@ -1,6 +1,6 @@
 //! A flux that balances, or a ring that loses.
 
-ghost use Rattle.std.specs.Prelude.{◌≡◌, ◌↔◌, ◌/◌, ◌^◌, ◌<◌, length, slice_index, IsTrue};
+ghost use Rattle.std.specs.Prelude.{◌≡◌, ◌↔◌, ◌^◌, ◌<◌, length, slice_index, IsTrue};
 ghost use Rattle.word_image.specs.LocalRules.{node_count, word_of};
 ghost use Rattle.cert_check.specs.Checks.{IsChecked, FirstBreach};
 ghost use Rattle.cert_check.specs.Sums.{Flows};
@@ -8,7 +8,7 @@ ghost use Rattle.cert_check.specs.Sums.{Flows};
 use crate::conditions::Condition;
 use crate::refusal::Refusal;
 use cert_format::{Cert, SumPart};
-use word_image::{Rule, Weights, keeps_sum};
+use word_image::{Rule, Side, Weights, keeps_sum};
 
 /// Whether the flux balances what each window gains; else the least window that it doesn't.
 pub fn flux_flows(cert: &Cert) -> Result<(), Refusal>
@@ -58,19 +58,9 @@ fn flows(rule: &Rule, weights: &Weights, flux: &[i32], window: u16) -> bool
     requires window { window < rule.now.states ^ rule.now.width }
     ensures { IsTrue result ↔ Flows (slice_index weights.now) rule.now flux.now (word_of rule.now.states rule.now.width window) }
 {
-    let (k, nodes) = (u16::from(rule.k()), u16::from(rule.nodes()));
     let gain = i64::from(weights.at(rule.at(window)))
-        - i64::from(weights.at(first_letter(rule, window)));
-    let first = i64::from(flux[usize::from(window / k)]);
-    let last = i64::from(flux[usize::from(window % nodes)]);
+        - i64::from(weights.at(Side::Left.end_letter(rule, window)));
+    let first = i64::from(flux[usize::from(Side::Left.end_node(rule, window))]);
+    let last = i64::from(flux[usize::from(Side::Right.end_node(rule, window))]);
     gain == first - last
-}
-
-/// The first letter of the window of this value.
-fn first_letter(rule: &Rule, window: u16) -> u8
-    requires { window < rule.now.states ^ rule.now.width }
-    ensures letter { result ≡ window / node_count rule.now }
-    ensures below { result < rule.now.states }
-{
-    (window / u16::from(rule.nodes())) as u8
 }

@@ -12,15 +12,12 @@ use word_image::{EdgeRows, Rule, Side, edge_rows};
 pub struct Graph {
     // The rule. Its table has the label of each edge, node by node and letter by letter.
     rule: Rule,
-    // How many nodes there are.
-    nodes: u8,
     // For each label and node the set of the nodes where edges with that label lead from it.
     ends: EdgeRows,
 }
 
 impl Model for Graph {
-    ghost use Rattle.std.specs.Prelude.{◌≡◌};
-    ghost use Rattle.word_image.specs.LocalRules.{LocalRule, IsRule, node_count};
+    ghost use Rattle.word_image.specs.LocalRules.{LocalRule, IsRule};
     ghost use Rattle.word_image.specs.Edges.{AreEdgeRows};
     ghost use Rattle.word_image.specs.declared.side.Side.TheVariants.{Right};
 
@@ -28,7 +25,7 @@ impl Model for Graph {
 
     ghost view = { λ g. g.rule };
 
-    ghost invariant = { λ g. IsRule g.rule × (g.nodes ≡ node_count g.rule) × AreEdgeRows Right g.rule g.ends };
+    ghost invariant = { λ g. IsRule g.rule × AreEdgeRows Right g.rule g.ends };
 }
 
 impl Graph {
@@ -41,7 +38,6 @@ impl Graph {
     {
         Graph {
             rule: *rule,
-            nodes: rule.nodes(),
             ends: edge_rows(rule, Side::Right),
         }
     }
@@ -66,7 +62,7 @@ impl Graph {
         ensures nodes { result ≡ node_count self.now }
         ensures rule { IsRule self.now }
     {
-        self.nodes
+        self.rule.nodes()
     }
 
     /// The node to which letter a leads from node u.
@@ -76,7 +72,7 @@ impl Graph {
         ensures node { result ≡ next self.now u a }
         ensures below { result < node_count self.now }
     {
-        (Side::Right.window_with(&self.rule, u, a) % u16::from(self.nodes)) as u8
+        Side::Right.end_node(&self.rule, Side::Right.window_with(&self.rule, u, a))
     }
 
     /// What the rule gives on the window of node u and letter a.

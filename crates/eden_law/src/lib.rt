@@ -30,7 +30,6 @@
 #![tactic(auto)]
 
 mod erased;
-mod nodes;
 mod reached_pairs;
 mod surjective;
 

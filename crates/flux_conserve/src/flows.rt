@@ -1,11 +1,11 @@
 //! What the windows gain along the walks to node 0, and whether that is a flux.
-ghost use Rattle.std.specs.Prelude.{◌≡◌, ◌-◌, ◌/◌, ◌^◌, ◌<◌, ◌↔◌, ◌≤ℤ◌, length, slice_index, IsTrue, pos, negsuc, ◌++◌, replicate};
+ghost use Rattle.std.specs.Prelude.{◌≡◌, ◌-◌, ◌^◌, ◌<◌, ◌↔◌, ◌≤ℤ◌, length, slice_index, IsTrue, pos, negsuc, ◌++◌, replicate};
 ghost use Rattle.word_image.specs.LocalRules.{node_count};
 ghost use Rattle.word_image.specs.Rings.{IsFlux};
 ghost use Rattle.ring_laws.proofs.FluxWalks.{walk_gain, walk_gains};
 ghost use Rattle.ring_laws.proofs.FluxWindows.{window_gain, FlowsAt};
 
-use word_image::{MOST_NODES, Rule, Weights};
+use word_image::{MOST_NODES, Rule, Side, Weights};
 
 /// What the walk from each node gains that reads m - 1 letters 0, and zeros after the last node.
 pub(crate) fn walk_flows(rule: &Rule, weights: &Weights) -> [i32; MOST_NODES]
@@ -25,12 +25,12 @@ fn walk_flow(rule: &Rule, weights: &Weights, node: u8) -> i32
     requires node { node < node_count rule.now }
     ensures { result ≡ walk_gain (slice_index weights.now) rule.now node }
 {
-    let mut node = u16::from(node);
+    let mut node = node;
     let mut flow = 0;
     for _ in 1..rule.m() {
-        let window = node * u16::from(rule.k());
+        let window = Side::Right.window_with(rule, node, 0);
         flow += window_flow(rule, weights, window);
-        node = window % u16::from(rule.nodes());
+        node = Side::Right.end_node(rule, window);
     }
     flow
 }
@@ -44,16 +44,7 @@ fn window_flow(rule: &Rule, weights: &Weights, window: u16) -> i32
     ensures least { negsuc 254 ≤ℤ result }
     ensures most { result ≤ℤ pos 255 }
 {
-    i32::from(weights.at(rule.at(window))) - i32::from(weights.at(first_letter(rule, window)))
-}
-
-/// The first letter of the window of this value.
-fn first_letter(rule: &Rule, window: u16) -> u8
-    requires { window < rule.now.states ^ rule.now.width }
-    ensures letter { result ≡ window / node_count rule.now }
-    ensures below { result < rule.now.states }
-{
-    (window / u16::from(rule.nodes())) as u8
+    i32::from(weights.at(rule.at(window))) - i32::from(weights.at(Side::Left.end_letter(rule, window)))
 }
 
 /// Whether the numbers of the nodes are a flux.
@@ -77,7 +68,7 @@ fn flows(rule: &Rule, weights: &Weights, numbers: &[i32], window: u16) -> bool
     requires window { window < rule.now.states ^ rule.now.width }
     ensures { IsTrue result ↔ FlowsAt (slice_index weights.now) rule.now numbers.now window }
 {
-    let first = numbers[usize::from(window / u16::from(rule.k()))];
-    let last = numbers[usize::from(window % u16::from(rule.nodes()))];
+    let first = numbers[usize::from(Side::Left.end_node(rule, window))];
+    let last = numbers[usize::from(Side::Right.end_node(rule, window))];
     i64::from(window_flow(rule, weights, window)) == i64::from(first) - i64::from(last)
 }

@@ -35,13 +35,12 @@ pub fn parts_of(pairs: &Pairs, t: u16) -> Parts
     ensures rule { IsRule pairs.now }
 {
     let count = pairs.count();
-    let nodes = u16::from(pairs.graph().nodes());
-    let p = t % count;
+    let (first, second) = pairs.rule().nodes_of(t % count);
     Parts {
         pair: t,
         mark: (t / count) as u8,
-        first: (p / nodes) as u8,
-        second: (p % nodes) as u8,
+        first,
+        second,
     }
 }
 
@@ -53,9 +52,8 @@ fn with_parts(pairs: &Pairs, mark: u8, first: u8, second: u8) -> Parts
     ensures pair { result.pair ≡ mark * pair_count pairs.now + pair_of pairs.now first second }
     ensures marked { IsMarkedPair pairs.now result }
 {
-    let nodes = u16::from(pairs.graph().nodes());
     Parts {
-        pair: u16::from(mark) * (nodes * nodes) + (u16::from(first) * nodes + u16::from(second)),
+        pair: u16::from(mark) * pairs.count() + pairs.rule().pair_of(first, second),
         mark,
         first,
         second,

@@ -83,8 +83,7 @@ impl Pairs {
         ensures count { result ≡ pair_count self.now }
         ensures rule { IsRule self.now }
     {
-        let nodes = self.nodes();
-        nodes * nodes
+        self.rule().pairs()
     }
 
     /// The pair to which the letters a and b lead from the nodes of p; `None` exactly where the labels
@@ -96,11 +95,11 @@ impl Pairs {
         ensures pair { result ≡ follow self.now p a b }
         ensures below { IfSome result (λ q. q < pair_count self.now) }
     {
-        let (u, v) = (self.first(p), self.second(p));
+        let (u, v) = self.rule().nodes_of(p);
         if self.graph.label(u, a) != self.graph.label(v, b) {
             return None;
         }
-        Some(self.pair_of(self.graph.next(u, a), self.graph.next(v, b)))
+        Some(self.rule().pair_of(self.graph.next(u, a), self.graph.next(v, b)))
     }
 
     /// The pair whose nodes begin with the letters a and b, and from which an edge each leads to the
@@ -112,12 +111,13 @@ impl Pairs {
         ensures exactly { (p : ℕ) → (result ≡ Some p) ↔ LeadsBack self.now q a b p }
     {
         let rule = self.rule();
-        let first = Side::Left.window_with(rule, self.first(q), a);
-        let second = Side::Left.window_with(rule, self.second(q), b);
+        let (s, t) = rule.nodes_of(q);
+        let first = Side::Left.window_with(rule, s, a);
+        let second = Side::Left.window_with(rule, t, b);
         if rule.at(first) != rule.at(second) {
             return None;
         }
-        Some(self.pair_of(Side::Left.end_node(rule, first), Side::Left.end_node(rule, second)))
+        Some(rule.pair_of(Side::Left.end_node(rule, first), Side::Left.end_node(rule, second)))
     }
 
     /// The pair to which the letters a and b lead from p: forward by `follow`, and backward by `back`.
@@ -150,41 +150,5 @@ impl Pairs {
         } else {
             Some(q)
         }
-    }
-
-    /// How many nodes there are.
-    fn nodes(&self) -> u16
-        ensures nodes { result ≡ node_count self.now }
-        ensures rule { IsRule self.now }
-    {
-        u16::from(self.graph.nodes())
-    }
-
-    /// The first node of a pair.
-    fn first(&self, p: u16) -> u8
-        requires { p < pair_count self.now }
-        ensures node { result ≡ first_of self.now p }
-        ensures below { result < node_count self.now }
-        ensures rule { IsRule self.now }
-    {
-        (p / self.nodes()) as u8
-    }
-
-    /// The second node of a pair.
-    fn second(&self, p: u16) -> u8
-        ensures node { result ≡ second_of self.now p }
-        ensures below { result < node_count self.now }
-    {
-        (p % self.nodes()) as u8
-    }
-
-    /// The pair of two nodes.
-    fn pair_of(&self, u: u8, v: u8) -> u16
-        requires first { u < node_count self.now }
-        requires second { v < node_count self.now }
-        ensures pair { result ≡ pair_of self.now u v }
-        ensures below { result < pair_count self.now }
-    {
-        u16::from(u) * self.nodes() + u16::from(v)
     }
 }

@@ -27,6 +27,11 @@ abbrev pub end_node : Side → LocalRule → ℕ → ℕ
 end_node Right r w = w % node_count r
 end_node Left r w = w / r.states
 
+-- the window's letter at its end on this side
+abbrev pub end_letter : Side → LocalRule → ℕ → ℕ
+end_letter Right r w = w % r.states
+end_letter Left r w = w / node_count r
+
 -- two nodes go on together for n: to the right they begin together, and to the left they end together
 abbrev pub Together : Side → LocalRule → ℕ → ℕ → ℕ → Type 0
 Together Right = BeginTogether

@@ -1,5 +1,6 @@
 //! The edges of the de Bruijn graph as rows of sets of nodes.
 
+ghost use Rattle.word_image.specs.LocalRules.{IsRule};
 ghost use Rattle.word_image.specs.Edges.{AreEdgeRows};
 
 use crate::local_rule::{MOST_NODES, MOST_STATES, Rule};
@@ -12,7 +13,8 @@ pub type EdgeRows = [[u16; MOST_NODES]; MOST_STATES];
 /// The edges of the rule's de Bruijn graph, read to this side: along them to the right, and against
 /// them to the left.
 pub fn edge_rows(rule: &Rule, side: Side) -> EdgeRows
-    ensures { AreEdgeRows side rule.now result }
+    ensures edges { AreEdgeRows side rule.now result }
+    ensures rule { IsRule rule.now }
 {
     let mut ends = [[0; MOST_NODES]; MOST_STATES];
     for window in 0..rule.size() {

@@ -1,9 +1,9 @@
 //! A rule, and what it gives on a window.
-ghost use Rattle.std.specs.Prelude.{◌≡◌, ℕ, ◌-◌, ◌^◌, ◌<◌, ◌≤◌, ◌↔◌, List, length, reverse, nat_le, position, slice_index, IfOk, IfSome, IsOk, IsTrue};
+ghost use Rattle.std.specs.Prelude.{◌≡◌, ℕ, ◌-◌, ◌^◌, ◌<◌, ◌≤◌, ◌↔◌, List, length, reverse, ℤ, nat_le, position, slice_index, IfOk, IfSome, IsOk, IsTrue};
 ghost use Rattle.std.specs.Cmp.Rules.{comparing};
 ghost use Rattle.std.proofs.Common.{rules};
 ghost use Rattle.std.specs.Result.{result_err};
-ghost use Rattle.word_image.specs.LocalRules.{IsWord, value, word_of};
+ghost use Rattle.word_image.specs.LocalRules.{IsShape, IsWord, value, word_of};
 ghost use Rattle.word_image.specs.SameRules.{same_rule};
 ghost use Rattle.word_image.specs.RuleFaults.{shape_fault, table_fault};
 ghost use Rattle.word_image.specs.Storage.{padded};
@@ -51,13 +51,16 @@ pub struct Rule {
     m: u8,
     // Where the window of cell 0 begins.
     o: i8,
+    // How many nodes there are: words of m - 1 letters.
+    nodes: u8,
     // The letters of the table, and zeros after them.
     entries: [u8; MOST_ENTRIES],
 }
 
 impl Model for Rule {
     ghost use Rattle.std.specs.Prelude.{◌≡◌, ◌^◌, ◌-◌, length, take, drop, replicate};
-    ghost use Rattle.word_image.specs.LocalRules.{LocalRule, IsRule};
+    ghost use Rattle.std.proofs.Common.{sym};
+    ghost use Rattle.word_image.specs.LocalRules.{LocalRule, IsRule, node_count};
     ghost use Rattle.word_image.specs.Storage.{padded, in_row-take};
 
     ghost Value = { LocalRule };
@@ -65,14 +68,15 @@ impl Model for Rule {
     ghost view = { λ r. record { states = r.k; width = r.m; offset = r.o; table = take (r.k ^ r.m) r.entries } };
 
     ghost invariant = { λ r. IsRule (record { states = r.k; width = r.m; offset = r.o; table = take (r.k ^ r.m) r.entries })
-        × (drop (r.k ^ r.m) r.entries ≡ replicate (256 - r.k ^ r.m) 0) };
+        × (drop (r.k ^ r.m) r.entries ≡ replicate (256 - r.k ^ r.m) 0) × (r.nodes ≡ r.k ^ (r.m - 1)) };
 
-    ghost inverse = { λ v. record { k = v.states; m = v.width; o = v.offset; entries = padded v.table } };
+    ghost inverse = { λ v. record { k = v.states; m = v.width; o = v.offset; nodes = node_count v; entries = padded v.table } };
 
     ghost inverse_ok = { λ r h i. record {
       k = r.k;
       m = r.m;
       o = r.o;
+      nodes = sym h.2 i;
       entries = in_row-take 256 (r.k ^ r.m) r.entries h.0.entries h.1 i;
     } };
 }
@@ -97,6 +101,7 @@ impl Rule {
             k,
             m,
             o,
+            nodes: node_count(k, m),
             entries: in_memory(table),
         })
     }
@@ -111,7 +116,13 @@ impl Rule {
         for window in 0..u16::from(k).pow(u32::from(m)) {
             entries[usize::from(window)] = letter(window);
         }
-        Rule { k, m, o, entries }
+        Rule {
+            k,
+            m,
+            o,
+            nodes: node_count(k, m),
+            entries,
+        }
     }
 
     /// The number of states k, from 2 to 16.
@@ -151,7 +162,7 @@ impl Rule {
         ensures nodes { result ≡ node_count self.now }
         ensures rule { IsRule self.now }
     {
-        self.k.pow(u32::from(self.m - 1))
+        self.nodes
     }
 
     /// The table: the letter for each window, in the order of the values of the windows.
@@ -239,6 +250,14 @@ fn in_memory(table: &[u8]) -> [u8; MOST_ENTRIES]
     let mut entries = [0; MOST_ENTRIES];
     entries[..table.len()].copy_from_slice(table);
     entries
+}
+
+/// How many words of m - 1 letters there are, for a shape that is accepted.
+fn node_count(k: u8, m: u8) -> u8
+    requires { (o : ℤ) × IsShape k m o }
+    ensures { result ≡ k ^ (m - 1) }
+{
+    k.pow(u32::from(m - 1))
 }
 
 /// Whether a rule may have k states, width m and offset o; else the first of `States`, `Width`,

@@ -2,7 +2,7 @@
 
 ghost use Rattle.std.specs.Prelude.{◌≡◌, ◌^◌, ◌<◌};
 ghost use Rattle.word_image.specs.LocalRules.{IsRule, node_count};
-ghost use Rattle.word_image.specs.Sides.{other, window_with, end_node};
+ghost use Rattle.word_image.specs.Sides.{other, window_with, end_node, end_letter};
 
 use crate::local_rule::Rule;
 
@@ -49,6 +49,17 @@ impl Side {
         match self {
             Side::Right => (window % u16::from(rule.nodes())) as u8,
             Side::Left => (window / u16::from(rule.k())) as u8,
+        }
+    }
+    /// The letter of a window at its end on this side.
+    pub fn end_letter(self, rule: &Rule, window: u16) -> u8
+        requires { window < rule.now.states ^ rule.now.width }
+        ensures value { result ≡ end_letter self rule.now window }
+        ensures letter { result < rule.now.states }
+    {
+        match self {
+            Side::Right => (window % u16::from(rule.k())) as u8,
+            Side::Left => (window / u16::from(rule.nodes())) as u8,
         }
     }
 }

@@ -6,12 +6,12 @@ use Rattle.std.proofs.lemmas.Grind.{get_or-set_at}
 use Rattle.std.proofs.lemmas.Nat.{pow_pos}
 use Rattle.std.proofs.Math.Pow.{pow-lt}
 use Rattle.word_image.specs.LocalRules.{LocalRule, IsRule, node_count}
-use Rattle.word_image.specs.Sides.{other, window_with, end_node}
+use Rattle.word_image.specs.Sides.{other, window_with, end_node, end_letter}
 use Rattle.word_image.specs.Edges.{AreEdgeRows, ends_at}
 use Rattle.word_image.specs.declared.side.Side.{Side}
 use Rattle.word_image.proofs.laws.Bits.{IsBitSet-pow, IsBitSet-some, IsBitSet-zero}
 use Rattle.word_image.proofs.laws.Unions.{IsUnion, IsUnion-skip, IsUnion-take}
-use Rattle.word_image.proofs.laws.WindowParts.{window_with-within, end_node-below, end_node-window_with, window_with-end_node}
+use Rattle.word_image.proofs.laws.WindowParts.{window_with-within, end_node-below, end_node-window_with, end_letter-below, window_with-ends}
 
 -- window w is an edge from node u to node v with this label
 abbrev pub IsEdge : Side → LocalRule → ℕ → ℕ → ℕ → ℕ → Type 0
@@ -89,9 +89,9 @@ AreEdgeRows-all {side} {r} {rows} rule h = record {
         nodes = λ v inside. (
           (λ some.
               let (w, within, (labelled, leaves, arrives)) = (union.nodes v inside).0 some in
-              let (a, letter, window) = window_with-end_node side rule w within in
-              let same : window_with side r u a ≡ w = ap (λ x. window_with side r x a) (sym leaves) ∙ window in
-              (a, letter, ap (slice_index r.table) same ∙ labelled, ap (end_node side r) same ∙ arrives)),
+              let a = end_letter side r w in
+              let same : window_with side r u a ≡ w = ap (λ x. window_with side r x a) (sym leaves) ∙ window_with-ends side r w in
+              (a, end_letter-below side rule w within, ap (slice_index r.table) same ∙ labelled, ap (end_node side r) same ∙ arrives)),
           (λ (a, letter, labelled, arrives). (union.nodes v inside).1
               (window_with side r u a, window_with-within side rule u a node letter, (labelled, end_node-window_with side rule u a node letter, arrives))),
         );

@@ -5,7 +5,7 @@ use Rattle.std.proofs.lemmas.Nat.{pow-add, div-mul-add, mod-mul-add, div-add-mod
 use Rattle.std.proofs.lemmas.List.Elements.{All-head, All-tail}
 use Rattle.word_image.specs.LocalRules.{LocalRule, IsRule, IsWord, value, word_of, node_count}
 use Rattle.word_image.specs.Graphs.{node_letter}
-use Rattle.word_image.specs.Sides.{other, window_with, end_node}
+use Rattle.word_image.specs.Sides.{other, window_with, end_node, end_letter}
 use Rattle.word_image.specs.declared.side.Side.{Side}
 use Rattle.word_image.specs.declared.side.Side.TheVariants.{Right, Left}
 use Rattle.word_image.proofs.laws.Graphs.{node_count_pos}
@@ -93,7 +93,12 @@ pub end_node-window_with : (side : Side) {r : LocalRule} → IsRule r → (u a :
 end_node-window_with Right {r} rule u a node letter = div-mul-add u r.states a letter
 end_node-window_with Left {r} rule u a node letter = mod-mul-add a (node_count r) u node
 
--- and each window is one of its node there and a letter
-pub window_with-end_node : (side : Side) {r : LocalRule} → IsRule r → (w : ℕ) → w < r.states ^ r.width → (a : ℕ) × (a < r.states) × (window_with side r (end_node (other side) r w) a ≡ w)
-window_with-end_node Right {r} rule w within = (w % r.states, mod-lt w (some_letter rule), div-add-mod' w r.states)
-window_with-end_node Left {r} rule w within = (w / node_count r, div_below w (node_count r) r.states (node_count_pos rule) (omega (arith, windows-nodes rule)), div-add-mod' w (node_count r))
+-- each window has a letter at each end
+pub end_letter-below : (side : Side) {r : LocalRule} → IsRule r → (w : ℕ) → w < r.states ^ r.width → end_letter side r w < r.states
+end_letter-below Right {r} rule w within = mod-lt w (some_letter rule)
+end_letter-below Left {r} rule w within = div_below w (node_count r) r.states (node_count_pos rule) (omega (arith, windows-nodes rule))
+
+-- and is the window of that letter and the node at its other end
+pub window_with-ends : (side : Side) (r : LocalRule) (w : ℕ) → window_with side r (end_node (other side) r w) (end_letter side r w) ≡ w
+window_with-ends Right r w = div-add-mod' w r.states
+window_with-ends Left r w = div-add-mod' w (node_count r)

@@ -31,17 +31,15 @@ returns c =
     let r = c.args.rule.now in
     let v = c.args.window in
     let number = λ (i : ℕ). get_or c.args.flux.now i (pos 0) in
-    let k : c.from-k.result ≡ r.states = c.from-k.ensures ∙ c.k.ensures.states in
-    let nodes : c.from-nodes.result ≡ node_count r = c.from-nodes.ensures ∙ c.nodes.ensures.nodes in
     let weight = slice_index c.args.weights.now in
     let new : c.from.result ≡ pos (weight (slice_index r.table v)) = c.from.ensures ∙ ap pos (c.at-2.ensures ∙ ap weight c.at.ensures.entry) in
-    let old : c.from-2.result ≡ pos (weight (v / node_count r)) = c.from-2.ensures ∙ ap pos (c.at-3.ensures ∙ ap weight c.first_letter.ensures.letter) in
+    let old : c.from-2.result ≡ pos (weight (v / node_count r)) = c.from-2.ensures ∙ ap pos (c.at-3.ensures ∙ ap weight c.end_letter.ensures.value) in
     let fit_first : FitsSigned w32 (number c.from-3.result) = search rules in
     let fit_last : FitsSigned w32 (number c.from-4.result) = search rules in
     let first : c.from-first.result ≡ number (v / r.states) =
-    c.from-first.ensures ∙ to_z-of_z w32 (number c.from-3.result) fit_first ∙ ap number (c.from-3.ensures ∙ ap (λ n. v / n) k) in
+    c.from-first.ensures ∙ to_z-of_z w32 (number c.from-3.result) fit_first ∙ ap number (c.from-3.ensures ∙ c.end_node.ensures.value) in
     let last : c.from-last.result ≡ number (v % node_count r) =
-    c.from-last.ensures ∙ to_z-of_z w32 (number c.from-4.result) fit_last ∙ ap number (c.from-4.ensures ∙ ap (λ n. v % n) nodes) in
+    c.from-last.ensures ∙ to_z-of_z w32 (number c.from-4.result) fit_last ∙ ap number (c.from-4.ensures ∙ c.end_node-2.ensures.value) in
     let fit_new : FitsSigned w32 c.from.result = search rules in
     let fit_old : FitsSigned w32 c.from-2.result = search rules in
     let fit_f : FitsSigned w32 c.from-first.result = search rules in
@@ -49,5 +47,5 @@ returns c =
     let test = one_difference c.from.result c.from-2.result c.from-first.result c.from-last.result fit_new fit_old fit_f fit_l in
     let gain = ap₂ (λ (i j : ℤ). i -ℤ j) new old in
     let flow = ap₂ (λ (i j : ℤ). i -ℤ j) first last in
-    let value = Flows-value c.k.ensures.rule weight c.args.flux.now v c.requires.window in
+    let value = Flows-value c.end_node.ensures.rule weight c.args.flux.now v c.requires.window in
     (λ yes. value.0 (sym gain ∙ test.0 yes ∙ flow), λ flows. test.1 (gain ∙ value.1 flows ∙ sym flow))

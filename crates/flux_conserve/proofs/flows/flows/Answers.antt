@@ -1,4 +1,4 @@
-use Rattle.std.proofs.Common.{◌≡◌, ℕ, ◌/◌, ◌%◌, ◌-ℤ◌, ◌↔◌, get_or, nat_eq, IsTrue, ℤ, pos, w32, w64, FitsSigned, of_z, to_z, sym, ap, ap₂, ◌∙◌, arith, rules}
+use Rattle.std.proofs.Common.{◌≡◌, ℕ, ◌/◌, ◌%◌, ◌-ℤ◌, ◌↔◌, get_or, nat_eq, IsTrue, ℤ, pos, w32, w64, FitsSigned, of_z, to_z, sym, ap₂, ◌∙◌, arith, rules}
 use Rattle.std.proofs.lemmas.Int.{ints, to_z-of_z}
 use Rattle.std.proofs.lemmas.Bool.Decides.{nat_tests}
 use Rattle.word_image.specs.LocalRules.{node_count}
@@ -21,10 +21,10 @@ returns c =
     let v = c.args.window in
     let number = λ (i : ℕ). get_or c.args.numbers.now i (pos 0) in
     let fits : FitsSigned w32 c.window_flow.result = search rules in
-    let fits_first : FitsSigned w32 (number c.from-2.result) = search rules in
-    let fits_last : FitsSigned w32 (number c.from-4.result) = search rules in
-    let first : c.from-2.result ≡ v / r.states = c.from-2.ensures ∙ ap (λ k. v / k) (c.from.ensures ∙ c.k.ensures.states) in
-    let last : c.from-4.result ≡ v % node_count r = c.from-4.ensures ∙ ap (λ n. v % n) (c.from-3.ensures ∙ c.nodes.ensures.nodes) in
-    let test = is_passed_difference _ _ _ _ _ _ fits fits_first fits_last c.from-5.ensures c.from-6.ensures c.from-7.ensures in
-    let same : (number c.from-2.result -ℤ number c.from-4.result) ≡ number (v / r.states) -ℤ number (v % node_count r) = ap₂ (λ (i j : ℕ). number i -ℤ number j) first last in
+    let fits_first : FitsSigned w32 (number c.from.result) = search rules in
+    let fits_last : FitsSigned w32 (number c.from-2.result) = search rules in
+    let first : c.from.result ≡ v / r.states = c.from.ensures ∙ c.end_node.ensures.value in
+    let last : c.from-2.result ≡ v % node_count r = c.from-2.ensures ∙ c.end_node-2.ensures.value in
+    let test = is_passed_difference _ _ _ _ _ _ fits fits_first fits_last c.from-3.ensures c.from-4.ensures c.from-5.ensures in
+    let same : (number c.from.result -ℤ number c.from-2.result) ≡ number (v / r.states) -ℤ number (v % node_count r) = ap₂ (λ (i j : ℕ). number i -ℤ number j) first last in
     (λ yes. sym c.window_flow.ensures.gain ∙ test.0 yes ∙ same, λ flows. test.1 (c.window_flow.ensures.gain ∙ flows ∙ sym same))

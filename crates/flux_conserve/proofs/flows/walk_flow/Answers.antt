@@ -1,4 +1,4 @@
-use Rattle.std.proofs.Common.{◌≡◌, ℕ, slice_index, suc, ◌+◌, ◌-◌, ◌*◌, ◌%◌, ◌<◌, ◌+ℤ◌, ap, ap₂, ◌∙◌, arith, mod-lt}
+use Rattle.std.proofs.Common.{◌≡◌, ℕ, slice_index, suc, ◌+◌, ◌-◌, ◌*◌, ◌%◌, ◌<◌, ◌+ℤ◌, ap, ◌∙◌, arith, mod-lt}
 use Rattle.std.proofs.lemmas.Int.{ints}
 use Rattle.word_image.specs.LocalRules.{LocalRule, node_count}
 use Rattle.word_image.proofs.laws.Graphs.{node_count_pos}
@@ -14,7 +14,7 @@ pub loop-init : goal.loop-init
 loop-init c =
     let r = c.args.rule.now in
     let whole = walk_gain-sum c.m-end.ensures.rule (slice_index c.args.weights.now) c.args.node c.requires.node in
-    rw c.from-node.ensures (c.requires.node, omega (arith, ints), omega (arith, ints), omega (arith, ints))
+    (c.requires.node, omega (arith, ints), omega (arith, ints), omega (arith, ints))
 
 pub loop-preserved : goal.loop-preserved
 loop-preserved c =
@@ -22,11 +22,10 @@ loop-preserved c =
     let u = c.loop.node in
     let weight = slice_index c.args.weights.now in
     let state = c.loop.invariant in
-    let k : c.from.result ≡ r.states = c.from.ensures ∙ c.k.ensures.states in
-    let n : c.from-in-loop.result ≡ node_count r = c.from-in-loop.ensures ∙ c.nodes.ensures.nodes in
-    let next : u * c.from.result % c.from-in-loop.result ≡ u * r.states % node_count r = ap₂ (λ (i j : ℕ). u * i % j) k n in
+    let window : c.window_with-window.result ≡ u * r.states = omega (arith, c.window_with-window.ensures.value) in
+    let next : c.end_node-node.result ≡ u * r.states % node_count r = c.end_node-node.ensures.value ∙ ap (λ w. w % node_count r) window in
     let more = walk_sum-next weight r u c.loop.counter (omega arith) in
-    let gain : c.window_flow-flow.result ≡ window_gain weight r (u * r.states) = c.window_flow-flow.ensures.gain ∙ ap (λ i. window_gain weight r (u * i)) k in
-    let within : u * r.states % node_count r < node_count r = mod-lt (u * r.states) (node_count_pos c.k.ensures.rule) in
-    let few = c.k.ensures.rule.shape.most_width in
+    let gain : c.window_flow-flow.result ≡ window_gain weight r (u * r.states) = c.window_flow-flow.ensures.gain ∙ ap (window_gain weight r) window in
+    let within : u * r.states % node_count r < node_count r = mod-lt (u * r.states) (node_count_pos c.end_node-node.ensures.rule) in
+    let few = c.end_node-node.ensures.rule.shape.most_width in
     rw next (within, omega (arith, ints), omega (arith, ints), omega (arith, ints))

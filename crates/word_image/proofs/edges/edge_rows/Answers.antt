@@ -18,5 +18,5 @@ loop-window-preserved c =
     (ap (λ v. 1 * 2 ^ v % 2 ^ 16) c.end_node.ensures.value ∙ one_shl (end_node c.args.side r c.loop-window.window) 16 (omega (arith, c.end_node.ensures.node, c.end_node.ensures.value)))
     (omega arith) (omega arith)
 
-pub returns : goal.returns
-returns c = AreEdgeRows-all c.size-window-end.ensures.rule (subst (λ n. HaveEdges c.args.side c.args.rule.now n c.loop-window.ends) (omega arith) c.loop-window.invariant)
+pub returns-clause-edges : goal.returns-clause-edges
+returns-clause-edges c = AreEdgeRows-all c.size-window-end.ensures.rule (subst (λ n. HaveEdges c.args.side c.args.rule.now n c.loop-window.ends) (omega arith) c.loop-window.invariant)

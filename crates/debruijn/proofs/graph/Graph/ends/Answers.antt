@@ -8,6 +8,6 @@ pub returns : goal.returns
 returns c =
     let r = c.args.self.now in
     let rule = subst IsRule c.self.view_is c.self.invariant.0 in
-    let edges = subst (λ (g : LocalRule). AreEdgeRows Right g c.self.inside.ends) c.self.view_is c.self.invariant.2 in
+    let edges = subst (λ (g : LocalRule). AreEdgeRows Right g c.self.inside.ends) c.self.view_is c.self.invariant.1 in
     let ends = edges.ends c.args.label c.args.u (omega (arith, rule.shape.most_states, c.requires.label)) c.requires.node in
     subst₂ (λ i j. IsEnds Right r c.args.u c.args.label (ends_at c.self.inside.ends i j)) (sym c.from.ensures) (sym c.from-2.ensures) ends

@@ -1,9 +1,9 @@
-use Rattle.std.proofs.Common.{◌≡◌, ℕ, ◌-◌, ◌^◌, ◌<◌, ◌≤◌, List, length, take, drop, map, replicate, set, slice_index, refl, sym, ap, ap₂, subst, ◌∙◌, ℤ, w8, FitsSigned, to_z, of_z, arith}
+use Rattle.std.proofs.Common.{◌≡◌, ℕ, ◌-◌, ◌^◌, ◌<◌, ◌≤◌, List, length, take, drop, map, replicate, set, slice_index, refl, sym, ap, ap₂, subst, subst₂, ◌∙◌, ℤ, w8, FitsSigned, to_z, of_z, arith}
 use Rattle.std.specs.List.{range_with_len}
 use Rattle.std.proofs.lemmas.Int.{to_z-of_z}
 use Rattle.std.proofs.lemmas.List.{ext_get_or}
 use Rattle.std.proofs.lemmas.List.FromFn.{length-map-range_with_len, get_or-map-range_with_len}
-use Rattle.word_image.specs.LocalRules.{LocalRule, IsRule}
+use Rattle.word_image.specs.LocalRules.{LocalRule, IsShape, IsRule}
 use Rattle.word_image.specs.RulesBy.{IsRuleBy}
 use Rattle.word_image.specs.Storage.{padded}
 use Rattle.word_image.proofs.Storage.{in_row-more, take-in_row, drop-in_row}
@@ -23,6 +23,10 @@ windows by = ap₂ (λ (a b : ℕ). a ^ b) (sym by.states) (sym by.width) ∙ sy
 -- are few
 few : {k m : ℕ} {o : ℤ} {gives : ℕ → ℕ → Type 0} {r : LocalRule} → IsRuleBy k m o gives r → k ^ m ≤ 256
 few {k} {m} {o} {gives} {r} by = omega (arith, windows by, by.rule.entries, window_count-le r.states r.width r.offset by.rule.shape)
+
+-- their shape is accepted
+shape_of : {k m : ℕ} {o : ℤ} {gives : ℕ → ℕ → Type 0} {r : LocalRule} → IsRuleBy k m o gives r → IsShape k m o
+shape_of {o = o} {r = r} by = subst₂ (λ (k m : ℕ). IsShape k m o) by.states by.width (subst (IsShape r.states r.width) by.offset by.rule.shape)
 
 -- it is made where all its entries are there
 made : {k m : ℕ} {o : ℤ} {gives : ℕ → ℕ → Type 0} {r : LocalRule} → IsRuleBy k m o gives r → FitsSigned w8 o → (n : ℕ) (entries : List ℕ) → n ≡ k ^ m
@@ -50,13 +54,16 @@ loop-window-preserved g c = λ o r by.
     rw c.from-in-loop-window.ensures (ap (λ xs. set xs v c.letter.result) (c.loop-window.invariant o r by)
     ∙ in_row-more 256 (slice_index r.table) v c.letter.result (omega (arith, few by)) (by.entries v c.letter.result below c.letter.ensures))
 
+pub node_count-requires : goal.node_count-requires
+node_count-requires g c = (_, shape_of c.requires.rule.1)
+
 pub invariant_of-result : goal.invariant_of-result
 invariant_of-result g c =
     let size : c.pow-window-end.result ≡ c.args.k ^ c.args.m = c.pow-window-end.ensures ∙ ap₂ (λ (a b : ℕ). a ^ b) c.from.ensures c.from-2.ensures in
     let all : c.loop-window.window ≡ c.args.k ^ c.args.m = omega arith in
     let by = c.requires.rule.1 in
     let is = made by c.ranges.o c.loop-window.window c.loop-window.entries all (c.loop-window.invariant _ _ by) in
-    (subst IsRule (sym is.same) by.rule, is.zeros)
+    (subst IsRule (sym is.same) by.rule, is.zeros, c.node_count.ensures)
 
 pub returns : goal.returns
 returns g c = λ r by.

@@ -47,6 +47,9 @@ returns-in_err-check_table-clause-accepted c = (
   λ rule. absurd (none-some _ (sym (table_fault-IsWord c.args.k c.args.m c.args.table.now rule.entries rule.letters) ∙ sym c.in_err-check_table.ensures)),
 )
 
+pub node_count-requires : goal.node_count-requires
+node_count-requires c = (c.args.o, accepted_shape c.args.k c.args.m c.args.o c.ranges.o c.in_ok-check_shape.ensures)
+
 pub invariant_of-result : goal.invariant_of-result
 invariant_of-result c =
     let o = c.args.o in
@@ -56,7 +59,7 @@ invariant_of-result c =
     let table = IsWord-table_fault c.args.k c.args.m t (sym c.in_ok-check_table.ensures) in
     let same = ap (take n) c.in_memory.ensures ∙ take-in_row 256 n t table.0 in
     let zeros = ap (drop n) c.in_memory.ensures ∙ drop-in_row 256 n t table.0 in
-    (IsRule-same _ _ o _ t _ (to_z-of_z w8 o c.ranges.o) same shape table.0 table.1, zeros)
+    (IsRule-same _ _ o _ t _ (to_z-of_z w8 o c.ranges.o) same shape table.0 table.1, zeros, c.node_count.ensures)
 
 pub returns-clause-accepted : goal.returns-clause-accepted
 returns-clause-accepted c =
