@@ -30,12 +30,13 @@ use Rattle.cert_format.proofs.laws.WeightMembers.{weights_members-cases}
 use Rattle.certificate_laws.specs.LeastEvidence.{IsOrphanPart, IsInjectivePart, IsConservingPart}
 use Rattle.certificate_laws.specs.WrittenCertificates.{orphan_of, IsListPart, HasWrittenParts}
 use Rattle.certificate_laws.proofs.MetConditions.{own_parts}
-use Rattle.certificate_laws.proofs.Limits.{pair_count-le}
+use Rattle.word_image.proofs.laws.Graphs.{pair_count-le}
 use Rattle.certificate_laws.proofs.WrittenShapes.{IsShaped-written}
 use Rattle.certificate_laws.proofs.PairLists.{length-reached}
 use Rattle.certificate_laws.proofs.FamilySizes.{length-IsCoverList}
 use Rattle.certificate_laws.proofs.ShortOrphans.{length-IsLeastOrphan}
-use Rattle.certificate_laws.proofs.ShortWords.{length-IsLeastTwins, length-IsLeastLossyRing}
+use Rattle.tail_laws.proofs.LeastTwins.{length-IsLeastTwins}
+use Rattle.certificate_laws.proofs.ShortWords.{length-IsLeastLossyRing}
 use Rattle.certificate_laws.proofs.TextLengths.{length-quoted, length-word_value, length-tail_value, length-values, length-pair_text, length-member, length-only}
 
 -- a number of sixteen bits has at most five digits

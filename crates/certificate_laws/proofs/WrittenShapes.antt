@@ -22,7 +22,7 @@ use Rattle.certificate_laws.specs.LeastEvidence.{IsRightPart, IsLeftPart}
 use Rattle.certificate_laws.specs.WrittenCertificates.{HasWrittenParts}
 use Rattle.certificate_laws.proofs.MetConditions.{own_parts}
 use Rattle.certificate_laws.proofs.ShortSplits.{IsLeastRightSplit-le}
-use Rattle.certificate_laws.proofs.Limits.{pair_count-le, IsSurjectiveShape-written, IsInjectiveShape-written, IsSideShape-ahead, IsSumShape-written, IsRankShape-exact}
+use Rattle.certificate_laws.proofs.Limits.{IsSurjectiveShape-written, IsInjectiveShape-written, IsSideShape-ahead, IsSumShape-written, IsRankShape-exact}
 
 -- the least normal right split is of short configurations
 IsSideShape-split : {r : LocalRule} {x y : TailConfig} → IsRule r → IsLeastRightSplit r x y → IsSideShape r (Split x y)

@@ -1,11 +1,10 @@
 -- The first list of letter pairs that the numbers below n have, number by number, and in bytes: a letter pair (a, b) is the byte 16 a + b.
-use Rattle.std.proofs.Common.{◌≡◌, ◌≢◌, ℕ, ◌+◌, ◌/◌, ◌%◌, ◌<◌, ◌≤◌, List, length, map, Option, Some, None, Vec, Global, if◌then◌else◌, sym, ap, ap₂, ◌∙◌, subst, ⊎_elim, arith}
+use Rattle.std.proofs.Common.{◌≡◌, ◌≢◌, ℕ, ◌+◌, ◌/◌, ◌%◌, ◌<◌, ◌≤◌, List, map, Option, Some, None, Vec, Global, if◌then◌else◌, sym, ap₂, ◌∙◌, subst, ⊎_elim, arith}
 use Rattle.std.specs.Prelude.{MatchOption}
 use Rattle.std.specs.Ordering.{is_lt}
 use Rattle.std.specs.declared.cmp.Ordering.{Ordering}
 use Rattle.std.specs.declared.cmp.Ordering.TheVariants.{Less, Equal, Greater}
 use Rattle.std.proofs.lemmas.Bool.{cases_eq}
-use Rattle.std.proofs.lemmas.List.{length-map}
 use Rattle.word_image.specs.Words.{word_cmp}
 use Rattle.word_image.specs.Rings.{pairs_cmp}
 use Rattle.word_image.proofs.laws.Comparisons.{no_later, not_before, pairs_cmp_total}
@@ -72,11 +71,3 @@ first_word steps = map (λ step. step / 16) steps
 
 abbrev pub second_word : List ℕ → List ℕ
 second_word steps = map (λ step. step % 16) steps
-
--- are as long as the letter pairs
-pub length-spelled : {most : ℕ} (steps x y : List ℕ) → x ≡ first_word steps → y ≡ second_word steps → length (map (uncode 16) steps) ≤ most → (length x ≤ most) × (length y ≤ most)
-length-spelled steps x y first second few =
-    let long = length-map steps (uncode 16) in (
-      omega (arith, few, long, ap length first, length-map steps (λ step. step / 16)),
-      omega (arith, few, long, ap length second, length-map steps (λ step. step % 16)),
-    )
