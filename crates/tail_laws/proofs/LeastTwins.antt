@@ -1,5 +1,5 @@
 -- The least twins are the first of the least walks in the marked graph from a pair without the mark to the same pair with it.
-use Rattle.std.proofs.Common.{◌≡◌, ◌≢◌, ℕ, ◌+◌, ◌<◌, ◌≤◌, List, [], ◌∷◌, length, sym, ◌∙◌, subst, arith}
+use Rattle.std.proofs.Common.{◌≡◌, ◌≢◌, ℕ, ◌+◌, ◌<◌, ◌≤◌, List, [], ◌∷◌, length, map, sym, ◌∙◌, subst, arith}
 use Rattle.std.specs.List.{zip}
 use Rattle.std.specs.declared.cmp.Ordering.TheVariants.{Greater}
 use Rattle.std.proofs.lemmas.List.{length-map}
@@ -33,11 +33,16 @@ turn-some rule p (ab ∷ w) turn = omega arith
 pub IsLeastOf-turn : {r : LocalRule} {p : ℕ} {w : List (ℕ × ℕ)} → IsRule r → IsLeastTurn r p w → IsLeastOf (IsTurn r) p w
 IsLeastOf-turn {r} {p} rule first = record { has = first.walk; least = λ v turn. first.least v (turn-some rule p v turn) turn }
 
--- the first of all walks is the least twins
-pub IsLeastTwins-first : {r : LocalRule} → IsRule r → (x y : List ℕ) → length x ≡ length y → IsFirstBelow (IsTurn r) (pair_count r) (zip x y) → IsLeastTwins r x y
-IsLeastTwins-first rule x y long first = record {
-  twins = turn-twins rule x y first.number long first.below first.has;
-  least = λ u v twins. let turn = twins-turn rule twins in first.least turn.0 (zip u v) turn.1 turn.2;
+-- the words of a walk from a pair to itself with the mark are twins
+IsTwins-turn : {r : LocalRule} {p : ℕ} {w : List (ℕ × ℕ)} → IsRule r → p < pair_count r → IsTurn r p w → IsTwins r (map (λ a. a.0) w) (map (λ a. a.1) w)
+IsTwins-turn {r} {p} {w} rule below turn =
+    turn-twins rule _ _ p (length-map w (λ (a : ℕ × ℕ). a.0) ∙ sym (length-map w (λ (a : ℕ × ℕ). a.1))) below (subst (IsTurn r p) (sym (zip-sides w)) turn)
+
+-- the first of all walks has the least twins
+pub IsLeastTwins-first : {r : LocalRule} {w : List (ℕ × ℕ)} → IsRule r → IsFirstBelow (IsTurn r) (pair_count r) w → IsLeastTwins r (map (λ a. a.0) w) (map (λ a. a.1) w)
+IsLeastTwins-first {w = w} rule first = record {
+  twins = IsTwins-turn rule first.below first.has;
+  least = λ u v twins. let turn = twins-turn rule twins in subst (λ z. pairs_cmp z (zip u v) ≢ Greater) (sym (zip-sides w)) (first.least turn.0 (zip u v) turn.1 turn.2);
 }
 
 -- where there is no walk there are no twins
@@ -51,10 +56,7 @@ length-IsLeastTwins {r} {x} {y} rule first =
     let walk : IsLeastTurn r p (zip x y) = record {
       some = turn-some rule p (zip x y) turn;
       walk = turn;
-      least = λ v some other.
-          let long = length-map v (λ (c : ℕ × ℕ). c.0) ∙ sym (length-map v (λ (c : ℕ × ℕ). c.1)) in
-          let twins = turn-twins rule _ _ p long below (subst (IsTurn r p) (sym (zip-sides v)) other) in
-          subst (λ z. pairs_cmp (zip x y) z ≢ Greater) (zip-sides v) (first.least _ _ twins);
+      least = λ v some other. subst (λ z. pairs_cmp (zip x y) z ≢ Greater) (zip-sides v) (first.least _ _ (IsTwins-turn rule below other));
     } in
     let most = pair_count-le rule in
     let few = length-IsLeastWalk (marked-below rule) walk in
