@@ -6,6 +6,7 @@ use Rattle.word_image.specs.LocalRules.{LocalRule, IsRule}
 use Rattle.word_image.specs.Weights.{AreWeights}
 use Rattle.word_image.specs.Ranks.{BeginTogether, EndTogether}
 use Rattle.word_image.proofs.laws.Images.{IsRule-mirrored}
+use Rattle.word_image.proofs.laws.Graphs.{pair_count-le}
 use Rattle.word_image.specs.declared.side.Side.TheVariants.{Right, Left}
 use Rattle.pair_laws.proofs.Endless.{IsRank-below}
 use Rattle.tail_config.specs.Tails.{TailConfig, mirror_of}
