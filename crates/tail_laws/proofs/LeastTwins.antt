@@ -49,7 +49,7 @@ IsLeastTwins-first {w = w} rule first = record {
 pub no_twins-none : {r : LocalRule} → IsRule r → NoneBelow (IsTurn r) (pair_count r) → (x y : List ℕ) → ¬ IsTwins r x y
 no_twins-none rule none x y twins = let turn = twins-turn rule twins in none turn.0 (zip x y) turn.1 turn.2
 
--- they are the least walk from a pair to itself with the mark, so each has at most 512 letters
+-- the least twins are the least walk from a pair to itself with the mark, so each has at most 512 letters
 pub length-IsLeastTwins : {r : LocalRule} {x y : List ℕ} → IsRule r → IsLeastTwins r x y → (length x ≤ 512) × (length y ≤ 512)
 length-IsLeastTwins {r} {x} {y} rule first =
     let (p, below, turn) = twins-turn rule first.twins in
