@@ -138,6 +138,17 @@ pub data HasWeights (version : CertVersion) (r : LocalRule) (ms : Members) (weig
 abbrev pub HasRanks : LocalRule → Members → List (Option ℕ) → List (Option ℕ) → Type 0
 HasRanks r ms forward backward = HasMember ms (codes "ranks") (λ d. IsRanksValue d forward backward) × IsRankShape r forward × IsRankShape r backward
 
+-- what the members say of each part of a certificate
+pub record AreParts (ms : Members) (c : Certificate) : Type 0 where
+  pub surjective : HasSurjective c.version c.rule ms c.surjective
+  pub injective : HasInjective c.rule ms c.injective
+  pub right : HasSide (codes "right") c.rule ms c.right
+  pub left : HasSide (codes "left") c.rule ms c.left
+  pub conserving : HasConserving c.rule ms c.conserving
+  pub weights : HasWeights c.version c.rule ms c.weights
+  pub ranks : HasRanks c.rule ms c.forward c.backward
+  pub no_other : HasNoOther c.version ms
+
 -- the bytes have the shape of a certificate, and this is what it says
 pub record IsCertificateText (bytes : List ℕ) (c : Certificate) : Type 0 where
   pub members : Members
@@ -146,11 +157,4 @@ pub record IsCertificateText (bytes : List ℕ) (c : Certificate) : Type 0 where
   pub version : HasVersion members (number_of c.version)
   pub rule_text : HasRuleText members text
   pub rule : IsRuleText text c.rule
-  pub surjective : HasSurjective c.version c.rule members c.surjective
-  pub injective : HasInjective c.rule members c.injective
-  pub right : HasSide (codes "right") c.rule members c.right
-  pub left : HasSide (codes "left") c.rule members c.left
-  pub conserving : HasConserving c.rule members c.conserving
-  pub weights : HasWeights c.version c.rule members c.weights
-  pub ranks : HasRanks c.rule members c.forward c.backward
-  pub no_other : HasNoOther c.version members
+  pub parts : AreParts members c

@@ -1,11 +1,13 @@
 -- Worked examples: the texts of six certificates done by hand, which the check computes.
-use Rattle.std.specs.Prelude.{◌≡◌, ℕ, List, [], ◌∷◌, codes, refl, pos, negsuc, Option, Some, None}
+use Rattle.std.specs.Prelude.{◌≡◌, ℕ, ℤ, List, [], ◌∷◌, codes, refl, pos, negsuc, Option, Some, None}
 use Rattle.std.specs.Fmt.{digits}
 use Rattle.serde_json.proofs.OnLiterals.{serde_json_on_literals}
 use Rattle.word_image.specs.LocalRules.{LocalRule}
 use Rattle.tail_config.specs.TailValues.{config_of}
+use Rattle.cert_format.specs.declared.cert_version.CertVersion.{CertVersion}
 use Rattle.cert_format.specs.declared.cert_version.CertVersion.TheVariants.{One, Two, Three}
 use Rattle.cert_format.specs.Certificates.{Certificate}
+use Rattle.cert_format.specs.Evidence.{SurjectiveEvidence}
 use Rattle.cert_format.specs.Evidence.SurjectiveEvidence.{Sets, Pairs, Orphan}
 use Rattle.cert_format.specs.Evidence.InjectiveEvidence.{Window, Twins}
 use Rattle.cert_format.specs.Evidence.SideEvidence.{Ahead, Split}
@@ -22,19 +24,22 @@ no_claims = None ∷ None ∷ None ∷ None ∷ []
 
 -- the shift to the left by one cell
 
-abbrev shift : Certificate
-shift = record {
-  version = One;
+abbrev shift_with : CertVersion → List ℤ → List ℕ → Certificate
+shift_with version flux weights = record {
+  version = version;
   rule = rule_of (0 ∷ 1 ∷ 0 ∷ 1 ∷ []);
   surjective = Sets (3 ∷ 1 ∷ 2 ∷ []);
   injective = Window 1 1;
   right = Ahead 1;
   left = Ahead 2;
-  conserving = Flux (pos 0 ∷ negsuc 0 ∷ []);
-  weights = 0 ∷ 1 ∷ [];
+  conserving = Flux flux;
+  weights = weights;
   forward = no_claims;
   backward = None ∷ Some 0 ∷ Some 0 ∷ None ∷ [];
 }
+
+abbrev shift : Certificate
+shift = shift_with One (pos 0 ∷ negsuc 0 ∷ []) (0 ∷ 1 ∷ [])
 
 certificate_text-shift : certificate_text shift ≡ codes "{\"conserving\":{\"flux\":[0,-1]},\"injective\":{\"c\":1,\"n\":1},\"left\":{\"ahead\":2},\"ranks\":{\"backward\":[null,0,0,null],\"forward\":[null,null,null,null]},\"right\":{\"ahead\":1},\"rule\":\"2:2:0:t0101\",\"surjective\":{\"sets\":[3,1,2]},\"version\":1}"
 unfolding digits serde_json_on_literals
@@ -62,11 +67,11 @@ certificate_text-both = refl
 
 -- the sum of two cells modulo 2
 
-abbrev sum : Certificate
-sum = record {
-  version = One;
+abbrev sum_with : CertVersion → SurjectiveEvidence → Certificate
+sum_with version surjective = record {
+  version = version;
   rule = rule_of (0 ∷ 1 ∷ 1 ∷ 0 ∷ []);
-  surjective = Sets (3 ∷ []);
+  surjective = surjective;
   injective = Twins (0 ∷ []) (1 ∷ []);
   right = Ahead 1;
   left = Ahead 1;
@@ -75,6 +80,9 @@ sum = record {
   forward = no_claims;
   backward = no_claims;
 }
+
+abbrev sum : Certificate
+sum = sum_with One (Sets (3 ∷ []))
 
 certificate_text-sum : certificate_text sum ≡ codes "{\"conserving\":{\"ring\":\"1\"},\"injective\":{\"twins\":[\"0\",\"1\"]},\"left\":{\"ahead\":1},\"ranks\":{\"backward\":[null,null,null,null],\"forward\":[null,null,null,null]},\"right\":{\"ahead\":1},\"rule\":\"2:2:0:t0110\",\"surjective\":{\"sets\":[3]},\"version\":1}"
 unfolding digits serde_json_on_literals
@@ -83,18 +91,7 @@ certificate_text-sum = refl
 -- the same in version 2
 
 abbrev second : Certificate
-second = record {
-  version = Two;
-  rule = rule_of (0 ∷ 1 ∷ 1 ∷ 0 ∷ []);
-  surjective = Sets (3 ∷ []);
-  injective = Twins (0 ∷ []) (1 ∷ []);
-  right = Ahead 1;
-  left = Ahead 1;
-  conserving = Ring (1 ∷ []);
-  weights = 0 ∷ 1 ∷ [];
-  forward = no_claims;
-  backward = no_claims;
-}
+second = sum_with Two (Sets (3 ∷ []))
 
 certificate_text-second : certificate_text second ≡ codes "{\"conserving\":{\"ring\":\"1\"},\"injective\":{\"twins\":[\"0\",\"1\"]},\"left\":{\"ahead\":1},\"ranks\":{\"backward\":[null,null,null,null],\"forward\":[null,null,null,null]},\"right\":{\"ahead\":1},\"rule\":\"2:2:0:t0110\",\"surjective\":{\"sets\":[3]},\"version\":2}"
 unfolding digits serde_json_on_literals
@@ -103,18 +100,7 @@ certificate_text-second = refl
 -- the shift with a weight of 2 for the letter 1
 
 abbrev weighted : Certificate
-weighted = record {
-  version = Two;
-  rule = rule_of (0 ∷ 1 ∷ 0 ∷ 1 ∷ []);
-  surjective = Sets (3 ∷ 1 ∷ 2 ∷ []);
-  injective = Window 1 1;
-  right = Ahead 1;
-  left = Ahead 2;
-  conserving = Flux (pos 0 ∷ negsuc 1 ∷ []);
-  weights = 0 ∷ 2 ∷ [];
-  forward = no_claims;
-  backward = None ∷ Some 0 ∷ Some 0 ∷ None ∷ [];
-}
+weighted = shift_with Two (pos 0 ∷ negsuc 1 ∷ []) (0 ∷ 2 ∷ [])
 
 certificate_text-weighted : certificate_text weighted ≡ codes "{\"conserving\":{\"flux\":[0,-2]},\"injective\":{\"c\":1,\"n\":1},\"left\":{\"ahead\":2},\"ranks\":{\"backward\":[null,0,0,null],\"forward\":[null,null,null,null]},\"right\":{\"ahead\":1},\"rule\":\"2:2:0:t0101\",\"surjective\":{\"sets\":[3,1,2]},\"version\":2,\"weights\":[0,2]}"
 unfolding digits serde_json_on_literals
@@ -123,18 +109,7 @@ certificate_text-weighted = refl
 -- the sum of two cells by pairs: no pair is reached
 
 abbrev with_pairs : Certificate
-with_pairs = record {
-  version = Three;
-  rule = rule_of (0 ∷ 1 ∷ 1 ∷ 0 ∷ []);
-  surjective = Pairs [];
-  injective = Twins (0 ∷ []) (1 ∷ []);
-  right = Ahead 1;
-  left = Ahead 1;
-  conserving = Ring (1 ∷ []);
-  weights = 0 ∷ 1 ∷ [];
-  forward = no_claims;
-  backward = no_claims;
-}
+with_pairs = sum_with Three (Pairs [])
 
 certificate_text-with_pairs : certificate_text with_pairs ≡ codes "{\"conserving\":{\"ring\":\"1\"},\"injective\":{\"twins\":[\"0\",\"1\"]},\"left\":{\"ahead\":1},\"ranks\":{\"backward\":[null,null,null,null],\"forward\":[null,null,null,null]},\"right\":{\"ahead\":1},\"rule\":\"2:2:0:t0110\",\"surjective\":{\"pairs\":[]},\"version\":3}"
 unfolding digits serde_json_on_literals

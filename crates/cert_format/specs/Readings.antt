@@ -1,5 +1,5 @@
 -- What reading a certificate and a part of it asks of the bytes and of a JSON value, and its faults.
-use Rattle.std.specs.Prelude.{◌≡◌, ℕ, ◌⊎◌, ◌+◌, ◌-◌, ◌≤◌, length, All, ◌≤ℤ◌, ℤ, pos, negsuc, List, [], ◌∷◌, Option, codes, alloc_error}
+use Rattle.std.specs.Prelude.{◌≡◌, ℕ, ◌⊎◌, ◌+◌, ◌-◌, ◌≤◌, length, All, ◌≤ℤ◌, ℤ, pos, negsuc, List, [], ◌∷◌, Option, alloc_error}
 use Rattle.serde_json.specs.Data.{Data, null, boolean, number, string, array, object, Members, no_members}
 use Rattle.word_image.specs.LocalRules.{LocalRule, IsWord, node_count}
 use Rattle.word_image.specs.Weights.{AreWeights}
@@ -11,8 +11,8 @@ use Rattle.cert_format.specs.declared.shape_fault.ShapeFault.TheVariants as shap
 use Rattle.cert_format.specs.declared.shape_fault.CertFault.{CertFault}
 use Rattle.cert_format.specs.declared.shape_fault.CertFault.TheVariants as fault
 use Rattle.cert_format.specs.Evidence.{SurjectiveEvidence, InjectiveEvidence, SideEvidence, SumEvidence}
-use Rattle.cert_format.specs.Certificates.{Certificate, IsSurjectiveShape, IsInjectiveShape, IsSideShape, IsSumShape, IsRankShape, IsClaim}
-use Rattle.cert_format.specs.CertificateTexts.{IsWhole, IsSigned, IsDigits, IsTailString, IsClaimValue, IsArrayOf, IsSurjectiveValue, IsInjectiveValue, IsSideValue, IsSumValue, IsRanksValue, HasSurjective, HasInjective, HasSide, HasConserving, HasWeights, HasRanks, HasNoOther}
+use Rattle.cert_format.specs.Certificates.{IsSurjectiveShape, IsInjectiveShape, IsSideShape, IsSumShape, IsRankShape, IsClaim}
+use Rattle.cert_format.specs.CertificateTexts.{IsWhole, IsSigned, IsDigits, IsTailString, IsClaimValue, IsArrayOf, IsSurjectiveValue, IsInjectiveValue, IsSideValue, IsSumValue, IsRanksValue}
 use Rattle.cert_format.specs.ShapeFaults.{IsFirstWithout, Passes, part_steps, IsShapeFault}
 use Rattle.cert_format.specs.declared.shape_fault.ShapeFault.{ShapeFault}
 
@@ -112,17 +112,6 @@ AreRanksFor r d forward backward = IsRanksValue d forward backward × IsRankShap
 -- the step of a key fails, of which P is asked, or there is not enough memory
 abbrev pub IsStepFault : Key → Type 0 → CertFault → Type 0
 IsStepFault k P f = (f ≡ fault.Memory alloc_error) ⊎ ((f ≡ fault.Format (shape.Shape k)) × ¬ P)
-
--- what the members say of each part of a certificate
-pub record AreParts (ms : Members) (c : Certificate) : Type 0 where
-  pub surjective : HasSurjective c.version c.rule ms c.surjective
-  pub injective : HasInjective c.rule ms c.injective
-  pub right : HasSide (codes "right") c.rule ms c.right
-  pub left : HasSide (codes "left") c.rule ms c.left
-  pub conserving : HasConserving c.rule ms c.conserving
-  pub weights : HasWeights c.version c.rule ms c.weights
-  pub ranks : HasRanks c.rule ms c.forward c.backward
-  pub no_other : HasNoOther c.version ms
 
 -- the first of the steps that fails, or there is not enough memory
 abbrev pub IsPartFault : CertVersion → LocalRule → Members → CertFault → Type 0

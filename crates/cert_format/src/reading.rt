@@ -5,10 +5,10 @@ ghost use Rattle.word_image.specs.LocalRules.{IsRule};
 ghost use Rattle.rule_text.specs.RuleTexts.{IsRuleText};
 ghost use Rattle.cert_format.specs.Certificates.{Certificate};
 ghost use Rattle.cert_format.specs.Versions.{number_of};
-ghost use Rattle.cert_format.specs.CertificateTexts.{IsCertificateText, IsObject, HasVersion, HasRuleText};
+ghost use Rattle.cert_format.specs.CertificateTexts.{AreParts, IsCertificateText, IsObject, HasVersion, HasRuleText};
 ghost use Rattle.cert_format.specs.declared.shape_fault.ShapeFault.{ShapeFault};
 ghost use Rattle.cert_format.specs.ShapeFaults.{IsShapeFault};
-ghost use Rattle.cert_format.specs.Readings.{members_in, AreParts, IsPartFault, IsCertFault};
+ghost use Rattle.cert_format.specs.Readings.{members_in, IsPartFault, IsCertFault};
 
 use crate::cert::Cert;
 use crate::cert_version::CertVersion;

@@ -1,7 +1,6 @@
 -- What is written for a rule is within the limits of a certificate, its splits apart.
 use Rattle.std.proofs.Common.{◌≡◌, ℕ, ◌+◌, ◌-◌, ◌*◌, ◌<◌, ◌≤◌, List, ◌++◌, length, take, get_or, slice_index, Contains, Option, Some, None, inl, sym, ap, subst, ◌∙◌, ⊎_elim, arith, length-append}
 use Rattle.std.specs.Prelude.{ℤ, pos, MatchOption, sum_by}
-use Rattle.std.proofs.Math.Nat.{mul-le-mul}
 use Rattle.std.proofs.lemmas.Bool.{cases_lt}
 use Rattle.std.proofs.lemmas.Int.{ints}
 use Rattle.std.proofs.lemmas.List.{length-take-le, get_or_past}
@@ -16,6 +15,7 @@ use Rattle.word_image.specs.Graphs.{full_set, first_of, second_of, pair_count}
 use Rattle.word_image.specs.Ranks.{IsRank, IsEndless}
 use Rattle.word_image.proofs.laws.Values.{length-word_of}
 use Rattle.word_image.proofs.laws.Words.{length-image}
+use Rattle.word_image.proofs.laws.Graphs.{pair_count-le}
 use Rattle.word_image.specs.declared.side.Side.TheVariants.{Right}
 use Rattle.pair_laws.proofs.Endless.{Together-endless}
 use Rattle.pair_laws.proofs.BothWays.{IsDetermined-not_both_ways, IsDetermined-none_both_ways}
@@ -37,10 +37,6 @@ use Rattle.certificate_laws.specs.WrittenCertificates.{orphan_of, IsListPart, Is
 use Rattle.certificate_laws.proofs.MetConditions.{AreLastSets-family}
 use Rattle.certificate_laws.proofs.PairLists.{below-reached}
 use Rattle.certificate_laws.proofs.CoverLists.{Contains-covers}
-
--- a rule has at most 256 pairs of nodes
-pub pair_count-le : {r : LocalRule} → IsRule r → pair_count r ≤ 256
-pair_count-le rule = mul-le-mul rule.shape.most_nodes rule.shape.most_nodes
 
 -- the covers are sets of nodes, the reached pairs are pairs of them, and an orphan is a word
 pub IsSurjectiveShape-written : (version : CertVersion) {r : LocalRule} → IsRule r → (e : SurjectiveEvidence) → IsOrphanPart r (orphan_of e) → IsListPart version r e → IsSurjectiveShape version r e

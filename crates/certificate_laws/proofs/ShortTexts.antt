@@ -12,8 +12,10 @@ use Rattle.word_image.specs.LocalRules.{LocalRule, IsRule, node_count}
 use Rattle.word_image.specs.Graphs.{pair_count}
 use Rattle.word_image.specs.Weights.{AreWeights}
 use Rattle.word_image.proofs.laws.RuleFaults.{window_count-le}
+use Rattle.word_image.proofs.laws.Graphs.{pair_count-le}
 use Rattle.tail_config.specs.TailTexts.{IsShortTail}
 use Rattle.rule_text.specs.PrintedRules.{offset_text, printed_rule}
+use Rattle.tail_laws.proofs.LeastTwins.{length-IsLeastTwins}
 use Rattle.cert_format.specs.declared.cert_version.CertVersion.{CertVersion}
 use Rattle.cert_format.specs.declared.cert_version.CertVersion.TheVariants.{One, Two, Three}
 use Rattle.cert_format.specs.Versions.{number_of, names_weights}
@@ -30,12 +32,11 @@ use Rattle.cert_format.proofs.laws.WeightMembers.{weights_members-cases}
 use Rattle.certificate_laws.specs.LeastEvidence.{IsOrphanPart, IsInjectivePart, IsConservingPart}
 use Rattle.certificate_laws.specs.WrittenCertificates.{orphan_of, IsListPart, HasWrittenParts}
 use Rattle.certificate_laws.proofs.MetConditions.{own_parts}
-use Rattle.certificate_laws.proofs.Limits.{pair_count-le}
 use Rattle.certificate_laws.proofs.WrittenShapes.{IsShaped-written}
 use Rattle.certificate_laws.proofs.PairLists.{length-reached}
 use Rattle.certificate_laws.proofs.FamilySizes.{length-IsCoverList}
 use Rattle.certificate_laws.proofs.ShortOrphans.{length-IsLeastOrphan}
-use Rattle.certificate_laws.proofs.ShortWords.{length-IsLeastTwins, length-IsLeastLossyRing}
+use Rattle.certificate_laws.proofs.ShortWords.{length-IsLeastLossyRing}
 use Rattle.certificate_laws.proofs.TextLengths.{length-quoted, length-word_value, length-tail_value, length-values, length-pair_text, length-member, length-only}
 
 -- a number of sixteen bits has at most five digits

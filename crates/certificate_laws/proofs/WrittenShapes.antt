@@ -6,6 +6,7 @@ use Rattle.word_image.specs.LocalRules.{LocalRule, IsRule}
 use Rattle.word_image.specs.Weights.{AreWeights}
 use Rattle.word_image.specs.Ranks.{BeginTogether, EndTogether}
 use Rattle.word_image.proofs.laws.Images.{IsRule-mirrored}
+use Rattle.word_image.proofs.laws.Graphs.{pair_count-le}
 use Rattle.word_image.specs.declared.side.Side.TheVariants.{Right, Left}
 use Rattle.pair_laws.proofs.Endless.{IsRank-below}
 use Rattle.tail_config.specs.Tails.{TailConfig, mirror_of}
@@ -22,7 +23,7 @@ use Rattle.certificate_laws.specs.LeastEvidence.{IsRightPart, IsLeftPart}
 use Rattle.certificate_laws.specs.WrittenCertificates.{HasWrittenParts}
 use Rattle.certificate_laws.proofs.MetConditions.{own_parts}
 use Rattle.certificate_laws.proofs.ShortSplits.{IsLeastRightSplit-le}
-use Rattle.certificate_laws.proofs.Limits.{pair_count-le, IsSurjectiveShape-written, IsInjectiveShape-written, IsSideShape-ahead, IsSumShape-written, IsRankShape-exact}
+use Rattle.certificate_laws.proofs.Limits.{IsSurjectiveShape-written, IsInjectiveShape-written, IsSideShape-ahead, IsSumShape-written, IsRankShape-exact}
 
 -- the least normal right split is of short configurations
 IsSideShape-split : {r : LocalRule} {x y : TailConfig} → IsRule r → IsLeastRightSplit r x y → IsSideShape r (Split x y)

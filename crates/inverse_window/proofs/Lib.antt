@@ -8,5 +8,4 @@ pub mod RankStarts
 pub mod FirstSearches
 pub mod LeastWindows
 pub mod TurnSteps
-pub mod SpelledTwins
 mod BothWays

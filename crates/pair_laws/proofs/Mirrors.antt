@@ -11,7 +11,8 @@ use Rattle.word_image.specs.Sides.{Together, IsLeftAhead}
 use Rattle.word_image.proofs.laws.Values.{length-word_of, IsWord-word_of, value-word_of, word_of-value}
 use Rattle.word_image.proofs.laws.Images.{IsWord-reverse, image-mirrored, IsRule-mirrored, mirrored-mirrored}
 use Rattle.word_image.proofs.laws.Graphs.{value-node}
-use Rattle.pair_laws.proofs.Ranks.{BeginTogether-same}
+use Rattle.pair_laws.proofs.Walks.{LeadTogether}
+use Rattle.pair_laws.proofs.Ranks.{LeadTogether-begin, LeadTogether-end, BeginTogether-walk, EndTogether-walk, BeginTogether-same}
 
 -- a word of i + j letters read backwards begins with its last j letters read backwards, and goes on with the others
 reverse-cut : (i j : ℕ) (x : List ℕ) → length x ≡ i + j → (take j (reverse x) ≡ reverse (drop i x)) × (drop j (reverse x) ≡ reverse (take i x))
@@ -66,35 +67,26 @@ value-drop_reverse r n x h e =
     ap (value r.states) (reverse-cut (r.width - 1) n x (omega arith)).1
     ∙ value-reverse r (take (r.width - 1) x) (All-take (λ a. a < r.states) (r.width - 1) x h) (length-take-le (r.width - 1) x (omega arith))
 
--- what ends together begins together under the mirrored rule, mirrored
-pub BeginTogether-mirrored : {r : LocalRule} {u v n : ℕ} → IsRule r → EndTogether r u v n → BeginTogether (mirrored r) (mirror_node r u) (mirror_node r v) n
-BeginTogether-mirrored {r} {n = n} rule h =
+-- a walk read backwards leads back under the mirrored rule, from the mirrored nodes to the mirrored nodes
+LeadTogether-mirrored : {r : LocalRule} {u v s t n : ℕ} → IsRule r → LeadTogether r u v n s t → LeadTogether (mirrored r) (mirror_node r s) (mirror_node r t) n (mirror_node r u) (mirror_node r v)
+LeadTogether-mirrored {r} {n = n} rule h =
     record {
       x = reverse h.x;
       y = reverse h.y;
       one_image = HaveOneImage-reverse rule h.one_image;
-      first = value-take_reverse r n h.x h.one_image.first h.one_image.first_long ∙ ap (mirror_node r) h.first;
-      second = value-take_reverse r n h.y h.one_image.second h.one_image.second_long ∙ ap (mirror_node r) h.second;
-    }
-
--- and what begins together ends together
-pub EndTogether-mirrored : {r : LocalRule} {u v n : ℕ} → IsRule r → BeginTogether r u v n → EndTogether (mirrored r) (mirror_node r u) (mirror_node r v) n
-EndTogether-mirrored {r} {n = n} rule h =
-    record {
-      x = reverse h.x;
-      y = reverse h.y;
-      one_image = HaveOneImage-reverse rule h.one_image;
-      first = value-drop_reverse r n h.x h.one_image.first h.one_image.first_long ∙ ap (mirror_node r) h.first;
-      second = value-drop_reverse r n h.y h.one_image.second h.one_image.second_long ∙ ap (mirror_node r) h.second;
+      first = value-take_reverse r n h.x h.one_image.first h.one_image.first_long ∙ ap (mirror_node r) h.first_last;
+      second = value-take_reverse r n h.y h.one_image.second h.one_image.second_long ∙ ap (mirror_node r) h.second_last;
+      first_last = value-drop_reverse r n h.x h.one_image.first h.one_image.first_long ∙ ap (mirror_node r) h.first;
+      second_last = value-drop_reverse r n h.y h.one_image.second h.one_image.second_long ∙ ap (mirror_node r) h.second;
     }
 
 -- two nodes end together exactly where the mirrored ones begin together under the mirrored rule
 pub EndTogether-is_mirrored : {r : LocalRule} → IsRule r → (u v n : ℕ) → u < node_count r → v < node_count r
     → EndTogether r u v n ↔ BeginTogether (mirrored r) (mirror_node r u) (mirror_node r v) n
 EndTogether-is_mirrored {r} rule u v n hu hv = (
-  BeginTogether-mirrored rule,
+  (λ h. LeadTogether-begin (LeadTogether-mirrored rule (EndTogether-walk h).2)),
   (λ h. subst (λ (s : LocalRule). EndTogether s u v n) (mirrored-mirrored rule)
-      (subst₂ (λ (s t : ℕ). EndTogether (mirrored (mirrored r)) s t n) (mirror_node-mirror_node r u hu) (mirror_node-mirror_node r v hv) (EndTogether-mirrored (IsRule-mirrored rule) h))),
+      (subst₂ (λ (s t : ℕ). EndTogether (mirrored (mirrored r)) s t n) (mirror_node-mirror_node r u hu) (mirror_node-mirror_node r v hv) (LeadTogether-end (LeadTogether-mirrored (IsRule-mirrored rule) (BeginTogether-walk h).2)))),
 )
 
 -- a node goes on together with itself for every n

@@ -92,6 +92,16 @@ Different-nodes {r} {x} {y} rule hx hy i u v hv other e =
     Different-from_not_same hx hy (λ same.
     other (sym nodes.0 ∙ ap (value r.states) (cells-same x y start start (r.width - 1) (λ a l. same (start +ℤ pos a))) ∙ nodes.1))
 
+-- the configuration with two words between its periods
+IsTail-words : {k : ℕ} {x z : List ℕ} (v w : List ℕ) → IsWord k x → IsWord k v → IsWord k w → IsWord k z → 0 < length x → 0 < length z → IsTail k (record { left = x; middle = v ++ w; right = z })
+IsTail-words {k} v w x_word v_word w_word z_word x_some z_some = record {
+  left_some = x_some;
+  right_some = z_some;
+  left_word = x_word;
+  middle_word = All-append (λ c. c < k) v w v_word w_word;
+  right_word = z_word;
+}
+
 -- two different nodes that end and begin together for as long as there are pairs give twins
 pub has_twins-both_ways : {r : LocalRule} {u v : ℕ} → IsRule r → u ≢ v → EndTogether r u v (pair_count r) → BeginTogether r u v (pair_count r) → HasTwins r
 has_twins-both_ways {r} {u} {v} rule other back on =
@@ -105,20 +115,8 @@ has_twins-both_ways {r} {u} {v} rule other back on =
     let nodes = LeadTogether-last from.after in
     let x : TailConfig = record { left = before.a; middle = way.a ++ out.a; right = after.a } in
     let y : TailConfig = record { left = before.b; middle = way.b ++ out.b; right = after.b } in
-    let hx : IsTail r.states x = record {
-      left_some = omega (arith, before.a_long);
-      right_some = omega (arith, after.a_long);
-      left_word = before.a_word;
-      middle_word = All-append (λ c. c < r.states) way.a out.a way.a_word out.a_word;
-      right_word = after.a_word;
-    } in
-    let hy : IsTail r.states y = record {
-      left_some = omega (arith, before.b_long);
-      right_some = omega (arith, after.b_long);
-      left_word = before.b_word;
-      middle_word = All-append (λ c. c < r.states) way.b out.b way.b_word out.b_word;
-      right_word = after.b_word;
-    } in
+    let hx : IsTail r.states x = IsTail-words way.a out.a before.a_word way.a_word out.a_word after.a_word (omega (arith, before.a_long)) (omega (arith, after.a_long)) in
+    let hy : IsTail r.states y = IsTail-words way.b out.b before.b_word way.b_word out.b_word after.b_word (omega (arith, before.b_long)) (omega (arith, after.b_long)) in
     let lefts : length before.a ≡ length before.b = before.a_long ∙ sym before.b_long in
     let ins : length way.a ≡ length way.b = way.a_long ∙ sym way.b_long in
     let middles : length (way.a ++ out.a) ≡ length (way.b ++ out.b) = omega (arith, length-append way.a out.a, length-append way.b out.b, out.a_long, out.b_long) in

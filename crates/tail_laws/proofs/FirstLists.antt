@@ -1,11 +1,11 @@
 -- The first list of letter pairs that the numbers below n have, number by number, and in bytes: a letter pair (a, b) is the byte 16 a + b.
-use Rattle.std.proofs.Common.{◌≡◌, ◌≢◌, ℕ, ◌+◌, ◌/◌, ◌%◌, ◌<◌, ◌≤◌, List, length, map, Option, Some, None, Vec, Global, if◌then◌else◌, sym, ap, ap₂, ◌∙◌, subst, ⊎_elim, arith}
+use Rattle.std.proofs.Common.{◌≡◌, ◌≢◌, ℕ, ◌+◌, ◌/◌, ◌%◌, ◌<◌, ◌≤◌, List, map, Option, Some, None, Vec, Global, if◌then◌else◌, sym, ap, ap₂, ◌∙◌, subst, subst₂, ⊎_elim, arith}
 use Rattle.std.specs.Prelude.{MatchOption}
 use Rattle.std.specs.Ordering.{is_lt}
 use Rattle.std.specs.declared.cmp.Ordering.{Ordering}
 use Rattle.std.specs.declared.cmp.Ordering.TheVariants.{Less, Equal, Greater}
 use Rattle.std.proofs.lemmas.Bool.{cases_eq}
-use Rattle.std.proofs.lemmas.List.{length-map}
+use Rattle.std.proofs.lemmas.Simd.{map-map}
 use Rattle.word_image.specs.Words.{word_cmp}
 use Rattle.word_image.specs.Rings.{pairs_cmp}
 use Rattle.word_image.proofs.laws.Comparisons.{no_later, not_before, pairs_cmp_total}
@@ -66,17 +66,8 @@ pub IsFirstFound-none : (Has : ℕ → List (ℕ × ℕ) → Type 0) {n : ℕ} �
 IsFirstFound-none Has None before none = NoneBelow-none before none
 IsFirstFound-none Has (Some old) best none = IsFirstBelow-old best (λ v has. absurd (none v has))
 
--- the two words of some bytes
-abbrev pub first_word : List ℕ → List ℕ
-first_word steps = map (λ step. step / 16) steps
-
-abbrev pub second_word : List ℕ → List ℕ
-second_word steps = map (λ step. step % 16) steps
-
--- are as long as the letter pairs
-pub length-spelled : {most : ℕ} (steps x y : List ℕ) → x ≡ first_word steps → y ≡ second_word steps → length (map (uncode 16) steps) ≤ most → (length x ≤ most) × (length y ≤ most)
-length-spelled steps x y first second few =
-    let long = length-map steps (uncode 16) in (
-      omega (arith, few, long, ap length first, length-map steps (λ step. step / 16)),
-      omega (arith, few, long, ap length second, length-map steps (λ step. step % 16)),
-    )
+-- what holds of the two words of letter pairs holds of those that their bytes spell
+pub spelled : (P : List ℕ → List ℕ → Type 0) {bytes x y : List ℕ} (steps : List ℕ) → bytes ≡ steps → x ≡ map (λ step. step / 16) bytes → y ≡ map (λ step. step % 16) bytes
+    → P (map (λ p. p.0) (map (uncode 16) steps)) (map (λ p. p.1) (map (uncode 16) steps)) → P x y
+spelled P steps same first second holds =
+    subst₂ P (map-map (λ (p : ℕ × ℕ). p.0) (uncode 16) steps ∙ sym (first ∙ ap (map (λ step. step / 16)) same)) (map-map (λ (p : ℕ × ℕ). p.1) (uncode 16) steps ∙ sym (second ∙ ap (map (λ step. step % 16)) same)) holds

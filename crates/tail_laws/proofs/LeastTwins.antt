@@ -1,16 +1,19 @@
 -- The least twins are the first of the least walks in the marked graph from a pair without the mark to the same pair with it.
-use Rattle.std.proofs.Common.{◌≡◌, ℕ, ◌+◌, ◌*◌, ◌<◌, ◌≤◌, List, [], ◌∷◌, length, arith}
+use Rattle.std.proofs.Common.{◌≡◌, ◌≢◌, ℕ, ◌+◌, ◌<◌, ◌≤◌, List, [], ◌∷◌, length, map, sym, ◌∙◌, subst, arith}
 use Rattle.std.specs.List.{zip}
-use Rattle.std.proofs.lemmas.Nat.{mul-le}
-use Rattle.word_image.specs.LocalRules.{LocalRule, IsRule, node_count}
+use Rattle.std.specs.declared.cmp.Ordering.TheVariants.{Greater}
+use Rattle.std.proofs.lemmas.List.{length-map}
+use Rattle.std.proofs.lemmas.Slice.Zip.{length-zip}
+use Rattle.word_image.specs.LocalRules.{LocalRule, IsRule}
 use Rattle.word_image.specs.Graphs.{pair_count}
 use Rattle.word_image.specs.MarkedPairs.{marked}
-use Rattle.word_image.specs.Rings.{IsTwins, IsLeastTwins}
-use Rattle.word_image.proofs.laws.Graphs.{pair_count_pos}
+use Rattle.word_image.specs.Rings.{IsTwins, IsLeastTwins, pairs_cmp}
+use Rattle.word_image.proofs.laws.Graphs.{pair_count_pos, pair_count-le}
 use Rattle.search_laws.specs.PairWalks.{IsLeastWalk}
 use Rattle.tail_laws.specs.Turns.{IsTurn}
 use Rattle.pair_laws.proofs.Pairs.{marked-below}
 use Rattle.search_laws.proofs.PairWalks.{length-IsLeastWalk}
+use Rattle.tail_laws.proofs.SplitWalks.{zip-sides}
 use Rattle.tail_laws.proofs.MarkedTurns.{twins-turn, turn-twins}
 use Rattle.tail_laws.specs.FirstLists.{IsLeastOf, NoneBelow, IsFirstBelow}
 
@@ -30,24 +33,33 @@ turn-some rule p (ab ∷ w) turn = omega arith
 pub IsLeastOf-turn : {r : LocalRule} {p : ℕ} {w : List (ℕ × ℕ)} → IsRule r → IsLeastTurn r p w → IsLeastOf (IsTurn r) p w
 IsLeastOf-turn {r} {p} rule first = record { has = first.walk; least = λ v turn. first.least v (turn-some rule p v turn) turn }
 
--- the first of all walks is the least twins
-pub IsLeastTwins-first : {r : LocalRule} → IsRule r → (x y : List ℕ) → length x ≡ length y → IsFirstBelow (IsTurn r) (pair_count r) (zip x y) → IsLeastTwins r x y
-IsLeastTwins-first rule x y long first = record {
-  twins = turn-twins rule x y first.number long first.below first.has;
-  least = λ u v twins. let turn = twins-turn rule twins in first.least turn.0 (zip u v) turn.1 turn.2;
+-- the words of a walk from a pair to itself with the mark are twins
+IsTwins-turn : {r : LocalRule} {p : ℕ} {w : List (ℕ × ℕ)} → IsRule r → p < pair_count r → IsTurn r p w → IsTwins r (map (λ a. a.0) w) (map (λ a. a.1) w)
+IsTwins-turn {r} {p} {w} rule below turn =
+    turn-twins rule _ _ p (length-map w (λ (a : ℕ × ℕ). a.0) ∙ sym (length-map w (λ (a : ℕ × ℕ). a.1))) below (subst (IsTurn r p) (sym (zip-sides w)) turn)
+
+-- the first of all walks has the least twins
+pub IsLeastTwins-first : {r : LocalRule} {w : List (ℕ × ℕ)} → IsRule r → IsFirstBelow (IsTurn r) (pair_count r) w → IsLeastTwins r (map (λ a. a.0) w) (map (λ a. a.1) w)
+IsLeastTwins-first {w = w} rule first = record {
+  twins = IsTwins-turn rule first.below first.has;
+  least = λ u v twins. let turn = twins-turn rule twins in subst (λ z. pairs_cmp z (zip u v) ≢ Greater) (sym (zip-sides w)) (first.least turn.0 (zip u v) turn.1 turn.2);
 }
 
 -- where there is no walk there are no twins
 pub no_twins-none : {r : LocalRule} → IsRule r → NoneBelow (IsTurn r) (pair_count r) → (x y : List ℕ) → ¬ IsTwins r x y
 no_twins-none rule none x y twins = let turn = twins-turn rule twins in none turn.0 (zip x y) turn.1 turn.2
 
--- the first of all walks has at most 512 steps
-pub length-IsFirstTurn : {r : LocalRule} {w : List (ℕ × ℕ)} → IsRule r → IsFirstBelow (IsTurn r) (pair_count r) w → length w ≤ 512
-length-IsFirstTurn {r} {w} rule first =
-    let least : IsLeastTurn r first.number w = record {
-      some = turn-some rule first.number w first.has;
-      walk = first.has;
-      least = λ v some turn. first.least first.number v first.below turn;
+-- the least twins are the least walk from a pair to itself with the mark, so each has at most 512 letters
+pub length-IsLeastTwins : {r : LocalRule} {x y : List ℕ} → IsRule r → IsLeastTwins r x y → (length x ≤ 512) × (length y ≤ 512)
+length-IsLeastTwins {r} {x} {y} rule first =
+    let (p, below, turn) = twins-turn rule first.twins in
+    let walk : IsLeastTurn r p (zip x y) = record {
+      some = turn-some rule p (zip x y) turn;
+      walk = turn;
+      least = λ v some other. subst (λ z. pairs_cmp (zip x y) z ≢ Greater) (zip-sides v) (first.least _ _ (IsTwins-turn rule below other));
     } in
-    let most : pair_count r ≤ 16 * 16 = mul-le (node_count r) (node_count r) 16 16 rule.shape.most_nodes rule.shape.most_nodes in
-    omega (arith, length-IsLeastWalk (marked-below rule) least)
+    let most = pair_count-le rule in
+    let few = length-IsLeastWalk (marked-below rule) walk in
+    let one = first.twins.one_length in
+    let long = length-zip x y in
+    (omega arith, omega arith)

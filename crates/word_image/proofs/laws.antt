@@ -20,3 +20,4 @@ pub mod RulesBy
 pub mod Searches
 pub mod SameRules
 pub mod Weights
+pub mod Results

@@ -1,6 +1,6 @@
 -- What a command comes to: lines that are true, and operands that are refused.
 use Rattle.std.proofs.Common.{◌≡◌, ℕ, List, [], ◌++◌, append_assoc, sym, ap, ◌∙◌, subst}
-use Rattle.std.specs.Prelude.{Option, Result, Ok, Err, MatchResult}
+use Rattle.std.specs.Prelude.{codes, Option, Result, Ok, Err, MatchResult}
 use Rattle.std.specs.Result.{IsErrAnd}
 use Rattle.std.proofs.lemmas.Result.{err_from_is_err_and}
 use Rattle.rule_text.specs.RuleTexts.{IsTextFault}
@@ -51,9 +51,10 @@ comes_weaker (Err stop.ReadFault) output cause none = absurd none
 comes_weaker (Err (stop.Refused f)) output cause none = absurd none
 comes_weaker (Err (stop.Memory _)) output cause none = tt
 
--- what stops for one thing stops a command for all that follows
-pub stopped : (Output : List ℕ → Type 0) {Cause Cause' : List ℕ → Type 0} (s : Stop) (result : Result (List ℕ) Stop) → ((cause : List ℕ) → Cause cause → Cause' cause)
-    → IsStopFor (λ operand f. ⊥) Cause s → IsErrAnd result (λ e. e ≡ s) → Comes Output Cause' result
-stopped Output {Cause = Cause} {Cause' = Cause'} s result weaker stops is =
+-- what stops for its weights stops a command that has this cause
+pub stopped : (Output Cause : List ℕ → Type 0) {Other : Type 0} (s : Stop) (result : Result (List ℕ) Stop) → (Other → Cause (codes "weights"))
+    → IsStopFor (λ operand f. ⊥) (λ cause. Other × (cause ≡ codes "weights")) s → IsErrAnd result (λ e. e ≡ s) → Comes Output Cause result
+stopped Output Cause {Other = Other} s result unfit stops is =
     let err = err_from_is_err_and result is in
-    subst (Comes Output Cause') (sym (err.1 ∙ ap Err err.2)) (comes_weaker {Output = Output} {Output' = Output} {Cause = Cause} {Cause' = Cause'} (Err s) (λ out says. says) weaker stops)
+    subst (Comes Output Cause) (sym (err.1 ∙ ap Err err.2))
+    (comes_weaker {Output = Output} {Output' = Output} {Cause = λ cause. Other × (cause ≡ codes "weights")} {Cause' = Cause} (Err s) (λ out says. says) (λ cause (other, same). subst Cause (sym same) (unfit other)) stops)

@@ -36,12 +36,7 @@ pub fn weight(text: &[u8]) -> Option<u8>
     ensures { MatchOption result (¬ IsWeightText text.now)
         (λ weight. IsWeightText text.now × (weight ≡ decimal_value text.now)) }
 {
-    let weight = decimal(text, 3)?;
-    if weight <= 255 {
-        Some(weight as u8)
-    } else {
-        None
-    }
+    u8::try_from(decimal(text, 3)?).ok()
 }
 
 /// A seed: up to twenty decimal digits of a number below 2^64.
@@ -49,12 +44,7 @@ pub fn seed(text: &[u8]) -> Option<u64>
     ensures { MatchOption result (¬ IsSeed text.now)
         (λ seed. IsSeed text.now × (seed ≡ decimal_value text.now)) }
 {
-    let seed = decimal(text, 20)?;
-    if seed < 1 << 64 {
-        Some(seed as u64)
-    } else {
-        None
-    }
+    u64::try_from(decimal(text, 20)?).ok()
 }
 
 /// The number of at most so many decimal digits, one or two.

@@ -41,16 +41,17 @@ AreTrue-meets {c} shaped meets =
 pub IsShaped-text : {bytes : List ℕ} {c : Certificate} → IsCertificateText bytes c → IsShaped c
 IsShaped-text {c = c} h =
     let rule = IsRule-text h.rule in
+    let parts = h.parts in
     record {
       rule = rule;
-      surjective = h.surjective.1;
-      injective = h.injective.1;
-      right = h.right.1;
-      left = h.left.1;
-      conserving = h.conserving.1;
-      weights = IsWeightShape-has rule h.weights;
-      forward = h.ranks.1;
-      backward = h.ranks.2;
+      surjective = parts.surjective.1;
+      injective = parts.injective.1;
+      right = parts.right.1;
+      left = parts.left.1;
+      conserving = parts.conserving.1;
+      weights = IsWeightShape-has rule parts.weights;
+      forward = parts.ranks.1;
+      backward = parts.ranks.2;
     }
 
 -- what is accepted is true

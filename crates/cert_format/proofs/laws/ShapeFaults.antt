@@ -19,24 +19,24 @@ use Rattle.cert_format.specs.declared.shape_fault.CertFault.TheVariants as fault
 use Rattle.cert_format.specs.declared.cert_version.CertVersion.{CertVersion}
 use Rattle.cert_format.specs.Certificates.{Certificate}
 use Rattle.cert_format.specs.Versions.{number_of}
-use Rattle.cert_format.specs.CertificateTexts.{IsCertificateText, IsJson, IsObject, HasVersion, HasRuleText, IsWhole}
+use Rattle.cert_format.specs.CertificateTexts.{IsCertificateText, AreParts, IsJson, IsObject, HasVersion, HasRuleText, IsWhole}
 use Rattle.cert_format.specs.ShapeFaults.{IsShapeFault, IsFirstWithout, Passes, part_steps}
 use Rattle.cert_format.specs.Readings.{IsCertFault}
 use Rattle.cert_format.specs.ShapeFaults.IsShapeFault.{NoJson, NoObject, NoVersion, OtherVersion, NoRule, BadRule, BadPart}
 use Rattle.cert_format.proofs.laws.Uniqueness.{one_some, number_of-injective, IsWhole-unique, HasMember-unique, IsObject-unique, HasRuleText-unique, IsCertificateText-unique}
 
--- the steps after the rule pass in a certificate's text
-passes_all : {bytes : List ℕ} {c : Certificate} (h : IsCertificateText bytes c) (k : Key) → Passes c.version c.rule h.members k
+-- the steps after the rule pass where the members say each part
+passes_all : {ms : Members} {c : Certificate} → AreParts ms c → (k : Key) → Passes c.version c.rule ms k
 passes_all h key.Top = tt
 passes_all h key.Version = tt
 passes_all h key.Rule = tt
-passes_all {bytes} {c} h key.Surjective = (c.surjective, h.surjective)
-passes_all {bytes} {c} h key.Injective = (c.injective, h.injective)
-passes_all {bytes} {c} h key.Right = (c.right, h.right)
-passes_all {bytes} {c} h key.Left = (c.left, h.left)
-passes_all {bytes} {c} h key.Conserving = (c.conserving, h.conserving)
-passes_all {bytes} {c} h key.Weights = (c.weights, h.weights)
-passes_all {bytes} {c} h key.Ranks = (c.forward, c.backward, h.ranks)
+passes_all {c = c} h key.Surjective = (c.surjective, h.surjective)
+passes_all {c = c} h key.Injective = (c.injective, h.injective)
+passes_all {c = c} h key.Right = (c.right, h.right)
+passes_all {c = c} h key.Left = (c.left, h.left)
+passes_all {c = c} h key.Conserving = (c.conserving, h.conserving)
+passes_all {c = c} h key.Weights = (c.weights, h.weights)
+passes_all {c = c} h key.Ranks = (c.forward, c.backward, h.ranks)
 passes_all h key.Unknown = h.no_other
 
 -- what comes before the parts is one: the version, and the rule's text
@@ -60,7 +60,7 @@ IsCertificateText-no_fault {bytes} {c} h (BadPart ms v text r k json version rul
     let versions : c.version ≡ v = number_of-injective c.version v (one_version bytes (number_of c.version) (number_of v) h.json json h.version version) in
     let members = IsObject-unique bytes h.json json in
     let rules = IsRuleText-unique (subst (λ text. IsRuleText text c.rule) (one_text bytes h.text text h.json json h.rule_text rule_text) h.rule) rule in
-    first.fails (subst (λ ms. Passes v r ms k) members (subst (λ r. Passes v r h.members k) rules (subst (λ v. Passes v c.rule h.members k) versions (passes_all h k))))
+    first.fails (subst (λ ms. Passes v r ms k) members (subst (λ r. Passes v r h.members k) rules (subst (λ v. Passes v c.rule h.members k) versions (passes_all h.parts k))))
 
 -- the first of a list of which P isn't true is one
 first_of_list : {A : Type 0} (P : A → Type 0) (before other after rest : List A) (x y : A) → before ++ x ∷ after ≡ other ++ y ∷ rest → AllByRecursion P before → AllByRecursion P other → ¬ P x → ¬ P y → x ≡ y

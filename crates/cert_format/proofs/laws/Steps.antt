@@ -19,11 +19,11 @@ use Rattle.cert_format.specs.declared.shape_fault.CertFault.TheVariants as fault
 use Rattle.cert_format.specs.declared.cert_version.CertVersion.{CertVersion}
 use Rattle.cert_format.specs.Certificates.{Certificate}
 use Rattle.cert_format.specs.Versions.{number_of, names_weights}
-use Rattle.cert_format.specs.CertificateTexts.{IsCertificateText, IsObject, IsWhole, IsArrayOf, IsRanksValue, HasVersion, HasRuleText, HasWeights, HasRanks}
+use Rattle.cert_format.specs.CertificateTexts.{IsCertificateText, AreParts, IsObject, IsWhole, IsArrayOf, IsRanksValue, HasVersion, HasRuleText, HasWeights, HasRanks}
 use Rattle.cert_format.specs.CertificateTexts.HasWeights.{Named, Own}
 use Rattle.cert_format.specs.ShapeFaults.{Passes, part_steps}
 use Rattle.cert_format.specs.ShapeFaults.IsShapeFault.{NoJson, NoObject, BadPart}
-use Rattle.cert_format.specs.Readings.{AreParts, IsWeightsFor, AreRanksFor, IsStepFault, IsPartFault, IsCertFault}
+use Rattle.cert_format.specs.Readings.{IsWeightsFor, AreRanksFor, IsStepFault, IsPartFault, IsCertFault}
 use Rattle.cert_format.proofs.laws.Uniqueness.{one_some}
 
 -- the step of the ranks fails where the member is no ranks
@@ -59,14 +59,7 @@ IsCertificateText-parts bytes ms v r (Ok c) json version head kept same parts = 
   version = subst (λ v. HasVersion ms (number_of v)) (sym kept) version;
   rule_text = head.1;
   rule = subst (IsRuleText head.0) (sym same) head.2;
-  surjective = parts.surjective;
-  injective = parts.injective;
-  right = parts.right;
-  left = parts.left;
-  conserving = parts.conserving;
-  weights = parts.weights;
-  ranks = parts.ranks;
-  no_other = parts.no_other;
+  parts = parts;
 }
 IsCertificateText-parts bytes ms v r (Err f) json version head kept same parts = tt
 

@@ -209,14 +209,16 @@ IsCertificateText-unique {bytes} {c} {d} p q =
     let version : c.version ≡ d.version =
     number_of-injective c.version d.version (HasMember-unique IsWhole IsWhole-unique (codes "version") (number_of c.version) (number_of d.version) same p.version q.version) in
     let rule : c.rule ≡ d.rule = IsRuleText-unique (subst (λ text. IsRuleText text c.rule) text p.rule) q.rule in
-    let surjective : c.surjective ≡ d.surjective = HasMember-unique IsSurjectiveValue IsSurjectiveValue-unique (codes "surjective") c.surjective d.surjective same p.surjective.0 q.surjective.0 in
-    let injective : c.injective ≡ d.injective = HasMember-unique IsInjectiveValue IsInjectiveValue-unique (codes "injective") c.injective d.injective same p.injective.0 q.injective.0 in
-    let right : c.right ≡ d.right = HasMember-unique IsSideValue IsSideValue-unique (codes "right") c.right d.right same p.right.0 q.right.0 in
-    let left : c.left ≡ d.left = HasMember-unique IsSideValue IsSideValue-unique (codes "left") c.left d.left same p.left.0 q.left.0 in
-    let conserving : c.conserving ≡ d.conserving = HasMember-unique IsSumValue IsSumValue-unique (codes "conserving") c.conserving d.conserving same p.conserving.0 q.conserving.0 in
+    let here = p.parts in
+    let there = q.parts in
+    let surjective : c.surjective ≡ d.surjective = HasMember-unique IsSurjectiveValue IsSurjectiveValue-unique (codes "surjective") c.surjective d.surjective same here.surjective.0 there.surjective.0 in
+    let injective : c.injective ≡ d.injective = HasMember-unique IsInjectiveValue IsInjectiveValue-unique (codes "injective") c.injective d.injective same here.injective.0 there.injective.0 in
+    let right : c.right ≡ d.right = HasMember-unique IsSideValue IsSideValue-unique (codes "right") c.right d.right same here.right.0 there.right.0 in
+    let left : c.left ≡ d.left = HasMember-unique IsSideValue IsSideValue-unique (codes "left") c.left d.left same here.left.0 there.left.0 in
+    let conserving : c.conserving ≡ d.conserving = HasMember-unique IsSumValue IsSumValue-unique (codes "conserving") c.conserving d.conserving same here.conserving.0 there.conserving.0 in
     let weights : c.weights ≡ d.weights =
     HasWeights-unique c.weights d.weights
-    (subst (λ ms. HasWeights d.version d.rule ms c.weights) same (subst₂ (λ (v : CertVersion) (r : LocalRule). HasWeights v r p.members c.weights) version rule p.weights)) q.weights in
-    let ranks = IsRanksValue-unique q.ranks.0.0 c.forward c.backward d.forward d.backward
-    (subst (λ v. IsRanksValue v c.forward c.backward) (one_some (subst (λ ms. get_member (codes "ranks") ms ≡ Some p.ranks.0.0) same p.ranks.0.1) q.ranks.0.1) p.ranks.0.2) q.ranks.0.2 in
+    (subst (λ ms. HasWeights d.version d.rule ms c.weights) same (subst₂ (λ (v : CertVersion) (r : LocalRule). HasWeights v r p.members c.weights) version rule here.weights)) there.weights in
+    let ranks = IsRanksValue-unique there.ranks.0.0 c.forward c.backward d.forward d.backward
+    (subst (λ v. IsRanksValue v c.forward c.backward) (one_some (subst (λ ms. get_member (codes "ranks") ms ≡ Some here.ranks.0.0) same here.ranks.0.1) there.ranks.0.1) here.ranks.0.2) there.ranks.0.2 in
     λ i. record { version = version i; rule = rule i; surjective = surjective i; injective = injective i; right = right i; left = left i; conserving = conserving i; weights = weights i; forward = ranks.0 i; backward = ranks.1 i }

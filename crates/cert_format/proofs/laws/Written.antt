@@ -169,12 +169,14 @@ IsCertificateText-written {bytes} {c} json shaped =
       version = (whole_value (number_of c.version), refl, IsWhole-version c.version);
       rule_text = (string (printed_rule c.rule), refl, refl);
       rule = IsRuleText-printed_rule c.rule rule;
-      surjective = ((surjective_value c.surjective, refl, IsSurjectiveValue-written rule c.version c.surjective shaped.surjective), shaped.surjective);
-      injective = ((injective_value c.injective, refl, IsInjectiveValue-written rule c.injective shaped.injective), shaped.injective);
-      right = ((side_value c.right, refl, IsSideValue-written rule c.right shaped.right), shaped.right);
-      left = ((side_value c.left, refl, IsSideValue-written rule c.left shaped.left), shaped.left);
-      conserving = ((sum_value c.conserving, refl, IsSumValue-written rule c.conserving shaped.conserving), shaped.conserving);
-      weights = HasWeights-written c shaped.weights;
-      ranks = ((ranks_value c.forward c.backward, refl, IsRanksValue-written shaped.forward shaped.backward), shaped.forward, shaped.backward);
-      no_other = HasNoOther-written c shaped.weights;
+      parts = record {
+        surjective = ((surjective_value c.surjective, refl, IsSurjectiveValue-written rule c.version c.surjective shaped.surjective), shaped.surjective);
+        injective = ((injective_value c.injective, refl, IsInjectiveValue-written rule c.injective shaped.injective), shaped.injective);
+        right = ((side_value c.right, refl, IsSideValue-written rule c.right shaped.right), shaped.right);
+        left = ((side_value c.left, refl, IsSideValue-written rule c.left shaped.left), shaped.left);
+        conserving = ((sum_value c.conserving, refl, IsSumValue-written rule c.conserving shaped.conserving), shaped.conserving);
+        weights = HasWeights-written c shaped.weights;
+        ranks = ((ranks_value c.forward c.backward, refl, IsRanksValue-written shaped.forward shaped.backward), shaped.forward, shaped.backward);
+        no_other = HasNoOther-written c shaped.weights;
+      };
     }

@@ -3,6 +3,7 @@ use Rattle.std.proofs.Common.{◌≡◌, ℕ, ◌≤◌, None, ℤ, ap, ap₂, �
 use Rattle.std.proofs.lemmas.Bool.Decides.{nat_tests}
 use Rattle.std.proofs.lemmas.Int.{ints}
 use Rattle.word_image.specs.LocalRules.{IsShape}
+use Rattle.word_image.proofs.laws.RuleFaults.{IsShape-offset}
 use Rattle.rule_algebra.specs.AlgebraFaults.{offset_fault, limit_fault}
 
 -- of as many states as a rule has
@@ -19,15 +20,7 @@ IsShape-limit_fault k m o least most wide none = record {
 
 -- of the shape of a rule, at another offset
 pub IsShape-offset_fault : (k m : ℕ) (o p : ℤ) → IsShape k m o → offset_fault m p ≡ None → IsShape k m p
-IsShape-offset_fault k m o p shape none = record {
-  least_states = shape.least_states;
-  most_states = shape.most_states;
-  least_width = shape.least_width;
-  most_width = shape.most_width;
-  most_nodes = shape.most_nodes;
-  least_offset = grind (arith, ints);
-  most_offset = grind (arith, ints);
-}
+IsShape-offset_fault k m o p shape none = IsShape-offset p shape (grind (arith, ints)) (grind (arith, ints))
 
 -- the fault of a shape whose parts are known by other names
 pub limit_fault-parts : (k j m n : ℕ) (o p : ℤ) → k ≡ j → m ≡ n → o ≡ p → limit_fault k m o ≡ limit_fault j n p

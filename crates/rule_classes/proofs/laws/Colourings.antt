@@ -1,12 +1,13 @@
 -- The rules that colourings make are those of the class, and their numbers compare as their entries do.
-use Rattle.std.proofs.Common.{◌≡◌, ℕ, ◌^◌, ◌<◌, List, length, take, get_or, slice_index, Bool, true, false, ℤ, pos, refl, sym, ap, ◌∙◌, arith}
+use Rattle.std.proofs.Common.{◌≡◌, ℕ, ◌^◌, ◌<◌, List, length, take, get_or, slice_index, Bool, true, false, pos, refl, sym, ap, ◌∙◌, arith}
 use Rattle.std.proofs.lemmas.Int.{ints}
 use Rattle.std.proofs.lemmas.List.{length-map, get_or-take, get_or_append_left, ext_get_or}
 use Rattle.std.proofs.lemmas.List.FromFn.{get_or-map-range_with_len}
-use Rattle.word_image.specs.LocalRules.{LocalRule, IsShape, IsRule, value, word_of, local_map, wolfram_number}
+use Rattle.word_image.specs.LocalRules.{LocalRule, IsRule, value, word_of, local_map, wolfram_number}
 use Rattle.word_image.proofs.laws.Values.{length-word_of, IsWord-word_of, value-word_of}
 use Rattle.word_image.proofs.laws.Words.{entry-below}
 use Rattle.word_image.proofs.laws.Images.{IsRule-mirrored}
+use Rattle.word_image.proofs.laws.RuleFaults.{IsShape-offset}
 use Rattle.word_image.proofs.laws.SameRules.{rule_from_parts}
 use Rattle.rule_algebra.specs.Algebra.{recoloured}
 use Rattle.rule_algebra.specs.Tabulated.{table_by}
@@ -27,21 +28,9 @@ pub turned-below : {r : LocalRule} → IsRule r → (mirror : Bool) (w : List �
 turned-below {r} rule true w = entry-below (IsRule-mirrored rule) _
 turned-below {r} rule false w = entry-below rule _
 
--- a shape is accepted at offset 0
-pub IsShape-offset_0 : {k m : ℕ} {o : ℤ} → IsShape k m o → IsShape k m (pos 0)
-IsShape-offset_0 {k} {m} {o} shape = record {
-  least_states = shape.least_states;
-  most_states = shape.most_states;
-  least_width = shape.least_width;
-  most_width = shape.most_width;
-  most_nodes = shape.most_nodes;
-  least_offset = omega (arith, ints);
-  most_offset = omega (arith, ints, shape.most_width);
-}
-
 pub IsRule-in_colours : {r : LocalRule} (c : Colouring) → IsRule r → IsColouring r.states c → IsRule (in_colours r c)
 IsRule-in_colours {r} c rule colouring = record {
-  shape = IsShape-offset_0 rule.shape;
+  shape = IsShape-offset (pos 0) rule.shape (omega (arith, ints)) (omega (arith, ints, rule.shape.most_width));
   entries = length-table_by r.states r.width (new_letter r c);
   letters = IsWord-table_by r.states r.width (new_letter r c) (λ w. colouring.colour _ (turned-below rule c.mirrored (recoloured c.letters w)));
 }

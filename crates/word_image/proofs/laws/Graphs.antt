@@ -1,6 +1,6 @@
 -- The de Bruijn graph of a rule read on words: nodes are ends of words, edges are windows.
-use Rattle.std.proofs.Common.{◌≡◌, ℕ, ◌+◌, ◌-◌, ◌*◌, ◌%◌, ◌^◌, ◌<◌, List, [], ◌∷◌, ◌++◌, length, drop, slice_index, sym, ap, ◌∙◌, subst, arith, length-drop, mod-lt, mul-pos}
-use Rattle.std.proofs.Math.Nat.{one-le-pow, mul-pos}
+use Rattle.std.proofs.Common.{◌≡◌, ℕ, ◌+◌, ◌-◌, ◌*◌, ◌%◌, ◌^◌, ◌<◌, ◌≤◌, List, [], ◌∷◌, ◌++◌, length, drop, slice_index, sym, ap, ◌∙◌, subst, arith, length-drop, mod-lt, mul-pos}
+use Rattle.std.proofs.Math.Nat.{one-le-pow, mul-pos, mul-le-mul}
 use Rattle.std.proofs.lemmas.List.{drop-append-le, drop-drop, length_push}
 use Rattle.std.proofs.lemmas.List.Elements.{All-drop, All-push}
 use Rattle.word_image.specs.LocalRules.{LocalRule, IsRule, IsWord, value, local_map, node_count}
@@ -14,6 +14,10 @@ node_count_pos {r} rule = one-le-pow (r.width - 1) r.states (omega arith)
 -- and pairs of them
 pub pair_count_pos : {r : LocalRule} → IsRule r → 0 < pair_count r
 pair_count_pos rule = mul-pos (node_count_pos rule) (node_count_pos rule)
+
+-- of which there are at most 256
+pub pair_count-le : {r : LocalRule} → IsRule r → pair_count r ≤ 256
+pair_count-le rule = mul-le-mul rule.shape.most_nodes rule.shape.most_nodes
 
 -- an edge leads to a node
 pub next-below : {r : LocalRule} → IsRule r → (u a : ℕ) → next r u a < node_count r

@@ -10,6 +10,7 @@ use Rattle.word_image.specs.LocalRules.{LocalRule, IsRule, IsWord, value, word_o
 use Rattle.word_image.specs.Words.{image}
 use Rattle.word_image.proofs.laws.Values.{value-below, word_of-value, length-word_of, IsWord-word_of, value-word_of}
 use Rattle.word_image.proofs.laws.Words.{length-image, entry-below}
+use Rattle.word_image.proofs.laws.RuleFaults.{IsShape-offset}
 
 -- a letter of an image is what the rule gives on the window there
 pub get_or-image : (r : LocalRule) (x : List ℕ) (i : ℕ) → i < length x - (r.width - 1) → get_or (image r x) i 0 ≡ local_map r (slice_range x i (i + r.width))
@@ -97,15 +98,7 @@ pub IsRule-mirrored : {r : LocalRule} → IsRule r → IsRule (mirrored r)
 IsRule-mirrored {r} rule =
     let shape = rule.shape in
     record {
-      shape = record {
-        least_states = shape.least_states;
-        most_states = shape.most_states;
-        least_width = shape.least_width;
-        most_width = shape.most_width;
-        most_nodes = shape.most_nodes;
-        least_offset = grind (arith, ints);
-        most_offset = grind (arith, ints);
-      };
+      shape = IsShape-offset _ shape (grind (arith, ints)) (grind (arith, ints));
       entries = length-map-range_with_len (λ v. local_map r (reverse (word_of r.states r.width v))) 0 (r.states ^ r.width);
       letters = All-map (λ a. a < r.states) (λ v. local_map r (reverse (word_of r.states r.width v))) (range_with_len 0 (r.states ^ r.width)) (λ i d l. entry-below rule _);
     }

@@ -1,5 +1,5 @@
 -- No limit is broken exactly where the rule is accepted.
-use Rattle.std.proofs.Common.{◌≡◌, ℕ, suc, ap, pow-suc, mul-le-mul, ◌*◌, ◌-◌, ◌^◌, ◌<◌, ◌≤◌, List, length, take, leb, None, ℤ, ◌∙◌, arith, length-take-le}
+use Rattle.std.proofs.Common.{◌≡◌, ℕ, suc, ap, pow-suc, mul-le-mul, ◌*◌, ◌-◌, ◌^◌, ◌<◌, ◌≤◌, List, length, take, leb, None, ℤ, pos, negsuc, ◌+ℤ◌, ◌≤ℤ◌, ◌∙◌, arith, length-take-le}
 use Rattle.std.specs.Prelude.{nat_le, position}
 use Rattle.std.proofs.lemmas.Bool.Decides.{nat_tests}
 use Rattle.std.proofs.lemmas.Int.{ints}
@@ -24,6 +24,18 @@ IsShape-shape_fault k m o none = record {
 -- an accepted shape has no fault
 pub shape_fault-IsShape : (k m : ℕ) (o : ℤ) → IsShape k m o → shape_fault k m o ≡ None
 shape_fault-IsShape k m o shape = grind (arith, nat_tests, ints)
+
+-- an accepted shape is accepted at each offset within the limits
+pub IsShape-offset : {k m : ℕ} {o : ℤ} (p : ℤ) → IsShape k m o → negsuc 15 ≤ℤ p → (p +ℤ pos (m - 1)) ≤ℤ pos 16 → IsShape k m p
+IsShape-offset p shape least most = record {
+  least_states = shape.least_states;
+  most_states = shape.most_states;
+  least_width = shape.least_width;
+  most_width = shape.most_width;
+  most_nodes = shape.most_nodes;
+  least_offset = least;
+  most_offset = most;
+}
 
 -- where no letter has a fault, each is a letter
 no_fault_before : (k : ℕ) (table : List ℕ) → length table ≤ position_or_len (λ a. leb k a) table → IsWord k table

@@ -1,5 +1,6 @@
 use Rattle.std.proofs.Common.{◌≡◌, Ok, Err, inl, inr, sym, ap, ◌∙◌, subst, ⊎_elim}
 use Rattle.std.proofs.lemmas.Result.{err_from_is_err_and}
+use Rattle.word_image.proofs.laws.Results.{handed_on}
 use Rattle.cert_format.specs.declared.shape_fault.CertFault.TheVariants as cert_fault
 use Rattle.cert_check.specs.declared.refusal.Refusal.TheVariants as refusal
 use Rattle.cert_check.specs.Refusals.{IsRefusal}
@@ -12,8 +13,7 @@ use Rattle.cert_check.proofs.judging.judge.Goals as goal
 
 pub returns-in_err-check_all-in-Ok-clause-refused : goal.returns-in_err-check_all-in-Ok-clause-refused
 returns-in_err-check_all-in-Ok-clause-refused c =
-    let p = err_from_is_err_and c.from_residual.result c.from_residual.ensures.1 in
-    rw (p.1, p.2) (inr (Unmet c.in-Ok.cert c.in_err-check_all-in-Ok.field-0.0 c.in-Ok.ensures.cert c.in_err-check_all-in-Ok.ensures))
+    handed_on _ c.from_residual.result c.from_residual.ensures.1 (inr (Unmet c.in-Ok.cert c.in_err-check_all-in-Ok.field-0.0 c.in-Ok.ensures.cert c.in_err-check_all-in-Ok.ensures))
 
 pub returns-in_err-check_all-in-Ok-clause-every_accepted : goal.returns-in_err-check_all-in-Ok-clause-every_accepted
 returns-in_err-check_all-in-Ok-clause-every_accepted c = λ v h.

@@ -1,14 +1,13 @@
 use Rattle.std.proofs.Common.{sym, subst, ◌∙◌}
-use Rattle.std.proofs.lemmas.Result.{err_from_is_err_and}
 use Rattle.serde_json.specs.View.{view}
+use Rattle.word_image.proofs.laws.Results.{handed_on}
 use Rattle.cert_format.specs.Readings.{IsFluxFor}
 use Rattle.cert_format.proofs.laws.Evidence.{IsFluxFor-array, no_flux}
 use Rattle.cert_format.proofs.evidence.flux.Goals as goal
 
 pub returns-in_err-flows-clause-none : goal.returns-in_err-flows-clause-none
 returns-in_err-flows-clause-none c =
-    let p = err_from_is_err_and c.from_residual.result c.from_residual.ensures.1 in
-    rw (p.1, p.2) (λ shape. no_flux c.args.rule.now (view c.args.value.now) (λ xs long. c.in_err-flows.ensures.none shape xs (long ∙ sym (c.from.ensures ∙ c.nodes.ensures.nodes))))
+    handed_on _ c.from_residual.result c.from_residual.ensures.1 (λ shape. no_flux c.args.rule.now (view c.args.value.now) (λ xs long. c.in_err-flows.ensures.none shape xs (long ∙ sym (c.from.ensures ∙ c.nodes.ensures.nodes))))
 
 pub returns-clause-flux : goal.returns-clause-flux
 returns-clause-flux c =

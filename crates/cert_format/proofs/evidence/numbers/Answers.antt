@@ -1,14 +1,13 @@
 use Rattle.std.proofs.Common.{◌≡◌, ◌≤◌, sym, subst, true, All, arith}
-use Rattle.std.proofs.lemmas.Result.{err_from_is_err_and}
 use Rattle.serde_json.specs.View.{view}
+use Rattle.word_image.proofs.laws.Results.{handed_on}
 use Rattle.cert_format.specs.Readings.{AreNumbers}
 use Rattle.cert_format.proofs.laws.Evidence.{AreNumbers-array, no_numbers_array, no_numbers_above}
 use Rattle.cert_format.proofs.evidence.numbers.Goals as goal
 
 pub returns-in_err-numbers-clause-none : goal.returns-in_err-numbers-clause-none
 returns-in_err-numbers-clause-none c =
-    let p = err_from_is_err_and c.from_residual.result c.from_residual.ensures.1 in
-    rw (p.1, p.2) (λ shape. no_numbers_array (view c.args.value.now) c.args.most (omega (arith, c.ranges.most)) (c.in_err-numbers.ensures.none shape))
+    handed_on _ c.from_residual.result c.from_residual.ensures.1 (λ shape. no_numbers_array (view c.args.value.now) c.args.most (omega (arith, c.ranges.most)) (c.in_err-numbers.ensures.none shape))
 
 pub returns-then-not-are_within-clause-none : goal.returns-then-not-are_within-clause-none
 returns-then-not-are_within-clause-none c same =

@@ -1,14 +1,13 @@
 use Rattle.std.proofs.Common.{sym, subst, ◌∙◌}
-use Rattle.std.proofs.lemmas.Result.{err_from_is_err_and}
 use Rattle.serde_json.specs.View.{view}
+use Rattle.word_image.proofs.laws.Results.{handed_on}
 use Rattle.cert_format.specs.Readings.{IsRowFor}
 use Rattle.cert_format.proofs.laws.Evidence.{IsRowFor-array, no_row}
 use Rattle.cert_format.proofs.evidence.row.Goals as goal
 
 pub returns-in_err-claims-clause-none : goal.returns-in_err-claims-clause-none
 returns-in_err-claims-clause-none c =
-    let p = err_from_is_err_and c.from_residual.result c.from_residual.ensures.1 in
-    rw (p.1, p.2) (λ shape. no_row c.args.rule.now (view c.args.value.now) (λ xs long. c.in_err-claims.ensures.none shape xs (long ∙ sym (c.from.ensures ∙ c.pairs.ensures.count))))
+    handed_on _ c.from_residual.result c.from_residual.ensures.1 (λ shape. no_row c.args.rule.now (view c.args.value.now) (λ xs long. c.in_err-claims.ensures.none shape xs (long ∙ sym (c.from.ensures ∙ c.pairs.ensures.count))))
 
 pub returns-clause-row : goal.returns-clause-row
 returns-clause-row c =

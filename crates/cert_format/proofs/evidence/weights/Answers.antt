@@ -1,15 +1,14 @@
 use Rattle.std.proofs.Common.{◌≡◌, ◌≢◌, refl, sym, ap, subst, length, ◌∙◌}
 use Rattle.std.proofs.lemmas.Bool.{false≢true}
-use Rattle.std.proofs.lemmas.Result.{err_from_is_err_and}
 use Rattle.serde_json.specs.View.{view}
+use Rattle.word_image.proofs.laws.Results.{handed_on}
 use Rattle.cert_format.specs.Readings.{IsWeightsFor}
 use Rattle.cert_format.proofs.laws.Evidence.{IsWeightsFor-array, no_weights_array, no_weights_long}
 use Rattle.cert_format.proofs.evidence.weights.Goals as goal
 
 pub returns-in_err-numbers-clause-none : goal.returns-in_err-numbers-clause-none
 returns-in_err-numbers-clause-none c =
-    let p = err_from_is_err_and c.from_residual.result c.from_residual.ensures.1 in
-    rw (p.1, p.2) (λ shape. no_weights_array c.args.rule.now (view c.args.value.now) (c.in_err-numbers.ensures.none shape))
+    handed_on _ c.from_residual.result c.from_residual.ensures.1 (λ shape. no_weights_array c.args.rule.now (view c.args.value.now) (c.in_err-numbers.ensures.none shape))
 
 pub returns-clause-none : goal.returns-clause-none
 returns-clause-none c shape =

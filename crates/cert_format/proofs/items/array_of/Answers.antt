@@ -1,13 +1,12 @@
 use Rattle.std.proofs.Common.{◌≡◌, ◌∙◌, length}
-use Rattle.std.proofs.lemmas.Result.{err_from_is_err_and}
 use Rattle.serde_json.specs.View.{view}
+use Rattle.word_image.proofs.laws.Results.{handed_on}
 use Rattle.cert_format.proofs.laws.Uniqueness.{IsArrayOf-length}
 use Rattle.cert_format.proofs.items.array_of.Goals as goal
 
 pub returns-in_err-items-clause-none : goal.returns-in_err-items-clause-none
 returns-in_err-items-clause-none g c =
-    let p = err_from_is_err_and c.from_residual.result c.from_residual.ensures.1 in
-    rw (p.1, p.2) (λ shape xs long. c.in_err-items.ensures.none shape xs)
+    handed_on _ c.from_residual.result c.from_residual.ensures.1 (λ shape xs long. c.in_err-items.ensures.none shape xs)
 
 pub returns-then-len-count-clause-none : goal.returns-then-len-count-clause-none
 returns-then-len-count-clause-none g c shape xs long is =

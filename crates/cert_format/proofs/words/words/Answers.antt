@@ -1,5 +1,5 @@
-use Rattle.std.proofs.lemmas.Result.{err_from_is_err_and}
 use Rattle.serde_json.specs.View.{view}
+use Rattle.word_image.proofs.laws.Results.{handed_on}
 use Rattle.cert_format.specs.CertificateTexts.{IsDigits}
 use Rattle.cert_format.proofs.laws.Arrays.{IsArrayOf-pair, IsArrayOf-items}
 use Rattle.cert_format.proofs.words.words.Goals as goal
@@ -11,10 +11,8 @@ returns-in_default-clause-none c same x y both =
 
 pub returns-in_err-x-clause-none : goal.returns-in_err-x-clause-none
 returns-in_err-x-clause-none c =
-    let p = err_from_is_err_and c.from_residual.result c.from_residual.ensures.1 in
-    rw (p.1, p.2) (λ shape x y both. c.in_err-x.ensures.none shape x ((IsArrayOf-items IsDigits (view c.args.value.now) _ _ x y c.in-Some.ensures.some both.0).0, both.1))
+    handed_on _ c.from_residual.result c.from_residual.ensures.1 (λ shape x y both. c.in_err-x.ensures.none shape x ((IsArrayOf-items IsDigits (view c.args.value.now) _ _ x y c.in-Some.ensures.some both.0).0, both.1))
 
 pub returns-in_err-y-clause-none : goal.returns-in_err-y-clause-none
 returns-in_err-y-clause-none c =
-    let p = err_from_is_err_and c.from_residual-in_err-y.result c.from_residual-in_err-y.ensures.1 in
-    rw (p.1, p.2) (λ shape x y both. c.in_err-y.ensures.none shape y ((IsArrayOf-items IsDigits (view c.args.value.now) _ _ x y c.in-Some.ensures.some both.0).1, both.2))
+    handed_on _ c.from_residual-in_err-y.result c.from_residual-in_err-y.ensures.1 (λ shape x y both. c.in_err-y.ensures.none shape y ((IsArrayOf-items IsDigits (view c.args.value.now) _ _ x y c.in-Some.ensures.some both.0).1, both.2))

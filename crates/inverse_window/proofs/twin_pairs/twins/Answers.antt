@@ -1,22 +1,20 @@
-use Rattle.std.proofs.Common.{◌≡◌, map, true, false, refl, ap, ◌∙◌}
+use Rattle.std.proofs.Common.{◌≡◌, map, true, false, refl}
 use Rattle.word_image.specs.LocalRules.{IsRule}
 use Rattle.word_image.specs.Graphs.{pair_count}
+use Rattle.word_image.specs.Rings.{IsLeastTwins}
 use Rattle.search_laws.specs.PairWalks.{uncode}
 use Rattle.tail_laws.proofs.TwinTails.{no_twins}
 use Rattle.tail_laws.proofs.NoTwins.{IsInjective-no_twins}
 use Rattle.tail_laws.specs.FirstLists.{NoneBelow, IsFirstBelow}
 use Rattle.tail_laws.specs.Turns.{IsTurn}
-use Rattle.tail_laws.proofs.FirstLists.{first_word, second_word, length-spelled}
-use Rattle.tail_laws.proofs.LeastTwins.{no_twins-none, length-IsFirstTurn}
-use Rattle.inverse_window.proofs.SpelledTwins.{IsLeastTwins-spelled}
+use Rattle.tail_laws.proofs.FirstLists.{spelled}
+use Rattle.tail_laws.proofs.LeastTwins.{IsLeastTwins-first, no_twins-none, length-IsLeastTwins}
 use Rattle.inverse_window.proofs.twin_pairs.twins.Goals as goal
 
 pub returns-in_ok-x-in-Some-clause-least : goal.returns-in_ok-x-in-Some-clause-least
 returns-in_ok-x-in-Some-clause-least c =
-    let rule : IsRule c.args.pairs.now = c.in_ok-steps.ensures.rule in
     let turn : IsFirstBelow (IsTurn c.args.pairs.now) (pair_count c.args.pairs.now) (map (uncode 16) c.in-Some.steps.items) = rw c.in-Some.is at c.in_ok-steps.ensures.turn in
-    IsLeastTwins-spelled rule c.in-Some.steps.items c.in_ok-x-in-Some.x c.in_ok-x-in-Some.y
-    (c.in_ok-x-in-Some.ensures.first ∙ ap first_word c.deref.ensures.value) (c.in_ok-x-in-Some.ensures.second ∙ ap second_word c.deref.ensures.value) turn
+    spelled (IsLeastTwins c.args.pairs.now) c.in-Some.steps.items c.deref.ensures.value c.in_ok-x-in-Some.ensures.first c.in_ok-x-in-Some.ensures.second (IsLeastTwins-first c.in_ok-steps.ensures.rule turn)
 
 pub returns-in_ok-x-in-Some-clause-injective : goal.returns-in_ok-x-in-Some-clause-injective
 returns-in_ok-x-in-Some-clause-injective c = (
@@ -25,11 +23,7 @@ returns-in_ok-x-in-Some-clause-injective c = (
 )
 
 pub returns-in_ok-x-in-Some-clause-most : goal.returns-in_ok-x-in-Some-clause-most
-returns-in_ok-x-in-Some-clause-most c =
-    let rule : IsRule c.args.pairs.now = c.in_ok-steps.ensures.rule in
-    let turn : IsFirstBelow (IsTurn c.args.pairs.now) (pair_count c.args.pairs.now) (map (uncode 16) c.in-Some.steps.items) = rw c.in-Some.is at c.in_ok-steps.ensures.turn in
-    length-spelled c.in-Some.steps.items c.in_ok-x-in-Some.x c.in_ok-x-in-Some.y
-    (c.in_ok-x-in-Some.ensures.first ∙ ap first_word c.deref.ensures.value) (c.in_ok-x-in-Some.ensures.second ∙ ap second_word c.deref.ensures.value) (length-IsFirstTurn rule turn)
+returns-in_ok-x-in-Some-clause-most c = length-IsLeastTwins c.in_ok-steps.ensures.rule (returns-in_ok-x-in-Some-clause-least c)
 
 pub returns-in-None-clause-least : goal.returns-in-None-clause-least
 returns-in-None-clause-least c =

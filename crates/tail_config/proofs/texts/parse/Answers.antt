@@ -1,6 +1,7 @@
 use Rattle.std.proofs.Common.{◌≡◌, ℕ, List, Err, IfOk, IfErr, alloc_error, sym, inl, inr, subst, rules}
 use Rattle.std.proofs.lemmas.Result.{err_from_is_err_and}
 use Rattle.word_image.specs.Grammars.{IsFormFault}
+use Rattle.word_image.proofs.laws.Results.{handed_on}
 use Rattle.tail_config.specs.TailFaults.{HasForm}
 use Rattle.tail_config.specs.TailTextFaults.{IsTailTextFault, NoForm, Refused, IsFormAt, letters_of}
 use Rattle.tail_config.specs.declared.texts.TailTextFault.{TailTextFault}
@@ -22,8 +23,7 @@ at_form c =
 
 pub returns-in_err-parts-clause-fault : goal.returns-in_err-parts-clause-fault
 returns-in_err-parts-clause-fault c =
-    let p = err_from_is_err_and c.from_residual.result c.from_residual.ensures.1 in
-    rw (p.1, p.2) (inr (form_fault c.in_err-parts.ensures.fault))
+    handed_on _ c.from_residual.result c.from_residual.ensures.1 (inr (form_fault c.in_err-parts.ensures.fault))
 
 pub returns-in_err-parts-clause-every_fault : goal.returns-in_err-parts-clause-every_fault
 returns-in_err-parts-clause-every_fault c = every_fault c.args.k c.args.text.now c.from_residual.result (at_form c)

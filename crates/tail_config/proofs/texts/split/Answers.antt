@@ -1,19 +1,17 @@
 use Rattle.std.proofs.Common.{refl}
-use Rattle.std.proofs.lemmas.Result.{err_from_is_err_and}
+use Rattle.word_image.proofs.laws.Results.{handed_on}
 use Rattle.tail_config.proofs.laws.TailTexts.{IsFormFault-left, IsFormFault-middle, IsFormFault-right, IsCut-right}
 use Rattle.tail_config.proofs.texts.split.Goals as goal
 
 pub returns-in_err-first-clause-fault : goal.returns-in_err-first-clause-fault
 returns-in_err-first-clause-fault c =
-    let p = err_from_is_err_and c.from_residual.result c.from_residual.ensures.1 in
     let f = c.in_err-first.ensures.fault in
-    rw (p.1, p.2) (f.0, f.1, IsFormFault-left f.2)
+    handed_on _ c.from_residual.result c.from_residual.ensures.1 (f.0, f.1, IsFormFault-left f.2)
 
 pub returns-in_err-second-clause-fault : goal.returns-in_err-second-clause-fault
 returns-in_err-second-clause-fault c =
-    let p = err_from_is_err_and c.from_residual-in_err-second.result c.from_residual-in_err-second.ensures.1 in
     let f = c.in_err-second.ensures.fault in
-    rw (p.1, p.2) (f.0, f.1, IsFormFault-middle c.in_ok-first.ensures.bar f.2)
+    handed_on _ c.from_residual-in_err-second.result c.from_residual-in_err-second.ensures.1 (f.0, f.1, IsFormFault-middle c.in_ok-first.ensures.bar f.2)
 
 pub returns-then-end-text-clause-fault : goal.returns-then-end-text-clause-fault
 returns-then-end-text-clause-fault c =

@@ -13,7 +13,6 @@ returns-in_err-left c =
 
 pub returns-in_err-right : goal.returns-in_err-right
 returns-in_err-right c =
-    let r = c.args.graph.now in
     let parts = c.args.parts.now in
     let A = Relates parts.left.period in
     let C = Relates parts.right.period in
@@ -24,7 +23,6 @@ returns-in_err-right c =
 
 pub returns : goal.returns
 returns c =
-    let r = c.args.graph.now in
     let parts = c.args.parts.now in
     let A = Relates parts.left.period in
     let C = Relates parts.right.period in

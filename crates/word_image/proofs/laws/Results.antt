@@ -1,0 +1,9 @@
+-- What a function hands on.
+use Rattle.std.specs.Prelude.{◌≡◌, Result, Ok, Err, IfErr}
+use Rattle.std.proofs.Common.{sym, subst}
+use Rattle.std.specs.Result.{IsErrAnd}
+
+-- an error that is handed on is the one that came
+pub handed_on : {T E : Type 0} {e : E} (P : E → Type 0) (r : Result T E) → IsErrAnd r (λ f. f ≡ e) → P e → IfErr r P
+handed_on P (Ok x) is h = absurd is
+handed_on P (Err f) is h = subst P (sym is) h
