@@ -12,7 +12,7 @@ use crate::marks::{Parts, Rows, add, fresh, has, parts_of, step_from};
 use pair_graph::Pairs;
 
 /// The most marked pairs.
-pub const MOST_STATES: usize = 512;
+pub const MOST_MARKED_PAIRS: usize = 512;
 
 /// A marked pair that was reached, and how first: from that at place `parent`, by `step`, a letter
 /// pair (a, b) as 16 a + b. For the start, which stands first, these two say nothing.

@@ -3,7 +3,7 @@
 ghost use Rattle.std.specs.Prelude.{◌≡◌, ℕ, ◌+◌, ◌*◌, ◌<◌, ◌≤◌, List, [], ◌∷◌, ◌++◌, length, map, vec_len, vec_capacity, IfSome, IfNone, Some};
 ghost use Rattle.least_walk.specs.Queues.{IsBackward, SpellsBefore};
 
-use crate::queue::{Ends, MOST_STATES, Reached, search};
+use crate::queue::{Ends, MOST_MARKED_PAIRS, Reached, search};
 use pair_graph::Pairs;
 use std::alloc::{AllocError, Global};
 use std::marker::Model;
@@ -39,7 +39,7 @@ impl Walker {
     /// A walker, with all the memory that it needs.
     pub fn new(alloc: Global) -> Result<Walker, AllocError> {
         Ok(Walker {
-            queue: Vec::with_capacity(alloc, MOST_STATES)?,
+            queue: Vec::with_capacity(alloc, MOST_MARKED_PAIRS)?,
             steps: Vec::with_capacity(alloc, MOST_STEPS)?,
         })
     }
