@@ -3,7 +3,7 @@
 ghost use Rattle.std.specs.Prelude.{◌≡◌, ℕ, ◌+◌, ◌*◌, ◌<◌, ◌≤◌, List, [], ◌∷◌, ◌++◌, length, map, vec_len, vec_capacity, IfSome, IfNone, Some};
 ghost use Rattle.least_walk.specs.Queues.{IsBackward, SpellsBefore};
 
-use crate::queue::{Ends, MOST_MARKED_PAIRS, Reached, search};
+use crate::queue::{Ends, MOST_MARKED_PAIRS, Reached, put, search};
 use pair_graph::Pairs;
 use std::alloc::{AllocError, Global};
 use std::marker::Model;
@@ -102,16 +102,4 @@ pub fn spell(queue: &[Reached], place: u16, steps: &mut Vec<u8>)
         place = usize::from(reached.parent);
     }
     steps.reverse();
-}
-
-/// Adds a step where there is room for it.
-fn put(steps: &mut Vec<u8>, step: u8)
-    requires { vec_len steps.old < vec_capacity steps.old }
-    ensures items { steps.new.items ≡ steps.old.items ++ step ∷ [] }
-    ensures room { vec_capacity steps.old ≤ vec_capacity steps.new }
-{
-    match steps.push(step) {
-        Ok(()) => (),
-        Err(_) => unreachable!(),
-    }
 }
