@@ -31,7 +31,6 @@
 mod aheads;
 mod claims;
 mod conditions;
-mod exactness;
 mod judging;
 mod marks;
 mod orphans;
@@ -41,11 +40,12 @@ mod sets;
 mod splits;
 mod steps;
 mod sums;
+mod theorems;
 mod twins;
 mod verdicts;
 mod windows;
 
-pub use exactness::{one_answer, version_2_asks_no_more};
 pub use judging::judge;
 pub use refusal::{Refusal, SplitCause, TwinCause};
+pub use theorems::{one_answer, version_2_asks_no_more};
 pub use verdicts::Verdicts;

@@ -28,13 +28,8 @@ pub fn surjective_step(
     ensures fault { IfErr result (IsStepFault Key.Surjective
         ((e : SurjectiveEvidence) × HasSurjective version rule.now (members_in (view value.now)) e)) }
 {
-    let Some(part) = member(value, "surjective") else {
-        return Err(Misread::Shape.at(Key::Surjective));
-    };
-    match surjective(alloc, version, rule, part) {
-        Ok(part) => Ok(part),
-        Err(fault) => Err(fault.at(Key::Surjective)),
-    }
+    let part = member(value, "surjective").ok_or(Misread::Shape.at(Key::Surjective))?;
+    surjective(alloc, version, rule, part).map_err(|fault| fault.at(Key::Surjective))
 }
 
 /// Whether it is injective.
@@ -44,13 +39,8 @@ pub fn injective_step(alloc: Global, rule: &Rule, value: &Value) -> Result<Injec
     ensures fault { IfErr result (IsStepFault Key.Injective
         ((e : InjectiveEvidence) × HasInjective rule.now (members_in (view value.now)) e)) }
 {
-    let Some(part) = member(value, "injective") else {
-        return Err(Misread::Shape.at(Key::Injective));
-    };
-    match injective(alloc, rule, part) {
-        Ok(part) => Ok(part),
-        Err(fault) => Err(fault.at(Key::Injective)),
-    }
+    let part = member(value, "injective").ok_or(Misread::Shape.at(Key::Injective))?;
+    injective(alloc, rule, part).map_err(|fault| fault.at(Key::Injective))
 }
 
 /// Whether it closes on the side of a key with this name.
@@ -67,13 +57,8 @@ pub fn side_step(
     ensures fault { IfErr result (IsStepFault key
         ((e : SideEvidence) × HasSide name.now rule.now (members_in (view value.now)) e)) }
 {
-    let Some(part) = member(value, name) else {
-        return Err(Misread::Shape.at(key));
-    };
-    match side(alloc, rule, part) {
-        Ok(part) => Ok(part),
-        Err(fault) => Err(fault.at(key)),
-    }
+    let part = member(value, name).ok_or(Misread::Shape.at(key))?;
+    side(alloc, rule, part).map_err(|fault| fault.at(key))
 }
 
 /// Whether it conserves the sum of its cells.
@@ -83,13 +68,8 @@ pub fn conserving_step(alloc: Global, rule: &Rule, value: &Value) -> Result<SumP
     ensures fault { IfErr result (IsStepFault Key.Conserving
         ((e : SumEvidence) × HasConserving rule.now (members_in (view value.now)) e)) }
 {
-    let Some(part) = member(value, "conserving") else {
-        return Err(Misread::Shape.at(Key::Conserving));
-    };
-    match conserving(alloc, rule, part) {
-        Ok(part) => Ok(part),
-        Err(fault) => Err(fault.at(Key::Conserving)),
-    }
+    let part = member(value, "conserving").ok_or(Misread::Shape.at(Key::Conserving))?;
+    conserving(alloc, rule, part).map_err(|fault| fault.at(Key::Conserving))
 }
 
 /// What each letter weighs: its own value where the version names no weights or none are named.

@@ -1,13 +1,12 @@
 -- Marks, one node more at a time.
 use Rattle.std.proofs.Common.{◌≡◌, ◌≢◌, ℕ, ◌+◌, ◌-◌, ◌^◌, ◌<◌, ◌≤◌, ◌↔◌, ◌⊎◌, inl, inr, List, Bool, false, IsTrue, length, slice_index, slice_index_or, IsBitSet, refl, sym, ◌∙◌, subst, arith, ⊎_elim}
-use Rattle.std.specs.Int.{bit_at}
 use Rattle.std.proofs.lemmas.Bool.{cases_eq, cases_lt}
 use Rattle.std.proofs.lemmas.Nat.{and_le_l}
-use Rattle.std.proofs.lemmas.Nat.Bits.{same_from_bits_below, bit_at-lt}
 use Rattle.std.proofs.Math.Pow.{pow-lt, pow_mono}
 use Rattle.word_image.proofs.laws.Searches.{some_below}
-use Rattle.word_image.proofs.laws.Bits.{bit_at-IsBitSet, IsBitSet-pow}
+use Rattle.word_image.proofs.laws.Bits.{IsBitSet-pow}
 use Rattle.pair_laws.proofs.Sets.{IsBitSet-minus, IsBitSet-below, IsBitSet-decide}
+use Rattle.search_laws.proofs.StepSets.{same_set}
 use Rattle.image_subsets.specs.Marks.{IsSetMarked, IsPart, set_without, IsSpreadTo, AreMarksTo, AreMarks, AreCovers, HoldsSmaller, IsMinimal}
 
 -- the nodes that are left without one
@@ -60,37 +59,21 @@ IsSpreadTo-next {u} {n} {old} {now} {new} h node long here others =
       rest = λ x past. others x (omega (arith, past)) ∙ h.rest x (omega (arith, past));
     }
 
--- two sets with the same nodes are one
-same_nodes : (s x : ℕ) → s < 2 ^ 16 → x < 2 ^ 16 → IsPart s x → IsPart x s → s ≡ x
-same_nodes s x small_s small_x one other = same_from_bits_below 16 s x small_s small_x (λ i inside. ⊎_elim
-    (λ (some : IsBitSet s i). (bit_at-IsBitSet s i).0 some ∙ sym ((bit_at-IsBitSet x i).0 (one i some)))
-    (λ none. ⊎_elim
-    (λ (some : IsBitSet x i). absurd (none (other i some)))
-    (λ also.
-    let first : bit_at s i ≢ 1 = λ e. none ((bit_at-IsBitSet s i).1 e) in
-    let second : bit_at x i ≢ 1 = λ e. also ((bit_at-IsBitSet x i).1 e) in
-    omega (arith, first, second, bit_at-lt s i, bit_at-lt x i))
-    (IsBitSet-decide x i))
-    (IsBitSet-decide s i))
-
 -- at the beginning the sets alone are marked
-pub AreMarksTo-start : (sets : List ℕ) (n : ℕ) (cleared marks : List Bool) → n ≤ 16 → ((i : ℕ) → i < length sets → slice_index sets i < 2 ^ n)
+pub AreMarksTo-start : (sets : List ℕ) (n : ℕ) (cleared marks : List Bool) → ((i : ℕ) → i < length sets → slice_index sets i < 2 ^ n)
     → ((x : ℕ) → x < 2 ^ n → ¬ IsSetMarked cleared x) → ((x : ℕ) → (IsSetMarked marks x ↔ (IsSetMarked cleared x ⊎ ((i : ℕ) × (i < length sets) × (slice_index sets i ≡ x))))) → AreMarksTo sets n 0 marks
-AreMarksTo-start sets n cleared marks few within none exact x below =
-    let most : 2 ^ n ≤ 2 ^ 16 = pow_mono few in (
-      (λ marked. ⊎_elim
-          (λ before. absurd (none x below before))
-          (λ (i, inside, same). record {
-            place = i;
-            below = inside;
-            part = λ v some. subst (λ s. IsBitSet s v) same some;
-            agree = λ v _ some. subst (λ s. IsBitSet s v) (sym same) some;
-          })
-          ((exact x).0 marked)),
-      (λ c.
-          let small = within c.place c.below in
-          (exact x).1 (inr (c.place, c.below, same_nodes (slice_index sets c.place) x (omega (arith, small, most)) (omega (arith, below, most)) c.part (λ i some. c.agree i (omega arith) some)))),
-    )
+AreMarksTo-start sets n cleared marks within none exact x below = (
+  (λ marked. ⊎_elim
+      (λ before. absurd (none x below before))
+      (λ (i, inside, same). record {
+        place = i;
+        below = inside;
+        part = λ v some. subst (λ s. IsBitSet s v) same some;
+        agree = λ v _ some. subst (λ s. IsBitSet s v) (sym same) some;
+      })
+      ((exact x).0 marked)),
+  (λ c. (exact x).1 (inr (c.place, c.below, same_set n (slice_index sets c.place) x (within c.place c.below) below (λ i _. (c.part i, c.agree i (omega arith)))))),
+)
 
 -- one node more
 pub AreMarksTo-next : (sets : List ℕ) (n u : ℕ) (old new : List Bool) (count : ℕ) → n ≤ 16 → u < n → count ≡ 2 ^ n → IsSpreadTo u count old new
@@ -159,8 +142,7 @@ AreMarks-all sets n marks h x below = (
 lacking : (s x : ℕ) → s < 2 ^ 16 → x < 2 ^ 16 → IsPart s x → s ≢ x → (u : ℕ) × (u < 16) × IsBitSet x u × ¬ IsBitSet s u
 lacking s x small_s small_x part other = ⊎_elim
     (λ found. (found.0, found.1, found.2.0, found.2.1))
-    (λ none. absurd (other (same_nodes s x small_s small_x part (λ i some. ⊎_elim (λ has. has)
-    (λ lacks. absurd (none i (IsBitSet-below 16 x i small_x some) (some, lacks))) (IsBitSet-decide s i)))))
+    (λ none. absurd (other (same_set 16 s x small_s small_x (λ i l. (part i, λ some. ⊎_elim (λ has. has) (λ lacks. absurd (none i l (some, lacks))) (IsBitSet-decide s i))))))
     (some_below (λ u. IsBitSet x u × ¬ IsBitSet s u)
     (λ u. ⊎_elim
     (λ (has : IsBitSet s u). inr (λ both. both.1 has))

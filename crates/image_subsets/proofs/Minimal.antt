@@ -1,31 +1,24 @@
 -- No other set of a family is part of one exactly where the test of its cover list says so.
-use Rattle.std.proofs.Common.{◌≡◌, ◌≢◌, ℕ, ◌^◌, ◌<◌, ◌↔◌, List, Bool, true, false, IsTrue, AllPairs, length, slice_index, bit_and, min, refl, sym, ap, ◌∙◌, subst, arith, ⊎_elim}
+use Rattle.std.proofs.Common.{◌≡◌, ◌≢◌, ℕ, ◌^◌, ◌<◌, ◌↔◌, List, Bool, true, false, IsTrue, AllPairs, length, slice_index, IsBitSet, bit_and, refl, sym, ap, ◌∙◌, subst, arith, ⊎_elim}
 use Rattle.std.specs.Prelude.{◌==◌, ◌&&◌, not}
 use Rattle.std.specs.List.{list_any}
-use Rattle.std.specs.Int.{bit_at}
-use Rattle.std.proofs.lemmas.Bool.{cases_eq, cases_lt, eqb-true, eqb-false, ne_eqb, eq-eqb, false≢true, and_parts, not-true}
+use Rattle.std.proofs.lemmas.Bool.{cases_lt, eqb-true, eqb-false, ne_eqb, eq-eqb, false≢true, and_parts, not-true}
 use Rattle.std.proofs.lemmas.List.Folds.{Any-from_list_any, list_any_at}
 use Rattle.std.proofs.lemmas.List.{get_or_default}
 use Rattle.std.proofs.lemmas.Nat.{and_le_l}
-use Rattle.std.proofs.lemmas.Nat.Bits.{bit_at_and, bit_at-lt, same_from_bits_below}
 use Rattle.word_image.specs.Families.{is_subset, is_minimal}
-use Rattle.word_image.proofs.laws.Bits.{bit_at-IsBitSet}
+use Rattle.pair_laws.proofs.Sets.{IsBitSet-and}
+use Rattle.search_laws.proofs.StepSets.{same_set}
 use Rattle.image_subsets.specs.Marks.{IsPart, IsMinimal}
 
 -- a part by its bits is a part by the test
 is_subset-part : (s x : ℕ) → s < 2 ^ 16 → IsPart s x → bit_and s x ≡ s
-is_subset-part s x small part = same_from_bits_below 16 (bit_and s x) s (omega (arith, and_le_l s x, small)) small (λ i l.
-    ⊎_elim
-    (λ some. let other = (bit_at-IsBitSet x i).0 (part i ((bit_at-IsBitSet s i).1 some)) in omega (arith, bit_at_and s x i, some, other))
-    (λ none. omega (arith, bit_at_and s x i, bit_at-lt s i, none))
-    (cases_eq (bit_at s i) 1))
+is_subset-part s x small part = same_set 16 (bit_and s x) s (omega (arith, and_le_l s x, small)) small (λ i l.
+    let both = IsBitSet-and s x i in ((λ some. (both.0 some).0), (λ some. both.1 (some, part i some))))
 
 -- and the other way round
 part-is_subset : (s x : ℕ) → bit_and s x ≡ s → IsPart s x
-part-is_subset s x same i some =
-    let one = (bit_at-IsBitSet s i).0 some in
-    let both : min (bit_at s i) (bit_at x i) ≡ bit_at s i = sym (bit_at_and s x i) ∙ ap (λ n. bit_at n i) same in
-    (bit_at-IsBitSet x i).1 (omega (arith, bit_at-lt x i))
+part-is_subset s x same i some = ((IsBitSet-and s x i).0 (subst (λ n. IsBitSet n i) (sym same) some)).1
 
 -- a set is minimal exactly where the test says so
 pub is_minimal-IsMinimal : (sets : List ℕ) → ((j : ℕ) → j < length sets → slice_index sets j < 2 ^ 16) → AllPairs (λ s t. s ≢ t) sets → (i : ℕ) → i < length sets

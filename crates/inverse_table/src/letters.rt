@@ -29,8 +29,9 @@ impl Place {
     }
 }
 
-/// Writes for each image the letter at this place of the words that have it. If two words with one image
-/// have different letters there, it stops and answers with two such words.
+/// Writes for each image the letter at this place of the words that have it: one letter for runs of `unit`
+/// words, which comes round from run to run. If two words with one image have different letters there, it
+/// stops and answers with two such words.
 pub(crate) fn read_letters(
     letters: &mut [u8],
     images: &[u16],
@@ -44,27 +45,10 @@ pub(crate) fn read_letters(
         (AreReadBack (letter_by_unit place.k place.unit) images.now (length images.now) letters.new)
         (λ words. AreUndetermined (letter_by_unit place.k place.unit) images.now words.0 words.1) }
 {
-    let word = first_apart(letters, images, place)?;
-    let other = other_apart(images, word, place).unwrap();
-    Some((word, other))
-}
-
-/// Reads the letters back, up to a word whose image has another letter already. The letter at
-/// the place is the same for runs of `unit` words, and comes round from run to run.
-fn first_apart(letters: &mut [u8], images: &[u16], place: Place) -> Option<usize>
-    requires unread { letters.old ≡ replicate (length letters.old) 16 }
-    requires within { All (λ image. image < length letters.old) images.now }
-    requires whole { length images.now % place.unit ≡ 0 }
-    ensures long { length letters.new ≡ length letters.old }
-    ensures read { MatchOption result
-        (AreReadBack (letter_by_unit place.k place.unit) images.now (length images.now) letters.new)
-        (HasApart (letter_by_unit place.k place.unit) images.now) }
-{
     let mut letter = 0;
     for run in 0..images.len() / place.unit {
-        let apart = read_run(letters, images, place, run * place.unit, letter as u8);
-        if apart.is_some() {
-            return apart;
+        if let Some(word) = read_run(letters, images, place, run * place.unit, letter as u8) {
+            return Some((word, other_apart(images, word, place).unwrap()));
         }
         letter = after(letter, place.k);
     }

@@ -1,11 +1,11 @@
 -- A breadth first search through the marked pairs, one step more at a time.
-use Rattle.std.proofs.Common.{◌≡◌, ◌≢◌, ℕ, zero, suc, ◌+◌, ◌-◌, ◌*◌, ◌/◌, ◌%◌, ◌<◌, ◌≤◌, ◌↔◌, ◌⊎◌, inl, inr, List, [], ◌∷◌, ◌++◌, length, get_or, map, reverse, append_assoc, zero-mul, Option, Some, None, Bool, true, false, true≢false, refl, sym, ap, ap₂, ◌∙◌, subst, subst₂, arith, ⊎_elim}
+use Rattle.std.proofs.Common.{◌≡◌, ◌≢◌, ℕ, zero, suc, ◌+◌, ◌-◌, ◌*◌, ◌/◌, ◌%◌, ◌<◌, ◌≤◌, ◌↔◌, ◌⊎◌, inl, inr, List, [], ◌∷◌, ◌++◌, length, get_or, map, reverse, zero-mul, Option, Some, None, Bool, true, false, true≢false, refl, sym, ap, ap₂, ◌∙◌, subst, subst₂, arith, ⊎_elim}
 use Rattle.std.specs.List.{slice_get}
 use Rattle.std.specs.Option.{option_eq}
 use Rattle.std.specs.Prelude.{◌==◌}
 use Rattle.std.proofs.lemmas.Bool.{cases_lt}
 use Rattle.std.proofs.lemmas.Bool.Decides.{Decides-eqb}
-use Rattle.std.proofs.lemmas.List.{map-append, length-map, length_push, reverse-append}
+use Rattle.std.proofs.lemmas.List.{map-append, length-map, length_push}
 use Rattle.std.proofs.lemmas.Nat.{div-mul-add, mod-mul-add}
 use Rattle.std.proofs.lemmas.Option.{slice_get_within, slice_get-get_or, get_or_from_slice_get, none-some, same_Some}
 use Rattle.std.proofs.Math.Nat.{mul-le-mul_right, suc-mul}
@@ -19,7 +19,7 @@ use Rattle.search_laws.proofs.QueueSteps.{HaveMet-next, HaveMet-push, edge-withi
 use Rattle.search_laws.proofs.QueueStates.{mapped_at, unmapped_at, length-queue-le, state-below}
 use Rattle.search_laws.proofs.LeastSteps.{NoEdgeBefore, IsLeastStepsTo, IsLeastStepsTo-edge, no_steps_to}
 use Rattle.search_laws.proofs.QueueDepths.{AreDepths, depths-ascending, no_word_within}
-use Rattle.search_laws.proofs.SpelledWords.{TreeSpells-some, length-spelled-le}
+use Rattle.search_laws.proofs.SpelledWords.{letter_before, TreeSpells-some, length-spelled-le}
 use Rattle.search_laws.proofs.PairWalks.{code, Leads-walk, CodeStep-some, CodeStep-follows, IsLeastWalk-steps, no_walk}
 use Rattle.search_laws.specs.PairWalks.{PairWalk, IsLeastWalk, uncode}
 use Rattle.pair_laws.proofs.Pairs.{marked-below}
@@ -358,6 +358,4 @@ no_walk-all {goal = goal} x sought large =
 pub SpellsBefore-parent : (queue : List Reached) (at i : ℕ) (x : Reached) (old steps longer : List ℕ) → 0 < i → slice_get queue i ≡ Some x → longer ≡ steps ++ x.step ∷ []
     → ((w : List ℕ) → TreeSpells (places_of queue) i w → SpellsBefore queue at old (w ++ reverse steps)) → (w : List ℕ) → TreeSpells (places_of queue) x.parent w → SpellsBefore queue at old (w ++ reverse longer)
 SpellsBefore-parent queue at i x old steps longer positive here more completes w spells =
-    let back : reverse longer ≡ x.step ∷ reverse steps = ap reverse more ∙ reverse-append steps (x.step ∷ []) in
-    let joined : (w ++ x.step ∷ []) ++ reverse steps ≡ w ++ reverse longer = append_assoc w (x.step ∷ []) (reverse steps) ∙ ap (λ v. w ++ v) (sym back) in
-    subst (SpellsBefore queue at old) joined (completes (w ++ x.step ∷ []) (Branch i (place_of x) w positive (place_at queue i x here) spells))
+    subst (SpellsBefore queue at old) (letter_before w steps longer x.step more) (completes (w ++ x.step ∷ []) (Branch i (place_of x) w positive (place_at queue i x here) spells))

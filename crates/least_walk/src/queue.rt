@@ -12,7 +12,7 @@ use crate::marks::{Parts, Rows, add, fresh, has, parts_of, step_from};
 use pair_graph::Pairs;
 
 /// The most marked pairs.
-pub const MOST_STATES: usize = 512;
+pub const MOST_MARKED_PAIRS: usize = 512;
 
 /// A marked pair that was reached, and how first: from that at place `parent`, by `step`, a letter
 /// pair (a, b) as 16 a + b. For the start, which stands first, these two say nothing.
@@ -73,7 +73,7 @@ pub fn search(queue: &mut Vec<Reached>, pairs: &Pairs, ends: Ends, most: usize) 
         step: 0,
         depth: 0,
     };
-    list(queue, start);
+    put(queue, start);
     let mut rows = [0; 32];
     add(&mut rows, parts_of(pairs, ends.start));
     if ends.goal == Some(ends.start) {
@@ -166,7 +166,7 @@ fn follow_letter(
                 step,
                 depth: from.depth + 1,
             };
-            list(queue, reached);
+            put(queue, reached);
         }
     }
     None
@@ -191,13 +191,13 @@ fn new_step(pairs: &Pairs, rows: &Rows, from: Parts, a: u8, b: u8, letters: u16)
     if has(rows, q) { None } else { Some(q) }
 }
 
-/// Adds to a queue with room for it.
-fn list(queue: &mut Vec<Reached>, reached: Reached)
-    requires { vec_len queue.old < vec_capacity queue.old }
-    ensures items { queue.new.items ≡ queue.old.items ++ reached ∷ [] }
-    ensures room { vec_capacity queue.old ≤ vec_capacity queue.new }
+/// Adds to a list with room for it.
+pub fn put<T: Drop>(list: &mut Vec<T>, item: T)
+    requires { vec_len list.old < vec_capacity list.old }
+    ensures items { list.new.items ≡ list.old.items ++ item ∷ [] }
+    ensures room { vec_capacity list.old ≤ vec_capacity list.new }
 {
-    match queue.push(reached) {
+    match list.push(item) {
         Ok(()) => (),
         Err(_) => unreachable!(),
     }

@@ -7,7 +7,7 @@ ghost use Rattle.search_laws.specs.PairWalks.{PairWalk, IsLeastWalkTo, uncode};
 ghost use Rattle.least_walk.specs.declared.queue.Reached.{Reached};
 ghost use Rattle.least_walk.specs.Trees.{AreApart, IsPairIndex};
 
-use crate::queue::{Ends, MOST_STATES, Reached, search};
+use crate::queue::{Ends, MOST_MARKED_PAIRS, Reached, search};
 use crate::walker::{MOST_STEPS, spell};
 use pair_graph::Pairs;
 use std::alloc::{AllocError, Global};
@@ -25,7 +25,7 @@ pub struct WalkTree {
     // The marked pairs to which they lead, in the order of the walks.
     queue: Vec<Reached>,
     // The place of each of these; for the others any number.
-    places: [u16; MOST_STATES],
+    places: [u16; MOST_MARKED_PAIRS],
 }
 
 impl Model for WalkTree {
@@ -44,9 +44,9 @@ impl WalkTree {
         requires { start < 2 * pair_count pairs.now }
         ensures { IfOk result (λ tree. tree ≡ record { rule = pairs.now; start = start }) }
     {
-        let mut queue = Vec::with_capacity(alloc, MOST_STATES)?;
+        let mut queue = Vec::with_capacity(alloc, MOST_MARKED_PAIRS)?;
         let ends = Ends { start, goal: None };
-        search(&mut queue, pairs, ends, MOST_STATES);
+        search(&mut queue, pairs, ends, MOST_MARKED_PAIRS);
         let places = index(&queue);
         Ok(WalkTree {
             rule: *pairs.rule(),
@@ -73,11 +73,11 @@ impl WalkTree {
 }
 
 /// For each marked pair in the queue its place.
-fn index(queue: &[Reached]) -> [u16; MOST_STATES]
+fn index(queue: &[Reached]) -> [u16; MOST_MARKED_PAIRS]
     requires { AreApart queue.now }
     ensures { IsPairIndex queue.now result }
 {
-    let mut places = [0; MOST_STATES];
+    let mut places = [0; MOST_MARKED_PAIRS];
     for i in 0..queue.len() {
         places[usize::from(queue[i].pair)] = i as u16;
     }
@@ -85,7 +85,7 @@ fn index(queue: &[Reached]) -> [u16; MOST_STATES]
 }
 
 /// Where a marked pair stands in the queue, if it does.
-fn place_of(queue: &[Reached], places: &[u16; MOST_STATES], to: u16) -> Option<u16>
+fn place_of(queue: &[Reached], places: &[u16; MOST_MARKED_PAIRS], to: u16) -> Option<u16>
     requires pair { to < 512 }
     requires index { IsPairIndex queue.now places.now }
     ensures found { IfSome result (λ i. (x : Reached) × (slice_get queue.now i ≡ Some x) × (x.pair ≡ to)) }

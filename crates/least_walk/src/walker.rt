@@ -3,7 +3,7 @@
 ghost use Rattle.std.specs.Prelude.{◌≡◌, ℕ, ◌+◌, ◌*◌, ◌<◌, ◌≤◌, List, [], ◌∷◌, ◌++◌, length, map, vec_len, vec_capacity, IfSome, IfNone, Some};
 ghost use Rattle.least_walk.specs.Queues.{IsBackward, SpellsBefore};
 
-use crate::queue::{Ends, MOST_STATES, Reached, search};
+use crate::queue::{Ends, MOST_MARKED_PAIRS, Reached, put, search};
 use pair_graph::Pairs;
 use std::alloc::{AllocError, Global};
 use std::marker::Model;
@@ -39,7 +39,7 @@ impl Walker {
     /// A walker, with all the memory that it needs.
     pub fn new(alloc: Global) -> Result<Walker, AllocError> {
         Ok(Walker {
-            queue: Vec::with_capacity(alloc, MOST_STATES)?,
+            queue: Vec::with_capacity(alloc, MOST_MARKED_PAIRS)?,
             steps: Vec::with_capacity(alloc, MOST_STEPS)?,
         })
     }
@@ -102,16 +102,4 @@ pub fn spell(queue: &[Reached], place: u16, steps: &mut Vec<u8>)
         place = usize::from(reached.parent);
     }
     steps.reverse();
-}
-
-/// Adds a step where there is room for it.
-fn put(steps: &mut Vec<u8>, step: u8)
-    requires { vec_len steps.old < vec_capacity steps.old }
-    ensures items { steps.new.items ≡ steps.old.items ++ step ∷ [] }
-    ensures room { vec_capacity steps.old ≤ vec_capacity steps.new }
-{
-    match steps.push(step) {
-        Ok(()) => (),
-        Err(_) => unreachable!(),
-    }
 }

@@ -2,6 +2,7 @@
 use Rattle.std.specs.Prelude.{◌≡◌, refl, Some, None, ◌∷◌, [], pos, negsuc}
 use Rattle.word_image.specs.LocalRules.{LocalRule}
 use Rattle.word_image.specs.Words.{image}
+use Rattle.word_image.specs.Examples.{both, sum_mod_two}
 use Rattle.rule_algebra.specs.Algebra.{shifted, recoloured}
 use Rattle.rule_algebra.specs.AlgebraFaults.{shift_fault, compose_fault, widen_fault}
 use Rattle.rule_algebra.specs.Tables.{composed, widened, without_first}
@@ -11,32 +12,24 @@ use Rattle.rule_algebra.specs.declared.fault.AlgebraFault.TheVariants.{Width, No
 abbrev pub rule204 : LocalRule
 rule204 = record { states = 2; width = 3; offset = negsuc 0; table = 0 ∷ 0 ∷ 1 ∷ 1 ∷ 0 ∷ 0 ∷ 1 ∷ 1 ∷ [] }
 
--- the product of two cells
-abbrev pub product_rule : LocalRule
-product_rule = record { states = 2; width = 2; offset = pos 0; table = 0 ∷ 0 ∷ 0 ∷ 1 ∷ [] }
-
--- their sum modulo 2
-abbrev pub sum_rule : LocalRule
-sum_rule = record { states = 2; width = 2; offset = pos 0; table = 0 ∷ 1 ∷ 1 ∷ 0 ∷ [] }
-
 -- shifted by one, rule 204 copies the right cell
 shifted-204 : shifted rule204 (pos 1) ≡ record { states = 2; width = 3; offset = pos 0; table = 0 ∷ 0 ∷ 1 ∷ 1 ∷ 0 ∷ 0 ∷ 1 ∷ 1 ∷ [] }
 shifted-204 = refl
 
 -- the sum of products
-sum_of_products : composed product_rule sum_rule ≡ record { states = 2; width = 3; offset = pos 0; table = 0 ∷ 0 ∷ 0 ∷ 1 ∷ 0 ∷ 0 ∷ 1 ∷ 0 ∷ [] }
+sum_of_products : composed both sum_mod_two ≡ record { states = 2; width = 3; offset = pos 0; table = 0 ∷ 0 ∷ 0 ∷ 1 ∷ 0 ∷ 0 ∷ 1 ∷ 0 ∷ [] }
 sum_of_products = refl
 
 -- is not the product of sums
-product_of_sums : composed sum_rule product_rule ≡ record { states = 2; width = 3; offset = pos 0; table = 0 ∷ 0 ∷ 1 ∷ 0 ∷ 0 ∷ 1 ∷ 0 ∷ 0 ∷ [] }
+product_of_sums : composed sum_mod_two both ≡ record { states = 2; width = 3; offset = pos 0; table = 0 ∷ 0 ∷ 1 ∷ 0 ∷ 0 ∷ 1 ∷ 0 ∷ 0 ∷ [] }
 product_of_sums = refl
 
 -- on a word, the image of its image
-sum_of_products-image : image (composed product_rule sum_rule) (1 ∷ 1 ∷ 0 ∷ 1 ∷ []) ≡ image sum_rule (image product_rule (1 ∷ 1 ∷ 0 ∷ 1 ∷ []))
+sum_of_products-image : image (composed both sum_mod_two) (1 ∷ 1 ∷ 0 ∷ 1 ∷ []) ≡ image sum_mod_two (image both (1 ∷ 1 ∷ 0 ∷ 1 ∷ []))
 sum_of_products-image = refl
 
 -- the sum, with a third cell that is ignored
-widened-sum : widened sum_rule 3 ≡ record { states = 2; width = 3; offset = pos 0; table = 0 ∷ 0 ∷ 1 ∷ 1 ∷ 1 ∷ 1 ∷ 0 ∷ 0 ∷ [] }
+widened-sum : widened sum_mod_two 3 ≡ record { states = 2; width = 3; offset = pos 0; table = 0 ∷ 0 ∷ 1 ∷ 1 ∷ 1 ∷ 1 ∷ 0 ∷ 0 ∷ [] }
 widened-sum = refl
 
 -- rule 204 without its first cell

@@ -11,7 +11,7 @@ use crate::decimals::decimal_number;
 use crate::digits::{first_stop, write_letters};
 use crate::head::{Head, Kind, read_head};
 use crate::text_fault::{TextFault, in_text};
-use crate::wolfram_numbers::{MOST_STATES, rule_of_number};
+use crate::wolfram_numbers::{MOST_NUMBERED_STATES, rule_of_number};
 use word_image::{MOST_ENTRIES, Rule, check_shape};
 
 /// The rule that a text says; else the text's first fault, in the order of `TextFault`.
@@ -71,7 +71,7 @@ fn accept_number(head: &Head, digits: &[u8]) -> Result<Rule, TextFault>
     requires digits { IsDecimal 1 39 digits.now }
     ensures { IsReading (said_with head.now (Number (decimal_value digits.now))) result }
 {
-    if head.k > MOST_STATES {
+    if head.k > MOST_NUMBERED_STATES {
         return Err(TextFault::Kind);
     }
     let Some(number) = decimal_number(digits) else {

@@ -12,7 +12,7 @@ use crate::text_fault::{TextFault, in_text};
 use word_image::{MOST_ENTRIES, Rule};
 
 /// The most states of a rule that has a number.
-pub const MOST_STATES: u8 = 6;
+pub const MOST_NUMBERED_STATES: u8 = 6;
 
 /// The first fault of k states, width m and offset o, if they are no shape of a rule: `States`,
 /// `Width`, `Nodes` or `Offset`, tried in this order.
@@ -31,7 +31,7 @@ pub fn numbered(k: u8, m: u8, o: i8, number: u128) -> Result<Rule, TextFault>
     ensures { IsReading (by_number k m o number) result }
 {
     check_shape(k, m, o)?;
-    if k > MOST_STATES {
+    if k > MOST_NUMBERED_STATES {
         return Err(TextFault::Kind);
     }
     rule_of_number(k, m, o, number).ok_or(TextFault::Number)

@@ -1,9 +1,9 @@
 -- The words that are spelled to the places of a breadth first queue: one to each, in ascending order.
-use Rattle.std.proofs.Common.{◌≡◌, ℕ, zero, suc, ◌+◌, ◌*◌, ◌<◌, ◌≤◌, ◌⊎◌, inl, inr, List, [], ◌∷◌, ◌++◌, length, Some, refl, sym, ap, ap₂, ◌∙◌, subst, arith, ⊎_elim}
+use Rattle.std.proofs.Common.{◌≡◌, ℕ, zero, suc, ◌+◌, ◌*◌, ◌<◌, ◌≤◌, ◌⊎◌, inl, inr, List, [], ◌∷◌, ◌++◌, length, reverse, Some, refl, sym, ap, ap₂, ◌∙◌, subst, arith, append_assoc, ⊎_elim}
 use Rattle.std.specs.List.{slice_get}
 use Rattle.std.proofs.lemmas.Bool.{cases_eq, cases_lt}
 use Rattle.std.proofs.lemmas.Nat.{same_from_place}
-use Rattle.std.proofs.lemmas.List.{length_push}
+use Rattle.std.proofs.lemmas.List.{length_push, reverse-append}
 use Rattle.std.proofs.Math.Nat.{mul-le-mul_right, suc-mul}
 use Rattle.std.specs.declared.cmp.Ordering.TheVariants.{Less}
 use Rattle.word_image.specs.Words.{word_cmp}
@@ -13,6 +13,11 @@ use Rattle.search_laws.specs.Walks.{Leads}
 use Rattle.search_laws.proofs.Walks.{Leads-none, Leads-push}
 use Rattle.search_laws.proofs.QueueSteps.{filled-later}
 use Rattle.search_laws.proofs.WordOrder.{word_number, word_number-snoc, word_cmp-less}
+
+-- a letter after the letters, which are read backwards, stands before them
+pub letter_before : (v letters longer : List ℕ) (a : ℕ) → longer ≡ letters ++ a ∷ [] → (v ++ a ∷ []) ++ reverse letters ≡ v ++ reverse longer
+letter_before v letters longer a more =
+    append_assoc v (a ∷ []) (reverse letters) ∙ ap (λ w. v ++ w) (sym (ap reverse more ∙ reverse-append letters (a ∷ [])))
 
 -- the last letter of a word is that of its place, and the others are spelled to the parent
 pub record IsLonger {S : Type 0} (tree : List (Place S)) (i : ℕ) (w : List ℕ) : Type 0 where

@@ -24,6 +24,10 @@ rule110 = record { states = 2; width = 3; offset = negsuc 0; table = 0 ∷ 1 ∷
 abbrev pub sum_mod_three : LocalRule
 sum_mod_three = record { states = 3; width = 2; offset = pos 0; table = 0 ∷ 1 ∷ 2 ∷ 1 ∷ 2 ∷ 0 ∷ 2 ∷ 0 ∷ 1 ∷ [] }
 
+-- the sum of two letters modulo 2: the text 2:2:0:t0110
+abbrev pub sum_mod_two : LocalRule
+sum_mod_two = record { states = 2; width = 2; offset = pos 0; table = 0 ∷ 1 ∷ 1 ∷ 0 ∷ [] }
+
 -- the shift: each cell takes the letter to its right: the text 2:2:0:t0101
 abbrev pub shift : LocalRule
 shift = record { states = 2; width = 2; offset = pos 0; table = 0 ∷ 1 ∷ 0 ∷ 1 ∷ [] }

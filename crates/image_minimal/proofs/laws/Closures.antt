@@ -5,7 +5,7 @@ use Rattle.word_image.specs.LocalRules.{LocalRule, IsRule, node_count}
 use Rattle.word_image.specs.Graphs.{full_set, IsStep}
 use Rattle.word_image.specs.Ranks.{IsLastSet}
 use Rattle.word_image.proofs.laws.LastSets.{IsBitSet-full}
-use Rattle.search_laws.proofs.StepSets.{same_set}
+use Rattle.search_laws.proofs.StepSets.{one_set}
 use Rattle.image_minimal.specs.ImageLanguages.{Alike}
 use Rattle.image_minimal.specs.Closures.{IsWithin, IsUnreadSet, IsClosure}
 use Rattle.image_minimal.proofs.laws.Unread.{IsBack-some, IsUnread-some, IsWord-unread, IsWithin-back, IsWithin-zero, IsOrphan-unread}
@@ -48,10 +48,7 @@ IsClosure-alike h c = record {
 
 -- a set has one closure
 pub IsClosure-unique : {r : LocalRule} {s closure other : ℕ} → IsClosure r s closure → IsClosure r s other → closure ≡ other
-IsClosure-unique {r} {s} {closure} {other} first second = same_set (node_count r) closure other first.within second.within (λ u l. (
-  (λ some. (second.nodes u l).1 ((first.nodes u l).0 some)),
-  (λ some. (first.nodes u l).1 ((second.nodes u l).0 some)),
-))
+IsClosure-unique {r} {s} {closure} {other} first second = one_set (node_count r) closure other first.within second.within first.nodes second.nodes
 
 -- steps on one letter lead from sets from which the same words are read to such sets
 pub AreReadAlike-step : {r : LocalRule} {s t a after also : ℕ} → IsRule r → a < r.states → AreReadAlike r s t → IsStep r s a after → IsStep r t a also → AreReadAlike r after also

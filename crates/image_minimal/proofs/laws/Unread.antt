@@ -12,7 +12,7 @@ use Rattle.word_image.proofs.laws.Graphs.{next-below}
 use Rattle.word_image.proofs.laws.LastSets.{IsLastSet-step, IsOrphan-empty_set}
 use Rattle.word_image.proofs.laws.Searches.{some_below}
 use Rattle.pair_laws.proofs.Sets.{IsBitSet-decide}
-use Rattle.search_laws.proofs.StepSets.{same_set, some_set, IsStep-some, IsLastSet-unique, IsLastSet-orphan}
+use Rattle.search_laws.proofs.StepSets.{one_set, some_set, IsStep-some, IsLastSet-unique, IsLastSet-orphan}
 use Rattle.image_minimal.specs.Closures.{IsWithin, IsBack, IsUnread, IsUnreadSet}
 
 -- from some nodes all edges labelled a lead into a set
@@ -35,10 +35,7 @@ IsBack-some r set a =
 
 -- and they are one set
 pub IsBack-unique : {r : LocalRule} {set a s t : ℕ} → IsBack r set a s → IsBack r set a t → s ≡ t
-IsBack-unique {r} {set} {a} {s} {t} first second = same_set (node_count r) s t first.within second.within (λ u l. (
-  (λ some. (second.nodes u l).1 ((first.nodes u l).0 some)),
-  (λ some. (first.nodes u l).1 ((second.nodes u l).0 some)),
-))
+IsBack-unique {r} {set} {a} {s} {t} first second = one_set (node_count r) s t first.within second.within first.nodes second.nodes
 
 -- each word isn't read from some nodes
 pub IsUnread-some : (r : LocalRule) (z : List ℕ) → IsWord r.states z → (set : ℕ) × IsUnread r z set

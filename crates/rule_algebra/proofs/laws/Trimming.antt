@@ -7,7 +7,8 @@ use Rattle.std.proofs.lemmas.Int.{ints}
 use Rattle.std.proofs.lemmas.List.{take_all, length-take-le, length-replicate, drop-drop, get_or-take}
 use Rattle.std.proofs.lemmas.List.Elements.{All-cons, All-take, All-drop, All-append, All-replicate}
 use Rattle.word_image.specs.LocalRules.{LocalRule, IsRule, IsWord, value, word_of, local_map, node_count}
-use Rattle.word_image.proofs.laws.Values.{value-below, value-word_of, length-word_of, IsWord-word_of, value-drop}
+use Rattle.word_image.proofs.laws.Values.{value-below, value-word_of, length-word_of, IsWord-word_of}
+use Rattle.word_image.proofs.laws.Graphs.{value-tail}
 use Rattle.tail_config.specs.Tails.{cells}
 use Rattle.tail_config.proofs.laws.Cells.{length-cells, IsWord-cells, drop-cells}
 use Rattle.rule_algebra.specs.Algebra.{KeepsImages, Ignores}
@@ -34,11 +35,6 @@ Ignores-fewer r c d h ignored = Ignores-firsts r c (λ v w hv hw lv lw e.
     let deeper : (x : List ℕ) → drop d x ≡ drop (d - c) (drop c x) = λ x. ap (λ j. drop j x) (let other : d ≡ c + (d - c) = omega arith in other) ∙ sym (drop-drop (d - c) c x) in
     firsts_ignored r d ignored v w hv hw lv lw (deeper v ∙ ap (drop (d - c)) e ∙ sym (deeper w)))
 
--- the value without the first letter
-value-rest : (r : LocalRule) (v : List ℕ) → IsRule r → IsWord r.states v → length v ≡ r.width → value r.states (drop 1 v) ≡ value r.states v % node_count r
-value-rest r v rule word long =
-    value-drop r.states 1 v word (omega (arith, rule.shape.least_width)) ∙ ap (λ n. value r.states v % r.states ^ (n - 1)) long
-
 -- the table's rows for the first letters are equal, as far as value n
 abbrev pub SameRows : LocalRule → ℕ → Type 0
 SameRows r n = (v : ℕ) → v < n → slice_index r.table v ≡ slice_index r.table (v % node_count r)
@@ -47,7 +43,7 @@ SameRows r n = (v : ℕ) → v < n → slice_index r.table v ≡ slice_index r.t
 pub Ignores-same_rows : {r : LocalRule} → IsRule r → SameRows r (r.states ^ r.width) → Ignores r 1 0
 Ignores-same_rows {r} rule rows = Ignores-firsts r 1 (λ v w hv hw lv lw e.
     let row : (x : List ℕ) → IsWord r.states x → length x ≡ r.width → local_map r x ≡ slice_index r.table (value r.states (drop 1 x)) = λ x word long.
-    rows (value r.states x) (subst (λ n. value r.states x < r.states ^ n) long (value-below r.states x word)) ∙ ap (slice_index r.table) (sym (value-rest r x rule word long)) in
+    rows (value r.states x) (subst (λ n. value r.states x < r.states ^ n) long (value-below r.states x word)) ∙ ap (slice_index r.table) (sym (value-tail r.states (r.width - 1) x word (omega (arith, rule.shape.least_width)))) in
     row v hv lv ∙ ap (λ y. slice_index r.table (value r.states y)) e ∙ sym (row w hw lw))
 
 -- a word that begins with the letter 0 has the value of its rest
@@ -73,7 +69,7 @@ same_rows-Ignores {r} rule ignored = λ v l.
     let back = value-word_of r.states r.width v l in
     ap (slice_index r.table) (sym back)
     ∙ sym (first_row rule ignored w word long)
-    ∙ ap (slice_index r.table) (value-rest r w rule word long ∙ ap (λ u. u % node_count r) back)
+    ∙ ap (slice_index r.table) (value-tail r.states (r.width - 1) w word (omega (arith, rule.shape.least_width)) ∙ ap (λ u. u % node_count r) back)
 
 -- there are at least as many windows as rows
 nodes_within : {r : LocalRule} → IsRule r → node_count r ≤ r.states ^ r.width

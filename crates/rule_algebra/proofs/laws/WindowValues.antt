@@ -1,10 +1,12 @@
 -- The values of the parts of a window.
 use Rattle.std.proofs.Common.{◌≡◌, ℕ, ◌+◌, ◌-◌, ◌/◌, ◌%◌, ◌^◌, ◌<◌, ◌≤◌, List, length, take, drop, get_or, slice_index, slice_range, sym, ap, ap₂, ◌∙◌, arith}
+use Rattle.std.proofs.Math.Nat.{pow-le-pow_right}
 use Rattle.std.proofs.lemmas.List.{length-take-le, drop-take}
 use Rattle.std.proofs.lemmas.List.Elements.{All-take}
 use Rattle.word_image.specs.LocalRules.{LocalRule, IsRule, IsWord, value, word_of}
 use Rattle.word_image.specs.Words.{image}
 use Rattle.word_image.proofs.laws.Values.{value-take, value-drop, length-word_of, IsWord-word_of, value-word_of}
+use Rattle.word_image.proofs.laws.WindowParts.{some_letter}
 use Rattle.word_image.proofs.laws.Words.{length-image}
 use Rattle.word_image.proofs.laws.Images.{get_or-image}
 
@@ -32,6 +34,10 @@ value-slice_range-word_of k i n m v h below =
     let long : length (word_of k m v) ≡ m = length-word_of k m v in
     value-slice_range k i n (word_of k m v) (IsWord-word_of k m v below) (omega arith)
     ∙ ap₂ (λ (a j : ℕ). a / k ^ (j - (i + n)) % k ^ n) (value-word_of k m v below) long
+
+-- fewer letters have no more values
+pub fewer_values : {r : LocalRule} → IsRule r → (i n : ℕ) → r.states ^ n ≤ 256 → i ≤ n → r.states ^ i ≤ 256
+fewer_values {r} rule i n fits l = let grows : r.states ^ i ≤ r.states ^ n = pow-le-pow_right (some_letter rule) l in omega arith
 
 -- the image of a window of so many letters has n letters
 pub length-image-word_of : {r : LocalRule} → IsRule r → (n v : ℕ) → length (image r (word_of r.states (r.width + n - 1) v)) ≡ n

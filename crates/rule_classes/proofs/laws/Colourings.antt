@@ -10,7 +10,7 @@ use Rattle.word_image.proofs.laws.Images.{IsRule-mirrored}
 use Rattle.word_image.proofs.laws.RuleFaults.{IsShape-offset}
 use Rattle.word_image.proofs.laws.SameRules.{rule_from_parts}
 use Rattle.rule_algebra.specs.Algebra.{recoloured}
-use Rattle.rule_algebra.specs.Tabulated.{table_by}
+use Rattle.rule_algebra.proofs.laws.Recolouring.{new_colour, recoloured_rule}
 use Rattle.rule_algebra.proofs.laws.Tables.{length-table_by, IsWord-table_by, table_by-at}
 use Rattle.rule_classes.specs.Classes.{turned, HasRecolouredTable, IsInClass}
 use Rattle.rule_classes.specs.Colourings.{AreInverse, IsColouring, new_letter, entry, in_colours, recoloured_number}
@@ -72,12 +72,9 @@ recoloured_number-same r c d same =
 
 -- The class
 
--- the rule that gives the colours of what b gives on the windows in the old letters
-abbrev given : LocalRule → List ℕ → List ℕ → List ℕ → ℕ
-given b colours letters w = slice_index colours (local_map b (recoloured letters w))
-
+-- the recoloured rule at offset 0
 abbrev of_colours : LocalRule → List ℕ → List ℕ → LocalRule
-of_colours b colours letters = record { states = b.states; width = b.width; offset = pos 0; table = table_by b.states b.width (given b colours letters) }
+of_colours b colours letters = record (recoloured_rule b colours letters) { offset = pos 0 }
 
 -- has a recoloured table
 of_colours-recoloured : {b : LocalRule} {colours letters : List ℕ} → IsRule b → AreInverse b.states colours letters → HasRecolouredTable b (of_colours b colours letters)
@@ -87,11 +84,11 @@ of_colours-recoloured {b} {colours} {letters} rule inverse = record {
   recoloured = record {
     states = refl;
     width = refl;
-    entries = length-table_by b.states b.width (given b colours letters);
+    entries = length-table_by b.states b.width (new_colour b colours letters);
     letters = λ w word long.
         let new : List ℕ = recoloured colours w in
         ap (local_map (of_colours b colours letters)) (recoloured-take colours w word)
-        ∙ table_by-at b.states b.width (given b colours letters) new (IsWord-colours inverse w word) (length-map w (slice_index colours) ∙ long)
+        ∙ table_by-at b.states b.width (new_colour b colours letters) new (IsWord-colours inverse w word) (length-map w (slice_index colours) ∙ long)
         ∙ ap (λ x. slice_index colours (local_map b x)) (recoloured-back (AreInverse-swap inverse) w word)
         ∙ sym (get_or-take b.states colours (local_map b w) 0 (entry-below rule _));
   };
@@ -105,12 +102,12 @@ recoloured-of_colours {b} {h} has =
     let new = has.recoloured in (
       found.0,
       found.1,
-      rule_from_parts new.states new.width has.offset (ext_get_or 0 h.table _ (new.entries ∙ sym (length-table_by b.states b.width (given b has.colours found.0))) (λ v l.
+      rule_from_parts new.states new.width has.offset (ext_get_or 0 h.table _ (new.entries ∙ sym (length-table_by b.states b.width (new_colour b has.colours found.0))) (λ v l.
           let below : v < b.states ^ b.width = omega (arith, new.entries) in
           let w : List ℕ = word_of b.states b.width v in
           sym (ap (λ k. slice_index h.table (value k w)) new.states ∙ ap (slice_index h.table) (value-word_of b.states b.width v below))
           ∙ local_map-back found.1 new w (IsWord-word_of b.states b.width v below) (length-word_of b.states b.width v)
-          ∙ sym (get_or-map-range_with_len (λ u. given b has.colours found.0 (word_of b.states b.width u)) 0 (b.states ^ b.width) v v 0 below (omega arith)))),
+          ∙ sym (get_or-map-range_with_len (λ u. new_colour b has.colours found.0 (word_of b.states b.width u)) 0 (b.states ^ b.width) v v 0 below (omega arith)))),
     )
 
 -- so a recoloured rule is of the class

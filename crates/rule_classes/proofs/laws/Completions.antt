@@ -134,36 +134,21 @@ pub record IsNext (k : ℕ) (c : Colouring) (low high next colour : ℕ) (e : Co
   pub chosen : (a : ℕ) → IsChosen from to a → (a ≡ next) ⊎ IsChosen low high a
   pub kept : (a : ℕ) → IsChosen low high a → IsChosen from to a
 
--- the greatest free colour is chosen
-pub IsNext-greatest : {k low high colour : ℕ} {c e : Colouring} → high ≤ k → low < high → low + high ≡ k → e.mirrored ≡ c.mirrored
-    → slice_index e.letters (high - 1) ≡ slice_index c.letters colour → ((a : ℕ) → a ≢ high - 1 → a ≢ colour → slice_index e.letters a ≡ slice_index c.letters a)
-    → IsNext k c low high (next_of k low high) colour e low (high - 1)
-IsNext-greatest {k} {low} {high} {colour} {c} {e} most some even mirrored letter others =
-    subst (λ next. IsNext k c low high next colour e low (high - 1)) (sym (next_of-greatest k low high even)) (record {
-      within = omega arith;
-      from_next = omega arith;
-      next_to = omega arith;
+-- the greatest free colour is chosen, or the least one
+pub IsNext-end : {k low high colour next from to : ℕ} {c e : Colouring} → high ≤ k → low < high → next_of k low high ≡ next
+    → ((next + 1 ≡ high) × (from ≡ low) × (to ≡ next)) ⊎ ((next ≡ low) × (from ≡ low + 1) × (to ≡ high)) → e.mirrored ≡ c.mirrored
+    → slice_index e.letters next ≡ slice_index c.letters colour → ((a : ℕ) → a ≢ next → a ≢ colour → slice_index e.letters a ≡ slice_index c.letters a)
+    → IsNext k c low high (next_of k low high) colour e from to
+IsNext-end {k} {low} {high} {colour} {next} {from} {to} {c} {e} most some at end mirrored letter others =
+    subst (λ n. IsNext k c low high n colour e from to) (sym at) (record {
+      within = grind arith;
+      from_next = grind arith;
+      next_to = grind arith;
       mirrored = mirrored;
       letter = letter;
       others = others;
-      chosen = λ a. ⊎_elim (λ less. inr (inl less)) (λ past. ⊎_elim (λ at. inl at) (λ other. inr (inr (omega arith))) (cases_eq a (high - 1)));
-      kept = λ a. ⊎_elim (λ less. inl less) (λ past. inr (omega arith));
-    })
-
--- or the least one
-pub IsNext-least : {k low high colour : ℕ} {c e : Colouring} → high ≤ k → low < high → low + high ≢ k → e.mirrored ≡ c.mirrored
-    → slice_index e.letters low ≡ slice_index c.letters colour → ((a : ℕ) → a ≢ low → a ≢ colour → slice_index e.letters a ≡ slice_index c.letters a)
-    → IsNext k c low high (next_of k low high) colour e (low + 1) high
-IsNext-least {k} {low} {high} {colour} {c} {e} most some odd mirrored letter others =
-    subst (λ next. IsNext k c low high next colour e (low + 1) high) (sym (next_of-least k low high odd)) (record {
-      within = omega arith;
-      from_next = omega arith;
-      next_to = omega arith;
-      mirrored = mirrored;
-      letter = letter;
-      others = others;
-      chosen = λ a. ⊎_elim (λ less. ⊎_elim (λ at. inl at) (λ other. inr (inl (omega arith))) (cases_eq a low)) (λ past. inr (inr past));
-      kept = λ a. ⊎_elim (λ less. inl (omega arith)) (λ past. inr past);
+      chosen = λ a is. grind arith;
+      kept = λ a is. grind arith;
     })
 
 -- what completes the first and has that letter there completes it

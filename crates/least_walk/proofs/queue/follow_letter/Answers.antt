@@ -61,8 +61,8 @@ overflow_add-reached c =
     let at = stands c.args.queue.now.items c.args.head.place c.index-from.result.now c.loop-b.queue.items (omega (arith, c.args.queue.now.ok)) c.index-from.ensures c.loop-b.invariant.same in
     omega (arith, depth-below search.walking c.args.head.place c.index-from.result.now at)
 
-pub list-requires : goal.list-requires
-list-requires c =
+pub put-requires : goal.put-requires
+put-requires c =
     let y : Reached = record { pair = c.in-Some.q.pair; parent = c.args.head.place; step = 16 * c.args.a + c.loop-b.b; depth = c.index-from.result.now.depth + 1 } in
     let longer = IsWalkSearch-new c.args.head.place c.args.a c.loop-b.b c.loop-b.invariant.search c.index-from.result.now y
     (stands c.args.queue.now.items c.args.head.place c.index-from.result.now c.loop-b.queue.items (omega (arith, c.args.queue.now.ok)) c.index-from.ensures c.loop-b.invariant.same)
@@ -80,10 +80,10 @@ loop-b-preserved c =
     elim c.match-new_step.branch [
       | in-Some+else-eq w ↦
           let y : Reached = record { pair = w.in-Some.q.pair; parent = c.args.head.place; step = 16 * c.args.a + c.loop-b.b; depth = c.index-from.result.now.depth + 1 } in
-          let longer : c.match-new_step.queue.items ≡ old ++ y ∷ [] = ap (λ v. v.items) w.queue-is ∙ w.list.ensures.items in
+          let longer : c.match-new_step.queue.items ≡ old ++ y ∷ [] = ap (λ v. v.items) w.queue-is ∙ w.put.ensures.items in
           let same : slice_get (old ++ y ∷ []) c.args.head.place ≡ slice_get old c.args.head.place = slice_get-append old (y ∷ []) c.args.head.place x at ∙ sym at in
           record {
-            room = omega (arith, inv.room, w.list.ensures.room, ap (λ v. vec_capacity v) w.queue-is);
+            room = omega (arith, inv.room, w.put.ensures.room, ap (λ v. vec_capacity v) w.queue-is);
             search = subst₂ (λ (q : List Reached) (rows : List ℕ). IsWalkSearch r c.args.ends q rows (c.args.head.place * step_count r + (c.args.a * 16 + (c.loop-b.b + 1)))) (sym longer) (sym w.rows-is)
                 (IsWalkSearch-new c.args.head.place c.args.a c.loop-b.b inv.search x y at c.requires.letter letter refl (omega arith) refl (ap (λ t. marked r t c.args.a c.loop-b.b) (c.requires.at c.index-from.result.now (stands c.args.queue.now.items c.args.head.place c.index-from.result.now c.args.queue.now.items (omega (arith, c.args.queue.now.ok)) c.index-from.ensures refl)) ∙ w.in-Some.ensures.step) ((goal-tells c.args.ends.goal w.in-Some.q.pair w.eq.result w.eq.ensures).1 w.if-eq.false) w.in-Some.ensures.new w.add.new.rows (w.add.ensures r inv.search.walking.rule w.in-Some.ensures.marked));
             old = subst₂ (λ (q : List Reached) (rows : List ℕ). IsOldBut r q rows c.args.head.place c.args.a c.args.letters) (sym longer) (sym w.rows-is)

@@ -14,18 +14,18 @@ pub loop-head-init : goal.loop-head-init
 loop-head-init c =
     let r = c.args.pairs.now in
     let x : Reached = record { pair = c.args.ends.start; parent = 0; step = 0; depth = 0 } in
-    let alone : c.list.new.queue.items ≡ x ∷ [] = c.list.ensures.items ∙ ap (λ q. q ++ x ∷ []) c.clear.ensures.items in
+    let alone : c.put.new.list.items ≡ x ∷ [] = c.put.ensures.items ∙ ap (λ q. q ++ x ∷ []) c.clear.ensures.items in
     let first : (rows : List ℕ) → ((t : ℕ) → t < 2 * pair_count r → (HasPair r rows t ↔ ((t ≡ c.args.ends.start) × (c.args.ends.goal ≢ Some c.args.ends.start))))
-    → IsWalkSearch r c.args.ends c.list.new.queue.items rows (0 * step_count r) = λ rows exact.
+    → IsWalkSearch r c.args.ends c.put.new.list.items rows (0 * step_count r) = λ rows exact.
     subst (λ q. IsWalkSearch r c.args.ends q rows (0 * step_count r)) (sym alone) (IsWalkSearch-start c.parts_of.ensures.rule c.requires.start x refl refl rows exact) in
     let added : IsAdded r (replicate 32 0) c.args.ends.start c.add.new.rows = subst (λ t. IsAdded r (replicate 32 0) t c.add.new.rows) c.parts_of.ensures.pair (c.add.ensures r c.parts_of.ensures.rule c.parts_of.ensures.marked) in
     let told = goal-tells c.args.ends.goal c.args.ends.start c.eq.result c.eq.ensures in
     record {
-      room = omega (arith, c.requires.room, c.clear.ensures.capacity, c.list.ensures.room);
+      room = omega (arith, c.requires.room, c.clear.ensures.capacity, c.put.ensures.room);
       search = elim c.if-eq.branch [
-        | then-eq w ↦ subst (λ rows. IsWalkSearch r c.args.ends c.list.new.queue.items rows (0 * step_count r)) (sym w.rows-is)
+        | then-eq w ↦ subst (λ rows. IsWalkSearch r c.args.ends c.put.new.list.items rows (0 * step_count r)) (sym w.rows-is)
             (first (replicate 32 0) (λ t inside. ((λ some. absurd (HasPair-none r t some)), (λ both. absurd (both.1 (told.0 w.if-eq.true))))))
-        | else-eq w ↦ subst (λ rows. IsWalkSearch r c.args.ends c.list.new.queue.items rows (0 * step_count r)) (sym w.rows-is)
+        | else-eq w ↦ subst (λ rows. IsWalkSearch r c.args.ends c.put.new.list.items rows (0 * step_count r)) (sym w.rows-is)
             (first c.add.new.rows (λ t inside. (
               (λ some. ⊎_elim (λ same. (same, told.1 w.if-eq.false)) (λ old. absurd (HasPair-none r t old)) ((added t inside).0 some)),
               (λ both. (added t inside).1 (inl both.0)),

@@ -22,7 +22,7 @@ loop-place-preserved c =
       room = omega (arith, inv.room, c.put.ensures.room);
       within = omega (arith, earlier, place, inv.within);
       few = omega (arith, earlier, place, inv.few, ap length longer, length_push c.loop-place.steps.items x.step);
-      completes = λ w spells. SpellsBefore-parent queue c.args.place i x c.args.steps.now.items c.loop-place.steps.items c.put.new.steps.items c.loop-place-test.true here longer inv.completes w
+      completes = λ w spells. SpellsBefore-parent queue c.args.place i x c.args.steps.now.items c.loop-place.steps.items c.put.new.list.items c.loop-place-test.true here longer inv.completes w
           (subst (λ p. TreeSpells (places_of queue) p w) place spells);
     }
 

@@ -1,15 +1,11 @@
-use Rattle.std.proofs.Common.{◌≡◌, ℕ, ◌<◌, List, [], ◌∷◌, ◌++◌, length, slice_index, reverse, Some, sym, ap, ◌∙◌, subst, arith, append_assoc}
-use Rattle.std.proofs.lemmas.List.{length_push, reverse-append}
+use Rattle.std.proofs.Common.{◌≡◌, ◌<◌, [], ◌∷◌, ◌++◌, length, slice_index, Some, sym, ap, ◌∙◌, subst, arith}
+use Rattle.std.proofs.lemmas.List.{length_push}
 use Rattle.std.proofs.lemmas.Option.{get_or_from_slice_get}
 use Rattle.word_image.specs.Graphs.{full_set}
 use Rattle.word_image.specs.Families.{IsLeastWordOf}
+use Rattle.search_laws.proofs.SpelledWords.{letter_before}
 use Rattle.image_subsets.proofs.LeastWords.{IsLeastWordOf-parent, IsLeastWordOf-full}
 use Rattle.orphan_search.proofs.search.write_word.Goals as goal
-
--- one letter more, before the others
-letter_before : (v letters longer : List ℕ) (a : ℕ) → longer ≡ letters ++ a ∷ [] → (v ++ a ∷ []) ++ reverse letters ≡ v ++ reverse longer
-letter_before v letters longer a more =
-    append_assoc v (a ∷ []) (reverse letters) ∙ ap (λ w. v ++ w) (sym (ap reverse more ∙ reverse-append letters (a ∷ [])))
 
 pub loop-parent-preserved : goal.loop-parent-preserved
 loop-parent-preserved c =

@@ -1,45 +1,36 @@
 use Rattle.std.proofs.Common.{◌≡◌, ℕ, ◌+◌, ◌-◌, ◌*◌, ◌/◌, ◌%◌, ◌^◌, ◌<◌, ◌≤◌, List, length, take, get_or, slice_index, sym, ap, ap₂, subst, ◌∙◌, arith, mod-lt}
-use Rattle.std.proofs.Math.Nat.{pow-le-pow_right, one-le-pow}
+use Rattle.std.proofs.Math.Nat.{one-le-pow}
 use Rattle.std.proofs.lemmas.List.{take_all}
 use Rattle.word_image.specs.LocalRules.{LocalRule, IsRule, value, word_of}
 use Rattle.word_image.specs.Words.{image}
 use Rattle.word_image.proofs.laws.Values.{value-below, value-take_more, value-take-below}
+use Rattle.word_image.proofs.laws.WindowParts.{some_letter}
 use Rattle.word_image.proofs.laws.Words.{IsWord-image}
-use Rattle.rule_algebra.proofs.laws.WindowValues.{length-image-word_of, get_or-image-word_of}
+use Rattle.rule_algebra.proofs.laws.WindowValues.{fewer_values, length-image-word_of, get_or-image-word_of}
 use Rattle.rule_algebra.proofs.compositions.image_value.Goals as goal
 
 -- the image of the window of a value
 abbrev image_of : LocalRule → ℕ → ℕ → List ℕ
 image_of r n v = image r (word_of r.states (r.width + n - 1) v)
 
--- a part of a window has not more values than the window
-fewer : {r : LocalRule} → IsRule r → (i n : ℕ) → r.states ^ (r.width + n - 1) ≤ 256 → i ≤ n → r.states ^ i ≤ 256
-fewer {r} rule i n fits h =
-    let wide : 2 ≤ r.width = rule.shape.least_width in
-    let some : 2 ≤ r.states = rule.shape.least_states in
-    let grows : r.states ^ i ≤ r.states ^ (r.width + n - 1) = pow-le-pow_right (omega arith) (omega arith) in
-    omega arith
-
 -- one letter more fits
 next_below : {r : LocalRule} → IsRule r → (i n v : ℕ) → r.states ^ (r.width + n - 1) ≤ 256 → i < n → value r.states (take i (image_of r n v)) * r.states + get_or (image_of r n v) i 0 < 256
 next_below {r} rule i n v fits l =
     let long : length (image_of r n v) ≡ n = length-image-word_of rule n v in
-    value-take-below r.states (image_of r n v) i 256 (IsWord-image rule _) (omega arith) (subst (λ j. r.states ^ j ≤ 256) (sym long) (fewer rule n n fits (omega arith)))
+    value-take-below r.states (image_of r n v) i 256 (IsWord-image rule _) (omega arith) (subst (λ j. r.states ^ j ≤ 256) (sym long) (fewer_values rule n (r.width + n - 1) fits (omega (arith, rule.shape.least_width))))
 
 pub pow-requires : goal.pow-requires
 pow-requires c =
-    let small = fewer c.k.ensures.rule (c.args.n - 1 - c.loop-start.start) c.args.n c.requires.fits (omega arith) in
+    let small = fewer_values c.k.ensures.rule (c.args.n - 1 - c.loop-start.start) (c.args.rule.now.width + c.args.n - 1) c.requires.fits (omega arith) in
     rw (c.from-k.ensures, c.k.ensures.states, c.from.ensures) (omega arith)
 
 pub nonzero_div-part : goal.nonzero_div-part
 nonzero_div-part c =
-    let some : 1 ≤ c.args.rule.now.states = omega (arith, c.k.ensures.rule.shape.least_states) in
-    rw (c.pow.ensures, c.from-k.ensures, c.k.ensures.states) (one-le-pow c.from.result c.args.rule.now.states some)
+    rw (c.pow.ensures, c.from-k.ensures, c.k.ensures.states) (one-le-pow c.from.result c.args.rule.now.states (some_letter c.k.ensures.rule))
 
 pub nonzero_rem-part : goal.nonzero_rem-part
 nonzero_rem-part c =
-    let some : 1 ≤ c.args.rule.now.states = omega (arith, c.k.ensures.rule.shape.least_states) in
-    rw c.size.ensures.size (one-le-pow c.args.rule.now.width c.args.rule.now.states some)
+    rw c.size.ensures.size (one-le-pow c.args.rule.now.width c.args.rule.now.states (some_letter c.k.ensures.rule))
 
 -- the letter that is read next is the image's
 letter : (c : goal.After-from-in-loop-start) → c.from-in-loop-start.result ≡ get_or (image_of c.args.rule.now c.args.n c.args.window) c.loop-start.start 0
@@ -51,8 +42,7 @@ letter c =
 
 pub at-requires : goal.at-requires
 at-requires c =
-    let some : 1 ≤ c.args.rule.now.states = omega (arith, c.k.ensures.rule.shape.least_states) in
-    rw c.size.ensures.size (mod-lt (c.args.window / c.pow.result) (one-le-pow c.args.rule.now.width c.args.rule.now.states some))
+    rw c.size.ensures.size (mod-lt (c.args.window / c.pow.result) (one-le-pow c.args.rule.now.width c.args.rule.now.states (some_letter c.k.ensures.rule)))
 
 pub overflow_mul-value : goal.overflow_mul-value
 overflow_mul-value c =

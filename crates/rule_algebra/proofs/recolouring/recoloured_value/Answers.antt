@@ -1,10 +1,12 @@
 use Rattle.std.proofs.Common.{◌≡◌, ℕ, ◌+◌, ◌-◌, ◌*◌, ◌/◌, ◌%◌, ◌^◌, ◌<◌, ◌≤◌, List, length, take, get_or, slice_index, sym, ap, ap₂, subst, ◌∙◌, arith}
-use Rattle.std.proofs.Math.Nat.{pow-le-pow_right, one-le-pow}
+use Rattle.std.proofs.Math.Nat.{one-le-pow}
 use Rattle.std.proofs.lemmas.List.{take_all, length-map, get_or-map}
 use Rattle.word_image.specs.LocalRules.{LocalRule, IsRule, IsWord, value, word_of}
 use Rattle.word_image.proofs.laws.Values.{value-below, value-take_more, value-take-below, length-word_of}
 use Rattle.word_image.proofs.laws.RuleFaults.{window_count-le}
+use Rattle.word_image.proofs.laws.WindowParts.{some_letter}
 use Rattle.rule_algebra.specs.Algebra.{recoloured}
+use Rattle.rule_algebra.proofs.laws.WindowValues.{fewer_values}
 use Rattle.rule_algebra.proofs.laws.Recolouring.{IsWord-recoloured, get_or-word_of}
 use Rattle.rule_algebra.proofs.recolouring.recoloured_value.Goals as goal
 
@@ -44,14 +46,12 @@ pub pow-requires : goal.pow-requires
 pow-requires c =
     let r = c.args.rule.now in
     let few : r.states ^ r.width ≤ 256 = window_count-le r.states r.width r.offset c.k.ensures.rule.shape in
-    let some : 1 ≤ r.states = omega (arith, c.k.ensures.rule.shape.least_states) in
-    let grows : r.states ^ (r.width - 1 - c.loop-place.place) ≤ r.states ^ r.width = pow-le-pow_right some (omega arith) in
+    let small = fewer_values c.k.ensures.rule (r.width - 1 - c.loop-place.place) r.width few (omega arith) in
     rw (c.from-k.ensures, c.k.ensures.states, c.from.ensures, c.m.ensures.width) (omega arith)
 
 pub nonzero_div-letter : goal.nonzero_div-letter
 nonzero_div-letter c =
-    let some : 1 ≤ c.args.rule.now.states = omega (arith, c.k.ensures.rule.shape.least_states) in
-    rw (c.pow.ensures, c.from-k.ensures, c.k.ensures.states) (one-le-pow c.from.result c.args.rule.now.states some)
+    rw (c.pow.ensures, c.from-k.ensures, c.k.ensures.states) (one-le-pow c.from.result c.args.rule.now.states (some_letter c.k.ensures.rule))
 
 pub overflow_mul-value : goal.overflow_mul-value
 overflow_mul-value c =

@@ -7,7 +7,7 @@ use Rattle.image_subsets.proofs.marks.Marks.mark.Goals as goal
 pub loop-u-init : goal.loop-u-init
 loop-u-init c =
     let all = one_shl c.args.n 32 (omega (arith, c.requires.nodes)) in
-    AreMarksTo-start c.args.sets.now c.args.n c.clear.new.self c.mark_only.new.self c.requires.nodes c.requires.sets
+    AreMarksTo-start c.args.sets.now c.args.n c.clear.new.self c.mark_only.new.self c.requires.sets
     (λ x below. c.clear.ensures x (omega (arith, below, all))) c.mark_only.ensures
 
 pub loop-u-preserved : goal.loop-u-preserved

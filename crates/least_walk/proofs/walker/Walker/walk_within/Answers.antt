@@ -9,7 +9,7 @@ use Rattle.least_walk.proofs.walker.Walker.walk_within.Goals as goal
 pub spell-requires-clause-most : goal.spell-requires-clause-most
 spell-requires-clause-most c =
     let found = c.in-Some.ensures.found in
-    let alone : c.put.new.steps.items ≡ c.in-Some.arrival.step ∷ [] = c.put.ensures.items ∙ ap (λ s. s ++ c.in-Some.arrival.step ∷ []) c.clear.ensures.items in
+    let alone : c.put.new.list.items ≡ c.in-Some.arrival.step ∷ [] = c.put.ensures.items ∙ ap (λ s. s ++ c.in-Some.arrival.step ∷ []) c.clear.ensures.items in
     omega (arith, ap length alone, slice_get_within c.search.new.queue.items c.in-Some.arrival.place found.from found.stands, length-walking-le found.walking)
 
 pub spell-requires-clause-backward : goal.spell-requires-clause-backward
@@ -18,7 +18,7 @@ spell-requires-clause-backward c = subst IsBackward (sym c.deref.ensures.value) 
 pub returns-in-Some : goal.returns-in-Some
 returns-in-Some c =
     let found = c.in-Some.ensures.found in
-    let alone : c.put.new.steps.items ≡ c.in-Some.arrival.step ∷ [] = c.put.ensures.items ∙ ap (λ s. s ++ c.in-Some.arrival.step ∷ []) c.clear.ensures.items in
+    let alone : c.put.new.list.items ≡ c.in-Some.arrival.step ∷ [] = c.put.ensures.items ∙ ap (λ s. s ++ c.in-Some.arrival.step ∷ []) c.clear.ensures.items in
     let spelled : SpellsBefore c.search.new.queue.items c.in-Some.arrival.place (c.in-Some.arrival.step ∷ []) c.spell.new.steps.items =
     subst₂ (λ q old. SpellsBefore q c.in-Some.arrival.place old c.spell.new.steps.items) c.deref.ensures.value alone c.spell.ensures.spelled in
     let steps = c.deref-in-Some.ensures.value in

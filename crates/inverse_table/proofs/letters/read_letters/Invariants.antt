@@ -1,6 +1,6 @@
 use Rattle.std.proofs.Common.{◌≡◌, ◌*◌, ◌%◌, length}
 use Rattle.inverse_table.specs.ImageValues.{IsRead, letter_by_unit}
-use Rattle.inverse_table.proofs.letters.first_apart.Given as goal
+use Rattle.inverse_table.proofs.letters.read_letters.Given as goal
 
 abbrev pub invariant-loop-run : goal.invariant-loop-run
 invariant-loop-run l = record {

@@ -1,5 +1,5 @@
 use Rattle.cert_check.proofs.laws.OneAnswer.{IsAccepted-unique, IsRefusal-unique, accepted_not_refused}
-use Rattle.cert_check.proofs.exactness.one_answer.Goals as goal
+use Rattle.cert_check.proofs.theorems.one_answer.Goals as goal
 
 pub returns-clause-accepted : goal.returns-clause-accepted
 returns-clause-accepted c bytes v w = IsAccepted-unique
