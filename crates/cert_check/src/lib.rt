@@ -38,7 +38,6 @@ mod pairs;
 mod refusal;
 mod sets;
 mod splits;
-mod steps;
 mod sums;
 mod theorems;
 mod twins;

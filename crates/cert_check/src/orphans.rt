@@ -7,8 +7,8 @@ ghost use Rattle.cert_check.specs.Checks.{IsChecked};
 
 use crate::conditions::Condition;
 use crate::refusal::Refusal;
-use crate::steps::Steps;
 use cert_format::{Cert, SurjectivePart};
+use debruijn::Graph;
 
 /// Whether the orphan leads from the full set to the empty one.
 pub fn orphan_read(cert: &Cert) -> Result<(), Refusal>
@@ -17,7 +17,7 @@ pub fn orphan_read(cert: &Cert) -> Result<(), Refusal>
     match &cert.surjective {
         SurjectivePart::Sets(_) | SurjectivePart::Pairs(_) => Ok(()),
         SurjectivePart::Orphan(word) => {
-            if reached(&Steps::of(&cert.rule), word.as_slice()) == 0 {
+            if reached(&Graph::of(&cert.rule), word.as_slice()) == 0 {
                 Ok(())
             } else {
                 Err(Refusal::Orphan)
@@ -27,13 +27,13 @@ pub fn orphan_read(cert: &Cert) -> Result<(), Refusal>
 }
 
 /// The set to which a word leads from the full set.
-fn reached(steps: &Steps, word: &[u8]) -> u16
-    requires { IsWord steps.now.states word.now }
-    ensures { LeadsTo steps.now (full_set steps.now) word.now result }
+fn reached(graph: &Graph, word: &[u8]) -> u16
+    requires { IsWord graph.now.states word.now }
+    ensures { LeadsTo graph.now (full_set graph.now) word.now result }
 {
-    let mut set = steps.full();
+    let mut set = graph.full();
     for letter in word {
-        set = steps.step(set, *letter);
+        set = graph.step(set, *letter);
     }
     set
 }

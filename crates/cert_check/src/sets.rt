@@ -10,8 +10,8 @@ ghost use Rattle.cert_check.specs.Checks.{IsChecked, FirstBreach};
 use crate::conditions::Condition;
 use crate::marks::Marks;
 use crate::refusal::Refusal;
-use crate::steps::Steps;
 use cert_format::{Cert, CertVersion, SurjectivePart};
+use debruijn::Graph;
 
 /// Whether the full set is listed.
 pub fn full_listed(cert: &Cert) -> Result<(), Refusal>
@@ -19,7 +19,7 @@ pub fn full_listed(cert: &Cert) -> Result<(), Refusal>
 {
     match &cert.surjective {
         SurjectivePart::Sets(sets) => {
-            if sets.as_slice().contains(&Steps::of(&cert.rule).full()) {
+            if sets.as_slice().contains(&cert.rule.all_nodes()) {
                 Ok(())
             } else {
                 Err(Refusal::NoFull)
@@ -49,7 +49,7 @@ pub fn closed(cert: &Cert) -> Result<(), Refusal>
 {
     match &cert.surjective {
         SurjectivePart::Sets(sets) => {
-            match first_open(cert.version, &Steps::of(&cert.rule), sets.as_slice()) {
+            match first_open(cert.version, &Graph::of(&cert.rule), sets.as_slice()) {
                 Some((place, letter)) => Err(Refusal::NotClosed(place, letter)),
                 None => Ok(()),
             }
@@ -72,19 +72,19 @@ fn first_empty(sets: &[u16]) -> Option<usize>
 
 /// The place of the first set with a step that isn't as the version asks, and the first letter of such a
 /// step.
-fn first_open(version: CertVersion, steps: &Steps, sets: &[u16]) -> Option<(usize, u8)>
+fn first_open(version: CertVersion, graph: &Graph, sets: &[u16]) -> Option<(usize, u8)>
     ensures { MatchOption result
-        (EachBelow (length sets.now) (λ i. EachBelow steps.now.states (StepIsKept version steps.now sets.now (slice_index sets.now i))))
-        (λ (i, a). IsFirstBreach (length sets.now) (λ i. EachBelow steps.now.states (StepIsKept version steps.now sets.now (slice_index sets.now i))) i
-        × IsFirstBreach steps.now.states (StepIsKept version steps.now sets.now (slice_index sets.now i)) a) }
+        (EachBelow (length sets.now) (λ i. EachBelow graph.now.states (StepIsKept version graph.now sets.now (slice_index sets.now i))))
+        (λ (i, a). IsFirstBreach (length sets.now) (λ i. EachBelow graph.now.states (StepIsKept version graph.now sets.now (slice_index sets.now i))) i
+        × IsFirstBreach graph.now.states (StepIsKept version graph.now sets.now (slice_index sets.now i)) a) }
 {
-    let kept = Marks::kept(version, steps.full(), sets);
+    let kept = Marks::kept(version, graph.full(), sets);
     let mut closed = Marks::new();
     for (place, set) in sets.iter().enumerate() {
         if closed.has(*set) {
             continue;
         }
-        if let Some(letter) = first_not_kept(steps, &kept, *set) {
+        if let Some(letter) = first_not_kept(graph, &kept, *set) {
             return Some((place, letter));
         }
         closed.mark(*set);
@@ -93,11 +93,11 @@ fn first_open(version: CertVersion, steps: &Steps, sets: &[u16]) -> Option<(usiz
 }
 
 /// The first letter on which the step of a set isn't marked.
-fn first_not_kept(steps: &Steps, kept: &Marks, set: u16) -> Option<u8>
-    ensures { (version : CertVersion) (sets : List ℕ) → AreKept version (full_set steps.now) sets kept.now.rows → FirstBreach steps.now.states (StepIsKept version steps.now sets set) result }
+fn first_not_kept(graph: &Graph, kept: &Marks, set: u16) -> Option<u8>
+    ensures { (version : CertVersion) (sets : List ℕ) → AreKept version (full_set graph.now) sets kept.now.rows → FirstBreach graph.now.states (StepIsKept version graph.now sets set) result }
 {
-    for letter in 0..steps.k() {
-        if !kept.has(steps.step(set, letter)) {
+    for letter in 0..graph.k() {
+        if !kept.has(graph.step(set, letter)) {
             return Some(letter);
         }
     }

@@ -1,6 +1,6 @@
 //! The graph, with its tables.
 
-ghost use Rattle.std.specs.Prelude.{◌≡◌, ◌<◌};
+ghost use Rattle.std.specs.Prelude.{◌≡◌, ◌<◌, ℕ, List, [], ◌∷◌, ◌++◌};
 ghost use Rattle.word_image.specs.LocalRules.{IsRule, node_count};
 
 use std::marker::Model;
@@ -29,7 +29,8 @@ impl Model for Graph {
 }
 
 impl Graph {
-    ghost use Rattle.word_image.specs.Graphs.{next, label};
+    ghost use Rattle.word_image.specs.Graphs.{next, label, full_set, IsStep};
+    ghost use Rattle.word_image.specs.Ranks.{IsLastSet};
     ghost use Rattle.word_image.specs.Edges.{AreEdgeRows, IsEnds};
 
     /// The graph of this rule.
@@ -100,5 +101,28 @@ impl Graph {
         ensures { IsEnds Side.Right self.now u label result }
     {
         self.ends[usize::from(label)][usize::from(u)]
+    }
+    /// The set of all nodes, node u as bit u: the last nodes of the empty word.
+    pub fn full(&self) -> u16
+        ensures set { result ≡ full_set self.now }
+        ensures rule { IsRule self.now }
+    {
+        self.rule.all_nodes()
+    }
+
+    /// The nodes to which an edge labelled a leads from a node of the set. Where the set is that of a
+    /// word, the answer is that of the word followed by a.
+    pub fn step(&self, set: u16, a: u8) -> u16
+        requires { a < self.now.states }
+        ensures step { IsStep self.now set a result }
+        ensures word { (w : List ℕ) → IsLastSet self.now w set → IsLastSet self.now (w ++ a ∷ []) result }
+    {
+        let mut after = 0;
+        for u in 0..self.nodes() {
+            if set >> u & 1 == 1 {
+                after |= self.ends(u, a);
+            }
+        }
+        after
     }
 }

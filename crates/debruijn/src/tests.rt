@@ -1,4 +1,4 @@
-//! The numbers of rule 110, done by hand.
+//! The graph of rule 110, done by hand.
 
 use crate::Graph;
 use std::test::Fail;
@@ -40,6 +40,19 @@ fn rule_110_has_this_graph(rt: HostRuntime) -> Result<(), Fail> {
     for (u, label, set) in ends {
         assert!(rt; u < 4 && label < 2);
         assert_eq!(rt; graph.ends(u, label), set, "at {u} and {label}");
+    }
+    Ok(())
+}
+
+#[test]
+fn the_word_01010_empties_the_sets_of_rule_110(rt: HostRuntime) -> Result<(), Fail> {
+    let graph = Graph::of(&Rule::new(2, 3, -1, &[0, 1, 1, 1, 0, 1, 1, 0])?);
+    let mut set = graph.full();
+    assert_eq!(rt; set, 15);
+    for (letter, after) in [(0, 9), (1, 6), (0, 1), (1, 2), (0, 0)] {
+        assert!(rt; set < 16 && letter < 2);
+        set = graph.step(set, letter);
+        assert_eq!(rt; set, after);
     }
     Ok(())
 }

@@ -7,7 +7,6 @@ ghost use Rattle.tail_config.specs.Tails.{IsInjective, IsRightClosing, IsLeftClo
 ghost use Rattle.eden_law.specs.ReachedRows.{InRows, LeadsApart, LeadsBeside, AreNodeRows, AreAdded, IsRowSearch};
 
 use debruijn::Graph;
-use image_subsets::step;
 use word_image::MOST_NODES;
 
 /// For each node u the set of the nodes v whose pair with u is in a set of pairs; node v is bit v.
@@ -89,7 +88,7 @@ fn add_steps(graph: &Graph, node: u8, set: u16, found: &mut Rows) -> bool
 {
     for a in 0..graph.k() {
         let next = graph.next(node, a);
-        let others = step(graph, set, graph.label(node, a));
+        let others = graph.step(set, graph.label(node, a));
         if others >> next & 1 == 1 {
             return false;
         }

@@ -8,7 +8,6 @@ ghost use Rattle.image_minimal.specs.Searches.{AreUnreadSets};
 
 use crate::listed::Listed;
 use debruijn::Graph;
-use image_subsets::full;
 use std::alloc::{AllocError, Global};
 
 /// For each set of nodes its closure.
@@ -16,7 +15,7 @@ pub fn closures(alloc: Global, graph: &Graph) -> Result<Vec<u16>, AllocError>
     ensures { IfOk result (λ closures. AreClosures graph.now closures.items) }
 {
     let unread = unread_sets(alloc, graph)?;
-    let all = full(graph);
+    let all = graph.full();
     let mut closures = vec![in alloc; 0; usize::from(all) + 1]?;
     for less in 0..closures.len() {
         let set = all - less as u16;
@@ -36,7 +35,7 @@ fn closure_above(graph: &Graph, closures: &[u16], set: u16) -> u16
     requires read { ¬ IsUnreadSet graph.now set }
     ensures { IsClosure graph.now set result }
 {
-    let mut closure = full(graph);
+    let mut closure = graph.full();
     for u in 0..graph.nodes() {
         if set >> u & 1 == 0 {
             closure &= closures[usize::from(set | 1u16 << u)];

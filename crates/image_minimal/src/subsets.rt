@@ -5,7 +5,7 @@ ghost use Rattle.word_image.specs.LocalRules.{IsRule, node_count};
 ghost use Rattle.word_image.specs.Graphs.{IsStep, full_set};
 
 use debruijn::Graph;
-use image_subsets::{StepTables, full};
+use image_subsets::StepTables;
 use std::alloc::{AllocError, Global};
 use std::marker::Model;
 use word_image::Rule;
@@ -61,7 +61,7 @@ impl Subsets {
         ensures set { result ≡ full_set self.now }
         ensures rule { IsRule self.now }
     {
-        full(&self.graph)
+        self.graph.full()
     }
 
     /// The steps of the set, letter by letter.

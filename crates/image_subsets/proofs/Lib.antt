@@ -1,4 +1,3 @@
-pub mod Unions
 pub mod Searches
 pub mod LeastWords
 pub mod MaskLists

@@ -8,7 +8,6 @@ ghost use Rattle.word_image.specs.Families.{is_minimal};
 
 use crate::marks::Marks;
 use crate::masks::Masks;
-use crate::sets::full;
 use crate::step_tables::StepTables;
 use debruijn::Graph;
 use std::alloc::{AllocError, Global};
@@ -72,7 +71,7 @@ impl Family {
         self.tables.fill(graph);
         self.sets.clear();
         self.parents.clear();
-        self.sets.insert(full(graph));
+        self.sets.insert(graph.full());
         self.parents.push_reserved(None);
         let mut place = 0;
         while place < self.sets.len() {

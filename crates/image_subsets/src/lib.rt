@@ -22,11 +22,9 @@
 mod family;
 mod marks;
 mod masks;
-mod sets;
 mod step_tables;
 #[cfg(test)]
 mod tests;
 
 pub use family::Family;
-pub use sets::{full, step};
 pub use step_tables::StepTables;

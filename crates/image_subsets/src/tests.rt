@@ -1,22 +1,9 @@
-//! The graph of rule 110, and the family of rule 106, done by hand.
+//! The family of rule 106, done by hand.
 
-use crate::{Family, full, step};
+use crate::Family;
 use debruijn::Graph;
 use std::test::Fail;
 use word_image::Rule;
-
-#[test]
-fn the_word_01010_empties_the_sets_of_rule_110(rt: HostRuntime) -> Result<(), Fail> {
-    let graph = Graph::of(&Rule::new(2, 3, -1, &[0, 1, 1, 1, 0, 1, 1, 0])?);
-    let mut set = full(&graph);
-    assert_eq!(rt; set, 15);
-    for (letter, after) in [(0, 9), (1, 6), (0, 1), (1, 2), (0, 0)] {
-        assert!(rt; set < 16 && letter < 2);
-        set = step(&graph, set, letter);
-        assert_eq!(rt; set, after);
-    }
-    Ok(())
-}
 
 #[test]
 fn rule_106_has_twelve_sets(rt: HostRuntime) -> Result<(), Fail> {

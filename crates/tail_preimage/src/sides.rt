@@ -7,7 +7,6 @@ ghost use Rattle.tail_preimage.specs.Sides.{IsSide};
 
 use crate::relations::{Relation, before, powers, returning};
 use debruijn::Graph;
-use image_subsets::full;
 
 /// The relation of a period, and those of 0 to 16 periods.
 #[derive(Clone, Copy)]
@@ -36,7 +35,7 @@ pub fn open(graph: &Graph, side: &Side, n: u8) -> u16
     requires side { IsSide graph.now side.now }
     ensures { IsNodeSet graph.now (Open (Relates side.now.period) n) result }
 {
-    before(graph, &side.powers[usize::from(n)], full(graph))
+    before(graph, &side.powers[usize::from(n)], graph.full())
 }
 
 /// The nodes to which n periods lead back.

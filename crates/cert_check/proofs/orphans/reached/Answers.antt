@@ -11,6 +11,6 @@ loop-letter-init c =
 
 pub loop-letter-preserved : goal.loop-letter-preserved
 loop-letter-preserved c =
-    let r = c.args.steps.now in
+    let r = c.args.graph.now in
     subst (λ w. LeadsTo r (full_set r) w c.step-set.result) (sym (take_more c.args.word.now c.loop-letter.letter-index 0 c.loop-letter-test.true))
-    (Walk-push (IsStep r) (take c.loop-letter.letter-index c.args.word.now) _ (full_set r) c.loop-letter.set c.step-set.result c.loop-letter.invariant c.step-set.ensures)
+    (Walk-push (IsStep r) (take c.loop-letter.letter-index c.args.word.now) _ (full_set r) c.loop-letter.set c.step-set.result c.loop-letter.invariant c.step-set.ensures.step)

@@ -7,7 +7,7 @@ use Rattle.cert_check.proofs.sets.first_open.Goals as goal
 
 pub loop-place-preserved-then-has : goal.loop-place-preserved-then-has
 loop-place-preserved-then-has c =
-    let r = c.args.steps.now in
+    let r = c.args.graph.now in
     let sets = c.args.sets.now in
     let inv = c.loop-place.invariant in
     record {
@@ -17,7 +17,7 @@ loop-place-preserved-then-has c =
 
 pub loop-place-preserved : goal.loop-place-preserved
 loop-place-preserved c =
-    let r = c.args.steps.now in
+    let r = c.args.graph.now in
     let sets = c.args.sets.now in
     let inv = c.loop-place.invariant in
     let kept : AreKept c.args.version (full_set r) sets c.kept-kept.result.rows = subst (λ full. AreKept c.args.version full sets c.kept-kept.result.rows) c.full.ensures.set c.kept-kept.ensures in

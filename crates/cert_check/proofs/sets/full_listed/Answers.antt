@@ -10,8 +10,7 @@ use Rattle.cert_check.proofs.sets.full_listed.Goals as goal
 
 pub returns-else-contains : goal.returns-else-contains
 returns-else-contains c =
-    let full : c.full.result ≡ full_set c.cert.inside.rule = c.full.ensures.set ∙ ap full_set c.of.ensures in
-    let none : ¬ Contains c.as_slice.result.now c.full.result = λ (i, inside, same).
-    true≢false (sym (eq-eqb _ _ same) ∙ c.if-contains.ensures.cases i c.full.result (omega arith) inside) in
+    let none : ¬ Contains c.as_slice.result.now c.all_nodes.result = λ (i, inside, same).
+    true≢false (sym (eq-eqb _ _ same) ∙ c.if-contains.ensures.cases i c.all_nodes.result (omega arith) inside) in
     subst (λ (x : Certificate). IsBreach x condition.FullListed refusal.NoFull) c.cert.view_is
-    (NoFull c.in-Sets.sets (ap surjective_of c.in-Sets.is) (subst₂ (λ (l : List ℕ) (s : ℕ). ¬ Contains l s) c.as_slice.ensures full none))
+    (NoFull c.in-Sets.sets (ap surjective_of c.in-Sets.is) (subst₂ (λ (l : List ℕ) (s : ℕ). ¬ Contains l s) c.as_slice.ensures c.all_nodes.ensures.set none))

@@ -4,13 +4,13 @@ use Rattle.word_image.specs.LocalRules.{node_count}
 use Rattle.word_image.proofs.laws.Bits.{bit_at-IsBitSet}
 use Rattle.word_image.proofs.laws.LastSets.{IsLastSet-step}
 use Rattle.word_image.proofs.laws.Unions.{IsUnion, IsUnion-skip, IsUnion-take}
-use Rattle.image_subsets.proofs.Unions.{NodeLeads, IsStep-union}
-use Rattle.image_subsets.proofs.sets.step.Goals as goal
-use Rattle.image_subsets.proofs.sets.step.Goals.{then-set-u-eq1, else-set-u-eq1}
+use Rattle.debruijn.proofs.Steps.{NodeLeads, IsStep-union}
+use Rattle.debruijn.proofs.graph.Graph.step.Goals as goal
+use Rattle.debruijn.proofs.graph.Graph.step.Goals.{then-set-u-eq1, else-set-u-eq1}
 
 pub loop-u-preserved : goal.loop-u-preserved
 loop-u-preserved c =
-    let r = c.args.graph.now in
+    let r = c.args.self.now in
     let set = c.args.set in
     let u = c.loop-u.u in
     elim c.if-set-u-eq1.branch [
@@ -27,9 +27,9 @@ loop-u-preserved c =
 
 pub returns-clause-step : goal.returns-clause-step
 returns-clause-step c =
-    let r = c.args.graph.now in
+    let r = c.args.self.now in
     let all : c.loop-u.u ≡ node_count r = omega arith in
     IsStep-union (subst (λ n. IsUnion (node_count r) (NodeLeads r c.args.set c.args.a) n c.loop-u.after) all c.loop-u.invariant)
 
 pub returns-clause-word : goal.returns-clause-word
-returns-clause-word c w last = IsLastSet-step c.nodes-u-end.ensures.rule last c.requires.letter (returns-clause-step c)
+returns-clause-word c w last = IsLastSet-step c.nodes-u-end.ensures.rule last c.requires (returns-clause-step c)
