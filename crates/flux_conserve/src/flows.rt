@@ -44,7 +44,8 @@ fn window_flow(rule: &Rule, weights: &Weights, window: u16) -> i32
     ensures least { negsuc 254 ≤ℤ result }
     ensures most { result ≤ℤ pos 255 }
 {
-    i32::from(weights.at(rule.at(window))) - i32::from(weights.at(Side::Left.end_letter(rule, window)))
+    i32::from(weights.at(rule.at(window)))
+        - i32::from(weights.at(Side::Left.end_letter(rule, window)))
 }
 
 /// Whether the numbers of the nodes are a flux.

@@ -99,7 +99,10 @@ impl Pairs {
         if self.graph.label(u, a) != self.graph.label(v, b) {
             return None;
         }
-        Some(self.rule().pair_of(self.graph.next(u, a), self.graph.next(v, b)))
+        Some(
+            self.rule()
+                .pair_of(self.graph.next(u, a), self.graph.next(v, b)),
+        )
     }
 
     /// The pair whose nodes begin with the letters a and b, and from which an edge each leads to the
@@ -117,7 +120,10 @@ impl Pairs {
         if rule.at(first) != rule.at(second) {
             return None;
         }
-        Some(rule.pair_of(Side::Left.end_node(rule, first), Side::Left.end_node(rule, second)))
+        Some(rule.pair_of(
+            Side::Left.end_node(rule, first),
+            Side::Left.end_node(rule, second),
+        ))
     }
 
     /// The pair to which the letters a and b lead from p: forward by `follow`, and backward by `back`.

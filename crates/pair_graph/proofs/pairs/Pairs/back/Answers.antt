@@ -15,7 +15,7 @@ returns-then-at c =
       exactly = λ p. (
         (λ none. cc),
         (λ back. absurd (LeadsBack-none c.nodes_of-s.ensures.rule c.args.q c.args.a c.args.b _ _ first second
-        (λ alike. c.if-at.true (c.at.ensures.entry ∙ alike ∙ sym c.at-2.ensures.entry)) p (subst (λ r. LeadsBack r c.args.q c.args.a c.args.b p) (sym same) back))),
+            (λ alike. c.if-at.true (c.at.ensures.entry ∙ alike ∙ sym c.at-2.ensures.entry)) p (subst (λ r. LeadsBack r c.args.q c.args.a c.args.b p) (sym same) back))),
       );
     }
 
