@@ -7,12 +7,8 @@ use Rattle.std.proofs.lemmas.Bool.{cases_eq, ne_eqb, eqb-true, eqb-false, and_pa
 use Rattle.std.proofs.lemmas.Nat.{and_le_r}
 use Rattle.std.proofs.lemmas.List.Elements.{All-filter, All-contains_itself}
 use Rattle.std.proofs.lemmas.List.Folds.{Any-from_list_any}
-use Rattle.word_image.specs.Families.{is_subset, is_minimal, covers_of}
+use Rattle.word_image.specs.Families.{is_subset, is_cover, covers_of}
 use Rattle.cert_check.proofs.laws.Parts.{part-of_part}
-
--- the test of a set of the cover list behind the full one
-abbrev is_cover : ℕ → List ℕ → ℕ → Bool
-is_cover full sets s = not (s == full) && is_minimal sets s
 
 -- what is contained is contained where something may stand before
 Contains-cond : {X : Type 0} (b : Bool) (y : X) (zs : List X) (x : X) → Contains zs x → Contains (cond b (y ∷ zs) zs) x

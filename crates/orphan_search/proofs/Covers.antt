@@ -1,14 +1,10 @@
 -- The cover list of a family, one set more at a time.
 use Rattle.std.proofs.Common.{◌≡◌, ◌≢◌, ℕ, ◌+◌, ◌<◌, List, [], ◌∷◌, ◌++◌, Bool, cond, AllPairs, length, take, slice_index, refl, sym, ap, ◌∙◌, arith}
-use Rattle.std.specs.Prelude.{◌==◌, ◌&&◌, not}
+use Rattle.std.specs.Prelude.{◌&&◌, not}
 use Rattle.std.specs.List.{filter}
 use Rattle.std.proofs.lemmas.Bool.{eq-eqb, ne_eqb}
 use Rattle.std.proofs.lemmas.List.Elements.{filter_more}
-use Rattle.word_image.specs.Families.{is_minimal}
-
--- a set of the cover list behind the full one
-abbrev pub is_cover : ℕ → List ℕ → ℕ → Bool
-is_cover full sets s = not (s == full) && is_minimal sets s
+use Rattle.word_image.specs.Families.{is_minimal, is_cover}
 
 -- among the first set alone there is none
 pub no_cover-first : (sets : List ℕ) → 0 < length sets → filter (is_cover (slice_index sets 0) sets) (take 1 sets) ≡ []

@@ -35,9 +35,13 @@ is_subset s t = bit_and s t == s
 abbrev pub is_minimal : List ℕ → ℕ → Bool
 is_minimal sets s = not (list_any (λ t. not (t == s) && is_subset t s) sets)
 
--- the full set first, and then each other set of the list that contains no other, in its order
+-- and that isn't the full one
+abbrev pub is_cover : ℕ → List ℕ → ℕ → Bool
+is_cover full sets s = not (s == full) && is_minimal sets s
+
+-- the full set first, and then each such set of the list, in its order
 abbrev pub covers_of : ℕ → List ℕ → List ℕ
-covers_of full sets = full ∷ filter (λ s. not (s == full) && is_minimal sets s) sets
+covers_of full sets = full ∷ filter (is_cover full sets) sets
 
 -- the covers of a rule are those of its family
 abbrev pub IsCoverList : LocalRule → List ℕ → Type 0

@@ -1,7 +1,8 @@
 use Rattle.std.proofs.Common.{◌≡◌, [], ◌∷◌, ◌++◌, true, false, length, take, slice_index, refl, sym, ap, ◌∙◌, append-nil, arith}
 use Rattle.std.specs.List.{filter}
 use Rattle.std.proofs.lemmas.List.{length_push, take_all}
-use Rattle.orphan_search.proofs.Covers.{is_cover, no_cover-first, covers_more}
+use Rattle.word_image.specs.Families.{is_cover}
+use Rattle.orphan_search.proofs.Covers.{no_cover-first, covers_more}
 use Rattle.orphan_search.proofs.search.write_cover.Goals as goal
 
 pub loop-place-init : goal.loop-place-init

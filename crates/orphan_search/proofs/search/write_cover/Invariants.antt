@@ -1,6 +1,6 @@
 use Rattle.std.proofs.Common.{◌≡◌, ◌≤◌, ◌∷◌, length, take, slice_index, vec_capacity}
 use Rattle.std.specs.List.{filter}
-use Rattle.orphan_search.proofs.Covers.{is_cover}
+use Rattle.word_image.specs.Families.{is_cover}
 use Rattle.orphan_search.proofs.search.write_cover.Given as goal
 
 -- the covers among the first sets are written
