@@ -1,5 +1,5 @@
 -- Searches through sets of nodes, in which some edges have been followed.
-use Rattle.std.specs.Prelude.{◌≡◌, ℕ, ◌*◌, ◌≤◌, ◌↔◌, List, length, Contains}
+use Rattle.std.specs.Prelude.{ℕ, ◌*◌, ◌≤◌, ◌↔◌, List, length, Contains}
 use Rattle.word_image.specs.LocalRules.{LocalRule, IsRule}
 use Rattle.word_image.specs.Graphs.{full_set}
 use Rattle.search_laws.specs.SearchQueues.{IsSearch}

@@ -1,6 +1,6 @@
 -- The composed, the widened and the narrower rule, by their tables.
 use Rattle.std.specs.Prelude.{◌≡◌, ℕ, ◌+◌, ◌-◌, ◌<◌, ◌≤◌, List, length, take, drop, slice_index, pos, ◌+ℤ◌}
-use Rattle.word_image.specs.LocalRules.{LocalRule, IsWord, word_of, local_map, node_count}
+use Rattle.word_image.specs.LocalRules.{LocalRule, IsWord, local_map, node_count}
 use Rattle.word_image.specs.Words.{image}
 use Rattle.rule_algebra.specs.Algebra.{Ignores}
 use Rattle.rule_algebra.specs.Tabulated.{table_by}

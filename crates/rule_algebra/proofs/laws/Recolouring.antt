@@ -3,7 +3,7 @@ use Rattle.std.proofs.Common.{◌≡◌, ◌≢◌, ℕ, ◌+◌, ◌-◌, ◌/�
 use Rattle.std.proofs.lemmas.Bool.{cases_lt}
 use Rattle.std.proofs.lemmas.List.{length-map, length-take-le, take-map, drop-map, get_or-map, get_or_past, get_or-set_same, get_or-set_other, length-set}
 use Rattle.std.proofs.lemmas.List.Elements.{All-map, All-take, All-drop, All-head, All-tail, All-set}
-use Rattle.word_image.specs.LocalRules.{LocalRule, IsRule, IsWord, value, word_of, local_map}
+use Rattle.word_image.specs.LocalRules.{LocalRule, IsRule, IsWord, word_of, local_map}
 use Rattle.word_image.specs.Words.{image}
 use Rattle.word_image.proofs.laws.Values.{value-word_of, length-word_of, IsWord-word_of}
 use Rattle.word_image.proofs.laws.Words.{length-image}

@@ -1,5 +1,4 @@
-use Rattle.std.proofs.Common.{◌≡◌, ℕ, List, Contains, true≢false, eq-eqb, sym, ap, ◌∙◌, subst, subst₂, arith}
-use Rattle.word_image.specs.Graphs.{full_set}
+use Rattle.std.proofs.Common.{ℕ, List, Contains, true≢false, eq-eqb, sym, ap, ◌∙◌, subst, subst₂, arith}
 use Rattle.cert_format.specs.Certificates.{Certificate}
 use Rattle.cert_format.specs.Parts.{surjective_of}
 use Rattle.cert_check.specs.declared.conditions.Condition.TheVariants as condition

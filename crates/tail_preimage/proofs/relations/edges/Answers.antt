@@ -1,5 +1,5 @@
-use Rattle.std.proofs.Common.{ℕ, sym, subst, arith}
-use Rattle.tail_preimage.specs.Relations.{IsNodeSet, IsRelation, Edge}
+use Rattle.std.proofs.Common.{sym, subst, arith}
+use Rattle.tail_preimage.specs.Relations.{IsNodeSet, Edge}
 use Rattle.word_image.specs.Edges.{ends_at}
 use Rattle.tail_preimage.proofs.relations.edges.Goals as goal
 
