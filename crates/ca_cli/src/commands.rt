@@ -12,9 +12,9 @@ pub mod reports;
 pub mod summaries;
 pub mod tally;
 
-ghost use Rattle.std.specs.Prelude.{◌≡◌, ◌≤◌, ℕ, List, Option};
+ghost use Rattle.std.specs.Prelude.{ℕ, List, Option};
 ghost use Rattle.ca_cli.specs.Commands.{Command, IsOperand, IsWellFormed};
-ghost use Rattle.ca_cli.specs.Requests.{BeginsAt, IsChange, Means, asked_of_many, asked_with};
+ghost use Rattle.ca_cli.specs.Requests.{IsChange, Means, asked_with};
 ghost use Rattle.ca_cli.specs.Outcomes.{Comes, IsOutcome};
 ghost use Rattle.ca_cli.specs.Outputs.{IsCause, IsCauseOfTwo, IsCauseWith, IsOutput, IsOutputOfTwo, IsOutputWith};
 

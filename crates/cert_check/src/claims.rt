@@ -1,7 +1,7 @@
 //! Claims of ranks, which fall along every step of pairs.
 
 ghost use Rattle.std.specs.Prelude.{◌≡◌, ◌↔◌, ◌^◌, ◌<◌, ℕ, length, IsTrue, Some};
-ghost use Rattle.word_image.specs.LocalRules.{node_count, IsRule};
+ghost use Rattle.word_image.specs.LocalRules.{node_count};
 ghost use Rattle.word_image.specs.Graphs.{pair_count};
 ghost use Rattle.cert_check.specs.Sides.{claims_on};
 ghost use Rattle.cert_check.specs.Checks.{IsChecked, FirstBreach};

@@ -1,6 +1,6 @@
 //! Listed sets that prove a rule surjective.
 
-ghost use Rattle.std.specs.Prelude.{◌≢◌, ◌^◌, ◌<◌, ℕ, List, length, slice_index, Contains, IsTrue, MatchOption};
+ghost use Rattle.std.specs.Prelude.{◌≢◌, ◌<◌, ℕ, List, length, slice_index, MatchOption};
 ghost use Rattle.word_image.specs.Graphs.{full_set};
 ghost use Rattle.cert_check.specs.Breaches.{EachBelow, IsFirstBreach};
 ghost use Rattle.cert_check.specs.Sets.{StepIsKept};

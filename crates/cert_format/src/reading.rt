@@ -1,5 +1,5 @@
 //! From bytes to the certificate that they are.
-ghost use Rattle.std.specs.Prelude.{◌≡◌, ℕ, ◌⊎◌, List, alloc_error, codes, IfOk, IfErr, IfSome, IfNone};
+ghost use Rattle.std.specs.Prelude.{◌≡◌, ℕ, ◌⊎◌, List, alloc_error, IfOk, IfErr, IfSome, IfNone};
 ghost use Rattle.serde_json.specs.View.{view};
 ghost use Rattle.word_image.specs.LocalRules.{IsRule};
 ghost use Rattle.rule_text.specs.RuleTexts.{IsRuleText};

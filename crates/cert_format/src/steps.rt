@@ -1,5 +1,5 @@
 //! The steps of reading a certificate's parts: the member of a key, and the evidence that it is.
-ghost use Rattle.std.specs.Prelude.{◌≡◌, ℕ, List, Option, codes, IfOk, IfErr};
+ghost use Rattle.std.specs.Prelude.{ℕ, List, Option, IfOk, IfErr};
 ghost use Rattle.serde_json.specs.View.{view};
 ghost use Rattle.cert_format.specs.Evidence.{SurjectiveEvidence, InjectiveEvidence, SideEvidence, SumEvidence};
 ghost use Rattle.cert_format.specs.CertificateTexts.{HasSurjective, HasInjective, HasSide, HasConserving, HasWeights, HasRanks};

@@ -1,5 +1,5 @@
 //! From a certificate to its text.
-ghost use Rattle.std.specs.Prelude.{◌≡◌, ℕ, List, codes, map, IfOk, OnOk, IsUtf8};
+ghost use Rattle.std.specs.Prelude.{◌≡◌, ℕ, List, map, IfOk, OnOk, IsUtf8};
 ghost use Rattle.serde_json.specs.Data.{string, no_members};
 ghost use Rattle.serde_json.specs.View.{view, members_view};
 ghost use Rattle.word_image.specs.LocalRules.{IsWord};

@@ -1,6 +1,6 @@
 //! Whether a rule closes on a side, without the look-ahead or the split that shows it.
 
-ghost use Rattle.std.specs.Prelude.{◌≡◌, ◌^◌, ◌<◌, ◌↔◌, ℕ, IsBitSet, IsTrue};
+ghost use Rattle.std.specs.Prelude.{◌^◌, ◌<◌, ◌↔◌, ℕ, IsBitSet, IsTrue};
 ghost use Rattle.word_image.specs.LocalRules.{node_count};
 ghost use Rattle.word_image.specs.Ranks.{IsEndless};
 ghost use Rattle.tail_config.specs.Tails.{IsRightClosing, IsLeftClosing};

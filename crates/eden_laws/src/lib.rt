@@ -19,7 +19,7 @@
 //! cite them.
 #![tactic(auto)]
 
-ghost use Rattle.std.specs.Prelude.{◌≡◌, ◌≢◌, ◌<◌, ◌↔◌, ℕ, List};
+ghost use Rattle.std.specs.Prelude.{◌≢◌, ◌↔◌, ℕ, List};
 ghost use Rattle.word_image.specs.LocalRules.{LocalRule, IsRule};
 ghost use Rattle.word_image.specs.Words.{IsSurjective};
 ghost use Rattle.word_image.specs.Graphs.{first_of, second_of};

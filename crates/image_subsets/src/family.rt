@@ -1,6 +1,6 @@
 //! The sets that are reached from the full one, in the order in which they are found.
 
-ghost use Rattle.std.specs.Prelude.{◌≡◌, ◌≢◌, ◌+◌, ◌*◌, ◌≤◌, ◌<◌, AllPairs, Contains, [], length, slice_index, slice_get, vec_len, vec_capacity, Some, MatchOption, false, IfOk};
+ghost use Rattle.std.specs.Prelude.{◌≡◌, ◌≢◌, ◌+◌, ◌*◌, ◌≤◌, ◌<◌, AllPairs, Contains, [], length, slice_index, slice_get, vec_capacity, Some, MatchOption, false, IfOk};
 ghost use Rattle.image_subsets.specs.FamilyTrees.{IsFamilyTree};
 ghost use Rattle.image_subsets.specs.Searches.{IsExpanded};
 ghost use Rattle.image_subsets.specs.StepTables.{AreTables};

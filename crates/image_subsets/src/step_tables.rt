@@ -1,6 +1,6 @@
 //! Steps of sets by two look-ups, one by the lower and one by the upper eight bits.
 
-ghost use Rattle.std.specs.Prelude.{◌≡◌, ◌+◌, ◌-◌, ◌*◌, ◌^◌, ◌<◌, ◌≤◌, ℕ, ◌++◌, map, length, slice_index, vec_len, vec_capacity, IfOk};
+ghost use Rattle.std.specs.Prelude.{◌≡◌, ◌+◌, ◌-◌, ◌*◌, ◌^◌, ◌<◌, ◌≤◌, ℕ, ◌++◌, map, length, slice_index, vec_len, vec_capacity};
 ghost use Rattle.std.specs.Int.Bits.{bit_or};
 ghost use Rattle.std.specs.Simd.Lanes.{zip2};
 ghost use Rattle.word_image.specs.LocalRules.{LocalRule, IsRule, node_count};

@@ -1,6 +1,6 @@
 //! The least walks from one marked pair to all others.
 
-ghost use Rattle.std.specs.Prelude.{◌≡◌, ℕ, ◌+◌, ◌*◌, ◌<◌, ◌≤◌, List, length, map, Some, slice_get, IfOk, IfSome, IfNone, MatchOption};
+ghost use Rattle.std.specs.Prelude.{◌≡◌, ℕ, ◌*◌, ◌<◌, ◌≤◌, List, length, map, Some, slice_get, IfOk, IfSome, IfNone, MatchOption};
 ghost use Rattle.word_image.specs.Graphs.{pair_count};
 ghost use Rattle.word_image.specs.MarkedPairs.{marked};
 ghost use Rattle.search_laws.specs.PairWalks.{PairWalk, IsLeastWalkTo, uncode};

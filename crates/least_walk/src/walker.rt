@@ -1,6 +1,6 @@
 //! The searches for walks, and their room.
 
-ghost use Rattle.std.specs.Prelude.{◌≡◌, ℕ, ◌+◌, ◌*◌, ◌<◌, ◌≤◌, List, [], ◌∷◌, ◌++◌, length, map, vec_len, vec_capacity, IfSome, IfNone, Some};
+ghost use Rattle.std.specs.Prelude.{ℕ, ◌+◌, ◌*◌, ◌<◌, ◌≤◌, List, length, map, vec_capacity, IfSome, IfNone, Some};
 ghost use Rattle.least_walk.specs.Queues.{IsBackward, SpellsBefore};
 
 use crate::queue::{Ends, MOST_MARKED_PAIRS, Reached, put, search};

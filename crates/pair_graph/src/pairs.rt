@@ -1,8 +1,8 @@
 //! The pairs of a rule.
 
-ghost use Rattle.std.specs.Prelude.{◌≡◌, ◌+◌, ◌*◌, ◌/◌, ◌^◌, ◌<◌, ◌↔◌, ℕ, Some, slice_index, IfSome};
-ghost use Rattle.word_image.specs.LocalRules.{IsRule, node_count};
-ghost use Rattle.word_image.specs.Graphs.{first_of, second_of, pair_of, pair_count};
+ghost use Rattle.std.specs.Prelude.{◌≡◌, ◌+◌, ◌*◌, ◌<◌, ◌↔◌, ℕ, Some, IfSome};
+ghost use Rattle.word_image.specs.LocalRules.{IsRule};
+ghost use Rattle.word_image.specs.Graphs.{pair_of, pair_count};
 
 use debruijn::Graph;
 use std::marker::Model;

@@ -1,9 +1,8 @@
 //! The trims by plain loops over the steps of pairs.
 
-ghost use Rattle.std.specs.Prelude.{◌≡◌, ℕ, ◌<◌, ◌↔◌, length, IsBitSet, IsTrue};
-ghost use Rattle.word_image.specs.LocalRules.{IsRule, node_count};
-ghost use Rattle.word_image.specs.Graphs.{pair_of, pair_count};
-ghost use Rattle.pair_graph.specs.PairSets.{holds, IsTrimmedSet, LettersLead, LeadsInto, LeadsIntoBy};
+ghost use Rattle.std.specs.Prelude.{◌≡◌, ◌<◌, ◌↔◌, length, IsTrue};
+ghost use Rattle.word_image.specs.Graphs.{pair_count};
+ghost use Rattle.pair_graph.specs.PairSets.{holds, IsTrimmedSet, LeadsInto, LeadsIntoBy};
 
 use crate::pair_set::PairSet;
 use crate::pairs::Pairs;

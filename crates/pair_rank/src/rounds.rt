@@ -1,7 +1,7 @@
 //! Rounds that trim the set of all pairs, until one leaves all.
 
 ghost use Rattle.std.specs.Prelude.{◌≡◌, ℕ, ◌*◌, ◌<◌, ◌≤◌, IsBitSet, Some, length};
-ghost use Rattle.word_image.specs.LocalRules.{IsRule, node_count};
+ghost use Rattle.word_image.specs.LocalRules.{IsRule};
 ghost use Rattle.pair_rank.specs.Sides.{AreEndless, AreRanks, HasFallen, rank_at};
 
 use pair_graph::{PairSet, Pairs};

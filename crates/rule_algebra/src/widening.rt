@@ -1,5 +1,5 @@
 //! Rules with cells on the right that are ignored.
-ghost use Rattle.std.specs.Prelude.{◌≡◌, ◌≤◌, ◌^◌, IfOk};
+ghost use Rattle.std.specs.Prelude.{◌≡◌, ◌≤◌, IfOk};
 ghost use Rattle.std.specs.Result.{result_err};
 ghost use Rattle.word_image.specs.LocalRules.{IsShape};
 ghost use Rattle.rule_algebra.specs.Algebra.{IsWidened};

@@ -1,5 +1,5 @@
 //! The place of a rule in its class.
-ghost use Rattle.std.specs.Prelude.{◌≡◌, ◌≤◌, ◌↔◌, IfOk, IsOk};
+ghost use Rattle.std.specs.Prelude.{◌≤◌, ◌↔◌, IfOk, IsOk};
 ghost use Rattle.rule_classes.specs.Classes.{IsLeastOfClass};
 ghost use Rattle.rule_classes.specs.ClassVerdicts.{HaveOneVerdict};
 

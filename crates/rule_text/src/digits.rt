@@ -1,11 +1,10 @@
 //! The digits of a table and of a number.
-ghost use Rattle.std.specs.Prelude.{◌≡◌, ℕ, ◌+◌, ◌*◌, ◌/◌, ◌%◌, ◌^◌, ◌<◌, ◌≤◌, All, IfSome, IfNone, IsTrue, ◌↔◌, length, map, reverse};
+ghost use Rattle.std.specs.Prelude.{◌≡◌, ◌*◌, ◌/◌, ◌%◌, ◌^◌, ◌<◌, ◌≤◌, All, IfSome, IfNone, IsTrue, ◌↔◌, length, map, reverse};
 ghost use Rattle.std.specs.Bool.{OnTrue};
-ghost use Rattle.std.specs.Option.{SomeIff};
 ghost use Rattle.word_image.specs.LocalRules.{word_of};
 ghost use Rattle.word_image.specs.Grammars.{IsFormFault};
 ghost use Rattle.word_image.specs.Digits.{IsHexDigit, letter_at};
-ghost use Rattle.rule_text.specs.RuleTexts.{IsDigit, IsDecimal, decimal_value};
+ghost use Rattle.rule_text.specs.RuleTexts.{IsDecimal};
 ghost use Rattle.rule_text.specs.Heads.{IsEntries};
 
 use crate::head::Kind;

@@ -1,5 +1,5 @@
 //! The evidence of one verdict: what a decider finds, as the part of a certificate that says it.
-ghost use Rattle.std.specs.Prelude.{◌≡◌, List, length, slice_index, take, true, IfOk};
+ghost use Rattle.std.specs.Prelude.{◌≡◌, length, slice_index, take, true, IfOk};
 ghost use Rattle.word_image.specs.LocalRules.{LocalRule, IsRule, node_count};
 ghost use Rattle.word_image.specs.Words.{IsSurjective};
 ghost use Rattle.word_image.specs.Families.{IsCoverList};

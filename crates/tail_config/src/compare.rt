@@ -1,5 +1,5 @@
 //! Where two Tails differ, and whether they share an image or agree on a side.
-ghost use Rattle.std.specs.Prelude.{◌≡◌, ◌^◌, ◌<◌, ◌≤◌, ◌+◌, ◌↔◌, ℕ, length, IsTrue, IsNone, IfNone, IfSome, OnSome, unsigned_abs, pos, negsuc, ◌+ℤ◌};
+ghost use Rattle.std.specs.Prelude.{◌≡◌, ◌^◌, ◌<◌, ◌≤◌, ◌+◌, ◌↔◌, ℕ, IsTrue, IsNone, IfNone, IfSome, OnSome, unsigned_abs, pos, negsuc, ◌+ℤ◌};
 ghost use Rattle.tail_config.specs.Tails.{Same, ShareImage, AgreeLeft, AgreeRight, image_cell};
 ghost use Rattle.tail_config.specs.Differences.{IsFirstDifference, IsNearestDifference, left_cells, right_cells, most_middle};
 

@@ -1,14 +1,13 @@
 //! The answer: a placed configuration, or a gap.
 
-ghost use Rattle.std.specs.Prelude.{◌≡◌, ◌-◌, ◌^◌, ◌<◌, ◌+◌, ◌≤◌, ℕ, ◌↔◌, IfOk, IsTrue, length, pos, ◌-ℤ◌, ◌*◌};
+ghost use Rattle.std.specs.Prelude.{◌≡◌, ◌-◌, ◌^◌, ◌<◌, ◌+◌, ◌≤◌, ◌↔◌, IfOk, IsTrue, length, pos, ◌-ℤ◌, ◌*◌};
 ghost use Rattle.std.specs.List.{repeat};
-ghost use Rattle.word_image.specs.LocalRules.{IsRule, IsWord, node_count};
+ghost use Rattle.word_image.specs.LocalRules.{IsWord, node_count};
 ghost use Rattle.tail_preimage.specs.Preimages.{PlacedConfig, MapsTo, IsFrom};
 ghost use Rattle.tail_preimage.specs.Answers.{IsAnswer, is_from, placed_config};
 ghost use Rattle.tail_preimage.specs.Walks.{HasWalk, IsLeastWalkInto, before_last};
 ghost use Rattle.tail_preimage.specs.Relations.{IsNodeSet};
-ghost use Rattle.tail_preimage.specs.Sides.{AreTailParts, HaveParts, IsFirstShape, IsPossible, Starts, shape_of};
-ghost use Rattle.tail_preimage.specs.FirstWalks.{IsLeastNode};
+ghost use Rattle.tail_preimage.specs.Sides.{AreTailParts, HaveParts, IsFirstShape, Starts, shape_of};
 
 use crate::gaps::first_gap;
 use crate::relations::{after, before};

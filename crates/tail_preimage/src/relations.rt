@@ -1,6 +1,6 @@
 //! Relations between nodes, and the sets of nodes that they make.
 
-ghost use Rattle.std.specs.Prelude.{◌≡◌, ◌+◌, ◌^◌, ◌<◌, ◌≤◌, ℕ, List, [], slice_index, get_or, IsBitSet};
+ghost use Rattle.std.specs.Prelude.{◌≡◌, ◌+◌, ◌<◌, ◌≤◌, ℕ, [], get_or, IsBitSet};
 ghost use Rattle.word_image.specs.LocalRules.{IsRule, IsWord, node_count};
 ghost use Rattle.tail_preimage.specs.Walks.{HasWalk};
 ghost use Rattle.tail_preimage.specs.Relations.{IsNodeSet, IsRelation, AreSets, Relates, Edge, Steps};

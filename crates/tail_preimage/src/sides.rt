@@ -1,7 +1,6 @@
 //! The periods on one side of a configuration, as they lead away from its middle.
 
-ghost use Rattle.std.specs.Prelude.{◌≡◌, ◌≢◌, ◌+◌, ◌-◌, ◌<◌, ◌≤◌, ℕ, IsBitSet, IfSome, MatchOption};
-ghost use Rattle.word_image.specs.LocalRules.{IsRule};
+ghost use Rattle.std.specs.Prelude.{◌≡◌, ◌-◌, ◌<◌, ◌≤◌, ℕ, IfSome, MatchOption};
 ghost use Rattle.tail_preimage.specs.Relations.{IsNodeSet, AreSets, Relates, Steps, Open, Rounds, SomeRounds, IsFirst, Meets};
 ghost use Rattle.tail_preimage.specs.Sides.{IsSide};
 

@@ -1,7 +1,7 @@
 //! The first walk of a word from a node into a set of nodes, in dictionary order.
 
 ghost use Rattle.std.specs.Prelude.{◌≡◌, ◌≢◌, ◌-◌, ◌^◌, ◌<◌, length, IfOk};
-ghost use Rattle.word_image.specs.LocalRules.{IsRule, IsWord, word_of, node_count};
+ghost use Rattle.word_image.specs.LocalRules.{IsWord, word_of, node_count};
 ghost use Rattle.tail_preimage.specs.Walks.{Reaches, IsLeastWalkInto};
 ghost use Rattle.tail_preimage.specs.FirstWalks.{AreOpen, IsLeastNode};
 

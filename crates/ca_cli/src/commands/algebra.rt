@@ -1,12 +1,9 @@
 //! The commands that make a rule of rules.
-ghost use Rattle.std.specs.Prelude.{◌≡◌, ℕ, List, Result, None, Some, IfOk, map};
-ghost use Rattle.word_image.specs.Digits.{letter_at};
-ghost use Rattle.word_image.specs.LocalRules.{LocalRule, IsRule, mirrored};
+ghost use Rattle.std.specs.Prelude.{◌≡◌, ℕ, List, Result, IfOk};
+ghost use Rattle.word_image.specs.LocalRules.{LocalRule, mirrored};
 ghost use Rattle.rule_algebra.specs.Algebra.{IsTrimmed};
 ghost use Rattle.rule_text.specs.RuleTexts.{IsOffset, decimal_value};
-ghost use Rattle.rule_text.specs.PrintedRules.{printed_rule};
 ghost use Rattle.ca_cli.specs.Commands.{AskWith};
-ghost use Rattle.ca_cli.specs.Lines.{line};
 ghost use Rattle.ca_cli.specs.Outcomes.{Comes};
 ghost use Rattle.ca_cli.specs.Outputs.{IsCauseOfTwo, IsCauseWith, IsOutputOfTwo, IsOutputWith, IsRuleLine};
 ghost use Rattle.ca_cli.specs.StatusLines.{algebra_text};

@@ -1,5 +1,5 @@
 //! The commands on the words that are images.
-ghost use Rattle.std.specs.Prelude.{◌≡◌, ◌<◌, ◌≤◌, ◌++◌, IfOk, OnOk};
+ghost use Rattle.std.specs.Prelude.{◌≡◌, ◌<◌, ◌++◌, IfOk, OnOk};
 ghost use Rattle.image_minimal.specs.ImageLanguages.{Automaton, IsLeastAutomaton};
 ghost use Rattle.ca_cli.specs.LanguageLines.{IsErasedLine, IsLanguage, automaton_lines, class_line, dead_line};
 ghost use Rattle.ca_cli.specs.Outcomes.{Comes};

@@ -1,8 +1,7 @@
 //! Weights of letters, as an operand lists them.
 ghost use Rattle.std.specs.Prelude.{◌≡◌, ◌≢◌, ◌↔◌, [], ◌∷◌, codes, length, position, ◌==◌, IfErr, IfOk, IsTrue, MatchOption};
-ghost use Rattle.rule_text.specs.RuleTexts.{decimal_value};
 ghost use Rattle.ca_cli.specs.Outcomes.{IsStopFor};
-ghost use Rattle.ca_cli.specs.WeightTexts.{AreWeightTexts, IsWeightText, pieces, weights_said};
+ghost use Rattle.ca_cli.specs.WeightTexts.{AreWeightTexts, pieces, weights_said};
 
 use crate::output::Output;
 use crate::stop::Stop;
