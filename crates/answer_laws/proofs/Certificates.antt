@@ -1,5 +1,5 @@
 -- The certificate that is written for a rule is one: its least evidence, its cover list or reached pairs, and its ranks.
-use Rattle.std.proofs.Common.{◌≡◌, ℕ, ◌+◌, ◌<◌, ◌≤◌, ⊎_elim, List, [], length, get_or, Contains, refl, sym, ap, ap₂, ◌∙◌, subst, arith}
+use Rattle.std.proofs.Common.{◌≡◌, ℕ, ◌+◌, ◌<◌, ◌≤◌, ⊎_elim, List, [], length, get_or, Contains, refl, sym, ap, ◌∙◌, subst, arith}
 use Rattle.std.specs.Prelude.{Option, None, Some, MatchOption}
 use Rattle.std.specs.List.Sorted.{IsStrictlySortedBy}
 use Rattle.std.proofs.lemmas.Cmp.{nat_cmp_total}
@@ -118,29 +118,15 @@ abbrev evidence_of : Certificate → Evidence
 evidence_of c =
     record { rule = c.rule; weights = c.weights; orphan = orphan_of c.surjective; injective = c.injective; right = c.right; left = c.left; conserving = c.conserving }
 
--- the certificate with this evidence, list and ranks
-abbrev certificate_of : CertVersion → Evidence → SurjectiveEvidence → List (Option ℕ) → List (Option ℕ) → Certificate
-certificate_of version e surjective forward backward = record {
-  version = version;
-  rule = e.rule;
-  surjective = surjective;
-  injective = e.injective;
-  right = e.right;
-  left = e.left;
-  conserving = e.conserving;
-  weights = e.weights;
-  forward = forward;
-  backward = backward;
-}
-
 -- the parts that are written for a rule and weights are one certificate
 HasWrittenParts-unique : {version : CertVersion} {r : LocalRule} {weights : List ℕ} {c d : Certificate} → IsRule r → HasWrittenParts version r weights c → HasWrittenParts version r weights d → c ≡ d
 HasWrittenParts-unique {version} {r} {c = c} {d = d} rule h g =
     let evidence : evidence_of c ≡ evidence_of d = IsLeastEvidence-unique rule (h.weights_are ∙ sym g.weights_are) h.least g.least in
     let surjective : c.surjective ≡ d.surjective = IsListPart-unique version r c.surjective d.surjective (ap (λ e. e.orphan) evidence) (h.least).surjective h.list g.list in
-    ap₂ (λ (v : CertVersion) (e : Evidence). certificate_of v e c.surjective c.forward c.backward) (h.version_is ∙ sym g.version_is) evidence
-    ∙ ap₂ (λ (f b : List (Option ℕ)). certificate_of d.version (evidence_of d) c.surjective f b) (IsRankRow-unique Right rule h.forward g.forward) (IsRankRow-unique Left rule h.backward g.backward)
-    ∙ ap (λ s. certificate_of d.version (evidence_of d) s d.forward d.backward) surjective
+    let version : c.version ≡ d.version = h.version_is ∙ sym g.version_is in
+    let forward : c.forward ≡ d.forward = IsRankRow-unique Right rule h.forward g.forward in
+    let backward : c.backward ≡ d.backward = IsRankRow-unique Left rule h.backward g.backward in
+    λ i. record { version = version i; rule = (evidence i).rule; surjective = surjective i; injective = (evidence i).injective; right = (evidence i).right; left = (evidence i).left; conserving = (evidence i).conserving; weights = (evidence i).weights; forward = forward i; backward = backward i }
 
 -- and so is its text
 pub IsCertified-unique : {v : CertVersion} {r : LocalRule} {weights out other : List ℕ} → IsRule r → IsCertified v r weights out → IsCertified v r weights other → out ≡ other

@@ -49,11 +49,8 @@ IsConservingPart-unique weight rule (Ring p) (Ring q) h g = ap Ring (IsLeastLoss
 -- evidence of the same parts is the same
 same_evidence : {e f : Evidence} → e.rule ≡ f.rule → e.weights ≡ f.weights → e.orphan ≡ f.orphan → e.injective ≡ f.injective → e.right ≡ f.right → e.left ≡ f.left
     → e.conserving ≡ f.conserving → e ≡ f
-same_evidence {e} {f} rule weights orphan injective right left conserving =
-    ap₂ (λ (r : LocalRule) (ws : List ℕ). record { rule = r; weights = ws; orphan = e.orphan; injective = e.injective; right = e.right; left = e.left; conserving = e.conserving }) rule weights
-    ∙ ap₂ (λ (o : Option (List ℕ)) (i : InjectiveEvidence). record { rule = f.rule; weights = f.weights; orphan = o; injective = i; right = e.right; left = e.left; conserving = e.conserving }) orphan injective
-    ∙ ap₂ (λ (x y : SideEvidence). record { rule = f.rule; weights = f.weights; orphan = f.orphan; injective = f.injective; right = x; left = y; conserving = e.conserving }) right left
-    ∙ ap (λ (s : SumEvidence). record { rule = f.rule; weights = f.weights; orphan = f.orphan; injective = f.injective; right = f.right; left = f.left; conserving = s }) conserving
+same_evidence rule weights orphan injective right left conserving =
+    λ i. record { rule = rule i; weights = weights i; orphan = orphan i; injective = injective i; right = right i; left = left i; conserving = conserving i }
 
 -- a rule has one least evidence
 pub IsLeastEvidence-unique : {weight : ℕ → ℕ} {r : LocalRule} {e f : Evidence} → IsRule r → e.weights ≡ f.weights → IsLeastEvidence weight r e → IsLeastEvidence weight r f → e ≡ f
