@@ -9,7 +9,7 @@ use Rattle.image_minimal.proofs.laws.ClassLists.{IsLeastAutomaton-unique}
 use Rattle.tail_config.specs.Tails.{TailConfig}
 use Rattle.tail_preimage.specs.declared.answer.Pre.TheVariants as pre
 use Rattle.tail_preimage.proofs.laws.LeastPreimages.{IsLeastPreimage-unique}
-use Rattle.tail_preimage.proofs.laws.Answers.{IsAnswer-unique}
+use Rattle.tail_preimage.proofs.laws.Answers.{IsPreimageAnswer-unique}
 use Rattle.ca_cli.specs.Lines.{line}
 use Rattle.ca_cli.specs.LanguageLines.{IsSameLine, IsErasedLine, IsLanguage, automaton_lines}
 use Rattle.ca_cli.specs.LanguageLines.IsSameLine.{Yes, No}
@@ -56,7 +56,7 @@ IsPreimageLine-unique (From p h) (From q g) = ap (λ c. line (placed_text c)) (I
 IsPreimageLine-unique (From p h) (Gap b a w g) = absurd (g.none p h.least.preimage.maps)
 IsPreimageLine-unique (Gap b a w h) (From q g) = absurd (h.none q g.least.preimage.maps)
 IsPreimageLine-unique {r} {t} (Gap b a w h) (Gap c d z g) =
-    let same : pre.Gap b a w ≡ pre.Gap c d z = IsAnswer-unique r t (pre.Gap b a w) (pre.Gap c d z) h g in cc
+    let same : pre.Gap b a w ≡ pre.Gap c d z = IsPreimageAnswer-unique r t (pre.Gap b a w) (pre.Gap c d z) h g in cc
 
 -- the lines of the least automaton
 pub IsLanguage-unique : {r : LocalRule} {out other : List ℕ} → IsRule r → IsLanguage r out → IsLanguage r other → out ≡ other

@@ -67,7 +67,7 @@ IsFirstFound-none Has None before none = NoneBelow-none before none
 IsFirstFound-none Has (Some old) best none = IsFirstBelow-old best (λ v has. absurd (none v has))
 
 -- what holds of the two words of letter pairs holds of those that their bytes spell
-pub spelled : (P : List ℕ → List ℕ → Type 0) {bytes x y : List ℕ} (steps : List ℕ) → bytes ≡ steps → x ≡ map (λ step. step / 16) bytes → y ≡ map (λ step. step % 16) bytes
+pub spelled_pair : (P : List ℕ → List ℕ → Type 0) {bytes x y : List ℕ} (steps : List ℕ) → bytes ≡ steps → x ≡ map (λ step. step / 16) bytes → y ≡ map (λ step. step % 16) bytes
     → P (map (λ p. p.0) (map (uncode 16) steps)) (map (λ p. p.1) (map (uncode 16) steps)) → P x y
-spelled P steps same first second holds =
+spelled_pair P steps same first second holds =
     subst₂ P (map-map (λ (p : ℕ × ℕ). p.0) (uncode 16) steps ∙ sym (first ∙ ap (map (λ step. step / 16)) same)) (map-map (λ (p : ℕ × ℕ). p.1) (uncode 16) steps ∙ sym (second ∙ ap (map (λ step. step % 16)) same)) holds

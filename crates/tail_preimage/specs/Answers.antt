@@ -13,9 +13,9 @@ abbrev pub placed_config : Placed → PlacedConfig
 placed_config p = record { at = p.at; config = config_of p.left p.middle p.right }
 
 -- an answer is right
-abbrev pub IsAnswer : LocalRule → TailConfig → Pre → Type 0
-IsAnswer r t (From p) = IsFrom r t (placed_config p)
-IsAnswer r t (Gap before after w) = IsGap r t before after w
+abbrev pub IsPreimageAnswer : LocalRule → TailConfig → Pre → Type 0
+IsPreimageAnswer r t (From p) = IsFrom r t (placed_config p)
+IsPreimageAnswer r t (Gap before after w) = IsGap r t before after w
 
 -- a placed configuration is answered
 abbrev pub is_from : Pre → Bool

@@ -4,7 +4,7 @@ ghost use Rattle.std.specs.Prelude.{◌≡◌, ◌-◌, ◌^◌, ◌<◌, ◌+�
 ghost use Rattle.std.specs.List.{repeat};
 ghost use Rattle.word_image.specs.LocalRules.{IsWord, node_count};
 ghost use Rattle.tail_preimage.specs.Preimages.{PlacedConfig, MapsTo, IsFrom};
-ghost use Rattle.tail_preimage.specs.Answers.{IsAnswer, is_from, placed_config};
+ghost use Rattle.tail_preimage.specs.Answers.{IsPreimageAnswer, is_from, placed_config};
 ghost use Rattle.tail_preimage.specs.Walks.{HasWalk, IsLeastWalkInto, before_last};
 ghost use Rattle.tail_preimage.specs.Relations.{IsNodeSet};
 ghost use Rattle.tail_preimage.specs.Sides.{AreTailParts, HaveParts, IsFirstShape, Starts, shape_of};
@@ -53,8 +53,8 @@ pub enum Pre {
 /// configuration's stretches that is an orphan.
 pub fn preimage(alloc: Global, rule: &Rule, tail: &Tail) -> Result<Pre, AllocError>
     requires { rule.now.states ≡ tail.now.states }
-    ensures answer { IfOk result (IsAnswer rule.now tail.now.config) }
-    ensures only { IfOk result (λ pre. (other : Pre) → IsAnswer rule.now tail.now.config other → other ≡ pre) }
+    ensures answer { IfOk result (IsPreimageAnswer rule.now tail.now.config) }
+    ensures only { IfOk result (λ pre. (other : Pre) → IsPreimageAnswer rule.now tail.now.config other → other ≡ pre) }
     ensures exactly { IfOk result (λ pre. IsTrue (is_from pre) ↔ ((p : PlacedConfig) × MapsTo rule.now p tail.now.config)) }
 {
     let graph = Graph::of(rule);

@@ -2,7 +2,7 @@
 ghost use Rattle.std.specs.Prelude.{◌≡◌, IfOk};
 ghost use Rattle.tail_config.specs.Tails.{TailConfig};
 ghost use Rattle.tail_config.specs.TailFaults.{HasForm};
-ghost use Rattle.tail_preimage.specs.Answers.{IsAnswer, placed_config};
+ghost use Rattle.tail_preimage.specs.Answers.{IsPreimageAnswer, placed_config};
 ghost use Rattle.word_image.specs.LocalRules.{IsWord};
 ghost use Rattle.ca_cli.specs.Lines.{line};
 ghost use Rattle.ca_cli.specs.Commands.{AskWith};
@@ -38,8 +38,8 @@ pub fn preimage(alloc: Global, rule: &Rule, text: &[u8]) -> Result<Output, Stop>
 
 /// The line of an answer.
 fn answer_output(alloc: Global, rule: &Rule, answer: &Pre) -> Result<Output, AllocError>
-    requires { (t : TailConfig) × IsAnswer rule.now t answer.now }
-    ensures { IfOk result (λ output. (t : TailConfig) → IsAnswer rule.now t answer.now → IsPreimageLine rule.now t output) }
+    requires { (t : TailConfig) × IsPreimageAnswer rule.now t answer.now }
+    ensures { IfOk result (λ output. (t : TailConfig) → IsPreimageAnswer rule.now t answer.now → IsPreimageLine rule.now t output) }
 {
     let _states = rule.k();
     match answer {

@@ -12,9 +12,9 @@ use Rattle.tail_config.proofs.laws.TailFaults.{tail_fault-none}
 use Rattle.tail_config.proofs.laws.TailTexts.{HasParts-unique}
 
 -- a right answer to a text: its Tail, its first fault, or want of memory where it has a Tail
-abbrev pub IsAnswer : ℕ → List ℕ → Result TailOver TailTextFault → Type 0
-IsAnswer k text (Ok r) = (r.states ≡ k) × IsTailText k text r.config
-IsAnswer k text (Err f) = IsTailTextFault k text f ⊎ ((f ≡ fault.Memory alloc_error) × ((t : TailConfig) × IsTailText k text t))
+abbrev pub IsTailTextAnswer : ℕ → List ℕ → Result TailOver TailTextFault → Type 0
+IsTailTextAnswer k text (Ok r) = (r.states ≡ k) × IsTailText k text r.config
+IsTailTextAnswer k text (Err f) = IsTailTextFault k text f ⊎ ((f ≡ fault.Memory alloc_error) × ((t : TailConfig) × IsTailText k text t))
 
 -- a text with a Tail has no fault
 pub IsTailText-no_fault : {k : ℕ} {text : List ℕ} {t : TailConfig} {f : TailTextFault} → IsTailText k text t → IsTailTextFault k text f → ⊥
@@ -31,7 +31,7 @@ one_fault (Refused t f parts some) (NoForm q b) = absurd (b.outside (t, parts))
 one_fault {k} (Refused t f p a) (Refused u g q b) = ap fault.Tail (same_Some f g (sym a ∙ ap (tail_fault k) (HasParts-unique p q) ∙ b))
 
 -- the Tail of a text is answered, unless memory is wanting
-pub every_tail : (k : ℕ) (text : List ℕ) (answer : Result TailOver TailTextFault) → IsAnswer k text answer → (t : TailConfig) → IsTailText k text t
+pub every_tail : (k : ℕ) (text : List ℕ) (answer : Result TailOver TailTextFault) → IsTailTextAnswer k text answer → (t : TailConfig) → IsTailText k text t
     → (answer ≡ Ok (record { states = k; config = t })) ⊎ (answer ≡ Err (fault.Memory alloc_error))
 every_tail k text (Ok r) right t good =
     inl (ap₂ (λ (j : ℕ) (u : TailConfig). Ok (record { states = j; config = u })) right.0 (HasParts-unique right.1.parts good.parts))
@@ -39,19 +39,19 @@ every_tail k text (Err f) (inl first) t good = absurd (IsTailText-no_fault good 
 every_tail k text (Err f) (inr memory) t good = inr (ap Err memory.0)
 
 -- and so is its first fault
-pub every_fault : (k : ℕ) (text : List ℕ) (answer : Result TailOver TailTextFault) → IsAnswer k text answer → (f : TailTextFault) → IsTailTextFault k text f
+pub every_tail_fault : (k : ℕ) (text : List ℕ) (answer : Result TailOver TailTextFault) → IsTailTextAnswer k text answer → (f : TailTextFault) → IsTailTextFault k text f
     → answer ≡ Err f
-every_fault k text (Ok r) right f first = absurd (IsTailText-no_fault right.1 first)
-every_fault k text (Err g) (inl other) f first = ap Err (one_fault other first)
-every_fault k text (Err g) (inr memory) f first = absurd (IsTailText-no_fault memory.1.1 first)
+every_tail_fault k text (Ok r) right f first = absurd (IsTailText-no_fault right.1 first)
+every_tail_fault k text (Err g) (inl other) f first = ap Err (one_fault other first)
+every_tail_fault k text (Err g) (inr memory) f first = absurd (IsTailText-no_fault memory.1.1 first)
 
 -- what is made of the parts of a text without a fault is a right answer
-pub IsAnswer-made : {k : ℕ} {text : List ℕ} {t : TailConfig} → IsTailText k text t → (answer : Result TailOver TailTextFault)
-    → IfOk answer (λ r. r ≡ record { states = k; config = t }) → IfErr answer (λ f. f ≡ fault.Memory alloc_error) → IsAnswer k text answer
-IsAnswer-made {k} {text} {t} good (Ok r) made memory = (ap (λ v. v.states) made, subst (IsTailText k text) (sym (ap (λ v. v.config) made)) good)
-IsAnswer-made {t = t} good (Err f) made memory = inr (memory, (t, good))
+pub IsTailTextAnswer-made : {k : ℕ} {text : List ℕ} {t : TailConfig} → IsTailText k text t → (answer : Result TailOver TailTextFault)
+    → IfOk answer (λ r. r ≡ record { states = k; config = t }) → IfErr answer (λ f. f ≡ fault.Memory alloc_error) → IsTailTextAnswer k text answer
+IsTailTextAnswer-made {k} {text} {t} good (Ok r) made memory = (ap (λ v. v.states) made, subst (IsTailText k text) (sym (ap (λ v. v.config) made)) good)
+IsTailTextAnswer-made {t = t} good (Err f) made memory = inr (memory, (t, good))
 
 -- a right answer that is a Tail is the text's
-pub IsAnswer-tail : (k : ℕ) (text : List ℕ) (answer : Result TailOver TailTextFault) → IsAnswer k text answer → IfOk answer (λ r. (r.states ≡ k) × IsTailText k text r.config)
-IsAnswer-tail k text (Ok r) right = right
-IsAnswer-tail k text (Err f) right = tt
+pub IsTailTextAnswer-tail : (k : ℕ) (text : List ℕ) (answer : Result TailOver TailTextFault) → IsTailTextAnswer k text answer → IfOk answer (λ r. (r.states ≡ k) × IsTailText k text r.config)
+IsTailTextAnswer-tail k text (Ok r) right = right
+IsTailTextAnswer-tail k text (Err f) right = tt

@@ -5,7 +5,7 @@ use Rattle.word_image.specs.LocalRules.{LocalRule}
 use Rattle.word_image.specs.Words.{IsOrphan}
 use Rattle.tail_config.specs.Tails.{TailConfig, IsTail}
 use Rattle.tail_preimage.specs.Preimages.{PlacedConfig, Shape, IsLeastGap, stretch, IsGap}
-use Rattle.tail_preimage.specs.Answers.{IsAnswer, placed_config}
+use Rattle.tail_preimage.specs.Answers.{IsPreimageAnswer, placed_config}
 use Rattle.tail_preimage.specs.Relations.{IsNodeSet, Relates, Open}
 use Rattle.tail_preimage.specs.Sides.{AreTailParts, PassesThrough, Starts, IsFirstGap}
 use Rattle.tail_preimage.specs.FirstWalks.{AreLoopWalks, IsLeastNode}
@@ -59,11 +59,11 @@ IsLeastGap-unique {r} {t} {b} {a} {c} {d} {w} {z} h g =
     (lefts, rights, h.word ∙ ap₂ (stretch t) lefts rights ∙ sym g.word)
 
 -- so there is one answer
-pub IsAnswer-unique : (r : LocalRule) (t : TailConfig) (x y : Pre) → IsAnswer r t x → IsAnswer r t y → x ≡ y
-IsAnswer-unique r t (From p) (From q) h g =
+pub IsPreimageAnswer-unique : (r : LocalRule) (t : TailConfig) (x y : Pre) → IsPreimageAnswer r t x → IsPreimageAnswer r t y → x ≡ y
+IsPreimageAnswer-unique r t (From p) (From q) h g =
     ap (λ (c : PlacedConfig). From (record { at = c.at; left = c.config.left; middle = c.config.middle; right = c.config.right })) (IsLeastPreimage-unique h.least g.least)
-IsAnswer-unique r t (From p) (Gap b a w) h g = absurd (g.none (placed_config p) h.least.preimage.maps)
-IsAnswer-unique r t (Gap b a w) (From p) h g = absurd (h.none (placed_config p) g.least.preimage.maps)
-IsAnswer-unique r t (Gap b a w) (Gap c d z) h g =
+IsPreimageAnswer-unique r t (From p) (Gap b a w) h g = absurd (g.none (placed_config p) h.least.preimage.maps)
+IsPreimageAnswer-unique r t (Gap b a w) (From p) h g = absurd (h.none (placed_config p) g.least.preimage.maps)
+IsPreimageAnswer-unique r t (Gap b a w) (Gap c d z) h g =
     let (lefts, rights, words) = IsLeastGap-unique h.least g.least in
     ap₂ (λ (i j : ℕ). Gap i j w) lefts rights ∙ ap (Gap c d) words

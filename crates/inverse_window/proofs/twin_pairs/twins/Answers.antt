@@ -7,14 +7,14 @@ use Rattle.tail_laws.proofs.TwinTails.{no_twins}
 use Rattle.tail_laws.proofs.NoTwins.{IsInjective-no_twins}
 use Rattle.tail_laws.specs.FirstLists.{NoneBelow, IsFirstBelow}
 use Rattle.tail_laws.specs.Turns.{IsTurn}
-use Rattle.tail_laws.proofs.FirstLists.{spelled}
+use Rattle.tail_laws.proofs.FirstLists.{spelled_pair}
 use Rattle.tail_laws.proofs.LeastTwins.{IsLeastTwins-first, no_twins-none, length-IsLeastTwins}
 use Rattle.inverse_window.proofs.twin_pairs.twins.Goals as goal
 
 pub returns-in_ok-x-in-Some-clause-least : goal.returns-in_ok-x-in-Some-clause-least
 returns-in_ok-x-in-Some-clause-least c =
     let turn : IsFirstBelow (IsTurn c.args.pairs.now) (pair_count c.args.pairs.now) (map (uncode 16) c.in-Some.steps.items) = rw c.in-Some.is at c.in_ok-steps.ensures.turn in
-    spelled (IsLeastTwins c.args.pairs.now) c.in-Some.steps.items c.deref.ensures.value c.in_ok-x-in-Some.ensures.first c.in_ok-x-in-Some.ensures.second (IsLeastTwins-first c.in_ok-steps.ensures.rule turn)
+    spelled_pair (IsLeastTwins c.args.pairs.now) c.in-Some.steps.items c.deref.ensures.value c.in_ok-x-in-Some.ensures.first c.in_ok-x-in-Some.ensures.second (IsLeastTwins-first c.in_ok-steps.ensures.rule turn)
 
 pub returns-in_ok-x-in-Some-clause-injective : goal.returns-in_ok-x-in-Some-clause-injective
 returns-in_ok-x-in-Some-clause-injective c = (

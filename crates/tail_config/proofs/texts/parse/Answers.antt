@@ -8,7 +8,7 @@ use Rattle.tail_config.specs.declared.texts.TailTextFault.{TailTextFault}
 use Rattle.tail_config.specs.declared.texts.TailTextFault.TheVariants as fault
 use Rattle.tail_config.proofs.laws.TailFaults.{tail_fault-none}
 use Rattle.tail_config.proofs.laws.TailTexts.{HasParts-cut}
-use Rattle.tail_config.proofs.laws.TailAnswers.{IsAnswer, IsAnswer-made, IsAnswer-tail, every_tail, every_fault}
+use Rattle.tail_config.proofs.laws.TailAnswers.{IsTailTextAnswer, IsTailTextAnswer-made, IsTailTextAnswer-tail, every_tail, every_tail_fault}
 use Rattle.tail_config.proofs.texts.parse.Goals as goal
 
 -- the fault of a text that isn't in the grammar
@@ -16,7 +16,7 @@ form_fault : {k : ℕ} {text : List ℕ} {f : TailTextFault} → IsFormAt f (IsF
 form_fault {k} {text} h = subst (IsTailTextFault k text) (sym h.1) (NoForm h.0 h.2)
 
 -- so the answer is right
-at_form : (c : goal.After-from_residual) → IsAnswer c.args.k c.args.text.now c.from_residual.result
+at_form : (c : goal.After-from_residual) → IsTailTextAnswer c.args.k c.args.text.now c.from_residual.result
 at_form c =
     let p = err_from_is_err_and c.from_residual.result c.from_residual.ensures.1 in
     rw (p.1, p.2) (inl (form_fault c.in_err-parts.ensures.fault))
@@ -26,7 +26,7 @@ returns-in_err-parts-clause-fault c =
     handed_on _ c.from_residual.result c.from_residual.ensures.1 (inr (form_fault c.in_err-parts.ensures.fault))
 
 pub returns-in_err-parts-clause-every_fault : goal.returns-in_err-parts-clause-every_fault
-returns-in_err-parts-clause-every_fault c = every_fault c.args.k c.args.text.now c.from_residual.result (at_form c)
+returns-in_err-parts-clause-every_fault c = every_tail_fault c.args.k c.args.text.now c.from_residual.result (at_form c)
 
 -- the fault of the parts
 parts_fault : (c : goal.In-Err) → IsTailTextFault c.args.k c.args.text.now (fault.Tail c.in-Err.fault)
@@ -39,7 +39,7 @@ pub returns-in-Err-clause-every_tail : goal.returns-in-Err-clause-every_tail
 returns-in-Err-clause-every_tail c = every_tail c.args.k c.args.text.now (Err _) (inl (parts_fault c))
 
 pub returns-in-Err-clause-every_fault : goal.returns-in-Err-clause-every_fault
-returns-in-Err-clause-every_fault c = every_fault c.args.k c.args.text.now (Err _) (inl (parts_fault c))
+returns-in-Err-clause-every_fault c = every_tail_fault c.args.k c.args.text.now (Err _) (inl (parts_fault c))
 
 pub tail_of-requires-clause-parts : goal.tail_of-requires-clause-parts
 tail_of-requires-clause-parts c =
@@ -47,20 +47,20 @@ tail_of-requires-clause-parts c =
     (tail_fault-none c.args.k (letters_of p.left.now p.middle.now p.right.now)).0 (sym c.in_default.ensures)
 
 -- what is made of the parts is a right answer
-at_end : (c : goal.After-map_err) → IsAnswer c.args.k c.args.text.now c.map_err.result
+at_end : (c : goal.After-map_err) → IsTailTextAnswer c.args.k c.args.text.now c.map_err.result
 at_end c =
     let p = c.in_ok-parts.parts in
     let t = letters_of p.left.now p.middle.now p.right.now in
     let made : IfOk c.map_err.result (λ r. r ≡ record { states = c.args.k; config = t }) = search rules in
     let memory : IfErr c.map_err.result (λ f. f ≡ fault.Memory alloc_error) = search rules in
     let short = (tail_fault-none c.args.k t).0 (sym c.in_default.ensures) in
-    IsAnswer-made (record { parts = HasParts-cut c.in_ok-parts.ensures.parts; accepted = short }) c.map_err.result made memory
+    IsTailTextAnswer-made (record { parts = HasParts-cut c.in_ok-parts.ensures.parts; accepted = short }) c.map_err.result made memory
 
 pub returns-clause-tail : goal.returns-clause-tail
-returns-clause-tail c = IsAnswer-tail c.args.k c.args.text.now c.map_err.result (at_end c)
+returns-clause-tail c = IsTailTextAnswer-tail c.args.k c.args.text.now c.map_err.result (at_end c)
 
 pub returns-clause-every_tail : goal.returns-clause-every_tail
 returns-clause-every_tail c = every_tail c.args.k c.args.text.now c.map_err.result (at_end c)
 
 pub returns-clause-every_fault : goal.returns-clause-every_fault
-returns-clause-every_fault c = every_fault c.args.k c.args.text.now c.map_err.result (at_end c)
+returns-clause-every_fault c = every_tail_fault c.args.k c.args.text.now c.map_err.result (at_end c)

@@ -1,7 +1,7 @@
 use Rattle.std.proofs.Common.{ℕ, sym, ◌∙◌, subst, subst₂}
 use Rattle.word_image.specs.LocalRules.{LocalRule}
 use Rattle.tail_preimage.specs.Preimages.{stretch, IsGap}
-use Rattle.tail_preimage.proofs.laws.Answers.{IsGap-first, IsAnswer-unique}
+use Rattle.tail_preimage.proofs.laws.Answers.{IsGap-first, IsPreimageAnswer-unique}
 use Rattle.tail_preimage.proofs.answer.preimage.Goals as goal
 
 pub returns-in-Some-clause-answer : goal.returns-in-Some-clause-answer
@@ -16,10 +16,10 @@ returns-in-Some-clause-answer c =
     (subst (λ (g : LocalRule). IsGap g t left right (stretch t left right)) c.of-graph.ensures gap))
 
 pub returns-in-Some-clause-only : goal.returns-in-Some-clause-only
-returns-in-Some-clause-only c other answer = IsAnswer-unique c.args.rule.now c.args.tail.now.config other _ answer (returns-in-Some-clause-answer c)
+returns-in-Some-clause-only c other answer = IsPreimageAnswer-unique c.args.rule.now c.args.tail.now.config other _ answer (returns-in-Some-clause-answer c)
 
 pub returns-in-Some-clause-exactly : goal.returns-in-Some-clause-exactly
 returns-in-Some-clause-exactly c = let gap = returns-in-Some-clause-answer c in ((λ e. absurd (cc)), (λ (p, maps). absurd (gap.none p maps)))
 
 pub returns-clause-only : goal.returns-clause-only
-returns-clause-only c other answer = IsAnswer-unique c.args.rule.now c.args.tail.now.config other _ answer c.in_ok-first_placed.ensures
+returns-clause-only c other answer = IsPreimageAnswer-unique c.args.rule.now c.args.tail.now.config other _ answer c.in_ok-first_placed.ensures
