@@ -17,10 +17,12 @@ pub fn edge_rows(rule: &Rule, side: Side) -> EdgeRows
     ensures rule { IsRule rule.now }
 {
     let mut ends = [[0; MOST_NODES]; MOST_STATES];
-    for window in 0..rule.size() {
-        let label = rule.at(window);
-        let node = side.other().end_node(rule, window);
-        ends[usize::from(label)][usize::from(node)] |= 1u16 << side.end_node(rule, window);
+    for node in 0..rule.nodes() {
+        for letter in 0..rule.k() {
+            let window = side.window_with(rule, node, letter);
+            ends[usize::from(rule.at(window))][usize::from(node)] |= 1u16
+                << side.end_node(rule, window);
+        }
     }
     ends
 }

@@ -1,23 +1,23 @@
 -- Rows of edges, one edge more at a time.
-use Rattle.std.proofs.Common.{◌≡◌, ℕ, ◌+◌, ◌^◌, ◌<◌, ◌↔◌, ◌⊎◌, inl, inr, List, [], length, replicate, IsBitSet, bit_or, slice_index, slice_index_or, slice_set, sym, ap, ap₂, ◌∙◌, subst, arith, ⊎_elim}
+use Rattle.std.proofs.Common.{◌≡◌, ℕ, ◌+◌, ◌*◌, ◌/◌, ◌%◌, ◌^◌, ◌<◌, ◌↔◌, ◌⊎◌, inl, inr, List, [], length, replicate, IsBitSet, bit_or, slice_index, slice_index_or, slice_set, sym, ap, ap₂, ◌∙◌, subst, arith, ⊎_elim, mod-lt}
 use Rattle.std.proofs.lemmas.Bool.{cases_eq}
 use Rattle.std.proofs.lemmas.List.{get_or-set_other, get_or-replicate, length-set, length-replicate}
 use Rattle.std.proofs.lemmas.Grind.{get_or-set_at}
-use Rattle.std.proofs.lemmas.Nat.{pow_pos}
+use Rattle.std.proofs.lemmas.Nat.{pow_pos, div-mul-add, mod-mul-add, div_below, mul-add-lt}
 use Rattle.std.proofs.Math.Pow.{pow-lt}
 use Rattle.word_image.specs.LocalRules.{LocalRule, IsRule, node_count}
-use Rattle.word_image.specs.Sides.{other, window_with, end_node, end_letter}
-use Rattle.word_image.specs.Edges.{AreEdgeRows, ends_at}
+use Rattle.word_image.specs.Sides.{window_with}
+use Rattle.word_image.specs.Edges.{label_at, end_at, AreEdgeRows, ends_at}
 use Rattle.word_image.specs.declared.side.Side.{Side}
 use Rattle.word_image.proofs.laws.Bits.{IsBitSet-pow, IsBitSet-some, IsBitSet-zero}
 use Rattle.word_image.proofs.laws.Unions.{IsUnion, IsUnion-skip, IsUnion-take}
-use Rattle.word_image.proofs.laws.WindowParts.{window_with-within, end_node-below, end_node-window_with, end_letter-below, window_with-ends}
+use Rattle.word_image.proofs.laws.WindowParts.{some_letter, window_with-within, end_node-below}
 
--- window w is an edge from node u to node v with this label
+-- node by node and letter by letter, edge i leads from node u to node v with this label
 abbrev pub IsEdge : Side → LocalRule → ℕ → ℕ → ℕ → ℕ → Type 0
-IsEdge side r label u w v = (slice_index r.table w ≡ label) × (end_node (other side) r w ≡ u) × (end_node side r w ≡ v)
+IsEdge side r label u i v = (label_at side r (i / r.states) (i % r.states) ≡ label) × (i / r.states ≡ u) × (end_at side r (i / r.states) (i % r.states) ≡ v)
 
--- 16 rows of 16 have the edges of the first n windows
+-- 16 rows of 16 have the first n edges
 pub record HaveEdges (side : Side) (r : LocalRule) (n : ℕ) (rows : List (List ℕ)) : Type 0 where
   pub tall : length rows ≡ 16
   pub wide : (label : ℕ) → label < 16 → length (slice_index_or rows label []) ≡ 16
@@ -55,32 +55,37 @@ ends_at-with_ends {rows = rows} h i j set label u in_i in_j =
     (λ differs. inr ((λ both. differs both.0), ap (λ (l : List ℕ). slice_index l u) (get_or-set_other rows i label changed [] differs)))
     (cases_eq label i)
 
--- the edge of one window more
-pub HaveEdges-more : {side : Side} {r : LocalRule} {n : ℕ} {rows : List (List ℕ)} → IsRule r → n < r.states ^ r.width → HaveEdges side r n rows → (i j set : ℕ)
-    → i ≡ slice_index r.table n → j ≡ end_node (other side) r n → set ≡ 2 ^ end_node side r n → i < 16 → j < 16 → HaveEdges side r (n + 1) (with_ends rows i j set)
-HaveEdges-more {side} {r} {n} {rows} rule within h i j set labelled leaves arrives in_i in_j =
+-- one edge more
+pub HaveEdges-more : {side : Side} {r : LocalRule} {w a : ℕ} {rows : List (List ℕ)} → IsRule r → w < node_count r → a < r.states → HaveEdges side r (w * r.states + a) rows → (i j set : ℕ)
+    → i ≡ label_at side r w a → j ≡ w → set ≡ 2 ^ end_at side r w a → i < 16 → j < 16 → HaveEdges side r (w * r.states + a + 1) (with_ends rows i j set)
+HaveEdges-more {side} {r} {w} {a} {rows} rule node letter h i j set labelled leaves arrives in_i in_j =
+    let n = w * r.states + a in
     let row = slice_index_or rows i [] in
     let changed = slice_set row j (bit_or (slice_index row j) set) in
+    let from : n / r.states ≡ w = div-mul-add w r.states a letter in
+    let by : n % r.states ≡ a = mod-mul-add w r.states a letter in
+    let to : end_at side r (n / r.states) (n % r.states) ≡ end_at side r w a = ap₂ (end_at side r) from by in
+    let below = end_node-below side rule (window_with side r w a) (window_with-within side rule w a node letter) in
     record {
       tall = length-set rows i changed ∙ h.tall;
-      wide = λ label below. ⊎_elim
+      wide = λ label inside. ⊎_elim
           (λ same. ap length (get_or-set_at rows i label changed [] same (omega (arith, h.tall))) ∙ length-set row j (bit_or (slice_index row j) set) ∙ h.wide i in_i)
-          (λ differs. ap length (get_or-set_other rows i label changed [] differs) ∙ h.wide label below)
+          (λ differs. ap length (get_or-set_other rows i label changed [] differs) ∙ h.wide label inside)
           (cases_eq label i);
-      ends = λ label u below small. ⊎_elim
+      ends = λ label u inside small. ⊎_elim
           (λ (same, place, more). subst (IsUnion (node_count r) (IsEdge side r label u) (n + 1)) (sym more)
-          (IsUnion-take (h.ends label u below small) (subst (λ s. s < 2 ^ node_count r) (sym arrives) (pow-lt (end_node-below side rule n within))) (λ v inside.
-          let bit = subst (λ s. IsBitSet s v ↔ (v ≡ end_node side r n)) (sym arrives) (IsBitSet-pow (end_node side r n) v) in (
-            (λ some. (sym labelled ∙ sym same, sym leaves ∙ sym place, sym (bit.0 some))),
-            (λ edge. bit.1 (sym edge.2)),
+          (IsUnion-take (h.ends label u inside small) (subst (λ s. s < 2 ^ node_count r) (sym arrives) (pow-lt below)) (λ v within.
+          let bit = subst (λ s. IsBitSet s v ↔ (v ≡ end_at side r w a)) (sym arrives) (IsBitSet-pow (end_at side r w a) v) in (
+            (λ some. (ap₂ (label_at side r) from by ∙ sym labelled ∙ sym same, from ∙ sym leaves ∙ sym place, to ∙ sym (bit.0 some))),
+            (λ edge. bit.1 (sym edge.2 ∙ to)),
           ))))
           (λ (differs, same). subst (IsUnion (node_count r) (IsEdge side r label u) (n + 1)) (sym same)
-          (IsUnion-skip (h.ends label u below small) (λ v edge. differs (sym edge.0 ∙ sym labelled, sym edge.1 ∙ sym leaves))))
+          (IsUnion-skip (h.ends label u inside small) (λ v edge. differs (sym edge.0 ∙ ap₂ (label_at side r) from by ∙ sym labelled, sym edge.1 ∙ from ∙ sym leaves))))
           (ends_at-with_ends h i j set label u in_i in_j);
     }
 
--- the edges of all windows are those of all nodes and letters
-pub AreEdgeRows-all : {side : Side} {r : LocalRule} {rows : List (List ℕ)} → IsRule r → HaveEdges side r (r.states ^ r.width) rows → AreEdgeRows side r rows
+-- the edges of all nodes
+pub AreEdgeRows-all : {side : Side} {r : LocalRule} {rows : List (List ℕ)} → IsRule r → HaveEdges side r (node_count r * r.states) rows → AreEdgeRows side r rows
 AreEdgeRows-all {side} {r} {rows} rule h = record {
   ends = λ label u below node.
       let union = h.ends label u below (omega (arith, rule.shape.most_nodes)) in
@@ -88,12 +93,17 @@ AreEdgeRows-all {side} {r} {rows} rule h = record {
         within = union.within;
         nodes = λ v inside. (
           (λ some.
-              let (w, within, (labelled, leaves, arrives)) = (union.nodes v inside).0 some in
-              let a = end_letter side r w in
-              let same : window_with side r u a ≡ w = ap (λ x. window_with side r x a) (sym leaves) ∙ window_with-ends side r w in
-              (a, end_letter-below side rule w within, ap (slice_index r.table) same ∙ labelled, ap (end_node side r) same ∙ arrives)),
-          (λ (a, letter, labelled, arrives). (union.nodes v inside).1
-              (window_with side r u a, window_with-within side rule u a node letter, (labelled, end_node-window_with side rule u a node letter, arrives))),
+              let (i, less, (labelled, leaves, arrives)) = (union.nodes v inside).0 some in
+              let a = i % r.states in
+              (a, mod-lt i (some_letter rule), ap (λ x. label_at side r x a) (sym leaves) ∙ labelled, ap (λ x. end_at side r x a) (sym leaves) ∙ arrives)),
+          (λ (a, letter, labelled, arrives).
+              let from : (u * r.states + a) / r.states ≡ u = div-mul-add u r.states a letter in
+              let by : (u * r.states + a) % r.states ≡ a = mod-mul-add u r.states a letter in
+              (union.nodes v inside).1 (
+                u * r.states + a,
+                omega (arith, mul-add-lt u r.states a (node_count r) node letter),
+                (ap₂ (label_at side r) from by ∙ labelled, from, ap₂ (end_at side r) from by ∙ arrives),
+              )),
         );
       };
   past = λ label u below small more.
@@ -102,7 +112,7 @@ AreEdgeRows-all {side} {r} {rows} rule h = record {
       (λ empty. empty)
       (λ some.
       let (v, node, bit) = IsBitSet-some (node_count r) (ends_at rows label u) union.within some in
-      let (w, within, edge) = (union.nodes v node).0 bit in
-      absurd (omega (arith, end_node-below (other side) rule w within, edge.1)))
+      let (i, less, edge) = (union.nodes v node).0 bit in
+      absurd (omega (arith, div_below i r.states (node_count r) (some_letter rule) less, edge.1)))
       (cases_eq (ends_at rows label u) 0);
 }

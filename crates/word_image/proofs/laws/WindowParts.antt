@@ -1,11 +1,11 @@
 -- Windows and nodes taken apart by their values: a window is a node and a letter from either end, and a node's letters are the digits of its number.
 use Rattle.std.proofs.Common.{◌≡◌, ℕ, zero, suc, ◌+◌, ◌-◌, ◌*◌, ◌/◌, ◌%◌, ◌^◌, ◌<◌, ◌≤◌, List, [], ◌∷◌, length, drop, slice_index, sym, ap, ◌∙◌, arith, mod-eq_of_lt, mod-lt, pow-suc, mul_assoc}
 use Rattle.std.proofs.Math.Nat.{mul-add-div_right, mul-add-mod_self_right, one-le-pow, pow-le-pow_right}
-use Rattle.std.proofs.lemmas.Nat.{pow-add, div-mul-add, mod-mul-add, div-add-mod', div_below, mul-add-lt}
+use Rattle.std.proofs.lemmas.Nat.{pow-add, div-mul-add, div_below, mul-add-lt}
 use Rattle.std.proofs.lemmas.List.Elements.{All-head, All-tail}
 use Rattle.word_image.specs.LocalRules.{LocalRule, IsRule, IsWord, value, word_of, node_count}
 use Rattle.word_image.specs.Graphs.{node_letter}
-use Rattle.word_image.specs.Sides.{other, window_with, end_node, end_letter}
+use Rattle.word_image.specs.Sides.{window_with, end_node}
 use Rattle.word_image.specs.declared.side.Side.{Side}
 use Rattle.word_image.specs.declared.side.Side.TheVariants.{Right, Left}
 use Rattle.word_image.proofs.laws.Graphs.{node_count_pos}
@@ -87,18 +87,3 @@ window_with-within Left {r} rule u a node letter = omega (arith, windows-nodes r
 pub end_node-below : (side : Side) {r : LocalRule} → IsRule r → (w : ℕ) → w < r.states ^ r.width → end_node side r w < node_count r
 end_node-below Right {r} rule w within = mod-lt w (node_count_pos rule)
 end_node-below Left {r} rule w within = div_below w r.states (node_count r) (some_letter rule) (omega (arith, windows-nodes rule))
-
--- the node of a window of a node and a letter is that at its other end
-pub end_node-window_with : (side : Side) {r : LocalRule} → IsRule r → (u a : ℕ) → u < node_count r → a < r.states → end_node (other side) r (window_with side r u a) ≡ u
-end_node-window_with Right {r} rule u a node letter = div-mul-add u r.states a letter
-end_node-window_with Left {r} rule u a node letter = mod-mul-add a (node_count r) u node
-
--- each window has a letter at each end
-pub end_letter-below : (side : Side) {r : LocalRule} → IsRule r → (w : ℕ) → w < r.states ^ r.width → end_letter side r w < r.states
-end_letter-below Right {r} rule w within = mod-lt w (some_letter rule)
-end_letter-below Left {r} rule w within = div_below w (node_count r) r.states (node_count_pos rule) (omega (arith, windows-nodes rule))
-
--- and is the window of that letter and the node at its other end
-pub window_with-ends : (side : Side) (r : LocalRule) (w : ℕ) → window_with side r (end_node (other side) r w) (end_letter side r w) ≡ w
-window_with-ends Right r w = div-add-mod' w r.states
-window_with-ends Left r w = div-add-mod' w (node_count r)

@@ -1,22 +1,38 @@
-use Rattle.std.proofs.Common.{◌*◌, ◌^◌, ◌%◌, ap, ◌∙◌, subst, arith}
+use Rattle.std.proofs.Common.{◌≡◌, ◌*◌, ◌^◌, ◌%◌, replicate, slice_index, zero-mul, ap, ◌∙◌, sym, subst, arith}
+use Rattle.std.proofs.Math.Nat.{add-mul}
 use Rattle.std.proofs.lemmas.Nat.{one_shl}
 use Rattle.word_image.specs.Sides.{end_node}
-use Rattle.word_image.proofs.laws.Edges.{HaveEdges, HaveEdges-none, HaveEdges-more, AreEdgeRows-all}
+use Rattle.word_image.specs.Edges.{end_at}
+use Rattle.word_image.proofs.laws.Edges.{HaveEdges, HaveEdges-none, HaveEdges-more, with_ends, AreEdgeRows-all}
 use Rattle.word_image.proofs.edges.edge_rows.Goals as goal
 
-pub loop-window-init : goal.loop-window-init
-loop-window-init c = HaveEdges-none c.args.side c.args.rule.now
-
-pub loop-window-preserved : goal.loop-window-preserved
-loop-window-preserved c =
+pub loop-node-init : goal.loop-node-init
+loop-node-init c =
     let r = c.args.rule.now in
-    let rule = c.size-window-end.ensures.rule in
+    subst (λ n. HaveEdges c.args.side r n (replicate 16 (replicate 16 0))) (sym (zero-mul r.states)) (HaveEdges-none c.args.side r)
+
+pub loop-letter-init : goal.loop-letter-init
+loop-letter-init c = subst (λ n. HaveEdges c.args.side c.args.rule.now n c.loop-node.ends) (omega arith) c.loop-node.invariant
+
+pub loop-letter-preserved : goal.loop-letter-preserved
+loop-letter-preserved c =
+    let r = c.args.rule.now in
+    let side = c.args.side in
+    let u = c.loop-node.node in
+    let a = c.loop-letter.letter in
+    let rule = c.nodes-node-end.ensures.rule in
     let few = rule.shape.most_nodes in
-    HaveEdges-more rule (omega arith) c.loop-window.invariant _ _ _
-    (c.from.ensures ∙ c.at-label.ensures.entry)
-    (c.from-in-loop-window.ensures ∙ c.end_node-node.ensures.value ∙ ap (λ side. end_node side r c.loop-window.window) c.other.ensures)
-    (ap (λ v. 1 * 2 ^ v % 2 ^ 16) c.end_node.ensures.value ∙ one_shl (end_node c.args.side r c.loop-window.window) 16 (omega (arith, c.end_node.ensures.node, c.end_node.ensures.value)))
-    (omega arith) (omega arith)
+    let end : c.end_node.result ≡ end_at side r u a = c.end_node.ensures.value ∙ ap (end_node side r) c.window_with-window.ensures.value in
+    subst (λ n. HaveEdges side r n (with_ends c.loop-letter.ends c.from.result c.from-in-loop-letter.result (1 * 2 ^ c.end_node.result % 2 ^ 16))) (omega arith)
+    (HaveEdges-more rule (omega arith) (omega arith) c.loop-letter.invariant _ _ _
+    (c.from.ensures ∙ c.at.ensures.entry ∙ ap (slice_index r.table) c.window_with-window.ensures.value) c.from-in-loop-letter.ensures
+    (ap (λ v. 1 * 2 ^ v % 2 ^ 16) end ∙ one_shl (end_at side r u a) 16 (omega (arith, c.end_node.ensures.node, end)))
+    (omega arith) (omega arith))
+
+pub loop-node-preserved : goal.loop-node-preserved
+loop-node-preserved c =
+    let r = c.args.rule.now in
+    subst (λ n. HaveEdges c.args.side r n c.loop-letter.ends) (omega (arith, add-mul c.loop-node.node 1 r.states)) c.loop-letter.invariant
 
 pub returns-clause-edges : goal.returns-clause-edges
-returns-clause-edges c = AreEdgeRows-all c.size-window-end.ensures.rule (subst (λ n. HaveEdges c.args.side c.args.rule.now n c.loop-window.ends) (omega arith) c.loop-window.invariant)
+returns-clause-edges c = AreEdgeRows-all c.nodes-node-end.ensures.rule (subst (λ n. HaveEdges c.args.side c.args.rule.now (n * c.args.rule.now.states) c.loop-node.ends) (omega arith) c.loop-node.invariant)
