@@ -20,8 +20,9 @@ pub fn edge_rows(rule: &Rule, side: Side) -> EdgeRows
     for node in 0..rule.nodes() {
         for letter in 0..rule.k() {
             let window = side.window_with(rule, node, letter);
-            ends[usize::from(rule.at(window))][usize::from(node)] |= 1u16
-                << side.end_node(rule, window);
+            let label = rule.at(window);
+            let end = side.end_node(rule, window);
+            ends[usize::from(label)][usize::from(node)] |= 1u16 << end;
         }
     }
     ends

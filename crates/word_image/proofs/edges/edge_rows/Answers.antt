@@ -22,11 +22,11 @@ loop-letter-preserved c =
     let a = c.loop-letter.letter in
     let rule = c.nodes-node-end.ensures.rule in
     let few = rule.shape.most_nodes in
-    let end : c.end_node.result ≡ end_at side r u a = c.end_node.ensures.value ∙ ap (end_node side r) c.window_with-window.ensures.value in
-    subst (λ n. HaveEdges side r n (with_ends c.loop-letter.ends c.from.result c.from-in-loop-letter.result (1 * 2 ^ c.end_node.result % 2 ^ 16))) (omega arith)
+    let end : c.end_node-end.result ≡ end_at side r u a = c.end_node-end.ensures.value ∙ ap (end_node side r) c.window_with-window.ensures.value in
+    subst (λ n. HaveEdges side r n (with_ends c.loop-letter.ends c.from.result c.from-in-loop-letter.result (1 * 2 ^ c.end_node-end.result % 2 ^ 16))) (omega arith)
     (HaveEdges-more rule (omega arith) (omega arith) c.loop-letter.invariant _ _ _
-    (c.from.ensures ∙ c.at.ensures.entry ∙ ap (slice_index r.table) c.window_with-window.ensures.value) c.from-in-loop-letter.ensures
-    (ap (λ v. 1 * 2 ^ v % 2 ^ 16) end ∙ one_shl (end_at side r u a) 16 (omega (arith, c.end_node.ensures.node, end)))
+    (c.from.ensures ∙ c.at-label.ensures.entry ∙ ap (slice_index r.table) c.window_with-window.ensures.value) c.from-in-loop-letter.ensures
+    (ap (λ v. 1 * 2 ^ v % 2 ^ 16) end ∙ one_shl (end_at side r u a) 16 (omega (arith, c.end_node-end.ensures.node, end)))
     (omega arith) (omega arith))
 
 pub loop-node-preserved : goal.loop-node-preserved
