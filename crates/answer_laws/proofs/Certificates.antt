@@ -17,7 +17,7 @@ use Rattle.word_image.specs.declared.side.Side.TheVariants.{Right, Left}
 use Rattle.word_image.specs.Sides.{Together}
 use Rattle.word_image.proofs.laws.LastSets.{IsOrphan-empty_set, IsOrphan-not_surjective}
 use Rattle.word_image.proofs.laws.Lists.{paired_at, paired_length}
-use Rattle.pair_laws.proofs.Ranks.{Together-less}
+use Rattle.pair_laws.proofs.Ranks.{IsRank-one, Together-less}
 use Rattle.search_laws.proofs.StepSets.{IsLastSet-unique}
 use Rattle.cert_format.specs.declared.cert_version.CertVersion.{CertVersion}
 use Rattle.cert_format.specs.declared.cert_version.CertVersion.TheVariants.{Two, Three}
@@ -38,10 +38,7 @@ IsRank-unique : (P : ℕ → Type 0) → ((i n : ℕ) → i ≤ n → P n → P 
 IsRank-unique P less None None h g = refl
 IsRank-unique P less None (Some n) h g = absurd (g.no_more (h (n + 1)))
 IsRank-unique P less (Some n) None h g = absurd (h.no_more (g (n + 1)))
-IsRank-unique P less (Some n) (Some m) h g =
-    let below : ¬ (n < m) = λ l. h.no_more (less (n + 1) m (omega (arith, l)) g.holds) in
-    let above : ¬ (m < n) = λ l. g.no_more (less (m + 1) n (omega (arith, l)) h.holds) in
-    ap Some (omega (arith, below, above))
+IsRank-unique P less (Some n) (Some m) h g = ap Some (IsRank-one P less n m h g)
 
 -- so the ranks of all pairs are one list
 IsRankRow-unique : (side : Side) {r : LocalRule} {row other : List (Option ℕ)} → IsRule r → IsRankRow r (Together side r) row → IsRankRow r (Together side r) other → row ≡ other

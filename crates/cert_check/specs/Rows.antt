@@ -8,13 +8,9 @@ use Rattle.cert_check.specs.Sets.{IsKept}
 abbrev pub without : ℕ → ℕ → ℕ
 without set node = bit_and set (bit_not w16 (1 * 2 ^ node % 2 ^ 16))
 
--- row i has bit v
-abbrev pub HasBit : List ℕ → ℕ → ℕ → Type 0
-HasBit rows i v = IsBitSet (slice_index rows i) v
-
 -- the rows mark this set, one of 16 bits
 abbrev pub IsMarked : List ℕ → ℕ → Type 0
-IsMarked rows s = HasBit rows (s / 16) (s % 16)
+IsMarked rows s = IsBitSet (slice_index rows (s / 16)) (s % 16)
 
 -- the rows mark the sets of a list, and no others
 abbrev pub AreMarked : List ℕ → List ℕ → Type 0

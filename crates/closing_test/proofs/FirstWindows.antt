@@ -1,6 +1,5 @@
 -- The first pairs of a side are the ends of two windows that differ in their last letter on that side alone and have one label.
 use Rattle.std.proofs.Common.{◌≡◌, ℕ, ◌+◌, ◌-◌, ◌*◌, ◌/◌, ◌%◌, ◌^◌, ◌<◌, drop, slice_index, sym, ap, ap₂, ◌∙◌, subst, arith, mul_comm, mod-lt}
-use Rattle.std.proofs.Math.Nat.{one-le-pow}
 use Rattle.std.proofs.lemmas.Nat.{mul-add-lt, div_below, div-mul-add, mod-mul-add, div-add-mod'}
 use Rattle.word_image.specs.LocalRules.{LocalRule, IsRule, node_count, value, word_of}
 use Rattle.word_image.specs.Graphs.{next, label, node_letter, pair_of, first_of, second_of, pair_count}
@@ -8,15 +7,12 @@ use Rattle.word_image.specs.FirstPairs.{IsFirstOfRight, IsFirstOfLeft, IsFirstOf
 use Rattle.word_image.proofs.laws.Values.{value-word_of}
 use Rattle.word_image.proofs.laws.Graphs.{node_count_pos}
 use Rattle.word_image.proofs.laws.WindowParts.{windows-nodes, rest_count, node_count-rest, window_parts, node_parts}
+use Rattle.pair_laws.proofs.Edges.{rest_count_pos, next-digits}
 use Rattle.pair_laws.proofs.Pairs.{first_of-pair_of, second_of-pair_of, pair_of-below, pair_of-first_of, first_of-below, second_of-below}
 use Rattle.word_image.specs.declared.side.Side.{Side}
 use Rattle.word_image.specs.declared.side.Side.TheVariants.{Right, Left}
 use Rattle.word_image.specs.Sides.{end_node}
 use Rattle.closing_test.specs.Sides.{with_end, end_pair, AreFirst}
-
--- there are words of m - 2 letters
-rest_count_pos : {r : LocalRule} → IsRule r → 0 < rest_count r
-rest_count_pos {r} rule = one-le-pow (r.width - 2) r.states (omega (arith, rule.shape.least_states))
 
 -- two windows that differ in their last letter alone lead to a first pair of the right
 right-first : {r : LocalRule} → IsRule r → (w a : ℕ) → AreFirst Right r w a → IsFirstOfRight r (end_pair Right r w a)
@@ -135,9 +131,7 @@ first-left {r} {p} rule f =
     let split_v : v / d * d + v % d ≡ v = div-add-mod' v d in
     let w : ℕ = u * k + f.letter in
     let a : ℕ = v / d in
-    let inside : u % d * k + f.letter < n = subst (λ c. u % d * k + f.letter < c) (mul_comm k d ∙ sym (node_count-rest rule)) (mul-add-lt (u % d) k f.letter d (word u) f.in_letters) in
-    let from : w ≡ u / d * n + (u % d * k + f.letter) = ap (λ c. c * k + f.letter) (sym split_u) ∙ sym (window_parts rule (u / d) (u % d) f.letter) in
-    let back : w % n ≡ u % d * k + f.letter = ap (λ c. c % n) from ∙ mod-mul-add (u / d) n (u % d * k + f.letter) inside in
+    let back : w % n ≡ u % d * k + f.letter = next-digits rule u f.letter f.in_letters in
     let other : with_end Left r w a ≡ v * k + f.letter =
     ap (λ x. a * n + x) (back ∙ ap (λ c. c * k + f.letter) one_rest) ∙ window_parts rule a (v % d) f.letter ∙ ap (λ c. c * k + f.letter) split_v in (
       w,

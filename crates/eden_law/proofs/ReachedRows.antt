@@ -1,15 +1,15 @@
 -- What a search through rows of sets of nodes has found: steps from one node at a time, and in the end whether the rule is surjective.
-use Rattle.std.proofs.Common.{◌≡◌, ◌≢◌, ℕ, suc, ◌+◌, ◌-◌, ◌*◌, ◌%◌, ◌^◌, ◌<◌, ◌≤◌, ◌⊎◌, inl, inr, ◌↔◌, List, length, Some, IsBitSet, bit_or, slice_index, slice_set, refl, sym, ap, ap₂, ◌∙◌, subst, subst₂, ⊎_elim, arith, pow-suc, mod-lt, lit<, bit_and}
-use Rattle.std.proofs.Math.Nat.{mod-mod_of_dvd, dvd-mul_left}
+use Rattle.std.proofs.Common.{◌≡◌, ◌≢◌, ℕ, ◌+◌, ◌-◌, ◌*◌, ◌%◌, ◌^◌, ◌<◌, ◌≤◌, inl, inr, ◌↔◌, List, length, Some, IsBitSet, bit_or, slice_index, slice_set, refl, sym, ap, ap₂, ◌∙◌, subst, subst₂, ⊎_elim, arith, mod-lt, lit<, bit_and}
 use Rattle.std.proofs.lemmas.Bool.{cases_eq}
-use Rattle.std.proofs.lemmas.List.{get_or-set_other, length-set}
-use Rattle.std.proofs.lemmas.Grind.{get_or-set_at}
-use Rattle.std.proofs.lemmas.Nat.{le_or_l, or_lt, mod-mul-add}
+use Rattle.std.proofs.lemmas.List.{length-set}
+use Rattle.std.proofs.lemmas.Nat.{le_or_l, or_lt}
 use Rattle.word_image.specs.LocalRules.{LocalRule, IsRule, node_count}
 use Rattle.word_image.specs.Words.{IsSurjective}
 use Rattle.word_image.specs.Graphs.{IsStep, next, label, pair_of, first_of, second_of, pair_count}
-use Rattle.word_image.proofs.laws.Bits.{IsBitSet-or, IsBitSet-zero}
+use Rattle.word_image.proofs.laws.Bits.{IsBitSet-zero}
 use Rattle.word_image.proofs.laws.Graphs.{next-below}
+use Rattle.pair_laws.proofs.Edges.{next-digits}
+use Rattle.pair_laws.proofs.Rows.{row_cases, HasBit-or}
 use Rattle.pair_laws.proofs.Sets.{IsBitSet-minus, IsBitSet-shl}
 use Rattle.pair_laws.proofs.Pairs.{first_of-pair_of, second_of-pair_of, first_of-below, second_of-below, follow-pair_of, follow-some, follow-below}
 use Rattle.word_image.specs.Edges.{IsEnds}
@@ -18,11 +18,6 @@ use Rattle.eden_laws.specs.ReachedPairs.{IsReached}
 use Rattle.eden_laws.specs.ReachedPairs.IsReached.{First, On}
 use Rattle.eden_laws.proofs.ReachedPairs.{IsSurjective-reached, IsReached-below, holds-reached}
 use Rattle.eden_law.specs.ReachedRows.{InRows, LeadsApart, LeadsBeside, AreNodeRows, AreAdded, IsRowSearch}
-
--- one row is written, and the others stay
-pub row_cases : (rows : List ℕ) (i row u : ℕ) → i < length rows → ((u ≡ i) × (slice_index (slice_set rows i row) u ≡ row)) ⊎ ((u ≢ i) × (slice_index (slice_set rows i row) u ≡ slice_index rows u))
-row_cases rows i row u inside =
-    ⊎_elim (λ same. inl (same, get_or-set_at rows i u row 0 same inside)) (λ other. inr (other, get_or-set_other rows i u row 0 other)) (cases_eq u i)
 
 -- with no letter nothing is added
 pub AreAdded-start : {r : LocalRule} {node : ℕ} (Has : ℕ → ℕ → Type 0) {rows : List ℕ} → AreNodeRows r rows → AreAdded r node Has 0 rows rows
@@ -54,30 +49,19 @@ AreAdded-step {r} {node} {n} {Has} {old} {new} rule i set h at small has =
           (row_cases new i row u inside);
       pairs = λ u v hu hv.
           let before = h.pairs u v hu hv in
-          ⊎_elim
-          (λ here.
-          let moved : InRows new i v ↔ InRows new u v = (subst (λ x. InRows new x v) (sym here.0), subst (λ x. InRows new x v) here.0) in
-          let union = IsBitSet-or (slice_index new i) set v in (
+          let more = HasBit-or new i set inside u v in (
             (λ some. ⊎_elim
-                (λ old. ⊎_elim (λ o. inl o) (λ (a, l, e, one). inr (a, omega (arith, l), e, one)) (before.0 (moved.0 old)))
-                (λ one. inr (n, omega arith, sym at ∙ sym here.0, (has v hv).0 one))
-                (union.0 (subst (λ x. IsBitSet x v) here.1 some))),
-            (λ either. subst (λ x. IsBitSet x v) (sym here.1) (union.1 (⊎_elim
-                (λ o. inl (moved.1 (before.1 (inl o))))
+                (λ (here, one). inr (n, omega arith, sym at ∙ sym here, (has v hv).0 one))
+                (λ o. ⊎_elim (λ first. inl first) (λ (a, l, e, one). inr (a, omega (arith, l), e, one)) (before.0 o))
+                (more.0 some)),
+            (λ either. more.1 (⊎_elim
+                (λ o. inr (before.1 (inl o)))
                 (λ (a, l, e, one). ⊎_elim
-                (λ last. inr ((has v hv).1 (subst (λ x. Has x v) last one)))
-                (λ less. inl (moved.1 (before.1 (inr (a, omega (arith, l, less), e, one)))))
+                (λ last. inl (sym e ∙ ap (next r node) last ∙ sym at, (has v hv).1 (subst (λ x. Has x v) last one)))
+                (λ less. inr (before.1 (inr (a, omega (arith, l, less), e, one))))
                 (cases_eq a n))
-                either))),
-          ))
-          (λ there. (
-            (λ some. ⊎_elim (λ o. inl o) (λ (a, l, e, one). inr (a, omega (arith, l), e, one)) (before.0 (subst (λ x. IsBitSet x v) there.1 some))),
-            (λ either. subst (λ x. IsBitSet x v) (sym there.1) (before.1 (⊎_elim
-                (λ o. inl o)
-                (λ (a, l, e, one). inr (a, ⊎_elim (λ last. absurd (there.0 (sym e ∙ ap (next r node) last ∙ sym at))) (λ less. omega (arith, l, less)) (cases_eq a n), e, one))
-                either))),
-          ))
-          (row_cases new i row u inside);
+                either)),
+          );
     }
 
 -- what was found stays
@@ -86,13 +70,7 @@ InRows-added h u v hu hv old = (h.pairs u v hu hv).1 (inl old)
 
 -- two letters lead from one node to one node only if they are one
 pub next-injective : {r : LocalRule} → IsRule r → (u a b : ℕ) → a < r.states → b < r.states → next r u a ≡ next r u b → a ≡ b
-next-injective {r} rule u a b ha hb e = sym (last a ha) ∙ ap (λ n. n % r.states) e ∙ last b hb
-  where
-    last : (c : ℕ) → c < r.states → next r u c % r.states ≡ c
-    last c hc =
-        let more : suc (r.width - 2) ≡ r.width - 1 = omega (arith, rule.shape.least_width) in
-        let nodes : r.states ^ (r.width - 2) * r.states ≡ node_count r = sym (pow-suc r.states (r.width - 2)) ∙ ap (λ n. r.states ^ n) more in
-        ap (λ n. (u * r.states + c) % n % r.states) (sym nodes) ∙ mod-mod_of_dvd r.states (u * r.states + c) (dvd-mul_left r.states (r.states ^ (r.width - 2))) ∙ mod-mul-add u r.states c hc
+next-injective rule u a b ha hb e = omega (arith, next-digits rule u a ha, next-digits rule u b hb)
 
 -- the ends of the edges with the label of a, but for the one of a itself
 pub LeadsApart-set : {r : LocalRule} → IsRule r → (node a label_a to ends : ℕ) → a < r.states → label_a ≡ label r node a → to ≡ next r node a → IsEnds Right r node label_a ends

@@ -7,7 +7,7 @@ use Rattle.std.proofs.lemmas.List.{get_or-replicate, length-replicate}
 use Rattle.word_image.specs.LocalRules.{LocalRule, IsRule}
 use Rattle.word_image.specs.Ranks.{IsRank, IsEndless}
 use Rattle.word_image.specs.declared.side.Side.TheVariants.{Left}
-use Rattle.pair_laws.proofs.Ranks.{Together-less}
+use Rattle.pair_laws.proofs.Ranks.{IsRank-one, Together-less}
 use Rattle.inverse_window.specs.Starts.{HoldsFrom, later}
 use Rattle.inverse_window.specs.FirstWindows.{PairDiffersAt, PairBegins, EndsFor, NoneHolds, AreStarts}
 use Rattle.inverse_window.proofs.StartLaws.{HoldsFrom-first, HoldsFrom-next, HoldsFrom-other, later-most}
@@ -37,9 +37,8 @@ AreStarts-first r e few =
     }
 
 -- a pair of nodes has one rank
-one_rank : {r : LocalRule} → IsRule r → (e p a b : ℕ) → IsRank (EndsFor r e p) a → IsRank (EndsFor r e p) b → b ≤ a
-one_rank {r} rule e p a b first second =
-    ⊎_elim (λ l. absurd (first.no_more (omega (arith, second.holds.0), Together-less Left rule _ _ (a + 1) _ (omega arith) second.holds.1))) (λ l. l) (cases_lt a b)
+one_rank : {r : LocalRule} → IsRule r → (e p a b : ℕ) → IsRank (EndsFor r e p) a → IsRank (EndsFor r e p) b → a ≡ b
+one_rank {r} rule e p = IsRank-one (EndsFor r e p) (λ i n l h. (omega (arith, h.0), Together-less Left rule _ _ i n l h.1))
 
 -- behind a pair that differs at its first letter
 pub AreStarts-next : {r : LocalRule} {e p b : ℕ} {starts : List (Option ℕ)} → IsRule r → (x : Option ℕ) → AreStarts r e p starts
@@ -60,7 +59,7 @@ AreStarts-next {r} {e} {p} {b} {starts} rule x before differ within rank from mo
       from = at (λ a o. HoldsFrom o (NoneHolds (p + 1) (OfRank r e a) (PairBegins r)))
           (HoldsFrom-next (get_or starts b None) x p (OfRank r e b) (PairBegins r) (differ, rank) (before.from b within) from)
           (λ a l other. HoldsFrom-other (get_or starts a None) p (OfRank r e a) (PairBegins r)
-          (λ of. other (omega (arith, one_rank rule e p a b of.1 rank, one_rank rule e p b a rank of.1))) (before.from a l));
+          (λ of. other (one_rank rule e p a b of.1 rank)) (before.from a l));
       most = at (λ a o. IfSome o (λ n. n ≤ 240)) (later-most (get_or starts b None) x 240 (before.most b within) most) (λ a l other. before.most a l);
     }
 

@@ -1,20 +1,17 @@
 -- Steps of the marked graph, and rows that have marked pairs.
-use Rattle.std.proofs.Common.{◌≡◌, ◌≢◌, ℕ, zero, suc, ◌+◌, ◌-◌, ◌*◌, ◌/◌, ◌%◌, ◌^◌, ◌<◌, ◌≤◌, ◌↔◌, ◌⊎◌, inl, inr, List, Some, cond, length, replicate, IsBitSet, IsTrue, bit_and, bit_or, slice_index, slice_set, refl, sym, ap, ap₂, ◌∙◌, subst, subst₂, arith, ⊎_elim, mod-lt, lit<}
+use Rattle.std.proofs.Common.{◌≡◌, ◌≢◌, ℕ, zero, ◌+◌, ◌-◌, ◌*◌, ◌/◌, ◌%◌, ◌^◌, ◌<◌, ◌≤◌, ◌↔◌, ◌⊎◌, inl, inr, List, Some, cond, length, IsBitSet, IsTrue, bit_and, bit_or, slice_index, slice_set, refl, sym, ap, ap₂, ◌∙◌, subst, subst₂, arith, ⊎_elim, mod-lt, lit<}
 use Rattle.std.specs.Prelude.{◌==◌, ◌||◌, not, nat_le}
 use Rattle.std.proofs.lemmas.Bool.{cases_eq, eq-eqb, ne_eqb}
-use Rattle.std.proofs.lemmas.Bool.Decides.{Decides-eqb, leb_tells}
-use Rattle.std.proofs.lemmas.List.{get_or-set_other}
-use Rattle.std.proofs.lemmas.Grind.{get_or-set_at}
-use Rattle.std.proofs.lemmas.Nat.{div-mul-add, mod-mul-add, div-add-mod', same_from_place, mul-add-lt, div_below}
-use Rattle.std.proofs.lemmas.Nat.Bits.{shr_and_one}
-use Rattle.std.proofs.Math.Nat.{pow-succ', one-le-pow}
+use Rattle.std.proofs.lemmas.Bool.Decides.{leb_tells}
+use Rattle.std.proofs.lemmas.Nat.{div-mul-add, mod-mul-add, div-add-mod', same_from_place, div_below}
 use Rattle.word_image.specs.LocalRules.{LocalRule, IsRule, node_count}
 use Rattle.word_image.specs.Graphs.{next, label, first_of, second_of, pair_of, pair_count}
 use Rattle.word_image.specs.MarkedPairs.{marked}
-use Rattle.word_image.proofs.laws.Bits.{bit_at-IsBitSet, IsBitSet-or, IsBitSet-zero}
+use Rattle.word_image.proofs.laws.Bits.{IsBitSet-or}
 use Rattle.word_image.proofs.laws.Graphs.{next-below, pair_count_pos}
-use Rattle.word_image.proofs.laws.Lists.{slice_index-zeros}
+use Rattle.pair_laws.proofs.Rows.{HasBit, HasBit-more, IsBitSet-test}
 use Rattle.pair_laws.proofs.Sets.{IsBitSet-shl, IsBitSet-shr, IsBitSet-and, IsBitSet-minus, IsBitSet-decide}
+use Rattle.pair_laws.proofs.Edges.{next-digits}
 use Rattle.pair_laws.proofs.Pairs.{some_if_equal, first_of-pair_of, second_of-pair_of, pair_of-first_of, pair_of-below, first_of-below, second_of-below}
 use Rattle.word_image.specs.Edges.{IsEnds}
 use Rattle.word_image.specs.declared.side.Side.TheVariants.{Right}
@@ -105,21 +102,6 @@ mark-comes r t a b other =
     (λ (test, fails). ap (λ x. cond (x || not (a == b)) c 0) test ∙ ap (λ x. cond (not x) c 0) (ne_eqb a b other) ∙ omega arith)
     (leb_tells c t)
 
--- the ends of a node's edges stand one after the other
-pub next-plus : {r : LocalRule} → IsRule r → (v b : ℕ) → b < r.states → next r v b ≡ next r v 0 + b
-next-plus {r} rule v b letter =
-    let wide : 2 ≤ r.width = rule.shape.least_width in
-    let least : 2 ≤ r.states = rule.shape.least_states in
-    let long : r.width - 1 ≡ suc (r.width - 2) = omega arith in
-    let m : ℕ = r.states ^ (r.width - 2) in
-    let nodes : node_count r ≡ r.states * m = ap (λ n. r.states ^ n) long ∙ pow-succ' r.states (r.width - 2) in
-    let positive : 0 < m = one-le-pow (r.width - 2) r.states (omega arith) in
-    let end : (c : ℕ) → c < r.states → next r v c ≡ (v % m) * r.states + c = λ c small.
-    let within : (v % m) * r.states + c < r.states * m = mul-add-lt (v % m) r.states c m (mod-lt v positive) small in
-    let split : v * r.states + c ≡ (v / m) * (r.states * m) + ((v % m) * r.states + c) = let whole = ap (λ z. z * r.states + c) (div-add-mod' v m) in omega arith in
-    ap (λ n. (v * r.states + c) % n) nodes ∙ ap (λ z. z % (r.states * m)) split ∙ mod-mul-add (v / m) (r.states * m) ((v % m) * r.states + c) within in
-    omega (arith, end b letter, end 0 (omega arith))
-
 -- a marked pair is known by its row and its place in the row
 pub row_of-injective : {r : LocalRule} → IsRule r → (s t : ℕ) → s < 2 * pair_count r → t < 2 * pair_count r → row_of r s ≡ row_of r t
     → second_of r (pair_part r s) ≡ second_of r (pair_part r t) → s ≡ t
@@ -138,53 +120,23 @@ HasPair-add {r} rule rows t i j long in_t row place s in_s =
     let half : t / pair_count r < 2 = div_below t (pair_count r) 2 (pair_count_pos rule) in_t in
     let first = first_of-below rule (pair_part r t) (mod-lt t (pair_count_pos rule)) in
     let second = second_of-below rule (pair_part r t) in
-    let bit : ℕ = 1 * 2 ^ j % 2 ^ 16 in
-    let here : IsBitSet bit (second_of r (pair_part r s)) ↔ (second_of r (pair_part r s) ≡ j) = IsBitSet-shl j (second_of r (pair_part r s)) (omega arith) in
-    ⊎_elim
-    (λ same.
-    let found : slice_index (slice_set rows i (bit_or (slice_index rows i) bit)) (row_of r s) ≡ bit_or (slice_index rows (row_of r s)) bit =
-    get_or-set_at rows i (row_of r s) (bit_or (slice_index rows i) bit) 0 same (omega arith) ∙ ap (λ x. bit_or (slice_index rows x) bit) (sym same) in
-    let union = IsBitSet-or (slice_index rows (row_of r s)) bit (second_of r (pair_part r s)) in (
-      (λ some. ⊎_elim
-          (λ old. inr old)
-          (λ new. inl (row_of-injective rule s t in_s in_t (same ∙ row) (here.0 new ∙ place)))
-          (union.0 (subst (λ a. IsBitSet a (second_of r (pair_part r s))) found some))),
-      (λ either. subst (λ a. IsBitSet a (second_of r (pair_part r s))) (sym found) (union.1 (⊎_elim
-          (λ one. inr (here.1 (ap (λ q. second_of r (pair_part r q)) one ∙ sym place)))
-          (λ old. inl old)
-          either))),
-    ))
-    (λ other.
-    let kept : slice_index (slice_set rows i (bit_or (slice_index rows i) bit)) (row_of r s) ≡ slice_index rows (row_of r s) =
-    get_or-set_other rows i (row_of r s) (bit_or (slice_index rows i) bit) 0 other in (
-      (λ some. inr (subst (λ a. IsBitSet a (second_of r (pair_part r s))) kept some)),
-      (λ either. subst (λ a. IsBitSet a (second_of r (pair_part r s))) (sym kept) (⊎_elim
-          (λ one. absurd (other (ap (row_of r) one ∙ sym row)))
-          (λ old. old)
-          either)),
-    ))
-    (cases_eq (row_of r s) i)
+    let more = HasBit-more rows i j (omega arith) (omega arith) (row_of r s) (second_of r (pair_part r s)) in (
+      (λ some. ⊎_elim (λ new. inl (row_of-injective rule s t in_s in_t (new.0 ∙ row) (new.1 ∙ place))) (λ old. inr old) (more.0 some)),
+      (λ either. more.1 (⊎_elim (λ one. inl (ap (row_of r) one ∙ sym row, ap (λ q. second_of r (pair_part r q)) one ∙ sym place)) (λ old. inr old) either)),
+    )
 
 -- the test of a bit
 pub HasPair-test : (r : LocalRule) (rows : List ℕ) (t i j : ℕ) → i ≡ row_of r t → j ≡ second_of r (pair_part r t)
     → IsTrue (bit_and (slice_index rows i / 2 ^ j) 1 == 1) ↔ HasPair r rows t
 HasPair-test r rows t i j row place =
-    let bit = bit_at-IsBitSet (slice_index rows i) j in
-    let test = Decides-eqb (bit_and (slice_index rows i / 2 ^ j) 1) 1 in (
-      (λ yes. subst₂ (λ (x y : ℕ). IsBitSet (slice_index rows x) y) row place (bit.1 (sym (shr_and_one (slice_index rows i) j) ∙ test.0 yes))),
-      (λ some. test.1 (shr_and_one (slice_index rows i) j ∙ bit.0 (subst₂ (λ (x y : ℕ). IsBitSet (slice_index rows x) y) (sym row) (sym place) some))),
-    )
-
--- no marked pair is in rows of zeros
-pub HasPair-none : (r : LocalRule) (t : ℕ) → ¬ HasPair r (replicate 32 0) t
-HasPair-none r t some = IsBitSet-zero (second_of r (pair_part r t)) (subst (λ a. IsBitSet a (second_of r (pair_part r t))) (slice_index-zeros 32 (row_of r t)) some)
+    subst₂ (λ (x y : ℕ). IsTrue (bit_and (slice_index rows i / 2 ^ j) 1 == 1) ↔ HasBit rows x y) row place (IsBitSet-test (slice_index rows i) j)
 
 -- of the ends of v's edges, moved down to the first of them, and without those of a row: where the bit of letter b is missing, the row has that end
 end-old : {r : LocalRule} → IsRule r → (v b ends row end : ℕ) → b < r.states → row < 2 ^ 16 → end ≡ next r v 0 → IsBitSet ends (next r v b)
     → ¬ IsBitSet (bit_and ends (65535 - row) / 2 ^ end) b → IsBitSet row (next r v b)
 end-old {r} rule v b ends row end letter small first leads old =
     let few : node_count r ≤ 16 = rule.shape.most_nodes in
-    let place : end + b ≡ next r v b = omega (arith, next-plus rule v b letter) in
+    let place : end + b ≡ next r v b = omega (arith, next-digits rule v b letter, next-digits rule v 0 (omega arith)) in
     ⊎_elim
     (λ present. present)
     (λ absent. absurd (old ((IsBitSet-shr (bit_and ends (65535 - row)) end b).1

@@ -1,16 +1,16 @@
 -- Rows of sets and lists of truth values, and the steps of pairs that they hold.
-use Rattle.std.proofs.Common.{◌≡◌, ◌≢◌, ◌==◌, ℕ, ◌+◌, ◌-◌, ◌*◌, ◌/◌, ◌%◌, ◌^◌, ◌<◌, ◌≤◌, ◌↔◌, List, length, Bool, IsTrue, slice_index, slice_set, IsBitSet, bit_and, Some, refl, sym, ap, ap₂, ◌∙◌, subst, subst₂, arith, ⊎_elim, mod-lt, eq-eqb}
+use Rattle.std.proofs.Common.{◌≡◌, ◌≢◌, ◌==◌, ℕ, ◌+◌, ◌-◌, ◌*◌, ◌/◌, ◌%◌, ◌^◌, ◌<◌, ◌≤◌, ◌↔◌, List, length, Bool, IsTrue, slice_index, slice_set, IsBitSet, bit_and, Some, refl, sym, ap, ap₂, ◌∙◌, subst, subst₂, arith, ⊎_elim, mod-lt}
 use Rattle.std.specs.Int.{bit_at}
-use Rattle.std.proofs.lemmas.Bool.{cases_eq, ne_eqb, false≢true}
+use Rattle.std.proofs.lemmas.Bool.Decides.{Decides-eqb}
 use Rattle.std.proofs.lemmas.List.{get_or-set_other, length-set}
-use Rattle.std.proofs.lemmas.Grind.{get_or-set_at}
 use Rattle.std.proofs.lemmas.Nat.{div-mul-add, mod-mul-add, div-add-mod', div_below, mul-add-lt, and_le_l}
 use Rattle.word_image.specs.LocalRules.{LocalRule, IsRule, node_count}
 use Rattle.word_image.specs.Graphs.{first_of, second_of, pair_of, pair_count}
 use Rattle.word_image.proofs.laws.Bits.{bit_at-IsBitSet}
 use Rattle.word_image.proofs.laws.WindowParts.{window_with-within, end_node-below}
-use Rattle.pair_laws.proofs.Pairs.{first_of-pair_of, second_of-pair_of, pair_of-below, first_of-below, second_of-below, follow-edges, follow-some}
-use Rattle.pair_laws.proofs.Sets.{IsBitSet-and, IsBitSet-below, IsBitSet-minus, IsBitSet-shl}
+use Rattle.pair_laws.proofs.Pairs.{first_of-below, second_of-below, follow-edges, follow-some}
+use Rattle.pair_laws.proofs.Rows.{row_cases, HasBit-less}
+use Rattle.pair_laws.proofs.Sets.{IsBitSet-and, IsBitSet-below}
 use Rattle.word_image.specs.declared.side.Side.{Side}
 use Rattle.word_image.specs.declared.side.Side.TheVariants.{Right, Left}
 use Rattle.word_image.specs.Sides.{window_with}
@@ -21,10 +21,10 @@ use Rattle.pair_graph.proofs.BackSteps.{window_before, LeadsBack-windows, led_ba
 
 -- a test of a bit
 tests_bit : (a i : ℕ) → IsTrue (bit_at a i == 1) ↔ IsBitSet a i
-tests_bit a i = (
-  (λ t. ⊎_elim (λ one. (bit_at-IsBitSet a i).1 one) (λ other. absurd (false≢true (sym (ne_eqb (bit_at a i) 1 other) ∙ t))) (cases_eq (bit_at a i) 1)),
-  (λ some. eq-eqb (bit_at a i) 1 ((bit_at-IsBitSet a i).0 some)),
-)
+tests_bit a i =
+    let bit = bit_at-IsBitSet a i in
+    let test = Decides-eqb (bit_at a i) 1 in
+    ((λ t. bit.1 (test.0 t)), (λ some. test.1 (bit.0 some)))
 
 -- a pair is in the list exactly where its bit is 1
 pub holds-truths : (n : ℕ) (rows : List ℕ) (p : ℕ) → p < n * n → IsTrue (holds (truths n rows) p) ↔ IsBitSet (slice_index rows (p / n)) (p % n)
@@ -77,17 +77,6 @@ small_label side {r} rule u a node letter =
     let within = window_with-within side rule u a node letter in
     omega (arith, rule.letters (window_with side r u a) 0 (omega (arith, within, long)), rule.shape.most_states)
 
--- the pair of two nodes is in the list exactly where its bit is 1
-holds-pair_of : (r : LocalRule) (rows : List ℕ) (s t : ℕ) → s < node_count r → t < node_count r
-    → IsTrue (holds (truths (node_count r) rows) (pair_of r s t)) ↔ IsBitSet (slice_index rows s) t
-holds-pair_of r rows s t in_s in_t =
-    let exact = holds-truths (node_count r) rows (pair_of r s t) (pair_of-below r s t in_s in_t) in
-    let nodes = λ (some : IsBitSet (slice_index rows (first_of r (pair_of r s t))) (second_of r (pair_of r s t))).
-    subst₂ (λ x y. IsBitSet (slice_index rows x) y) (first_of-pair_of r s t in_t) (second_of-pair_of r s t in_t) some in (
-      (λ t. nodes (exact.0 t)),
-      (λ some. exact.1 (subst₂ (λ x y. IsBitSet (slice_index rows x) y) (sym (first_of-pair_of r s t in_t)) (sym (second_of-pair_of r s t in_t)) some)),
-    )
-
 -- the nodes of a pair go on exactly where some letters lead from it into the set
 pub GoesOn-into : (side : Side) {r : LocalRule} → IsRule r → (ends : List (List ℕ)) (rows : List ℕ) → AreEdgeRows side r ends → (p : ℕ) → p < pair_count r
     → GoesOn side r ends rows (first_of r p) (second_of r p) ↔ LeadsInto side r (truths (node_count r) rows) p
@@ -108,7 +97,7 @@ GoesOn-into side {r} rule ends rows edges p inside =
               letter = in_b;
               pair = q;
               leads = (leads_by side rule p a b inside letter in_b q).1 (sym same, refl);
-              there = (holds-pair_of r rows (end_at side r u a) (end_at side r v b) (end_at-below side rule u a in_u letter) (end_at-below side rule v b in_v in_b)).1
+              there = (holds-place (node_count r) rows (end_at side r u a) (end_at side r v b) (end_at-below side rule u a in_u letter) (end_at-below side rule v b in_v in_b)).1
                   (subst (IsBitSet (slice_index rows (end_at side r u a))) (sym arrives) goes.pair);
             },
           )),
@@ -123,7 +112,7 @@ GoesOn-into side {r} rule ends rows edges p inside =
             record {
               node = omega (arith, below);
               second = ((edges.ends (label_at side r u a) v (small_label side rule u a in_u letter) in_v).nodes t below).1 (b, into.letter, sym same, refl);
-              pair = (holds-pair_of r rows (end_at side r u a) t (end_at-below side rule u a in_u letter) below).0
+              pair = (holds-place (node_count r) rows (end_at side r u a) t (end_at-below side rule u a in_u letter) below).0
                   (subst (λ q. IsTrue (holds (truths (node_count r) rows) q)) (sym pair) into.there);
             },
           )),
@@ -135,32 +124,23 @@ pub AreNodesKept-next : {Goes : ℕ → ℕ → Type 0} {rows : List ℕ} {n : �
     → AreNodesKept Goes rows (n + 1) (slice_set kept i (bit_and (slice_index rows j) on))
 AreNodesKept-next {Goes} {rows} {n} {kept} h i j on at also inside exact =
     let row = bit_and (slice_index rows j) on in
-    let new = slice_set kept i row in
-    let here : (u : ℕ) → u ≡ n → slice_index new u ≡ row = λ u same. get_or-set_at kept i u row 0 (same ∙ sym at) (omega (arith, h.long, at, inside)) in
-    let there : (u : ℕ) → u ≢ n → slice_index new u ≡ slice_index kept u = λ u other. get_or-set_other kept i u row 0 (λ e. other (e ∙ at)) in
-    let source : (u : ℕ) → u ≡ n → slice_index rows j ≡ slice_index rows u = λ u same. ap (slice_index rows) (also ∙ sym same) in
+    let written = λ (u : ℕ). row_cases kept i row u (omega (arith, h.long, at, inside)) in
     record {
       long = length-set kept i row ∙ h.long;
       done = λ u v less small. ⊎_elim
-          (λ same.
-          let goes = exact v small in
-          let both = IsBitSet-and (slice_index rows j) on v in (
-            (λ some. let (first, second) = both.0 (subst (λ x. IsBitSet x v) (here u same) some) in
-                (subst (λ x. IsBitSet x v) (source u same) first, subst (λ x. Goes x v) (sym same) (goes.0 second))),
-            (λ (first, second). subst (λ x. IsBitSet x v) (sym (here u same))
-                (both.1 (subst (λ x. IsBitSet x v) (sym (source u same)) first, goes.1 (subst (λ x. Goes x v) same second)))),
+          (λ (same, here).
+          let both = subst₂ (λ x y. IsBitSet x v ↔ (IsBitSet (slice_index rows y) v × IsBitSet on v)) (sym here) (also ∙ sym (same ∙ at)) (IsBitSet-and (slice_index rows j) on v) in
+          let goes = subst (λ x. IsBitSet on v ↔ Goes x v) (sym (same ∙ at)) (exact v small) in (
+            (λ some. let (first, second) = both.0 some in (first, goes.0 second)),
+            (λ (first, second). both.1 (first, goes.1 second)),
           ))
-          (λ other.
-          let before = h.done u v (omega (arith, less, other)) small in (
-            (λ some. before.0 (subst (λ x. IsBitSet x v) (there u other) some)),
-            (λ both. subst (λ x. IsBitSet x v) (sym (there u other)) (before.1 both)),
-          ))
-          (cases_eq u n);
+          (λ (other, there). subst (λ x. IsBitSet x v ↔ (IsBitSet (slice_index rows u) v × Goes u v)) (sym there) (h.done u v (omega (arith, less, other, at)) small))
+          (written u);
       smaller = λ u. ⊎_elim
-          (λ same. omega (arith, here u same, source u same, and_le_l (slice_index rows j) on))
-          (λ other. omega (arith, there u other, h.smaller u))
-          (cases_eq u n);
-      past = λ u more. there u (omega arith) ∙ h.past u (omega arith);
+          (λ (same, here). omega (arith, here, ap (slice_index rows) (also ∙ sym (same ∙ at)), and_le_l (slice_index rows j) on))
+          (λ (other, there). omega (arith, there, h.smaller u))
+          (written u);
+      past = λ u more. get_or-set_other kept i u row 0 (omega arith) ∙ h.past u (omega arith);
     }
 
 -- the kept rows are rows again
@@ -204,28 +184,17 @@ pub holds-removed : (n : ℕ) (rows : List ℕ) (set : List Bool) (p i m : ℕ) 
     → (q : ℕ) → q < length set → IsTrue (holds (truths n (removed rows i (p % m))) q) ↔ (IsTrue (holds set q) × (q ≢ p))
 holds-removed n rows set p i m seen h at nodes inside q within =
     let few : length set ≡ n * n = ap length (sym seen) ∙ length-truths n rows in
-    let row = bit_and (slice_index rows i) (65535 - 1 * 2 ^ (p % m) % 2 ^ 16) in
     let q_in : q < n * n = omega (arith, few) in
     let place : p % m < 16 = omega (arith, subst (λ x. p % x < x) (sym nodes) (mod-lt p h.least), nodes, h.most) in
     let after = holds-truths n (removed rows i (p % m)) q q_in in
     let before : IsTrue (holds set q) ↔ IsBitSet (slice_index rows (q / n)) (q % n) = subst (λ s. IsTrue (holds s q) ↔ IsBitSet (slice_index rows (q / n)) (q % n)) seen (holds-truths n rows q q_in) in
     let row_in : p / n < n = div_below p n n h.least (omega (arith, few)) in
-    ⊎_elim
-    (λ same.
-    let here : slice_index (removed rows i (p % m)) (q / n) ≡ row = get_or-set_at rows i (q / n) row 0 (same ∙ sym at) (omega (arith, h.long, at, row_in, h.most)) in
-    let both = IsBitSet-minus (slice_index rows i) (1 * 2 ^ (p % m) % 2 ^ 16) (q % n) (mod-lt (1 * 2 ^ (p % m)) {m = 2 ^ 16} (omega arith)) (omega (arith, mod-lt q h.least, h.most)) in
-    let bit = IsBitSet-shl (p % m) (q % n) place in
-    let source : slice_index rows i ≡ slice_index rows (q / n) = ap (slice_index rows) (at ∙ sym same) in (
-      (λ t. let (first, second) = both.0 (subst (λ x. IsBitSet x (q % n)) here (after.0 t)) in
-          (before.1 (subst (λ x. IsBitSet x (q % n)) source first), (λ e. second (bit.1 (ap (λ x. x % n) e ∙ ap (λ x. p % x) (sym nodes)))))),
-      (λ (there, other). after.1 (subst (λ x. IsBitSet x (q % n)) (sym here) (both.1 (
-        subst (λ x. IsBitSet x (q % n)) (sym source) (before.0 there),
-        (λ some. other (sym (div-add-mod' q n) ∙ ap₂ (λ (x y : ℕ). x * n + y) same (bit.0 some ∙ ap (λ x. p % x) nodes) ∙ div-add-mod' p n)),
-      )))),
-    ))
-    (λ no.
-    let there : slice_index (removed rows i (p % m)) (q / n) ≡ slice_index rows (q / n) = get_or-set_other rows i (q / n) row 0 (λ e. no (e ∙ at)) in (
-      (λ t. (before.1 (subst (λ x. IsBitSet x (q % n)) there (after.0 t)), (λ e. no (ap (λ x. x / n) e)))),
-      (λ (holds, other). after.1 (subst (λ x. IsBitSet x (q % n)) (sym there) (before.0 holds))),
-    ))
-    (cases_eq (q / n) (p / n))
+    let less = HasBit-less rows i (p % m) (omega (arith, h.long, at, row_in, h.most)) place (q / n) (q % n) (omega (arith, mod-lt q h.least, h.most)) in
+    let bit : p % n ≡ p % m = ap (λ x. p % x) (sym nodes) in
+    let pair : (q ≡ p) ↔ ((q / n ≡ i) × (q % n ≡ p % m)) = (
+      (λ e. (ap (λ x. x / n) e ∙ sym at, ap (λ x. x % n) e ∙ bit)),
+      (λ (row, place). sym (div-add-mod' q n) ∙ ap₂ (λ (x y : ℕ). x * n + y) (row ∙ at) (place ∙ sym bit) ∙ div-add-mod' p n),
+    ) in (
+      (λ t. let both = less.0 (after.0 t) in (before.1 both.0, (λ e. both.1 (pair.0 e)))),
+      (λ (there, other). after.1 (less.1 (before.0 there, (λ both. other (pair.1 both))))),
+    )

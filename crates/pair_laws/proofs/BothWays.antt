@@ -1,6 +1,5 @@
 -- When there is a determined window or a look-ahead at all: no two different nodes are endless both ways, and no first pair is endless.
-use Rattle.std.proofs.Common.{◌≡◌, ◌≢◌, ℕ, zero, suc, ◌+◌, ◌-◌, ◌<◌, ◌≤◌, ◌↔◌, ◌⊎◌, inl, inr, Some, min, List, [], ◌∷◌, ◌++◌, length, take, drop, slice_index, refl, sym, ap, subst, ◌∙◌, ⊎_elim, arith, length-drop}
-use Rattle.std.proofs.lemmas.Bool.{cases_eq}
+use Rattle.std.proofs.Common.{◌≡◌, ◌≢◌, ℕ, zero, suc, ◌+◌, ◌-◌, ◌<◌, ◌≤◌, ◌↔◌, Some, min, List, [], ◌∷◌, ◌++◌, length, take, drop, slice_index, refl, sym, ap, subst, ◌∙◌, ⊎_elim, arith, length-drop}
 use Rattle.std.proofs.lemmas.List.{ext_get_or, length_push, take_all, get_or_append_left}
 use Rattle.std.proofs.lemmas.List.Elements.{All-push}
 use Rattle.word_image.specs.LocalRules.{LocalRule, IsRule, IsWord, value, word_of, node_count}
@@ -18,7 +17,7 @@ use Rattle.pair_laws.proofs.Pairs.{first_of-pair_of, second_of-pair_of, pair-bel
 use Rattle.pair_laws.proofs.Windows.{node_letter-at, IsDetermined-pairs}
 use Rattle.pair_laws.proofs.Aheads.{IsRightAhead-pairs}
 use Rattle.pair_laws.proofs.LeftAheads.{IsLeftAhead-pairs}
-use Rattle.word_image.proofs.laws.Searches.{some_below}
+use Rattle.pair_laws.proofs.Decisions.{differ_below}
 use Rattle.pair_laws.proofs.Endless.{Together-endless, PairGoes-endless_step}
 
 -- a letter of a node further on is a letter of the node to which it leads
@@ -38,14 +37,14 @@ node_letter-next {r} rule u a i hu ha l =
 -- two different nodes differ at a letter
 pub node_letter-different : (r : LocalRule) (u v : ℕ) → u < node_count r → v < node_count r → u ≢ v → (i : ℕ) × (i < r.width - 1) × (node_letter r u i ≢ node_letter r v i)
 node_letter-different r u v hu hv different =
-    let differ : (i : ℕ) → (node_letter r u i ≢ node_letter r v i) ⊎ ¬ (node_letter r u i ≢ node_letter r v i) = λ i.
-    ⊎_elim (λ same. inr (λ other. other same)) (λ other. inl other) (cases_eq (node_letter r u i) (node_letter r v i)) in
-    ⊎_elim (λ found. found)
-    (λ none. absurd (different (sym (value-word_of r.states (r.width - 1) u hu)
-    ∙ ap (value r.states) (ext_get_or 0 (word_of r.states (r.width - 1) u) (word_of r.states (r.width - 1) v) (length-word_of r.states (r.width - 1) u ∙ sym (length-word_of r.states (r.width - 1) v))
-    (λ i l. ⊎_elim (λ same. same) (λ other. absurd (none i (omega (arith, length-word_of r.states (r.width - 1) u)) other)) (cases_eq (node_letter r u i) (node_letter r v i))))
-    ∙ value-word_of r.states (r.width - 1) v hv)))
-    (some_below (λ i. node_letter r u i ≢ node_letter r v i) differ (r.width - 1))
+    let k : ℕ = r.states in
+    let d : ℕ = r.width - 1 in
+    ⊎_elim
+    (λ same. absurd (different (sym (value-word_of k d u hu)
+    ∙ ap (value k) (ext_get_or 0 (word_of k d u) (word_of k d v) (length-word_of k d u ∙ sym (length-word_of k d v)) (λ i l. same i (omega (arith, length-word_of k d u))))
+    ∙ value-word_of k d v hv)))
+    (λ found. found)
+    (differ_below (node_letter r u) (node_letter r v) d)
 
 -- a pair is endless both ways
 pub record IsEndlessBothWays (r : LocalRule) (p : ℕ) : Type 0 where

@@ -1,5 +1,5 @@
 -- Whether two nodes begin or end together for n can be decided, and so whether they have a rank or are endless.
-use Rattle.std.proofs.Common.{◌≡◌, ℕ, zero, suc, ◌+◌, ◌<◌, ◌⊎◌, inl, inr, subst, ⊎_elim, arith}
+use Rattle.std.proofs.Common.{◌≡◌, ◌≢◌, ℕ, zero, suc, ◌+◌, ◌<◌, ◌⊎◌, inl, inr, subst, ⊎_elim, arith}
 use Rattle.std.proofs.lemmas.Bool.{cases_eq}
 use Rattle.word_image.specs.LocalRules.{LocalRule, IsRule, node_count}
 use Rattle.word_image.specs.Graphs.{next, label, pair_count}
@@ -32,6 +32,14 @@ Together-decide Left {r} rule n u v hu hv =
     let mirror = EndTogether-is_mirrored rule u v n hu hv in
     ⊎_elim (λ h. inl (mirror.1 h)) (λ none. inr (λ h. none (mirror.0 h)))
     (BeginTogether-decide (IsRule-mirrored rule) n (mirror_node r u) (mirror_node r v) (mirror_node-below r u hu) (mirror_node-below r v hv))
+
+-- two runs of n numbers are the same, or differ at a place
+pub differ_below : (f g : ℕ → ℕ) (n : ℕ) → ((i : ℕ) → i < n → f i ≡ g i) ⊎ ((i : ℕ) × (i < n) × (f i ≢ g i))
+differ_below f g n =
+    ⊎_elim
+    (λ differ. inr differ)
+    (λ none. inl (λ i l. ⊎_elim (λ same. same) (λ other. absurd (none i l other)) (cases_eq (f i) (g i))))
+    (some_below (λ i. f i ≢ g i) (λ i. ⊎_elim (λ same. inr (λ other. other same)) (λ other. inl other) (cases_eq (f i) (g i))) n)
 
 -- what holds at 0 holds at k, or there is a last number below k up to which it does
 last_below : (P : ℕ → Type 0) → ((n : ℕ) → P n ⊎ ¬ P n) → P 0 → (k : ℕ) → P k ⊎ ((n : ℕ) × IsRank P n)

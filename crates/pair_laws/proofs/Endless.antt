@@ -1,46 +1,17 @@
 -- Endless pairs: a walk of as many steps as there are pairs goes through one pair twice, so it can be made as long as one likes.
-use Rattle.std.proofs.Common.{◌≡◌, ℕ, zero, suc, ◌+◌, ◌-◌, ◌<◌, ◌≤◌, List, length, take, drop, refl, ap, subst₂, ◌∙◌, ⊎_elim, arith, length-drop}
+use Rattle.std.proofs.Common.{ℕ, zero, suc, ◌+◌, ◌-◌, ◌<◌, ◌≤◌, refl, subst₂, ⊎_elim, arith}
 use Rattle.std.proofs.lemmas.Bool.{cases_lt}
 use Rattle.std.proofs.lemmas.Nat.{same_from_place}
-use Rattle.std.proofs.lemmas.List.{length-take-le, take-take, take_all, drop-take, drop-drop}
-use Rattle.std.proofs.lemmas.List.Elements.{All-take, All-drop}
-use Rattle.word_image.specs.LocalRules.{LocalRule, IsRule, IsWord, value, node_count}
-use Rattle.word_image.specs.Windows.{HaveOneImage}
+use Rattle.word_image.specs.LocalRules.{LocalRule, IsRule, node_count}
 use Rattle.word_image.specs.Graphs.{first_of, second_of, pair_of, pair_count, LeadsOn}
 use Rattle.word_image.specs.Ranks.{IsRank, IsEndless}
 use Rattle.word_image.specs.declared.side.Side.{Side}
 use Rattle.word_image.specs.declared.side.Side.TheVariants.{Right, Left}
 use Rattle.word_image.specs.Sides.{Together, PairGoes}
-use Rattle.word_image.proofs.laws.Graphs.{value-node}
-use Rattle.pair_laws.proofs.Joins.{HaveOneImage-take, HaveOneImage-drop}
-use Rattle.pair_laws.proofs.Walks.{LeadTogether, LeadTogether-join, LeadTogether-first, LeadTogether-none}
+use Rattle.pair_laws.proofs.Walks.{LeadTogether, place_node, HaveOneImage-between, LeadTogether-front, LeadTogether-rest, LeadTogether-join, LeadTogether-first, LeadTogether-none}
 use Rattle.pair_laws.proofs.Ranks.{LeadTogether-begin, LeadTogether-end, BeginTogether-walk, EndTogether-walk, Together-less, Together-zero}
 use Rattle.pair_laws.proofs.Pairs.{first_of-below, second_of-below, pair_of-below, LeadsOn-from, PairGoes-step, PairGoes-push}
 use Rattle.word_image.proofs.laws.Searches.{twice_below}
-
--- the node at place i of a word
-abbrev node_at : LocalRule → List ℕ → ℕ → ℕ
-node_at r x i = value r.states (take (r.width - 1) (drop i x))
-
--- the node at a place is a node
-node_at-below : (r : LocalRule) (x : List ℕ) (i : ℕ) → IsWord r.states x → i + (r.width - 1) ≤ length x → node_at r x i < node_count r
-node_at-below r x i h l =
-    value-node r (take (r.width - 1) (drop i x)) (All-take (λ a. a < r.states) (r.width - 1) (drop i x) (All-drop (λ a. a < r.states) i x h))
-    (length-take-le (r.width - 1) (drop i x) (omega (arith, length-drop i x)))
-
--- two words with one image lead from the nodes at each place to those at each later one
-HaveOneImage-between : {r : LocalRule} {x y : List ℕ} → IsRule r → (i l j k n : ℕ) → i + l ≡ j → j + k ≡ n → HaveOneImage r n x y
-    → LeadTogether r (node_at r x i) (node_at r y i) l (node_at r x j) (node_at r y j)
-HaveOneImage-between {r} {x} {y} rule i l j k n e f h =
-    record {
-      x = take (l + (r.width - 1)) (drop i x);
-      y = take (l + (r.width - 1)) (drop i y);
-      one_image = HaveOneImage-take rule l k (l + k) refl (HaveOneImage-drop i (l + k) n (omega arith) h);
-      first = ap (value r.states) (take-take (r.width - 1) (l + (r.width - 1)) (drop i x) (omega arith));
-      second = ap (value r.states) (take-take (r.width - 1) (l + (r.width - 1)) (drop i y) (omega arith));
-      first_last = ap (value r.states) (drop-take l (r.width - 1) (drop i x) ∙ ap (take (r.width - 1)) (drop-drop l i x ∙ ap (λ m. drop m x) e));
-      second_last = ap (value r.states) (drop-take l (r.width - 1) (drop i y) ∙ ap (take (r.width - 1)) (drop-drop l i y ∙ ap (λ m. drop m y) e));
-    }
 
 -- a walk from u and v to p and q is at s and t after i steps, again l + 1 steps later, which is within as many steps as there are pairs, and goes on for k
 pub record Loops (r : LocalRule) (u v p q : ℕ) : Type 0 where
@@ -57,30 +28,25 @@ pub record Loops (r : LocalRule) (u v p q : ℕ) : Type 0 where
 -- a walk of as many steps as there are pairs comes back to one of its pairs
 pub Loops-long : {r : LocalRule} {u v p q n : ℕ} → IsRule r → pair_count r ≤ n → LeadTogether r u v n p q → Loops r u v p q
 Loops-long {r} {u} {v} {p} {q} {n} rule many h =
-    let f : ℕ → ℕ = λ i. pair_of r (node_at r h.x i) (node_at r h.y i) in
-    let in_first : (i : ℕ) → i ≤ n → node_at r h.x i < node_count r = λ i l. node_at-below r h.x i h.one_image.first (omega arith) in
-    let in_second : (i : ℕ) → i ≤ n → node_at r h.y i < node_count r = λ i l. node_at-below r h.y i h.one_image.second (omega arith) in
-    let twice = twice_below (pair_count r) f (λ i l. pair_of-below r _ _ (in_first i (omega arith)) (in_second i (omega arith))) in
+    let f : ℕ → ℕ = λ i. pair_of r (place_node r h.x i) (place_node r h.y i) in
+    let nodes : (i : ℕ) → i ≤ n → (place_node r h.x i < node_count r) × (place_node r h.y i < node_count r) = λ i l. LeadTogether-first (LeadTogether-rest rule i (n - i) (omega arith) h) in
+    let twice = twice_below (pair_count r) f (λ i l. let within = nodes i (omega arith) in pair_of-below r _ _ within.0 within.1) in
     let i : ℕ = twice.0 in
     let j : ℕ = twice.1 in
     let earlier : i < j = twice.2 in
     let inside : j ≤ pair_count r = twice.3 in
-    let same = same_from_place (node_at r h.x i) (node_at r h.y i) (node_at r h.x j) (node_at r h.y j) (node_count r) (in_second i (omega arith)) (in_second j (omega arith)) twice.4 in
-    let end_x : node_at r h.x n ≡ p = ap (value r.states) (take_all (r.width - 1) (drop n h.x) (omega (arith, length-drop n h.x))) ∙ h.first_last in
-    let end_y : node_at r h.y n ≡ q = ap (value r.states) (take_all (r.width - 1) (drop n h.y) (omega (arith, length-drop n h.y))) ∙ h.second_last in
-    let before = HaveOneImage-between rule 0 i i (n - i) n (omega arith) (omega arith) h.one_image in
+    let same = same_from_place (place_node r h.x i) (place_node r h.y i) (place_node r h.x j) (place_node r h.y j) (node_count r) (nodes i (omega arith)).1 (nodes j (omega arith)).1 twice.4 in
     let loop = HaveOneImage-between rule i (suc (j - i - 1)) j (n - j) n (omega arith) (omega arith) h.one_image in
-    let after = HaveOneImage-between rule j (n - j) n 0 n (omega arith) (omega arith) h.one_image in
     record {
-      s = node_at r h.x j;
-      t = node_at r h.y j;
+      s = place_node r h.x j;
+      t = place_node r h.y j;
       i = i;
       l = j - i - 1;
       k = n - j;
       within = omega arith;
-      before = subst₂ (λ (a b : ℕ). LeadTogether r u v i a b) same.0 same.1 (subst₂ (λ (a b : ℕ). LeadTogether r a b i (node_at r h.x i) (node_at r h.y i)) h.first h.second before);
-      loop = subst₂ (λ (a b : ℕ). LeadTogether r a b (suc (j - i - 1)) (node_at r h.x j) (node_at r h.y j)) same.0 same.1 loop;
-      after = subst₂ (λ (a b : ℕ). LeadTogether r (node_at r h.x j) (node_at r h.y j) (n - j) a b) end_x end_y after;
+      before = subst₂ (LeadTogether r u v i) same.0 same.1 (LeadTogether-front rule i (n - i) (omega arith) h);
+      loop = subst₂ (λ (a b : ℕ). LeadTogether r a b (suc (j - i - 1)) (place_node r h.x j) (place_node r h.y j)) same.0 same.1 loop;
+      after = LeadTogether-rest rule j (n - j) (omega arith) h;
     }
 
 -- round a loop a walk goes on as long as one likes

@@ -1,4 +1,5 @@
 pub mod Sets
+pub mod Rows
 pub mod Edges
 pub mod Joins
 pub mod Walks

@@ -2,7 +2,7 @@
 use Rattle.std.proofs.Common.{◌≡◌, ℕ, zero, suc, ◌+◌, ◌-◌, ◌<◌, ◌≤◌, refl, arith}
 use Rattle.word_image.specs.LocalRules.{LocalRule, IsRule, node_count}
 use Rattle.word_image.specs.Graphs.{next, label}
-use Rattle.word_image.specs.Ranks.{BeginTogether, EndTogether}
+use Rattle.word_image.specs.Ranks.{BeginTogether, EndTogether, IsRank}
 use Rattle.word_image.specs.declared.side.Side.{Side}
 use Rattle.word_image.specs.declared.side.Side.TheVariants.{Right, Left}
 use Rattle.word_image.specs.Sides.{Together}
@@ -39,6 +39,13 @@ Together-zero Left r u v hu hv = LeadTogether-end (LeadTogether-none r u v hu hv
 pub Together-less : (side : Side) {r : LocalRule} → IsRule r → (u v i n : ℕ) → i ≤ n → Together side r u v n → Together side r u v i
 Together-less Right rule u v i n l h = LeadTogether-begin (LeadTogether-cut rule i (n - i) (omega arith) (BeginTogether-walk h).2).2
 Together-less Left rule u v i n l h = LeadTogether-end (LeadTogether-cut rule (n - i) i (omega arith) (EndTogether-walk h).2).3
+
+-- what holds for less has one rank
+pub IsRank-one : (P : ℕ → Type 0) → ((i n : ℕ) → i ≤ n → P n → P i) → (m n : ℕ) → IsRank P m → IsRank P n → m ≡ n
+IsRank-one P less m n first second =
+    let below : ¬ (m < n) = λ l. first.no_more (less (m + 1) n (omega arith) second.holds) in
+    let above : ¬ (n < m) = λ l. second.no_more (less (n + 1) m (omega arith) first.holds) in
+    omega (arith, below, above)
 
 -- two nodes that begin together for one more lead along edges with one label to two that begin together
 pub BeginTogether-step : {r : LocalRule} {u v n j : ℕ} → IsRule r → 1 + j ≡ n → BeginTogether r u v n

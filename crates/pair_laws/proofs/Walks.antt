@@ -1,5 +1,5 @@
 -- Walks of pairs of nodes: two words with one image lead from the pair that they begin with to the pair that they end with.
-use Rattle.std.proofs.Common.{◌≡◌, ℕ, ◌+◌, ◌-◌, ◌<◌, List, [], ◌∷◌, ◌++◌, length, take, drop, get_or, refl, sym, ap, ◌∙◌, arith, length-drop}
+use Rattle.std.proofs.Common.{◌≡◌, ℕ, ◌+◌, ◌-◌, ◌<◌, List, [], ◌∷◌, ◌++◌, length, take, drop, get_or, refl, sym, ap, subst₂, ◌∙◌, arith, length-drop}
 use Rattle.std.proofs.lemmas.List.{length-take-le, take-append-le, take-take, take_all, drop-take, drop-drop}
 use Rattle.std.proofs.lemmas.List.Elements.{All-take, All-drop}
 use Rattle.word_image.specs.LocalRules.{LocalRule, IsRule, IsWord, value, word_of, node_count}
@@ -40,31 +40,41 @@ LeadTogether-join {r} {i = i} {j = j} {n = n} rule e h g =
       second_last = value-join r.states (r.width - 1) i j n h.y g.y e h.one_image.second g.one_image.second h.one_image.second_long g.one_image.second_long (h.second_last ∙ sym g.second) ∙ g.second_last;
     }
 
--- a walk of i + j steps is one of i and one of j
+-- the node at place i of a word
+abbrev pub place_node : LocalRule → List ℕ → ℕ → ℕ
+place_node r x i = value r.states (take (r.width - 1) (drop i x))
+
+-- two words with one image lead from the nodes at each place to those at each later one
+pub HaveOneImage-between : {r : LocalRule} {x y : List ℕ} → IsRule r → (i l j k n : ℕ) → i + l ≡ j → j + k ≡ n → HaveOneImage r n x y
+    → LeadTogether r (place_node r x i) (place_node r y i) l (place_node r x j) (place_node r y j)
+HaveOneImage-between {r} {x} {y} rule i l j k n e f h =
+    record {
+      x = take (l + (r.width - 1)) (drop i x);
+      y = take (l + (r.width - 1)) (drop i y);
+      one_image = HaveOneImage-take rule l k (l + k) refl (HaveOneImage-drop i (l + k) n (omega arith) h);
+      first = ap (value r.states) (take-take (r.width - 1) (l + (r.width - 1)) (drop i x) (omega arith));
+      second = ap (value r.states) (take-take (r.width - 1) (l + (r.width - 1)) (drop i y) (omega arith));
+      first_last = ap (value r.states) (drop-take l (r.width - 1) (drop i x) ∙ ap (take (r.width - 1)) (drop-drop l i x ∙ ap (λ m. drop m x) e));
+      second_last = ap (value r.states) (drop-take l (r.width - 1) (drop i y) ∙ ap (take (r.width - 1)) (drop-drop l i y ∙ ap (λ m. drop m y) e));
+    }
+
+-- a walk of i + j steps is at the nodes at place i after i of them
+pub LeadTogether-front : {r : LocalRule} {u v s t n : ℕ} → IsRule r → (i j : ℕ) → i + j ≡ n → (h : LeadTogether r u v n s t) → LeadTogether r u v i (place_node r h.x i) (place_node r h.y i)
+LeadTogether-front {r} {n = n} rule i j e h =
+    subst₂ (λ (a b : ℕ). LeadTogether r a b i (place_node r h.x i) (place_node r h.y i)) h.first h.second (HaveOneImage-between rule 0 i i j n (omega arith) e h.one_image)
+
+-- and goes on from them for j
+pub LeadTogether-rest : {r : LocalRule} {u v s t n : ℕ} → IsRule r → (i j : ℕ) → i + j ≡ n → (h : LeadTogether r u v n s t) → LeadTogether r (place_node r h.x i) (place_node r h.y i) j s t
+LeadTogether-rest {r} {n = n} rule i j e h =
+    let last : (z : List ℕ) → length z ≡ n + (r.width - 1) → place_node r z n ≡ value r.states (drop n z) = λ z long.
+    ap (value r.states) (take_all (r.width - 1) (drop n z) (omega (arith, length-drop n z))) in
+    subst₂ (LeadTogether r (place_node r h.x i) (place_node r h.y i) j) (last h.x h.one_image.first_long ∙ h.first_last) (last h.y h.one_image.second_long ∙ h.second_last)
+    (HaveOneImage-between rule i j n 0 n e (omega arith) h.one_image)
+
+-- so it is a walk of i steps and one of j
 pub LeadTogether-cut : {r : LocalRule} {u v s t n : ℕ} → IsRule r → (i j : ℕ) → i + j ≡ n → LeadTogether r u v n s t
     → (p : ℕ) × (q : ℕ) × LeadTogether r u v i p q × LeadTogether r p q j s t
-LeadTogether-cut {r} {n = n} rule i j e h = (
-  value r.states (take (r.width - 1) (drop i h.x)),
-  value r.states (take (r.width - 1) (drop i h.y)),
-  record {
-    x = take (i + (r.width - 1)) h.x;
-    y = take (i + (r.width - 1)) h.y;
-    one_image = HaveOneImage-take rule i j n e h.one_image;
-    first = ap (value r.states) (take-take (r.width - 1) (i + (r.width - 1)) h.x (omega arith)) ∙ h.first;
-    second = ap (value r.states) (take-take (r.width - 1) (i + (r.width - 1)) h.y (omega arith)) ∙ h.second;
-    first_last = ap (value r.states) (drop-take i (r.width - 1) h.x);
-    second_last = ap (value r.states) (drop-take i (r.width - 1) h.y);
-  },
-  record {
-    x = drop i h.x;
-    y = drop i h.y;
-    one_image = HaveOneImage-drop i j n e h.one_image;
-    first = refl;
-    second = refl;
-    first_last = ap (value r.states) (drop-drop j i h.x) ∙ ap (λ l. value r.states (drop l h.x)) e ∙ h.first_last;
-    second_last = ap (value r.states) (drop-drop j i h.y) ∙ ap (λ l. value r.states (drop l h.y)) e ∙ h.second_last;
-  },
-)
+LeadTogether-cut {r} rule i j e h = (place_node r h.x i, place_node r h.y i, LeadTogether-front rule i j e h, LeadTogether-rest rule i j e h)
 
 -- a walk leads from two nodes
 pub LeadTogether-first : {r : LocalRule} {u v s t n : ℕ} → LeadTogether r u v n s t → (u < node_count r) × (v < node_count r)

@@ -1,7 +1,7 @@
 -- Determined windows by pairs of nodes: no two that differ at a letter end together for what is before it and begin together for what is behind.
 use Rattle.std.proofs.Common.{◌≡◌, ◌≢◌, ℕ, ◌+◌, ◌-◌, ◌<◌, ◌≤◌, ◌↔◌, min, List, ◌++◌, length, take, drop, get_or, slice_index, refl, subst₂, sym, ap, ap₂, ◌∙◌, ⊎_elim, arith, length-drop}
 use Rattle.std.proofs.lemmas.Bool.{cases_eq}
-use Rattle.std.proofs.lemmas.List.{length-take-le, get_or-take, get_or-drop, drop-take}
+use Rattle.std.proofs.lemmas.List.{length-take-le, get_or-take, get_or-drop}
 use Rattle.std.proofs.lemmas.List.Elements.{All-take, All-drop}
 use Rattle.word_image.specs.LocalRules.{LocalRule, IsRule, IsWord, value, word_of, node_count}
 use Rattle.word_image.specs.Windows.{HaveOneImage, IsDetermined}
@@ -9,8 +9,9 @@ use Rattle.word_image.specs.Graphs.{first_of, second_of, pair_of, pair_count, no
 use Rattle.word_image.specs.Ranks.{BeginTogether, EndTogether}
 use Rattle.word_image.specs.declared.side.Side.TheVariants.{Right}
 use Rattle.word_image.proofs.laws.Values.{word_of-value}
-use Rattle.pair_laws.proofs.Joins.{drop-join, same_node, HaveOneImage-take, HaveOneImage-drop, HaveOneImage-join}
-use Rattle.pair_laws.proofs.Ranks.{Together-below}
+use Rattle.pair_laws.proofs.Joins.{drop-join, same_node, HaveOneImage-drop, HaveOneImage-join}
+use Rattle.pair_laws.proofs.Walks.{HaveOneImage-between}
+use Rattle.pair_laws.proofs.Ranks.{LeadTogether-end, Together-below}
 use Rattle.pair_laws.proofs.Pairs.{first_of-pair_of, second_of-pair_of, pair_of-below}
 
 -- the letters of the node at place j of a word are the word's letters from there on
@@ -26,14 +27,7 @@ node_letter-at r u j i x h long at l =
 -- two words with one image, cut at i: the nodes there end together for i
 pub HaveOneImage-end : {r : LocalRule} {x y : List ℕ} → IsRule r → (i j n : ℕ) → i + j ≡ n → HaveOneImage r n x y
     → EndTogether r (value r.states (take (r.width - 1) (drop i x))) (value r.states (take (r.width - 1) (drop i y))) i
-HaveOneImage-end {r} {x} {y} rule i j n e h =
-    record {
-      x = take (i + (r.width - 1)) x;
-      y = take (i + (r.width - 1)) y;
-      one_image = HaveOneImage-take rule i j n e h;
-      first = ap (value r.states) (drop-take i (r.width - 1) x);
-      second = ap (value r.states) (drop-take i (r.width - 1) y);
-    }
+HaveOneImage-end rule i j n e h = LeadTogether-end (HaveOneImage-between rule 0 i i j n (omega arith) e h)
 
 -- and begin together for the rest
 pub HaveOneImage-begin : {r : LocalRule} {x y : List ℕ} → (i j n : ℕ) → i + j ≡ n → HaveOneImage r n x y

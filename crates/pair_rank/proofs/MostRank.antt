@@ -11,7 +11,7 @@ use Rattle.word_image.proofs.laws.Searches.{twice_below}
 use Rattle.pair_laws.proofs.Pairs.{pair_of-below}
 use Rattle.word_image.specs.declared.side.Side.{Side}
 use Rattle.word_image.specs.Sides.{Together}
-use Rattle.pair_laws.proofs.Ranks.{Together-below, Together-less}
+use Rattle.pair_laws.proofs.Ranks.{IsRank-one, Together-below, Together-less}
 use Rattle.pair_laws.proofs.Mirrors.{Together-same}
 use Rattle.pair_rank.specs.Sides.{AreRanks, rank_at}
 use Rattle.pair_rank.proofs.Sides.{Together-step}
@@ -31,10 +31,6 @@ lesser_rank side {r} rule (suc n) u v rank i l =
           (on.back (n + 1) more));
     }) i (omega (arith, other)))
     (cases_eq i (suc n))
-
--- two nodes have one rank
-one_rank : (side : Side) {r : LocalRule} → IsRule r → (u v i j : ℕ) → i < j → IsRank (Together side r u v) i → ¬ IsRank (Together side r u v) j
-one_rank side rule u v i j less first second = first.no_more (Together-less side rule u v (i + 1) j (omega arith) second.holds)
 
 -- two nodes of rank i, for i up to n, and after them each node with itself
 record Listed (side : Side) (r : LocalRule) (n i : ℕ) : Type 0 where
@@ -60,7 +56,7 @@ listed-apart : (side : Side) {r : LocalRule} {n i j : ℕ} → IsRule r → i < 
 listed-apart side {r} {n} {i} {j} rule less within l m first second =
     ⊎_elim
     (λ k. ⊎_elim
-    (λ k'. one_rank side rule m.u m.v i j less (subst₂ (λ (x y : ℕ). IsRank (Together side r x y) i) first second k.1) k'.1)
+    (λ k'. omega (arith, less, IsRank-one (Together side r m.u m.v) (Together-less side rule m.u m.v) i j (subst₂ (λ (x y : ℕ). IsRank (Together side r x y) i) first second k.1) k'.1))
     (λ k'.
     let equal : l.v ≡ l.u = second ∙ k'.2 ∙ sym first in
     k.1.no_more (subst (λ y. Together side r l.u y (i + 1)) (sym equal) (Together-same side rule (i + 1) l.u (Together-below side r l.u l.v i k.1.holds).0)))

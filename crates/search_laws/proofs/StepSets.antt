@@ -14,7 +14,7 @@ use Rattle.word_image.proofs.laws.Unions.{IsUnion, IsUnion-skip, IsUnion-take}
 use Rattle.word_image.proofs.laws.LastSets.{IsLastSet-full, IsLastSet-step, IsPreimage-nonempty_set}
 use Rattle.search_laws.specs.Walks.{Walk, Leads}
 use Rattle.search_laws.proofs.Walks.{Leads-induct}
-use Rattle.word_image.proofs.laws.Searches.{some_below}
+use Rattle.word_image.proofs.laws.Searches.{decide_both, exists_below}
 
 -- two sets of n nodes with the same nodes are one
 pub same_set : (n a b : ℕ) → a < 2 ^ n → b < 2 ^ n → ((i : ℕ) → i < n → (IsBitSet a i ↔ IsBitSet b i)) → a ≡ b
@@ -57,37 +57,26 @@ some_set Has decide n =
 
 -- an edge from the set, labelled a, leads from node u to v on letter b
 abbrev pub IsEdgeFrom : LocalRule → ℕ → ℕ → ℕ → ℕ → ℕ → Type 0
-IsEdgeFrom r set a v u b = IsBitSet set u × (label r u b ≡ a) × (next r u b ≡ v)
+IsEdgeFrom r set a v u b = IsBitSet set u × ((label r u b ≡ a) × (next r u b ≡ v))
 
 -- whether there is one
 edge_or_none : (r : LocalRule) (set a v u b : ℕ) → IsEdgeFrom r set a v u b ⊎ ¬ IsEdgeFrom r set a v u b
 edge_or_none r set a v u b =
-    ⊎_elim
-    (λ present. ⊎_elim
-    (λ labelled. ⊎_elim (λ ends. inl ((bit_at-IsBitSet set u).1 present, labelled, ends)) (λ other. inr (λ edge. other edge.2)) (cases_eq (next r u b) v))
-    (λ other. inr (λ edge. other edge.1))
-    (cases_eq (label r u b) a))
-    (λ absent. inr (λ edge. absent ((bit_at-IsBitSet set u).0 edge.0)))
-    (cases_eq (bit_at set u) 1)
-
--- whether the node u has such an edge, on any letter
-node_or_none : (r : LocalRule) (set a v u : ℕ) → ((b : ℕ) × (b < r.states) × IsEdgeFrom r set a v u b) ⊎ ¬ ((b : ℕ) × (b < r.states) × IsEdgeFrom r set a v u b)
-node_or_none r set a v u =
-    ⊎_elim (λ some. inl some) (λ none. inr (λ (b, l, edge). none b l edge)) (some_below (IsEdgeFrom r set a v u) (edge_or_none r set a v u) r.states)
+    let bit = bit_at-IsBitSet set u in
+    decide_both (⊎_elim (λ one. inl (bit.1 one)) (λ other. inr (λ some. other (bit.0 some))) (cases_eq (bit_at set u) 1)) (decide_both (cases_eq (label r u b) a) (cases_eq (next r u b) v))
 
 -- from each set a step on each letter leads to a set
 pub IsStep-some : (r : LocalRule) (set a : ℕ) → (after : ℕ) × IsStep r set a after
 IsStep-some r set a =
-    let Leads_to : ℕ → Type 0 = λ v. (u : ℕ) × (u < node_count r) × ((b : ℕ) × (b < r.states) × IsEdgeFrom r set a v u b) in
-    let decide : (v : ℕ) → Leads_to v ⊎ ¬ Leads_to v = λ v.
-    ⊎_elim (λ some. inl some) (λ none. inr (λ (u, l, edge). none u l edge)) (some_below (λ u. (b : ℕ) × (b < r.states) × IsEdgeFrom r set a v u b) (node_or_none r set a v) (node_count r)) in
-    let made = some_set Leads_to decide (node_count r) in (
+    let HasEdge : ℕ → ℕ → Type 0 = λ v u. (b : ℕ) × (b < r.states) × IsEdgeFrom r set a v u b in
+    let edge : (v u : ℕ) → HasEdge v u ⊎ ¬ HasEdge v u = λ v u. exists_below (IsEdgeFrom r set a v u) (edge_or_none r set a v u) r.states in
+    let made = some_set (λ v. (u : ℕ) × (u < node_count r) × HasEdge v u) (λ v. exists_below (HasEdge v) (edge v) (node_count r)) (node_count r) in (
       made.0,
       record {
         within = made.1;
         nodes = λ v l. (
-          (λ some. let (u, node, (b, letter, (present, labelled, ends))) = (made.2 v l).0 some in (u, b, node, letter, present, labelled, ends)),
-          (λ (u, b, node, letter, present, labelled, ends). (made.2 v l).1 (u, node, (b, letter, (present, labelled, ends)))),
+          (λ some. let (u, node, (b, letter, (present, (labelled, ends)))) = (made.2 v l).0 some in (u, b, node, letter, present, labelled, ends)),
+          (λ (u, b, node, letter, present, labelled, ends). (made.2 v l).1 (u, node, (b, letter, (present, (labelled, ends))))),
         );
       },
     )

@@ -22,19 +22,21 @@ HasTwins r = (x : List ℕ) × (y : List ℕ) × IsTwins r x y
 IsRing-cells : {k : ℕ} {t : TailConfig} → IsTail k t → (i : ℤ) (n : ℕ) → 1 ≤ n → IsRing k (cells t i n)
 IsRing-cells {k} {t} h i n some = record { word = IsWord-cells h i n; some = omega (arith, length-cells t i n) }
 
--- two runs of one length are twins if the configurations that repeat them are different and share an image
+-- two runs of one length are twins if the configurations that repeat them are different, and their image cells are equal on a turn
 twins_of_runs : {r : LocalRule} {x y : TailConfig} → IsTail r.states x → IsTail r.states y → (i : ℤ) (n : ℕ) → 1 ≤ n
-    → Different (round (cells x i n)) (round (cells y i n)) → ShareImage r (round (cells x i n)) (round (cells y i n)) → HasTwins r
-twins_of_runs {r} {x} {y} hx hy i n some d share =
-    let long : length (cells x i n) ≡ length (cells y i n) = length-cells x i n ∙ sym (length-cells y i n) in (
+    → Different (round (cells x i n)) (round (cells y i n)) → (start : ℤ)
+    → ((d : ℕ) → d < n → image_cell r (round (cells x i n)) (start +ℤ pos d) ≡ image_cell r (round (cells y i n)) (start +ℤ pos d)) → HasTwins r
+twins_of_runs {r} {x} {y} hx hy i n some differ start turn =
+    let first : length (cells x i n) ≡ n = length-cells x i n in
+    let long : length (cells x i n) ≡ length (cells y i n) = first ∙ sym (length-cells y i n) in (
       cells x i n,
       cells y i n,
       record {
         first = IsRing-cells hx i n some;
         second = IsRing-cells hy i n some;
         one_length = long;
-        different = λ e. d.1 (ap (λ w. cell (round w) d.0) e);
-        one_image = ring_image-shared r (cells x i n) (cells y i n) long share;
+        different = λ e. differ.1 (ap (λ w. cell (round w) differ.0) e);
+        one_image = ring_image-shared r (cells x i n) (cells y i n) long (ShareImage-turn r (cells x i n) (cells y i n) (omega arith) long start (λ d l. turn d (omega arith)));
       },
     )
 
@@ -86,8 +88,8 @@ twins_right {r} {x} {y} hx hy share apart =
           let place : i +ℤ (j -ℤ i) ≡ j = omega (arith, ints) in
           sym (at_x (j -ℤ i) (omega (arith, ints)) ∙ ap (cell x) place) ∙ same (j -ℤ i) ∙ at_y (j -ℤ i) (omega (arith, ints)) ∙ ap (cell y) place,
     )))
-    (ShareImage-turn r (cells x i n) (cells y i n) (omega (arith, length-cells x i n)) (length-cells x i n ∙ sym (length-cells y i n)) (neg_ℤ r.offset) (λ d l.
-    window x at_x (neg_ℤ r.offset +ℤ pos d) (omega (arith, ints)) ∙ share (i +ℤ (neg_ℤ r.offset +ℤ pos d)) ∙ sym (window y at_y (neg_ℤ r.offset +ℤ pos d) (omega (arith, ints)))))
+    (neg_ℤ r.offset)
+    (λ d l. window x at_x (neg_ℤ r.offset +ℤ pos d) (omega (arith, ints)) ∙ share (i +ℤ (neg_ℤ r.offset +ℤ pos d)) ∙ sym (window y at_y (neg_ℤ r.offset +ℤ pos d) (omega (arith, ints))))
 
 -- twins of two configurations that share an image and don't agree on the left
 twins_left : {r : LocalRule} {x y : TailConfig} → IsTail r.states x → IsTail r.states y → ShareImage r x y → ¬ AgreeLeft x y → HasTwins r
@@ -102,9 +104,7 @@ twins_left {r} {x} {y} hx hy share apart =
     λ t at d l. image_cell-window r (round (cells t i n)) t (start +ℤ pos d) (start +ℤ pos d) (λ a h. at (start +ℤ pos d +ℤ r.offset +ℤ pos a) (omega (arith, ints))) in
     twins_of_runs hx hy i n some
     (Different-runs hx hy i n some (λ same. apart (pos 0, λ j l. sym (at_x j l) ∙ same j ∙ at_y j l)))
-    (ShareImage-turn r (cells x i n) (cells y i n) (omega (arith, length-cells x i n)) (length-cells x i n ∙ sym (length-cells y i n)) start (λ d l.
-    let within : d < n = omega (arith, length-cells x i n) in
-    window x at_x d within ∙ share (start +ℤ pos d) ∙ sym (window y at_y d within)))
+    start (λ d l. window x at_x d l ∙ share (start +ℤ pos d) ∙ sym (window y at_y d l))
 
 -- two runs of n places from i on are equal on the first d and on the last d of them
 record HaveEqualEnds (x y : TailConfig) (i : ℤ) (n d : ℕ) : Type 0 where
@@ -129,25 +129,24 @@ seam_cells x y i n d ends a low high =
     (λ l. cell-seam x i n a l (omega arith) ∙ ends.first (a - n) (omega arith) ∙ sym (cell-seam y i n a l (omega arith)))
     (cases_lt a n)
 
--- so they share an image if the configurations do
-ShareImage-ends : {r : LocalRule} → IsRule r → (x y : TailConfig) (i : ℤ) (n : ℕ) → HaveEqualEnds x y i n (r.width - 1) → ShareImage r x y → ShareImage r (round (cells x i n)) (round (cells y i n))
-ShareImage-ends {r} rule x y i n ends share =
+-- so their image cells are equal on a turn if the configurations share an image
+turn-ends : {r : LocalRule} → IsRule r → (x y : TailConfig) (i : ℤ) (n : ℕ) → HaveEqualEnds x y i n (r.width - 1) → ShareImage r x y
+    → (k : ℕ) → k < n → image_cell r (round (cells x i n)) (neg_ℤ r.offset +ℤ pos k) ≡ image_cell r (round (cells y i n)) (neg_ℤ r.offset +ℤ pos k)
+turn-ends {r} rule x y i n ends share k within =
     let d : ℕ = r.width - 1 in
     let wide : 2 ≤ r.width = rule.shape.least_width in
     let some : 1 ≤ n = ends.some in
     let start : ℤ = neg_ℤ r.offset in
-    let inside : (t : TailConfig) (k : ℕ) → k + d < n → image_cell r (round (cells t i n)) (start +ℤ pos k) ≡ image_cell r t (i +ℤ (start +ℤ pos k)) = λ t k l.
+    let inside : (t : TailConfig) → k + d < n → image_cell r (round (cells t i n)) (start +ℤ pos k) ≡ image_cell r t (i +ℤ (start +ℤ pos k)) = λ t l.
     image_cell-window r (round (cells t i n)) t (start +ℤ pos k) (i +ℤ (start +ℤ pos k)) (λ a h.
     let new : start +ℤ pos k +ℤ r.offset +ℤ pos a ≡ pos (k + a) = omega (arith, ints) in
     let old : i +ℤ pos (k + a) ≡ i +ℤ (start +ℤ pos k) +ℤ r.offset +ℤ pos a = omega (arith, ints) in
     ap (cell (round (cells t i n))) new ∙ cell-run t i n (k + a) (omega arith) ∙ ap (cell t) old) in
-    ShareImage-turn r (cells x i n) (cells y i n) (omega (arith, length-cells x i n)) (length-cells x i n ∙ sym (length-cells y i n)) start (λ k l.
-    ⊎_elim (λ h. inside x k h ∙ share (i +ℤ (start +ℤ pos k)) ∙ sym (inside y k h))
+    ⊎_elim (λ h. inside x h ∙ share (i +ℤ (start +ℤ pos k)) ∙ sym (inside y h))
     (λ h. image_cell-window r (round (cells x i n)) (round (cells y i n)) (start +ℤ pos k) (start +ℤ pos k) (λ a b.
     let new : start +ℤ pos k +ℤ r.offset +ℤ pos a ≡ pos (k + a) = omega (arith, ints) in
-    let within : k < n = omega (arith, length-cells x i n) in
     ap (cell (round (cells x i n))) new ∙ seam_cells x y i n d ends (k + a) (omega arith) (omega arith) ∙ sym (ap (cell (round (cells y i n))) new)))
-    (cases_lt (k + d) n))
+    (cases_lt (k + d) n)
 
 -- twins of two configurations that share an image and agree on both sides
 twins_inside : {r : LocalRule} {x y : TailConfig} → IsRule r → IsTail r.states x → IsTail r.states y → ShareImage r x y → Different x y → AgreeLeft x y → AgreeRight x y → HasTwins r
@@ -171,7 +170,7 @@ twins_inside {r} {x} {y} rule hx hy share apart agree_left agree_right =
     (by_lt_z e (pos 0) (λ l. absurd (apart.1 (agree_left_of_0 hx hy agree_left e l)))
     (λ low. by_lt_z e (pos (most_middle x y)) (λ high. (e +ℤ pos d, λ same. apart.1 (sym (at x low high) ∙ same ∙ at y low high)))
     (λ l. absurd (apart.1 (agree_right_of_middle hx hy agree_right e l)))))
-    (ShareImage-ends rule x y i n ends share)
+    (neg_ℤ r.offset) (turn-ends rule x y i n ends share)
 
 -- a rule that isn't injective has twins
 pub has_twins : {r : LocalRule} {x y : TailConfig} → IsRule r → IsTail r.states x → IsTail r.states y → ShareImage r x y → Different x y → HasTwins r

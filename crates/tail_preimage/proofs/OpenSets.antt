@@ -1,13 +1,12 @@
 -- The sets of nodes from which the rest of a word leads into a goal, from the end of the word on, and the first walk through them.
-use Rattle.std.proofs.Common.{◌≡◌, ◌≢◌, ℕ, suc, ◌+◌, ◌-◌, ◌*◌, ◌%◌, ◌^◌, ◌<◌, List, [], ◌∷◌, ◌++◌, length, drop, slice_index, IsBitSet, bit_and, pow-suc, refl, sym, ◌∙◌, ap, ap₂, subst, arith, ⊎_elim}
-use Rattle.std.proofs.Math.Arith.{mod-mul}
-use Rattle.std.proofs.Math.Nat.{one-le-pow}
+use Rattle.std.proofs.Common.{◌≡◌, ◌≢◌, ℕ, ◌+◌, ◌-◌, ◌%◌, ◌^◌, ◌<◌, List, [], ◌∷◌, ◌++◌, length, drop, slice_index, IsBitSet, bit_and, refl, sym, ◌∙◌, ap, subst, arith, ⊎_elim}
 use Rattle.std.proofs.lemmas.Bool.{cases_lt}
-use Rattle.std.proofs.lemmas.Nat.{mod-mul-add, div-mul-add}
+use Rattle.std.proofs.lemmas.Nat.{mod-mul-add}
 use Rattle.std.proofs.lemmas.List.{get_or_append_left, get_or_push, length_push, drop_all}
 use Rattle.word_image.specs.LocalRules.{LocalRule, IsRule, node_count}
 use Rattle.word_image.specs.Graphs.{next}
 use Rattle.word_image.proofs.laws.Graphs.{next-below}
+use Rattle.pair_laws.proofs.Edges.{next-digits}
 use Rattle.pair_laws.proofs.Sets.{IsBitSet-below, IsBitSet-and, IsBitSet-apart}
 use Rattle.word_image.specs.Edges.{IsEnds}
 use Rattle.word_image.specs.declared.side.Side.TheVariants.{Right}
@@ -70,16 +69,6 @@ some_edge_on {r} {w} {sets} {goal} {n} {v} {ends} rule h inside node reach e non
     let (s, below, edge, on) = (Reaches-cons rule (slice_index w n) (drop (n + 1) w) goal v node).0 (subst (λ z. Reaches r z goal v) split reach) in
     IsBitSet-apart ends (slice_index sets (length w - 1 - n)) s none ((e.nodes s below).1 edge) (((open-after h inside).nodes s below).1 on)
 
--- an edge leads to a node whose last letter is its own
-next-letter : {r : LocalRule} → IsRule r → (u b : ℕ) → b < r.states → next r u b ≡ u % r.states ^ (r.width - 2) * r.states + b
-next-letter {r} rule u b l =
-    let k : ℕ = r.states in
-    let width : r.width - 1 ≡ suc (r.width - 2) = omega (arith, rule.shape.least_width) in
-    let some : 0 < k = omega arith in
-    let count : node_count r ≡ k ^ (r.width - 2) * k = ap (λ n. k ^ n) width ∙ pow-suc k (r.width - 2) in
-    ap (λ n. (u * k + b) % n) count ∙ mod-mul (u * k + b) (one-le-pow (r.width - 2) k some) some
-    ∙ ap₂ (λ (i j : ℕ). i % k ^ (r.width - 2) * k + j) (div-mul-add u k b l) (mod-mul-add u k b l)
-
 -- the first walk goes on to the least node of the next set to which an edge with the next label leads, by its last letter
 pub IsLeastBegun-node : {r : LocalRule} {w sets x : List ℕ} {goal u n v ends node : ℕ} → IsRule r → AreOpen r w goal (length w) sets → n < length w → IsLeastBegun r w u goal n v x
     → IsEnds Right r v (slice_index w n) ends → IsLeastNode (bit_and ends (slice_index sets (length w - 1 - n))) node → IsLeastBegun r w u goal (n + 1) node (x ++ node % r.states ∷ [])
@@ -89,11 +78,11 @@ IsLeastBegun-node {r} {w} {sets} {x} {goal} {u} {n} {v} {ends} {node} rule h ins
     let (first, second) = (IsBitSet-and ends set node).0 least.within in
     let below : node < node_count r = IsBitSet-below (node_count r) ends node e.within first in
     let (b, letter, spells, leads) = (e.nodes node below).0 first in
-    let split = next-letter rule v b letter in
+    let split = next-digits rule v b letter in
     let last : node % r.states ≡ b = ap (λ m. m % r.states) (sym leads ∙ split) ∙ mod-mul-add (v % r.states ^ (r.width - 2)) r.states b letter in
     subst (λ m. IsLeastBegun r w u goal (n + 1) node (x ++ m ∷ [])) (sym last)
     (subst (λ m. IsLeastBegun r w u goal (n + 1) m (x ++ b ∷ [])) leads
     (IsLeastBegun-push rule begun inside b letter spells (subst (Reaches r (drop (n + 1) w) goal) (sym leads) ((after.nodes node below).0 second)) (λ c less label reach.
     let there : next r v c < node_count r = next-below rule v c in
-    let lesser : next r v c < node = omega (arith, next-letter rule v c (omega (arith, less, letter)), split, leads, less) in
+    let lesser : next r v c < node = omega (arith, next-digits rule v c (omega (arith, less, letter)), split, leads, less) in
     least.least (next r v c) lesser ((IsBitSet-and ends set (next r v c)).1 (((e.nodes (next r v c) there).1 (c, omega (arith, less, letter), label, refl)), (after.nodes (next r v c) there).1 reach)))))

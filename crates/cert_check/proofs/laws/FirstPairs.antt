@@ -7,6 +7,7 @@ use Rattle.word_image.specs.FirstPairs.{IsFirstOfRight, IsFirstOfLeft, IsFirstOf
 use Rattle.word_image.proofs.laws.Values.{value-word_of}
 use Rattle.word_image.proofs.laws.Graphs.{next-below}
 use Rattle.word_image.proofs.laws.WindowParts.{rest_count, power-below, node_count-rest, window_parts, node_parts}
+use Rattle.pair_laws.proofs.Edges.{next-digits}
 use Rattle.pair_laws.proofs.Pairs.{first_of-pair_of, second_of-pair_of, pair_of-first_of, first_of-below, second_of-below}
 use Rattle.word_image.specs.declared.side.Side.{Side}
 use Rattle.word_image.specs.declared.side.Side.TheVariants.{Right, Left}
@@ -26,13 +27,13 @@ DifferAtEnd side r u v = (u ≢ v) × (rest_of side r u ≡ rest_of side r v) ×
 next_parts : {r : LocalRule} → IsRule r → (w a : ℕ) → a < r.states
     → (next r w a % r.states ≡ a) × (next r w a / r.states ≡ w % rest_count r) × (w / rest_count r * node_count r + next r w a ≡ w * r.states + a)
 next_parts {r} rule w a letter =
-    let k : ℕ = r.states in
-    let some = power-below rule (r.width - 2) (omega arith) in
-    let s : ℕ = w % rest_count r in
-    let inside : s * k + a < node_count r = subst (λ n. s * k + a < n) (mul_comm k (rest_count r) ∙ sym (node_count-rest rule)) (mul-add-lt s k a (rest_count r) (mod-lt w some.0) letter) in
-    let window : w / rest_count r * node_count r + (s * k + a) ≡ w * k + a = window_parts rule (w / rest_count r) s a ∙ ap (λ z. z * k + a) (div-add-mod' w (rest_count r)) in
-    let node : next r w a ≡ s * k + a = ap (λ z. z % node_count r) (sym window) ∙ mod-mul-add (w / rest_count r) (node_count r) (s * k + a) inside in
-    (ap (λ z. z % k) node ∙ mod-mul-add s k a letter, ap (λ z. z / k) node ∙ div-mul-add s k a letter, ap (λ z. w / rest_count r * node_count r + z) node ∙ window)
+    let rest : ℕ = w % rest_count r in
+    let node = next-digits rule w a letter in
+    let window = window_parts rule (w / rest_count r) rest a ∙ ap (λ z. z * r.states + a) (div-add-mod' w (rest_count r)) in (
+      ap (λ z. z % r.states) node ∙ mod-mul-add rest r.states a letter,
+      ap (λ z. z / r.states) node ∙ div-mul-add rest r.states a letter,
+      ap (λ z. w / rest_count r * node_count r + z) node ∙ window,
+    )
 
 -- the nodes of a first pair of the right differ in their last letter alone
 DifferAtEnd-right : {r : LocalRule} {p : ℕ} → IsRule r → IsFirstOfRight r p → DifferAtEnd Right r (first_of r p) (second_of r p)

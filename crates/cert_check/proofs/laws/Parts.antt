@@ -1,10 +1,11 @@
 -- A set of nodes contains a listed set exactly where it is listed, or contains one without one of its nodes.
-use Rattle.std.proofs.Common.{◌≡◌, ◌≢◌, ℕ, zero, suc, ◌+◌, ◌*◌, ◌%◌, ◌^◌, ◌<◌, ◌≤◌, ◌↔◌, ◌⊎◌, inl, inr, List, Contains, bit_and, w16, sym, ap, subst, ◌∙◌, ⊎_elim, arith}
+use Rattle.std.proofs.Common.{◌≡◌, ℕ, ◌+◌, ◌*◌, ◌%◌, ◌^◌, ◌<◌, ◌≤◌, ◌↔◌, ◌⊎◌, inl, inr, List, Contains, bit_and, w16, sym, ap, subst, ◌∙◌, ⊎_elim, arith}
 use Rattle.std.specs.Int.{bit_at, bit_not}
 use Rattle.std.specs.Int.Bits.{and_self}
 use Rattle.std.proofs.lemmas.Bool.{cases_eq}
 use Rattle.std.proofs.lemmas.Nat.{and_le_l, and_le_r, and_assoc}
 use Rattle.std.proofs.lemmas.Nat.Bits.{bit_at_and, bit_at-lt, bit_at_clear_same, bit_at_clear_other, same_from_bits, same_from_bits_below}
+use Rattle.pair_laws.proofs.Decisions.{differ_below}
 use Rattle.cert_check.specs.Sets.{HasPart}
 use Rattle.cert_check.specs.Rows.{IsMarked, AreMarked, without}
 
@@ -25,18 +26,6 @@ part-bit t s i part = let e : bit_at (bit_and t s) i ≡ bit_at t i = ap (λ n. 
 -- and what has no other is a part
 bits-part : (t s : ℕ) → t < 2 ^ 16 → ((i : ℕ) → i < 16 → bit_at t i ≤ bit_at s i) → bit_and t s ≡ t
 bits-part t s small bits = same_from_bits_below 16 (bit_and t s) t (omega (arith, and_le_l t s)) small (λ i l. omega (arith, bit_at_and t s i, bits i l))
-
--- two numbers have the same n bits, or one differs
-same_bits : (t s n : ℕ) → ((i : ℕ) → i < n → bit_at t i ≡ bit_at s i) ⊎ ((i : ℕ) × (i < n) × (bit_at t i ≢ bit_at s i))
-same_bits t s zero = inl (λ i l. absurd (omega arith))
-same_bits t s (suc n) =
-    ⊎_elim
-    (λ all. ⊎_elim
-    (λ same. inl (λ i l. ⊎_elim (λ here. subst (λ j. bit_at t j ≡ bit_at s j) (sym here) same) (λ other. all i (omega arith)) (cases_eq i n)))
-    (λ differ. inr (n, omega arith, differ))
-    (cases_eq (bit_at t n) (bit_at s n)))
-    (λ (i, l, differ). inr (i, omega arith, differ))
-    (same_bits t s n)
 
 -- a set without a node that it has is less
 without-less : (s n : ℕ) → n < 16 → bit_at s n ≡ 1 → without s n < s
@@ -70,7 +59,7 @@ HasPart-split sets s small (t, listed, part) =
             (cases_eq i n)),
       ),
     ))
-    (same_bits t s 16)
+    (differ_below (bit_at t) (bit_at s) 16)
 
 -- a listed set contains a listed one
 HasPart-listed : (sets : List ℕ) (s : ℕ) → Contains sets s → HasPart sets s

@@ -1,11 +1,11 @@
 use Rattle.std.proofs.Common.{◌≡◌, ◌≢◌, ℕ, ◌*◌, ◌<◌, ◌↔◌, inl, List, [], ◌∷◌, ◌++◌, replicate, get_or, Some, refl, sym, ap, ◌∙◌, subst, arith, ⊎_elim}
 use Rattle.std.specs.List.{slice_get}
 use Rattle.std.proofs.lemmas.Option.{slice_get_within, slice_get-get_or, get_or_from_slice_get}
-use Rattle.word_image.specs.Graphs.{pair_count}
-use Rattle.least_walk.specs.Marks.{HasPair, IsAdded}
+use Rattle.word_image.specs.Graphs.{pair_count, second_of}
+use Rattle.pair_laws.proofs.Rows.{HasBit-none}
+use Rattle.least_walk.specs.Marks.{HasPair, IsAdded, row_of, pair_part}
 use Rattle.least_walk.specs.declared.queue.Reached.{Reached}
 use Rattle.least_walk.specs.Queues.{IsWalkSearch, step_count}
-use Rattle.least_walk.proofs.MarkedRows.{HasPair-none}
 use Rattle.least_walk.proofs.Walking.{IsWalkSearch-start, length-walking-le, deeper, goal-tells}
 use Rattle.least_walk.proofs.queue.search.Goals as goal
 use Rattle.least_walk.proofs.queue.search.Goals.{then-eq, else-eq}
@@ -19,15 +19,16 @@ loop-head-init c =
     → IsWalkSearch r c.args.ends c.put.new.list.items rows (0 * step_count r) = λ rows exact.
     subst (λ q. IsWalkSearch r c.args.ends q rows (0 * step_count r)) (sym alone) (IsWalkSearch-start c.parts_of.ensures.rule c.requires.start x refl refl rows exact) in
     let added : IsAdded r (replicate 32 0) c.args.ends.start c.add.new.rows = subst (λ t. IsAdded r (replicate 32 0) t c.add.new.rows) c.parts_of.ensures.pair (c.add.ensures r c.parts_of.ensures.rule c.parts_of.ensures.marked) in
+    let none : (t : ℕ) → ¬ HasPair r (replicate 32 0) t = λ t. HasBit-none 32 (row_of r t) (second_of r (pair_part r t)) in
     let told = goal-tells c.args.ends.goal c.args.ends.start c.eq.result c.eq.ensures in
     record {
       room = omega (arith, c.requires.room, c.clear.ensures.capacity, c.put.ensures.room);
       search = elim c.if-eq.branch [
         | then-eq w ↦ subst (λ rows. IsWalkSearch r c.args.ends c.put.new.list.items rows (0 * step_count r)) (sym w.rows-is)
-            (first (replicate 32 0) (λ t inside. ((λ some. absurd (HasPair-none r t some)), (λ both. absurd (both.1 (told.0 w.if-eq.true))))))
+            (first (replicate 32 0) (λ t inside. ((λ some. absurd (none t some)), (λ both. absurd (both.1 (told.0 w.if-eq.true))))))
         | else-eq w ↦ subst (λ rows. IsWalkSearch r c.args.ends c.put.new.list.items rows (0 * step_count r)) (sym w.rows-is)
             (first c.add.new.rows (λ t inside. (
-              (λ some. ⊎_elim (λ same. (same, told.1 w.if-eq.false)) (λ old. absurd (HasPair-none r t old)) ((added t inside).0 some)),
+              (λ some. ⊎_elim (λ same. (same, told.1 w.if-eq.false)) (λ old. absurd (none t old)) ((added t inside).0 some)),
               (λ both. (added t inside).1 (inl both.0)),
             )))
       ];

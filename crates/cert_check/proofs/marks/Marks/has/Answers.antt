@@ -1,11 +1,10 @@
 use Rattle.std.proofs.Common.{◌/◌, ◌%◌, ◌^◌, ◌↔◌, slice_index, bit_and, IsTrue, subst}
 use Rattle.std.specs.Prelude.{◌==◌}
-use Rattle.cert_check.specs.Rows.{HasBit}
-use Rattle.cert_check.proofs.laws.Rows.{HasBit-test}
+use Rattle.pair_laws.proofs.Rows.{HasBit, IsBitSet-test}
 use Rattle.cert_check.proofs.marks.Marks.has.Goals as goal
 
 pub returns : goal.returns
 returns c =
     let rows = c.args.self.now.rows in
     let bit = c.args.set % 16 in
-    subst (λ i. IsTrue (bit_and (slice_index rows c.from.result / 2 ^ bit) 1 == 1) ↔ HasBit rows i bit) c.from.ensures (HasBit-test rows c.from.result bit)
+    subst (λ i. IsTrue (bit_and (slice_index rows c.from.result / 2 ^ bit) 1 == 1) ↔ HasBit rows i bit) c.from.ensures (IsBitSet-test (slice_index rows c.from.result) bit)
