@@ -41,11 +41,8 @@ slice_cmp-uncode (c ∷ x) (d ∷ y) = ap₂ ordering_then (pair_cmp-uncode c d)
 
 -- comparisons that follow one another, from the last one or from the first
 then_nested : (a b c d : Ordering) → ordering_then a (ordering_then b (ordering_then c d)) ≡ ordering_then (ordering_then (ordering_then a b) c) d
-then_nested Less b c d = refl
-then_nested Equal Less c d = refl
 then_nested Equal Equal c d = refl
-then_nested Equal Greater c d = refl
-then_nested Greater b c d = refl
+then_nested _ _ c d = refl
 
 -- the order of splits by the numbers of their letter pairs
 pub splits_cmp-numbers : (x y : Walks)

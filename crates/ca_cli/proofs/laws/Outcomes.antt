@@ -35,21 +35,16 @@ pub outcome : {Output Cause : List ℕ → Type 0} {Fault : ℕ → TextFault �
 outcome input c (Ok out) right fault unfit says = right out says
 outcome input c (Err (stop.RuleFault operand f)) right fault unfit refuses = fault operand f refuses
 outcome input c (Err (stop.NotFit out)) right fault unfit (cause, unfits, is) = subst (IsRight input c status.NotFit) (sym is) (Unfit c cause (unfit cause unfits))
-outcome input c (Err stop.TooLong) right fault unfit none = absurd none
-outcome input c (Err stop.ReadFault) right fault unfit none = absurd none
-outcome input c (Err (stop.Refused f)) right fault unfit none = absurd none
 outcome input c (Err (stop.Memory _)) right fault unfit none = tt
+outcome input c (Err _) right fault unfit none = absurd none
 
 -- what comes to one thing comes to all that follows
 pub comes_weaker : {Output Output' Cause Cause' : List ℕ → Type 0} (result : Result (List ℕ) Stop) → ((out : List ℕ) → Output out → Output' out)
     → ((cause : List ℕ) → Cause cause → Cause' cause) → Comes Output Cause result → Comes Output' Cause' result
 comes_weaker (Ok out) output cause says = output out says
 comes_weaker (Err (stop.NotFit out)) output cause (text, unfits, is) = (text, cause text unfits, is)
-comes_weaker (Err (stop.RuleFault operand f)) output cause none = absurd none
-comes_weaker (Err stop.TooLong) output cause none = absurd none
-comes_weaker (Err stop.ReadFault) output cause none = absurd none
-comes_weaker (Err (stop.Refused f)) output cause none = absurd none
 comes_weaker (Err (stop.Memory _)) output cause none = tt
+comes_weaker (Err _) output cause none = absurd none
 
 -- what stops for its weights stops a command that has this cause
 pub stopped : (Output Cause : List ℕ → Type 0) {Other : Type 0} (s : Stop) (result : Result (List ℕ) Stop) → (Other → Cause (codes "weights"))

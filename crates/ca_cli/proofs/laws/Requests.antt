@@ -9,13 +9,8 @@ use Rattle.ca_cli.specs.Requests.{Means}
 -- a list of five is its first five
 pub five_items : {A : Type 0} (xs : List A) {a b c d e : A} → 5 ≤ length xs → length xs < 6
     → a ≡ get_or xs 0 a → b ≡ get_or xs 1 b → c ≡ get_or xs 2 c → d ≡ get_or xs 3 d → e ≡ get_or xs 4 e → xs ≡ a ∷ b ∷ c ∷ d ∷ e ∷ []
-five_items [] least most a b c d e = absurd (omega (arith, least))
-five_items (p ∷ []) least most a b c d e = absurd (omega (arith, least))
-five_items (p ∷ q ∷ []) least most a b c d e = absurd (omega (arith, least))
-five_items (p ∷ q ∷ r ∷ []) least most a b c d e = absurd (omega (arith, least))
-five_items (p ∷ q ∷ r ∷ s ∷ []) least most a b c d e = absurd (omega (arith, least))
 five_items (p ∷ q ∷ r ∷ s ∷ t ∷ []) least most a b c d e = rw (a, b, c, d, e) refl
-five_items (p ∷ q ∷ r ∷ s ∷ t ∷ u ∷ more) least most a b c d e = absurd (omega (arith, most))
+five_items _ least most a b c d e = absurd (omega (arith, least, most))
 
 -- a request that isn't for `check` means a command that reads nothing
 pub Means-reads_nothing : (asked : Unread) {c : Command} → Means asked c → ReadsNothing c

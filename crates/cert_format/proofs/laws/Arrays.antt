@@ -5,7 +5,7 @@ use Rattle.std.proofs.lemmas.Option.{none-some, same_Some}
 use Rattle.std.proofs.Math.Seq.{take-suc}
 use Rattle.std.proofs.lemmas.List.{map-append}
 use Rattle.std.proofs.lemmas.Slice.Zip.{all_zipped_more}
-use Rattle.serde_json.specs.Data.{Data, null, boolean, number, string, array, object, Items, no_items, item}
+use Rattle.serde_json.specs.Data.{Data, array, Items, no_items, item}
 use Rattle.serde_json.specs.Find.{as_array}
 use Rattle.serde_json.specs.Events.{items_len}
 use Rattle.serde_json.specs.View.{view, items_view}
@@ -15,12 +15,8 @@ use Rattle.cert_format.specs.CertificateTexts.{IsArrayOf, list_of}
 
 -- a value with items is their array
 array_from-as_array : (d : Data) (ds : Items) → Some ds ≡ as_array d → d ≡ array ds
-array_from-as_array null ds is = absurd (none-some ds (sym is))
-array_from-as_array (boolean b) ds is = absurd (none-some ds (sym is))
-array_from-as_array (number n) ds is = absurd (none-some ds (sym is))
-array_from-as_array (string s) ds is = absurd (none-some ds (sym is))
 array_from-as_array (array es) ds is = ap array (sym (same_Some _ _ is))
-array_from-as_array (object ms) ds is = absurd (none-some ds (sym is))
+array_from-as_array _ ds is = absurd (none-some ds (sym is))
 
 -- the items of a vector in order
 list_of-items_view : (vs : List Value) → list_of (items_view vs) ≡ map view vs
@@ -76,7 +72,5 @@ IsArrayOf-items R d a b x y is all =
 
 -- the two items of a vector
 pub array-pair : (d : Data) (vs : List Value) (x y : Value) → Some (items_view vs) ≡ as_array d → length vs ≡ 2 → x ≡ get_or vs 0 x → y ≡ get_or vs 1 y → d ≡ array (item (view x) (item (view y) no_items))
-array-pair d [] x y is two first second = absurd (omega (arith, two))
-array-pair d (v ∷ []) x y is two first second = absurd (omega (arith, two))
 array-pair d (v ∷ w ∷ []) x y is two first second = let whole = array_from-as_array d (items_view (v ∷ w ∷ [])) is in cc
-array-pair d (v ∷ w ∷ u ∷ vs) x y is two first second = absurd (omega (arith, two))
+array-pair d _ x y is two first second = absurd (omega (arith, two))

@@ -9,7 +9,7 @@ use Rattle.std.proofs.lemmas.Slice.Eq.{bytes_eq-Decides}
 use Rattle.std.proofs.lemmas.Option.{none-some, same_Some}
 use Rattle.std.proofs.lemmas.List.Elements.{All-contains, All-map}
 use Rattle.word_image.proofs.laws.Comparisons.{slice_cmp-same}
-use Rattle.serde_json.specs.Data.{Data, null, boolean, number, string, array, object}
+use Rattle.serde_json.specs.Data.{Data, object}
 use Rattle.serde_json.specs.Find.{get_member, as_object}
 use Rattle.serde_json.specs.Events.{members_len}
 use Rattle.serde_json.specs.View.{view, members_view}
@@ -111,9 +111,5 @@ list_any-keys keys name r is = ((λ found. Contains-list_any keys name (sym is �
 
 -- the members of an object are its entries
 pub members_in-entries : (d : Data) (es : List Entry) → Some (members_view es) ≡ as_object d → members_in d ≡ members_view es
-members_in-entries null es is = absurd (none-some (members_view es) (sym is))
-members_in-entries (boolean b) es is = absurd (none-some (members_view es) (sym is))
-members_in-entries (number n) es is = absurd (none-some (members_view es) (sym is))
-members_in-entries (string s) es is = absurd (none-some (members_view es) (sym is))
-members_in-entries (array ds) es is = absurd (none-some (members_view es) (sym is))
 members_in-entries (object ms) es is = sym (same_Some _ _ is)
+members_in-entries _ es is = absurd (none-some (members_view es) (sym is))

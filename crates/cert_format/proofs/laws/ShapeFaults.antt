@@ -27,9 +27,6 @@ use Rattle.cert_format.proofs.laws.Uniqueness.{one_some, number_of-injective, Is
 
 -- the steps after the rule pass where the members say each part
 passes_all : {ms : Members} {c : Certificate} → AreParts ms c → (k : Key) → Passes c.version c.rule ms k
-passes_all h key.Top = tt
-passes_all h key.Version = tt
-passes_all h key.Rule = tt
 passes_all {c = c} h key.Surjective = (c.surjective, h.surjective)
 passes_all {c = c} h key.Injective = (c.injective, h.injective)
 passes_all {c = c} h key.Right = (c.right, h.right)
@@ -38,6 +35,7 @@ passes_all {c = c} h key.Conserving = (c.conserving, h.conserving)
 passes_all {c = c} h key.Weights = (c.weights, h.weights)
 passes_all {c = c} h key.Ranks = (c.forward, c.backward, h.ranks)
 passes_all h key.Unknown = h.no_other
+passes_all h _ = tt
 
 -- what comes before the parts is one: the version, and the rule's text
 

@@ -4,7 +4,7 @@ use Rattle.std.specs.Prelude.{codes, alloc_error, IsUtf8, IfOk, IfErr}
 use Rattle.std.specs.List.{AllByRecursion}
 use Rattle.std.proofs.lemmas.List.Elements.{All-from_recursion}
 use Rattle.std.proofs.lemmas.Option.{none-some}
-use Rattle.serde_json.specs.Data.{Data, null, boolean, number, string, array, object, Members}
+use Rattle.serde_json.specs.Data.{Data, object, Members}
 use Rattle.serde_json.specs.Read.{read}
 use Rattle.serde_json.specs.Find.{get_member, as_object}
 use Rattle.word_image.specs.LocalRules.{LocalRule}
@@ -73,12 +73,8 @@ IsCertFault-parts bytes ms v r (Err f) json version head (inr (k, is, first)) = 
 -- the faults before an object
 
 as_object-None : (d : Data) → is_some (as_object d) ≡ false → as_object d ≡ None
-as_object-None null is = refl
-as_object-None (boolean b) is = refl
-as_object-None (number n) is = refl
-as_object-None (string s) is = refl
-as_object-None (array ds) is = refl
 as_object-None (object ms) is = absurd (cc)
+as_object-None _ is = refl
 
 pub IsCertFault-json : (bytes : List ℕ) → (IsUtf8 bytes → read bytes ≡ None) → IsCertFault bytes (fault.Format shape.NotJson)
 IsCertFault-json bytes none = inr (shape.NotJson, refl, NoJson (λ d json. none-some d (sym (none json.0) ∙ json.1)))

@@ -32,9 +32,8 @@ one_some {x = x} {y = y} p q = same_Some x y (sym p ∙ q)
 -- a list is what its options hold
 same_letters : (w v : List ℕ) → map Some w ≡ map Some v → w ≡ v
 same_letters [] [] e = refl
-same_letters [] (b ∷ v) e = absurd (omega (arith, ap length e))
-same_letters (a ∷ w) [] e = absurd (omega (arith, ap length e))
 same_letters (a ∷ w) (b ∷ v) e = let tails : map Some w ≡ map Some v = cc in let rest : w ≡ v = same_letters w v tails in cc
+same_letters _ _ e = absurd (omega (arith, ap length e))
 
 -- a string of digits is one word
 pub IsDigits-unique : (d : Data) (w v : List ℕ) → IsDigits d w → IsDigits d v → w ≡ v
@@ -109,9 +108,6 @@ sets_or_pairs d p q = absurd (omega (arith, ap length (HasOnly-unique d p q).0))
 pub pairs_or_orphan : (d : Data) {v u : Data} → HasOnly (codes "pairs") v d → ¬ HasOnly (codes "orphan") u d
 pairs_or_orphan d p q = absurd (omega (arith, ap length (HasOnly-unique d p q).0))
 
-ahead_or_split : (d : Data) {v u : Data} → HasOnly (codes "ahead") v d → ¬ HasOnly (codes "split") u d
-ahead_or_split d p q = absurd (omega (arith, ap (λ k. slice_index k 0) (HasOnly-unique d p q).0))
-
 pub flux_or_ring : (d : Data) {v u : Data} → HasOnly (codes "flux") v d → ¬ HasOnly (codes "ring") u d
 flux_or_ring d p q = absurd (omega (arith, ap (λ k. slice_index k 0) (HasOnly-unique d p q).0))
 
@@ -124,14 +120,9 @@ word_at d {v} p q w x h k = IsDigits-unique v w x h (subst (λ u. IsDigits u x) 
 
 pub IsSurjectiveValue-unique : (d : Data) (e f : SurjectiveEvidence) → IsSurjectiveValue d e → IsSurjectiveValue d f → e ≡ f
 IsSurjectiveValue-unique d (Sets s) (Sets t) p q = ap Sets (array_at IsWhole IsWhole-unique d p.1 q.1 s t p.2 q.2)
-IsSurjectiveValue-unique d (Sets s) (Pairs t) p q = absurd (sets_or_pairs d p.1 q.1)
-IsSurjectiveValue-unique d (Pairs s) (Sets t) p q = absurd (sets_or_pairs d q.1 p.1)
 IsSurjectiveValue-unique d (Pairs s) (Pairs t) p q = ap Pairs (array_at IsWhole IsWhole-unique d p.1 q.1 s t p.2 q.2)
-IsSurjectiveValue-unique d (Pairs s) (Orphan v) p q = absurd (pairs_or_orphan d p.1 q.1)
-IsSurjectiveValue-unique d (Orphan w) (Pairs t) p q = absurd (pairs_or_orphan d q.1 p.1)
-IsSurjectiveValue-unique d (Sets s) (Orphan v) p q = absurd (sets_or_orphan d p.1 q.1)
-IsSurjectiveValue-unique d (Orphan w) (Sets t) p q = absurd (sets_or_orphan d q.1 p.1)
 IsSurjectiveValue-unique d (Orphan w) (Orphan v) p q = ap Orphan (word_at d p.1 q.1 w v p.2 q.2)
+IsSurjectiveValue-unique d _ _ p q = absurd (omega (arith, ap length (HasOnly-unique d p.1 q.1).0))
 
 pub IsInjectiveValue-unique : (d : Data) (e f : InjectiveEvidence) → IsInjectiveValue d e → IsInjectiveValue d f → e ≡ f
 IsInjectiveValue-unique d (Window n c) (Window m b) p q =
@@ -146,10 +137,9 @@ IsInjectiveValue-unique d (Twins x y) (Twins u v) p q =
 
 pub IsSideValue-unique : (d : Data) (e f : SideEvidence) → IsSideValue d e → IsSideValue d f → e ≡ f
 IsSideValue-unique d (Ahead m) (Ahead n) p q = ap Ahead (one_some p.2 (subst (λ v. IsWhole v n) (sym (HasOnly-unique d p.1 q.1).1) q.2))
-IsSideValue-unique d (Ahead m) (Split t u) p q = absurd (ahead_or_split d p.1 q.1)
-IsSideValue-unique d (Split t u) (Ahead n) p q = absurd (ahead_or_split d q.1 p.1)
 IsSideValue-unique d (Split t u) (Split x y) p q =
     let same : t ∷ u ∷ [] ≡ x ∷ y ∷ [] = array_at IsTailString IsTailString-unique d p.1 q.1 (t ∷ u ∷ []) (x ∷ y ∷ []) p.2 q.2 in cc
+IsSideValue-unique d _ _ p q = absurd (omega (arith, ap (λ k. slice_index k 0) (HasOnly-unique d p.1 q.1).0))
 
 pub IsSumValue-unique : (d : Data) (e f : SumEvidence) → IsSumValue d e → IsSumValue d f → e ≡ f
 IsSumValue-unique d (Flux s) (Flux t) p q = ap Flux (array_at IsSigned IsSigned-unique d p.1 q.1 s t p.2 q.2)
@@ -186,8 +176,7 @@ version_of n = None
 
 version_of-number : (v : CertVersion) → version_of (number_of v) ≡ Some v
 version_of-number One = refl
-version_of-number Two = refl
-version_of-number Three = refl
+version_of-number _ = refl
 
 -- so two versions have two numbers
 pub number_of-injective : (v w : CertVersion) → number_of v ≡ number_of w → v ≡ w

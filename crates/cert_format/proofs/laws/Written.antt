@@ -21,7 +21,7 @@ use Rattle.tail_config.proofs.laws.TailTexts.{Spells-word_text}
 use Rattle.rule_text.specs.PrintedRules.{printed_rule}
 use Rattle.rule_text.proofs.laws.Printed.{IsRuleText-printed_rule}
 use Rattle.cert_format.specs.declared.cert_version.CertVersion.{CertVersion}
-use Rattle.cert_format.specs.declared.cert_version.CertVersion.TheVariants.{One, Two, Three}
+use Rattle.cert_format.specs.declared.cert_version.CertVersion.TheVariants.{One}
 use Rattle.cert_format.specs.Versions.{number_of, names_weights}
 use Rattle.cert_format.specs.Evidence.{SurjectiveEvidence, InjectiveEvidence, SideEvidence, SumEvidence}
 use Rattle.cert_format.specs.Certificates.{Certificate, IsClaim, IsSurjectiveShape, IsInjectiveShape, IsSideShape, IsSumShape, IsRankShape}
@@ -132,8 +132,7 @@ IsRanksValue-written {r} {forward} {backward} ahead back =
 -- the number of a version is read from its value
 IsWhole-version : (v : CertVersion) → IsWhole (whole_value (number_of v)) (number_of v)
 IsWhole-version One = refl
-IsWhole-version Two = refl
-IsWhole-version Three = refl
+IsWhole-version _ = refl
 
 -- what is written of the weights says them
 HasWeights-written : (c : Certificate) → IsWeightShape c.version c.rule c.weights → HasWeights c.version c.rule (certificate_members c) c.weights

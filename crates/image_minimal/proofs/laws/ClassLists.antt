@@ -5,7 +5,7 @@ use Rattle.std.specs.Ordering.{ordering_then, nat_cmp}
 use Rattle.std.specs.Cmp.Lexicographic.{slice_cmp}
 use Rattle.std.specs.Cmp.{nat_cmp_is}
 use Rattle.std.specs.declared.cmp.Ordering.{Ordering}
-use Rattle.std.specs.declared.cmp.Ordering.TheVariants.{Less, Equal, Greater}
+use Rattle.std.specs.declared.cmp.Ordering.TheVariants.{Equal}
 use Rattle.std.proofs.lemmas.Bool.{cases_lt}
 use Rattle.std.proofs.lemmas.List.{ext_get_or}
 use Rattle.std.proofs.lemmas.List.Elements.{All-push, All-head, All-tail}
@@ -21,9 +21,8 @@ use Rattle.image_minimal.specs.ImageLanguages.{Alike, IsLeastAlike, IsClassList,
 
 -- two orderings in turn are tied only where the second one is
 then_tied : (a b : Ordering) → ordering_then a b ≡ Equal → b ≡ Equal
-then_tied Less b e = absurd (cc)
 then_tied Equal b e = e
-then_tied Greater b e = absurd (cc)
+then_tied _ b e = absurd (cc)
 
 -- words of one number are one
 one_number : (k : ℕ) (v w : List ℕ) → IsWord k v → IsWord k w → word_number k v ≡ word_number k w → v ≡ w

@@ -9,38 +9,33 @@ use Rattle.word_image.proofs.laws.Comparisons.{then_not_greater, nat_cmp-le, nat
 
 -- three orderings in turn
 then_assoc : (a b c : Ordering) → ordering_then (ordering_then a b) c ≡ ordering_then a (ordering_then b c)
-then_assoc Less b c = refl
 then_assoc Equal b c = refl
-then_assoc Greater b c = refl
+then_assoc _ b c = refl
 
 -- words are compared by their beginnings, and then by what follows
 pub slice_cmp-append : (a b c d : List ℕ) → length a ≡ length c → slice_cmp nat_cmp (a ++ b) (c ++ d) ≡ ordering_then (slice_cmp nat_cmp a c) (slice_cmp nat_cmp b d)
 slice_cmp-append [] b [] d e = refl
-slice_cmp-append [] b (y ∷ c) d e = absurd (omega arith)
-slice_cmp-append (x ∷ a) b [] d e = absurd (omega arith)
 slice_cmp-append (x ∷ a) b (y ∷ c) d e =
     ap (ordering_then (nat_cmp x y)) (slice_cmp-append a b c d (omega arith)) ∙ sym (then_assoc (nat_cmp x y) (slice_cmp nat_cmp a c) (slice_cmp nat_cmp b d))
+slice_cmp-append _ b _ d e = absurd (omega arith)
 
 -- the first isn't greater if both together aren't
 pub first_not_greater : (a b : Ordering) → ordering_then a b ≢ Greater → a ≢ Greater
-first_not_greater Less b h e = cc
-first_not_greater Equal b h e = cc
 first_not_greater Greater b h e = h refl
+first_not_greater _ b h e = cc
 
 -- both are equal if both together are
 pub then_equal : (a b : Ordering) → ordering_then a b ≡ Equal → (a ≡ Equal) × (b ≡ Equal)
-then_equal Less b e = absurd (cc)
 then_equal Equal b e = (refl, e)
-then_equal Greater b e = absurd (cc)
+then_equal _ b e = absurd (cc)
 
 -- words that compare equal are equal
 pub slice_cmp-equal : (x y : List ℕ) → slice_cmp nat_cmp x y ≡ Equal → x ≡ y
 slice_cmp-equal [] [] e = refl
-slice_cmp-equal [] (b ∷ y) e = absurd (cc)
-slice_cmp-equal (a ∷ x) [] e = absurd (cc)
 slice_cmp-equal (a ∷ x) (b ∷ y) e =
     let both = then_equal (nat_cmp a b) (slice_cmp nat_cmp x y) e in
     ap₂ (λ (c : ℕ) (z : List ℕ). c ∷ z) (nat_cmp-equal a b both.0) (slice_cmp-equal x y both.1)
+slice_cmp-equal _ _ e = absurd (cc)
 
 -- a key that isn't more decides, with the rest where it is the same
 pub key_not_greater : (m n : ℕ) (rest : Ordering) → m ≤ n → (m ≡ n → rest ≢ Greater) → ordering_then (nat_cmp m n) rest ≢ Greater
