@@ -142,27 +142,8 @@ fn leads_within(rule: &Rule, listed: &Marks, pair: u16, a: u8, b: u8) -> bool
     ensures { (pairs : List ℕ) → AreMarked listed.now.rows pairs
         → IsTrue result ↔ StepIsListed rule.now pairs pair a b }
 {
-    match follow(rule, pair, a, b) {
+    match rule.follow(Side::Right, pair, a, b) {
         Some(next) => listed.has(next),
         None => true,
     }
-}
-
-/// Where a pair leads on two letters, if their windows have one label.
-fn follow(rule: &Rule, pair: u16, a: u8, b: u8) -> Option<u16>
-    requires pair { pair < pair_count rule.now }
-    requires first { a < rule.now.states }
-    requires second { b < rule.now.states }
-    ensures { result ≡ follow rule.now pair a b }
-{
-    let (u, v) = rule.nodes_of(pair);
-    let first = Side::Right.window_with(rule, u, a);
-    let second = Side::Right.window_with(rule, v, b);
-    if rule.at(first) != rule.at(second) {
-        return None;
-    }
-    Some(rule.pair_of(
-        Side::Right.end_node(rule, first),
-        Side::Right.end_node(rule, second),
-    ))
 }

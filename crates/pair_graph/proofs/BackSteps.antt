@@ -1,11 +1,14 @@
 -- A window is a node and the letter after it, and also the letter before a node and that node: so a step leads back from a pair along the windows that its nodes end.
-use Rattle.std.proofs.Common.{◌≡◌, ℕ, suc, ◌+◌, ◌-◌, ◌*◌, ◌/◌, ◌%◌, ◌^◌, ◌<◌, ◌≤◌, ◌↔◌, Some, slice_index, sym, ap, ap₂, ◌∙◌, subst, arith, mod-lt}
+use Rattle.std.proofs.Common.{◌≡◌, ℕ, suc, ◌+◌, ◌-◌, ◌*◌, ◌/◌, ◌%◌, ◌^◌, ◌<◌, ◌≤◌, ◌↔◌, Some, slice_index, eq-eqb, refl, sym, ap, ap₂, ◌∙◌, subst, arith, mod-lt}
 use Rattle.std.proofs.lemmas.Nat.{div-mul-add, mod-mul-add, div-add-mod', div_below, mul-add-lt}
 use Rattle.std.proofs.Math.Nat.{div-div-eq-div-mul, pow-succ'}
 use Rattle.word_image.specs.LocalRules.{LocalRule, IsRule, node_count, word_of}
 use Rattle.word_image.specs.Graphs.{next, label, node_letter, first_of, second_of, pair_of, pair_count}
-use Rattle.pair_laws.proofs.Pairs.{first_of-pair_of, second_of-pair_of, pair_of-first_of, pair_of-below, first_of-below, second_of-below, follow-pair_of, follow-some}
+use Rattle.pair_laws.proofs.Pairs.{first_of-pair_of, second_of-pair_of, pair_of-first_of, pair_of-below, some_if_equal, first_of-below, second_of-below, follow-pair_of, follow-some}
 use Rattle.word_image.proofs.laws.Graphs.{next-below}
+use Rattle.word_image.specs.Edges.{label_at, end_at, follow_on}
+use Rattle.word_image.specs.declared.side.Side.{Side}
+use Rattle.word_image.specs.declared.side.Side.TheVariants.{Left}
 use Rattle.pair_graph.specs.BackSteps.{LeadsBack}
 
 -- the window of letter a before node s
@@ -84,21 +87,14 @@ led_back {r} rule q a b p back =
           ∙ ap₂ (pair_of r) (div-mul-add u r.states c in_c) (div-mul-add v r.states d in_d) ∙ pair_of-first_of r p,
     )
 
--- from q the letters a and b lead back exactly to the pair of the nodes with which these two windows begin, if they have one label
-pub LeadsBack-windows : {r : LocalRule} → IsRule r → (q a b v w : ℕ) → q < pair_count r → a < r.states → b < r.states
-    → v ≡ window_before r a (first_of r q) → w ≡ window_before r b (second_of r q) → slice_index r.table v ≡ slice_index r.table w
-    → (p : ℕ) → (Some (pair_of r (v / r.states) (w / r.states)) ≡ Some p) ↔ LeadsBack r q a b p
-LeadsBack-windows {r} rule q a b v w pair ha hb first second one_label p =
-    let same : pair_of r (v / r.states) (w / r.states) ≡ pair_of r (window_before r a (first_of r q) / r.states) (window_before r b (second_of r q) / r.states) =
-    ap₂ (λ (x y : ℕ). pair_of r (x / r.states) (y / r.states)) first second in (
-      (λ some. let here : pair_of r (v / r.states) (w / r.states) ≡ p = cc in
-          subst (LeadsBack r q a b) (sym same ∙ here) (leads_back rule q a b pair ha hb (ap (slice_index r.table) (sym first) ∙ one_label ∙ ap (slice_index r.table) second))),
-      (λ back. ap Some (same ∙ (led_back rule q a b p back).1)),
-    )
+-- two edges with one label lead to the pair of their ends
+pub follow_on-edges : (side : Side) (r : LocalRule) (p a b : ℕ) → label_at side r (first_of r p) a ≡ label_at side r (second_of r p) b
+    → follow_on side r p a b ≡ Some (pair_of r (end_at side r (first_of r p) a) (end_at side r (second_of r p) b))
+follow_on-edges side r p a b same = rw (eq-eqb _ _ same) refl
 
--- and to no pair, if they don't
-pub LeadsBack-none : {r : LocalRule} → IsRule r → (q a b v w : ℕ)
-    → v ≡ window_before r a (first_of r q) → w ≡ window_before r b (second_of r q) → ¬ (slice_index r.table v ≡ slice_index r.table w)
-    → (p : ℕ) → ¬ LeadsBack r q a b p
-LeadsBack-none {r} rule q a b v w first second differ p back =
-    differ (ap (slice_index r.table) first ∙ (led_back rule q a b p back).0 ∙ ap (slice_index r.table) (sym second))
+-- from q the letters a and b lead back exactly where they lead to the left
+pub LeadsBack-follow : {r : LocalRule} → IsRule r → (q a b p : ℕ) → q < pair_count r → a < r.states → b < r.states → (follow_on Left r q a b ≡ Some p) ↔ LeadsBack r q a b p
+LeadsBack-follow {r} rule q a b p pair ha hb = (
+  (λ leads. let (same, here) = some_if_equal _ _ _ p leads in subst (LeadsBack r q a b) here (leads_back rule q a b pair ha hb same)),
+  (λ back. let (same, here) = led_back rule q a b p back in follow_on-edges Left r q a b same ∙ ap Some here),
+)

@@ -8,16 +8,16 @@ use Rattle.word_image.specs.LocalRules.{LocalRule, IsRule, node_count}
 use Rattle.word_image.specs.Graphs.{first_of, second_of, pair_of, pair_count}
 use Rattle.word_image.proofs.laws.Bits.{bit_at-IsBitSet}
 use Rattle.word_image.proofs.laws.WindowParts.{window_with-within, end_node-below}
-use Rattle.pair_laws.proofs.Pairs.{first_of-below, second_of-below, follow-edges, follow-some}
+use Rattle.pair_laws.proofs.Pairs.{first_of-below, second_of-below, some_if_equal}
 use Rattle.pair_laws.proofs.Rows.{row_cases, HasBit-less}
 use Rattle.pair_laws.proofs.Sets.{IsBitSet-and, IsBitSet-below}
 use Rattle.word_image.specs.declared.side.Side.{Side}
 use Rattle.word_image.specs.declared.side.Side.TheVariants.{Right, Left}
 use Rattle.word_image.specs.Sides.{window_with}
-use Rattle.word_image.specs.Edges.{AreEdgeRows, label_at, end_at}
+use Rattle.word_image.specs.Edges.{AreEdgeRows, label_at, end_at, follow_on}
 use Rattle.pair_graph.specs.PairSets.{holds, truths, AreRows, LettersLead, LeadsInto, IsTrimmedSet, AreNodesKept, GoesOn}
 use Rattle.pair_graph.specs.PairRows.{holds_bit, length-truths, same_roots}
-use Rattle.pair_graph.proofs.BackSteps.{window_before, LeadsBack-windows, led_back}
+use Rattle.pair_graph.proofs.BackSteps.{follow_on-edges, LeadsBack-follow}
 
 -- a test of a bit
 tests_bit : (a i : ℕ) → IsTrue (bit_at a i == 1) ↔ IsBitSet a i
@@ -58,17 +58,19 @@ holds-row n rows set u i v {m} same seen h at node =
 end_at-below : (side : Side) {r : LocalRule} → IsRule r → (u a : ℕ) → u < node_count r → a < r.states → end_at side r u a < node_count r
 end_at-below side {r} rule u a node letter = end_node-below side rule (window_with side r u a) (window_with-within side rule u a node letter)
 
--- letters lead from a pair to the pair of the nodes to which they lead, where their labels are equal
+-- letters lead to a pair exactly where they lead to it on this side
+pub LettersLead-follow : (side : Side) {r : LocalRule} → IsRule r → (p a b q : ℕ) → p < pair_count r → a < r.states → b < r.states → (follow_on side r p a b ≡ Some q) ↔ LettersLead side r p a b q
+LettersLead-follow Right rule p a b q pair ha hb = ((λ leads. leads), (λ leads. leads))
+LettersLead-follow Left rule p a b q pair ha hb = LeadsBack-follow rule p a b q pair ha hb
+
+-- that is the pair of the nodes to which they lead, where their labels are equal
 leads_by : (side : Side) {r : LocalRule} → IsRule r → (p a b : ℕ) → p < pair_count r → a < r.states → b < r.states → (q : ℕ)
     → LettersLead side r p a b q ↔ ((label_at side r (first_of r p) a ≡ label_at side r (second_of r p) b) × (pair_of r (end_at side r (first_of r p) a) (end_at side r (second_of r p) b) ≡ q))
-leads_by Right {r} rule p a b inside in_a in_b q = (
-  (λ leads. follow-some r p a b q leads),
-  (λ (same, pair). follow-edges r p a b same ∙ ap Some pair),
-)
-leads_by Left {r} rule p a b inside in_a in_b q = (
-  (λ leads. led_back rule p a b q leads),
-  (λ (same, pair). (LeadsBack-windows rule p a b (window_before r a (first_of r p)) (window_before r b (second_of r p)) inside in_a in_b refl refl same q).0 (ap Some pair)),
-)
+leads_by side {r} rule p a b inside in_a in_b q =
+    let exact = LettersLead-follow side rule p a b q inside in_a in_b in (
+      (λ leads. some_if_equal _ _ _ q (exact.1 leads)),
+      (λ (same, pair). exact.0 (follow_on-edges side r p a b same ∙ ap Some pair)),
+    )
 
 -- labels are small
 small_label : (side : Side) {r : LocalRule} → IsRule r → (u a : ℕ) → u < node_count r → a < r.states → label_at side r u a < 16

@@ -95,14 +95,7 @@ impl Pairs {
         ensures pair { result ≡ follow self.now p a b }
         ensures below { IfSome result (λ q. q < pair_count self.now) }
     {
-        let (u, v) = self.rule().nodes_of(p);
-        if self.graph.label(u, a) != self.graph.label(v, b) {
-            return None;
-        }
-        Some(
-            self.rule()
-                .pair_of(self.graph.next(u, a), self.graph.next(v, b)),
-        )
+        self.rule().follow(Side::Right, p, a, b)
     }
 
     /// The pair whose nodes begin with the letters a and b, and from which an edge each leads to the
@@ -113,17 +106,7 @@ impl Pairs {
         requires second { b < self.now.states }
         ensures exactly { (p : ℕ) → (result ≡ Some p) ↔ LeadsBack self.now q a b p }
     {
-        let rule = self.rule();
-        let (s, t) = rule.nodes_of(q);
-        let first = Side::Left.window_with(rule, s, a);
-        let second = Side::Left.window_with(rule, t, b);
-        if rule.at(first) != rule.at(second) {
-            return None;
-        }
-        Some(rule.pair_of(
-            Side::Left.end_node(rule, first),
-            Side::Left.end_node(rule, second),
-        ))
+        self.rule().follow(Side::Left, q, a, b)
     }
 
     /// The pair to which the letters a and b lead from p: forward by `follow`, and backward by `back`.
@@ -134,10 +117,7 @@ impl Pairs {
         ensures exactly { (q : ℕ) → (result ≡ Some q) ↔ LettersLead side self.now p a b q }
         ensures below { IfSome result (λ q. q < pair_count self.now) }
     {
-        match side {
-            Side::Right => self.follow(p, a, b),
-            Side::Left => self.back(p, a, b),
-        }
+        self.rule().follow(side, p, a, b)
     }
 
     /// The step of `follow` in the marked graph, where t is p or, with the mark, p + N * N. The mark

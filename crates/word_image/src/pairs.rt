@@ -1,10 +1,12 @@
-//! The pairs of nodes of a rule, by their numbers, and the set of all nodes.
+//! The pairs of nodes of a rule, by their numbers, the steps between them, and the set of all nodes.
 
-ghost use Rattle.std.specs.Prelude.{◌≡◌, ◌<◌};
+ghost use Rattle.std.specs.Prelude.{◌≡◌, ◌<◌, IfSome};
 ghost use Rattle.word_image.specs.LocalRules.{IsRule, node_count};
 ghost use Rattle.word_image.specs.Graphs.{full_set, first_of, second_of, pair_of, pair_count};
+ghost use Rattle.word_image.specs.Edges.{follow_on};
 
 use crate::local_rule::Rule;
+use crate::side::Side;
 
 impl Rule {
     /// The set of all nodes: node u is bit u.
@@ -46,5 +48,22 @@ impl Rule {
         ensures below { result < pair_count self.now }
     {
         u16::from(first) * u16::from(self.nodes()) + u16::from(second)
+    }
+    /// The pair to which the letters a and b lead from the nodes of a pair, read to this side; `None`
+    /// exactly where the labels of the two edges differ.
+    pub fn follow(&self, side: Side, pair: u16, a: u8, b: u8) -> Option<u16>
+        requires pair { pair < pair_count self.now }
+        requires first { a < self.now.states }
+        requires second { b < self.now.states }
+        ensures pair { result ≡ follow_on side self.now pair a b }
+        ensures below { IfSome result (λ q. q < pair_count self.now) }
+        ensures rule { IsRule self.now }
+    {
+        let (u, v) = self.nodes_of(pair);
+        let (first, second) = (side.window_with(self, u, a), side.window_with(self, v, b));
+        if self.at(first) != self.at(second) {
+            return None;
+        }
+        Some(self.pair_of(side.end_node(self, first), side.end_node(self, second)))
     }
 }

@@ -1,11 +1,13 @@
-use Rattle.std.proofs.Common.{Option, Some, None, ℕ, ◌≡◌, ◌<◌, refl}
-use Rattle.std.specs.Prelude.{IfSome}
+use Rattle.std.proofs.Common.{◌≡◌, sym, ap, subst, ◌∙◌}
+use Rattle.word_image.specs.LocalRules.{IsRule}
+use Rattle.word_image.specs.Edges.{follow_on}
+use Rattle.pair_graph.proofs.PairSteps.{LettersLead-follow}
 use Rattle.pair_graph.proofs.pairs.Pairs.step.Goals as goal
 
--- what holds of each value that there is holds of the one
-if_some : (o : Option ℕ) (P : ℕ → Type 0) → ((q : ℕ) → o ≡ Some q → P q) → IfSome o P
-if_some None P all = tt
-if_some (Some q) P all = all q refl
-
-pub returns-in-Left-clause-below : goal.returns-in-Left-clause-below
-returns-in-Left-clause-below c = if_some c.back.result (λ q. q < _) (λ q some. ((c.back.ensures.exactly q).0 some).in_pairs)
+pub returns-clause-exactly : goal.returns-clause-exactly
+returns-clause-exactly c =
+    let side = c.args.side in
+    let is : c.follow.result ≡ follow_on side c.args.self.now c.args.p c.args.a c.args.b = c.follow.ensures.pair ∙ ap (λ r. follow_on side r c.args.p c.args.a c.args.b) c.rule.ensures in
+    λ q.
+    let exact = LettersLead-follow side (subst IsRule c.rule.ensures c.follow.ensures.rule) c.args.p c.args.a c.args.b q c.requires.pair c.requires.first c.requires.second in
+    ((λ some. exact.0 (sym is ∙ some)), (λ leads. is ∙ exact.1 leads))
