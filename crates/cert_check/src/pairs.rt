@@ -1,6 +1,6 @@
 //! Listed pairs of nodes that prove a rule surjective.
 
-ghost use Rattle.std.specs.Prelude.{◌≡◌, ◌≢◌, ◌<◌, ℕ, List, length, slice_index, All, IsTrue, ◌↔◌, MatchOption};
+ghost use Rattle.std.specs.Prelude.{◌≢◌, ◌<◌, ℕ, List, length, slice_index, All, IsTrue, ◌↔◌, MatchOption};
 ghost use Rattle.word_image.specs.Graphs.{first_of, second_of, follow, pair_count};
 ghost use Rattle.cert_check.specs.Breaches.{EachBelow, IsFirstBreach};
 ghost use Rattle.cert_check.specs.Pairs.{FirstIsListed, StepIsListed, StepsAreListed, IsFirstLeaving};

@@ -2,7 +2,7 @@
 
 ghost use Rattle.std.specs.Prelude.{◌≡◌, ◌+◌, ◌*◌, ◌<◌, ◌↔◌, ℕ, Some, IfSome};
 ghost use Rattle.word_image.specs.LocalRules.{IsRule};
-ghost use Rattle.word_image.specs.Graphs.{pair_of, pair_count};
+ghost use Rattle.word_image.specs.Graphs.{pair_count};
 
 use debruijn::Graph;
 use std::marker::Model;
