@@ -17,7 +17,7 @@ use Rattle.tail_config.specs.TailTexts.{IsShortTail}
 use Rattle.rule_text.specs.PrintedRules.{offset_text, printed_rule}
 use Rattle.tail_laws.proofs.LeastTwins.{length-IsLeastTwins}
 use Rattle.cert_format.specs.declared.cert_version.CertVersion.{CertVersion}
-use Rattle.cert_format.specs.declared.cert_version.CertVersion.TheVariants.{One, Two, Three}
+use Rattle.cert_format.specs.declared.cert_version.CertVersion.TheVariants.{One}
 use Rattle.cert_format.specs.Versions.{number_of, names_weights}
 use Rattle.cert_format.specs.Evidence.{SurjectiveEvidence, InjectiveEvidence, SideEvidence, SumEvidence}
 use Rattle.cert_format.specs.Certificates.{Certificate, IsSurjectiveShape, IsInjectiveShape, IsSideShape, IsSumShape, IsClaim, IsRankShape}
@@ -138,8 +138,7 @@ length-weights_members {r} rule weights are =
 -- the number of a version is small
 number_of-le : (v : CertVersion) → number_of v ≤ 65535
 number_of-le One = omega arith
-number_of-le Two = omega arith
-number_of-le Three = omega arith
+number_of-le _ = omega arith
 
 -- what is written for its own rule has a short text
 short-own : {c : Certificate} → IsShaped c → HasWrittenParts c.version c.rule c.weights c → length (certificate_text c) < 450000

@@ -1,6 +1,6 @@
 -- The words of a command are no other's, and what an answer says of its words.
 use Rattle.std.proofs.Common.{inl, inr, ◌≡◌, ℕ, nat_eq, ◌+◌, ◌≤◌, List, [], ◌∷◌, length, refl, sym, ap, ◌∙◌, subst, arith}
-use Rattle.std.specs.Prelude.{Option, None, Some, ⊤, ◌⊎◌, codes, if◌then◌else◌}
+use Rattle.std.specs.Prelude.{Option, None, Some, ◌⊎◌, if◌then◌else◌}
 use Rattle.std.specs.Cmp.Lexicographic.{pointwise}
 use Rattle.std.proofs.lemmas.Option.{none-some}
 use Rattle.rule_text.specs.declared.text_fault.TextFault.{TextFault}
@@ -30,83 +30,51 @@ use Rattle.ca_cli.proofs.laws.Causes.{IsOutput-fit, IsOutputWith-fit, IsOutputOf
 
 -- The names: what undoes each table
 
+-- what is given for the first of a list that has the name, or what is given for none
+named : {A B : Type 0} → (A → List ℕ) → (A → B) → B → List A → List ℕ → B
+named name_of give none [] name = none
+named name_of give none (a ∷ others) name = if pointwise nat_eq name (name_of a) then give a else named name_of give none others name
+
 asked : List ℕ → Ask
-asked name =
-    if pointwise nat_eq name (codes "decide") then ask.Decide
-    else (if pointwise nat_eq name (codes "orphan") then ask.Orphan
-    else (if pointwise nat_eq name (codes "number") then ask.Number
-    else (if pointwise nat_eq name (codes "certify") then ask.Certify
-    else (if pointwise nat_eq name (codes "reflect") then ask.Reflect
-    else (if pointwise nat_eq name (codes "trim") then ask.Trim
-    else (if pointwise nat_eq name (codes "inverse") then ask.Inverse
-    else (if pointwise nat_eq name (codes "language") then ask.Language
-    else (if pointwise nat_eq name (codes "erase") then ask.Erase
-    else (if pointwise nat_eq name (codes "least") then ask.Least
-    else (if pointwise nat_eq name (codes "lift") then ask.Lift
-    else (if pointwise nat_eq name (codes "unlift") then ask.Unlift
-    else ask.Brief)))))))))))
+asked =
+    named name_of (λ a. a) ask.Brief
+    (ask.Decide ∷ ask.Orphan ∷ ask.Number ∷ ask.Certify ∷ ask.Reflect ∷ ask.Trim ∷ ask.Inverse ∷ ask.Language ∷ ask.Erase ∷ ask.Least ∷ ask.Lift ∷ ask.Unlift ∷ [])
 
 asked-name : (a : Ask) → asked (name_of a) ≡ a
-unfolding asked
+unfolding asked named
 asked-name ask.Decide = refl
-asked-name ask.Orphan = refl
-asked-name ask.Number = refl
-asked-name ask.Certify = refl
-asked-name ask.Brief = refl
-asked-name ask.Reflect = refl
-asked-name ask.Trim = refl
-asked-name ask.Inverse = refl
-asked-name ask.Language = refl
-asked-name ask.Erase = refl
-asked-name ask.Least = refl
-asked-name ask.Lift = refl
-asked-name ask.Unlift = refl
+asked-name _ = refl
 
 asked_with : List ℕ → Option AskWith
-asked_with name =
-    if pointwise nat_eq name (codes "shift") then Some AskWith.Shift
-    else (if pointwise nat_eq name (codes "widen") then Some AskWith.Widen
-    else (if pointwise nat_eq name (codes "permute") then Some AskWith.Permute
-    else (if pointwise nat_eq name (codes "preimage") then Some AskWith.Preimage
-    else (if pointwise nat_eq name (codes "decide") then Some AskWith.Decide
-    else (if pointwise nat_eq name (codes "certify") then Some AskWith.Certify
-    else (if pointwise nat_eq name (codes "brief") then Some AskWith.Brief
-    else None))))))
+asked_with =
+    named name_with Some None
+    (AskWith.Shift ∷ AskWith.Widen ∷ AskWith.Permute ∷ AskWith.Preimage ∷ AskWith.Decide ∷ AskWith.Certify ∷ AskWith.Brief ∷ [])
 
 asked_with-name : (a : AskWith) → asked_with (name_with a) ≡ Some a
-unfolding asked_with
+unfolding asked_with named
 asked_with-name AskWith.Shift = refl
-asked_with-name AskWith.Widen = refl
-asked_with-name AskWith.Permute = refl
-asked_with-name AskWith.Preimage = refl
-asked_with-name AskWith.Decide = refl
-asked_with-name AskWith.Certify = refl
-asked_with-name AskWith.Brief = refl
+asked_with-name _ = refl
 
 asked_with-of_two : (a : AskOfTwo) → asked_with (name_of_two a) ≡ None
-unfolding asked_with
+unfolding asked_with named
 asked_with-of_two two.Compose = refl
 asked_with-of_two two.Same = refl
 
 asked_of_two : List ℕ → AskOfTwo
-asked_of_two name = if pointwise nat_eq name (codes "compose") then two.Compose else two.Same
+asked_of_two = named name_of_two (λ a. a) two.Same (two.Compose ∷ [])
 
 asked_of_two-name : (a : AskOfTwo) → asked_of_two (name_of_two a) ≡ a
-unfolding asked_of_two
+unfolding asked_of_two named
 asked_of_two-name two.Compose = refl
 asked_of_two-name two.Same = refl
 
 asked_of_many : List ℕ → AskOfMany
-asked_of_many name =
-    if pointwise nat_eq name (codes "survey") then AskOfMany.Survey
-    else (if pointwise nat_eq name (codes "sample") then AskOfMany.Sample
-    else AskOfMany.Classes)
+asked_of_many = named name_of_many (λ a. a) AskOfMany.Classes (AskOfMany.Survey ∷ AskOfMany.Sample ∷ [])
 
 asked_of_many-name : (a : AskOfMany) → asked_of_many (name_of_many a) ≡ a
-unfolding asked_of_many
+unfolding asked_of_many named
 asked_of_many-name AskOfMany.Survey = refl
-asked_of_many-name AskOfMany.Sample = refl
-asked_of_many-name AskOfMany.Classes = refl
+asked_of_many-name _ = refl
 
 -- the command of three words, of which the name says whether the last is a rule
 with_or_of_two : Option AskWith → List ℕ → List ℕ → List ℕ → Command
@@ -138,29 +106,6 @@ words_of-injective c d same = sym (read-words_of c) ∙ ap read same ∙ read-wo
 pub IsCommand-unique : {words : List (List ℕ)} {c d : Command} → IsCommand words c → IsCommand words d → c ≡ d
 IsCommand-unique {c = c} {d = d} here also = words_of-injective c d (sym here.words_are ∙ also.words_are)
 
--- the statuses that say what came of a command whose operands are accepted
-abbrev IsCarriedOut : Status → Type 0
-IsCarriedOut status.Done = ⊤
-IsCarriedOut status.Refused = ⊤
-IsCarriedOut status.NotFit = ⊤
-IsCarriedOut status.TooLong = ⊤
-IsCarriedOut status.Usage = ⊥
-IsCarriedOut status.RuleFault = ⊥
-IsCarriedOut status.ReadFault = ⊥
-IsCarriedOut status.WriteFault = ⊥
-IsCarriedOut status.Memory = ⊥
-
--- what is right for a command has one of them
-IsRight-carried_out : {input : Option (List ℕ)} {c : Command} {s : Status} {out : List ℕ} → IsRight input c s out → IsCarriedOut s
-IsRight-carried_out (IsRight.OfRule a text r out says output) = tt
-IsRight-carried_out (IsRight.OfRuleWith a text operand r out says output) = tt
-IsRight-carried_out (IsRight.OfTwo a first second r s out says also output) = tt
-IsRight-carried_out (IsRight.OfMany a k m from count out accepted summary) = tt
-IsRight-carried_out (Unfit c cause unfit) = tt
-IsRight-carried_out (Accepted bytes v whole accepted are_true) = tt
-IsRight-carried_out (Refused bytes f whole refused) = tt
-IsRight-carried_out (TooLong long) = tt
-
 -- nothing can be made as the command asks
 abbrev NothingFits : Command → Type 0
 NothingFits c = (cause : List ℕ) × IsUnfit c cause
@@ -176,14 +121,11 @@ fits _ (IsUnfit.OfTwo a first second r s cause says says' unfits) (IsRight.OfTwo
 
 -- what is right for a command that reads nothing is NotFit where nothing can be made as it asks, and else Done
 done_or_not_fit : {input : Option (List ℕ)} {c : Command} {s : Status} {out : List ℕ} → ReadsNothing c → IsRight input c s out → (s ≡ status.Done) ⊎ ((s ≡ status.NotFit) × NothingFits c)
-done_or_not_fit reads (IsRight.OfRule a text r out says output) = inl refl
-done_or_not_fit reads (IsRight.OfRuleWith a text operand r out says output) = inl refl
-done_or_not_fit reads (IsRight.OfTwo a first second r s out says also output) = inl refl
-done_or_not_fit reads (IsRight.OfMany a k m from count out accepted summary) = inl refl
 done_or_not_fit reads (Unfit c cause unfits) = inr (refl, (cause, unfits))
 done_or_not_fit reads (Accepted bytes v whole accepted are_true) = absurd (reads refl)
 done_or_not_fit reads (Refused bytes f whole refused) = absurd (reads refl)
 done_or_not_fit reads (TooLong long) = absurd (reads refl)
+done_or_not_fit reads _ = inl refl
 
 -- a command with a right answer has no operand with a fault
 IsRight-no_fault : {input : Option (List ℕ)} {c : Command} {s : Status} {out : List ℕ} {operand : ℕ} {f : TextFault} → IsRight input c s out → IsOperandFault c operand f → ⊥
@@ -206,17 +148,8 @@ no_fault {operand = operand} {f = f} here fault also right = IsRight-no_fault ri
 
 -- no answer is a failed write or want of memory
 pub IsAnswered-answer : {words : List (List ℕ)} {input : Option (List ℕ)} {s : Status} {out : List ℕ} → IsAnswer words input s out → IsAnswered s
-IsAnswered-answer (Usage none) = tt
-IsAnswered-answer (RuleFault c operand f is fault) = tt
-IsAnswered-answer (Right c status.Done out is right) = tt
-IsAnswered-answer (Right c status.Refused out is right) = tt
-IsAnswered-answer (Right c status.NotFit out is right) = tt
-IsAnswered-answer (Right c status.TooLong out is right) = tt
-IsAnswered-answer (Right c status.Usage out is right) = tt
-IsAnswered-answer (Right c status.RuleFault out is right) = tt
-IsAnswered-answer (Right c status.ReadFault out is right) = absurd (IsRight-carried_out right)
-IsAnswered-answer (Right c status.WriteFault out is right) = absurd (IsRight-carried_out right)
-IsAnswered-answer (Right c status.Memory out is right) = absurd (IsRight-carried_out right)
+IsAnswered-answer (Right c s out is (TooLong long)) = tt
+IsAnswered-answer _ = tt
 
 -- an input that is whole isn't too long
 whole_short : {left bytes : List ℕ} → IsWholeInput (Some left) bytes → ¬ (most_input + 1 ≤ length left)
@@ -244,11 +177,8 @@ one_check (TooLong long) (TooLong _) = refl
 
 -- a command reads nothing, or is `check`
 reads_nothing_or_check : (c : Command) → ReadsNothing c ⊎ (c ≡ commands.Check)
-reads_nothing_or_check (commands.OfRule a rule) = inl (λ is. cc)
-reads_nothing_or_check (commands.OfRuleWith a rule operand) = inl (λ is. cc)
-reads_nothing_or_check (commands.OfTwo a first second) = inl (λ is. cc)
-reads_nothing_or_check (commands.OfMany a states width from count) = inl (λ is. cc)
 reads_nothing_or_check commands.Check = inr refl
+reads_nothing_or_check _ = inl (λ is. cc)
 
 -- a command has one right status, where it reads nothing or the input is told
 abbrev HasOneStatus : Option (List ℕ) → Command → Type 0
@@ -301,13 +231,13 @@ one_status_told {left = left} = one_status (λ c is. one_told left c)
 pub usage_says : {words : List (List ℕ)} {input : Option (List ℕ)} {out : List ℕ} → IsAnswer words input status.Usage out
     → ((c : Command) → ¬ IsCommand words c) × (out ≡ usage_line)
 usage_says (Usage none) = (none, refl)
-usage_says (Right c s out is right) = absurd (IsRight-carried_out right)
+usage_says (Right c s out is right) = elim right [ ]
 
 -- what an answer of status RuleFault says
 pub rule_fault_says : {words : List (List ℕ)} {input : Option (List ℕ)} {out : List ℕ} → IsAnswer words input status.RuleFault out
     → (c : Command) × (operand : ℕ) × (f : TextFault) × IsCommand words c × IsOperandFault c operand f × (out ≡ operand_fault_line operand f)
 rule_fault_says (RuleFault c operand f is fault) = (c, operand, f, is, fault, refl)
-rule_fault_says (Right c s out is right) = absurd (IsRight-carried_out right)
+rule_fault_says (Right c s out is right) = elim right [ ]
 
 -- what an answer says of a command none of whose operands has a fault
 pub right_says : {words : List (List ℕ)} {input : Option (List ℕ)} (c : Command) {s : Status} {out : List ℕ} → IsCommand words c → ((operand : ℕ) (f : TextFault) → ¬ IsOperandFault c operand f)
