@@ -5,7 +5,7 @@ ghost use Rattle.rule_algebra.specs.Algebra.{Ignores, IsTrimmed};
 ghost use Rattle.rule_algebra.specs.Tables.{without_first, DropsFirsts};
 
 use crate::parts::accepted;
-use word_image::Rule;
+use word_image::{Rule, Side};
 
 /// The rule without the cells that it ignores: as long as the width is above 2, the first cell is
 /// dropped if the rule ignores it, and the offset rises by 1; else the last cell if it ignores that.
@@ -37,9 +37,8 @@ fn ignores_first(rule: &Rule) -> bool
     ensures ignores { IsTrue result ↔ Ignores rule.now 1 0 }
     ensures rule { IsRule rule.now }
 {
-    let nodes = u16::from(rule.nodes());
     for window in 0..rule.size() {
-        if rule.at(window) != rule.at(window % nodes) {
+        if rule.at(window) != rule.at(u16::from(Side::Right.end_node(rule, window))) {
             return false;
         }
     }
