@@ -1,87 +1,81 @@
 -- A window is a node and the letter after it, and also the letter before a node and that node: so a step leads back from a pair along the windows that its nodes end.
-use Rattle.std.proofs.Common.{◌≡◌, ℕ, suc, ◌+◌, ◌-◌, ◌*◌, ◌/◌, ◌%◌, ◌^◌, ◌<◌, ◌≤◌, ◌↔◌, Some, slice_index, eq-eqb, refl, sym, ap, ap₂, ◌∙◌, subst, arith, mod-lt}
-use Rattle.std.proofs.lemmas.Nat.{div-mul-add, mod-mul-add, div-add-mod', div_below, mul-add-lt}
-use Rattle.std.proofs.Math.Nat.{div-div-eq-div-mul, pow-succ'}
-use Rattle.word_image.specs.LocalRules.{LocalRule, IsRule, node_count, word_of}
-use Rattle.word_image.specs.Graphs.{next, label, node_letter, first_of, second_of, pair_of, pair_count}
-use Rattle.pair_laws.proofs.Pairs.{first_of-pair_of, second_of-pair_of, pair_of-first_of, pair_of-below, some_if_equal, first_of-below, second_of-below, follow-pair_of, follow-some}
+use Rattle.std.proofs.Common.{◌≡◌, ℕ, ◌+◌, ◌*◌, ◌/◌, ◌%◌, ◌<◌, ◌↔◌, Some, slice_index, eq-eqb, refl, sym, ap, ap₂, ◌∙◌, subst, mod-lt, mul_comm}
+use Rattle.std.proofs.lemmas.Nat.{div-mul-add, mod-mul-add, div-add-mod'}
+use Rattle.std.proofs.Math.Nat.{div-div-eq-div-mul}
+use Rattle.word_image.specs.LocalRules.{LocalRule, IsRule, node_count}
+use Rattle.word_image.specs.Graphs.{next, node_letter, first_of, second_of, pair_of, pair_count}
+use Rattle.pair_laws.proofs.Pairs.{first_of-pair_of, second_of-pair_of, pair_of-first_of, pair_of-below, some_if_equal, first_of-below, second_of-below, follow-pair_of, follow-some, follow-below}
 use Rattle.word_image.proofs.laws.Graphs.{next-below}
+use Rattle.word_image.proofs.laws.WindowParts.{some_letter, rest_count, node_count-rest, node_parts, window_with-within, end_node-below}
+use Rattle.word_image.specs.Sides.{window_with}
 use Rattle.word_image.specs.Edges.{label_at, end_at, follow_on}
 use Rattle.word_image.specs.declared.side.Side.{Side}
 use Rattle.word_image.specs.declared.side.Side.TheVariants.{Left}
 use Rattle.pair_graph.specs.BackSteps.{LeadsBack}
 
--- the window of letter a before node s
-abbrev pub window_before : LocalRule → ℕ → ℕ → ℕ
-window_before r a s = a * node_count r + s
-
--- it is one of the windows
-pub window_before-below : {r : LocalRule} → IsRule r → (a s : ℕ) → a < r.states → s < node_count r → window_before r a s < node_count r * r.states
-window_before-below {r} rule a s letter node = mul-add-lt a (node_count r) s r.states letter node
+-- a letter leads to a node
+pub end_at-below : (side : Side) {r : LocalRule} → IsRule r → (u a : ℕ) → u < node_count r → a < r.states → end_at side r u a < node_count r
+end_at-below side {r} rule u a node letter = end_node-below side rule (window_with side r u a) (window_with-within side rule u a node letter)
 
 -- the first letter of a node is that of its windows
 first_letter : {r : LocalRule} → IsRule r → (u c : ℕ) → c < r.states → (u * r.states + c) / node_count r ≡ node_letter r u 0
 first_letter {r} rule u c letter =
-    let wide : 2 ≤ r.width = rule.shape.least_width in
-    let long : r.width - 1 ≡ suc (r.width - 2) = omega arith in
-    ap (λ n. (u * r.states + c) / n) (ap (λ n. r.states ^ n) long ∙ pow-succ' r.states (r.width - 2))
-    ∙ sym (div-div-eq-div-mul (u * r.states + c) r.states (r.states ^ (r.width - 2)))
-    ∙ ap (λ v. v / r.states ^ (r.width - 2)) (div-mul-add u r.states c letter)
-    ∙ ap (λ n. slice_index (word_of r.states n u) 0) (sym long)
+    ap (λ n. (u * r.states + c) / n) (node_count-rest rule ∙ mul_comm (rest_count r) r.states)
+    ∙ sym (div-div-eq-div-mul (u * r.states + c) r.states (rest_count r))
+    ∙ ap (λ v. v / rest_count r) (div-mul-add u r.states c letter) ∙ sym (node_parts rule u).0
 
--- a node that begins with a, and from which a letter leads to s, has the window of a before s
-window-only : {r : LocalRule} → IsRule r → (u c a s : ℕ) → c < r.states → node_letter r u 0 ≡ a → next r u c ≡ s → u * r.states + c ≡ window_before r a s
-window-only {r} rule u c a s letter first leads =
-    sym (div-add-mod' (u * r.states + c) (node_count r)) ∙ ap₂ (window_before r) (first_letter rule u c letter ∙ first) leads
+-- the window of a node and a letter is that of letter a before node s exactly where the node begins with a, and the letter leads to s
+same_window : {r : LocalRule} → IsRule r → (u c a s : ℕ) → c < r.states → s < node_count r → (u * r.states + c ≡ window_with Left r s a) ↔ ((node_letter r u 0 ≡ a) × (next r u c ≡ s))
+same_window {r} rule u c a s letter node = (
+  (λ same. (
+    sym (first_letter rule u c letter) ∙ ap (λ w. w / node_count r) same ∙ div-mul-add a (node_count r) s node,
+    ap (λ w. w % node_count r) same ∙ mod-mul-add a (node_count r) s node,
+  )),
+  (λ (first, leads). sym (div-add-mod' (u * r.states + c) (node_count r)) ∙ ap₂ (λ b t. window_with Left r t b) (first_letter rule u c letter ∙ first) leads),
+)
+
+-- so letter a before node s has the window of a node that begins with a, and of a letter that leads from it to s
+back_edge : {r : LocalRule} → IsRule r → (s a : ℕ) → s < node_count r → a < r.states → let w : ℕ = window_with Left r s a in
+    (w / r.states < node_count r) × (w % r.states < r.states) × (w / r.states * r.states + w % r.states ≡ w) × (node_letter r (w / r.states) 0 ≡ a) × (next r (w / r.states) (w % r.states) ≡ s)
+back_edge {r} rule s a node letter =
+    let w : ℕ = window_with Left r s a in
+    let last = mod-lt w (some_letter rule) in
+    let split = div-add-mod' w r.states in
+    let (first, leads) = (same_window rule (w / r.states) (w % r.states) a s last node).0 split in
+    (end_at-below Left rule s a node letter, last, split, first, leads)
 
 -- the pair of the nodes of two windows leads back, where the windows have one label
-leads_back : {r : LocalRule} → IsRule r → (q a b : ℕ) → q < pair_count r → a < r.states → b < r.states
-    → let first : ℕ = window_before r a (first_of r q) in let second : ℕ = window_before r b (second_of r q) in
-    slice_index r.table first ≡ slice_index r.table second → LeadsBack r q a b (pair_of r (first / r.states) (second / r.states))
+leads_back : {r : LocalRule} → IsRule r → (q a b : ℕ) → q < pair_count r → a < r.states → b < r.states → label_at Left r (first_of r q) a ≡ label_at Left r (second_of r q) b
+    → LeadsBack r q a b (pair_of r (end_at Left r (first_of r q) a) (end_at Left r (second_of r q) b))
 leads_back {r} rule q a b pair ha hb one_label =
-    let s : ℕ = first_of r q in
-    let t : ℕ = second_of r q in
-    let in_s : s < node_count r = first_of-below rule q pair in
-    let in_t : t < node_count r = second_of-below rule q in
-    let some : 0 < r.states = let least : 2 ≤ r.states = rule.shape.least_states in omega arith in
-    let v : ℕ = window_before r a s in
-    let w : ℕ = window_before r b t in
-    let node : (x y : ℕ) → x < r.states → y < node_count r → window_before r x y / r.states < node_count r = λ x y letter inside.
-    div_below (window_before r x y) r.states (node_count r) some (window_before-below rule x y letter inside) in
-    let split : (x : ℕ) → (x / r.states) * r.states + x % r.states ≡ x = λ x. div-add-mod' x r.states in
-    let begins : (x y : ℕ) → y < node_count r → node_letter r (window_before r x y / r.states) 0 ≡ x = λ x y inside.
-    sym (first_letter rule (window_before r x y / r.states) (window_before r x y % r.states) (mod-lt (window_before r x y) some))
-    ∙ ap (λ z. z / node_count r) (split (window_before r x y)) ∙ div-mul-add x (node_count r) y inside in
-    let leads : (x y : ℕ) → y < node_count r → next r (window_before r x y / r.states) (window_before r x y % r.states) ≡ y = λ x y inside.
-    ap (λ z. z % node_count r) (split (window_before r x y)) ∙ mod-mul-add x (node_count r) y inside in
-    let labels : label r (v / r.states) (v % r.states) ≡ label r (w / r.states) (w % r.states) = ap (slice_index r.table) (split v) ∙ one_label ∙ ap (slice_index r.table) (sym (split w)) in
+    let (in_u, in_c, at_u, first, to_first) = back_edge rule (first_of r q) a (first_of-below rule q pair) ha in
+    let (in_v, in_d, at_v, second, to_second) = back_edge rule (second_of r q) b (second_of-below rule q) hb in
     record {
-      in_pairs = pair_of-below r (v / r.states) (w / r.states) (node a s ha in_s) (node b t hb in_t);
-      first = ap (λ u. node_letter r u 0) (first_of-pair_of r (v / r.states) (w / r.states) (node b t hb in_t)) ∙ begins a s in_s;
-      second = ap (λ u. node_letter r u 0) (second_of-pair_of r (v / r.states) (w / r.states) (node b t hb in_t)) ∙ begins b t in_t;
+      in_pairs = pair_of-below r _ _ in_u in_v;
+      first = ap (λ u. node_letter r u 0) (first_of-pair_of r _ _ in_v) ∙ first;
+      second = ap (λ u. node_letter r u 0) (second_of-pair_of r _ _ in_v) ∙ second;
       leads = (
-        v % r.states,
-        w % r.states,
-        mod-lt v some,
-        mod-lt w some,
-        follow-pair_of r (v / r.states) (w / r.states) (v % r.states) (w % r.states) (node b t hb in_t) labels
-            ∙ ap₂ (λ (x y : ℕ). Some (pair_of r x y)) (leads a s in_s) (leads b t in_t) ∙ ap Some (pair_of-first_of r q),
+        _,
+        _,
+        in_c,
+        in_d,
+        follow-pair_of r _ _ _ _ in_v (ap (slice_index r.table) at_u ∙ one_label ∙ ap (slice_index r.table) (sym at_v)) ∙ ap Some (ap₂ (pair_of r) to_first to_second ∙ pair_of-first_of r q),
       );
     }
 
 -- and no other pair does
 pub led_back : {r : LocalRule} → IsRule r → (q a b p : ℕ) → LeadsBack r q a b p
-    → let first : ℕ = window_before r a (first_of r q) in let second : ℕ = window_before r b (second_of r q) in
-    (slice_index r.table first ≡ slice_index r.table second) × (pair_of r (first / r.states) (second / r.states) ≡ p)
+    → (label_at Left r (first_of r q) a ≡ label_at Left r (second_of r q) b) × (pair_of r (end_at Left r (first_of r q) a) (end_at Left r (second_of r q) b) ≡ p)
 led_back {r} rule q a b p back =
     let u : ℕ = first_of r p in
     let v : ℕ = second_of r p in
     let (c, d, in_c, in_d, follows) = back.leads in
     let edges = follow-some r p c d q follows in
-    let first : next r u c ≡ first_of r q = sym (first_of-pair_of r (next r u c) (next r v d) (next-below rule v d)) ∙ ap (first_of r) edges.1 in
-    let second : next r v d ≡ second_of r q = sym (second_of-pair_of r (next r u c) (next r v d) (next-below rule v d)) ∙ ap (second_of r) edges.1 in
-    let at_u : u * r.states + c ≡ window_before r a (first_of r q) = window-only rule u c a (first_of r q) in_c back.first first in
-    let at_v : v * r.states + d ≡ window_before r b (second_of r q) = window-only rule v d b (second_of r q) in_d back.second second in (
+    let in_t = next-below rule v d in
+    let first : next r u c ≡ first_of r q = sym (first_of-pair_of r (next r u c) (next r v d) in_t) ∙ ap (first_of r) edges.1 in
+    let second : next r v d ≡ second_of r q = sym (second_of-pair_of r (next r u c) (next r v d) in_t) ∙ ap (second_of r) edges.1 in
+    let at_u = (same_window rule u c a (first_of r q) in_c (first_of-below rule q (follow-below rule p c d q follows))).1 (back.first, first) in
+    let at_v = (same_window rule v d b (second_of r q) in_d (second_of-below rule q)).1 (back.second, second) in (
       ap (slice_index r.table) (sym at_u) ∙ edges.0 ∙ ap (slice_index r.table) at_v,
       ap₂ (λ (x y : ℕ). pair_of r (x / r.states) (y / r.states)) (sym at_u) (sym at_v)
           ∙ ap₂ (pair_of r) (div-mul-add u r.states c in_c) (div-mul-add v r.states d in_d) ∙ pair_of-first_of r p,

@@ -7,7 +7,7 @@ use Rattle.std.proofs.lemmas.Nat.{div-mul-add, mod-mul-add, div-add-mod', div_be
 use Rattle.word_image.specs.LocalRules.{LocalRule, IsRule, node_count}
 use Rattle.word_image.specs.Graphs.{first_of, second_of, pair_of, pair_count}
 use Rattle.word_image.proofs.laws.Bits.{bit_at-IsBitSet}
-use Rattle.word_image.proofs.laws.WindowParts.{window_with-within, end_node-below}
+use Rattle.word_image.proofs.laws.WindowParts.{window_with-within}
 use Rattle.pair_laws.proofs.Pairs.{first_of-below, second_of-below, some_if_equal}
 use Rattle.pair_laws.proofs.Rows.{row_cases, HasBit-less}
 use Rattle.pair_laws.proofs.Sets.{IsBitSet-and, IsBitSet-below}
@@ -17,7 +17,7 @@ use Rattle.word_image.specs.Sides.{window_with}
 use Rattle.word_image.specs.Edges.{AreEdgeRows, label_at, end_at, follow_on}
 use Rattle.pair_graph.specs.PairSets.{holds, truths, AreRows, LettersLead, LeadsInto, IsTrimmedSet, AreNodesKept, GoesOn}
 use Rattle.pair_graph.specs.PairRows.{holds_bit, length-truths, same_roots}
-use Rattle.pair_graph.proofs.BackSteps.{follow_on-edges, LeadsBack-follow}
+use Rattle.pair_graph.proofs.BackSteps.{end_at-below, follow_on-edges, LeadsBack-follow}
 
 -- a test of a bit
 tests_bit : (a i : ℕ) → IsTrue (bit_at a i == 1) ↔ IsBitSet a i
@@ -53,10 +53,6 @@ holds-row n rows set u i v {m} same seen h at node =
           (second, subst (λ s. IsTrue (holds s (u * n + v))) sets ((holds-place n rows u v node second).1 bit))),
       (λ (second, there). subst (λ x. IsBitSet x v) (sym row) ((holds-place n rows u v node second).0 (subst (λ s. IsTrue (holds s (u * n + v))) (sym sets) there))),
     )
-
--- a letter leads to a node
-end_at-below : (side : Side) {r : LocalRule} → IsRule r → (u a : ℕ) → u < node_count r → a < r.states → end_at side r u a < node_count r
-end_at-below side {r} rule u a node letter = end_node-below side rule (window_with side r u a) (window_with-within side rule u a node letter)
 
 -- letters lead to a pair exactly where they lead to it on this side
 pub LettersLead-follow : (side : Side) {r : LocalRule} → IsRule r → (p a b q : ℕ) → p < pair_count r → a < r.states → b < r.states → (follow_on side r p a b ≡ Some q) ↔ LettersLead side r p a b q
