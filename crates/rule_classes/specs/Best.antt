@@ -1,12 +1,11 @@
 -- The least rule so far, with its table.
 use Rattle.std.specs.Prelude.{◌≡◌}
-use Rattle.word_image.specs.LocalRules.{LocalRule, node_count}
+use Rattle.word_image.specs.LocalRules.{LocalRule}
 use Rattle.word_image.specs.Storage.{padded}
 use Rattle.rule_classes.specs.Colourings.{IsColouring, in_colours}
 use Rattle.rule_classes.specs.declared.best.Best.{Best}
 
 -- the entries are those of the rule that the colouring makes
 pub record IsBest (r : LocalRule) (b : Best) : Type 0 where
-  pub nodes : b.nodes ≡ node_count r
   pub colouring : IsColouring r.states b.colouring
   pub entries : b.entries ≡ padded (in_colours r b.colouring).table

@@ -1,6 +1,8 @@
 -- Colourings of the letters, the rules that they make, and the search for the least of these.
 use Rattle.std.specs.Prelude.{◌≡◌, ◌⊎◌, ℕ, ◌^◌, ◌<◌, ◌≤◌, List, length, reverse, slice_index, Bool, if◌then◌else◌, pos}
 use Rattle.word_image.specs.LocalRules.{LocalRule, value, word_of, local_map, wolfram_number}
+use Rattle.word_image.specs.declared.side.Side.{Side}
+use Rattle.word_image.specs.declared.side.Side.TheVariants.{Right, Left}
 use Rattle.rule_algebra.specs.Algebra.{recoloured}
 use Rattle.rule_algebra.specs.Tabulated.{table_by}
 use Rattle.rule_classes.specs.Classes.{turned}
@@ -18,6 +20,10 @@ pub record AreInverse (k : ℕ) (colours letters : List ℕ) : Type 0 where
 -- both are those of a colouring
 abbrev pub IsColouring : ℕ → Colouring → Type 0
 IsColouring k c = AreInverse k c.colours c.letters
+
+-- the side of an old window on which the last letter of the new one stands
+abbrev pub last_side : Bool → Side
+last_side mirror = if mirror then Left else Right
 
 -- the window in the old letters
 abbrev pub old_word : LocalRule → Colouring → ℕ → List ℕ

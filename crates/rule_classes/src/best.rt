@@ -10,8 +10,6 @@ use word_image::{MOST_ENTRIES, Rule};
 /// The least rule so far.
 #[derive(Clone, Copy)]
 pub struct Best {
-    /// How many nodes it has, as each rule of the class.
-    pub nodes: u8,
     /// Its colouring.
     pub colouring: Colouring,
     /// The letters of its table, and zeros after them.
@@ -29,7 +27,6 @@ impl Best {
         let size = usize::from(rule.size());
         entries[..size].copy_from_slice(rule.table());
         Best {
-            nodes: rule.nodes(),
             colouring: Colouring::unchanged(false),
             entries,
         }
@@ -45,7 +42,7 @@ impl Best {
         ensures best { IsBest rule.now self.new }
     {
         self.colouring = colouring;
-        colouring.fill(rule, self.nodes, &mut self.entries);
+        colouring.fill(rule, &mut self.entries);
     }
 
     /// The least rule so far, at offset 0.

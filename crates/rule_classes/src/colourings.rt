@@ -1,11 +1,12 @@
 //! Rules with other names for their letters, mirrored or not.
-ghost use Rattle.std.specs.Prelude.{◌≡◌, ◌≢◌, ◌+◌, ◌*◌, ◌/◌, ◌%◌, ◌^◌, ◌<◌, ◌≤◌, ℕ, slice_index, if◌then◌else◌};
+ghost use Rattle.std.specs.Prelude.{◌≡◌, ◌≢◌, ◌+◌, ◌*◌, ◌^◌, ◌<◌, ◌≤◌, ℕ, slice_index, if◌then◌else◌};
 ghost use Rattle.word_image.specs.LocalRules.{IsRule, node_count};
+ghost use Rattle.word_image.specs.Sides.{end_node, window_with};
 ghost use Rattle.word_image.specs.Storage.{padded};
-ghost use Rattle.rule_classes.specs.Colourings.{IsColouring, entry, in_colours, old_value};
+ghost use Rattle.rule_classes.specs.Colourings.{IsColouring, entry, in_colours, old_value, last_side};
 ghost use Rattle.rule_classes.specs.Tables.{AreFilled, HasZeros, IsRow};
 
-use word_image::{MOST_ENTRIES, Rule};
+use word_image::{MOST_ENTRIES, Rule, Side};
 
 /// The values of windows that differ in one letter.
 #[derive(Clone, Copy)]
@@ -73,18 +74,17 @@ impl Colouring {
     }
 
     /// Puts the table of the recoloured rule in the place of another one of its length.
-    pub fn fill(&self, rule: &Rule, nodes: u8, entries: &mut [u8; MOST_ENTRIES])
+    pub fn fill(&self, rule: &Rule, entries: &mut [u8; MOST_ENTRIES])
         requires rule { IsRule rule.now }
         requires states { rule.now.states ≤ 6 }
         requires colouring { IsColouring rule.now.states self.now }
-        requires nodes { nodes ≡ node_count rule.now }
         requires entries { HasZeros rule.now entries.old }
         ensures { entries.new ≡ padded (in_colours rule.now self.now).table }
     {
         let mut windows = [0; MOST_ENTRIES];
         windows[0] = self.old_window(rule, 0);
-        for node in 0..nodes {
-            let row = self.row(rule.k(), nodes, windows[usize::from(node)]);
+        for node in 0..rule.nodes() {
+            let row = self.row(rule, windows[usize::from(node)]);
             self.fill_row(rule, row, node, &mut windows, entries);
         }
     }
@@ -105,11 +105,11 @@ impl Colouring {
         requires filled { AreFilled rule.now self.now (node * rule.now.states) windows.old entries.old }
         ensures { AreFilled rule.now self.now ((node + 1) * rule.now.states) windows.new entries.new }
     {
-        let first = node * rule.k();
         for letter in 0..rule.k() {
+            let window = usize::from(Side::Right.window_with(rule, node, letter));
             let (old, colour) = self.read(rule, row, letter);
-            windows[usize::from(first + letter)] = old;
-            entries[usize::from(first + letter)] = colour;
+            windows[window] = old;
+            entries[window] = colour;
         }
     }
 
@@ -131,21 +131,20 @@ impl Colouring {
 
     /// The old values of the windows of a node, from that of the window a letter back: its first letter
     /// is left out, and one letter more comes behind, both at the other end where the rule is mirrored.
-    pub fn row(&self, k: u8, nodes: u8, back: u8) -> Row
-        requires k { 2 ≤ k }
-        requires few { k ≤ 6 }
-        requires nodes { 0 < nodes }
-        requires some { nodes ≤ 16 }
-        ensures { (letter : ℕ) → result.start + letter * result.step ≡ (if self.now.mirrored then letter * nodes + back / k else back % nodes * k + letter) }
+    pub fn row(&self, rule: &Rule, back: u8) -> Row
+        requires states { rule.now.states ≤ 6 }
+        requires back { back < rule.now.states ^ rule.now.width }
+        ensures { (letter : ℕ) → result.start + letter * result.step ≡ window_with (last_side self.now.mirrored) rule.now (end_node (last_side self.now.mirrored) rule.now back) letter }
     {
+        let back = u16::from(back);
         if self.mirrored {
             Row {
-                start: back / k,
-                step: nodes,
+                start: Side::Left.end_node(rule, back),
+                step: rule.nodes(),
             }
         } else {
             Row {
-                start: back % nodes * k,
+                start: Side::Right.end_node(rule, back) * rule.k(),
                 step: 1,
             }
         }

@@ -7,7 +7,7 @@ ghost use Rattle.rule_classes.specs.declared.colourings.Colouring.{Colouring};
 
 use crate::best::Best;
 use crate::colourings::Colouring;
-use word_image::Rule;
+use word_image::{Rule, Side};
 
 /// Makes the best rule so far the least of it and of those whose colourings have the letters of this
 /// one at the chosen colours. The colours from `low` on, below `high`, are free. It chooses the greatest
@@ -69,7 +69,7 @@ fn may_be_less(rule: &Rule, colouring: &Colouring, low: u8, high: u8, best: &Bes
     if high == rule.k() {
         return true;
     }
-    match told(rule, colouring, low, high, best, best.nodes - 1, high) {
+    match told(rule, colouring, low, high, best, rule.nodes() - 1, high) {
         Some(less) => less,
         None => true,
     }
@@ -84,7 +84,7 @@ fn is_less(rule: &Rule, colouring: &Colouring, best: &Best) -> bool
     ensures less { IsTrue result → recoloured_number rule.now colouring.now < recoloured_number rule.now best.now.colouring }
     ensures no_less { IsFalse result → recoloured_number rule.now best.now.colouring ≤ recoloured_number rule.now colouring.now }
 {
-    for node in (0..best.nodes).rev() {
+    for node in (0..rule.nodes()).rev() {
         if let Some(less) = told(rule, colouring, 0, 0, best, node, 0) {
             return less;
         }
@@ -120,10 +120,11 @@ fn told(
 {
     let k = rule.k();
     let back = colouring.old_window(rule, u16::from(node));
-    let row = colouring.row(k, best.nodes, back);
+    let row = colouring.row(rule, back);
     for letter in (first..k).rev() {
+        let window = Side::Right.window_with(rule, node, letter);
         let (_, colour) = colouring.read(rule, row, letter);
-        let other = best.entries[usize::from(node * k + letter)];
+        let other = best.entries[usize::from(window)];
         if is_free(low, high, colour) {
             return Some(low <= other);
         }

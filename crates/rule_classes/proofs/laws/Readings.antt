@@ -1,17 +1,19 @@
 -- A window is read from its last letter on, in the old letters.
-use Rattle.std.proofs.Common.{◌≡◌, ℕ, suc, ◌+◌, ◌-◌, ◌*◌, ◌/◌, ◌%◌, ◌^◌, ◌<◌, ◌≤◌, List, [], ◌∷◌, ◌++◌, length, take, drop, reverse, get_or, slice_index, if◌then◌else◌, Bool, true, false, refl, sym, ap, ap₂, ◌∙◌, subst, arith, length-drop, drop-cons, pow-suc, mod-lt, mod-eq_of_lt, mul_comm}
+use Rattle.std.proofs.Common.{◌≡◌, ℕ, suc, ◌+◌, ◌-◌, ◌*◌, ◌/◌, ◌%◌, ◌^◌, ◌<◌, ◌≤◌, List, [], ◌∷◌, ◌++◌, length, take, drop, reverse, get_or, slice_index, if◌then◌else◌, Bool, true, false, refl, sym, ap, ap₂, ◌∙◌, subst, arith, length-drop, drop-cons, pow-suc, mod-lt, mod-eq_of_lt}
 use Rattle.std.proofs.Math.Nat.{pow-le-pow_right, pow-zero, one-le-pow, mul-le-mul_right}
-use Rattle.std.proofs.lemmas.Nat.{mul-add-lt, div-mul-add, mod-mul-add, div-add-mod', div_below}
+use Rattle.std.proofs.lemmas.Nat.{div-mul-add, mod-mul-add, div-add-mod', div_below}
 use Rattle.std.proofs.lemmas.List.{take_all, length_push, map-append, length-map, length-reverse, get_or-map, reverse-append, drop_all}
 use Rattle.std.proofs.lemmas.List.Elements.{All-drop, All-push}
 use Rattle.word_image.specs.LocalRules.{LocalRule, IsRule, IsWord, value, word_of, local_map, node_count}
 use Rattle.word_image.proofs.laws.Values.{value-snoc, value-below, value-injective, value-take_more, value-word_of, IsWord-word_of, length-word_of}
 use Rattle.word_image.proofs.laws.Images.{IsWord-reverse, local_map-mirrored}
 use Rattle.word_image.proofs.laws.RuleFaults.{window_count-le}
-use Rattle.word_image.proofs.laws.WindowParts.{some_letter, windows-nodes}
+use Rattle.word_image.proofs.laws.WindowParts.{some_letter, window_with-within}
+use Rattle.word_image.specs.Sides.{window_with, end_node}
+use Rattle.word_image.specs.declared.side.Side.TheVariants.{Right}
 use Rattle.rule_algebra.specs.Algebra.{recoloured}
 use Rattle.rule_classes.specs.Classes.{turned}
-use Rattle.rule_classes.specs.Colourings.{IsColouring, old_word, old_value, entry, read_as}
+use Rattle.rule_classes.specs.Colourings.{IsColouring, old_word, old_value, entry, read_as, last_side}
 use Rattle.rule_classes.specs.Tables.{IsRow}
 use Rattle.rule_classes.specs.declared.colourings.Colouring.{Colouring}
 use Rattle.rule_classes.specs.declared.colourings.Row.{Row}
@@ -121,14 +123,14 @@ old_value-below r c v colouring below =
     subst (λ n. old_value r c v < r.states ^ n) (length-read_as c.mirrored x ∙ length-old_word r c v) less
 
 -- a word without its first letter and with one more behind, read forwards or backwards
-value-moved : (mirror : Bool) (k f b : ℕ) (y : List ℕ) → f < k → IsWord k y
-    → value k (read_as mirror (y ++ b ∷ [])) ≡ (if mirror then b * k ^ length y + value k (read_as mirror (f ∷ y)) / k else value k (read_as mirror (f ∷ y)) % k ^ length y * k + b)
-value-moved true k f b y letter word =
-    let back : value k (reverse (f ∷ y)) / k ≡ value k (reverse y) = ap (λ x. x / k) (value-read_as true k f y) ∙ div-mul-add (value k (reverse y)) k f letter in
-    ap (value k) (reverse-append y (b ∷ [])) ∙ ap₂ (λ (n x : ℕ). b * k ^ n + x) (length-reverse y) (sym back)
-value-moved false k f b y letter word =
-    let back : value k (f ∷ y) % k ^ length y ≡ value k y = mod-mul-add f (k ^ length y) (value k y) (value-below k y word) in
-    value-snoc k y b ∙ ap (λ x. x * k + b) (sym back)
+value-moved : (r : LocalRule) (mirror : Bool) (f b : ℕ) (y : List ℕ) → f < r.states → IsWord r.states y → length y ≡ r.width - 1
+    → value r.states (read_as mirror (y ++ b ∷ [])) ≡ window_with (last_side mirror) r (end_node (last_side mirror) r (value r.states (read_as mirror (f ∷ y)))) b
+value-moved r true f b y letter word long =
+    let back : value r.states (reverse (f ∷ y)) / r.states ≡ value r.states (reverse y) = ap (λ x. x / r.states) (value-read_as true r.states f y) ∙ div-mul-add (value r.states (reverse y)) r.states f letter in
+    ap (value r.states) (reverse-append y (b ∷ [])) ∙ ap₂ (λ (n x : ℕ). b * r.states ^ n + x) (length-reverse y ∙ long) (sym back)
+value-moved r false f b y letter word long =
+    let back : value r.states (f ∷ y) % node_count r ≡ value r.states y = ap (λ n. value r.states (f ∷ y) % r.states ^ n) (sym long) ∙ mod-mul-add f (r.states ^ length y) (value r.states y) (value-below r.states y word) in
+    value-snoc r.states y b ∙ ap (λ x. x * r.states + b) (sym back)
 
 -- a window is the one a letter back without its first letter, and with its last digit behind
 word_of-moved : (k n v : ℕ) → 0 < k → v < k ^ suc n → word_of k (suc n) v ≡ word_of k n (v / k) ++ (v % k) ∷ []
@@ -142,8 +144,7 @@ word_of-moved k n v some below =
 
 -- so is its value
 pub old_value-moved : {r : LocalRule} (c : Colouring) (v : ℕ) → IsRule r → IsColouring r.states c → v < r.states ^ r.width
-    → old_value r c v ≡ (if c.mirrored then slice_index c.letters (v % r.states) * node_count r + old_value r c (v / r.states) / r.states
-    else old_value r c (v / r.states) % node_count r * r.states + slice_index c.letters (v % r.states))
+    → old_value r c v ≡ window_with (last_side c.mirrored) r (end_node (last_side c.mirrored) r (old_value r c (v / r.states))) (slice_index c.letters (v % r.states))
 old_value-moved {r} c v rule colouring below =
     let k : ℕ = r.states in
     let n : ℕ = r.width - 1 in
@@ -161,9 +162,8 @@ old_value-moved {r} c v rule colouring below =
     ap (λ m. recoloured c.letters (word_of k m v)) wide ∙ ap (recoloured c.letters) (word_of-moved k n v some less) ∙ map-append (slice_index c.letters) (word_of k n (v / k)) ((v % k) ∷ []) in
     let there : old_word r c (v / k) ≡ f ∷ y =
     ap (λ m. recoloured c.letters (word_of k m (v / k))) wide ∙ ap (λ u. f ∷ recoloured c.letters (word_of k n u)) one in
-    let moved = value-moved c.mirrored k f (slice_index c.letters (v % k)) y (colouring.letter _ first) word in
-    ap (λ x. value k (read_as c.mirrored x)) here ∙ moved
-    ∙ ap₂ (λ (j : ℕ) (x : List ℕ). if c.mirrored then slice_index c.letters (v % k) * k ^ j + value k (read_as c.mirrored x) / k else value k (read_as c.mirrored x) % k ^ j * k + slice_index c.letters (v % k)) long (sym there)
+    ap (λ x. value k (read_as c.mirrored x)) here ∙ value-moved r c.mirrored f (slice_index c.letters (v % k)) y (colouring.letter _ first) word long
+    ∙ ap (λ x. window_with (last_side c.mirrored) r (end_node (last_side c.mirrored) r (value k (read_as c.mirrored x))) (slice_index c.letters (v % k))) (sym there)
 
 -- What is given
 
@@ -184,20 +184,15 @@ entry-read r c v colouring below = ap (slice_index c.colours) (given-read r c v 
 -- Windows of a node and a last letter
 
 pub window-below : {r : LocalRule} → IsRule r → (u a : ℕ) → u < node_count r → a < r.states → u * r.states + a < r.states ^ r.width
-window-below {r} rule u a node letter =
-    let below : u * r.states + a < r.states * node_count r = mul-add-lt u r.states a (node_count r) node letter in
-    let swapped : r.states * node_count r ≡ node_count r * r.states = mul_comm r.states (node_count r) in
-    omega (arith, windows-nodes rule)
+window-below rule u a node letter = window_with-within Right rule u a node letter
 
 -- the values of the windows of a node are made from that of the window of the node itself
-pub IsRow-made : {r : LocalRule} (c : Colouring) (u : ℕ) (row : Row) {k n back : ℕ} → IsRule r → IsColouring r.states c → u < node_count r → k ≡ r.states → n ≡ node_count r → back ≡ old_value r c u
-    → ((a : ℕ) → row.start + a * row.step ≡ (if c.mirrored then a * n + back / k else back % n * k + a)) → IsRow r c u row
-IsRow-made {r} c u row {k} {n} {back} rule colouring node states nodes value made = record {
+pub IsRow-made : {r : LocalRule} {c : Colouring} {back : ℕ} (u : ℕ) (row : Row) → IsRule r → IsColouring r.states c → u < node_count r → back ≡ old_value r c u
+    → ((a : ℕ) → row.start + a * row.step ≡ window_with (last_side c.mirrored) r (end_node (last_side c.mirrored) r back) a) → IsRow r c u row
+IsRow-made {r} {c} {back} u row rule colouring node value made = record {
   values = λ a letter.
-      let b : ℕ = slice_index c.letters a in
-      made b
-      ∙ ap₂ (λ (j o : ℕ). if c.mirrored then b * n + o / j else o % n * j + b) states (value ∙ ap (old_value r c) (sym (div-mul-add u r.states a letter)))
-      ∙ ap₂ (λ (m e : ℕ). if c.mirrored then slice_index c.letters e * m + old_value r c ((u * r.states + a) / r.states) / r.states else old_value r c ((u * r.states + a) / r.states) % m * r.states + slice_index c.letters e)
-      nodes (sym (mod-mul-add u r.states a letter))
+      made (slice_index c.letters a)
+      ∙ ap₂ (λ (o e : ℕ). window_with (last_side c.mirrored) r (end_node (last_side c.mirrored) r o) (slice_index c.letters e))
+      (value ∙ ap (old_value r c) (sym (div-mul-add u r.states a letter))) (sym (mod-mul-add u r.states a letter))
       ∙ sym (old_value-moved c (u * r.states + a) rule colouring (window-below rule u a node letter));
 }

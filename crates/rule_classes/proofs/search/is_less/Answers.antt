@@ -1,4 +1,4 @@
-use Rattle.std.proofs.Common.{◌≡◌, ◌*◌, sym, ap, ◌∙◌, subst, arith}
+use Rattle.std.proofs.Common.{◌≡◌, ◌*◌, ap, ◌∙◌, subst, arith}
 use Rattle.word_image.proofs.laws.WindowParts.{windows-nodes}
 use Rattle.rule_classes.specs.Colourings.{AgreeFrom}
 use Rattle.rule_classes.proofs.laws.Completions.{AgreeFrom-none, Completes-itself, one_number}
@@ -7,8 +7,7 @@ use Rattle.rule_classes.proofs.search.is_less.Goals as goal
 pub loop-node-init : goal.loop-node-init
 loop-node-init c =
     let r = c.args.rule.now in
-    let all = windows-nodes c.requires.rule ∙ ap (λ n. n * r.states) (sym c.requires.best.nodes) in
-    AgreeFrom-none (omega (arith, all))
+    AgreeFrom-none (omega (arith, windows-nodes c.requires.rule, ap (λ n. n * r.states) c.nodes-node.ensures.nodes))
 
 pub returns-clause-no_less : goal.returns-clause-no_less
 returns-clause-no_less c is =

@@ -12,7 +12,7 @@ pub read-colour-requires-clause-row : goal.read-colour-requires-clause-row
 read-colour-requires-clause-row c =
     let s = c.args.colouring.now in
     let back = c.old_window-back.ensures.value ∙ ap (old_value c.args.rule.now s) c.from.ensures in
-    (c.args.node, c.requires.node, IsRow-made s c.args.node c.row-row.result c.k-k.ensures.rule c.requires.colouring c.requires.node c.k-k.ensures.states c.requires.best.nodes back c.row-row.ensures)
+    (c.args.node, c.requires.node, IsRow-made c.args.node c.row-row.result c.k-k.ensures.rule c.requires.colouring c.requires.node back c.row-row.ensures)
 
 -- at a letter above which the tables agree: what is known of its window, and the entries of both there
 here : (c : After-from-in-loop-letter) → IsKnown c.args.rule.now c.args.low c.args.high (c.args.node * c.args.rule.now.states + (c.loop-letter.letter - 1))
@@ -30,8 +30,8 @@ here c =
     let back = c.old_window-back.ensures.value ∙ ap (old_value r s) c.from.ensures in (
       IsKnown-at rule u c.args.first a c.requires.node letter (omega arith) c.requires.known,
       subst (AgreeFrom r s c.args.low c.args.high c.args.best.now.colouring) next c.loop-letter.invariant,
-      c.read-colour.ensures.colour u c.requires.node (IsRow-made s u c.row-row.result rule c.requires.colouring c.requires.node c.k-k.ensures.states c.requires.best.nodes back c.row-row.ensures),
-      ap (slice_index c.args.best.now.entries) (c.from-in-loop-letter.ensures ∙ ap (λ j. u * j + a) c.k-k.ensures.states) ∙ slice_index-best c.args.best.now (u * r.states + a) c.requires.best (window-below rule u a c.requires.node letter),
+      c.read-colour.ensures.colour u c.requires.node (IsRow-made u c.row-row.result rule c.requires.colouring c.requires.node back c.row-row.ensures),
+      ap (slice_index c.args.best.now.entries) (c.from-in-loop-letter.ensures ∙ c.window_with-window.ensures.value) ∙ slice_index-best c.args.best.now (u * r.states + a) c.requires.best (window-below rule u a c.requires.node letter),
     )
 
 pub returns-then-is_free-clause-no_less : goal.returns-then-is_free-clause-no_less

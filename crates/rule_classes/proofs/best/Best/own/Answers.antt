@@ -11,7 +11,6 @@ returns-clause-best c =
     let colouring = c.unchanged.ensures.colouring r.states c.requires.states in
     let long : c.from-size.result ≡ length r.table = c.from-size.ensures ∙ c.size.ensures.size ∙ sym rule.entries in
     record {
-      nodes = c.nodes.ensures.nodes;
       colouring = colouring;
       entries =
           ap₂ (λ (xs ys : List ℕ). xs ++ ys) (c.copy_from_slice.ensures.after ∙ c.table.ensures.table) (drop-replicate c.from-size.result 256 0)
