@@ -69,12 +69,13 @@ fn first_missing(rule: &Rule, pairs: &[u16]) -> Option<u16>
 
 /// The place of the first pair with two equal nodes.
 fn first_diagonal(rule: &Rule, pairs: &[u16]) -> Option<usize>
+    requires { All (λ p. p < pair_count rule.now) pairs.now }
     ensures { FirstBreach (length pairs.now)
         (λ i. first_of rule.now (slice_index pairs.now i) ≢ second_of rule.now (slice_index pairs.now i)) result }
 {
-    let nodes = u16::from(rule.nodes());
     for (place, pair) in pairs.iter().enumerate() {
-        if *pair / nodes == *pair % nodes {
+        let (u, v) = rule.nodes_of(*pair);
+        if u == v {
             return Some(place);
         }
     }
