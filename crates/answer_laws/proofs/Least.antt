@@ -1,5 +1,5 @@
 -- What is the least of its kind is one: orphans, twins, rings, windows, look-aheads, splits and erasable pairs.
-use Rattle.std.proofs.Common.{inl, inr, ◌≡◌, ℕ, ◌<◌, List, sym, ap, ap₂, ◌∙◌, arith}
+use Rattle.std.proofs.Common.{inr, ◌≡◌, ℕ, ◌<◌, List, sym, ap, ap₂, ◌∙◌, arith}
 use Rattle.word_image.specs.LocalRules.{LocalRule}
 use Rattle.word_image.specs.Words.{IsLeastOrphan}
 use Rattle.word_image.specs.Rings.{IsLeastTwins, IsLeastLossyRing}
@@ -8,6 +8,7 @@ use Rattle.word_image.specs.Windows.{IsLeastDetermined, IsLeastRightAhead}
 use Rattle.tail_config.specs.Tails.{TailConfig, mirror_of}
 use Rattle.tail_config.specs.TailValues.{config_of}
 use Rattle.tail_config.specs.Splits.{IsLeastRightSplit, IsLeastLeftSplit}
+use Rattle.ca_cli.proofs.laws.Causes.{IsLeastDetermined-length}
 use Rattle.answer_laws.proofs.Orders.{one_word, one_pair, one_split}
 
 -- a rule has one least orphan
@@ -30,9 +31,7 @@ IsLeastErasable-unique {x = x} {y = y} {u = u} {v = v} h g =
 -- one least determined window
 pub IsLeastDetermined-unique : {r : LocalRule} {n c m d : ℕ} → IsLeastDetermined r n c → IsLeastDetermined r m d → (n ≡ m) × (c ≡ d)
 IsLeastDetermined-unique {n = n} {c = c} {m = m} {d = d} h g =
-    let below : ¬ (n < m) = λ less. g.least n c (inl less) h.determined in
-    let above : ¬ (m < n) = λ less. h.least m d (inl less) g.determined in
-    let long : n ≡ m = omega (arith, below, above) in
+    let long : n ≡ m = IsLeastDetermined-length h g in
     let before : ¬ (c < d) = λ less. g.least n c (inr (long, less)) h.determined in
     let behind : ¬ (d < c) = λ less. h.least m d (inr (sym long, less)) g.determined in
     (long, omega (arith, before, behind))

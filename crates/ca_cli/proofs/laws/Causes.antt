@@ -25,8 +25,8 @@ IsOffset-unique (Minus digits minus) (Plain _ plain) = absurd (omega (arith, (pl
 IsOffset-unique (Minus digits minus) (Minus _ also) = refl
 
 -- the least determined windows of a rule have one length
-one_length : {r : LocalRule} {n c m d : ℕ} → IsLeastDetermined r n c → IsLeastDetermined r m d → n ≡ m
-one_length {n = n} {c = c} {m = m} {d = d} first second =
+pub IsLeastDetermined-length : {r : LocalRule} {n c m d : ℕ} → IsLeastDetermined r n c → IsLeastDetermined r m d → n ≡ m
+IsLeastDetermined-length {n = n} {c = c} {m = m} {d = d} first second =
     let below : ¬ (n < m) = λ less. second.least n c (inl less) first.determined in
     let above : ¬ (m < n) = λ less. first.least m d (inl less) second.determined in
     omega (arith, below, above)
@@ -39,7 +39,7 @@ kept_and_broken f kept broken same = none-some f (sym kept ∙ same ∙ broken)
 pub IsOutput-fit : {asked : Ask} {r : LocalRule} {cause : List ℕ} (out : List ℕ) → IsCause asked r cause → ¬ IsOutput asked r out
 IsOutput-fit out (Twins r x y none twins) says = none says.injective
 IsOutput-fit out (Wide r n c least wide) says =
-    let few : r.states ^ n ≤ 65536 = subst (λ m. r.states ^ m ≤ 65536) (one_length says.least least) says.few in
+    let few : r.states ^ n ≤ 65536 = subst (λ m. r.states ^ m ≤ 65536) (IsLeastDetermined-length says.least least) says.few in
     omega (arith, few, wide)
 IsOutput-fit out (Colours r many) says = omega (arith, many, says.0)
 IsOutput-fit out (Lift r f none) says = kept_and_broken f says.0 none refl
