@@ -1,7 +1,7 @@
 -- Sets of nodes, each a number in which node u is bit u, and the steps between them (Sutner 1991).
 use Rattle.std.specs.Prelude.{◌≡◌, ℕ, List, Contains, bit_and}
 use Rattle.word_image.specs.LocalRules.{LocalRule}
-use Rattle.word_image.specs.Graphs.{IsStep}
+use Rattle.word_image.specs.Edges.{IsStep}
 use Rattle.search_laws.specs.Walks.{Walk}
 use Rattle.cert_format.specs.declared.cert_version.CertVersion.{CertVersion}
 use Rattle.cert_format.specs.declared.cert_version.CertVersion.TheVariants.{One, Two, Three}

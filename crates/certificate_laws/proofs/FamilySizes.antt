@@ -53,7 +53,7 @@ sets-apart {r} {sets} family i j d less within same =
 length-family : {r : LocalRule} {sets : List ℕ} → IsRule r → IsFamily r sets → length sets ≤ 65536
 length-family {r} {sets} rule family =
     let few = length-le_from_distinct_below sets (2 ^ node_count r) (IsDistinct-from_AllPairs Decides-eqb sets (sets-apart family)) (λ s any.
-    (IsLastSet-each r sets family.words family.each s (Contains-from_any (λ x y same. (Decides-eqb x y).0 same) s sets any)).1.within) in
+    (IsLastSet-each r sets family.words family.each s (Contains-from_any (λ x y same. (Decides-eqb x y).0 same) s sets any)).1.last.within) in
     let most : 2 ^ node_count r ≤ 2 ^ 16 = pow-le-pow_right (omega arith) rule.shape.most_nodes in
     omega (arith, few, most)
 

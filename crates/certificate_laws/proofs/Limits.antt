@@ -43,7 +43,7 @@ pub IsSurjectiveShape-written : (version : CertVersion) {r : LocalRule} → IsRu
 IsSurjectiveShape-written version {r} rule (Sets sets) surjective (two, (family, is, same)) = λ i d l.
     let last = AreLastSets-family surjective is in
     let listed = Contains-covers (full_set r) family (Contains-full last) (get_or sets i d) (subst (λ xs. Contains xs (get_or sets i d)) same (Contains-get_or sets i d l)) in
-    let word = last.each (get_or sets i d) listed in omega (arith, word.1.within)
+    let word = last.each (get_or sets i d) listed in omega (arith, word.1.last.within)
 IsSurjectiveShape-written version rule (Pairs pairs) surjective (three, reached) = (ap lists_pairs three, below-reached rule reached)
 IsSurjectiveShape-written version rule (Orphan w) least list = least.orphan.word
 

@@ -3,7 +3,8 @@ use Rattle.std.proofs.Common.{ℕ, ◌^◌, ◌<◌, ◌≤◌, List, length, �
 use Rattle.std.proofs.Math.Nat.{pow-le-pow_right}
 use Rattle.word_image.specs.LocalRules.{LocalRule, IsRule, node_count}
 use Rattle.word_image.specs.Words.{IsLeastOrphan}
-use Rattle.word_image.specs.Graphs.{full_set, IsStep}
+use Rattle.word_image.specs.Graphs.{full_set}
+use Rattle.word_image.specs.Edges.{IsStep}
 use Rattle.search_laws.proofs.Walks.{Walk-shortened}
 use Rattle.cert_check.proofs.laws.StepConditions.{IsOrphan-read}
 use Rattle.cert_check.proofs.laws.ExactEvidence.{LeadsTo-orphan}

@@ -1,10 +1,8 @@
 -- A rule closes on a side exactly where no first pair of that side is endless.
-use Rattle.std.proofs.Common.{◌==◌, ℕ, ◌/◌, ◌^◌, ◌↔◌, IsBitSet, IsTrue, bit_and, sym, ◌∙◌, subst, eq-eqb, ⊎_elim}
-use Rattle.std.proofs.lemmas.Bool.{cases_eq, ne_eqb, false≢true}
-use Rattle.std.proofs.lemmas.Nat.Bits.{shr_and_one}
+use Rattle.std.proofs.Common.{◌==◌, ℕ, ◌/◌, ◌^◌, ◌↔◌, IsBitSet, IsTrue, bit_and, subst}
 use Rattle.word_image.specs.LocalRules.{LocalRule, IsRule}
 use Rattle.word_image.specs.Ranks.{IsEndless}
-use Rattle.word_image.proofs.laws.Bits.{bit_at-IsBitSet}
+use Rattle.pair_laws.proofs.Rows.{IsBitSet-test}
 use Rattle.pair_laws.proofs.BothWays.{some_ahead}
 use Rattle.word_image.specs.declared.side.Side.{Side}
 use Rattle.word_image.specs.Sides.{Together, PairGoes}
@@ -34,13 +32,8 @@ closing_without side {r} rule none = (closes_exactly side rule).1 (λ p first en
 -- the bit of the second node in the row of the first tells
 pub IsEndlessWith-bit : (side : Side) (r : LocalRule) (w a u v row : ℕ) → IsFound side r w a u v → (IsBitSet row v ↔ IsEndless (Together side r u v))
     → IsTrue (bit_and (row / 2 ^ v) 1 == 1) ↔ IsEndlessWith side r w a
-IsEndlessWith-bit side r w a u v row found exact = (
-  (λ t. ⊎_elim
-      (λ one.
-      let endless = exact.0 ((bit_at-IsBitSet row v).1 (sym (shr_and_one row v) ∙ one)) in
-      record { first = found.first; endless = λ n. (end_pair-goes side r w a u v n found.ends).1 (endless n) })
-      (λ other. absurd (false≢true (sym (ne_eqb (bit_and (row / 2 ^ v) 1) 1 other) ∙ t)))
-      (cases_eq (bit_and (row / 2 ^ v) 1) 1)),
-  (λ h. eq-eqb (bit_and (row / 2 ^ v) 1) 1
-      (shr_and_one row v ∙ (bit_at-IsBitSet row v).0 (exact.1 (λ n. (end_pair-goes side r w a u v n found.ends).0 (h.endless n))))),
-)
+IsEndlessWith-bit side r w a u v row found exact =
+    let test = IsBitSet-test row v in (
+      (λ one. let endless = exact.0 (test.0 one) in record { first = found.first; endless = λ n. (end_pair-goes side r w a u v n found.ends).1 (endless n) }),
+      (λ h. test.1 (exact.1 (λ n. (end_pair-goes side r w a u v n found.ends).0 (h.endless n)))),
+    )

@@ -1,6 +1,6 @@
 //! The graph, with its tables.
 
-ghost use Rattle.std.specs.Prelude.{◌≡◌, ◌<◌, ℕ, List, [], ◌∷◌, ◌++◌};
+ghost use Rattle.std.specs.Prelude.{◌≡◌, ◌^◌, ◌<◌, ℕ, List, [], ◌∷◌, ◌++◌, slice_index, IsBitSet};
 ghost use Rattle.word_image.specs.LocalRules.{IsRule, node_count};
 
 use std::marker::Model;
@@ -18,7 +18,7 @@ pub struct Graph {
 
 impl Model for Graph {
     ghost use Rattle.word_image.specs.LocalRules.{LocalRule, IsRule};
-    ghost use Rattle.word_image.specs.Edges.{AreEdgeRows};
+    ghost use Rattle.word_image.specs.Edges.{AreEdgeRows, IsStep};
     ghost use Rattle.word_image.specs.declared.side.Side.TheVariants.{Right};
 
     ghost Value = { LocalRule };
@@ -29,9 +29,9 @@ impl Model for Graph {
 }
 
 impl Graph {
-    ghost use Rattle.word_image.specs.Graphs.{next, label, full_set, IsStep};
+    ghost use Rattle.word_image.specs.Graphs.{next, label, full_set, IsNodeSet};
     ghost use Rattle.word_image.specs.Ranks.{IsLastSet};
-    ghost use Rattle.word_image.specs.Edges.{AreEdgeRows, IsEnds};
+    ghost use Rattle.word_image.specs.Edges.{AreEdgeRows, IsEnds, IsStep};
 
     /// The graph of this rule.
     pub fn of(rule: &Rule) -> Graph
@@ -100,8 +100,9 @@ impl Graph {
         requires label { label < self.now.states }
         ensures { IsEnds Side.Right self.now u label result }
     {
-        self.ends[usize::from(label)][usize::from(u)]
+        self.edges()[usize::from(label)][usize::from(u)]
     }
+
     /// The set of all nodes, node u as bit u: the last nodes of the empty word.
     pub fn full(&self) -> u16
         ensures set { result ≡ full_set self.now }
@@ -117,10 +118,18 @@ impl Graph {
         ensures step { IsStep self.now set a result }
         ensures word { (w : List ℕ) → IsLastSet self.now w set → IsLastSet self.now (w ++ a ∷ []) result }
     {
+        self.after(&self.edges()[usize::from(a)], set)
+    }
+
+    /// The nodes to which a node of the set is related, where row u is the set of those to which node u is.
+    pub fn after(&self, rows: &[u16; 16], set: u16) -> u16
+        requires { (u : ℕ) → u < node_count self.now → slice_index rows.now u < 2 ^ node_count self.now }
+        ensures { IsNodeSet self.now (λ v. (u : ℕ) × (u < node_count self.now) × (IsBitSet set u × IsBitSet (slice_index rows.now u) v)) result }
+    {
         let mut after = 0;
         for u in 0..self.nodes() {
             if set >> u & 1 == 1 {
-                after |= self.ends(u, a);
+                after |= rows[usize::from(u)];
             }
         }
         after

@@ -5,14 +5,14 @@ use Rattle.std.proofs.lemmas.List.{length-set}
 use Rattle.std.proofs.lemmas.Nat.{le_or_l, or_lt}
 use Rattle.word_image.specs.LocalRules.{LocalRule, IsRule, node_count}
 use Rattle.word_image.specs.Words.{IsSurjective}
-use Rattle.word_image.specs.Graphs.{IsStep, next, label, pair_of, first_of, second_of, pair_count}
+use Rattle.word_image.specs.Graphs.{next, label, pair_of, first_of, second_of, pair_count}
 use Rattle.word_image.proofs.laws.Bits.{IsBitSet-zero}
 use Rattle.word_image.proofs.laws.Graphs.{next-below}
 use Rattle.pair_laws.proofs.Edges.{next-digits}
 use Rattle.pair_laws.proofs.Rows.{row_cases, HasBit-or}
 use Rattle.pair_laws.proofs.Sets.{IsBitSet-minus, IsBitSet-shl}
 use Rattle.pair_laws.proofs.Pairs.{first_of-pair_of, second_of-pair_of, first_of-below, second_of-below, follow-pair_of, follow-some, follow-below}
-use Rattle.word_image.specs.Edges.{IsEnds}
+use Rattle.word_image.specs.Edges.{IsEnds, IsStep}
 use Rattle.word_image.specs.declared.side.Side.TheVariants.{Right}
 use Rattle.eden_laws.specs.ReachedPairs.{IsReached}
 use Rattle.eden_laws.specs.ReachedPairs.IsReached.{First, On}
@@ -82,7 +82,7 @@ LeadsApart-set {r} rule node a label_a to ends ha labelled at h v hv =
     let minus = IsBitSet-minus ends (1 * 2 ^ to % 2 ^ 16) v (mod-lt (1 * 2 ^ to) (lit< tt)) (omega arith) in (
       (λ some.
           let (there, other) = minus.0 some in
-          let (b, hb, same, leads) = (h.nodes v hv).0 there in
+          let (b, hb, (same, leads)) = (h.nodes v hv).0 there in
           record {
             b = b;
             letter = hb;
@@ -91,19 +91,19 @@ LeadsApart-set {r} rule node a label_a to ends ha labelled at h v hv =
             leads = leads;
           }),
       (λ leads. minus.1 (
-        (h.nodes v hv).1 (leads.b, leads.letter, sym leads.one_label ∙ sym labelled, leads.leads),
+        (h.nodes v hv).1 (leads.b, leads.letter, (sym leads.one_label ∙ sym labelled, leads.leads)),
         (λ same. leads.different (next-injective rule node a leads.b ha leads.letter (sym at ∙ sym (one.0 same) ∙ sym leads.leads))),
       )),
     )
 
 -- a step of a set on the label of a
-pub LeadsBeside-set : {r : LocalRule} (node set a label_a others : ℕ) → label_a ≡ label r node a → IsStep r set label_a others
+pub LeadsBeside-set : (r : LocalRule) (node set a label_a others : ℕ) → label_a ≡ label r node a → IsStep r set label_a others
     → (v : ℕ) → v < node_count r → (IsBitSet others v ↔ LeadsBeside r node set a v)
-LeadsBeside-set node set a label_a others labelled h v hv = (
+LeadsBeside-set r node set a label_a others labelled h v hv = (
   (λ some.
-      let (u, b, hu, hb, has, same, leads) = (h.nodes v hv).0 some in
+      let (u, hu, (has, (b, hb, (same, leads)))) = (h.nodes v hv).0 some in
       record { other = u; b = b; in_nodes = hu; in_set = has; letter = hb; one_label = sym labelled ∙ sym same; leads = leads }),
-  (λ leads. (h.nodes v hv).1 (leads.other, leads.b, leads.in_nodes, leads.letter, leads.in_set, sym leads.one_label ∙ sym labelled, leads.leads)),
+  (λ leads. (h.nodes v hv).1 (leads.other, leads.in_nodes, (leads.in_set, (leads.b, leads.letter, (sym leads.one_label ∙ sym labelled, leads.leads))))),
 )
 
 -- at the beginning nothing was found

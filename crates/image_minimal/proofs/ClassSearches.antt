@@ -7,7 +7,7 @@ use Rattle.std.proofs.Math.Nat.{mul-le-mul_right, suc-mul}
 use Rattle.std.proofs.lemmas.Option.{slice_get_within, slice_get-get_or, get_or_from_slice_get}
 use Rattle.std.proofs.lemmas.List.{length-replicate}
 use Rattle.word_image.specs.LocalRules.{LocalRule, IsRule, node_count}
-use Rattle.word_image.specs.Graphs.{IsStep}
+use Rattle.word_image.specs.Edges.{IsStep}
 use Rattle.word_image.proofs.laws.Places.{Contains-slice_get, slice_get-Contains}
 use Rattle.word_image.proofs.laws.Searches.{some_below}
 use Rattle.search_laws.proofs.QueueStates.{Contains-state, mapped_at}
@@ -24,11 +24,11 @@ use Rattle.image_minimal.proofs.laws.ClassLists.{IsClassList-long, IsNextClass-u
 
 -- there are no more classes than sets of nodes
 pub length-classes-le : {r : LocalRule} {classes : List ℕ} {e : ℕ} → IsClassSearch r classes e → length classes ≤ 2 ^ node_count r
-length-classes-le {r} x = length-search-le x (2 ^ node_count r) (omega (arith, pow_pos (node_count r))) (λ s a t step. step.closure.within)
+length-classes-le {r} x = length-search-le x (2 ^ node_count r) (omega (arith, pow_pos (node_count r))) (λ s a t step. step.closure.of.within)
 
 -- and each is one
 pub class-below : {r : LocalRule} {classes : List ℕ} {e : ℕ} → IsClassSearch r classes e → (i : ℕ) → i < length classes → slice_index classes i < 2 ^ node_count r
-class-below {r} {classes} x i l = search-below x (2 ^ node_count r) (omega (arith, pow_pos (node_count r))) (λ s a t step. step.closure.within) i (slice_index classes i) (slice_get-get_or classes i 0 l)
+class-below {r} {classes} x i l = search-below x (2 ^ node_count r) (omega (arith, pow_pos (node_count r))) (λ s a t step. step.closure.of.within) i (slice_index classes i) (slice_get-get_or classes i 0 l)
 
 -- there is one
 pub classes-some : {r : LocalRule} {classes : List ℕ} {e : ℕ} → IsClassSearch r classes e → 1 ≤ length classes
@@ -37,8 +37,8 @@ classes-some {classes = classes} x =
     slice_get_within classes 0 first (subst (λ l. slice_get l 0 ≡ Some first) x.lists (mapped_at (λ z. z.state) x.tree 0 x.queue.fills.first x.queue.fills.root))
 
 -- a step to a set is a closed step to its closure
-pub closed_step : {r : LocalRule} {closures : List ℕ} {set a to : ℕ} → AreClosures r closures → IsStep r set a to → IsClosedStep r set a (slice_index closures to)
-closed_step {to = to} h step = record { to = to; step = step; closure = h.closure to (omega arith) step.within }
+pub closed_step : {r : LocalRule} {closures : List ℕ} {to : ℕ} (set a : ℕ) → AreClosures r closures → IsStep r set a to → IsClosedStep r set a (slice_index closures to)
+closed_step {to = to} set a h step = record { to = to; step = step; closure = h.closure to (omega arith) step.within }
 
 -- a closed step from a class leads to a class
 pub class_after : {r : LocalRule} {closures classes : List ℕ} → HasClasses r closures classes → (i a from to : ℕ) → slice_get classes i ≡ Some from → a < r.states → IsClosedStep r from a to
@@ -128,7 +128,7 @@ HasClasses-least {r} {closures} {classes} h =
     let from = slice_index classes (e / k) in
     let here = slice_get-get_or classes (e / k) 0 inside in
     let (to, step) = IsStep-some r from (e % k) in
-    let closed = closed_step h.closed step in
+    let closed = closed_step from (e % k) h.closed step in
     let (j, there) = class_after h (e / k) (e % k) from (slice_index closures to) here letter closed in (
       j,
       λ i a below place.

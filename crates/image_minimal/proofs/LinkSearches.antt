@@ -8,12 +8,13 @@ use Rattle.std.proofs.lemmas.Option.{slice_get_within}
 use Rattle.std.proofs.lemmas.List.{length_push, map-append}
 use Rattle.std.proofs.lemmas.List.FromFn.{get_or-range_with_len, length-range_with_len}
 use Rattle.word_image.specs.LocalRules.{LocalRule, IsRule, node_count}
-use Rattle.word_image.specs.Graphs.{full_set, IsStep}
+use Rattle.word_image.specs.Graphs.{full_set}
+use Rattle.word_image.specs.Edges.{IsStep}
 use Rattle.word_image.proofs.laws.Graphs.{node_count_pos}
 use Rattle.word_image.proofs.laws.Places.{only_place, slice_get-push, slice_get-push_cases}
 use Rattle.search_laws.specs.SearchQueues.{IsFilled}
 use Rattle.search_laws.proofs.QueueSteps.{filled-later, IsFilled-start, IsFilled-there, IsFilled-new}
-use Rattle.search_laws.proofs.StepSets.{IsStep-unique}
+use Rattle.search_laws.proofs.StepSets.{IsSetOf-unique}
 use Rattle.image_minimal.specs.declared.links.Link.{Link}
 use Rattle.image_minimal.specs.Links.{Chain, link_place, LinkStep, HasChain, IsLinking, set_count, AreJoined, IsLinkSearch}
 use Rattle.image_minimal.specs.Links.Chain.{Stay, Forth}
@@ -57,7 +58,7 @@ IsLinking-there : {r q : LocalRule} {links : List Link} (h a : ℕ) → IsLinkin
     → IsStep r x.first a s → IsStep q x.second a t → HasChain r links (s, t) (h * r.states + a + 1) → IsLinking r q links (h * r.states + a + 1)
 IsLinking-there {r} {q} {links} h a linking x s t head letter one two chain = record {
   fills = IsFilled-there linking.fills h a (link_place x) refl letter (link_place_at links h x head)
-      (λ p step. subst₂ (λ u v. HasChain r links (u, v) (h * r.states + a + 1)) (IsStep-unique one step.0) (IsStep-unique two step.1) chain);
+      (λ p step. subst₂ (λ u v. HasChain r links (u, v) (h * r.states + a + 1)) (IsSetOf-unique one step.0) (IsSetOf-unique two step.1) chain);
   even = linking.even;
 }
 
@@ -71,7 +72,7 @@ IsLinking-new {r} {q} {links} h a linking x y head letter parent by one two even
       fills = subst (λ tree. IsFilled (LinkStep r q) (HasChain r (links ++ y ∷ [])) r.states (full_set r, full_set q) tree e) (sym (map-append link_place links (y ∷ [])))
           (IsFilled-new linking.fills h a (link_place x) (link_place y) refl letter (link_place_at links h x head) parent by (one, two)
           (λ p f met. Chain-more met (y ∷ []) f (omega arith))
-          (λ p step _. subst₂ (λ u v. HasChain r (links ++ y ∷ []) (u, v) e) (IsStep-unique one step.0) (IsStep-unique two step.1) chain));
+          (λ p step _. subst₂ (λ u v. HasChain r (links ++ y ∷ []) (u, v) e) (IsSetOf-unique one step.0) (IsSetOf-unique two step.1) chain));
       even = λ i z at. ⊎_elim (λ before. linking.even i z before) (λ last. subst (λ (v : Link). v.first ≡ 0 ↔ (v.second ≡ 0)) last.1 even) (slice_get-push_cases links y i z at);
     }
 

@@ -1,16 +1,21 @@
 -- The words that are read along edges from the nodes of a set, and the greatest set from which no other words are read.
-use Rattle.std.specs.Prelude.{◌≡◌, ℕ, ◌^◌, ◌<◌, ◌≤◌, ◌↔◌, List, [], ◌∷◌, length, slice_index, IsBitSet}
+use Rattle.std.specs.Prelude.{◌≡◌, ℕ, ◌^◌, ◌<◌, ◌≤◌, List, [], ◌∷◌, length, slice_index, IsBitSet}
 use Rattle.word_image.specs.LocalRules.{LocalRule, node_count}
-use Rattle.word_image.specs.Graphs.{next, label, IsStep}
+use Rattle.word_image.specs.Graphs.{IsNodeSet}
+use Rattle.word_image.specs.Edges.{IsEdge, IsStep}
+use Rattle.word_image.specs.declared.side.Side.TheVariants.{Right}
 
 -- the nodes of the one set are nodes of the other
 abbrev pub IsWithin : LocalRule → ℕ → ℕ → Type 0
 IsWithin r set other = (u : ℕ) → u < node_count r → IsBitSet set u → IsBitSet other u
 
--- the nodes from which all edges labelled a lead into the set
+-- all edges labelled a lead into the set from node u
+abbrev pub IsLedInto : LocalRule → ℕ → ℕ → ℕ → Type 0
+IsLedInto r set a u = (v : ℕ) → IsEdge Right r a u v → IsBitSet set v
+
+-- the nodes from which they do
 pub record IsBack (r : LocalRule) (set a before : ℕ) : Type 0 where
-  pub within : before < 2 ^ node_count r
-  pub nodes : (u : ℕ) → u < node_count r → (IsBitSet before u ↔ ((b : ℕ) → b < r.states → label r u b ≡ a → IsBitSet set (next r u b)))
+  pub of : IsNodeSet r (IsLedInto r set a) before
 
 -- the nodes from which the word isn't read
 abbrev pub IsUnread : LocalRule → List ℕ → ℕ → Type 0
@@ -23,8 +28,7 @@ IsUnreadSet r set = (z : List ℕ) × IsUnread r z set
 
 -- the closure of a set: the nodes from which no word is read that isn't read from the set
 pub record IsClosure (r : LocalRule) (set closure : ℕ) : Type 0 where
-  pub within : closure < 2 ^ node_count r
-  pub nodes : (u : ℕ) → u < node_count r → (IsBitSet closure u ↔ ((unread : ℕ) → IsUnreadSet r unread → IsWithin r set unread → IsBitSet unread u))
+  pub of : IsNodeSet r (λ u. (unread : ℕ) → IsUnreadSet r unread → IsWithin r set unread → IsBitSet unread u) closure
 
 -- a step, and the closure of the set to which it leads
 pub record IsClosedStep (r : LocalRule) (set a after : ℕ) : Type 0 where

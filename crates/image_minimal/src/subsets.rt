@@ -2,7 +2,8 @@
 
 ghost use Rattle.std.specs.Prelude.{◌≡◌, ◌^◌, ◌<◌, ℕ, slice_index, IfOk};
 ghost use Rattle.word_image.specs.LocalRules.{IsRule, node_count};
-ghost use Rattle.word_image.specs.Graphs.{IsStep, full_set};
+ghost use Rattle.word_image.specs.Graphs.{full_set};
+ghost use Rattle.word_image.specs.Edges.{IsStep};
 
 use debruijn::Graph;
 use image_subsets::StepTables;

@@ -5,7 +5,8 @@ use Rattle.std.proofs.lemmas.Bool.{cases_eq, cases_lt}
 use Rattle.std.proofs.lemmas.List.{get_or_default}
 use Rattle.std.proofs.lemmas.Option.{slice_get-get_or}
 use Rattle.word_image.specs.LocalRules.{LocalRule, IsRule}
-use Rattle.word_image.specs.Graphs.{full_set, IsStep}
+use Rattle.word_image.specs.Graphs.{full_set}
+use Rattle.word_image.specs.Edges.{IsStep}
 use Rattle.word_image.specs.Ranks.{IsLastSet}
 use Rattle.word_image.specs.Families.{IsLeastWordOf, IsFamily}
 use Rattle.word_image.proofs.laws.Lists.{paired_at, paired_length}

@@ -4,8 +4,8 @@ use Rattle.std.proofs.lemmas.Bool.{cases_eq, cases_lt}
 use Rattle.std.proofs.lemmas.Nat.{and_le_l}
 use Rattle.std.proofs.Math.Pow.{pow-lt, pow_mono}
 use Rattle.word_image.proofs.laws.Searches.{some_below}
-use Rattle.word_image.proofs.laws.Bits.{IsBitSet-pow}
-use Rattle.pair_laws.proofs.Sets.{IsBitSet-minus, IsBitSet-below, IsBitSet-decide}
+use Rattle.word_image.proofs.laws.Bits.{IsBitSet-pow, IsBitSet-decide}
+use Rattle.pair_laws.proofs.Sets.{IsBitSet-minus, IsBitSet-below}
 use Rattle.search_laws.proofs.StepSets.{same_set}
 use Rattle.image_subsets.specs.Marks.{IsSetMarked, IsPart, set_without, IsSpreadTo, AreMarksTo, AreMarks, AreCovers, HoldsSmaller, IsMinimal}
 

@@ -7,14 +7,15 @@ use Rattle.std.proofs.lemmas.List.Elements.{Contains-push_cases}
 use Rattle.std.proofs.lemmas.Nat.{pow_pos}
 use Rattle.std.proofs.Math.Pow.{pow_mono}
 use Rattle.word_image.specs.LocalRules.{LocalRule, IsRule, node_count}
-use Rattle.word_image.specs.Graphs.{full_set, IsStep}
+use Rattle.word_image.specs.Graphs.{full_set}
+use Rattle.word_image.specs.Edges.{IsStep}
 use Rattle.word_image.specs.Families.{IsFamily}
 use Rattle.word_image.proofs.laws.Graphs.{node_count_pos}
 use Rattle.word_image.proofs.laws.Places.{slice_get-append, slice_get-push, slice_get-push_cases, only_place}
 use Rattle.search_laws.specs.SearchQueues.{Place}
 use Rattle.search_laws.proofs.QueueStates.{states_of, mapped_at}
 use Rattle.search_laws.proofs.Searches.{IsSearch-start, IsSearch-there, IsSearch-new, search_place, search-below, length-search, length-search-le as length-listed-le}
-use Rattle.search_laws.proofs.StepSets.{IsStep-unique}
+use Rattle.search_laws.proofs.StepSets.{IsSetOf-unique}
 use Rattle.search_laws.proofs.LeastSteps.{parent-least}
 use Rattle.search_laws.proofs.Families.{IsFamily-closed, IsFamily-stopped}
 use Rattle.image_subsets.specs.FamilyTrees.{IsTree, IsLeastParent, IsFamilyTree}
@@ -159,7 +160,7 @@ IsExpanding-there {r} {sets} {parents} {h} {set} {n} x after letter step has =
     let edge : h * r.states + n + 1 ≡ h * r.states + (n + 1) = omega arith in
     record {
       so_far = subst (IsTreeSearch r sets parents) edge (record {
-        search = IsSearch-there h n set x.so_far.search letter (head_at x) (λ t other. subst (Contains sets) (IsStep-unique step other) has);
+        search = IsSearch-there h n set x.so_far.search letter (head_at x) (λ t other. subst (Contains sets) (IsSetOf-unique step other) has);
         one_each = x.so_far.one_each;
         ways = x.so_far.ways;
       });
@@ -177,7 +178,7 @@ IsTreeSearch-expanding {r} {sets} {parents} {h} {set} {n} x after letter step ne
     let z : Place ℕ = record { state = after; parent = h; letter = n } in
     let tree = old.search.tree in
     subst (IsTreeSearch r (sets ++ after ∷ []) (parents ++ Some (h, n) ∷ [])) edge (record {
-      search = IsSearch-new h n set after old.search letter (head_at x) step (λ t other. IsStep-unique other step) new;
+      search = IsSearch-new h n set after old.search letter (head_at x) step (λ t other. IsSetOf-unique other step) new;
       one_each = omega (arith, length_push parents (Some (h, n)), length_push sets after, old.one_each);
       ways = λ i way at. ⊎_elim
           (λ before. IsWay-more tree (z ∷ []) i way (old.ways i way before))

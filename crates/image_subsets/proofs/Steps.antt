@@ -9,41 +9,34 @@ use Rattle.std.proofs.lemmas.List.{get_or_append_left, get_or_default, get_or-ap
 use Rattle.std.proofs.lemmas.Nat.{pow_pos, pow-add, or_lt, div_below}
 use Rattle.std.proofs.lemmas.Simd.{get_or-zip2, length-zip2}
 use Rattle.word_image.specs.LocalRules.{LocalRule, IsRule, node_count}
-use Rattle.word_image.specs.Graphs.{IsStep, next, label}
 use Rattle.word_image.proofs.laws.Bits.{IsBitSet-or, IsBitSet-pow}
-use Rattle.word_image.specs.Edges.{IsEnds}
+use Rattle.word_image.specs.Edges.{IsEdge, IsEnds, IsStep}
 use Rattle.word_image.specs.declared.side.Side.TheVariants.{Right}
+use Rattle.word_image.proofs.laws.Unions.{IsSetOf-same}
 use Rattle.image_subsets.specs.StepTables.{AreSteps, Rows, AreTables, HasRows}
 
 -- a step of a union is the union of the steps
-pub IsStep-or : {r : LocalRule} {s t a p q : ℕ} → IsStep r s a p → IsStep r t a q → IsStep r (bit_or s t) a (bit_or p q)
-IsStep-or {r} {s} {t} {a} {p} {q} first second = record {
+pub IsStep-or : (r : LocalRule) (s t a : ℕ) {p q : ℕ} → IsStep r s a p → IsStep r t a q → IsStep r (bit_or s t) a (bit_or p q)
+IsStep-or r s t a {p} {q} first second = record {
   within = or_lt (node_count r) p q first.within second.within;
   nodes = λ v inside. (
     (λ some. ⊎_elim
-        (λ here. let (u, b, node, letter, present, labelled, ends) = (first.nodes v inside).0 here in
-        (u, b, node, letter, (IsBitSet-or s t u).1 (inl present), labelled, ends))
-        (λ there. let (u, b, node, letter, present, labelled, ends) = (second.nodes v inside).0 there in
-        (u, b, node, letter, (IsBitSet-or s t u).1 (inr present), labelled, ends))
+        (λ here. let (u, node, (present, edge)) = (first.nodes v inside).0 here in (u, node, ((IsBitSet-or s t u).1 (inl present), edge)))
+        (λ there. let (u, node, (present, edge)) = (second.nodes v inside).0 there in (u, node, ((IsBitSet-or s t u).1 (inr present), edge)))
         ((IsBitSet-or p q v).0 some)),
-    (λ (u, b, node, letter, present, labelled, ends). (IsBitSet-or p q v).1 (⊎_elim
-        (λ here. inl ((first.nodes v inside).1 (u, b, node, letter, here, labelled, ends)))
-        (λ there. inr ((second.nodes v inside).1 (u, b, node, letter, there, labelled, ends)))
+    (λ (u, node, (present, edge)). (IsBitSet-or p q v).1 (⊎_elim
+        (λ here. inl ((first.nodes v inside).1 (u, node, (here, edge))))
+        (λ there. inr ((second.nodes v inside).1 (u, node, (there, edge))))
         ((IsBitSet-or s t u).0 present))),
   );
 }
 
 -- a step of one node leads to the ends of its edges
-pub IsStep-node : {r : LocalRule} {u a ends : ℕ} → u < node_count r → IsEnds Right r u a ends → IsStep r (2 ^ u) a ends
-IsStep-node {r} {u} {a} {ends} node h = record {
-  within = h.within;
-  nodes = λ v inside. (
-    (λ some. let (b, letter, labelled, leads) = (h.nodes v inside).0 some in (u, b, node, letter, (IsBitSet-pow u u).1 refl, labelled, leads)),
-    (λ (w, b, below, letter, present, labelled, leads).
-        let same : w ≡ u = (IsBitSet-pow u w).0 present in
-        (h.nodes v inside).1 (b, letter, subst (λ x. label r x b ≡ a) same labelled, subst (λ x. next r x b ≡ v) same leads)),
-  );
-}
+pub IsStep-node : (r : LocalRule) (u a : ℕ) {ends : ℕ} → u < node_count r → IsEnds Right r u a ends → IsStep r (2 ^ u) a ends
+IsStep-node r u a node = IsSetOf-same (λ v _. (
+  (λ edge. (u, node, ((IsBitSet-pow u u).1 refl, edge))),
+  (λ (w, below, (present, edge)). subst (λ x. IsEdge Right r a x v) ((IsBitSet-pow u w).0 present) edge),
+))
 
 -- the set of x with one node more
 upper_set : (y count first u : ℕ) → u ≡ first + count → y < 2 ^ count → bit_or (y * 2 ^ first) (2 ^ u) ≡ (2 ^ count + y) * 2 ^ first
@@ -89,7 +82,7 @@ AreSteps-double {r} {first} {count} {rows} rule h u ends last node wide leads =
           let few : a < 16 = omega (arith, rule.shape.most_states, letter) in
           let entry = ap (λ l. slice_index l a) row ∙ get_or-zip2 bit_or (get_or rows y []) ends a 0 0 0 (omega (arith, h.wide y inside)) (omega (arith, wide)) in
           let set : bit_or (y * 2 ^ first) (2 ^ u) ≡ x * 2 ^ first = upper_set y count first u last inside ∙ ap (λ i. i * 2 ^ first) (omega (arith, past)) in
-          subst₂ (λ s t. IsStep r s a t) set (sym entry) (IsStep-or (h.steps y a inside letter) (IsStep-node node (leads a letter))))
+          subst₂ (λ s t. IsStep r s a t) set (sym entry) (IsStep-or r (y * 2 ^ first) (2 ^ u) a (h.steps y a inside letter) (IsStep-node r u a node (leads a letter))))
           (cases_lt x (2 ^ count));
     }
 
@@ -140,4 +133,4 @@ IsStep-tables {r} {rows} h set a low high first second within letter lower upper
     let entry = get_or-zip2 bit_or first second a 0 0 0
     (omega (arith, few, ap length one, h.low.wide low below_low)) (omega (arith, few, ap length two, h.high.wide high below_high)) in
     subst₂ (λ s t. IsStep r s a t) whole (sym (entry ∙ ap₂ (λ l h. bit_or (slice_index l a) (slice_index h a)) one two))
-    (IsStep-or (h.low.steps low a below_low letter) (h.high.steps high a below_high letter))
+    (IsStep-or r (low * 2 ^ 0) (high * 2 ^ 8) a (h.low.steps low a below_low letter) (h.high.steps high a below_high letter))

@@ -1,7 +1,8 @@
 -- A search through the sets, in which some edges of the subset automaton have been followed.
 use Rattle.std.specs.Prelude.{◌≡◌, ℕ, ◌-◌, ◌<◌, List, length, slice_get, Option, Some, MatchOption, Contains, Bool, true, false}
 use Rattle.word_image.specs.LocalRules.{LocalRule}
-use Rattle.word_image.specs.Graphs.{full_set, IsStep}
+use Rattle.word_image.specs.Graphs.{full_set}
+use Rattle.word_image.specs.Edges.{IsStep}
 use Rattle.search_laws.specs.SearchQueues.{Place, IsSearch}
 
 -- no way leads to the first place of a tree, and to each other the step from its parent

@@ -1,7 +1,7 @@
 -- Tables of the steps of sets: one by the lower eight bits of a set, and one by the upper eight.
 use Rattle.std.specs.Prelude.{◌≡◌, ℕ, ◌-◌, ◌*◌, ◌/◌, ◌%◌, ◌^◌, ◌<◌, List, [], length, get_or, slice_index, min}
 use Rattle.word_image.specs.LocalRules.{LocalRule, IsRule, node_count}
-use Rattle.word_image.specs.Graphs.{IsStep}
+use Rattle.word_image.specs.Edges.{IsStep}
 
 -- row x has, label by label, the steps of the set with the bits of x, of which the lowest stands for the node `first`
 pub record AreSteps (r : LocalRule) (first count : ℕ) (rows : List (List ℕ)) : Type 0 where

@@ -4,8 +4,7 @@ ghost use Rattle.std.specs.Prelude.{◌≡◌, ◌+◌, ◌-◌, ◌*◌, ◌^�
 ghost use Rattle.std.specs.Int.Bits.{bit_or};
 ghost use Rattle.std.specs.Simd.Lanes.{zip2};
 ghost use Rattle.word_image.specs.LocalRules.{LocalRule, IsRule, node_count};
-ghost use Rattle.word_image.specs.Graphs.{IsStep};
-ghost use Rattle.word_image.specs.Edges.{IsEnds};
+ghost use Rattle.word_image.specs.Edges.{IsEnds, IsStep};
 ghost use Rattle.word_image.specs.declared.side.Side.TheVariants.{Right};
 ghost use Rattle.image_subsets.specs.StepTables.{AreSteps, AreTables, HasRows};
 

@@ -7,10 +7,10 @@ use Rattle.std.proofs.lemmas.Nat.{div-mul-add, mod-mul-add, div-add-mod', same_f
 use Rattle.word_image.specs.LocalRules.{LocalRule, IsRule, node_count}
 use Rattle.word_image.specs.Graphs.{next, label, first_of, second_of, pair_of, pair_count}
 use Rattle.word_image.specs.MarkedPairs.{marked}
-use Rattle.word_image.proofs.laws.Bits.{IsBitSet-or}
+use Rattle.word_image.proofs.laws.Bits.{IsBitSet-or, IsBitSet-decide}
 use Rattle.word_image.proofs.laws.Graphs.{next-below, pair_count_pos}
 use Rattle.pair_laws.proofs.Rows.{HasBit, HasBit-more, IsBitSet-test}
-use Rattle.pair_laws.proofs.Sets.{IsBitSet-shl, IsBitSet-shr, IsBitSet-and, IsBitSet-minus, IsBitSet-decide}
+use Rattle.pair_laws.proofs.Sets.{IsBitSet-shl, IsBitSet-shr, IsBitSet-and, IsBitSet-minus}
 use Rattle.pair_laws.proofs.Edges.{next-digits}
 use Rattle.pair_laws.proofs.Pairs.{some_if_equal, first_of-pair_of, second_of-pair_of, pair_of-first_of, pair_of-below, first_of-below, second_of-below}
 use Rattle.word_image.specs.Edges.{IsEnds}
@@ -150,7 +150,7 @@ step-old : {r : LocalRule} → IsRule r → (rows : List ℕ) (t a b q u v mark 
     → ¬ IsBitSet (bit_and ends (65535 - row) / 2 ^ end) b → HasPair r rows q
 step-old {r} rule rows t a b q u v mark ends row end step with first second letter leads start here small old =
     let labels : label r v b ≡ label r u a = ap (λ x. label r x b) (sym second) ∙ sym step.one_label ∙ ap (λ x. label r x a) first in
-    let present : IsBitSet ends (next r v b) = (leads.nodes (next r v b) (next-below rule v b)).1 (b, letter, labels, refl) in
+    let present : IsBitSet ends (next r v b) = (leads.nodes (next r v b) (next-below rule v b)).1 (b, letter, (labels, refl)) in
     HasPair-bit rule rows q mark (next r u a) (next r v b) (next-below rule u a) (next-below rule v b)
     (step.leads ∙ ap₂ (λ (m p : ℕ). m * pair_count r + p) with (ap₂ (λ (x y : ℕ). pair_of r (next r x a) (next r y b)) first second))
     (subst (λ c. IsBitSet c (next r v b)) here (end-old rule v b ends row end letter small start present old))

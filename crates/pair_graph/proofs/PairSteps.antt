@@ -86,7 +86,7 @@ GoesOn-into side {r} rule ends rows edges p inside =
     let few : node_count r ≤ 16 = rule.shape.most_nodes in (
       (λ (a, t, letter, goes).
           let at = edges.ends (label_at side r u a) v (small_label side rule u a in_u letter) in_v in
-          let (b, in_b, same, arrives) = (at.nodes t (IsBitSet-below (node_count r) _ t at.within goes.second)).0 goes.second in
+          let (b, in_b, (same, arrives)) = (at.nodes t (IsBitSet-below (node_count r) _ t at.within goes.second)).0 goes.second in
           let q = pair_of r (end_at side r u a) (end_at side r v b) in (
             a,
             letter,
@@ -109,7 +109,7 @@ GoesOn-into side {r} rule ends rows edges p inside =
             letter,
             record {
               node = omega (arith, below);
-              second = ((edges.ends (label_at side r u a) v (small_label side rule u a in_u letter) in_v).nodes t below).1 (b, into.letter, sym same, refl);
+              second = ((edges.ends (label_at side r u a) v (small_label side rule u a in_u letter) in_v).nodes t below).1 (b, into.letter, (sym same, refl));
               pair = (holds-place (node_count r) rows (end_at side r u a) t (end_at-below side rule u a in_u letter) below).0
                   (subst (λ q. IsTrue (holds (truths (node_count r) rows) q)) (sym pair) into.there);
             },

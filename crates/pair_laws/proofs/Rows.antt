@@ -1,12 +1,11 @@
 -- Rows of bits: with one row written, with a set more in one row, with one bit more or less, and rows of none.
-use Rattle.std.proofs.Common.{◌≡◌, ◌≢◌, ℕ, ◌-◌, ◌*◌, ◌/◌, ◌%◌, ◌^◌, ◌<◌, ◌↔◌, ◌⊎◌, inl, inr, List, length, replicate, IsBitSet, IsTrue, bit_and, bit_or, slice_index, slice_set, sym, ◌∙◌, subst, subst₂, ⊎_elim, mod-lt, lit<}
+use Rattle.std.proofs.Common.{◌≡◌, ◌≢◌, ℕ, ◌-◌, ◌*◌, ◌/◌, ◌%◌, ◌^◌, ◌<◌, ◌↔◌, ◌⊎◌, inl, inr, List, length, replicate, IsBitSet, IsTrue, bit_and, bit_or, slice_index, slice_set, sym, subst, subst₂, ⊎_elim, mod-lt, lit<}
 use Rattle.std.specs.Prelude.{◌==◌}
 use Rattle.std.proofs.lemmas.Bool.{cases_eq}
 use Rattle.std.proofs.lemmas.Bool.Decides.{Decides-eqb}
 use Rattle.std.proofs.lemmas.List.{get_or-set_other}
 use Rattle.std.proofs.lemmas.Grind.{get_or-set_at}
-use Rattle.std.proofs.lemmas.Nat.Bits.{shr_and_one}
-use Rattle.word_image.proofs.laws.Bits.{bit_at-IsBitSet, IsBitSet-or, IsBitSet-zero}
+use Rattle.word_image.proofs.laws.Bits.{IsBitSet-or, IsBitSet-lowest, IsBitSet-zero}
 use Rattle.word_image.proofs.laws.Lists.{slice_index-zeros}
 use Rattle.pair_laws.proofs.Sets.{IsBitSet-minus, IsBitSet-shl}
 
@@ -67,11 +66,9 @@ HasBit-less rows i v inside small j w within =
 -- the test of a bit
 pub IsBitSet-test : (row v : ℕ) → IsTrue (bit_and (row / 2 ^ v) 1 == 1) ↔ IsBitSet row v
 IsBitSet-test row v =
-    let bit = bit_at-IsBitSet row v in
-    let test = Decides-eqb (bit_and (row / 2 ^ v) 1) 1 in (
-      (λ yes. bit.1 (sym (shr_and_one row v) ∙ test.0 yes)),
-      (λ some. test.1 (shr_and_one row v ∙ bit.0 some)),
-    )
+    let test = Decides-eqb (bit_and (row / 2 ^ v) 1) 1 in
+    let lowest = IsBitSet-lowest row v in
+    ((λ yes. lowest.0 (test.0 yes)), (λ some. test.1 (lowest.1 some)))
 
 -- rows of zeros have no bit
 pub HasBit-none : (n i v : ℕ) → ¬ HasBit (replicate n 0) i v

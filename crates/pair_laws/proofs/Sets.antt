@@ -1,10 +1,11 @@
 -- Sets of nodes as bits: what two have both, and what one has more than another.
-use Rattle.std.proofs.Common.{◌≡◌, ℕ, ◌+◌, ◌-◌, ◌*◌, ◌/◌, ◌%◌, ◌^◌, ◌<◌, ◌↔◌, ◌⊎◌, inl, inr, IsBitSet, bit_and, sym, ap, ◌∙◌, subst, arith, ⊎_elim}
+use Rattle.std.proofs.Common.{◌≡◌, ℕ, ◌+◌, ◌-◌, ◌*◌, ◌/◌, ◌%◌, ◌^◌, ◌<◌, ◌↔◌, IsBitSet, bit_and, sym, ap, ◌∙◌, subst, arith, ⊎_elim}
 use Rattle.std.specs.Int.{bit_at, w16}
-use Rattle.std.proofs.lemmas.Bool.{cases_eq, cases_lt}
-use Rattle.std.proofs.lemmas.Nat.{one_shl, pow-add}
+use Rattle.std.proofs.lemmas.Bool.{cases_lt}
+use Rattle.std.proofs.lemmas.Nat.{one_shl, pow-add, and_le_r}
 use Rattle.std.proofs.Math.Nat.{div-div-eq-div-mul}
 use Rattle.std.proofs.lemmas.Nat.Bits.{bit_at_and, bit_at_not, bit_at_above, bit_at-lt}
+use Rattle.word_image.specs.Graphs.{IsSetOf}
 use Rattle.word_image.proofs.laws.Bits.{bit_at-IsBitSet, IsBitSet-some, IsBitSet-zero, IsBitSet-pow}
 
 -- a set of n nodes has only nodes below n
@@ -22,6 +23,16 @@ IsBitSet-and a b i =
       )),
       (λ (first, second). let x = (bit_at-IsBitSet a i).0 first in let y = (bit_at-IsBitSet b i).0 second in (bit_at-IsBitSet (bit_and a b) i).1 (omega arith)),
     )
+
+-- so the numbers of which both hold
+pub IsSetOf-both : {n : ℕ} {P Q : ℕ → Type 0} {a b : ℕ} → IsSetOf n P a → IsSetOf n Q b → IsSetOf n (λ u. P u × Q u) (bit_and a b)
+IsSetOf-both {a = a} {b = b} h g = record {
+  within = let less = and_le_r a b in let small = g.within in omega arith;
+  nodes = λ u l. (
+    (λ bit. let both = (IsBitSet-and a b u).0 bit in ((h.nodes u l).0 both.0, (g.nodes u l).0 both.1)),
+    (λ (p, q). (IsBitSet-and a b u).1 ((h.nodes u l).1 p, (g.nodes u l).1 q)),
+  );
+}
 
 -- two sets that meet have a node both
 pub IsBitSet-meet : (n a b : ℕ) → bit_and a b < 2 ^ n → ¬ (bit_and a b ≡ 0) → (i : ℕ) × IsBitSet a i × IsBitSet b i
@@ -63,7 +74,3 @@ IsBitSet-shr a k i =
       (λ some. (bit_at-IsBitSet a (k + i)).1 (sym same ∙ (bit_at-IsBitSet (a / 2 ^ k) i).0 some)),
       (λ some. (bit_at-IsBitSet (a / 2 ^ k) i).1 (same ∙ (bit_at-IsBitSet a (k + i)).0 some)),
     )
-
--- a place is in a set or isn't
-pub IsBitSet-decide : (a i : ℕ) → IsBitSet a i ⊎ ¬ IsBitSet a i
-IsBitSet-decide a i = ⊎_elim (λ one. inl ((bit_at-IsBitSet a i).1 one)) (λ other. inr (λ some. other ((bit_at-IsBitSet a i).0 some))) (cases_eq (bit_at a i) 1)

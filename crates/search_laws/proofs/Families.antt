@@ -6,7 +6,8 @@ use Rattle.std.proofs.lemmas.Option.{slice_get_within, slice_get-get_or, get_or_
 use Rattle.std.specs.declared.cmp.Ordering.TheVariants.{Less}
 use Rattle.word_image.specs.LocalRules.{LocalRule, IsRule}
 use Rattle.word_image.specs.Words.{word_cmp}
-use Rattle.word_image.specs.Graphs.{full_set, IsStep}
+use Rattle.word_image.specs.Graphs.{full_set}
+use Rattle.word_image.specs.Edges.{IsStep}
 use Rattle.word_image.specs.Ranks.{IsLastSet}
 use Rattle.word_image.specs.Families.{IsLeastWordOf, IsFamily}
 use Rattle.word_image.proofs.laws.Lists.{AllZip-places}

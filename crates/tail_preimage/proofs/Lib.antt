@@ -1,5 +1,4 @@
 pub mod laws
-pub mod Unions
+pub mod Meets
 pub mod Rows
 pub mod OpenSets
-pub mod SideSets

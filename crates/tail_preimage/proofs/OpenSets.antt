@@ -1,22 +1,23 @@
 -- The sets of nodes from which the rest of a word leads into a goal, from the end of the word on, and the first walk through them.
-use Rattle.std.proofs.Common.{◌≡◌, ◌≢◌, ℕ, ◌+◌, ◌-◌, ◌%◌, ◌^◌, ◌<◌, List, [], ◌∷◌, ◌++◌, length, drop, slice_index, IsBitSet, bit_and, refl, sym, ◌∙◌, ap, subst, arith, ⊎_elim}
+use Rattle.std.proofs.Common.{◌≡◌, ◌≢◌, ℕ, ◌+◌, ◌-◌, ◌%◌, ◌^◌, ◌<◌, List, [], ◌∷◌, ◌++◌, length, drop, get_or, slice_index, IsBitSet, bit_and, refl, sym, ◌∙◌, ap, subst, subst₂, arith, ⊎_elim}
 use Rattle.std.proofs.lemmas.Bool.{cases_lt}
 use Rattle.std.proofs.lemmas.Nat.{mod-mul-add}
-use Rattle.std.proofs.lemmas.List.{get_or_append_left, get_or_push, length_push, drop_all}
+use Rattle.std.proofs.lemmas.List.{get_or_append_left, get_or_default, get_or_push, length_push, drop_all}
 use Rattle.word_image.specs.LocalRules.{LocalRule, IsRule, node_count}
-use Rattle.word_image.specs.Graphs.{next}
+use Rattle.word_image.specs.Graphs.{next, IsNodeSet}
 use Rattle.word_image.proofs.laws.Graphs.{next-below}
 use Rattle.pair_laws.proofs.Edges.{next-digits}
 use Rattle.pair_laws.proofs.Sets.{IsBitSet-below, IsBitSet-and, IsBitSet-apart}
-use Rattle.word_image.specs.Edges.{IsEnds}
+use Rattle.word_image.specs.Edges.{IsEnds, IsEdge}
 use Rattle.word_image.specs.declared.side.Side.TheVariants.{Right}
+use Rattle.word_image.proofs.laws.Unions.{IsSetOf-same}
 use Rattle.tail_preimage.specs.Walks.{Reaches}
-use Rattle.tail_preimage.specs.Relations.{IsNodeSet, IsRelation, Relates, Edge}
+use Rattle.tail_preimage.specs.Relations.{IsRelation, Relates}
 use Rattle.tail_preimage.specs.FirstWalks.{AreOpen, IsLeastNode}
 use Rattle.tail_preimage.proofs.laws.Stretches.{drop-more, drop-first}
-use Rattle.tail_preimage.proofs.laws.Sides.{IsRelation-below}
+use Rattle.tail_preimage.proofs.laws.Walks.{IsWalk-last}
+use Rattle.tail_preimage.proofs.laws.Parts.{IsRelation-below}
 use Rattle.tail_preimage.proofs.laws.LeastWalks.{Reaches-none, Reaches-cons, IsLeastBegun, IsLeastBegun-push}
-use Rattle.tail_preimage.proofs.Unions.{IsNodeSet-same}
 
 -- at the end of the word it is the goal
 pub AreOpen-start : {r : LocalRule} {goal : ℕ} → (w : List ℕ) → goal < 2 ^ node_count r → AreOpen r w goal 0 (goal ∷ [])
@@ -30,15 +31,15 @@ AreOpen-start {r} {goal} w small =
     }
 
 -- the set one place back
-IsNodeSet-back : {r : LocalRule} {edges : List ℕ} {set before : ℕ} → IsRule r → (a : ℕ) (w : List ℕ) (goal : ℕ) → IsRelation r (Edge r a) edges → IsNodeSet r (Reaches r w goal) set
+IsNodeSet-back : {r : LocalRule} {edges : List ℕ} {set before : ℕ} → IsRule r → (a : ℕ) (w : List ℕ) (goal : ℕ) → IsRelation r (IsEdge Right r a) edges → IsNodeSet r (Reaches r w goal) set
     → IsNodeSet r (λ u. (v : ℕ) × Relates edges u v × IsBitSet set v) before → IsNodeSet r (Reaches r (a ∷ w) goal) before
-IsNodeSet-back rule a w goal rel h = IsNodeSet-same (λ u l. (
+IsNodeSet-back rule a w goal rel h = IsSetOf-same (λ u l. (
   (λ (v, row, bit). let (node, edge) = IsRelation-below rel u v l row in (Reaches-cons rule a w goal u l).1 (v, node, edge, (h.nodes v node).0 bit)),
   (λ reach. let (v, node, edge, on) = (Reaches-cons rule a w goal u l).0 reach in (v, ((rel.rows u l).nodes v node).1 edge, (h.nodes v node).1 on)),
 ))
 
 -- one set more
-pub AreOpen-more : {r : LocalRule} {w sets edges : List ℕ} {goal n before : ℕ} → IsRule r → AreOpen r w goal n sets → n < length w → IsRelation r (Edge r (slice_index w (length w - 1 - n))) edges
+pub AreOpen-more : {r : LocalRule} {w sets edges : List ℕ} {goal n before : ℕ} → IsRule r → AreOpen r w goal n sets → n < length w → IsRelation r (IsEdge Right r (slice_index w (length w - 1 - n))) edges
     → IsNodeSet r (λ u. (v : ℕ) × Relates edges u v × IsBitSet (slice_index sets n) v) before → AreOpen r w goal (n + 1) (sets ++ before ∷ [])
 AreOpen-more {r} {w} {sets} {edges} {goal} {n} {before} rule h inside rel step =
     let last : IsNodeSet r (Reaches r (drop (length w - (n + 1)) w) goal) before =
@@ -56,28 +57,25 @@ AreOpen-more {r} {w} {sets} {edges} {goal} {n} {before} rule h inside rel step =
     }
 
 -- the set after a place
-open-after : {r : LocalRule} {w sets : List ℕ} {goal n : ℕ} → AreOpen r w goal (length w) sets → n < length w → IsNodeSet r (Reaches r (drop (n + 1) w) goal) (slice_index sets (length w - 1 - n))
-open-after {r} {w} {sets} {goal} {n} h inside =
-    let place : length w - (length w - 1 - n) ≡ n + 1 = omega arith in
-    subst (λ k. IsNodeSet r (Reaches r (drop k w) goal) (slice_index sets (length w - 1 - n))) place (h.each (length w - 1 - n) (omega arith))
+pub open-after : {r : LocalRule} {w sets : List ℕ} {goal n set : ℕ} → AreOpen r w goal (length w) sets → n < length w → set ≡ get_or sets (length w - 1 - n) set → IsNodeSet r (Reaches r (drop (n + 1) w) goal) set
+open-after {r} {w} {sets} {goal} {n} {set} h inside e =
+    let back : length w - (length w - 1 - n) ≡ n + 1 = omega arith in
+    let stored : set ≡ slice_index sets (length w - 1 - n) = e ∙ get_or_default sets (length w - 1 - n) set 0 (omega (arith, h.long)) in
+    subst₂ (λ k a. IsNodeSet r (Reaches r (drop k w) goal) a) back (sym stored) (h.each (length w - 1 - n) (omega arith))
 
--- where the rest of a word reaches the goal some edge leads into the next set
-pub some_edge_on : {r : LocalRule} {w sets : List ℕ} {goal n v ends : ℕ} → IsRule r → AreOpen r w goal (length w) sets → n < length w → v < node_count r → Reaches r (drop n w) goal v
-    → IsEnds Right r v (slice_index w n) ends → bit_and ends (slice_index sets (length w - 1 - n)) ≢ 0
-some_edge_on {r} {w} {sets} {goal} {n} {v} {ends} rule h inside node reach e none =
-    let split : drop n w ≡ slice_index w n ∷ drop (n + 1) w = drop-first w n inside in
-    let (s, below, edge, on) = (Reaches-cons rule (slice_index w n) (drop (n + 1) w) goal v node).0 (subst (λ z. Reaches r z goal v) split reach) in
-    IsBitSet-apart ends (slice_index sets (length w - 1 - n)) s none ((e.nodes s below).1 edge) (((open-after h inside).nodes s below).1 on)
+-- where the rest of the word reaches the goal some edge leads on into it
+pub some_edge_on : {r : LocalRule} {w x : List ℕ} {goal u n v ends set : ℕ} → IsRule r → n < length w → IsLeastBegun r w u goal n v x → IsEnds Right r v (slice_index w n) ends → IsNodeSet r (Reaches r (drop (n + 1) w) goal) set → bit_and ends set ≢ 0
+some_edge_on {r} {w} {goal = goal} {n = n} {v = v} {ends = ends} {set = set} rule inside begun e after none =
+    let (s, below, edge, on) = (Reaches-cons rule (slice_index w n) (drop (n + 1) w) goal v (IsWalk-last begun.walk)).0 (subst (λ z. Reaches r z goal v) (drop-first w n inside) begun.open_still) in
+    IsBitSet-apart ends set s none ((e.nodes s below).1 edge) ((after.nodes s below).1 on)
 
--- the first walk goes on to the least node of the next set to which an edge with the next label leads, by its last letter
-pub IsLeastBegun-node : {r : LocalRule} {w sets x : List ℕ} {goal u n v ends node : ℕ} → IsRule r → AreOpen r w goal (length w) sets → n < length w → IsLeastBegun r w u goal n v x
-    → IsEnds Right r v (slice_index w n) ends → IsLeastNode (bit_and ends (slice_index sets (length w - 1 - n))) node → IsLeastBegun r w u goal (n + 1) node (x ++ node % r.states ∷ [])
-IsLeastBegun-node {r} {w} {sets} {x} {goal} {u} {n} {v} {ends} {node} rule h inside begun e least =
-    let set : ℕ = slice_index sets (length w - 1 - n) in
-    let after = open-after h inside in
+-- the first walk goes on to the least of its nodes to which an edge with the next label leads, by that node's last letter
+pub IsLeastBegun-node : {r : LocalRule} {w x : List ℕ} {goal u n v ends set node : ℕ} → IsRule r → n < length w → IsLeastBegun r w u goal n v x → IsEnds Right r v (slice_index w n) ends → IsNodeSet r (Reaches r (drop (n + 1) w) goal) set
+    → IsLeastNode (bit_and ends set) node → IsLeastBegun r w u goal (n + 1) node (x ++ node % r.states ∷ [])
+IsLeastBegun-node {r} {w} {x} {goal} {u} {n} {v} {ends} {set} {node} rule inside begun e after least =
     let (first, second) = (IsBitSet-and ends set node).0 least.within in
     let below : node < node_count r = IsBitSet-below (node_count r) ends node e.within first in
-    let (b, letter, spells, leads) = (e.nodes node below).0 first in
+    let (b, letter, (spells, leads)) = (e.nodes node below).0 first in
     let split = next-digits rule v b letter in
     let last : node % r.states ≡ b = ap (λ m. m % r.states) (sym leads ∙ split) ∙ mod-mul-add (v % r.states ^ (r.width - 2)) r.states b letter in
     subst (λ m. IsLeastBegun r w u goal (n + 1) node (x ++ m ∷ [])) (sym last)
@@ -85,4 +83,4 @@ IsLeastBegun-node {r} {w} {sets} {x} {goal} {u} {n} {v} {ends} {node} rule h ins
     (IsLeastBegun-push rule begun inside b letter spells (subst (Reaches r (drop (n + 1) w) goal) (sym leads) ((after.nodes node below).0 second)) (λ c less label reach.
     let there : next r v c < node_count r = next-below rule v c in
     let lesser : next r v c < node = omega (arith, next-digits rule v c (omega (arith, less, letter)), split, leads, less) in
-    least.least (next r v c) lesser ((IsBitSet-and ends set (next r v c)).1 (((e.nodes (next r v c) there).1 (c, omega (arith, less, letter), label, refl)), (after.nodes (next r v c) there).1 reach)))))
+    least.least (next r v c) lesser ((IsBitSet-and ends set (next r v c)).1 (((e.nodes (next r v c) there).1 (c, omega (arith, less, letter), (label, refl))), (after.nodes (next r v c) there).1 reach)))))

@@ -3,8 +3,9 @@ use Rattle.std.proofs.Common.{◌≡◌, ◌↔◌, ℕ, ◌+◌, ◌<◌, List,
 use Rattle.std.proofs.lemmas.Bool.{cases_eq}
 use Rattle.std.proofs.lemmas.List.{get_or-set_same, get_or-set_other, length-set}
 use Rattle.word_image.specs.LocalRules.{LocalRule, IsRule, node_count}
-use Rattle.tail_preimage.specs.Relations.{IsNodeSet, IsRelation}
-use Rattle.tail_preimage.proofs.Unions.{IsNodeSet-same}
+use Rattle.word_image.specs.Graphs.{IsNodeSet}
+use Rattle.word_image.proofs.laws.Unions.{IsSetOf-same}
+use Rattle.tail_preimage.specs.Relations.{IsRelation}
 
 -- what holds of the first i rows, and of what is stored at the next place, holds of one row more
 pub row_more : {X : Type 0} (P : ℕ → X → Type 0) (xs : List X) (i j : ℕ) (d y : X) → i < length xs → j ≡ i → ((v : ℕ) → v < i → P v (get_or xs v d)) → P i y
@@ -38,4 +39,4 @@ AreRowsFilled-all e h = record { rows = λ u l. h.each u (omega arith) }
 
 -- the same pairs of nodes are the same relation
 pub IsRelation-same : {r : LocalRule} {P Q : ℕ → ℕ → Type 0} {table : List ℕ} → ((u v : ℕ) → u < node_count r → v < node_count r → (P u v ↔ Q u v)) → IsRelation r P table → IsRelation r Q table
-IsRelation-same same h = record { rows = λ u l. IsNodeSet-same (λ v below. same u v l below) (h.rows u l) }
+IsRelation-same same h = record { rows = λ u l. IsSetOf-same (λ v below. same u v l below) (h.rows u l) }

@@ -1,7 +1,7 @@
 pub mod Walks
 pub mod Steps
 pub mod Stretches
-pub mod Sides
+pub mod Parts
 pub mod Placements
 pub mod PlacedWalks
 pub mod Orders

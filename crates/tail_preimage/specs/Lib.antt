@@ -2,5 +2,5 @@ pub mod Preimages
 pub mod Answers
 pub mod Walks
 pub mod Relations
-pub mod Sides
+pub mod Parts
 pub mod FirstWalks

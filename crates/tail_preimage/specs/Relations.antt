@@ -1,12 +1,7 @@
--- Relations between nodes, the sets of nodes that they make, and steps along them.
-use Rattle.std.specs.Prelude.{◌≡◌, ◌↔◌, ℕ, suc, ◌+◌, ◌^◌, ◌<◌, ◌≤◌, List, slice_index, IsBitSet}
+-- Relations between nodes, and steps along them.
+use Rattle.std.specs.Prelude.{◌≡◌, ℕ, suc, ◌+◌, ◌^◌, ◌<◌, ◌≤◌, List, slice_index, IsBitSet}
 use Rattle.word_image.specs.LocalRules.{LocalRule, node_count}
-use Rattle.word_image.specs.Graphs.{next, label}
-
--- the nodes of which something holds, as a set: node u is bit u
-pub record IsNodeSet (r : LocalRule) (Holds : ℕ → Type 0) (set : ℕ) : Type 0 where
-  pub within : set < 2 ^ node_count r
-  pub nodes : (u : ℕ) → u < node_count r → (IsBitSet set u ↔ Holds u)
+use Rattle.word_image.specs.Graphs.{IsNodeSet}
 
 -- row u of a table is the set of the nodes to which node u is related
 pub record IsRelation (r : LocalRule) (Related : ℕ → ℕ → Type 0) (table : List ℕ) : Type 0 where
@@ -19,10 +14,6 @@ AreSets r table = (u : ℕ) → u < node_count r → slice_index table u < 2 ^ n
 -- what a table relates
 abbrev pub Relates : List ℕ → ℕ → ℕ → Type 0
 Relates table u v = IsBitSet (slice_index table u) v
-
--- an edge labelled a leads from node u to node v
-abbrev pub Edge : LocalRule → ℕ → ℕ → ℕ → Type 0
-Edge r a u v = (b : ℕ) × (b < r.states) × (label r u b ≡ a) × (next r u b ≡ v)
 
 -- n steps of a relation lead from u to v, by the nodes that they pass
 pub record Steps (E : ℕ → ℕ → Type 0) (n u v : ℕ) : Type 0 where

@@ -1,11 +1,11 @@
 //! The first numbers of periods with which a configuration's middle is an orphan.
 
 ghost use Rattle.std.specs.Prelude.{MatchOption};
-ghost use Rattle.tail_preimage.specs.Sides.{HaveParts, PassesThrough, IsFirstGap};
+ghost use Rattle.tail_preimage.specs.Parts.{HaveParts, PassesThrough, IsFirstGap};
 
-use crate::relations::{after, before};
+use crate::periods::{least_closed, open};
+use crate::relations::before;
 use crate::shapes::Parts;
-use crate::sides::{least_closed, open};
 use debruijn::Graph;
 
 /// The least number of left periods that lead nowhere with 16 right ones, and the least number of right
@@ -16,7 +16,7 @@ pub fn first_gap(graph: &Graph, parts: &Parts) -> Option<(u8, u8)>
 {
     let rears = before(graph, &parts.middle, open(graph, &parts.right, 16));
     let left = least_closed(graph, &parts.left, rears)?;
-    let fronts = after(graph, &parts.middle, open(graph, &parts.left, left));
+    let fronts = graph.after(&parts.middle, open(graph, &parts.left, left));
     let right = least_closed(graph, &parts.right, fronts)?;
     Some((left, right))
 }

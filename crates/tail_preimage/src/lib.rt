@@ -28,9 +28,9 @@
 
 mod answer;
 mod gaps;
+mod periods;
 mod relations;
 mod shapes;
-mod sides;
 mod walks;
 mod words;
 

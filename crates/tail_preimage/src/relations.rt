@@ -2,8 +2,11 @@
 
 ghost use Rattle.std.specs.Prelude.{◌≡◌, ◌+◌, ◌<◌, ◌≤◌, ℕ, [], get_or, IsBitSet};
 ghost use Rattle.word_image.specs.LocalRules.{IsRule, IsWord, node_count};
+ghost use Rattle.word_image.specs.Graphs.{IsNodeSet};
+ghost use Rattle.word_image.specs.Edges.{IsEdge};
+ghost use Rattle.word_image.specs.declared.side.Side.TheVariants.{Right};
 ghost use Rattle.tail_preimage.specs.Walks.{HasWalk};
-ghost use Rattle.tail_preimage.specs.Relations.{IsNodeSet, IsRelation, AreSets, Relates, Edge, Steps};
+ghost use Rattle.tail_preimage.specs.Relations.{IsRelation, AreSets, Relates, Steps};
 
 use debruijn::Graph;
 
@@ -25,24 +28,10 @@ fn identity(graph: &Graph) -> Relation
 /// Each node is related to those to which its edges with this label lead.
 pub fn edges(graph: &Graph, label: u8) -> Relation
     requires { label < graph.now.states }
-    ensures relation { IsRelation graph.now (Edge graph.now label) result }
+    ensures relation { IsRelation graph.now (IsEdge Right graph.now label) result }
     ensures rule { IsRule graph.now }
 {
     graph.edges()[usize::from(label)]
-}
-
-/// The nodes to which a node of the set is related.
-pub fn after(graph: &Graph, rows: &Relation, set: u16) -> u16
-    requires { AreSets graph.now rows.now }
-    ensures { IsNodeSet graph.now (λ v. (u : ℕ) × (u < node_count graph.now) × IsBitSet set u × Relates rows.now u v) result }
-{
-    let mut after = 0;
-    for u in 0..graph.nodes() {
-        if set >> u & 1 == 1 {
-            after |= rows[usize::from(u)];
-        }
-    }
-    after
 }
 
 /// The nodes that are related to a node of the set.
@@ -74,11 +63,11 @@ pub fn returning(graph: &Graph, rows: &Relation) -> u16
 /// The relation of a step of the first one and then a step of the second.
 fn joined(graph: &Graph, first: &Relation, second: &Relation) -> Relation
     requires { AreSets graph.now second.now }
-    ensures { IsRelation graph.now (λ u v. (w : ℕ) × (w < node_count graph.now) × Relates first.now u w × Relates second.now w v) result }
+    ensures { IsRelation graph.now (λ u v. (w : ℕ) × (w < node_count graph.now) × (Relates first.now u w × Relates second.now w v)) result }
 {
     let mut rows = [0; 16];
     for u in 0..graph.nodes() {
-        rows[usize::from(u)] = after(graph, second, first[usize::from(u)]);
+        rows[usize::from(u)] = graph.after(second, first[usize::from(u)]);
     }
     rows
 }

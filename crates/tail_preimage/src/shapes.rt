@@ -2,10 +2,10 @@
 
 ghost use Rattle.std.specs.Prelude.{◌≡◌};
 ghost use Rattle.tail_config.specs.Tails.{IsTail};
-ghost use Rattle.tail_preimage.specs.Sides.{AreTailParts, HaveParts, PassesThrough, IsFirstShape, shape_of};
+ghost use Rattle.tail_preimage.specs.Parts.{AreTailParts, HaveParts, PassesThrough, IsFirstShape, shape_of};
 
-use crate::relations::{Relation, after, before, relation, reversed};
-use crate::sides::{Side, least_first, least_sum, open, rounds, side_of, some_rounds};
+use crate::periods::{Periods, least_first, least_sum, open, periods_of, rounds, some_rounds};
+use crate::relations::{Relation, before, relation, reversed};
 use debruijn::Graph;
 use tail_config::Tail;
 
@@ -13,11 +13,11 @@ use tail_config::Tail;
 #[derive(Clone, Copy)]
 pub struct Parts {
     /// The left periods, from the end to the start.
-    pub left: Side,
+    pub left: Periods,
     /// The middle.
     pub middle: Relation,
     /// The right periods.
-    pub right: Side,
+    pub right: Periods,
 }
 
 /// How many left and right periods the middle of a placed configuration spans beside the middle that it
@@ -41,9 +41,9 @@ pub fn parts_of(graph: &Graph, tail: &Tail) -> Parts
     ensures tail { IsTail graph.now.states tail.now.config }
 {
     Parts {
-        left: side_of(graph, reversed(graph, &relation(graph, tail.left()))),
+        left: periods_of(graph, reversed(graph, &relation(graph, tail.left()))),
         middle: relation(graph, tail.middle()),
-        right: side_of(graph, relation(graph, tail.right())),
+        right: periods_of(graph, relation(graph, tail.right())),
     }
 }
 
@@ -55,7 +55,7 @@ pub fn first_shape(graph: &Graph, parts: &Parts) -> Spans
 {
     let rears = before(graph, &parts.middle, open(graph, &parts.right, 16));
     let left = least_sum(graph, &parts.left, rears);
-    let fronts = after(graph, &parts.middle, some_rounds(graph, &parts.left, left));
+    let fronts = graph.after(&parts.middle, some_rounds(graph, &parts.left, left));
     let right = least_sum(graph, &parts.right, fronts);
 
     let rears = before(
@@ -64,8 +64,7 @@ pub fn first_shape(graph: &Graph, parts: &Parts) -> Spans
         some_rounds(graph, &parts.right, right),
     );
     let first = least_first(graph, &parts.left, left, rears);
-    let fronts = after(
-        graph,
+    let fronts = graph.after(
         &parts.middle,
         rounds(graph, &parts.left, first, left - first),
     );

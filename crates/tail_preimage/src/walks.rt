@@ -5,7 +5,7 @@ ghost use Rattle.word_image.specs.LocalRules.{IsWord, word_of, node_count};
 ghost use Rattle.tail_preimage.specs.Walks.{Reaches, IsLeastWalkInto};
 ghost use Rattle.tail_preimage.specs.FirstWalks.{AreOpen, IsLeastNode};
 
-use crate::relations::{Relation, before, edges};
+use crate::relations::{before, edges};
 use debruijn::Graph;
 use std::alloc::{AllocError, Global};
 use word_image::Rule;
@@ -49,21 +49,20 @@ fn node_letters(alloc: Global, rule: &Rule, u: u8) -> Result<Vec<u8>, AllocError
 /// The first walk of a word from a node into a set of nodes, and the node with which it ends.
 pub fn least_walk(
     alloc: Global,
-    rule: &Rule,
+    graph: &Graph,
     start: u8,
     word: &[u8],
     goal: u16,
 ) -> Result<(Vec<u8>, u8), AllocError>
-    requires start { start < node_count rule.now }
-    requires word { IsWord rule.now.states word.now }
-    requires goal { goal < 2 ^ node_count rule.now }
-    requires reach { Reaches rule.now word.now goal start }
-    ensures { IfOk result (λ (walk, end). IsLeastWalkInto rule.now word.now start goal end walk.items) }
+    requires start { start < node_count graph.now }
+    requires word { IsWord graph.now.states word.now }
+    requires goal { goal < 2 ^ node_count graph.now }
+    requires reach { Reaches graph.now word.now goal start }
+    ensures { IfOk result (λ (walk, end). IsLeastWalkInto graph.now word.now start goal end walk.items) }
 {
-    let graph = Graph::of(rule);
     let k = graph.k();
-    let sets = open_sets(alloc, &graph, word, goal)?;
-    let mut walk = node_letters(alloc, rule, start)?;
+    let sets = open_sets(alloc, graph, word, goal)?;
+    let mut walk = node_letters(alloc, graph.rule(), start)?;
     let mut node = start;
     for n in 0..word.len() {
         node = least_node(graph.ends(node, word[n]) & sets[word.len() - 1 - n]);

@@ -1,9 +1,10 @@
 -- The edges of the de Bruijn graph, read along them to the right and against them to the left, as sets in which node v is bit v.
-use Rattle.std.specs.Prelude.{◌≡◌, ◌<◌, ◌≤◌, ◌^◌, ◌↔◌, ℕ, List, [], Option, Some, None, ◌==◌, if◌then◌else◌, slice_index, slice_index_or, IsBitSet}
+use Rattle.std.specs.Prelude.{◌≡◌, ◌<◌, ◌≤◌, ℕ, List, [], Option, Some, None, ◌==◌, if◌then◌else◌, slice_index, slice_index_or, IsBitSet}
 use Rattle.word_image.specs.LocalRules.{LocalRule, node_count}
-use Rattle.word_image.specs.Graphs.{first_of, second_of, pair_of}
+use Rattle.word_image.specs.Graphs.{IsNodeSet, first_of, second_of, pair_of}
 use Rattle.word_image.specs.Sides.{window_with, end_node}
 use Rattle.word_image.specs.declared.side.Side.{Side}
+use Rattle.word_image.specs.declared.side.Side.TheVariants.{Right}
 
 -- what the rule gives on the window of a node and a letter
 abbrev pub label_at : Side → LocalRule → ℕ → ℕ → ℕ
@@ -13,10 +14,17 @@ label_at side r u a = slice_index r.table (window_with side r u a)
 abbrev pub end_at : Side → LocalRule → ℕ → ℕ → ℕ
 end_at side r u a = end_node side r (window_with side r u a)
 
--- the set holds exactly the nodes to which an edge with this label leads from node u
-pub record IsEnds (side : Side) (r : LocalRule) (u label ends : ℕ) : Type 0 where
-  pub within : ends < 2 ^ node_count r
-  pub nodes : (v : ℕ) → v < node_count r → (IsBitSet ends v ↔ ((a : ℕ) × (a < r.states) × (label_at side r u a ≡ label) × (end_at side r u a ≡ v)))
+-- an edge with this label leads from node u to node v
+abbrev pub IsEdge : Side → LocalRule → ℕ → ℕ → ℕ → Type 0
+IsEdge side r label u v = (a : ℕ) × (a < r.states) × ((label_at side r u a ≡ label) × (end_at side r u a ≡ v))
+
+-- the set of the nodes to which an edge with this label leads from node u
+abbrev pub IsEnds : Side → LocalRule → ℕ → ℕ → ℕ → Type 0
+IsEnds side r u label = IsNodeSet r (IsEdge side r label u)
+
+-- a step of a set on letter a leads to the nodes to which an edge with that label leads from a node of the set
+abbrev pub IsStep : LocalRule → ℕ → ℕ → ℕ → Type 0
+IsStep r set a = IsNodeSet r (λ v. (u : ℕ) × (u < node_count r) × (IsBitSet set u × IsEdge Right r a u v))
 
 -- the set that rows of sets have for a label and a node
 abbrev pub ends_at : List (List ℕ) → ℕ → ℕ → ℕ

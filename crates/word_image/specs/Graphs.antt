@@ -12,15 +12,18 @@ next r u a = (u * r.states + a) % node_count r
 abbrev pub label : LocalRule → ℕ → ℕ → ℕ
 label r u a = slice_index r.table (u * r.states + a)
 
--- a set of nodes is a number in which node u is bit u. This is the set of all nodes.
+-- a set is a number in which u is bit u: this one has those below n of which something holds
+pub record IsSetOf (n : ℕ) (Holds : ℕ → Type 0) (set : ℕ) : Type 0 where
+  pub within : set < 2 ^ n
+  pub nodes : (u : ℕ) → u < n → (IsBitSet set u ↔ Holds u)
+
+-- the set of the nodes of which something holds
+abbrev pub IsNodeSet : LocalRule → (ℕ → Type 0) → ℕ → Type 0
+IsNodeSet r = IsSetOf (node_count r)
+
+-- the set of all nodes
 abbrev pub full_set : LocalRule → ℕ
 full_set r = 2 ^ node_count r - 1
-
--- a step of a set on letter a goes along every edge with that label, from every node of the set
-pub record IsStep (r : LocalRule) (set a after : ℕ) : Type 0 where
-  pub within : after < 2 ^ node_count r
-  pub nodes : (v : ℕ) → v < node_count r
-      → (IsBitSet after v ↔ ((u : ℕ) × (b : ℕ) × (u < node_count r) × (b < r.states) × IsBitSet set u × (label r u b ≡ a) × (next r u b ≡ v)))
 
 -- a letter of a node, by its place
 abbrev pub node_letter : LocalRule → ℕ → ℕ → ℕ

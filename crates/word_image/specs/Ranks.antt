@@ -1,6 +1,7 @@
 -- How far two nodes lead, or have been led, with equal labels, and the last nodes of the preimages of a word, said in words (Sutner 1991).
-use Rattle.std.specs.Prelude.{◌≡◌, ℕ, ◌+◌, ◌-◌, ◌^◌, ◌<◌, ◌↔◌, List, length, take, drop, IsBitSet}
-use Rattle.word_image.specs.LocalRules.{LocalRule, IsWord, value, node_count}
+use Rattle.std.specs.Prelude.{◌≡◌, ℕ, ◌+◌, ◌-◌, List, length, take, drop}
+use Rattle.word_image.specs.LocalRules.{LocalRule, IsWord, value}
+use Rattle.word_image.specs.Graphs.{IsNodeSet}
 use Rattle.word_image.specs.Words.{IsPreimage}
 use Rattle.word_image.specs.Windows.{HaveOneImage}
 
@@ -35,8 +36,7 @@ pub record IsLastNode (r : LocalRule) (w : List ℕ) (u : ℕ) : Type 0 where
   pub preimage : IsPreimage r w x
   pub last : value r.states (drop (length w) x) ≡ u
 
--- the set holds exactly the last nodes of the preimages of a word
+-- the set of the last nodes of the preimages of a word
 pub record IsLastSet (r : LocalRule) (w : List ℕ) (set : ℕ) : Type 0 where
   pub word : IsWord r.states w
-  pub within : set < 2 ^ node_count r
-  pub nodes : (u : ℕ) → u < node_count r → (IsBitSet set u ↔ IsLastNode r w u)
+  pub last : IsNodeSet r (IsLastNode r w) set

@@ -57,8 +57,8 @@ IsCovered-push {r} {sets} rule closed h a letter =
       listed = listed;
       within = omega (arith, step.within, is_part, and_le_r part after);
       last = λ u below some.
-          let edge = (step.nodes u below).0 (IsBitSet-part part after u is_part some) in
-          IsLastNode-push rule (h.last edge.0 edge.2 edge.4) a edge.1 u edge.3 edge.5 edge.6;
+          let (v, node, (present, edge)) = (step.nodes u below).0 (IsBitSet-part part after u is_part some) in
+          IsLastNode-push rule (h.last v node present) edge;
     }
 
 -- and with more letters

@@ -87,7 +87,7 @@ pub IsDeadClass-some : {r : LocalRule} {tree : List (Place ℕ)} {e : ℕ} {word
 IsDeadClass-some rule q c i x at empty =
     let (w, at_w, leads) = word_at q c i x at in
     let h = IsLastClosure-leads rule leads in
-    (w, at_w, (IsOrphan-last rule h.last).1 ((IsClosure-empty h.last.within h.closes).1 empty))
+    (w, at_w, (IsOrphan-last rule h.last).1 ((IsClosure-empty h.last.last.within h.closes).1 empty))
 
 -- where no place has it the rule is surjective
 pub IsDeadClass-none : {r : LocalRule} {tree : List (Place ℕ)} {e : ℕ} → IsRule r → HaveClosures r → IsClosureQueue r tree e → length tree * r.states ≤ e
@@ -97,4 +97,4 @@ IsDeadClass-none rule closures q closed words none w word =
     let h = IsLastClosure-leads rule leads.1 in
     let reached = reached_all q closed w leads.0 leads.1 in
     IsPreimage-nonempty_set h.last (λ empty. none reached.at reached.place reached.stands
-    (reached.of_state ∙ (IsClosure-empty h.last.within h.closes).0 empty))
+    (reached.of_state ∙ (IsClosure-empty h.last.last.within h.closes).0 empty))

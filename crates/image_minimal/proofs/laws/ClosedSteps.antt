@@ -6,14 +6,14 @@ use Rattle.word_image.specs.Ranks.{IsLastSet}
 use Rattle.word_image.proofs.laws.LastSets.{IsLastSet-full, IsLastSet-step}
 use Rattle.search_laws.specs.Walks.{Walk, Leads}
 use Rattle.search_laws.proofs.Walks.{Leads-induct}
-use Rattle.search_laws.proofs.StepSets.{IsStep-some, IsStep-unique}
+use Rattle.search_laws.proofs.StepSets.{IsStep-some, IsSetOf-unique}
 use Rattle.image_minimal.specs.Closures.{IsClosure, IsClosedStep}
 use Rattle.image_minimal.proofs.laws.Closures.{AreReadAlike-closure, AreReadAlike-step, IsClosure-alike, IsClosure-unique, IsClosure-full}
 
 -- a closed step on a letter leads to one set
 pub IsClosedStep-unique : {r : LocalRule} {set a s t : ℕ} → IsClosedStep r set a s → IsClosedStep r set a t → s ≡ t
 IsClosedStep-unique {r} {set} {a} {s} {t} first second =
-    let same : first.to ≡ second.to = IsStep-unique {set = set} first.step second.step in
+    let same : first.to ≡ second.to = IsSetOf-unique first.step second.step in
     IsClosure-unique first.closure (subst (λ n. IsClosure r n t) (sym same) second.closure)
 
 -- from all nodes the word leads to the set, by closed steps

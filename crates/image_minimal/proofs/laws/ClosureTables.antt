@@ -1,16 +1,16 @@
 -- The closure of a set by those of the sets with one node more.
 use Rattle.std.proofs.Common.{◌≡◌, ℕ, ◌+◌, ◌^◌, ◌<◌, ◌⊎◌, ◌↔◌, inl, inr, List, set, slice_index, IsBitSet, bit_and, bit_or, refl, sym, ◌∙◌, subst, arith, ⊎_elim}
-use Rattle.std.specs.Int.Bits.{and_lt}
 use Rattle.std.proofs.lemmas.Bool.{cases_eq}
 use Rattle.std.proofs.lemmas.Nat.{le_or_l, or_lt, pow_pos}
 use Rattle.std.proofs.lemmas.List.{get_or-set_same, get_or-set_other, length-set}
 use Rattle.std.proofs.Math.Pow.{pow-lt}
 use Rattle.word_image.specs.LocalRules.{LocalRule, node_count}
-use Rattle.word_image.specs.Graphs.{full_set}
-use Rattle.word_image.proofs.laws.Bits.{IsBitSet-or, IsBitSet-pow}
+use Rattle.word_image.specs.Graphs.{IsNodeSet, full_set}
+use Rattle.word_image.proofs.laws.Bits.{IsBitSet-or, IsBitSet-pow, IsBitSet-decide}
 use Rattle.word_image.proofs.laws.Searches.{some_below}
 use Rattle.word_image.proofs.laws.LastSets.{IsBitSet-full}
-use Rattle.pair_laws.proofs.Sets.{IsBitSet-decide, IsBitSet-and}
+use Rattle.word_image.proofs.laws.Unions.{IsSetOf-same}
+use Rattle.pair_laws.proofs.Sets.{IsSetOf-both}
 use Rattle.search_laws.proofs.StepSets.{same_set}
 use Rattle.image_minimal.specs.Closures.{IsWithin, IsUnreadSet, IsClosure, AreClosuresFrom}
 use Rattle.image_minimal.proofs.laws.Unread.{IsUnreadSet-below}
@@ -18,11 +18,7 @@ use Rattle.image_minimal.proofs.laws.Unread.{IsUnreadSet-below}
 -- an unread set is its own closure
 pub IsClosure-unread : {r : LocalRule} {set : ℕ} → IsUnreadSet r set → IsClosure r set set
 IsClosure-unread {r} {set} is = record {
-  within = IsUnreadSet-below is;
-  nodes = λ u l. (
-    (λ some unread _ within. within u l some),
-    (λ all. all set is (λ v _ there. there)),
-  );
+  of = record { within = IsUnreadSet-below is; nodes = λ u l. ((λ some unread _ within. within u l some), (λ all. all set is (λ v _ there. there))) };
 }
 
 -- a node of the set that another set lacks, or the set is within the other
@@ -61,42 +57,36 @@ with_node-greater set u missing =
 
 -- the closures of the sets with one node more, of the first n, have the nodes in common
 pub record IsShared (r : LocalRule) (set n : ℕ) (closures : List ℕ) (shared : ℕ) : Type 0 where
-  pub within : shared < 2 ^ node_count r
-  pub nodes : (v : ℕ) → v < node_count r → (IsBitSet shared v ↔ ((u : ℕ) → u < n → ¬ IsBitSet set u → IsBitSet (slice_index closures (with_node set u)) v))
+  pub of : IsNodeSet r (λ v. (u : ℕ) → u < n → ¬ IsBitSet set u → IsBitSet (slice_index closures (with_node set u)) v) shared
 
 -- at the beginning they are all nodes
 pub IsShared-start : {r : LocalRule} (set : ℕ) (closures : List ℕ) → IsShared r set 0 closures (full_set r)
-IsShared-start {r} set closures =
-    record { within = omega (arith, pow_pos (node_count r)); nodes = λ v l. ((λ _ u less. absurd (omega (arith, less))), (λ _. IsBitSet-full r v l)) }
+IsShared-start {r} set closures = record {
+  of = record { within = omega (arith, pow_pos (node_count r)); nodes = λ v l. ((λ _ u less. absurd (omega (arith, less))), (λ _. IsBitSet-full r v l)) };
+}
 
 -- the next node is in the set
 pub IsShared-skip : {r : LocalRule} {set n shared : ℕ} {closures : List ℕ} → IsShared r set n closures shared → IsBitSet set n → IsShared r set (n + 1) closures shared
-IsShared-skip h there = record {
-  within = h.within;
-  nodes = λ v l. (
-    (λ some u less missing. ⊎_elim
-        (λ same. absurd (missing (subst (IsBitSet _) (sym same) there)))
-        (λ other. (h.nodes v l).0 some u (omega (arith, less, other)) missing)
-        (cases_eq u _)),
-    (λ all. (h.nodes v l).1 (λ u less missing. all u (omega (arith, less)) missing)),
-  );
+IsShared-skip {set = set} {n = n} h there = record {
+  of = IsSetOf-same (λ v _. (
+    (λ all u less missing. ⊎_elim (λ same. absurd (missing (subst (IsBitSet set) (sym same) there))) (λ other. all u (omega (arith, less, other)) missing) (cases_eq u n)),
+    (λ all u less missing. all u (omega (arith, less)) missing),
+  )) h.of;
 }
 
 -- or it isn't
 pub IsShared-take : {r : LocalRule} {set n shared : ℕ} {closures : List ℕ} → IsShared r set n closures shared → ¬ IsBitSet set n
     → slice_index closures (with_node set n) < 2 ^ node_count r → IsShared r set (n + 1) closures (bit_and shared (slice_index closures (with_node set n)))
 IsShared-take {r} {set} {n} {shared} {closures} h new small =
-    let part = slice_index closures (with_node set n) in
+    let part : IsNodeSet r (IsBitSet (slice_index closures (with_node set n))) (slice_index closures (with_node set n)) = record { within = small; nodes = λ v _. ((λ some. some), (λ some. some)) } in
     record {
-      within = and_lt (node_count r) shared part h.within small;
-      nodes = λ v l.
-          let both = IsBitSet-and shared part v in (
-            (λ some u less missing. ⊎_elim
-                (λ same. subst (λ x. IsBitSet (slice_index closures (with_node set x)) v) (sym same) (both.0 some).1)
-                (λ other. (h.nodes v l).0 (both.0 some).0 u (omega (arith, less, other)) missing)
-                (cases_eq u n)),
-            (λ all. both.1 ((h.nodes v l).1 (λ u less missing. all u (omega (arith, less)) missing), all n (omega arith) new)),
-          );
+      of = IsSetOf-same (λ v _. (
+        (λ (all, some) u less missing. ⊎_elim
+            (λ same. subst (λ x. IsBitSet (slice_index closures (with_node set x)) v) (sym same) some)
+            (λ other. all u (omega (arith, less, other)) missing)
+            (cases_eq u n)),
+        (λ all. ((λ u less missing. all u (omega (arith, less)) missing), all n (omega arith) new)),
+      )) (IsSetOf-both h.of part);
     }
 
 -- of a set that isn't unread the closure is what those of the sets with one node more have in common
@@ -105,12 +95,12 @@ pub IsClosure-shared : {r : LocalRule} {set shared : ℕ} {closures : List ℕ} 
 IsClosure-shared {r} {set} {shared} {closures} small read above h =
     let more : (u : ℕ) → u < node_count r → ¬ IsBitSet set u → IsClosure r (with_node set u) (slice_index closures (with_node set u)) = λ u node missing.
     above.closure (with_node set u) (omega (arith, with_node-greater set u missing)) (or_lt (node_count r) set (2 ^ u) small (pow-lt node)) in
-    record {
-      within = h.within;
+    let closure : IsNodeSet r (λ v. (unread : ℕ) → IsUnreadSet r unread → IsWithin r set unread → IsBitSet unread v) shared = record {
+      within = h.of.within;
       nodes = λ v l. (
         (λ some unread is within. ⊎_elim
             (λ (u, node, (there, missing)).
-            ((more u node missing).nodes v l).0 ((h.nodes v l).0 some u node missing) unread is (λ x below in_more. ⊎_elim
+            ((more u node missing).of.nodes v l).0 ((h.of.nodes v l).0 some u node missing) unread is (λ x below in_more. ⊎_elim
             (λ in_set. within x below in_set)
             (λ same. subst (IsBitSet unread) (sym same) there)
             ((IsBitSet-with set u x).0 in_more)))
@@ -118,10 +108,11 @@ IsClosure-shared {r} {set} {shared} {closures} small read above h =
             let same : unread ≡ set = same_set (node_count r) unread set (IsUnreadSet-below is) small (λ u below. (back u below, within u below)) in
             absurd (read (subst (IsUnreadSet r) same is)))
             (lacking r unread set)),
-        (λ all. (h.nodes v l).1 (λ u node missing. ((more u node missing).nodes v l).1 (λ unread is within.
+        (λ all. (h.of.nodes v l).1 (λ u node missing. ((more u node missing).of.nodes v l).1 (λ unread is within.
             all unread is (λ x below in_set. within x below ((IsBitSet-with set u x).1 (inl in_set)))))),
       );
-    }
+    } in
+    record { of = closure }
 
 -- one closure more
 pub AreClosuresFrom-set : {r : LocalRule} {n closure : ℕ} {closures : List ℕ} → AreClosuresFrom r (n + 1) closures → n < 2 ^ node_count r → IsClosure r n closure

@@ -2,10 +2,12 @@
 use Rattle.std.proofs.Common.{◌≡◌, ℕ, ◌^◌, ◌<◌, ◌↔◌, List, [], ◌∷◌, refl, sym, subst, arith}
 use Rattle.std.proofs.lemmas.Nat.{pow_pos}
 use Rattle.word_image.specs.LocalRules.{LocalRule, IsRule, node_count}
-use Rattle.word_image.specs.Graphs.{full_set, IsStep}
+use Rattle.word_image.specs.Graphs.{full_set}
+use Rattle.word_image.specs.Edges.{IsStep}
 use Rattle.word_image.specs.Ranks.{IsLastSet}
 use Rattle.word_image.proofs.laws.LastSets.{IsBitSet-full}
-use Rattle.search_laws.proofs.StepSets.{one_set}
+use Rattle.word_image.proofs.laws.Unions.{IsSetOf-same}
+use Rattle.search_laws.proofs.StepSets.{IsSetOf-unique}
 use Rattle.image_minimal.specs.ImageLanguages.{Alike}
 use Rattle.image_minimal.specs.Closures.{IsWithin, IsUnreadSet, IsClosure}
 use Rattle.image_minimal.proofs.laws.Unread.{IsBack-some, IsUnread-some, IsWord-unread, IsWithin-back, IsWithin-zero, IsOrphan-unread}
@@ -16,14 +18,14 @@ pub record AreReadAlike (r : LocalRule) (s t : ℕ) : Type 0 where
 
 -- a set is within its closure
 pub IsWithin-closure : {r : LocalRule} {s closure : ℕ} → IsClosure r s closure → IsWithin r s closure
-IsWithin-closure c u l there = (c.nodes u l).1 (λ unread is within. within u l there)
+IsWithin-closure c u l there = (c.of.nodes u l).1 (λ unread is within. within u l there)
 
 -- so the same words are read from the closure
 pub AreReadAlike-closure : {r : LocalRule} {s closure : ℕ} → IsClosure r s closure → AreReadAlike r closure s
 AreReadAlike-closure c = record {
   within = λ unread is. (
     (λ within u l there. within u l (IsWithin-closure c u l there)),
-    (λ within u l there. (c.nodes u l).0 there unread is within),
+    (λ within u l there. (c.of.nodes u l).0 there unread is within),
   );
 }
 
@@ -39,24 +41,23 @@ AreReadAlike-one first second = record {
 -- sets from which the same words are read have the same closure
 pub IsClosure-alike : {r : LocalRule} {s t closure : ℕ} → AreReadAlike r s t → IsClosure r s closure → IsClosure r t closure
 IsClosure-alike h c = record {
-  within = c.within;
-  nodes = λ u l. (
-    (λ some unread is within. (c.nodes u l).0 some unread is ((h.within unread is).1 within)),
-    (λ all. (c.nodes u l).1 (λ unread is within. all unread is ((h.within unread is).0 within))),
-  );
+  of = IsSetOf-same (λ u l. (
+    (λ all unread is within. all unread is ((h.within unread is).1 within)),
+    (λ all unread is within. all unread is ((h.within unread is).0 within)),
+  )) c.of;
 }
 
 -- a set has one closure
 pub IsClosure-unique : {r : LocalRule} {s closure other : ℕ} → IsClosure r s closure → IsClosure r s other → closure ≡ other
-IsClosure-unique {r} {s} {closure} {other} first second = one_set (node_count r) closure other first.within second.within first.nodes second.nodes
+IsClosure-unique first second = IsSetOf-unique first.of second.of
 
 -- steps on one letter lead from sets from which the same words are read to such sets
 pub AreReadAlike-step : {r : LocalRule} {s t a after also : ℕ} → IsRule r → a < r.states → AreReadAlike r s t → IsStep r s a after → IsStep r t a also → AreReadAlike r after also
 AreReadAlike-step {r} {s} {t} {a} {after} {also} rule letter h first second = record {
   within = λ unread (z, is).
       let back = IsBack-some r unread a in
-      let one = IsWithin-back rule first back.1 in
-      let two = IsWithin-back rule second back.1 in
+      let one = IsWithin-back rule s first back.1 in
+      let two = IsWithin-back rule t second back.1 in
       let both = h.within back.0 (a ∷ z, (unread, letter, is, back.1)) in (
         (λ within. two.1 (both.0 (one.0 within))),
         (λ within. one.1 (both.1 (two.0 within))),
@@ -97,15 +98,17 @@ Alike-closure {r} {x} {y} {s} {t} {closure} {other} rule first second of_s of_t 
 -- all nodes are their own closure
 pub IsClosure-full : (r : LocalRule) → IsClosure r (full_set r) (full_set r)
 IsClosure-full r = record {
-  within = omega (arith, pow_pos (node_count r));
-  nodes = λ u l. ((λ some unread is within. within u l some), (λ _. IsBitSet-full r u l));
+  of = record {
+    within = omega (arith, pow_pos (node_count r));
+    nodes = λ u l. ((λ some unread is within. within u l some), (λ _. IsBitSet-full r u l));
+  };
 }
 
 -- and so is the empty set, which is the closure of no other
 pub IsClosure-empty : {r : LocalRule} {s closure : ℕ} → s < 2 ^ node_count r → IsClosure r s closure → (s ≡ 0 ↔ (closure ≡ 0))
 IsClosure-empty {r} {s} {closure} small c =
     let none = IsWithin-zero r s small in
-    let also = IsWithin-zero r closure c.within in
+    let also = IsWithin-zero r closure c.of.within in
     let alike = (AreReadAlike-closure c).within 0 ([], refl) in (
       (λ empty. also.1 (alike.1 (none.0 empty))),
       (λ empty. none.1 (alike.0 (also.0 empty))),

@@ -4,7 +4,8 @@ use Rattle.std.specs.List.{slice_get}
 use Rattle.std.proofs.lemmas.Nat.{pow_pos}
 use Rattle.std.proofs.Math.Nat.{mul-le-mul_left, mul-le-mul_right, mul-one}
 use Rattle.word_image.specs.LocalRules.{LocalRule, IsRule, IsWord, node_count}
-use Rattle.word_image.specs.Graphs.{full_set, IsStep}
+use Rattle.word_image.specs.Graphs.{full_set}
+use Rattle.word_image.specs.Edges.{IsStep}
 use Rattle.word_image.proofs.laws.Places.{slice_get-unique}
 use Rattle.search_laws.specs.SearchQueues.{Place, filled}
 use Rattle.search_laws.specs.SearchQueues.TreeSpells.{Root}
@@ -106,8 +107,8 @@ both_within {r} {q} {links} rule other h early (a ∷ z) u v (rest, letter, unre
     ((λ p. two.1 (ends.0 (one.0 p))), (λ p. one.1 (ends.1 (two.0 p))))) chain in
     let one = within_first r q rest also s.0 s.1.within in
     let two = within_second r q rest also t.0 in
-    let left = IsWithin-back rule s.1 back in
-    let right = IsWithin-back other t.1 back_also in (
+    let left = IsWithin-back rule x.first s.1 back in
+    let right = IsWithin-back other x.second t.1 back_also in (
       (λ p. right.0 (two.0 (both.0 (one.1 (left.1 p))))),
       (λ p. left.0 (one.0 (both.1 (two.1 (right.1 p))))),
     )

@@ -5,15 +5,20 @@ use Rattle.std.proofs.lemmas.Nat.{pow_pos}
 use Rattle.std.proofs.lemmas.List.Elements.{All-nil, All-cons, All-tail}
 use Rattle.word_image.specs.LocalRules.{LocalRule, IsRule, IsWord, node_count}
 use Rattle.word_image.specs.Words.{IsOrphan}
-use Rattle.word_image.specs.Graphs.{next, label, IsStep}
+use Rattle.word_image.specs.Graphs.{next, label}
+use Rattle.word_image.specs.Edges.{IsEdge, IsStep}
+use Rattle.word_image.specs.declared.side.Side.TheVariants.{Right}
 use Rattle.word_image.specs.Ranks.{IsLastSet}
-use Rattle.word_image.proofs.laws.Bits.{IsBitSet-some, IsBitSet-zero}
+use Rattle.word_image.proofs.laws.Bits.{IsBitSet-some, IsBitSet-zero, IsBitSet-decide}
 use Rattle.word_image.proofs.laws.Graphs.{next-below}
 use Rattle.word_image.proofs.laws.LastSets.{IsLastSet-step, IsOrphan-empty_set}
 use Rattle.word_image.proofs.laws.Searches.{some_below}
-use Rattle.pair_laws.proofs.Sets.{IsBitSet-decide}
-use Rattle.search_laws.proofs.StepSets.{one_set, some_set, IsStep-some, IsLastSet-unique, IsLastSet-orphan}
-use Rattle.image_minimal.specs.Closures.{IsWithin, IsBack, IsUnread, IsUnreadSet}
+use Rattle.search_laws.proofs.StepSets.{some_set, IsStep-some, IsLastSet-unique, IsLastSet-orphan}
+use Rattle.image_minimal.specs.Closures.{IsWithin, IsLedInto, IsBack, IsUnread, IsUnreadSet}
+
+-- an edge leads to a node
+pub edge_below : {r : LocalRule} → IsRule r → (a u v : ℕ) → IsEdge Right r a u v → v < node_count r
+edge_below {r} rule a u v (b, letter, (labelled, ends)) = subst (λ x. x < node_count r) ends (next-below rule u b)
 
 -- from some nodes all edges labelled a lead into a set
 pub IsBack-some : (r : LocalRule) (set a : ℕ) → (before : ℕ) × IsBack r set a before
@@ -24,18 +29,14 @@ IsBack-some r set a =
     (λ labelled. ⊎_elim (λ some. inr (λ (_, none). none some)) (λ none. inl (labelled, none)) (IsBitSet-decide set (next r u b)))
     (λ other. inr (λ (labelled, _). other labelled))
     (cases_eq (label r u b) a) in
-    let Has : ℕ → Type 0 = λ u. (b : ℕ) → b < r.states → label r u b ≡ a → IsBitSet set (next r u b) in
-    let decide : (u : ℕ) → Has u ⊎ ¬ Has u = λ u.
+    let decide : (u : ℕ) → IsLedInto r set a u ⊎ ¬ IsLedInto r set a u = λ u.
     ⊎_elim
-    (λ (b, letter, (labelled, none)). inr (λ has. none (has b letter labelled)))
-    (λ none. inl (λ b letter labelled. ⊎_elim (λ some. some) (λ missing. absurd (none b letter (labelled, missing))) (IsBitSet-decide set (next r u b))))
+    (λ (b, letter, (labelled, none)). inr (λ has. none (has (next r u b) (b, letter, (labelled, refl)))))
+    (λ none. inl (λ v (b, letter, (labelled, ends)).
+    subst (IsBitSet set) ends (⊎_elim (λ some. some) (λ missing. absurd (none b letter (labelled, missing))) (IsBitSet-decide set (next r u b)))))
     (some_below (Out u) (out u) r.states) in
-    let made = some_set Has decide (node_count r) in
-    (made.0, record { within = made.1; nodes = made.2 })
-
--- and they are one set
-pub IsBack-unique : {r : LocalRule} {set a s t : ℕ} → IsBack r set a s → IsBack r set a t → s ≡ t
-IsBack-unique {r} {set} {a} {s} {t} first second = one_set (node_count r) s t first.within second.within first.nodes second.nodes
+    let (before, back) = some_set (IsLedInto r set a) decide (node_count r) in
+    (before, record { of = back })
 
 -- each word isn't read from some nodes
 pub IsUnread-some : (r : LocalRule) (z : List ℕ) → IsWord r.states z → (set : ℕ) × IsUnread r z set
@@ -53,16 +54,13 @@ IsWord-unread r (a ∷ z) set (rest, letter, unread, back) = All-cons (λ b. b <
 -- these are nodes
 pub IsUnreadSet-below : {r : LocalRule} {set : ℕ} → IsUnreadSet r set → set < 2 ^ node_count r
 IsUnreadSet-below {r} {set} ([], none) = subst (λ n. n < 2 ^ node_count r) (sym none) (pow_pos (node_count r))
-IsUnreadSet-below (a ∷ z, (rest, letter, unread, back)) = back.within
+IsUnreadSet-below (a ∷ z, (rest, letter, unread, back)) = back.of.within
 
 -- a step leads into a set exactly from within the nodes from which all its edges do
-pub IsWithin-back : {r : LocalRule} {s a t set before : ℕ} → IsRule r → IsStep r s a t → IsBack r set a before → (IsWithin r t set ↔ IsWithin r s before)
-IsWithin-back {r} {s} {a} {t} {set} {before} rule step back = (
-  (λ within u l in_s. (back.nodes u l).1 (λ b letter labelled.
-      within (next r u b) (next-below rule u b) ((step.nodes (next r u b) (next-below rule u b)).1 (u, b, l, letter, in_s, labelled, refl)))),
-  (λ within v l in_t.
-      let (u, b, node, letter, in_s, labelled, ends) = (step.nodes v l).0 in_t in
-      subst (IsBitSet set) ends ((back.nodes u node).0 (within u node in_s) b letter labelled)),
+pub IsWithin-back : {r : LocalRule} {a t set before : ℕ} → IsRule r → (s : ℕ) → IsStep r s a t → IsBack r set a before → (IsWithin r t set ↔ IsWithin r s before)
+IsWithin-back {r} {a} rule s step back = (
+  (λ within u l in_s. (back.of.nodes u l).1 (λ v edge. let node = edge_below rule a u v edge in within v node ((step.nodes v node).1 (u, l, (in_s, edge))))),
+  (λ within v l in_t. let (u, node, (in_s, edge)) = (step.nodes v l).0 in_t in (back.of.nodes u node).0 (within u node in_s) v edge),
 )
 
 -- only the empty set is within the empty one
@@ -87,12 +85,12 @@ pub IsOrphan-unread : {r : LocalRule} → IsRule r → (z : List ℕ) (set : ℕ
     → (IsOrphan r (w ++ z) ↔ IsWithin r s set)
 IsOrphan-unread {r} rule [] set same w s last =
     let orphan = IsOrphan-last rule last in
-    let none = IsWithin-zero r s last.within in
+    let none = IsWithin-zero r s last.last.within in
     subst (λ v. IsOrphan r v ↔ IsWithin r s set) (sym (append-nil w))
     (subst (λ n. IsOrphan r w ↔ IsWithin r s n) (sym same) ((λ is. none.0 (orphan.0 is)), (λ within. orphan.1 (none.1 within))))
 IsOrphan-unread {r} rule (a ∷ z) set (rest, letter, unread, back) w s last =
     let step = IsStep-some r s a in
     let later = IsOrphan-unread rule z rest unread (w ++ a ∷ []) step.0 (IsLastSet-step {set = s} rule last letter step.1) in
-    let through = IsWithin-back rule step.1 back in
+    let through = IsWithin-back rule s step.1 back in
     subst (λ v. IsOrphan r v ↔ IsWithin r s set) (append_assoc w (a ∷ []) z)
     ((λ is. through.0 (later.0 is)), (λ within. later.1 (through.1 within)))

@@ -3,11 +3,12 @@ use Rattle.std.proofs.Common.{◌≡◌, ℕ, ◌≤◌, List, refl, sym, ap, ap
 use Rattle.std.proofs.lemmas.Bool.{cases_lt}
 use Rattle.word_image.specs.LocalRules.{LocalRule}
 use Rattle.word_image.specs.Words.{IsOrphan}
+use Rattle.word_image.specs.Graphs.{IsNodeSet}
 use Rattle.tail_config.specs.Tails.{TailConfig, IsTail}
 use Rattle.tail_preimage.specs.Preimages.{PlacedConfig, Shape, IsLeastGap, stretch, IsGap}
 use Rattle.tail_preimage.specs.Answers.{IsPreimageAnswer, placed_config}
-use Rattle.tail_preimage.specs.Relations.{IsNodeSet, Relates, Open}
-use Rattle.tail_preimage.specs.Sides.{AreTailParts, PassesThrough, Starts, IsFirstGap}
+use Rattle.tail_preimage.specs.Relations.{Relates, Open}
+use Rattle.tail_preimage.specs.Parts.{AreTailParts, PassesThrough, Starts, IsFirstGap}
 use Rattle.tail_preimage.specs.FirstWalks.{AreLoopWalks, IsLeastNode}
 use Rattle.tail_preimage.specs.declared.answer.Pre.{Pre}
 use Rattle.tail_preimage.specs.declared.answer.Pre.TheVariants.{From, Gap}
@@ -15,7 +16,7 @@ use Rattle.tail_preimage.specs.declared.shapes.Parts.{Parts}
 use Rattle.tail_preimage.proofs.laws.Walks.{IsWalk-first}
 use Rattle.tail_preimage.proofs.laws.Steps.{Open-rounds}
 use Rattle.tail_preimage.proofs.laws.PlacedWalks.{not_MapsTo-orphan}
-use Rattle.tail_preimage.proofs.laws.Sides.{SomeRounds-side, walks-Starts, IsOrphan-PassesThrough, PassesThrough-IsOrphan}
+use Rattle.tail_preimage.proofs.laws.Parts.{SomeRounds-periods, walks-Starts, IsOrphan-PassesThrough, PassesThrough-IsOrphan}
 use Rattle.tail_preimage.proofs.laws.Shapes.{Through-map}
 use Rattle.tail_preimage.proofs.laws.LeastPreimages.{IsLeastPreimage-unique}
 
@@ -24,7 +25,7 @@ PassesThrough-any : {r : LocalRule} {t : TailConfig} {parts : Parts} → AreTail
 PassesThrough-any {r} {parts = parts} h b a =
     let C : ℕ → ℕ → Type 0 = Relates parts.right.period in
     Through-map r parts (Open (Relates parts.left.period) b) (Open C 16) (Open (Relates parts.left.period) b) (Open C a) (λ v _ leads. leads) (λ w node leads.
-    let (sum, few, (n, on, both, some, rounds)) = SomeRounds-side h.rule h.right node leads in
+    let (sum, few, (n, on, both, some, rounds)) = SomeRounds-periods h.rule h.right node leads in
     Open-rounds C n on w some rounds a)
 
 -- the first numbers of periods that lead nowhere are the least gap

@@ -7,9 +7,10 @@ use Rattle.std.proofs.lemmas.Bool.{cases_lt}
 use Rattle.std.proofs.lemmas.List.{take-append-drop, take_all, take_more, take-take, take_at, length-take-le, nil_from_length}
 use Rattle.word_image.specs.LocalRules.{LocalRule, IsRule, value, node_count}
 use Rattle.word_image.specs.Graphs.{next, label}
+use Rattle.word_image.specs.Edges.{IsEdge}
+use Rattle.word_image.specs.declared.side.Side.TheVariants.{Right}
 use Rattle.word_image.proofs.laws.Comparisons.{then_not_greater, slice_cmp-same}
 use Rattle.tail_preimage.specs.Walks.{IsWalk, Reaches, IsLeastWalkInto}
-use Rattle.tail_preimage.specs.Relations.{Edge}
 use Rattle.tail_preimage.proofs.laws.Walks.{HasLastEdge, IsWalk-none, IsWalk-stays, IsWalk-cut, IsWalk-push, IsWalk-snoc, HasWalk-cons, IsWalk-last, same_first}
 use Rattle.tail_preimage.proofs.laws.Orders.{slice_cmp-append, slice_cmp-equal, key_not_greater}
 
@@ -19,7 +20,7 @@ Reaches-none {r} goal u l = ((λ (v, at, walk). subst (IsBitSet goal) (sym (IsWa
 
 -- before that from where some edge with the next letter leads to a node from which it is
 pub Reaches-cons : {r : LocalRule} → IsRule r → (a : ℕ) (w : List ℕ) (goal u : ℕ) → u < node_count r
-    → Reaches r (a ∷ w) goal u ↔ ((v : ℕ) × (v < node_count r) × Edge r a u v × Reaches r w goal v)
+    → Reaches r (a ∷ w) goal u ↔ ((v : ℕ) × (v < node_count r) × IsEdge Right r a u v × Reaches r w goal v)
 Reaches-cons {r} rule a w goal u l = (
   (λ (s, at, walk). let (v, node, edge, rest) = (HasWalk-cons rule a w u s l).0 walk in (v, node, edge, (s, at, rest))),
   (λ (v, node, edge, (s, at, rest)). (s, at, (HasWalk-cons rule a w u s l).1 (v, node, edge, rest))),

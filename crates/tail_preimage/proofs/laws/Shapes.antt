@@ -3,16 +3,17 @@ use Rattle.std.proofs.Common.{◌≡◌, ◌↔◌, ℕ, ◌+◌, ◌-◌, ◌<�
 use Rattle.std.specs.Ordering.{ordering_then, nat_cmp}
 use Rattle.std.proofs.lemmas.Bool.{cases_lt}
 use Rattle.word_image.specs.LocalRules.{LocalRule, node_count}
+use Rattle.word_image.specs.Graphs.{IsNodeSet}
 use Rattle.word_image.proofs.laws.Comparisons.{nat_cmp-le}
 use Rattle.pair_laws.proofs.Sets.{IsBitSet-below}
 use Rattle.tail_config.specs.Tails.{TailConfig}
 use Rattle.tail_preimage.specs.Preimages.{Shape}
-use Rattle.tail_preimage.specs.Relations.{IsNodeSet, Relates, Open, Rounds, SomeRounds, Meets, IsFirst}
-use Rattle.tail_preimage.specs.Sides.{AreTailParts, Through, PassesThrough, IsPossible, IsFirstShape}
+use Rattle.tail_preimage.specs.Relations.{Relates, Open, Rounds, SomeRounds, Meets, IsFirst}
+use Rattle.tail_preimage.specs.Parts.{AreTailParts, Through, PassesThrough, IsPossible, IsFirstShape}
 use Rattle.tail_preimage.specs.declared.shapes.Parts.{Parts}
 use Rattle.tail_preimage.proofs.laws.Orders.{key_not_greater}
 use Rattle.tail_preimage.proofs.laws.Steps.{Open-rounds}
-use Rattle.tail_preimage.proofs.laws.Sides.{IsSide-end, SomeRounds-side}
+use Rattle.tail_preimage.proofs.laws.Parts.{ArePeriods-end, SomeRounds-periods}
 
 -- the first number of which it holds is no greater than another
 IsFirst-le : (P : ℕ → Type 0) (n i : ℕ) → IsFirst P n → P i → n ≤ i
@@ -27,8 +28,8 @@ pub Through-map : (r : LocalRule) (parts : Parts) (P Q S T : ℕ → Type 0) →
 Through-map r parts P Q S T first second (v, w, v_node, w_node, before, middle, behind) = (v, w, v_node, w_node, first v v_node before, middle, second w w_node behind)
 
 -- it meets the nodes from which the middle leads into a set
-pub Through-before : {r : LocalRule} {set rears : ℕ} → (parts : Parts) (P Q : ℕ → Type 0) → IsNodeSet r Q set → IsNodeSet r (λ v. (w : ℕ) × Relates parts.middle v w × IsBitSet set w) rears → Meets r P rears ↔ Through r parts P Q
-Through-before {r} {set = set} parts P Q h g = (
+pub Through-before : {set rears : ℕ} → (r : LocalRule) (parts : Parts) (P Q : ℕ → Type 0) → IsNodeSet r Q set → IsNodeSet r (λ v. (w : ℕ) × Relates parts.middle v w × IsBitSet set w) rears → Meets r P rears ↔ Through r parts P Q
+Through-before {set = set} r parts P Q h g = (
   (λ (v, node, before, bit).
       let (w, row, behind) = (g.nodes v node).0 bit in
       let below = IsBitSet-below (node_count r) set w h.within behind in
@@ -37,18 +38,18 @@ Through-before {r} {set = set} parts P Q h g = (
 )
 
 -- and those to which it leads from a set
-pub Through-behind : {r : LocalRule} {set fronts : ℕ} → (parts : Parts) (P Q : ℕ → Type 0) → IsNodeSet r P set
-    → IsNodeSet r (λ w. (v : ℕ) × (v < node_count r) × IsBitSet set v × Relates parts.middle v w) fronts → Meets r Q fronts ↔ Through r parts P Q
-Through-behind {r} parts P Q h g = (
-  (λ (w, w_node, behind, bit). let (v, node, before, row) = (g.nodes w w_node).0 bit in (v, w, node, w_node, (h.nodes v node).0 before, row, behind)),
-  (λ (v, w, v_node, w_node, before, row, behind). (w, w_node, behind, (g.nodes w w_node).1 (v, v_node, (h.nodes v v_node).1 before, row))),
+pub Through-behind : {set fronts : ℕ} → (r : LocalRule) (parts : Parts) (P Q : ℕ → Type 0) → IsNodeSet r P set
+    → IsNodeSet r (λ w. (v : ℕ) × (v < node_count r) × (IsBitSet set v × Relates parts.middle v w)) fronts → Meets r Q fronts ↔ Through r parts P Q
+Through-behind r parts P Q h g = (
+  (λ (w, w_node, behind, bit). let (v, node, (before, row)) = (g.nodes w w_node).0 bit in (v, w, node, w_node, (h.nodes v node).0 before, row, behind)),
+  (λ (v, w, v_node, w_node, before, row, behind). (w, w_node, behind, (g.nodes w w_node).1 (v, v_node, ((h.nodes v v_node).1 before, row)))),
 )
 
 -- a shape is possible where the middle leads from a node with its left rounds to one with its right rounds
 pub IsPossible-through : {r : LocalRule} {t : TailConfig} {parts : Parts} → AreTailParts r t parts → (s : Shape) → 1 ≤ s.back → 1 ≤ s.on
     → Through r parts (Rounds (Relates parts.left.period) s.before s.back) (Rounds (Relates parts.right.period) s.after s.on) → IsPossible r parts s
 IsPossible-through h s back on (v, w, v_node, w_node, (n, lefts, turn), row, behind) =
-    record { back_some = back; on_some = on; node = n; below = IsSide-end h.left_side v_node lefts; starts = (turn, (v, v_node, lefts, (w, w_node, row, behind))) }
+    record { back_some = back; on_some = on; node = n; below = ArePeriods-end h.left_periods v_node lefts; starts = (turn, (v, v_node, lefts, (w, w_node, row, behind))) }
 
 through-IsPossible : {r : LocalRule} {parts : Parts} {s : Shape} → IsPossible r parts s → Through r parts (Rounds (Relates parts.left.period) s.before s.back) (Rounds (Relates parts.right.period) s.after s.on)
 through-IsPossible h =
@@ -119,13 +120,13 @@ IsFirstShape-keys {r} {t} {parts} h left right before after keys =
 -- there is a first key where 16 periods on either side lead through
 pub left_key : {r : LocalRule} {t : TailConfig} {parts : Parts} → AreTailParts r t parts → PassesThrough r parts 16 16 → (n : ℕ) × (n ≤ 16) × Through r parts (SomeRounds (Relates parts.left.period) n) (Open (Relates parts.right.period) 16)
 left_key h (v, w, v_node, w_node, before, row, behind) =
-    let (sum, few, rounds) = SomeRounds-side h.rule h.left v_node before in
+    let (sum, few, rounds) = SomeRounds-periods h.rule h.left v_node before in
     (sum, few, (v, w, v_node, w_node, rounds, row, behind))
 
 -- and for it a second
 pub right_key : {r : LocalRule} {t : TailConfig} {parts : Parts} (P : ℕ → Type 0) → AreTailParts r t parts → Through r parts P (Open (Relates parts.right.period) 16) → (n : ℕ) × (n ≤ 16) × Through r parts P (SomeRounds (Relates parts.right.period) n)
 right_key P h (v, w, v_node, w_node, before, row, behind) =
-    let (sum, few, rounds) = SomeRounds-side h.rule h.right w_node behind in
+    let (sum, few, rounds) = SomeRounds-periods h.rule h.right w_node behind in
     (sum, few, (v, w, v_node, w_node, before, row, rounds))
 
 -- and a third

@@ -5,13 +5,14 @@ use Rattle.std.proofs.lemmas.List.Elements.{All-append, All-take, All-drop}
 use Rattle.word_image.specs.LocalRules.{LocalRule, IsRule, IsWord, value, word_of, node_count}
 use Rattle.word_image.specs.Words.{IsOrphan}
 use Rattle.word_image.specs.Graphs.{next, label}
+use Rattle.word_image.specs.Edges.{IsEdge}
+use Rattle.word_image.specs.declared.side.Side.TheVariants.{Right}
 use Rattle.word_image.proofs.laws.Values.{value-injective, length-word_of, IsWord-word_of, value-word_of}
 use Rattle.word_image.proofs.laws.Words.{IsLongerPreimage, IsPreimage-empty, IsPreimage-snoc, IsPreimage-push}
 use Rattle.word_image.proofs.laws.Images.{image-take, image-drop}
 use Rattle.word_image.proofs.laws.Graphs.{value-node, value-next, local_map-label}
 use Rattle.pair_laws.proofs.Joins.{drop-join_more, image-join, same_node, value-cut}
 use Rattle.tail_preimage.specs.Walks.{IsWalk, HasWalk}
-use Rattle.tail_preimage.specs.Relations.{Edge}
 
 -- a walk begins with a node
 pub IsWalk-first : {r : LocalRule} {w x : List ℕ} {u v : ℕ} → IsWalk r w u v x → u < node_count r
@@ -148,7 +149,7 @@ IsWalk-snoc {r} {x = x} rule w a h =
     }
 
 -- from a node a word leads on after an edge with its first letter, and only so
-pub HasWalk-cons : {r : LocalRule} → IsRule r → (a : ℕ) (w : List ℕ) (u s : ℕ) → u < node_count r → HasWalk r (a ∷ w) u s ↔ ((v : ℕ) × (v < node_count r) × Edge r a u v × HasWalk r w v s)
+pub HasWalk-cons : {r : LocalRule} → IsRule r → (a : ℕ) (w : List ℕ) (u s : ℕ) → u < node_count r → HasWalk r (a ∷ w) u s ↔ ((v : ℕ) × (v < node_count r) × IsEdge Right r a u v × HasWalk r w v s)
 HasWalk-cons {r} rule a w u s l = (
   (λ (x, h).
       let cut = IsWalk-cut rule (a ∷ []) w h in
@@ -156,10 +157,10 @@ HasWalk-cons {r} rule a w u s l = (
       let here = IsWalk-stays edge.walk in (
         cut.node,
         IsWalk-first cut.after,
-        (edge.letter, edge.within, ap (λ n. label r n edge.letter) here ∙ edge.spells, ap (λ n. next r n edge.letter) here ∙ edge.leads),
+        (edge.letter, edge.within, (ap (λ n. label r n edge.letter) here ∙ edge.spells, ap (λ n. next r n edge.letter) here ∙ edge.leads)),
         (drop (length (a ∷ [])) x, cut.after),
       )),
-  (λ (v, node, (b, letter, spells, leads), (y, rest)).
+  (λ (v, node, (b, letter, (spells, leads)), (y, rest)).
       let edge = IsWalk-push rule (IsWalk-none r u l) a b letter spells in
       (_, IsWalk-join rule edge (subst (λ n. IsWalk r w n s y) (sym leads) rest))),
 )

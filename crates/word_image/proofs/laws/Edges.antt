@@ -1,27 +1,27 @@
 -- Rows of edges, one edge more at a time.
-use Rattle.std.proofs.Common.{◌≡◌, ℕ, ◌+◌, ◌*◌, ◌/◌, ◌%◌, ◌^◌, ◌<◌, ◌↔◌, ◌⊎◌, inl, inr, List, [], length, replicate, IsBitSet, bit_or, slice_index, slice_index_or, slice_set, sym, ap, ap₂, ◌∙◌, subst, arith, ⊎_elim, mod-lt}
+use Rattle.std.proofs.Common.{◌≡◌, ℕ, ◌+◌, ◌*◌, ◌/◌, ◌%◌, ◌^◌, ◌<◌, ◌↔◌, ◌⊎◌, inl, inr, List, [], length, replicate, IsBitSet, bit_or, slice_index, slice_index_or, slice_set, sym, ap, ap₂, ◌∙◌, subst, subst₂, arith, ⊎_elim, mod-lt}
 use Rattle.std.proofs.lemmas.Bool.{cases_eq}
 use Rattle.std.proofs.lemmas.List.{get_or-set_other, get_or-replicate, length-set, length-replicate}
 use Rattle.std.proofs.lemmas.Grind.{get_or-set_at}
-use Rattle.std.proofs.lemmas.Nat.{pow_pos, div-mul-add, mod-mul-add, div_below, mul-add-lt}
+use Rattle.std.proofs.lemmas.Nat.{div-mul-add, mod-mul-add, div_below, mul-add-lt}
 use Rattle.std.proofs.Math.Pow.{pow-lt}
 use Rattle.word_image.specs.LocalRules.{LocalRule, IsRule, node_count}
 use Rattle.word_image.specs.Sides.{window_with}
-use Rattle.word_image.specs.Edges.{label_at, end_at, AreEdgeRows, ends_at}
+use Rattle.word_image.specs.Edges.{label_at, end_at, IsEnds, AreEdgeRows, ends_at}
 use Rattle.word_image.specs.declared.side.Side.{Side}
-use Rattle.word_image.proofs.laws.Bits.{IsBitSet-pow, IsBitSet-some, IsBitSet-zero}
-use Rattle.word_image.proofs.laws.Unions.{IsUnion, IsUnion-skip, IsUnion-take}
+use Rattle.word_image.proofs.laws.Bits.{IsBitSet-pow, IsBitSet-some}
+use Rattle.word_image.proofs.laws.Unions.{IsUnion, IsUnion-none, IsUnion-skip, IsUnion-take}
 use Rattle.word_image.proofs.laws.WindowParts.{some_letter, window_with-within, end_node-below}
 
 -- node by node and letter by letter, edge i leads from node u to node v with this label
-abbrev pub IsEdge : Side → LocalRule → ℕ → ℕ → ℕ → ℕ → Type 0
-IsEdge side r label u i v = (label_at side r (i / r.states) (i % r.states) ≡ label) × (i / r.states ≡ u) × (end_at side r (i / r.states) (i % r.states) ≡ v)
+abbrev pub IsEdgeAt : Side → LocalRule → ℕ → ℕ → ℕ → ℕ → Type 0
+IsEdgeAt side r label u i v = (label_at side r (i / r.states) (i % r.states) ≡ label) × (i / r.states ≡ u) × (end_at side r (i / r.states) (i % r.states) ≡ v)
 
 -- 16 rows of 16 have the first n edges
 pub record HaveEdges (side : Side) (r : LocalRule) (n : ℕ) (rows : List (List ℕ)) : Type 0 where
   pub tall : length rows ≡ 16
   pub wide : (label : ℕ) → label < 16 → length (slice_index_or rows label []) ≡ 16
-  pub ends : (label u : ℕ) → label < 16 → u < 16 → IsUnion (node_count r) (IsEdge side r label u) n (ends_at rows label u)
+  pub ends : (label u : ℕ) → label < 16 → u < 16 → IsUnion (node_count r) (IsEdgeAt side r label u) n (ends_at rows label u)
 
 -- rows of zeros have none
 pub HaveEdges-none : (side : Side) (r : LocalRule) → HaveEdges side r 0 (replicate 16 (replicate 16 0))
@@ -30,8 +30,8 @@ HaveEdges-none side r =
     record {
       tall = length-replicate {A = List ℕ} 16 (replicate {A = ℕ} 16 0);
       wide = λ label below. ap length (row label below) ∙ length-replicate {A = ℕ} 16 0;
-      ends = λ label u below small. subst (IsUnion (node_count r) (IsEdge side r label u) 0) (sym (ap (λ (l : List ℕ). slice_index l u) (row label below) ∙ get_or-replicate 16 u 0 0 small))
-          (record { within = pow_pos (node_count r); nodes = λ v inside. ((λ some. absurd (IsBitSet-zero v some)), (λ edge. absurd (omega (arith, edge.1)))) });
+      ends = λ label u below small. subst (IsUnion (node_count r) (IsEdgeAt side r label u) 0) (sym (ap (λ (l : List ℕ). slice_index l u) (row label below) ∙ get_or-replicate 16 u 0 0 small))
+          (IsUnion-none (node_count r) (IsEdgeAt side r label u));
     }
 
 -- the rows with a set of nodes more at one place
@@ -73,13 +73,13 @@ HaveEdges-more {side} {r} {w} {a} {rows} rule node letter h i j set labelled lea
           (λ differs. ap length (get_or-set_other rows i label changed [] differs) ∙ h.wide label inside)
           (cases_eq label i);
       ends = λ label u inside small. ⊎_elim
-          (λ (same, place, more). subst (IsUnion (node_count r) (IsEdge side r label u) (n + 1)) (sym more)
+          (λ (same, place, more). subst (IsUnion (node_count r) (IsEdgeAt side r label u) (n + 1)) (sym more)
           (IsUnion-take (h.ends label u inside small) (subst (λ s. s < 2 ^ node_count r) (sym arrives) (pow-lt below)) (λ v within.
           let bit = subst (λ s. IsBitSet s v ↔ (v ≡ end_at side r w a)) (sym arrives) (IsBitSet-pow (end_at side r w a) v) in (
             (λ some. (ap₂ (label_at side r) from by ∙ sym labelled ∙ sym same, from ∙ sym leaves ∙ sym place, to ∙ sym (bit.0 some))),
             (λ edge. bit.1 (sym edge.2 ∙ to)),
           ))))
-          (λ (differs, same). subst (IsUnion (node_count r) (IsEdge side r label u) (n + 1)) (sym same)
+          (λ (differs, same). subst (IsUnion (node_count r) (IsEdgeAt side r label u) (n + 1)) (sym same)
           (IsUnion-skip (h.ends label u inside small) (λ v edge. differs (sym edge.0 ∙ ap₂ (label_at side r) from by ∙ sym labelled, sym edge.1 ∙ from ∙ sym leaves))))
           (ends_at-with_ends h i j set label u in_i in_j);
     }
@@ -95,8 +95,8 @@ AreEdgeRows-all {side} {r} {rows} rule h = record {
           (λ some.
               let (i, less, (labelled, leaves, arrives)) = (union.nodes v inside).0 some in
               let a = i % r.states in
-              (a, mod-lt i (some_letter rule), ap (λ x. label_at side r x a) (sym leaves) ∙ labelled, ap (λ x. end_at side r x a) (sym leaves) ∙ arrives)),
-          (λ (a, letter, labelled, arrives).
+              (a, mod-lt i (some_letter rule), (ap (λ x. label_at side r x a) (sym leaves) ∙ labelled, ap (λ x. end_at side r x a) (sym leaves) ∙ arrives))),
+          (λ (a, letter, (labelled, arrives)).
               let from : (u * r.states + a) / r.states ≡ u = div-mul-add u r.states a letter in
               let by : (u * r.states + a) % r.states ≡ a = mod-mul-add u r.states a letter in
               (union.nodes v inside).1 (
@@ -116,3 +116,9 @@ AreEdgeRows-all {side} {r} {rows} rule h = record {
       absurd (omega (arith, div_below i r.states (node_count r) (some_letter rule) less, edge.1)))
       (cases_eq (ends_at rows label u) 0);
 }
+
+-- the ends of a node's edges, by a label below k
+pub AreEdgeRows-ends : {side : Side} {r : LocalRule} {rows : List (List ℕ)} → IsRule r → AreEdgeRows side r rows → (label u i j : ℕ) → label < r.states → u < node_count r → i ≡ label → j ≡ u
+    → IsEnds side r u label (ends_at rows i j)
+AreEdgeRows-ends {side} {r} {rows} rule h label u i j letter node at_label at_node =
+    subst₂ (λ x y. IsEnds side r u label (ends_at rows x y)) (sym at_label) (sym at_node) (h.ends label u (omega (arith, rule.shape.most_states, letter)) node)

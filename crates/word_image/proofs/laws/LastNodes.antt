@@ -1,11 +1,13 @@
 -- The last nodes of the preimages of a word, one letter at a time.
-use Rattle.std.proofs.Common.{◌≡◌, ℕ, ◌-◌, ◌<◌, List, [], ◌∷◌, ◌++◌, length, drop, refl, sym, ap, ◌∙◌, arith, length-drop}
+use Rattle.std.proofs.Common.{ℕ, ◌-◌, ◌<◌, List, [], ◌∷◌, ◌++◌, length, drop, refl, sym, ap, ◌∙◌, arith, length-drop}
 use Rattle.std.proofs.lemmas.List.{length_push}
 use Rattle.std.proofs.lemmas.List.Elements.{All-drop}
 use Rattle.word_image.specs.LocalRules.{LocalRule, IsRule, value, word_of, node_count}
 use Rattle.word_image.specs.Words.{IsPreimage}
 use Rattle.word_image.specs.Graphs.{next, label}
 use Rattle.word_image.specs.Ranks.{IsLastNode}
+use Rattle.word_image.specs.Edges.{IsEdge}
+use Rattle.word_image.specs.declared.side.Side.TheVariants.{Right}
 use Rattle.word_image.proofs.laws.Values.{length-word_of, IsWord-word_of, value-word_of}
 use Rattle.word_image.proofs.laws.Words.{IsLongerPreimage, IsPreimage-empty, IsPreimage-snoc, IsPreimage-push}
 use Rattle.word_image.proofs.laws.Graphs.{value-node, value-next, local_map-label}
@@ -29,9 +31,8 @@ IsLastNode-below {r} {w} {u} h =
     rw (← h.last) (value-node r _ (All-drop (λ a. a < r.states) (length w) h.x h.preimage.word) (rw (length-drop) (omega arith)))
 
 -- an edge with label a leads from a last node of w to a last node of w a
-pub IsLastNode-push : {r : LocalRule} {w : List ℕ} {u : ℕ} → IsRule r → IsLastNode r w u → (a b v : ℕ) → b < r.states → label r u b ≡ a → next r u b ≡ v
-    → IsLastNode r (w ++ a ∷ []) v
-IsLastNode-push {r} {w} {u} rule h a b v l e f =
+pub IsLastNode-push : {r : LocalRule} {w : List ℕ} {u a v : ℕ} → IsRule r → IsLastNode r w u → IsEdge Right r a u v → IsLastNode r (w ++ a ∷ []) v
+IsLastNode-push {r} {w} {u} {a} {v} rule h (b, l, (e, f)) =
     record {
       x = h.x ++ b ∷ [];
       preimage = IsPreimage-push rule h.preimage a b l (local_map-label r (drop (length w) h.x) b ∙ ap (λ n. label r n b) h.last ∙ e);
@@ -40,18 +41,24 @@ IsLastNode-push {r} {w} {u} rule h a b v l e f =
 
 -- a last node of w a is reached from a last node of w by an edge with label a
 pub IsLastNode-snoc : {r : LocalRule} → IsRule r → (w : List ℕ) (a v : ℕ) → IsLastNode r (w ++ a ∷ []) v
-    → (u : ℕ) × (b : ℕ) × (u < node_count r) × (b < r.states) × IsLastNode r w u × (label r u b ≡ a) × (next r u b ≡ v)
+    → (u : ℕ) × (u < node_count r) × (IsLastNode r w u × IsEdge Right r a u v)
 IsLastNode-snoc {r} rule w a v h =
     let p : IsLongerPreimage r w a h.x = IsPreimage-snoc rule w a h.x h.preimage in
     let at : IsLastNode r w (value r.states (drop (length w) p.before)) = IsLastNode-preimage p.preimage in (
       value r.states (drop (length w) p.before),
-      p.letter,
       IsLastNode-below at,
-      p.within,
-      at,
-      sym (local_map-label r (drop (length w) p.before) p.letter) ∙ p.gives,
-      sym (value-next rule (length w) p.before p.letter p.preimage.word p.preimage.long p.within)
-          ∙ ap (λ n. value r.states (drop n (p.before ++ p.letter ∷ []))) (sym (length_push w a))
-          ∙ ap (λ y. value r.states (drop (length (w ++ a ∷ [])) y)) (sym p.splits)
-          ∙ h.last,
+      (
+        at,
+        (
+          p.letter,
+          p.within,
+          (
+            sym (local_map-label r (drop (length w) p.before) p.letter) ∙ p.gives,
+            sym (value-next rule (length w) p.before p.letter p.preimage.word p.preimage.long p.within)
+                ∙ ap (λ n. value r.states (drop n (p.before ++ p.letter ∷ []))) (sym (length_push w a))
+                ∙ ap (λ y. value r.states (drop (length (w ++ a ∷ [])) y)) (sym p.splits)
+                ∙ h.last,
+          ),
+        ),
+      ),
     )

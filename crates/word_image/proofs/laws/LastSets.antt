@@ -5,7 +5,8 @@ use Rattle.std.proofs.lemmas.Nat.Bits.{bit_at_ones}
 use Rattle.std.proofs.lemmas.List.Elements.{All-nil, All-push}
 use Rattle.word_image.specs.LocalRules.{LocalRule, IsRule, value, node_count}
 use Rattle.word_image.specs.Words.{IsPreimage, IsOrphan, IsSurjective}
-use Rattle.word_image.specs.Graphs.{full_set, IsStep}
+use Rattle.word_image.specs.Graphs.{full_set}
+use Rattle.word_image.specs.Edges.{IsStep}
 use Rattle.word_image.specs.Ranks.{IsLastNode, IsLastSet}
 use Rattle.word_image.proofs.laws.Bits.{bit_at-IsBitSet, IsBitSet-some, IsBitSet-zero}
 use Rattle.word_image.proofs.laws.LastNodes.{IsLastNode-empty, IsLastNode-preimage, IsLastNode-below, IsLastNode-push, IsLastNode-snoc}
@@ -19,8 +20,10 @@ pub IsLastSet-full : (r : LocalRule) → IsLastSet r [] (full_set r)
 IsLastSet-full r =
     record {
       word = All-nil (λ a. a < r.states);
-      within = omega (arith, pow_pos (node_count r));
-      nodes = λ u l. ((λ _. IsLastNode-empty r u l), (λ _. IsBitSet-full r u l));
+      last = record {
+        within = omega (arith, pow_pos (node_count r));
+        nodes = λ u l. ((λ _. IsLastNode-empty r u l), (λ _. IsBitSet-full r u l));
+      };
     }
 
 -- a step leads from the last nodes of w to those of w a
@@ -28,12 +31,13 @@ pub IsLastSet-step : {r : LocalRule} {w : List ℕ} {set a after : ℕ} → IsRu
 IsLastSet-step {r} {w} {set} {a} {after} rule h l s =
     record {
       word = All-push (λ b. b < r.states) w a h.word l;
-      within = s.within;
-      nodes = λ v below. (
-        (λ bit. let edge = (s.nodes v below).0 bit in IsLastNode-push rule ((h.nodes edge.0 edge.2).0 edge.4) a edge.1 v edge.3 edge.5 edge.6),
-        (λ last. let edge = IsLastNode-snoc rule w a v last in
-            (s.nodes v below).1 (edge.0, edge.1, edge.2, edge.3, (h.nodes edge.0 edge.2).1 edge.4, edge.5, edge.6)),
-      );
+      last = record {
+        within = s.within;
+        nodes = λ v below. (
+          (λ bit. let (u, node, (present, edge)) = (s.nodes v below).0 bit in IsLastNode-push rule ((h.last.nodes u node).0 present) edge),
+          (λ last. let (u, node, (before, edge)) = IsLastNode-snoc rule w a v last in (s.nodes v below).1 (u, node, ((h.last.nodes u node).1 before, edge))),
+        );
+      };
     }
 
 -- a word with no last node is an orphan
@@ -44,14 +48,14 @@ IsOrphan-empty_set {r} {w} h =
       none = λ x p.
           let u : ℕ = value r.states (drop (length w) x) in
           let last : IsLastNode r w u = IsLastNode-preimage p in
-          IsBitSet-zero u ((h.nodes u (IsLastNode-below last)).1 last);
+          IsBitSet-zero u ((h.last.nodes u (IsLastNode-below last)).1 last);
     }
 
 -- a word whose set of last nodes is not empty has a preimage
 pub IsPreimage-nonempty_set : {r : LocalRule} {w : List ℕ} {set : ℕ} → IsLastSet r w set → ¬ (set ≡ 0) → (x : List ℕ) × IsPreimage r w x
 IsPreimage-nonempty_set {r} {w} {set} h some =
-    let bit = IsBitSet-some (node_count r) set h.within some in
-    let last : IsLastNode r w bit.0 = (h.nodes bit.0 bit.1).0 bit.2 in
+    let bit = IsBitSet-some (node_count r) set h.last.within some in
+    let last : IsLastNode r w bit.0 = (h.last.nodes bit.0 bit.1).0 bit.2 in
     (last.x, last.preimage)
 
 -- a rule with an orphan isn't surjective

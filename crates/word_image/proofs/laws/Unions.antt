@@ -1,13 +1,22 @@
--- Sets of nodes as unions, one part at a time.
-use Rattle.std.proofs.Common.{ℕ, ◌+◌, ◌^◌, ◌<◌, ◌↔◌, inl, inr, IsBitSet, bit_or, subst, arith, ⊎_elim}
+-- Sets of numbers as unions, one part at a time.
+use Rattle.std.proofs.Common.{◌≡◌, ℕ, ◌+◌, ◌^◌, ◌<◌, ◌↔◌, inl, inr, IsBitSet, bit_or, refl, sym, subst, arith, ⊎_elim}
+use Rattle.std.proofs.Math.Pow.{pow-lt}
 use Rattle.std.proofs.lemmas.Bool.{cases_eq}
-use Rattle.std.proofs.lemmas.Nat.{or_lt}
-use Rattle.word_image.proofs.laws.Bits.{IsBitSet-or}
+use Rattle.std.proofs.lemmas.Nat.{or_lt, pow_pos}
+use Rattle.word_image.specs.Graphs.{IsSetOf}
+use Rattle.word_image.proofs.laws.Bits.{IsBitSet-or, IsBitSet-pow, IsBitSet-zero}
 
--- the set holds the nodes, of so many, that one of the first n parts has
-pub record IsUnion (count : ℕ) (Has : ℕ → ℕ → Type 0) (n set : ℕ) : Type 0 where
-  pub within : set < 2 ^ count
-  pub nodes : (v : ℕ) → v < count → (IsBitSet set v ↔ ((i : ℕ) × (i < n) × Has i v))
+-- what is said in other words of the same numbers
+pub IsSetOf-same : {n : ℕ} {P Q : ℕ → Type 0} {set : ℕ} → ((i : ℕ) → i < n → (P i ↔ Q i)) → IsSetOf n P set → IsSetOf n Q set
+IsSetOf-same same h = record { within = h.within; nodes = λ i l. ((λ some. (same i l).0 ((h.nodes i l).0 some)), (λ q. (h.nodes i l).1 ((same i l).1 q))) }
+
+-- the set of those below a number that one of the first n parts has
+abbrev pub IsUnion : ℕ → (ℕ → ℕ → Type 0) → ℕ → ℕ → Type 0
+IsUnion count Has n = IsSetOf count (λ v. (i : ℕ) × (i < n) × Has i v)
+
+-- of no parts
+pub IsUnion-none : (count : ℕ) (Has : ℕ → ℕ → Type 0) → IsUnion count Has 0 0
+IsUnion-none count Has = record { within = pow_pos count; nodes = λ v _. ((λ some. absurd (IsBitSet-zero v some)), (λ (i, less, _). absurd (omega (arith, less)))) }
 
 -- the next part is empty
 pub IsUnion-skip : {count : ℕ} {Has : ℕ → ℕ → Type 0} {n set : ℕ} → IsUnion count Has n set → ((v : ℕ) → ¬ Has n v) → IsUnion count Has (n + 1) set
@@ -37,5 +46,29 @@ IsUnion-take {count} {Has} {n} {set} {part} h small same = record {
         (λ last. inr ((same v inside).1 (subst (λ i. Has i v) last one.2)))
         (λ no. inl ((h.nodes v inside).1 (one.0, omega (arith, one.1, no), one.2)))
         (cases_eq one.0 n))),
+  );
+}
+
+-- the set of those of the first i numbers of which something holds
+abbrev pub IsSetTo : ℕ → (ℕ → Type 0) → ℕ → ℕ → Type 0
+IsSetTo count Holds = IsUnion count (λ i v. (v ≡ i) × Holds i)
+
+-- one more of which it holds
+pub IsSetTo-take : {count i set one : ℕ} (Holds : ℕ → Type 0) → IsSetTo count Holds i set → i < count → one ≡ 2 ^ i → Holds i → IsSetTo count Holds (i + 1) (bit_or set one)
+IsSetTo-take {count} {i} {set} {one} Holds h inside alone holds =
+    subst (λ x. IsSetTo count Holds (i + 1) (bit_or set x)) (sym alone)
+    (IsUnion-take h (pow-lt inside) (λ v _. ((λ some. ((IsBitSet-pow i v).0 some, holds)), (λ here. (IsBitSet-pow i v).1 here.0))))
+
+-- one more of which it doesn't hold
+pub IsSetTo-skip : {count i set : ℕ} (Holds : ℕ → Type 0) → IsSetTo count Holds i set → ¬ Holds i → IsSetTo count Holds (i + 1) set
+IsSetTo-skip Holds h none = IsUnion-skip h (λ v here. none here.1)
+
+-- of all
+pub IsSetTo-all : {count n set : ℕ} (Holds : ℕ → Type 0) → n ≡ count → IsSetTo count Holds n set → IsSetOf count Holds set
+IsSetTo-all {count} {n} {set} Holds all h = record {
+  within = h.within;
+  nodes = λ v l. (
+    (λ some. let (i, less, (same, holds)) = (h.nodes v l).0 some in subst Holds (sym same) holds),
+    (λ holds. (h.nodes v l).1 (v, omega (arith, all, l), (refl, holds))),
   );
 }

@@ -1,6 +1,6 @@
 use Rattle.std.proofs.Common.{◌≤◌, true≢false, sym, ◌∙◌, subst, arith, below_more}
 use Rattle.word_image.specs.Graphs.{full_set}
-use Rattle.search_laws.proofs.StepSets.{IsStep-unique}
+use Rattle.search_laws.proofs.StepSets.{IsSetOf-unique}
 use Rattle.cert_check.specs.Sets.{IsKept, StepIsKept}
 use Rattle.cert_check.proofs.sets.first_not_kept.Goals as goal
 
@@ -16,6 +16,6 @@ returns-then-not-has c version sets marked =
     record {
       within = omega arith;
       fails = λ (after, step, kept).
-          absurd (true≢false (sym (c.has.ensures.1 ((marked c.step.result small).1 (subst (IsKept version sets) (IsStep-unique step c.step.ensures.step) kept))) ∙ c.if-not-has.true));
+          absurd (true≢false (sym (c.has.ensures.1 ((marked c.step.result small).1 (subst (IsKept version sets) (IsSetOf-unique step c.step.ensures.step) kept))) ∙ c.if-not-has.true));
       earlier = c.loop-letter.invariant version sets marked;
     }

@@ -1,9 +1,8 @@
 use Rattle.std.proofs.Common.{◌≡◌, ℕ, IsBitSet, sym, ◌∙◌, subst, ⊎_elim, arith}
 use Rattle.std.proofs.lemmas.Bool.{cases_eq}
-use Rattle.std.proofs.lemmas.Nat.Bits.{shr_and_one}
 use Rattle.word_image.specs.LocalRules.{LocalRule, IsRule}
 use Rattle.word_image.specs.Graphs.{next}
-use Rattle.word_image.proofs.laws.Bits.{bit_at-IsBitSet}
+use Rattle.word_image.proofs.laws.Bits.{IsBitSet-lowest}
 use Rattle.word_image.proofs.laws.Graphs.{next-below}
 use Rattle.eden_law.specs.ReachedRows.{LeadsBeside}
 use Rattle.eden_law.proofs.ReachedRows.{AreAdded-start, AreAdded-step, LeadsBeside-set}
@@ -20,10 +19,10 @@ returns-then-others-next-eq1-clause-meets c wrong =
     let r : LocalRule = c.args.graph.now in
     let a : ℕ = c.loop-a.a in
     let at : c.next-next.result ≡ next r c.args.node a = c.next-next.ensures.node in
-    let present : IsBitSet c.step-others.result c.next-next.result = (bit_at-IsBitSet c.step-others.result c.next-next.result).1 (sym (shr_and_one c.step-others.result c.next-next.result) ∙ c.if-others-next-eq1.true) in (
+    let present : IsBitSet c.step-others.result c.next-next.result = (IsBitSet-lowest c.step-others.result c.next-next.result).0 c.if-others-next-eq1.true in (
       a,
       omega (arith, c.loop-a-test.true, c.k-a-end.ensures.states),
-      (LeadsBeside-set c.args.node c.args.set a c.label.result c.step-others.result c.label.ensures.label c.step-others.ensures.step (next r c.args.node a) (next-below c.k-a-end.ensures.rule c.args.node a)).0
+      (LeadsBeside-set r c.args.node c.args.set a c.label.result c.step-others.result c.label.ensures.label c.step-others.ensures.step (next r c.args.node a) (next-below c.k-a-end.ensures.rule c.args.node a)).0
           (subst (IsBitSet c.step-others.result) at present),
     )
 
@@ -36,14 +35,14 @@ loop-a-preserved c =
     let others : ℕ = c.step-others.result in
     let to : ℕ = c.next-next.result in
     let at : to ≡ next r node c.loop-a.a = c.next-next.ensures.node in
-    let exact = LeadsBeside-set node set c.loop-a.a c.label.result others c.label.ensures.label c.step-others.ensures.step in
+    let exact = LeadsBeside-set r node set c.loop-a.a c.label.result others c.label.ensures.label c.step-others.ensures.step in
     record {
       added = AreAdded-step rule c.from.result others c.loop-a.invariant.added (c.from.ensures ∙ at) c.step-others.ensures.step.within exact;
       apart = λ a l leads. ⊎_elim
           (λ last.
           let here : LeadsBeside r node set c.loop-a.a (next r node c.loop-a.a) = subst (λ i. LeadsBeside r node set i (next r node i)) last leads in
           let present : IsBitSet others to = subst (IsBitSet others) (sym at) ((exact (next r node c.loop-a.a) (next-below rule node c.loop-a.a)).1 here) in
-          c.if-others-next-eq1.false (shr_and_one others to ∙ (bit_at-IsBitSet others to).0 present))
+          c.if-others-next-eq1.false ((IsBitSet-lowest others to).1 present))
           (λ less. c.loop-a.invariant.apart a (omega (arith, l, less)) leads)
           (cases_eq a c.loop-a.a);
     }

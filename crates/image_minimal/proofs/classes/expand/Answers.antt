@@ -1,5 +1,5 @@
 use Rattle.std.proofs.Common.{◌<◌, slice_index, sym, subst, arith}
-use Rattle.word_image.specs.Graphs.{IsStep}
+use Rattle.word_image.specs.Edges.{IsStep}
 use Rattle.image_minimal.specs.Closures.{IsClosedStep}
 use Rattle.image_minimal.specs.Searches.{IsClassSearch}
 use Rattle.image_minimal.proofs.laws.ClosedSteps.{IsClosedStep-unique}
@@ -22,7 +22,7 @@ loop-letter-preserved c =
     let letter : a < r.states = omega arith in
     let leads : IsStep r c.at-set.result a after = c.steps-steps.ensures a letter in
     let step : IsClosedStep r c.at-set.result a (slice_index closures c.from.result) =
-    subst (λ i. IsClosedStep r c.at-set.result a (slice_index closures i)) (sym c.from.ensures) (closed_step c.requires.closures leads) in
+    subst (λ i. IsClosedStep r c.at-set.result a (slice_index closures i)) (sym c.from.ensures) (closed_step c.at-set.result a c.requires.closures leads) in
     let longer = IsStateSearch-insert place a c.at-set.result (slice_index closures c.from.result) h.search letter h.here step (λ t other. IsClosedStep-unique step other) c.in_ok-insert.ensures in
     record {
       search = subst (IsClassSearch r c.insert.new.self) (omega arith) longer;

@@ -3,7 +3,7 @@ use Rattle.std.proofs.Math.Pow.{pow-lt}
 use Rattle.std.proofs.lemmas.Nat.{one_shl, or_lt}
 use Rattle.std.proofs.lemmas.Nat.Bits.{shr_and_one, bit_at-lt}
 use Rattle.word_image.specs.LocalRules.{node_count}
-use Rattle.word_image.proofs.laws.Bits.{bit_at-IsBitSet}
+use Rattle.word_image.proofs.laws.Bits.{bit_at-IsBitSet, IsBitSet-lowest}
 use Rattle.image_minimal.proofs.laws.ClosureTables.{with_node, with_node-greater, IsShared, IsShared-start, IsShared-skip, IsShared-take, IsClosure-shared}
 use Rattle.image_minimal.proofs.closures.closure_above.Goals as goal
 use Rattle.image_minimal.proofs.closures.closure_above.Goals.{then-set-u-eq0, else-set-u-eq0}
@@ -14,7 +14,7 @@ more set u at small is = is ∙ ap (bit_or set) (one_shl u 16 small)
 
 -- a bit that is tested
 missing : (set u : ℕ) → bit_and (set / 2 ^ u) 1 ≡ 0 → ¬ IsBitSet set u
-missing set u test some = omega (arith, (bit_at-IsBitSet set u).0 some, shr_and_one set u, test)
+missing set u test some = omega (arith, (IsBitSet-lowest set u).1 some, test)
 
 pub loop-u-init : goal.loop-u-init
 loop-u-init c = subst (IsShared c.args.graph.now c.args.set 0 c.args.closures.now) (sym c.full-closure.ensures.set) (IsShared-start c.args.set c.args.closures.now)
@@ -39,7 +39,7 @@ loop-u-preserved c =
           let at = more set u w.from.result small w.from.ensures in
           let absent = missing set u w.if-set-u-eq0.true in
           let part = c.requires.closures.closure (with_node set u) (omega (arith, with_node-greater set u absent)) (or_lt (node_count r) set (2 ^ u) c.requires.set (pow-lt node)) in
-          subst (IsShared r set (u + 1) closures) (sym (w.closure-is ∙ ap (λ i. bit_and c.loop-u.closure (slice_index closures i)) at)) (IsShared-take c.loop-u.invariant absent part.within)
+          subst (IsShared r set (u + 1) closures) (sym (w.closure-is ∙ ap (λ i. bit_and c.loop-u.closure (slice_index closures i)) at)) (IsShared-take c.loop-u.invariant absent part.of.within)
       | else-set-u-eq0 w ↦
           let there : IsBitSet set u = (bit_at-IsBitSet set u).1 (omega (arith, bit_at-lt set u, shr_and_one set u, w.if-set-u-eq0.false)) in
           subst (IsShared r set (u + 1) closures) (sym w.closure-is) (IsShared-skip c.loop-u.invariant there)

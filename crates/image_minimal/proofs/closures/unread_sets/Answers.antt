@@ -18,7 +18,7 @@ loop-place-init c =
 pub loop-place-smaller : goal.loop-place-smaller
 loop-place-smaller c =
     let n = node_count c.args.graph.now in
-    omega (arith, length-search-le c.loop-place.invariant (2 ^ n) (pow_pos n) (λ s a t back. back.within), c.len.ensures.len)
+    omega (arith, length-search-le c.loop-place.invariant (2 ^ n) (pow_pos n) (λ s a t back. back.of.within), c.len.ensures.len)
 
 pub returns : goal.returns
 returns c = AreUnreadSets-closed c.loop-place.invariant (mul-le-mul_right c.args.graph.now.states (omega (arith, c.len.ensures.len)))

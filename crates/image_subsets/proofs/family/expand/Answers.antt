@@ -2,7 +2,7 @@ use Rattle.std.proofs.Common.{◌≡◌, ℕ, ◌+◌, ◌*◌, ◌^◌, ◌<◌
 use Rattle.std.proofs.lemmas.List.{length_push}
 use Rattle.std.proofs.Math.Nat.{suc-mul}
 use Rattle.word_image.specs.LocalRules.{LocalRule, node_count}
-use Rattle.word_image.specs.Graphs.{IsStep}
+use Rattle.word_image.specs.Edges.{IsStep}
 use Rattle.image_subsets.specs.Masks.{IsInserted}
 use Rattle.image_subsets.specs.Searches.{IsTreeSearch}
 use Rattle.image_subsets.specs.StepTables.{Rows, AreTables}

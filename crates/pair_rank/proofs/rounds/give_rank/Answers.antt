@@ -1,7 +1,6 @@
 use Rattle.std.proofs.Common.{◌≡◌, ◌+◌, ◌*◌, Some, length, sym, ap, ◌∙◌, subst, arith}
 use Rattle.std.proofs.lemmas.List.{length-set}
-use Rattle.std.proofs.lemmas.Nat.Bits.{shr_and_one}
-use Rattle.word_image.proofs.laws.Bits.{bit_at-IsBitSet}
+use Rattle.word_image.proofs.laws.Bits.{IsBitSet-lowest}
 use Rattle.pair_rank.proofs.Tables.{IsGiven, IsGiven-take, IsGiven-skip}
 use Rattle.pair_rank.proofs.rounds.give_rank.Goals as goal
 use Rattle.pair_rank.proofs.rounds.give_rank.Goals.{then-set-v-eq1, else-set-v-eq1}
@@ -13,10 +12,10 @@ loop-v-preserved c =
     elim c.if-set-v-eq1.branch [
       | then-set-v-eq1 w ↦
           let long : length c.loop-v.ranks ≡ 256 = sym (length-set c.loop-v.ranks (16 * c.from-row.result + v) (Some c.args.n)) ∙ ap length (sym w.ranks-is) ∙ c.if-set-v-eq1.array_long in
-          let present = (bit_at-IsBitSet set v).1 (sym (shr_and_one set v) ∙ w.if-set-v-eq1.true) in
+          let present = (IsBitSet-lowest set v).0 w.if-set-v-eq1.true in
           subst (IsGiven set c.args.u c.args.n (v + 1) c.args.ranks.now) (sym w.ranks-is)
           (IsGiven-take c.loop-v.invariant c.loop-v-test.true _ (omega arith) (omega arith) present)
       | else-set-v-eq1 w ↦
           subst (IsGiven set c.args.u c.args.n (v + 1) c.args.ranks.now) (sym w.ranks-is)
-          (IsGiven-skip c.loop-v.invariant (λ some. w.if-set-v-eq1.false (shr_and_one set v ∙ (bit_at-IsBitSet set v).0 some)))
+          (IsGiven-skip c.loop-v.invariant (λ some. w.if-set-v-eq1.false ((IsBitSet-lowest set v).1 some)))
     ]

@@ -1,7 +1,8 @@
 use Rattle.std.proofs.Common.{◌≢◌, bit_and, slice_index}
-use Rattle.tail_preimage.proofs.Unions.{IsNodeSetTo}
+use Rattle.word_image.specs.LocalRules.{node_count}
+use Rattle.word_image.proofs.laws.Unions.{IsSetTo}
 use Rattle.tail_preimage.proofs.relations.before.Given as goal
 
 -- the first nodes are done
 abbrev pub invariant-loop-u : goal.invariant-loop-u
-invariant-loop-u l = IsNodeSetTo l.graph (λ u. bit_and (slice_index l.rows u) l.set ≢ 0) l.u l.before
+invariant-loop-u l = IsSetTo (node_count l.graph) (λ u. bit_and (slice_index l.rows u) l.set ≢ 0) l.u l.before

@@ -1,8 +1,7 @@
-use Rattle.std.proofs.Common.{◌≡◌, ◌<◌, refl, sym, subst, arith}
+use Rattle.std.proofs.Common.{◌≡◌, ◌<◌, refl, sym, arith}
 use Rattle.std.proofs.Math.Pow.{pow-lt}
 use Rattle.std.proofs.lemmas.Nat.{one_shl}
 use Rattle.word_image.proofs.laws.Bits.{IsBitSet-pow}
-use Rattle.tail_preimage.specs.Relations.{IsNodeSet}
 use Rattle.tail_preimage.proofs.Rows.{AreRowsFilled-none, AreRowsFilled-more, AreRowsFilled-all}
 use Rattle.tail_preimage.proofs.relations.identity.Goals as goal
 
@@ -11,12 +10,11 @@ loop-u-init c = AreRowsFilled-none c.args.graph.now (λ u v. u ≡ v) _ refl
 
 pub loop-u-preserved : goal.loop-u-preserved
 loop-u-preserved c =
-    let r = c.args.graph.now in
     let u = c.loop-u.u in
     let rule = c.nodes-u-end.ensures.rule in
     let few : u < 16 = omega (arith, rule.shape.most_nodes) in
     AreRowsFilled-more c.from.result rule (omega arith) c.from.ensures c.loop-u.invariant
-    (subst (IsNodeSet r (λ v. u ≡ v)) (sym (one_shl u 16 few)) (record {
+    (rw (one_shl u 16 few) (record {
       within = pow-lt (omega arith);
       nodes = λ v _. ((λ bit. sym ((IsBitSet-pow u v).0 bit)), (λ same. (IsBitSet-pow u v).1 (sym same)));
     }))

@@ -6,4 +6,4 @@ use Rattle.tail_preimage.proofs.relations.joined.Given as goal
 
 -- the rows so far
 abbrev pub invariant-loop-u : goal.invariant-loop-u
-invariant-loop-u l = AreRowsFilled l.graph (λ u v. (w : ℕ) × (w < node_count l.graph) × Relates l.first u w × Relates l.second w v) l.u l.rows
+invariant-loop-u l = AreRowsFilled l.graph (λ u v. (w : ℕ) × (w < node_count l.graph) × (Relates l.first u w × Relates l.second w v)) l.u l.rows

@@ -24,11 +24,11 @@ loop-n-preserved c =
     let more : suc n ≡ n + 1 = omega arith in
     let next : IsRelation r (Steps (Relates step) (suc n)) c.joined.result =
     IsRelation-same (λ u v below inside. (
-      (λ (w, node, first, rest). Steps-cons first ((((before n (omega arith)).rows w node).nodes v inside).0 rest)),
+      (λ (w, node, (first, rest)). Steps-cons first ((((before n (omega arith)).rows w node).nodes v inside).0 rest)),
       (λ steps.
           let (w, first, rest) = Steps-first steps in
           let node = IsBitSet-below (node_count r) _ w (c.requires u below) first in
-          (w, node, first, (((before n (omega arith)).rows w node).nodes v inside).1 rest)),
+          (w, node, (first, (((before n (omega arith)).rows w node).nodes v inside).1 rest))),
     )) c.joined.ensures in
     record {
       long = length-set _ _ _ ∙ c.loop-n.invariant.long;

@@ -1,7 +1,7 @@
 use Rattle.std.proofs.Common.{◌<◌, refl, subst, arith}
+use Rattle.word_image.proofs.laws.Unions.{IsSetOf-same}
 use Rattle.pair_laws.proofs.Sets.{IsBitSet-shl}
 use Rattle.tail_preimage.specs.Relations.{Relates}
-use Rattle.tail_preimage.proofs.Unions.{IsNodeSet-same}
 use Rattle.tail_preimage.proofs.Rows.{AreRowsFilled-none, AreRowsFilled-more, AreRowsFilled-all}
 use Rattle.tail_preimage.proofs.relations.reversed.Goals as goal
 
@@ -15,7 +15,7 @@ loop-u-preserved c =
     let rule = c.nodes-u-end.ensures.rule in
     let few : u < 16 = omega (arith, rule.shape.most_nodes) in
     AreRowsFilled-more c.from.result rule (omega arith) c.from.ensures c.loop-u.invariant
-    (IsNodeSet-same (λ v _. (
+    (IsSetOf-same (λ v _. (
       (λ (w, row, one). subst (Relates table v) ((IsBitSet-shl u w few).0 one) row),
       (λ row. (u, row, (IsBitSet-shl u u few).1 refl)),
     )) c.before-in-loop-u.ensures)

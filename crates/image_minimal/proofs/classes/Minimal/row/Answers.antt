@@ -41,7 +41,7 @@ unwrap-requires c =
     let here = slice_get-get_or classes c.args.i 0 (class_inside h c.self.view_is c.args.i c.requires) ∙ ap Some (sym c.at-set.ensures) in
     let step = c.steps-steps.ensures a letter in
     let closure = closure_read h.closed (slice_index c.steps-steps.result a) c.from.result c.index.result.now step.within c.from.ensures c.index.ensures in
-    let (j, at) = class_after h c.args.i a c.at-set.result _ here letter (closed_step h.closed step) in
+    let (j, at) = class_after h c.args.i a c.at-set.result _ here letter (closed_step c.at-set.result a h.closed step) in
     place_some classes c.index.result.now j (at ∙ ap Some (sym closure)) c.place-class.result c.place-class.ensures
 
 pub loop-letter-preserved : goal.loop-letter-preserved
@@ -75,4 +75,4 @@ returns c m a least letter =
     let at = c.loop-letter.invariant.places a (omega (arith, below, c.loop-letter-test.false, c.loop-letter.auto.letter-end, c.k-letter-end.ensures.states)) in
     let inside = class_inside h c.self.view_is c.args.i c.requires in
     let here = slice_get-get_or c.self.inside.classes c.args.i 0 inside ∙ ap Some (sym c.at-set.ensures) in
-    HasClasses-next h of c.args.i a (slice_index c.loop-letter.row a) c.at-set.result _ here at below (closed_step h.closed (c.steps-steps.ensures a below))
+    HasClasses-next h of c.args.i a (slice_index c.loop-letter.row a) c.at-set.result _ here at below (closed_step c.at-set.result a h.closed (c.steps-steps.ensures a below))

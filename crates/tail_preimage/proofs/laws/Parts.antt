@@ -1,5 +1,5 @@
 -- The relations of the parts of a configuration, read as walks along words.
-use Rattle.std.proofs.Common.{◌≡◌, ◌↔◌, ℕ, zero, suc, ◌+◌, ◌<◌, ◌≤◌, List, [], ◌++◌, sym, ap, ◌∙◌, subst, arith}
+use Rattle.std.proofs.Common.{◌≡◌, ◌↔◌, ℕ, zero, suc, ◌+◌, ◌<◌, ◌≤◌, List, [], ◌++◌, get_or, sym, ap, ◌∙◌, subst, arith}
 use Rattle.std.specs.List.{repeat}
 use Rattle.word_image.specs.LocalRules.{LocalRule, IsRule, node_count}
 use Rattle.word_image.specs.Words.{IsOrphan}
@@ -8,9 +8,9 @@ use Rattle.tail_config.specs.Tails.{TailConfig, IsTail}
 use Rattle.tail_preimage.specs.Walks.{HasWalk}
 use Rattle.tail_preimage.specs.Preimages.{Shape, stretch}
 use Rattle.tail_preimage.specs.Relations.{IsRelation, Relates, Steps, Open, SomeRounds}
-use Rattle.tail_preimage.specs.Sides.{IsSide, AreTailParts, PassesThrough, Starts, IsPossible}
+use Rattle.tail_preimage.specs.Parts.{ArePeriods, AreTailParts, PassesThrough, Starts, IsPossible}
 use Rattle.tail_preimage.specs.FirstWalks.{AreLoopWalks}
-use Rattle.tail_preimage.specs.declared.sides.Side.{Side}
+use Rattle.tail_preimage.specs.declared.periods.Periods.{Periods}
 use Rattle.tail_preimage.specs.declared.shapes.Parts.{Parts}
 use Rattle.tail_preimage.proofs.laws.Walks.{IsWalk-first, IsWalk-last, IsWalk-none, IsWalk-stays, HasWalk-join, HasWalk-cut, IsOrphan-none, IsOrphan-walk}
 use Rattle.tail_preimage.proofs.laws.Stretches.{repeat-more, IsWord-stretch}
@@ -24,8 +24,12 @@ IsRelation-below {r} {table = table} h u v l bit =
     (below, (row.nodes v below).0 bit)
 
 -- periods lead from nodes to nodes
-pub IsSide-end : {r : LocalRule} {side : Side} {n u v : ℕ} → IsSide r side → u < node_count r → Steps (Relates side.period) n u v → v < node_count r
-IsSide-end {r} h node steps = Steps-end (λ a b l bit. IsBitSet-below (node_count r) _ b (h.period a l) bit) node steps
+pub ArePeriods-end : {r : LocalRule} {periods : Periods} {n u v : ℕ} → ArePeriods r periods → u < node_count r → Steps (Relates periods.period) n u v → v < node_count r
+ArePeriods-end {r} h node steps = Steps-end (λ a b l bit. IsBitSet-below (node_count r) _ b (h.period a l) bit) node steps
+
+-- the relation of n periods has them
+pub ArePeriods-row : {r : LocalRule} {periods : Periods} → ArePeriods r periods → (n : ℕ) → n ≤ 16 → (u v : ℕ) → u < node_count r → Relates (get_or periods.powers n []) u v ↔ Steps (Relates periods.period) n u v
+ArePeriods-row h n few u v l = let rel = h.powers n few in ((λ bit. (IsRelation-below rel u v l bit).1), (λ steps. ((rel.rows u l).nodes v (ArePeriods-end h l steps)).1 steps))
 
 -- steps of a word's relation are walks along copies of it
 pub Steps-repeat : {r : LocalRule} {p table : List ℕ} → IsRule r → IsRelation r (HasWalk r p) table → (n u v : ℕ) → u < node_count r → Steps (Relates table) n u v ↔ HasWalk r (repeat n p) u v
@@ -122,6 +126,6 @@ pub PassesThrough-IsOrphan : {r : LocalRule} {t : TailConfig} {parts : Parts} �
 PassesThrough-IsOrphan ht h b a none = IsOrphan-none (IsWord-stretch ht b a) (λ u s walk. none (walk-PassesThrough h b a walk))
 
 -- where 16 periods lead somewhere, few lead to a loop
-pub SomeRounds-side : {r : LocalRule} {E : ℕ → ℕ → Type 0} {table : List ℕ} {u : ℕ} → IsRule r → IsRelation r E table → u < node_count r → Open (Relates table) 16 u
+pub SomeRounds-periods : {r : LocalRule} {E : ℕ → ℕ → Type 0} {table : List ℕ} {u : ℕ} → IsRule r → IsRelation r E table → u < node_count r → Open (Relates table) 16 u
     → (sum : ℕ) × (sum ≤ 16) × SomeRounds (Relates table) sum u
-SomeRounds-side rule h l leads = SomeRounds-open rule.shape.most_nodes (λ v w node bit. (IsRelation-below h v w node bit).0) l leads
+SomeRounds-periods rule h l leads = SomeRounds-open rule.shape.most_nodes (λ v w node bit. (IsRelation-below h v w node bit).0) l leads

@@ -6,20 +6,20 @@ use Rattle.tail_config.specs.Tails.{TailConfig}
 use Rattle.tail_preimage.specs.Walks.{HasWalk}
 use Rattle.tail_preimage.specs.Preimages.{Shape, shape_cmp, IsSmall}
 use Rattle.tail_preimage.specs.Relations.{IsRelation, AreSets, Relates, Steps, Open, Rounds}
-use Rattle.tail_preimage.specs.declared.sides.Side.{Side}
+use Rattle.tail_preimage.specs.declared.periods.Periods.{Periods}
 use Rattle.tail_preimage.specs.declared.shapes.Parts.{Parts}
 use Rattle.tail_preimage.specs.declared.shapes.Spans.{Spans}
 
 -- the relations of 0 to 16 periods are those of so many steps
-pub record IsSide (r : LocalRule) (side : Side) : Type 0 where
-  pub period : AreSets r side.period
-  pub powers : (n : ℕ) → n ≤ 16 → IsRelation r (Steps (Relates side.period) n) (get_or side.powers n [])
+pub record ArePeriods (r : LocalRule) (periods : Periods) : Type 0 where
+  pub period : AreSets r periods.period
+  pub powers : (n : ℕ) → n ≤ 16 → IsRelation r (Steps (Relates periods.period) n) (get_or periods.powers n [])
 
 -- a left period leads from its end to its start, and the others from start to end
 pub record AreTailParts (r : LocalRule) (t : TailConfig) (parts : Parts) : Type 0 where
   pub rule : IsRule r
-  pub left_side : IsSide r parts.left
-  pub right_side : IsSide r parts.right
+  pub left_periods : ArePeriods r parts.left
+  pub right_periods : ArePeriods r parts.right
   pub left : IsRelation r (λ u v. HasWalk r t.left v u) parts.left.period
   pub middle : IsRelation r (HasWalk r t.middle) parts.middle
   pub right : IsRelation r (HasWalk r t.right) parts.right.period

@@ -1,19 +1,19 @@
 use borrow.Author.Count.{below_more}
 use Rattle.std.proofs.Common.{◌-◌, arith}
 use Rattle.tail_preimage.specs.Relations.{Relates, Rounds, Meets}
-use Rattle.tail_preimage.proofs.Unions.{IsNodeSet-meets}
-use Rattle.tail_preimage.proofs.sides.least_first.Goals as goal
+use Rattle.tail_preimage.proofs.Meets.{IsSetOf-meets}
+use Rattle.tail_preimage.proofs.periods.least_first.Goals as goal
 
 pub returns-then-rounds-set-ne0-clause-first : goal.returns-then-rounds-set-ne0-clause-first
 returns-then-rounds-set-ne0-clause-first c = record {
-  holds = (IsNodeSet-meets c.rounds.ensures c.args.set).0 c.if-rounds-set-ne0.true;
+  holds = (IsSetOf-meets c.rounds.ensures c.args.set).0 c.if-rounds-set-ne0.true;
   none = c.loop-n.invariant;
 }
 
 pub loop-n-preserved : goal.loop-n-preserved
 loop-n-preserved c =
-    below_more (λ n. ¬ Meets c.args.graph.now (Rounds (Relates c.args.side.now.period) n (c.args.sum - n)) c.args.set) c.loop-n.n c.loop-n.invariant
-    (λ meets. (IsNodeSet-meets c.rounds.ensures c.args.set).1 meets c.if-rounds-set-ne0.false)
+    below_more (λ n. ¬ Meets c.args.graph.now (Rounds (Relates c.args.periods.now.period) n (c.args.sum - n)) c.args.set) c.loop-n.n c.loop-n.invariant
+    (λ meets. (IsSetOf-meets c.rounds.ensures c.args.set).1 meets c.if-rounds-set-ne0.false)
 
 pub unreachable-requires : goal.unreachable-requires
 unreachable-requires c = let (i, l, meets) = c.requires.some in c.loop-n.invariant i (omega (arith, l)) meets

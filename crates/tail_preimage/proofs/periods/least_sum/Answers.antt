@@ -1,19 +1,19 @@
 use borrow.Author.Count.{below_more}
 use Rattle.std.proofs.Common.{arith}
 use Rattle.tail_preimage.specs.Relations.{Relates, SomeRounds, Meets}
-use Rattle.tail_preimage.proofs.Unions.{IsNodeSet-meets}
-use Rattle.tail_preimage.proofs.sides.least_sum.Goals as goal
+use Rattle.tail_preimage.proofs.Meets.{IsSetOf-meets}
+use Rattle.tail_preimage.proofs.periods.least_sum.Goals as goal
 
 pub returns-then-some_rounds-set-ne0-clause-first : goal.returns-then-some_rounds-set-ne0-clause-first
 returns-then-some_rounds-set-ne0-clause-first c = record {
-  holds = (IsNodeSet-meets c.some_rounds.ensures c.args.set).0 c.if-some_rounds-set-ne0.true;
+  holds = (IsSetOf-meets c.some_rounds.ensures c.args.set).0 c.if-some_rounds-set-ne0.true;
   none = c.loop-sum.invariant;
 }
 
 pub loop-sum-preserved : goal.loop-sum-preserved
 loop-sum-preserved c =
-    below_more (λ sum. ¬ Meets c.args.graph.now (SomeRounds (Relates c.args.side.now.period) sum) c.args.set) c.loop-sum.sum c.loop-sum.invariant
-    (λ meets. (IsNodeSet-meets c.some_rounds.ensures c.args.set).1 meets c.if-some_rounds-set-ne0.false)
+    below_more (λ sum. ¬ Meets c.args.graph.now (SomeRounds (Relates c.args.periods.now.period) sum) c.args.set) c.loop-sum.sum c.loop-sum.invariant
+    (λ meets. (IsSetOf-meets c.some_rounds.ensures c.args.set).1 meets c.if-some_rounds-set-ne0.false)
 
 pub unreachable-requires : goal.unreachable-requires
 unreachable-requires c = let (i, l, meets) = c.requires.some in c.loop-sum.invariant i (omega (arith, l)) meets
