@@ -4,7 +4,7 @@ ghost use Rattle.std.specs.Prelude.{◌≡◌, ◌^◌, ◌<◌, ℕ, List, [], 
 ghost use Rattle.word_image.specs.LocalRules.{IsRule, node_count};
 
 use std::marker::Model;
-use word_image::{EdgeRows, Rule, Side, edge_rows};
+use word_image::{EdgeRows, MOST_NODES, Rule, Side, edge_rows};
 
 /// The de Bruijn graph of a rule, seen as that rule. A node or a set of nodes is looked up in tables
 /// that are made once.
@@ -18,7 +18,7 @@ pub struct Graph {
 
 impl Model for Graph {
     ghost use Rattle.word_image.specs.LocalRules.{LocalRule, IsRule};
-    ghost use Rattle.word_image.specs.Edges.{AreEdgeRows, IsStep};
+    ghost use Rattle.word_image.specs.Edges.{AreEdgeRows};
     ghost use Rattle.word_image.specs.declared.side.Side.TheVariants.{Right};
 
     ghost Value = { LocalRule };
@@ -122,7 +122,7 @@ impl Graph {
     }
 
     /// The nodes to which a node of the set is related, where row u is the set of those to which node u is.
-    pub fn after(&self, rows: &[u16; 16], set: u16) -> u16
+    pub fn after(&self, rows: &[u16; MOST_NODES], set: u16) -> u16
         requires { (u : ℕ) → u < node_count self.now → slice_index rows.now u < 2 ^ node_count self.now }
         ensures { IsNodeSet self.now (λ v. (u : ℕ) × (u < node_count self.now) × (IsBitSet set u × IsBitSet (slice_index rows.now u) v)) result }
     {

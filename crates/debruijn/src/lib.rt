@@ -10,8 +10,8 @@
 //! A step of a set on a letter goes along every edge with that label, from every node of the set: a step
 //! on 0 leads from all four nodes, the set 15, to the nodes 00 and 11, the set 9.
 //!
-//! The graph has N = k^(m - 1) nodes, at most 16, and k^m edges. `of` takes time **O(k^m)**, a
-//! step **O(N)**, and every other call **O(1)**.
+//! The graph has N = k^(m - 1) nodes, at most 16, and k^m edges. `of` takes time **O(k^m)**,
+//! `step` and `after` **O(N)**, and every other call **O(1)**.
 #![tactic(auto)]
 
 mod graph;

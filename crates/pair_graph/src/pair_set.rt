@@ -51,8 +51,9 @@ impl PairSet {
         ensures set { result ≡ replicate (pair_count pairs.now) true }
         ensures rule { IsRule pairs.now }
     {
-        let nodes = pairs.graph().nodes();
-        let row = u16::MAX >> (16 - nodes);
+        let graph = pairs.graph();
+        let nodes = graph.nodes();
+        let row = graph.full();
         let mut rows = [0; MOST_NODES];
         for u in 0..nodes {
             rows[usize::from(u)] = row;

@@ -49,6 +49,7 @@ impl Rule {
     {
         u16::from(first) * u16::from(self.nodes()) + u16::from(second)
     }
+
     /// The pair to which the letters a and b lead from the nodes of a pair, read to this side; `None`
     /// exactly where the labels of the two edges differ.
     pub fn follow(&self, side: Side, pair: u16, a: u8, b: u8) -> Option<u16>

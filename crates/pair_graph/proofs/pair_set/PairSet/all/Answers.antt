@@ -1,26 +1,20 @@
-use Rattle.std.proofs.Common.{◌≡◌, ◌-◌, ◌*◌, ◌/◌, ◌^◌, ◌<◌, ◌≤◌, ℕ, length, replicate, true, ap, sym, ◌∙◌, arith, ⊎_elim}
+use Rattle.std.proofs.Common.{◌≡◌, ◌-◌, ◌*◌, ◌^◌, ◌<◌, ◌≤◌, length, replicate, true, ap, sym, ◌∙◌, arith, ⊎_elim}
 use Rattle.std.proofs.lemmas.Bool.{cases_eq}
 use Rattle.std.proofs.lemmas.List.{get_or-set_other, length-set}
 use Rattle.std.proofs.lemmas.Grind.{get_or-set_at}
 use Rattle.std.proofs.lemmas.Nat.{pow_pos}
-use Rattle.std.proofs.lemmas.Nat.Bits.{ones_shr}
 use Rattle.word_image.specs.LocalRules.{node_count}
 use Rattle.word_image.proofs.laws.Graphs.{node_count_pos}
 use Rattle.pair_graph.specs.PairRows.{truths-all}
 use Rattle.pair_graph.proofs.pair_set.PairSet.all.Goals as goal
 
--- all nodes as a row
-ones : (n : ℕ) → n ≤ 16 → 65535 / 2 ^ (16 - n) ≡ 2 ^ n - 1
-ones n few = let left : 16 - (16 - n) ≡ n = omega arith in ones_shr 16 (16 - n) (omega arith) ∙ ap (λ j. 2 ^ j - 1) left
-
 pub loop-u-preserved : goal.loop-u-preserved
 loop-u-preserved c =
     let rows = c.loop-u.rows in
-    let n = c.nodes-nodes.result in
-    let row = 65535 / 2 ^ (16 - n) in
+    let row = c.full-row.result in
     let i = c.from.result in
     let h = c.loop-u.invariant in
-    let few : n ≤ 16 = omega (arith, c.nodes-nodes.ensures.rule.shape.most_nodes, c.nodes-nodes.ensures.nodes) in
+    let few : c.nodes-nodes.result ≤ 16 = omega (arith, c.nodes-nodes.ensures.rule.shape.most_nodes, c.nodes-nodes.ensures.nodes) in
     let inside : i < length rows = omega (arith, c.from.ensures, c.loop-u-test.true, h.long, few) in
     record {
       long = length-set rows i row ∙ h.long;
@@ -34,22 +28,18 @@ loop-u-preserved c =
 pub invariant_of-result : goal.invariant_of-result
 invariant_of-result c =
     let n = c.nodes-nodes.result in
-    let few : n ≤ 16 = omega (arith, c.nodes-nodes.ensures.rule.shape.most_nodes, c.nodes-nodes.ensures.nodes) in
+    let row : c.full-row.result ≡ 2 ^ n - 1 = c.full-row.ensures.set ∙ ap (λ m. 2 ^ m - 1) (sym c.nodes-nodes.ensures.nodes) in
     record {
       least = omega (arith, node_count_pos c.nodes-nodes.ensures.rule, c.nodes-nodes.ensures.nodes);
-      most = few;
+      most = omega (arith, c.nodes-nodes.ensures.rule.shape.most_nodes, c.nodes-nodes.ensures.nodes);
       long = c.loop-u.invariant.long;
-      within = λ u less. omega (arith, c.loop-u.invariant.full u (omega (arith, less, c.loop-u-test.false)), ones n few, pow_pos n);
+      within = λ u less. omega (arith, c.loop-u.invariant.full u (omega (arith, less, c.loop-u-test.false)), row, pow_pos n);
       past = λ u more. c.loop-u.invariant.past u (omega (arith, more, c.loop-u.auto.u-end));
     }
 
 pub returns-clause-set : goal.returns-clause-set
 returns-clause-set c =
     let n = c.nodes-nodes.result in
-    let few : n ≤ 16 = omega (arith, c.nodes-nodes.ensures.rule.shape.most_nodes, c.nodes-nodes.ensures.nodes) in
-    let nodes : n ≡ node_count c.args.pairs.now = c.nodes-nodes.ensures.nodes ∙ ap node_count c.graph.ensures in
-    truths-all n c.loop-u.rows (λ u less. c.loop-u.invariant.full u (omega (arith, less, c.loop-u-test.false)) ∙ ones n few)
-    ∙ ap (λ m. replicate (m * m) true) nodes
-
-pub overflow_shr-row : goal.overflow_shr-row
-overflow_shr-row c = omega (arith, node_count_pos c.nodes-nodes.ensures.rule, c.nodes-nodes.ensures.nodes)
+    let row : c.full-row.result ≡ 2 ^ n - 1 = c.full-row.ensures.set ∙ ap (λ m. 2 ^ m - 1) (sym c.nodes-nodes.ensures.nodes) in
+    truths-all n c.loop-u.rows (λ u less. c.loop-u.invariant.full u (omega (arith, less, c.loop-u-test.false)) ∙ row)
+    ∙ ap (λ m. replicate (m * m) true) (c.nodes-nodes.ensures.nodes ∙ ap node_count c.graph-graph.ensures)
