@@ -12,7 +12,7 @@ use crate::subsets::Subsets;
 use debruijn::Graph;
 use std::alloc::{AllocError, Global};
 use std::marker::Model;
-use word_image::Rule;
+use word_image::{MOST_STATES, Rule};
 
 /// The least automaton of a rule, row by row: the classes of alike words, numbered in the order of their
 /// least words, and the classes of a word of each class followed by each letter. It is seen as the rule,
@@ -69,13 +69,13 @@ impl Minimal {
     }
 
     /// The classes of a word of class i followed by each letter, letters ascending.
-    pub fn row(&self, i: u32) -> [u16; 16]
+    pub fn row(&self, i: u32) -> [u16; MOST_STATES]
         requires { (a : Automaton) → IsLeastAutomaton self.now a → i < a.classes }
         ensures { (a : Automaton) (l : ℕ) → IsLeastAutomaton self.now a → l < a.states → slice_index result l ≡ slice_index a.next (i * a.states + l) }
     {
         let set = self.classes.at(i);
         let steps = self.subsets.steps(set);
-        let mut row = [0; 16];
+        let mut row = [0; MOST_STATES];
         for letter in 0..self.subsets.k() {
             let after = steps[letter as usize];
             let class = self.classes.place(self.closures[usize::from(after)]);

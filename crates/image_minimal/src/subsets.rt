@@ -9,7 +9,7 @@ use debruijn::Graph;
 use image_subsets::StepTables;
 use std::alloc::{AllocError, Global};
 use std::marker::Model;
-use word_image::Rule;
+use word_image::{MOST_STATES, Rule};
 
 /// The subset automaton of a rule, seen as that rule.
 #[derive(Debug, Drop)]
@@ -66,7 +66,7 @@ impl Subsets {
     }
 
     /// The steps of the set, letter by letter.
-    pub fn steps(&self, set: u16) -> [u16; 16]
+    pub fn steps(&self, set: u16) -> [u16; MOST_STATES]
         requires { set < 2 ^ node_count self.now }
         ensures { (a : ℕ) → a < self.now.states → IsStep self.now set a (slice_index result a) }
     {

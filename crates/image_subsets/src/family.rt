@@ -7,14 +7,11 @@ ghost use Rattle.image_subsets.specs.StepTables.{AreTables};
 ghost use Rattle.word_image.specs.Families.{is_minimal};
 
 use crate::marks::Marks;
-use crate::masks::Masks;
+use crate::masks::{MOST_SETS, Masks};
 use crate::step_tables::StepTables;
 use debruijn::Graph;
 use std::alloc::{AllocError, Global};
 use std::marker::Model;
-
-/// How many sets of at most 16 nodes there are.
-const SETS: usize = 65536;
 
 /// A family of sets: the sets of last nodes of a rule in the order of their least words, and how each was
 /// found. It is seen as its sets and their parents. All its room, below 1 MB, is taken when it is made.
@@ -38,7 +35,7 @@ pub struct Family {
 
 impl Model for Family {
     ghost use Rattle.std.specs.Prelude.{◌≤◌, ◌<◌, length, vec_capacity, Contains};
-    ghost use Rattle.image_subsets.specs.declared.family.TheConstants.{SETS};
+    ghost use Rattle.image_subsets.specs.declared.masks.TheConstants.{MOST_SETS};
     ghost use Rattle.image_subsets.specs.FamilyTrees.{FamilyTree, IsTree};
     ghost use Rattle.image_subsets.specs.Marks.{AreCovers};
 
@@ -46,7 +43,7 @@ impl Model for Family {
 
     ghost view = { λ f. record { sets = f.sets; parents = f.parents.items } };
 
-    ghost invariant = { λ f. (SETS ≤ vec_capacity f.parents) × IsTree (record { sets = f.sets; parents = f.parents.items })
+    ghost invariant = { λ f. (MOST_SETS ≤ vec_capacity f.parents) × IsTree (record { sets = f.sets; parents = f.parents.items })
         × (0 < length f.sets → ¬ Contains f.sets 0 → AreCovers f.nodes f.sets f.marks) };
 }
 
@@ -57,7 +54,7 @@ impl Family {
     {
         Ok(Family {
             sets: Masks::new(alloc)?,
-            parents: Vec::with_capacity(alloc, SETS)?,
+            parents: Vec::with_capacity(alloc, MOST_SETS)?,
             tables: StepTables::new(alloc)?,
             nodes: 0,
             marks: Marks::new(alloc)?,
@@ -151,7 +148,7 @@ fn expand(
     requires tables { AreTables graph.now tables.now }
     requires place { place < length sets.old }
     requires search { IsExpanded graph.now sets.old parents.old.items (place * graph.now.states) false }
-    requires room { SETS ≤ vec_capacity parents.old }
+    requires room { MOST_SETS ≤ vec_capacity parents.old }
     ensures search { IsExpanded graph.now sets.new parents.new.items ((place + 1) * graph.now.states) result }
     ensures capacity { vec_capacity parents.new ≡ vec_capacity parents.old }
 {

@@ -27,4 +27,5 @@ mod step_tables;
 mod tests;
 
 pub use family::Family;
+pub use masks::MOST_SETS;
 pub use step_tables::StepTables;

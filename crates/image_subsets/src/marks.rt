@@ -3,12 +3,9 @@
 ghost use Rattle.std.specs.Prelude.{◌≡◌, ◌≢◌, ◌^◌, ◌<◌, ◌≤◌, ◌↔◌, ◌⊎◌, ℕ, false, length, slice_index, slice_index_or, IsTrue, IsBitSet};
 ghost use Rattle.image_subsets.specs.Marks.{IsSetMarked, IsSpreadTo, AreMarks, HoldsSmaller, set_without};
 
-use crate::masks::Masks;
+use crate::masks::{MOST_SETS, Masks};
 use std::alloc::{AllocError, Global};
 use std::marker::Model;
-
-/// How many sets of at most 16 nodes there are.
-const SETS: usize = 65536;
 
 /// A mark for each set of nodes, seen as the list of the marks. All room is taken when it is made.
 #[derive(Debug, Drop)]
@@ -30,7 +27,7 @@ impl Marks {
     /// No marks.
     pub fn new(alloc: Global) -> Result<Marks, AllocError> {
         Ok(Marks {
-            marks: Vec::from_elem(alloc, false, SETS)?,
+            marks: Vec::from_elem(alloc, false, MOST_SETS)?,
         })
     }
 

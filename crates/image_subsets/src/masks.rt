@@ -5,9 +5,10 @@ ghost use Rattle.image_subsets.specs.Masks.{IsInserted};
 
 use std::alloc::{AllocError, Global};
 use std::marker::Model;
+use word_image::MOST_NODES;
 
 /// How many sets of at most 16 nodes there are.
-const MASKS: usize = 65536;
+pub const MOST_SETS: usize = 1 << MOST_NODES;
 
 /// A list of different sets, seen as that list. All its room is taken when it is made.
 ///
@@ -23,14 +24,14 @@ pub(crate) struct Masks {
 
 impl Model for Masks {
     ghost use Rattle.std.specs.Prelude.{List, ℕ, ◌≤◌, vec_capacity};
-    ghost use Rattle.image_subsets.specs.declared.masks.TheConstants.{MASKS};
+    ghost use Rattle.image_subsets.specs.declared.masks.TheConstants.{MOST_SETS};
     ghost use Rattle.image_subsets.specs.Masks.{IsIndex};
 
     ghost Value = { List ℕ };
 
     ghost view = { λ m. m.sets.items };
 
-    ghost invariant = { λ m. (MASKS ≤ vec_capacity m.sets) × IsIndex m.sets.items m.places.items };
+    ghost invariant = { λ m. (MOST_SETS ≤ vec_capacity m.sets) × IsIndex m.sets.items m.places.items };
 }
 
 impl Masks {
@@ -39,8 +40,8 @@ impl Masks {
         ensures { IfOk result (λ masks. masks ≡ []) }
     {
         Ok(Masks {
-            sets: Vec::with_capacity(alloc, MASKS)?,
-            places: Vec::from_elem(alloc, 0, MASKS)?,
+            sets: Vec::with_capacity(alloc, MOST_SETS)?,
+            places: Vec::from_elem(alloc, 0, MOST_SETS)?,
         })
     }
 

@@ -12,6 +12,7 @@ use debruijn::Graph;
 use std::alloc::{AllocError, Global};
 use std::marker::Model;
 use std::simd::u16x16;
+use word_image::MOST_STATES;
 
 /// How many sets of eight nodes there are.
 const ROWS: usize = 256;
@@ -57,7 +58,7 @@ impl StepTables {
     }
 
     /// The steps of the set on all letters, letter by letter, where these are the tables of its graph.
-    pub fn steps(&self, set: u16) -> [u16; 16]
+    pub fn steps(&self, set: u16) -> [u16; MOST_STATES]
         requires { HasRows self.now set }
         ensures { (r : LocalRule) (a : ℕ) → AreTables r self.now → set < 2 ^ node_count r → a < r.states →
             IsStep r set a (slice_index result a) }
@@ -102,7 +103,7 @@ fn ends_of(graph: &Graph, u: u8) -> u16x16
     ensures wide { length result ≡ 16 }
     ensures ends { (a : ℕ) → a < graph.now.states → IsEnds Right graph.now u a (slice_index result a) }
 {
-    let mut row = [0; 16];
+    let mut row = [0; MOST_STATES];
     for a in 0..graph.k() {
         row[usize::from(a)] = graph.ends(u, a);
     }

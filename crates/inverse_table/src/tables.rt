@@ -14,8 +14,8 @@ use inverse_window::WindowAt;
 use std::alloc::{AllocError, Global};
 use word_image::{Rule, Word};
 
-/// The most letters that a map has.
-const MOST_LETTERS: u64 = 65536;
+/// The most words of one length that have a map: it has a letter for each.
+const MOST_WORDS: u64 = 65536;
 
 /// Why a window has no inverse map.
 #[derive(Debug, Drop)]
@@ -100,7 +100,7 @@ fn letter_count(rule: &Rule, n: u16) -> Option<usize>
     ensures { SomeIff result (rule.now.states ^ n ≤ 65536) (rule.now.states ^ n) }
 {
     match u64::from(rule.k()).checked_pow(u32::from(n)) {
-        Some(count) if count <= MOST_LETTERS => Some(count as usize),
+        Some(count) if count <= MOST_WORDS => Some(count as usize),
         _ => None,
     }
 }

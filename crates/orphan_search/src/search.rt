@@ -3,12 +3,9 @@
 ghost use Rattle.std.specs.Prelude.{◌≡◌, ◌≤◌, ◌<◌, ◌↔◌, [], length, Contains, slice_index, vec_capacity, IfOk};
 
 use debruijn::Graph;
-use image_subsets::Family;
+use image_subsets::{Family, MOST_SETS};
 use std::alloc::{AllocError, Global};
 use std::marker::Model;
-
-/// More letters than a least orphan has, and as many sets as a cover list may have.
-const ROOM: usize = 65536;
 
 /// What a search came to.
 #[derive(Clone, Copy, Debug, PartialEq, Eq)]
@@ -29,7 +26,8 @@ pub enum Outcome {
 pub struct Search {
     // The family of the last run.
     family: Family,
-    // The least orphan of the last run; empty where it found none.
+    // The least orphan of the last run, which has fewer letters than there are sets; empty where it found
+    // none.
     word: Vec<u8>,
     // The cover list of the last run; empty where it found an orphan.
     cover: Vec<u16>,
@@ -39,14 +37,14 @@ pub struct Search {
 
 impl Model for Search {
     ghost use Rattle.std.specs.Prelude.{◌≤◌, [], vec_capacity, if◌then◌else◌};
-    ghost use Rattle.orphan_search.specs.declared.search.TheConstants.{ROOM};
+    ghost use Rattle.image_subsets.specs.declared.masks.TheConstants.{MOST_SETS};
     ghost use Rattle.orphan_search.specs.Verdicts.{Found};
 
     ghost Value = { Found };
 
     ghost view = { λ s. record { word = s.word.items; sets = if s.closed then s.family.sets else []; cover = s.cover.items } };
 
-    ghost invariant = { λ s. (ROOM ≤ vec_capacity s.word) × (ROOM ≤ vec_capacity s.cover) };
+    ghost invariant = { λ s. (MOST_SETS ≤ vec_capacity s.word) × (MOST_SETS ≤ vec_capacity s.cover) };
 }
 
 impl Search {
@@ -59,8 +57,8 @@ impl Search {
     {
         Ok(Search {
             family: Family::new(alloc)?,
-            word: Vec::with_capacity(alloc, ROOM)?,
-            cover: Vec::with_capacity(alloc, ROOM)?,
+            word: Vec::with_capacity(alloc, MOST_SETS)?,
+            cover: Vec::with_capacity(alloc, MOST_SETS)?,
             closed: false,
         })
     }
@@ -117,7 +115,7 @@ fn write_cover(family: &Family, cover: &mut Vec<u16>)
     requires some { 0 < length family.now.sets }
     requires nonempty { ¬ Contains family.now.sets 0 }
     requires empty { cover.old.items ≡ [] }
-    requires room { ROOM ≤ vec_capacity cover.old }
+    requires room { MOST_SETS ≤ vec_capacity cover.old }
     ensures cover { cover.new.items ≡ covers_of (slice_index family.now.sets 0) family.now.sets }
     ensures capacity { vec_capacity cover.new ≡ vec_capacity cover.old }
 {

@@ -6,7 +6,7 @@ ghost use Rattle.rule_algebra.specs.MadeImages.{RecoloursImages};
 ghost use Rattle.rule_algebra.specs.Tables.{AreOldLetters};
 
 use crate::fault::AlgebraFault;
-use word_image::Rule;
+use word_image::{MOST_STATES, Rule};
 
 /// The rule g of the same width and offset with g(colours of w) = colours[f(w)] for every window w,
 /// so that the image of every recoloured word is the recoloured image; `NotPermutation` exactly
@@ -44,13 +44,13 @@ fn is_recolouring(k: u8, colours: &[u8]) -> bool
 }
 
 /// The letter that has each colour.
-fn old_letters(k: u8, colours: &[u8]) -> [u8; 16]
+fn old_letters(k: u8, colours: &[u8]) -> [u8; MOST_STATES]
     requires some { 0 < k }
     requires few { k ≤ 16 }
     requires colours { IsRecolouring k colours.now }
     ensures { AreOldLetters k colours.now k result }
 {
-    let mut letters = [0; 16];
+    let mut letters = [0; MOST_STATES];
     for (letter, colour) in colours.iter().enumerate() {
         letters[usize::from(*colour)] = letter as u8;
     }

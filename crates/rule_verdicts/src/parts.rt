@@ -21,7 +21,7 @@ use orphan_search::Search;
 use pair_graph::Pairs;
 use pair_rank::Ranks;
 use std::alloc::{AllocError, Global};
-use word_image::{FluxRow, Rule, SetList, Weights, Word};
+use word_image::{FluxRow, MOST_NODES, Rule, SetList, Weights, Word};
 
 /// The least word that has no preimage; `None` exactly where the rule is surjective.
 pub fn least_orphan(alloc: Global, rule: &Rule) -> Result<Option<Word>, AllocError>
@@ -101,7 +101,7 @@ pub(crate) fn sum_part(alloc: Global, rule: &Rule, weights: &Weights) -> Result<
 }
 
 /// The first flows of the row, one for each node of the rule.
-fn flux_row(alloc: Global, rule: &Rule, flows: &[i32; 16]) -> Result<FluxRow, AllocError>
+fn flux_row(alloc: Global, rule: &Rule, flows: &[i32; MOST_NODES]) -> Result<FluxRow, AllocError>
     ensures row { IfOk result (λ row. row ≡ take (node_count rule.now) flows.now) }
     ensures rule { IsRule rule.now }
 {

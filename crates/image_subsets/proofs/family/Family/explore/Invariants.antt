@@ -1,6 +1,6 @@
 use Rattle.std.proofs.Common.{◌≤◌, ◌-◌, ◌*◌, ◌^◌, false, vec_capacity}
 use Rattle.word_image.specs.LocalRules.{node_count}
-use Rattle.image_subsets.specs.declared.family.TheConstants.{SETS}
+use Rattle.image_subsets.specs.declared.masks.TheConstants.{MOST_SETS}
 use Rattle.image_subsets.specs.Searches.{IsExpanded}
 use Rattle.image_subsets.specs.StepTables.{AreTables}
 use Rattle.image_subsets.proofs.family.Family.explore.Given as goal
@@ -10,7 +10,7 @@ abbrev pub invariant-loop-place : goal.invariant-loop-place
 invariant-loop-place l = record {
   tables : AreTables l.graph l.self-inside.tables;
   search : IsExpanded l.graph l.self-inside.sets l.self-inside.parents.items (l.place * l.graph.states) false;
-  capacity : SETS ≤ vec_capacity l.self-inside.parents;
+  capacity : MOST_SETS ≤ vec_capacity l.self-inside.parents;
 }
 
 -- how many sets may still come
