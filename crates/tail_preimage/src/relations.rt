@@ -9,16 +9,17 @@ ghost use Rattle.tail_preimage.specs.Walks.{HasWalk};
 ghost use Rattle.tail_preimage.specs.Relations.{IsRelation, AreSets, Relates, Steps};
 
 use debruijn::Graph;
+use word_image::MOST_NODES;
 
 /// Row u is the set of the nodes to which node u is related; zeros after the nodes.
-pub type Relation = [u16; 16];
+pub type Relation = [u16; MOST_NODES];
 
 /// Each node is related to itself.
 fn identity(graph: &Graph) -> Relation
     ensures relation { IsRelation graph.now (λ u v. u ≡ v) result }
     ensures rule { IsRule graph.now }
 {
-    let mut rows = [0; 16];
+    let mut rows = [0; MOST_NODES];
     for u in 0..graph.nodes() {
         rows[usize::from(u)] = 1u16 << u;
     }
@@ -65,7 +66,7 @@ fn joined(graph: &Graph, first: &Relation, second: &Relation) -> Relation
     requires { AreSets graph.now second.now }
     ensures { IsRelation graph.now (λ u v. (w : ℕ) × (w < node_count graph.now) × (Relates first.now u w × Relates second.now w v)) result }
 {
-    let mut rows = [0; 16];
+    let mut rows = [0; MOST_NODES];
     for u in 0..graph.nodes() {
         rows[usize::from(u)] = graph.after(second, first[usize::from(u)]);
     }
@@ -76,7 +77,7 @@ fn joined(graph: &Graph, first: &Relation, second: &Relation) -> Relation
 pub fn reversed(graph: &Graph, relation: &Relation) -> Relation
     ensures { IsRelation graph.now (λ u v. Relates relation.now v u) result }
 {
-    let mut rows = [0; 16];
+    let mut rows = [0; MOST_NODES];
     for u in 0..graph.nodes() {
         rows[usize::from(u)] = before(graph, relation, 1u16 << u);
     }
@@ -97,12 +98,12 @@ pub fn relation(graph: &Graph, word: &[u8]) -> Relation
 }
 
 /// The relations of 0 to 16 steps.
-pub fn powers(graph: &Graph, step: &Relation) -> [Relation; 17]
+pub fn powers(graph: &Graph, step: &Relation) -> [Relation; MOST_NODES + 1]
     requires { AreSets graph.now step.now }
     ensures { (n : ℕ) → n ≤ 16 → IsRelation graph.now (Steps (Relates step.now) n) (get_or result n []) }
 {
-    let mut all = [identity(graph); 17];
-    for n in 0..16 {
+    let mut all = [identity(graph); MOST_NODES + 1];
+    for n in 0..MOST_NODES {
         all[n + 1] = joined(graph, step, &all[n]);
     }
     all

@@ -60,14 +60,15 @@ pub fn least_walk(
     requires reach { Reaches graph.now word.now goal start }
     ensures { IfOk result (λ (walk, end). IsLeastWalkInto graph.now word.now start goal end walk.items) }
 {
-    let k = graph.k();
+    let rule = graph.rule();
+    let last = rule.m() - 2;
     let sets = open_sets(alloc, graph, word, goal)?;
-    let mut walk = node_letters(alloc, graph.rule(), start)?;
+    let mut walk = node_letters(alloc, rule, start)?;
     let mut node = start;
     for n in 0..word.len() {
         node = least_node(graph.ends(node, word[n]) & sets[word.len() - 1 - n]);
         // The edges of a node lead to nodes in the order of their letters, and each letter is the last one of its node.
-        walk.push(node % k)?;
+        walk.push(rule.node_letter(node, last))?;
     }
     Ok((walk, node))
 }
