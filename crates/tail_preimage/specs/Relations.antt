@@ -1,7 +1,8 @@
 -- Relations between nodes, and steps along them.
-use Rattle.std.specs.Prelude.{◌≡◌, ℕ, suc, ◌+◌, ◌^◌, ◌<◌, ◌≤◌, List, slice_index, IsBitSet}
+use Rattle.std.specs.Prelude.{◌≡◌, ℕ, ◌+◌, ◌^◌, ◌<◌, ◌≤◌, List, replicate, slice_index, IsBitSet}
 use Rattle.word_image.specs.LocalRules.{LocalRule, node_count}
 use Rattle.word_image.specs.Graphs.{IsNodeSet}
+use Rattle.search_laws.specs.Walks.{Walk}
 
 -- row u of a table is the set of the nodes to which node u is related
 pub record IsRelation (r : LocalRule) (Related : ℕ → ℕ → Type 0) (table : List ℕ) : Type 0 where
@@ -15,12 +16,13 @@ AreSets r table = (u : ℕ) → u < node_count r → slice_index table u < 2 ^ n
 abbrev pub Relates : List ℕ → ℕ → ℕ → Type 0
 Relates table u v = IsBitSet (slice_index table u) v
 
--- n steps of a relation lead from u to v, by the nodes that they pass
+-- a relation as steps on letters that say nothing
+abbrev pub Unlettered : (ℕ → ℕ → Type 0) → ℕ → Unit {0} → ℕ → Type 0
+Unlettered E s a t = E s t
+
+-- n steps of a relation lead from u to v
 pub record Steps (E : ℕ → ℕ → Type 0) (n u v : ℕ) : Type 0 where
-  pub at : ℕ → ℕ
-  pub first : at 0 ≡ u
-  pub last : at n ≡ v
-  pub each : (i : ℕ) → i < n → E (at i) (at (suc i))
+  pub walk : Walk (Unlettered E) u (replicate n tt) v
 
 -- n steps lead from u anywhere
 abbrev pub Open : (ℕ → ℕ → Type 0) → ℕ → ℕ → Type 0
