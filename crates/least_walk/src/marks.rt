@@ -8,9 +8,10 @@ ghost use Rattle.word_image.specs.MarkedPairs.{marked};
 ghost use Rattle.least_walk.specs.Marks.{ArePartsOf, HasPair, IsAdded, IsMarkedPair};
 
 use pair_graph::Pairs;
+use word_image::MOST_NODES;
 
 /// For each first node, without the mark and then with it, the set of the second nodes.
-pub type Rows = [u16; 32];
+pub type Rows = [u16; 2 * MOST_NODES];
 
 /// A marked pair, with its parts.
 #[derive(Clone, Copy)]
@@ -88,7 +89,7 @@ pub fn has(rows: &Rows, at: Parts) -> bool
     requires place { at.second < 16 }
     ensures { (r : LocalRule) → IsMarkedPair r at → (IsTrue result ↔ HasPair r rows.now at.pair) }
 {
-    rows[16 * usize::from(at.mark) + usize::from(at.first)] >> at.second & 1 == 1
+    rows[MOST_NODES * usize::from(at.mark) + usize::from(at.first)] >> at.second & 1 == 1
 }
 
 /// Adds this marked pair to the rows.
@@ -97,7 +98,7 @@ pub fn add(rows: &mut Rows, at: Parts)
     requires place { at.second < 16 }
     ensures { (r : LocalRule) → IsRule r → IsMarkedPair r at → IsAdded r rows.old at.pair rows.new }
 {
-    rows[16 * usize::from(at.mark) + usize::from(at.first)] |= 1u16 << at.second;
+    rows[MOST_NODES * usize::from(at.mark) + usize::from(at.first)] |= 1u16 << at.second;
 }
 
 /// The second letters by which, with first letter a, a step may lead to a marked pair that the rows
@@ -115,7 +116,7 @@ pub fn fresh(pairs: &Pairs, rows: &Rows, from: Parts, a: u8) -> u16
     let node = usize::from(graph.next(from.first, a));
     let ends = graph.ends(from.second, graph.label(from.first, a));
     let end = graph.next(from.second, 0);
-    let with_mark = (ends & !rows[16 + node]) >> end;
+    let with_mark = (ends & !rows[MOST_NODES + node]) >> end;
     if from.mark == 1 {
         return with_mark;
     }

@@ -10,9 +10,10 @@ ghost use Rattle.least_walk.specs.Queues.{IsWalkSearch, IsArrival, IsNearStart, 
 
 use crate::marks::{Parts, Rows, add, fresh, has, parts_of, step_from};
 use pair_graph::Pairs;
+use word_image::{MOST_NODES, MOST_PAIRS};
 
 /// The most marked pairs.
-pub const MOST_MARKED_PAIRS: usize = 512;
+pub const MOST_MARKED_PAIRS: usize = 2 * MOST_PAIRS;
 
 /// A marked pair that was reached, and how first: from that at place `parent`, by `step`, a letter
 /// pair (a, b) as 16 a + b. For the start, which stands first, these two say nothing.
@@ -74,10 +75,10 @@ pub fn search(queue: &mut Vec<Reached>, pairs: &Pairs, ends: Ends, most: usize) 
         depth: 0,
     };
     put(queue, start);
-    let mut rows = [0; 32];
+    let mut rows = [0; 2 * MOST_NODES];
     add(&mut rows, parts_of(pairs, ends.start));
     if ends.goal == Some(ends.start) {
-        rows = [0; 32];
+        rows = [0; 2 * MOST_NODES];
     }
     let mut head = 0;
     while head < queue.len() {
