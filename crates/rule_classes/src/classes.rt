@@ -9,7 +9,7 @@ use crate::search::least_of;
 use word_image::Rule;
 
 /// The most colours of a rule whose class is told.
-const MOST_COLOURS: u8 = 6;
+pub const MOST_COLOURS: usize = 6;
 
 /// Where a rule stands in its class.
 #[derive(Clone, Copy, Debug)]
@@ -36,7 +36,7 @@ pub fn class_of(rule: &Rule) -> Result<ClassPlace, ClassFault>
     ensures verdicts { IfOk result (λ place. HaveOneVerdict rule.now place.mirrored place.least) }
 {
     let k = rule.k();
-    if k > MOST_COLOURS {
+    if usize::from(k) > MOST_COLOURS {
         return Err(ClassFault::Colours);
     }
     let mut best = Best::own(rule);

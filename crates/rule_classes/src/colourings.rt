@@ -6,6 +6,7 @@ ghost use Rattle.word_image.specs.Storage.{padded};
 ghost use Rattle.rule_classes.specs.Colourings.{IsColouring, entry, in_colours, old_value, last_side};
 ghost use Rattle.rule_classes.specs.Tables.{AreFilled, HasZeros, IsRow};
 
+use crate::classes::MOST_COLOURS;
 use word_image::{MOST_ENTRIES, Rule, Side};
 
 /// The values of windows that differ in one letter.
@@ -33,9 +34,9 @@ pub struct Colouring {
     /// Whether windows are read backwards.
     pub mirrored: bool,
     /// The new colour of each letter.
-    pub colours: [u8; 6],
+    pub colours: [u8; MOST_COLOURS],
     /// The letter that has each colour.
-    pub letters: [u8; 6],
+    pub letters: [u8; MOST_COLOURS],
 }
 
 impl Colouring {
