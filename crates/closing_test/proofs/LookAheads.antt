@@ -1,10 +1,10 @@
 -- The least look-ahead on a side is 2 more than the greatest rank of a first pair, or 1 where there is none.
-use Rattle.std.proofs.Common.{◌≡◌, ◌≢◌, ◌⊎◌, ℕ, ◌+◌, ◌-◌, ◌<◌, ◌≤◌, ◌^◌, max, inl, inr, refl, sym, ap, ap₂, ◌∙◌, subst, ⊎_elim, arith}
-use Rattle.std.specs.Prelude.{◌↔◌, if◌then◌else◌, slice_index}
+use Rattle.std.proofs.Common.{◌≡◌, ◌⊎◌, ℕ, ◌+◌, ◌-◌, ◌<◌, ◌≤◌, ◌^◌, max, inl, inr, refl, sym, ap, ap₂, ◌∙◌, subst, ⊎_elim, arith}
+use Rattle.std.specs.Prelude.{◌↔◌, if◌then◌else◌}
 use Rattle.std.specs.Ordering.{ord_max, nat_cmp, is_lt}
 use Rattle.std.proofs.lemmas.Bool.{cases_lt, cases_eq}
 use Rattle.std.proofs.lemmas.Cmp.{ranked, by_ranked}
-use Rattle.word_image.specs.LocalRules.{LocalRule, IsRule, node_count}
+use Rattle.word_image.specs.LocalRules.{LocalRule, IsRule}
 use Rattle.word_image.specs.Windows.{IsRightAhead, IsLeastRightAhead}
 use Rattle.word_image.specs.Graphs.{pair_of}
 use Rattle.word_image.specs.Ranks.{IsRank, IsEndless}
@@ -13,9 +13,9 @@ use Rattle.pair_laws.proofs.BothWays.{ahead_pairs}
 use Rattle.tail_laws.proofs.Certainty.{IsRightClosing-window, IsLeftClosing-window}
 use Rattle.word_image.specs.declared.side.Side.{Side}
 use Rattle.word_image.specs.declared.side.Side.TheVariants.{Right, Left}
-use Rattle.word_image.specs.Sides.{seen_from, end_node, Together, PairGoes}
+use Rattle.word_image.specs.Sides.{seen_from, Together, PairGoes}
 use Rattle.word_image.specs.FirstPairs.{IsFirstOf}
-use Rattle.closing_test.specs.Sides.{with_end, end_pair, AreFirst, IsClosing}
+use Rattle.closing_test.specs.Sides.{end_pair, AreEndNodes, IsFound, IsClosing}
 use Rattle.closing_test.specs.LeastAheads.{IsLeastFor, IsFirstWith, IsFirstAt, HasEndlessFirst}
 use Rattle.closing_test.proofs.FirstWindows.{IsFirst-ends, first_ends}
 
@@ -90,28 +90,10 @@ pub IsLeastFor-next : (side : Side) {r : LocalRule} {Of : ℕ → ℕ → Type 0
 IsLeastFor-next side {r} {Of} {i} {m} {n} rule before here e =
     subst (IsLeastFor (Below Of (i + 1)) (PairGoes side r)) (sym (e ∙ ord_max-max m n)) (IsLeastFor-same (below_next Of i) (IsLeastFor-max side rule before here))
 
--- the two nodes at these ends
-pub record AreEndNodes (side : Side) (r : LocalRule) (w a u v : ℕ) : Type 0 where
-  pub first : u ≡ end_node side r w
-  pub second : v ≡ end_node side r (with_end side r w a)
-  pub node : v < node_count r
-
--- their pair goes on together as they do
+-- the pair of the nodes at the ends goes on together as they do
 pub end_pair-goes : (side : Side) (r : LocalRule) (w a u v n : ℕ) → AreEndNodes side r w a u v → PairGoes side r (end_pair side r w a) n ↔ Together side r u v n
 end_pair-goes side r w a u v n ends =
     subst (λ p. PairGoes side r p n ↔ Together side r u v n) (ap₂ (pair_of r) ends.first ends.second) (PairGoes-pair_of side r u v n ends.node)
-
--- what was found of a window and of one with another letter at its end, which has the same label
-pub record IsFound (side : Side) (r : LocalRule) (w a u v : ℕ) : Type 0 where
-  pub first : AreFirst side r w a
-  pub ends : AreEndNodes side r w a u v
-
-pub found : (side : Side) (r : LocalRule) (w a other u v : ℕ) → w < r.states ^ r.width → a < r.states → other ≡ with_end side r w a → other ≢ w
-    → slice_index r.table other ≡ slice_index r.table w → u ≡ end_node side r w → v ≡ end_node side r other → v < node_count r → IsFound side r w a u v
-found side r w a other u v window letter is different label first second node = record {
-  first = record { window = window; letter = letter; different = λ e. different (is ∙ sym e); one_label = sym label ∙ ap (slice_index r.table) is };
-  ends = record { first = first; second = second ∙ ap (end_node side r) is; node = node };
-}
 
 -- the rank of the nodes tells the number
 pub IsLeastFor-with : (side : Side) (r : LocalRule) (w a u v n : ℕ) → IsFound side r w a u v → IsRank (Together side r u v) n → IsLeastFor (IsFirstWith side r w a) (PairGoes side r) (n + 2)

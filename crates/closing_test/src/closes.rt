@@ -8,7 +8,7 @@ ghost use Rattle.word_image.specs.Sides.{Together};
 ghost use Rattle.closing_test.specs.Sides.{IsClosing};
 ghost use Rattle.closing_test.specs.EndlessFirsts.{IsEndlessAt, IsEndlessWith};
 
-use crate::ends::with_end;
+use crate::ends::first_nodes;
 use pair_rank::Endless;
 use word_image::Side;
 
@@ -59,13 +59,10 @@ fn is_endless_with(side: Side, endless: &Endless, window: u16, letter: u8) -> bo
     requires letter { letter < endless.now.states }
     ensures { IsTrue result ↔ IsEndlessWith side endless.now window letter }
 {
-    let rule = endless.rule();
-    let other = with_end(side, rule, window, letter);
-    if other == window || rule.at(other) != rule.at(window) {
+    let Some((u, v)) = first_nodes(side, endless.rule(), window, letter) else {
         return false;
-    }
-    let nodes = endless_nodes(side, endless, side.end_node(rule, window));
-    nodes >> side.end_node(rule, other) & 1 == 1
+    };
+    endless_nodes(side, endless, u) >> v & 1 == 1
 }
 
 /// The nodes with which u goes on together towards this side for ever; node v is bit v.

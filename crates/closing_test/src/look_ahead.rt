@@ -9,7 +9,7 @@ ghost use Rattle.word_image.specs.Sides.{PairGoes, seen_from, IsLeftAhead};
 ghost use Rattle.closing_test.specs.Sides.{IsClosing};
 ghost use Rattle.closing_test.specs.LeastAheads.{IsLeastFor, IsFirstAt, IsFirstWith, HasEndlessFirst};
 
-use crate::ends::with_end;
+use crate::ends::first_nodes;
 use pair_rank::Ranks;
 use word_image::{Rule, Side};
 
@@ -83,14 +83,9 @@ fn ahead_with(side: Side, rule: &Rule, ranks: &Ranks, window: u16, letter: u8) -
     ensures least { MatchOption result (HasEndlessFirst side rule.now) (IsLeastFor (IsFirstWith side rule.now window letter) (PairGoes side rule.now)) }
     ensures most { IfSome result (λ n. n ≤ 241) }
 {
-    let other = with_end(side, rule, window, letter);
-    if other == window || rule.at(other) != rule.at(window) {
+    let Some((u, v)) = first_nodes(side, rule, window, letter) else {
         return Some(1);
-    }
-    let rank = ranks.rank(
-        side,
-        side.end_node(rule, window),
-        side.end_node(rule, other),
-    )?;
+    };
+    let rank = ranks.rank(side, u, v)?;
     Some(rank + 2)
 }
