@@ -74,9 +74,7 @@ impl Output {
         ensures { IfOk result (λ output. output ≡ line (text.now ++ word_text word.now)) }
     {
         let mut output = Output::new(alloc);
-        output.push(text.as_bytes())?;
-        output.push_word(alloc, word)?;
-        output.push(b"\n")?;
+        output.push_named(alloc, text, word)?;
         Ok(output)
     }
 
@@ -87,11 +85,7 @@ impl Output {
         ensures { IfOk result (λ output. output ≡ line (text.now ++ word_text x.now ++ codes " " ++ word_text y.now)) }
     {
         let mut output = Output::new(alloc);
-        output.push(text.as_bytes())?;
-        output.push_word(alloc, x)?;
-        output.push(b" ")?;
-        output.push_word(alloc, y)?;
-        output.push(b"\n")?;
+        output.push_named_pair(alloc, text, x, y)?;
         Ok(output)
     }
 
@@ -122,6 +116,35 @@ impl Output {
         ensures { OnOk result (self.new ≡ self.old ++ line text.now) }
     {
         self.push(text.as_bytes())?;
+        self.push(b"\n")
+    }
+
+    /// Appends the text with the digits of a word behind it, as a line.
+    pub fn push_named(&mut self, alloc: Global, text: &str, word: &[u8]) -> Result<(), AllocError>
+        requires { IsWord 16 word.now }
+        ensures { OnOk result (self.new ≡ self.old ++ line (text.now ++ word_text word.now)) }
+    {
+        self.push(text.as_bytes())?;
+        self.push_word(alloc, word)?;
+        self.push(b"\n")
+    }
+
+    /// Appends the text with the digits of two words behind it and a blank between, as a line.
+    pub fn push_named_pair(
+        &mut self,
+        alloc: Global,
+        text: &str,
+        x: &[u8],
+        y: &[u8],
+    ) -> Result<(), AllocError>
+        requires first { IsWord 16 x.now }
+        requires second { IsWord 16 y.now }
+        ensures { OnOk result (self.new ≡ self.old ++ line (text.now ++ word_text x.now ++ codes " " ++ word_text y.now)) }
+    {
+        self.push(text.as_bytes())?;
+        self.push_word(alloc, x)?;
+        self.push(b" ")?;
+        self.push_word(alloc, y)?;
         self.push(b"\n")
     }
 

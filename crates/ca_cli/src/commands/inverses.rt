@@ -2,7 +2,6 @@
 ghost use Rattle.std.specs.Prelude.{◌≡◌, ◌≤◌, ◌++◌, ℕ, List, IfOk, OnOk, codes};
 ghost use Rattle.std.specs.Fmt.{decimal};
 ghost use Rattle.word_image.specs.Digits.{word_text};
-ghost use Rattle.word_image.specs.LocalRules.{IsWord};
 ghost use Rattle.word_image.specs.Windows.{IsLeastDetermined};
 ghost use Rattle.tail_config.specs.Tails.{IsInjective};
 ghost use Rattle.rule_text.specs.PrintedRules.{offset_text};
@@ -10,7 +9,7 @@ ghost use Rattle.ca_cli.specs.Lines.{line};
 ghost use Rattle.ca_cli.specs.InverseLines.{IsInverse, IsMapRule, map_lines};
 ghost use Rattle.ca_cli.specs.Outcomes.{Comes};
 ghost use Rattle.ca_cli.specs.Outputs.{IsCause};
-ghost use Rattle.ca_cli.specs.StatusLines.{twins_text, wide_text, unfit_line};
+ghost use Rattle.ca_cli.specs.StatusLines.{wide_text, unfit_line};
 
 use crate::lines::report::write_rule;
 use crate::output::Output;
@@ -21,7 +20,7 @@ use inverse_table::{InvFault, InverseMap, as_rule, table};
 use inverse_window::WindowAt;
 use rule_verdicts::injectivity;
 use std::alloc::{AllocError, Global};
-use word_image::{Rule, Word};
+use word_image::Rule;
 
 /// `inverse R`: the map that gives the cells of a configuration back from its image, over the least
 /// determined window.
@@ -33,7 +32,12 @@ pub fn inverse(alloc: Global, rule: &Rule) -> Result<Output, Stop>
     let found = injectivity(alloc, rule)?;
     match found {
         InjectivePart::Window { n, c } => inverse_over(alloc, rule, WindowAt { n, c }),
-        InjectivePart::Twins { x, y } => Err(Stop::NotFit(twins_output(alloc, &x, &y)?)),
+        InjectivePart::Twins { x, y } => Err(Stop::NotFit(Output::named_pair(
+            alloc,
+            "notfit twins ",
+            x.as_slice(),
+            y.as_slice(),
+        )?)),
     }
 }
 
@@ -99,21 +103,6 @@ fn write_map_rule(alloc: Global, output: &mut Output, map: &InverseMap) -> Resul
         Ok(rule) => write_rule(alloc, output, &rule),
         Err(_) => output.push_line("rule none"),
     }
-}
-
-/// The line that names the least twins.
-fn twins_output(alloc: Global, x: &Word, y: &Word) -> Result<Output, AllocError>
-    requires first { IsWord 16 x.now }
-    requires second { IsWord 16 y.now }
-    ensures { IfOk result (λ output. output ≡ unfit_line (twins_text x.now y.now)) }
-{
-    let mut output = Output::new(alloc);
-    output.push(b"notfit twins ")?;
-    output.push_word(alloc, x.as_slice())?;
-    output.push(b" ")?;
-    output.push_word(alloc, y.as_slice())?;
-    output.push(b"\n")?;
-    Ok(output)
 }
 
 /// The line of a window that is too wide.

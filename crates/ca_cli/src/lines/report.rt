@@ -2,7 +2,6 @@
 ghost use Rattle.std.specs.Prelude.{◌≡◌, ◌++◌, codes, if◌then◌else◌, IfSome, OnOk};
 ghost use Rattle.std.specs.List.{flat_map};
 ghost use Rattle.word_image.specs.LocalRules.{IsWord};
-ghost use Rattle.word_image.specs.Digits.{word_text};
 ghost use Rattle.tail_config.specs.TailTexts as tail;
 ghost use Rattle.rule_text.specs.PrintedRules.{printed_rule, offset_text};
 ghost use Rattle.cert_format.specs.Evidence.InjectiveEvidence.{Window};
@@ -58,7 +57,7 @@ pub fn write_surjective(
 {
     match orphan {
         None => output.push_line("surjective yes"),
-        Some(word) => write_word(alloc, output, "surjective no orphan ", word.as_slice()),
+        Some(word) => output.push_named(alloc, "surjective no orphan ", word.as_slice()),
     }
 }
 
@@ -74,11 +73,7 @@ fn write_injective(
     match found {
         InjectivePart::Window { n, c } => write_window(alloc, output, *n, *c),
         InjectivePart::Twins { x, y } => {
-            output.push(b"injective no twins ")?;
-            output.push_word(alloc, x.as_slice())?;
-            output.push(b" ")?;
-            output.push_word(alloc, y.as_slice())?;
-            output.push(b"\n")
+            output.push_named_pair(alloc, "injective no twins ", x.as_slice(), y.as_slice())
         }
     }
 }
@@ -88,16 +83,6 @@ fn write_window(alloc: Global, output: &mut Output, n: u16, c: u16) -> Result<()
     ensures { OnOk result (output.new ≡ output.old ++ injective_line (Window n c)) }
 {
     output.push_line(&format!(in alloc; "injective yes window {n} {c}")?)
-}
-
-/// Appends the line of a text and a word.
-fn write_word(alloc: Global, output: &mut Output, text: &str, word: &[u8]) -> Result<(), AllocError>
-    requires { IsWord 16 word.now }
-    ensures { OnOk result (output.new ≡ output.old ++ line (text.now ++ word_text word.now)) }
-{
-    output.push(text.as_bytes())?;
-    output.push_word(alloc, word)?;
-    output.push(b"\n")
 }
 
 /// Appends the line of a side.
@@ -156,7 +141,7 @@ fn write_conserving(alloc: Global, output: &mut Output, found: &SumPart) -> Resu
 {
     match found {
         SumPart::Flux(row) => write_flux(alloc, output, row.as_slice()),
-        SumPart::Ring(ring) => write_word(alloc, output, "conserving no ring ", ring.as_slice()),
+        SumPart::Ring(ring) => output.push_named(alloc, "conserving no ring ", ring.as_slice()),
     }
 }
 
