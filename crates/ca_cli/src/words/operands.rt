@@ -9,7 +9,7 @@ ghost use Rattle.ca_cli.specs.WeightTexts.{IsWeightText};
 use crate::stop::Stop;
 use rule_text::{decimal_number, is_decimal, parse};
 use std::alloc::{AllocError, Global};
-use word_image::{Rule, letter};
+use word_image::{MOST_STATES, Rule, letter};
 
 /// The rule of which the operand with this number is a text.
 pub fn rule_operand(number: u8, text: &[u8]) -> Result<Rule, Stop>
@@ -61,7 +61,7 @@ pub fn small(text: &[u8], most: usize) -> Option<u8>
 pub fn are_colours(text: &[u8]) -> bool
     ensures { IsTrue result ↔ AreColours text.now }
 {
-    !text.is_empty() && text.len() <= 16 && text.iter().all(|byte| letter(*byte).is_some())
+    !text.is_empty() && text.len() <= MOST_STATES && text.iter().all(|byte| letter(*byte).is_some())
 }
 
 /// The letters that hexadecimal digits stand for.

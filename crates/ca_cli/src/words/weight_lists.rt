@@ -7,7 +7,7 @@ use crate::output::Output;
 use crate::stop::Stop;
 use crate::words::operands::weight;
 use std::alloc::{AllocError, Global};
-use word_image::{Rule, Weights};
+use word_image::{MOST_STATES, Rule, Weights};
 
 /// Whether a text lists weights: from 1 to 16 numbers with one comma between, each of one to three
 /// decimal digits and at most 255.
@@ -15,7 +15,7 @@ pub fn are_weights(text: &[u8]) -> bool
     ensures { IsTrue result ↔ AreWeightTexts text.now }
 {
     let mut rest = text;
-    for _i in 0..16usize {
+    for _i in 0..MOST_STATES {
         let Some((piece, others)) = cut(rest) else {
             return weight(rest).is_some();
         };
@@ -49,7 +49,7 @@ fn numbers(alloc: Global, text: &[u8]) -> Result<Vec<u8>, AllocError>
 {
     let mut list = Vec::new(alloc);
     let mut rest = text;
-    for _i in 0..16usize {
+    for _i in 0..MOST_STATES {
         let Some((piece, others)) = cut(rest) else {
             list.push(weight(rest).unwrap_or(0))?;
             return Ok(list);
