@@ -1,10 +1,9 @@
 //! Look-aheads that the claims of ranks allow.
 
-ghost use Rattle.std.specs.Prelude.{◌≡◌, ◌↔◌, ◌<◌, ◌≤◌, ℕ, length, slice_index, IsTrue};
-ghost use Rattle.word_image.specs.LocalRules.{node_count};
-ghost use Rattle.word_image.specs.Graphs.{pair_count};
+ghost use Rattle.std.specs.Prelude.{◌≡◌, ◌↔◌, ◌<◌, ◌≤◌, ℕ, length, IsTrue};
+ghost use Rattle.word_image.specs.Graphs.{first_of, second_of, pair_count};
 ghost use Rattle.cert_check.specs.Checks.{IsChecked, FirstBreach};
-ghost use Rattle.word_image.specs.Sides.{window_with};
+ghost use Rattle.word_image.specs.Edges.{label_at};
 ghost use Rattle.word_image.specs.FirstPairs.{IsFirstOf};
 ghost use Rattle.cert_format.specs.Certificates.{IsSideShape};
 ghost use Rattle.cert_format.specs.Parts.{side_of, IsOver};
@@ -68,7 +67,7 @@ pub fn is_first(rule: &Rule, side: Side, pair: u16) -> bool
     if u == v || rest_of(rule, side, u) != rest_of(rule, side, v) {
         return false;
     }
-    some_label(rule, side.other(), u, v)
+    some_label(rule, side.other(), pair)
 }
 
 /// A node without the letter at its end on this side.
@@ -82,20 +81,14 @@ fn rest_of(rule: &Rule, side: Side, node: u8) -> u8
     }
 }
 
-/// Whether some letter on this side of two nodes makes windows with one label of them.
-fn some_label(rule: &Rule, side: Side, u: u8, v: u8) -> bool
-    requires first { u < node_count rule.now }
-    requires second { v < node_count rule.now }
+/// Whether some letter on this side of the nodes of a pair makes windows with one label of them.
+fn some_label(rule: &Rule, side: Side, pair: u16) -> bool
+    requires { pair < pair_count rule.now }
     ensures { IsTrue result ↔ ((a : ℕ) × (a < rule.now.states)
-        × (slice_index rule.now.table (window_with side rule.now u a)
-        ≡ slice_index rule.now.table (window_with side rule.now v a))) }
+        × (label_at side rule.now (first_of rule.now pair) a ≡ label_at side rule.now (second_of rule.now pair) a)) }
 {
     for letter in 0..rule.k() {
-        let (first, second) = (
-            side.window_with(rule, u, letter),
-            side.window_with(rule, v, letter),
-        );
-        if rule.at(first) == rule.at(second) {
+        if rule.follow(side, pair, letter, letter).is_some() {
             return true;
         }
     }

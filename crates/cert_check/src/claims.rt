@@ -1,9 +1,9 @@
 //! Claims of ranks, which fall along every step of pairs.
 
-ghost use Rattle.std.specs.Prelude.{◌≡◌, ◌↔◌, ◌^◌, ◌<◌, ℕ, length, IsTrue, Some};
-ghost use Rattle.word_image.specs.LocalRules.{node_count};
+ghost use Rattle.std.specs.Prelude.{◌≡◌, ◌↔◌, ◌<◌, length, IsTrue};
 ghost use Rattle.word_image.specs.Graphs.{pair_count};
 ghost use Rattle.cert_check.specs.Sides.{claims_on};
+ghost use Rattle.cert_check.specs.Breaches.{EachBelow};
 ghost use Rattle.cert_check.specs.Checks.{IsChecked, FirstBreach};
 ghost use Rattle.cert_check.specs.Claims.{claim, IsBelow, Falls};
 ghost use Rattle.cert_check.specs.SideWindows.{FallsBy};
@@ -57,39 +57,49 @@ fn falls(rule: &Rule, claims: &[Option<u16>], side: Side, pair: u16) -> bool
     let Some(most) = claims[usize::from(pair)] else {
         return true;
     };
-    let (first, second) = rule.nodes_of(pair);
-    for letter in 0..rule.k() {
-        let window = side.window_with(rule, first, letter);
-        if !falls_along(rule, claims, side, window, second, most) {
+    for a in 0..rule.k() {
+        if !falls_along(rule, claims, side, pair, a, most) {
             return false;
         }
     }
     true
 }
 
-/// Whether less than `most` is claimed of each pair to which this window leads on this side, with one
-/// of the second node that has the same label.
-fn falls_along(
-    rule: &Rule,
-    claims: &[Option<u16>],
-    side: Side,
-    window: u16,
-    second: u8,
-    most: u16,
-) -> bool
+/// Whether less than `most` is claimed of each pair to which a pair leads on a first letter.
+fn falls_along(rule: &Rule, claims: &[Option<u16>], side: Side, pair: u16, a: u8, most: u16) -> bool
     requires row { length claims.now ≡ pair_count rule.now }
-    requires window { window < rule.now.states ^ rule.now.width }
-    requires second { second < node_count rule.now }
-    ensures { IsTrue result ↔ ((b : ℕ) → b < rule.now.states → FallsBy side rule.now claims.now window second most b) }
+    requires pair { pair < pair_count rule.now }
+    requires letter { a < rule.now.states }
+    ensures { IsTrue result ↔ EachBelow rule.now.states (FallsBy side rule.now claims.now pair most a) }
 {
-    for letter in 0..rule.k() {
-        let other = side.window_with(rule, second, letter);
-        let pair = rule.pair_of(side.end_node(rule, window), side.end_node(rule, other));
-        if rule.at(window) == rule.at(other) && !claims_below(claims, pair, most) {
+    for b in 0..rule.k() {
+        if !falls_by(rule, claims, side, pair, a, b, most) {
             return false;
         }
     }
     true
+}
+
+/// Whether less than `most` is claimed of the pair to which a pair leads on two letters, where there is one.
+fn falls_by(
+    rule: &Rule,
+    claims: &[Option<u16>],
+    side: Side,
+    pair: u16,
+    a: u8,
+    b: u8,
+    most: u16,
+) -> bool
+    requires row { length claims.now ≡ pair_count rule.now }
+    requires pair { pair < pair_count rule.now }
+    requires first { a < rule.now.states }
+    requires second { b < rule.now.states }
+    ensures { IsTrue result ↔ FallsBy side rule.now claims.now pair most a b }
+{
+    match rule.follow(side, pair, a, b) {
+        Some(next) => claims_below(claims, next, most),
+        None => true,
+    }
 }
 
 /// Whether a number below `most` is claimed of a pair.

@@ -5,6 +5,7 @@ ghost use Rattle.cert_check.specs.Sets.{HasPart};
 ghost use Rattle.cert_check.specs.Rows.{IsMarked, AreMarked, AreKept, without};
 
 use cert_format::CertVersion;
+use word_image::MOST_NODES;
 
 /// A row for each 16 of the 65,536 sets.
 const ROWS: usize = 4096;
@@ -65,7 +66,7 @@ impl Marks {
     fn has_without_one(&self, set: u16) -> bool
         ensures { IsTrue result ↔ ((n : ℕ) × (n < 16) × IsMarked self.now.rows (without set n)) }
     {
-        for node in 0..16u16 {
+        for node in 0..MOST_NODES as u16 {
             if self.has(set & !(1u16 << node)) {
                 return true;
             }

@@ -5,11 +5,11 @@ ghost use Rattle.word_image.specs.Graphs.{pair_count};
 ghost use Rattle.cert_check.specs.Checks.{IsChecked, FirstBreach};
 ghost use Rattle.cert_check.specs.Claims.{IsWindowPair};
 
-use crate::claims::claims_below;
+use crate::claims::{claims_below, claims_on};
 use crate::conditions::Condition;
 use crate::refusal::Refusal;
 use cert_format::{Cert, InjectivePart};
-use word_image::Rule;
+use word_image::{Rule, Side};
 
 /// Whether the claims of ranks determine the letter of the window; else the first pair whose claims don't.
 pub fn window_claims(cert: &Cert) -> Result<(), Refusal>
@@ -18,7 +18,7 @@ pub fn window_claims(cert: &Cert) -> Result<(), Refusal>
     let InjectivePart::Window { n, c } = &cert.injective else {
         return Ok(());
     };
-    let (forward, backward) = (cert.forward.as_slice(), cert.backward.as_slice());
+    let (forward, backward) = (claims_on(cert, Side::Right), claims_on(cert, Side::Left));
     match first_not_told(&cert.rule, forward, backward, *n, *c) {
         Some(pair) => Err(Refusal::Window(pair)),
         None => Ok(()),

@@ -1,17 +1,11 @@
-use Rattle.std.proofs.Common.{◌≡◌, ℕ, sym, ap, subst, ◌∙◌}
+use Rattle.std.proofs.Common.{◌≡◌, sym, ap, subst, ◌∙◌}
 use Rattle.std.proofs.lemmas.Bool.{false≢true}
-use Rattle.word_image.specs.LocalRules.{LocalRule}
 use Rattle.word_image.specs.Graphs.{first_of, second_of}
 use Rattle.word_image.specs.declared.side.Side.{Side}
 use Rattle.cert_check.specs.SideWindows.{rest_of}
 use Rattle.cert_check.proofs.laws.FirstPairs.{HaveOneLabel, DifferAtEnd, IsFirstOf-differ, DifferAtEnd-first}
 use Rattle.cert_check.proofs.aheads.is_first.Goals as goal
 use Rattle.cert_check.proofs.aheads.is_first.Goals.{then-u-v-via-then-u-v, then-u-v-via-else-u-v+then-rest_of}
-
--- what is so of two nodes and a side is so of these
-same_nodes : (r : LocalRule) {s t : Side} {u v x y : ℕ} → s ≡ t → u ≡ x → v ≡ y → HaveOneLabel s r u v → HaveOneLabel t r x y
-same_nodes r {s} {t} {u} {v} {x} {y} side first second h =
-    subst (λ (z : Side). HaveOneLabel z r x y) side (subst (λ z. HaveOneLabel s r z y) first (subst (λ z. HaveOneLabel s r u z) second h))
 
 pub returns-then-u-v : goal.returns-then-u-v
 returns-then-u-v c =
@@ -36,6 +30,6 @@ returns c =
     let rest : rest_of c.args.side r (first_of r p) ≡ rest_of c.args.side r (second_of r p) =
     ap (rest_of c.args.side r) (sym nodes.first) ∙ sym c.rest_of.ensures ∙ c.if-rest_of.false ∙ c.rest_of-else-u-v.ensures ∙ ap (rest_of c.args.side r) nodes.second in (
       λ yes. IsFirstOf-differ c.args.side p nodes.rule c.requires
-          (λ e. c.if-u-v.false (nodes.first ∙ e ∙ sym nodes.second), rest, same_nodes r c.other.ensures nodes.first nodes.second (c.some_label.ensures.0 yes)),
-      λ f. c.some_label.ensures.1 (same_nodes r (sym c.other.ensures) (sym nodes.first) (sym nodes.second) (DifferAtEnd-first c.args.side p nodes.rule f).2),
+          (λ e. c.if-u-v.false (nodes.first ∙ e ∙ sym nodes.second), rest, subst (λ (s : Side). HaveOneLabel s r (first_of r p) (second_of r p)) c.other.ensures (c.some_label.ensures.0 yes)),
+      λ f. c.some_label.ensures.1 (subst (λ (s : Side). HaveOneLabel s r (first_of r p) (second_of r p)) (sym c.other.ensures) (DifferAtEnd-first c.args.side p nodes.rule f).2),
     )

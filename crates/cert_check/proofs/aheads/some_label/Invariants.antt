@@ -1,8 +1,8 @@
-use Rattle.std.proofs.Common.{◌≢◌, ℕ, ◌<◌, slice_index}
-use Rattle.word_image.specs.Sides.{window_with}
+use Rattle.std.proofs.Common.{◌≢◌, ℕ, ◌<◌}
+use Rattle.word_image.specs.Graphs.{first_of, second_of}
+use Rattle.word_image.specs.Edges.{label_at}
 use Rattle.cert_check.proofs.aheads.some_label.Given as goal
 
 -- no letter so far makes windows with one label
 abbrev pub invariant-loop-letter : goal.invariant-loop-letter
-invariant-loop-letter l =
-    (a : ℕ) → a < l.letter → slice_index l.rule.table (window_with l.side l.rule l.u a) ≢ slice_index l.rule.table (window_with l.side l.rule l.v a)
+invariant-loop-letter l = (a : ℕ) → a < l.letter → label_at l.side l.rule (first_of l.rule l.pair) a ≢ label_at l.side l.rule (second_of l.rule l.pair) a

@@ -1,4 +1,4 @@
-use Rattle.std.proofs.Common.{ℕ, List, Option, sym, ap, subst}
+use Rattle.std.proofs.Common.{ℕ, List, Option, sym, ap, subst, subst₂, ◌∙◌}
 use Rattle.word_image.specs.Graphs.{pair_count}
 use Rattle.cert_format.specs.Certificates.{Certificate}
 use Rattle.cert_format.specs.Parts.{injective_of}
@@ -16,16 +16,16 @@ pub returns-in-Some : goal.returns-in-Some
 returns-in-Some c =
     let r = c.cert.inside.rule in
     let Breach = λ (forward backward : List (Option ℕ)). IsFirstBreach (pair_count r) (IsWindowPair r forward backward c.in-Window.n c.in-Window.c) c.in-Some.pair in
+    let view = sym c.cert.view_is in
     subst (λ (z : Certificate). IsBreach z WindowClaims (refusal.Window c.in-Some.pair)) c.cert.view_is
     (NoWindow c.in-Window.n c.in-Window.c c.in-Some.pair (ap injective_of c.in-Window.is)
-    (subst (λ (row : List (Option ℕ)). Breach row c.cert.inside.backward) c.as_slice-forward.ensures
-    (subst (λ (row : List (Option ℕ)). Breach c.as_slice-forward.result.now row) c.as_slice-backward.ensures c.in-Some.ensures)))
+    (subst₂ Breach (c.claims_on-forward.ensures.row ∙ ap (λ (z : Certificate). z.forward) view) (c.claims_on-backward.ensures.row ∙ ap (λ (z : Certificate). z.backward) view) c.in-Some.ensures))
 
 pub returns-in-None : goal.returns-in-None
 returns-in-None c =
     let r = c.cert.inside.rule in
     let Each = λ (forward backward : List (Option ℕ)). EachBelow (pair_count r) (IsWindowPair r forward backward c.in-Window.n c.in-Window.c) in
+    let view = sym c.cert.view_is in
     subst (λ (z : Certificate). Holds z WindowClaims) c.cert.view_is
     (subst (λ (s : InjectivePart). OfWindow (injective_of s) (λ n at. EachBelow (pair_count r) (IsWindowPair r c.cert.inside.forward c.cert.inside.backward n at))) (sym c.in-Window.is)
-    (subst (λ (row : List (Option ℕ)). Each row c.cert.inside.backward) c.as_slice-forward.ensures
-    (subst (λ (row : List (Option ℕ)). Each c.as_slice-forward.result.now row) c.as_slice-backward.ensures c.in-None.ensures)))
+    (subst₂ Each (c.claims_on-forward.ensures.row ∙ ap (λ (z : Certificate). z.forward) view) (c.claims_on-backward.ensures.row ∙ ap (λ (z : Certificate). z.backward) view) c.in-None.ensures))
