@@ -15,7 +15,8 @@ use Rattle.word_image.specs.Words.{word_cmp}
 use Rattle.word_image.proofs.laws.Comparisons.{pairs_cmp_total}
 use Rattle.tail_config.specs.Tails.{TailConfig}
 use Rattle.tail_config.specs.Splits.{splits_cmp}
-use Rattle.tail_preimage.proofs.laws.Orders.{then_equal, slice_cmp-equal, tied}
+use Rattle.tail_preimage.proofs.laws.Orders.{slice_cmp-equal, tied}
+use Rattle.word_image.proofs.laws.Orders.{then_equal}
 
 -- words are in a total order
 pub word_cmp_total : IsTotalOrder word_cmp

@@ -1,7 +1,7 @@
 -- Steps and nodes on a side of the line, by their numbers.
 use Rattle.std.specs.Prelude.{◌≡◌, ℕ, List, Option, Some, ◌-◌, ◌/◌, ◌%◌, ◌^◌}
 use Rattle.word_image.specs.LocalRules.{LocalRule}
-use Rattle.word_image.specs.Edges.{follow_on}
+use Rattle.word_image.specs.Graphs.{follow_on}
 use Rattle.word_image.specs.declared.side.Side.{Side}
 use Rattle.cert_check.specs.Claims.{IsBelow}
 use Rattle.word_image.specs.declared.side.Side.TheVariants.{Right, Left}

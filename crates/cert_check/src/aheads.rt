@@ -3,7 +3,7 @@
 ghost use Rattle.std.specs.Prelude.{◌≡◌, ◌↔◌, ◌<◌, ◌≤◌, ℕ, length, IsTrue};
 ghost use Rattle.word_image.specs.Graphs.{first_of, second_of, pair_count};
 ghost use Rattle.cert_check.specs.Checks.{IsChecked, FirstBreach};
-ghost use Rattle.word_image.specs.Edges.{label_at};
+ghost use Rattle.word_image.specs.Ends.{label_at};
 ghost use Rattle.word_image.specs.FirstPairs.{IsFirstOf};
 ghost use Rattle.cert_format.specs.Certificates.{IsSideShape};
 ghost use Rattle.cert_format.specs.Parts.{side_of, IsOver};

@@ -1,5 +1,5 @@
 -- What a certificate of a rule says, and the limits of each part.
-use Rattle.std.specs.Prelude.{◌≡◌, ℕ, ◌+◌, ◌-◌, ◌^◌, ◌<◌, ◌≤◌, List, length, Option, Some, None, All, pos, negsuc, ◌≤ℤ◌, ⊤, true}
+use Rattle.std.specs.Prelude.{◌≡◌, ℕ, ◌+◌, ◌-◌, ◌^◌, ◌<◌, ◌≤◌, List, length, Option, Some, None, All, pos, negsuc, ◌≤ℤ◌, ⊤, true, ℤ}
 use Rattle.word_image.specs.LocalRules.{LocalRule, IsWord, node_count}
 use Rattle.word_image.specs.Graphs.{pair_count}
 use Rattle.tail_config.specs.TailTexts.{IsShortTail}
@@ -38,9 +38,13 @@ abbrev pub IsSideShape : LocalRule → SideEvidence → Type 0
 IsSideShape r (Ahead n) = (1 ≤ n) × (n ≤ 65535)
 IsSideShape r (Split x y) = IsShortTail r.states x × IsShortTail r.states y
 
+-- at most a million either way
+abbrev pub IsNear : ℤ → Type 0
+IsNear z = (negsuc 999999 ≤ℤ z) × (z ≤ℤ pos 1000000)
+
 -- a number for each node, or a word
 abbrev pub IsSumShape : LocalRule → SumEvidence → Type 0
-IsSumShape r (Flux phi) = (length phi ≡ node_count r) × All (λ z. (negsuc 999999 ≤ℤ z) × (z ≤ℤ pos 1000000)) phi
+IsSumShape r (Flux phi) = (length phi ≡ node_count r) × All IsNear phi
 IsSumShape r (Ring p) = IsWord r.states p
 
 -- a claim is nothing or a number of sixteen bits

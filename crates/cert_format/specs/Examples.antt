@@ -15,8 +15,8 @@ use Rattle.cert_format.specs.Evidence.SumEvidence.{Flux, Ring}
 use Rattle.cert_format.specs.WrittenTexts.{certificate_text}
 
 -- a rule of two states and width 2, whose windows begin at the cell
-abbrev rule_of : List ℕ → LocalRule
-rule_of table = record { states = 2; width = 2; offset = pos 0; table = table }
+abbrev two_state_rule : List ℕ → LocalRule
+two_state_rule table = record { states = 2; width = 2; offset = pos 0; table = table }
 
 -- no claim for any of four pairs
 abbrev no_claims : List (Option ℕ)
@@ -27,7 +27,7 @@ no_claims = None ∷ None ∷ None ∷ None ∷ []
 abbrev shift_with : CertVersion → List ℤ → List ℕ → Certificate
 shift_with version flux weights = record {
   version = version;
-  rule = rule_of (0 ∷ 1 ∷ 0 ∷ 1 ∷ []);
+  rule = two_state_rule (0 ∷ 1 ∷ 0 ∷ 1 ∷ []);
   surjective = Sets (3 ∷ 1 ∷ 2 ∷ []);
   injective = Window 1 1;
   right = Ahead 1;
@@ -38,19 +38,19 @@ shift_with version flux weights = record {
   backward = None ∷ Some 0 ∷ Some 0 ∷ None ∷ [];
 }
 
-abbrev shift : Certificate
-shift = shift_with One (pos 0 ∷ negsuc 0 ∷ []) (0 ∷ 1 ∷ [])
+abbrev shift_cert : Certificate
+shift_cert = shift_with One (pos 0 ∷ negsuc 0 ∷ []) (0 ∷ 1 ∷ [])
 
-certificate_text-shift : certificate_text shift ≡ codes "{\"conserving\":{\"flux\":[0,-1]},\"injective\":{\"c\":1,\"n\":1},\"left\":{\"ahead\":2},\"ranks\":{\"backward\":[null,0,0,null],\"forward\":[null,null,null,null]},\"right\":{\"ahead\":1},\"rule\":\"2:2:0:t0101\",\"surjective\":{\"sets\":[3,1,2]},\"version\":1}"
+certificate_text-shift : certificate_text shift_cert ≡ codes "{\"conserving\":{\"flux\":[0,-1]},\"injective\":{\"c\":1,\"n\":1},\"left\":{\"ahead\":2},\"ranks\":{\"backward\":[null,0,0,null],\"forward\":[null,null,null,null]},\"right\":{\"ahead\":1},\"rule\":\"2:2:0:t0101\",\"surjective\":{\"sets\":[3,1,2]},\"version\":1}"
 unfolding digits serde_json_on_literals
 certificate_text-shift = refl
 
 -- both cells are 1
 
-abbrev both : Certificate
-both = record {
+abbrev both_cert : Certificate
+both_cert = record {
   version = One;
-  rule = rule_of (0 ∷ 0 ∷ 0 ∷ 1 ∷ []);
+  rule = two_state_rule (0 ∷ 0 ∷ 0 ∷ 1 ∷ []);
   surjective = Orphan (1 ∷ 0 ∷ 1 ∷ []);
   injective = Twins (0 ∷ 0 ∷ []) (0 ∷ 1 ∷ []);
   right = Split (config_of (0 ∷ []) [] (0 ∷ 0 ∷ [])) (config_of (0 ∷ []) [] (1 ∷ 0 ∷ []));
@@ -61,7 +61,7 @@ both = record {
   backward = no_claims;
 }
 
-certificate_text-both : certificate_text both ≡ codes "{\"conserving\":{\"ring\":\"01\"},\"injective\":{\"twins\":[\"00\",\"01\"]},\"left\":{\"split\":[\"00||0\",\"01||0\"]},\"ranks\":{\"backward\":[null,null,null,null],\"forward\":[null,null,null,null]},\"right\":{\"split\":[\"0||00\",\"0||10\"]},\"rule\":\"2:2:0:t0001\",\"surjective\":{\"orphan\":\"101\"},\"version\":1}"
+certificate_text-both : certificate_text both_cert ≡ codes "{\"conserving\":{\"ring\":\"01\"},\"injective\":{\"twins\":[\"00\",\"01\"]},\"left\":{\"split\":[\"00||0\",\"01||0\"]},\"ranks\":{\"backward\":[null,null,null,null],\"forward\":[null,null,null,null]},\"right\":{\"split\":[\"0||00\",\"0||10\"]},\"rule\":\"2:2:0:t0001\",\"surjective\":{\"orphan\":\"101\"},\"version\":1}"
 unfolding digits serde_json_on_literals
 certificate_text-both = refl
 
@@ -70,7 +70,7 @@ certificate_text-both = refl
 abbrev sum_with : CertVersion → SurjectiveEvidence → Certificate
 sum_with version surjective = record {
   version = version;
-  rule = rule_of (0 ∷ 1 ∷ 1 ∷ 0 ∷ []);
+  rule = two_state_rule (0 ∷ 1 ∷ 1 ∷ 0 ∷ []);
   surjective = surjective;
   injective = Twins (0 ∷ []) (1 ∷ []);
   right = Ahead 1;

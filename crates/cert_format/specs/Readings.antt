@@ -1,5 +1,5 @@
 -- What reading a certificate and a part of it asks of the bytes and of a JSON value, and its faults.
-use Rattle.std.specs.Prelude.{◌≡◌, ℕ, ◌⊎◌, ◌+◌, ◌-◌, ◌≤◌, length, All, ◌≤ℤ◌, ℤ, pos, negsuc, List, [], ◌∷◌, Option, alloc_error}
+use Rattle.std.specs.Prelude.{◌≡◌, ℕ, ◌⊎◌, ◌+◌, ◌-◌, ◌≤◌, length, All, ℤ, List, [], ◌∷◌, Option, alloc_error}
 use Rattle.serde_json.specs.Data.{Data, null, boolean, number, string, array, object, Members, no_members}
 use Rattle.word_image.specs.LocalRules.{LocalRule, IsWord, node_count}
 use Rattle.word_image.specs.Weights.{AreWeights}
@@ -11,7 +11,7 @@ use Rattle.cert_format.specs.declared.shape_fault.ShapeFault.TheVariants as shap
 use Rattle.cert_format.specs.declared.shape_fault.CertFault.{CertFault}
 use Rattle.cert_format.specs.declared.shape_fault.CertFault.TheVariants as fault
 use Rattle.cert_format.specs.Evidence.{SurjectiveEvidence, InjectiveEvidence, SideEvidence, SumEvidence}
-use Rattle.cert_format.specs.Certificates.{IsSurjectiveShape, IsInjectiveShape, IsSideShape, IsSumShape, IsRankShape, IsClaim}
+use Rattle.cert_format.specs.Certificates.{IsSurjectiveShape, IsInjectiveShape, IsSideShape, IsNear, IsSumShape, IsRankShape, IsClaim}
 use Rattle.cert_format.specs.CertificateTexts.{IsWhole, IsSigned, IsDigits, IsTailString, IsClaimValue, IsArrayOf, IsSurjectiveValue, IsInjectiveValue, IsSideValue, IsSumValue, IsRanksValue}
 use Rattle.cert_format.specs.ShapeFaults.{IsFirstWithout, Passes, part_steps, IsShapeFault}
 use Rattle.cert_format.specs.declared.shape_fault.ShapeFault.{ShapeFault}
@@ -52,10 +52,6 @@ IsShort d n = IsWhole d n × (n ≤ 65535)
 -- null, or a whole number of sixteen bits
 abbrev pub IsRankValue : Data → Option ℕ → Type 0
 IsRankValue d o = IsClaimValue d o × IsClaim o
-
--- at most a million either way
-abbrev pub IsNear : ℤ → Type 0
-IsNear z = (negsuc 999999 ≤ℤ z) × (z ≤ℤ pos 1000000)
 
 -- a signed whole number of that size
 abbrev pub IsFlow : Data → ℤ → Type 0

@@ -6,7 +6,7 @@ use Rattle.std.specs.Int.Bits.{and_self}
 use Rattle.std.proofs.lemmas.Bool.{cases_eq, ne_eqb, eqb-true, eqb-false, and_parts, not-true}
 use Rattle.std.proofs.lemmas.Nat.{and_le_r}
 use Rattle.std.proofs.lemmas.List.Elements.{All-filter, All-contains_itself}
-use Rattle.std.proofs.lemmas.List.Folds.{Any-from_list_any}
+use Rattle.cert_format.proofs.laws.Objects.{some_passes}
 use Rattle.word_image.specs.Families.{is_subset, is_cover, covers_of}
 use Rattle.cert_check.proofs.laws.Parts.{part-of_part}
 
@@ -39,10 +39,6 @@ pub record HasCover (full : ℕ) (sets : List ℕ) (set : ℕ) : Type 0 where
   pub listed : Contains (covers_of full sets) cover
   pub part : bit_and cover set ≡ cover
 
--- an element that passes
-found : (p : ℕ → Bool) (sets : List ℕ) → list_any p sets ≡ true → (t : ℕ) × Contains sets t × (p t ≡ true)
-found p sets any = let h = Any-from_list_any p sets any in (h.1, (h.0, h.2, h.3), h.4)
-
 -- `HasCover-listed` for the sets below n
 cover_below : (full : ℕ) (sets : List ℕ) (n set : ℕ) → set < n → Contains sets set → HasCover full sets set
 cover_below full sets zero set l there = absurd (omega arith)
@@ -51,7 +47,7 @@ cover_below full sets (suc n) set l there =
     (λ same. record { cover = full; listed = (zero, omega arith, refl); part = ap (bit_and full) same ∙ and_self full })
     (λ other. elim (list_any (λ t. not (t == set) && is_subset t set) sets) as (λ b. list_any (λ t. not (t == set) && is_subset t set) sets ≡ b → HasCover full sets set) [
       | true ↦ (λ any.
-          let h = found (λ t. not (t == set) && is_subset t set) sets any in
+          let h = some_passes (λ t. not (t == set) && is_subset t set) sets any in
           let parts = and_parts (not (h.0 == set)) (is_subset h.0 set) h.2 in
           let part : bit_and h.0 set ≡ h.0 = eqb-true (bit_and h.0 set) h.0 parts.1 in
           let apart : h.0 ≢ set = eqb-false h.0 set (not-true (h.0 == set) parts.0) in

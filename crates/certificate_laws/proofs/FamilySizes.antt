@@ -16,17 +16,17 @@ use Rattle.certificate_laws.proofs.MetConditions.{IsLastSet-each}
 use Rattle.certificate_laws.proofs.CoverLists.{length-covers}
 
 -- each word of the list is one over k letters
-abbrev AreWords : ℕ → List (List ℕ) → Type 0
-AreWords k ws = (i : ℕ) → i < length ws → IsWord k (get_or ws i [])
+abbrev AllWords : ℕ → List (List ℕ) → Type 0
+AllWords k ws = (i : ℕ) → i < length ws → IsWord k (get_or ws i [])
 
 -- in ascending words the next one has a greater number
-word_number-next : {k : ℕ} (ws : List (List ℕ)) → IsAscending ws → AreWords k ws → (i : ℕ) → i + 1 < length ws → word_number k (get_or ws i []) < word_number k (get_or ws (i + 1) [])
+word_number-next : {k : ℕ} (ws : List (List ℕ)) → IsAscending ws → AllWords k ws → (i : ℕ) → i + 1 < length ws → word_number k (get_or ws i []) < word_number k (get_or ws (i + 1) [])
 word_number-next {k} ws ascending words i l =
     word_number-less k (get_or ws i []) (get_or ws (i + 1) []) (words i (omega arith)) (words (i + 1) l)
     (ascending i (get_or ws i []) (get_or ws (i + 1) []) (slice_get-get_or ws i [] (omega arith)) (slice_get-get_or ws (i + 1) [] l))
 
 -- and so has each later one
-word_number-later : {k : ℕ} (ws : List (List ℕ)) → IsAscending ws → AreWords k ws → (i g j : ℕ) → i + g + 1 ≡ j → j < length ws → word_number k (get_or ws i []) < word_number k (get_or ws j [])
+word_number-later : {k : ℕ} (ws : List (List ℕ)) → IsAscending ws → AllWords k ws → (i g j : ℕ) → i + g + 1 ≡ j → j < length ws → word_number k (get_or ws i []) < word_number k (get_or ws j [])
 word_number-later {k} ws ascending words i zero j e l =
     let place : i + 1 ≡ j = omega arith in
     subst (λ (n : ℕ). word_number k (get_or ws i []) < word_number k (get_or ws n [])) place (word_number-next ws ascending words i (omega arith))

@@ -24,13 +24,12 @@ use Rattle.ring_laws.proofs.Gains.{gain}
 use Rattle.ring_laws.proofs.FluxWalks.{zeros, length-zeros, walk_gain, IsFlux-unique}
 use Rattle.cert_format.specs.declared.cert_version.CertVersion.{CertVersion}
 use Rattle.cert_format.specs.Evidence.{SurjectiveEvidence, InjectiveEvidence, SumEvidence}
-use Rattle.cert_format.specs.Certificates.{IsSurjectiveShape, IsInjectiveShape, IsSideShape, IsSumShape, IsClaim, IsRankShape}
+use Rattle.cert_format.specs.Certificates.{IsSurjectiveShape, IsInjectiveShape, IsSideShape, IsSumShape, IsClaim, IsRankShape, IsNear}
 use Rattle.cert_format.specs.Evidence.SurjectiveEvidence.{Sets, Pairs, Orphan}
 use Rattle.cert_format.specs.Evidence.InjectiveEvidence.{Window, Twins}
 use Rattle.cert_format.specs.Evidence.SideEvidence.{Ahead}
 use Rattle.cert_format.specs.Evidence.SumEvidence.{Flux, Ring}
 use Rattle.cert_format.specs.Versions.{lists_pairs}
-use Rattle.cert_format.specs.Readings.{IsNear}
 use Rattle.cert_check.proofs.laws.ExactEvidence.{Contains-full}
 use Rattle.certificate_laws.specs.LeastEvidence.{IsOrphanPart, IsInjectivePart, IsConservingPart}
 use Rattle.certificate_laws.specs.WrittenCertificates.{orphan_of, IsListPart, IsRankRow}

@@ -11,7 +11,7 @@ use Rattle.pair_laws.proofs.Edges.{rest_count_pos, next-digits}
 use Rattle.pair_laws.proofs.Pairs.{first_of-pair_of, second_of-pair_of, pair_of-below, pair_of-first_of, first_of-below, second_of-below}
 use Rattle.word_image.specs.declared.side.Side.{Side}
 use Rattle.word_image.specs.declared.side.Side.TheVariants.{Right, Left}
-use Rattle.word_image.specs.Sides.{end_node}
+use Rattle.word_image.specs.Ends.{end_node}
 use Rattle.closing_test.specs.Sides.{with_end, end_pair, AreFirst}
 
 -- two windows that differ in their last letter alone lead to a first pair of the right

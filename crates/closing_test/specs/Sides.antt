@@ -4,7 +4,8 @@ use Rattle.word_image.specs.LocalRules.{LocalRule, node_count}
 use Rattle.word_image.specs.Graphs.{pair_of}
 use Rattle.word_image.specs.declared.side.Side.{Side}
 use Rattle.word_image.specs.declared.side.Side.TheVariants.{Right, Left}
-use Rattle.word_image.specs.Sides.{other, window_with, end_node}
+use Rattle.word_image.specs.Sides.{other}
+use Rattle.word_image.specs.Ends.{window_with, end_node}
 use Rattle.tail_config.specs.Tails.{IsRightClosing, IsLeftClosing}
 
 -- the window with this letter at its end

@@ -1,6 +1,6 @@
 //! The graph, with its tables.
 
-ghost use Rattle.std.specs.Prelude.{◌≡◌, ◌^◌, ◌<◌, ℕ, List, [], ◌∷◌, ◌++◌, slice_index, IsBitSet};
+ghost use Rattle.std.specs.Prelude.{◌≡◌, ◌<◌, ℕ, List, [], ◌∷◌, ◌++◌, IsBitSet};
 ghost use Rattle.word_image.specs.LocalRules.{IsRule, node_count};
 
 use std::marker::Model;
@@ -29,7 +29,7 @@ impl Model for Graph {
 }
 
 impl Graph {
-    ghost use Rattle.word_image.specs.Graphs.{next, label, full_set, IsNodeSet};
+    ghost use Rattle.word_image.specs.Graphs.{next, label, full_set, IsNodeSet, HasBit, AreSets};
     ghost use Rattle.word_image.specs.Ranks.{IsLastSet};
     ghost use Rattle.word_image.specs.Edges.{AreEdgeRows, IsEnds, IsStep};
 
@@ -123,8 +123,8 @@ impl Graph {
 
     /// The nodes to which a node of the set is related, where row u is the set of those to which node u is.
     pub fn after(&self, rows: &[u16; MOST_NODES], set: u16) -> u16
-        requires { (u : ℕ) → u < node_count self.now → slice_index rows.now u < 2 ^ node_count self.now }
-        ensures { IsNodeSet self.now (λ v. (u : ℕ) × (u < node_count self.now) × (IsBitSet set u × IsBitSet (slice_index rows.now u) v)) result }
+        requires { AreSets self.now rows.now }
+        ensures { IsNodeSet self.now (λ v. (u : ℕ) × (u < node_count self.now) × (IsBitSet set u × HasBit rows.now u v)) result }
     {
         let mut after = 0;
         for u in 0..self.nodes() {

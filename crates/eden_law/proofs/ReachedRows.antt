@@ -5,7 +5,7 @@ use Rattle.std.proofs.lemmas.List.{length-set}
 use Rattle.std.proofs.lemmas.Nat.{le_or_l, or_lt}
 use Rattle.word_image.specs.LocalRules.{LocalRule, IsRule, node_count}
 use Rattle.word_image.specs.Words.{IsSurjective}
-use Rattle.word_image.specs.Graphs.{next, label, pair_of, first_of, second_of, pair_count}
+use Rattle.word_image.specs.Graphs.{next, label, pair_of, first_of, second_of, pair_count, HasBit}
 use Rattle.word_image.proofs.laws.Bits.{IsBitSet-zero}
 use Rattle.word_image.proofs.laws.Graphs.{next-below}
 use Rattle.pair_laws.proofs.Edges.{next-digits}
@@ -17,7 +17,7 @@ use Rattle.word_image.specs.declared.side.Side.TheVariants.{Right}
 use Rattle.eden_laws.specs.ReachedPairs.{IsReached}
 use Rattle.eden_laws.specs.ReachedPairs.IsReached.{First, On}
 use Rattle.eden_laws.proofs.ReachedPairs.{IsSurjective-reached, IsReached-below, holds-reached}
-use Rattle.eden_law.specs.ReachedRows.{InRows, LeadsApart, LeadsBeside, AreNodeRows, AreAdded, IsRowSearch}
+use Rattle.eden_law.specs.ReachedRows.{LeadsApart, LeadsBeside, AreNodeRows, AreAdded, IsRowSearch}
 
 -- with no letter nothing is added
 pub AreAdded-start : {r : LocalRule} {node : ℕ} (Has : ℕ → ℕ → Type 0) {rows : List ℕ} → AreNodeRows r rows → AreAdded r node Has 0 rows rows
@@ -65,8 +65,8 @@ AreAdded-step {r} {node} {n} {Has} {old} {new} rule i set h at small has =
     }
 
 -- what was found stays
-pub InRows-added : {r : LocalRule} {node n : ℕ} {Has : ℕ → ℕ → Type 0} {old new : List ℕ} → AreAdded r node Has n old new → (u v : ℕ) → u < node_count r → v < node_count r → InRows old u v → InRows new u v
-InRows-added h u v hu hv old = (h.pairs u v hu hv).1 (inl old)
+pub HasBit-added : {r : LocalRule} {node n : ℕ} {Has : ℕ → ℕ → Type 0} {old new : List ℕ} → AreAdded r node Has n old new → (u v : ℕ) → u < node_count r → v < node_count r → HasBit old u v → HasBit new u v
+HasBit-added h u v hu hv old = (h.pairs u v hu hv).1 (inl old)
 
 -- two letters lead from one node to one node only if they are one
 pub next-injective : {r : LocalRule} → IsRule r → (u a b : ℕ) → a < r.states → b < r.states → next r u a ≡ next r u b → a ≡ b
@@ -109,7 +109,7 @@ LeadsBeside-set r node set a label_a others labelled h v hv = (
 -- at the beginning nothing was found
 pub IsRowSearch-start : {r : LocalRule} {rows : List ℕ} → AreNodeRows r rows → ((u : ℕ) → u < node_count r → slice_index rows u ≡ 0) → IsRowSearch r rows rows
 IsRowSearch-start {r} {rows} h none =
-    let empty : (u v : ℕ) → u < node_count r → ¬ InRows rows u v = λ u v hu some. IsBitSet-zero v (subst (λ x. IsBitSet x v) (none u hu) some) in
+    let empty : (u v : ℕ) → u < node_count r → ¬ HasBit rows u v = λ u v hu some. IsBitSet-zero v (subst (λ x. IsBitSet x v) (none u hu) some) in
     record {
       rows = h;
       long = h.long;
@@ -144,7 +144,7 @@ IsRowSearch-firsts {r} {node} rule inside h added = record {
       (h.apart u hu)
       (λ (a, ha, e, leads). leads.different (next-injective rule node a leads.b ha leads.letter (e ∙ sym leads.leads)))
       ((added.pairs u u hu hu).0 some);
-  steps = λ u v a b hu hv some ha hb e. InRows-added added (next r u a) (next r v b) (next-below rule u a) (next-below rule v b) (h.steps u v a b hu hv some ha hb e);
+  steps = λ u v a b hu hv some ha hb e. HasBit-added added (next r u a) (next r v b) (next-below rule u a) (next-below rule v b) (h.steps u v a b hu hv some ha hb e);
 }
 
 -- a step from what was found is reached
@@ -192,7 +192,7 @@ IsRowSearch-steps {r} {node} {found} {followed} {new} rule inside h added none =
               leads = refl;
             },
           )))
-          (λ there. InRows-added added (next r u a) (next r v b) (next-below rule u a) (next-below rule v b) (h.steps u v a b hu hv (subst (λ x. IsBitSet x v) there.1 some) ha hb e))
+          (λ there. HasBit-added added (next r u a) (next r v b) (next-below rule u a) (next-below rule v b) (h.steps u v a b hu hv (subst (λ x. IsBitSet x v) there.1 some) ha hb e))
           (written u);
     }
 
@@ -206,7 +206,7 @@ not_surjective-beside {r} {node} rule inside h (a, ha, leads) every =
 
 -- the first pairs of the first n nodes are in the rows
 abbrev pub HasFirsts : LocalRule → ℕ → List ℕ → Type 0
-HasFirsts r n rows = (u a b : ℕ) → u < n → a < r.states → b < r.states → a ≢ b → label r u a ≡ label r u b → InRows rows (next r u a) (next r u b)
+HasFirsts r n rows = (u a b : ℕ) → u < n → a < r.states → b < r.states → a ≢ b → label r u a ≡ label r u b → HasBit rows (next r u a) (next r u b)
 
 -- and those of one node more
 pub HasFirsts-added : {r : LocalRule} {node : ℕ} {found new : List ℕ} → IsRule r → HasFirsts r node found → AreAdded r node (LeadsApart r node) r.states found new → HasFirsts r (node + 1) new
@@ -222,16 +222,16 @@ HasFirsts-added {r} {node} {found} {new} rule firsts added u a b hu ha hb other 
       ap (λ i. next r i a) (sym last),
       record { b = b; letter = hb; different = other; one_label = ap (λ i. label r i a) (sym last) ∙ e ∙ ap (λ i. label r i b) last; leads = ap (λ i. next r i b) (sym last) },
     )))
-    (λ less. InRows-added added v w hv hw (firsts u a b (omega (arith, hu, less)) ha hb other e))
+    (λ less. HasBit-added added v w hv hw (firsts u a b (omega (arith, hu, less)) ha hb other e))
     (cases_eq u node)
 
 -- once the first pairs of all nodes were found, and all steps from what was found were followed, it is
 pub IsSurjective-rows : {r : LocalRule} {found followed : List ℕ} → IsRule r → IsRowSearch r found followed → ((u : ℕ) → u < node_count r → slice_index followed u ≡ slice_index found u)
     → HasFirsts r (node_count r) found → IsSurjective r
 IsSurjective-rows {r} {found} {followed} rule h all firsts =
-    let Has : ℕ → Type 0 = λ p. InRows found (first_of r p) (second_of r p) in
-    let pair : (u v : ℕ) → v < node_count r → InRows found u v → Has (pair_of r u v) = λ u v hv some.
-    subst₂ (InRows found) (sym (first_of-pair_of r u v hv)) (sym (second_of-pair_of r u v hv)) some in
+    let Has : ℕ → Type 0 = λ p. HasBit found (first_of r p) (second_of r p) in
+    let pair : (u v : ℕ) → v < node_count r → HasBit found u v → Has (pair_of r u v) = λ u v hv some.
+    subst₂ (HasBit found) (sym (first_of-pair_of r u v hv)) (sym (second_of-pair_of r u v hv)) some in
     let has : (p : ℕ) → IsReached r p → (p < pair_count r) × Has p = λ p reached. holds-reached (λ p. (p < pair_count r) × Has p)
     (λ q first. (
       IsReached-below rule (First q first),
@@ -251,4 +251,4 @@ IsSurjective-rows {r} {found} {followed} rule h all firsts =
     (IsSurjective-reached rule).1 (λ p reached same.
     let here = has p reached in
     let u : ℕ = first_of r p in
-    h.apart u (first_of-below rule p here.0) (subst (InRows found u) (sym same) here.1))
+    h.apart u (first_of-below rule p here.0) (subst (HasBit found u) (sym same) here.1))

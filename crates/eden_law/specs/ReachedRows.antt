@@ -1,12 +1,8 @@
 -- Sets of pairs of nodes as rows: for each node u the set of the nodes v whose pair with u is in it, as a number in which node v is bit v.
-use Rattle.std.specs.Prelude.{◌≡◌, ◌≢◌, ℕ, ◌^◌, ◌<◌, ◌≤◌, ◌⊎◌, ◌↔◌, List, length, slice_index, IsBitSet}
+use Rattle.std.specs.Prelude.{◌≡◌, ◌≢◌, ℕ, ◌<◌, ◌≤◌, ◌⊎◌, ◌↔◌, List, length, slice_index, IsBitSet}
 use Rattle.word_image.specs.LocalRules.{LocalRule, node_count}
-use Rattle.word_image.specs.Graphs.{next, label, pair_of}
+use Rattle.word_image.specs.Graphs.{next, label, pair_of, HasBit, AreSets}
 use Rattle.eden_laws.specs.ReachedPairs.{IsReached}
-
--- the pair of u and v is in the rows
-abbrev pub InRows : List ℕ → ℕ → ℕ → Type 0
-InRows rows u v = IsBitSet (slice_index rows u) v
 
 -- another letter leads from the node to v, with the label of a
 pub record LeadsApart (r : LocalRule) (node a v : ℕ) : Type 0 where
@@ -29,19 +25,19 @@ pub record LeadsBeside (r : LocalRule) (node set a v : ℕ) : Type 0 where
 -- rows of sets of nodes
 pub record AreNodeRows (r : LocalRule) (rows : List ℕ) : Type 0 where
   pub long : length rows ≡ 16
-  pub within : (u : ℕ) → u < node_count r → slice_index rows u < 2 ^ node_count r
+  pub within : AreSets r rows
 
 -- the pairs of where the first n letters lead from the node, each with what it has, were added
 pub record AreAdded (r : LocalRule) (node : ℕ) (Has : ℕ → ℕ → Type 0) (n : ℕ) (old new : List ℕ) : Type 0 where
   pub rows : AreNodeRows r new
   pub grown : (u : ℕ) → u < node_count r → slice_index old u ≤ slice_index new u
-  pub pairs : (u v : ℕ) → u < node_count r → v < node_count r → (InRows new u v ↔ (InRows old u v ⊎ ((a : ℕ) × (a < n) × (next r node a ≡ u) × Has a v)))
+  pub pairs : (u v : ℕ) → u < node_count r → v < node_count r → (HasBit new u v ↔ (HasBit old u v ⊎ ((a : ℕ) × (a < n) × (next r node a ≡ u) × Has a v)))
 
 -- all that was found is reached and has two different nodes, and the steps from what was followed lead to what was found
 pub record IsRowSearch (r : LocalRule) (found followed : List ℕ) : Type 0 where
   pub rows : AreNodeRows r found
   pub long : length followed ≡ 16
   pub behind : (u : ℕ) → u < node_count r → slice_index followed u ≤ slice_index found u
-  pub reached : (u v : ℕ) → u < node_count r → v < node_count r → InRows found u v → IsReached r (pair_of r u v)
-  pub apart : (u : ℕ) → u < node_count r → ¬ InRows found u u
-  pub steps : (u v a b : ℕ) → u < node_count r → v < node_count r → InRows followed u v → a < r.states → b < r.states → label r u a ≡ label r v b → InRows found (next r u a) (next r v b)
+  pub reached : (u v : ℕ) → u < node_count r → v < node_count r → HasBit found u v → IsReached r (pair_of r u v)
+  pub apart : (u : ℕ) → u < node_count r → ¬ HasBit found u u
+  pub steps : (u v a b : ℕ) → u < node_count r → v < node_count r → HasBit followed u v → a < r.states → b < r.states → label r u a ≡ label r v b → HasBit found (next r u a) (next r v b)

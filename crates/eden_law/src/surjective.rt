@@ -1,10 +1,10 @@
 //! Whether a rule is surjective, by the pairs that are reached, as rows of sets of nodes.
 ghost use Rattle.std.specs.Prelude.{◌≡◌, ◌≢◌, ◌^◌, ◌<◌, ◌≤◌, ◌↔◌, ℕ, IsTrue, IsFalse, MatchOption, slice_index};
 ghost use Rattle.word_image.specs.LocalRules.{node_count};
-ghost use Rattle.word_image.specs.Graphs.{next};
+ghost use Rattle.word_image.specs.Graphs.{next, HasBit};
 ghost use Rattle.word_image.specs.Words.{IsSurjective};
 ghost use Rattle.tail_config.specs.Tails.{IsInjective, IsRightClosing, IsLeftClosing};
-ghost use Rattle.eden_law.specs.ReachedRows.{InRows, LeadsApart, LeadsBeside, AreNodeRows, AreAdded, IsRowSearch};
+ghost use Rattle.eden_law.specs.ReachedRows.{LeadsApart, LeadsBeside, AreNodeRows, AreAdded, IsRowSearch};
 
 use debruijn::Graph;
 use word_image::MOST_NODES;
@@ -50,7 +50,7 @@ fn follow_all(graph: &Graph, found: &mut Rows, followed: &mut Rows) -> bool
     requires { IsRowSearch graph.now found.old followed.old }
     ensures search { IsTrue result → IsRowSearch graph.now found.new followed.new }
     ensures all { IsTrue result → (u : ℕ) → u < node_count graph.now → slice_index followed.new u ≡ slice_index found.new u }
-    ensures kept { IsTrue result → (u v : ℕ) → u < node_count graph.now → v < node_count graph.now → InRows found.old u v → InRows found.new u v }
+    ensures kept { IsTrue result → (u v : ℕ) → u < node_count graph.now → v < node_count graph.now → HasBit found.old u v → HasBit found.new u v }
     ensures meets { IsFalse result → ¬ IsSurjective graph.now }
 {
     while let Some(node) = open_row(graph.nodes(), found, followed) {

@@ -11,11 +11,10 @@ use Rattle.word_image.proofs.laws.Values.{value-below, value-injective, value-wo
 use Rattle.word_image.proofs.laws.Words.{IsWord-image, length-image}
 use Rattle.word_image.proofs.laws.Images.{image-take, image-drop}
 use Rattle.word_image.proofs.laws.Graphs.{node_count_pos}
-use Rattle.word_image.proofs.laws.Searches.{twice_below}
+use Rattle.word_image.proofs.laws.Searches.{twice_below, but, but_there, but_else}
 use Rattle.eden_laws.specs.Preimages.{HasPreimages, IsBalanced}
 use Rattle.eden_laws.proofs.Powers.{power-outgrows}
 use Rattle.eden_laws.proofs.Blocks.{blocks, length-blocks, spread, spread-blocks, last-below}
-use Rattle.eden_laws.proofs.Changes.{but, but_there, but_else}
 use Rattle.eden_laws.proofs.Numbered.{Numbered, numbered}
 
 -- the number a is that of a preimage of a word of l letters with this value
@@ -104,8 +103,8 @@ map-places {P} {n} h (a ∷ ds) all =
     ap₂ (λ (b : ℕ) (es : List ℕ). b ∷ es) (h.back a here.0 here.1).1 (map-places h ds (All-tail Is a ds all))
 
 -- the places of the blocks of a word, and its last m - 1 letters, as one number
-abbrev number : (r : LocalRule) → ℕ → ℕ → ℕ → ℕ → List ℕ → ℕ
-number r l c q j z = value q (map (preimages r l c).place (blocks r.states (l + (r.width - 1)) j z)) * node_count r + value r.states (drop (j * (l + (r.width - 1))) z)
+abbrev woven_number : (r : LocalRule) → ℕ → ℕ → ℕ → ℕ → List ℕ → ℕ
+woven_number r l c q j z = value q (map (preimages r l c).place (blocks r.states (l + (r.width - 1)) j z)) * node_count r + value r.states (drop (j * (l + (r.width - 1))) z)
 
 -- a preimage of a woven word
 record IsWoven (r : LocalRule) (w : List ℕ) (j : ℕ) (z : List ℕ) : Type 0 where
@@ -125,9 +124,9 @@ blocks-IsWoven {r} {w} {j} {z} rule hw h =
     subst (λ n. All (λ a. (a < r.states ^ (length w + (r.width - 1))) × IsOf r (length w) (value r.states w) a) (blocks r.states (length w + (r.width - 1)) n z)) h.long (blocks-woven rule w h.cs z hw h.preimage)
 
 -- where w has at most q preimages, its number is below q ^ j times the number of nodes
-number-below : {r : LocalRule} {w : List ℕ} {j : ℕ} {z : List ℕ} → IsRule r → IsWord r.states w → (q : ℕ) → (preimages r (length w) (value r.states w)).count ≤ q → IsWoven r w j z
-    → number r (length w) (value r.states w) q j z < node_count r * q ^ j
-number-below {r} {w} {j} {z} rule hw q few h =
+woven_number-below : {r : LocalRule} {w : List ℕ} {j : ℕ} {z : List ℕ} → IsRule r → IsWord r.states w → (q : ℕ) → (preimages r (length w) (value r.states w)).count ≤ q → IsWoven r w j z
+    → woven_number r (length w) (value r.states w) q j z < node_count r * q ^ j
+woven_number-below {r} {w} {j} {z} rule hw q few h =
     let n : ℕ = length w + (r.width - 1) in
     let places : List ℕ = map (preimages r (length w) (value r.states w)).place (blocks r.states n j z) in
     let long : length places ≡ j = length-map (blocks r.states n j z) (preimages r (length w) (value r.states w)).place ∙ length-blocks r.states n j z in
@@ -137,7 +136,7 @@ number-below {r} {w} {j} {z} rule hw q few h =
 
 -- words with one number are one word
 same_number : {r : LocalRule} {w : List ℕ} {j : ℕ} {y z : List ℕ} → IsRule r → IsWord r.states w → (q : ℕ) → (preimages r (length w) (value r.states w)).count ≤ q → IsWoven r w j y → IsWoven r w j z
-    → number r (length w) (value r.states w) q j y ≡ number r (length w) (value r.states w) q j z → y ≡ z
+    → woven_number r (length w) (value r.states w) q j y ≡ woven_number r (length w) (value r.states w) q j z → y ≡ z
 same_number {r} {w} {j} {y} {z} rule hw q few hy hz e =
     let k : ℕ = r.states in
     let n : ℕ = length w + (r.width - 1) in
@@ -188,7 +187,7 @@ no_fewer {r} rule every w hw =
     let outgrows : q ^ j * nodes < (q + 1) ^ j = power-outgrows q nodes (omega arith) in
     let next : q + 1 ≡ nodes = omega arith in
     let room : nodes * q ^ j < nodes ^ j = omega (arith, outgrows, ap (λ n. n ^ j) next) in
-    let found = twice_below (nodes * q ^ j) (λ v. number r (length w) (value k w) q j (z v)) (λ v l. number-below rule hw q few (is v)) in
+    let found = twice_below (nodes * q ^ j) (λ v. woven_number r (length w) (value k w) q j (z v)) (λ v l. woven_number-below rule hw q few (is v)) in
     let back : (v : ℕ) → v ≤ nodes * q ^ j → value nodes (cs v) ≡ v = λ v l.
     let below : v < nodes ^ j = omega arith in
     ap (λ i. value nodes (word_of nodes j i)) (mod-eq_of_lt {n = v} below) ∙ value-word_of nodes j v below in

@@ -5,7 +5,7 @@ use Rattle.std.proofs.lemmas.List.Elements.{All-nil, All-cons, All-head, All-tai
 use Rattle.word_image.specs.LocalRules.{LocalRule, IsWord, value, word_of, node_count}
 use Rattle.word_image.proofs.laws.Values.{value-below, value-injective, word_of-value}
 use Rattle.word_image.proofs.laws.Graphs.{value-node}
-use Rattle.eden_laws.proofs.Changes.{moved, but_cases}
+use Rattle.word_image.proofs.laws.Searches.{moved, but_cases}
 
 -- the values of the first j blocks of l letters
 abbrev pub blocks : ℕ → ℕ → ℕ → List ℕ → List ℕ

@@ -8,7 +8,7 @@ use Rattle.word_image.specs.Words.{image}
 use Rattle.word_image.specs.Erasure.{IsErasable}
 use Rattle.word_image.proofs.laws.Values.{word_of-value}
 use Rattle.pair_laws.proofs.Joins.{image-cut}
-use Rattle.eden_laws.proofs.Changes.{moved, but_cases}
+use Rattle.word_image.proofs.laws.Searches.{moved, but_cases}
 use Rattle.eden_laws.proofs.Blocks.{spread}
 
 -- the image of a word between two others: windows that begin before it see its first m - 1 letters, windows that end behind it its last

@@ -9,9 +9,8 @@ use Rattle.word_image.specs.Words.{image, IsPreimage, IsOrphan, IsSurjective}
 use Rattle.word_image.specs.Erasure.{IsErasable}
 use Rattle.word_image.proofs.laws.Values.{value-below, value-injective, value-word_of, word_of-value, length-word_of, IsWord-word_of}
 use Rattle.word_image.proofs.laws.Words.{IsWord-image, length-image}
-use Rattle.word_image.proofs.laws.Searches.{some_below, twice_below}
+use Rattle.word_image.proofs.laws.Searches.{some_below, twice_below, moved}
 use Rattle.eden_laws.proofs.Powers.{fewer_blocks}
-use Rattle.eden_laws.proofs.Changes.{moved}
 use Rattle.eden_laws.proofs.Blocks.{blocks, length-blocks, IsWord-blocks, spread, spread-blocks, HasBlocks, last-below, IsWithout, IsWithout-moved, block_code, block_code-below, block_code-injective}
 use Rattle.eden_laws.proofs.Exchange.{IsErasable-long, image-replaced}
 use Rattle.eden_laws.proofs.Orphans.{IsErasable-orphan}
@@ -79,19 +78,19 @@ image-kept {r} {x} {y} rule h j z word long =
     ap (image r) (sym (spread-blocks r.states (length x) j z word long)) ∙ image-replaced rule h [] (blocks r.states (length x) j z) (drop (j * length x) z)
 
 -- these blocks and the last m - 1 letters as one number
-abbrev number : LocalRule → List ℕ → List ℕ → ℕ → List ℕ → ℕ
-number r x y j z = block_code (r.states ^ length x - 1) (value r.states y) (kept r x y j z) * node_count r + value r.states (drop (j * length x) z)
+abbrev kept_number : LocalRule → List ℕ → List ℕ → ℕ → List ℕ → ℕ
+kept_number r x y j z = block_code (r.states ^ length x - 1) (value r.states y) (kept r x y j z) * node_count r + value r.states (drop (j * length x) z)
 
 -- the number is below N * q ^ j
-number-below : {r : LocalRule} {x y : List ℕ} → IsErasable r x y → (j : ℕ) (z : List ℕ) → HasBlocks r (length x) j z → number r x y j z < node_count r * (r.states ^ length x - 1) ^ j
-number-below {r} {x} {y} h j z is =
+kept_number-below : {r : LocalRule} {x y : List ℕ} → IsErasable r x y → (j : ℕ) (z : List ℕ) → HasBlocks r (length x) j z → kept_number r x y j z < node_count r * (r.states ^ length x - 1) ^ j
+kept_number-below {r} {x} {y} h j z is =
     let q : ℕ = r.states ^ length x - 1 in
     let below = block_code-below (IsWithout-kept h j z is.word (omega (arith, is.long))) in
     mul-add-lt _ (node_count r) _ (q ^ j) (subst (λ n. block_code q (value r.states y) (kept r x y j z) < q ^ n) (length-kept r x y j z) below) (last-below r (j * length x) z is.word is.long)
 
 -- words with one number have one image
 image-number : {r : LocalRule} {x y : List ℕ} → IsRule r → IsErasable r x y → (j : ℕ) (u v : List ℕ) → HasBlocks r (length x) j u → HasBlocks r (length x) j v
-    → number r x y j u ≡ number r x y j v → image r u ≡ image r v
+    → kept_number r x y j u ≡ kept_number r x y j v → image r u ≡ image r v
 image-number {r} {x} {y} rule h j u v hu hv e =
     let k : ℕ = r.states in
     let n : ℕ = j * length x in
@@ -124,7 +123,7 @@ none_erasable-surjective {r} rule every x y h =
       word = (preimage v).1.word;
       long = (preimage v).1.long ∙ ap (λ i. i + (r.width - 1)) (length-word_of k n (v % k ^ n));
     } in
-    let found = twice_below (nodes * q ^ j) (λ v. number r x y j (z v)) (λ v b. number-below h j (z v) (is v)) in
+    let found = twice_below (nodes * q ^ j) (λ v. kept_number r x y j (z v)) (λ v b. kept_number-below h j (z v) (is v)) in
     let back : (v : ℕ) → v ≤ nodes * q ^ j → value k (w v) ≡ v = λ v b.
     let below : v < k ^ n = omega arith in
     ap (λ i. value k (word_of k n i)) (mod-eq_of_lt {n = v} below) ∙ value-word_of k n v below in

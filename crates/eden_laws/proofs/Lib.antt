@@ -1,4 +1,3 @@
-pub mod Changes
 pub mod Powers
 pub mod Blocks
 pub mod Exchange

@@ -65,14 +65,14 @@ dead_class rule closures x c all (Some i) at =
     IsDeadClass-some rule x.queue c i y stands empty
 
 -- the words of the classes
-record AreWords (r : LocalRule) (classes : List ℕ) (words : List (List ℕ)) : Type 0 where
+record AreClassWords (r : LocalRule) (classes : List ℕ) (words : List (List ℕ)) : Type 0 where
   pub list : IsClassList r words
   pub long : length classes ≡ length words
   pub next : (i a j from to : ℕ) → slice_get classes i ≡ Some from → slice_get classes j ≡ Some to → a < r.states → IsClosedStep r from a to → IsNextClass r words i a j
   pub dead : (dead : Option ℕ) → IsPlaceOf classes 0 dead → IsDeadClass r words dead
 
 -- there are such words
-words_of : {r : LocalRule} {closures classes : List ℕ} → HasClasses r closures classes → (words : List (List ℕ)) × AreWords r classes words
+words_of : {r : LocalRule} {closures classes : List ℕ} → HasClasses r closures classes → (words : List (List ℕ)) × AreClassWords r classes words
 words_of {r} {closures} {classes} h =
     let x = h.search in
     let have : HaveClosures r = λ set l. (slice_index closures set, h.closed.closure set (omega arith) l) in

@@ -27,13 +27,13 @@ IsStateSearch-insert {Step} {k} {start} {sets} {new} {place} h n from to x lette
 
 -- where steps backwards lead is an unread set
 unread_leads : {r : LocalRule} {w : List ℕ} {set : ℕ} → Leads (IsBack r) r.states 0 w set → IsUnreadSet r set
-unread_leads {r} {w} {set} = Leads-induct (λ _ s. IsUnreadSet r s) ([], refl) (λ v a s t before letter step (z, unread). (a ∷ z, (s, letter, unread, step))) w set
+unread_leads {r} {w} {set} = Leads-induct (λ _ s. IsUnreadSet r s) ([], refl) (λ v a s t before letter step (z, unread). (a ∷ z, (s, (letter, step), unread))) w set
 
 -- where all edges are followed each unread set is listed
 listed_unread : {r : LocalRule} {tree : List (Place ℕ)} {e : ℕ} → IsQueue (IsBack r) r.states 0 tree e → length tree * r.states ≤ e
     → (z : List ℕ) (set : ℕ) → IsUnread r z set → (i : ℕ) × (x : Place ℕ) × (slice_get tree i ≡ Some x) × (x.state ≡ set)
 listed_unread q closed [] set unread = (0, q.fills.first, q.fills.root, q.fills.starts ∙ sym unread)
-listed_unread {r} {tree} {e} q closed (a ∷ z) set (rest, letter, unread, back) =
+listed_unread {r} {tree} {e} q closed (a ∷ z) set (rest, (letter, back), unread) =
     let (i, x, at, same) = listed_unread q closed z rest unread in
     let row : suc i * r.states ≤ length tree * r.states = mul-le-mul_right r.states (slice_get_within tree i x at) in
     let found = q.fills.done i a set x at letter (omega (arith, suc-mul i r.states)) (subst (λ s. IsBack r s a set) (sym same) back) in

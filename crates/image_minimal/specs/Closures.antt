@@ -1,9 +1,10 @@
 -- The words that are read along edges from the nodes of a set, and the greatest set from which no other words are read.
-use Rattle.std.specs.Prelude.{◌≡◌, ℕ, ◌^◌, ◌<◌, ◌≤◌, List, [], ◌∷◌, length, slice_index, IsBitSet}
+use Rattle.std.specs.Prelude.{◌≡◌, ℕ, ◌^◌, ◌<◌, ◌≤◌, List, length, slice_index, IsBitSet}
 use Rattle.word_image.specs.LocalRules.{LocalRule, node_count}
 use Rattle.word_image.specs.Graphs.{IsNodeSet}
 use Rattle.word_image.specs.Edges.{IsEdge, IsStep}
 use Rattle.word_image.specs.declared.side.Side.TheVariants.{Right}
+use Rattle.search_laws.specs.Walks.{Walk}
 
 -- the nodes of the one set are nodes of the other
 abbrev pub IsWithin : LocalRule → ℕ → ℕ → Type 0
@@ -17,10 +18,13 @@ IsLedInto r set a u = (v : ℕ) → IsEdge Right r a u v → IsBitSet set v
 pub record IsBack (r : LocalRule) (set a before : ℕ) : Type 0 where
   pub of : IsNodeSet r (IsLedInto r set a) before
 
--- the nodes from which the word isn't read
+-- letter a leads from these nodes to those into which all its edges from them lead
+abbrev pub StepsInto : LocalRule → ℕ → ℕ → ℕ → Type 0
+StepsInto r set a rest = (a < r.states) × IsBack r rest a set
+
+-- the nodes from which the word isn't read: its letters lead from them to the empty set
 abbrev pub IsUnread : LocalRule → List ℕ → ℕ → Type 0
-IsUnread r [] set = set ≡ 0
-IsUnread r (a ∷ z) set = (rest : ℕ) × (a < r.states) × IsUnread r z rest × IsBack r rest a set
+IsUnread r z set = Walk (StepsInto r) set z 0
 
 -- they are the nodes from which some word isn't read
 abbrev pub IsUnreadSet : LocalRule → ℕ → Type 0

@@ -17,43 +17,43 @@ use Rattle.search_laws.proofs.StepSets.{LeadsToSet, LeadsToSet-last, IsLastSet-l
 use Rattle.image_subsets.specs.FamilyTrees.{IsLeastParent}
 
 -- the word that a family has for the set at a place
-abbrev word_at : {r : LocalRule} {sets : List ℕ} → IsFamily r sets → ℕ → List ℕ
-word_at family i = get_or family.words i []
+abbrev family_word : {r : LocalRule} {sets : List ℕ} → IsFamily r sets → ℕ → List ℕ
+family_word family i = get_or family.words i []
 
 -- it is the least one of its set
-word_at-least : {r : LocalRule} {sets : List ℕ} → (family : IsFamily r sets) (i : ℕ) → i < length sets → IsLeastWordOf r (slice_index sets i) (word_at family i)
-word_at-least {r} {sets} family i below = paired_at (IsLeastWordOf r) sets family.words i 0 [] family.each below
+family_word-least : {r : LocalRule} {sets : List ℕ} → (family : IsFamily r sets) (i : ℕ) → i < length sets → IsLeastWordOf r (slice_index sets i) (family_word family i)
+family_word-least {r} {sets} family i below = paired_at (IsLeastWordOf r) sets family.words i 0 [] family.each below
 
 -- the next place has a greater word
-word_at-next : {r : LocalRule} {sets : List ℕ} → (family : IsFamily r sets) (i : ℕ) → i + 1 < length sets
-    → word_number r.states (word_at family i) < word_number r.states (word_at family (i + 1))
-word_at-next {r} {sets} family i below =
+family_word-next : {r : LocalRule} {sets : List ℕ} → (family : IsFamily r sets) (i : ℕ) → i + 1 < length sets
+    → word_number r.states (family_word family i) < word_number r.states (family_word family (i + 1))
+family_word-next {r} {sets} family i below =
     let long = paired_length (IsLeastWordOf r) sets family.words family.each in
-    word_number-less r.states (word_at family i) (word_at family (i + 1)) (word_at-least family i (omega arith)).set_of.word (word_at-least family (i + 1) below).set_of.word
-    (family.ascending i (word_at family i) (word_at family (i + 1)) (slice_get-get_or family.words i [] (omega arith)) (slice_get-get_or family.words (i + 1) [] (omega arith)))
+    word_number-less r.states (family_word family i) (family_word family (i + 1)) (family_word-least family i (omega arith)).set_of.word (family_word-least family (i + 1) below).set_of.word
+    (family.ascending i (family_word family i) (family_word family (i + 1)) (slice_get-get_or family.words i [] (omega arith)) (slice_get-get_or family.words (i + 1) [] (omega arith)))
 
 -- and so has each later one
-word_at-ascending : {r : LocalRule} {sets : List ℕ} → (family : IsFamily r sets) (i n : ℕ) → i + 1 + n < length sets
-    → word_number r.states (word_at family i) < word_number r.states (word_at family (i + 1 + n))
-word_at-ascending {r} family i zero below = subst (λ j. word_number r.states (word_at family i) < word_number r.states (word_at family j)) (omega arith) (word_at-next family i (omega arith))
-word_at-ascending {r} family i (suc n) below =
+family_word-ascending : {r : LocalRule} {sets : List ℕ} → (family : IsFamily r sets) (i n : ℕ) → i + 1 + n < length sets
+    → word_number r.states (family_word family i) < word_number r.states (family_word family (i + 1 + n))
+family_word-ascending {r} family i zero below = subst (λ j. word_number r.states (family_word family i) < word_number r.states (family_word family j)) (omega arith) (family_word-next family i (omega arith))
+family_word-ascending {r} family i (suc n) below =
     let next : i + 1 + n + 1 ≡ i + 1 + suc n = omega arith in
-    let later = subst (λ j. word_number r.states (word_at family (i + 1 + n)) < word_number r.states (word_at family j)) next (word_at-next family (i + 1 + n) (omega arith)) in
-    omega (arith, word_at-ascending family i n (omega arith))
+    let later = subst (λ j. word_number r.states (family_word family (i + 1 + n)) < word_number r.states (family_word family j)) next (family_word-next family (i + 1 + n) (omega arith)) in
+    omega (arith, family_word-ascending family i n (omega arith))
 
 -- of two places the earlier one has the lesser word
-word_at-before : {r : LocalRule} {sets : List ℕ} → (family : IsFamily r sets) (p q : ℕ) → p < q → q < length sets
-    → word_number r.states (word_at family p) < word_number r.states (word_at family q)
-word_at-before {r} family p q less below =
+family_word-before : {r : LocalRule} {sets : List ℕ} → (family : IsFamily r sets) (p q : ℕ) → p < q → q < length sets
+    → word_number r.states (family_word family p) < word_number r.states (family_word family q)
+family_word-before {r} family p q less below =
     let later : p + 1 + (q - p - 1) ≡ q = omega arith in
-    subst (λ j. word_number r.states (word_at family p) < word_number r.states (word_at family j)) later (word_at-ascending family p (q - p - 1) (omega arith))
+    subst (λ j. word_number r.states (family_word family p) < word_number r.states (family_word family j)) later (family_word-ascending family p (q - p - 1) (omega arith))
 
 -- no word of the set has a lesser number than its word
-word_at-le : {r : LocalRule} {sets : List ℕ} → (family : IsFamily r sets) (i : ℕ) → i < length sets → (u : List ℕ) (set : ℕ) → IsLastSet r u set → slice_index sets i ≡ set
-    → word_number r.states (word_at family i) ≤ word_number r.states u
-word_at-le {r} family i below u set last same =
-    let first = word_at-least family i below in
-    word_number-le r.states (word_at family i) u first.set_of.word last.word (first.least u (subst (IsLastSet r u) (sym same) last))
+family_word-le : {r : LocalRule} {sets : List ℕ} → (family : IsFamily r sets) (i : ℕ) → i < length sets → (u : List ℕ) (set : ℕ) → IsLastSet r u set → slice_index sets i ≡ set
+    → word_number r.states (family_word family i) ≤ word_number r.states u
+family_word-le {r} family i below u set last same =
+    let first = family_word-least family i below in
+    word_number-le r.states (family_word family i) u first.set_of.word last.word (first.least u (subst (IsLastSet r u) (sym same) last))
 
 -- the empty set stands last
 empty_last : {r : LocalRule} {sets : List ℕ} → IsFamily r sets → (z : ℕ) → z < length sets → slice_index sets z ≡ 0 → z + 1 ≡ length sets
@@ -62,14 +62,14 @@ empty_last family z below empty = ⊎_elim (λ less. absurd (family.nonempty z l
 -- the word of the parent, and its letter, have no greater number than the word of the set
 parent-le : {r : LocalRule} {sets : List ℕ} {i p a : ℕ} → IsRule r → (family : IsFamily r sets) → i < length sets → IsLeastParent r sets i p a
     → (v : List ℕ) → IsLeastWordOf r (slice_index sets p) v → (u : List ℕ) (set : ℕ) → LeadsToSet r u set → set ≡ slice_index sets i
-    → word_number r.states u ≤ word_number r.states (word_at family i) → word_number r.states v * r.states + a + 1 ≤ word_number r.states u
+    → word_number r.states u ≤ word_number r.states (family_word family i) → word_number r.states v * r.states + a + 1 ≤ word_number r.states u
 parent-le {r} {sets} {i} {p} {a} rule family below parent v first =
     let k = r.states in
-    Leads-induct (λ u set. set ≡ slice_index sets i → word_number k u ≤ word_number k (word_at family i) → word_number k v * k + a + 1 ≤ word_number k u)
+    Leads-induct (λ u set. set ≡ slice_index sets i → word_number k u ≤ word_number k (family_word family i) → word_number k v * k + a + 1 ≤ word_number k u)
     (λ same most.
-    let before = word_at-before family p i parent.earlier below in
+    let before = family_word-before family p i parent.earlier below in
     let none : word_number r.states [] ≡ 0 = refl in
-    absurd (omega (arith, word_at-le family i below [] (full_set r) (IsLastSet-full r) (sym same))))
+    absurd (omega (arith, family_word-le family i below [] (full_set r) (IsLastSet-full r) (sym same))))
     (λ w b s t before letter step _ same most.
     let last = IsLastSet-leads rule before in
     let longer = word_number-snoc k w b in
@@ -79,27 +79,27 @@ parent-le {r} {sets} {i} {p} {a} rule family below parent v first =
     let here : slice_index sets q ≡ s = get_or_default sets q 0 s within ∙ stands in
     let from : IsStep r (slice_index sets q) b (slice_index sets i) = subst (IsStep r (slice_index sets q) b) same (subst (λ x. IsStep r x b t) (sym here) step) in
     let place : p ≤ q = parent.least_place q b within letter from in
-    let mine = word_number-le k v (word_at family p) first.set_of.word (word_at-least family p inside).set_of.word (first.least (word_at family p) (word_at-least family p inside).set_of) in
-    let its = word_at-le family q within w s last here in
+    let mine = word_number-le k v (family_word family p) first.set_of.word (family_word-least family p inside).set_of.word (first.least (family_word family p) (family_word-least family p inside).set_of) in
+    let its = family_word-le family q within w s last here in
     ⊎_elim
     (λ one.
     let letters : a ≤ b = parent.least_letter b letter (subst (λ j. IsStep r (slice_index sets j) b (slice_index sets i)) (sym one) from) in
-    let number : word_number k (word_at family p) ≡ word_number k (word_at family q) = ap (λ j. word_number k (word_at family j)) one in
+    let number : word_number k (family_word family p) ≡ word_number k (family_word family q) = ap (λ j. word_number k (family_word family j)) one in
     let rows : word_number k v * k ≤ word_number k w * k = mul-le-mul_right k (omega arith) in
     omega arith)
     (λ other.
-    let ascending = word_at-before family p q (omega arith) within in
+    let ascending = family_word-before family p q (omega arith) within in
     let rows : suc (word_number k v) * k ≤ word_number k w * k = mul-le-mul_right k (omega arith) in
     omega (arith, suc-mul (word_number k v) k, parent.letter))
     (cases_eq p q))
     (λ (e, nothing, less, (z, within, stands)).
     let empty : slice_index sets z ≡ 0 = stands in
     let ends = empty_last family z within empty in
-    let latest = word_at-le family z within e 0 nothing empty in
+    let latest = family_word-le family z within e 0 nothing empty in
     let lesser = word_number-less k e w nothing.word last.word less in
     let grows : word_number k w * 1 ≤ word_number k w * k = mul-le-mul_left (word_number k w) (omega (arith, rule.shape.least_states)) in
-    let order : word_number k (word_at family i) ≤ word_number k (word_at family z) =
-    ⊎_elim (λ one. omega (arith, ap (λ j. word_number k (word_at family j)) one)) (λ other. omega (arith, word_at-before family i z (omega (arith, other)) within)) (cases_eq i z) in
+    let order : word_number k (family_word family i) ≤ word_number k (family_word family z) =
+    ⊎_elim (λ one. omega (arith, ap (λ j. word_number k (family_word family j)) one)) (λ other. omega (arith, family_word-before family i z (omega (arith, other)) within)) (cases_eq i z) in
     absurd (omega (arith, mul-one (word_number k w))))
     (family.all w s last))
 
@@ -109,12 +109,12 @@ pub IsLeastWordOf-parent : {r : LocalRule} {sets : List ℕ} {i p a : ℕ} → I
 IsLeastWordOf-parent {r} {sets} {i} {p} {a} rule family below parent v first =
     let k = r.states in
     let set_of : IsLastSet r (v ++ a ∷ []) (slice_index sets i) = IsLastSet-step {set = slice_index sets p} {after = slice_index sets i} rule first.set_of parent.letter parent.step in
-    let mine = word_at-least family i below in
-    let most = parent-le rule family below parent v first (word_at family i) (slice_index sets i) (LeadsToSet-last rule mine.set_of) refl (omega arith) in
+    let mine = family_word-least family i below in
+    let most = parent-le rule family below parent v first (family_word family i) (slice_index sets i) (LeadsToSet-last rule mine.set_of) refl (omega arith) in
     record {
       set_of = set_of;
       least = λ u last. word_cmp-not_greater k (v ++ a ∷ []) u set_of.word last.word
-          (omega (arith, word_number-snoc k v a, word_at-le family i below u (slice_index sets i) last refl));
+          (omega (arith, word_number-snoc k v a, family_word-le family i below u (slice_index sets i) last refl));
     }
 
 -- the empty word is the least one of the full set

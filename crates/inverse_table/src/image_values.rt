@@ -5,7 +5,7 @@ ghost use Rattle.inverse_table.specs.ImageValues.{AreImageValues, labels_from};
 
 use crate::cycles::after;
 use std::alloc::{AllocError, Global};
-use word_image::Rule;
+use word_image::{Rule, Side};
 
 /// The values of the images of all words of n + m - 1 letters, in the order of the words.
 pub(crate) fn image_values(alloc: Global, rule: &Rule, n: u16) -> Result<Vec<u16>, AllocError>
@@ -44,7 +44,7 @@ fn labels(rule: &Rule, node: usize) -> &[u8]
     ensures { result.now ≡ labels_from rule.now node }
 {
     let k = usize::from(rule.k());
-    let first = node * k;
+    let first = usize::from(Side::Right.window_with(rule, node as u8, 0));
     &rule.table()[first..first + k]
 }
 

@@ -5,11 +5,11 @@ use Rattle.std.proofs.lemmas.Bool.{cases_eq, eq-eqb, ne_eqb}
 use Rattle.std.proofs.lemmas.Bool.Decides.{leb_tells}
 use Rattle.std.proofs.lemmas.Nat.{div-mul-add, mod-mul-add, div-add-mod', same_from_place, div_below}
 use Rattle.word_image.specs.LocalRules.{LocalRule, IsRule, node_count}
-use Rattle.word_image.specs.Graphs.{next, label, first_of, second_of, pair_of, pair_count}
+use Rattle.word_image.specs.Graphs.{next, label, first_of, second_of, pair_of, pair_count, HasBit}
 use Rattle.word_image.specs.MarkedPairs.{marked}
 use Rattle.word_image.proofs.laws.Bits.{IsBitSet-or, IsBitSet-decide}
 use Rattle.word_image.proofs.laws.Graphs.{next-below, pair_count_pos}
-use Rattle.pair_laws.proofs.Rows.{HasBit, HasBit-more, IsBitSet-test}
+use Rattle.pair_laws.proofs.Rows.{HasBit-more, IsBitSet-test}
 use Rattle.pair_laws.proofs.Sets.{IsBitSet-shl, IsBitSet-shr, IsBitSet-and, IsBitSet-minus}
 use Rattle.pair_laws.proofs.Edges.{next-digits}
 use Rattle.pair_laws.proofs.Pairs.{some_if_equal, first_of-pair_of, second_of-pair_of, pair_of-first_of, pair_of-below, first_of-below, second_of-below}

@@ -6,7 +6,6 @@ use Rattle.std.specs.Prelude.{◌==◌}
 use Rattle.std.proofs.lemmas.Bool.{cases_lt}
 use Rattle.std.proofs.lemmas.Bool.Decides.{Decides-eqb}
 use Rattle.std.proofs.lemmas.List.{map-append, length-map, length_push}
-use Rattle.std.proofs.lemmas.Nat.{div-mul-add, mod-mul-add}
 use Rattle.std.proofs.lemmas.Option.{slice_get_within, slice_get-get_or, get_or_from_slice_get, none-some, same_Some}
 use Rattle.std.proofs.Math.Nat.{mul-le-mul_right, suc-mul}
 use Rattle.word_image.specs.LocalRules.{LocalRule, IsRule, node_count}
@@ -20,7 +19,7 @@ use Rattle.search_laws.proofs.QueueStates.{mapped_at, unmapped_at, length-queue-
 use Rattle.search_laws.proofs.LeastSteps.{NoEdgeBefore, IsLeastStepsTo, IsLeastStepsTo-edge, no_steps_to}
 use Rattle.search_laws.proofs.QueueDepths.{AreDepths, depths-ascending, no_word_within}
 use Rattle.search_laws.proofs.SpelledWords.{letter_before, TreeSpells-some, length-spelled-le}
-use Rattle.search_laws.proofs.PairWalks.{code, Leads-walk, CodeStep-some, CodeStep-follows, IsLeastWalk-steps, no_walk}
+use Rattle.search_laws.proofs.PairWalks.{uncode-code, code, Leads-walk, CodeStep-some, CodeStep-follows, IsLeastWalk-steps, no_walk}
 use Rattle.search_laws.specs.PairWalks.{PairWalk, IsLeastWalk, uncode}
 use Rattle.pair_laws.proofs.Pairs.{marked-below}
 use Rattle.least_walk.specs.declared.queue.Reached.{Reached}
@@ -149,10 +148,6 @@ pub queued-below : {r : LocalRule} {ends : Ends} {queue : List Reached} {e : ℕ
 queued-below {r} {queue = queue} w i x at =
     state-below w.filled (2 * pair_count r) w.start_in (MarkedStep-below w.rule) i (place_of x) (place_at queue i x at)
 
--- the number of two letters
-code_parts : (a b : ℕ) → b < 16 → ((a * 16 + b) / 16 ≡ a) × ((a * 16 + b) % 16 ≡ b)
-code_parts a b small = (div-mul-add a 16 b small, mod-mul-add a 16 b small)
-
 -- the steps with first letter a, from second letter b on, lead to nothing that the rows don't have
 pub IsWalkSearch-rest : {r : LocalRule} {ends : Ends} {queue : List Reached} {rows : List ℕ} → (h a b : ℕ) → IsWalkSearch r ends queue rows (h * step_count r + (a * 16 + b)) → (x : Reached) → slice_get queue h ≡ Some x
     → a < r.states → b ≤ 16 → ((c t : ℕ) → b ≤ c → c < r.states → marked r x.pair a c ≡ Some t → HasPair r rows t) → IsWalkSearch r ends queue rows (h * step_count r + (a + 1) * 16)
@@ -161,7 +156,7 @@ IsWalkSearch-rest {r} {ends} {queue} {rows} h a b s x at letter small old =
     record {
       walking = subst (IsWalking r ends queue) more (IsWalking-skip h (a * 16 + b) (16 - b) s.walking x at (omega arith) (λ c t least less step.
           let place : a * 16 + (c - a * 16) ≡ c = omega arith in
-          let parts = code_parts a (c - a * 16) (omega arith) in
+          let parts = uncode-code 16 a (c - a * 16) (omega arith) in
           let first : c / 16 ≡ a = ap (λ z. z / 16) (sym place) ∙ parts.0 in
           let second : c % 16 ≡ c - a * 16 = ap (λ z. z % 16) (sym place) ∙ parts.1 in
           let below : c % 16 < r.states = step.second in

@@ -3,12 +3,11 @@ use Rattle.std.proofs.Common.{◌≡◌, ℕ, ◌+◌, ◌*◌, ◌/◌, ◌%◌
 use Rattle.std.proofs.lemmas.Nat.{div-mul-add, mod-mul-add, div-add-mod'}
 use Rattle.std.proofs.Math.Nat.{div-div-eq-div-mul}
 use Rattle.word_image.specs.LocalRules.{LocalRule, IsRule, node_count}
-use Rattle.word_image.specs.Graphs.{next, node_letter, first_of, second_of, pair_of, pair_count}
+use Rattle.word_image.specs.Graphs.{next, node_letter, first_of, second_of, pair_of, pair_count, follow_on}
 use Rattle.pair_laws.proofs.Pairs.{first_of-pair_of, second_of-pair_of, pair_of-first_of, pair_of-below, some_if_equal, first_of-below, second_of-below, follow-pair_of, follow-some, follow-below}
 use Rattle.word_image.proofs.laws.Graphs.{next-below}
 use Rattle.word_image.proofs.laws.WindowParts.{some_letter, rest_count, node_count-rest, node_parts, window_with-within, end_node-below}
-use Rattle.word_image.specs.Sides.{window_with}
-use Rattle.word_image.specs.Edges.{label_at, end_at, follow_on}
+use Rattle.word_image.specs.Ends.{window_with, label_at, end_at}
 use Rattle.word_image.specs.declared.side.Side.{Side}
 use Rattle.word_image.specs.declared.side.Side.TheVariants.{Left}
 use Rattle.pair_graph.specs.BackSteps.{LeadsBack}

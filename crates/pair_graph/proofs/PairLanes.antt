@@ -11,7 +11,7 @@ use Rattle.word_image.proofs.laws.Bits.{bit_at-IsBitSet, IsBitSet-some, IsBitSet
 use Rattle.word_image.proofs.laws.Unions.{IsUnion, IsUnion-take}
 use Rattle.pair_laws.proofs.Sets.{IsBitSet-and}
 use Rattle.word_image.specs.declared.side.Side.{Side}
-use Rattle.word_image.specs.Edges.{label_at, end_at}
+use Rattle.word_image.specs.Ends.{label_at, end_at}
 use Rattle.pair_graph.specs.PairSets.{GoesOnBy, GoesOn}
 
 -- each lane has the nodes to which the first n letters lead

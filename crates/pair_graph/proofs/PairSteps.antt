@@ -5,7 +5,7 @@ use Rattle.std.proofs.lemmas.Bool.Decides.{Decides-eqb}
 use Rattle.std.proofs.lemmas.List.{get_or-set_other, length-set}
 use Rattle.std.proofs.lemmas.Nat.{div-mul-add, mod-mul-add, div-add-mod', div_below, mul-add-lt, and_le_l}
 use Rattle.word_image.specs.LocalRules.{LocalRule, IsRule, node_count}
-use Rattle.word_image.specs.Graphs.{first_of, second_of, pair_of, pair_count}
+use Rattle.word_image.specs.Graphs.{first_of, second_of, pair_of, pair_count, follow_on}
 use Rattle.word_image.proofs.laws.Bits.{bit_at-IsBitSet}
 use Rattle.word_image.proofs.laws.WindowParts.{window_with-within}
 use Rattle.pair_laws.proofs.Pairs.{first_of-below, second_of-below, some_if_equal}
@@ -13,8 +13,8 @@ use Rattle.pair_laws.proofs.Rows.{row_cases, HasBit-less}
 use Rattle.pair_laws.proofs.Sets.{IsBitSet-and, IsBitSet-below}
 use Rattle.word_image.specs.declared.side.Side.{Side}
 use Rattle.word_image.specs.declared.side.Side.TheVariants.{Right, Left}
-use Rattle.word_image.specs.Sides.{window_with}
-use Rattle.word_image.specs.Edges.{AreEdgeRows, label_at, end_at, follow_on}
+use Rattle.word_image.specs.Ends.{window_with, label_at, end_at}
+use Rattle.word_image.specs.Edges.{AreEdgeRows}
 use Rattle.pair_graph.specs.PairSets.{holds, truths, AreRows, LettersLead, LeadsInto, IsTrimmedSet, AreNodesKept, GoesOn}
 use Rattle.pair_graph.specs.PairRows.{holds_bit, length-truths, same_roots}
 use Rattle.pair_graph.proofs.BackSteps.{end_at-below, follow_on-edges, LeadsBack-follow}

@@ -8,7 +8,8 @@ use Rattle.word_image.specs.Graphs.{follow, pair_count}
 use Rattle.pair_graph.specs.BackSteps.{LeadsBack}
 use Rattle.word_image.specs.declared.side.Side.{Side}
 use Rattle.word_image.specs.declared.side.Side.TheVariants.{Right, Left}
-use Rattle.word_image.specs.Edges.{ends_at, label_at, end_at}
+use Rattle.word_image.specs.Edges.{ends_at}
+use Rattle.word_image.specs.Ends.{label_at, end_at}
 
 -- whether a set has a pair
 abbrev pub holds : List Bool → ℕ → Bool

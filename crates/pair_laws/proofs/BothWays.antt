@@ -52,7 +52,7 @@ pub record IsEndlessBothWays (r : LocalRule) (p : ℕ) : Type 0 where
   pub ends : IsEndless (PairGoes Left r p)
 
 -- such a pair whose nodes differ at a letter
-record DifferAt (r : LocalRule) (i : ℕ) : Type 0 where
+record DifferBothWays (r : LocalRule) (i : ℕ) : Type 0 where
   pair : ℕ
   endless : IsEndlessBothWays r pair
   different : node_letter r (first_of r pair) i ≢ node_letter r (second_of r pair) i
@@ -71,7 +71,7 @@ node_letter-follow {r} rule p a b q i hp ha hb f l =
     )
 
 -- one step on, the pair differs at the letter before
-differ_before : {r : LocalRule} → IsRule r → (i : ℕ) → i + 1 < r.width - 1 → DifferAt r (i + 1) → DifferAt r i
+differ_before : {r : LocalRule} → IsRule r → (i : ℕ) → i + 1 < r.width - 1 → DifferBothWays r (i + 1) → DifferBothWays r i
 differ_before {r} rule i l d =
     let (q, step, begins) = PairGoes-endless_step Right rule d.pair d.endless.begins in
     let letters = node_letter-follow rule d.pair step.a step.b q i step.in_pairs step.a_letter step.b_letter step.follows l in
@@ -82,7 +82,7 @@ differ_before {r} rule i l d =
     }
 
 -- and one step before, at the letter behind
-differ_behind : {r : LocalRule} → IsRule r → (i : ℕ) → i + 1 < r.width - 1 → DifferAt r i → DifferAt r (i + 1)
+differ_behind : {r : LocalRule} → IsRule r → (i : ℕ) → i + 1 < r.width - 1 → DifferBothWays r i → DifferBothWays r (i + 1)
 differ_behind {r} rule i l d =
     let (q, step, ends) = PairGoes-endless_step Left rule d.pair d.endless.ends in
     let letters = node_letter-follow rule q step.a step.b d.pair i step.in_pairs step.a_letter step.b_letter step.follows l in
@@ -93,14 +93,14 @@ differ_behind {r} rule i l d =
     }
 
 -- so pairs differ at the first letter
-differ_first : {r : LocalRule} → IsRule r → (i : ℕ) → i < r.width - 1 → DifferAt r i → DifferAt r 0
+differ_first : {r : LocalRule} → IsRule r → (i : ℕ) → i < r.width - 1 → DifferBothWays r i → DifferBothWays r 0
 differ_first rule zero l d = d
-differ_first {r} rule (suc i) l d = let e : suc i ≡ i + 1 = omega arith in differ_first rule i (omega arith) (differ_before rule i (omega arith) (subst (DifferAt r) e d))
+differ_first {r} rule (suc i) l d = let e : suc i ≡ i + 1 = omega arith in differ_first rule i (omega arith) (differ_before rule i (omega arith) (subst (DifferBothWays r) e d))
 
 -- and at each
-differ_each : {r : LocalRule} → IsRule r → (i : ℕ) → i < r.width - 1 → DifferAt r 0 → DifferAt r i
+differ_each : {r : LocalRule} → IsRule r → (i : ℕ) → i < r.width - 1 → DifferBothWays r 0 → DifferBothWays r i
 differ_each rule zero l d = d
-differ_each {r} rule (suc i) l d = let e : i + 1 ≡ suc i = omega arith in subst (DifferAt r) e (differ_behind rule i (omega arith) (differ_each rule i (omega arith) d))
+differ_each {r} rule (suc i) l d = let e : i + 1 ≡ suc i = omega arith in subst (DifferBothWays r) e (differ_behind rule i (omega arith) (differ_each rule i (omega arith) d))
 
 -- where a window is determined, no two different nodes are endless both ways
 pub IsDetermined-not_both_ways : {r : LocalRule} {n c : ℕ} → IsRule r → IsDetermined r n c → (p : ℕ) → first_of r p ≢ second_of r p → ¬ IsEndlessBothWays r p
@@ -109,8 +109,8 @@ IsDetermined-not_both_ways {r} {n} {c} rule h p different endless =
     let found = node_letter-different r (first_of r p) (second_of r p) nodes.0 nodes.1 different in
     let inside : c ≤ n + r.width - 2 = h.inside in
     let wide : 2 ≤ r.width = rule.shape.least_width in
-    let first : DifferAt r 0 = differ_first rule found.0 found.1 (record { pair = p; endless = endless; different = found.2 }) in
-    let d : DifferAt r (c - min c n) = differ_each rule (c - min c n) (omega arith) first in
+    let first : DifferBothWays r 0 = differ_first rule found.0 found.1 (record { pair = p; endless = endless; different = found.2 }) in
+    let d : DifferBothWays r (c - min c n) = differ_each rule (c - min c n) (omega arith) first in
     ((IsDetermined-pairs rule n c).0 h).2 d.pair (pair-below rule d.pair (Together-below Right _ _ _ _ (d.endless.begins 0)).0) d.different (d.endless.ends (min c n)) (d.endless.begins (n - min c n))
 
 -- where none are, a window is determined

@@ -1,6 +1,6 @@
 -- The mirrored rule: words with one image read backwards, mirrored nodes, and left look-aheads said in words.
-use Rattle.std.proofs.Common.{◌≡◌, ℕ, ◌+◌, ◌-◌, ◌<◌, ◌≤◌, ◌↔◌, List, ◌++◌, length, take, drop, reverse, slice_index, sym, ap, subst, subst₂, ◌∙◌, arith, length-drop}
-use Rattle.std.proofs.lemmas.List.{length-reverse, reverse-reverse, reverse-append, get_or-reverse, take-append-drop, take_at, drop_at, length-take-le}
+use Rattle.std.proofs.Common.{◌≡◌, ℕ, ◌+◌, ◌-◌, ◌<◌, ◌≤◌, ◌↔◌, List, length, take, drop, reverse, slice_index, sym, ap, subst, subst₂, ◌∙◌, arith, length-drop}
+use Rattle.std.proofs.lemmas.List.{length-reverse, reverse-reverse, get_or-reverse, length-take-le}
 use Rattle.std.proofs.lemmas.List.Elements.{All-take, All-drop}
 use Rattle.word_image.specs.LocalRules.{LocalRule, IsRule, IsWord, value, word_of, node_count, mirrored}
 use Rattle.word_image.specs.Windows.{HaveOneImage}
@@ -11,15 +11,9 @@ use Rattle.word_image.specs.Sides.{Together, IsLeftAhead}
 use Rattle.word_image.proofs.laws.Values.{length-word_of, IsWord-word_of, value-word_of, word_of-value}
 use Rattle.word_image.proofs.laws.Images.{IsWord-reverse, image-mirrored, IsRule-mirrored, mirrored-mirrored}
 use Rattle.word_image.proofs.laws.Graphs.{value-node}
+use Rattle.word_image.proofs.laws.Lists.{reverse-cut}
 use Rattle.pair_laws.proofs.Walks.{LeadTogether}
 use Rattle.pair_laws.proofs.Ranks.{LeadTogether-begin, LeadTogether-end, BeginTogether-walk, EndTogether-walk, BeginTogether-same}
-
--- a word of i + j letters read backwards begins with its last j letters read backwards, and goes on with the others
-reverse-cut : (i j : ℕ) (x : List ℕ) → length x ≡ i + j → (take j (reverse x) ≡ reverse (drop i x)) × (drop j (reverse x) ≡ reverse (take i x))
-reverse-cut i j x e =
-    let split : reverse x ≡ reverse (drop i x) ++ reverse (take i x) = ap reverse (sym (take-append-drop i x)) ∙ reverse-append (take i x) (drop i x) in
-    let long : length (reverse (drop i x)) ≡ j = omega (arith, length-reverse (drop i x), length-drop i x) in
-    (ap (take j) split ∙ take_at (reverse (drop i x)) (reverse (take i x)) j long, ap (drop j) split ∙ drop_at (reverse (drop i x)) (reverse (take i x)) j long)
 
 -- words with one image, read backwards, have one under the mirrored rule
 pub HaveOneImage-reverse : {r : LocalRule} {n : ℕ} {x y : List ℕ} → IsRule r → HaveOneImage r n x y → HaveOneImage (mirrored r) n (reverse x) (reverse y)

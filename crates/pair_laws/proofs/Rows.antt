@@ -5,13 +5,11 @@ use Rattle.std.proofs.lemmas.Bool.{cases_eq}
 use Rattle.std.proofs.lemmas.Bool.Decides.{Decides-eqb}
 use Rattle.std.proofs.lemmas.List.{get_or-set_other}
 use Rattle.std.proofs.lemmas.Grind.{get_or-set_at}
-use Rattle.word_image.proofs.laws.Bits.{IsBitSet-or, IsBitSet-lowest, IsBitSet-zero}
+use Rattle.word_image.proofs.laws.Bits.{IsBitSet-or, IsBitSet-zero}
+use Rattle.word_image.specs.Graphs.{HasBit}
+use Rattle.std.proofs.lemmas.Nat.{bit_set_by_shift}
 use Rattle.word_image.proofs.laws.Lists.{slice_index-zeros}
 use Rattle.pair_laws.proofs.Sets.{IsBitSet-minus, IsBitSet-shl}
-
--- row i has bit v
-abbrev pub HasBit : List ℕ → ℕ → ℕ → Type 0
-HasBit rows i v = IsBitSet (slice_index rows i) v
 
 -- one row is written, and the others stay
 pub row_cases : (rows : List ℕ) (i row j : ℕ) → i < length rows
@@ -67,7 +65,7 @@ HasBit-less rows i v inside small j w within =
 pub IsBitSet-test : (row v : ℕ) → IsTrue (bit_and (row / 2 ^ v) 1 == 1) ↔ IsBitSet row v
 IsBitSet-test row v =
     let test = Decides-eqb (bit_and (row / 2 ^ v) 1) 1 in
-    let lowest = IsBitSet-lowest row v in
+    let lowest = bit_set_by_shift row v in
     ((λ yes. lowest.0 (test.0 yes)), (λ some. test.1 (lowest.1 some)))
 
 -- rows of zeros have no bit

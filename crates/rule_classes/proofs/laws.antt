@@ -10,4 +10,3 @@ pub mod KnownWindows
 pub mod Completions
 pub mod Classes
 pub mod Lifts
-pub mod Members

@@ -5,5 +5,4 @@ pub mod Tables
 pub mod Best
 pub mod Lifts
 pub mod UndoneRules
-pub mod Members
 pub mod Examples

@@ -1,7 +1,7 @@
 //! Rules with other names for their letters, mirrored or not.
 ghost use Rattle.std.specs.Prelude.{◌≡◌, ◌≢◌, ◌+◌, ◌*◌, ◌^◌, ◌<◌, ◌≤◌, ℕ, slice_index, if◌then◌else◌};
 ghost use Rattle.word_image.specs.LocalRules.{IsRule, node_count};
-ghost use Rattle.word_image.specs.Sides.{end_node, window_with};
+ghost use Rattle.word_image.specs.Ends.{end_node, window_with};
 ghost use Rattle.word_image.specs.Storage.{padded};
 ghost use Rattle.rule_classes.specs.Colourings.{IsColouring, entry, in_colours, old_value, last_side};
 ghost use Rattle.rule_classes.specs.Tables.{AreFilled, HasZeros, IsRow};

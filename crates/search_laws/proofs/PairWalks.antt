@@ -73,7 +73,7 @@ pub ArePairs-walk : {follow : ℕ → ℕ → ℕ → Option ℕ} {k start t : �
 ArePairs-walk {w = w} n le walk i d l = let here = walk.letters i d l in (omega (arith, here.0), omega (arith, here.1))
 
 -- the number of a letter pair has these two letters
-uncode-code : (n a b : ℕ) → b < n → ((a * n + b) / n ≡ a) × ((a * n + b) % n ≡ b)
+pub uncode-code : (n a b : ℕ) → b < n → ((a * n + b) / n ≡ a) × ((a * n + b) % n ≡ b)
 uncode-code n a b below = (div-mul-add a n b below, mod-mul-add a n b below)
 
 -- where `follow` leads on two letters, a step leads on their number

@@ -1,8 +1,10 @@
 //! Why three parts make no Tail.
-ghost use Rattle.std.specs.Prelude.{◌≡◌, nat_le, position};
+ghost use Rattle.std.specs.Prelude.{◌≡◌};
 ghost use Rattle.std.specs.Result.{result_err};
 ghost use Rattle.tail_config.specs.TailValues.{config_of};
 ghost use Rattle.tail_config.specs.TailFaults.{first_fault, length_faults, long_fault, letter_fault, tail_fault};
+
+use word_image::first_foreign;
 
 /// The most letters that a part has.
 pub const MOST_LETTERS: usize = 1024;
@@ -88,11 +90,4 @@ fn check_letters(k: u8, part: Part, letters: &[u8]) -> Result<(), TailFault>
         Some(place) => Err(TailFault::Letter(part, place)),
         None => Ok(()),
     }
-}
-
-/// The place of the first letter that is not below k.
-fn first_foreign(k: u8, letters: &[u8]) -> Option<usize>
-    ensures { result ≡ position (λ a. nat_le k a) letters.now }
-{
-    letters.iter().position(|letter| *letter >= k)
 }

@@ -12,7 +12,7 @@ ghost use Rattle.tail_config.specs.TailTextFaults.{IsTailTextFault, IsDigitsEnd,
 use crate::faults::{Part, TailFault, check_lengths};
 use crate::tail::Tail;
 use std::alloc::{AllocError, Global};
-use word_image::{letter, word_text};
+use word_image::{letter, text_word, word_text};
 
 /// Why a text gives no Tail.
 #[derive(Clone, Copy, Debug, PartialEq, Eq)]
@@ -168,21 +168,11 @@ fn tail_of(alloc: Global, k: u8, parts: &Parts) -> Result<Tail, AllocError>
     ensures { let p = parts.now in IfOk result (λ t.
         t ≡ record { states = k; config = letters_of p.left.now p.middle.now p.right.now }) }
 {
-    let left = letters(alloc, parts.left)?;
-    let middle = letters(alloc, parts.middle)?;
-    let right = letters(alloc, parts.right)?;
+    let left = text_word(alloc, parts.left)?;
+    let middle = text_word(alloc, parts.middle)?;
+    let right = text_word(alloc, parts.right)?;
     match Tail::new(k, left, middle, right) {
         Ok(tail) => Ok(tail),
         Err(_) => unreachable!(),
     }
-}
-
-/// The letters that digits stand for.
-fn letters(alloc: Global, digits: &[u8]) -> Result<Vec<u8>, AllocError>
-    ensures { IfOk result (λ v. v.items ≡ map letter_at digits.now) }
-{
-    digits
-        .iter()
-        .map(|byte| letter(*byte).unwrap_or(0))
-        .collect(alloc)
 }

@@ -5,6 +5,7 @@ use Rattle.std.specs.List.{zip}
 use Rattle.std.proofs.Math.Nat.{add-mod_right}
 use Rattle.std.proofs.lemmas.Bool.{cases_lt, cases_eq}
 use Rattle.std.proofs.lemmas.Bool.Decides.{nat_tests}
+use Rattle.std.proofs.lemmas.Option.{same_Some}
 use Rattle.word_image.specs.LocalRules.{LocalRule, IsRule}
 use Rattle.word_image.specs.Graphs.{next, label, pair_of, first_of, second_of, follow, pair_count}
 use Rattle.word_image.specs.MarkedPairs.{marked}
@@ -50,10 +51,6 @@ marked_value c d s k q e = grind (arith, nat_tests)
 value_marked : (c d s k : ℕ) (q : ℕ) → (if c == d then Some (s + k) else None) ≡ Some q → ((if c == d then Some s else None) ≡ Some s) × (q ≡ s + k)
 value_marked c d s k q e = (grind (arith, nat_tests), grind (arith, nat_tests))
 
--- equal values are one value
-some_same : (m n : ℕ) → Some m ≡ Some n → m ≡ n
-some_same m n e = grind arith
-
 -- a step of the marked graph is a step of the pair, and adds the mark
 marked-follow : (r : LocalRule) (t a b q : ℕ) → follow r (t % pair_count r) a b ≡ Some q → marked r t a b ≡ Some (q + mark r t a b)
 marked-follow r t a b q e = marked_value _ _ _ (mark r t a b) q e
@@ -79,15 +76,15 @@ mark_none : (p t a b : ℕ) → t < p → a ≡ b → (if nat_le p t || not (a =
 mark_none p t a b l e = grind (arith, nat_tests)
 
 -- the state after a step is the pair, and has the mark exactly if the state before it has or the letters differ
-record IsMarked (r : LocalRule) (t a b s q : ℕ) : Type 0 where
+record IsStepMarked (r : LocalRule) (t a b s q : ℕ) : Type 0 where
   pub pair : s % pair_count r ≡ q
   pub mark : (pair_count r ≤ s) ↔ ((pair_count r ≤ t) ⊎ (a ≢ b))
 
 -- so is each state after a step
-marked_step : (r : LocalRule) (t a b q : ℕ) → q < pair_count r → IsMarked r t a b (q + mark r t a b) q
+marked_step : (r : LocalRule) (t a b q : ℕ) → q < pair_count r → IsStepMarked r t a b (q + mark r t a b) q
 marked_step r t a b q h =
     let p : ℕ = pair_count r in
-    let on : mark r t a b ≡ p → ((p ≤ t) ⊎ (a ≢ b)) → IsMarked r t a b (q + mark r t a b) q = λ e why.
+    let on : mark r t a b ≡ p → ((p ≤ t) ⊎ (a ≢ b)) → IsStepMarked r t a b (q + mark r t a b) q = λ e why.
     record {
       pair = ap (λ m. (q + m) % p) e ∙ add-mod_right q p ∙ mod-eq_of_lt {n = q} h;
       mark = (λ l. why, λ w. omega arith);
@@ -112,7 +109,7 @@ IsMarkedWalk-leads {r} rule [] t s h = record { pairs = ap (λ n. n % pair_count
 IsMarkedWalk-leads {r} rule (ab ∷ rest) t s h =
     let p : ℕ = pair_count r in
     let step = follow-marked rule t ab.0 ab.1 h.0 h.1 in
-    let m : IsMarked r t ab.0 ab.1 h.0 step.0 = subst (λ n. IsMarked r t ab.0 ab.1 n step.0) (sym step.3) (marked_step r t ab.0 ab.1 step.0 step.2) in
+    let m : IsStepMarked r t ab.0 ab.1 h.0 step.0 = subst (λ n. IsStepMarked r t ab.0 ab.1 n step.0) (sym step.3) (marked_step r t ab.0 ab.1 step.0 step.2) in
     let w : IsMarkedWalk r h.0 rest s = IsMarkedWalk-leads rule rest h.0 s h.2 in
     record {
       pairs = (step.0, step.1, subst (λ n. PairLeads r n rest (s % p)) m.pair w.pairs);
@@ -129,7 +126,7 @@ leads-marked {r} rule (ab ∷ rest) t q h =
     let next : ℕ = h.0 + mark r t ab.0 ab.1 in
     let step = marked-follow r t ab.0 ab.1 h.0 h.1 in
     let back = follow-marked rule t ab.0 ab.1 next step in
-    let same : h.0 ≡ back.0 = some_same h.0 back.0 (sym h.1 ∙ back.1) in
+    let same : h.0 ≡ back.0 = same_Some h.0 back.0 (sym h.1 ∙ back.1) in
     let below : h.0 < pair_count r = rw same back.2 in
     let pair : next % pair_count r ≡ h.0 = (marked_step r t ab.0 ab.1 h.0 below).pair in
     let on = leads-marked rule rest next q (subst (λ n. PairLeads r n rest q) (sym pair) h.2) in

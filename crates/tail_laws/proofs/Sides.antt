@@ -80,7 +80,7 @@ share_with_longer r {x} {y} hx hy m n share i =
     image_cell-same r (longer x m) x (Same-longer hx m) i ∙ share i ∙ sym (image_cell-same r (longer y n) y (Same-longer hy n) i)
 
 -- configurations that share an image are the same if what the mirrored rule shares is the same, read backwards, with longer middles of one length
-same_mirrored : {r : LocalRule} {x y : TailConfig} → IsRule r → IsTail r.states x → IsTail r.states y → ShareImage r x y
+pub same_mirrored : {r : LocalRule} {x y : TailConfig} → IsRule r → IsTail r.states x → IsTail r.states y → ShareImage r x y
     → ((u v : TailConfig) → IsTail r.states u → IsTail r.states v → length u.middle ≡ length v.middle → Same u x → Same v y → ShareImage (mirrored r) (mirror_of u) (mirror_of v) → Same (mirror_of u) (mirror_of v))
     → Same x y
 same_mirrored {r} {x} {y} rule hx hy share same =

@@ -5,7 +5,7 @@ use Rattle.std.proofs.lemmas.Bool.{cases_lt}
 use Rattle.std.proofs.lemmas.Nat.{mod-mul-add, div-add-mod'}
 use Rattle.std.proofs.lemmas.List.{get_or_append_left, get_or_default, get_or_push, length_push, drop_all}
 use Rattle.word_image.specs.LocalRules.{LocalRule, IsRule, word_of, node_count}
-use Rattle.word_image.specs.Graphs.{next, node_letter, IsNodeSet}
+use Rattle.word_image.specs.Graphs.{next, node_letter, IsNodeSet, HasBit}
 use Rattle.word_image.proofs.laws.Graphs.{next-below}
 use Rattle.pair_laws.proofs.Edges.{next-digits}
 use Rattle.pair_laws.proofs.Sets.{IsBitSet-below, IsBitSet-and, IsBitSet-apart}
@@ -13,8 +13,8 @@ use Rattle.word_image.specs.Edges.{IsEnds, IsEdge}
 use Rattle.word_image.specs.declared.side.Side.TheVariants.{Right}
 use Rattle.word_image.proofs.laws.Unions.{IsSetOf-same}
 use Rattle.tail_preimage.specs.Walks.{Reaches}
-use Rattle.tail_preimage.specs.Relations.{IsRelation, Relates}
-use Rattle.tail_preimage.specs.FirstWalks.{AreOpen, IsLeastNode}
+use Rattle.tail_preimage.specs.Relations.{IsRelation, IsFirst}
+use Rattle.tail_preimage.specs.FirstWalks.{AreOpen}
 use Rattle.tail_preimage.proofs.laws.Stretches.{drop-more, drop-first}
 use Rattle.tail_preimage.proofs.laws.Walks.{IsWalk-last}
 use Rattle.tail_preimage.proofs.laws.Parts.{IsRelation-below}
@@ -33,7 +33,7 @@ AreOpen-start {r} {goal} w small =
 
 -- the set one place back
 IsNodeSet-back : {r : LocalRule} {edges : List ℕ} {set before : ℕ} → IsRule r → (a : ℕ) (w : List ℕ) (goal : ℕ) → IsRelation r (IsEdge Right r a) edges → IsNodeSet r (Reaches r w goal) set
-    → IsNodeSet r (λ u. (v : ℕ) × Relates edges u v × IsBitSet set v) before → IsNodeSet r (Reaches r (a ∷ w) goal) before
+    → IsNodeSet r (λ u. (v : ℕ) × HasBit edges u v × IsBitSet set v) before → IsNodeSet r (Reaches r (a ∷ w) goal) before
 IsNodeSet-back rule a w goal rel h = IsSetOf-same (λ u l. (
   (λ (v, row, bit). let (node, edge) = IsRelation-below rel u v l row in (Reaches-cons rule a w goal u l).1 (v, node, edge, (h.nodes v node).0 bit)),
   (λ reach. let (v, node, edge, on) = (Reaches-cons rule a w goal u l).0 reach in (v, ((rel.rows u l).nodes v node).1 edge, (h.nodes v node).1 on)),
@@ -41,7 +41,7 @@ IsNodeSet-back rule a w goal rel h = IsSetOf-same (λ u l. (
 
 -- one set more
 pub AreOpen-more : {r : LocalRule} {w sets edges : List ℕ} {goal n before : ℕ} → IsRule r → AreOpen r w goal n sets → n < length w → IsRelation r (IsEdge Right r (slice_index w (length w - 1 - n))) edges
-    → IsNodeSet r (λ u. (v : ℕ) × Relates edges u v × IsBitSet (slice_index sets n) v) before → AreOpen r w goal (n + 1) (sets ++ before ∷ [])
+    → IsNodeSet r (λ u. (v : ℕ) × HasBit edges u v × IsBitSet (slice_index sets n) v) before → AreOpen r w goal (n + 1) (sets ++ before ∷ [])
 AreOpen-more {r} {w} {sets} {edges} {goal} {n} {before} rule h inside rel step =
     let last : IsNodeSet r (Reaches r (drop (length w - (n + 1)) w) goal) before =
     subst (λ z. IsNodeSet r (Reaches r z goal) before) (sym (drop-more w n inside))
@@ -80,19 +80,19 @@ last_letter k (suc n) u some below =
 
 -- the first walk goes on to the least of its nodes to which an edge with the next label leads, by that node's last letter
 pub IsLeastBegun-node : {r : LocalRule} {w x : List ℕ} {goal u n v ends set node : ℕ} → IsRule r → n < length w → IsLeastBegun r w u goal n v x → IsEnds Right r v (slice_index w n) ends → IsNodeSet r (Reaches r (drop (n + 1) w) goal) set
-    → IsLeastNode (bit_and ends set) node → IsLeastBegun r w u goal (n + 1) node (x ++ node_letter r node (r.width - 2) ∷ [])
+    → IsFirst (IsBitSet (bit_and ends set)) node → IsLeastBegun r w u goal (n + 1) node (x ++ node_letter r node (r.width - 2) ∷ [])
 IsLeastBegun-node {r} {w} {x} {goal} {u} {n} {v} {ends} {set} {node} rule inside begun e after least =
-    let (first, second) = (IsBitSet-and ends set node).0 least.within in
+    let (first, second) = (IsBitSet-and ends set node).0 least.holds in
     let below : node < node_count r = IsBitSet-below (node_count r) ends node e.within first in
     let (b, letter, (spells, leads)) = (e.nodes node below).0 first in
     let split = next-digits rule v b letter in
     let long : r.width - 1 ≡ suc (r.width - 2) = omega (arith, rule.shape.least_width) in
     let last : node_letter r node (r.width - 2) ≡ b = ap (λ n. slice_index (word_of r.states n node) (r.width - 2)) long
-        ∙ last_letter r.states (r.width - 2) node (omega (arith, rule.shape.least_states)) (subst (λ n. node < r.states ^ n) long below)
-        ∙ ap (λ m. m % r.states) (sym leads ∙ split) ∙ mod-mul-add (v % r.states ^ (r.width - 2)) r.states b letter in
+    ∙ last_letter r.states (r.width - 2) node (omega (arith, rule.shape.least_states)) (subst (λ n. node < r.states ^ n) long below)
+    ∙ ap (λ m. m % r.states) (sym leads ∙ split) ∙ mod-mul-add (v % r.states ^ (r.width - 2)) r.states b letter in
     subst (λ m. IsLeastBegun r w u goal (n + 1) node (x ++ m ∷ [])) (sym last)
     (subst (λ m. IsLeastBegun r w u goal (n + 1) m (x ++ b ∷ [])) leads
     (IsLeastBegun-push rule begun inside b letter spells (subst (Reaches r (drop (n + 1) w) goal) (sym leads) ((after.nodes node below).0 second)) (λ c less label reach.
     let there : next r v c < node_count r = next-below rule v c in
     let lesser : next r v c < node = omega (arith, next-digits rule v c (omega (arith, less, letter)), split, leads, less) in
-    least.least (next r v c) lesser ((IsBitSet-and ends set (next r v c)).1 (((e.nodes (next r v c) there).1 (c, omega (arith, less, letter), (label, refl))), (after.nodes (next r v c) there).1 reach)))))
+    least.none (next r v c) lesser ((IsBitSet-and ends set (next r v c)).1 (((e.nodes (next r v c) there).1 (c, omega (arith, less, letter), (label, refl))), (after.nodes (next r v c) there).1 reach)))))

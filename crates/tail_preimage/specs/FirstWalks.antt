@@ -1,5 +1,5 @@
 -- The walks that a placed configuration is made of, and the first of them.
-use Rattle.std.specs.Prelude.{◌≡◌, ℕ, ◌+◌, ◌-◌, ◌*◌, ◌^◌, ◌<◌, ◌≤◌, List, length, drop, slice_index, pos, ◌-ℤ◌, IsBitSet}
+use Rattle.std.specs.Prelude.{◌≡◌, ℕ, ◌+◌, ◌-◌, ◌*◌, ◌^◌, ◌≤◌, List, length, drop, slice_index, pos, ◌-ℤ◌}
 use Rattle.std.specs.List.{repeat}
 use Rattle.word_image.specs.LocalRules.{LocalRule}
 use Rattle.word_image.specs.Graphs.{IsNodeSet}
@@ -35,8 +35,3 @@ pub record AreFirstWalks (r : LocalRule) (t : TailConfig) (s : Shape) (v w : ℕ
 pub record AreOpen (r : LocalRule) (w : List ℕ) (goal n : ℕ) (sets : List ℕ) : Type 0 where
   pub long : length sets ≡ n + 1
   pub each : (j : ℕ) → j ≤ n → IsNodeSet r (Reaches r (drop (length w - j) w) goal) (slice_index sets j)
-
--- the least node of a set
-pub record IsLeastNode (set u : ℕ) : Type 0 where
-  pub within : IsBitSet set u
-  pub least : (v : ℕ) → v < u → ¬ IsBitSet set v

@@ -5,7 +5,8 @@ use Rattle.word_image.specs.LocalRules.{LocalRule, IsRule, node_count}
 use Rattle.tail_config.specs.Tails.{TailConfig}
 use Rattle.tail_preimage.specs.Walks.{HasWalk}
 use Rattle.tail_preimage.specs.Preimages.{Shape, shape_cmp, IsSmall}
-use Rattle.tail_preimage.specs.Relations.{IsRelation, AreSets, Relates, Steps, Open, Rounds}
+use Rattle.tail_preimage.specs.Relations.{IsRelation, Steps, Open, Rounds}
+use Rattle.word_image.specs.Graphs.{AreSets, HasBit}
 use Rattle.tail_preimage.specs.declared.periods.Periods.{Periods}
 use Rattle.tail_preimage.specs.declared.shapes.Parts.{Parts}
 use Rattle.tail_preimage.specs.declared.shapes.Spans.{Spans}
@@ -13,7 +14,7 @@ use Rattle.tail_preimage.specs.declared.shapes.Spans.{Spans}
 -- the relations of 0 to 16 periods are those of so many steps
 pub record ArePeriods (r : LocalRule) (periods : Periods) : Type 0 where
   pub period : AreSets r periods.period
-  pub powers : (n : ℕ) → n ≤ 16 → IsRelation r (Steps (Relates periods.period) n) (get_or periods.powers n [])
+  pub powers : (n : ℕ) → n ≤ 16 → IsRelation r (Steps (HasBit periods.period) n) (get_or periods.powers n [])
 
 -- a left period leads from its end to its start, and the others from start to end
 pub record AreTailParts (r : LocalRule) (t : TailConfig) (parts : Parts) : Type 0 where
@@ -30,11 +31,11 @@ HaveParts r parts = (t : TailConfig) × AreTailParts r t parts
 
 -- the middle leads from a node of which one thing holds to one of which another does
 abbrev pub Through : LocalRule → Parts → (ℕ → Type 0) → (ℕ → Type 0) → Type 0
-Through r parts Before Behind = (v : ℕ) × (w : ℕ) × (v < node_count r) × (w < node_count r) × Before v × Relates parts.middle v w × Behind w
+Through r parts Before Behind = (v : ℕ) × (w : ℕ) × (v < node_count r) × (w < node_count r) × Before v × HasBit parts.middle v w × Behind w
 
 -- so many left periods, the middle and so many right periods lead through
 abbrev pub PassesThrough : LocalRule → Parts → ℕ → ℕ → Type 0
-PassesThrough r parts b a = Through r parts (Open (Relates parts.left.period) b) (Open (Relates parts.right.period) a)
+PassesThrough r parts b a = Through r parts (Open (HasBit parts.left.period) b) (Open (HasBit parts.right.period) a)
 
 -- the numbers of periods are a shape
 abbrev pub shape_of : Spans → Shape
@@ -43,9 +44,9 @@ shape_of s = record { before = s.before; back = s.back; after = s.after; on = s.
 -- from node v left periods lead round, and others, the middle and right periods lead on to a loop of right periods, all of this shape
 abbrev pub Starts : LocalRule → Parts → Shape → ℕ → Type 0
 Starts r parts s v =
-    Steps (Relates parts.left.period) s.back v v
-    × ((u : ℕ) × (u < node_count r) × Steps (Relates parts.left.period) s.before u v
-    × ((w : ℕ) × (w < node_count r) × Relates parts.middle u w × Rounds (Relates parts.right.period) s.after s.on w))
+    Steps (HasBit parts.left.period) s.back v v
+    × ((u : ℕ) × (u < node_count r) × Steps (HasBit parts.left.period) s.before u v
+    × ((w : ℕ) × (w < node_count r) × HasBit parts.middle u w × Rounds (HasBit parts.right.period) s.after s.on w))
 
 -- some node is such a start
 pub record IsPossible (r : LocalRule) (parts : Parts) (s : Shape) : Type 0 where

@@ -1,5 +1,5 @@
 -- Relations between nodes, and steps along them.
-use Rattle.std.specs.Prelude.{◌≡◌, ℕ, ◌+◌, ◌^◌, ◌<◌, ◌≤◌, List, replicate, slice_index, IsBitSet}
+use Rattle.std.specs.Prelude.{◌≡◌, ℕ, ◌+◌, ◌<◌, ◌≤◌, List, replicate, slice_index, IsBitSet}
 use Rattle.word_image.specs.LocalRules.{LocalRule, node_count}
 use Rattle.word_image.specs.Graphs.{IsNodeSet}
 use Rattle.search_laws.specs.Walks.{Walk}
@@ -7,14 +7,6 @@ use Rattle.search_laws.specs.Walks.{Walk}
 -- row u of a table is the set of the nodes to which node u is related
 pub record IsRelation (r : LocalRule) (Related : ℕ → ℕ → Type 0) (table : List ℕ) : Type 0 where
   pub rows : (u : ℕ) → u < node_count r → IsNodeSet r (Related u) (slice_index table u)
-
--- its rows are sets of nodes
-abbrev pub AreSets : LocalRule → List ℕ → Type 0
-AreSets r table = (u : ℕ) → u < node_count r → slice_index table u < 2 ^ node_count r
-
--- what a table relates
-abbrev pub Relates : List ℕ → ℕ → ℕ → Type 0
-Relates table u v = IsBitSet (slice_index table u) v
 
 -- a relation as steps on letters that say nothing
 abbrev pub Unlettered : (ℕ → ℕ → Type 0) → ℕ → Unit {0} → ℕ → Type 0

@@ -1,12 +1,13 @@
 //! The periods on one side of a configuration, as they lead away from its middle.
 
 ghost use Rattle.std.specs.Prelude.{◌≡◌, ◌-◌, ◌<◌, ◌≤◌, ℕ, IfSome, MatchOption};
-ghost use Rattle.word_image.specs.Graphs.{IsNodeSet};
-ghost use Rattle.tail_preimage.specs.Relations.{AreSets, Relates, Steps, Open, Rounds, SomeRounds, IsFirst, Meets};
+ghost use Rattle.word_image.specs.Graphs.{IsNodeSet, AreSets, HasBit};
+ghost use Rattle.tail_preimage.specs.Relations.{Steps, Open, Rounds, SomeRounds, IsFirst, Meets};
 ghost use Rattle.tail_preimage.specs.Parts.{ArePeriods};
 
 use crate::relations::{Relation, before, powers, returning};
 use debruijn::Graph;
+use word_image::MOST_NODES;
 
 /// The relation of a period, and those of 0 to 16 periods.
 #[derive(Clone, Copy)]
@@ -14,7 +15,7 @@ pub struct Periods {
     /// Of one period.
     pub period: Relation,
     /// Of 0 to 16 periods.
-    pub powers: [Relation; 17],
+    pub powers: [Relation; MOST_NODES + 1],
 }
 
 /// The periods of which each has this relation.
@@ -33,7 +34,7 @@ pub fn periods_of(graph: &Graph, period: Relation) -> Periods
 pub fn open(graph: &Graph, periods: &Periods, n: u8) -> u16
     requires few { n ≤ 16 }
     requires periods { ArePeriods graph.now periods.now }
-    ensures { IsNodeSet graph.now (Open (Relates periods.now.period) n) result }
+    ensures { IsNodeSet graph.now (Open (HasBit periods.now.period) n) result }
 {
     before(graph, &periods.powers[usize::from(n)], graph.full())
 }
@@ -42,7 +43,7 @@ pub fn open(graph: &Graph, periods: &Periods, n: u8) -> u16
 pub fn loops(graph: &Graph, periods: &Periods, n: u8) -> u16
     requires few { n ≤ 16 }
     requires periods { ArePeriods graph.now periods.now }
-    ensures { IsNodeSet graph.now (λ u. Steps (Relates periods.now.period) n u u) result }
+    ensures { IsNodeSet graph.now (λ u. Steps (HasBit periods.now.period) n u u) result }
 {
     returning(graph, &periods.powers[usize::from(n)])
 }
@@ -52,7 +53,7 @@ pub fn rounds(graph: &Graph, periods: &Periods, n: u8, on: u8) -> u16
     requires n_few { n ≤ 16 }
     requires on_few { on ≤ 16 }
     requires periods { ArePeriods graph.now periods.now }
-    ensures { IsNodeSet graph.now (Rounds (Relates periods.now.period) n on) result }
+    ensures { IsNodeSet graph.now (Rounds (HasBit periods.now.period) n on) result }
 {
     before(
         graph,
@@ -65,7 +66,7 @@ pub fn rounds(graph: &Graph, periods: &Periods, n: u8, on: u8) -> u16
 pub fn some_rounds(graph: &Graph, periods: &Periods, sum: u8) -> u16
     requires few { sum ≤ 16 }
     requires periods { ArePeriods graph.now periods.now }
-    ensures { IsNodeSet graph.now (SomeRounds (Relates periods.now.period) sum) result }
+    ensures { IsNodeSet graph.now (SomeRounds (HasBit periods.now.period) sum) result }
 {
     let mut set = 0;
     for n in 0..sum {
@@ -78,8 +79,8 @@ pub fn some_rounds(graph: &Graph, periods: &Periods, sum: u8) -> u16
 pub fn least_closed(graph: &Graph, periods: &Periods, set: u16) -> Option<u8>
     requires periods { ArePeriods graph.now periods.now }
     ensures few { IfSome result (λ n. n ≤ 16) }
-    ensures first { MatchOption result (Meets graph.now (Open (Relates periods.now.period) 16) set)
-        (IsFirst (λ n. ¬ Meets graph.now (Open (Relates periods.now.period) n) set)) }
+    ensures first { MatchOption result (Meets graph.now (Open (HasBit periods.now.period) 16) set)
+        (IsFirst (λ n. ¬ Meets graph.now (Open (HasBit periods.now.period) n) set)) }
 {
     for n in 0..17 {
         if open(graph, periods, n) & set == 0 {
@@ -92,9 +93,9 @@ pub fn least_closed(graph: &Graph, periods: &Periods, set: u16) -> Option<u8>
 /// The least sum with which `some_rounds` meets a set of nodes, where some sum up to 16 does.
 pub fn least_sum(graph: &Graph, periods: &Periods, set: u16) -> u8
     requires periods { ArePeriods graph.now periods.now }
-    requires some { (sum : ℕ) × (sum ≤ 16) × Meets graph.now (SomeRounds (Relates periods.now.period) sum) set }
+    requires some { (sum : ℕ) × (sum ≤ 16) × Meets graph.now (SomeRounds (HasBit periods.now.period) sum) set }
     ensures few { result ≤ 16 }
-    ensures first { IsFirst (λ sum. Meets graph.now (SomeRounds (Relates periods.now.period) sum) set) result }
+    ensures first { IsFirst (λ sum. Meets graph.now (SomeRounds (HasBit periods.now.period) sum) set) result }
 {
     for sum in 0..17 {
         if some_rounds(graph, periods, sum) & set != 0 {
@@ -108,9 +109,9 @@ pub fn least_sum(graph: &Graph, periods: &Periods, set: u16) -> u8
 pub fn least_first(graph: &Graph, periods: &Periods, sum: u8, set: u16) -> u8
     requires few { sum ≤ 16 }
     requires periods { ArePeriods graph.now periods.now }
-    requires some { (n : ℕ) × (n < sum) × Meets graph.now (Rounds (Relates periods.now.period) n (sum - n)) set }
+    requires some { (n : ℕ) × (n < sum) × Meets graph.now (Rounds (HasBit periods.now.period) n (sum - n)) set }
     ensures below { result < sum }
-    ensures first { IsFirst (λ n. Meets graph.now (Rounds (Relates periods.now.period) n (sum - n)) set) result }
+    ensures first { IsFirst (λ n. Meets graph.now (Rounds (HasBit periods.now.period) n (sum - n)) set) result }
 {
     for n in 0..sum {
         if rounds(graph, periods, n, sum - n) & set != 0 {

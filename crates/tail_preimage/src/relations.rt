@@ -2,11 +2,11 @@
 
 ghost use Rattle.std.specs.Prelude.{◌≡◌, ◌+◌, ◌<◌, ◌≤◌, ℕ, [], get_or, IsBitSet};
 ghost use Rattle.word_image.specs.LocalRules.{IsRule, IsWord, node_count};
-ghost use Rattle.word_image.specs.Graphs.{IsNodeSet};
+ghost use Rattle.word_image.specs.Graphs.{IsNodeSet, AreSets, HasBit};
 ghost use Rattle.word_image.specs.Edges.{IsEdge};
 ghost use Rattle.word_image.specs.declared.side.Side.TheVariants.{Right};
 ghost use Rattle.tail_preimage.specs.Walks.{HasWalk};
-ghost use Rattle.tail_preimage.specs.Relations.{IsRelation, AreSets, Relates, Steps};
+ghost use Rattle.tail_preimage.specs.Relations.{IsRelation, Steps};
 
 use debruijn::Graph;
 use word_image::MOST_NODES;
@@ -37,7 +37,7 @@ pub fn edges(graph: &Graph, label: u8) -> Relation
 
 /// The nodes that are related to a node of the set.
 pub fn before(graph: &Graph, rows: &Relation, set: u16) -> u16
-    ensures { IsNodeSet graph.now (λ u. (v : ℕ) × Relates rows.now u v × IsBitSet set v) result }
+    ensures { IsNodeSet graph.now (λ u. (v : ℕ) × HasBit rows.now u v × IsBitSet set v) result }
 {
     let mut before = 0;
     for u in 0..graph.nodes() {
@@ -50,7 +50,7 @@ pub fn before(graph: &Graph, rows: &Relation, set: u16) -> u16
 
 /// The nodes that are related to themselves.
 pub fn returning(graph: &Graph, rows: &Relation) -> u16
-    ensures { IsNodeSet graph.now (λ u. Relates rows.now u u) result }
+    ensures { IsNodeSet graph.now (λ u. HasBit rows.now u u) result }
 {
     let mut set = 0;
     for u in 0..graph.nodes() {
@@ -64,7 +64,7 @@ pub fn returning(graph: &Graph, rows: &Relation) -> u16
 /// The relation of a step of the first one and then a step of the second.
 fn joined(graph: &Graph, first: &Relation, second: &Relation) -> Relation
     requires { AreSets graph.now second.now }
-    ensures { IsRelation graph.now (λ u v. (w : ℕ) × (w < node_count graph.now) × (Relates first.now u w × Relates second.now w v)) result }
+    ensures { IsRelation graph.now (λ u v. (w : ℕ) × (w < node_count graph.now) × (HasBit first.now u w × HasBit second.now w v)) result }
 {
     let mut rows = [0; MOST_NODES];
     for u in 0..graph.nodes() {
@@ -75,7 +75,7 @@ fn joined(graph: &Graph, first: &Relation, second: &Relation) -> Relation
 
 /// The relation read backwards.
 pub fn reversed(graph: &Graph, relation: &Relation) -> Relation
-    ensures { IsRelation graph.now (λ u v. Relates relation.now v u) result }
+    ensures { IsRelation graph.now (λ u v. HasBit relation.now v u) result }
 {
     let mut rows = [0; MOST_NODES];
     for u in 0..graph.nodes() {
@@ -100,7 +100,7 @@ pub fn relation(graph: &Graph, word: &[u8]) -> Relation
 /// The relations of 0 to 16 steps.
 pub fn powers(graph: &Graph, step: &Relation) -> [Relation; MOST_NODES + 1]
     requires { AreSets graph.now step.now }
-    ensures { (n : ℕ) → n ≤ 16 → IsRelation graph.now (Steps (Relates step.now) n) (get_or result n []) }
+    ensures { (n : ℕ) → n ≤ 16 → IsRelation graph.now (Steps (HasBit step.now) n) (get_or result n []) }
 {
     let mut all = [identity(graph); MOST_NODES + 1];
     for n in 0..MOST_NODES {

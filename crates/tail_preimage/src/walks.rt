@@ -1,9 +1,10 @@
 //! The first walk of a word from a node into a set of nodes, in dictionary order.
 
-ghost use Rattle.std.specs.Prelude.{◌≡◌, ◌≢◌, ◌-◌, ◌^◌, ◌<◌, length, IfOk};
+ghost use Rattle.std.specs.Prelude.{◌≡◌, ◌≢◌, ◌-◌, ◌^◌, ◌<◌, length, IfOk, IsBitSet};
 ghost use Rattle.word_image.specs.LocalRules.{IsWord, word_of, node_count};
 ghost use Rattle.tail_preimage.specs.Walks.{Reaches, IsLeastWalkInto};
-ghost use Rattle.tail_preimage.specs.FirstWalks.{AreOpen, IsLeastNode};
+ghost use Rattle.tail_preimage.specs.Relations.{IsFirst};
+ghost use Rattle.tail_preimage.specs.FirstWalks.{AreOpen};
 
 use crate::relations::{before, edges};
 use debruijn::Graph;
@@ -13,7 +14,7 @@ use word_image::Rule;
 /// The least node of a set that has one.
 pub fn least_node(set: u16) -> u8
     requires { set ≢ 0 }
-    ensures { IsLeastNode set result }
+    ensures { IsFirst (IsBitSet set) result }
 {
     set.trailing_zeros() as u8
 }

@@ -1,16 +1,17 @@
 -- The de Bruijn graph of a rule (Sutner 1991): a node is a word of m - 1 letters by its value, an edge a window. Its pairs of nodes, and the steps between these.
-use Rattle.std.specs.Prelude.{◌≡◌, ℕ, ◌+◌, ◌-◌, ◌*◌, ◌/◌, ◌%◌, ◌^◌, ◌<◌, Option, Some, None, ◌==◌, if◌then◌else◌, slice_index, ◌↔◌, IsBitSet}
+use Rattle.std.specs.Prelude.{◌≡◌, ℕ, List, ◌+◌, ◌-◌, ◌*◌, ◌/◌, ◌%◌, ◌^◌, ◌<◌, Option, Some, None, ◌==◌, if◌then◌else◌, slice_index, ◌↔◌, IsBitSet}
 use Rattle.word_image.specs.LocalRules.{LocalRule, node_count, word_of}
+use Rattle.word_image.specs.Ends.{label_at, end_at}
 use Rattle.word_image.specs.declared.side.Side.{Side}
 use Rattle.word_image.specs.declared.side.Side.TheVariants.{Right, Left}
 
 -- where letter a leads from node u: to the last m - 1 letters of their window
 abbrev pub next : LocalRule → ℕ → ℕ → ℕ
-next r u a = (u * r.states + a) % node_count r
+next = end_at Right
 
 -- what the rule gives on the window of node u and letter a
 abbrev pub label : LocalRule → ℕ → ℕ → ℕ
-label r u a = slice_index r.table (u * r.states + a)
+label = label_at Right
 
 -- a set is a number in which u is bit u: this one has those below n of which something holds
 pub record IsSetOf (n : ℕ) (Holds : ℕ → Type 0) (set : ℕ) : Type 0 where
@@ -20,6 +21,14 @@ pub record IsSetOf (n : ℕ) (Holds : ℕ → Type 0) (set : ℕ) : Type 0 where
 -- the set of the nodes of which something holds
 abbrev pub IsNodeSet : LocalRule → (ℕ → Type 0) → ℕ → Type 0
 IsNodeSet r = IsSetOf (node_count r)
+
+-- row u has bit v
+abbrev pub HasBit : List ℕ → ℕ → ℕ → Type 0
+HasBit rows u v = IsBitSet (slice_index rows u) v
+
+-- the rows are sets of nodes
+abbrev pub AreSets : LocalRule → List ℕ → Type 0
+AreSets r rows = (u : ℕ) → u < node_count r → slice_index rows u < 2 ^ node_count r
 
 -- the set of all nodes
 abbrev pub full_set : LocalRule → ℕ
@@ -41,12 +50,16 @@ first_of r p = p / node_count r
 abbrev pub second_of : LocalRule → ℕ → ℕ
 second_of r p = p % node_count r
 
--- from a pair on letters a and b, where the two labels are equal
-abbrev pub follow : LocalRule → ℕ → ℕ → ℕ → Option ℕ
-follow r p a b =
-    if label r (first_of r p) a == label r (second_of r p) b
-    then Some (pair_of r (next r (first_of r p) a) (next r (second_of r p) b))
+-- where letters lead from the nodes of a pair, if the labels of the two edges are equal
+abbrev pub follow_on : Side → LocalRule → ℕ → ℕ → ℕ → Option ℕ
+follow_on side r p a b =
+    if label_at side r (first_of r p) a == label_at side r (second_of r p) b
+    then Some (pair_of r (end_at side r (first_of r p) a) (end_at side r (second_of r p) b))
     else None
+
+-- from a pair on letters a and b
+abbrev pub follow : LocalRule → ℕ → ℕ → ℕ → Option ℕ
+follow = follow_on Right
 
 -- how many pairs of nodes there are
 abbrev pub pair_count : LocalRule → ℕ

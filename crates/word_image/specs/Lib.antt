@@ -3,6 +3,7 @@ pub mod SameRules
 pub mod Words
 pub mod Rings
 pub mod Windows
+pub mod Ends
 pub mod Graphs
 pub mod MarkedPairs
 pub mod FirstPairs

@@ -1,7 +1,7 @@
 //! Letters and words, and how they are written.
-ghost use Rattle.std.specs.Prelude.{◌≡◌, ◌<◌, IfOk};
+ghost use Rattle.std.specs.Prelude.{◌≡◌, ◌<◌, map, IfOk};
 ghost use Rattle.word_image.specs.LocalRules.{IsWord};
-ghost use Rattle.word_image.specs.Digits.{lower_digit, hex_value, word_text};
+ghost use Rattle.word_image.specs.Digits.{lower_digit, hex_value, letter_at, word_text};
 
 use std::alloc::{AllocError, Global};
 
@@ -27,6 +27,17 @@ pub fn letter(byte: u8) -> Option<u8>
         b'a'..=b'f' => Some(byte - b'a' + 10),
         _ => None,
     }
+}
+
+/// The letters that the hexadecimal digits of a text stand for, and 0 for each other byte. The only error
+/// is want of memory.
+pub fn text_word(alloc: Global, digits: &[u8]) -> Result<Vec<u8>, AllocError>
+    ensures { IfOk result (λ word. word.items ≡ map letter_at digits.now) }
+{
+    digits
+        .iter()
+        .map(|byte| letter(*byte).unwrap_or(0))
+        .collect(alloc)
 }
 
 /// The text of a word: the lower-case digit of each letter, which is below 16. The only error is

@@ -31,10 +31,11 @@ mod weights;
 
 pub use edges::{EdgeRows, edge_rows};
 pub use images::{ImageFault, image};
-pub use letters::{digit, letter, word_text};
+pub use letters::{digit, letter, text_word, word_text};
 pub use lists::{FluxRow, RankRow, SetList, Word};
 pub use local_rule::{
     MOST_ENTRIES, MOST_NODES, MOST_PAIRS, MOST_STATES, MOST_WIDTH, Rule, RuleFault, check_shape,
+    first_foreign,
 };
 pub use rings::{RingFault, keeps_sum, ring_apply, ring_image};
 pub use side::Side;

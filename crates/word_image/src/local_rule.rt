@@ -296,7 +296,7 @@ fn check_table(k: u8, m: u8, table: &[u8]) -> Result<(), RuleFault>
 }
 
 /// The place of the first letter that is not below k.
-pub(crate) fn first_foreign(k: u8, word: &[u8]) -> Option<usize>
+pub fn first_foreign(k: u8, word: &[u8]) -> Option<usize>
     ensures place { result ≡ position (λ a. nat_le k a) word.now }
     ensures within { IfSome result (λ i. i < length word.now) }
 {

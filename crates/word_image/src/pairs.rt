@@ -2,8 +2,7 @@
 
 ghost use Rattle.std.specs.Prelude.{◌≡◌, ◌<◌, IfSome};
 ghost use Rattle.word_image.specs.LocalRules.{IsRule, node_count};
-ghost use Rattle.word_image.specs.Graphs.{full_set, first_of, second_of, pair_of, pair_count};
-ghost use Rattle.word_image.specs.Edges.{follow_on};
+ghost use Rattle.word_image.specs.Graphs.{full_set, first_of, second_of, pair_of, pair_count, follow_on};
 
 use crate::local_rule::Rule;
 use crate::side::Side;

@@ -2,7 +2,8 @@
 
 ghost use Rattle.std.specs.Prelude.{◌≡◌, ◌^◌, ◌<◌};
 ghost use Rattle.word_image.specs.LocalRules.{IsRule, node_count};
-ghost use Rattle.word_image.specs.Sides.{other, window_with, end_node, end_letter};
+ghost use Rattle.word_image.specs.Sides.{other};
+ghost use Rattle.word_image.specs.Ends.{window_with, end_node, end_letter};
 
 use crate::local_rule::Rule;
 

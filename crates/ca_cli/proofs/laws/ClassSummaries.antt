@@ -12,6 +12,7 @@ use Rattle.rule_classes.specs.Classes.{IsLeastOfClass}
 use Rattle.rule_classes.proofs.laws.Numbers.{same_number}
 use Rattle.cert_check.specs.Accepted.{AreTrue}
 use Rattle.cert_check.specs.declared.verdicts.Verdicts.{Verdicts}
+use Rattle.std.proofs.lemmas.List.Quantifiers.{all_pairs_push}
 use Rattle.ca_cli.specs.declared.commands.class_tally.ClassTally.{ClassTally}
 use Rattle.ca_cli.specs.Summaries.{count_line}
 use Rattle.ca_cli.specs.Tallies.{summary_of}
@@ -19,21 +20,6 @@ use Rattle.ca_cli.specs.ClassSummaries.{AreLeastRules, IsClassSummary, IsLeastOf
 use Rattle.ca_cli.specs.ClassTallies.{IsRuleAdded, IsClassTally, IsDecided, rule_in, rules_in}
 use Rattle.ca_cli.specs.ClassTallies.IsRuleAdded.{Old, New}
 use Rattle.ca_cli.proofs.laws.Summaries.{IsSummary-tally}
-
--- a place of one item more is one of those before, or the last
-before_or_last : (n j : ℕ) → j < n + 1 → (j < n) ⊎ (n ≡ j)
-before_or_last n j within = ⊎_elim (λ is. inr (sym is)) (λ apart. inl (omega (arith, apart))) (cases_eq j n)
-
--- what holds of each item and each later one holds so with one item more, where it holds of each with that
-AllPairs-push : {X : Type 0} (R : X → X → Type 0) (xs : List X) (y : X) → AllPairs R xs → All (λ x. R x y) xs → AllPairs R (xs ++ y ∷ [])
-AllPairs-push R xs y pairs all i j d less within =
-    let long = length_push xs y in
-    let inside : i < length xs = omega arith in
-    subst (λ x. R x (get_or (xs ++ y ∷ []) j d)) (sym (get_or_append_left xs (y ∷ []) d i inside))
-    (elim (before_or_last (length xs) j (omega arith)) [
-      | inl before ↦ subst (R (get_or xs i d)) (sym (get_or_append_left xs (y ∷ []) d j before)) (pairs i j d less before)
-      | inr last ↦ subst (R (get_or xs i d)) (sym (get_or_push xs y d j last)) (all i d inside)
-    ])
 
 -- the least rule of the class of r is in the list
 abbrev pub HasLeast : List LocalRule → LocalRule → Type 0
@@ -51,7 +37,7 @@ AreLeastRules-push {rules = rules} {r = r} {g = g} least (Old leasts there) are 
   no_others = All-weaker (IsNeeded rules) (IsNeeded (rules ++ r ∷ [])) (λ h needed. (needed.0, Contains-append_left rules (r ∷ []) needed.0 needed.1, needed.2)) leasts are.no_others;
 }
 AreLeastRules-push {rules = rules} {r = r} {g = g} least (New leasts absent) are = record {
-  distinct = AllPairs-push ◌≢◌ leasts g are.distinct (λ k d within same. absent (subst (Contains leasts) same (Contains-get_or leasts k d within)));
+  distinct = all_pairs_push ◌≢◌ leasts g are.distinct (λ k d within same. absent (subst (Contains leasts) same (Contains-get_or leasts k d within)));
   complete = All-push (HasLeast (leasts ++ g ∷ [])) rules r
       (All-weaker (HasLeast leasts) (HasLeast (leasts ++ g ∷ [])) (λ q has. (has.0, Contains-append_left leasts (g ∷ []) has.0 has.1, has.2)) rules are.complete)
       (g, Contains-push leasts g, least);

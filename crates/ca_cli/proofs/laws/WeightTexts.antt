@@ -9,26 +9,26 @@ use Rattle.rule_text.specs.RuleTexts.{decimal_value}
 use Rattle.ca_cli.specs.WeightTexts.{put_first, pieces, IsWeightText, AreWeightTexts}
 
 -- a text whose first comma stands at n is cut there; where none stands it is whole
-record IsCut (n : ℕ) (text : List ℕ) (cut : List (List ℕ)) : Type 0 where
+record IsCommaCut (n : ℕ) (text : List ℕ) (cut : List (List ℕ)) : Type 0 where
   more : n < length text → cut ≡ take n text ∷ pieces (drop (suc n) text)
   whole : length text ≤ n → cut ≡ text ∷ []
 
 -- a byte before a text that is cut
-IsCut-put_first : (b n : ℕ) (text : List ℕ) (cut : List (List ℕ)) → IsCut n text cut → IsCut (suc n) (b ∷ text) (put_first b cut)
-IsCut-put_first b n text cut is = record {
+IsCommaCut-put_first : (b n : ℕ) (text : List ℕ) (cut : List (List ℕ)) → IsCommaCut n text cut → IsCommaCut (suc n) (b ∷ text) (put_first b cut)
+IsCommaCut-put_first b n text cut is = record {
   more = λ within. ap (put_first b) (is.more (omega (arith, within)));
   whole = λ past. ap (put_first b) (is.whole (omega (arith, past)));
 }
 
 -- a text is cut at its first comma
-IsCut-pieces : (text : List ℕ) → IsCut (position_or_len (λ b. b == 44) text) text (pieces text)
-IsCut-pieces [] = record { more = λ within. absurd (omega (arith, within)); whole = λ past. refl }
-IsCut-pieces (b ∷ text) =
+IsCommaCut-pieces : (text : List ℕ) → IsCommaCut (position_or_len (λ b. b == 44) text) text (pieces text)
+IsCommaCut-pieces [] = record { more = λ within. absurd (omega (arith, within)); whole = λ past. refl }
+IsCommaCut-pieces (b ∷ text) =
     let n = position_or_len (λ b. b == 44) text in
     let next : suc n ≡ 1 + n = omega arith in
-    elim (b == 44) as (λ t. IsCut (cond (not t) (1 + n) 0) (b ∷ text) (cond t ([] ∷ pieces text) (put_first b (pieces text)))) [
+    elim (b == 44) as (λ t. IsCommaCut (cond (not t) (1 + n) 0) (b ∷ text) (cond t ([] ∷ pieces text) (put_first b (pieces text)))) [
       | true ↦ record { more = λ within. refl; whole = λ past. absurd (omega (arith, past)) }
-      | false ↦ subst (λ m. IsCut m (b ∷ text) (put_first b (pieces text))) next (IsCut-put_first b n text (pieces text) (IsCut-pieces text))
+      | false ↦ subst (λ m. IsCommaCut m (b ∷ text) (put_first b (pieces text))) next (IsCommaCut-put_first b n text (pieces text) (IsCommaCut-pieces text))
     ]
 
 -- where no comma stands
@@ -37,7 +37,7 @@ pieces-whole text none =
     let n = position_or_len (λ b. b == 44) text in
     elim (nat_lt n (length text)) as (λ t. nat_lt n (length text) ≡ t → cond t (Some n) None ≡ None → pieces text ≡ text ∷ []) [
       | true ↦ (λ less at. absurd (none-some n (sym at)))
-      | false ↦ (λ past at. (IsCut-pieces text).whole (ltb-false n (length text) past))
+      | false ↦ (λ past at. (IsCommaCut-pieces text).whole (ltb-false n (length text) past))
     ] refl none
 
 -- where one stands
@@ -50,7 +50,7 @@ pieces-cut text place some =
       | true ↦ (λ less at.
           let within = ltb-true n (length text) less in
           subst (λ p. (p < length text) × (pieces text ≡ take p text ∷ pieces (drop (p + 1) text))) (ap (λ o. unwrap_or o 0) at)
-          (within, subst (λ m. pieces text ≡ take n text ∷ pieces (drop m text)) next ((IsCut-pieces text).more within)))
+          (within, subst (λ m. pieces text ≡ take n text ∷ pieces (drop m text)) next ((IsCommaCut-pieces text).more within)))
       | false ↦ (λ past at. absurd (none-some place at))
     ] refl some
 

@@ -11,12 +11,11 @@ ghost use Rattle.ca_cli.specs.StatusLines.{algebra_text};
 use crate::lines::algebra_name;
 use crate::output::Output;
 use crate::stop::Stop;
-use crate::words::operands;
 use crate::words::request::AskOfTwo;
 use rule_algebra::AlgebraFault;
 use rule_text::print;
 use std::alloc::{AllocError, Global};
-use word_image::Rule;
+use word_image::{Rule, text_word};
 
 /// `reflect R`: the mirrored rule.
 pub fn reflect(alloc: Global, rule: &Rule) -> Result<Output, AllocError>
@@ -53,7 +52,7 @@ pub fn widen(alloc: Global, rule: &Rule, width: u8) -> Result<Output, Stop>
 pub fn permute(alloc: Global, rule: &Rule, colours: &[u8]) -> Result<Output, Stop>
     ensures { Comes (IsOutputWith AskWith.Permute rule.now colours.now) (IsCauseWith AskWith.Permute rule.now colours.now) result }
 {
-    let letters = operands::colours(alloc, colours)?;
+    let letters = text_word(alloc, colours)?;
     made(alloc, rule_algebra::permute(rule, &letters))
 }
 

@@ -1,6 +1,5 @@
 //! Operands, read from their texts.
-ghost use Rattle.std.specs.Prelude.{◌≡◌, ◌≤◌, map, IsTrue, ◌↔◌, IfOk, MatchOption, MatchResult};
-ghost use Rattle.word_image.specs.Digits.{letter_at};
+ghost use Rattle.std.specs.Prelude.{◌≡◌, ◌≤◌, IsTrue, ◌↔◌, MatchOption, MatchResult};
 ghost use Rattle.rule_text.specs.RuleTexts.{IsDecimal, IsRuleText, decimal_value};
 ghost use Rattle.ca_cli.specs.Commands.{AreColours, IsCount, IsSeed};
 ghost use Rattle.ca_cli.specs.Outcomes.{IsRuleFault};
@@ -8,7 +7,6 @@ ghost use Rattle.ca_cli.specs.WeightTexts.{IsWeightText};
 
 use crate::stop::Stop;
 use rule_text::{decimal_number, is_decimal, parse};
-use std::alloc::{AllocError, Global};
 use word_image::{MOST_STATES, Rule, letter};
 
 /// The rule of which the operand with this number is a text.
@@ -62,15 +60,6 @@ pub fn are_colours(text: &[u8]) -> bool
     ensures { IsTrue result ↔ AreColours text.now }
 {
     !text.is_empty() && text.len() <= MOST_STATES && text.iter().all(|byte| letter(*byte).is_some())
-}
-
-/// The letters that hexadecimal digits stand for.
-pub fn colours(alloc: Global, text: &[u8]) -> Result<Vec<u8>, AllocError>
-    ensures { IfOk result (λ letters. letters.items ≡ map letter_at text.now) }
-{
-    text.iter()
-        .map(|byte| letter(*byte).unwrap_or(0))
-        .collect(alloc)
 }
 
 /// The number of at most so many decimal digits, up to 38.

@@ -3,9 +3,8 @@ use Rattle.std.proofs.Common.{◌≡◌, ℕ, ◌+◌, ◌*◌, ◌/◌, ◌%◌
 use Rattle.std.proofs.lemmas.Nat.{div-mul-add, mod-mul-add, div-add-mod', div_below, mul-add-lt}
 use Rattle.std.proofs.lemmas.Option.{same_Some}
 use Rattle.word_image.specs.LocalRules.{LocalRule, IsRule, node_count}
-use Rattle.word_image.specs.Graphs.{next, follow, pair_of, first_of, second_of, pair_count, LeadsOn}
-use Rattle.word_image.specs.Sides.{window_with}
-use Rattle.word_image.specs.Edges.{label_at, end_at, follow_on}
+use Rattle.word_image.specs.Graphs.{next, follow, pair_of, first_of, second_of, pair_count, LeadsOn, follow_on}
+use Rattle.word_image.specs.Ends.{window_with, label_at, end_at}
 use Rattle.word_image.specs.declared.side.Side.{Side}
 use Rattle.word_image.specs.declared.side.Side.TheVariants.{Right, Left}
 use Rattle.word_image.proofs.laws.Graphs.{node_count_pos, next-below}

@@ -11,7 +11,7 @@ use Rattle.pair_laws.proofs.Edges.{next-digits}
 use Rattle.pair_laws.proofs.Pairs.{first_of-pair_of, second_of-pair_of, pair_of-first_of, first_of-below, second_of-below}
 use Rattle.word_image.specs.declared.side.Side.{Side}
 use Rattle.word_image.specs.declared.side.Side.TheVariants.{Right, Left}
-use Rattle.word_image.specs.Sides.{window_with}
+use Rattle.word_image.specs.Ends.{window_with}
 use Rattle.word_image.specs.Sides.{other}
 use Rattle.cert_check.specs.SideWindows.{rest_of}
 

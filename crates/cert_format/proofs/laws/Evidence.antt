@@ -8,12 +8,12 @@ use Rattle.word_image.specs.LocalRules.{LocalRule, node_count}
 use Rattle.word_image.specs.Graphs.{full_set, pair_count}
 use Rattle.cert_format.specs.declared.cert_version.CertVersion.{CertVersion}
 use Rattle.cert_format.specs.Evidence.{SurjectiveEvidence, InjectiveEvidence, SumEvidence}
-use Rattle.cert_format.specs.Certificates.{IsClaim}
+use Rattle.cert_format.specs.Certificates.{IsClaim, IsNear}
 use Rattle.cert_format.specs.Evidence.SurjectiveEvidence.{Sets, Pairs, Orphan}
 use Rattle.cert_format.specs.Evidence.InjectiveEvidence.{Window, Twins}
 use Rattle.cert_format.specs.Evidence.SumEvidence.{Flux, Ring}
 use Rattle.cert_format.specs.CertificateTexts.{IsWhole, IsSigned, IsDigits, IsClaimValue, IsArrayOf, HasOnly, list_of}
-use Rattle.cert_format.specs.Readings.{IsWordValue, IsWordsValue, IsShort, IsRankValue, IsNear, IsFlow, AreNumbers, IsFluxFor, IsByte, IsWeightsFor, IsRowFor, IsSurjectiveFor, IsInjectiveFor, IsSumFor}
+use Rattle.cert_format.specs.Readings.{IsWordValue, IsWordsValue, IsShort, IsRankValue, IsFlow, AreNumbers, IsFluxFor, IsByte, IsWeightsFor, IsRowFor, IsSurjectiveFor, IsInjectiveFor, IsSumFor}
 use Rattle.cert_format.proofs.laws.Uniqueness.{HasOnly-unique, not_both, sets_or_orphan, sets_or_pairs, pairs_or_orphan, flux_or_ring, IsArrayOf-unique, IsWhole-unique}
 
 -- the values of one key are one

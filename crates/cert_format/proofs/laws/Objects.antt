@@ -1,10 +1,11 @@
 -- The members of an object, beside the entries of the map that holds them.
-use Rattle.std.proofs.Common.{◌≡◌, ℕ, zero, suc, List, [], ◌∷◌, length, map, Option, Some, Ordering, Less, Equal, Greater, String, Global, string_bytes, nat_cmp, is_eq, All, Contains, slice_get, Bool, true, false, ◌||◌, bytes_eq, IsTrue, ◌↔◌, refl, sym, ap, ◌∙◌, arith}
+use Rattle.std.proofs.Common.{◌≡◌, ℕ, zero, suc, List, [], ◌∷◌, length, map, Option, Some, Ordering, Less, Equal, Greater, String, Global, string_bytes, nat_cmp, is_eq, All, Contains, slice_get, Bool, true, false, ◌||◌, bytes_eq, IsTrue, ◌↔◌, refl, sym, ap, ◌∙◌, subst, arith}
 use Rattle.std.specs.List.{list_any}
 use Rattle.std.specs.Map.{keys_of as names_of}
 use Rattle.std.specs.Ordering.{match_ordering}
 use Rattle.std.specs.Cmp.Lexicographic.{slice_cmp}
 use Rattle.std.proofs.lemmas.Map.Text.{is_eq-slice_cmp}
+use Rattle.std.proofs.lemmas.List.Folds.{Any-from_list_any, list_any-from_Any}
 use Rattle.std.proofs.lemmas.Slice.Eq.{bytes_eq-Decides}
 use Rattle.std.proofs.lemmas.Option.{none-some, same_Some}
 use Rattle.std.proofs.lemmas.List.Elements.{All-contains, All-map}
@@ -87,27 +88,16 @@ member_of_key (e ∷ es) (suc i) name is = let later = member_of_key es i name i
 pub other_key : (version : CertVersion) (es : List Entry) (i : ℕ) (name : String Global) → slice_get (names_of es) i ≡ Some name → ¬ Contains (keys_of version) (string_bytes name) → ¬ HasNoOther version (members_view es)
 other_key version es i name is other none = let found = member_of_key es i name is in other (none (string_bytes name) found.0 found.1)
 
+-- an element that passes a test
+pub some_passes : {X : Type 0} (p : X → Bool) (xs : List X) → list_any p xs ≡ true → (x : X) × Contains xs x × (p x ≡ true)
+some_passes p xs any = let (i, x, within, at, passes) = Any-from_list_any p xs any in (x, (i, within, at), passes)
+
 -- a test of each of a list's elements finds a name exactly where it is one of them
-
-from_any : (b : Bool) (x name : List ℕ) (xs : List (List ℕ)) (later : Bool) → bytes_eq x name ≡ b → (later ≡ true → Contains xs name) → b || later ≡ true → Contains (x ∷ xs) name
-from_any true x name xs later is rest found = (0, omega arith, (bytes_eq-Decides x name).0 is)
-from_any false x name xs later is rest found = let c = rest found in (suc c.0, omega (arith, c.1), c.2)
-
-Contains-list_any : (xs : List (List ℕ)) (name : List ℕ) → list_any (λ key. bytes_eq key name) xs ≡ true → Contains xs name
-Contains-list_any [] name found = absurd (cc)
-Contains-list_any (x ∷ xs) name found = from_any (bytes_eq x name) x name xs _ refl (Contains-list_any xs name) found
-
-or_true : (b later : Bool) → later ≡ true → b || later ≡ true
-or_true true later is = refl
-or_true false later is = is
-
-list_any-Contains : (xs : List (List ℕ)) (name : List ℕ) → Contains xs name → list_any (λ key. bytes_eq key name) xs ≡ true
-list_any-Contains [] name (i, lt, same) = absurd (omega arith)
-list_any-Contains (x ∷ xs) name (zero, lt, same) = ap (λ b. b || list_any (λ key. bytes_eq key name) xs) ((bytes_eq-Decides x name).1 same)
-list_any-Contains (x ∷ xs) name (suc i, lt, same) = or_true (bytes_eq x name) _ (list_any-Contains xs name (i, omega (arith, lt), same))
-
 pub list_any-keys : (keys : List (List ℕ)) (name : List ℕ) (r : Bool) → r ≡ list_any (λ key. bytes_eq key name) keys → IsTrue r ↔ Contains keys name
-list_any-keys keys name r is = ((λ found. Contains-list_any keys name (sym is ∙ found)), λ one. is ∙ list_any-Contains keys name one)
+list_any-keys keys name r is = (
+  (λ any. let (key, there, same) = some_passes (λ key. bytes_eq key name) keys (sym is ∙ any) in subst (Contains keys) ((bytes_eq-Decides key name).0 same) there),
+  (λ (i, within, at). is ∙ list_any-from_Any (λ key. bytes_eq key name) keys (i, name, within, at, (bytes_eq-Decides name name).1 refl)),
+)
 
 -- the members of an object are its entries
 pub members_in-entries : (d : Data) (es : List Entry) → Some (members_view es) ≡ as_object d → members_in d ≡ members_view es

@@ -24,7 +24,7 @@ use Rattle.cert_format.specs.declared.cert_version.CertVersion.{CertVersion}
 use Rattle.cert_format.specs.declared.cert_version.CertVersion.TheVariants.{One}
 use Rattle.cert_format.specs.Versions.{number_of, names_weights}
 use Rattle.cert_format.specs.Evidence.{SurjectiveEvidence, InjectiveEvidence, SideEvidence, SumEvidence}
-use Rattle.cert_format.specs.Certificates.{Certificate, IsClaim, IsSurjectiveShape, IsInjectiveShape, IsSideShape, IsSumShape, IsRankShape}
+use Rattle.cert_format.specs.Certificates.{Certificate, IsNear, IsClaim, IsSurjectiveShape, IsInjectiveShape, IsSideShape, IsSumShape, IsRankShape}
 use Rattle.cert_format.specs.Parts.{IsShaped, IsWeightShape}
 use Rattle.cert_format.specs.Evidence.SurjectiveEvidence.{Sets, Pairs, Orphan}
 use Rattle.cert_format.specs.Evidence.InjectiveEvidence.{Window, Twins}
@@ -83,12 +83,8 @@ IsClaimValue-claim : (o : Option ℕ) → IsClaim o → IsClaimValue (claim_valu
 IsClaimValue-claim None claim = refl
 IsClaimValue-claim (Some n) claim = refl
 
--- a number of a flux
-abbrev IsSmall : ℤ → Type 0
-IsSmall z = (negsuc 999999 ≤ℤ z) × (z ≤ℤ pos 1000000)
-
--- and it is read as the number
-IsSigned-signed : (z : ℤ) → IsSmall z → IsSigned (signed_value z) z
+-- a number of a flux is read as the number
+IsSigned-signed : (z : ℤ) → IsNear z → IsSigned (signed_value z) z
 IsSigned-signed (pos n) limits =
     let most : pos n ≤ℤ pos 1000000 = limits.1 in
     let small : n ≤ 1000000 = omega (arith, ints) in
@@ -119,7 +115,7 @@ IsSideValue-written rule (Split x y) shape =
 
 -- of conserving
 IsSumValue-written : {r : LocalRule} → IsRule r → (e : SumEvidence) → IsSumShape r e → IsSumValue (sum_value e) e
-IsSumValue-written rule (Flux phi) shape = (array_from (map signed_value phi), refl, IsArrayOf-values IsSigned IsSmall signed_value IsSigned-signed phi shape.1)
+IsSumValue-written rule (Flux phi) shape = (array_from (map signed_value phi), refl, IsArrayOf-values IsSigned IsNear signed_value IsSigned-signed phi shape.1)
 IsSumValue-written {r} rule (Ring p) shape = (word_value p, refl, IsDigits-word r.states p (rule.shape).most_states shape)
 
 -- of the ranks

@@ -1,10 +1,9 @@
 -- A rule has one list of classes, so it has one least automaton.
 use Rattle.std.proofs.Common.{◌≡◌, ℕ, zero, suc, ◌+◌, ◌-◌, ◌*◌, ◌/◌, ◌%◌, ◌<◌, ◌≤◌, List, [], ◌∷◌, ◌++◌, length, get_or, slice_index, Option, Some, None, refl, sym, ap, ap₂, ◌∙◌, subst, arith, ⊎_elim, append-nil, append_assoc}
 use Rattle.std.specs.List.{slice_get}
-use Rattle.std.specs.Ordering.{ordering_then, nat_cmp}
+use Rattle.std.specs.Ordering.{nat_cmp}
 use Rattle.std.specs.Cmp.Lexicographic.{slice_cmp}
 use Rattle.std.specs.Cmp.{nat_cmp_is}
-use Rattle.std.specs.declared.cmp.Ordering.{Ordering}
 use Rattle.std.specs.declared.cmp.Ordering.TheVariants.{Equal}
 use Rattle.std.proofs.lemmas.Bool.{cases_lt}
 use Rattle.std.proofs.lemmas.List.{ext_get_or}
@@ -16,19 +15,15 @@ use Rattle.word_image.specs.LocalRules.{LocalRule, IsRule, IsWord}
 use Rattle.word_image.specs.Words.{IsOrphan}
 use Rattle.word_image.proofs.laws.Places.{slice_get-unique}
 use Rattle.word_image.proofs.laws.Words.{IsPreimage-snoc}
+use Rattle.word_image.proofs.laws.Orders.{then_equal}
 use Rattle.search_laws.proofs.WordOrder.{word_number, word_number-le, word_number-less, word_cmp-number}
 use Rattle.image_minimal.specs.ImageLanguages.{Alike, IsLeastAlike, IsClassList, IsNextClass, IsDeadClass, Automaton, IsLeastAutomaton}
-
--- two orderings in turn are tied only where the second one is
-then_tied : (a b : Ordering) → ordering_then a b ≡ Equal → b ≡ Equal
-then_tied Equal b e = e
-then_tied _ b e = absurd (cc)
 
 -- words of one number are one
 one_number : (k : ℕ) (v w : List ℕ) → IsWord k v → IsWord k w → word_number k v ≡ word_number k w → v ≡ w
 one_number k v w first second same =
-    exact_bytes v w (then_tied (nat_cmp (length v) (length w)) (slice_cmp nat_cmp v w)
-    (word_cmp-number k v w first second ∙ sym (nat_cmp_is (word_number k v) (word_number k w) Equal same)))
+    exact_bytes v w (then_equal (nat_cmp (length v) (length w)) (slice_cmp nat_cmp v w)
+    (word_cmp-number k v w first second ∙ sym (nat_cmp_is (word_number k v) (word_number k w) Equal same))).1
 
 -- two words are alike either way round
 Alike-sym : {r : LocalRule} (v w : List ℕ) → Alike r v w → Alike r w v

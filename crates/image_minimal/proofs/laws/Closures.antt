@@ -58,7 +58,7 @@ AreReadAlike-step {r} {s} {t} {a} {after} {also} rule letter h first second = re
       let back = IsBack-some r unread a in
       let one = IsWithin-back rule s first back.1 in
       let two = IsWithin-back rule t second back.1 in
-      let both = h.within back.0 (a ∷ z, (unread, letter, is, back.1)) in (
+      let both = h.within back.0 (a ∷ z, (unread, (letter, back.1), is)) in (
         (λ within. two.1 (both.0 (one.0 within))),
         (λ within. one.1 (both.1 (two.0 within))),
       );

@@ -96,7 +96,7 @@ both_within {r} {q} rule other h early [] u v none also i x at soon =
     let even = h.even i x at in
     subst (λ n. IsWithin r x.first n ↔ IsWithin q x.second v) (sym none) (subst (λ n. IsWithin r x.first 0 ↔ IsWithin q x.second n) (sym also)
     ((λ within. second.0 (even.0 (first.1 within))), (λ within. first.0 (even.1 (second.1 within)))))
-both_within {r} {q} {links} rule other h early (a ∷ z) u v (rest, letter, unread, back) (also, _, unread_also, back_also) i x at soon =
+both_within {r} {q} {links} rule other h early (a ∷ z) u v (rest, (letter, back), unread) (also, (_, back_also), unread_also) i x at soon =
     let s = IsStep-some r x.first a in
     let t = IsStep-some q x.second a in
     let chain = h.fills.done i a (s.0, t.0) (link_place x) (link_place_at links i x at) letter (early.edge i a z x at letter soon) (s.1, t.1) in

@@ -61,11 +61,11 @@ HaveSameOrphans-closed {r} {q} {links} {e} rule other states h closed v =
     orphan_early rule other states h early v (λ _. tt)
 
 -- before the edge that is followed next all lesser words are early
-abbrev IsBefore : ℕ → List Link → ℕ → ℕ → List ℕ → Type 0
-IsBefore k links bound i z = (w : List ℕ) → SpellsLink links i w → word_number k (w ++ z) ≤ bound
+abbrev AreLesserEarly : ℕ → List Link → ℕ → ℕ → List ℕ → Type 0
+AreLesserEarly k links bound i z = (w : List ℕ) → SpellsLink links i w → word_number k (w ++ z) ≤ bound
 
 early_before : {r q : LocalRule} {links : List Link} {h a : ℕ} {w : List ℕ} {x : Link} → IsRule r → IsLinking r q links (h * r.states + a) → SpellsLink links h w → slice_get links h ≡ Some x → a < r.states
-    → AreEarly r.states links (h * r.states + a) (IsBefore r.states links (word_number r.states w * r.states + a))
+    → AreEarly r.states links (h * r.states + a) (AreLesserEarly r.states links (word_number r.states w * r.states + a))
 early_before {r} {q} {links} {h} {a} {w} {x} rule linking reaches here letter =
     let k = r.states in
     record {

@@ -2,7 +2,7 @@
 use Rattle.std.proofs.Common.{◌≡◌, ℕ, ◌^◌, ◌<◌, ◌⊎◌, ◌↔◌, inl, inr, List, [], ◌∷◌, ◌++◌, IsBitSet, refl, sym, subst, arith, ⊎_elim, append-nil, append_assoc}
 use Rattle.std.proofs.lemmas.Bool.{cases_eq}
 use Rattle.std.proofs.lemmas.Nat.{pow_pos}
-use Rattle.std.proofs.lemmas.List.Elements.{All-nil, All-cons, All-tail}
+use Rattle.std.proofs.lemmas.List.Elements.{All-tail}
 use Rattle.word_image.specs.LocalRules.{LocalRule, IsRule, IsWord, node_count}
 use Rattle.word_image.specs.Words.{IsOrphan}
 use Rattle.word_image.specs.Graphs.{next, label}
@@ -14,7 +14,8 @@ use Rattle.word_image.proofs.laws.Graphs.{next-below}
 use Rattle.word_image.proofs.laws.LastSets.{IsLastSet-step, IsOrphan-empty_set}
 use Rattle.word_image.proofs.laws.Searches.{some_below}
 use Rattle.search_laws.proofs.StepSets.{some_set, IsStep-some, IsLastSet-unique, IsLastSet-orphan}
-use Rattle.image_minimal.specs.Closures.{IsWithin, IsLedInto, IsBack, IsUnread, IsUnreadSet}
+use Rattle.search_laws.proofs.Walks.{All-walk}
+use Rattle.image_minimal.specs.Closures.{IsWithin, IsLedInto, IsBack, StepsInto, IsUnread, IsUnreadSet}
 
 -- an edge leads to a node
 pub edge_below : {r : LocalRule} → IsRule r → (a u v : ℕ) → IsEdge Right r a u v → v < node_count r
@@ -44,17 +45,16 @@ IsUnread-some r [] word = (0, refl)
 IsUnread-some r (a ∷ z) word =
     let rest = IsUnread-some r z (All-tail (λ b. b < r.states) a z word) in
     let back = IsBack-some r rest.0 a in
-    (back.0, (rest.0, word 0 0 (omega arith), rest.1, back.1))
+    (back.0, (rest.0, (word 0 0 (omega arith), back.1), rest.1))
 
 -- its letters are below k
 pub IsWord-unread : (r : LocalRule) (z : List ℕ) (set : ℕ) → IsUnread r z set → IsWord r.states z
-IsWord-unread r [] set unread = All-nil (λ b. b < r.states)
-IsWord-unread r (a ∷ z) set (rest, letter, unread, back) = All-cons (λ b. b < r.states) a z letter (IsWord-unread r z rest unread)
+IsWord-unread r z set unread = All-walk (StepsInto r) (λ a. a < r.states) (λ s a t step. step.0) z set 0 unread
 
 -- these are nodes
 pub IsUnreadSet-below : {r : LocalRule} {set : ℕ} → IsUnreadSet r set → set < 2 ^ node_count r
 IsUnreadSet-below {r} {set} ([], none) = subst (λ n. n < 2 ^ node_count r) (sym none) (pow_pos (node_count r))
-IsUnreadSet-below (a ∷ z, (rest, letter, unread, back)) = back.of.within
+IsUnreadSet-below (a ∷ z, (rest, (letter, back), unread)) = back.of.within
 
 -- a step leads into a set exactly from within the nodes from which all its edges do
 pub IsWithin-back : {r : LocalRule} {a t set before : ℕ} → IsRule r → (s : ℕ) → IsStep r s a t → IsBack r set a before → (IsWithin r t set ↔ IsWithin r s before)
@@ -88,7 +88,7 @@ IsOrphan-unread {r} rule [] set same w s last =
     let none = IsWithin-zero r s last.last.within in
     subst (λ v. IsOrphan r v ↔ IsWithin r s set) (sym (append-nil w))
     (subst (λ n. IsOrphan r w ↔ IsWithin r s n) (sym same) ((λ is. none.0 (orphan.0 is)), (λ within. orphan.1 (none.1 within))))
-IsOrphan-unread {r} rule (a ∷ z) set (rest, letter, unread, back) w s last =
+IsOrphan-unread {r} rule (a ∷ z) set (rest, (letter, back), unread) w s last =
     let step = IsStep-some r s a in
     let later = IsOrphan-unread rule z rest unread (w ++ a ∷ []) step.0 (IsLastSet-step {set = s} rule last letter step.1) in
     let through = IsWithin-back rule s step.1 back in

@@ -53,11 +53,11 @@ AreOldLetters-more {k} {n} {colours} {letters} few h below before =
           (cases_lt a n);
     }
 
--- a word is what its recoloured word has for old letters
-recoloured_back : {k : ℕ} {colours letters : List ℕ} → AreOldLetters k colours k letters → (w : List ℕ) → IsWord k w → recoloured letters (recoloured colours w) ≡ w
-recoloured_back {k} {colours} {letters} h [] word = refl
-recoloured_back {k} {colours} {letters} h (a ∷ w) word =
-    ap₂ (λ (b : ℕ) (x : List ℕ). b ∷ x) (h.back a (All-head (λ a. a < k) a w word)) (recoloured_back h w (All-tail (λ a. a < k) a w word))
+-- a word comes back, where each letter does
+pub recoloured_back : {k : ℕ} (letters colours : List ℕ) → ((a : ℕ) → a < k → slice_index letters (slice_index colours a) ≡ a) → (w : List ℕ) → IsWord k w → recoloured letters (recoloured colours w) ≡ w
+recoloured_back letters colours back [] word = refl
+recoloured_back {k} letters colours back (a ∷ w) word =
+    ap₂ (λ (b : ℕ) (x : List ℕ). b ∷ x) (back a (All-head (λ a. a < k) a w word)) (recoloured_back letters colours back w (All-tail (λ a. a < k) a w word))
 
 -- the new colour of what the rule gives on a window in its old letters
 abbrev pub new_colour : LocalRule → List ℕ → List ℕ → List ℕ → ℕ
@@ -85,7 +85,7 @@ IsRecoloured-rule {r} {colours} {letters} rule h old = record {
   letters = λ w word long.
       let some : 0 < r.states = omega (arith, rule.shape.least_states) in
       table_by-at r.states r.width (new_colour r colours letters) (recoloured colours w) (IsWord-recoloured r.states colours h.word some w) (length-map w (slice_index colours) ∙ long)
-      ∙ ap (λ x. slice_index colours (local_map r x)) (recoloured_back old w word);
+      ∙ ap (λ x. slice_index colours (local_map r x)) (recoloured_back letters colours old.back w word);
 }
 
 -- the images of recoloured words are the recoloured images

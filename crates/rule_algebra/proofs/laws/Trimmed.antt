@@ -1,11 +1,12 @@
 -- Last cells are the first cells of the mirrored rule, and a trimmed rule is twice without its first cells.
-use Rattle.std.proofs.Common.{◌≡◌, ℕ, ◌+◌, ◌-◌, ◌<◌, ◌≤◌, List, ◌++◌, length, take, drop, reverse, replicate, sym, ap, ap₂, subst, ◌∙◌, arith, length-append, length-drop, take-append-drop, ℤ, pos, negsuc, ◌+ℤ◌, neg_ℤ}
-use Rattle.std.proofs.Math.Seq.{drop-append_seam, take-append-add}
+use Rattle.std.proofs.Common.{◌≡◌, ℕ, ◌+◌, ◌-◌, ◌<◌, ◌≤◌, List, ◌++◌, length, take, drop, reverse, replicate, sym, ap, ap₂, subst, ◌∙◌, arith, length-append, length-drop, ℤ, pos, negsuc, ◌+ℤ◌, neg_ℤ}
+use Rattle.std.proofs.Math.Seq.{take-append-add}
 use Rattle.std.proofs.lemmas.Int.{ints}
-use Rattle.std.proofs.lemmas.List.{length-reverse, length-replicate, reverse-reverse, reverse-append, drop-take}
+use Rattle.std.proofs.lemmas.List.{length-reverse, length-replicate, reverse-reverse, drop-take}
 use Rattle.std.proofs.lemmas.List.Elements.{All-drop, All-append, All-replicate}
 use Rattle.word_image.specs.LocalRules.{LocalRule, IsRule, IsWord, local_map, mirrored}
 use Rattle.word_image.proofs.laws.Images.{IsWord-reverse, local_map-mirrored}
+use Rattle.word_image.proofs.laws.Lists.{reverse-cut}
 use Rattle.tail_config.specs.Tails.{TailConfig, IsTail, image_cell, mirror_of}
 use Rattle.tail_config.specs.TailValues.{config_of}
 use Rattle.tail_config.proofs.laws.Mirror.{IsTail-mirror, image_cell-mirror}
@@ -31,27 +32,10 @@ KeepsImages-mirrored {r} {g} rule other same keeps = λ t i tail.
     ∙ keeps (mirror_of t) j there
     ∙ image_cell-mirror rule tail j i fore
 
--- a word read backwards without its first letters is the word without its last ones, read backwards
-drop-reverse : (e n : ℕ) (x : List ℕ) → length x ≡ n → e ≤ n → drop e (reverse x) ≡ reverse (take (n - e) x)
-drop-reverse e n x long h =
-    let a : List ℕ = take (n - e) x in
-    let b : List ℕ = drop (n - e) x in
-    let last : length (reverse b) ≡ e = omega (arith, length-reverse b, length-drop (n - e) x) in
-    ap (λ y. drop e (reverse y)) (sym (take-append-drop (n - e) x))
-    ∙ ap (drop e) (reverse-append a b)
-    ∙ ap (λ j. drop j (reverse b ++ reverse a)) (sym last)
-    ∙ drop-append_seam (reverse b) (reverse a)
-
--- and the other way round
-take-reverse : (e n : ℕ) (x : List ℕ) → length x ≡ n → e ≤ n → take (n - e) (reverse x) ≡ reverse (drop e x)
-take-reverse e n x long h =
-    sym (reverse-reverse (take (n - e) (reverse x)))
-    ∙ ap reverse (sym (drop-reverse e n (reverse x) (length-reverse x ∙ long) h) ∙ ap (drop e) (reverse-reverse x))
-
 -- ignored last cells are ignored first cells of the mirrored rule
 Ignores-mirrored : (r : LocalRule) (e : ℕ) → e ≤ r.width → Ignores r 0 e → Ignores (mirrored r) e 0
 Ignores-mirrored r e h ignored = Ignores-firsts (mirrored r) e (λ v w hv hw lv lw same.
-    let kept : take (r.width - e) (reverse v) ≡ take (r.width - e) (reverse w) = take-reverse e r.width v lv h ∙ ap reverse same ∙ sym (take-reverse e r.width w lw h) in
+    let kept : take (r.width - e) (reverse v) ≡ take (r.width - e) (reverse w) = (reverse-cut e (r.width - e) v (omega arith)).0 ∙ ap reverse same ∙ sym (reverse-cut e (r.width - e) w (omega arith)).0 in
     local_map-mirrored r v hv lv
     ∙ ignored (reverse v) (reverse w) (IsWord-reverse r.states v hv) (IsWord-reverse r.states w hw) (length-reverse v ∙ lv) (length-reverse w ∙ lw) kept
     ∙ sym (local_map-mirrored r w hw lw))
@@ -61,7 +45,7 @@ mirrored-Ignores : (r : LocalRule) (e : ℕ) → e ≤ r.width → Ignores (mirr
 mirrored-Ignores r e h ignored = λ v w hv hw lv lw same.
     let turn : (x : List ℕ) → IsWord r.states x → length x ≡ r.width → local_map r x ≡ local_map (mirrored r) (reverse x) = λ x word long.
     ap (local_map r) (sym (reverse-reverse x)) ∙ sym (local_map-mirrored r (reverse x) (IsWord-reverse r.states x word) (length-reverse x ∙ long)) in
-    let kept : drop e (reverse v) ≡ drop e (reverse w) = drop-reverse e r.width v lv h ∙ ap reverse same ∙ sym (drop-reverse e r.width w lw h) in
+    let kept : drop e (reverse v) ≡ drop e (reverse w) = (reverse-cut (r.width - e) e v (omega arith)).1 ∙ ap reverse same ∙ sym (reverse-cut (r.width - e) e w (omega arith)).1 in
     turn v hv lv
     ∙ firsts_ignored (mirrored r) e ignored (reverse v) (reverse w) (IsWord-reverse r.states v hv) (IsWord-reverse r.states w hw) (length-reverse v ∙ lv) (length-reverse w ∙ lw) kept
     ∙ sym (turn w hw lw)

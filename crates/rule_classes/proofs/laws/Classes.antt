@@ -32,15 +32,15 @@ class-shape r {g} true h = (h.recoloured.states, h.recoloured.width)
 class-shape r {g} false h = (h.recoloured.states, h.recoloured.width)
 
 -- the verdicts on two rules are one
-record Alike (r g : LocalRule) : Type 0 where
+record AgreeInVerdicts (r g : LocalRule) : Type 0 where
   pub surjective : IsSurjective r ↔ IsSurjective g
   pub injective : IsInjective r ↔ IsInjective g
   pub right : IsRightClosing r ↔ IsRightClosing g
   pub left : IsLeftClosing r ↔ IsLeftClosing g
 
 -- on a rule and the recoloured rule
-Alike-recoloured : {r g : LocalRule} {colours back : List ℕ} → IsRule r → IsRule g → AreInverse r.states colours back → IsRecoloured colours r g → Alike r g
-Alike-recoloured {r} {g} {colours} {back} rule also inverse new =
+AgreeInVerdicts-recoloured : {r g : LocalRule} {colours back : List ℕ} → IsRule r → IsRule g → AreInverse r.states colours back → IsRecoloured colours r g → AgreeInVerdicts r g
+AgreeInVerdicts-recoloured {r} {g} {colours} {back} rule also inverse new =
     let other : AreInverse g.states back colours = subst (λ k. AreInverse k back colours) (sym new.states) (AreInverse-swap inverse) in
     let old = IsRecoloured-back rule inverse new in
     record {
@@ -57,7 +57,7 @@ through first second = (λ a. second.0 (first.0 a), λ c. first.1 (second.1 c))
 -- the verdicts on a rule are those on each rule of its class, with right and left exchanged by a mirror
 pub HaveOneVerdict-class : {r g : LocalRule} → IsRule r → (mirror : Bool) → IsInClass r mirror g → HaveOneVerdict r mirror g
 HaveOneVerdict-class {r} {g} rule true h =
-    let alike = Alike-recoloured (IsRule-mirrored rule) (IsRule-class rule true h) (inverse_letters h.recolouring).1 h.recoloured in
+    let alike = AgreeInVerdicts-recoloured (IsRule-mirrored rule) (IsRule-class rule true h) (inverse_letters h.recolouring).1 h.recoloured in
     record {
       surjective = through (IsSurjective-mirrored rule) alike.surjective;
       injective = through (IsInjective-mirrored rule) alike.injective;
@@ -67,7 +67,7 @@ HaveOneVerdict-class {r} {g} rule true h =
       left_mirrored = λ e. through (IsLeftClosing-mirrored rule) alike.right;
     }
 HaveOneVerdict-class {r} {g} rule false h =
-    let alike = Alike-recoloured rule (IsRule-class rule false h) (inverse_letters h.recolouring).1 h.recoloured in
+    let alike = AgreeInVerdicts-recoloured rule (IsRule-class rule false h) (inverse_letters h.recolouring).1 h.recoloured in
     record {
       surjective = alike.surjective;
       injective = alike.injective;

@@ -6,6 +6,7 @@ use Rattle.std.proofs.lemmas.List.Elements.{All-map, All-from_get_or, All-head, 
 use Rattle.word_image.specs.LocalRules.{IsWord}
 use Rattle.word_image.proofs.laws.Searches.{twice_below}
 use Rattle.rule_algebra.specs.Algebra.{IsRecolouring, recoloured}
+use Rattle.rule_algebra.proofs.laws.Recolouring.{recoloured_back}
 use Rattle.rule_classes.specs.Colourings.{AreInverse}
 
 -- the same, the other way round
@@ -91,6 +92,4 @@ IsWord-colours {k} {colours} {letters} h w word = All-map (λ a. a < k) (slice_i
 
 -- and comes back
 pub recoloured-back : {k : ℕ} {colours letters : List ℕ} → AreInverse k colours letters → (w : List ℕ) → IsWord k w → recoloured colours (recoloured letters w) ≡ w
-recoloured-back {k} {colours} {letters} h [] word = refl
-recoloured-back {k} {colours} {letters} h (a ∷ w) word =
-    ap₂ (λ (b : ℕ) (x : List ℕ). b ∷ x) (h.there a (All-head (λ b. b < k) a w word)) (recoloured-back h w (All-tail (λ b. b < k) a w word))
+recoloured-back {colours = colours} {letters = letters} h w word = recoloured_back colours letters h.there w word

@@ -9,7 +9,7 @@ use Rattle.word_image.proofs.laws.Values.{value-snoc, value-below, value-injecti
 use Rattle.word_image.proofs.laws.Images.{IsWord-reverse, local_map-mirrored}
 use Rattle.word_image.proofs.laws.RuleFaults.{window_count-le}
 use Rattle.word_image.proofs.laws.WindowParts.{some_letter, window_with-within}
-use Rattle.word_image.specs.Sides.{window_with, end_node}
+use Rattle.word_image.specs.Ends.{window_with, end_node}
 use Rattle.word_image.specs.declared.side.Side.TheVariants.{Right}
 use Rattle.rule_algebra.specs.Algebra.{recoloured}
 use Rattle.rule_classes.specs.Classes.{turned}

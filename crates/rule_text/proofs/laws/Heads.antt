@@ -21,7 +21,7 @@ Says-same {x = x} {text = text} {a = a} {b = b} {p = p} {states = states} {width
     subst (λ (y : List ℕ). Says y (saying states width z entries place)) whole third
 
 -- an offset is a sign, or none, and digits
-record IsSigned (o : List ℕ) (z : ℤ) : Type 0 where
+record IsOffsetText (o : List ℕ) (z : ℤ) : Type 0 where
   minus : Bool
   digits : List ℕ
   decimal : IsDecimal 1 2 digits
@@ -29,9 +29,9 @@ record IsSigned (o : List ℕ) (z : ℤ) : Type 0 where
   value : z ≡ signed minus (decimal_value digits)
 
 -- each offset of the grammar is of this form
-IsSigned-IsOffset : {o : List ℕ} {z : ℤ} → IsOffset o z → IsSigned o z
-IsSigned-IsOffset (Plain digits d) = record { minus = false; digits = digits; decimal = d; text = refl; value = refl }
-IsSigned-IsOffset (Minus digits d) = record { minus = true; digits = digits; decimal = d; text = refl; value = refl }
+IsOffsetText-IsOffset : {o : List ℕ} {z : ℤ} → IsOffset o z → IsOffsetText o z
+IsOffsetText-IsOffset (Plain digits d) = record { minus = false; digits = digits; decimal = d; text = refl; value = refl }
+IsOffsetText-IsOffset (Minus digits d) = record { minus = true; digits = digits; decimal = d; text = refl; value = refl }
 
 -- and each such form is an offset
 IsOffset-signed : (minus : Bool) (digits : List ℕ) → IsDecimal 1 2 digits → IsOffset (sign minus ++ digits) (signed minus (decimal_value digits))
@@ -42,7 +42,7 @@ IsOffset-signed false digits d = Plain digits d
 IsOffset-after : (minus : Bool) (digits : List ℕ) (z : ℤ) → (minus ≡ false → get_or digits 0 0 ≢ 45) → IsOffset (sign minus ++ digits) z
     → IsDecimal 1 2 digits × (signed minus (decimal_value digits) ≡ z)
 IsOffset-after minus digits z plain offset =
-    let p = IsSigned-IsOffset offset in
+    let p = IsOffsetText-IsOffset offset in
     elim (same_signed minus p.minus digits p.digits p.text) [
       | inl same ↦ (subst (IsDecimal 1 2) (sym same.1) p.decimal, ap₂ (λ (b : Bool) (x : List ℕ). signed b (decimal_value x)) same.0 same.1 ∙ sym p.value)
       | inr (inl other) ↦
@@ -114,7 +114,7 @@ Field-head : (k m o y : List ℕ) (z : ℤ) (kd : Kind) (place : ℕ) → IsDeci
     → Field AfterStates 0 (head k m o (kind_text kd) ++ y) (saying (decimal_value k) (decimal_value m) z (entries_of kd y) place)
 unfolding parts_of place_of
 Field-head k m o y z kd place states width offset entries long =
-    let p = IsSigned-IsOffset offset in
+    let p = IsOffsetText-IsOffset offset in
     let entry : List ℕ = kind_text kd ++ y in
     let after_sign : List ℕ = p.digits ++ colon ∷ entry in
     let ends = long ∙ ap (λ x. length (head k m x (kind_text kd))) p.text ∙ head-place k m p.minus p.digits kd in

@@ -84,19 +84,19 @@ HasParts-unique {t = t} {u = u} p q =
     a.1 ∙ ap₂ (λ (l m : List ℕ). letters_of l m p.right) first.0 second.0 ∙ ap (λ r. letters_of q.left q.middle r) second.1 ∙ sym b.1
 
 -- how many bars there are after one byte more, unless no text of the grammar goes on so
-abbrev next : ℕ → ℕ → Option ℕ
-next n b = if is_some (hex_value b) then Some n else (if (b == bar) && nat_lt n 2 then Some (n + 1) else None)
+abbrev bars_after : ℕ → ℕ → Option ℕ
+bars_after n b = if is_some (hex_value b) then Some n else (if (b == bar) && nat_lt n 2 then Some (n + 1) else None)
 
 -- and after more bytes
 abbrev bars : ℕ → List ℕ → Option ℕ
 bars n [] = Some n
-bars n (b ∷ x) = option_and_then (λ m. bars m x) (next n b)
+bars n (b ∷ x) = option_and_then (λ m. bars m x) (bars_after n b)
 
 -- over two texts in a row
 bars-append : (n : ℕ) (x y : List ℕ) → bars n (x ++ y) ≡ option_and_then (λ m. bars m y) (bars n x)
 bars-append n [] y = refl
 bars-append n (b ∷ x) y =
-    elim (next n b) as (λ o. option_and_then (λ m. bars m (x ++ y)) o ≡ option_and_then (λ m. bars m y) (option_and_then (λ m. bars m x) o)) [
+    elim (bars_after n b) as (λ o. option_and_then (λ m. bars m (x ++ y)) o ≡ option_and_then (λ m. bars m y) (option_and_then (λ m. bars m x) o)) [
       | None ↦ refl
       | Some m ↦ bars-append m x y
     ]
@@ -105,13 +105,13 @@ bars-append n (b ∷ x) y =
 bars-digits : (n : ℕ) (d : List ℕ) → All IsHexDigit d → bars n d ≡ Some n
 bars-digits n [] all = refl
 bars-digits n (b ∷ d) all =
-    let digit : next n b ≡ Some n = ap (λ o. if is_some o then Some n else (if (b == bar) && nat_lt n 2 then Some (n + 1) else None)) (some_value (hex_value b) (All-head IsHexDigit b d all)) in
+    let digit : bars_after n b ≡ Some n = ap (λ o. if is_some o then Some n else (if (b == bar) && nat_lt n 2 then Some (n + 1) else None)) (some_value (hex_value b) (All-head IsHexDigit b d all)) in
     ap (option_and_then (λ m. bars m d)) digit ∙ bars-digits n d (All-tail IsHexDigit b d all)
 
 -- a bar and digits after it
 bars-more : (n : ℕ) (x d : List ℕ) → n < 2 → All IsHexDigit d → bars 0 x ≡ Some n → bars 0 (x ++ codes "|" ++ d) ≡ Some (n + 1)
 bars-more n x d less all e =
-    let one : next n bar ≡ Some (n + 1) = grind (arith, nat_tests) in
+    let one : bars_after n bar ≡ Some (n + 1) = grind (arith, nat_tests) in
     ap (bars 0) (append_assoc x (codes "|") d) ∙ bars-append 0 x (bar ∷ d) ∙ ap (option_and_then (λ m. bars m (bar ∷ d))) e
     ∙ ap (option_and_then (λ m. bars m d)) one ∙ bars-digits (n + 1) d all
 
@@ -132,7 +132,7 @@ bars-HasForm (t, p) =
     (bars-more 0 p.left p.middle (omega arith) cut.middle_digits (bars-digits 0 p.left cut.left_digits))
 
 -- no text of the grammar goes on with a byte that can't come next
-not-Begins : (x : List ℕ) (n b : ℕ) → bars 0 x ≡ Some n → next n b ≡ None → ¬ Begins HasForm (x ++ b ∷ [])
+not-Begins : (x : List ℕ) (n b : ℕ) → bars 0 x ≡ Some n → bars_after n b ≡ None → ¬ Begins HasForm (x ++ b ∷ [])
 not-Begins x n b e none begins =
     let whole : bars 0 ((x ++ b ∷ []) ++ begins.more) ≡ Some 2 = bars-HasForm begins.whole in
     let lost : bars 0 ((x ++ b ∷ []) ++ begins.more) ≡ None =
@@ -141,8 +141,8 @@ not-Begins x n b e none begins =
     none-some 2 (sym lost ∙ whole)
 
 -- neither does a byte that is no digit, and no bar that may come
-next-none : (n b : ℕ) → ¬ IsHexDigit b → (b ≡ bar → 2 ≤ n) → next n b ≡ None
-next-none n b other last =
+bars_after-none : (n b : ℕ) → ¬ IsHexDigit b → (b ≡ bar → 2 ≤ n) → bars_after n b ≡ None
+bars_after-none n b other last =
     elim (hex_value b) as (λ o. (o ≢ None → ⊥) → (if is_some o then Some n else (if (b == bar) && nat_lt n 2 then Some (n + 1) else None)) ≡ None) [
       | None ↦ λ h. grind (arith, nat_tests)
       | Some a ↦ λ h. absurd (h (λ e. none-some a (sym e)))
@@ -154,7 +154,7 @@ pub IsFormFault-bars : (text : List ℕ) (place n : ℕ) → place ≤ length te
     → IsFormFault HasForm text place
 IsFormFault-bars text place n within begins e digit last few =
     IsFormFault-stuck text place within begins
-    (λ inside longer. not-Begins (take place text) n (get_or text place 0) e (next-none n (get_or text place 0) (digit inside) (last inside))
+    (λ inside longer. not-Begins (take place text) n (get_or text place 0) e (bars_after-none n (get_or text place 0) (digit inside) (last inside))
     (subst (Begins HasForm) (take_more text place 0 inside) longer))
     (λ end whole.
     let same : bars 0 text ≡ Some n = ap (bars 0) (sym (take_all place text end)) ∙ e in

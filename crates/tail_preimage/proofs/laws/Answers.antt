@@ -1,15 +1,15 @@
 -- The two answers as they are found, and that there is one answer.
-use Rattle.std.proofs.Common.{◌≡◌, ℕ, ◌≤◌, List, refl, sym, ap, ap₂, ◌∙◌, subst, arith, ⊎_elim}
+use Rattle.std.proofs.Common.{◌≡◌, ℕ, ◌≤◌, List, refl, sym, ap, ap₂, ◌∙◌, subst, arith, ⊎_elim, IsBitSet}
 use Rattle.std.proofs.lemmas.Bool.{cases_lt}
 use Rattle.word_image.specs.LocalRules.{LocalRule}
 use Rattle.word_image.specs.Words.{IsOrphan}
-use Rattle.word_image.specs.Graphs.{IsNodeSet}
+use Rattle.word_image.specs.Graphs.{IsNodeSet, HasBit}
 use Rattle.tail_config.specs.Tails.{TailConfig, IsTail}
 use Rattle.tail_preimage.specs.Preimages.{PlacedConfig, Shape, IsLeastGap, stretch, IsGap}
 use Rattle.tail_preimage.specs.Answers.{IsPreimageAnswer, placed_config}
-use Rattle.tail_preimage.specs.Relations.{Relates, Open}
+use Rattle.tail_preimage.specs.Relations.{Open, IsFirst}
 use Rattle.tail_preimage.specs.Parts.{AreTailParts, PassesThrough, Starts, IsFirstGap}
-use Rattle.tail_preimage.specs.FirstWalks.{AreLoopWalks, IsLeastNode}
+use Rattle.tail_preimage.specs.FirstWalks.{AreLoopWalks}
 use Rattle.tail_preimage.specs.declared.answer.Pre.{Pre}
 use Rattle.tail_preimage.specs.declared.answer.Pre.TheVariants.{From, Gap}
 use Rattle.tail_preimage.specs.declared.shapes.Parts.{Parts}
@@ -23,8 +23,8 @@ use Rattle.tail_preimage.proofs.laws.LeastPreimages.{IsLeastPreimage-unique}
 -- where 16 right periods lead through any number of them does
 PassesThrough-any : {r : LocalRule} {t : TailConfig} {parts : Parts} → AreTailParts r t parts → (b a : ℕ) → PassesThrough r parts b 16 → PassesThrough r parts b a
 PassesThrough-any {r} {parts = parts} h b a =
-    let C : ℕ → ℕ → Type 0 = Relates parts.right.period in
-    Through-map r parts (Open (Relates parts.left.period) b) (Open C 16) (Open (Relates parts.left.period) b) (Open C a) (λ v _ leads. leads) (λ w node leads.
+    let C : ℕ → ℕ → Type 0 = HasBit parts.right.period in
+    Through-map r parts (Open (HasBit parts.left.period) b) (Open C 16) (Open (HasBit parts.left.period) b) (Open C a) (λ v _ leads. leads) (λ w node leads.
     let (sum, few, (n, on, both, some, rounds)) = SomeRounds-periods h.rule h.right node leads in
     Open-rounds C n on w some rounds a)
 
@@ -45,10 +45,10 @@ IsGap-first {r} {t} ht h b a gap =
     }
 
 -- the least of the nodes from which walks of a shape lead
-pub Starts-least : {r : LocalRule} {t : TailConfig} {parts : Parts} {s : Shape} {set v : ℕ} → AreTailParts r t parts → IsNodeSet r (Starts r parts s) set → IsLeastNode set v
+pub Starts-least : {r : LocalRule} {t : TailConfig} {parts : Parts} {s : Shape} {set v : ℕ} → AreTailParts r t parts → IsNodeSet r (Starts r parts s) set → IsFirst (IsBitSet set) v
     → (u q : ℕ) (a b c : List ℕ) → AreLoopWalks r t s u q a b c → v ≤ u
 Starts-least {v = v} h set least u q a b c walks =
-    ⊎_elim (λ l. absurd (least.least u l ((set.nodes u (IsWalk-first walks.left)).1 (walks-Starts h walks)))) (λ l. l) (cases_lt u v)
+    ⊎_elim (λ l. absurd (least.none u l ((set.nodes u (IsWalk-first walks.left)).1 (walks-Starts h walks)))) (λ l. l) (cases_lt u v)
 
 -- there is one least gap
 IsLeastGap-unique : {r : LocalRule} {t : TailConfig} {b a c d : ℕ} {w z : List ℕ} → IsLeastGap r t b a w → IsLeastGap r t c d z → (b ≡ c) × (a ≡ d) × (w ≡ z)

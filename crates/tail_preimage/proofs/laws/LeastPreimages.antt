@@ -12,7 +12,7 @@ use Rattle.std.proofs.lemmas.List.{take-append-drop, drop-append-le, length-take
 use Rattle.std.proofs.lemmas.List.Elements.{All-take}
 use Rattle.word_image.specs.LocalRules.{LocalRule, IsRule, value}
 use Rattle.word_image.proofs.laws.Bits.{IsBitSet-pow}
-use Rattle.word_image.proofs.laws.Orders.{slice_cmp-value}
+use Rattle.word_image.proofs.laws.Orders.{slice_cmp-value, then_equal}
 use Rattle.word_image.proofs.laws.Comparisons.{then_not_greater, nat_cmp-equal, slice_cmp-same}
 use Rattle.tail_config.specs.Tails.{TailConfig, IsTail}
 use Rattle.tail_config.specs.TailValues.{config_of}
@@ -22,7 +22,7 @@ use Rattle.tail_preimage.specs.FirstWalks.{AreLoopWalks, AreFirstWalks, placed_o
 use Rattle.tail_preimage.proofs.laws.Walks.{same_first, IsWalk-last}
 use Rattle.tail_preimage.proofs.laws.Placements.{IsShapedPreimage-placed_of, join-before_last, length-before_last, IsWalk-then}
 use Rattle.tail_preimage.proofs.laws.PlacedWalks.{HasLoopWalks-shape}
-use Rattle.tail_preimage.proofs.laws.Orders.{slice_cmp-append, slice_cmp-equal, first_not_greater, then_equal, tied}
+use Rattle.tail_preimage.proofs.laws.Orders.{slice_cmp-append, slice_cmp-equal, first_not_greater, tied}
 
 -- two walks of one length are compared by their first nodes, and then by the letters behind them
 cmp-first : (r : LocalRule) (x y : List ℕ) → r.width - 1 ≤ length x → length x ≡ length y

@@ -6,6 +6,7 @@ use Rattle.std.specs.Cmp.Lexicographic.{slice_cmp}
 use Rattle.std.specs.declared.cmp.Ordering.{Ordering}
 use Rattle.std.specs.declared.cmp.Ordering.TheVariants.{Less, Equal, Greater}
 use Rattle.word_image.proofs.laws.Comparisons.{then_not_greater, nat_cmp-le, nat_cmp-equal}
+use Rattle.word_image.proofs.laws.Orders.{then_equal}
 
 -- three orderings in turn
 then_assoc : (a b c : Ordering) → ordering_then (ordering_then a b) c ≡ ordering_then a (ordering_then b c)
@@ -23,11 +24,6 @@ slice_cmp-append _ b _ d e = absurd (omega arith)
 pub first_not_greater : (a b : Ordering) → ordering_then a b ≢ Greater → a ≢ Greater
 first_not_greater Greater b h e = h refl
 first_not_greater _ b h e = cc
-
--- both are equal if both together are
-pub then_equal : (a b : Ordering) → ordering_then a b ≡ Equal → (a ≡ Equal) × (b ≡ Equal)
-then_equal Equal b e = (refl, e)
-then_equal _ b e = absurd (cc)
 
 -- words that compare equal are equal
 pub slice_cmp-equal : (x y : List ℕ) → slice_cmp nat_cmp x y ≡ Equal → x ≡ y

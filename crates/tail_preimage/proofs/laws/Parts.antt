@@ -7,7 +7,8 @@ use Rattle.pair_laws.proofs.Sets.{IsBitSet-below}
 use Rattle.tail_config.specs.Tails.{TailConfig, IsTail}
 use Rattle.tail_preimage.specs.Walks.{HasWalk}
 use Rattle.tail_preimage.specs.Preimages.{Shape, stretch}
-use Rattle.tail_preimage.specs.Relations.{IsRelation, Relates, Steps, Open, SomeRounds}
+use Rattle.tail_preimage.specs.Relations.{IsRelation, Steps, Open, SomeRounds}
+use Rattle.word_image.specs.Graphs.{HasBit}
 use Rattle.tail_preimage.specs.Parts.{ArePeriods, AreTailParts, PassesThrough, Starts, IsPossible}
 use Rattle.tail_preimage.specs.FirstWalks.{AreLoopWalks}
 use Rattle.tail_preimage.specs.declared.periods.Periods.{Periods}
@@ -17,22 +18,22 @@ use Rattle.tail_preimage.proofs.laws.Stretches.{repeat-more, IsWord-stretch}
 use Rattle.tail_preimage.proofs.laws.Steps.{Steps-none, Steps-stay, Steps-cons, Steps-first, Steps-end, SomeRounds-open}
 
 -- a relation's rows relate nodes to nodes
-pub IsRelation-below : {r : LocalRule} {E : ℕ → ℕ → Type 0} {table : List ℕ} → IsRelation r E table → (u v : ℕ) → u < node_count r → Relates table u v → (v < node_count r) × E u v
+pub IsRelation-below : {r : LocalRule} {E : ℕ → ℕ → Type 0} {table : List ℕ} → IsRelation r E table → (u v : ℕ) → u < node_count r → HasBit table u v → (v < node_count r) × E u v
 IsRelation-below {r} {table = table} h u v l bit =
     let row = h.rows u l in
     let below : v < node_count r = IsBitSet-below (node_count r) _ v row.within bit in
     (below, (row.nodes v below).0 bit)
 
 -- periods lead from nodes to nodes
-pub ArePeriods-end : {r : LocalRule} {periods : Periods} {n u v : ℕ} → ArePeriods r periods → u < node_count r → Steps (Relates periods.period) n u v → v < node_count r
+pub ArePeriods-end : {r : LocalRule} {periods : Periods} {n u v : ℕ} → ArePeriods r periods → u < node_count r → Steps (HasBit periods.period) n u v → v < node_count r
 ArePeriods-end {r} h node steps = Steps-end (λ a b l bit. IsBitSet-below (node_count r) _ b (h.period a l) bit) node steps
 
 -- the relation of n periods has them
-pub ArePeriods-row : {r : LocalRule} {periods : Periods} → ArePeriods r periods → (n : ℕ) → n ≤ 16 → (u v : ℕ) → u < node_count r → Relates (get_or periods.powers n []) u v ↔ Steps (Relates periods.period) n u v
+pub ArePeriods-row : {r : LocalRule} {periods : Periods} → ArePeriods r periods → (n : ℕ) → n ≤ 16 → (u v : ℕ) → u < node_count r → HasBit (get_or periods.powers n []) u v ↔ Steps (HasBit periods.period) n u v
 ArePeriods-row h n few u v l = let rel = h.powers n few in ((λ bit. (IsRelation-below rel u v l bit).1), (λ steps. ((rel.rows u l).nodes v (ArePeriods-end h l steps)).1 steps))
 
 -- steps of a word's relation are walks along copies of it
-pub Steps-repeat : {r : LocalRule} {p table : List ℕ} → IsRule r → IsRelation r (HasWalk r p) table → (n u v : ℕ) → u < node_count r → Steps (Relates table) n u v ↔ HasWalk r (repeat n p) u v
+pub Steps-repeat : {r : LocalRule} {p table : List ℕ} → IsRule r → IsRelation r (HasWalk r p) table → (n u v : ℕ) → u < node_count r → Steps (HasBit table) n u v ↔ HasWalk r (repeat n p) u v
 Steps-repeat {r} rule h zero u v l = ((λ steps. subst (HasWalk r [] u) (Steps-stay steps) (_, IsWalk-none r u l)), (λ walk. Steps-none (IsWalk-stays walk.1)))
 Steps-repeat {r} {p} rule h (suc n) u v l = (
   (λ steps.
@@ -45,7 +46,7 @@ Steps-repeat {r} {p} rule h (suc n) u v l = (
 )
 
 -- and read backwards they are such walks backwards
-pub Steps-reversed : {r : LocalRule} {p table : List ℕ} → IsRule r → IsRelation r (λ u v. HasWalk r p v u) table → (n u v : ℕ) → u < node_count r → Steps (Relates table) n u v ↔ HasWalk r (repeat n p) v u
+pub Steps-reversed : {r : LocalRule} {p table : List ℕ} → IsRule r → IsRelation r (λ u v. HasWalk r p v u) table → (n u v : ℕ) → u < node_count r → Steps (HasBit table) n u v ↔ HasWalk r (repeat n p) v u
 Steps-reversed {r} rule h zero u v l = ((λ steps. subst (λ n. HasWalk r [] n u) (Steps-stay steps) (_, IsWalk-none r u l)), (λ walk. Steps-none (sym (IsWalk-stays walk.1))))
 Steps-reversed {r} {p} rule h (suc n) u v l =
     let more : repeat (suc n) p ≡ repeat n p ++ p = let e : suc n ≡ n + 1 = omega arith in ap (λ i. repeat i p) e ∙ repeat-more n p in (
@@ -126,6 +127,6 @@ pub PassesThrough-IsOrphan : {r : LocalRule} {t : TailConfig} {parts : Parts} �
 PassesThrough-IsOrphan ht h b a none = IsOrphan-none (IsWord-stretch ht b a) (λ u s walk. none (walk-PassesThrough h b a walk))
 
 -- where 16 periods lead somewhere, few lead to a loop
-pub SomeRounds-periods : {r : LocalRule} {E : ℕ → ℕ → Type 0} {table : List ℕ} {u : ℕ} → IsRule r → IsRelation r E table → u < node_count r → Open (Relates table) 16 u
-    → (sum : ℕ) × (sum ≤ 16) × SomeRounds (Relates table) sum u
+pub SomeRounds-periods : {r : LocalRule} {E : ℕ → ℕ → Type 0} {table : List ℕ} {u : ℕ} → IsRule r → IsRelation r E table → u < node_count r → Open (HasBit table) 16 u
+    → (sum : ℕ) × (sum ≤ 16) × SomeRounds (HasBit table) sum u
 SomeRounds-periods rule h l leads = SomeRounds-open rule.shape.most_nodes (λ v w node bit. (IsRelation-below h v w node bit).0) l leads

@@ -3,12 +3,12 @@ use Rattle.std.proofs.Common.{◌≡◌, ◌↔◌, ℕ, ◌+◌, ◌-◌, ◌<�
 use Rattle.std.specs.Ordering.{ordering_then, nat_cmp}
 use Rattle.std.proofs.lemmas.Bool.{cases_lt}
 use Rattle.word_image.specs.LocalRules.{LocalRule, node_count}
-use Rattle.word_image.specs.Graphs.{IsNodeSet}
+use Rattle.word_image.specs.Graphs.{IsNodeSet, HasBit}
 use Rattle.word_image.proofs.laws.Comparisons.{nat_cmp-le}
 use Rattle.pair_laws.proofs.Sets.{IsBitSet-below}
 use Rattle.tail_config.specs.Tails.{TailConfig}
 use Rattle.tail_preimage.specs.Preimages.{Shape}
-use Rattle.tail_preimage.specs.Relations.{Relates, Open, Rounds, SomeRounds, Meets, IsFirst}
+use Rattle.tail_preimage.specs.Relations.{Open, Rounds, SomeRounds, Meets, IsFirst}
 use Rattle.tail_preimage.specs.Parts.{AreTailParts, Through, PassesThrough, IsPossible, IsFirstShape}
 use Rattle.tail_preimage.specs.declared.shapes.Parts.{Parts}
 use Rattle.tail_preimage.proofs.laws.Orders.{key_not_greater}
@@ -28,7 +28,7 @@ pub Through-map : (r : LocalRule) (parts : Parts) (P Q S T : ℕ → Type 0) →
 Through-map r parts P Q S T first second (v, w, v_node, w_node, before, middle, behind) = (v, w, v_node, w_node, first v v_node before, middle, second w w_node behind)
 
 -- it meets the nodes from which the middle leads into a set
-pub Through-before : {set rears : ℕ} → (r : LocalRule) (parts : Parts) (P Q : ℕ → Type 0) → IsNodeSet r Q set → IsNodeSet r (λ v. (w : ℕ) × Relates parts.middle v w × IsBitSet set w) rears → Meets r P rears ↔ Through r parts P Q
+pub Through-before : {set rears : ℕ} → (r : LocalRule) (parts : Parts) (P Q : ℕ → Type 0) → IsNodeSet r Q set → IsNodeSet r (λ v. (w : ℕ) × HasBit parts.middle v w × IsBitSet set w) rears → Meets r P rears ↔ Through r parts P Q
 Through-before {set = set} r parts P Q h g = (
   (λ (v, node, before, bit).
       let (w, row, behind) = (g.nodes v node).0 bit in
@@ -39,7 +39,7 @@ Through-before {set = set} r parts P Q h g = (
 
 -- and those to which it leads from a set
 pub Through-behind : {set fronts : ℕ} → (r : LocalRule) (parts : Parts) (P Q : ℕ → Type 0) → IsNodeSet r P set
-    → IsNodeSet r (λ w. (v : ℕ) × (v < node_count r) × (IsBitSet set v × Relates parts.middle v w)) fronts → Meets r Q fronts ↔ Through r parts P Q
+    → IsNodeSet r (λ w. (v : ℕ) × (v < node_count r) × (IsBitSet set v × HasBit parts.middle v w)) fronts → Meets r Q fronts ↔ Through r parts P Q
 Through-behind r parts P Q h g = (
   (λ (w, w_node, behind, bit). let (v, node, (before, row)) = (g.nodes w w_node).0 bit in (v, w, node, w_node, (h.nodes v node).0 before, row, behind)),
   (λ (v, w, v_node, w_node, before, row, behind). (w, w_node, behind, (g.nodes w w_node).1 (v, v_node, ((h.nodes v v_node).1 before, row)))),
@@ -47,11 +47,11 @@ Through-behind r parts P Q h g = (
 
 -- a shape is possible where the middle leads from a node with its left rounds to one with its right rounds
 pub IsPossible-through : {r : LocalRule} {t : TailConfig} {parts : Parts} → AreTailParts r t parts → (s : Shape) → 1 ≤ s.back → 1 ≤ s.on
-    → Through r parts (Rounds (Relates parts.left.period) s.before s.back) (Rounds (Relates parts.right.period) s.after s.on) → IsPossible r parts s
+    → Through r parts (Rounds (HasBit parts.left.period) s.before s.back) (Rounds (HasBit parts.right.period) s.after s.on) → IsPossible r parts s
 IsPossible-through h s back on (v, w, v_node, w_node, (n, lefts, turn), row, behind) =
     record { back_some = back; on_some = on; node = n; below = ArePeriods-end h.left_periods v_node lefts; starts = (turn, (v, v_node, lefts, (w, w_node, row, behind))) }
 
-through-IsPossible : {r : LocalRule} {parts : Parts} {s : Shape} → IsPossible r parts s → Through r parts (Rounds (Relates parts.left.period) s.before s.back) (Rounds (Relates parts.right.period) s.after s.on)
+through-IsPossible : {r : LocalRule} {parts : Parts} {s : Shape} → IsPossible r parts s → Through r parts (Rounds (HasBit parts.left.period) s.before s.back) (Rounds (HasBit parts.right.period) s.after s.on)
 through-IsPossible h =
     let (turn, (v, v_node, lefts, (w, w_node, row, behind))) = h.starts in
     (v, w, v_node, w_node, (h.node, lefts, turn), row, behind)
@@ -62,10 +62,10 @@ pub record AreFirstKeys (r : LocalRule) (parts : Parts) (left right before after
   pub right_few : right ≤ 16
   pub before_less : before < left
   pub after_less : after < right
-  pub left_first : IsFirst (λ n. Through r parts (SomeRounds (Relates parts.left.period) n) (Open (Relates parts.right.period) 16)) left
-  pub right_first : IsFirst (λ n. Through r parts (SomeRounds (Relates parts.left.period) left) (SomeRounds (Relates parts.right.period) n)) right
-  pub before_first : IsFirst (λ n. Through r parts (Rounds (Relates parts.left.period) n (left - n)) (SomeRounds (Relates parts.right.period) right)) before
-  pub after_first : IsFirst (λ n. Through r parts (Rounds (Relates parts.left.period) before (left - before)) (Rounds (Relates parts.right.period) n (right - n))) after
+  pub left_first : IsFirst (λ n. Through r parts (SomeRounds (HasBit parts.left.period) n) (Open (HasBit parts.right.period) 16)) left
+  pub right_first : IsFirst (λ n. Through r parts (SomeRounds (HasBit parts.left.period) left) (SomeRounds (HasBit parts.right.period) n)) right
+  pub before_first : IsFirst (λ n. Through r parts (Rounds (HasBit parts.left.period) n (left - n)) (SomeRounds (HasBit parts.right.period) right)) before
+  pub after_first : IsFirst (λ n. Through r parts (Rounds (HasBit parts.left.period) before (left - before)) (Rounds (HasBit parts.right.period) n (right - n))) after
 
 -- rounds are some rounds
 some_rounds : (E : ℕ → ℕ → Type 0) (n on sum v : ℕ) → n + on ≡ sum → 1 ≤ on → Rounds E n on v → SomeRounds E sum v
@@ -81,8 +81,8 @@ exact_rounds E n m on sum v same both h =
 pub IsFirstShape-keys : {r : LocalRule} {t : TailConfig} {parts : Parts} → AreTailParts r t parts → (left right before after : ℕ) → AreFirstKeys r parts left right before after
     → IsFirstShape r parts (record { before = before; back = left - before; after = after; on = right - after })
 IsFirstShape-keys {r} {t} {parts} h left right before after keys =
-    let A : ℕ → ℕ → Type 0 = Relates parts.left.period in
-    let C : ℕ → ℕ → Type 0 = Relates parts.right.period in
+    let A : ℕ → ℕ → Type 0 = HasBit parts.left.period in
+    let C : ℕ → ℕ → Type 0 = HasBit parts.right.period in
     let s : Shape = record { before = before; back = left - before; after = after; on = right - after } in
     let l = keys.before_less in
     let k = keys.after_less in
@@ -118,23 +118,23 @@ IsFirstShape-keys {r} {t} {parts} h left right before after keys =
     }
 
 -- there is a first key where 16 periods on either side lead through
-pub left_key : {r : LocalRule} {t : TailConfig} {parts : Parts} → AreTailParts r t parts → PassesThrough r parts 16 16 → (n : ℕ) × (n ≤ 16) × Through r parts (SomeRounds (Relates parts.left.period) n) (Open (Relates parts.right.period) 16)
+pub left_key : {r : LocalRule} {t : TailConfig} {parts : Parts} → AreTailParts r t parts → PassesThrough r parts 16 16 → (n : ℕ) × (n ≤ 16) × Through r parts (SomeRounds (HasBit parts.left.period) n) (Open (HasBit parts.right.period) 16)
 left_key h (v, w, v_node, w_node, before, row, behind) =
     let (sum, few, rounds) = SomeRounds-periods h.rule h.left v_node before in
     (sum, few, (v, w, v_node, w_node, rounds, row, behind))
 
 -- and for it a second
-pub right_key : {r : LocalRule} {t : TailConfig} {parts : Parts} (P : ℕ → Type 0) → AreTailParts r t parts → Through r parts P (Open (Relates parts.right.period) 16) → (n : ℕ) × (n ≤ 16) × Through r parts P (SomeRounds (Relates parts.right.period) n)
+pub right_key : {r : LocalRule} {t : TailConfig} {parts : Parts} (P : ℕ → Type 0) → AreTailParts r t parts → Through r parts P (Open (HasBit parts.right.period) 16) → (n : ℕ) × (n ≤ 16) × Through r parts P (SomeRounds (HasBit parts.right.period) n)
 right_key P h (v, w, v_node, w_node, before, row, behind) =
     let (sum, few, rounds) = SomeRounds-periods h.rule h.right w_node behind in
     (sum, few, (v, w, v_node, w_node, before, row, rounds))
 
 -- and a third
-pub before_key : (r : LocalRule) (parts : Parts) (Q : ℕ → Type 0) (left : ℕ) → Through r parts (SomeRounds (Relates parts.left.period) left) Q → (n : ℕ) × (n < left) × Through r parts (Rounds (Relates parts.left.period) n (left - n)) Q
+pub before_key : (r : LocalRule) (parts : Parts) (Q : ℕ → Type 0) (left : ℕ) → Through r parts (SomeRounds (HasBit parts.left.period) left) Q → (n : ℕ) × (n < left) × Through r parts (Rounds (HasBit parts.left.period) n (left - n)) Q
 before_key r parts Q left (v, w, v_node, w_node, (n, on, both, some, rounds), row, behind) =
-    (n, omega (arith, both, some), (v, w, v_node, w_node, exact_rounds (Relates parts.left.period) n n on left v refl both rounds, row, behind))
+    (n, omega (arith, both, some), (v, w, v_node, w_node, exact_rounds (HasBit parts.left.period) n n on left v refl both rounds, row, behind))
 
 -- and a fourth
-pub after_key : (r : LocalRule) (parts : Parts) (P : ℕ → Type 0) (right : ℕ) → Through r parts P (SomeRounds (Relates parts.right.period) right) → (n : ℕ) × (n < right) × Through r parts P (Rounds (Relates parts.right.period) n (right - n))
+pub after_key : (r : LocalRule) (parts : Parts) (P : ℕ → Type 0) (right : ℕ) → Through r parts P (SomeRounds (HasBit parts.right.period) right) → (n : ℕ) × (n < right) × Through r parts P (Rounds (HasBit parts.right.period) n (right - n))
 after_key r parts P right (v, w, v_node, w_node, before, row, (n, on, both, some, rounds)) =
-    (n, omega (arith, both, some), (v, w, v_node, w_node, before, row, exact_rounds (Relates parts.right.period) n n on right w refl both rounds))
+    (n, omega (arith, both, some), (v, w, v_node, w_node, before, row, exact_rounds (HasBit parts.right.period) n n on right w refl both rounds))

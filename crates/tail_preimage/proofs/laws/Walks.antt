@@ -9,6 +9,7 @@ use Rattle.word_image.specs.Edges.{IsEdge}
 use Rattle.word_image.specs.declared.side.Side.TheVariants.{Right}
 use Rattle.word_image.proofs.laws.Values.{value-injective, length-word_of, IsWord-word_of, value-word_of}
 use Rattle.word_image.proofs.laws.Words.{IsLongerPreimage, IsPreimage-empty, IsPreimage-snoc, IsPreimage-push}
+use Rattle.word_image.proofs.laws.LastNodes.{IsLastNode-below, last_edge}
 use Rattle.word_image.proofs.laws.Images.{image-take, image-drop}
 use Rattle.word_image.proofs.laws.Graphs.{value-node, value-next, local_map-label}
 use Rattle.pair_laws.proofs.Joins.{drop-join_more, image-join, same_node, value-cut}
@@ -22,9 +23,7 @@ IsWalk-first {r} {x = x} h =
 
 -- and ends with one
 pub IsWalk-last : {r : LocalRule} {w x : List ℕ} {u v : ℕ} → IsWalk r w u v x → v < node_count r
-IsWalk-last {r} {w = w} {x = x} h =
-    let long = h.preimage.long in
-    rw (← h.last) (value-node r (drop (length w) x) (All-drop (λ a. a < r.states) (length w) x h.preimage.word) (omega (arith, length-drop (length w) x)))
+IsWalk-last {x = x} h = IsLastNode-below (record { x = x; preimage = h.preimage; last = h.last })
 
 -- walks from one node begin with the same letters
 pub same_first : {r : LocalRule} {w z x y : List ℕ} {u v s : ℕ} → IsWalk r w u v x → IsWalk r z u s y → take (r.width - 1) x ≡ take (r.width - 1) y
@@ -128,11 +127,11 @@ pub record HasLastEdge (r : LocalRule) (w : List ℕ) (a u s : ℕ) (x : List �
 pub IsWalk-snoc : {r : LocalRule} {u s : ℕ} {x : List ℕ} → IsRule r → (w : List ℕ) (a : ℕ) → IsWalk r (w ++ a ∷ []) u s x → HasLastEdge r w a u s x
 IsWalk-snoc {r} {x = x} rule w a h =
     let p : IsLongerPreimage r w a x = IsPreimage-snoc rule w a x h.preimage in
-    let v : ℕ = value r.states (drop (length w) p.before) in
-    let long = p.preimage.long in
+    let long = h.preimage.long in
+    let (label, leads) = last_edge rule w a x p in
     record {
       before = p.before;
-      node = v;
+      node = value r.states (drop (length w) p.before);
       letter = p.letter;
       splits = p.splits;
       walk = record {
@@ -141,11 +140,8 @@ IsWalk-snoc {r} {x = x} rule w a h =
         last = refl;
       };
       within = p.within;
-      spells = sym (local_map-label r (drop (length w) p.before) p.letter) ∙ p.gives;
-      leads = sym (value-next rule (length w) p.before p.letter p.preimage.word p.preimage.long p.within)
-          ∙ ap (λ n. value r.states (drop n (p.before ++ p.letter ∷ []))) (sym (length_push w a))
-          ∙ ap (λ y. value r.states (drop (length (w ++ a ∷ [])) y)) (sym p.splits)
-          ∙ h.last;
+      spells = label;
+      leads = leads ∙ h.last;
     }
 
 -- from a node a word leads on after an edge with its first letter, and only so

@@ -1,8 +1,8 @@
 -- The bits of a number, as a set of the places where it has one.
-use Rattle.std.proofs.Common.{◌≡◌, ℕ, suc, ◌*◌, ◌^◌, ◌<◌, ◌≤◌, ◌↔◌, ◌⊎◌, inl, inr, IsBitSet, bit_and, bit_or, ◌/◌, ◌%◌, zero-mul, pow-suc, sym, ap, ◌∙◌, arith, ⊎_elim}
+use Rattle.std.proofs.Common.{◌≡◌, ℕ, suc, ◌*◌, ◌^◌, ◌<◌, ◌≤◌, ◌↔◌, ◌⊎◌, inl, inr, IsBitSet, bit_and, bit_or, ◌/◌, ◌%◌, zero-mul, pow-suc, ap, ◌∙◌, arith, ⊎_elim}
 use Rattle.std.proofs.lemmas.Bool.{cases_eq}
 use Rattle.std.proofs.lemmas.Nat.{pow_pos, leading_top, le-div, div_below}
-use Rattle.std.proofs.lemmas.Nat.Bits.{bit_at-zero, bit_at_or, bit_at-pow_same, bit_at-pow_other, and_pow, bit_at-lt, shr_and_one}
+use Rattle.std.proofs.lemmas.Nat.Bits.{bit_at-zero, bit_at_or, bit_at-pow_same, bit_at-pow_other, and_pow, bit_at-lt}
 use Rattle.std.specs.Int.{bit_at}
 
 -- a bit that is set is 1
@@ -17,10 +17,6 @@ bit_at-IsBitSet n i = (
 -- a place is in a set or isn't
 pub IsBitSet-decide : (n i : ℕ) → IsBitSet n i ⊎ ¬ IsBitSet n i
 IsBitSet-decide n i = ⊎_elim (λ one. inl ((bit_at-IsBitSet n i).1 one)) (λ other. inr (λ some. other ((bit_at-IsBitSet n i).0 some))) (cases_eq (bit_at n i) 1)
-
--- moved down by a place a set is odd exactly where it has that place
-pub IsBitSet-lowest : (n i : ℕ) → (bit_and (n / 2 ^ i) 1 ≡ 1) ↔ IsBitSet n i
-IsBitSet-lowest n i = ((λ one. (bit_at-IsBitSet n i).1 (sym (shr_and_one n i) ∙ one)), (λ some. shr_and_one n i ∙ (bit_at-IsBitSet n i).0 some))
 
 -- a number that is not 0 has a bit
 pub IsBitSet-some : (n a : ℕ) → a < 2 ^ n → ¬ (a ≡ 0) → (i : ℕ) × (i < n) × IsBitSet a i

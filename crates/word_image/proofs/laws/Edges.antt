@@ -6,8 +6,8 @@ use Rattle.std.proofs.lemmas.Grind.{get_or-set_at}
 use Rattle.std.proofs.lemmas.Nat.{div-mul-add, mod-mul-add, div_below, mul-add-lt}
 use Rattle.std.proofs.Math.Pow.{pow-lt}
 use Rattle.word_image.specs.LocalRules.{LocalRule, IsRule, node_count}
-use Rattle.word_image.specs.Sides.{window_with}
-use Rattle.word_image.specs.Edges.{label_at, end_at, IsEnds, AreEdgeRows, ends_at}
+use Rattle.word_image.specs.Ends.{window_with, label_at, end_at}
+use Rattle.word_image.specs.Edges.{IsEnds, AreEdgeRows, ends_at}
 use Rattle.word_image.specs.declared.side.Side.{Side}
 use Rattle.word_image.proofs.laws.Bits.{IsBitSet-pow, IsBitSet-some}
 use Rattle.word_image.proofs.laws.Unions.{IsUnion, IsUnion-none, IsUnion-skip, IsUnion-take}

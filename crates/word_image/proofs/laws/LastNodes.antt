@@ -1,5 +1,5 @@
 -- The last nodes of the preimages of a word, one letter at a time.
-use Rattle.std.proofs.Common.{ℕ, ◌-◌, ◌<◌, List, [], ◌∷◌, ◌++◌, length, drop, refl, sym, ap, ◌∙◌, arith, length-drop}
+use Rattle.std.proofs.Common.{◌≡◌, ℕ, ◌-◌, ◌<◌, List, [], ◌∷◌, ◌++◌, length, drop, refl, sym, ap, ◌∙◌, arith, length-drop}
 use Rattle.std.proofs.lemmas.List.{length_push}
 use Rattle.std.proofs.lemmas.List.Elements.{All-drop}
 use Rattle.word_image.specs.LocalRules.{LocalRule, IsRule, value, word_of, node_count}
@@ -39,26 +39,21 @@ IsLastNode-push {r} {w} {u} {a} {v} rule h (b, l, (e, f)) =
       last = ap (λ n. value r.states (drop n (h.x ++ b ∷ []))) (length_push w a) ∙ value-next rule (length w) h.x b h.preimage.word h.preimage.long l ∙ ap (λ n. next r n b) h.last ∙ f;
     }
 
+-- the last letter of a preimage of w a goes along an edge with label a to its last node
+pub last_edge : {r : LocalRule} → IsRule r → (w : List ℕ) (a : ℕ) (x : List ℕ) → (p : IsLongerPreimage r w a x) → let u = value r.states (drop (length w) p.before) in
+    (label r u p.letter ≡ a) × (next r u p.letter ≡ value r.states (drop (length (w ++ a ∷ [])) x))
+last_edge {r} rule w a x p = (
+  sym (local_map-label r (drop (length w) p.before) p.letter) ∙ p.gives,
+  sym (value-next rule (length w) p.before p.letter p.preimage.word p.preimage.long p.within)
+      ∙ ap (λ n. value r.states (drop n (p.before ++ p.letter ∷ []))) (sym (length_push w a))
+      ∙ ap (λ y. value r.states (drop (length (w ++ a ∷ [])) y)) (sym p.splits),
+)
+
 -- a last node of w a is reached from a last node of w by an edge with label a
 pub IsLastNode-snoc : {r : LocalRule} → IsRule r → (w : List ℕ) (a v : ℕ) → IsLastNode r (w ++ a ∷ []) v
     → (u : ℕ) × (u < node_count r) × (IsLastNode r w u × IsEdge Right r a u v)
 IsLastNode-snoc {r} rule w a v h =
     let p : IsLongerPreimage r w a h.x = IsPreimage-snoc rule w a h.x h.preimage in
-    let at : IsLastNode r w (value r.states (drop (length w) p.before)) = IsLastNode-preimage p.preimage in (
-      value r.states (drop (length w) p.before),
-      IsLastNode-below at,
-      (
-        at,
-        (
-          p.letter,
-          p.within,
-          (
-            sym (local_map-label r (drop (length w) p.before) p.letter) ∙ p.gives,
-            sym (value-next rule (length w) p.before p.letter p.preimage.word p.preimage.long p.within)
-                ∙ ap (λ n. value r.states (drop n (p.before ++ p.letter ∷ []))) (sym (length_push w a))
-                ∙ ap (λ y. value r.states (drop (length (w ++ a ∷ [])) y)) (sym p.splits)
-                ∙ h.last,
-          ),
-        ),
-      ),
-    )
+    let at : IsLastNode r w (value r.states (drop (length w) p.before)) = IsLastNode-preimage p.preimage in
+    let (label, leads) = last_edge rule w a h.x p in
+    (value r.states (drop (length w) p.before), IsLastNode-below at, (at, (p.letter, p.within, (label, leads ∙ h.last))))

@@ -1,6 +1,7 @@
 -- Lists that know no rule: a list that grows by what a function gives at each place, and two lists that are paired.
-use Rattle.std.proofs.Common.{◌≡◌, ℕ, zero, suc, ◌+◌, ◌-◌, ◌<◌, List, [], ◌∷◌, ◌++◌, length, get_or, map, set, replicate, Some, refl, sym, ap, ap₂, ◌∙◌, arith, append_assoc, slice_index}
+use Rattle.std.proofs.Common.{◌≡◌, ℕ, zero, suc, ◌+◌, ◌-◌, ◌<◌, List, [], ◌∷◌, ◌++◌, length, get_or, map, set, take, drop, reverse, length-drop, map-id, replicate, Some, refl, sym, ap, ap₂, ◌∙◌, arith, append_assoc, slice_index}
 use Rattle.std.specs.List.{AllZip, range_with_len, slice_get}
+use Rattle.std.proofs.lemmas.List.{length-reverse, reverse-append, take-append-drop, take_at, drop_at}
 use Rattle.std.proofs.lemmas.List.FromFn.{length-map-range_with_len, map-range_with_len_more}
 use Rattle.std.proofs.Math.Seq.{set-append_seam}
 
@@ -51,3 +52,15 @@ pub slice_index-zeros : (n i : ℕ) → slice_index (replicate n 0) i ≡ 0
 slice_index-zeros zero i = refl
 slice_index-zeros (suc n) zero = refl
 slice_index-zeros (suc n) (suc i) = slice_index-zeros n i
+
+-- one number more in a row
+pub range-more : (a n j : ℕ) → a + n ≡ j → range_with_len a (n + 1) ≡ range_with_len a n ++ j ∷ []
+range-more a n j is =
+    sym (map-id (range_with_len a (n + 1))) ∙ map-range_with_len_more (λ (i : ℕ). i) a n j is ∙ ap (λ (xs : List ℕ). xs ++ j ∷ []) (map-id (range_with_len a n))
+
+-- a list of i + j elements read backwards begins with its last j letters read backwards, and goes on with the others
+pub reverse-cut : (i j : ℕ) (x : List ℕ) → length x ≡ i + j → (take j (reverse x) ≡ reverse (drop i x)) × (drop j (reverse x) ≡ reverse (take i x))
+reverse-cut i j x e =
+    let split : reverse x ≡ reverse (drop i x) ++ reverse (take i x) = ap reverse (sym (take-append-drop i x)) ∙ reverse-append (take i x) (drop i x) in
+    let long : length (reverse (drop i x)) ≡ j = omega (arith, length-reverse (drop i x), length-drop i x) in
+    (ap (take j) split ∙ take_at (reverse (drop i x)) (reverse (take i x)) j long, ap (drop j) split ∙ drop_at (reverse (drop i x)) (reverse (take i x)) j long)

@@ -35,6 +35,11 @@ nat_cmp-digits a b u v n h g =
     (λ is e. ap after is ∙ nat_cmp-add (a * n) u v ∙ ap (λ c. nat_cmp (a * n + u) (c * n + v)) e)
     (λ is l. ap after is ∙ nat_cmp_is (a * n + u) (b * n + v) Greater (digits-lt b a v u n g l))
 
+-- both are equal if both together are
+pub then_equal : (a b : Ordering) → ordering_then a b ≡ Equal → (a ≡ Equal) × (b ≡ Equal)
+then_equal Equal b e = (refl, e)
+then_equal _ b e = absurd (cc)
+
 -- of words of one length the first in dictionary order has the least value
 pub slice_cmp-value : (k : ℕ) (x y : List ℕ) → IsWord k x → IsWord k y → length x ≡ length y → slice_cmp nat_cmp x y ≡ nat_cmp (value k x) (value k y)
 slice_cmp-value k [] [] h g e = refl

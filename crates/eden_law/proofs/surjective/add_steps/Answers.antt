@@ -2,7 +2,7 @@ use Rattle.std.proofs.Common.{◌≡◌, ℕ, IsBitSet, sym, ◌∙◌, subst, �
 use Rattle.std.proofs.lemmas.Bool.{cases_eq}
 use Rattle.word_image.specs.LocalRules.{LocalRule, IsRule}
 use Rattle.word_image.specs.Graphs.{next}
-use Rattle.word_image.proofs.laws.Bits.{IsBitSet-lowest}
+use Rattle.std.proofs.lemmas.Nat.{bit_set_by_shift}
 use Rattle.word_image.proofs.laws.Graphs.{next-below}
 use Rattle.eden_law.specs.ReachedRows.{LeadsBeside}
 use Rattle.eden_law.proofs.ReachedRows.{AreAdded-start, AreAdded-step, LeadsBeside-set}
@@ -19,7 +19,7 @@ returns-then-others-next-eq1-clause-meets c wrong =
     let r : LocalRule = c.args.graph.now in
     let a : ℕ = c.loop-a.a in
     let at : c.next-next.result ≡ next r c.args.node a = c.next-next.ensures.node in
-    let present : IsBitSet c.step-others.result c.next-next.result = (IsBitSet-lowest c.step-others.result c.next-next.result).0 c.if-others-next-eq1.true in (
+    let present : IsBitSet c.step-others.result c.next-next.result = (bit_set_by_shift c.step-others.result c.next-next.result).0 c.if-others-next-eq1.true in (
       a,
       omega (arith, c.loop-a-test.true, c.k-a-end.ensures.states),
       (LeadsBeside-set r c.args.node c.args.set a c.label.result c.step-others.result c.label.ensures.label c.step-others.ensures.step (next r c.args.node a) (next-below c.k-a-end.ensures.rule c.args.node a)).0
@@ -42,7 +42,7 @@ loop-a-preserved c =
           (λ last.
           let here : LeadsBeside r node set c.loop-a.a (next r node c.loop-a.a) = subst (λ i. LeadsBeside r node set i (next r node i)) last leads in
           let present : IsBitSet others to = subst (IsBitSet others) (sym at) ((exact (next r node c.loop-a.a) (next-below rule node c.loop-a.a)).1 here) in
-          c.if-others-next-eq1.false ((IsBitSet-lowest others to).1 present))
+          c.if-others-next-eq1.false ((bit_set_by_shift others to).1 present))
           (λ less. c.loop-a.invariant.apart a (omega (arith, l, less)) leads)
           (cases_eq a c.loop-a.a);
     }

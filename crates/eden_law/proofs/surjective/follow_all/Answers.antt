@@ -2,7 +2,7 @@ use Rattle.std.proofs.Common.{◌≡◌, ℕ, ◌<◌, slice_index, slice_set, s
 use Rattle.word_image.specs.LocalRules.{LocalRule, node_count}
 use Rattle.word_image.specs.Graphs.{next}
 use Rattle.eden_law.specs.ReachedRows.{LeadsBeside, AreAdded, IsRowSearch}
-use Rattle.eden_law.proofs.ReachedRows.{IsRowSearch-steps, InRows-added, not_surjective-beside}
+use Rattle.eden_law.proofs.ReachedRows.{IsRowSearch-steps, HasBit-added, not_surjective-beside}
 use Rattle.eden_law.proofs.surjective.follow_all.Goals as goal
 
 pub loop-node-init : goal.loop-node-init
@@ -31,5 +31,5 @@ loop-node-preserved c =
     record {
       search = subst₂ (λ i s. IsRowSearch r new (slice_set c.loop-node.followed i s)) (sym c.from-in-Some.ensures) (sym row)
           (IsRowSearch-steps c.nodes.ensures.rule inside c.loop-node.invariant.search added apart);
-      kept = λ u v hu hv some. InRows-added added u v hu hv (c.loop-node.invariant.kept u v hu hv some);
+      kept = λ u v hu hv some. HasBit-added added u v hu hv (c.loop-node.invariant.kept u v hu hv some);
     }

@@ -1,14 +1,15 @@
 use Rattle.std.proofs.Common.{ℕ, ◌-◌, ◌<◌}
 use Rattle.std.specs.List.{sum_by}
 use Rattle.word_image.specs.LocalRules.{node_count}
-use Rattle.eden_law.specs.ReachedRows.{InRows, IsRowSearch}
+use Rattle.eden_law.specs.ReachedRows.{IsRowSearch}
+use Rattle.word_image.specs.Graphs.{HasBit}
 use Rattle.eden_law.proofs.surjective.follow_all.Given as goal
 
 -- the search goes on, and what was found stays
 abbrev pub invariant-loop-node : goal.invariant-loop-node
 invariant-loop-node l = record {
   search : IsRowSearch l.graph l.found l.followed;
-  kept : (u v : ℕ) → u < node_count l.graph → v < node_count l.graph → InRows l.initial.found u v → InRows l.found u v;
+  kept : (u v : ℕ) → u < node_count l.graph → v < node_count l.graph → HasBit l.initial.found u v → HasBit l.found u v;
 }
 
 -- how far the rows that were followed can still grow, as numbers

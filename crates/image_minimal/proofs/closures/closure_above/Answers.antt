@@ -1,9 +1,9 @@
 use Rattle.std.proofs.Common.{◌≡◌, ℕ, ◌+◌, ◌*◌, ◌%◌, ◌^◌, ◌<◌, IsBitSet, bit_and, bit_or, ◌/◌, slice_index, sym, ap, ◌∙◌, subst, arith}
 use Rattle.std.proofs.Math.Pow.{pow-lt}
-use Rattle.std.proofs.lemmas.Nat.{one_shl, or_lt}
+use Rattle.std.proofs.lemmas.Nat.{one_shl, or_lt, bit_set_by_shift}
 use Rattle.std.proofs.lemmas.Nat.Bits.{shr_and_one, bit_at-lt}
 use Rattle.word_image.specs.LocalRules.{node_count}
-use Rattle.word_image.proofs.laws.Bits.{bit_at-IsBitSet, IsBitSet-lowest}
+use Rattle.word_image.proofs.laws.Bits.{bit_at-IsBitSet}
 use Rattle.image_minimal.proofs.laws.ClosureTables.{with_node, with_node-greater, IsShared, IsShared-start, IsShared-skip, IsShared-take, IsClosure-shared}
 use Rattle.image_minimal.proofs.closures.closure_above.Goals as goal
 use Rattle.image_minimal.proofs.closures.closure_above.Goals.{then-set-u-eq0, else-set-u-eq0}
@@ -14,7 +14,7 @@ more set u at small is = is ∙ ap (bit_or set) (one_shl u 16 small)
 
 -- a bit that is tested
 missing : (set u : ℕ) → bit_and (set / 2 ^ u) 1 ≡ 0 → ¬ IsBitSet set u
-missing set u test some = omega (arith, (IsBitSet-lowest set u).1 some, test)
+missing set u test some = omega (arith, (bit_set_by_shift set u).1 some, test)
 
 pub loop-u-init : goal.loop-u-init
 loop-u-init c = subst (IsShared c.args.graph.now c.args.set 0 c.args.closures.now) (sym c.full-closure.ensures.set) (IsShared-start c.args.set c.args.closures.now)

@@ -1,4 +1,5 @@
-use Rattle.tail_preimage.specs.Relations.{Relates, Open}
+use Rattle.tail_preimage.specs.Relations.{Open}
+use Rattle.word_image.specs.Graphs.{HasBit}
 use Rattle.tail_preimage.proofs.laws.Shapes.{Through-before, Through-behind}
 use Rattle.tail_preimage.proofs.gaps.first_gap.Goals as goal
 
@@ -6,15 +7,15 @@ pub returns-in_err-left : goal.returns-in_err-left
 returns-in_err-left c =
     let r = c.args.graph.now in
     let parts = c.args.parts.now in
-    let through = Through-before r parts (Open (Relates parts.left.period) 16) (Open (Relates parts.right.period) 16) c.open.ensures c.before-rears.ensures in
+    let through = Through-before r parts (Open (HasBit parts.left.period) 16) (Open (HasBit parts.right.period) 16) c.open.ensures c.before-rears.ensures in
     rw c.from_residual.ensures (through.0 c.in_err-left.ensures.first)
 
 pub returns-in_err-right : goal.returns-in_err-right
 returns-in_err-right c =
     let r = c.args.graph.now in
     let parts = c.args.parts.now in
-    let A = Relates parts.left.period in
-    let C = Relates parts.right.period in
+    let A = HasBit parts.left.period in
+    let C = HasBit parts.right.period in
     let left = c.in_ok-left.left in
     let before = Through-before r parts (Open A left) (Open C 16) c.open.ensures c.before-rears.ensures in
     let behind = Through-behind r parts (Open A left) (Open C 16) c.open-2.ensures c.after-fronts.ensures in
@@ -24,8 +25,8 @@ pub returns : goal.returns
 returns c =
     let r = c.args.graph.now in
     let parts = c.args.parts.now in
-    let A = Relates parts.left.period in
-    let C = Relates parts.right.period in
+    let A = HasBit parts.left.period in
+    let C = HasBit parts.right.period in
     let left = c.in_ok-left.left in
     let first = c.in_ok-left.ensures.first in
     let second = c.in_ok-right.ensures.first in

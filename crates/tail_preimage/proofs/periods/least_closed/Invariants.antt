@@ -1,7 +1,8 @@
 use Rattle.std.proofs.Common.{ℕ, ◌<◌}
-use Rattle.tail_preimage.specs.Relations.{Relates, Open, Meets}
+use Rattle.tail_preimage.specs.Relations.{Open, Meets}
+use Rattle.word_image.specs.Graphs.{HasBit}
 use Rattle.tail_preimage.proofs.periods.least_closed.Given as goal
 
 -- fewer lead somewhere
 abbrev pub invariant-loop-n : goal.invariant-loop-n
-invariant-loop-n l = (i : ℕ) → i < l.n → Meets l.graph (Open (Relates l.periods.period) i) l.set
+invariant-loop-n l = (i : ℕ) → i < l.n → Meets l.graph (Open (HasBit l.periods.period) i) l.set

@@ -1,6 +1,7 @@
 use borrow.Author.Count.{below_more}
 use Rattle.std.proofs.Common.{◌-◌, arith}
-use Rattle.tail_preimage.specs.Relations.{Relates, Rounds, Meets}
+use Rattle.tail_preimage.specs.Relations.{Rounds, Meets}
+use Rattle.word_image.specs.Graphs.{HasBit}
 use Rattle.tail_preimage.proofs.Meets.{IsSetOf-meets}
 use Rattle.tail_preimage.proofs.periods.least_first.Goals as goal
 
@@ -12,7 +13,7 @@ returns-then-rounds-set-ne0-clause-first c = record {
 
 pub loop-n-preserved : goal.loop-n-preserved
 loop-n-preserved c =
-    below_more (λ n. ¬ Meets c.args.graph.now (Rounds (Relates c.args.periods.now.period) n (c.args.sum - n)) c.args.set) c.loop-n.n c.loop-n.invariant
+    below_more (λ n. ¬ Meets c.args.graph.now (Rounds (HasBit c.args.periods.now.period) n (c.args.sum - n)) c.args.set) c.loop-n.n c.loop-n.invariant
     (λ meets. (IsSetOf-meets c.rounds.ensures c.args.set).1 meets c.if-rounds-set-ne0.false)
 
 pub unreachable-requires : goal.unreachable-requires

@@ -1,7 +1,8 @@
 use Rattle.std.proofs.Common.{ℕ, ◌-◌, ◌<◌}
-use Rattle.tail_preimage.specs.Relations.{Relates, Rounds, Meets}
+use Rattle.tail_preimage.specs.Relations.{Rounds, Meets}
+use Rattle.word_image.specs.Graphs.{HasBit}
 use Rattle.tail_preimage.proofs.periods.least_first.Given as goal
 
 -- no lesser number does
 abbrev pub invariant-loop-n : goal.invariant-loop-n
-invariant-loop-n l = (i : ℕ) → i < l.n → ¬ Meets l.graph (Rounds (Relates l.periods.period) i (l.sum - i)) l.set
+invariant-loop-n l = (i : ℕ) → i < l.n → ¬ Meets l.graph (Rounds (HasBit l.periods.period) i (l.sum - i)) l.set

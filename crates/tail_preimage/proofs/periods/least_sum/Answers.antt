@@ -1,6 +1,7 @@
 use borrow.Author.Count.{below_more}
 use Rattle.std.proofs.Common.{arith}
-use Rattle.tail_preimage.specs.Relations.{Relates, SomeRounds, Meets}
+use Rattle.tail_preimage.specs.Relations.{SomeRounds, Meets}
+use Rattle.word_image.specs.Graphs.{HasBit}
 use Rattle.tail_preimage.proofs.Meets.{IsSetOf-meets}
 use Rattle.tail_preimage.proofs.periods.least_sum.Goals as goal
 
@@ -12,7 +13,7 @@ returns-then-some_rounds-set-ne0-clause-first c = record {
 
 pub loop-sum-preserved : goal.loop-sum-preserved
 loop-sum-preserved c =
-    below_more (λ sum. ¬ Meets c.args.graph.now (SomeRounds (Relates c.args.periods.now.period) sum) c.args.set) c.loop-sum.sum c.loop-sum.invariant
+    below_more (λ sum. ¬ Meets c.args.graph.now (SomeRounds (HasBit c.args.periods.now.period) sum) c.args.set) c.loop-sum.sum c.loop-sum.invariant
     (λ meets. (IsSetOf-meets c.some_rounds.ensures c.args.set).1 meets c.if-some_rounds-set-ne0.false)
 
 pub unreachable-requires : goal.unreachable-requires

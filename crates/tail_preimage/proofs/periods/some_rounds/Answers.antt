@@ -1,6 +1,7 @@
 use Rattle.std.proofs.Common.{◌≡◌, ◌-◌, subst, arith}
 use Rattle.word_image.proofs.laws.Unions.{IsSetOf-same, IsUnion-take}
-use Rattle.tail_preimage.specs.Relations.{Relates, Rounds}
+use Rattle.tail_preimage.specs.Relations.{Rounds}
+use Rattle.word_image.specs.Graphs.{HasBit}
 use Rattle.tail_preimage.proofs.periods.some_rounds.Goals as goal
 
 pub loop-n-preserved : goal.loop-n-preserved
@@ -8,7 +9,7 @@ loop-n-preserved c = let here = c.rounds-set.ensures in IsUnion-take c.loop-n.in
 
 pub returns : goal.returns
 returns c =
-    let E = Relates c.args.periods.now.period in
+    let E = HasBit c.args.periods.now.period in
     let sum = c.args.sum in
     IsSetOf-same (λ u _. (
       (λ (n, less, turns). (n, sum - n, omega (arith, less), omega (arith, less), turns)),

@@ -1,9 +1,9 @@
 use Rattle.std.proofs.Common.{ℕ, ◌<◌}
 use Rattle.word_image.specs.LocalRules.{node_count}
-use Rattle.tail_preimage.specs.Relations.{Relates}
+use Rattle.word_image.specs.Graphs.{HasBit}
 use Rattle.tail_preimage.proofs.Rows.{AreRowsFilled}
 use Rattle.tail_preimage.proofs.relations.joined.Given as goal
 
 -- the rows so far
 abbrev pub invariant-loop-u : goal.invariant-loop-u
-invariant-loop-u l = AreRowsFilled l.graph (λ u v. (w : ℕ) × (w < node_count l.graph) × (Relates l.first u w × Relates l.second w v)) l.u l.rows
+invariant-loop-u l = AreRowsFilled l.graph (λ u v. (w : ℕ) × (w < node_count l.graph) × (HasBit l.first u w × HasBit l.second w v)) l.u l.rows

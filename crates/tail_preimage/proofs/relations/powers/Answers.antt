@@ -2,7 +2,8 @@ use Rattle.std.proofs.Common.{◌≡◌, suc, ◌+◌, [], refl, ◌∙◌, subs
 use Rattle.std.proofs.lemmas.List.{length-set}
 use Rattle.pair_laws.proofs.Sets.{IsBitSet-below}
 use Rattle.word_image.specs.LocalRules.{node_count}
-use Rattle.tail_preimage.specs.Relations.{IsRelation, Relates, Steps}
+use Rattle.tail_preimage.specs.Relations.{IsRelation, Steps}
+use Rattle.word_image.specs.Graphs.{HasBit}
 use Rattle.tail_preimage.proofs.laws.Steps.{Steps-none, Steps-stay, Steps-cons, Steps-first}
 use Rattle.tail_preimage.proofs.Rows.{row_more, IsRelation-same}
 use Rattle.tail_preimage.proofs.relations.powers.Goals as goal
@@ -22,7 +23,7 @@ loop-n-preserved c =
     let n = c.loop-n.n in
     let before = c.loop-n.invariant.each in
     let more : suc n ≡ n + 1 = omega arith in
-    let next : IsRelation r (Steps (Relates step) (suc n)) c.joined.result =
+    let next : IsRelation r (Steps (HasBit step) (suc n)) c.joined.result =
     IsRelation-same (λ u v below inside. (
       (λ (w, node, (first, rest)). Steps-cons first ((((before n (omega arith)).rows w node).nodes v inside).0 rest)),
       (λ steps.
@@ -32,6 +33,6 @@ loop-n-preserved c =
     )) c.joined.ensures in
     record {
       long = length-set _ _ _ ∙ c.loop-n.invariant.long;
-      each = λ j l. row_more (λ k row. IsRelation r (Steps (Relates step) k) row) c.loop-n.all (n + 1) (n + 1) [] c.joined.result (omega arith) refl (λ v k. before v (omega arith))
-          (subst (λ k. IsRelation r (Steps (Relates step) k) c.joined.result) more next) j (omega arith);
+      each = λ j l. row_more (λ k row. IsRelation r (Steps (HasBit step) k) row) c.loop-n.all (n + 1) (n + 1) [] c.joined.result (omega arith) refl (λ v k. before v (omega arith))
+          (subst (λ k. IsRelation r (Steps (HasBit step) k) c.joined.result) more next) j (omega arith);
     }

@@ -1,8 +1,7 @@
 use Rattle.std.proofs.Common.{◌≡◌, ◌↔◌, ℕ, ◌/◌, ◌^◌, sym, subst, arith, slice_index, bit_and}
-use Rattle.std.proofs.lemmas.Nat.{one_shl}
-use Rattle.word_image.proofs.laws.Bits.{IsBitSet-lowest}
+use Rattle.std.proofs.lemmas.Nat.{one_shl, bit_set_by_shift}
 use Rattle.word_image.proofs.laws.Unions.{IsSetTo-take, IsSetTo-skip, IsSetTo-all}
-use Rattle.tail_preimage.specs.Relations.{Relates}
+use Rattle.word_image.specs.Graphs.{HasBit}
 use Rattle.tail_preimage.proofs.relations.returning.Goals as goal
 use Rattle.tail_preimage.proofs.relations.returning.Goals.{then-rows-from-eq1, else-rows-from-eq1}
 
@@ -10,8 +9,8 @@ pub loop-u-preserved : goal.loop-u-preserved
 loop-u-preserved c =
     let u = c.loop-u.u in
     let rows = c.args.rows.now in
-    let Holds : ℕ → Type 0 = λ i. Relates rows i i in
-    let lowest = subst (λ k. (bit_and (slice_index rows k / 2 ^ u) 1 ≡ 1) ↔ Holds u) (sym c.from.ensures) (IsBitSet-lowest (slice_index rows u) u) in
+    let Holds : ℕ → Type 0 = λ i. HasBit rows i i in
+    let lowest = subst (λ k. (bit_and (slice_index rows k / 2 ^ u) 1 ≡ 1) ↔ Holds u) (sym c.from.ensures) (bit_set_by_shift (slice_index rows u) u) in
     elim c.if-rows-from-eq1.branch [
       | then-rows-from-eq1 w ↦ rw w.set-is
           (IsSetTo-take Holds c.loop-u.invariant (omega arith) (one_shl u 16 (omega (arith, c.nodes-u-end.ensures.rule.shape.most_nodes))) (lowest.0 w.if-rows-from-eq1.true))
@@ -19,4 +18,4 @@ loop-u-preserved c =
     ]
 
 pub returns : goal.returns
-returns c = IsSetTo-all (λ i. Relates c.args.rows.now i i) (omega arith) c.loop-u.invariant
+returns c = IsSetTo-all (λ i. HasBit c.args.rows.now i i) (omega arith) c.loop-u.invariant

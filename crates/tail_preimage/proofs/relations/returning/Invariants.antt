@@ -1,8 +1,8 @@
 use Rattle.word_image.specs.LocalRules.{node_count}
 use Rattle.word_image.proofs.laws.Unions.{IsSetTo}
-use Rattle.tail_preimage.specs.Relations.{Relates}
+use Rattle.word_image.specs.Graphs.{HasBit}
 use Rattle.tail_preimage.proofs.relations.returning.Given as goal
 
 -- the first nodes are done
 abbrev pub invariant-loop-u : goal.invariant-loop-u
-invariant-loop-u l = IsSetTo (node_count l.graph) (λ u. Relates l.rows u u) l.u l.set
+invariant-loop-u l = IsSetTo (node_count l.graph) (λ u. HasBit l.rows u u) l.u l.set

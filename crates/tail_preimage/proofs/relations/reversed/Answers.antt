@@ -1,12 +1,12 @@
 use Rattle.std.proofs.Common.{◌<◌, refl, subst, arith}
 use Rattle.word_image.proofs.laws.Unions.{IsSetOf-same}
 use Rattle.pair_laws.proofs.Sets.{IsBitSet-shl}
-use Rattle.tail_preimage.specs.Relations.{Relates}
+use Rattle.word_image.specs.Graphs.{HasBit}
 use Rattle.tail_preimage.proofs.Rows.{AreRowsFilled-none, AreRowsFilled-more, AreRowsFilled-all}
 use Rattle.tail_preimage.proofs.relations.reversed.Goals as goal
 
 pub loop-u-init : goal.loop-u-init
-loop-u-init c = AreRowsFilled-none c.args.graph.now (λ u v. Relates c.args.relation.now v u) _ refl
+loop-u-init c = AreRowsFilled-none c.args.graph.now (λ u v. HasBit c.args.relation.now v u) _ refl
 
 pub loop-u-preserved : goal.loop-u-preserved
 loop-u-preserved c =
@@ -16,7 +16,7 @@ loop-u-preserved c =
     let few : u < 16 = omega (arith, rule.shape.most_nodes) in
     AreRowsFilled-more c.from.result rule (omega arith) c.from.ensures c.loop-u.invariant
     (IsSetOf-same (λ v _. (
-      (λ (w, row, one). subst (Relates table v) ((IsBitSet-shl u w few).0 one) row),
+      (λ (w, row, one). subst (HasBit table v) ((IsBitSet-shl u w few).0 one) row),
       (λ row. (u, row, (IsBitSet-shl u u few).1 refl)),
     )) c.before-in-loop-u.ensures)
 

@@ -1,7 +1,7 @@
-use Rattle.tail_preimage.specs.Relations.{Relates}
+use Rattle.word_image.specs.Graphs.{HasBit}
 use Rattle.tail_preimage.proofs.Rows.{AreRowsFilled}
 use Rattle.tail_preimage.proofs.relations.reversed.Given as goal
 
 -- the rows so far
 abbrev pub invariant-loop-u : goal.invariant-loop-u
-invariant-loop-u l = AreRowsFilled l.graph (λ u v. Relates l.relation v u) l.u l.rows
+invariant-loop-u l = AreRowsFilled l.graph (λ u v. HasBit l.relation v u) l.u l.rows

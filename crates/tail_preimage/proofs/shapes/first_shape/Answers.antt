@@ -1,5 +1,6 @@
 use Rattle.std.proofs.Common.{ℕ, ◌-◌}
-use Rattle.tail_preimage.specs.Relations.{Relates, Open, Rounds, SomeRounds, Meets}
+use Rattle.tail_preimage.specs.Relations.{Open, Rounds, SomeRounds, Meets}
+use Rattle.word_image.specs.Graphs.{HasBit}
 use Rattle.tail_preimage.specs.Parts.{Through}
 use Rattle.tail_preimage.proofs.laws.Shapes.{IsFirst-same, Through-before, Through-behind, IsFirstShape-keys, left_key, right_key, before_key, after_key}
 use Rattle.tail_preimage.proofs.shapes.first_shape.Goals as goal
@@ -9,14 +10,14 @@ least_sum-left-requires-clause-some c =
     let r = c.args.graph.now in
     let parts = c.args.parts.now in
     let (n, few, through) = left_key c.requires.parts.1 c.requires.some in
-    (n, few, (Through-before r parts (SomeRounds (Relates parts.left.period) n) (Open (Relates parts.right.period) 16) c.open.ensures c.before-rears.ensures).1 through)
+    (n, few, (Through-before r parts (SomeRounds (HasBit parts.left.period) n) (Open (HasBit parts.right.period) 16) c.open.ensures c.before-rears.ensures).1 through)
 
 pub least_sum-right-requires-clause-some : goal.least_sum-right-requires-clause-some
 least_sum-right-requires-clause-some c =
     let r = c.args.graph.now in
     let parts = c.args.parts.now in
-    let P : ℕ → Type 0 = SomeRounds (Relates parts.left.period) c.least_sum-left.result in
-    let C = Relates parts.right.period in
+    let P : ℕ → Type 0 = SomeRounds (HasBit parts.left.period) c.least_sum-left.result in
+    let C = HasBit parts.right.period in
     let held = (Through-before r parts P (Open C 16) c.open.ensures c.before-rears.ensures).0 c.least_sum-left.ensures.first.holds in
     let (n, few, through) = right_key P c.requires.parts.1 held in
     (n, few, (Through-behind r parts P (SomeRounds C n) c.some_rounds.ensures c.after-fronts.ensures).1 through)
@@ -25,9 +26,9 @@ pub least_first-first-requires-clause-some : goal.least_first-first-requires-cla
 least_first-first-requires-clause-some c =
     let r = c.args.graph.now in
     let parts = c.args.parts.now in
-    let A = Relates parts.left.period in
+    let A = HasBit parts.left.period in
     let left = c.least_sum-left.result in
-    let Q : ℕ → Type 0 = SomeRounds (Relates parts.right.period) c.least_sum-right.result in
+    let Q : ℕ → Type 0 = SomeRounds (HasBit parts.right.period) c.least_sum-right.result in
     let held = (Through-behind r parts (SomeRounds A left) Q c.some_rounds.ensures c.after-fronts.ensures).0 c.least_sum-right.ensures.first.holds in
     let (n, less, through) = before_key c.args.graph.now parts Q left held in
     (n, less, (Through-before r parts (Rounds A n (left - n)) Q c.some_rounds-2.ensures c.before-rears-2.ensures).1 through)
@@ -36,11 +37,11 @@ pub least_first-second-requires-clause-some : goal.least_first-second-requires-c
 least_first-second-requires-clause-some c =
     let r = c.args.graph.now in
     let parts = c.args.parts.now in
-    let C = Relates parts.right.period in
+    let C = HasBit parts.right.period in
     let left = c.least_sum-left.result in
     let right = c.least_sum-right.result in
     let first = c.least_first-first.result in
-    let P : ℕ → Type 0 = Rounds (Relates parts.left.period) first (left - first) in
+    let P : ℕ → Type 0 = Rounds (HasBit parts.left.period) first (left - first) in
     let held = (Through-before r parts P (SomeRounds C right) c.some_rounds-2.ensures c.before-rears-2.ensures).0 c.least_first-first.ensures.first.holds in
     let (n, less, through) = after_key c.args.graph.now parts P right held in
     (n, less, (Through-behind r parts P (Rounds C n (right - n)) c.rounds.ensures c.after-fronts-2.ensures).1 through)
@@ -49,8 +50,8 @@ pub returns : goal.returns
 returns c =
     let r = c.args.graph.now in
     let parts = c.args.parts.now in
-    let A = Relates parts.left.period in
-    let C = Relates parts.right.period in
+    let A = HasBit parts.left.period in
+    let C = HasBit parts.right.period in
     let left = c.least_sum-left.result in
     let right = c.least_sum-right.result in
     let first = c.least_first-first.result in

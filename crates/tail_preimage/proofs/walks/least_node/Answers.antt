@@ -9,6 +9,6 @@ returns c =
     let set = c.args.set in
     let (few, one, none) = bit_at-trailing_zeros w16 set (omega (arith, c.requires)) (omega arith) in
     record {
-      within = (bit_at-IsBitSet set _).1 one;
-      least = λ v l bit. let zeroth = none v l in let other = (bit_at-IsBitSet set v).0 bit in omega arith;
+      holds = (bit_at-IsBitSet set _).1 one;
+      none = λ v l bit. let zeroth = none v l in let other = (bit_at-IsBitSet set v).0 bit in omega arith;
     }

@@ -18,7 +18,7 @@ least_node-node-requires c = some_edge_on (rw c.rule-rule.ensures at c.m-last.en
 
 pub node_letter-requires-clause-node : goal.node_letter-requires-clause-node
 node_letter-requires-clause-node c =
-    let edge = (IsBitSet-and c.ends.result c.index.result.now c.least_node-node.result).0 c.least_node-node.ensures.within in
+    let edge = (IsBitSet-and c.ends.result c.index.result.now c.least_node-node.result).0 c.least_node-node.ensures.holds in
     rw c.rule-rule.ensures (IsBitSet-below (node_count c.args.graph.now) c.ends.result c.least_node-node.result c.ends.ensures.within edge.0)
 
 pub loop-n-preserved : goal.loop-n-preserved

@@ -1,23 +1,16 @@
-use Rattle.std.proofs.Common.{◌≡◌, ℕ, ◌+◌, [], ◌∷◌, ◌++◌, sym, ap, ◌∙◌, subst, arith}
+use Rattle.std.proofs.Common.{ℕ, [], ◌∷◌, ◌++◌, sym, ap, ◌∙◌, subst, arith}
 use Rattle.std.specs.List.{range_with_len}
-use Rattle.std.proofs.lemmas.List.{map-id}
-use Rattle.std.proofs.lemmas.List.FromFn.{map-range_with_len_more, get_or-range_with_len, length-range_with_len}
+use Rattle.std.proofs.lemmas.List.FromFn.{get_or-range_with_len, length-range_with_len}
+use Rattle.word_image.proofs.laws.Lists.{range-more}
 use Rattle.image_minimal.specs.Joins.{IsFalling}
 use Rattle.image_minimal.proofs.joined.Joined.new.Goals as goal
-
--- one number more
-range_more : (n : ℕ) → range_with_len 0 n ++ n ∷ [] ≡ range_with_len 0 (n + 1)
-range_more n =
-    ap (λ l. l ++ n ∷ []) (sym (map-id (range_with_len 0 n)))
-    ∙ sym (map-range_with_len_more (λ (x : ℕ). x) 0 n n (omega arith))
-    ∙ map-id (range_with_len 0 (n + 1))
 
 -- each of the numbers is its own parent
 falling : (n : ℕ) → IsFalling (range_with_len 0 n)
 falling n x l = omega (arith, get_or-range_with_len 0 n x 0 (omega (arith, l, length-range_with_len 0 n)))
 
 pub loop-number-preserved : goal.loop-number-preserved
-loop-number-preserved c = c.in_ok-push.ensures.items ∙ ap (λ l. l ++ c.loop-number.number ∷ []) c.loop-number.invariant ∙ range_more c.loop-number.number
+loop-number-preserved c = c.in_ok-push.ensures.items ∙ ap (λ l. l ++ c.loop-number.number ∷ []) c.loop-number.invariant ∙ sym (range-more 0 c.loop-number.number c.loop-number.number (omega arith))
 
 pub invariant_of-result : goal.invariant_of-result
 invariant_of-result c = subst IsFalling (sym c.loop-number.invariant) (falling c.loop-number.number)

@@ -1,6 +1,6 @@
 use Rattle.std.proofs.Common.{◌≡◌, sym, ap, subst, ◌∙◌}
 use Rattle.word_image.specs.LocalRules.{IsRule}
-use Rattle.word_image.specs.Edges.{follow_on}
+use Rattle.word_image.specs.Graphs.{follow_on}
 use Rattle.pair_graph.proofs.PairSteps.{LettersLead-follow}
 use Rattle.pair_graph.proofs.pairs.Pairs.step.Goals as goal
 
