@@ -12,11 +12,11 @@ use Rattle.word_image.specs.LocalRules.{LocalRule, IsRule, node_count}
 use Rattle.word_image.specs.Graphs.{pair_count}
 use Rattle.word_image.specs.MarkedPairs.{marked}
 use Rattle.word_image.proofs.laws.Places.{slice_get-append, slice_get-push, slice_get-push_cases, only_place}
-use Rattle.search_laws.specs.SearchQueues.{Place, TreeSpells, IsQueue}
+use Rattle.search_laws.specs.SearchQueues.{Place, TreeSpells, IsQueue, NoEdgeBefore}
 use Rattle.search_laws.specs.SearchQueues.TreeSpells.{Root, Branch}
 use Rattle.search_laws.proofs.QueueSteps.{HaveMet-next, HaveMet-push, edge-within, IsQueue-start, IsQueue-there, IsQueue-new}
 use Rattle.search_laws.proofs.QueueStates.{mapped_at, unmapped_at, length-queue-le, state-below}
-use Rattle.search_laws.proofs.LeastSteps.{NoEdgeBefore, IsLeastStepsTo, IsLeastStepsTo-edge, no_steps_to}
+use Rattle.search_laws.proofs.LeastSteps.{IsLeastStepsTo, IsLeastStepsTo-edge, no_steps_to}
 use Rattle.search_laws.proofs.QueueDepths.{AreDepths, depths-ascending, no_word_within}
 use Rattle.search_laws.proofs.SpelledWords.{letter_before, TreeSpells-some, length-spelled-le}
 use Rattle.search_laws.proofs.PairWalks.{uncode-code, code, Leads-walk, CodeStep-some, CodeStep-follows, IsLeastWalk-steps, no_walk}

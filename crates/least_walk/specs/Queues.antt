@@ -3,9 +3,8 @@ use Rattle.std.specs.Prelude.{◌≡◌, ◌≢◌, ℕ, ◌+◌, ◌*◌, ◌<�
 use Rattle.word_image.specs.LocalRules.{LocalRule, IsRule}
 use Rattle.word_image.specs.Graphs.{pair_count}
 use Rattle.word_image.specs.MarkedPairs.{marked}
-use Rattle.search_laws.specs.SearchQueues.{Place, TreeSpells, IsQueue}
-use Rattle.search_laws.proofs.PairWalks.{CodeStep}
-use Rattle.search_laws.proofs.LeastSteps.{NoEdgeBefore}
+use Rattle.search_laws.specs.SearchQueues.{Place, TreeSpells, IsQueue, NoEdgeBefore}
+use Rattle.search_laws.specs.PairWalks.{CodeStep}
 use Rattle.least_walk.specs.declared.queue.Reached.{Reached}
 use Rattle.least_walk.specs.declared.queue.Ends.{Ends}
 use Rattle.least_walk.specs.Marks.{HasPair}

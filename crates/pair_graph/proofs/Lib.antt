@@ -1,3 +1,2 @@
-pub mod BackSteps
 mod PairLanes
 mod PairSteps

@@ -12,12 +12,11 @@ use Rattle.pair_laws.proofs.Pairs.{first_of-below, second_of-below, some_if_equa
 use Rattle.pair_laws.proofs.Rows.{row_cases, HasBit-less}
 use Rattle.pair_laws.proofs.Sets.{IsBitSet-and, IsBitSet-below}
 use Rattle.word_image.specs.declared.side.Side.{Side}
-use Rattle.word_image.specs.declared.side.Side.TheVariants.{Right, Left}
 use Rattle.word_image.specs.Ends.{window_with, label_at, end_at}
 use Rattle.word_image.specs.Edges.{AreEdgeRows}
-use Rattle.pair_graph.specs.PairSets.{holds, truths, AreRows, LettersLead, LeadsInto, IsTrimmedSet, AreNodesKept, GoesOn}
+use Rattle.pair_graph.specs.PairSets.{holds, truths, AreRows, LeadsInto, IsTrimmedSet, AreNodesKept, GoesOn}
 use Rattle.pair_graph.specs.PairRows.{holds_bit, length-truths, same_roots}
-use Rattle.pair_graph.proofs.BackSteps.{end_at-below, follow_on-edges, LeadsBack-follow}
+use Rattle.pair_laws.proofs.BackSteps.{end_at-below, follow_on-edges}
 
 -- a test of a bit
 tests_bit : (a i : ℕ) → IsTrue (bit_at a i == 1) ↔ IsBitSet a i
@@ -54,19 +53,10 @@ holds-row n rows set u i v {m} same seen h at node =
       (λ (second, there). subst (λ x. IsBitSet x v) (sym row) ((holds-place n rows u v node second).0 (subst (λ s. IsTrue (holds s (u * n + v))) (sym sets) there))),
     )
 
--- letters lead to a pair exactly where they lead to it on this side
-pub LettersLead-follow : (side : Side) {r : LocalRule} → IsRule r → (p a b q : ℕ) → p < pair_count r → a < r.states → b < r.states → (follow_on side r p a b ≡ Some q) ↔ LettersLead side r p a b q
-LettersLead-follow Right rule p a b q pair ha hb = ((λ leads. leads), (λ leads. leads))
-LettersLead-follow Left rule p a b q pair ha hb = LeadsBack-follow rule p a b q pair ha hb
-
--- that is the pair of the nodes to which they lead, where their labels are equal
-leads_by : (side : Side) {r : LocalRule} → IsRule r → (p a b : ℕ) → p < pair_count r → a < r.states → b < r.states → (q : ℕ)
-    → LettersLead side r p a b q ↔ ((label_at side r (first_of r p) a ≡ label_at side r (second_of r p) b) × (pair_of r (end_at side r (first_of r p) a) (end_at side r (second_of r p) b) ≡ q))
-leads_by side {r} rule p a b inside in_a in_b q =
-    let exact = LettersLead-follow side rule p a b q inside in_a in_b in (
-      (λ leads. some_if_equal _ _ _ q (exact.1 leads)),
-      (λ (same, pair). exact.0 (follow_on-edges side r p a b same ∙ ap Some pair)),
-    )
+-- letters lead to the pair of the nodes to which they lead, where their labels are equal
+leads_by : (side : Side) (r : LocalRule) (p a b q : ℕ)
+    → (follow_on side r p a b ≡ Some q) ↔ ((label_at side r (first_of r p) a ≡ label_at side r (second_of r p) b) × (pair_of r (end_at side r (first_of r p) a) (end_at side r (second_of r p) b) ≡ q))
+leads_by side r p a b q = ((λ leads. some_if_equal _ _ _ q leads), (λ (same, pair). follow_on-edges side r p a b same ∙ ap Some pair))
 
 -- labels are small
 small_label : (side : Side) {r : LocalRule} → IsRule r → (u a : ℕ) → u < node_count r → a < r.states → label_at side r u a < 16
@@ -94,14 +84,14 @@ GoesOn-into side {r} rule ends rows edges p inside =
               second = b;
               letter = in_b;
               pair = q;
-              leads = (leads_by side rule p a b inside letter in_b q).1 (sym same, refl);
+              leads = (leads_by side r p a b q).1 (sym same, refl);
               there = (holds-place (node_count r) rows (end_at side r u a) (end_at side r v b) (end_at-below side rule u a in_u letter) (end_at-below side rule v b in_v in_b)).1
                   (subst (IsBitSet (slice_index rows (end_at side r u a))) (sym arrives) goes.pair);
             },
           )),
       (λ (a, letter, into).
           let b = into.second in
-          let (same, pair) = (leads_by side rule p a b inside letter into.letter into.pair).0 into.leads in
+          let (same, pair) = (leads_by side r p a b into.pair).0 into.leads in
           let t = end_at side r v b in
           let below = end_at-below side rule v b in_v into.letter in (
             a,

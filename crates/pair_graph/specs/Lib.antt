@@ -1,3 +1,2 @@
-pub mod BackSteps
 pub mod PairSets
 pub mod PairRows

@@ -4,10 +4,8 @@ use Rattle.std.specs.Simd.Lanes.{mask_l, chunk}
 use Rattle.std.specs.Int.{bit_at}
 use Rattle.std.specs.List.{range_with_len}
 use Rattle.word_image.specs.LocalRules.{LocalRule}
-use Rattle.word_image.specs.Graphs.{follow, pair_count}
-use Rattle.pair_graph.specs.BackSteps.{LeadsBack}
+use Rattle.word_image.specs.Graphs.{follow_on, pair_count}
 use Rattle.word_image.specs.declared.side.Side.{Side}
-use Rattle.word_image.specs.declared.side.Side.TheVariants.{Right, Left}
 use Rattle.word_image.specs.Edges.{ends_at}
 use Rattle.word_image.specs.Ends.{label_at, end_at}
 
@@ -35,17 +33,12 @@ pub record AreRows (n : ℕ) (rows : List ℕ) : Type 0 where
   pub within : (u : ℕ) → u < n → slice_index rows u < 2 ^ n
   pub past : (u : ℕ) → n ≤ u → slice_index rows u ≡ 0
 
--- letters a and b lead from the pair p to the pair q: forward along two edges, and backward against them
-abbrev pub LettersLead : Side → LocalRule → ℕ → ℕ → ℕ → ℕ → Type 0
-LettersLead Right r p a b q = follow r p a b ≡ Some q
-LettersLead Left r p a b q = LeadsBack r p a b q
-
 -- the letter a and another one lead from the pair into the set
 pub record LeadsIntoBy (side : Side) (r : LocalRule) (set : List Bool) (p a : ℕ) : Type 0 where
   pub second : ℕ
   pub letter : second < r.states
   pub pair : ℕ
-  pub leads : LettersLead side r p a second pair
+  pub leads : follow_on side r p a second ≡ Some pair
   pub there : IsTrue (holds set pair)
 
 -- some letters do

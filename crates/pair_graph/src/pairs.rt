@@ -32,11 +32,10 @@ impl Model for Pairs {
 }
 
 impl Pairs {
-    ghost use Rattle.word_image.specs.Graphs.{follow};
+    ghost use Rattle.word_image.specs.Graphs.{follow, follow_on};
     ghost use Rattle.word_image.specs.MarkedPairs.{marked};
-    ghost use Rattle.pair_graph.specs.BackSteps.{LeadsBack};
+    ghost use Rattle.word_image.specs.BackSteps.{LeadsBack};
     ghost use Rattle.word_image.specs.Edges.{AreEdgeRows};
-    ghost use Rattle.pair_graph.specs.PairSets.{LettersLead};
 
     /// The pairs of this rule.
     pub fn of(rule: &Rule) -> Pairs
@@ -109,12 +108,12 @@ impl Pairs {
         self.rule().follow(Side::Left, q, a, b)
     }
 
-    /// The pair to which the letters a and b lead from p: forward by `follow`, and backward by `back`.
+    /// The pair to which the letters a and b lead from p on this side: forward by `follow`, and backward by `back`.
     pub(crate) fn step(&self, side: Side, p: u16, a: u8, b: u8) -> Option<u16>
         requires pair { p < pair_count self.now }
         requires first { a < self.now.states }
         requires second { b < self.now.states }
-        ensures exactly { (q : ℕ) → (result ≡ Some q) ↔ LettersLead side self.now p a b q }
+        ensures pair { result ≡ follow_on side self.now p a b }
         ensures below { IfSome result (λ q. q < pair_count self.now) }
     {
         self.rule().follow(side, p, a, b)

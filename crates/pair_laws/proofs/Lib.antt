@@ -5,6 +5,7 @@ pub mod Joins
 pub mod Walks
 pub mod Ranks
 pub mod Pairs
+pub mod BackSteps
 pub mod Claims
 pub mod Windows
 pub mod Aheads

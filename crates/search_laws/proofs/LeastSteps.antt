@@ -7,7 +7,7 @@ use Rattle.std.proofs.lemmas.List.{length_push}
 use Rattle.std.proofs.Math.Nat.{mul-le-mul_left, mul-le-mul_right, suc-mul, mul-one}
 use Rattle.std.specs.declared.cmp.Ordering.TheVariants.{Greater}
 use Rattle.word_image.specs.Words.{word_cmp}
-use Rattle.search_laws.specs.SearchQueues.{Place, TreeSpells, HaveMet, IsQueue, filled}
+use Rattle.search_laws.specs.SearchQueues.{Place, TreeSpells, IsQueue, filled, NoEdgeBefore}
 use Rattle.search_laws.specs.Walks.{Leads}
 use Rattle.search_laws.proofs.Walks.{Leads-push, Leads-induct}
 use Rattle.search_laws.proofs.QueueSteps.{filled-later}
@@ -44,10 +44,6 @@ parent-least {k = k} q i j b x y positive at from letter step =
           (cases_lt j x.parent),
       (λ same. let row : x.parent * k ≡ j * k = ap (λ n. n * k) same in omega arith),
     )
-
--- no edge before the first e leads to the state
-abbrev pub NoEdgeBefore : (ℕ → ℕ → ℕ → Type 0) → ℕ → List (Place ℕ) → ℕ → ℕ → Type 0
-NoEdgeBefore Step k tree e goal = HaveMet Step (λ t _. t ≢ goal) k tree e
 
 -- w is the first word of at least one letter that leads to the state
 pub record IsLeastStepsTo (Step : ℕ → ℕ → ℕ → Type 0) (k start t : ℕ) (w : List ℕ) : Type 0 where

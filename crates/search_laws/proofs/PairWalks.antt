@@ -14,7 +14,7 @@ use Rattle.word_image.specs.Words.{word_cmp}
 use Rattle.word_image.specs.Rings.{pair_cmp, pairs_cmp}
 use Rattle.word_image.proofs.laws.Orders.{slice_cmp-value}
 use Rattle.search_laws.specs.Walks.{Leads}
-use Rattle.search_laws.specs.PairWalks.{LetterPairStep, ArePairs, PairWalk, IsLeastWalk, uncode}
+use Rattle.search_laws.specs.PairWalks.{LetterPairStep, ArePairs, PairWalk, IsLeastWalk, uncode, CodeStep}
 use Rattle.search_laws.proofs.Walks.{Walk-each, Walk-map, All-walk, Walk-shortened}
 use Rattle.search_laws.proofs.LeastSteps.{IsLeastStepsTo}
 
@@ -22,17 +22,11 @@ use Rattle.search_laws.proofs.LeastSteps.{IsLeastStepsTo}
 abbrev pub code : ℕ → ℕ × ℕ → ℕ
 code n p = p.0 * n + p.1
 
--- a step on the number of a letter pair, for letters below k
-pub record CodeStep (follow : ℕ → ℕ → ℕ → Option ℕ) (k n s c t : ℕ) : Type 0 where
-  pub first : c / n < k
-  pub second : c % n < k
-  pub follows : follow s (c / n) (c % n) ≡ Some t
-
 -- nothing after an order that is told
-then_equal : (o : Ordering) → ordering_then o Equal ≡ o
-then_equal Less = refl
-then_equal Equal = refl
-then_equal Greater = refl
+then_nothing : (o : Ordering) → ordering_then o Equal ≡ o
+then_nothing Less = refl
+then_nothing Equal = refl
+then_nothing Greater = refl
 
 -- the value of two letters
 value-pair : (n a b : ℕ) → value n (a ∷ b ∷ []) ≡ a * n + b
@@ -48,7 +42,7 @@ pair_cmp-code : (n : ℕ) (p q : ℕ × ℕ) → (p.0 < n) × (p.1 < n) → (q.0
 pair_cmp-code n p q small_p small_q =
     let below : (a : ℕ × ℕ) → (a.0 < n) × (a.1 < n) → IsWord n (a.0 ∷ a.1 ∷ []) = λ a small.
     All-cons (λ c. c < n) a.0 (a.1 ∷ []) small.0 (All-cons (λ c. c < n) a.1 [] small.1 (All-nil (λ c. c < n))) in
-    ap (ordering_then (nat_cmp p.0 q.0)) (sym (then_equal (nat_cmp p.1 q.1)))
+    ap (ordering_then (nat_cmp p.0 q.0)) (sym (then_nothing (nat_cmp p.1 q.1)))
     ∙ slice_cmp-value n (p.0 ∷ p.1 ∷ []) (q.0 ∷ q.1 ∷ []) (below p small_p) (below q small_q) refl
     ∙ ap₂ nat_cmp (value-pair n p.0 p.1) (value-pair n q.0 q.1)
 

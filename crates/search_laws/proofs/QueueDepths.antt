@@ -4,11 +4,10 @@ use Rattle.std.specs.List.{slice_get}
 use Rattle.std.proofs.Math.Nat.{mul-le-mul_right, suc-mul}
 use Rattle.std.proofs.lemmas.Bool.{cases_eq, cases_lt}
 use Rattle.std.proofs.lemmas.List.{length_push}
-use Rattle.search_laws.specs.SearchQueues.{Place, IsQueue}
+use Rattle.search_laws.specs.SearchQueues.{Place, IsQueue, NoEdgeBefore}
 use Rattle.search_laws.specs.Walks.{Leads}
 use Rattle.search_laws.proofs.Walks.{Leads-induct}
 use Rattle.search_laws.proofs.QueueSteps.{filled-later}
-use Rattle.search_laws.proofs.LeastSteps.{NoEdgeBefore}
 
 -- how many steps lead to each place: none to the first one, and one more than to its parent to each other
 pub record AreDepths (tree : List (Place ℕ)) (depth : ℕ → ℕ) : Type 0 where

@@ -32,3 +32,9 @@ pub record IsLeastWalkTo (follow : ℕ → ℕ → ℕ → Option ℕ) (k start 
 -- the letter pair of a number
 abbrev pub uncode : ℕ → ℕ → ℕ × ℕ
 uncode n c = (c / n, c % n)
+
+-- a step on the number of a letter pair, for letters below k
+pub record CodeStep (follow : ℕ → ℕ → ℕ → Option ℕ) (k n s c t : ℕ) : Type 0 where
+  pub first : c / n < k
+  pub second : c % n < k
+  pub follows : follow s (c / n) (c % n) ≡ Some t

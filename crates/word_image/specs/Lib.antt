@@ -5,6 +5,7 @@ pub mod Rings
 pub mod Windows
 pub mod Ends
 pub mod Graphs
+pub mod BackSteps
 pub mod MarkedPairs
 pub mod FirstPairs
 pub mod Ranks

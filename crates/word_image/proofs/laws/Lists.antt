@@ -1,4 +1,4 @@
--- Lists that know no rule: a list that grows by what a function gives at each place, and two lists that are paired.
+-- Lists that know no rule: a list that grows by what a function gives at each place, two lists that are paired, and one that is read backwards.
 use Rattle.std.proofs.Common.{◌≡◌, ℕ, zero, suc, ◌+◌, ◌-◌, ◌<◌, List, [], ◌∷◌, ◌++◌, length, get_or, map, set, take, drop, reverse, length-drop, map-id, replicate, Some, refl, sym, ap, ap₂, ◌∙◌, arith, append_assoc, slice_index}
 use Rattle.std.specs.List.{AllZip, range_with_len, slice_get}
 use Rattle.std.proofs.lemmas.List.{length-reverse, reverse-append, take-append-drop, take_at, drop_at}
@@ -58,7 +58,7 @@ pub range-more : (a n j : ℕ) → a + n ≡ j → range_with_len a (n + 1) ≡ 
 range-more a n j is =
     sym (map-id (range_with_len a (n + 1))) ∙ map-range_with_len_more (λ (i : ℕ). i) a n j is ∙ ap (λ (xs : List ℕ). xs ++ j ∷ []) (map-id (range_with_len a n))
 
--- a list of i + j elements read backwards begins with its last j letters read backwards, and goes on with the others
+-- a list of i + j elements read backwards begins with its last j, and goes on with the others
 pub reverse-cut : (i j : ℕ) (x : List ℕ) → length x ≡ i + j → (take j (reverse x) ≡ reverse (drop i x)) × (drop j (reverse x) ≡ reverse (take i x))
 reverse-cut i j x e =
     let split : reverse x ≡ reverse (drop i x) ++ reverse (take i x) = ap reverse (sym (take-append-drop i x)) ∙ reverse-append (take i x) (drop i x) in

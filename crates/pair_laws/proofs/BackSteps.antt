@@ -1,16 +1,17 @@
 -- A window is a node and the letter after it, and also the letter before a node and that node: so a step leads back from a pair along the windows that its nodes end.
-use Rattle.std.proofs.Common.{◌≡◌, ℕ, ◌+◌, ◌*◌, ◌/◌, ◌%◌, ◌<◌, ◌↔◌, Some, slice_index, eq-eqb, refl, sym, ap, ap₂, ◌∙◌, subst, mod-lt, mul_comm}
+use Rattle.std.proofs.Common.{◌≡◌, ℕ, ◌+◌, ◌*◌, ◌-◌, ◌/◌, ◌%◌, ◌<◌, ◌↔◌, Some, slice_index, eq-eqb, refl, sym, ap, ap₂, ◌∙◌, subst, mod-lt, mul_comm, arith}
 use Rattle.std.proofs.lemmas.Nat.{div-mul-add, mod-mul-add, div-add-mod'}
 use Rattle.std.proofs.Math.Nat.{div-div-eq-div-mul}
 use Rattle.word_image.specs.LocalRules.{LocalRule, IsRule, node_count}
-use Rattle.word_image.specs.Graphs.{next, node_letter, first_of, second_of, pair_of, pair_count, follow_on}
+use Rattle.word_image.specs.Graphs.{next, node_letter, first_of, second_of, pair_of, pair_count, follow_on, LeadsOn}
 use Rattle.pair_laws.proofs.Pairs.{first_of-pair_of, second_of-pair_of, pair_of-first_of, pair_of-below, some_if_equal, first_of-below, second_of-below, follow-pair_of, follow-some, follow-below}
+use Rattle.word_image.proofs.laws.Values.{IsWord-word_of, length-word_of}
 use Rattle.word_image.proofs.laws.Graphs.{next-below}
 use Rattle.word_image.proofs.laws.WindowParts.{some_letter, rest_count, node_count-rest, node_parts, window_with-within, end_node-below}
 use Rattle.word_image.specs.Ends.{window_with, label_at, end_at}
 use Rattle.word_image.specs.declared.side.Side.{Side}
-use Rattle.word_image.specs.declared.side.Side.TheVariants.{Left}
-use Rattle.pair_graph.specs.BackSteps.{LeadsBack}
+use Rattle.word_image.specs.declared.side.Side.TheVariants.{Right, Left}
+use Rattle.word_image.specs.BackSteps.{LeadsBack}
 
 -- a letter leads to a node
 pub end_at-below : (side : Side) {r : LocalRule} → IsRule r → (u a : ℕ) → u < node_count r → a < r.states → end_at side r u a < node_count r
@@ -90,4 +91,26 @@ pub LeadsBack-follow : {r : LocalRule} → IsRule r → (q a b p : ℕ) → q < 
 LeadsBack-follow {r} rule q a b p pair ha hb = (
   (λ leads. let (same, here) = some_if_equal _ _ _ p leads in subst (LeadsBack r q a b) here (leads_back rule q a b pair ha hb same)),
   (λ back. let (same, here) = led_back rule q a b p back in follow_on-edges Left r q a b same ∙ ap Some here),
+)
+
+-- the first letter of a node is a letter
+node_letter-first : {r : LocalRule} → IsRule r → (u : ℕ) → u < node_count r → node_letter r u 0 < r.states
+node_letter-first {r} rule u node = IsWord-word_of r.states (r.width - 1) u node 0 0 (omega (arith, rule.shape.least_width, length-word_of r.states (r.width - 1) u))
+
+-- a pair leads on where some letters lead on this side, and nowhere else
+pub LeadsOn-follows : (side : Side) {r : LocalRule} → IsRule r → (p q : ℕ) → p < pair_count r → LeadsOn side r p q ↔ ((a : ℕ) × (b : ℕ) × (a < r.states) × (b < r.states) × (follow_on side r p a b ≡ Some q))
+LeadsOn-follows Right rule p q inside = (
+  (λ s. (s.a, s.b, s.a_letter, s.b_letter, s.follows)),
+  (λ (a, b, in_a, in_b, leads). record { a = a; b = b; in_pairs = inside; a_letter = in_a; b_letter = in_b; follows = leads }),
+)
+LeadsOn-follows Left {r} rule q p inside = (
+  (λ s.
+      let in_a = node_letter-first rule (first_of r p) (first_of-below rule p s.in_pairs) in
+      let in_b = node_letter-first rule (second_of r p) (second_of-below rule p) in
+      let back : LeadsBack r q (node_letter r (first_of r p) 0) (node_letter r (second_of r p) 0) p = record { in_pairs = s.in_pairs; first = refl; second = refl; leads = (s.a, s.b, s.a_letter, s.b_letter, s.follows) } in
+      (_, _, in_a, in_b, (LeadsBack-follow rule q _ _ p inside in_a in_b).1 back)),
+  (λ (a, b, in_a, in_b, follows).
+      let back = (LeadsBack-follow rule q a b p inside in_a in_b).0 follows in
+      let (c, d, in_c, in_d, leads) = back.leads in
+      record { a = c; b = d; in_pairs = back.in_pairs; a_letter = in_c; b_letter = in_d; follows = leads }),
 )
