@@ -3,6 +3,8 @@ ghost use Rattle.std.specs.Prelude.{◌≡◌, ◌≤◌, IfOk};
 ghost use Rattle.std.specs.Result.{result_err};
 ghost use Rattle.rule_algebra.specs.AlgebraFaults.{offset_fault, limit_fault};
 
+use word_image::{MOST_NODES, MOST_WIDTH};
+
 /// Why rules make no rule: the first of these that holds.
 #[derive(Clone, Copy, Debug, PartialEq, Eq)]
 pub enum AlgebraFault {
@@ -38,10 +40,10 @@ pub(crate) fn check_limits(k: u8, m: u8, o: i16) -> Result<i8, AlgebraFault>
     ensures fault { result_err result ≡ limit_fault k m o }
     ensures offset { IfOk result (λ p. p ≡ o) }
 {
-    if m > 5 {
+    if usize::from(m) > MOST_WIDTH {
         return Err(AlgebraFault::Width);
     }
-    if u32::from(k).pow(u32::from(m - 1)) > 16 {
+    if u32::from(k).pow(u32::from(m - 1)) > MOST_NODES as u32 {
         return Err(AlgebraFault::Nodes);
     }
     check_offset(m, o)

@@ -8,6 +8,7 @@ use crate::periods::{Periods, least_first, least_sum, open, periods_of, rounds, 
 use crate::relations::{Relation, before, relation, reversed};
 use debruijn::Graph;
 use tail_config::Tail;
+use word_image::MOST_NODES;
 
 /// The parts of a configuration as relations.
 #[derive(Clone, Copy)]
@@ -53,7 +54,11 @@ pub fn first_shape(graph: &Graph, parts: &Parts) -> Spans
     requires some { PassesThrough graph.now parts.now 16 16 }
     ensures { IsFirstShape graph.now parts.now (shape_of result) }
 {
-    let rears = before(graph, &parts.middle, open(graph, &parts.right, 16));
+    let rears = before(
+        graph,
+        &parts.middle,
+        open(graph, &parts.right, MOST_NODES as u8),
+    );
     let left = least_sum(graph, &parts.left, rears);
     let fronts = graph.after(&parts.middle, some_rounds(graph, &parts.left, left));
     let right = least_sum(graph, &parts.right, fronts);
