@@ -1,20 +1,17 @@
 -- The rows of edges are one table, and so a rule tells them.
 use Rattle.std.proofs.Common.{◌≡◌, ℕ, zero, suc, ◌+◌, ◌*◌, ◌/◌, ◌%◌, ◌^◌, ◌<◌, ◌≤◌, List, [], length, replicate, slice_index, slice_index_or, refl, sym, ap, ◌∙◌, subst, arith, ⊎_elim, mod-lt}
-use Rattle.std.specs.Int.{bit_at}
-use Rattle.std.proofs.lemmas.Bool.{cases_eq, cases_lt}
+use Rattle.std.proofs.lemmas.Bool.{cases_lt}
 use Rattle.std.proofs.lemmas.Grind.{same_number_lists}
 use Rattle.std.proofs.lemmas.List.{same_lists, get_or_default}
 use Rattle.std.proofs.lemmas.List.Elements.{All-get_or}
-use Rattle.std.proofs.lemmas.Nat.{div_below}
-use Rattle.std.proofs.lemmas.Nat.Bits.{same_from_bits_below, bit_at-lt}
+use Rattle.std.proofs.lemmas.Nat.{div_below, div-add-mod'}
 use Rattle.word_image.specs.LocalRules.{LocalRule, IsRule, node_count}
-use Rattle.word_image.specs.Graphs.{IsSetOf}
 use Rattle.word_image.specs.Ends.{window_with, label_at, end_at}
 use Rattle.word_image.specs.Edges.{AreEdgeRows}
 use Rattle.word_image.specs.declared.side.Side.{Side}
-use Rattle.word_image.proofs.laws.Bits.{bit_at-IsBitSet}
 use Rattle.word_image.proofs.laws.Edges.{HaveEdges, HaveEdges-none, HaveEdges-more, with_ends, AreEdgeRows-all}
 use Rattle.word_image.proofs.laws.WindowParts.{some_letter, window_with-within}
+use Rattle.search_laws.proofs.StepSets.{IsSetOf-unique}
 
 -- there are 16 rows of 16 sets
 pub record AreRowsOf16 (rows : List (List ℕ)) : Type 0 where
@@ -22,26 +19,13 @@ pub record AreRowsOf16 (rows : List (List ℕ)) : Type 0 where
   pub wide : (label : ℕ) → label < 16 → length (slice_index_or rows label []) ≡ 16
 
 -- the table of the first n edges, node by node and letter by letter
-first_edges : Side → LocalRule → ℕ → List (List ℕ)
-first_edges side r 0 = replicate 16 (replicate 16 0)
+abbrev first_edges : Side → LocalRule → ℕ → List (List ℕ)
+first_edges side r zero = replicate 16 (replicate 16 0)
 first_edges side r (suc n) = with_ends (first_edges side r n) (label_at side r (n / r.states) (n % r.states)) (n / r.states) (2 ^ end_at side r (n / r.states) (n % r.states))
 
 -- the table of all edges
-pub edge_table : Side → LocalRule → List (List ℕ)
+abbrev pub edge_table : Side → LocalRule → List (List ℕ)
 edge_table side r = first_edges side r (node_count r * r.states)
-
--- what holds of the numbers below n is one set
-IsSetOf-one : {n : ℕ} {Holds : ℕ → Type 0} {set other : ℕ} → IsSetOf n Holds set → IsSetOf n Holds other → set ≡ other
-IsSetOf-one {n} {Holds} {set} {other} h g = same_from_bits_below n set other h.within g.within (λ i inside.
-    let first = bit_at-IsBitSet set i in
-    let second = bit_at-IsBitSet other i in
-    ⊎_elim
-    (λ one. one ∙ sym (second.0 ((g.nodes i inside).1 ((h.nodes i inside).0 (first.1 one)))))
-    (λ none. ⊎_elim
-    (λ one. absurd (none (first.0 ((h.nodes i inside).1 ((g.nodes i inside).0 (second.1 one))))))
-    (λ neither. omega (arith, bit_at-lt set i, bit_at-lt other i, none, neither))
-    (cases_eq (bit_at other i) 1))
-    (cases_eq (bit_at set i) 1))
 
 -- there is one table of the edges
 pub AreEdgeRows-one : {side : Side} {r : LocalRule} {rows others : List (List ℕ)} → AreEdgeRows side r rows → AreRowsOf16 rows → AreEdgeRows side r others → AreRowsOf16 others → rows ≡ others
@@ -53,7 +37,7 @@ AreEdgeRows-one {side} {r} {rows} {others} edges size also as_many = same_lists 
     ∙ same_number_lists row other (size.wide label below ∙ sym (as_many.wide label below)) (λ u within.
     let small : u < 16 = omega (arith, size.wide label below, within) in
     ⊎_elim
-    (λ node. IsSetOf-one (edges.ends label u below node) (also.ends label u below node))
+    (λ node. IsSetOf-unique (edges.ends label u below node) (also.ends label u below node))
     (λ more. edges.past label u below small more ∙ sym (also.past label u below small more))
     (cases_lt u (node_count r)))
     ∙ get_or_default others label [] d (omega (arith, size.tall, as_many.tall, inside)))
@@ -74,7 +58,7 @@ HaveEdges-first side {r} rule (suc n) few =
     let a = n % k in
     let letter : a < k = mod-lt n (some_letter rule) in
     let node : u < node_count r = div_below n k (node_count r) (some_letter rule) (omega (arith, few)) in
-    let edge : u * k + a ≡ n = div-mod n k in
+    let edge : u * k + a ≡ n = div-add-mod' n k in
     let before = subst (λ i. HaveEdges side r i (first_edges side r n)) (sym edge) (HaveEdges-first side rule n (omega (arith, few))) in
     subst (λ i. HaveEdges side r i (first_edges side r (suc n))) (omega (arith, edge))
     (HaveEdges-more rule node letter before (label_at side r u a) u (2 ^ end_at side r u a) refl refl refl (label_at-below side rule u a node letter) (omega (arith, node, rule.shape.most_nodes)))

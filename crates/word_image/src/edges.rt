@@ -1,6 +1,6 @@
 //! The edges of the de Bruijn graph as rows of sets of nodes, and steps of sets along them.
 
-ghost use Rattle.std.specs.Prelude.{◌^◌, ◌<◌, ◌≤◌, ℕ, List, [], ◌∷◌, ◌++◌, slice_index, IsBitSet};
+ghost use Rattle.std.specs.Prelude.{◌≡◌, ◌^◌, ◌<◌, ◌≤◌, ℕ, List, [], ◌∷◌, ◌++◌, length, slice_index, slice_index_or, IsBitSet};
 ghost use Rattle.word_image.specs.LocalRules.{IsRule};
 ghost use Rattle.word_image.specs.Graphs.{IsSetOf, HasBit};
 ghost use Rattle.word_image.specs.Ranks.{IsLastSet};
@@ -17,6 +17,8 @@ pub type EdgeRows = [[u16; MOST_NODES]; MOST_STATES];
 /// them to the left.
 pub fn edge_rows(rule: &Rule, side: Side) -> EdgeRows
     ensures edges { AreEdgeRows side rule.now result }
+    ensures tall { length result ≡ 16 }
+    ensures wide { (label : ℕ) → label < 16 → length (slice_index_or result label []) ≡ 16 }
     ensures rule { IsRule rule.now }
 {
     let mut ends = [[0; MOST_NODES]; MOST_STATES];
