@@ -10,6 +10,7 @@ use pair_graph::Pairs;
 use pair_rank::Ranks;
 use std::alloc::{AllocError, Global};
 use tail_config::Tail;
+use word_image::Rule;
 
 /// Why a rule closes on a side, or why it doesn't.
 #[derive(Debug, Drop)]
@@ -21,9 +22,21 @@ pub enum Closing {
 }
 
 /// The least right look-ahead exactly where the rule is right-closing, else its least normal right
-/// split, in Tails with middles and periods of at most 512 letters. The ranks are those of
-/// the pairs.
+/// split, in Tails with middles and periods of at most 512 letters. The ranks are those of the rule.
 pub fn right(
+    alloc: Global,
+    rule: &Rule,
+    ranks: &Ranks,
+    walker: &mut Walker,
+) -> Result<Closing, AllocError>
+    requires { ranks.now ≡ rule.now }
+    ensures answer { IfOk result (IsRightAnswer rule.now) }
+{
+    right_over(alloc, &Pairs::of(rule), ranks, walker)
+}
+
+/// What `right` gives of the rule of these pairs, which aren't made again.
+pub fn right_over(
     alloc: Global,
     pairs: &Pairs,
     ranks: &Ranks,
@@ -41,9 +54,21 @@ pub fn right(
 }
 
 /// The least left look-ahead exactly where the rule is left-closing, else its least normal left
-/// split, in Tails with middles and periods of at most 512 letters. The ranks are those of
-/// the pairs.
+/// split, in Tails with middles and periods of at most 512 letters. The ranks are those of the rule.
 pub fn left(
+    alloc: Global,
+    rule: &Rule,
+    ranks: &Ranks,
+    walker: &mut Walker,
+) -> Result<Closing, AllocError>
+    requires { ranks.now ≡ rule.now }
+    ensures answer { IfOk result (IsLeftAnswer rule.now) }
+{
+    left_over(alloc, &Pairs::of(rule), ranks, walker)
+}
+
+/// What `left` gives of the rule of these pairs, which aren't made again.
+pub fn left_over(
     alloc: Global,
     pairs: &Pairs,
     ranks: &Ranks,

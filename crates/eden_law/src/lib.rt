@@ -33,6 +33,6 @@ mod erased;
 mod reached_pairs;
 mod surjective;
 
-pub use erased::{Erased, erasable};
+pub use erased::{Erased, erasable, erasable_over};
 pub use reached_pairs::reached;
 pub use surjective::is_surjective;

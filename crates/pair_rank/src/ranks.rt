@@ -35,8 +35,15 @@ impl Model for Ranks {
 }
 
 impl Ranks {
-    /// The ranks of the rule of these pairs.
-    pub fn of(pairs: &Pairs) -> Ranks
+    /// The ranks of this rule.
+    pub fn of(rule: &Rule) -> Ranks
+        ensures { result ≡ rule.now }
+    {
+        Ranks::over(&Pairs::of(rule))
+    }
+
+    /// The ranks of the rule of these pairs, which aren't made again.
+    pub fn over(pairs: &Pairs) -> Ranks
         ensures { result ≡ pairs.now }
     {
         let (forward, begins) = exact_ranks(pairs, Side::Right);

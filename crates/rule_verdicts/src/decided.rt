@@ -35,7 +35,7 @@ pub fn verdicts(rule: &Rule) -> Verdicts
             conserving,
         };
     }
-    let endless = Endless::of(&Pairs::over(graph));
+    let endless = Endless::over(&Pairs::over(graph));
     Verdicts {
         rule: *rule,
         weights,

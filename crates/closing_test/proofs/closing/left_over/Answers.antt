@@ -5,7 +5,7 @@ use Rattle.tail_config.specs.Tails.{IsRightClosing, IsLeftClosing, mirror_of}
 use Rattle.tail_config.specs.TailValues.{TailOver}
 use Rattle.tail_laws.proofs.Sides.{IsLeftClosing-mirrored}
 use Rattle.closing_test.specs.Closing.{IsLeastSplitOf, IsShortOver}
-use Rattle.closing_test.proofs.closing.left.Goals as goal
+use Rattle.closing_test.proofs.closing.left_over.Goals as goal
 
 pub least_split-requires : goal.least_split-requires
 least_split-requires c closing =
