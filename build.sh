@@ -1,4 +1,14 @@
-# What ./ca and ./library share; each names itself in `me` and the checkout in `top`, and sources this.
+# What ./ca, ./try and ./library share; each names itself in `me` and the checkout in `top`, and sources this.
+
+# needs_rt: whether rt is there; says what it is where it isn't.
+needs_rt() {
+    command -v rt >/dev/null && return
+    cat >&2 <<END
+$me: there is no rt, the command of the Rattle kit: it proves and builds the program. README.md names the kit's version.
+$me: certificates can be judged without it: python3 checkers/judge.py < CERTIFICATE
+END
+    return 1
+}
 
 # is_current CRATE OTHER..: whether the crate was built, and no source changed since that began, but for those
 # of the other crates.
