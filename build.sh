@@ -10,6 +10,14 @@ END
     return 1
 }
 
+# Says how each command is called, by the headings of docs/COMMANDS.md.
+tell_forms() {
+    {
+        echo "usage: ./ca COMMAND OPERANDS, where R is a rule, as 110; docs/COMMANDS.md says what each does"
+        sed -n '/^## [a-z]/{ s/^## /    .\/ca /; s/, /\n    .\/ca /g; p }' "$top/docs/COMMANDS.md"
+    } >&2
+}
+
 # is_current CRATE OTHER..: whether the crate was built, and no source changed since that began, but for those
 # of the other crates.
 is_current() {
