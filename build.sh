@@ -40,7 +40,7 @@ tell() {
     done
 }
 
-# build CRATE WORD..: proves and builds the crate by rt with these words, calls finish, and leaves out/built,
+# build CRATE COMMAND..: proves and builds the crate by this command in its folder, calls finish, and leaves out/built,
 # which is as old as the beginning of this. In a shell of its own, which clears up however it ends.
 build() (
     stamp=$top/crates/$1/out/built
@@ -51,12 +51,12 @@ build() (
     cd "$top/crates/$1" || exit
     shift
     set -o pipefail
-    if ! rt "$@" 2>&1 </dev/null | tee "$begun.log" | tell; then
+    if ! "$@" 2>&1 </dev/null | tee "$begun.log" | tell; then
         tail -n 40 "$begun.log" >&2
         exit 1
     fi
     finish && mv "$begun" "$stamp"
 )
 
-# What is left to do after rt.
+# What is left to do after the command.
 finish() { :; }
