@@ -1,6 +1,6 @@
 //! Whether a rule closes on a side.
 
-ghost use Rattle.std.specs.Prelude.{◌≡◌, IfOk, OnErr};
+ghost use Rattle.std.specs.Prelude.{◌≡◌, IfOk};
 ghost use Rattle.closing_test.specs.Closing.{IsRightAnswer, IsLeftAnswer};
 
 use crate::look_ahead::{ahead_left, ahead_right};
@@ -30,7 +30,7 @@ pub fn right(
     walker: &mut Walker,
 ) -> Result<Closing, AllocError>
     requires { ranks.now ≡ rule.now }
-    ensures answer { IfOk result (IsRightAnswer rule.now) }
+    ensures { IfOk result (IsRightAnswer rule.now) }
 {
     right_over(alloc, &Pairs::of(rule), ranks, walker)
 }
@@ -43,8 +43,7 @@ pub fn right_over(
     walker: &mut Walker,
 ) -> Result<Closing, AllocError>
     requires { ranks.now ≡ pairs.now }
-    ensures answer { IfOk result (IsRightAnswer pairs.now) }
-    ensures refused { OnErr result (walker.new ≡ walker.old) }
+    ensures { IfOk result (IsRightAnswer pairs.now) }
 {
     if let Some(ahead) = ahead_right(pairs.rule(), ranks) {
         return Ok(Closing::Ahead(ahead));
@@ -62,7 +61,7 @@ pub fn left(
     walker: &mut Walker,
 ) -> Result<Closing, AllocError>
     requires { ranks.now ≡ rule.now }
-    ensures answer { IfOk result (IsLeftAnswer rule.now) }
+    ensures { IfOk result (IsLeftAnswer rule.now) }
 {
     left_over(alloc, &Pairs::of(rule), ranks, walker)
 }
@@ -75,8 +74,7 @@ pub fn left_over(
     walker: &mut Walker,
 ) -> Result<Closing, AllocError>
     requires { ranks.now ≡ pairs.now }
-    ensures answer { IfOk result (IsLeftAnswer pairs.now) }
-    ensures refused { OnErr result (walker.new ≡ walker.old) }
+    ensures { IfOk result (IsLeftAnswer pairs.now) }
 {
     if let Some(ahead) = ahead_left(pairs.rule(), ranks) {
         return Ok(Closing::Ahead(ahead));

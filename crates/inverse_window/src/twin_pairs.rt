@@ -1,5 +1,5 @@
 //! The least twins.
-ghost use Rattle.std.specs.Prelude.{◌≡◌, ◌≤◌, ◌↔◌, ℕ, List, length, IfOk, IfSome, IsNone, MatchOption, OnErr};
+ghost use Rattle.std.specs.Prelude.{◌≡◌, ◌≤◌, ◌↔◌, ℕ, List, length, IfOk, IfSome, IsNone, MatchOption};
 ghost use Rattle.word_image.specs.LocalRules.{IsRule};
 ghost use Rattle.word_image.specs.Graphs.{pair_count};
 ghost use Rattle.word_image.specs.Rings.{IsTwins, IsLeastTwins};
@@ -44,7 +44,6 @@ pub fn twins_over(
     ensures injective { IfOk result (λ found. IsNone found ↔ IsInjective pairs.now) }
     ensures least { IfOk result (λ found. MatchOption found ((x y : List ℕ) → ¬ IsTwins pairs.now x y) (λ pair. IsLeastTwins pairs.now pair.x pair.y)) }
     ensures most { IfOk result (λ found. IfSome found (λ pair. (length pair.x ≤ 512) × (length pair.y ≤ 512))) }
-    ensures refused { OnErr result (walker.new ≡ walker.old) }
 {
     match first_turn(alloc, pairs, walker)? {
         Some(steps) => {

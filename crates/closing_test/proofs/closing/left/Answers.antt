@@ -4,4 +4,4 @@ use Rattle.closing_test.specs.Closing.{IsLeftAnswer}
 use Rattle.closing_test.proofs.closing.left.Goals as goal
 
 pub returns : goal.returns
-returns c = record { answer = subst (λ (r : LocalRule). IfOk c.left_over.result (IsLeftAnswer r)) c.of.ensures c.left_over.ensures.answer }
+returns c = subst (λ (r : LocalRule). IfOk c.left_over.result (IsLeftAnswer r)) c.of.ensures c.left_over.ensures

@@ -22,8 +22,8 @@ short-mirror t m short states config = record {
   right = omega (arith, ap (λ z. length z.right) config, length-reverse t.config.left, short.left);
 }
 
-pub returns-clause-answer : goal.returns-clause-answer
-returns-clause-answer c =
+pub returns : goal.returns
+returns c =
     let r : LocalRule = c.args.pairs.now in
     let same : c.of-mirrored.result ≡ mirrored r = c.of-mirrored.ensures ∙ c.reflect.ensures.mirrored ∙ ap mirrored c.rule-2.ensures in
     let split : IsLeastSplitOf (mirrored r) c.in_ok-first.first c.in_ok-first.second = subst (λ z. IsLeastSplitOf z c.in_ok-first.first c.in_ok-first.second) same c.in_ok-first.ensures in

@@ -4,4 +4,4 @@ use Rattle.closing_test.specs.Closing.{IsRightAnswer}
 use Rattle.closing_test.proofs.closing.right.Goals as goal
 
 pub returns : goal.returns
-returns c = record { answer = subst (λ (r : LocalRule). IfOk c.right_over.result (IsRightAnswer r)) c.of.ensures c.right_over.ensures.answer }
+returns c = subst (λ (r : LocalRule). IfOk c.right_over.result (IsRightAnswer r)) c.of.ensures c.right_over.ensures
