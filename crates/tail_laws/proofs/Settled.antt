@@ -3,13 +3,12 @@ use Rattle.std.proofs.Common.{◌≡◌, ℕ, ◌+◌, ◌-◌, ◌%◌, List, [
 use Rattle.std.specs.List.{zip}
 use Rattle.std.proofs.lemmas.Int.{ints}
 use Rattle.std.proofs.lemmas.List.{length-replicate, get_or-replicate}
-use Rattle.std.proofs.lemmas.List.FromFn.{fill_by_all}
 use Rattle.word_image.specs.LocalRules.{LocalRule, IsRule, value}
 use Rattle.word_image.specs.Graphs.{pair_of}
 use Rattle.word_image.proofs.laws.Values.{value-zeros}
 use Rattle.tail_config.specs.Tails.{TailConfig, IsTail, Same, cell, cells}
 use Rattle.tail_config.specs.Splits.{last_letters, IsSettled, IsNormalRightSplit}
-use Rattle.tail_config.proofs.laws.Runs.{length-run, run-same, drop-run, run-append}
+use Rattle.tail_config.proofs.laws.Runs.{length-run, run-by_letters, run-same, drop-run, run-append}
 use Rattle.tail_config.proofs.laws.Cells.{cells-middle, cells-right, same_left_part}
 use Rattle.tail_laws.proofs.Nodes.{node_at, same_nodes}
 use Rattle.tail_laws.proofs.Loops.{IsLooped, IsInStep}
@@ -31,7 +30,7 @@ cell-zero t e i =
 -- and so are runs of them
 pub cells-zeros : (t : TailConfig) (n : ℕ) → t.left ≡ 0 ∷ [] → cells t (neg_ℤ (pos n)) n ≡ replicate n 0
 cells-zeros t n e =
-    sym (fill_by_all (λ a. cell t (neg_ℤ (pos n) +ℤ pos a)) (replicate n 0) n 0 (length-replicate n 0) (λ a l.
+    sym (run-by_letters (cell t) (neg_ℤ (pos n)) n (replicate n 0) (length-replicate n 0) (λ a l.
     let place : neg_ℤ (pos n) +ℤ pos a ≡ negsuc (n - 1 - a) = omega (arith, ints) in
     let here : cell t (neg_ℤ (pos n) +ℤ pos a) ≡ 0 = ap (cell t) place ∙ cell-zero t e (n - 1 - a) in
     rw here (get_or-replicate n a 0 0 l)))

@@ -11,7 +11,6 @@ use Rattle.word_image.specs.LocalRules.{LocalRule, IsRule, IsWord, value, word_o
 use Rattle.word_image.proofs.laws.Values.{length-word_of, value-injective}
 use Rattle.word_image.proofs.laws.Images.{get_or-image}
 use Rattle.pair_laws.proofs.Joins.{same_node}
-use Rattle.tail_config.specs.Configs.{run}
 use Rattle.tail_config.specs.Tails.{TailConfig, IsTail, cell, cells}
 use Rattle.tail_config.specs.TailValues.{config_of}
 use Rattle.tail_config.proofs.laws.Runs.{length-run, get_or-run, IsWord-run, slice_range-run, take-run}
