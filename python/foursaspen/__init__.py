@@ -9,21 +9,26 @@ shows them. Answers are frozen dataclasses (foursaspen.report), everything else 
 (foursaspen.faults). The work is done by a library that is proved; this package is not, and only hands over words
 and reads lines.
 """
-from .commands import (Rule, Weights, brief, certify, check, classes, compose, decide, erase, inverse, language, least,
-                       lift, number, orphan, permute, preimage, reflect, run, same, sample, shift, survey, trim, unlift,
-                       widen)
-from .faults import (Fault, LibraryMissing, NotFit, OutOfMemory, Refused, RuleFault, TooLong, UsageFault, WordsFault)
+from .commands import (brief, certify, check, classes, compose, decide, erase, inverse, language, least, lift, number,
+                       orphan, permute, preimage, reflect, run, same, sample, shift, survey, trim, unlift, widen)
+from .drawing import Picture
+from .faults import (Fault, FoursaspenError, LibraryMissing, LibraryMissingError, NotFit, NotFitError, OutOfMemory,
+                     OutOfMemoryError, Refused, RefusedError, RuleError, RuleFault, TooLong, TooLongError, UsageError,
+                     UsageFault, WordsError, WordsFault)
 from .library import Outcome
+from .operands import Rule, Weights
 from .pictures import picture
 from .report import (Answer, Certificate, ClassSummary, Closing, Gap, Inverse, Language, Pair, Preimage, Report, Same,
                      Split, Summary, Tail, Verdicts, Window)
-from .shapes import survey_shape
+from .surveys import Progress, survey_over
 
+__version__ = "2"
 __all__ = [
-    "Answer", "Certificate", "ClassSummary", "Closing", "Fault", "Gap", "Inverse", "Language", "LibraryMissing",
-    "NotFit", "Outcome", "OutOfMemory", "Pair", "Preimage", "Refused", "Report", "Rule", "RuleFault", "Same", "Split",
-    "Summary", "Tail", "TooLong", "UsageFault", "Verdicts", "Weights", "Window", "WordsFault", "brief", "certify",
-    "check", "classes", "compose", "decide", "erase", "inverse", "language", "least", "lift", "number", "orphan",
-    "permute", "picture", "preimage", "reflect", "run", "same", "sample", "shift", "survey", "survey_shape", "trim",
-    "unlift", "widen",
+    "Answer", "Certificate", "ClassSummary", "Closing", "Fault", "FoursaspenError", "Gap", "Inverse", "Language",
+    "LibraryMissing", "LibraryMissingError", "NotFit", "NotFitError", "Outcome", "OutOfMemory", "OutOfMemoryError",
+    "Pair", "Picture", "Preimage", "Progress", "Refused", "RefusedError", "Report", "Rule", "RuleError", "RuleFault",
+    "Same", "Split", "Summary", "Tail", "TooLong", "TooLongError", "UsageError", "UsageFault", "Verdicts", "Weights", "Window",
+    "WordsError", "WordsFault", "brief", "certify", "check", "classes", "compose", "decide", "erase", "inverse",
+    "language", "least", "lift", "number", "orphan", "permute", "picture", "preimage", "reflect", "run", "same",
+    "sample", "shift", "survey", "survey_over", "trim", "unlift", "widen",
 ]

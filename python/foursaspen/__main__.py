@@ -1,30 +1,40 @@
-"""Pictures and atlases on the command line.
+"""Pictures, pages and atlases on the command line.
 
-    python -m foursaspen picture RULE [orphan|twins|right|left]    an SVG text
-    python -m foursaspen atlas                                     docs/ELEMENTARY.md
-    python -m foursaspen atlas STATES WIDTH --csv                  the classes of a shape as CSV
+    python -m foursaspen picture RULE [SHOW]          an SVG text; SHOW is orphan, twins, right, left, flux, ring, or
+                                                      a configuration LEFT|MIDDLE|RIGHT
+    python -m foursaspen page RULE                    an HTML page of a rule
+    python -m foursaspen atlas                        docs/ELEMENTARY.md
+    python -m foursaspen atlas STATES WIDTH --csv     the classes of a shape as CSV
+    python -m foursaspen atlas STATES WIDTH --html    and as a page to sort and filter
 """
 from __future__ import annotations
 
 import argparse
 import sys
 
-from . import atlas
-from .faults import Fault
-from .pictures import SHOWN, picture
+from . import __version__, atlas
+from .faults import FoursaspenError
+from .page import page
+from .pictures import picture
 
 
 def arguments() -> argparse.ArgumentParser:
     """The command lines that there are."""
-    parser = argparse.ArgumentParser(prog="python -m foursaspen", description="Pictures and atlases of rules.")
+    parser = argparse.ArgumentParser(prog="python -m foursaspen", description="Pictures, pages and atlases of rules.")
+    parser.add_argument("--version", action="version", version=f"foursaspen {__version__}")
     commands = parser.add_subparsers(dest="command", required=True)
     drawn = commands.add_parser("picture", help="the de Bruijn graph of a rule, as SVG")
     drawn.add_argument("rule")
-    drawn.add_argument("show", nargs="?", choices=SHOWN, help="what stands beneath it")
-    listed = commands.add_parser("atlas", help="the classes of a shape; of the elementary rules as a page")
+    drawn.add_argument("show", nargs="?", help="what stands beneath it: orphan, twins, right, left, ring, flux, or a "
+                       "configuration LEFT|MIDDLE|RIGHT")
+    paged = commands.add_parser("page", help="a rule's verdicts, evidence and certificates, as HTML")
+    paged.add_argument("rule")
+    listed = commands.add_parser("atlas", help="the classes of a shape; of the elementary rules as Markdown")
     listed.add_argument("states", type=int, nargs="?", default=2)
     listed.add_argument("width", type=int, nargs="?", default=3)
-    listed.add_argument("--csv", action="store_true")
+    form = listed.add_mutually_exclusive_group()
+    form.add_argument("--csv", action="store_true")
+    form.add_argument("--html", action="store_true", help="a page to sort and filter")
     return parser
 
 
@@ -34,14 +44,16 @@ def main() -> int:
     asked = parser.parse_args()
     try:
         if asked.command == "picture":
-            text = picture(asked.rule, asked.show)
-        elif asked.csv:
-            text = atlas.as_csv(asked.states, asked.width)
+            text: str = picture(asked.rule, asked.show)
+        elif asked.command == "page":
+            text = page(asked.rule)
+        elif asked.csv or asked.html:
+            text = (atlas.as_csv if asked.csv else atlas.as_html)(asked.states, asked.width)
         elif (asked.states, asked.width) == (2, 3):
             text = atlas.page()
         else:
-            parser.error("there is a page of the elementary rules alone: name --csv for other shapes")
-    except (Fault, ValueError) as fault:
+            parser.error("Markdown is made of the elementary rules alone: name --csv or --html for other shapes")
+    except (FoursaspenError, ValueError) as fault:
         print(fault, file=sys.stderr)
         return 1
     sys.stdout.write(text)

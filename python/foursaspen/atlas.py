@@ -1,19 +1,28 @@
-"""An atlas of a shape: each class of rules with its verdicts and their least evidence, as a page for the
-elementary rules and as CSV for any shape with Wolfram numbers. Verdicts and evidence are those of the class's least
-rule: of the mirrored ones right and left are exchanged, and whether a sum is kept is a matter of each rule alone.
+"""An atlas of a shape: each class of rules with its verdicts and their least evidence, as Markdown for the
+elementary rules, and as CSV or a page to sort and filter for any shape that isn't too large. Verdicts and evidence
+are those of the class's least rule: of the mirrored ones right and left are exchanged, and whether a sum is kept is a
+matter of each rule alone.
 """
 from __future__ import annotations
 
 import csv
 import io
+import json
 from collections.abc import Iterable, Iterator
 from dataclasses import dataclass
+from pathlib import Path
 
 from .commands import decide, least, survey
+from .faults import UsageError
+from .page import STYLE
 from .report import Closing, Report
 
 HEAD = ("least", "members", "surjective", "orphan", "injective", "window", "twins", "right", "right evidence", "left",
         "left evidence", "open", "conserving", "conserving evidence")
+
+
+MOST = 2 ** 20                                  # rules of a shape: these take some minutes
+TEMPLATE = Path(__file__).with_name("atlas.html")
 
 
 @dataclass(frozen=True)
@@ -27,8 +36,11 @@ class Class:
 def classes_of(states: int, width: int) -> Iterator[Class]:
     """The classes of all rules of a shape, by their least numbers."""
     survey(states, width, 0, 1)                 # a shape that is refused is refused here
+    size: int = states ** states ** width
+    if size > MOST:
+        raise UsageError(f"{states} states and width {width} have {size:,} rules, and an atlas has room for {MOST:,}")
     members: dict[str, list[int]] = {}
-    for rule in range(states ** states ** width):
+    for rule in range(size):
         members.setdefault(least(f"{states}:{width}:0:w{rule}"), []).append(rule)
     for first, rules in members.items():        # in the order of their least rules
         yield Class(tuple(rules), decide(first))
@@ -61,6 +73,21 @@ def as_csv(states: int, width: int) -> str:
     writer.writerow(HEAD)
     writer.writerows(map(row, classes_of(states, width)))
     return text.getvalue()
+
+
+def as_html(states: int, width: int) -> str:
+    """The atlas of a shape as a page in one file, to sort and filter. What is chosen stands in the page's address."""
+    rows = [row(entry) for entry in classes_of(states, width)]
+    rules: int = states ** states ** width
+    about = (f"The {rules:,} rules of {states} states and width {width} in the {len(rows):,} classes of rules that "
+             "differ by a mirror and by names of the letters. Verdicts and evidence are those of the class's least "
+             "rule: of its mirrored ones right and left are exchanged, and whether sums are kept is a matter of each.")
+    parts = {"@TITLE@": f"Rules of {states} states and width {width}", "@STYLE@": STYLE.read_text(), "@ABOUT@": about,
+             "@HEAD@": json.dumps(HEAD), "@ROWS@": json.dumps(rows, separators=(",", ":"))}
+    text = TEMPLATE.read_text()
+    for name, part in parts.items():
+        text = text.replace(name, part)
+    return text
 
 
 # The page of the elementary rules

@@ -1,25 +1,26 @@
 """One function for each command of docs/COMMANDS.md, which says what each answers.
 
-A rule is a text, as `"2:3:-1:t01110110"`, or the number of an elementary rule. Whatever the program answers with
-a status other than Done is an exception of foursaspen.faults.
+A rule is a text, as `"2:3:-1:t01110110"`, the number of an elementary rule, or an answer that has a rule. Whatever the
+program answers with a status other than Done is an exception of foursaspen.faults.
 """
 from __future__ import annotations
 
 from collections.abc import Iterable
-from typing import Union
+from typing import SupportsIndex
 
 from . import report
 from .faults import KINDS
 from .library import Outcome, library
+from .operands import (MOST, Rule, Text, Weights, certificate_bytes, digits_text, refuse, rule_text, shape, tail_text,
+                       weights_text, whole)
 from .report import (Certificate, ClassSummary, Gap, Inverse, Language, Pair, Preimage, Report, Same, Summary, Tail,
                      Verdicts)
-
-Rule = Union[str, int]
-Weights = Union[str, Iterable[int]]
 
 
 def run(words: Iterable[str], data: bytes = b"") -> Outcome:
     """The program's exit status and output on a command line and an input, whatever they are."""
+    if isinstance(words, str):
+        raise refuse("words are", "a list of texts", words)
     return library().run(words, data)
 
 
@@ -42,76 +43,69 @@ def evidence(words: list[str]) -> str | None:
 def decide(rule: Rule, weights: Weights | None = None) -> Report:
     """The report of a rule: each verdict with its least evidence. Where weights are given, one for each letter,
     the sum of a ring is that of its letters' weights."""
-    return Report.of(said("decide", rule, *listed(weights)))
+    return Report.of(said("decide", rule_text(rule), *weights_text(weights)))
 
 
 def orphan(rule: Rule) -> str | None:
     """The least word that is the image of none, or None where the rule is surjective."""
-    return evidence(said("orphan", rule).split()[1:])
+    return evidence(said("orphan", rule_text(rule)).split()[1:])
 
 
 def number(rule: Rule) -> int | None:
     """The Wolfram number of a rule, or None from seven states on."""
-    text = said("number", rule).split()[1]
+    text = said("number", rule_text(rule)).split()[1]
     return None if text == "none" else int(text)
 
 
 def certify(rule: Rule, weights: Weights | None = None) -> Certificate:
     """The certificate of a rule, of version 2."""
-    return Certificate(said("certify", rule, *listed(weights)))
+    return Certificate(said("certify", rule_text(rule), *weights_text(weights)))
 
 
 def brief(rule: Rule, weights: Weights | None = None) -> Certificate:
     """The short certificate of a rule, of version 3."""
-    return Certificate(said("brief", rule, *listed(weights)))
+    return Certificate(said("brief", rule_text(rule), *weights_text(weights)))
 
 
-def listed(weights: Weights | None) -> list[str]:
-    """The operand WEIGHTS, if there is one."""
-    if weights is None:
-        return []
-    return [weights if isinstance(weights, str) else ",".join(map(str, weights))]
-
-
-def check(certificate: Certificate | str | bytes) -> Verdicts:
-    """The verdicts of a certificate that is accepted; else Refused or TooLong is raised."""
-    data = certificate if isinstance(certificate, bytes) else str(certificate).encode()
-    return Verdicts.of(said("check", data=data))
+def check(certificate: Text) -> Verdicts:
+    """The verdicts of a certificate that is accepted; else RefusedError or TooLongError is raised. It may be a
+    Certificate, a text, bytes, or a file that is open for reading."""
+    return Verdicts.of(said("check", data=certificate_bytes(certificate)))
 
 
 # Images
 
 def language(rule: Rule) -> Language:
     """The least automaton of the words that have a preimage."""
-    return Language.of(said("language", rule))
+    return Language.of(said("language", rule_text(rule)))
 
 
 def same(rule: Rule, other: Rule) -> Same:
     """Whether the same words have a preimage under two rules."""
-    return Same.of(said("same", rule, other))
+    return Same.of(said("same", rule_text(rule), rule_text(other, "other", 2)))
 
 
 def preimage(rule: Rule, tail: Tail | str) -> Preimage | Gap:
     """The first configuration that the rule maps to this one, or the orphan in it."""
-    return report.preimage_of(said("preimage", rule, tail))
+    return report.preimage_of(said("preimage", rule_text(rule), tail_text(tail)))
 
 
 def erase(rule: Rule) -> Pair | None:
     """The least erasable pair, or None where the rule is surjective."""
-    words = said("erase", rule).split()[1:]
+    words = said("erase", rule_text(rule)).split()[1:]
     return None if words == ["none"] else Pair(*words)
 
 
 # Rules made of rules
 
 def inverse(rule: Rule) -> Inverse:
-    """The map that gives every cell back from the image; NotFit where the rule isn't injective."""
-    return Inverse.of(said("inverse", rule))
+    """The map that gives every cell back from the image; NotFitError where the rule isn't injective."""
+    return Inverse.of(said("inverse", rule_text(rule)))
 
 
 def compose(rule: Rule, then: Rule) -> str:
     """The rule that does what the first does, and then what the second does."""
-    return made("compose", rule, then)
+    return said("compose", rule_text(rule), rule_text(then, "then", 2)).rstrip("\n")
 
 
 def trim(rule: Rule) -> str:
@@ -119,14 +113,14 @@ def trim(rule: Rule) -> str:
     return made("trim", rule)
 
 
-def widen(rule: Rule, width: int) -> str:
+def widen(rule: Rule, width: SupportsIndex) -> str:
     """The rule at a greater width."""
-    return made("widen", rule, width)
+    return made("widen", rule, whole("width is", width, 2, 5))
 
 
-def shift(rule: Rule, cells: int) -> str:
+def shift(rule: Rule, cells: SupportsIndex) -> str:
     """The rule that reads so many cells further to the right."""
-    return made("shift", rule, cells)
+    return made("shift", rule, whole("cells is", cells, -31, 31))
 
 
 def reflect(rule: Rule) -> str:
@@ -134,9 +128,9 @@ def reflect(rule: Rule) -> str:
     return made("reflect", rule)
 
 
-def permute(rule: Rule, digits: str | Iterable[int]) -> str:
+def permute(rule: Rule, digits: str | Iterable[SupportsIndex]) -> str:
     """The rule with other names of the letters: letter a has the a-th of the digits."""
-    return made("permute", rule, digits if isinstance(digits, str) else "".join(f"{d:x}" for d in digits))
+    return made("permute", rule, digits_text(digits))
 
 
 def least(rule: Rule) -> str:
@@ -154,23 +148,31 @@ def unlift(rule: Rule) -> str:
     return made("unlift", rule)
 
 
-def made(*words: object) -> str:
+def made(command: str, rule: Rule, *words: object) -> str:
     """The text of a rule that a command makes."""
-    return said(*words).rstrip("\n")
+    return said(command, rule_text(rule), *words).rstrip("\n")
 
 
 # Many rules
 
-def survey(states: int, width: int, start: int, count: int) -> Summary:
-    """How many of so many rules have each property, by their numbers from `start` on; at most 4,096."""
-    return Summary.of(said("survey", states, width, start, count))
+START = 10 ** 39 - 1                            # the library says where a shape has fewer rules
+SEED = 2 ** 64 - 1
 
 
-def sample(states: int, width: int, seed: int, count: int) -> Summary:
-    """The same of rules that are drawn from a seed."""
-    return Summary.of(said("sample", states, width, seed, count))
+def survey(states: SupportsIndex, width: SupportsIndex, start: SupportsIndex, count: SupportsIndex) -> Summary:
+    """How many of `count` rules, from 1 to 4,096, have each property, by their numbers from `start` on, from 0 to
+    K^(K^M) - count where K states have the width M."""
+    return Summary.of(said("survey", *shape(states, width), whole("start is", start, 0, START),
+                           whole("count is", count, 1, MOST)))
 
 
-def classes(states: int, width: int, start: int, count: int) -> ClassSummary:
+def sample(states: SupportsIndex, width: SupportsIndex, seed: SupportsIndex, count: SupportsIndex) -> Summary:
+    """The same of `count` rules, from 1 to 4,096, that are drawn from a seed, from 0 to 2^64 - 1."""
+    return Summary.of(said("sample", *shape(states, width), whole("seed is", seed, 0, SEED),
+                           whole("count is", count, 1, MOST)))
+
+
+def classes(states: SupportsIndex, width: SupportsIndex, start: SupportsIndex, count: SupportsIndex) -> ClassSummary:
     """The same as `survey`, and in how many classes the rules lie."""
-    return ClassSummary.of(said("classes", states, width, start, count))
+    return ClassSummary.of(said("classes", *shape(states, width), whole("start is", start, 0, START),
+                                whole("count is", count, 1, MOST)))

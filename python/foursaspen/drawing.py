@@ -1,15 +1,40 @@
-"""A canvas that writes SVG: lines with arrows, discs and texts."""
+"""A canvas that writes SVG: lines with arrows, discs and texts, on a ground that follows the reader's dark mode."""
 from __future__ import annotations
 
 import math
-from collections.abc import Sequence
+import os
+import textwrap
+from collections.abc import Iterator, Sequence
+from contextlib import contextmanager
 from html import escape
+from pathlib import Path
 
-DARK, GREY, LIGHT = "#1a1a1a", "#5a5a5a", "#d0d0d0"
-BLUE, ORANGE = "#0b57c2", "#b84500"
+PAPER, SHADE, MARK = "#ffffff", "#f2f2f2", "#ffdf9e"
+DARK, GREY, LIGHT = "#1a1a1a", "#5a5a5a", "#8a8a8a"
+FIRST, SECOND = "#08306b", "#c44e00"            # of two walks: far apart in brightness too
+DASHES = "6 4"                                  # of the second walk
+# Each colour where the reader's system is dark.
+NIGHT = {PAPER: "#15181c", SHADE: "#22272e", MARK: "#5a4310", DARK: "#e8e8e8", GREY: "#a6adb5", LIGHT: "#737b85",
+         FIRST: "#d6e8ff", SECOND: "#e07b2a"}
 MARGIN = 24                                     # left of all, and below it
+WIDEST = 1200                                   # of a picture whose words have room in it
 FONT = "DejaVu Sans, Verdana, sans-serif"
+LETTER = 0.58                                   # the width of a letter of size 1
 Point = tuple[float, float]
+
+
+class Picture(str):
+    """An SVG text, which a notebook shows as the picture."""
+
+    def _repr_svg_(self) -> str:
+        return str(self)
+
+    def __repr__(self) -> str:
+        return f"<Picture: {len(self):,} characters of SVG>"
+
+    def save(self, path: str | os.PathLike[str]) -> None:
+        """Writes the picture to a file."""
+        Path(path).write_text(self, encoding="utf-8")
 
 
 class Canvas:
@@ -26,11 +51,26 @@ class Canvas:
     def text(self, x: float, y: float, text: str, size: float = 12, anchor: str = "middle", color: str = DARK,
              bold: bool = False) -> None:
         """A text with its base line at y."""
-        beyond = {"start": 1.0, "middle": 0.5, "end": 0.0}[anchor] * len(text) * size * 0.58
+        beyond = {"start": 1.0, "middle": 0.5, "end": 0.0}[anchor] * len(text) * size * LETTER
         self._reach(x + beyond, y + size / 3)
         weight = ' font-weight="bold"' if bold else ""
         self._parts.append(f'<text x="{x:.1f}" y="{y:.1f}" font-size="{size:g}" text-anchor="{anchor}" '
                            f'fill="{color}"{weight}>{escape(text)}</text>')
+
+    def lines_of_text(self, y: float, text: str, size: float = 13, color: str = DARK, bold: bool = False,
+                      room: float = WIDEST) -> float:
+        """A text from the left margin on, in as many lines as it takes; where the last one stands."""
+        for place, line in enumerate(textwrap.wrap(text, int((room - 2 * MARGIN) / (size * LETTER)))):
+            y += 1.35 * size if place else 0
+            self.text(MARGIN, y, line, size, "start", color, bold)
+        return y
+
+    @contextmanager
+    def titled(self, title: str) -> Iterator[None]:
+        """What is drawn within shows the title where the pointer rests on it."""
+        self._parts.append(f"<g><title>{escape(title)}</title>")
+        yield
+        self._parts.append("</g>")
 
     def disc(self, x: float, y: float, radius: float, fill: str, line: str) -> None:
         self._reach(x + radius, y + radius)
@@ -60,11 +100,14 @@ class Canvas:
         corners = " ".join(f"{a:.1f},{b:.1f}" for a, b in [(x, y), *sides])
         self._parts.append(f'<polygon points="{corners}" fill="{color}"/>')
 
-    def svg(self) -> str:
-        """The picture, on white."""
+    def svg(self) -> Picture:
+        """The picture."""
         width, height = math.ceil(self.width + MARGIN), math.ceil(self.height + MARGIN)
-        return "\n".join([
-            f'<svg xmlns="http://www.w3.org/2000/svg" width="{width}" height="{height}" '
+        night = "".join(f'.foursaspen [{part}="{color}"]{{{part}:{dark}}}'
+                        for color, dark in NIGHT.items() for part in ("fill", "stroke"))
+        return Picture("\n".join([
+            f'<svg xmlns="http://www.w3.org/2000/svg" class="foursaspen" width="{width}" height="{height}" '
             f'viewBox="0 0 {width} {height}" font-family="{FONT}">',
             f"<title>{escape(self.title)}</title>",
-            f'<rect width="{width}" height="{height}" fill="#ffffff"/>', *self._parts, "</svg>", ""])
+            f"<style>@media(prefers-color-scheme:dark){{{night}}}</style>",
+            f'<rect width="{width}" height="{height}" fill="{PAPER}"/>', *self._parts, "</svg>", ""]))

@@ -1,8 +1,24 @@
-"""One exception for each status but Done, and one where there is no library. All are of the class Fault."""
+"""One exception for each status but Done, and one where there is no library. All are of the class FoursaspenError.
+
+The names of version 1, at the end, stay up to version 3.
+"""
 from __future__ import annotations
 
+# What a kind of RuleError says of the operand.
+MEANINGS = {
+    "form": "from that place on it is no text of a rule, which is a number or STATES:WIDTH:OFFSET:tTABLE",
+    "states": "there are 2 to 16 states",
+    "width": "the width is 2 to 5",
+    "nodes": "there are at most 16 words of width - 1 letters",
+    "offset": "windows lie within 16 cells on both sides",
+    "kind": "rules of seven states and more have no numbers",
+    "length": "the table has one digit for each window",
+    "letter": "the digit of the table at that place, from 0 on, is below the number of states",
+    "number": "a number is below that of all rules of the shape, of elementary rules 0 to 255",
+}
 
-class Fault(Exception):
+
+class FoursaspenError(Exception):
     """Anything but an answer. `code` is the program's exit status, and `output` what it prints then, both as
     docs/COMMANDS.md has them."""
 
@@ -15,7 +31,7 @@ class Fault(Exception):
             self.output = text
 
 
-class Refused(Fault):
+class RefusedError(FoursaspenError):
     """`check` has read a text that is no accepted certificate. `reason` is the first condition that it fails."""
     code = 1
 
@@ -24,12 +40,14 @@ class Refused(Fault):
         self.reason = str(self).removeprefix("refused ")
 
 
-class UsageFault(Fault):
-    """The words are no command: an operand hasn't its form."""
+class UsageError(FoursaspenError, ValueError):
+    """An operand hasn't its form, or is out of its range. The program, where it is asked, says no more than its
+    output."""
     code = 2
+    output = "usage error\n"
 
 
-class RuleFault(Fault):
+class RuleError(FoursaspenError):
     """A rule or a shape is refused. `operand` is its number from 1 on, `kind` the first fault, and `place`
     where it is, for the kinds `form` and `letter`."""
     code = 3
@@ -40,8 +58,11 @@ class RuleFault(Fault):
         self.operand = int(operand)
         self.place = int(place[0]) if place else None
 
+    def __str__(self) -> str:
+        return f"{self.args[0]}: {MEANINGS[self.kind]}"
 
-class NotFit(Fault):
+
+class NotFitError(FoursaspenError):
     """Nothing can be made of the operands as the command asks. `cause` is why, and `parts` what stands behind
     it: the twins of a rule that has no inverse, the length of one that is too wide, what is wrong with a
     configuration."""
@@ -53,24 +74,28 @@ class NotFit(Fault):
         self.parts = tuple(parts)
 
 
-class TooLong(Fault):
+class TooLongError(FoursaspenError):
     """The text for `check` has more than 4,194,304 bytes."""
     code = 5
 
 
-class OutOfMemory(Fault):
+class OutOfMemoryError(FoursaspenError):
     """There was no memory."""
     code = 8
 
 
-class WordsFault(Fault):
-    """An operand can't be a word of a command line: it has a character 0, or no UTF-8."""
+class WordsError(FoursaspenError, ValueError):
+    """An operand can't be handed over: it has a character 0, or no UTF-8."""
     code = 9
 
 
-class LibraryMissing(Fault):
+class LibraryMissingError(FoursaspenError):
     """There is no library, or it is another version's."""
 
 
-KINDS: dict[int, type[Fault]] = {1: Refused, 2: UsageFault, 3: RuleFault, 4: NotFit, 5: TooLong, 8: OutOfMemory,
-                                 9: WordsFault}
+KINDS: dict[int, type[FoursaspenError]] = {
+    1: RefusedError, 2: UsageError, 3: RuleError, 4: NotFitError, 5: TooLongError, 8: OutOfMemoryError, 9: WordsError}
+
+# The names of version 1
+Fault, Refused, UsageFault, RuleFault, NotFit = FoursaspenError, RefusedError, UsageError, RuleError, NotFitError
+TooLong, OutOfMemory, WordsFault, LibraryMissing = TooLongError, OutOfMemoryError, WordsError, LibraryMissingError

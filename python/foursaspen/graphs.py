@@ -5,10 +5,7 @@ from __future__ import annotations
 
 from dataclasses import dataclass
 
-from .report import Tail
-
-DIGITS = "0123456789abcdef"
-
+from .report import DIGITS, Tail
 
 Way = tuple[int, int]                           # a node, and the letter that is read there
 
@@ -30,23 +27,41 @@ class Edge:
         return f"{DIGITS[self.letter]}/{DIGITS[self.image]}"
 
 
+def written(walk: list[Edge]) -> str:
+    """The image that a walk writes."""
+    return "".join(DIGITS[edge.image] for edge in walk)
+
+
 class Graph:
     """The graph of a rule that is given by its table, as the program prints rules."""
 
     def __init__(self, rule: str) -> None:
-        states, width, _, table = rule.split(":")
+        states, width, offset, table = rule.split(":")
         self.rule = rule
-        self.states, self.width = int(states), int(width)
-        self.nodes = self.states ** (self.width - 1)
+        self.states, self.width, self.offset = int(states), int(width), int(offset)
+        self.nodes: int = self.states ** (self.width - 1)
         self.table = [DIGITS.index(digit) for digit in table[1:]]
 
     def edge(self, node: int, letter: int) -> Edge:
         window = node * self.states + letter
         return Edge(node, letter, self.table[window], window % self.nodes)
 
+    def said(self, edge: Edge) -> str:
+        """An edge in words."""
+        return (f"{self.name(edge.source)} reads {DIGITS[edge.letter]}, writes {DIGITS[edge.image]} "
+                f"and leads to {self.name(edge.target)}")
+
+    def change(self, edge: Edge) -> int:
+        """What the image has more than the first letter of the edge's window."""
+        return edge.image - edge.source * self.states // self.nodes
+
+    def out(self, node: int) -> list[Edge]:
+        """The edges from a node."""
+        return [self.edge(node, letter) for letter in range(self.states)]
+
     def edges(self) -> list[Edge]:
         """All edges, by their windows."""
-        return [self.edge(node, letter) for node in range(self.nodes) for letter in range(self.states)]
+        return [edge for node in range(self.nodes) for edge in self.out(node)]
 
     def name(self, node: int) -> str:
         """The letters of a node."""
@@ -62,25 +77,25 @@ class Graph:
             met.append(next(node for node in ways if node not in met))
         return met
 
-    def walk(self, before: str, letters: str) -> list[Edge]:
-        """The edges that read the letters, from the node of the last letters of `before` on."""
+    def within(self, word: str) -> list[Edge]:
+        """The walk that reads the windows of a word."""
         node, edges = 0, []
-        for digit in before[-(self.width - 1):]:
-            node = self.edge(node, int(digit, 16)).target
-        for digit in letters:
+        for digit in word:
             edges.append(self.edge(node, int(digit, 16)))
             node = edges[-1].target
-        return edges
+        return edges[self.width - 1:]           # the first edges read the first window's beginning
+
+    def over(self, tail: Tail, start: int, stop: int) -> list[Edge]:
+        """The walk along a configuration that writes its image at the cells from `start` on, before `stop`."""
+        return self.within(tail.cells(start + self.offset, stop + self.offset + self.width - 1))
 
     def ring(self, word: str) -> list[Edge]:
-        """The closed walk of the ring of a word."""
-        return self.walk(word * self.width, word)
+        """The closed walk along the ring of a word that writes its image."""
+        return self.over(Tail.ring(word), 0, len(word))
 
-    def along(self, tail: Tail, left: int, middle: int, right: int) -> list[Edge]:
-        """The walk along a configuration: so many cells before cell 0, so many from there on, and so many more."""
-        before = tail.left * (left + self.width)
-        cells = tail.middle + tail.right * (middle + right)
-        return self.walk(before[:-left], before[-left:] + cells[:middle + right])
+    def window(self, edge: Edge) -> str:
+        """The letters of the window of an edge."""
+        return self.name(edge.source) + DIGITS[edge.letter]
 
     def reading(self, word: str) -> list[tuple[set[int], list[Edge]]]:
         """Where a walk may be that writes a word, letter by letter: the nodes before each letter with the edges

@@ -1,7 +1,7 @@
 """The shared library, called through ctypes.
 
-It is looked for where the environment variable CA_LIBRARY says, and else in the repository that this package
-lies in. `./library` at the top of the repository proves and builds it.
+It is looked for where the environment variable CA_LIBRARY says, then beside this module, where a wheel has it, and
+else in the repository that this package lies in. `./library` at the top of the repository proves and builds it.
 """
 from __future__ import annotations
 
@@ -13,10 +13,12 @@ from collections.abc import Iterable
 from pathlib import Path
 from typing import NamedTuple
 
-from .faults import LibraryMissing, OutOfMemory, WordsFault
+from .faults import LibraryMissingError, OutOfMemoryError, WordsError
 
 VERSION = 1                                     # of the C interface
-BUILT = Path("crates", "ca_c", "out", "library", "libca_c.so")
+NAME = "libca_c.so"
+HERE = Path(__file__).resolve().parent
+TOP = HERE.parents[1]                           # of the repository, where the package lies in it
 ROOM = 1 << 16                                  # bytes, at first
 
 MEMORY, NO_WORDS, NO_ROOM = 8, 9, 10            # codes that come without an output
@@ -25,6 +27,10 @@ MEMORY, NO_WORDS, NO_ROOM = 8, 9, 10            # codes that come without an out
 # memory at the end of the heap is kept.
 TRIM_THRESHOLD, MMAP_THRESHOLD = -1, -3
 KEPT = 8 << 20                                  # bytes
+
+
+ADVICE = (f"run ./library in {TOP}, which proves and builds it" if (TOP / "library").exists() else
+          "install the wheel that ./wheel makes in the repository, or name a library by the environment variable CA_LIBRARY")
 
 
 class Outcome(NamedTuple):
@@ -42,10 +48,9 @@ class Library:
             self._run = loaded.ca_run
             version = int(loaded.ca_version())
         except (OSError, AttributeError) as fault:
-            raise LibraryMissing(f"no library could be loaded: {fault}; run ./library at the top of the repository,"
-                                 " or name a library by CA_LIBRARY") from fault
+            raise LibraryMissingError(f"the library can't be loaded: {fault}; {ADVICE}") from fault
         if version != VERSION:
-            raise LibraryMissing(f"the library {path} has version {version}, and not {VERSION}: run ./library")
+            raise LibraryMissingError(f"the library {path} has version {version}, and not {VERSION}; {ADVICE}")
         text, size = ctypes.c_char_p, ctypes.c_size_t
         self._run.argtypes = [text, size, text, size, text, size, ctypes.POINTER(size)]
         self._run.restype = ctypes.c_uint8
@@ -66,9 +71,9 @@ class Library:
                 break
             room = self._rooms.room = ctypes.create_string_buffer(length.value)
         if code == MEMORY:
-            raise OutOfMemory("there was no memory")
+            raise OutOfMemoryError("there was no memory")
         if code == NO_WORDS:
-            raise WordsFault("the words aren't UTF-8")
+            raise WordsError("the words aren't UTF-8")
         return Outcome(code, ctypes.string_at(room, length.value))
 
 
@@ -85,18 +90,22 @@ def encoded(words: Iterable[str]) -> bytes:
     block = bytearray()
     for word in words:
         if "\0" in word:
-            raise WordsFault("a word has a character 0")
+            raise WordsError("a word has a character 0")
         try:
             block += word.encode() + b"\0"
         except UnicodeEncodeError as fault:
-            raise WordsFault(f"a word has no UTF-8: {fault}") from fault
+            raise WordsError(f"a word has no UTF-8: {fault}") from fault
     return bytes(block)
 
 
 def place() -> Path:
-    """Where the library is looked for."""
+    """Where the library is."""
     named = os.environ.get("CA_LIBRARY")
-    return Path(named) if named else Path(__file__).resolve().parents[2] / BUILT
+    for path in [Path(named)] if named else [HERE / NAME, TOP / "crates" / "ca_c" / "out" / "library" / NAME]:
+        if path.exists():
+            return path
+    raise LibraryMissingError((f"CA_LIBRARY names {named}, which isn't there" if named else "there is no library")
+                              + f"; {ADVICE}")
 
 
 @functools.cache

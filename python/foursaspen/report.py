@@ -9,7 +9,12 @@ import html
 import json
 from collections.abc import Iterable
 from dataclasses import dataclass, field, fields
-from typing import Any
+from typing import Any, Literal
+
+from .faults import UsageError
+
+DIGITS = "0123456789abcdef"
+LISTED = 64                                     # rows of a table, and letters in cells of their own
 
 
 @dataclass(frozen=True)
@@ -21,14 +26,20 @@ class Answer:
         return self.text
 
     def _repr_html_(self) -> str:
-        return table((head, text) for head, _, text in (line.partition(" ") for line in self.text.splitlines()))
+        return table(line.split(" ", 1) for line in self.text.splitlines())
 
 
-def table(rows: Iterable[tuple[str, str]]) -> str:
-    """An HTML table with a row for each pair of a heading and a text."""
-    cells = "".join(f"<tr><th style='text-align:left'>{html.escape(head)}</th>"
-                    f"<td style='text-align:left'>{html.escape(text)}</td></tr>" for head, text in rows)
-    return f"<table>{cells}</table>"
+def table(rows: Iterable[Iterable[str]]) -> str:
+    """An HTML table: each row begins with its heading."""
+    def row(head: str, *cells: str) -> str:
+        return "".join([f"<tr><th style='text-align:left'>{html.escape(head)}</th>",
+                        *(f"<td style='text-align:left'>{html.escape(cell)}</td>" for cell in cells), "</tr>"])
+    return f"<table>{''.join(row(*cells) for cells in rows)}</table>"
+
+
+def letters(word: str) -> Iterable[str]:
+    """The cells of a word in a table: one for each letter, where there aren't too many."""
+    return word if len(word) <= LISTED else [word]
 
 
 def lines_of(text: str) -> dict[str, list[str]]:
@@ -49,9 +60,23 @@ class Tail:
     def __str__(self) -> str:
         return f"{self.left}|{self.middle}|{self.right}"
 
+    def cells(self, start: int, stop: int) -> str:
+        """The letters of the cells from `start` on, before `stop`."""
+        def letter(cell: int) -> str:
+            if cell < 0:
+                return self.left[cell % len(self.left)]
+            behind = cell - len(self.middle)
+            return self.middle[cell] if behind < 0 else self.right[behind % len(self.right)]
+        return "".join(map(letter, range(start, stop)))
+
     @staticmethod
     def of(text: str) -> Tail:
         return Tail(*text.split("|"))
+
+    @staticmethod
+    def ring(word: str) -> Tail:
+        """The word over and over, from cell 0 on."""
+        return Tail(word, "", word)
 
 
 @dataclass(frozen=True)
@@ -67,12 +92,18 @@ class Pair:
     first: str
     second: str
 
+    def _repr_html_(self) -> str:
+        return table([["first", *letters(self.first)], ["second", *letters(self.second)]])
+
 
 @dataclass(frozen=True)
 class Split:
     """Two configurations that agree to one side, differ, and share an image."""
     first: Tail
     second: Tail
+
+    def _repr_html_(self) -> str:
+        return table([["first", str(self.first)], ["second", str(self.second)]])
 
 
 @dataclass(frozen=True)
@@ -84,6 +115,10 @@ class Closing:
 
     def __bool__(self) -> bool:
         return self.ahead is not None
+
+    def _repr_html_(self) -> str:
+        return table([["closes", "yes"], ["look-ahead", str(self.ahead)]] if self.split is None else
+                     [["closes", "no"], ["split", str(self.split.first), str(self.split.second)]])
 
     @staticmethod
     def of(words: list[str]) -> Closing:
@@ -135,6 +170,10 @@ class Certificate(Answer):
         data: dict[str, Any] = json.loads(self.text)
         return data
 
+    @property
+    def rule(self) -> str:
+        return str(self.data["rule"])
+
     def _repr_html_(self) -> str:
         return table((key, json.dumps(value)) for key, value in self.data.items() if key != "ranks")
 
@@ -175,16 +214,26 @@ class Language(Answer):
         return Language(text, int(classes.split()[1]), None if last == "none" else int(last),
                         tuple(tuple(map(int, row.split())) for row in rows))
 
-    def class_of(self, word: str) -> int:
-        """The class of a word."""
-        here = 0
-        for digit in word:
-            here = self.after[here][int(digit, 16)]
+    def class_of(self, word: object) -> int:
+        """The class of a word, which is a text."""
+        if not isinstance(word, str):
+            raise TypeError(f"word is a text, and not of type {type(word).__name__}")
+        here, known = 0, DIGITS[:len(self.after[0])]
+        for digit in word.lower():
+            if digit not in known:
+                raise UsageError(f"word has letters from 0 to {known[-1]}, and not {digit!r}")
+            here = self.after[here][known.index(digit)]
         return here
 
     def __contains__(self, word: object) -> bool:
         """Whether the word has a preimage."""
-        return self.class_of(str(word)) != self.dead
+        return self.class_of(word) != self.dead
+
+    def _repr_html_(self) -> str:
+        rows = [[f"{here}, of the orphans" if here == self.dead else str(here), *map(str, row)]
+                for here, row in enumerate(self.after[:LISTED])]
+        more = [[f"and {self.classes - LISTED:,} more"]] if self.classes > LISTED else []
+        return table([["class", *(f"after {DIGITS[letter]}" for letter in range(len(self.after[0])))], *rows, *more])
 
 
 @dataclass(frozen=True)
@@ -225,6 +274,12 @@ class Preimage(Answer):
     start: int
     tail: Tail
 
+    def __bool__(self) -> Literal[True]:
+        return True
+
+    def _repr_html_(self) -> str:
+        return table([["preimage", str(self.tail)], ["its middle begins at cell", str(self.start)]])
+
 
 @dataclass(frozen=True)
 class Gap(Answer):
@@ -234,8 +289,12 @@ class Gap(Answer):
     right: int
     word: str
 
-    def __bool__(self) -> bool:
+    def __bool__(self) -> Literal[False]:
         return False
+
+    def _repr_html_(self) -> str:
+        return table([["preimage", "none"], ["orphan", self.word], ["left periods in it", str(self.left)],
+                      ["right periods in it", str(self.right)]])
 
 
 def preimage_of(text: str) -> Preimage | Gap:

@@ -3,25 +3,27 @@ from __future__ import annotations
 
 import math
 
-from .drawing import BLUE, DARK, GREY, LIGHT, MARGIN, ORANGE, Canvas
-from .graphs import Edge, Graph
+from .drawing import (DARK, DASHES, FIRST, GREY, LIGHT, MARGIN, MARK, PAPER, SECOND, WIDEST, Canvas)
+from .graphs import Edge, Graph, written
+from .report import Tail
 
 ROW = 24
-Walks = tuple[list[Edge], list[Edge]]
+LEAST = 16.0                                    # of a column's width
+STYLES = ((FIRST, "", FIRST, -2.5), (SECOND, DASHES, PAPER, 2.5))   # of two walks: line, dashes, nodes, how far down
 
 
 class Trellis:
-    """The columns, with the image above them and the nodes' names beside them."""
+    """The columns, as wide as there is room, with the nodes' names beside them. Rows of letters stand above."""
 
-    def __init__(self, canvas: Canvas, graph: Graph, image: str, top: float) -> None:
-        self.canvas, self.top = canvas, top
+    def __init__(self, canvas: Canvas, graph: Graph, steps: int, top: float) -> None:
+        self.canvas, self.graph, self.top = canvas, graph, top
         self.left: float = MARGIN + 92.0
-        self.column: float = 38.0 + 3.5 * graph.nodes
+        room = (WIDEST - self.left - 2 * MARGIN) / max(steps, 1)
+        self.column: float = max(LEAST, min(38.0 + 3.5 * graph.nodes, room))
         for node in range(graph.nodes):
             canvas.text(self.left - 22, self.y(node) + 4.3, graph.name(node), anchor="end", bold=True)
-            for column in range(len(image) + 1):
+            for column in range(steps + 1):
                 canvas.disc(self.x(column), self.y(node), 1.6, LIGHT, LIGHT)
-        self.letters("image", image, top - 14, DARK)
 
     def x(self, column: float) -> float:
         return self.left + self.column * column
@@ -29,26 +31,27 @@ class Trellis:
     def y(self, node: int) -> float:
         return self.top + ROW * (node + 0.5)
 
-    def letters(self, head: str, letters: str, y: float, color: str) -> None:
+    def letters(self, head: str, letters: list[str], y: float, color: str = DARK, size: float = 12) -> None:
         """A row of letters, each between two columns."""
         self.canvas.text(self.left - 22, y, head, anchor="end", color=color)
         for place, letter in enumerate(letters):
-            self.canvas.text(self.x(place + 0.5), y, letter, color=color, bold=True)
+            self.canvas.text(self.x(place + 0.5), y, letter, size, color=color, bold=size == 12)
 
-    def step(self, column: int, edge: Edge, color: str, width: float, down: float = 0.0) -> None:
+    def step(self, column: int, edge: Edge, color: str, width: float, down: float = 0.0, dashes: str = "") -> None:
         """An edge from a column to the next."""
         start = self.x(column), self.y(edge.source) + down
         end = self.x(column + 1), self.y(edge.target) + down
         part = 6 / math.dist(start, end)
         x, y = end[0] + part * (start[0] - end[0]), end[1] + part * (start[1] - end[1])
-        self.canvas.arrow([start, (x, y)], color, width)
+        with self.canvas.titled(self.graph.said(edge)):
+            self.canvas.arrow([start, (x, y)], color, width, dashes)
 
 
-def draw_reading(canvas: Canvas, graph: Graph, orphan: str, top: float) -> None:
+def draw_reading(canvas: Canvas, graph: Graph, orphan: str, said: str, top: float) -> None:
     """Where a walk may be that writes the orphan, letter by letter: at last nowhere."""
-    canvas.text(MARGIN, top, f"No word has the image {orphan}: where a walk may be that writes it",
-                size=13, anchor="start")
-    trellis = Trellis(canvas, graph, orphan, top + 44)
+    top = canvas.lines_of_text(top, said)
+    trellis = Trellis(canvas, graph, len(orphan), top + 44)
+    trellis.letters("image", list(orphan), trellis.top - 14)
     for column, (nodes, edges) in enumerate(graph.reading(orphan)):
         for edge in edges:
             trellis.step(column, edge, DARK, 1.2)
@@ -57,15 +60,29 @@ def draw_reading(canvas: Canvas, graph: Graph, orphan: str, top: float) -> None:
     canvas.text(trellis.x(len(orphan)), trellis.y(graph.nodes) + 6, "nowhere", color=GREY)
 
 
-def draw_walks(canvas: Canvas, graph: Graph, walks: Walks, said: str, top: float) -> None:
-    """Two walks that write one image."""
-    canvas.text(MARGIN, top, said, size=13, anchor="start")
-    image = "".join(f"{edge.image:x}" for edge in walks[0])
-    trellis = Trellis(canvas, graph, image, top + 80)
-    for head, walk, color, row in (("first", walks[0], BLUE, 50), ("second", walks[1], ORANGE, 32)):
-        trellis.letters(head, "".join(f"{edge.letter:x}" for edge in walk), trellis.top - row, color)
-        down = -2.5 if color == BLUE else 2.5
+def draw_walks(canvas: Canvas, graph: Graph, rows: dict[str, Tail], cells: range, moved: int, said: str,
+               top: float) -> None:
+    """Configurations with one image, by their names: their letters at the cells, those that differ marked, and at
+    each cell its letter of the image with the steps of the walks that write it. `moved` is the cell at which the
+    middles begin."""
+    top = canvas.lines_of_text(top, said) + 12
+    ends = cells.start - moved, cells.stop - moved
+    words = [tail.cells(*ends) for tail in rows.values()]
+    walks = [graph.over(tail, *ends) for tail in rows.values()]
+    trellis = Trellis(canvas, graph, len(cells), top + 18 * len(rows) + 54)
+    for place, letters in enumerate(zip(*words)):
+        if len(set(letters)) > 1:
+            canvas.box(trellis.x(place) + 1, top + 18, trellis.column - 2, 18 * len(rows), MARK)
+    trellis.letters("cell", [str(cell) for cell in cells], top + 10, GREY, 8)
+    for place, (name, word) in enumerate(zip(rows, words)):
+        trellis.letters(name, list(word), top + 18 * place + 31, STYLES[place][0])
+    trellis.letters("image", list(written(walks[0])), trellis.top - 14)
+    for walk, (color, dashes, fill, down) in zip(walks, STYLES):
         for column, edge in enumerate(walk):
-            trellis.step(column, edge, color, 2, down)
-            canvas.disc(trellis.x(column), trellis.y(edge.source) + down, 3.4, color, color)
-        canvas.disc(trellis.x(len(walk)), trellis.y(walk[-1].target) + down, 3.4, color, color)
+            trellis.step(column, edge, color, 2, down, dashes)
+            canvas.disc(trellis.x(column), trellis.y(edge.source) + down, 3.4, fill, color)
+        canvas.disc(trellis.x(len(walk)), trellis.y(walk[-1].target) + down, 3.4, fill, color)
+    reads = graph.offset + graph.width - 1
+    where = f"{abs(reads)} cell{'' if abs(reads) == 1 else 's'} to the {'right' if reads > 0 else 'left'}"
+    canvas.text(MARGIN, trellis.y(graph.nodes) + 14, "A step stands below the letter that it writes, and reads the "
+                f"letter {where if reads else 'of the same cell'}.", anchor="start", color=GREY)

@@ -16,6 +16,8 @@ def main() -> int:
     suite = unittest.defaultTestLoader.discover(str(PYTHON / "tests"), top_level_dir=str(PYTHON))
     result = unittest.TextTestRunner(stream=sys.stderr, verbosity=1).run(suite)
     skipped = len(result.skipped)
+    for why in sorted({why for _, why in result.skipped}):
+        print(f"python: {why}: what needs it is skipped")
     failed = len({test.id().split(" (")[0] for test, _ in result.failures + result.errors})
     passed = result.testsRun - failed - skipped
     print(f"{passed} passed, {failed} failed" + (f", {skipped} skipped" if skipped else ""))

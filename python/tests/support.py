@@ -3,12 +3,16 @@ from __future__ import annotations
 
 import os
 import random
+import shutil
 import subprocess
+import sys
+import unittest
 from collections.abc import Sequence
 from pathlib import Path
 
 TOP = Path(__file__).resolve().parents[2]
 PROGRAM = os.environ.get("CA") or str(TOP / "crates" / "ca" / "out" / "ca")
+ENVIRONMENT = dict(os.environ, PYTHONPATH=str(TOP / "python"), PYTHONDONTWRITEBYTECODE="1")
 DIGITS = "0123456789abcdef"
 SHAPES = ((2, 2), (2, 3), (2, 4), (2, 5), (3, 2), (3, 3), (4, 2), (4, 3), (5, 2), (7, 2), (11, 2), (16, 2))
 
@@ -32,3 +36,29 @@ def drawn(count: int, seed: int) -> list[str]:
         table = "".join(DIGITS[letter] for row in rows for letter in row)
         rules.append(f"{states}:{width}:{dice.randint(-3, 3)}:t{table}")
     return rules
+
+
+def tool(name: str, package: str) -> str:
+    """Where a tool is; a test is skipped where it isn't, which names its package of Debian."""
+    found = shutil.which(name)
+    if found is None:
+        raise unittest.SkipTest(f"there is no {name} (Debian: {package})")
+    return found
+
+
+def python_with(modules: str, package: str) -> str:
+    """This Python or Debian's, where it has the modules; else a test is skipped."""
+    for python in (sys.executable, "/usr/bin/python3"):
+        asked = [python, "-c", f"import sys, {modules}; sys.exit(sys.version_info < (3, 10))"]
+        if Path(python).exists() and subprocess.run(asked, stderr=subprocess.DEVNULL, check=False).returncode == 0:
+            return python
+    raise unittest.SkipTest(f"there is no Python with {modules} (Debian: {package})")
+
+
+def output(words: Sequence[str], environment: dict[str, str] = ENVIRONMENT, folder: str = "/") -> str:
+    """What a program prints that ends well."""
+    done = subprocess.run(words, env=environment, cwd=folder, stdout=subprocess.PIPE, stderr=subprocess.PIPE, text=True,
+                          check=False)
+    if done.returncode:
+        raise AssertionError(f"{' '.join(words)} ended with {done.returncode}: {done.stdout}{done.stderr}")
+    return done.stdout

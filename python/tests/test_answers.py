@@ -4,14 +4,25 @@ from __future__ import annotations
 import dataclasses
 import os
 import pickle
+import re
+import shutil
 import subprocess
 import sys
+import tempfile
 import unittest
+from pathlib import Path
 
 import foursaspen as ca
 from foursaspen import faults
+from foursaspen.commands import said
 
 from .support import TOP
+
+
+def cells(answer: object) -> list[list[str]]:
+    """The cells of the table of an answer."""
+    shown: str = getattr(answer, "_repr_html_")()
+    return [re.findall("<t[hd][^>]*>(.*?)</t[hd]>", row) for row in re.findall("<tr>(.*?)</tr>", shown)]
 
 
 class Reports(unittest.TestCase):
@@ -36,10 +47,26 @@ class Reports(unittest.TestCase):
         with self.assertRaises(dataclasses.FrozenInstanceError):
             ca.decide(110).orphan = ""          # type: ignore[misc]
 
-    def test_notebooks_show_every_line(self) -> None:
+    def test_notebooks_show_tables(self) -> None:
         shown = ca.decide("2:2:0:t0101")._repr_html_()
         self.assertEqual(shown.count("<tr>"), 8)
         self.assertIn("<td style='text-align:left'>yes window 1 1</td>", shown)
+        self.assertEqual(cells(ca.language("2:2:0:t0001")), [
+            ["class", "after 0", "after 1"], ["0", "0", "1"], ["1", "2", "1"], ["2", "0", "3"],
+            ["3, of the orphans", "3", "3"]])
+        self.assertEqual(cells(ca.preimage(90, "0|1|0")), [["preimage", "0|0|01"], ["its middle begins at cell", "-1"]])
+        self.assertEqual(cells(ca.preimage(110, "0|101|0")), [
+            ["preimage", "none"], ["orphan", "01010"], ["left periods in it", "1"], ["right periods in it", "1"]])
+        report = ca.decide(110)
+        self.assertEqual(cells(ca.decide(184).twins), [["first", *"0011"], ["second", *"0101"]])
+        self.assertEqual(cells(report.right), [["closes", "no"], ["split", "0|100|0", "0|111|1"]])
+        self.assertEqual(cells(report.right.split), [["first", "0|100|0"], ["second", "0|111|1"]])
+        self.assertEqual(cells(ca.decide(30).left), [["closes", "yes"], ["look-ahead", "1"]])
+
+    def test_a_long_language_is_cut(self) -> None:
+        language = ca.language("2:4:0:w30309")
+        rows = cells(language)
+        self.assertEqual(len(rows), min(language.classes, 64) + 1 + (language.classes > 64))
 
     def test_no_number_and_no_rule(self) -> None:
         self.assertIsNone(ca.decide("7:2:0:t" + "0" * 49).number)
@@ -68,63 +95,41 @@ class Reports(unittest.TestCase):
         self.assertEqual((gap.left, gap.right, gap.word, bool(gap)), (1, 1, "01010", False))
 
 
-class Shapes(unittest.TestCase):
-    WHOLE = ca.Summary(256, 30, 6, 22, 22, 14, 5)
-
-    def test_parts_come_in_order(self) -> None:
-        parts = list(ca.survey_shape(2, 3, chunk=100))
-        self.assertEqual(parts, [ca.survey(2, 3, 0, 100), ca.survey(2, 3, 100, 100), ca.survey(2, 3, 200, 56)])
-        self.assertEqual(sum(parts, ca.Summary()), self.WHOLE)
-
-    def test_several_processes_count_the_same(self) -> None:
-        self.assertEqual(list(ca.survey_shape(2, 3, chunk=7, processes=3)), list(ca.survey_shape(2, 3, chunk=7)))
-
-    def test_a_part_of_a_shape(self) -> None:
-        halves = [sum(ca.survey_shape(2, 3, 50, 1, *ends), ca.Summary()) for ends in ((0, 99), (99, 1000))]
-        self.assertEqual([half.rules for half in halves], [99, 157])
-        self.assertEqual(halves[0] + halves[1], self.WHOLE)
-
-    def test_refusals_come_at_once(self) -> None:
-        with self.assertRaises(ca.RuleFault):
-            ca.survey_shape(7, 2)
-        for chunk in (0, 4097):
-            with self.assertRaises(ValueError):
-                ca.survey_shape(2, 3, chunk)
-
-
 class Faults(unittest.TestCase):
     def test_each_status_has_its_exception(self) -> None:
-        with self.assertRaises(ca.UsageFault) as usage:
-            ca.preimage(110, "0|1")
+        with self.assertRaises(ca.UsageError) as usage:
+            said("preimage", 110, "0|1")
         self.assertEqual((str(usage.exception), usage.exception.output), ("usage error", "usage error\n"))
-        with self.assertRaises(ca.RuleFault) as rule:
+        with self.assertRaises(ca.RuleError) as rule:
             ca.same("3:2:0:w0", "2:3")
         self.assertEqual((rule.exception.operand, rule.exception.kind, rule.exception.place), (2, "form", 3))
-        with self.assertRaises(ca.RuleFault) as kind:
-            ca.decide(-1)
+        self.assertEqual((str(rule.exception).split(":")[0], rule.exception.output),
+                         ("rule fault 2 form 3", "rule fault 2 form 3\n"))
+        with self.assertRaises(ca.RuleError) as kind:
+            ca.decide("-1")
         self.assertEqual((kind.exception.kind, kind.exception.place, kind.exception.code), ("form", 0, 3))
-        with self.assertRaises(ca.RuleFault) as number:
+        with self.assertRaises(ca.RuleError) as number:
             ca.decide(256)
         self.assertEqual((number.exception.kind, number.exception.place), ("number", None))
-        with self.assertRaises(ca.TooLong) as long:
+        with self.assertRaises(ca.TooLongError) as long:
             ca.check(" " * 4194305)
         self.assertEqual(long.exception.output, "too long\n")
 
     def test_causes_and_reasons(self) -> None:
-        with self.assertRaises(ca.NotFit) as twins:
+        with self.assertRaises(ca.NotFitError) as twins:
             ca.inverse(90)
         self.assertEqual((twins.exception.cause, twins.exception.parts), ("twins", ("0", "1")))
-        with self.assertRaises(ca.NotFit) as tail:
+        with self.assertRaises(ca.NotFitError) as tail:
             ca.preimage(110, "|1|0")
         self.assertEqual((tail.exception.cause, tail.exception.parts), ("tail", ("leftempty",)))
-        with self.assertRaises(ca.Refused) as refused:
+        with self.assertRaises(ca.RefusedError) as refused:
             ca.check("")
         self.assertEqual((refused.exception.reason, refused.exception.output),
                          ("format notjson", "refused format notjson\n"))
 
     def test_words_that_cannot_be_handed_over(self) -> None:
         for word in ("1\0", "\udc80"):
-            with self.assertRaises(ca.WordsFault):
+            with self.assertRaises(ca.WordsError):
                 ca.decide(word)
 
     def test_faults_go_between_processes(self) -> None:
@@ -136,15 +141,33 @@ class Faults(unittest.TestCase):
                     self.assertEqual((type(again), vars(again), str(again)), (kind, vars(fault), str(fault)))
 
     def test_no_library(self) -> None:
-        code = "import foursaspen\ntry: foursaspen.decide(110)\nexcept foursaspen.LibraryMissing as m: print(m)"
-        environment = dict(os.environ, CA_LIBRARY="/nowhere/libca_c.so", PYTHONPATH=str(TOP / "python"))
-        done = subprocess.run([sys.executable, "-c", code], env=environment, capture_output=True, text=True, check=True)
-        self.assertIn("/nowhere/libca_c.so", done.stdout)
-        self.assertIn("run ./library", done.stdout)
+        """In the repository, and where the package is installed without a library."""
+        code = "import foursaspen\ntry: foursaspen.decide(110)\nexcept foursaspen.LibraryMissingError as m: print(m)"
+        with tempfile.TemporaryDirectory() as folder:
+            shutil.copytree(TOP / "python" / "foursaspen", Path(folder) / "foursaspen")
+            for path, named in ((str(TOP / "python"), "/nowhere/libca_c.so"), (folder, "/nowhere/libca_c.so"), (folder, "")):
+                environment = dict(os.environ, CA_LIBRARY=named, PYTHONPATH=path)
+                done = subprocess.run([sys.executable, "-c", code], env=environment, capture_output=True, text=True,
+                                      check=True, cwd="/")
+                self.assertIn(f"CA_LIBRARY names {named}, which isn't there" if named else "there is no library", done.stdout)
+                self.assertIn("install the wheel" if path == folder else f"run ./library in {TOP},", done.stdout)
+                self.assertNotIn("crates", done.stdout)
 
     def test_all_are_faults(self) -> None:
-        for kind in [*faults.KINDS.values(), ca.LibraryMissing]:
-            self.assertTrue(issubclass(kind, ca.Fault))
+        for kind in [*faults.KINDS.values(), ca.LibraryMissingError]:
+            self.assertTrue(issubclass(kind, ca.FoursaspenError))
+            self.assertTrue(kind.__name__.endswith("Error"))
+
+    def test_the_names_of_version_1(self) -> None:
+        self.assertEqual([ca.Fault, ca.Refused, ca.UsageFault, ca.RuleFault, ca.NotFit, ca.TooLong, ca.OutOfMemory,
+                          ca.WordsFault, ca.LibraryMissing],
+                         [ca.FoursaspenError, *map(faults.KINDS.get, (1, 2, 3, 4, 5, 8, 9)), ca.LibraryMissingError])
+
+    def test_each_kind_of_a_rule_error_is_explained(self) -> None:
+        page = (TOP / "docs" / "COMMANDS.md").read_text()
+        table = page[page.index("| Kind | The text |"):page.index("    $ ./ca orphan 256")]
+        kinds = [line.split("`")[1].split()[0] for line in table.splitlines()[2:] if line.startswith("| `")]
+        self.assertEqual(kinds, list(faults.MEANINGS))
 
 
 if __name__ == "__main__":

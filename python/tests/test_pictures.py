@@ -2,10 +2,15 @@
 from __future__ import annotations
 
 import math
+import random
+import tempfile
 import unittest
 import xml.etree.ElementTree as tree
+from collections.abc import Iterator
+from pathlib import Path
 
 import foursaspen as ca
+from foursaspen.drawing import FIRST, MARK, NIGHT, PAPER, SECOND
 from foursaspen.graphs import Graph
 from foursaspen.layout import RADII, RADIUS, fits, ring
 from foursaspen.pictures import SHOWN, walks_of
@@ -25,6 +30,47 @@ def blank(states: int, width: int) -> Graph:
     return Graph(f"{states}:{width}:0:t" + "0" * states ** width)
 
 
+def rows_of(svg: str) -> dict[str, str]:
+    """The rows of letters beneath a graph, by what stands before each: texts at one height, from left to right."""
+    rows: dict[str, list[tuple[float, str]]] = {}
+    for part in tree.fromstring(svg).iter(f"{SVG}text"):
+        rows.setdefault(part.get("y", ""), []).append((float(part.get("x", 0)), part.text or ""))
+    ordered = [[text for _, text in sorted(row)] for row in rows.values()]
+    return {row[0]: "".join(row[1:]) for row in ordered if row[0] in ("first", "second", "preimage", "image")}
+
+
+def cell(tail: str, place: int) -> int:
+    """The letter of a cell of a configuration, by what docs/COMMANDS.md says of its text."""
+    left, middle, right = tail.split("|")
+    if place < 0:
+        return int(left[place % len(left)], 16)
+    return int((middle + right * (place + 1))[place], 16)
+
+
+def image_at(rule: str, tail: str, cells: range) -> str:
+    """The image at these cells, by what docs/COMMANDS.md says of a rule's table."""
+    states, width, offset, table = rule.split(":")
+    letters = ""
+    for place in cells:
+        window = 0
+        for read in range(int(width)):
+            window = window * int(states) + cell(tail, place + int(offset) + read)
+        letters += table[1 + window]
+    return letters
+
+
+def pairs_of(report: ca.Report) -> Iterator[tuple[str, list[str], range]]:
+    """For each thing of two configurations that a rule has: its name, the configurations, and the cells to be shown."""
+    if report.twins:
+        words = report.twins.first, report.twins.second
+        yield "twins", [f"{word}||{word}" for word in words], range(len(words[0]))
+    for side, split in (("right", report.right.split), ("left", report.left.split)):
+        if split:
+            parts = [str(tail).split("|") for tail in (split.first, split.second)]
+            left, middle, right = (max(map(len, part)) for part in zip(*parts))
+            yield side, [str(split.first), str(split.second)], range(-left, middle + right)
+
+
 class Pictures(unittest.TestCase):
     def test_the_picture_of_the_readme(self) -> None:
         self.assertEqual((TOP / "docs" / "rule110.svg").read_text(), ca.picture(110))
@@ -34,20 +80,92 @@ class Pictures(unittest.TestCase):
         labels = sorted(text for text in texts(ca.picture(110)) if "/" in text and len(text) == 3)
         self.assertEqual(labels, sorted(["0/0", "1/1", "0/1", "1/1", "0/0", "1/1", "0/1", "1/0"]))
 
+    def test_each_edge_has_a_title(self) -> None:
+        groups = [part[0].text for part in tree.fromstring(ca.picture(30)).iter(f"{SVG}g")]
+        for said in ("00 reads 1, writes 1 and leads to 01", "11 reads 0, writes 0 and leads to 10"):
+            self.assertEqual(groups.count(said), 2, said)       # of the line and of its label
+        self.assertEqual(len(groups), 16)
+
     def test_pictures_are_well_formed(self) -> None:
         for rule in drawn(24, seed=5):
             report = ca.decide(rule)
             for show in (None, *SHOWN):
                 with self.subTest(rule=rule, show=show):
                     there = {None: True, "orphan": report.orphan, "twins": report.twins, "right": report.right.split,
-                             "left": report.left.split}[show]
+                             "left": report.left.split, "flux": report.flux, "ring": report.ring}[show]
                     if not there:
                         self.assertRaises(ValueError, ca.picture, rule, show)
                         continue
-                    self.assertEqual(tree.fromstring(ca.picture(rule, show)).tag, f"{SVG}svg")
+                    drawing = tree.fromstring(ca.picture(rule, show))
+                    self.assertEqual(drawing.tag, f"{SVG}svg")
+                    long = max(map(len, rows_of(ca.picture(rule, show)).values()), default=0)
+                    self.assertLessEqual(int(drawing.get("width", 0)), max(1200, 170 + 16 * long))
 
     def test_another_word_for_show(self) -> None:
-        self.assertRaises(ValueError, ca.picture, 110, "ring")
+        self.assertRaises(ValueError, ca.picture, 110, "loop")
+
+    def test_a_picture_is_shown_and_saved(self) -> None:
+        shown = ca.picture(90)
+        self.assertEqual((shown._repr_svg_(), str(shown)), (shown, shown))
+        self.assertLess(len(repr(shown)), 60)
+        with tempfile.TemporaryDirectory() as folder:
+            shown.save(Path(folder) / "rule90.svg")
+            self.assertEqual((Path(folder) / "rule90.svg").read_text(), shown)
+
+
+class Cells(unittest.TestCase):
+    """Letters stand at their cells, and the image at those that have it: held against the rule's table alone."""
+
+    def compare(self, rule: ca.Rule) -> int:
+        """How many pictures of two configurations a rule has, each of which is looked at."""
+        report, seen = ca.decide(rule), 0
+        for show, (first, second), cells in pairs_of(report):
+            with self.subTest(rule=report.rule, show=show):
+                rows = rows_of(ca.picture(rule, show))
+                self.assertEqual(rows["first"], "".join(f"{cell(first, place):x}" for place in cells))
+                self.assertEqual(rows["second"], "".join(f"{cell(second, place):x}" for place in cells))
+                self.assertEqual(rows["image"], image_at(report.rule, first, cells))
+                self.assertEqual(rows["image"], image_at(report.rule, second, cells))
+                seen += 1
+        return seen
+
+    def test_every_elementary_rule(self) -> None:
+        self.assertEqual(sum(map(self.compare, range(256))), 250 + 468)
+
+    def test_drawn_rules_of_all_shapes(self) -> None:
+        self.assertGreater(sum(map(self.compare, drawn(120, seed=8))), 100)
+
+    def test_rule_184_moves_cars(self) -> None:
+        self.assertEqual(rows_of(ca.picture(184, "twins")), {"first": "0011", "second": "0101", "image": "1010"})
+
+    def test_differing_cells_are_marked(self) -> None:
+        fills = [part.get("fill") for part in tree.fromstring(ca.picture(184, "twins")).iter(f"{SVG}rect")]
+        self.assertEqual(fills.count(MARK), 2)
+
+    def test_a_preimage_stands_above_its_configuration(self) -> None:
+        dice = random.Random(9)
+        seen = 0
+        for rule in drawn(60, seed=9):
+            states = int(rule.split(":")[0])
+            tail = "|".join("".join(f"{dice.randrange(states):x}" for _ in range(size)) for size in (1, 2, 1))
+            found = ca.preimage(rule, tail)
+            rows = rows_of(ca.picture(rule, tail))
+            if not found:
+                self.assertEqual(rows, {"image": found.word})
+                continue
+            length, own = len(rows["image"]), found.tail
+            start = min(found.start - len(own.left), -1)
+            cells = range(start, start + length)
+            self.assertGreaterEqual(cells.stop, 3)
+            self.assertEqual(rows["image"], "".join(f"{cell(tail, place):x}" for place in cells))
+            self.assertEqual(rows["preimage"], "".join(f"{cell(str(own), place - found.start):x}" for place in cells))
+            seen += 1
+        self.assertGreater(seen, 20)
+
+    def test_the_flux_is_at_nodes_and_edges(self) -> None:
+        numbers = sorted(text for text in texts(ca.picture(184, "flux")) if text.lstrip("+-").isdigit())
+        nodes, edges = ["00", "0", "01", "0", "10", "0", "11", "-1"], ["+1", "-1", *"000000"]
+        self.assertEqual(numbers, sorted(nodes + edges))
 
 
 class Walks(unittest.TestCase):
@@ -65,16 +183,33 @@ class Walks(unittest.TestCase):
         seen = 0
         for rule in drawn(60, seed=7):
             report = ca.decide(rule)
-            graph = Graph(report.rule)
-            for show, there in (("twins", report.twins), ("right", report.right.split), ("left", report.left.split)):
-                if there:
-                    first, second = walks_of(graph, report, show)
-                    self.assertEqual([edge.image for edge in first], [edge.image for edge in second])
-                    self.assertNotEqual(first, second)
-                    for walk in (first, second):
-                        self.assertTrue(all(a.target == b.source for a, b in zip(walk, walk[1:])))
-                    seen += 1
+            for show, _, _ in pairs_of(report):
+                first, second = walks_of(report, show).edges(Graph(report.rule))
+                self.assertEqual([edge.image for edge in first], [edge.image for edge in second])
+                self.assertNotEqual(first, second)
+                for walk in (first, second):
+                    self.assertTrue(all(a.target == b.source for a, b in zip(walk, walk[1:])))
+                seen += 1
         self.assertGreater(seen, 60)
+
+
+class Colours(unittest.TestCase):
+    def test_the_two_walks_are_told_apart_on_grey(self) -> None:
+        """Twice as bright as the other or more, by day and by night, and readable on the ground (WCAG 2.1, 1.4.3)."""
+        for first, second, ground in ((FIRST, SECOND, PAPER), (NIGHT[FIRST], NIGHT[SECOND], NIGHT[PAPER])):
+            self.assertGreater(contrast(first, second), 2)
+            for color in (first, second):
+                self.assertGreater(contrast(color, ground), 4.5)
+
+
+def contrast(one: str, other: str) -> float:
+    """How many times as bright as the other one of two colours is, as WCAG 2.1 reckons it."""
+    def luminance(color: str) -> float:
+        parts = [int(color[at:at + 2], 16) / 255 for at in (1, 3, 5)]
+        linear: list[float] = [part / 12.92 if part <= 0.03928 else ((part + 0.055) / 1.055) ** 2.4 for part in parts]
+        return sum(weight * part for weight, part in zip((0.2126, 0.7152, 0.0722), linear))
+    dark, bright = sorted((luminance(one), luminance(other)))
+    return (bright + 0.05) / (dark + 0.05)
 
 
 class Layouts(unittest.TestCase):

@@ -1,0 +1,197 @@
+"""Pages: their evidence is held against the table, and in a browser they do what they say."""
+from __future__ import annotations
+
+import csv
+import dataclasses
+import functools
+import html
+import io
+import tempfile
+import time
+import unittest
+import xml.etree.ElementTree as tree
+from collections.abc import Iterator
+from pathlib import Path
+from typing import Any
+from unittest import mock
+from urllib.parse import unquote
+
+import foursaspen as ca
+from foursaspen import atlas, page
+from foursaspen.evidence import EvidenceError, is_split, work_out
+from foursaspen.graphs import Graph
+
+from .browser import Browser
+from .support import drawn
+
+RULES: tuple[ca.Rule, ...] = (110, 184, 30, "2:2:0:t0101")
+WIDE = "".join(f"{(x + 2 * y) % 16:x}" for x in range(16) for y in range(16))
+
+
+def altered(report: ca.Report) -> Iterator[ca.Report]:
+    """The report with one piece of its evidence changed, each time so that it isn't so any more."""
+    change: Any = functools.partial(dataclasses.replace, report)
+    yield change(open=not report.open)
+    yield change(orphan=report.orphan[:-1] if report.orphan else "0")
+    if report.orphan:
+        yield change(orphan=None)
+    if report.twins:
+        yield change(twins=ca.Pair(report.twins.first, report.twins.first))
+        yield change(twins=ca.Pair(report.twins.first, report.twins.second + "0"))
+    if report.window and report.window.letters == 1:
+        yield change(window=ca.Window(1, report.window.place + (1 if report.window.place == 0 else -1)))
+    for side in ("right", "left"):
+        closing: ca.Closing = getattr(report, side)
+        if closing.split:
+            yield change(**{side: ca.Closing(1, None)})
+            yield change(**{side: ca.Closing(None, ca.Split(closing.split.first, closing.split.first))})
+        else:
+            for by in (-1, 1):
+                yield change(**{side: ca.Closing((closing.ahead or 0) + by, None)})
+    if report.flux:
+        yield change(flux=(*report.flux[:-1], report.flux[-1] + 1))
+    if report.ring:
+        yield change(ring=None, flux=(0,) * len(report.rule))
+        yield change(ring="")
+
+
+class Evidence(unittest.TestCase):
+    def test_all_evidence_fits(self) -> None:
+        for rule in [*map(str, range(256)), *drawn(100, seed=12), f"16:2:0:t{WIDE}"]:
+            with self.subTest(rule=rule):
+                work_out(ca.decide(rule))
+
+    def test_other_evidence_does_not(self) -> None:
+        seen = 0
+        for rule in [*map(str, range(0, 256, 5)), *drawn(24, seed=13), "204", "170"]:
+            for wrong in altered(ca.decide(rule)):
+                with self.subTest(rule=rule, wrong=wrong):
+                    self.assertRaises(EvidenceError, work_out, wrong)
+                    seen += 1
+        self.assertGreater(seen, 400)
+
+    def test_splits_by_hand(self) -> None:
+        """Under rule 204, which copies cells, no two configurations share an image; under rule 0 all do."""
+        first, second, third = ca.Tail("0", "1", "0"), ca.Tail("0", "0", "0"), ca.Tail("1", "1", "0")
+        for rule, pair, side, there in ((204, (first, second), "right", False), (0, (first, second), "right", True),
+                                        (0, (first, second), "left", True), (0, (first, first), "right", False),
+                                        (0, (first, third), "right", False), (0, (first, third), "left", True)):
+            self.assertEqual(is_split(Graph(ca.decide(rule).rule), ca.Split(*pair), side), there, (rule, pair, side))
+
+    def test_no_page_where_it_does_not_fit(self) -> None:
+        wrong = dataclasses.replace(ca.decide(110), orphan="0101")
+        with mock.patch.object(page, "decide", return_value=wrong):
+            self.assertRaises(EvidenceError, page.page, 110)
+        with mock.patch.object(page, "erase", return_value=ca.Pair("00000", "00000")):
+            self.assertRaises(EvidenceError, page.page, 110)
+        with mock.patch.object(page, "check", return_value=ca.check(ca.certify(90))):
+            self.assertRaises(EvidenceError, page.page, 110)
+
+
+class Texts(unittest.TestCase):
+    def test_pages_of_all_shapes(self) -> None:
+        for rule in [*drawn(24, seed=14), f"16:2:0:t{WIDE}"]:
+            text = page.page(rule)
+            self.assertIn(ca.decide(rule).rule, text)
+            self.assertNotIn("<script", text)
+            self.assertNotIn("http", text.replace("http://www.w3.org/2000/svg", ""))
+            for part in text.split("<svg")[1:]:
+                tree.fromstring("<svg" + part.partition("</svg>")[0] + "</svg>")
+
+    def test_certificates_are_whole(self) -> None:
+        for rule in RULES:
+            links = [link.split("'")[0] for link in page.page(rule).split("href='data:application/json,")[1:]]
+            self.assertEqual([unquote(html.unescape(link)) for link in links], [str(ca.certify(rule)), str(ca.brief(rule))])
+
+    def test_an_atlas_that_does_not_end_is_refused(self) -> None:
+        for shape, size in (((2, 5), "4,294,967,296"), ((4, 2), "4,294,967,296"), ((3, 3), "7,625,597,484,987")):
+            for made in (atlas.as_html, atlas.as_csv):
+                with self.assertRaisesRegex(ca.UsageError, f"have {size} rules"):
+                    made(*shape)
+
+
+class Clicks(unittest.TestCase):
+    browser: Browser
+    room: Path
+
+    @classmethod
+    def setUpClass(cls) -> None:
+        room = tempfile.TemporaryDirectory()
+        cls.addClassCleanup(room.cleanup)
+        cls.room = Path(room.name)
+        cls.browser = Browser()
+        cls.addClassCleanup(cls.browser.close)
+
+    def file(self, name: str, text: str) -> str:
+        """The address of a page."""
+        file = self.room / name
+        file.write_text(text)
+        return file.as_uri()
+
+    def look(self, address: str) -> None:
+        """By day and by night, wide and narrow: the colours follow, and nothing is beyond the edge."""
+        for dark, ground in ((False, "rgb(255, 255, 255)"), (True, "rgb(21, 24, 28)")):
+            for width in (1100, 360):
+                self.browser.open(address, width, dark)
+                get = self.browser.get
+                self.assertEqual(get("getComputedStyle(document.body).backgroundColor"), ground)
+                self.assertEqual(get("[...document.querySelectorAll('svg > rect:first-of-type')].map(r => getComputedStyle(r).fill)"
+                                     ".filter(fill => fill !== '" + ground + "')"), [])
+                self.assertLessEqual(get("document.documentElement.scrollWidth"), width)
+        self.assertEqual(self.browser.console, [])
+
+    def test_the_page_of_a_rule(self) -> None:
+        for rule in RULES:
+            report, address = ca.decide(rule), self.file(f"{rule}.html".replace(":", "_"), page.page(rule))
+            self.look(address)
+            self.browser.open(address)
+            get = self.browser.get
+            shown = get("[...document.querySelectorAll('.badge')].map(badge => badge.textContent)")
+            self.assertEqual(shown, [f"{key}: {'yes' if getattr(report, key) else 'no'}" for key in page.VERDICTS])
+            self.browser.click("document.querySelector('.badge[href=\"#left\"]')")
+            self.assertEqual(get("location.hash"), "#left")
+            self.assertLess(abs(get("document.getElementById('left').getBoundingClientRect().top")), 900)
+            was = get("document.querySelector('details').open")
+            self.browser.click("document.querySelector('summary')")
+            self.assertEqual((was, get("document.querySelector('details').open")), (True, False))
+            self.assertEqual(self.browser.console, [])
+
+    def counts(self) -> tuple[list[str], str]:
+        """The first cells of the rows that are shown, and the line that counts."""
+        return (self.browser.get("[...document.querySelectorAll('#body tr')].map(row => row.cells[0].textContent)"),
+                self.browser.get("document.getElementById('count').textContent"))
+
+    def test_an_atlas(self) -> None:
+        rows = list(csv.reader(io.StringIO(atlas.as_csv(2, 3))))
+        address = self.file("atlas.html", atlas.as_html(2, 3))
+        self.look(address)
+        self.browser.open(address)
+        get = self.browser.get
+        self.assertEqual(self.counts(), ([row[0] for row in rows[1:]], "88 of 88 classes, 256 rules"))
+        get("(it => { it.value = 'yes'; it.dispatchEvent(new Event('change')) })(document.getElementById('injective'))")
+        get("new Promise(done => setTimeout(done, 50))")
+        self.assertEqual(self.counts(), (["15", "51", "170", "204"], "4 of 88 classes, 6 rules"))
+        self.browser.click("document.querySelector('#head th:nth-child(1) button')")
+        self.browser.click("document.querySelector('#head th:nth-child(1) button')")
+        self.assertEqual(self.counts()[0], ["204", "170", "51", "15"])
+        self.assertEqual(get("location.hash"), "#injective=yes&sort=least&down=1")
+        self.assertEqual(get("document.querySelector('#head th').ariaSort"), "descending")
+        self.browser.open(f"{address}#surjective=no&sort=surjective&down=1")
+        having = [row[3] for row in rows[1:] if row[2] == "no"]
+        self.assertEqual(self.counts()[1], f"{len(having)} of 88 classes, 226 rules")
+        self.assertEqual(get("document.querySelector('#body code').textContent.length"), max(map(len, having)))
+        self.browser.open(f"{address}#rule=124")
+        self.assertEqual(self.counts(), (["110"], "1 of 88 classes, 4 rules"))
+        self.browser.call("Page.setDownloadBehavior", behavior="allow", downloadPath=str(self.room))
+        self.browser.click("document.getElementById('down')")
+        file = self.room / "classes.csv"
+        for _ in range(100):
+            if file.exists() and file.read_text():
+                break
+            time.sleep(0.05)
+        self.assertEqual(list(csv.reader(io.StringIO(file.read_text()))), [rows[0], *(row for row in rows if row[0] == "110")])
+        self.assertEqual(self.browser.console, [])
+
+
+if __name__ == "__main__":
+    unittest.main()
