@@ -31,7 +31,7 @@ returns-then-not-is_surjective-clause-are_true c =
 
 pub returns-clause-are_true : goal.returns-clause-are_true
 returns-clause-are_true c =
-    let same = c.of-endless.ensures ∙ c.over.ensures ∙ c.of-graph.ensures in
+    let same = c.over-endless.ensures ∙ c.over.ensures ∙ c.of-graph.ensures in
     let right = of_rule IsRightClosing same c.is_right_closing.ensures in
     let left = of_rule IsLeftClosing same c.is_left_closing.ensures in
     record {
