@@ -43,23 +43,23 @@ ghost use Rattle.config_laws.specs.OneOfTwo.{OneOfTwo, AllOrNot};
 ghost use Rattle.config_laws.specs.Repeating.{IsOntoTails};
 ghost use Rattle.config_laws.specs.Sums.{weight_on, flow_under, KeepsFiniteSums, KeepsChanges};
 
-/// A rule is injective exactly where no two configurations have one image. A determined window is the
-/// reason: n letters of the image of any configuration tell one of its letters.
+/// A rule is injective exactly where no two different configurations have one image. A determined window
+/// is the reason: n letters of the image of any configuration tell one of its letters.
 pub fn injective_everywhere()
     ensures exactly { (r : LocalRule) → IsRule r → (IsInjective r ↔ IsInjectiveMap r) }
     ensures window { (r : LocalRule) (n c : ℕ) (x y : Config) (i : ℤ) → IsRule r → IsDetermined r n c → IsConfig r.states x → IsConfig r.states y → run (image_of r x) i n ≡ run (image_of r y) i n → x (i +ℤ r.offset +ℤ pos c) ≡ y (i +ℤ r.offset +ℤ pos c) }
 {}
 
-/// A rule is closing on a side exactly where no two configurations that agree far out on the other side
-/// have one image. A look-ahead is the reason.
+/// A rule is closing on a side exactly where no two different configurations that agree far out on the
+/// other side have one image. A look-ahead is the reason.
 pub fn closing_everywhere()
     ensures right { (r : LocalRule) → IsRule r → (IsRightClosing r ↔ IsRightClosingMap r) }
     ensures left { (r : LocalRule) → IsRule r → (IsLeftClosing r ↔ IsLeftClosingMap r) }
     ensures ahead { (r : LocalRule) (n : ℕ) (x y : Config) (i : ℤ) → IsRule r → IsRightAhead r n → IsConfig r.states x → IsConfig r.states y → run x (i +ℤ r.offset) (r.width - 1) ≡ run y (i +ℤ r.offset) (r.width - 1) → run (image_of r x) i n ≡ run (image_of r y) i n → x (i +ℤ r.offset +ℤ pos (r.width - 1)) ≡ y (i +ℤ r.offset +ℤ pos (r.width - 1)) }
 {}
 
-/// The Garden of Eden law over all configurations: a rule is surjective exactly where no two that agree
-/// far out on both sides have one image.
+/// The Garden of Eden law over all configurations: a rule is surjective exactly where no two different
+/// ones that agree far out on both sides have one image.
 pub fn surjective_is_preinjective_everywhere()
     ensures { (r : LocalRule) → IsRule r → (IsSurjective r ↔ IsPreinjectiveMap r) }
 {}
@@ -107,9 +107,9 @@ pub fn open_is_open_map()
     ensures onto { (r : LocalRule) → IsRule r → IsOpen r → IsOntoMap r }
 {}
 
-/// The image of a part of a configuration weighs more than the part by the flux at its two ends. So a
-/// rule keeps the sums of rings exactly where it keeps those of finite configurations, and exactly where
-/// finitely many new letters change the sum of the image as they change that of the letters.
+/// The image of a part of a configuration weighs more than the part by the difference of the flux at its
+/// two ends. So a rule keeps the sums of rings exactly where it keeps those of finite configurations, and
+/// exactly where finitely many new letters change the sum of the image as they change that of the letters.
 pub fn conserving_everywhere()
     ensures flux { (weight : ℕ → ℕ) (r : LocalRule) (phi : List ℤ) (x : Config) (i : ℤ) (n : ℕ) → IsRule r → IsFlux weight r phi → IsConfig r.states x → (pos (weight_on weight (image_of r x) i n) -ℤ pos (weight_on weight x (i +ℤ r.offset) n)) ≡ (flow_under r phi x i -ℤ flow_under r phi x (i +ℤ pos n)) }
     ensures finite { (weight : ℕ → ℕ) (r : LocalRule) → IsRule r → (IsConserving weight r ↔ KeepsFiniteSums weight r) }
