@@ -207,7 +207,7 @@ static uint8_t run(const struct text *words, const struct text *input, size_t ro
     return code;
 }
 
-/* A call of ca_run, and where the buffer is too short a second one. */
+/* A call of ca_run, and where the buffer is too short one with a byte too few and one with just room enough. */
 static void call_run(void)
 {
     static struct text words, input;
@@ -222,8 +222,10 @@ static void call_run(void)
     }
     uint8_t code = run(&words, &input, below(3) != 0 ? below(600) : below(100000), &length);
     if (code == CA_CODE_SHORT && length <= MOST_OUTPUT) {
+        code = run(&words, &input, length - 1, &again);
+        is("a byte too few is too few", code == CA_CODE_SHORT && again == length);
         code = run(&words, &input, length, &again);
-        is("a second call has room", code <= CA_CODE_TOO_LONG && again == length);
+        is("just room enough is enough", code <= CA_CODE_TOO_LONG && again == length);
     }
 }
 
@@ -260,7 +262,7 @@ static void call_verdicts(void)
         length = below(MOST_TABLE);
     uint8_t *table = table_end - length;
     for (size_t at = 0; at < length; at++)
-        table[at] = (uint8_t)below(states == 0 || below(400) == 0 ? 256 : states);
+        table[at] = (uint8_t)(states == 0 || below(400) == 0 ? states + below(2) * below(256) : below(states));
     struct ca_rule_verdicts found = ca_verdicts(states, width, table, length);
     is("the first fault", found.fault == fault_of(states, width, table, length));
     if (found.fault != CA_FAULT_NONE)
