@@ -33,10 +33,7 @@ fn rule_106_reaches_twelve_sets_whatever_ran_before(rt: HostRuntime) -> Result<(
     let mut search = Search::new(rt.alloc())?;
     // The shift of sixteen states, whose sets have nodes that rule 106 lacks.
     let shift: Vec<u8> = (0..=255u8).map(|window| window % 16).collect(rt.alloc())?;
-    assert_eq!(rt;
-        search.run(&Rule::new(16, 2, 0, &shift)?),
-        Outcome::Closed
-    );
+    assert_eq!(rt; search.run(&Rule::new(16, 2, 0, &shift)?), Outcome::Closed);
     assert_eq!(rt; search.word(), [].as_slice());
     let rule = Rule::new(2, 3, -1, &[0, 1, 0, 1, 0, 1, 1, 0])?;
     assert_eq!(rt; search.run(&rule), Outcome::Closed);
