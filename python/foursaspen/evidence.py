@@ -108,8 +108,10 @@ def is_window(graph: Graph, window: Window) -> bool:
 
 
 def are_twins(graph: Graph, twins: Pair) -> bool:
-    first, second = (written(graph.ring(word)) for word in (twins.first, twins.second))
-    return len(twins.first) == len(twins.second) and twins.first != twins.second and first == second
+    """Whether two different rings of one length have one image."""
+    if twins.first == twins.second or len(twins.first) != len(twins.second):
+        return False
+    return written(graph.ring(twins.first)) == written(graph.ring(twins.second))
 
 
 def is_closing(graph: Graph, way: Graph, side: Closing, name: str) -> bool:
@@ -141,8 +143,12 @@ def is_flux(graph: Graph, flux: tuple[int, ...]) -> bool:
 
 def loses(graph: Graph, ring: str) -> bool:
     """Whether a ring hasn't the sum of its image."""
-    image = written(graph.ring(ring))
-    return bool(ring) and sum(int(letter, 16) for letter in ring) != sum(int(letter, 16) for letter in image)
+    return ring != "" and total(ring) != total(written(graph.ring(ring)))
+
+
+def total(word: str) -> int:
+    """The sum of the letters."""
+    return sum(int(letter, 16) for letter in word)
 
 
 def is_erasable(graph: Graph, pair: Pair) -> bool:

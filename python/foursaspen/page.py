@@ -10,7 +10,7 @@ from pathlib import Path
 from urllib.parse import quote
 
 from .commands import brief, certify, check, decide, erase, inverse
-from .evidence import EvidenceError, is_erasable, left_after, mirrored, reached, undecided, work_out
+from .evidence import EvidenceError, is_erasable, left_after, mirrored, reached, total, undecided, work_out
 from .faults import NotFitError
 from .graphs import Edge, Graph, written
 from .operands import Rule
@@ -177,9 +177,9 @@ class Sections:
 
     def ring(self, ring: str) -> str:
         walk = self.graph.ring(ring)
-        before, after = (sum(int(letter, 16) for letter in word) for word in (ring, written(walk)))
         return "".join([
-            f"<p>The ring {code(ring)} has the sum {before}, and its image {code(written(walk))} has the sum {after}.</p>",
+            f"<p>The ring {code(ring)} has the sum {total(ring)}, and its image {code(written(walk))} has the sum "
+            f"{total(written(walk))}.</p>",
             self.picture("ring"), steps("Cell by cell", ("cell", "window", "letter of the image"),
                                         ([cell, *row] for cell, row in enumerate(self.windows(walk))))])
 

@@ -8,7 +8,7 @@ import os
 import time
 from collections.abc import Generator
 from concurrent.futures import FIRST_COMPLETED, Executor, Future, ThreadPoolExecutor, wait
-from dataclasses import astuple, dataclass
+from dataclasses import astuple, dataclass, fields
 from itertools import islice
 from pathlib import Path
 from typing import Any, SupportsIndex
@@ -123,13 +123,13 @@ def resumed(file: Path, head: dict[str, int]) -> dict[int, Summary]:
     for place, line in enumerate(kept.splitlines()[1:], 2):
         try:
             entry = json.loads(line)
-            first, sums = entry["from"], Summary(*entry["sums"])
+            first, sums = entry["from"], [int(count) for count in entry["sums"]]
         except (ValueError, KeyError, TypeError):
             raise ValueError(f"{file}, line {place}: it is no task that is done") from None
-        if first not in range(head["start"], head["stop"], head["task"]) or \
-                sums.rules != min(head["task"], head["stop"] - first):
+        if first not in range(head["start"], head["stop"], head["task"]) or len(sums) != len(fields(Summary)) or \
+                sums[0] != min(head["task"], head["stop"] - first):
             raise ValueError(f"{file}, line {place}: it is no task of this survey")
-        done[first] = sums
+        done[first] = Summary(*sums)
     if text.startswith(begin):
         os.truncate(file, len(kept))
     else:

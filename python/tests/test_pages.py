@@ -6,6 +6,8 @@ import dataclasses
 import functools
 import html
 import io
+import subprocess
+import sys
 import tempfile
 import time
 import unittest
@@ -22,7 +24,7 @@ from foursaspen.evidence import EvidenceError, is_split, work_out
 from foursaspen.graphs import Graph
 
 from .browser import Browser
-from .support import drawn
+from .support import ENVIRONMENT, drawn, output
 
 RULES: tuple[ca.Rule, ...] = (110, 184, 30, "2:2:0:t0101")
 WIDE = "".join(f"{(x + 2 * y) % 16:x}" for x in range(16) for y in range(16))
@@ -108,6 +110,17 @@ class Texts(unittest.TestCase):
             for made in (atlas.as_html, atlas.as_csv):
                 with self.assertRaisesRegex(ca.UsageError, f"have {size} rules"):
                     made(*shape)
+
+
+    def test_command_lines(self) -> None:
+        ask = [sys.executable, "-m", "foursaspen"]
+        self.assertEqual(output([*ask, "page", "110"]), page.page(110))
+        self.assertEqual(output([*ask, "atlas", "2", "2", "--html"]), atlas.as_html(2, 2))
+        self.assertEqual(output([*ask, "picture", "90", "0|1|0"]), ca.picture(90, "0|1|0"))
+        for words, said in (("atlas 2 5 --csv", "2 states and width 5 have 4,294,967,296 rules"), ("picture 110 loop", "show is "),
+                            ("page 256", "rule fault 1 number: "), ("picture 110 ring|", "tail is LEFT|MIDDLE|RIGHT")):
+            done = subprocess.run([*ask, *words.split()], env=ENVIRONMENT, cwd="/", capture_output=True, text=True, check=False)
+            self.assertEqual((done.returncode, done.stdout, done.stderr[:len(said)]), (1, "", said))
 
 
 class Clicks(unittest.TestCase):
