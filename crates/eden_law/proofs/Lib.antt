@@ -4,3 +4,4 @@ pub mod LeastErasures
 pub mod FoundErasures
 pub mod ReachedSearches
 pub mod ReachedRows
+pub mod EvenTables

@@ -30,9 +30,11 @@
 #![tactic(auto)]
 
 mod erased;
+mod even;
 mod reached_pairs;
 mod surjective;
 
 pub use erased::{Erased, erasable};
+pub use even::is_even;
 pub use reached_pairs::reached;
 pub use surjective::is_surjective;
