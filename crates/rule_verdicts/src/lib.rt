@@ -22,8 +22,12 @@
 
 mod decided;
 mod evidence;
+mod numbers;
 mod parts;
+mod truths;
 
 pub use decided::{is_conserving, verdicts};
 pub use evidence::Evidence;
+pub use numbers::verdict_bytes;
 pub use parts::{injectivity, least_orphan};
+pub use truths::Truths;
