@@ -1,10 +1,10 @@
 //! Of how many rules each verdict is true, where a class is decided once.
 ghost use Rattle.std.specs.Prelude.{◌≡◌, ◌<◌, ◌≤◌, ◌+◌, ℕ, List, [], ◌∷◌, ◌++◌, length, nat_eq, None, All, IfOk, OnOk, codes, pos};
 ghost use Rattle.indexmap.specs.IndexMap.{get};
-ghost use Rattle.word_image.specs.LocalRules.{LocalRule};
-ghost use Rattle.word_image.specs.Weights.{own_weights};
+ghost use Rattle.word_image.specs.LocalRules.{LocalRule, IsRule};
 ghost use Rattle.rule_classes.specs.ClassVerdicts.{HaveOneVerdict};
 ghost use Rattle.cert_check.specs.Accepted.{AreTrue};
+ghost use Rattle.rule_verdicts.specs.Truths.{AreTruths};
 ghost use Rattle.ca_cli.specs.ClassTallies.{IsRuleAdded, IsClassTally, IsDecided, rules_in};
 ghost use Rattle.ca_cli.specs.Summaries.{count_line};
 ghost use Rattle.ca_cli.specs.Tallies.{summary_of};
@@ -15,7 +15,7 @@ use cert_check::Verdicts;
 use indexmap::IndexMap;
 use rule_classes::class_of;
 use rule_text::number;
-use rule_verdicts::{is_conserving, verdicts};
+use rule_verdicts::{Truths, is_conserving, verdicts};
 use std::alloc::{AllocError, Global};
 use word_image::{Rule, Weights};
 
@@ -94,26 +94,22 @@ fn keep(
     Ok(())
 }
 
-/// The verdicts of a rule, by those of the least rule of its class. Of the sums of rings that says
+/// What holds of a rule, by the verdicts of the least rule of its class. Of the sums of rings that says
 /// nothing, since other names of the letters change them.
-fn of_member(rule: &Rule, mirrored: bool, least: &Verdicts) -> Verdicts
-    ensures rule { result.rule ≡ rule.now }
-    ensures weights { result.weights ≡ own_weights rule.now.states }
-    ensures are_true { HaveOneVerdict rule.now mirrored least.now.rule → AreTrue least.now → AreTrue result }
+fn of_member(rule: &Rule, mirrored: bool, least: &Verdicts) -> Truths
+    ensures rule { IsRule rule.now }
+    ensures truths { HaveOneVerdict rule.now mirrored least.now.rule → AreTrue least.now → AreTruths rule.now result }
 {
     let (right, left) = if mirrored {
         (least.left, least.right)
     } else {
         (least.right, least.left)
     };
-    let weights = Weights::own(rule.k());
-    Verdicts {
-        rule: *rule,
-        weights,
+    Truths {
         surjective: least.surjective,
         injective: least.injective,
         right,
         left,
-        conserving: is_conserving(rule, &weights),
+        conserving: is_conserving(rule, &Weights::own(rule.k())),
     }
 }

@@ -2,7 +2,7 @@ use Rattle.std.proofs.Common.{◌≡◌, ◌-◌, List, ◌++◌, length}
 use Rattle.word_image.specs.LocalRules.{LocalRule}
 use Rattle.ca_cli.specs.Samples.{sample_rules}
 use Rattle.ca_cli.specs.Tallies.{IsTally}
-use Rattle.ca_cli.proofs.commands.summaries.tally_of_draws.Given as goal
+use Rattle.ca_cli.proofs.commands.summaries.tally_in.Given as goal
 
 -- the rules so far are counted, and the others go on from the state that they left
 abbrev pub invariant-loop-i : goal.invariant-loop-i
