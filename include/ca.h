@@ -97,6 +97,34 @@ uint8_t ca_run(const uint8_t *words, size_t words_length, const uint8_t *input, 
 struct ca_rule_verdicts ca_verdicts(uint8_t states, uint8_t width, const uint8_t *table,
                                     size_t table_length);
 
+/* Why ca_verdict_bytes writes nothing: CA_FAULT_STATES, CA_FAULT_WIDTH, CA_FAULT_NODES, or one of these. */
+#define CA_FAULT_KIND 7   /* there are more than six states, so rules have no numbers */
+#define CA_FAULT_NUMBER 8 /* a number has no rule */
+
+/* What the byte of a rule has: the sum of those that hold. */
+enum ca_bit {
+    CA_SURJECTIVE = 1,
+    CA_INJECTIVE = 2,
+    CA_RIGHT = 4,
+    CA_LEFT = 8,
+    CA_OPEN = 16,
+    CA_CONSERVING = 32
+};
+
+/*
+ * Decides the questions of many rules with consecutive numbers, and takes no memory.
+ *
+ * The first number is first_high times 2^64 and first_low, and there are as many rules as bytes. Into byte i
+ * it writes what holds of the rule with the i-th number from the first one on, of these states, this width
+ * and offset 0: the letter of its table at place v is the digit v of its number in base states, digit 0
+ * the least significant.
+ *
+ * It gives CA_FAULT_NONE, or why there are no such rules; the bytes are then as they were. Without bytes
+ * it gives CA_FAULT_NONE.
+ */
+uint8_t ca_verdict_bytes(uint8_t states, uint8_t width, uint64_t first_high, uint64_t first_low,
+                         uint8_t *bytes, size_t bytes_length);
+
 #ifdef __cplusplus
 }
 #endif
