@@ -5,3 +5,5 @@ pub mod FoundErasures
 pub mod ReachedSearches
 pub mod ReachedRows
 pub mod EvenTables
+pub mod Counts
+pub mod ZeroPairs

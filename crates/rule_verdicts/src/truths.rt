@@ -8,7 +8,7 @@ ghost use Rattle.rule_verdicts.specs.Truths.{table_rule, AreTruths, byte_of};
 
 use closing_test::{is_left_closing, is_right_closing};
 use debruijn::Graph;
-use eden_law::{is_even, is_surjective};
+use eden_law::{is_even, is_even_at_zeros, is_surjective};
 use flux_conserve::{has_mean, is_conserving};
 use inverse_window::is_injective;
 use pair_graph::Pairs;
@@ -114,6 +114,9 @@ fn decided(rule: &Rule, conserving: bool) -> Truths
     requires conserving { IsTrue conserving ↔ IsConserving (slice_index (own_weights rule.now.states)) rule.now }
     ensures { AreTruths rule.now result }
 {
+    if !is_even_at_zeros(rule) {
+        return Truths::not_surjective(conserving);
+    }
     let graph = Graph::of(rule);
     // An injective rule is surjective, and so is one that closes on a side.
     if !is_surjective(&graph) {

@@ -25,8 +25,14 @@ returns c =
       conserving = c.requires.conserving;
     }
 
+pub returns-then-not-is_even_at_zeros : goal.returns-then-not-is_even_at_zeros
+returns-then-not-is_even_at_zeros c =
+    c.not_surjective.ensures c.args.rule.now c.requires.rule
+    (λ every. false≢true (sym c.if-not-is_even_at_zeros.true ∙ c.is_even_at_zeros.ensures.surjective every))
+    c.requires.conserving
+
 pub returns-then-not-is_surjective : goal.returns-then-not-is_surjective
 returns-then-not-is_surjective c =
-    c.not_surjective.ensures c.args.rule.now c.requires.rule
+    c.not_surjective-then-not-is_surjective.ensures c.args.rule.now c.requires.rule
     (λ every. false≢true (sym c.if-not-is_surjective.true ∙ c.is_surjective.ensures.surjective.1 (subst IsSurjective (sym c.of-graph.ensures) every)))
     c.requires.conserving
