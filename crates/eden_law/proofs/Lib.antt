@@ -4,6 +4,3 @@ pub mod LeastErasures
 pub mod FoundErasures
 pub mod ReachedSearches
 pub mod ReachedRows
-pub mod EvenTables
-pub mod Counts
-pub mod ZeroPairs

@@ -1,5 +1,4 @@
 pub mod Erasures
 pub mod ReachedSearches
 pub mod ReachedRows
-pub mod EvenTables
-pub mod ZeroPairs
+pub mod ZeroEdges

@@ -1,4 +1,4 @@
 pub mod Counter
 pub mod LeastRings
 pub mod FluxRows
-pub mod MeanTables
+pub mod Differences

@@ -1,3 +1,2 @@
 pub mod Keepings
 pub mod LeastRings
-pub mod MeanTables

@@ -2,20 +2,19 @@
 ghost use Rattle.std.specs.Prelude.{◌≡◌, ◌↔◌, length, slice_index, IsTrue};
 ghost use Rattle.word_image.specs.Rings.{IsConserving};
 
-use crate::flows::{is_flux, walk_flows};
-use crate::rings::first_lossy_of;
+use crate::flows::walks_flow;
 use word_image::{Rule, Weights};
 
-/// Whether every ring has the sum of its image, with these weights of the letters. It looks for no ring
-/// that hasn't.
+/// Whether every ring has the sum of its image, with these weights of the letters. It makes no flux, and
+/// looks for no ring: it ends at the first window that shows that there is no flux.
 pub fn is_conserving(rule: &Rule, weights: &Weights) -> bool
     requires { length weights.now ≡ rule.now.states }
     ensures { IsTrue result ↔ IsConserving (slice_index weights.now) rule.now }
 {
-    // Most rules change the sum of a ring of one letter.
-    if first_lossy_of(rule, weights, 1).is_some() {
-        return false;
+    for window in 0..rule.size() {
+        if !walks_flow(rule, weights, window) {
+            return false;
+        }
     }
-    let flows = walk_flows(rule, weights);
-    is_flux(rule, weights, &flows[..usize::from(rule.nodes())])
+    true
 }

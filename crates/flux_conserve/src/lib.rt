@@ -28,6 +28,6 @@ mod rings;
 mod verdict;
 
 pub use conserving::is_conserving;
-pub use means::has_mean;
+pub use means::{has_mean, is_mean, keeps_ends, letter_sum};
 pub use rings::{LONGEST_RING, SmallRing};
 pub use verdict::{Keeping, conserve};

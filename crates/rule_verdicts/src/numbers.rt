@@ -5,6 +5,7 @@ ghost use Rattle.rule_verdicts.specs.Truths.{table_rule};
 ghost use Rattle.rule_verdicts.specs.Numbers.{numbers_fault, IsVerdictByte, AreVerdictBytes};
 
 use crate::truths::Truths;
+use flux_conserve::{is_mean, letter_sum};
 use rule_text::{TextFault, numbered};
 use word_image::MOST_ENTRIES;
 
@@ -30,6 +31,16 @@ pub fn verdict_bytes(k: u8, m: u8, first: u128, bytes: &mut [u8]) -> Result<(), 
     Ok(())
 }
 
+/// The first fault of numbers of which the last is so great that no shape has it, 2^128 or more.
+pub fn fault_past_all(k: u8, m: u8) -> TextFault
+    ensures { (first count : ℕ) → 2 ^ 128 ≤ first + count - 1 → numbers_fault k m first count ≡ Some result }
+{
+    match numbered(k, m, 0, 0) {
+        Ok(_) => TextFault::Number,
+        Err(fault) => fault,
+    }
+}
+
 /// Writes what holds of the rules with the numbers from that of this table on. The table goes on with
 /// them.
 fn write_bytes(k: u8, m: u8, table: &mut [u8], bytes: &mut [u8])
@@ -37,7 +48,7 @@ fn write_bytes(k: u8, m: u8, table: &mut [u8], bytes: &mut [u8])
     requires room { value k (reverse table.old) + length bytes.old ≤ k ^ length table.old }
     ensures { AreVerdictBytes k m (value k (reverse table.old)) bytes.new }
 {
-    let mut total = sum(table);
+    let mut total = letter_sum(table);
     for byte in bytes.iter_mut() {
         *byte = verdict_byte(k, m, table, total);
         total = advance(k, table, total);
@@ -50,12 +61,11 @@ fn verdict_byte(k: u8, m: u8, table: &[u8], total: u16) -> u8
     requires total { total ≡ sum table.now }
     ensures { IsVerdictByte (table_rule k m table.now) result }
 {
-    let size = table.len() as u32;
     // Neither a surjective rule nor a conserving one has another sum of the table.
-    if 2 * u32::from(total) + size != u32::from(k) * size {
-        return 0;
+    if !is_mean(k, table.len() as u16, total) {
+        return Truths::not_surjective(false).byte();
     }
-    Truths::of_table(k, m, table).byte()
+    Truths::past_sum(k, m, table).byte()
 }
 
 /// Makes of a table that of the next number, the first letter the least significant; of the last one
@@ -79,26 +89,4 @@ fn advance(k: u8, table: &mut [u8], total: u16) -> u16
         total -= u16::from(letter);
     }
     total
-}
-
-/// The sum of the letters.
-fn sum(table: &[u8]) -> u16
-    requires { length table.now ≤ 256 }
-    ensures { result ≡ sum table.now }
-{
-    let mut total = 0;
-    for letter in table {
-        total += u16::from(*letter);
-    }
-    total
-}
-
-/// The first fault of numbers so great that no shape has them.
-fn fault_past_all(k: u8, m: u8) -> TextFault
-    ensures { (first count : ℕ) → 2 ^ 128 ≤ first + count - 1 → numbers_fault k m first count ≡ Some result }
-{
-    match numbered(k, m, 0, 0) {
-        Ok(_) => TextFault::Number,
-        Err(fault) => fault,
-    }
 }

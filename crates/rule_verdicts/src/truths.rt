@@ -9,7 +9,7 @@ ghost use Rattle.rule_verdicts.specs.Truths.{table_rule, AreTruths, byte_of};
 use closing_test::{is_left_closing, is_right_closing};
 use debruijn::Graph;
 use eden_law::{is_even, is_even_at_zeros, is_surjective};
-use flux_conserve::{has_mean, is_conserving};
+use flux_conserve::{has_mean, is_conserving, keeps_ends};
 use inverse_window::is_injective;
 use pair_graph::Pairs;
 use pair_rank::Endless;
@@ -39,11 +39,7 @@ impl Truths {
         if !has_mean(rule.k(), rule.table()) {
             return Truths::not_surjective(false);
         }
-        let conserving = is_conserving(rule, &Weights::own(rule.k()));
-        if !is_even(rule.k(), rule.table()) {
-            return Truths::not_surjective(conserving);
-        }
-        decided(rule, conserving)
+        decided(rule, may_be_surjective(rule.k(), rule.table()))
     }
 
     /// What holds of the rule of k states, width m and offset 0 with this table. It takes no memory.
@@ -55,8 +51,20 @@ impl Truths {
         if !has_mean(k, table) {
             return Truths::not_surjective(false);
         }
+        Truths::past_sum(k, m, table)
+    }
+
+    /// The same of a table whose sum was looked at before.
+    pub(crate) fn past_sum(k: u8, m: u8, table: &[u8]) -> Truths
+        requires { IsRule (table_rule k m table.now) }
+        ensures { AreTruths (table_rule k m table.now) result }
+    {
+        let even = may_be_surjective(k, table);
+        if !even && !keeps_ends(k, table) {
+            return Truths::not_surjective(false);
+        }
         match Rule::new(k, m, 0, table) {
-            Ok(rule) => Truths::of(&rule),
+            Ok(rule) => decided(&rule, even),
             Err(_) => unreachable!(),
         }
     }
@@ -108,13 +116,24 @@ impl Truths {
     }
 }
 
-/// What holds of a rule of which it is known whether it is conserving.
-fn decided(rule: &Rule, conserving: bool) -> Truths
-    requires rule { IsRule rule.now }
-    requires conserving { IsTrue conserving ↔ IsConserving (slice_index (own_weights rule.now.states)) rule.now }
+/// Whether a rule of k states with this table may be surjective, by how often letters stand in the table, and by
+/// how many words have the image 0 0.
+fn may_be_surjective(k: u8, table: &[u8]) -> bool
+    requires { (r : LocalRule) × IsRule r × (r.states ≡ k) × (r.table ≡ table.now) }
+    ensures { (r : LocalRule) → IsRule r → r.states ≡ k → r.table ≡ table.now → IsSurjective r → IsTrue result }
+{
+    let nodes = (table.len() / usize::from(k)) as u8;
+    // Of two letters the sum tells how often each stands there.
+    (k == 2 || is_even(k, table)) && is_even_at_zeros(k, nodes, table)
+}
+
+/// What holds of a rule, of which it is known if it can't be surjective.
+fn decided(rule: &Rule, may_be_surjective: bool) -> Truths
+    requires { IsSurjective rule.now → IsTrue may_be_surjective }
     ensures { AreTruths rule.now result }
 {
-    if !is_even_at_zeros(rule) {
+    let conserving = keeps_sums(rule);
+    if !may_be_surjective {
         return Truths::not_surjective(conserving);
     }
     let graph = Graph::of(rule);
@@ -130,4 +149,19 @@ fn decided(rule: &Rule, conserving: bool) -> Truths
         left: is_left_closing(&endless),
         conserving,
     }
+}
+
+/// Whether every ring keeps the sum of its letters. It takes no memory.
+pub fn keeps_sums(rule: &Rule) -> bool
+    ensures sums { IsTrue result ↔ IsConserving (slice_index (own_weights rule.now.states)) rule.now }
+    ensures rule { IsRule rule.now }
+{
+    let (k, table) = (rule.k(), rule.table());
+    if !has_mean(k, table) {
+        return false;
+    }
+    if !keeps_ends(k, table) {
+        return false;
+    }
+    is_conserving(rule, &Weights::own(k))
 }

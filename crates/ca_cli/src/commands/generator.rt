@@ -50,6 +50,6 @@ impl Generator {
         ensures state { self.new ≡ next_state self.old }
     {
         self.state = self.state.wrapping_mul(MULTIPLIER).wrapping_add(INCREMENT);
-        ((self.state >> 33) % u64::from(k)) as u8
+        ((self.state >> 33) as u32 % u32::from(k)) as u8
     }
 }

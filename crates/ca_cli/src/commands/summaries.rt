@@ -1,16 +1,14 @@
 //! The commands that count what holds of many rules.
 ghost use Rattle.std.specs.Prelude.{◌≡◌, ℕ, ◌+◌, ◌^◌, ◌<◌, ◌≤◌, None, Some, length, IfOk, MatchOption, MatchResult, pos};
-ghost use Rattle.std.specs.Option.{option_or};
 ghost use Rattle.word_image.specs.LocalRules.{IsShape};
-ghost use Rattle.rule_text.specs.RuleTexts.{number_fault};
 ghost use Rattle.ca_cli.specs.ClassSummaries.{IsClassSummary};
 ghost use Rattle.ca_cli.specs.ClassTallies.{IsClassTally};
 ghost use Rattle.ca_cli.specs.Requests.{BeginsAt, asked_of_many};
 ghost use Rattle.ca_cli.specs.Outcomes.{IsShapeStop};
 ghost use Rattle.ca_cli.specs.Outputs.{IsOutputOfMany, rules_of, rules_fault};
-ghost use Rattle.ca_cli.specs.Samples.{numbered_rule, survey_rules, sample_rules, survey_fault, sample_fault};
+ghost use Rattle.ca_cli.specs.Samples.{survey_rules, sample_rules, sample_fault};
 ghost use Rattle.ca_cli.specs.Summaries.{IsSummary};
-ghost use Rattle.rule_verdicts.specs.Numbers.{AreVerdictBytes};
+ghost use Rattle.rule_verdicts.specs.Numbers.{numbered_rule, numbers_fault, AreVerdictBytes};
 ghost use Rattle.ca_cli.specs.Tallies.{IsTally};
 
 use crate::commands::class_tally::ClassTally;
@@ -20,7 +18,7 @@ use crate::output::Output;
 use crate::stop::Stop;
 use crate::words::request::Rules;
 use rule_text::{TextFault, check_shape, numbered};
-use rule_verdicts::{Truths, verdict_bytes};
+use rule_verdicts::{Truths, fault_past_all, verdict_bytes};
 use std::alloc::{AllocError, Global};
 use word_image::{MOST_ENTRIES, Rule};
 
@@ -50,8 +48,8 @@ fn survey(alloc: Global, k: u8, m: u8, from: Option<u128>, count: u16) -> Result
     requires some { 1 ≤ count }
     requires few { count ≤ 4096 }
     ensures { (n : ℕ) → MatchOption from (2 ^ 128 ≤ n) (λ first. first ≡ n) → MatchResult result
-        (λ output. (survey_fault k m n count ≡ None) × IsSummary (survey_rules k m n count) output)
-        (IsShapeStop (survey_fault k m n count)) }
+        (λ output. (numbers_fault k m n count ≡ None) × IsSummary (survey_rules k m n count) output)
+        (IsShapeStop (numbers_fault k m n count)) }
 {
     let Some(first) = from else {
         return Err(Stop::RuleFault(1, fault_past_all(k, m)));
@@ -82,8 +80,8 @@ fn classes(alloc: Global, k: u8, m: u8, from: Option<u128>, count: u16) -> Resul
     requires some { 1 ≤ count }
     requires few { count ≤ 4096 }
     ensures { (n : ℕ) → MatchOption from (2 ^ 128 ≤ n) (λ first. first ≡ n) → MatchResult result
-        (λ output. (survey_fault k m n count ≡ None) × IsClassSummary (survey_rules k m n count) output)
-        (IsShapeStop (survey_fault k m n count)) }
+        (λ output. (numbers_fault k m n count ≡ None) × IsClassSummary (survey_rules k m n count) output)
+        (IsShapeStop (numbers_fault k m n count)) }
 {
     let first = first_number(k, m, from, count)?;
     let mut output = Output::new(alloc);
@@ -95,10 +93,10 @@ fn classes(alloc: Global, k: u8, m: u8, from: Option<u128>, count: u16) -> Resul
 /// None stands for those from 2^128 on.
 fn first_number(k: u8, m: u8, from: Option<u128>, count: u16) -> Result<u128, Stop>
     requires some { 1 ≤ count }
-    ensures accepted { IfOk result (λ first. survey_fault k m first count ≡ None) }
+    ensures accepted { IfOk result (λ first. numbers_fault k m first count ≡ None) }
     ensures number { (n : ℕ) → MatchOption from (2 ^ 128 ≤ n) (λ first. first ≡ n) → MatchResult result
         (λ first. first ≡ n)
-        (IsShapeStop (survey_fault k m n count)) }
+        (IsShapeStop (numbers_fault k m n count)) }
 {
     match accepted_number(k, m, from, count) {
         Ok(first) => Ok(first),
@@ -109,10 +107,10 @@ fn first_number(k: u8, m: u8, from: Option<u128>, count: u16) -> Result<u128, St
 /// The same with the fault itself.
 fn accepted_number(k: u8, m: u8, from: Option<u128>, count: u16) -> Result<u128, TextFault>
     requires some { 1 ≤ count }
-    ensures accepted { IfOk result (λ first. survey_fault k m first count ≡ None) }
+    ensures accepted { IfOk result (λ first. numbers_fault k m first count ≡ None) }
     ensures number { (n : ℕ) → MatchOption from (2 ^ 128 ≤ n) (λ first. first ≡ n) → MatchResult result
         (λ first. first ≡ n)
-        (λ fault. survey_fault k m n count ≡ Some fault) }
+        (λ fault. numbers_fault k m n count ≡ Some fault) }
 {
     let Some(first) = from else {
         return Err(fault_past_all(k, m));
@@ -124,25 +122,14 @@ fn accepted_number(k: u8, m: u8, from: Option<u128>, count: u16) -> Result<u128,
     Ok(first)
 }
 
-/// The first fault of numbers so great that no shape has them.
-fn fault_past_all(k: u8, m: u8) -> TextFault
-    ensures { (number : ℕ) → 2 ^ 128 ≤ number →
-        option_or (sample_fault k m) (number_fault k m number) ≡ Some result }
-{
-    match numbered(k, m, 0, 0) {
-        Ok(_) => TextFault::Number,
-        Err(fault) => fault,
-    }
-}
-
 /// Counts what holds of the rules with so many numbers from this one on; else the stop for the first
 /// fault.
 fn tally_of_numbers(k: u8, m: u8, first: u128, count: u16) -> Result<Tally, Stop>
     requires some { 1 ≤ count }
     requires few { count ≤ 4096 }
     ensures { MatchResult result
-        (λ tally. (survey_fault k m first count ≡ None) × IsTally (survey_rules k m first count) tally)
-        (IsShapeStop (survey_fault k m first count)) }
+        (λ tally. (numbers_fault k m first count ≡ None) × IsTally (survey_rules k m first count) tally)
+        (IsShapeStop (numbers_fault k m first count)) }
 {
     let mut bytes = [0; MOST_RULES];
     let bytes = &mut bytes[..usize::from(count)];
@@ -154,7 +141,7 @@ fn tally_of_numbers(k: u8, m: u8, first: u128, count: u16) -> Result<Tally, Stop
 
 /// Counts what holds of the rules with the numbers from this one on, of which each byte says it.
 fn tally_of_bytes(k: u8, m: u8, first: u128, bytes: &[u8]) -> Tally
-    requires accepted { survey_fault k m first (length bytes.now) ≡ None }
+    requires accepted { numbers_fault k m first (length bytes.now) ≡ None }
     requires bytes { AreVerdictBytes k m first bytes.now }
     requires few { length bytes.now ≤ 4096 }
     ensures { IsTally (survey_rules k m first (length bytes.now)) result }
@@ -174,7 +161,7 @@ fn classes_of_numbers(
     first: u128,
     count: u16,
 ) -> Result<ClassTally, AllocError>
-    requires accepted { survey_fault k m first count ≡ None }
+    requires accepted { numbers_fault k m first count ≡ None }
     requires few { count ≤ 4096 }
     ensures { IfOk result (IsClassTally k m (survey_rules k m first count)) }
 {
@@ -187,7 +174,7 @@ fn classes_of_numbers(
 
 /// The rule at this place of so many that have a number.
 fn surveyed(k: u8, m: u8, first: u128, count: u16, place: u16) -> Rule
-    requires accepted { survey_fault k m first count ≡ None }
+    requires accepted { numbers_fault k m first count ≡ None }
     requires place { place < count }
     ensures { result ≡ numbered_rule k m (first + place) }
 {

@@ -18,7 +18,7 @@ abbrev of_shape : ℕ → ℕ → Option TextFault
 of_shape k m = option_map (in_text 0) (shape_fault k m (pos 0))
 
 -- a shape of which some number has no fault has few states
-few_states : (k m n : ℕ) → number_fault k m n ≡ None → k ≤ 6
+pub few_states : (k m n : ℕ) → number_fault k m n ≡ None → k ≤ 6
 few_states k m n none = grind (arith, nat_tests)
 
 -- a number past all

@@ -3,9 +3,10 @@ use Rattle.std.proofs.Common.{◌≡◌, ℕ, zero, suc, ◌+◌, ◌*◌, ◌^�
 use Rattle.std.proofs.Math.Nat.{pow-zero, mul-add, mul_assoc, mul_comm, mul-one, one-mul}
 use Rattle.std.proofs.lemmas.List.{reverse-append, reverse-reverse, length-reverse, length-set}
 use Rattle.std.proofs.lemmas.List.Sums.{sum_by-set, sum_by-le, get_or-le-sum_by}
-use Rattle.word_image.specs.LocalRules.{LocalRule, IsRule, IsWord, value, word_of}
+use Rattle.word_image.specs.LocalRules.{LocalRule, IsRule, IsWord, value, word_of, wolfram_number}
 use Rattle.word_image.proofs.laws.Values.{value-snoc, word_of-value, value-word_of, length-word_of}
 use Rattle.word_image.proofs.laws.Images.{IsWord-reverse}
+use Rattle.rule_text.proofs.laws.Numbers.{wolfram_number-value}
 use Rattle.rule_verdicts.specs.Truths.{table_rule}
 use Rattle.rule_verdicts.specs.Numbers.{numbered_rule}
 
@@ -57,7 +58,13 @@ numbered_rule-table k m table rule =
     ap (λ n. reverse (word_of k n (value k (reverse table)))) (sym long) ∙ ap reverse (word_of-value k (reverse table) word) ∙ reverse-reverse table in
     ap (table_rule k m) back
 
--- and it has so many letters
+-- so a rule at offset 0 is that of its Wolfram number
+pub numbered_rule-wolfram : {r : LocalRule} → IsRule r → r.offset ≡ pos 0 → numbered_rule r.states r.width (wolfram_number r) ≡ r
+numbered_rule-wolfram {r} rule offset =
+    let own : r ≡ table_rule r.states r.width r.table = ap (λ o. record { states = r.states; width = r.width; offset = o; table = r.table }) offset in
+    ap (numbered_rule r.states r.width) (wolfram_number-value rule) ∙ numbered_rule-table r.states r.width r.table (subst IsRule own rule) ∙ sym own
+
+-- the table of the rule with a number has so many letters
 pub length-numbered : (k m n : ℕ) (r : LocalRule) (table : List ℕ) → r ≡ numbered_rule k m n → table ≡ r.table → length table ≡ k ^ m
 length-numbered k m n r table rule same = ap length (same ∙ ap (λ (q : LocalRule). q.table) rule) ∙ length-reverse (word_of k (k ^ m) n) ∙ length-word_of k (k ^ m) n
 

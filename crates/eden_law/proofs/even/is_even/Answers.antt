@@ -1,9 +1,8 @@
-use Rattle.std.proofs.Common.{◌≡◌, ℕ, ◌+◌, ◌*◌, ◌<◌, List, length, count_by, refl, sym, ap₂, ◌∙◌, subst, ⊎_elim, arith}
+use Rattle.std.proofs.Common.{◌≡◌, ℕ, ◌+◌, ◌*◌, ◌<◌, List, length, count_by, refl, sym, ap₂, subst, ⊎_elim, arith}
 use Rattle.std.specs.Prelude.{◌==◌}
 use Rattle.std.proofs.lemmas.Bool.{cases_eq}
-use Rattle.word_image.specs.LocalRules.{LocalRule}
-use Rattle.eden_law.specs.EvenTables.{IsEven}
-use Rattle.eden_law.proofs.EvenTables.{IsEven-surjective}
+use Rattle.ring_laws.specs.Tables.{IsEven}
+use Rattle.eden_laws.proofs.EvenTables.{IsEven-surjective}
 use Rattle.eden_law.proofs.even.is_even.Goals as goal
 
 -- a letter that stands equally often, after others that do

@@ -1,16 +1,26 @@
-use Rattle.std.proofs.Common.{◌≡◌, ℕ, List, slice_index, take, ℤ, sym, ap₂, subst, ◌∙◌}
+use Rattle.std.proofs.Common.{sym, ◌∙◌, refl, slice_index, arith}
+use Rattle.std.proofs.lemmas.List.FromFn.{length-map-range_with_len}
 use Rattle.word_image.specs.LocalRules.{node_count}
-use Rattle.word_image.specs.Rings.{IsFlux}
-use Rattle.flux_conserve.proofs.FluxRows.{gains_row, IsConserving-gains_row}
+use Rattle.ring_laws.proofs.FluxWalks.{walk_gain}
+use Rattle.ring_laws.proofs.FluxWindows.{IsFlux-windows, FlowsAt-flux}
+use Rattle.ring_laws.proofs.LossyRings.{IsConserving-walk_gains}
 use Rattle.flux_conserve.proofs.conserving.is_conserving.Goals as goal
 
 pub returns : goal.returns
 returns c =
     let r = c.args.rule.now in
     let weight = slice_index c.args.weights.now in
-    let row : take c.from.result c.walk_flows-flows.result ≡ take (node_count r) (gains_row weight r) =
-    ap₂ (λ (n : ℕ) (xs : List ℤ). take n xs) (c.from.ensures ∙ c.nodes.ensures.nodes) c.walk_flows-flows.ensures in
-    let gains = IsConserving-gains_row c.nodes.ensures.rule weight in (
-      λ yes. gains.1 (subst (IsFlux weight r) row (c.is_flux.ensures.0 yes)),
-      λ keep. c.is_flux.ensures.1 (subst (IsFlux weight r) (sym row) (gains.0 keep)),
+    let rule = c.size-window-end.ensures.rule in (
+      λ yes. (IsConserving-walk_gains rule weight).1 (IsFlux-windows rule (length-map-range_with_len (walk_gain weight r) 0 (node_count r)) (λ v l. c.loop-window.invariant v (omega arith))),
+      λ keep. refl,
+    )
+
+pub returns-then-not-walks_flow : goal.returns-then-not-walks_flow
+returns-then-not-walks_flow c =
+    let weight = slice_index c.args.weights.now in
+    let rule = c.size-window-end.ensures.rule in (
+      λ no. absurd (cc),
+      λ keep.
+          let here = FlowsAt-flux rule ((IsConserving-walk_gains rule weight).0 keep) c.loop-window.window (omega arith) in
+          sym c.if-not-walks_flow.true ∙ c.walks_flow.ensures.1 here,
     )

@@ -12,7 +12,7 @@ pub loop-byte-init : goal.loop-byte-init
 loop-byte-init c = record {
   word = c.requires.rule.letters;
   long = refl;
-  total = c.sum-total.ensures;
+  total = c.letter_sum-total.ensures;
   number = λ l. omega arith;
   written = λ i l. absurd (omega arith);
 }

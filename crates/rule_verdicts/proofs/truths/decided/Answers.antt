@@ -22,17 +22,17 @@ returns c =
       right = right;
       left = left;
       open_ = both_true _ _ right left;
-      conserving = c.requires.conserving;
+      conserving = c.keeps_sums-conserving.ensures.sums;
     }
 
-pub returns-then-not-is_even_at_zeros : goal.returns-then-not-is_even_at_zeros
-returns-then-not-is_even_at_zeros c =
-    c.not_surjective.ensures c.args.rule.now c.requires.rule
-    (λ every. false≢true (sym c.if-not-is_even_at_zeros.true ∙ c.is_even_at_zeros.ensures.surjective every))
-    c.requires.conserving
+pub returns-then-not-may_be_surjective : goal.returns-then-not-may_be_surjective
+returns-then-not-may_be_surjective c =
+    c.not_surjective.ensures c.args.rule.now c.keeps_sums-conserving.ensures.rule
+    (λ every. false≢true (sym c.if-not-may_be_surjective.true ∙ c.requires every))
+    c.keeps_sums-conserving.ensures.sums
 
 pub returns-then-not-is_surjective : goal.returns-then-not-is_surjective
 returns-then-not-is_surjective c =
-    c.not_surjective-then-not-is_surjective.ensures c.args.rule.now c.requires.rule
+    c.not_surjective-then-not-is_surjective.ensures c.args.rule.now c.keeps_sums-conserving.ensures.rule
     (λ every. false≢true (sym c.if-not-is_surjective.true ∙ c.is_surjective.ensures.surjective.1 (subst IsSurjective (sym c.of-graph.ensures) every)))
-    c.requires.conserving
+    c.keeps_sums-conserving.ensures.sums

@@ -1,7 +1,5 @@
-use Rattle.std.proofs.Common.{◌↔◌, ◌∙◌, IsTrue, slice_index, sym, ap, subst}
+use Rattle.std.proofs.Common.{◌↔◌, IsTrue, sym, ap, subst}
 use Rattle.word_image.specs.LocalRules.{LocalRule}
-use Rattle.word_image.specs.Rings.{IsConserving}
-use Rattle.word_image.specs.Weights.{own_weights}
 use Rattle.tail_config.specs.Tails.{IsRightClosing, IsLeftClosing}
 use Rattle.cert_check.proofs.laws.Soundness.{both_true}
 use Rattle.ca_cli.proofs.laws.ClassSummaries.{verdict_through}
@@ -9,7 +7,7 @@ use Rattle.ca_cli.proofs.commands.class_tally.of_member.Goals as goal
 use Rattle.ca_cli.proofs.commands.class_tally.of_member.Goals.{then-mirrored, else-mirrored}
 
 pub returns-clause-truths : goal.returns-clause-truths
-returns-clause-truths c one are =
+returns-clause-truths c g one are =
     let r : LocalRule = c.args.rule.now in
     let right : IsTrue c.if-mirrored.right.0 ↔ IsRightClosing r =
     elim c.if-mirrored.branch [
@@ -26,5 +24,5 @@ returns-clause-truths c one are =
       right = right;
       left = left;
       open_ = both_true _ _ right left;
-      conserving = subst (λ weights. IsTrue c.is_conserving.result ↔ IsConserving (slice_index weights) r) (c.own.ensures.weights ∙ ap own_weights c.k.ensures.states) c.is_conserving.ensures;
+      conserving = c.keeps_sums.ensures.sums;
     }

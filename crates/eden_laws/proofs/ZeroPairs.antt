@@ -1,22 +1,21 @@
 -- Under a surjective rule as many words have the image 0 0 as there are nodes.
-use Rattle.std.proofs.Common.{◌≡◌, ℕ, zero, suc, ◌+◌, ◌-◌, ◌*◌, ◌/◌, ◌%◌, ◌^◌, ◌<◌, ◌≤◌, List, [], ◌∷◌, length, take, drop, slice_index, slice_range, get_or, Bool, true, false, All, ⊎_elim, mod-lt, refl, sym, ap, ap₂, ◌∙◌, subst, arith, pow-suc, length-drop}
+use Rattle.std.proofs.Common.{◌≡◌, ℕ, suc, ◌+◌, ◌-◌, ◌*◌, ◌/◌, ◌%◌, ◌^◌, ◌<◌, ◌≤◌, List, [], ◌∷◌, length, take, drop, slice_index, slice_range, get_or, Bool, true, false, ⊎_elim, refl, sym, ap, ap₂, ◌∙◌, subst, arith, pow-suc, length-drop}
 use Rattle.std.specs.Prelude.{◌==◌, ◌&&◌}
 use Rattle.std.proofs.Math.Nat.{pow-zero, add-mul, mul_assoc, mul_comm}
 use Rattle.std.proofs.lemmas.Bool.{false≢true, cases_eq, eq-eqb}
 use Rattle.std.proofs.lemmas.Bool.Decides.{nat_tests}
-use Rattle.std.proofs.lemmas.Nat.{mul-add-lt, div-mul-add, mod-mul-add, div-add-mod'}
+use Rattle.std.proofs.lemmas.Nat.{mul-add-lt, div-mul-add, mod-mul-add}
 use Rattle.std.proofs.lemmas.List.{take_all, ext_get_or}
 use Rattle.std.proofs.lemmas.List.Elements.{All-cons, All-nil}
 use Rattle.word_image.specs.LocalRules.{LocalRule, IsRule, IsWord, value, word_of, node_count}
-use Rattle.word_image.specs.Words.{image, IsPreimage, IsSurjective}
+use Rattle.word_image.specs.Words.{image, IsSurjective}
 use Rattle.word_image.proofs.laws.Values.{value-below, value-injective, value-take, value-drop, value-word_of, length-word_of, IsWord-word_of}
 use Rattle.word_image.proofs.laws.Images.{get_or-image}
 use Rattle.word_image.proofs.laws.Words.{length-image}
-use Rattle.word_image.proofs.laws.Graphs.{node_count_pos}
 use Rattle.eden_laws.specs.Preimages.{HasPreimages}
 use Rattle.eden_laws.proofs.Balance.{IsBalanced-surjective}
-use Rattle.eden_law.specs.ZeroPairs.{gives_zeros, zero_pairs}
-use Rattle.eden_law.proofs.Counts.{count_below-exact}
+use Rattle.eden_laws.specs.ZeroPairs.{gives_zeros, zero_pairs}
+use Rattle.eden_laws.proofs.Counts.{count_below-exact}
 
 -- the word 0 0
 abbrev zeros : List ℕ
@@ -57,7 +56,7 @@ eqb-zero n e = grind (arith, nat_tests)
 both : (a b : Bool) → a ≡ true → b ≡ true → (a && b) ≡ true
 both a b ha hb = ap (λ c. c && b) ha ∙ hb
 
--- so each is
+-- where both are true each is
 left_true : (a b : Bool) → (a && b) ≡ true → a ≡ true
 left_true true b e = refl
 left_true false b e = e
@@ -73,7 +72,7 @@ words {r} rule =
     let e : 2 + (r.width - 1) ≡ suc r.width = omega arith in
     ap (λ n. r.states ^ n) e ∙ pow-suc r.states r.width ∙ ap (λ n. n * r.states) (sym rule.entries)
 
--- the law
+-- under a surjective rule as many words have the image 0 0 as there are nodes
 pub zero_pairs-surjective : {r : LocalRule} → IsRule r → IsSurjective r → zero_pairs r.states r.table ≡ node_count r
 zero_pairs-surjective {r} rule every =
     let k : ℕ = r.states in
@@ -103,19 +102,14 @@ zero_pairs-surjective {r} rule every =
     let found = has.all x (record { word = word; long = x_long; maps = maps }) in
     (found.0, found.1, ap (value k) found.2 ∙ number))
 
--- the words that begin with a window
-pub gives_zeros-block : {r : LocalRule} → IsRule r → (w a : ℕ) → a < r.states
-    → gives_zeros r.states r.table (w * r.states + a) ≡ ((slice_index r.table w == 0) && (slice_index r.table (w % node_count r * r.states + a) == 0))
-gives_zeros-block {r} rule w a l =
-    let k : ℕ = r.states in
-    let n : ℕ = node_count r in
-    let some : 0 < n = node_count_pos rule in
-    let wide : 2 ≤ r.width = rule.shape.least_width in
-    let last : suc (r.width - 1) ≡ r.width = omega arith in
-    let long : length r.table ≡ n * k = rule.entries ∙ ap (λ i. k ^ i) (sym last) ∙ pow-suc k (r.width - 1) in
-    let parts : w / n * n * k + w % n * k ≡ w * k = sym (add-mul (w / n * n) (w % n) k) ∙ ap (λ i. i * k) (div-add-mod' w n) in
-    let whole : w * k + a ≡ w / n * (n * k) + (w % n * k + a) = omega (arith, parts, mul_assoc (w / n) n k) in
+-- the words that begin with a window, by its first letter and its last node
+pub gives_zeros-block : (k n : ℕ) (table : List ℕ) (b v a : ℕ) → length table ≡ n * k → v < n → a < k
+    → gives_zeros k table ((b * n + v) * k + a) ≡ ((slice_index table (b * n + v) == 0) && (slice_index table (v * k + a) == 0))
+gives_zeros-block k n table b v a long node letter =
+    let w : ℕ = b * n + v in
+    let parts : w * k ≡ b * n * k + v * k = add-mul (b * n) v k in
+    let whole : w * k + a ≡ b * (n * k) + (v * k + a) = omega (arith, parts, mul_assoc b n k) in
     let turned : k * n ≡ n * k = mul_comm k n in
-    let within : w % n * k + a < n * k = omega (arith, mul-add-lt (w % n) k a n (mod-lt w some) l, turned) in
-    let rest : (w * k + a) % length r.table ≡ w % n * k + a = ap (λ i. (w * k + a) % i) long ∙ ap (λ i. i % (n * k)) whole ∙ mod-mul-add (w / n) (n * k) (w % n * k + a) within in
-    ap₂ (λ (i j : ℕ). (slice_index r.table i == 0) && (slice_index r.table j == 0)) (div-mul-add w k a l) rest
+    let within : v * k + a < n * k = omega (arith, mul-add-lt v k a n node letter, turned) in
+    let rest : (w * k + a) % length table ≡ v * k + a = ap (λ i. (w * k + a) % i) long ∙ ap (λ i. i % (n * k)) whole ∙ mod-mul-add b (n * k) (v * k + a) within in
+    ap₂ (λ (i j : ℕ). (slice_index table i == 0) && (slice_index table j == 0)) (div-mul-add w k a letter) rest

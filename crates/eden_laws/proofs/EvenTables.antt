@@ -1,8 +1,8 @@
 -- Under a surjective rule each letter stands in the table equally often: the word of one letter has as many preimages as there are nodes, and together the letters fill the table.
-use Rattle.std.proofs.Common.{◌≡◌, ℕ, zero, suc, ◌+◌, ◌-◌, ◌*◌, ◌^◌, ◌<◌, ◌≤◌, List, [], ◌∷◌, length, take, slice_index, slice_range, get_or, sum_by, count_by, cond, Bool, true, false, All, refl, sym, ap, ◌∙◌, subst, ⊎_elim, arith, pow-suc, zero-mul}
+use Rattle.std.proofs.Common.{◌≡◌, ℕ, zero, suc, ◌+◌, ◌-◌, ◌*◌, ◌^◌, ◌<◌, ◌≤◌, List, [], ◌∷◌, length, take, slice_index, slice_range, get_or, count_by, cond, refl, sym, ap, ◌∙◌, subst, ⊎_elim, arith, pow-suc, zero-mul}
 use Rattle.std.specs.Prelude.{◌==◌}
 use Rattle.std.proofs.lemmas.Bool.{cases_eq, cases_lt, eq-eqb, ne_eqb, cond-true, cond-false}
-use Rattle.std.proofs.lemmas.List.{take_all, take-take, drop_all}
+use Rattle.std.proofs.lemmas.List.{take_all, take-take}
 use Rattle.std.proofs.lemmas.List.Elements.{All-head, All-tail, All-cons, All-nil}
 use Rattle.std.proofs.lemmas.List.Sums.{count_by_more_yes, sum_by-take-le, sum_by-cons}
 use Rattle.word_image.specs.LocalRules.{LocalRule, IsRule, IsWord, value, node_count}
@@ -10,9 +10,9 @@ use Rattle.word_image.specs.Words.{image, IsPreimage, IsSurjective}
 use Rattle.word_image.proofs.laws.Values.{value-below, value-injective}
 use Rattle.word_image.proofs.laws.Images.{get_or-image}
 use Rattle.word_image.proofs.laws.Searches.{twice_below}
-use Rattle.eden_laws.specs.Preimages.{HasPreimages, IsBalanced}
+use Rattle.eden_laws.specs.Preimages.{HasPreimages}
 use Rattle.eden_laws.proofs.Balance.{IsBalanced-surjective}
-use Rattle.eden_law.specs.EvenTables.{IsEven}
+use Rattle.ring_laws.specs.Tables.{IsEven}
 
 -- how often a letter stands before a place
 before : ℕ → List ℕ → ℕ → ℕ
@@ -34,7 +34,7 @@ before-suc : (a : ℕ) (xs : List ℕ) (i : ℕ) → i < length xs → slice_ind
 unfolding before
 before-suc a xs i l here = count_by_more_yes (λ b. b == a) xs i 0 l (eq-eqb (get_or xs i 0) a here)
 
--- so two places where it stands with one number are one place
+-- two places where it stands with one number are one place
 before-injective : (a : ℕ) (xs : List ℕ) (i j : ℕ) → i < length xs → j < length xs → slice_index xs i ≡ a → slice_index xs j ≡ a → before a xs i ≡ before a xs j → i ≡ j
 before-injective a xs i j li lj hi hj e =
     ⊎_elim
@@ -119,7 +119,7 @@ unfolding below
 below-least q zero xs each = omega (arith, zero-mul q)
 below-least q (suc n) xs each = omega (arith, below-least q n xs (λ a l. each a (omega arith)), each n (omega arith))
 
--- and a letter that stands more often is too much, where they stand n * q times
+-- where they stand n * q times in all, none stands more often than q times
 below-exact : (q n : ℕ) (xs : List ℕ) → ((a : ℕ) → a < n → q ≤ count_by (λ b. b == a) xs) → below n xs ≤ n * q → (a : ℕ) → a < n → count_by (λ b. b == a) xs ≤ q
 unfolding below
 below-exact q zero xs each most a l = absurd (omega arith)
@@ -131,7 +131,7 @@ below-exact q (suc n) xs each most a l =
     (λ other. below-exact q n xs (λ b h. each b (omega arith)) (omega arith) a (omega (arith, other)))
     (cases_eq a n)
 
--- the law
+-- under a surjective rule each letter stands in the table equally often
 pub IsEven-surjective : {r : LocalRule} → IsRule r → IsSurjective r → IsEven r.states r.table
 IsEven-surjective {r} rule every a letter =
     let k : ℕ = r.states in

@@ -11,6 +11,6 @@ count_below p (suc n) = count_below p n + from_bool (p n)
 abbrev pub gives_zeros : ℕ → List ℕ → ℕ → Bool
 gives_zeros k table v = (slice_index table (v / k) == 0) && (slice_index table (v % length table) == 0)
 
--- how many words of m + 1 letters do
+-- how many words of m + 1 letters have the image 0 0
 abbrev pub zero_pairs : ℕ → List ℕ → ℕ
 zero_pairs k table = count_below (gives_zeros k table) (length table * k)

@@ -1,9 +1,9 @@
 -- How many of the numbers below a bound pass a test: as many as can be numbered.
-use Rattle.std.proofs.Common.{◌≡◌, ℕ, zero, suc, ◌+◌, ◌-◌, ◌%◌, ◌<◌, ◌≤◌, Bool, true, false, refl, sym, ap, ap₂, ◌∙◌, subst, ⊎_elim, inl, inr, ◌⊎◌, arith, mod-lt, mod-eq_of_lt}
+use Rattle.std.proofs.Common.{◌≡◌, ℕ, zero, suc, ◌+◌, ◌-◌, ◌%◌, ◌<◌, ◌≤◌, Bool, true, false, refl, sym, ap, ap₂, ◌∙◌, ⊎_elim, arith, mod-lt, mod-eq_of_lt}
 use Rattle.std.specs.Int.{from_bool}
-use Rattle.std.proofs.lemmas.Bool.{cases_eq, cases_lt}
+use Rattle.std.proofs.lemmas.Bool.{cases_lt}
 use Rattle.word_image.proofs.laws.Searches.{twice_below}
-use Rattle.eden_law.specs.ZeroPairs.{count_below}
+use Rattle.eden_laws.specs.ZeroPairs.{count_below}
 
 -- none below 0
 pub count_below-none : (p : ℕ → Bool) → count_below p 0 ≡ 0
