@@ -4,7 +4,8 @@ use Rattle.word_image.specs.LocalRules.{LocalRule, IsRule}
 use Rattle.rule_text.specs.RuleTexts.{by_number}
 use Rattle.rule_text.proofs.laws.AcceptedRules.{IsRule-said}
 use Rattle.rule_verdicts.specs.Truths.{AreTruths}
-use Rattle.ca_cli.specs.Samples.{numbered_rule, survey_rules}
+use Rattle.rule_verdicts.specs.Numbers.{numbered_rule}
+use Rattle.ca_cli.specs.Samples.{survey_rules}
 use Rattle.ca_cli.specs.Tallies.{IsTally}
 use Rattle.ca_cli.proofs.laws.Samples.{survey_rules-more, survey-accepted}
 use Rattle.ca_cli.proofs.commands.summaries.tally_of_bytes.Goals as goal
