@@ -55,14 +55,26 @@ enum ca_code {
     CA_SHORT = CA_CODE_SHORT
 };
 
-/* Why ca_verdicts gives no verdicts: the first that holds. */
+/* Why ca_verdicts or ca_verdict_bytes gives no verdicts: the first that holds. */
 enum ca_fault {
     CA_FAULT_NONE = 0,   /* there are verdicts */
     CA_FAULT_STATES = 1, /* there are not 2 to 16 states */
     CA_FAULT_WIDTH = 2,  /* the width is not 2 to 5 */
     CA_FAULT_NODES = 3,  /* there are more than 16 words of width - 1 letters */
     CA_FAULT_LENGTH = 5, /* the table has not one letter for each window */
-    CA_FAULT_LETTER = 6  /* a letter of the table is not below states */
+    CA_FAULT_LETTER = 6, /* a letter of the table is not below states */
+    CA_FAULT_KIND = 7,   /* there are more than six states, so rules have no numbers */
+    CA_FAULT_NUMBER = 8  /* a number has no rule */
+};
+
+/* What the byte of a rule is the sum of: those that hold, in the words of struct ca_rule_verdicts. */
+enum ca_bit {
+    CA_BIT_SURJECTIVE = 1,
+    CA_BIT_INJECTIVE = 2,
+    CA_BIT_RIGHT = 4,
+    CA_BIT_LEFT = 8,
+    CA_BIT_OPEN = 16,
+    CA_BIT_CONSERVING = 32
 };
 
 /* What holds of a rule. */
@@ -109,6 +121,21 @@ uint8_t ca_run(const uint8_t *words, size_t words_length, const uint8_t *input, 
  */
 struct ca_rule_verdicts ca_verdicts(uint8_t states, uint8_t width, const uint8_t *table,
                                     size_t table_length);
+
+/*
+ * Decides the questions of many rules with consecutive numbers, and takes no memory.
+ *
+ * The first number is first_high times 2^64 and first_low, and there are as many rules as bytes. Into byte i
+ * it writes what holds of the rule with the i-th number from the first one on, of these states, this width
+ * and offset 0, as a sum of enum ca_bit. The letter of a rule's table at place v is the digit v of its number
+ * in base states, digit 0 the least significant.
+ *
+ * It gives CA_FAULT_NONE, or CA_FAULT_STATES, CA_FAULT_WIDTH, CA_FAULT_NODES, CA_FAULT_KIND or
+ * CA_FAULT_NUMBER, the first that holds; the bytes are then as they were. Without bytes it gives
+ * CA_FAULT_NONE.
+ */
+uint8_t ca_verdict_bytes(uint8_t states, uint8_t width, uint64_t first_high, uint64_t first_low,
+                         uint8_t *bytes, size_t bytes_length);
 
 #ifdef __cplusplus
 }
