@@ -11,16 +11,15 @@ use crate::properties::{Property, has};
 use crate::tables::{Entries, advance, has_letters};
 use word_image::{MOST_ENTRIES, Rule};
 
-/// The rule of least rank, of k states and width m at offset 0, that has the property; `None` exactly
-/// where there is none.
-pub fn first_rule(property: Property, k: u8, m: u8, begin: &Letters, order: &[u8]) -> Option<Rule>
-    requires shape { IsShape k m (pos 0) }
-    requires order { IsOrder (k ^ m) order.now }
-    ensures { MatchOption result (NoneIs property k m begin.now (λ q. ⊤)) (IsFirst property k m begin.now order.now (λ q. ⊤)) }
+/// The rule of least rank that has the property and each letter that is fixed from the beginning, of the
+/// states and the width of this rule and at offset 0; `None` exactly where there is none.
+pub fn first_rule(property: Property, shape: &Rule, begin: &Letters, order: &[u8]) -> Option<Rule>
+    requires { IsOrder (shape.now.states ^ shape.now.width) order.now }
+    ensures { MatchOption result
+        (NoneIs property shape.now.states shape.now.width begin.now (λ q. ⊤))
+        (IsFirst property shape.now.states shape.now.width begin.now order.now (λ q. ⊤)) }
 {
-    let shape = zero_rule(k, m);
-    let entries = entries_of(&shape);
-    from(property, &shape, begin, order, entries, Some(0))
+    from(property, shape, begin, order, entries_of(shape), Some(0))
 }
 
 /// The rule of least rank greater than that of this rule, of its shape at offset 0, that has the
@@ -34,14 +33,6 @@ pub fn rule_after(property: Property, begin: &Letters, order: &[u8], rule: &Rule
     let mut entries = entries_of(rule);
     let next = advance(rule.k(), order, &mut entries, rule.size());
     from(property, rule, begin, order, entries, next)
-}
-
-/// The rule with 0 everywhere.
-pub(crate) fn zero_rule(k: u8, m: u8) -> Rule
-    requires { IsShape k m (pos 0) }
-    ensures { (result.states ≡ k) × (result.width ≡ m) }
-{
-    Rule::by(k, m, 0, |_| 0)
 }
 
 /// The letters of a rule, and anything after them.
