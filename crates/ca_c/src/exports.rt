@@ -75,6 +75,7 @@ pub extern "C" fn ca_run(
 #[unsafe(no_mangle)]
 pub extern "C" fn ca_verdicts(states: u8, width: u8, table: &[u8]) -> RuleVerdicts
     ensures fault { result.fault ≡ fault_code (rule_fault states width (pos 0) table.now) }
+    ensures no_offset { result.fault ≢ 4 }
     ensures are_true { result.fault ≡ 0 → AreTrue (verdicts_about (rule_of_table states width table.now) result) }
     ensures both { result.is_open ≡ is_open (verdicts_about (rule_of_table states width table.now) result) }
     ensures none { 0 < result.fault → AreNone result }

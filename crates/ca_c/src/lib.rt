@@ -16,7 +16,7 @@
 //!
 //! No function keeps a pointer or has a state: what one call gives depends on its arguments and on
 //! whether there is memory, and on nothing else. A call takes the time and the memory of
-//! `ca_cli::run`, and besides **O(n)** of both for n bytes of words, input and output; one of `ca_verdicts`
+//! `ca_cli::run`, and besides **O(n)** of both for n bytes of words and output; one of `ca_verdicts`
 //! takes no memory.
 #![tactic(auto)]
 
@@ -25,6 +25,7 @@ mod calls;
 mod exports;
 mod numbered_verdicts;
 mod sinks;
+mod sources;
 mod table_verdicts;
 
 pub use exports::{ca_run, ca_verdict_bytes, ca_verdicts, ca_version};
