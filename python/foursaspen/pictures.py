@@ -93,13 +93,19 @@ def walks_of(report: Report, show: str) -> Walks:
         raise ValueError(f"the rule closes on the {show}: it has no split there")
     heading = (f"{split.first} and {split.second} have one image and agree to the "
                f"{'left' if show == 'right' else 'right'}: their walks")
-    return Walks(heading, {"first": split.first, "second": split.second}, shown_of(split.first, split.second))
+    return Walks(heading, {"first": split.first, "second": split.second},
+                 seen_at(Graph(report.rule), shown_of(split.first, split.second)))
 
 
 def shown_of(*tails: Tail) -> range:
     """Cells with a period of each tail on either side."""
     left, middle, right = (max(len(getattr(tail, part)) for tail in tails) for part in ("left", "middle", "right"))
     return range(-left, middle + right)
+
+
+def seen_at(graph: Graph, cells: range) -> range:
+    """The cells, and so many more that each of them is in the window of one, where windows lie off their cells."""
+    return range(cells.start - max(graph.offset, 0), cells.stop + max(1 - graph.width - graph.offset, 0))
 
 
 def preimage_of(rule: str, show: Tail | str) -> Walks | tuple[str, str]:

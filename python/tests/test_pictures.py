@@ -60,7 +60,10 @@ def image_at(rule: str, tail: str, cells: range) -> str:
 
 
 def pairs_of(report: ca.Report) -> Iterator[tuple[str, list[str], range]]:
-    """For each thing of two configurations that a rule has: its name, the configurations, and the cells to be shown."""
+    """For each thing of two configurations that a rule has: its name, the configurations, and the cells to be shown:
+    periods and middles, and where windows lie off their cells so many more that each of these is in a window."""
+    _, width, offset, _ = report.rule.split(":")
+    before, behind = max(int(offset), 0), max(1 - int(width) - int(offset), 0)
     if report.twins:
         words = report.twins.first, report.twins.second
         yield "twins", [f"{word}||{word}" for word in words], range(len(words[0]))
@@ -68,7 +71,7 @@ def pairs_of(report: ca.Report) -> Iterator[tuple[str, list[str], range]]:
         if split:
             parts = [str(tail).split("|") for tail in (split.first, split.second)]
             left, middle, right = (max(map(len, part)) for part in zip(*parts))
-            yield side, [str(split.first), str(split.second)], range(-left, middle + right)
+            yield side, [str(split.first), str(split.second)], range(-left - before, middle + right + behind)
 
 
 class Pictures(unittest.TestCase):
