@@ -1,4 +1,22 @@
-# What ./ca and ./library share; each names itself in `me` and the checkout in `top`, and sources this.
+# What ./ca, ./try and ./library share; each names itself in `me` and the checkout in `top`, and sources this.
+
+# needs_rt: whether rt is there; says what it is where it isn't.
+needs_rt() {
+    command -v rt >/dev/null && return
+    cat >&2 <<END
+$me: there is no rt, the command of the Rattle kit: it proves and builds the program. README.md names the kit's version.
+$me: certificates can be judged without it: python3 checkers/judge.py < CERTIFICATE
+END
+    return 1
+}
+
+# Says how each command is called, by the headings of docs/COMMANDS.md.
+tell_forms() {
+    {
+        echo "usage: ./ca COMMAND OPERANDS, where R is a rule, as 110; docs/COMMANDS.md says what each does"
+        sed -n '/^## [a-z]/{ s/^## /    .\/ca /; s/, /\n    .\/ca /g; p }' "$top/docs/COMMANDS.md"
+    } >&2
+}
 
 # is_current CRATE OTHER..: whether the crate was built, and no source changed since that began, but for those
 # of the other crates.
@@ -22,7 +40,7 @@ tell() {
     done
 }
 
-# build CRATE WORD..: proves and builds the crate by rt with these words, calls finish, and leaves out/built,
+# build CRATE COMMAND..: proves and builds the crate by this command in its folder, calls finish, and leaves out/built,
 # which is as old as the beginning of this. In a shell of its own, which clears up however it ends.
 build() (
     stamp=$top/crates/$1/out/built
@@ -33,12 +51,12 @@ build() (
     cd "$top/crates/$1" || exit
     shift
     set -o pipefail
-    if ! rt "$@" 2>&1 </dev/null | tee "$begun.log" | tell; then
+    if ! "$@" 2>&1 </dev/null | tee "$begun.log" | tell; then
         tail -n 40 "$begun.log" >&2
         exit 1
     fi
     finish && mv "$begun" "$stamp"
 )
 
-# What is left to do after rt.
+# What is left to do after the command.
 finish() { :; }

@@ -175,6 +175,57 @@ static void test_verdicts(void)
     is("a letter that is too great", lacks(2, 2, two, 4, CA_FAULT_LETTER));
 }
 
+/* Whether as many of the first rules of a shape have these bits as are said, over calls of so many rules. */
+static bool counts(uint8_t states, uint8_t width, size_t rules, size_t part, const size_t *said)
+{
+    uint8_t bytes[ROOM];
+    size_t counted[6] = {0};
+    for (size_t first = 0; first < rules; first += part) {
+        if (ca_verdict_bytes(states, width, 0, first, bytes, part) != CA_FAULT_NONE)
+            return false;
+        for (size_t at = 0; at < part; at++)
+            for (int bit = 0; bit < 6; bit++)
+                counted[bit] += bytes[at] >> bit & 1;
+    }
+    return memcmp(counted, said, sizeof counted) == 0;
+}
+
+/* Whether a call writes nothing, for this fault. */
+static bool writes_nothing(uint8_t states, uint8_t width, uint64_t high, uint64_t low,
+                           size_t length, int fault)
+{
+    uint8_t bytes[ROOM];
+    memset(bytes, FILLING, sizeof bytes);
+    return ca_verdict_bytes(states, width, high, low, bytes, length) == fault
+        && is_kept(bytes, 0, sizeof bytes);
+}
+
+static void test_verdict_bytes(void)
+{
+    static const size_t elementary[6] = {30, 6, 22, 22, 14, 5};
+    static const size_t width_4[6] = {582, 16, 314, 314, 46, 22};
+    static const size_t three_states[6] = {420, 48, 240, 240, 60, 4};
+    is("all rules of 2 states and width 3", counts(2, 3, 256, 256, elementary));
+    is("all rules of 2 states and width 4", counts(2, 4, 65536, 4096, width_4));
+    is("all rules of 3 states and width 2", counts(3, 2, 19683, 729, three_states));
+    uint8_t byte = FILLING;
+    is("the byte of rule 184",
+       ca_verdict_bytes(2, 3, 0, 184, &byte, 1) == CA_FAULT_NONE && byte == CA_BIT_CONSERVING);
+    is("the byte of the last rule, which gives 1",
+       ca_verdict_bytes(2, 3, 0, 255, &byte, 1) == CA_FAULT_NONE && byte == 0);
+    is("the byte of the rule that shifts",
+       ca_verdict_bytes(2, 3, 0, 170, &byte, 1) == CA_FAULT_NONE && byte == 63);
+    is("a number of more than 64 bits",
+       ca_verdict_bytes(6, 2, 1, 0, &byte, 1) == CA_FAULT_NONE && byte == 0);
+    is("bytes for one state", writes_nothing(1, 2, 0, 0, 1, CA_FAULT_STATES));
+    is("bytes for width 6", writes_nothing(2, 6, 0, 0, 1, CA_FAULT_WIDTH));
+    is("bytes for 27 nodes", writes_nothing(3, 4, 0, 0, 1, CA_FAULT_NODES));
+    is("bytes for seven states", writes_nothing(7, 2, 0, 0, 1, CA_FAULT_KIND));
+    is("bytes past the last number", writes_nothing(2, 3, 0, 255, 2, CA_FAULT_NUMBER));
+    is("bytes past all numbers", writes_nothing(2, 3, UINT64_MAX, UINT64_MAX, 2, CA_FAULT_NUMBER));
+    is("no bytes", writes_nothing(7, 7, 0, 0, 0, CA_FAULT_NONE));
+}
+
 static void *call_often(void *right)
 {
     for (int call = 0; call < CALLS; call++)
@@ -205,6 +256,7 @@ int main(void)
     test_room();
     test_input();
     test_verdicts();
+    test_verdict_bytes();
     test_threads();
     printf("%d passed, %d failed\n", passed, failed);
     return failed != 0;

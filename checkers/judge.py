@@ -3,12 +3,14 @@
 
     python3 judge.py < certificate.json
 
-The exit status is 0 where it is accepted, 1 where it is refused, 5 where it is too long, and 6 where it can't
-be read. The steps of the shape and the conditions stand in the order of that page's tables.
+The exit status is 0 where it is accepted, 1 where it is refused, 5 where it is too long, 6 where it can't be read,
+7 where the answer can't be written, 8 where there is no memory, and 70 where Python fails otherwise. The steps of the shape and the conditions stand in the order of that page's tables.
 """
+import contextlib
 import os
 import re
 import sys
+import traceback
 
 import json_text
 
@@ -362,9 +364,26 @@ def main():
     except OSError:
         return 6
     status, output = judge(bytes(data))
-    sys.stdout.write(output)
+    left = output.encode()
+    try:
+        while left:
+            left = left[os.write(1, left):]
+    except OSError:
+        return 7
     return status
 
 
+def ended():
+    """The exit status of main; where Python itself fails 8 for want of memory and 70 else, so that it's never an answer's."""
+    try:
+        return main()
+    except MemoryError:
+        return 8
+    except Exception:
+        with contextlib.suppress(Exception):
+            traceback.print_exc()
+        return 70
+
+
 if __name__ == "__main__":
-    sys.exit(main())
+    sys.exit(ended())

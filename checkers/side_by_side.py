@@ -209,18 +209,12 @@ def drawn_rule(draw):
 
 
 def written(tally, count, draw):
-    """The certificates that the program writes: for each rule by each command that it has."""
+    """The certificates that the program writes: for each rule by each command, with weights and without."""
     rules = [str(number) for number in range(256)] + [drawn_rule(draw) for _ in range(count)]
-    has = {words[0] + str(len(words)): tally.call(words)[1] != b"usage error\n"
-           for words in [["certify", "0", "0,1"], ["brief", "0"], ["brief", "0", "0,1"]]}
     for rule in rules:
         k = int(rule.split(":")[0]) if ":" in rule else 2
         weights = ",".join(str(draw.below(256)) for _ in range(k))
-        commands = [["certify", rule]]
-        commands += [["certify", rule, weights]] if has["certify3"] else []
-        commands += [["brief", rule]] if has["brief2"] else []
-        commands += [["brief", rule, weights]] if has["brief3"] else []
-        for words in commands:
+        for words in [[command, rule, *more] for command in ["certify", "brief"] for more in [[], [weights]]]:
             status, output = tally.call(words)
             tally.same(" ".join(words), 0, status)
             yield " ".join(words), output
@@ -298,15 +292,24 @@ def mutated(text, draw):
 
 def scripts(tally):
     words = [sys.executable, ROOT / "checkers" / "judge.py"]
+    both = [words, [tally.program, "check"]]
     for data in [SHIFT.encode(), SHIFT.replace("[3,1,2]", "[3,1]").encode(), b" " * 4_194_305]:
         done = subprocess.run(words, input=data, capture_output=True)
         tally.same("judge.py as a script", (done.returncode, done.stdout), tally.call(["check"], data))
     answers = []
-    for command in [words, [tally.program, "check"]]:
+    for command in both:
         with open(os.devnull, "wb") as unreadable:
             done = subprocess.run(command, stdin=unreadable, capture_output=True)
         answers.append((done.returncode, done.stdout))
     tally.same("an input that can't be read", *answers)
+    for name, path, mode in [("an output that is full", "/dev/full", "wb"), ("one that can't be written", os.devnull, "rb")]:
+        with open(path, mode) as unwritable:
+            ended = [subprocess.run(command, input=SHIFT.encode(), stdout=unwritable).returncode for command in both]
+        tally.same(name, [7, 7], ended)
+    # A fault of Python's own, here that what judges is no function, is never taken for an answer.
+    fault = "import sys, judge; judge.judge = None; sys.exit(judge.ended())"
+    done = subprocess.run([sys.executable, "-c", fault], cwd=ROOT / "checkers", input=b"", capture_output=True)
+    tally.same("a fault of Python's own", (70, b""), (done.returncode, done.stdout))
 
 
 def main():

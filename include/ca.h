@@ -1,7 +1,8 @@
 /*
  * The decider for one-dimensional cellular automata as a C library.
  *
- * ./library builds crates/ca_c/out/libca_c.a and libca_c.so, and prints where they are. The names and
+ * ./library builds libca_c.a and libca_c.so in crates/ca_c/out/library, and prints where they are; ./install
+ * PREFIX puts them below a folder as libca.a and libca.so, with this header and ca.pc for pkg-config. The names and
  * the layouts here are those of crates/ca_c/src/exports.rt, whose contracts say what is proved of the
  * functions. That this header agrees with them is tested and not proved.
  *
@@ -30,27 +31,50 @@ extern "C" {
 /* The version of this interface, which ca_version gives. */
 #define CA_VERSION 1
 
-/* What ca_run gives. With codes up to CA_TOO_LONG there is an output. */
+/* What ca_run gives. With codes up to CA_CODE_TOO_LONG there is an output. */
 enum ca_code {
-    CA_DONE = 0,       /* the command was carried out */
-    CA_REFUSED = 1,    /* check judged the input, and it is no certificate that is accepted */
-    CA_USAGE = 2,      /* the words are no command */
-    CA_RULE_FAULT = 3, /* a rule operand or a shape is refused */
-    CA_NOT_FIT = 4,    /* nothing can be made of the operands as the command asks */
-    CA_TOO_LONG = 5,   /* the input of check has more than 4,194,304 bytes */
-    CA_MEMORY = 8,     /* there was no memory */
-    CA_NO_WORDS = 9,   /* a word isn't UTF-8, or the last has no 0 byte after it */
-    CA_SHORT = 10      /* the buffer is too short for the output */
+    CA_CODE_DONE = 0,       /* the command was carried out */
+    CA_CODE_REFUSED = 1,    /* check judged the input, and it is no certificate that is accepted */
+    CA_CODE_USAGE = 2,      /* the words are no command */
+    CA_CODE_RULE_FAULT = 3, /* a rule operand or a shape is refused */
+    CA_CODE_NOT_FIT = 4,    /* nothing can be made of the operands as the command asks */
+    CA_CODE_TOO_LONG = 5,   /* the input of check has more than 4,194,304 bytes */
+    CA_CODE_MEMORY = 8,     /* there was no memory */
+    CA_CODE_NO_WORDS = 9,   /* a word isn't UTF-8, or the last has no 0 byte after it */
+    CA_CODE_SHORT = 10,     /* the buffer is too short for the output */
+
+    /* Other names of the same, which older programs use. */
+    CA_DONE = CA_CODE_DONE,
+    CA_REFUSED = CA_CODE_REFUSED,
+    CA_USAGE = CA_CODE_USAGE,
+    CA_RULE_FAULT = CA_CODE_RULE_FAULT,
+    CA_NOT_FIT = CA_CODE_NOT_FIT,
+    CA_TOO_LONG = CA_CODE_TOO_LONG,
+    CA_MEMORY = CA_CODE_MEMORY,
+    CA_NO_WORDS = CA_CODE_NO_WORDS,
+    CA_SHORT = CA_CODE_SHORT
 };
 
-/* Why ca_verdicts gives no verdicts: the first that holds. */
+/* Why ca_verdicts or ca_verdict_bytes gives no verdicts: the first that holds. */
 enum ca_fault {
     CA_FAULT_NONE = 0,   /* there are verdicts */
     CA_FAULT_STATES = 1, /* there are not 2 to 16 states */
     CA_FAULT_WIDTH = 2,  /* the width is not 2 to 5 */
     CA_FAULT_NODES = 3,  /* there are more than 16 words of width - 1 letters */
     CA_FAULT_LENGTH = 5, /* the table has not one letter for each window */
-    CA_FAULT_LETTER = 6  /* a letter of the table is not below states */
+    CA_FAULT_LETTER = 6, /* a letter of the table is not below states */
+    CA_FAULT_KIND = 7,   /* there are more than six states, so rules have no numbers */
+    CA_FAULT_NUMBER = 8  /* a number has no rule */
+};
+
+/* What the byte of a rule is the sum of: those that hold, in the words of struct ca_rule_verdicts. */
+enum ca_bit {
+    CA_BIT_SURJECTIVE = 1,
+    CA_BIT_INJECTIVE = 2,
+    CA_BIT_RIGHT = 4,
+    CA_BIT_LEFT = 8,
+    CA_BIT_OPEN = 16,
+    CA_BIT_CONSERVING = 32
 };
 
 /* What holds of a rule. */
@@ -78,11 +102,12 @@ uint32_t ca_version(void);
  *
  * It gives an enum ca_code, and sets *length in every case:
  *
- *   up to CA_TOO_LONG       The output stands in the first *length bytes of output, with no 0 byte after
+ *   up to CA_CODE_TOO_LONG  The output stands in the first *length bytes of output, with no 0 byte after
  *                           it; the other bytes of the buffer are as they were.
- *   CA_SHORT                The output has *length bytes, which is more than room. The buffer is as it
+ *   CA_CODE_SHORT           The output has *length bytes, which is more than room. The buffer is as it
  *                           was. A second call, with room enough, works the output out again.
- *   CA_MEMORY, CA_NO_WORDS  *length is 0, and the buffer is as it was.
+ *   CA_CODE_MEMORY and CA_CODE_NO_WORDS
+ *                           *length is 0, and the buffer is as it was.
  */
 uint8_t ca_run(const uint8_t *words, size_t words_length, const uint8_t *input, size_t input_length,
                uint8_t *output, size_t room, size_t *length);
@@ -96,6 +121,21 @@ uint8_t ca_run(const uint8_t *words, size_t words_length, const uint8_t *input, 
  */
 struct ca_rule_verdicts ca_verdicts(uint8_t states, uint8_t width, const uint8_t *table,
                                     size_t table_length);
+
+/*
+ * Decides the questions of many rules with consecutive numbers, and takes no memory.
+ *
+ * The first number is first_high times 2^64 and first_low, and there are as many rules as bytes. Into byte i
+ * it writes what holds of the rule with the i-th number from the first one on, of these states, this width
+ * and offset 0, as a sum of enum ca_bit. The letter of a rule's table at place v is the digit v of its number
+ * in base states, digit 0 the least significant.
+ *
+ * It gives CA_FAULT_NONE, or CA_FAULT_STATES, CA_FAULT_WIDTH, CA_FAULT_NODES, CA_FAULT_KIND or
+ * CA_FAULT_NUMBER, the first that holds; the bytes are then as they were. Without bytes it gives
+ * CA_FAULT_NONE.
+ */
+uint8_t ca_verdict_bytes(uint8_t states, uint8_t width, uint64_t first_high, uint64_t first_low,
+                         uint8_t *bytes, size_t bytes_length);
 
 #ifdef __cplusplus
 }

@@ -5,10 +5,11 @@
     '01010'
 
 Each command of the program is a function of its name, in foursaspen.commands; docs/PYTHON.md of the repository
-shows them. Answers are frozen dataclasses (foursaspen.report), everything else is an exception
-(foursaspen.faults). The work is done by a library that is proved; this package is not, and only hands over words
-and reads lines.
+shows them, and `verdict_bytes` (foursaspen.bits) decides many rules with consecutive numbers, a byte for each. Answers
+are frozen dataclasses (foursaspen.report), everything else is an exception (foursaspen.faults). The work is done by a
+library that is proved; this package is not, and only hands over words and reads lines.
 """
+from .bits import Bit, verdict_bytes
 from .commands import (brief, certify, check, classes, compose, decide, erase, inverse, language, least, lift, number,
                        orphan, permute, preimage, reflect, run, same, sample, shift, survey, trim, unlift, widen)
 from .drawing import Picture
@@ -24,11 +25,11 @@ from .surveys import Progress, survey_over
 
 __version__ = "2"
 __all__ = [
-    "Answer", "Certificate", "ClassSummary", "Closing", "Fault", "FoursaspenError", "Gap", "Inverse", "Language",
-    "LibraryMissing", "LibraryMissingError", "NotFit", "NotFitError", "Outcome", "OutOfMemory", "OutOfMemoryError",
-    "Pair", "Picture", "Preimage", "Progress", "Refused", "RefusedError", "Report", "Rule", "RuleError", "RuleFault",
-    "Same", "Split", "Summary", "Tail", "TooLong", "TooLongError", "UsageError", "UsageFault", "Verdicts", "Weights", "Window",
-    "WordsError", "WordsFault", "brief", "certify", "check", "classes", "compose", "decide", "erase", "inverse",
-    "language", "least", "lift", "number", "orphan", "permute", "picture", "preimage", "reflect", "run", "same",
-    "sample", "shift", "survey", "survey_over", "trim", "unlift", "widen",
+    "Answer", "Bit", "Certificate", "ClassSummary", "Closing", "Fault", "FoursaspenError", "Gap", "Inverse",
+    "Language", "LibraryMissing", "LibraryMissingError", "NotFit", "NotFitError", "OutOfMemory", "OutOfMemoryError",
+    "Outcome", "Pair", "Picture", "Preimage", "Progress", "Refused", "RefusedError", "Report", "Rule", "RuleError",
+    "RuleFault", "Same", "Split", "Summary", "Tail", "TooLong", "TooLongError", "UsageError", "UsageFault",
+    "Verdicts", "Weights", "Window", "WordsError", "WordsFault", "brief", "certify", "check", "classes", "compose",
+    "decide", "erase", "inverse", "language", "least", "lift", "number", "orphan", "permute", "picture", "preimage",
+    "reflect", "run", "same", "sample", "shift", "survey", "survey_over", "trim", "unlift", "verdict_bytes", "widen",
 ]

@@ -20,6 +20,7 @@ NAME = "libca_c.so"
 HERE = Path(__file__).resolve().parent
 TOP = HERE.parents[1]                           # of the repository, where the package lies in it
 ROOM = 1 << 16                                  # bytes, at first
+WORD = (1 << 64) - 1                            # the greatest number of 64 bits
 
 MEMORY, NO_WORDS, NO_ROOM = 8, 9, 10            # codes that come without an output
 
@@ -46,6 +47,7 @@ class Library:
         try:
             loaded = ctypes.CDLL(str(path))
             self._run = loaded.ca_run
+            self._verdict_bytes = loaded.ca_verdict_bytes
             version = int(loaded.ca_version())
         except (OSError, AttributeError) as fault:
             raise LibraryMissingError(f"the library can't be loaded: {fault}; {ADVICE}") from fault
@@ -54,6 +56,9 @@ class Library:
         text, size = ctypes.c_char_p, ctypes.c_size_t
         self._run.argtypes = [text, size, text, size, text, size, ctypes.POINTER(size)]
         self._run.restype = ctypes.c_uint8
+        byte, word = ctypes.c_uint8, ctypes.c_uint64
+        self._verdict_bytes.argtypes = [byte, byte, word, word, text, size]
+        self._verdict_bytes.restype = byte
         self._rooms = threading.local()
         self.path = path
         keep_freed_memory()
@@ -75,6 +80,12 @@ class Library:
         if code == NO_WORDS:
             raise WordsError("the words aren't UTF-8")
         return Outcome(code, ctypes.string_at(room, length.value))
+
+
+    def verdict_bytes(self, states: int, width: int, first: int, room: ctypes.Array[ctypes.c_char]) -> int:
+        """Fills the room with the bytes of rules with consecutive numbers; gives 0, or the number of the first fault. Other
+        threads run meanwhile."""
+        return int(self._verdict_bytes(states, width, first >> 64, first & WORD, room, len(room)))
 
 
 def keep_freed_memory() -> None:

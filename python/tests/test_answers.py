@@ -10,6 +10,7 @@ import subprocess
 import sys
 import tempfile
 import unittest
+import unittest.mock
 from pathlib import Path
 
 import foursaspen as ca
@@ -93,6 +94,32 @@ class Reports(unittest.TestCase):
         assert isinstance(found, ca.Preimage) and isinstance(gap, ca.Gap)
         self.assertEqual((found.start, found.tail), (-1, ca.Tail("101", "101", "0")))
         self.assertEqual((gap.left, gap.right, gap.word, bool(gap)), (1, 1, "01010", False))
+
+
+class Bytes(unittest.TestCase):
+    def test_counts_of_whole_shapes(self) -> None:
+        """By docs/COMMANDS.md."""
+        for states, width, rules, counts in ((2, 3, 256, (30, 6, 22, 22, 14, 5)), (2, 4, 65536, (582, 16, 314, 314, 46, 22)),
+                                             (3, 2, 19683, (420, 48, 240, 240, 60, 4))):
+            found = ca.verdict_bytes(states, width, 0, rules)
+            self.assertEqual(len(found), rules)
+            self.assertEqual(tuple(sum(byte & bit != 0 for byte in found) for bit in ca.Bit), counts)
+
+    def test_parts_join(self) -> None:
+        with unittest.mock.patch("foursaspen.bits.PART", 100):
+            self.assertEqual(ca.verdict_bytes(2, 4, 40000, 1234), ca.verdict_bytes(2, 4, 40000, 234) + ca.verdict_bytes(2, 4, 40234, 1000))
+        self.assertEqual(ca.verdict_bytes(2, 3, 170, 1), bytes([63]))
+        self.assertEqual(ca.verdict_bytes(2, 3, 7, 0), b"")
+
+    def test_faults(self) -> None:
+        for asked, kind in (((3, 4, 0, 1), "nodes"), ((7, 2, 0, 1), "kind"), ((2, 3, 255, 2), "number"),
+                            ((2, 3, 0, 1 << 128), "number"), ((7, 2, (1 << 128) - 1, 2), "kind")):
+            with self.assertRaises(ca.RuleError) as caught:
+                ca.verdict_bytes(*asked)
+            self.assertEqual((caught.exception.operand, caught.exception.kind), (1, kind))
+        for asked in ((1, 2, 0, 1), (2, 6, 0, 1), (2, 3, -1, 1), (2, 3, 0, -1), (2, 3, 1 << 128, 1)):
+            with self.assertRaises(ca.UsageError):
+                ca.verdict_bytes(*asked)
 
 
 class Faults(unittest.TestCase):

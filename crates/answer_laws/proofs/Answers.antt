@@ -1,5 +1,5 @@
 -- Words have one right output with each status.
-use Rattle.std.proofs.Common.{◌≡◌, ℕ, List, refl, sym, ap, ◌∙◌, subst}
+use Rattle.std.proofs.Common.{◌≡◌, ℕ, List, [], refl, sym, ap, ◌∙◌, subst}
 use Rattle.std.specs.Prelude.{Option, Some, None}
 use Rattle.std.proofs.lemmas.Option.{same_Some}
 use Rattle.word_image.specs.LocalRules.{LocalRule, IsRule}
@@ -19,7 +19,8 @@ use Rattle.ca_cli.specs.declared.words.request.AskOfTwo.{AskOfTwo}
 use Rattle.ca_cli.specs.declared.words.request.AskOfTwo.TheVariants as two
 use Rattle.ca_cli.specs.declared.status.Status.{Status}
 use Rattle.ca_cli.specs.declared.status.Status.TheVariants as status
-use Rattle.ca_cli.specs.Commands.{AskWith, AskOfMany, Command}
+use Rattle.ca_cli.specs.Commands.{AskWith, AskOfMany, Command, IsCommand}
+use Rattle.ca_cli.specs.Readings.{ReadsNothing}
 use Rattle.ca_cli.specs.Outputs.{IsOutput, IsOutputWith, IsOutputOfTwo, IsOutputOfMany, rules_of, rules_fault}
 use Rattle.ca_cli.specs.StatusLines.{operand_fault_line, unfit_line, accepted_lines, refused_line}
 use Rattle.ca_cli.specs.RightAnswers.{IsAnswer, IsOperandFault, IsRight}
@@ -120,3 +121,26 @@ one_output (Right c s out is right) (Usage none) = absurd (none c is)
 one_output (Right c s out is right) (RuleFault d operand f also fault) = one_fault (Right c status.RuleFault out is right) (RuleFault d operand f also fault)
 one_output {left = left} {other = other} (Right c s out is right) (Right d _ _ also right') =
     IsRight-unique right (subst (λ e. IsRight (Some left) e s other) (IsCommand-unique also is) right')
+
+-- what is right for a command that reads nothing is right over an empty input
+over_none : {input : Option (List ℕ)} {c : Command} {s : Status} {out : List ℕ} → ReadsNothing c → IsRight input c s out → IsRight (Some []) c s out
+over_none reads (IsRight.OfRule a text r out says output) = IsRight.OfRule a text r out says output
+over_none reads (IsRight.OfRuleWith a text operand r out says output) = IsRight.OfRuleWith a text operand r out says output
+over_none reads (IsRight.OfTwo a first second r s out says also output) = IsRight.OfTwo a first second r s out says also output
+over_none reads (IsRight.OfMany a k m from count out accepted output) = IsRight.OfMany a k m from count out accepted output
+over_none reads (Unfit c cause unfits) = Unfit c cause unfits
+over_none reads (Accepted bytes v whole accepted are_true) = absurd (reads refl)
+over_none reads (Refused bytes f whole refused) = absurd (reads refl)
+over_none reads (TooLong long) = absurd (reads refl)
+
+-- an answer to words whose command reads nothing is one over an empty input
+answer_over_none : {words : List (List ℕ)} {input : Option (List ℕ)} {s : Status} {out : List ℕ} → ((c : Command) → IsCommand words c → ReadsNothing c)
+    → IsAnswer words input s out → IsAnswer words (Some []) s out
+answer_over_none reads (Usage none) = Usage none
+answer_over_none reads (RuleFault c operand f is fault) = RuleFault c operand f is fault
+answer_over_none reads (Right c s out is right) = Right c s out is (over_none (reads c is) right)
+
+-- words that are no command, or one that reads nothing, have one output with each status, whatever the source tells
+pub one_output_unread : {words : List (List ℕ)} {input : Option (List ℕ)} {s : Status} {out other : List ℕ} → ((c : Command) → IsCommand words c → ReadsNothing c)
+    → IsAnswer words input s out → IsAnswer words input s other → out ≡ other
+one_output_unread reads here there = one_output (answer_over_none reads here) (answer_over_none reads there)

@@ -7,7 +7,8 @@ use Rattle.word_image.specs.LocalRules.{LocalRule, IsRule}
 use Rattle.rule_text.specs.RuleTexts.{by_number}
 use Rattle.rule_text.proofs.laws.AcceptedRules.{IsRule-said}
 use Rattle.rule_classes.proofs.laws.Classes.{IsLeastOfClass-unique}
-use Rattle.ca_cli.specs.Samples.{numbered_rule, survey_rules, survey_fault}
+use Rattle.rule_verdicts.specs.Numbers.{numbered_rule, numbers_fault}
+use Rattle.ca_cli.specs.Samples.{survey_rules}
 use Rattle.ca_cli.specs.Summaries.{count_line}
 use Rattle.ca_cli.specs.ClassSummaries.{AreLeastRules, IsClassSummary}
 use Rattle.ca_cli.proofs.laws.ClassSummaries.{HasLeast}
@@ -16,7 +17,7 @@ use Rattle.answer_laws.proofs.Lists.{length-le_from_contained}
 use Rattle.answer_laws.proofs.Summaries.{IsSummary-unique}
 
 -- the rules of an accepted survey are accepted
-pub IsRule-surveyed : (k m from count : ℕ) → survey_fault k m from count ≡ None → All IsRule (survey_rules k m from count)
+pub IsRule-surveyed : (k m from count : ℕ) → numbers_fault k m from count ≡ None → All IsRule (survey_rules k m from count)
 IsRule-surveyed k m from count none =
     let numbers = range_with_len from count in
     All-map IsRule (numbered_rule k m) numbers (All-from_get_or (λ n. IsRule (numbered_rule k m n)) numbers 0 (λ i within.

@@ -4,7 +4,8 @@ use Rattle.std.proofs.lemmas.Grind.{same_number_lists}
 use Rattle.word_image.specs.LocalRules.{LocalRule, value, word_of}
 use Rattle.word_image.specs.Words.{IsPreimage}
 use Rattle.word_image.proofs.laws.Values.{length-word_of, IsWord-word_of, value-word_of}
-use Rattle.inverse_table.specs.InverseMaps.{WindowMap, IsInverseMap, GivesBack}
+use Rattle.tail_config.specs.InverseMaps.{WindowMap, IsInverseMap}
+use Rattle.inverse_table.specs.InverseMaps.{GivesBack}
 use Rattle.ca_cli.specs.InverseLines.{map_lines, IsMapRule, IsInverse}
 use Rattle.ca_cli.specs.InverseLines.IsMapRule.{Rule, NoRule}
 use Rattle.answer_laws.proofs.Least.{IsLeastDetermined-unique}

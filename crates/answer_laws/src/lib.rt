@@ -8,12 +8,18 @@
 //! The function here does nothing. It carries the law by its contract.
 #![tactic(auto)]
 
-ghost use Rattle.std.specs.Prelude.{◌≡◌, ℕ, List, Some};
+ghost use Rattle.std.specs.Prelude.{◌≡◌, ℕ, List, Option, Some};
 ghost use Rattle.ca_cli.specs.declared.status.Status.{Status};
+ghost use Rattle.ca_cli.specs.Commands.{Command, IsCommand};
+ghost use Rattle.ca_cli.specs.Readings.{ReadsNothing};
 ghost use Rattle.ca_cli.specs.RightAnswers.{IsAnswer};
 
-/// Words have one right output with each status over a source that tells what it has left.
+/// Words have one right output with each status: whatever the source, where they are no command or one that
+/// reads nothing, and for all words over a source that tells what it has left.
 pub fn one_output()
-    ensures { (words : List (List ℕ)) (left : List ℕ) (s : Status) (out other : List ℕ)
+    ensures unread { (words : List (List ℕ)) (input : Option (List ℕ)) (s : Status) (out other : List ℕ)
+        → ((c : Command) → IsCommand words c → ReadsNothing c)
+        → IsAnswer words input s out → IsAnswer words input s other → out ≡ other }
+    ensures told { (words : List (List ℕ)) (left : List ℕ) (s : Status) (out other : List ℕ)
         → IsAnswer words (Some left) s out → IsAnswer words (Some left) s other → out ≡ other }
 {}

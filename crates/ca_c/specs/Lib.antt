@@ -2,3 +2,4 @@ pub mod Blocks
 pub mod Calls
 pub mod Verdicts
 pub mod Examples
+pub mod NumberedVerdicts

@@ -5,8 +5,8 @@ ghost use Rattle.ca_c.specs.Calls.{IsAnswerTo};
 
 use crate::blocks::words;
 use crate::sinks::VecSink;
+use crate::sources::SliceSource;
 use ca_cli::{Status, run};
-use ca_io::PlainSource;
 use std::alloc::{AllocError, Global};
 
 /// Why a call has no answer.
@@ -45,7 +45,7 @@ pub fn call(alloc: Global, block: &[u8], input: &[u8]) -> Result<Answer, CallFau
     ensures none { result ≡ Err CallFault.NoWords → (words : List (List ℕ)) → ¬ AreWords block.now words }
 {
     let words = words(alloc, block)?;
-    let mut source = PlainSource::new(input.to_vec(alloc)?);
+    let mut source = SliceSource::new(input);
     let mut sink = VecSink::new(alloc);
     match run(alloc, &words, &mut source, &mut sink) {
         Status::ReadFault | Status::WriteFault | Status::Memory => Err(CallFault::Memory),

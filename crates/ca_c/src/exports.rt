@@ -1,13 +1,17 @@
 //! The functions that C calls.
-ghost use Rattle.std.specs.Prelude.{◌≡◌, ◌≢◌, ◌<◌, pos};
+ghost use Rattle.std.specs.Prelude.{◌≡◌, ◌≢◌, ◌+◌, ◌*◌, ◌^◌, ◌<◌, ◌≤◌, length, pos};
 ghost use Rattle.word_image.specs.RuleFaults.{rule_fault};
 ghost use Rattle.cert_check.specs.Accepted.{AreTrue, is_open};
 ghost use Rattle.ca_c.specs.Calls.{IsHandedBack};
+ghost use Rattle.rule_verdicts.specs.Numbers.{numbers_fault, AreVerdictBytes};
+ghost use Rattle.ca_c.specs.NumberedVerdicts.{number_code};
 ghost use Rattle.ca_c.specs.Verdicts.{AreNone, fault_code, rule_of_table, verdicts_about};
 
 use crate::calls::{CallFault, call, put};
+use crate::numbered_verdicts::{joined, number_of};
 use crate::table_verdicts::RuleVerdicts;
 use ca_cli::Status;
+use rule_verdicts::verdict_bytes;
 use std::alloc::Global;
 use word_image::Rule;
 
@@ -71,6 +75,7 @@ pub extern "C" fn ca_run(
 #[unsafe(no_mangle)]
 pub extern "C" fn ca_verdicts(states: u8, width: u8, table: &[u8]) -> RuleVerdicts
     ensures fault { result.fault ≡ fault_code (rule_fault states width (pos 0) table.now) }
+    ensures no_offset { result.fault ≢ 4 }
     ensures are_true { result.fault ≡ 0 → AreTrue (verdicts_about (rule_of_table states width table.now) result) }
     ensures both { result.is_open ≡ is_open (verdicts_about (rule_of_table states width table.now) result) }
     ensures none { 0 < result.fault → AreNone result }
@@ -78,5 +83,31 @@ pub extern "C" fn ca_verdicts(states: u8, width: u8, table: &[u8]) -> RuleVerdic
     match Rule::new(states, width, 0, table) {
         Ok(rule) => RuleVerdicts::of(&rule),
         Err(fault) => RuleVerdicts::none(fault),
+    }
+}
+
+/// Decides the questions of the rules with these states and this width, whose windows begin at their
+/// cells, with the numbers from a first one on: as many rules as there are bytes. The first number is
+/// `first_high` times 2^64 and `first_low`. Into byte i it writes what holds of rule i, the sum of 1 for
+/// surjective, 2 for injective, 4 for right, 8 for left, 16 for open and 32 for conserving. It gives 0, or
+/// the number of the first fault, and then the bytes are as they were. It takes no memory.
+#[unsafe(no_mangle)]
+pub extern "C" fn ca_verdict_bytes(
+    states: u8,
+    width: u8,
+    first_high: u64,
+    first_low: u64,
+    bytes: &mut [u8],
+) -> u8
+    ensures done { result ≡ 0 → AreVerdictBytes states width (first_high * 2 ^ 64 + first_low) bytes.new }
+    ensures fault { 1 ≤ length bytes.old → result ≡ number_code (numbers_fault states width (first_high * 2 ^ 64 + first_low) (length bytes.old)) }
+    ensures kept { 0 < result → bytes.new ≡ bytes.old }
+{
+    if bytes.is_empty() {
+        return 0;
+    }
+    match verdict_bytes(states, width, joined(first_high, first_low), bytes) {
+        Ok(()) => 0,
+        Err(fault) => number_of(fault),
     }
 }

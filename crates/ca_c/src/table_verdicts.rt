@@ -3,7 +3,7 @@ ghost use Rattle.std.specs.Prelude.{◌≡◌, Some};
 ghost use Rattle.cert_check.specs.Accepted.{AreTrue, is_open};
 ghost use Rattle.ca_c.specs.Verdicts.{AreNone, fault_code, verdicts_about};
 
-use rule_verdicts::verdicts;
+use rule_verdicts::Truths;
 use word_image::{Rule, RuleFault};
 
 /// The verdicts of a rule, or the number of the fault for which there are none.
@@ -33,15 +33,15 @@ impl RuleVerdicts {
         ensures are_true { AreTrue (verdicts_about rule.now result) }
         ensures both { result.is_open ≡ is_open (verdicts_about rule.now result) }
     {
-        let verdicts = verdicts(rule);
+        let truths = Truths::of(rule);
         RuleVerdicts {
             fault: 0,
-            surjective: verdicts.surjective,
-            injective: verdicts.injective,
-            right: verdicts.right,
-            left: verdicts.left,
-            is_open: verdicts.is_open(),
-            conserving: verdicts.conserving,
+            surjective: truths.surjective,
+            injective: truths.injective,
+            right: truths.right,
+            left: truths.left,
+            is_open: truths.is_open(),
+            conserving: truths.conserving,
         }
     }
 

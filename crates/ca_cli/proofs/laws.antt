@@ -3,6 +3,7 @@ pub mod Inputs
 pub mod Causes
 pub mod RightAnswers
 pub mod Certified
+pub mod CheckAnswers
 pub mod Operands
 pub mod Requests
 pub mod Reports

@@ -1,27 +1,26 @@
--- What is kept for `classes`: the counts, and the least rules with their verdicts.
-use Rattle.std.specs.Prelude.{◌≡◌, ℕ, List, ◌++◌, [], ◌∷◌, map, pos, All, Contains}
+-- What is kept for `classes`: the counts, and what holds of the least rules.
+use Rattle.std.specs.Prelude.{◌≡◌, ℕ, List, ◌++◌, [], ◌∷◌, map, All, Contains}
 use Rattle.word_image.specs.LocalRules.{LocalRule, IsRule, wolfram_number}
-use Rattle.cert_check.specs.Accepted.{AreTrue}
-use Rattle.cert_check.specs.declared.verdicts.Verdicts.{Verdicts}
+use Rattle.rule_verdicts.specs.declared.truths.Truths.{Truths}
+use Rattle.rule_verdicts.specs.Truths.{AreTruths}
+use Rattle.rule_verdicts.specs.Numbers.{numbered_rule}
 use Rattle.ca_cli.specs.declared.commands.class_tally.ClassTally.{ClassTally}
 use Rattle.ca_cli.specs.Tallies.{IsTally}
 use Rattle.ca_cli.specs.ClassSummaries.{AreLeastRules}
 
--- true verdicts of a rule of k states, width m and offset 0, under its number
-pub record IsDecided (k m : ℕ) (entry : ℕ × Verdicts) : Type 0 where
-  pub accepted : IsRule (entry.1).rule
-  pub states : ((entry.1).rule).states ≡ k
-  pub width : ((entry.1).rule).width ≡ m
-  pub offset : ((entry.1).rule).offset ≡ pos 0
-  pub number : entry.0 ≡ wolfram_number (entry.1).rule
-  pub are_true : AreTrue entry.1
+-- the rule of k states, width m and offset 0 that an entry is about
+abbrev pub rule_in : ℕ → ℕ → ℕ × Truths → LocalRule
+rule_in k m entry = numbered_rule k m entry.0
 
 -- the rules that are decided
-abbrev pub rule_in : ℕ × Verdicts → LocalRule
-rule_in entry = (entry.1).rule
+abbrev pub rules_in : ℕ → ℕ → List (ℕ × Truths) → List LocalRule
+rules_in k m entries = map (rule_in k m) entries
 
-abbrev pub rules_in : List (ℕ × Verdicts) → List LocalRule
-rules_in entries = map rule_in entries
+-- what holds of an accepted rule, under its number
+pub record IsDecided (k m : ℕ) (entry : ℕ × Truths) : Type 0 where
+  pub accepted : IsRule (rule_in k m entry)
+  pub number : wolfram_number (rule_in k m entry) ≡ entry.0
+  pub truths : AreTruths (rule_in k m entry) entry.1
 
 -- the list has the rule, as before or at its end
 pub data IsRuleAdded (g : LocalRule) : List LocalRule → List LocalRule → Type 0 where
@@ -32,4 +31,4 @@ pub data IsRuleAdded (g : LocalRule) : List LocalRule → List LocalRule → Typ
 pub record IsClassTally (k m : ℕ) (rules : List LocalRule) (t : ClassTally) : Type 0 where
   pub tally : IsTally rules t.tally
   pub decided : All (IsDecided k m) (t.leasts).entries
-  pub leasts : AreLeastRules rules (rules_in (t.leasts).entries)
+  pub leasts : AreLeastRules rules (rules_in k m (t.leasts).entries)

@@ -5,7 +5,8 @@ use Rattle.word_image.specs.Digits.{word_text}
 use Rattle.word_image.specs.LocalRules.{LocalRule, IsRule}
 use Rattle.word_image.specs.Windows.{IsLeastDetermined}
 use Rattle.tail_config.specs.Tails.{IsInjective}
-use Rattle.inverse_table.specs.InverseMaps.{WindowMap, IsInverseMap, map_rule, GivesBack}
+use Rattle.tail_config.specs.InverseMaps.{WindowMap, IsInverseMap}
+use Rattle.inverse_table.specs.InverseMaps.{map_rule, GivesBack}
 use Rattle.rule_text.specs.PrintedRules.{printed_rule, offset_text}
 use Rattle.ca_cli.specs.Lines.{line}
 

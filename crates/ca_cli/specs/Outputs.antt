@@ -37,7 +37,8 @@ use Rattle.ca_cli.specs.Reports.{IsSurjectiveLine, number_line, IsReport}
 use Rattle.ca_cli.specs.InverseLines.{IsInverse}
 use Rattle.ca_cli.specs.LanguageLines.{IsLanguage, IsSameLine, IsErasedLine}
 use Rattle.ca_cli.specs.PreimageLines.{IsPreimageLine, tail_text}
-use Rattle.ca_cli.specs.Samples.{survey_rules, sample_rules, survey_fault, sample_fault}
+use Rattle.rule_verdicts.specs.Numbers.{numbers_fault}
+use Rattle.ca_cli.specs.Samples.{survey_rules, sample_rules, sample_fault}
 use Rattle.ca_cli.specs.Summaries.{IsSummary}
 use Rattle.ca_cli.specs.ClassSummaries.{IsClassSummary}
 
@@ -91,9 +92,9 @@ rules_of AskOfMany.Classes k m from count = survey_rules k m from count
 
 -- the first fault of a shape of which there are no such rules
 abbrev pub rules_fault : AskOfMany → ℕ → ℕ → ℕ → ℕ → Option TextFault
-rules_fault AskOfMany.Survey k m from count = survey_fault k m from count
+rules_fault AskOfMany.Survey k m from count = numbers_fault k m from count
 rules_fault AskOfMany.Sample k m seed count = sample_fault k m
-rules_fault AskOfMany.Classes k m from count = survey_fault k m from count
+rules_fault AskOfMany.Classes k m from count = numbers_fault k m from count
 
 -- of many rules
 abbrev pub IsOutputOfMany : AskOfMany → List LocalRule → List ℕ → Type 0

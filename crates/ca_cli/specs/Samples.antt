@@ -1,15 +1,12 @@
 -- The rules of `survey` and of `sample`: those with consecutive numbers, and those that a linear congruential generator draws (Knuth 1969).
-use Rattle.std.specs.Prelude.{ℕ, zero, suc, ◌+◌, ◌-◌, ◌*◌, ◌/◌, ◌%◌, ◌^◌, List, [], ◌∷◌, map, pos, Option}
+use Rattle.std.specs.Prelude.{ℕ, zero, suc, ◌+◌, ◌*◌, ◌/◌, ◌%◌, ◌^◌, List, [], ◌∷◌, map, pos, Option}
 use Rattle.std.specs.List.{range_with_len}
-use Rattle.std.specs.Option.{option_map, option_or}
+use Rattle.std.specs.Option.{option_map}
 use Rattle.word_image.specs.LocalRules.{LocalRule}
 use Rattle.word_image.specs.RuleFaults.{shape_fault}
-use Rattle.rule_text.specs.RuleTexts.{by_number, rule_of, in_text, number_fault}
+use Rattle.rule_text.specs.RuleTexts.{in_text}
 use Rattle.rule_text.specs.declared.text_fault.TextFault.{TextFault}
-
--- the rule of k states, width m and offset 0 with this number
-abbrev pub numbered_rule : ℕ → ℕ → ℕ → LocalRule
-numbered_rule k m n = rule_of (by_number k m (pos 0) n)
+use Rattle.rule_verdicts.specs.Numbers.{numbered_rule}
 
 -- the rules with count numbers, from this one on
 abbrev pub survey_rules : ℕ → ℕ → ℕ → ℕ → List LocalRule
@@ -40,7 +37,3 @@ sample_rules k m s (suc count) = drawn_rule k m s ∷ sample_rules k m (state_af
 -- the first fault of the shape of a sample
 abbrev pub sample_fault : ℕ → ℕ → Option TextFault
 sample_fault k m = option_map (in_text 0) (shape_fault k m (pos 0))
-
--- the first fault of a survey of at least one rule: of its shape, then more than six states, then a last number that no table has
-abbrev pub survey_fault : ℕ → ℕ → ℕ → ℕ → Option TextFault
-survey_fault k m from count = option_or (sample_fault k m) (number_fault k m (from + count - 1))

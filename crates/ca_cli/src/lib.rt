@@ -59,6 +59,7 @@ mod words;
 
 pub use status::Status;
 pub use theorems::{
-    certified_is_accepted, one_status, right_exactly, rule_fault_exactly, usage_exactly,
+    certified_is_accepted, check_exactly, done_or_not_fit, one_status, right_exactly,
+    rule_fault_exactly, usage_exactly,
 };
 pub use top_call::run;

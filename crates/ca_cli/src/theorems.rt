@@ -1,14 +1,17 @@
 //! What the relation between words, status and output says, as laws for all commands together: each
 //! is the contract of a function with nothing to run.
-ghost use Rattle.std.specs.Prelude.{◌≡◌, ◌↔◌, ℕ, List, Option, Some};
-ghost use Rattle.cert_check.specs.Accepted.{AreTrue};
+ghost use Rattle.std.specs.Prelude.{◌≡◌, ◌↔◌, ◌+◌, ◌≤◌, ℕ, List, Option, Some, length};
+ghost use Rattle.cert_check.specs.Accepted.{AreTrue, IsAccepted};
+ghost use Rattle.cert_check.specs.Refusals.{IsRefusal};
+ghost use Rattle.cert_check.specs.declared.refusal.Refusal.{Refusal};
 ghost use Rattle.cert_check.specs.declared.verdicts.Verdicts.{Verdicts};
 ghost use Rattle.rule_text.specs.RuleTexts.{IsRuleText};
 ghost use Rattle.rule_text.specs.declared.text_fault.TextFault.{TextFault};
 ghost use Rattle.ca_cli.specs.Commands.{Command, IsCommand};
+ghost use Rattle.ca_cli.specs.Inputs.{most_input};
 ghost use Rattle.ca_cli.specs.Readings.{ReadsNothing};
-ghost use Rattle.ca_cli.specs.StatusLines.{accepted_lines, operand_fault_line, usage_line};
-ghost use Rattle.ca_cli.specs.RightAnswers.{IsAnswer, IsOperandFault, IsRight};
+ghost use Rattle.ca_cli.specs.StatusLines.{accepted_lines, operand_fault_line, refused_line, too_long_line, usage_line};
+ghost use Rattle.ca_cli.specs.RightAnswers.{IsAnswer, IsOperandFault, IsRight, IsUnfit};
 ghost use Rattle.ca_cli.specs.CertificateCommands.{AsksCertificate};
 
 use crate::status::Status;
@@ -46,12 +49,37 @@ pub fn right_exactly()
         → IsAnswer words input s out ↔ IsRight input c s out }
 {}
 
+/// To a command that reads nothing, none of whose operands is refused, no status but NotFit is right where
+/// nothing fits, and none but Done where something does.
+pub fn done_or_not_fit()
+    ensures done { (words : List (List ℕ)) (input : Option (List ℕ)) (c : Command) (s : Status) (out : List ℕ)
+        → IsCommand words c → ReadsNothing c → ((operand : ℕ) (f : TextFault) → ¬ IsOperandFault c operand f)
+        → ((cause : List ℕ) → ¬ IsUnfit c cause) → IsAnswer words input s out → s ≡ Status.Done }
+    ensures not_fit { (words : List (List ℕ)) (input : Option (List ℕ)) (c : Command) (cause : List ℕ) (s : Status) (out : List ℕ)
+        → IsCommand words c → IsUnfit c cause → IsAnswer words input s out → s ≡ Status.NotFit }
+{}
+
+/// Over a source that tells what it has left, `check` has one right answer: Done with the verdicts of an
+/// accepted input, Refused with the reason of one that isn't, and TooLong where there is more than is judged.
+pub fn check_exactly()
+    ensures done { (words : List (List ℕ)) (left : List ℕ) (v : Verdicts) (s : Status) (out : List ℕ)
+        → IsCommand words Command.Check → length left ≤ most_input → IsAccepted left v
+        → IsAnswer words (Some left) s out ↔ ((s ≡ Status.Done) × (out ≡ accepted_lines v)) }
+    ensures refused { (words : List (List ℕ)) (left : List ℕ) (f : Refusal) (s : Status) (out : List ℕ)
+        → IsCommand words Command.Check → length left ≤ most_input → IsRefusal left f
+        → IsAnswer words (Some left) s out ↔ ((s ≡ Status.Refused) × (out ≡ refused_line f)) }
+    ensures too_long { (words : List (List ℕ)) (left : List ℕ) (s : Status) (out : List ℕ)
+        → IsCommand words Command.Check → most_input + 1 ≤ length left
+        → IsAnswer words (Some left) s out ↔ ((s ≡ Status.TooLong) × (out ≡ too_long_line)) }
+{}
+
 /// What `certify` and `brief` write for a rule, with weights or without, `check` accepts: over a source that
-/// tells exactly these bytes, Done is right with the lines of true verdicts on that rule, and nothing else is.
+/// tells exactly these bytes, Done is right with the lines of true verdicts on that rule and these weights,
+/// and nothing else is.
 pub fn certified_is_accepted()
-    ensures { (c : Command) (text out : List ℕ) (input : Option (List ℕ))
-        → AsksCertificate c text → IsRight input c Status.Done out
-        → (v : Verdicts) × IsRuleText text v.rule × AreTrue v
+    ensures { (c : Command) (text out : List ℕ) (weights : ℕ → List ℕ) (input : Option (List ℕ))
+        → AsksCertificate c text weights → IsRight input c Status.Done out
+        → (v : Verdicts) × IsRuleText text v.rule × (v.weights ≡ weights v.rule.states) × AreTrue v
         × ((s : Status) (lines : List ℕ) → IsRight (Some out) Command.Check s lines
         ↔ ((s ≡ Status.Done) × (lines ≡ accepted_lines v))) }
 {}

@@ -1,11 +1,11 @@
 -- A certificate of one version as one of another.
-use Rattle.cert_format.specs.declared.cert_version.CertVersion.TheVariants.{Two}
+use Rattle.cert_format.specs.declared.cert_version.CertVersion.{CertVersion}
 use Rattle.cert_format.specs.Certificates.{Certificate}
 
--- the same certificate as one of version 2
-abbrev pub as_two : Certificate → Certificate
-as_two c = record {
-  version = Two;
+-- the same certificate as one of this version
+abbrev pub in_version : CertVersion → Certificate → Certificate
+in_version version c = record {
+  version = version;
   rule = c.rule;
   surjective = c.surjective;
   injective = c.injective;

@@ -46,5 +46,5 @@ mod windows;
 
 pub use judging::judge;
 pub use refusal::{Refusal, SplitCause, TwinCause};
-pub use theorems::{one_answer, version_2_asks_no_more};
+pub use theorems::{accepted_is_true, later_versions_ask_no_more, one_answer};
 pub use verdicts::Verdicts;

@@ -8,7 +8,7 @@ ghost use Rattle.cert_check.specs.Checks.{IsChecked};
 use crate::conditions::Condition;
 use crate::refusal::Refusal;
 use cert_format::{Cert, SurjectivePart};
-use debruijn::Graph;
+use word_image::{Rule, Side, edge_rows, step};
 
 /// Whether the orphan leads from the full set to the empty one.
 pub fn orphan_read(cert: &Cert) -> Result<(), Refusal>
@@ -17,7 +17,7 @@ pub fn orphan_read(cert: &Cert) -> Result<(), Refusal>
     match &cert.surjective {
         SurjectivePart::Sets(_) | SurjectivePart::Pairs(_) => Ok(()),
         SurjectivePart::Orphan(word) => {
-            if reached(&Graph::of(&cert.rule), word.as_slice()) == 0 {
+            if reached(&cert.rule, word.as_slice()) == 0 {
                 Ok(())
             } else {
                 Err(Refusal::Orphan)
@@ -27,13 +27,14 @@ pub fn orphan_read(cert: &Cert) -> Result<(), Refusal>
 }
 
 /// The set to which a word leads from the full set.
-fn reached(graph: &Graph, word: &[u8]) -> u16
-    requires { IsWord graph.now.states word.now }
-    ensures { LeadsTo graph.now (full_set graph.now) word.now result }
+fn reached(rule: &Rule, word: &[u8]) -> u16
+    requires { IsWord rule.now.states word.now }
+    ensures { LeadsTo rule.now (full_set rule.now) word.now result }
 {
-    let mut set = graph.full();
+    let edges = edge_rows(rule, Side::Right);
+    let mut set = rule.all_nodes();
     for letter in word {
-        set = graph.step(set, *letter);
+        set = step(rule, &edges, set, *letter);
     }
     set
 }

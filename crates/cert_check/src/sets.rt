@@ -2,6 +2,7 @@
 
 ghost use Rattle.std.specs.Prelude.{◌≢◌, ◌<◌, ℕ, List, length, slice_index, MatchOption};
 ghost use Rattle.word_image.specs.Graphs.{full_set};
+ghost use Rattle.word_image.specs.Edges.{AreEdgeRows};
 ghost use Rattle.cert_check.specs.Breaches.{EachBelow, IsFirstBreach};
 ghost use Rattle.cert_check.specs.Sets.{StepIsKept};
 ghost use Rattle.cert_check.specs.Rows.{AreKept};
@@ -11,7 +12,7 @@ use crate::conditions::Condition;
 use crate::marks::Marks;
 use crate::refusal::Refusal;
 use cert_format::{Cert, CertVersion, SurjectivePart};
-use debruijn::Graph;
+use word_image::{EdgeRows, Rule, Side, edge_rows, step};
 
 /// Whether the full set is listed.
 pub fn full_listed(cert: &Cert) -> Result<(), Refusal>
@@ -49,7 +50,8 @@ pub fn closed(cert: &Cert) -> Result<(), Refusal>
 {
     match &cert.surjective {
         SurjectivePart::Sets(sets) => {
-            match first_open(cert.version, &Graph::of(&cert.rule), sets.as_slice()) {
+            let edges = edge_rows(&cert.rule, Side::Right);
+            match first_open(cert.version, &cert.rule, &edges, sets.as_slice()) {
                 Some((place, letter)) => Err(Refusal::NotClosed(place, letter)),
                 None => Ok(()),
             }
@@ -72,19 +74,25 @@ fn first_empty(sets: &[u16]) -> Option<usize>
 
 /// The place of the first set with a step that isn't as the version asks, and the first letter of such a
 /// step.
-fn first_open(version: CertVersion, graph: &Graph, sets: &[u16]) -> Option<(usize, u8)>
+fn first_open(
+    version: CertVersion,
+    rule: &Rule,
+    edges: &EdgeRows,
+    sets: &[u16],
+) -> Option<(usize, u8)>
+    requires { AreEdgeRows Side.Right rule.now edges.now }
     ensures { MatchOption result
-        (EachBelow (length sets.now) (λ i. EachBelow graph.now.states (StepIsKept version graph.now sets.now (slice_index sets.now i))))
-        (λ (i, a). IsFirstBreach (length sets.now) (λ i. EachBelow graph.now.states (StepIsKept version graph.now sets.now (slice_index sets.now i))) i
-        × IsFirstBreach graph.now.states (StepIsKept version graph.now sets.now (slice_index sets.now i)) a) }
+        (EachBelow (length sets.now) (λ i. EachBelow rule.now.states (StepIsKept version rule.now sets.now (slice_index sets.now i))))
+        (λ (i, a). IsFirstBreach (length sets.now) (λ i. EachBelow rule.now.states (StepIsKept version rule.now sets.now (slice_index sets.now i))) i
+        × IsFirstBreach rule.now.states (StepIsKept version rule.now sets.now (slice_index sets.now i)) a) }
 {
-    let kept = Marks::kept(version, graph.full(), sets);
+    let kept = Marks::kept(version, rule.all_nodes(), sets);
     let mut closed = Marks::new();
     for (place, set) in sets.iter().enumerate() {
         if closed.has(*set) {
             continue;
         }
-        if let Some(letter) = first_not_kept(graph, &kept, *set) {
+        if let Some(letter) = first_not_kept(rule, edges, &kept, *set) {
             return Some((place, letter));
         }
         closed.mark(*set);
@@ -93,11 +101,12 @@ fn first_open(version: CertVersion, graph: &Graph, sets: &[u16]) -> Option<(usiz
 }
 
 /// The first letter on which the step of a set isn't marked.
-fn first_not_kept(graph: &Graph, kept: &Marks, set: u16) -> Option<u8>
-    ensures { (version : CertVersion) (sets : List ℕ) → AreKept version (full_set graph.now) sets kept.now.rows → FirstBreach graph.now.states (StepIsKept version graph.now sets set) result }
+fn first_not_kept(rule: &Rule, edges: &EdgeRows, kept: &Marks, set: u16) -> Option<u8>
+    requires { AreEdgeRows Side.Right rule.now edges.now }
+    ensures { (version : CertVersion) (sets : List ℕ) → AreKept version (full_set rule.now) sets kept.now.rows → FirstBreach rule.now.states (StepIsKept version rule.now sets set) result }
 {
-    for letter in 0..graph.k() {
-        if !kept.has(graph.step(set, letter)) {
+    for letter in 0..rule.k() {
+        if !kept.has(step(rule, edges, set, letter)) {
             return Some(letter);
         }
     }

@@ -2,12 +2,13 @@
 ghost use Rattle.std.specs.Prelude.{◌≡◌, ℕ, List};
 ghost use Rattle.cert_format.specs.Certificates.{Certificate};
 ghost use Rattle.cert_check.specs.Conditions.{MeetsConditions};
-ghost use Rattle.cert_check.specs.CertificateVersions.{as_two};
-ghost use Rattle.cert_check.specs.Accepted.{IsAccepted};
+ghost use Rattle.cert_check.specs.CertificateVersions.{in_version};
+ghost use Rattle.cert_check.specs.Accepted.{IsAccepted, AreTrue};
 ghost use Rattle.cert_check.specs.Refusals.{IsRefusal};
 
 use crate::refusal::Refusal;
 use crate::verdicts::Verdicts;
+use cert_format::CertVersion;
 
 /// Bytes are accepted with one list of verdicts at most, or refused for one reason at most, and never
 /// both. By the contract of `judge` they are one of these, unless memory is refused.
@@ -17,7 +18,13 @@ pub fn one_answer()
     ensures never_both { (bytes : List ℕ) (v : Verdicts) (f : Refusal) → IsAccepted bytes v → ¬ IsRefusal bytes f }
 {}
 
-/// What meets the conditions in its version meets them as a certificate of version 2.
-pub fn version_2_asks_no_more()
-    ensures { (c : Certificate) → MeetsConditions c → MeetsConditions (as_two c) }
+/// What is accepted is true, whoever accepts it.
+pub fn accepted_is_true()
+    ensures { (bytes : List ℕ) (v : Verdicts) → IsAccepted bytes v → AreTrue v }
+{}
+
+/// What meets the conditions in its version meets them as a certificate of version 2, and as one of version 3.
+pub fn later_versions_ask_no_more()
+    ensures two { (c : Certificate) → MeetsConditions c → MeetsConditions (in_version CertVersion.Two c) }
+    ensures three { (c : Certificate) → MeetsConditions c → MeetsConditions (in_version CertVersion.Three c) }
 {}

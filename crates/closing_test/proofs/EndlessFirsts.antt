@@ -7,10 +7,12 @@ use Rattle.pair_laws.proofs.BothWays.{some_ahead}
 use Rattle.word_image.specs.declared.side.Side.{Side}
 use Rattle.word_image.specs.Sides.{Together, PairGoes}
 use Rattle.word_image.specs.FirstPairs.{IsFirstOf}
-use Rattle.closing_test.specs.Sides.{IsClosing, IsFound, end_pair}
+use Rattle.tail_laws.specs.FirstWindows.{IsClosing, end_pair}
+use Rattle.closing_test.specs.Sides.{IsFound}
 use Rattle.closing_test.specs.EndlessFirsts.{IsEndlessWith}
-use Rattle.closing_test.proofs.FirstWindows.{IsFirst-ends, first_ends}
-use Rattle.closing_test.proofs.LookAheads.{closing_ahead, end_pair-goes}
+use Rattle.tail_laws.proofs.FirstWindows.{IsFirst-ends, first_ends}
+use Rattle.tail_laws.proofs.EndlessFirsts.{closing_ahead}
+use Rattle.closing_test.proofs.LookAheads.{end_pair-goes}
 
 -- both say that it looks ahead
 closes_exactly : (side : Side) {r : LocalRule} → IsRule r → IsClosing side r ↔ ((p : ℕ) → IsFirstOf side r p → ¬ IsEndless (PairGoes side r p))

@@ -1,4 +1,3 @@
-pub mod FirstWindows
 pub mod LookAheads
 pub mod LeastWalks
 pub mod SplitTails

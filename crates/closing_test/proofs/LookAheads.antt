@@ -10,21 +10,14 @@ use Rattle.word_image.specs.Graphs.{pair_of}
 use Rattle.word_image.specs.Ranks.{IsRank, IsEndless}
 use Rattle.pair_laws.proofs.Pairs.{PairGoes-pair_of, PairGoes-less}
 use Rattle.pair_laws.proofs.BothWays.{ahead_pairs}
-use Rattle.tail_laws.proofs.Certainty.{IsRightClosing-window, IsLeftClosing-window}
+use Rattle.tail_laws.proofs.EndlessFirsts.{closing_ahead}
 use Rattle.word_image.specs.declared.side.Side.{Side}
-use Rattle.word_image.specs.declared.side.Side.TheVariants.{Right, Left}
 use Rattle.word_image.specs.Sides.{seen_from, Together, PairGoes}
 use Rattle.word_image.specs.FirstPairs.{IsFirstOf}
-use Rattle.closing_test.specs.Sides.{end_pair, AreEndNodes, IsFound, IsClosing}
-use Rattle.closing_test.specs.LeastAheads.{IsLeastFor, IsFirstWith, IsFirstAt, HasEndlessFirst}
-use Rattle.closing_test.proofs.FirstWindows.{IsFirst-ends, first_ends}
-
--- What holds on each side
-
--- a rule closes exactly where it looks ahead
-pub closing_ahead : (side : Side) {r : LocalRule} → IsRule r → IsClosing side r ↔ ((n : ℕ) × IsRightAhead (seen_from side r) n)
-closing_ahead Right rule = IsRightClosing-window rule
-closing_ahead Left rule = IsLeftClosing-window rule
+use Rattle.tail_laws.specs.FirstWindows.{end_pair, IsClosing, HasEndlessFirst}
+use Rattle.closing_test.specs.Sides.{AreEndNodes, IsFound}
+use Rattle.closing_test.specs.LeastAheads.{IsLeastFor, IsFirstWith, IsFirstAt}
+use Rattle.tail_laws.proofs.FirstWindows.{IsFirst-ends, first_ends}
 
 -- The least number for some pairs
 
@@ -135,11 +128,3 @@ IsLeastRightAhead-first side {r} {n} rule h = record {
 -- then the rule closes
 pub IsClosing-first : (side : Side) {r : LocalRule} {n : ℕ} → IsRule r → IsLeastFor (IsFirstOf side r) (PairGoes side r) n → IsClosing side r
 IsClosing-first side {n = n} rule h = (closing_ahead side rule).1 (n, (IsLeastRightAhead-first side rule h).ahead)
-
--- with an endless first pair it doesn't look ahead
-pub no_ahead : (side : Side) {r : LocalRule} → IsRule r → HasEndlessFirst side r → (n : ℕ) → ¬ IsRightAhead (seen_from side r) n
-no_ahead side rule h n ahead = ((ahead_pairs side rule n).0 ahead).1 h.0 h.1 (h.2 (n - 1))
-
--- so it doesn't close
-pub not_closing : (side : Side) {r : LocalRule} → IsRule r → HasEndlessFirst side r → ¬ IsClosing side r
-not_closing side rule h closing = let ahead = (closing_ahead side rule).0 closing in no_ahead side rule h ahead.0 ahead.1

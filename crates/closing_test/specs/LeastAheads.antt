@@ -1,11 +1,8 @@
 -- The least look-ahead, said of the first pairs of a side.
 use Rattle.std.specs.Prelude.{◌≡◌, ℕ, ◌+◌, ◌-◌, ◌≤◌}
 use Rattle.word_image.specs.LocalRules.{LocalRule}
-use Rattle.word_image.specs.Ranks.{IsEndless}
 use Rattle.word_image.specs.declared.side.Side.{Side}
-use Rattle.word_image.specs.Sides.{PairGoes}
-use Rattle.word_image.specs.FirstPairs.{IsFirstOf}
-use Rattle.closing_test.specs.Sides.{AreFirst, end_pair}
+use Rattle.tail_laws.specs.FirstWindows.{AreFirst, end_pair}
 
 -- n is the least number from 1 on for which none of these pairs goes on together for n - 1
 pub record IsLeastFor (Among : ℕ → Type 0) (Goes : ℕ → ℕ → Type 0) (n : ℕ) : Type 0 where
@@ -20,7 +17,3 @@ IsFirstWith side r w a p = AreFirst side r w a × (p ≡ end_pair side r w a)
 -- one of these pairs, for some letter
 abbrev pub IsFirstAt : Side → LocalRule → ℕ → ℕ → Type 0
 IsFirstAt side r w p = (a : ℕ) × IsFirstWith side r w a p
-
--- a first pair goes on together for ever
-abbrev pub HasEndlessFirst : Side → LocalRule → Type 0
-HasEndlessFirst side r = (p : ℕ) × IsFirstOf side r p × IsEndless (PairGoes side r p)

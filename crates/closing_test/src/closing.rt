@@ -1,6 +1,6 @@
 //! Whether a rule closes on a side.
 
-ghost use Rattle.std.specs.Prelude.{◌≡◌, IfOk, OnErr};
+ghost use Rattle.std.specs.Prelude.{◌≡◌, IfOk};
 ghost use Rattle.closing_test.specs.Closing.{IsRightAnswer, IsLeftAnswer};
 
 use crate::look_ahead::{ahead_left, ahead_right};
@@ -10,6 +10,7 @@ use pair_graph::Pairs;
 use pair_rank::Ranks;
 use std::alloc::{AllocError, Global};
 use tail_config::Tail;
+use word_image::Rule;
 
 /// Why a rule closes on a side, or why it doesn't.
 #[derive(Debug, Drop)]
@@ -21,17 +22,28 @@ pub enum Closing {
 }
 
 /// The least right look-ahead exactly where the rule is right-closing, else its least normal right
-/// split, in Tails with middles and periods of at most 512 letters. The ranks are those of
-/// the pairs.
+/// split, in Tails with middles and periods of at most 512 letters. The ranks are those of the rule.
 pub fn right(
+    alloc: Global,
+    rule: &Rule,
+    ranks: &Ranks,
+    walker: &mut Walker,
+) -> Result<Closing, AllocError>
+    requires { ranks.now ≡ rule.now }
+    ensures { IfOk result (IsRightAnswer rule.now) }
+{
+    right_over(alloc, &Pairs::of(rule), ranks, walker)
+}
+
+/// What `right` gives of the rule of these pairs, which aren't made again.
+pub fn right_over(
     alloc: Global,
     pairs: &Pairs,
     ranks: &Ranks,
     walker: &mut Walker,
 ) -> Result<Closing, AllocError>
     requires { ranks.now ≡ pairs.now }
-    ensures answer { IfOk result (IsRightAnswer pairs.now) }
-    ensures refused { OnErr result (walker.new ≡ walker.old) }
+    ensures { IfOk result (IsRightAnswer pairs.now) }
 {
     if let Some(ahead) = ahead_right(pairs.rule(), ranks) {
         return Ok(Closing::Ahead(ahead));
@@ -41,17 +53,28 @@ pub fn right(
 }
 
 /// The least left look-ahead exactly where the rule is left-closing, else its least normal left
-/// split, in Tails with middles and periods of at most 512 letters. The ranks are those of
-/// the pairs.
+/// split, in Tails with middles and periods of at most 512 letters. The ranks are those of the rule.
 pub fn left(
+    alloc: Global,
+    rule: &Rule,
+    ranks: &Ranks,
+    walker: &mut Walker,
+) -> Result<Closing, AllocError>
+    requires { ranks.now ≡ rule.now }
+    ensures { IfOk result (IsLeftAnswer rule.now) }
+{
+    left_over(alloc, &Pairs::of(rule), ranks, walker)
+}
+
+/// What `left` gives of the rule of these pairs, which aren't made again.
+pub fn left_over(
     alloc: Global,
     pairs: &Pairs,
     ranks: &Ranks,
     walker: &mut Walker,
 ) -> Result<Closing, AllocError>
     requires { ranks.now ≡ pairs.now }
-    ensures answer { IfOk result (IsLeftAnswer pairs.now) }
-    ensures refused { OnErr result (walker.new ≡ walker.old) }
+    ensures { IfOk result (IsLeftAnswer pairs.now) }
 {
     if let Some(ahead) = ahead_left(pairs.rule(), ranks) {
         return Ok(Closing::Ahead(ahead));

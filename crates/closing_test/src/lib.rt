@@ -37,5 +37,5 @@ mod split;
 mod walks;
 
 pub use closes::{is_left_closing, is_right_closing};
-pub use closing::{Closing, left, right};
+pub use closing::{Closing, left, left_over, right, right_over};
 pub use look_ahead::{ahead_left, ahead_right};

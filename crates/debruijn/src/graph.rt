@@ -4,11 +4,11 @@ ghost use Rattle.std.specs.Prelude.{◌≡◌, ◌<◌, ℕ, List, [], ◌∷◌
 ghost use Rattle.word_image.specs.LocalRules.{IsRule, node_count};
 
 use std::marker::Model;
-use word_image::{EdgeRows, MOST_NODES, Rule, Side, edge_rows};
+use word_image::{EdgeRows, MOST_NODES, Rule, Side, after, edge_rows, step};
 
 /// The de Bruijn graph of a rule, seen as that rule. A node or a set of nodes is looked up in tables
 /// that are made once.
-#[derive(Debug, Drop)]
+#[derive(Clone, Copy, Debug)]
 pub struct Graph {
     // The rule. Its table has the label of each edge, node by node and letter by letter.
     rule: Rule,
@@ -20,12 +20,17 @@ impl Model for Graph {
     ghost use Rattle.word_image.specs.LocalRules.{LocalRule, IsRule};
     ghost use Rattle.word_image.specs.Edges.{AreEdgeRows};
     ghost use Rattle.word_image.specs.declared.side.Side.TheVariants.{Right};
+    ghost use Rattle.debruijn.specs.EdgeTables.{AreRowsOf16, edge_table, edge_table-one};
 
     ghost Value = { LocalRule };
 
     ghost view = { λ g. g.rule };
 
-    ghost invariant = { λ g. IsRule g.rule × AreEdgeRows Right g.rule g.ends };
+    ghost invariant = { λ g. IsRule g.rule × AreEdgeRows Right g.rule g.ends × AreRowsOf16 g.ends };
+
+    ghost inverse = { λ r. record { rule = r; ends = edge_table Right r } };
+
+    ghost inverse_ok = { λ g h i. record { rule = g.rule; ends = edge_table-one h.0 h.1 h.2 i } };
 }
 
 impl Graph {
@@ -118,7 +123,7 @@ impl Graph {
         ensures step { IsStep self.now set a result }
         ensures word { (w : List ℕ) → IsLastSet self.now w set → IsLastSet self.now (w ++ a ∷ []) result }
     {
-        self.after(&self.edges()[usize::from(a)], set)
+        step(&self.rule, &self.ends, set, a)
     }
 
     /// The nodes to which a node of the set is related, where row u is the set of those to which node u is.
@@ -126,12 +131,6 @@ impl Graph {
         requires { AreSets self.now rows.now }
         ensures { IsNodeSet self.now (λ v. (u : ℕ) × (u < node_count self.now) × (IsBitSet set u × HasBit rows.now u v)) result }
     {
-        let mut after = 0;
-        for u in 0..self.nodes() {
-            if set >> u & 1 == 1 {
-                after |= rows[usize::from(u)];
-            }
-        }
-        after
+        after(self.nodes(), rows, set)
     }
 }

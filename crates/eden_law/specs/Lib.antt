@@ -1,3 +1,4 @@
 pub mod Erasures
 pub mod ReachedSearches
 pub mod ReachedRows
+pub mod ZeroEdges

@@ -30,9 +30,13 @@
 #![tactic(auto)]
 
 mod erased;
+mod even;
 mod reached_pairs;
 mod surjective;
+mod zeros;
 
-pub use erased::{Erased, erasable};
+pub use erased::{Erased, erasable, erasable_over};
+pub use even::is_even;
 pub use reached_pairs::reached;
 pub use surjective::is_surjective;
+pub use zeros::is_even_at_zeros;

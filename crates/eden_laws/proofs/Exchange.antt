@@ -1,5 +1,7 @@
--- Either word of an erasable pair may stand for the other in any word, and the image stays.
-use Rattle.std.proofs.Common.{◌≡◌, ℕ, ◌+◌, ◌-◌, ◌<◌, ◌≤◌, List, [], ◌∷◌, ◌++◌, length, map, take, drop, refl, sym, ap, ap₂, ◌∙◌, ⊎_elim, arith, append_assoc}
+-- Either word of an erasable pair may stand for the other in any word and in any configuration, and the image stays.
+use Rattle.std.proofs.Common.{◌≡◌, ℕ, ◌+◌, ◌-◌, ◌<◌, ◌≤◌, List, [], ◌∷◌, ◌++◌, length, map, take, drop, refl, sym, ap, ap₂, ◌∙◌, ⊎_elim, arith, append_assoc, ℤ, pos, ◌+ℤ◌, ◌-ℤ◌, unsigned_abs, subst}
+use Rattle.std.specs.Prelude.{◌<ℤ◌, ◌≤ℤ◌}
+use Rattle.std.proofs.lemmas.Int.{ints}
 use Rattle.std.proofs.lemmas.Bool.{cases_lt}
 use Rattle.std.proofs.lemmas.List.{take_all, take_at, take-append-le, drop-append-le}
 use Rattle.std.proofs.Math.Seq.{take-append-add, drop-append_seam}
@@ -7,6 +9,8 @@ use Rattle.word_image.specs.LocalRules.{LocalRule, IsRule, value, word_of}
 use Rattle.word_image.specs.Words.{image}
 use Rattle.word_image.specs.Erasure.{IsErasable}
 use Rattle.word_image.proofs.laws.Values.{word_of-value}
+use Rattle.tail_config.specs.Configs.{Config, run, image_of}
+use Rattle.tail_config.proofs.laws.Runs.{run-same, same-run, run-append, image-run}
 use Rattle.pair_laws.proofs.Joins.{image-cut}
 use Rattle.word_image.proofs.laws.Searches.{moved, but_cases}
 use Rattle.eden_laws.proofs.Blocks.{spread}
@@ -41,6 +45,30 @@ image-exchange {r} {x} {y} rule h p s =
     image-between rule p x s (omega arith)
     ∙ ap₂ (λ (u v : List ℕ). u ++ v) front (ap₂ (λ (u v : List ℕ). u ++ v) h.one_image back)
     ∙ sym (image-between rule p y s (omega arith))
+
+-- two configurations that have the words of an erasable pair at one place, and equal letters elsewhere, share an image
+pub image_of-exchange : {r : LocalRule} {x y : List ℕ} {f g : Config} → IsRule r → IsErasable r x y → (s : ℤ) → run f s (length x) ≡ x → run g s (length x) ≡ y
+    → ((j : ℤ) → j <ℤ s → f j ≡ g j) → ((j : ℤ) → (s +ℤ pos (length x)) ≤ℤ j → f j ≡ g j) → (j : ℤ) → image_of r f j ≡ image_of r g j
+image_of-exchange {r} {x} {y} {f} {g} rule h s at_f at_g before after j =
+    let wide : 2 ≤ r.width = rule.shape.least_width in
+    let l : ℕ = length x in
+    let a : ℕ = unsigned_abs (j +ℤ r.offset -ℤ s) in
+    let b : ℕ = a + r.width in
+    let n : ℕ = a + l + a + 1 in
+    let i : ℤ = s -ℤ pos a in
+    let o : ℤ = i -ℤ r.offset in
+    let e : ℤ = s +ℤ pos l in
+    let whole : n + (r.width - 1) ≡ a + (l + b) = omega arith in
+    let cut : (z : Config) → run z i (n + (r.width - 1)) ≡ run z i a ++ (run z s l ++ run z e b) = λ z.
+    ap (run z i) whole ∙ run-append z i s a (l + b) (omega (arith, ints)) ∙ ap (λ w. run z i a ++ w) (run-append z s e l b refl) in
+    let same : image r (run f i (n + (r.width - 1))) ≡ image r (run g i (n + (r.width - 1))) =
+    ap (image r) (cut f ∙ ap (λ w. run f i a ++ (w ++ run f e b)) at_f) ∙ image-exchange rule h (run f i a) (run f e b)
+    ∙ ap (image r) (ap₂ (λ (u v : List ℕ). u ++ v) (run-same f g i i a (λ c k. before (i +ℤ pos c) (omega (arith, ints))))
+    (ap₂ (λ (u v : List ℕ). u ++ v) (sym at_g) (run-same f g e e b (λ c k. after (e +ℤ pos c) (omega (arith, ints))))) ∙ sym (cut g)) in
+    let under : o +ℤ r.offset ≡ i = omega (arith, ints) in
+    let here : o +ℤ pos (unsigned_abs (j -ℤ o)) ≡ j = omega (arith, ints) in
+    subst (λ k. image_of r f k ≡ image_of r g k) here
+    (same-run (image_of r f) (image_of r g) o o n (sym (image-run rule f o i n under) ∙ same ∙ image-run rule g o i n under) (unsigned_abs (j -ℤ o)) (omega (arith, ints)))
 
 -- x may stand for every block y at once
 pub image-replaced : {r : LocalRule} {x y : List ℕ} → IsRule r → IsErasable r x y → (p ds s : List ℕ)

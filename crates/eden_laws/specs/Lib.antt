@@ -1,4 +1,5 @@
 pub mod ReachedPairs
 pub mod Preinjective
 pub mod Preimages
+pub mod ZeroPairs
 pub mod Examples

@@ -1,3 +1,4 @@
 pub mod Counter
 pub mod LeastRings
 pub mod FluxRows
+pub mod Differences

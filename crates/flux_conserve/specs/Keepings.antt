@@ -1,5 +1,5 @@
 -- What shows that a rule keeps the sum of every ring, each letter taken by its weight, or that it doesn't.
-use Rattle.std.specs.Prelude.{◌≡◌, ℕ, ◌-◌, List, take, drop, replicate, slice_get, Some, Bool, true, false, ℤ, pos}
+use Rattle.std.specs.Prelude.{◌≡◌, ⊤, ℕ, ◌-◌, ◌*◌, ◌≤◌, List, length, take, drop, replicate, slice_get, Some, Bool, true, false, ℤ, pos}
 use Rattle.word_image.specs.LocalRules.{LocalRule, node_count}
 use Rattle.word_image.specs.Rings.{IsFlux, IsLeastLossyRing}
 use Rattle.flux_conserve.specs.declared.verdict.Keeping.{Keeping}
@@ -21,3 +21,8 @@ has_flux (Ring ring) = false
 abbrev pub IsShown : (ℕ → ℕ) → LocalRule → Keeping → Type 0
 IsShown weight r (Flux row) = IsFluxRow weight r row
 IsShown weight r (Ring ring) = IsLeastLossyRing weight r ring
+
+-- a ring has at most 2 m - 1 letters
+abbrev pub IsShort : LocalRule → Keeping → Type 0
+IsShort r (Flux row) = ⊤
+IsShort r (Ring ring) = length ring ≤ 2 * r.width - 1

@@ -73,3 +73,15 @@ fn flows(rule: &Rule, weights: &Weights, numbers: &[i32], window: u16) -> bool
     let last = numbers[usize::from(Side::Right.end_node(rule, window))];
     i64::from(window_flow(rule, weights, window)) == i64::from(first) - i64::from(last)
 }
+
+/// Whether a window gains what the walk from its first node gains, less what that from its last one
+/// does.
+pub(crate) fn walks_flow(rule: &Rule, weights: &Weights, window: u16) -> bool
+    requires letters { length weights.now ≡ rule.now.states }
+    requires window { window < rule.now.states ^ rule.now.width }
+    ensures { IsTrue result ↔ FlowsAt (slice_index weights.now) rule.now (walk_gains (slice_index weights.now) rule.now) window }
+{
+    let first = walk_flow(rule, weights, Side::Left.end_node(rule, window));
+    let last = walk_flow(rule, weights, Side::Right.end_node(rule, window));
+    i64::from(window_flow(rule, weights, window)) == i64::from(first) - i64::from(last)
+}

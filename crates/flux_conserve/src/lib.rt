@@ -21,9 +21,13 @@
 //! time O(m^2). It takes no memory.
 #![tactic(auto)]
 
+mod conserving;
 mod flows;
+mod means;
 mod rings;
 mod verdict;
 
+pub use conserving::is_conserving;
+pub use means::{has_mean, is_mean, keeps_ends, letter_sum};
 pub use rings::{LONGEST_RING, SmallRing};
 pub use verdict::{Keeping, conserve};

@@ -1,6 +1,6 @@
 //! The first ring that doesn't keep its sum.
 ghost use Rattle.std.specs.Prelude.{◌≡◌, ℕ, ◌+◌, ◌-◌, ◌*◌, ◌^◌, ◌<◌, ◌≤◌, length, slice_index, IfSome, IfNone};
-ghost use Rattle.word_image.specs.LocalRules.{IsWord, value};
+ghost use Rattle.word_image.specs.LocalRules.{IsRule, IsWord, value};
 ghost use Rattle.word_image.specs.Rings.{IsConserving, IsLeastLossyRing};
 ghost use Rattle.flux_conserve.specs.LeastRings.{IsFirstLossyRing, KeepSumAt};
 
@@ -40,11 +40,13 @@ impl SmallRing {
     }
 }
 
-/// The first ring in the order of words that doesn't keep its sum, of a rule that has one.
+/// The first ring in the order of words that doesn't keep its sum, of a rule that has one. It has at most
+/// 2m - 1 letters.
 pub(crate) fn first_lossy_ring(rule: &Rule, weights: &Weights) -> SmallRing
     requires letters { length weights.now ≡ rule.now.states }
     requires lossy { ¬ IsConserving (slice_index weights.now) rule.now }
-    ensures { IsLeastLossyRing (slice_index weights.now) rule.now result }
+    ensures least { IsLeastLossyRing (slice_index weights.now) rule.now result }
+    ensures short { length result ≤ 2 * rule.now.width - 1 }
 {
     for count in 1..2 * rule.m() {
         if let Some(ring) = first_lossy_of(rule, weights, count) {
@@ -61,6 +63,7 @@ pub(crate) fn first_lossy_of(rule: &Rule, weights: &Weights, count: u8) -> Optio
     requires short { count ≤ 9 }
     ensures first { IfSome result (IsFirstLossyRing (slice_index weights.now) rule.now count) }
     ensures none { IfNone result (KeepSumAt (slice_index weights.now) rule.now count) }
+    ensures rule { IsRule rule.now }
 {
     let k = rule.k();
     let long = usize::from(count);

@@ -1,7 +1,7 @@
 //! Whether a rule is conserving, and what shows it.
 ghost use Rattle.std.specs.Prelude.{◌≡◌, ◌↔◌, length, slice_index, IsTrue};
 ghost use Rattle.word_image.specs.Rings.{IsConserving};
-ghost use Rattle.flux_conserve.specs.Keepings.{IsShown, has_flux};
+ghost use Rattle.flux_conserve.specs.Keepings.{IsShown, IsShort, has_flux};
 
 use crate::flows::{is_flux, walk_flows};
 use crate::rings::{SmallRing, first_lossy_of, first_lossy_ring};
@@ -18,11 +18,12 @@ pub enum Keeping {
 
 /// The flux of a rule that has 0 at node 0 exactly where the rule is conserving with these weights of
 /// its letters: where every ring, however long, has the sum of its image. Else the first ring that
-/// hasn't.
+/// hasn't, of at most 2m - 1 letters.
 pub fn conserve(rule: &Rule, weights: &Weights) -> Keeping
     requires { length weights.now ≡ rule.now.states }
     ensures conserving { IsTrue (has_flux result) ↔ IsConserving (slice_index weights.now) rule.now }
     ensures shown { IsShown (slice_index weights.now) rule.now result }
+    ensures short { IsShort rule.now result }
 {
     // Most rules change the sum of a ring of one letter.
     if let Some(ring) = first_lossy_of(rule, weights, 1) {

@@ -59,8 +59,9 @@ pub fn one_least_automaton()
 {}
 
 impl Minimal {
-    /// How many classes there are, from 1 to 65,536.
+    /// How many classes the least automaton has, which there is: from 1 to 65,536.
     pub fn len(&self) -> u32
+        ensures automaton { (a : Automaton) × IsLeastAutomaton self.now a }
         ensures len { (a : Automaton) → IsLeastAutomaton self.now a → result ≡ a.classes }
         ensures some { 1 ≤ result }
         ensures most { result ≤ 65536 }

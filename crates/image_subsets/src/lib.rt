@@ -20,6 +20,7 @@
 #![tactic(auto)]
 
 mod family;
+mod graph_steps;
 mod marks;
 mod masks;
 mod step_tables;
@@ -27,5 +28,6 @@ mod step_tables;
 mod tests;
 
 pub use family::Family;
+pub use graph_steps::{full, step};
 pub use masks::MOST_SETS;
 pub use step_tables::StepTables;

@@ -11,12 +11,15 @@ use Rattle.word_image.specs.Windows.{IsDetermined}
 use Rattle.word_image.proofs.laws.Values.{value-below, value-injective, length-word_of, IsWord-word_of, value-word_of}
 use Rattle.word_image.proofs.laws.Words.{IsWord-image, length-image}
 use Rattle.word_image.proofs.laws.Images.{get_or-image, image-drop, image-take}
+use Rattle.tail_config.specs.Configs.{run, image_of}
 use Rattle.tail_config.specs.Tails.{TailConfig, IsTail, cell, cells, image_cell}
-use Rattle.tail_config.proofs.laws.Cells.{length-cells, get_or-cells, IsWord-cells, image_cells, image-cells}
+use Rattle.tail_config.proofs.laws.Runs.{length-run, get_or-run, IsWord-run, image-run}
+use Rattle.tail_config.proofs.laws.Cells.{cell-below}
 use Rattle.tail_laws.proofs.Injective.{IsInjective-determined}
 use Rattle.eden_laws.proofs.Preinjective.{IsSurjective-injective}
 use Rattle.word_image.proofs.laws.WindowParts.{letter-value}
-use Rattle.inverse_table.specs.InverseMaps.{WindowMap, IsInverseMap, map_letter, GivesBack, map_image}
+use Rattle.tail_config.specs.InverseMaps.{WindowMap, IsInverseMap, map_letter}
+use Rattle.inverse_table.specs.InverseMaps.{GivesBack, map_image}
 use Rattle.inverse_table.specs.MapLimits.{IsWindowMap}
 use Rattle.inverse_table.specs.InverseFaults.{IsApartAt}
 use Rattle.inverse_table.specs.ImageValues.{AreImageValues, AreReadBack, AreUndetermined, letter_by_unit}
@@ -154,18 +157,18 @@ map_letter-image {r} {n} h x word long =
 
 -- so n cells of the image of a configuration give a cell back
 map_letter-cells : {r : LocalRule} {n c : ℕ} {g : WindowMap} → IsRule r → c ≤ n + r.width - 2 → 1 ≤ n → IsInverseMap r n c g → (t : TailConfig) → IsTail r.states t → (i : ℤ)
-    → map_letter g (image_cells r t (i +ℤ g.offset) n) ≡ cell t i
+    → map_letter g (run (image_of r (cell t)) (i +ℤ g.offset) n) ≡ cell t i
 map_letter-cells {r} {n} {c} {g} rule inside some h t tail i =
     let wide = rule.shape.least_width in
     let start : ℤ = i -ℤ pos c in
     let before : i +ℤ g.offset +ℤ r.offset ≡ start = omega (arith, ints, h.offset) in
-    let long : length (image_cells r t (i +ℤ g.offset) n) ≡ n = length-map-range_with_len (λ j. image_cell r t (i +ℤ g.offset +ℤ pos j)) 0 n in
-    h.letter (image_cells r t (i +ℤ g.offset) n) (cells t start (n + (r.width - 1))) long (record {
-      word = IsWord-cells tail start (n + (r.width - 1));
-      long = length-cells t start (n + (r.width - 1)) ∙ ap (λ j. j + (r.width - 1)) (sym long);
-      maps = image-cells rule t (i +ℤ g.offset) start n before;
+    let long : length (run (image_of r (cell t)) (i +ℤ g.offset) n) ≡ n = length-map-range_with_len (λ j. image_cell r t (i +ℤ g.offset +ℤ pos j)) 0 n in
+    h.letter (run (image_of r (cell t)) (i +ℤ g.offset) n) (cells t start (n + (r.width - 1))) long (record {
+      word = IsWord-run (cell-below tail) start (n + (r.width - 1));
+      long = length-run (cell t) start (n + (r.width - 1)) ∙ ap (λ j. j + (r.width - 1)) (sym long);
+      maps = image-run rule (cell t) (i +ℤ g.offset) start n before;
     })
-    ∙ get_or-cells t start i (n + (r.width - 1)) c (omega arith) (omega (arith, ints))
+    ∙ get_or-run (cell t) start i (n + (r.width - 1)) c (omega arith) (omega (arith, ints))
 
 -- n letters of a word from place i on are the image of n + m - 1 letters of a preimage of the word
 IsPreimage-part : {r : LocalRule} {w x : List ℕ} → IsRule r → IsPreimage r w x → (i n : ℕ) → i + n ≤ length w

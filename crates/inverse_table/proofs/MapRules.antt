@@ -11,7 +11,8 @@ use Rattle.std.proofs.lemmas.List.FromFn.{length-map-range_with_len, get_or-map-
 use Rattle.std.proofs.lemmas.List.Elements.{All-map}
 use Rattle.word_image.specs.LocalRules.{LocalRule, IsRule, IsShape, IsWord}
 use Rattle.word_image.specs.RuleFaults.{shape_fault}
-use Rattle.inverse_table.specs.InverseMaps.{WindowMap, map_rule}
+use Rattle.tail_config.specs.InverseMaps.{WindowMap}
+use Rattle.inverse_table.specs.InverseMaps.{map_rule}
 use Rattle.inverse_table.specs.MapLimits.{IsWindowMap, rule_limit_fault}
 
 -- an entry of the map is a letter

@@ -1,29 +1,10 @@
--- The inverse map of a rule over a determined window (Amoroso and Patt 1972), how it gives letters back, and the map as a rule.
-use Rattle.std.specs.Prelude.{◌≡◌, ℕ, ◌+◌, ◌*◌, ◌/◌, ◌^◌, List, length, map, max, slice_index, ◌==◌, if◌then◌else◌, ℤ, pos, neg_ℤ, ◌-ℤ◌, ◌-◌, slice_range, ◌+ℤ◌}
+-- What the inverse map of a determined window gives back, and the map as a rule.
+use Rattle.std.specs.Prelude.{◌≡◌, ℕ, ◌+◌, ◌*◌, ◌/◌, List, length, map, max, slice_index, ◌==◌, if◌then◌else◌, ℤ, pos, ◌-◌, slice_range, ◌+ℤ◌}
 use Rattle.std.specs.List.{range_with_len}
-use Rattle.word_image.specs.LocalRules.{LocalRule, IsWord, value, local_map}
+use Rattle.word_image.specs.LocalRules.{LocalRule, IsWord, local_map}
 use Rattle.word_image.specs.Words.{image, IsPreimage}
+use Rattle.tail_config.specs.InverseMaps.{WindowMap, map_letter}
 use Rattle.tail_config.specs.Tails.{cell, TailConfig, IsTail, image_cell}
-
--- what reads `width` letters of an image from cell i + offset on, and gives a letter for cell i
-pub record WindowMap : Type 0 where
-  pub states : ℕ
-  pub width : ℕ
-  pub offset : ℤ
-  pub table : List ℕ
-
--- what the map gives on a word of `width` letters
-abbrev pub map_letter : WindowMap → List ℕ → ℕ
-map_letter g w = slice_index g.table (value g.states w)
-
--- it gives letter c of every preimage of a word of n letters, and 0 where the word has none
-pub record IsInverseMap (r : LocalRule) (n c : ℕ) (g : WindowMap) : Type 0 where
-  pub states : g.states ≡ r.states
-  pub width : g.width ≡ n
-  pub offset : g.offset ≡ neg_ℤ r.offset -ℤ pos c
-  pub entries : length g.table ≡ r.states ^ n
-  pub letter : (w x : List ℕ) → length w ≡ n → IsPreimage r w x → map_letter g w ≡ slice_index x c
-  pub none : (w : List ℕ) → IsWord r.states w → length w ≡ n → ((x : List ℕ) → ¬ IsPreimage r w x) → map_letter g w ≡ 0
 
 -- the map as a rule: a map that reads one letter is written at width 2, and ignores the second cell
 abbrev pub map_rule : WindowMap → LocalRule

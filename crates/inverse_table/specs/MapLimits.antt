@@ -1,7 +1,7 @@
 -- The maps that there are, and the limits of a map as a rule.
 use Rattle.std.specs.Prelude.{◌≡◌, ◌^◌, ◌≤◌, length, pos, negsuc, ◌≤ℤ◌, ◌-◌, Option, Some, None, nat_lt, ◌||◌, if◌then◌else◌, ◌+ℤ◌, int_lt}
 use Rattle.word_image.specs.LocalRules.{IsWord, LocalRule}
-use Rattle.inverse_table.specs.InverseMaps.{WindowMap}
+use Rattle.tail_config.specs.InverseMaps.{WindowMap}
 use Rattle.word_image.specs.declared.local_rule.RuleFault.{RuleFault}
 use Rattle.word_image.specs.declared.local_rule.RuleFault.TheVariants.{Width, Nodes, Offset}
 

@@ -23,7 +23,7 @@ pub struct InverseMap {
 }
 
 impl Model for InverseMap {
-    ghost use Rattle.inverse_table.specs.InverseMaps.{WindowMap};
+    ghost use Rattle.tail_config.specs.InverseMaps.{WindowMap};
     ghost use Rattle.inverse_table.specs.MapLimits.{IsWindowMap};
 
     ghost Value = { WindowMap };

@@ -2,7 +2,8 @@
 ghost use Rattle.std.specs.Prelude.{◌≡◌, ◌+◌, ◌-◌, ◌^◌, ◌<◌, ◌≤◌, neg_ℤ, ◌-ℤ◌, pos, IfOk, IsOk, MatchResult, SomeIff};
 ghost use Rattle.word_image.specs.LocalRules.{IsRule, word_of};
 ghost use Rattle.word_image.specs.Windows.{IsDetermined};
-ghost use Rattle.inverse_table.specs.InverseMaps.{IsInverseMap, GivesBack};
+ghost use Rattle.tail_config.specs.InverseMaps.{IsInverseMap};
+ghost use Rattle.inverse_table.specs.InverseMaps.{GivesBack};
 ghost use Rattle.inverse_table.specs.InverseFaults.{IsInvFault};
 ghost use Rattle.inverse_table.specs.ImageValues.{AreImageValues};
 ghost use Rattle.inverse_table.specs.declared.tables.InvFault.TheVariants.{Memory};

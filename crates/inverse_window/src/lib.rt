@@ -36,6 +36,6 @@ mod twin_pairs;
 mod verdicts;
 mod windows;
 
-pub use twin_pairs::{TwinPair, twins};
+pub use twin_pairs::{TwinPair, twins, twins_over};
 pub use verdicts::is_injective;
 pub use windows::{WindowAt, window};

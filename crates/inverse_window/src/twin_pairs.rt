@@ -1,5 +1,5 @@
 //! The least twins.
-ghost use Rattle.std.specs.Prelude.{◌≡◌, ◌≤◌, ◌↔◌, ℕ, List, length, IfOk, IfSome, IsNone, MatchOption, OnErr};
+ghost use Rattle.std.specs.Prelude.{◌≡◌, ◌≤◌, ◌↔◌, ℕ, List, length, IfOk, IfSome, IsNone, MatchOption};
 ghost use Rattle.word_image.specs.LocalRules.{IsRule};
 ghost use Rattle.word_image.specs.Graphs.{pair_count};
 ghost use Rattle.word_image.specs.Rings.{IsTwins, IsLeastTwins};
@@ -10,7 +10,7 @@ ghost use Rattle.tail_laws.specs.Turns.{IsTurn};
 use least_walk::{MOST_STEPS, Walker, earlier, spelled};
 use pair_graph::Pairs;
 use std::alloc::{AllocError, Global};
-use word_image::Word;
+use word_image::{Rule, Word};
 
 /// Two different words of one length whose rings have one image.
 #[derive(Debug, Drop)]
@@ -21,9 +21,22 @@ pub struct TwinPair {
     pub y: Word,
 }
 
-/// The least twins of the rule of these pairs; `None` exactly where there are none, which is exactly where the rule is
+/// The least twins of a rule; `None` exactly where there are none, which is exactly where the rule is
 /// injective. Each has at most 512 letters.
 pub fn twins(
+    alloc: Global,
+    rule: &Rule,
+    walker: &mut Walker,
+) -> Result<Option<TwinPair>, AllocError>
+    ensures injective { IfOk result (λ found. IsNone found ↔ IsInjective rule.now) }
+    ensures least { IfOk result (λ found. MatchOption found ((x y : List ℕ) → ¬ IsTwins rule.now x y) (λ pair. IsLeastTwins rule.now pair.x pair.y)) }
+    ensures most { IfOk result (λ found. IfSome found (λ pair. (length pair.x ≤ 512) × (length pair.y ≤ 512))) }
+{
+    twins_over(alloc, &Pairs::of(rule), walker)
+}
+
+/// What `twins` gives of the rule of these pairs, which aren't made again.
+pub fn twins_over(
     alloc: Global,
     pairs: &Pairs,
     walker: &mut Walker,
@@ -31,7 +44,6 @@ pub fn twins(
     ensures injective { IfOk result (λ found. IsNone found ↔ IsInjective pairs.now) }
     ensures least { IfOk result (λ found. MatchOption found ((x y : List ℕ) → ¬ IsTwins pairs.now x y) (λ pair. IsLeastTwins pairs.now pair.x pair.y)) }
     ensures most { IfOk result (λ found. IfSome found (λ pair. (length pair.x ≤ 512) × (length pair.y ≤ 512))) }
-    ensures refused { OnErr result (walker.new ≡ walker.old) }
 {
     match first_turn(alloc, pairs, walker)? {
         Some(steps) => {

@@ -6,6 +6,7 @@ use debruijn::Graph;
 use image_subsets::{Family, MOST_SETS};
 use std::alloc::{AllocError, Global};
 use std::marker::Model;
+use word_image::Rule;
 
 /// What a search came to.
 #[derive(Clone, Copy, Debug, PartialEq, Eq)]
@@ -63,9 +64,17 @@ impl Search {
         })
     }
 
-    /// Decides whether every word has a preimage under the rule of this graph. Each run starts anew, whatever an
-    /// earlier one left.
-    pub fn run(&mut self, graph: &Graph) -> Outcome
+    /// Decides whether every word has a preimage under this rule. Each run starts anew, whatever an earlier
+    /// one left.
+    pub fn run(&mut self, rule: &Rule) -> Outcome
+        ensures verdict { IsVerdict rule.now result self.new }
+        ensures exactly { (result ≡ Outcome.Closed) ↔ IsSurjective rule.now }
+    {
+        self.run_over(&Graph::of(rule))
+    }
+
+    /// What `run` does of the rule of this graph, which isn't made again.
+    pub fn run_over(&mut self, graph: &Graph) -> Outcome
         ensures verdict { IsVerdict graph.now result self.new }
         ensures exactly { (result ≡ Outcome.Closed) ↔ IsSurjective graph.now }
     {

@@ -2,7 +2,6 @@
 //! well known or follow by hand.
 
 use crate::{Outcome, Search};
-use debruijn::Graph;
 use std::test::Fail;
 use word_image::Rule;
 
@@ -20,7 +19,7 @@ fn one_search_decides_rule_after_rule(rt: HostRuntime) -> Result<(), Fail> {
         } else {
             &[0, 1, 0, 1, 0]
         };
-        let outcome = search.run(&Graph::of(&rule));
+        let outcome = search.run(&rule);
         assert!(rt; matches!(outcome, Outcome::Closed) == orphan.is_empty());
         assert_eq!(rt; search.word(), orphan);
         assert!(rt; search.sets().is_empty() != orphan.is_empty());
@@ -34,13 +33,10 @@ fn rule_106_reaches_twelve_sets_whatever_ran_before(rt: HostRuntime) -> Result<(
     let mut search = Search::new(rt.alloc())?;
     // The shift of sixteen states, whose sets have nodes that rule 106 lacks.
     let shift: Vec<u8> = (0..=255u8).map(|window| window % 16).collect(rt.alloc())?;
-    assert_eq!(rt;
-        search.run(&Graph::of(&Rule::new(16, 2, 0, &shift)?)),
-        Outcome::Closed
-    );
+    assert_eq!(rt; search.run(&Rule::new(16, 2, 0, &shift)?), Outcome::Closed);
     assert_eq!(rt; search.word(), [].as_slice());
     let rule = Rule::new(2, 3, -1, &[0, 1, 0, 1, 0, 1, 1, 0])?;
-    assert_eq!(rt; search.run(&Graph::of(&rule)), Outcome::Closed);
+    assert_eq!(rt; search.run(&rule), Outcome::Closed);
     assert_eq!(rt;
         search.sets(),
         [15, 13, 14, 9, 6, 5, 10, 1, 2, 12, 4, 8].as_slice()

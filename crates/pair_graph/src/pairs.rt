@@ -104,6 +104,7 @@ impl Pairs {
         requires first { a < self.now.states }
         requires second { b < self.now.states }
         ensures exactly { (p : ℕ) → (result ≡ Some p) ↔ LeadsBack self.now q a b p }
+        ensures pair { result ≡ follow_on Side.Left self.now q a b }
     {
         self.rule().follow(Side::Left, q, a, b)
     }

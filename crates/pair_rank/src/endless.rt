@@ -33,8 +33,8 @@ impl Model for Endless {
 }
 
 impl Endless {
-    /// The endless pairs of this rule.
-    pub fn of(pairs: &Pairs) -> Endless
+    /// The endless pairs of the rule of these pairs.
+    pub fn over(pairs: &Pairs) -> Endless
         ensures { result ≡ pairs.now }
     {
         Endless {

@@ -27,4 +27,4 @@ mod rounds;
 mod rows;
 
 pub use endless::Endless;
-pub use ranks::Ranks;
+pub use ranks::{Ranks, ranks_are_few};

@@ -1,7 +1,8 @@
 //! The exact ranks of a rule.
 
-ghost use Rattle.std.specs.Prelude.{◌≡◌, ◌<◌, ◌≤◌, IfSome, MatchOption};
-ghost use Rattle.word_image.specs.LocalRules.{IsRule, node_count};
+ghost use Rattle.std.specs.Prelude.{◌≡◌, ℕ, ◌+◌, ◌<◌, ◌≤◌, IfSome, MatchOption};
+ghost use Rattle.word_image.specs.LocalRules.{LocalRule, IsRule, node_count};
+ghost use Rattle.word_image.specs.Graphs.{pair_count};
 ghost use Rattle.word_image.specs.Ranks.{BeginTogether, EndTogether, IsRank, IsEndless};
 ghost use Rattle.word_image.specs.Sides.{Together};
 
@@ -35,8 +36,15 @@ impl Model for Ranks {
 }
 
 impl Ranks {
-    /// The ranks of the rule of these pairs.
-    pub fn of(pairs: &Pairs) -> Ranks
+    /// The ranks of this rule.
+    pub fn of(rule: &Rule) -> Ranks
+        ensures { result ≡ rule.now }
+    {
+        Ranks::over(&Pairs::of(rule))
+    }
+
+    /// The ranks of the rule of these pairs, which aren't made again.
+    pub fn over(pairs: &Pairs) -> Ranks
         ensures { result ≡ pairs.now }
     {
         let (forward, begins) = exact_ranks(pairs, Side::Right);
@@ -102,3 +110,10 @@ impl Ranks {
         self.backward[MOST_NODES * usize::from(u) + usize::from(v)]
     }
 }
+
+/// A rank of two nodes, to either side, is below N (N - 1) for N nodes, so it is at most 239: no two
+/// ranks are of one pair, and none is of a node with itself.
+pub fn ranks_are_few()
+    ensures few { (side : Side) (r : LocalRule) (u v n : ℕ) → IsRule r → IsRank (Together side r u v) n → n + node_count r < pair_count r }
+    ensures most { (side : Side) (r : LocalRule) (u v n : ℕ) → IsRule r → IsRank (Together side r u v) n → n ≤ 239 }
+{}

@@ -5,3 +5,4 @@ pub mod FluxWalks
 pub mod LossyRings
 pub mod FluxWindows
 pub mod SameWeights
+pub mod MeanTables

@@ -1,5 +1,6 @@
 //! The place of a rule in its class.
-ghost use Rattle.std.specs.Prelude.{◌≤◌, ◌↔◌, IfOk, IsOk};
+ghost use Rattle.std.specs.Prelude.{◌≡◌, ◌≤◌, ◌↔◌, Bool, IfOk, IsOk};
+ghost use Rattle.word_image.specs.LocalRules.{LocalRule, IsRule};
 ghost use Rattle.rule_classes.specs.Classes.{IsLeastOfClass};
 ghost use Rattle.rule_classes.specs.ClassVerdicts.{HaveOneVerdict};
 
@@ -48,3 +49,9 @@ pub fn class_of(rule: &Rule) -> Result<ClassPlace, ClassFault>
         mirrored: best.colouring.mirrored,
     })
 }
+
+/// A class has one least rule, which takes the mirrored rule or doesn't.
+pub fn one_least_of_class()
+    ensures rule { (r g h : LocalRule) (a b : Bool) → IsRule r → IsLeastOfClass r a g → IsLeastOfClass r b h → g ≡ h }
+    ensures mirrored { (r g h : LocalRule) (a b : Bool) → IsRule r → IsLeastOfClass r a g → IsLeastOfClass r b h → a ≡ b }
+{}

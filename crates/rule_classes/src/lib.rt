@@ -31,5 +31,5 @@ mod lifts;
 mod members;
 mod search;
 
-pub use classes::{ClassFault, ClassPlace, class_of};
+pub use classes::{ClassFault, ClassPlace, class_of, one_least_of_class};
 pub use lifts::{LiftFault, lift, unlift};

@@ -7,3 +7,4 @@ pub mod Letters
 pub mod Numbers
 pub mod Printed
 pub mod AcceptedRules
+pub mod Beginnings

@@ -84,6 +84,10 @@ IsNoKind b = (b ≢ 116) × (b ≢ 119)
 abbrev pub IsRuleFormAt : List ℕ → TextFault → (ℕ → Type 0) → Type 0
 IsRuleFormAt text f P = (place : ℕ) × (f ≡ fault.Form place) × (place ≤ length text) × P place
 
+-- it is one of form
+abbrev pub IsForm : TextFault → Type 0
+IsForm f = (place : ℕ) × (f ≡ fault.Form place)
+
 -- the entries that digits of this kind make
 abbrev pub entries_of : Kind → List ℕ → Entries
 entries_of kind.Table digits = Table (map letter_at digits)

@@ -1,7 +1,7 @@
 //! The head of a text: what stands before its entries.
 ghost use Rattle.std.specs.Prelude.{IfOk, IfErr};
 ghost use Rattle.rule_text.specs.RuleTexts.{IsTextFault};
-ghost use Rattle.rule_text.specs.Heads.{IsHead};
+ghost use Rattle.rule_text.specs.Heads.{IsForm, IsHead};
 
 use crate::parts::{field, kind, offset};
 use crate::text_fault::TextFault;
@@ -34,6 +34,7 @@ pub struct Head {
 pub fn read_head(text: &[u8]) -> Result<Head, TextFault>
     ensures head { IfOk result (λ h. IsHead text.now h) }
     ensures fault { IfErr result (λ f. IsTextFault text.now f) }
+    ensures form { IfErr result IsForm }
 {
     let Ok((k, place)) = field(text, 0) else {
         return Ok(Head {

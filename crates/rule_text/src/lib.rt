@@ -17,11 +17,14 @@
 //! So a call takes **O(n + k^m)** time for a text of n bytes, and no memory; `print` makes the text of
 //! its rule.
 //!
+//! `parse_beginning` reads the beginning of a table text, which stands for all rules whose table begins so.
+//!
 //! `numbered` makes the rule of a shape and a number that are no text, and `check_shape` has the faults
 //! of the shape alone. `is_decimal`, `decimal_number` and `decimal_offset` read the decimal operands of
 //! commands.
 #![tactic(auto)]
 
+mod beginnings;
 mod decimals;
 mod digits;
 mod head;
@@ -31,6 +34,7 @@ mod printing;
 mod text_fault;
 mod wolfram_numbers;
 
+pub use beginnings::{Beginning, parse_beginning};
 pub use decimals::{decimal_number, decimal_offset, is_decimal};
 pub use parsing::parse;
 pub use printing::{number, print, printed_text_is_read};

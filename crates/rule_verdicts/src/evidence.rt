@@ -10,7 +10,7 @@ ghost use Rattle.certificate_laws.specs.WrittenCertificates.{HasWrittenParts};
 
 use crate::parts::{first_orphan, injective_part, side_part, sum_part, surjective_part};
 use cert_format::{Cert, CertVersion, InjectivePart, SidePart, SumPart};
-use closing_test::{left, right};
+use closing_test::{left_over, right_over};
 use least_walk::Walker;
 use pair_graph::Pairs;
 use pair_rank::Ranks;
@@ -70,15 +70,15 @@ impl Evidence {
     {
         have_eight_bits(weights.as_slice());
         let pairs = Pairs::of(rule);
-        let ranks = Ranks::of(&pairs);
+        let ranks = Ranks::over(&pairs);
         let mut walker = Walker::new(alloc)?;
         Ok(Evidence {
             rule: *rule,
             weights: *weights,
             orphan: first_orphan(alloc, pairs.graph())?,
             injective: injective_part(alloc, &pairs, &ranks, &mut walker)?,
-            right: side_part(right(alloc, &pairs, &ranks, &mut walker)?),
-            left: side_part(left(alloc, &pairs, &ranks, &mut walker)?),
+            right: side_part(right_over(alloc, &pairs, &ranks, &mut walker)?),
+            left: side_part(left_over(alloc, &pairs, &ranks, &mut walker)?),
             conserving: sum_part(alloc, rule, weights)?,
             ranks,
         })

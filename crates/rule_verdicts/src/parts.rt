@@ -15,7 +15,7 @@ use closing_test::Closing;
 use debruijn::Graph;
 use eden_law::{is_surjective, reached};
 use flux_conserve::{Keeping, SmallRing, conserve};
-use inverse_window::{twins, window};
+use inverse_window::{twins_over, window};
 use least_walk::Walker;
 use orphan_search::Search;
 use pair_graph::Pairs;
@@ -38,7 +38,7 @@ pub(crate) fn first_orphan(alloc: Global, graph: &Graph) -> Result<Option<Word>,
         return Ok(None);
     }
     let mut search = Search::new(alloc)?;
-    search.run(graph);
+    search.run_over(graph);
     Ok(Some(Word::of(search.word().to_vec(alloc)?)))
 }
 
@@ -49,7 +49,7 @@ pub fn injectivity(alloc: Global, rule: &Rule) -> Result<InjectivePart, AllocErr
     ensures most { IfOk result (λ part. HasShortWindow (injective_of part)) }
 {
     let pairs = Pairs::of(rule);
-    let ranks = Ranks::of(&pairs);
+    let ranks = Ranks::over(&pairs);
     let mut walker = Walker::new(alloc)?;
     injective_part(alloc, &pairs, &ranks, &mut walker)
 }
@@ -68,7 +68,7 @@ pub(crate) fn injective_part(
     if let Some(at) = window(pairs.rule(), ranks) {
         return Ok(InjectivePart::Window { n: at.n, c: at.c });
     }
-    match twins(alloc, pairs, walker)? {
+    match twins_over(alloc, pairs, walker)? {
         Some(pair) => Ok(InjectivePart::Twins {
             x: pair.x,
             y: pair.y,
@@ -159,6 +159,6 @@ fn covers(alloc: Global, graph: &Graph) -> Result<SetList, AllocError>
     ensures { IfOk result (IsCoverList graph.now) }
 {
     let mut search = Search::new(alloc)?;
-    search.run(graph);
+    search.run_over(graph);
     Ok(SetList::of(search.cover().to_vec(alloc)?))
 }

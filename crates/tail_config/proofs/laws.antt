@@ -1,3 +1,4 @@
+pub mod Runs
 pub mod Cells
 pub mod Differences
 pub mod Periods

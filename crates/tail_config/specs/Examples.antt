@@ -1,8 +1,10 @@
 -- Worked examples: cells, image cells, mirrors, texts and faults done by hand, which the check computes.
-use Rattle.std.specs.Prelude.{◌≡◌, ℕ, List, [], ◌∷◌, map, codes, replicate, refl, pos, negsuc, ◌+ℤ◌, Some, None}
+use Rattle.std.specs.Prelude.{◌≡◌, ℕ, List, [], ◌∷◌, map, codes, replicate, refl, pos, negsuc, ◌+ℤ◌, ℤ, ◌==◌, if◌then◌else◌, Some, None}
 use Rattle.std.specs.List.{range_with_len}
 use Rattle.word_image.specs.LocalRules.{LocalRule}
+use Rattle.tail_config.specs.Configs.{Config, run, image_of}
 use Rattle.tail_config.specs.Tails.{TailConfig, cell, cells, image_cell, mirror_of}
+use Rattle.tail_config.specs.InverseMaps.{mapped}
 use Rattle.tail_config.specs.TailValues.{config_of}
 use Rattle.tail_config.specs.TailTexts.{printed}
 use Rattle.tail_config.specs.TailFaults.{tail_fault}
@@ -17,10 +19,39 @@ rule30 = record { states = 2; width = 3; offset = negsuc 0; table = 0 ∷ 1 ∷ 
 abbrev rule90 : LocalRule
 rule90 = record { states = 2; width = 3; offset = negsuc 0; table = 0 ∷ 1 ∷ 0 ∷ 1 ∷ 1 ∷ 0 ∷ 1 ∷ 0 ∷ [] }
 
+-- each cell takes the letter to its right: the text 2:2:0:t0101
+abbrev left_shift : LocalRule
+left_shift = record { states = 2; width = 2; offset = pos 0; table = 0 ∷ 1 ∷ 0 ∷ 1 ∷ [] }
+
 -- the cells of 011|01|0 at the places -3 to 2
 
 cells-row : cells (config_of (0 ∷ 1 ∷ 1 ∷ []) (0 ∷ 1 ∷ []) (0 ∷ [])) (negsuc 2) 6 ≡ 0 ∷ 1 ∷ 1 ∷ 0 ∷ 1 ∷ 0 ∷ []
 cells-row = refl
+
+-- a configuration with periodic tails as a function: its cells are the letters of runs, and its image is the function's
+
+cells-run : (t : TailConfig) (i : ℤ) (n : ℕ) → cells t i n ≡ run (cell t) i n
+cells-run t i n = refl
+
+image_cell-image_of : (r : LocalRule) (t : TailConfig) (i : ℤ) → image_cell r t i ≡ image_of r (cell t) i
+image_cell-image_of r t i = refl
+
+-- all zeros and one 1 at place 0, as a function: under rule 90 its two neighbours become 1
+
+abbrev one_in_zeros : Config
+one_in_zeros (pos i) = if i == 0 then 1 else 0
+one_in_zeros (negsuc i) = 0
+
+run-one : run one_in_zeros (negsuc 1) 5 ≡ 0 ∷ 0 ∷ 1 ∷ 0 ∷ 0 ∷ []
+run-one = refl
+
+image_of-one : run (image_of rule90 one_in_zeros) (negsuc 1) 5 ≡ 0 ∷ 1 ∷ 0 ∷ 1 ∷ 0 ∷ []
+image_of-one = refl
+
+-- the shift to the right by one place undoes the shift to the left: what it makes of that configuration's image
+
+mapped-one : run (mapped (record { states = 2; width = 1; offset = negsuc 0; table = 0 ∷ 1 ∷ [] }) (image_of left_shift one_in_zeros)) (negsuc 1) 5 ≡ 0 ∷ 0 ∷ 1 ∷ 0 ∷ 0 ∷ []
+mapped-one = refl
 
 -- 0|1011|1 and 0|1100|0, the least normal right split of rule 30: their cells differ at place 1 first, and under rule 90
 -- the image cells at place 0 do

@@ -1,3 +1,4 @@
+pub mod Configs
 pub mod Tails
 pub mod LeftSplits
 pub mod Splits
@@ -6,4 +7,5 @@ pub mod TailValues
 pub mod TailFaults
 pub mod Differences
 pub mod TailTextFaults
+pub mod InverseMaps
 pub mod Examples

@@ -14,9 +14,10 @@ use Rattle.word_image.specs.Sides.{PairGoes}
 use Rattle.pair_laws.proofs.Ranks.{BeginTogether-walk, EndTogether-walk}
 use Rattle.pair_laws.proofs.Pairs.{pair_of-first_of}
 use Rattle.pair_laws.proofs.Endless.{Loops-long}
-use Rattle.tail_config.specs.Tails.{TailConfig, IsTail, Different, cells}
+use Rattle.tail_config.specs.Tails.{TailConfig, IsTail, Different, cells, cell}
 use Rattle.tail_config.specs.Splits.{IsNormalRightSplit}
-use Rattle.tail_config.proofs.laws.Cells.{cells-same, cells-middle, take-cells}
+use Rattle.tail_config.proofs.laws.Runs.{run-same, take-run}
+use Rattle.tail_config.proofs.laws.Cells.{cells-middle}
 use Rattle.tail_config.proofs.laws.Decisions.{Different-from_not_same}
 use Rattle.tail_laws.proofs.Nodes.{node_at, node_at-below}
 use Rattle.search_laws.specs.PairWalks.{LetterPairStep}
@@ -90,7 +91,7 @@ Different-nodes {r} {x} {y} rule hx hy i u v hv other e =
     let nodes = same_from_place (node_at r x i) (node_at r y i) u v (node_count r) (node_at-below rule hy i) hv e in
     let start : ℤ = i -ℤ pos (r.width - 1) in
     Different-from_not_same hx hy (λ same.
-    other (sym nodes.0 ∙ ap (value r.states) (cells-same x y start start (r.width - 1) (λ a l. same (start +ℤ pos a))) ∙ nodes.1))
+    other (sym nodes.0 ∙ ap (value r.states) (run-same (cell x) (cell y) start start (r.width - 1) (λ a l. same (start +ℤ pos a))) ∙ nodes.1))
 
 -- the configuration with two words between its periods
 IsTail-words : {k : ℕ} {x z : List ℕ} (v w : List ℕ) → IsWord k x → IsWord k v → IsWord k w → IsWord k z → 0 < length x → 0 < length z → IsTail k (record { left = x; middle = v ++ w; right = z })
@@ -124,7 +125,7 @@ has_twins-both_ways {r} {u} {v} rule other back on =
     subst (λ ab. PairLeads r (pair_of r from.s from.t) ab (pair_of r to.s to.t)) (sym (zip-append way.a out.a way.b out.b ins))
     (Walk-join (LetterPairStep (follow r)) (zip way.a way.b) (zip out.a out.b) (pair_of r from.s from.t) (pair_of r u v) (pair_of r to.s to.t) way.leads out.leads) in
     let prefix : (t : TailConfig) (a c : List ℕ) → t.middle ≡ a ++ c → length a ≡ from.k → cells t (pos 0) from.k ≡ a = λ t a c e long.
-    sym (take-cells t (pos 0) (length t.middle) from.k (omega (arith, ap length e, length-append a c))) ∙ ap (take from.k) (cells-middle t ∙ e) ∙ take_at a c from.k long in
+    sym (take-run (cell t) (pos 0) (length t.middle) from.k (omega (arith, ap length e, length-append a c))) ∙ ap (take from.k) (cells-middle t ∙ e) ∙ take_at a c from.k long in
     let inside : PairLeads r (pair_at r x y (pos 0)) (zip (cells x (pos 0) from.k) (cells y (pos 0) from.k)) (pair_of r u v) =
     subst₂ (λ p ab. PairLeads r p ab (pair_of r u v)) (sym (pair_at-loop rule hx hy lefts from.s from.t start.0 start.1 before.leads))
     (sym (ap₂ (λ (a b : List ℕ). zip a b) (prefix x way.a out.a refl way.a_long) (prefix y way.b out.b refl way.b_long))) way.leads in

@@ -22,3 +22,5 @@ pub mod LeastSplits
 pub mod MarkedTurns
 pub mod FirstLists
 pub mod LeastTwins
+pub mod FirstWindows
+pub mod EndlessFirsts

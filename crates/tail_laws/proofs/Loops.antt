@@ -4,7 +4,7 @@ use Rattle.std.specs.Prelude.{◌<ℤ◌}
 use Rattle.std.proofs.lemmas.Int.{ints, by_lt_z}
 use Rattle.word_image.specs.LocalRules.{LocalRule, IsRule, value, local_map}
 use Rattle.tail_config.specs.Tails.{TailConfig, IsTail, ShareImage, cell}
-use Rattle.tail_config.proofs.laws.Cells.{cells-same, same-cells}
+use Rattle.tail_config.proofs.laws.Runs.{run-same, same-run}
 use Rattle.tail_config.proofs.laws.Periods.{RepeatsRight, at_run, same_right-period}
 use Rattle.tail_config.proofs.laws.Repeats.{cell-right_period}
 use Rattle.tail_laws.proofs.Nodes.{node_at, label_over, same_nodes, ShareImage-labels}
@@ -20,7 +20,7 @@ looped-cells r {t} h loop i l =
     let n : ℕ = length t.right in
     let start : ℤ = pos m -ℤ pos (r.width - 1) in
     let later : ℤ = pos (m + n) -ℤ pos (r.width - 1) in
-    let same = same-cells t t start later (r.width - 1) (same_nodes r h h (pos m) (pos (m + n)) loop) in
+    let same = same-run (cell t) (cell t) start later (r.width - 1) (same_nodes r h h (pos m) (pos (m + n)) loop) in
     let turn : (a : ℕ) → a < r.width - 1 → cell t (start +ℤ pos a) ≡ cell t (start +ℤ pos a +ℤ pos n) = λ a k.
     let place : later +ℤ pos a ≡ start +ℤ pos a +ℤ pos n = omega (arith, ints) in
     same a k ∙ ap (cell t) place in
@@ -33,7 +33,7 @@ IsLooped-cells r t repeats =
     let n : ℕ = length t.right in
     let start : ℤ = pos m -ℤ pos (r.width - 1) in
     let later : ℤ = pos (m + n) -ℤ pos (r.width - 1) in
-    ap (value r.states) (cells-same t t start later (r.width - 1) (λ a l.
+    ap (value r.states) (run-same (cell t) (cell t) start later (r.width - 1) (λ a l.
     let place : start +ℤ pos a +ℤ pos n ≡ later +ℤ pos a = omega (arith, ints) in
     sym (repeats (start +ℤ pos a) (omega (arith, ints))) ∙ ap (cell t) place))
 
@@ -42,7 +42,7 @@ pub looped-labels : {r : LocalRule} {t : TailConfig} → IsRule r → IsTail r.s
 looped-labels {r} {t} rule h loop i l =
     let n : ℕ = length t.right in
     let m : ℕ = r.width - 1 in
-    ap (local_map r) (cells-same t t (i +ℤ pos n -ℤ pos m) (i -ℤ pos m) r.width (λ a k.
+    ap (local_map r) (run-same (cell t) (cell t) (i +ℤ pos n -ℤ pos m) (i -ℤ pos m) r.width (λ a k.
     let place : i +ℤ pos n -ℤ pos m +ℤ pos a ≡ i -ℤ pos m +ℤ pos a +ℤ pos n = omega (arith, ints) in
     ap (cell t) place ∙ looped-cells r h loop (i -ℤ pos m +ℤ pos a) (omega (arith, ints))))
 
@@ -55,7 +55,7 @@ pub record IsInStep (r : LocalRule) (x y : TailConfig) : Type 0 where
 -- equal cells left of place 0 give equal labels there
 pub labels-left : (r : LocalRule) (x y : TailConfig) → ((i : ℤ) → i <ℤ pos 0 → cell x i ≡ cell y i) → (i : ℤ) → i <ℤ pos 0 → label_over r x i ≡ label_over r y i
 labels-left r x y left i l =
-    ap (local_map r) (cells-same x y (i -ℤ pos (r.width - 1)) (i -ℤ pos (r.width - 1)) r.width (λ a k. left (i -ℤ pos (r.width - 1) +ℤ pos a) (omega (arith, ints))))
+    ap (local_map r) (run-same (cell x) (cell y) (i -ℤ pos (r.width - 1)) (i -ℤ pos (r.width - 1)) r.width (λ a k. left (i -ℤ pos (r.width - 1) +ℤ pos a) (omega (arith, ints))))
 
 -- configurations that go in step, and have equal labels left of place 0, share an image
 pub ShareImage-in_step : {r : LocalRule} {x y : TailConfig} → IsRule r → IsTail r.states x → IsTail r.states y

@@ -6,7 +6,8 @@ use Rattle.std.proofs.lemmas.Int.{ints, by_lt_z}
 use Rattle.word_image.specs.LocalRules.{LocalRule, IsRule}
 use Rattle.word_image.specs.Rings.{IsRing, IsTwins}
 use Rattle.tail_config.specs.Tails.{TailConfig, IsTail, Same, Different, ShareImage, AgreeLeft, AgreeRight, IsInjective, cell, cells, image_cell}
-use Rattle.tail_config.proofs.laws.Cells.{length-cells, get_or-cells, IsWord-cells, image_cell-window}
+use Rattle.tail_config.proofs.laws.Runs.{length-run, get_or-run, IsWord-run, image_of-window}
+use Rattle.tail_config.proofs.laws.Cells.{cell-below}
 use Rattle.tail_config.proofs.laws.Decisions.{Different-from_not_same, agree_left_or_not, agree_right_or_not}
 use Rattle.tail_config.proofs.laws.Periods.{RepeatsLeft, RepeatsRight, repeats-mod, right_from, left_from}
 use Rattle.tail_config.specs.Differences.{most_middle}
@@ -20,15 +21,15 @@ HasTwins r = (x : List ℕ) × (y : List ℕ) × IsTwins r x y
 
 -- a run of cells is a ring
 IsRing-cells : {k : ℕ} {t : TailConfig} → IsTail k t → (i : ℤ) (n : ℕ) → 1 ≤ n → IsRing k (cells t i n)
-IsRing-cells {k} {t} h i n some = record { word = IsWord-cells h i n; some = omega (arith, length-cells t i n) }
+IsRing-cells {k} {t} h i n some = record { word = IsWord-run (cell-below h) i n; some = omega (arith, length-run (cell t) i n) }
 
 -- two runs of one length are twins if the configurations that repeat them are different, and their image cells are equal on a turn
 twins_of_runs : {r : LocalRule} {x y : TailConfig} → IsTail r.states x → IsTail r.states y → (i : ℤ) (n : ℕ) → 1 ≤ n
     → Different (round (cells x i n)) (round (cells y i n)) → (start : ℤ)
     → ((d : ℕ) → d < n → image_cell r (round (cells x i n)) (start +ℤ pos d) ≡ image_cell r (round (cells y i n)) (start +ℤ pos d)) → HasTwins r
 twins_of_runs {r} {x} {y} hx hy i n some differ start turn =
-    let first : length (cells x i n) ≡ n = length-cells x i n in
-    let long : length (cells x i n) ≡ length (cells y i n) = first ∙ sym (length-cells y i n) in (
+    let first : length (cells x i n) ≡ n = length-run (cell x) i n in
+    let long : length (cells x i n) ≡ length (cells y i n) = first ∙ sym (length-run (cell y) i n) in (
       cells x i n,
       cells y i n,
       record {
@@ -43,15 +44,15 @@ twins_of_runs {r} {x} {y} hx hy i n some differ start turn =
 -- a ring that is cut from a run has its cells
 cell-run : (t : TailConfig) (i : ℤ) (n j : ℕ) → j < n → cell (round (cells t i n)) (pos j) ≡ cell t (i +ℤ pos j)
 cell-run t i n j l =
-    cell-round (cells t i n) (pos j) ∙ ap (λ m. slice_index (cells t i n) (j % m)) (length-cells t i n)
-    ∙ ap (slice_index (cells t i n)) (mod-eq_of_lt {n = j} l) ∙ get_or-cells t i (i +ℤ pos j) n j l refl
+    cell-round (cells t i n) (pos j) ∙ ap (λ m. slice_index (cells t i n) (j % m)) (length-run (cell t) i n)
+    ∙ ap (slice_index (cells t i n)) (mod-eq_of_lt {n = j} l) ∙ get_or-run (cell t) i (i +ℤ pos j) n j l refl
 
 -- a ring that is cut where the cells repeat has all of them from there on
 cell-run_right : (t : TailConfig) (i : ℤ) (n : ℕ) → 1 ≤ n → RepeatsRight n (cell t) i → (j : ℤ) → pos 0 ≤ℤ j → cell (round (cells t i n)) j ≡ cell t (i +ℤ j)
 cell-run_right t i n some repeats (negsuc j) l = absurd (omega (arith, ints))
 cell-run_right t i n some repeats (pos j) l =
-    cell-round (cells t i n) (pos j) ∙ ap (λ m. slice_index (cells t i n) (j % m)) (length-cells t i n)
-    ∙ get_or-cells t i (i +ℤ pos (j % n)) n (j % n) (mod-lt j some) refl ∙ repeats-mod (λ d. cell t (i +ℤ pos d)) n some (right_from n (cell t) i repeats) j
+    cell-round (cells t i n) (pos j) ∙ ap (λ m. slice_index (cells t i n) (j % m)) (length-run (cell t) i n)
+    ∙ get_or-run (cell t) i (i +ℤ pos (j % n)) n (j % n) (mod-lt j some) refl ∙ repeats-mod (λ d. cell t (i +ℤ pos d)) n some (right_from n (cell t) i repeats) j
 
 -- and a ring that is cut left of place 0 has all of them there
 cell-run_left : (t : TailConfig) (n : ℕ) → 1 ≤ n → RepeatsLeft n (cell t) (pos 0) → (j : ℤ) → j <ℤ pos 0 → cell (round (cells t (neg_ℤ (pos n)) n)) j ≡ cell t j
@@ -61,8 +62,8 @@ cell-run_left t n some repeats (negsuc j) l =
     let within : j % n < n = mod-lt j some in
     let first : i +ℤ pos (n - 1 - j % n) ≡ pos 0 +ℤ negsuc (j % n) = omega (arith, ints) in
     let last : pos 0 +ℤ negsuc j ≡ negsuc j = omega (arith, ints) in
-    ap (λ m. slice_index (cells t i n) (m - 1 - j % m)) (length-cells t i n)
-    ∙ get_or-cells t i (pos 0 +ℤ negsuc (j % n)) n (n - 1 - j % n) (omega arith) first
+    ap (λ m. slice_index (cells t i n) (m - 1 - j % m)) (length-run (cell t) i n)
+    ∙ get_or-run (cell t) i (pos 0 +ℤ negsuc (j % n)) n (n - 1 - j % n) (omega arith) first
     ∙ repeats-mod (λ d. cell t (pos 0 +ℤ negsuc d)) n some (left_from n (cell t) (pos 0) repeats) j ∙ ap (cell t) last
 
 -- rings that are cut from runs differ, if they aren't the same
@@ -78,7 +79,7 @@ twins_right {r} {x} {y} hx hy share apart =
     let at_x : (j : ℤ) → pos 0 ≤ℤ j → cell (round (cells x i n)) j ≡ cell x (i +ℤ j) = cell-run_right x i n some (right_turns x y).0 in
     let at_y : (j : ℤ) → pos 0 ≤ℤ j → cell (round (cells y i n)) j ≡ cell y (i +ℤ j) = cell-run_right y i n some (right_turns x y).1 in
     let window : (t : TailConfig) → ((j : ℤ) → pos 0 ≤ℤ j → cell (round (cells t i n)) j ≡ cell t (i +ℤ j)) → (j : ℤ) → neg_ℤ r.offset ≤ℤ j → image_cell r (round (cells t i n)) j ≡ image_cell r t (i +ℤ j) =
-    λ t at j l. image_cell-window r (round (cells t i n)) t j (i +ℤ j) (λ a h.
+    λ t at j l. image_of-window r (cell (round (cells t i n))) (cell t) j (i +ℤ j) (λ a h.
     let place : i +ℤ (j +ℤ r.offset +ℤ pos a) ≡ i +ℤ j +ℤ r.offset +ℤ pos a = omega (arith, ints) in
     at (j +ℤ r.offset +ℤ pos a) (omega (arith, ints)) ∙ ap (cell t) place) in
     twins_of_runs hx hy i n some
@@ -101,7 +102,7 @@ twins_left {r} {x} {y} hx hy share apart =
     let at_y : (j : ℤ) → j <ℤ pos 0 → cell (round (cells y i n)) j ≡ cell y j = cell-run_left y n some (left_turns x y).1 in
     let start : ℤ = neg_ℤ (r.offset +ℤ pos (r.width + n)) in
     let window : (t : TailConfig) → ((j : ℤ) → j <ℤ pos 0 → cell (round (cells t i n)) j ≡ cell t j) → (d : ℕ) → d < n → image_cell r (round (cells t i n)) (start +ℤ pos d) ≡ image_cell r t (start +ℤ pos d) =
-    λ t at d l. image_cell-window r (round (cells t i n)) t (start +ℤ pos d) (start +ℤ pos d) (λ a h. at (start +ℤ pos d +ℤ r.offset +ℤ pos a) (omega (arith, ints))) in
+    λ t at d l. image_of-window r (cell (round (cells t i n))) (cell t) (start +ℤ pos d) (start +ℤ pos d) (λ a h. at (start +ℤ pos d +ℤ r.offset +ℤ pos a) (omega (arith, ints))) in
     twins_of_runs hx hy i n some
     (Different-runs hx hy i n some (λ same. apart (pos 0, λ j l. sym (at_x j l) ∙ same j ∙ at_y j l)))
     start (λ d l. window x at_x d l ∙ share (start +ℤ pos d) ∙ sym (window y at_y d l))
@@ -117,7 +118,7 @@ record HaveEqualEnds (x y : TailConfig) (i : ℤ) (n d : ℕ) : Type 0 where
 cell-seam : (t : TailConfig) (i : ℤ) (n a : ℕ) → n ≤ a → a < n + n → cell (round (cells t i n)) (pos a) ≡ cell t (i +ℤ pos (a - n))
 cell-seam t i n a low high =
     let w : List ℕ = cells t i n in
-    let long : length w ≡ n = length-cells t i n in
+    let long : length w ≡ n = length-run (cell t) i n in
     let place : pos a ≡ pos (a - n) +ℤ pos (length w) = omega (arith, ints) in
     ap (cell (round w)) place ∙ cell-round_period w (omega arith) (pos (a - n)) ∙ cell-run t i n (a - n) (omega arith)
 
@@ -138,12 +139,12 @@ turn-ends {r} rule x y i n ends share k within =
     let some : 1 ≤ n = ends.some in
     let start : ℤ = neg_ℤ r.offset in
     let inside : (t : TailConfig) → k + d < n → image_cell r (round (cells t i n)) (start +ℤ pos k) ≡ image_cell r t (i +ℤ (start +ℤ pos k)) = λ t l.
-    image_cell-window r (round (cells t i n)) t (start +ℤ pos k) (i +ℤ (start +ℤ pos k)) (λ a h.
+    image_of-window r (cell (round (cells t i n))) (cell t) (start +ℤ pos k) (i +ℤ (start +ℤ pos k)) (λ a h.
     let new : start +ℤ pos k +ℤ r.offset +ℤ pos a ≡ pos (k + a) = omega (arith, ints) in
     let old : i +ℤ pos (k + a) ≡ i +ℤ (start +ℤ pos k) +ℤ r.offset +ℤ pos a = omega (arith, ints) in
     ap (cell (round (cells t i n))) new ∙ cell-run t i n (k + a) (omega arith) ∙ ap (cell t) old) in
     ⊎_elim (λ h. inside x h ∙ share (i +ℤ (start +ℤ pos k)) ∙ sym (inside y h))
-    (λ h. image_cell-window r (round (cells x i n)) (round (cells y i n)) (start +ℤ pos k) (start +ℤ pos k) (λ a b.
+    (λ h. image_of-window r (cell (round (cells x i n))) (cell (round (cells y i n))) (start +ℤ pos k) (start +ℤ pos k) (λ a b.
     let new : start +ℤ pos k +ℤ r.offset +ℤ pos a ≡ pos (k + a) = omega (arith, ints) in
     ap (cell (round (cells x i n))) new ∙ seam_cells x y i n d ends (k + a) (omega arith) (omega arith) ∙ sym (ap (cell (round (cells y i n))) new)))
     (cases_lt (k + d) n)

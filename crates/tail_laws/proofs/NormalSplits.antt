@@ -5,7 +5,8 @@ use Rattle.std.proofs.lemmas.Int.{ints, by_lt_z}
 use Rattle.word_image.specs.LocalRules.{LocalRule, IsRule, local_map}
 use Rattle.tail_config.specs.Tails.{TailConfig, IsTail, ShareImage, Different, IsRightSplit, IsRightClosing, cell, cells}
 use Rattle.tail_config.specs.Splits.{IsNormalRightSplit}
-use Rattle.tail_config.proofs.laws.Cells.{IsWord-zero, length-cells, cells-same, same_left_part}
+use Rattle.tail_config.proofs.laws.Runs.{length-run, run-same}
+use Rattle.tail_config.proofs.laws.Cells.{IsWord-zero, same_left_part}
 use Rattle.tail_laws.proofs.Middles.{recut, IsTail-recut, cell-recut}
 use Rattle.tail_config.proofs.laws.Periods.{RepeatsRight}
 use Rattle.tail_config.specs.Differences.{most_middle}
@@ -33,14 +34,14 @@ cell-zeroed d n p t turn repeats i j l e =
 -- runs of these cells are runs of d places before
 cells-zeroed : (d n p : ℕ) (t : TailConfig) → 1 ≤ p → RepeatsRight p (cell t) (pos n) → (i j : ℤ) (m : ℕ) → pos 0 ≤ℤ i → j +ℤ pos d ≡ i → cells (zeroed d n p t) i m ≡ cells t j m
 cells-zeroed d n p t turn repeats i j m l e =
-    cells-same (zeroed d n p t) t i j m (λ a h. cell-zeroed d n p t turn repeats (i +ℤ pos a) (j +ℤ pos a) (omega (arith, ints)) (omega (arith, ints)))
+    run-same (cell (zeroed d n p t)) (cell t) i j m (λ a h. cell-zeroed d n p t turn repeats (i +ℤ pos a) (j +ℤ pos a) (omega (arith, ints)) (omega (arith, ints)))
 
 -- the right period leads back to the node at which it begins
 IsLooped-zeroed : (r : LocalRule) (n p : ℕ) (t : TailConfig) → 1 ≤ p → RepeatsRight p (cell t) (pos n) → IsLooped r (zeroed (r.width - 1) n p t)
 IsLooped-zeroed r n p t turn repeats =
     let d : ℕ = r.width - 1 in
-    let long : length (zeroed d n p t).middle ≡ d + n + d = length-cells t (neg_ℤ (pos d)) (d + n + d) in
-    let round : length (zeroed d n p t).right ≡ p = length-cells t (neg_ℤ (pos d) +ℤ pos (d + n + d)) p in
+    let long : length (zeroed d n p t).middle ≡ d + n + d = length-run (cell t) (neg_ℤ (pos d)) (d + n + d) in
+    let round : length (zeroed d n p t).right ≡ p = length-run (cell t) (neg_ℤ (pos d) +ℤ pos (d + n + d)) p in
     IsLooped-cells r (zeroed d n p t) (λ i l.
     let above : pos (d + n) ≤ℤ i = omega (arith, ints) in
     cell-zeroed d n p t turn repeats (i +ℤ pos (length (zeroed d n p t).right)) (i -ℤ pos d +ℤ pos p) (omega (arith, ints)) (omega (arith, ints))
@@ -71,7 +72,7 @@ ShareImage-zeroed {r} rule n p x y turn fx fy left share =
     let wide : 2 ≤ r.width = rule.shape.least_width in
     ShareImage-labels r (zeroed d n p x) (zeroed d n p y) (λ i.
     by_lt_z i (pos d)
-    (λ l. ap (local_map r) (cells-same (zeroed d n p x) (zeroed d n p y) (i -ℤ pos d) (i -ℤ pos d) r.width (λ a h.
+    (λ l. ap (local_map r) (run-same (cell (zeroed d n p x)) (cell (zeroed d n p y)) (i -ℤ pos d) (i -ℤ pos d) r.width (λ a h.
     zeroed-same d n p x y turn fx fy left (i -ℤ pos d +ℤ pos a) (omega (arith, ints)))))
     (λ l. label_over-zeroed r n p x turn fx i (i -ℤ pos d) l (omega (arith, ints)) ∙ labels-ShareImage r x y share (i -ℤ pos d)
     ∙ sym (label_over-zeroed r n p y turn fy i (i -ℤ pos d) l (omega (arith, ints)))))
@@ -109,8 +110,8 @@ normal_split {r} {x} {y} rule s =
         };
         first = IsSettled-looped first refl (IsLooped-zeroed r n p x turn fx);
         second = IsSettled-looped second refl (IsLooped-zeroed r n p y turn fy);
-        middles = length-cells x start (d + n + d) ∙ sym (length-cells y start (d + n + d));
-        rights = length-cells x (start +ℤ pos (d + n + d)) p ∙ sym (length-cells y (start +ℤ pos (d + n + d)) p);
+        middles = length-run (cell x) start (d + n + d) ∙ sym (length-run (cell y) start (d + n + d));
+        rights = length-run (cell x) (start +ℤ pos (d + n + d)) p ∙ sym (length-run (cell y) (start +ℤ pos (d + n + d)) p);
       },
     )
 

@@ -9,7 +9,8 @@ use Rattle.word_image.specs.Graphs.{next, label, pair_of, follow}
 use Rattle.search_laws.specs.Walks.{Walk}
 use Rattle.search_laws.specs.PairWalks.{LetterPairStep}
 use Rattle.tail_config.specs.Tails.{TailConfig, IsTail, ShareImage, cell, cells}
-use Rattle.tail_config.proofs.laws.Cells.{cells-cons, cells-middle, cells-right, same_left_part}
+use Rattle.tail_config.proofs.laws.Runs.{run-cons}
+use Rattle.tail_config.proofs.laws.Cells.{cells-middle, cells-right, same_left_part}
 use Rattle.pair_laws.proofs.Pairs.{first_of-pair_of, second_of-pair_of, follow-pair_of, follow-some}
 use Rattle.tail_laws.proofs.Nodes.{node_at, label_over, node_at-below, label-node_at, next-node_at, labels-ShareImage}
 use Rattle.tail_laws.proofs.Loops.{IsLooped, IsInStep, labels-left, ShareImage-in_step}
@@ -42,7 +43,7 @@ over_step {r} {x} {y} rule hx hy i s e =
 
 -- the letter pairs of two runs begin with the pair of their first cells
 zip-cells : (x y : TailConfig) (i : ℤ) (n : ℕ) → zip (cells x i (suc n)) (cells y i (suc n)) ≡ (cell x i, cell y i) ∷ zip (cells x (i +ℤ pos 1) n) (cells y (i +ℤ pos 1) n)
-zip-cells x y i n = ap₂ (λ (u v : List ℕ). zip u v) (cells-cons x i n) (cells-cons y i n)
+zip-cells x y i n = ap₂ (λ (u v : List ℕ). zip u v) (run-cons (cell x) i n) (run-cons (cell y) i n)
 
 -- two runs whose labels are equal lead from the pair before them to the pair after them
 pub PairLeads-cells : {r : LocalRule} {x y : TailConfig} → IsRule r → IsTail r.states x → IsTail r.states y → (n : ℕ) (i j : ℤ) → i +ℤ pos n ≡ j
@@ -84,7 +85,7 @@ IsInStep-walk {r} {x} {y} rule hx hy middles rights q reach loop =
     subst₂ (λ (u v : List ℕ). PairLeads r (pair_at r x y (pos 0)) (zip u v) q) (sym (cells-middle x)) (sym (ap (cells y (pos 0)) middles ∙ cells-middle y)) reach in
     let first = cells-PairLeads rule hx hy m (pos 0) (pos m) q (omega (arith, ints)) through in
     let round : PairLeads r q (zip (cells x (pos m) n) (cells y (pos m) n)) q =
-    subst₂ (λ (u v : List ℕ). PairLeads r q (zip u v) q) (sym (cells-right hx)) (sym (ap₂ (λ a b. cells y (pos a) b) middles rights ∙ cells-right hy)) loop in
+    subst₂ (λ (u v : List ℕ). PairLeads r q (zip u v) q) (sym (cells-right x)) (sym (ap₂ (λ a b. cells y (pos a) b) middles rights ∙ cells-right y)) loop in
     let second = cells-PairLeads rule hx hy n (pos m) (pos (m + n)) q (omega (arith, ints)) (subst (λ p. PairLeads r p (zip (cells x (pos m) n) (cells y (pos m) n)) q) (sym first.1) round) in
     let back = same_from_place (node_at r x (pos m)) (node_at r y (pos m)) (node_at r x (pos (m + n))) (node_at r y (pos (m + n))) (node_count r)
     (node_at-below rule hy (pos m)) (node_at-below rule hy (pos (m + n))) (first.1 ∙ sym second.1) in
@@ -118,6 +119,6 @@ walk-ShareImage {r} {x} {y} rule hx hy middles rights loop_x loop_y share =
     let back : pair_at r x y (pos (m + n)) ≡ pair_at r x y (pos m) = ap₂ (pair_of r) (sym loop_x) (sym back_y) in (
       pair_at r x y (pos m),
       subst₂ (λ (u v : List ℕ). PairLeads r (pair_at r x y (pos 0)) (zip u v) (pair_at r x y (pos m))) (cells-middle x) (ap (cells y (pos 0)) middles ∙ cells-middle y) through,
-      subst₂ (λ (u v : List ℕ). PairLeads r (pair_at r x y (pos m)) (zip u v) (pair_at r x y (pos m))) (cells-right hx) (ap₂ (λ a b. cells y (pos a) b) middles rights ∙ cells-right hy)
+      subst₂ (λ (u v : List ℕ). PairLeads r (pair_at r x y (pos m)) (zip u v) (pair_at r x y (pos m))) (cells-right x) (ap₂ (λ a b. cells y (pos a) b) middles rights ∙ cells-right y)
           (subst (λ p. PairLeads r (pair_at r x y (pos m)) (zip (cells x (pos m) n) (cells y (pos m) n)) p) back round),
     )

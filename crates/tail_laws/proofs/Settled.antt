@@ -3,13 +3,13 @@ use Rattle.std.proofs.Common.{◌≡◌, ℕ, ◌+◌, ◌-◌, ◌%◌, List, [
 use Rattle.std.specs.List.{zip}
 use Rattle.std.proofs.lemmas.Int.{ints}
 use Rattle.std.proofs.lemmas.List.{length-replicate, get_or-replicate}
-use Rattle.std.proofs.lemmas.List.FromFn.{fill_by_all}
 use Rattle.word_image.specs.LocalRules.{LocalRule, IsRule, value}
 use Rattle.word_image.specs.Graphs.{pair_of}
 use Rattle.word_image.proofs.laws.Values.{value-zeros}
 use Rattle.tail_config.specs.Tails.{TailConfig, IsTail, Same, cell, cells}
 use Rattle.tail_config.specs.Splits.{last_letters, IsSettled, IsNormalRightSplit}
-use Rattle.tail_config.proofs.laws.Cells.{length-cells, cells-same, cells-middle, cells-right, drop-cells, same_left_part, cells-append}
+use Rattle.tail_config.proofs.laws.Runs.{length-run, run-by_letters, run-same, drop-run, run-append}
+use Rattle.tail_config.proofs.laws.Cells.{cells-middle, cells-right, same_left_part}
 use Rattle.tail_laws.proofs.Nodes.{node_at, same_nodes}
 use Rattle.tail_laws.proofs.Loops.{IsLooped, IsInStep}
 use Rattle.tail_laws.proofs.PairLeads.{PairLeads, pair_at, IsInStep-walk, ShareImage-walk, walk-ShareImage}
@@ -18,8 +18,8 @@ use Rattle.tail_config.proofs.laws.Decisions.{Different-from_not_same}
 -- the last letters of a run are a run
 pub last_letters-cells : (t : TailConfig) (i j : ℤ) (a n : ℕ) → i +ℤ pos a ≡ j → last_letters n (cells t i (a + n)) ≡ cells t j n
 last_letters-cells t i j a n e =
-    let place : length (cells t i (a + n)) - n ≡ a = omega (arith, length-cells t i (a + n)) in
-    ap (λ b. drop b (cells t i (a + n))) place ∙ drop-cells t i j a n e
+    let place : length (cells t i (a + n)) - n ≡ a = omega (arith, length-run (cell t) i (a + n)) in
+    ap (λ b. drop b (cells t i (a + n))) place ∙ drop-run (cell t) i j a n e
 
 -- where the left period is the letter 0 the cells left of place 0 are zeros
 cell-zero : (t : TailConfig) → t.left ≡ 0 ∷ [] → (i : ℕ) → cell t (negsuc i) ≡ 0
@@ -30,7 +30,7 @@ cell-zero t e i =
 -- and so are runs of them
 pub cells-zeros : (t : TailConfig) (n : ℕ) → t.left ≡ 0 ∷ [] → cells t (neg_ℤ (pos n)) n ≡ replicate n 0
 cells-zeros t n e =
-    sym (fill_by_all (λ a. cell t (neg_ℤ (pos n) +ℤ pos a)) (replicate n 0) n 0 (length-replicate n 0) (λ a l.
+    sym (run-by_letters (cell t) (neg_ℤ (pos n)) n (replicate n 0) (length-replicate n 0) (λ a l.
     let place : neg_ℤ (pos n) +ℤ pos a ≡ negsuc (n - 1 - a) = omega (arith, ints) in
     let here : cell t (neg_ℤ (pos n) +ℤ pos a) ≡ 0 = ap (cell t) place ∙ cell-zero t e (n - 1 - a) in
     rw here (get_or-replicate n a 0 0 l)))
@@ -38,12 +38,12 @@ cells-zeros t n e =
 -- the word of n zeros and the middle is a run
 zeros-middle : (t : TailConfig) (n : ℕ) → t.left ≡ 0 ∷ [] → replicate n 0 ++ t.middle ≡ cells t (neg_ℤ (pos n)) (n + length t.middle)
 zeros-middle t n e =
-    sym (cells-append t (neg_ℤ (pos n)) (pos 0) n (length t.middle) (omega (arith, ints)) ∙ ap₂ (λ (u v : List ℕ). u ++ v) (cells-zeros t n e) (cells-middle t))
+    sym (run-append (cell t) (neg_ℤ (pos n)) (pos 0) n (length t.middle) (omega (arith, ints)) ∙ ap₂ (λ (u v : List ℕ). u ++ v) (cells-zeros t n e) (cells-middle t))
 
 -- and so is that word with the right period
-zeros-right : {k : ℕ} {t : TailConfig} → IsTail k t → (n : ℕ) → t.left ≡ 0 ∷ [] → replicate n 0 ++ t.middle ++ t.right ≡ cells t (neg_ℤ (pos n)) (n + length t.middle + length t.right)
-zeros-right {k} {t} h n e =
-    sym (cells-append t (neg_ℤ (pos n)) (pos (length t.middle)) (n + length t.middle) (length t.right) (omega (arith, ints)) ∙ ap₂ (λ (u v : List ℕ). u ++ v) (sym (zeros-middle t n e)) (cells-right h))
+zeros-right : (t : TailConfig) (n : ℕ) → t.left ≡ 0 ∷ [] → replicate n 0 ++ t.middle ++ t.right ≡ cells t (neg_ℤ (pos n)) (n + length t.middle + length t.right)
+zeros-right t n e =
+    sym (run-append (cell t) (neg_ℤ (pos n)) (pos (length t.middle)) (n + length t.middle) (length t.right) (omega (arith, ints)) ∙ ap₂ (λ (u v : List ℕ). u ++ v) (sym (zeros-middle t n e)) (cells-right t))
 
 -- the last n letters of the one are the cells left of the right period
 last-middle : (t : TailConfig) (n : ℕ) → t.left ≡ 0 ∷ [] → last_letters n (replicate n 0 ++ t.middle) ≡ cells t (pos (length t.middle) -ℤ pos n) n
@@ -56,7 +56,7 @@ last-middle t n e =
 last-right : {k : ℕ} {t : TailConfig} → IsTail k t → (n : ℕ) → t.left ≡ 0 ∷ [] → last_letters n (replicate n 0 ++ t.middle ++ t.right) ≡ cells t (pos (length t.middle + length t.right) -ℤ pos n) n
 last-right {k} {t} h n e =
     let order : n + length t.middle + length t.right ≡ length t.middle + length t.right + n = omega arith in
-    ap (last_letters n) (zeros-right h n e ∙ ap (cells t (neg_ℤ (pos n))) order)
+    ap (last_letters n) (zeros-right t n e ∙ ap (cells t (neg_ℤ (pos n))) order)
     ∙ last_letters-cells t (neg_ℤ (pos n)) (pos (length t.middle + length t.right) -ℤ pos n) (length t.middle + length t.right) n (omega (arith, ints))
 
 -- the right period of a settled configuration leads back to the node at which it begins
@@ -86,9 +86,9 @@ pair_at-zeros r x y e f = ap₂ (pair_of r) (node_at-zeros r x e) (node_at-zeros
 pub same_parts : {k : ℕ} {x y : TailConfig} → IsTail k x → IsTail k y → length x.middle ≡ length y.middle → length x.right ≡ length y.right → Same x y
     → (x.middle ≡ y.middle) × (x.right ≡ y.right)
 same_parts {k} {x} {y} hx hy middles rights same = (
-  sym (cells-middle x) ∙ cells-same x y (pos 0) (pos 0) (length x.middle) (λ a l. same (pos 0 +ℤ pos a)) ∙ ap (cells y (pos 0)) middles ∙ cells-middle y,
-  sym (cells-right hx) ∙ cells-same x y (pos (length x.middle)) (pos (length x.middle)) (length x.right) (λ a l. same (pos (length x.middle) +ℤ pos a))
-      ∙ ap₂ (λ a b. cells y (pos a) b) middles rights ∙ cells-right hy,
+  sym (cells-middle x) ∙ run-same (cell x) (cell y) (pos 0) (pos 0) (length x.middle) (λ a l. same (pos 0 +ℤ pos a)) ∙ ap (cells y (pos 0)) middles ∙ cells-middle y,
+  sym (cells-right x) ∙ run-same (cell x) (cell y) (pos (length x.middle)) (pos (length x.middle)) (length x.right) (λ a l. same (pos (length x.middle) +ℤ pos a))
+      ∙ ap₂ (λ a b. cells y (pos a) b) middles rights ∙ cells-right y,
 )
 
 -- configurations with the same parts have the same cells

@@ -8,8 +8,10 @@ use Rattle.word_image.proofs.laws.Images.{IsRule-mirrored, mirrored-mirrored}
 use Rattle.tail_config.specs.Tails.{TailConfig, IsTail, Same, Different, ShareImage, AgreeLeft, AgreeRight, IsRightSplit, IsRightClosing, IsLeftClosing, cell, mirror_of}
 use Rattle.tail_config.specs.LeftSplits.{IsLeftSplit}
 use Rattle.tail_laws.proofs.Closing.{IsRightClosing-ahead}
-use Rattle.tail_laws.proofs.Middles.{longer, length-longer, IsTail-longer, Same-longer, image_cell-same}
-use Rattle.tail_config.proofs.laws.Mirror.{cell-mirror, image_cell-mirror, IsTail-mirror}
+use Rattle.tail_laws.proofs.Middles.{longer, length-longer, IsTail-longer, Same-longer}
+use Rattle.tail_config.proofs.laws.Runs.{image_of-window}
+use Rattle.tail_config.proofs.laws.Cells.{cell-below}
+use Rattle.tail_config.proofs.laws.Mirror.{cell-mirror, image_of-backwards, IsTail-mirror}
 
 -- the place that is mirrored to place i, where the middle has n letters
 abbrev pub across : ℕ → ℤ → ℤ
@@ -49,9 +51,9 @@ AgreeRight-mirror {k} {x} {y} hx hy long (p, left) =
 pub ShareImage-mirror : {r : LocalRule} {x y : TailConfig} → IsRule r → IsTail r.states x → IsTail r.states y → length x.middle ≡ length y.middle
     → ShareImage r x y → ShareImage (mirrored r) (mirror_of x) (mirror_of y)
 ShareImage-mirror {r} {x} {y} rule hx hy long share i =
-    image_cell-mirror rule hx i (across (length x.middle) i) (omega (arith, ints))
+    image_of-backwards rule (cell-below hx) (cell-mirror hx) i (across (length x.middle) i) (omega (arith, ints))
     ∙ share (across (length x.middle) i)
-    ∙ sym (image_cell-mirror rule hy i (across (length x.middle) i) (omega (arith, ints)))
+    ∙ sym (image_of-backwards rule (cell-below hy) (cell-mirror hy) i (across (length x.middle) i) (omega (arith, ints)))
 
 -- and those that share one under the mirrored rule share it read backwards
 pub ShareImage-from_mirrored : {r : LocalRule} {x y : TailConfig} → IsRule r → IsTail r.states x → IsTail r.states y → length x.middle ≡ length y.middle
@@ -77,7 +79,7 @@ same_with_longer {k} {x} {y} hx hy m n same i = sym (Same-longer hx m i) ∙ sam
 -- a longer middle changes nothing of a shared image
 share_with_longer : (r : LocalRule) {x y : TailConfig} → IsTail r.states x → IsTail r.states y → (m n : ℕ) → ShareImage r x y → ShareImage r (longer x m) (longer y n)
 share_with_longer r {x} {y} hx hy m n share i =
-    image_cell-same r (longer x m) x (Same-longer hx m) i ∙ share i ∙ sym (image_cell-same r (longer y n) y (Same-longer hy n) i)
+    image_of-window r (cell (longer x m)) (cell x) i i (λ a l. Same-longer hx m _) ∙ share i ∙ sym (image_of-window r (cell (longer y n)) (cell y) i i (λ a l. Same-longer hy n _))
 
 -- configurations that share an image are the same if what the mirrored rule shares is the same, read backwards, with longer middles of one length
 pub same_mirrored : {r : LocalRule} {x y : TailConfig} → IsRule r → IsTail r.states x → IsTail r.states y → ShareImage r x y

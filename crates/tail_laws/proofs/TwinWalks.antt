@@ -9,7 +9,8 @@ use Rattle.word_image.specs.Rings.{IsRing, IsTwins}
 use Rattle.word_image.specs.Graphs.{pair_of}
 use Rattle.word_image.proofs.laws.Values.{length-word_of, IsWord-word_of, value-word_of}
 use Rattle.tail_config.specs.Tails.{TailConfig, IsTail, ShareImage, cell, cells, image_cell}
-use Rattle.tail_config.proofs.laws.Cells.{cells-same, cells-left, cells-right}
+use Rattle.tail_config.proofs.laws.Runs.{run-same}
+use Rattle.tail_config.proofs.laws.Cells.{cells-left, cells-right}
 use Rattle.tail_config.proofs.laws.Periods.{RepeatsRight, same_right-period, RepeatsRight-times}
 use Rattle.tail_laws.proofs.TwinTails.{round, IsTail-round, cell-round_period, ShareImage-turn, ShareImage-rings, ring_image-shared}
 use Rattle.tail_laws.proofs.Nodes.{node_at, label_over, node_at-below, labels-ShareImage}
@@ -51,7 +52,7 @@ image_cell-from_node : {r : LocalRule} → IsRule r → (u : ℕ) (p : List ℕ)
 image_cell-from_node {r} rule u p d =
     let start : ℤ = neg_ℤ r.offset +ℤ pos d +ℤ r.offset in
     let place : ℤ = pos 0 +ℤ pos (d + (r.width - 1)) -ℤ pos (r.width - 1) in
-    ap (local_map r) (cells-same (round p) (from_node r u p) start place r.width (λ a l.
+    ap (local_map r) (run-same (cell (round p)) (cell (from_node r u p)) start place r.width (λ a l.
     let at : start +ℤ pos a ≡ place +ℤ pos a = omega (arith, ints) in
     ap (cell (round p)) at ∙ cell-from_node r u p (place +ℤ pos a) (omega (arith, ints))))
 
@@ -88,7 +89,7 @@ looped_node {r} {p} rule ring u h loop =
     let long : m * 1 ≤ m * n = mul-le m 1 m n (omega arith) ring.some in
     let again : RepeatsRight (m * n) (cell t) start = RepeatsRight-times m n (cell t) start (looped-cells r (IsTail-from_node rule u h ring) loop) in
     let round_again : RepeatsRight (m * n) (cell (round p)) start = RepeatsRight-times m n (cell (round p)) start (λ i l. cell-round_period p ring.some i) in
-    ap (value r.states) (cells-same (round p) t start start m (λ a l.
+    ap (value r.states) (run-same (cell (round p)) (cell t) start start m (λ a l.
     let place : ℤ = start +ℤ pos a in
     sym (round_again place (omega (arith, ints))) ∙ cell-from_node r u p (place +ℤ pos (m * n)) (omega (arith, ints)) ∙ again place (omega (arith, ints))))
     ∙ node_at-from_node r u p h
@@ -104,7 +105,7 @@ loop_nodes {r} {x} {y} rule hx hy long u v hu hv loop =
 node_at-round : (r : LocalRule) (p : List ℕ) → 1 ≤ length p → node_at r (round p) (pos (length p)) ≡ node_at r (round p) (pos 0)
 node_at-round r p some =
     let m : ℕ = r.width - 1 in
-    ap (value r.states) (cells-same (round p) (round p) (pos (length p) -ℤ pos m) (pos 0 -ℤ pos m) m (λ a l.
+    ap (value r.states) (run-same (cell (round p)) (cell (round p)) (pos (length p) -ℤ pos m) (pos 0 -ℤ pos m) m (λ a l.
     let place : pos (length p) -ℤ pos m +ℤ pos a ≡ pos 0 -ℤ pos m +ℤ pos a +ℤ pos (length p) = omega (arith, ints) in
     ap (cell (round p)) place ∙ cell-round_period p some (pos 0 -ℤ pos m +ℤ pos a)))
 
@@ -120,7 +121,7 @@ loop-ShareImage {r} {x} {y} rule hx hy long share =
     ap₂ (pair_of r) (node_at-round r x hx.some) (ap (λ m. node_at r (round y) (pos m)) long ∙ node_at-round r y hy.some) in
     subst (PairLeads r (pair_at r (round x) (round y) (pos 0)) (zip x y)) back
     (subst (λ ab. PairLeads r (pair_at r (round x) (round y) (pos 0)) ab (pair_at r (round x) (round y) (pos n)))
-    (ap₂ (λ (a b : List ℕ). zip a b) (cells-right first) (ap (cells (round y) (pos 0)) long ∙ cells-right second)) turn)
+    (ap₂ (λ (a b : List ℕ). zip a b) (cells-right (round x)) (ap (cells (round y) (pos 0)) long ∙ cells-right (round y))) turn)
 
 -- two different rings of one length that are a closed walk of pairs
 pub record IsTwinWalk (r : LocalRule) (x y : List ℕ) : Type 0 where

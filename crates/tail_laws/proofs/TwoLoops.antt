@@ -6,8 +6,9 @@ use Rattle.std.proofs.lemmas.Int.{ints}
 use Rattle.word_image.specs.LocalRules.{LocalRule, IsRule, value, node_count}
 use Rattle.word_image.specs.Rings.{IsRing}
 use Rattle.word_image.specs.Graphs.{pair_of}
-use Rattle.tail_config.specs.Tails.{TailConfig, IsTail, ShareImage, Different}
-use Rattle.tail_config.proofs.laws.Cells.{cells-same, same_left_part}
+use Rattle.tail_config.specs.Tails.{TailConfig, IsTail, ShareImage, Different, cell}
+use Rattle.tail_config.proofs.laws.Runs.{run-same}
+use Rattle.tail_config.proofs.laws.Cells.{same_left_part}
 use Rattle.tail_laws.proofs.TwinTails.{round}
 use Rattle.tail_laws.proofs.Nodes.{node_at, label_over, labels-ShareImage}
 use Rattle.tail_laws.proofs.Loops.{labels-left, ShareImage-in_step}
@@ -23,7 +24,7 @@ IsRing-left {k} {t} h = record { word = h.left_word; some = h.left_some }
 node_at-left : (r : LocalRule) (t : TailConfig) → node_at r t (pos 0) ≡ node_at r (round t.left) (pos 0)
 node_at-left r t =
     let start : ℤ = pos 0 -ℤ pos (r.width - 1) in
-    ap (value r.states) (cells-same t (round t.left) start start (r.width - 1) (λ a l. same_left_part t (round t.left) refl (start +ℤ pos a) (omega (arith, ints))))
+    ap (value r.states) (run-same (cell t) (cell (round t.left)) start start (r.width - 1) (λ a l. same_left_part t (round t.left) refl (start +ℤ pos a) (omega (arith, ints))))
 
 -- left periods that lead from a pair of nodes back to it: it is the pair before place 0
 pub pair_at-loop : {r : LocalRule} {x y : TailConfig} → IsRule r → IsTail r.states x → IsTail r.states y → length x.left ≡ length y.left → (u v : ℕ) → u < node_count r → v < node_count r

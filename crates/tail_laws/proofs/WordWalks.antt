@@ -6,8 +6,10 @@ use Rattle.word_image.specs.LocalRules.{LocalRule, IsRule, value}
 use Rattle.word_image.specs.Words.{image}
 use Rattle.word_image.specs.Windows.{HaveOneImage}
 use Rattle.word_image.specs.Graphs.{pair_of}
-use Rattle.tail_config.specs.Tails.{TailConfig, cells, image_cell}
-use Rattle.tail_config.proofs.laws.Cells.{cells-middle, take-cells, drop-cells, image_cells, image-cells, same-image_cells, inside_zeros, IsTail-inside_zeros}
+use Rattle.tail_config.specs.Configs.{run, image_of}
+use Rattle.tail_config.specs.Tails.{TailConfig, cells, image_cell, cell}
+use Rattle.tail_config.proofs.laws.Runs.{same-run, take-run, drop-run, image-run}
+use Rattle.tail_config.proofs.laws.Cells.{cells-middle, inside_zeros, IsTail-inside_zeros}
 use Rattle.tail_laws.proofs.Nodes.{node_at, label_over, image_cell-label}
 use Rattle.tail_laws.proofs.PairLeads.{PairLeads, pair_at, PairLeads-cells}
 
@@ -26,7 +28,7 @@ run-all w n m long = ap (cells (inside_zeros w) (pos 0)) (sym long) ∙ cells-mi
 run-back : (w : List ℕ) (n m : ℕ) → length w ≡ n + m → cells (inside_zeros w) (pos m) n ≡ drop m w
 run-back w n m long =
     let swap : m + n ≡ n + m = omega arith in
-    sym (drop-cells (inside_zeros w) (pos 0) (pos m) m n (omega (arith, ints))) ∙ ap (drop m) (ap (cells (inside_zeros w) (pos 0)) swap ∙ run-all w n m long)
+    sym (drop-run (cell (inside_zeros w)) (pos 0) (pos m) m n (omega (arith, ints))) ∙ ap (drop m) (ap (cells (inside_zeros w) (pos 0)) swap ∙ run-all w n m long)
 
 -- the node after its first m - 1 letters is their value
 node-first : (r : LocalRule) (w : List ℕ) (n : ℕ) → length w ≡ n + (r.width - 1) → node_at r (inside_zeros w) (pos (r.width - 1)) ≡ value r.states (take (r.width - 1) w)
@@ -34,7 +36,7 @@ node-first r w n long =
     let m : ℕ = r.width - 1 in
     let place : pos m -ℤ pos m ≡ pos 0 = omega (arith, ints) in
     ap (λ i. value r.states (cells (inside_zeros w) i m)) place
-    ∙ ap (value r.states) (sym (take-cells (inside_zeros w) (pos 0) (n + m) m (omega arith)) ∙ ap (take m) (run-all w n m long))
+    ∙ ap (value r.states) (sym (take-run (cell (inside_zeros w)) (pos 0) (n + m) m (omega arith)) ∙ ap (take m) (run-all w n m long))
 
 -- and the node after all is that of the last
 node-last : (r : LocalRule) (w : List ℕ) (n : ℕ) → length w ≡ n + (r.width - 1) → node_at r (inside_zeros w) (pos (r.width - 1 + n)) ≡ value r.states (drop n w)
@@ -42,7 +44,7 @@ node-last r w n long =
     let m : ℕ = r.width - 1 in
     let place : pos (m + n) -ℤ pos m ≡ pos n = omega (arith, ints) in
     ap (λ i. value r.states (cells (inside_zeros w) i m)) place
-    ∙ ap (value r.states) (sym (drop-cells (inside_zeros w) (pos 0) (pos n) n m (omega (arith, ints))) ∙ ap (drop n) (run-all w n m long))
+    ∙ ap (value r.states) (sym (drop-run (cell (inside_zeros w)) (pos 0) (pos n) n m (omega (arith, ints))) ∙ ap (drop n) (run-all w n m long))
 
 -- the labels after the first node are the image
 label-start : (r : LocalRule) (t : TailConfig) (d : ℕ) → image_cell r t (neg_ℤ r.offset +ℤ pos d) ≡ label_over r t (pos (r.width - 1) +ℤ pos d)
@@ -59,9 +61,9 @@ labels-words {r} {n} {x} {y} rule h d l =
     let tx : TailConfig = inside_zeros x in
     let ty : TailConfig = inside_zeros y in
     let place : i +ℤ r.offset ≡ pos 0 = omega (arith, ints) in
-    let same : image_cells r tx i n ≡ image_cells r ty i n =
-    sym (image-cells rule tx i (pos 0) n place) ∙ ap (image r) (run-all x n m h.first_long) ∙ h.one_image ∙ sym (ap (image r) (run-all y n m h.second_long)) ∙ image-cells rule ty i (pos 0) n place in
-    sym (label-start r tx d) ∙ same-image_cells r tx ty i n same d l ∙ label-start r ty d
+    let same : run (image_of r (cell tx)) i n ≡ run (image_of r (cell ty)) i n =
+    sym (image-run rule (cell tx) i (pos 0) n place) ∙ ap (image r) (run-all x n m h.first_long) ∙ h.one_image ∙ sym (ap (image r) (run-all y n m h.second_long)) ∙ image-run rule (cell ty) i (pos 0) n place in
+    sym (label-start r tx d) ∙ same-run (image_of r (cell tx)) (image_of r (cell ty)) i i n same d l ∙ label-start r ty d
 
 -- two words with one image lead from their first nodes to their last along the letters after the first
 pub PairLeads-words : {r : LocalRule} {n : ℕ} {x y : List ℕ} → IsRule r → HaveOneImage r n x y

@@ -34,6 +34,7 @@ pub record Shape : Type 0 where
   pub after : ℕ
   pub on : ℕ
 
+-- the parts of a placed configuration are as long as so many periods of t, its middle stands where these do, and begins with the m - 1 letters that stand one of its left periods before
 pub record HasShape (r : LocalRule) (t : TailConfig) (s : Shape) (p : PlacedConfig) : Type 0 where
   pub back_some : 1 ≤ s.back
   pub on_some : 1 ≤ s.on
@@ -41,7 +42,7 @@ pub record HasShape (r : LocalRule) (t : TailConfig) (s : Shape) (p : PlacedConf
   pub middle : length p.config.middle ≡ s.before * length t.left + length t.middle + s.after * length t.right
   pub right : length p.config.right ≡ s.on * length t.right
   pub at : p.at ≡ r.offset -ℤ pos (s.before * length t.left)
-  -- its left period begins with the m - 1 letters with which its middle does
+  -- the m - 1 cells from the middle on are equal to those one left period before
   pub node : placed_cells p p.at (r.width - 1) ≡ placed_cells p (p.at -ℤ pos (s.back * length t.left)) (r.width - 1)
 
 -- by how many left periods of t the left period and the middle span together, then by how many right ones, then by those of the middle

@@ -1,7 +1,10 @@
-//! The edges of the de Bruijn graph as rows of sets of nodes.
+//! The edges of the de Bruijn graph as rows of sets of nodes, and steps of sets along them.
 
+ghost use Rattle.std.specs.Prelude.{◌≡◌, ◌^◌, ◌<◌, ◌≤◌, ℕ, List, [], ◌∷◌, ◌++◌, length, slice_index, slice_index_or, IsBitSet};
 ghost use Rattle.word_image.specs.LocalRules.{IsRule};
-ghost use Rattle.word_image.specs.Edges.{AreEdgeRows};
+ghost use Rattle.word_image.specs.Graphs.{IsSetOf, HasBit};
+ghost use Rattle.word_image.specs.Ranks.{IsLastSet};
+ghost use Rattle.word_image.specs.Edges.{AreEdgeRows, IsStep};
 
 use crate::local_rule::{MOST_NODES, MOST_STATES, Rule};
 use crate::side::Side;
@@ -14,6 +17,8 @@ pub type EdgeRows = [[u16; MOST_NODES]; MOST_STATES];
 /// them to the left.
 pub fn edge_rows(rule: &Rule, side: Side) -> EdgeRows
     ensures edges { AreEdgeRows side rule.now result }
+    ensures tall { length result ≡ 16 }
+    ensures wide { (label : ℕ) → label < 16 → length (slice_index_or result label []) ≡ 16 }
     ensures rule { IsRule rule.now }
 {
     let mut ends = [[0; MOST_NODES]; MOST_STATES];
@@ -26,4 +31,30 @@ pub fn edge_rows(rule: &Rule, side: Side) -> EdgeRows
         }
     }
     ends
+}
+
+/// The nodes to which an edge labelled a leads from a node of the set, where these are the rule's edges to
+/// the right. Where the set is that of the last nodes of a word, the answer is that of the word followed by a.
+pub fn step(rule: &Rule, edges: &EdgeRows, set: u16, a: u8) -> u16
+    requires edges { AreEdgeRows Side.Right rule.now edges.now }
+    requires letter { a < rule.now.states }
+    ensures step { IsStep rule.now set a result }
+    ensures word { (w : List ℕ) → IsLastSet rule.now w set → IsLastSet rule.now (w ++ a ∷ []) result }
+{
+    after(rule.nodes(), &edges[usize::from(a)], set)
+}
+
+/// Of so many nodes those to which a node of the set is related, where row u is the set of those to which node u is.
+pub fn after(nodes: u8, rows: &[u16; MOST_NODES], set: u16) -> u16
+    requires few { nodes ≤ 16 }
+    requires within { (u : ℕ) → u < nodes → slice_index rows.now u < 2 ^ nodes }
+    ensures { IsSetOf nodes (λ v. (u : ℕ) × (u < nodes) × (IsBitSet set u × HasBit rows.now u v)) result }
+{
+    let mut after = 0;
+    for u in 0..nodes {
+        if set >> u & 1 == 1 {
+            after |= rows[usize::from(u)];
+        }
+    }
+    after
 }

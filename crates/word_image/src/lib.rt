@@ -29,7 +29,7 @@ mod rings;
 mod side;
 mod weights;
 
-pub use edges::{EdgeRows, edge_rows};
+pub use edges::{EdgeRows, after, edge_rows, step};
 pub use images::{ImageFault, image};
 pub use letters::{digit, letter, text_word, word_text};
 pub use lists::{FluxRow, RankRow, SetList, Word};

@@ -1,4 +1,4 @@
--- The least rules of the classes of some rules, one rule more at a time, and the verdicts that are kept for them.
+-- The least rules of the classes of some rules, one rule more at a time, and what is kept for them.
 use borrow.Author.Tests.{eqb-true}
 use Rattle.std.proofs.Common.{inl, inr, ◌≡◌, ◌≢◌, ◌⊎◌, ⊎_elim, ◌↔◌, ℕ, nat_eq, ◌+◌, ◌<◌, Bool, true, false, true≢false, IsTrue, List, [], ◌∷◌, ◌++◌, length, get_or, is_some, None, Some, All, AllPairs, Contains, codes, pos, refl, sym, ap, subst, ◌∙◌, arith}
 use Rattle.std.specs.Map.{keys_of, lookup}
@@ -10,8 +10,8 @@ use Rattle.std.proofs.lemmas.Map.Views.{Contains-from_lookup, IsSome-lookup_from
 use Rattle.word_image.specs.LocalRules.{LocalRule, IsRule, wolfram_number}
 use Rattle.rule_classes.specs.Classes.{IsLeastOfClass}
 use Rattle.rule_classes.proofs.laws.Numbers.{same_number}
-use Rattle.cert_check.specs.Accepted.{AreTrue}
-use Rattle.cert_check.specs.declared.verdicts.Verdicts.{Verdicts}
+use Rattle.rule_verdicts.specs.declared.truths.Truths.{Truths}
+use Rattle.rule_verdicts.specs.Truths.{AreTruths}
 use Rattle.std.proofs.lemmas.List.Quantifiers.{all_pairs_push}
 use Rattle.ca_cli.specs.declared.commands.class_tally.ClassTally.{ClassTally}
 use Rattle.ca_cli.specs.Summaries.{count_line}
@@ -47,32 +47,32 @@ AreLeastRules-push {rules = rules} {r = r} {g = g} least (New leasts absent) are
 }
 
 -- the rule of an entry is among the rules
-Contains-rules_in : (entries : List (ℕ × Verdicts)) (e : ℕ × Verdicts) → Contains entries e → Contains (rules_in entries) (e.1).rule
-Contains-rules_in entries e (i, within, at) =
-    let long : length (rules_in entries) ≡ length entries = length-map entries rule_in in
-    (i, omega arith, get_or-map rule_in entries i e (e.1).rule within ∙ ap rule_in at)
+Contains-rules_in : (k m : ℕ) (entries : List (ℕ × Truths)) (e : ℕ × Truths) → Contains entries e → Contains (rules_in k m entries) (rule_in k m e)
+Contains-rules_in k m entries e (i, within, at) =
+    let long : length (rules_in k m entries) ≡ length entries = length-map entries (rule_in k m) in
+    (i, omega arith, get_or-map (rule_in k m) entries i e (rule_in k m e) within ∙ ap (rule_in k m) at)
 
-module _ {k m : ℕ} (entries : List (ℕ × Verdicts)) (decided : All (IsDecided k m) entries) {r : LocalRule} (accepted : IsRule r)
+module _ {k m : ℕ} (entries : List (ℕ × Truths)) (decided : All (IsDecided k m) entries) {r : LocalRule} (accepted : IsRule r)
     (states : r.states ≡ k) (width : r.width ≡ m) (offset : r.offset ≡ pos 0) where
-  -- what is found under its number are its verdicts
-  pub decided_found : (v : Verdicts) → lookup (nat_eq (wolfram_number r)) entries ≡ Some v → (v.rule ≡ r) × AreTrue v × Contains (rules_in entries) r
-  decided_found v found =
-      let among = Contains-from_lookup eqb-true (wolfram_number r) v entries found in
-      let is : IsDecided k m (wolfram_number r, v) = All-contains (IsDecided k m) entries (wolfram_number r, v) decided among in
-      let same : v.rule ≡ r = same_number is.accepted accepted (is.states ∙ sym states) (is.width ∙ sym width) (is.offset ∙ sym offset) (sym is.number) in
-      (same, is.are_true, subst (Contains (rules_in entries)) same (Contains-rules_in entries (wolfram_number r, v) among))
+  -- what is found under its number holds of it
+  pub decided_found : (t : Truths) → lookup (nat_eq (wolfram_number r)) entries ≡ Some t → AreTruths r t × Contains (rules_in k m entries) r
+  decided_found t found =
+      let among = Contains-from_lookup eqb-true (wolfram_number r) t entries found in
+      let is : IsDecided k m (wolfram_number r, t) = All-contains (IsDecided k m) entries (wolfram_number r, t) decided among in
+      let same : rule_in k m (wolfram_number r, t) ≡ r = same_number is.accepted accepted (sym states) (sym width) (sym offset) is.number in
+      (subst (λ (q : LocalRule). AreTruths q t) same is.truths, subst (Contains (rules_in k m entries)) same (Contains-rules_in k m entries (wolfram_number r, t) among))
 
   -- where nothing is found the rule isn't among them
-  pub decided_absent : lookup (nat_eq (wolfram_number r)) entries ≡ None → ¬ Contains (rules_in entries) r
+  pub decided_absent : lookup (nat_eq (wolfram_number r)) entries ≡ None → ¬ Contains (rules_in k m entries) r
   decided_absent none there =
-      All-contains (λ q. ¬ (q ≡ r)) (rules_in entries) r (All-map (λ q. ¬ (q ≡ r)) rule_in entries others) there refl
+      All-contains (λ q. ¬ (q ≡ r)) (rules_in k m entries) r (All-map (λ q. ¬ (q ≡ r)) (rule_in k m) entries others) there refl
     where
-      others : All (λ (e : ℕ × Verdicts). ¬ ((e.1).rule ≡ r)) entries
+      others : All (λ (e : ℕ × Truths). ¬ (rule_in k m e ≡ r)) entries
       others i d within same =
           let is : IsDecided k m (get_or entries i d) = decided i d within in
-          let key : (get_or entries i d).0 ≡ wolfram_number r = is.number ∙ ap wolfram_number same in
-          let long : length (keys_of entries) ≡ length entries = length-map entries (λ (e : ℕ × Verdicts). e.0) in
-          let among : Contains (keys_of entries) (wolfram_number r) = (i, omega arith, get_or-map (λ (e : ℕ × Verdicts). e.0) entries i d (wolfram_number r) within ∙ key) in
+          let key : (get_or entries i d).0 ≡ wolfram_number r = sym is.number ∙ ap wolfram_number same in
+          let long : length (keys_of entries) ≡ length entries = length-map entries (λ (e : ℕ × Truths). e.0) in
+          let among : Contains (keys_of entries) (wolfram_number r) = (i, omega arith, get_or-map (λ (e : ℕ × Truths). e.0) entries i d (wolfram_number r) within ∙ key) in
           true≢false (sym (IsSome-lookup_from_Contains nat_eq_equiv (wolfram_number r) entries among) ∙ ap is_some none)
 
 -- the least rule of a class has the shape of the rule, at offset 0
@@ -87,10 +87,10 @@ verdict_through is same = ((λ yes. same.1 (is.0 yes)), (λ holds. is.1 (same.0 
 -- the lines of what is counted by classes
 pub IsClassSummary-tally : {k m : ℕ} {rules : List LocalRule} {out : List ℕ} (t : ClassTally) → IsClassTally k m rules t
     → out ≡ summary_of t.tally ++ count_line (codes "classes") (length (t.leasts).entries) → IsClassSummary rules out
-IsClassSummary-tally t is lines = record {
+IsClassSummary-tally {k} {m} t is lines = record {
   summary = summary_of t.tally;
-  leasts = rules_in (t.leasts).entries;
+  leasts = rules_in k m (t.leasts).entries;
   summary_true = IsSummary-tally t.tally is.tally;
   leasts_true = is.leasts;
-  lines = lines ∙ ap (λ n. summary_of t.tally ++ count_line (codes "classes") n) (sym (length-map (t.leasts).entries rule_in));
+  lines = lines ∙ ap (λ n. summary_of t.tally ++ count_line (codes "classes") n) (sym (length-map (t.leasts).entries (rule_in k m)));
 }

@@ -1,5 +1,5 @@
 -- The words of a command are no other's, and what an answer says of its words.
-use Rattle.std.proofs.Common.{inl, inr, ◌≡◌, ℕ, nat_eq, ◌+◌, ◌≤◌, List, [], ◌∷◌, length, refl, sym, ap, ◌∙◌, subst, arith}
+use Rattle.std.proofs.Common.{inl, inr, ⊎_elim, ◌≡◌, ℕ, nat_eq, ◌+◌, ◌≤◌, List, [], ◌∷◌, length, refl, sym, ap, ◌∙◌, subst, arith}
 use Rattle.std.specs.Prelude.{Option, None, Some, ◌⊎◌, if◌then◌else◌}
 use Rattle.std.specs.Cmp.Lexicographic.{pointwise}
 use Rattle.std.proofs.lemmas.Option.{none-some}
@@ -245,3 +245,22 @@ pub right_says : {words : List (List ℕ)} {input : Option (List ℕ)} (c : Comm
 right_says c is accepted (Usage none) = absurd (none c is)
 right_says c is accepted (RuleFault d operand f also fault) = absurd (accepted operand f (subst (λ e. IsOperandFault e operand f) (IsCommand-unique also is) fault))
 right_says {input = input} c is accepted (Right d s out also right) = subst (λ e. IsRight input e s out) (IsCommand-unique also is) right
+
+-- a command that reads nothing, whose operands are accepted and that isn't unfit, is answered with Done
+pub done_says : {words : List (List ℕ)} {input : Option (List ℕ)} (c : Command) {s : Status} {out : List ℕ} → IsCommand words c → ReadsNothing c → ((operand : ℕ) (f : TextFault) → ¬ IsOperandFault c operand f)
+    → ((cause : List ℕ) → ¬ IsUnfit c cause) → IsAnswer words input s out → s ≡ status.Done
+done_says c is reads accepted none answer = ⊎_elim (λ done. done) (λ (not_fit, (cause, unfits)). absurd (none cause unfits)) (done_or_not_fit reads (right_says c is accepted answer))
+
+-- a command for which nothing fits reads nothing
+unfit_reads_nothing : {c : Command} {cause : List ℕ} → IsUnfit c cause → ReadsNothing c
+unfit_reads_nothing (IsUnfit.OfRule a text r cause says unfits) = λ is. cc
+unfit_reads_nothing (IsUnfit.OfRuleWith a text operand r cause says unfits) = λ is. cc
+unfit_reads_nothing (IsUnfit.OfTwo a first second r s cause says also unfits) = λ is. cc
+
+-- a command that is unfit is answered with NotFit
+pub not_fit_says : {words : List (List ℕ)} {input : Option (List ℕ)} (c : Command) {cause : List ℕ} {s : Status} {out : List ℕ} → IsCommand words c → IsUnfit c cause
+    → IsAnswer words input s out → s ≡ status.NotFit
+not_fit_says {input = input} c {cause} {out = out} is unfits answer =
+    let reads = unfit_reads_nothing unfits in
+    let right = right_says c is (λ operand f fault. IsRight-no_fault {input = input} (Unfit c cause unfits) fault) answer in
+    ⊎_elim (λ done. absurd (fits c unfits (subst (λ u. IsRight input c u out) done right))) (λ (not_fit, nothing). not_fit) (done_or_not_fit reads right)

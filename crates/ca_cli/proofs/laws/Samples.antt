@@ -1,7 +1,7 @@
 -- The rules of a survey and of a sample, one by one.
 use Rattle.std.proofs.Common.{◌≡◌, ℕ, suc, ◌+◌, ◌-◌, ◌*◌, ◌/◌, ◌%◌, ◌^◌, ◌<◌, ◌≤◌, List, [], ◌∷◌, ◌++◌, map, None, refl, sym, ap, ap₂, ◌∙◌, arith, add-one, mod-lt, get_or, append_assoc, append-nil}
 use Rattle.std.specs.List.{range_with_len}
-use Rattle.std.specs.Prelude.{Some, pos}
+use Rattle.std.specs.Prelude.{pos}
 use Rattle.std.specs.Option.{option_or}
 use Rattle.std.proofs.lemmas.List.FromFn.{map-range_with_len_more, length-map-range_with_len}
 use Rattle.std.proofs.lemmas.Bool.Decides.{nat_tests}
@@ -12,10 +12,11 @@ use Rattle.word_image.specs.LocalRules.{LocalRule, IsShape, IsRule}
 use Rattle.word_image.specs.RuleFaults.{shape_fault}
 use Rattle.word_image.proofs.laws.RuleFaults.{IsShape-shape_fault}
 use Rattle.rule_text.specs.RuleTexts.{in_text, number_fault}
-use Rattle.rule_text.specs.declared.text_fault.TextFault.TheVariants as fault
 use Rattle.rule_text.proofs.laws.Numbers.{number_limit}
 use Rattle.rule_text.proofs.laws.AcceptedRules.{none_or, none_map, number-below}
-use Rattle.ca_cli.specs.Samples.{numbered_rule, survey_rules, next_state, state_after, drawn, drawn_rule, sample_rules, sample_fault, survey_fault}
+use Rattle.rule_verdicts.specs.Numbers.{numbered_rule, numbers_fault}
+use Rattle.rule_verdicts.proofs.laws.Numbers.{few_states}
+use Rattle.ca_cli.specs.Samples.{survey_rules, next_state, state_after, drawn, drawn_rule, sample_rules, sample_fault}
 
 -- a survey of one rule more
 pub survey_rules-more : (k m first i : ℕ) → survey_rules k m first (i + 1) ≡ survey_rules k m first i ++ numbered_rule k m (first + i) ∷ []
@@ -99,7 +100,7 @@ number_fault-below : (k m n i : ℕ) → number_fault k m n ≡ None → i ≤ n
 number_fault-below k m n i none below = grind (arith, nat_tests)
 
 -- each number of an accepted survey has a rule
-pub survey-accepted : (k m first count i : ℕ) → survey_fault k m first count ≡ None → i < count → option_or (sample_fault k m) (number_fault k m (first + i)) ≡ None
+pub survey-accepted : (k m first count i : ℕ) → numbers_fault k m first count ≡ None → i < count → option_or (sample_fault k m) (number_fault k m (first + i)) ≡ None
 survey-accepted k m first count i none below =
     let parts = none_or (sample_fault k m) (number_fault k m (first + count - 1)) none in
     sample_fault-none k m (first + i) parts.0 ∙ number_fault-below k m (first + count - 1) (first + i) parts.1 (omega arith)
@@ -108,26 +109,11 @@ survey-accepted k m first count i none below =
 pub IsShape-sample_fault : (k m : ℕ) → sample_fault k m ≡ None → IsShape k m (pos 0)
 IsShape-sample_fault k m none = IsShape-shape_fault k m (pos 0) (none_map (in_text 0) (shape_fault k m (pos 0)) none)
 
--- a shape of which some number has no fault has few states
-few_states : (k m n : ℕ) → number_fault k m n ≡ None → k ≤ 6
-few_states k m n none = grind (arith, nat_tests)
-
--- and fits 128 bits
-pub survey-fits : (k m first count i : ℕ) → survey_fault k m first count ≡ None → i < count → first + i < 2 ^ 128
+-- each number of an accepted survey fits 128 bits
+pub survey-fits : (k m first count i : ℕ) → numbers_fault k m first count ≡ None → i < count → first + i < 2 ^ 128
 survey-fits k m first count i none below =
     let parts = none_or (sample_fault k m) (number_fault k m (first + count - 1)) none in
     let shape = IsShape-sample_fault k m parts.0 in
     let limit = number_limit k m (pos 0) shape (few_states k m (first + count - 1) parts.1) in
     let last = number-below k m (first + count - 1) parts.1 in
     omega arith
-
--- a number that no shape has, where number 0 has a rule
-pub past_all-fault : (k m n : ℕ) → option_or (sample_fault k m) (number_fault k m 0) ≡ None → 2 ^ 128 ≤ n → option_or (sample_fault k m) (number_fault k m n) ≡ Some fault.Number
-past_all-fault k m n none beyond =
-    let parts = none_or (sample_fault k m) (number_fault k m 0) none in
-    let few = few_states k m 0 parts.1 in
-    let limit = number_limit k m (pos 0) (IsShape-sample_fault k m parts.0) few in
-    let past : k ^ (k ^ m) ≤ n = omega arith in
-    sample_fault-none k m n parts.0 ∙ number_fault-past k m n few past where
-      number_fault-past : (k m n : ℕ) → k ≤ 6 → k ^ (k ^ m) ≤ n → number_fault k m n ≡ Some fault.Number
-      number_fault-past k m n few past = grind (arith, nat_tests)

@@ -1,30 +1,28 @@
 //! Of how many rules each verdict is true, where a class is decided once.
 ghost use Rattle.std.specs.Prelude.{◌≡◌, ◌<◌, ◌≤◌, ◌+◌, ℕ, List, [], ◌∷◌, ◌++◌, length, nat_eq, None, All, IfOk, OnOk, codes, pos};
 ghost use Rattle.indexmap.specs.IndexMap.{get};
-ghost use Rattle.word_image.specs.LocalRules.{LocalRule};
-ghost use Rattle.word_image.specs.Weights.{own_weights};
+ghost use Rattle.word_image.specs.LocalRules.{LocalRule, IsRule};
 ghost use Rattle.rule_classes.specs.ClassVerdicts.{HaveOneVerdict};
-ghost use Rattle.cert_check.specs.Accepted.{AreTrue};
+ghost use Rattle.rule_verdicts.specs.Truths.{AreTruths};
 ghost use Rattle.ca_cli.specs.ClassTallies.{IsRuleAdded, IsClassTally, IsDecided, rules_in};
 ghost use Rattle.ca_cli.specs.Summaries.{count_line};
 ghost use Rattle.ca_cli.specs.Tallies.{summary_of};
 
 use crate::commands::tally::Tally;
 use crate::output::Output;
-use cert_check::Verdicts;
 use indexmap::IndexMap;
 use rule_classes::class_of;
 use rule_text::number;
-use rule_verdicts::{is_conserving, verdicts};
+use rule_verdicts::{Truths, keeps_sums};
 use std::alloc::{AllocError, Global};
-use word_image::{Rule, Weights};
+use word_image::Rule;
 
-/// How many of some rules have each property, and the verdicts of the least rules of their classes.
+/// How many of some rules have each property, and what holds of the least rules of their classes.
 #[derive(Drop)]
 pub struct ClassTally {
     tally: Tally,
     // By Wolfram number, in the order in which they came.
-    leasts: IndexMap<u128, Verdicts>,
+    leasts: IndexMap<u128, Truths>,
 }
 
 impl ClassTally {
@@ -61,59 +59,54 @@ impl ClassTally {
     }
 }
 
-/// The verdicts of a rule, which are kept under its number.
-fn decided(known: &mut IndexMap<u128, Verdicts>, rule: &Rule) -> Result<Verdicts, AllocError>
+/// What holds of a rule, which is kept under its number.
+fn decided(known: &mut IndexMap<u128, Truths>, rule: &Rule) -> Result<Truths, AllocError>
     requires states { rule.now.states ≤ 6 }
     requires offset { rule.now.offset ≡ pos 0 }
     requires known { All (IsDecided rule.now.states rule.now.width) known.old.entries }
-    ensures rule { IfOk result (λ verdicts. verdicts.rule ≡ rule.now) }
-    ensures are_true { IfOk result (λ verdicts. AreTrue verdicts) }
+    ensures truths { IfOk result (AreTruths rule.now) }
     ensures known { OnOk result (All (IsDecided rule.now.states rule.now.width) known.new.entries) }
-    ensures added { OnOk result (IsRuleAdded rule.now (rules_in known.old.entries) (rules_in known.new.entries)) }
+    ensures added { OnOk result (IsRuleAdded rule.now (rules_in rule.now.states rule.now.width known.old.entries) (rules_in rule.now.states rule.now.width known.new.entries)) }
 {
     let _states = rule.k();
     let number = number(rule).unwrap();
-    if let Some(verdicts) = known.get(&number).copied() {
-        return Ok(verdicts);
+    if let Some(truths) = known.get(&number).copied() {
+        return Ok(truths);
     }
-    let verdicts = verdicts(rule);
-    keep(known, number, &verdicts)?;
-    Ok(verdicts)
+    let truths = Truths::of(rule);
+    keep(known, number, &truths)?;
+    Ok(truths)
 }
 
-/// Keeps verdicts under a number that has none.
+/// Keeps what holds of a rule under a number that has nothing.
 fn keep(
-    known: &mut IndexMap<u128, Verdicts>,
+    known: &mut IndexMap<u128, Truths>,
     number: u128,
-    verdicts: &Verdicts,
+    truths: &Truths,
 ) -> Result<(), AllocError>
     requires { get nat_eq known.old number ≡ None }
-    ensures { OnOk result (known.new.entries ≡ known.old.entries ++ (number, verdicts.now) ∷ []) }
+    ensures { OnOk result (known.new.entries ≡ known.old.entries ++ (number, truths.now) ∷ []) }
 {
-    known.insert(number, *verdicts)?;
+    known.insert(number, *truths)?;
     Ok(())
 }
 
-/// The verdicts of a rule, by those of the least rule of its class. Of the sums of rings that says
+/// What holds of a rule, by what holds of the least rule of its class. Of the sums of rings that says
 /// nothing, since other names of the letters change them.
-fn of_member(rule: &Rule, mirrored: bool, least: &Verdicts) -> Verdicts
-    ensures rule { result.rule ≡ rule.now }
-    ensures weights { result.weights ≡ own_weights rule.now.states }
-    ensures are_true { HaveOneVerdict rule.now mirrored least.now.rule → AreTrue least.now → AreTrue result }
+fn of_member(rule: &Rule, mirrored: bool, least: &Truths) -> Truths
+    ensures rule { IsRule rule.now }
+    ensures truths { (g : LocalRule) → HaveOneVerdict rule.now mirrored g → AreTruths g least.now → AreTruths rule.now result }
 {
     let (right, left) = if mirrored {
         (least.left, least.right)
     } else {
         (least.right, least.left)
     };
-    let weights = Weights::own(rule.k());
-    Verdicts {
-        rule: *rule,
-        weights,
+    Truths {
         surjective: least.surjective,
         injective: least.injective,
         right,
         left,
-        conserving: is_conserving(rule, &weights),
+        conserving: keeps_sums(rule),
     }
 }

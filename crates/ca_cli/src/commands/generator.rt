@@ -1,11 +1,9 @@
-//! The rules that a seed stands for.
-ghost use Rattle.std.specs.Prelude.{◌≡◌, ℕ, ◌/◌, ◌%◌, ◌^◌, ◌<◌, pos, map, length};
+//! The letters that a seed stands for.
+ghost use Rattle.std.specs.Prelude.{◌≡◌, ℕ, ◌/◌, ◌%◌, ◌^◌, ◌<◌, map, length};
 ghost use Rattle.std.specs.List.{range_with_len};
-ghost use Rattle.word_image.specs.LocalRules.{IsShape};
-ghost use Rattle.ca_cli.specs.Samples.{next_state, state_after, drawn, drawn_rule};
+ghost use Rattle.ca_cli.specs.Samples.{next_state, state_after, drawn};
 
 use std::marker::Model;
-use word_image::{MOST_ENTRIES, Rule};
 
 const MULTIPLIER: u64 = 6364136223846793005;
 
@@ -34,24 +32,8 @@ impl Generator {
         Generator { state: seed }
     }
 
-    /// Draws a rule of this shape at offset 0, letter by letter.
-    pub fn rule(&mut self, k: u8, m: u8) -> Rule
-        requires { IsShape k m (pos 0) }
-        ensures rule { result ≡ drawn_rule k m self.old }
-        ensures state { self.new ≡ state_after self.old (k ^ m) }
-    {
-        let size = usize::from(k).pow(u32::from(m));
-        let mut table = [0; MOST_ENTRIES];
-        let table = &mut table[..size];
-        self.fill(table, k);
-        match Rule::new(k, m, 0, table) {
-            Ok(rule) => rule,
-            Err(_) => unreachable!(),
-        }
-    }
-
     /// Draws each of these letters in turn.
-    fn fill(&mut self, letters: &mut [u8], k: u8)
+    pub fn fill(&mut self, letters: &mut [u8], k: u8)
         requires { 0 < k }
         ensures letters { letters.new ≡ map (drawn k self.old) (range_with_len 0 (length letters.old)) }
         ensures state { self.new ≡ state_after self.old (length letters.old) }
@@ -68,6 +50,6 @@ impl Generator {
         ensures state { self.new ≡ next_state self.old }
     {
         self.state = self.state.wrapping_mul(MULTIPLIER).wrapping_add(INCREMENT);
-        ((self.state >> 33) % u64::from(k)) as u8
+        ((self.state >> 33) as u32 % u32::from(k)) as u8
     }
 }

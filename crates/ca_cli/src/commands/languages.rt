@@ -11,7 +11,6 @@ use crate::words::request::AskOfTwo;
 use eden_law::erasable;
 use image_minimal::{Minimal, SepFault, separate};
 use least_walk::Walker;
-use pair_graph::Pairs;
 use std::alloc::{AllocError, Global};
 use word_image::Rule;
 
@@ -43,7 +42,7 @@ pub fn erase(alloc: Global, rule: &Rule) -> Result<Output, AllocError>
 {
     let _states = rule.k();
     let mut walker = Walker::new(alloc)?;
-    match erasable(alloc, &Pairs::of(rule), &mut walker)? {
+    match erasable(alloc, rule, &mut walker)? {
         None => Output::line(alloc, "erase none"),
         Some(pair) => Output::named_pair(alloc, "erase ", pair.x.as_slice(), pair.y.as_slice()),
     }

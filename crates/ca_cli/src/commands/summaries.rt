@@ -1,15 +1,14 @@
 //! The commands that count what holds of many rules.
-ghost use Rattle.std.specs.Prelude.{◌≡◌, ℕ, ◌+◌, ◌^◌, ◌<◌, ◌≤◌, None, Some, IfOk, MatchOption, MatchResult, pos};
-ghost use Rattle.std.specs.Option.{option_or};
+ghost use Rattle.std.specs.Prelude.{◌≡◌, ℕ, ◌+◌, ◌^◌, ◌<◌, ◌≤◌, None, Some, length, IfOk, MatchOption, MatchResult, pos};
 ghost use Rattle.word_image.specs.LocalRules.{IsShape};
-ghost use Rattle.rule_text.specs.RuleTexts.{number_fault};
 ghost use Rattle.ca_cli.specs.ClassSummaries.{IsClassSummary};
 ghost use Rattle.ca_cli.specs.ClassTallies.{IsClassTally};
 ghost use Rattle.ca_cli.specs.Requests.{BeginsAt, asked_of_many};
 ghost use Rattle.ca_cli.specs.Outcomes.{IsShapeStop};
 ghost use Rattle.ca_cli.specs.Outputs.{IsOutputOfMany, rules_of, rules_fault};
-ghost use Rattle.ca_cli.specs.Samples.{numbered_rule, survey_rules, sample_rules, survey_fault, sample_fault};
+ghost use Rattle.ca_cli.specs.Samples.{survey_rules, sample_rules, sample_fault};
 ghost use Rattle.ca_cli.specs.Summaries.{IsSummary};
+ghost use Rattle.rule_verdicts.specs.Numbers.{numbered_rule, numbers_fault, AreVerdictBytes};
 ghost use Rattle.ca_cli.specs.Tallies.{IsTally};
 
 use crate::commands::class_tally::ClassTally;
@@ -19,9 +18,12 @@ use crate::output::Output;
 use crate::stop::Stop;
 use crate::words::request::Rules;
 use rule_text::{TextFault, check_shape, numbered};
-use rule_verdicts::verdicts;
+use rule_verdicts::{Truths, fault_past_all, verdict_bytes};
 use std::alloc::{AllocError, Global};
-use word_image::Rule;
+use word_image::{MOST_ENTRIES, Rule};
+
+/// The most rules of a summary.
+const MOST_RULES: usize = 4096;
 
 /// `survey K M FROM COUNT`, `sample K M SEED COUNT`, `classes K M FROM COUNT`: what is counted of COUNT
 /// rules of K states, width M and offset 0, those with the numbers from FROM on, or those that the seed
@@ -46,12 +48,15 @@ fn survey(alloc: Global, k: u8, m: u8, from: Option<u128>, count: u16) -> Result
     requires some { 1 ≤ count }
     requires few { count ≤ 4096 }
     ensures { (n : ℕ) → MatchOption from (2 ^ 128 ≤ n) (λ first. first ≡ n) → MatchResult result
-        (λ output. (survey_fault k m n count ≡ None) × IsSummary (survey_rules k m n count) output)
-        (IsShapeStop (survey_fault k m n count)) }
+        (λ output. (numbers_fault k m n count ≡ None) × IsSummary (survey_rules k m n count) output)
+        (IsShapeStop (numbers_fault k m n count)) }
 {
-    let first = first_number(k, m, from, count)?;
+    let Some(first) = from else {
+        return Err(Stop::RuleFault(1, fault_past_all(k, m)));
+    };
+    let tally = tally_of_numbers(k, m, first, count)?;
     let mut output = Output::new(alloc);
-    tally_of_numbers(k, m, first, count).write(alloc, &mut output)?;
+    tally.write(alloc, &mut output)?;
     Ok(output)
 }
 
@@ -75,8 +80,8 @@ fn classes(alloc: Global, k: u8, m: u8, from: Option<u128>, count: u16) -> Resul
     requires some { 1 ≤ count }
     requires few { count ≤ 4096 }
     ensures { (n : ℕ) → MatchOption from (2 ^ 128 ≤ n) (λ first. first ≡ n) → MatchResult result
-        (λ output. (survey_fault k m n count ≡ None) × IsClassSummary (survey_rules k m n count) output)
-        (IsShapeStop (survey_fault k m n count)) }
+        (λ output. (numbers_fault k m n count ≡ None) × IsClassSummary (survey_rules k m n count) output)
+        (IsShapeStop (numbers_fault k m n count)) }
 {
     let first = first_number(k, m, from, count)?;
     let mut output = Output::new(alloc);
@@ -88,10 +93,10 @@ fn classes(alloc: Global, k: u8, m: u8, from: Option<u128>, count: u16) -> Resul
 /// None stands for those from 2^128 on.
 fn first_number(k: u8, m: u8, from: Option<u128>, count: u16) -> Result<u128, Stop>
     requires some { 1 ≤ count }
-    ensures accepted { IfOk result (λ first. survey_fault k m first count ≡ None) }
+    ensures accepted { IfOk result (λ first. numbers_fault k m first count ≡ None) }
     ensures number { (n : ℕ) → MatchOption from (2 ^ 128 ≤ n) (λ first. first ≡ n) → MatchResult result
         (λ first. first ≡ n)
-        (IsShapeStop (survey_fault k m n count)) }
+        (IsShapeStop (numbers_fault k m n count)) }
 {
     match accepted_number(k, m, from, count) {
         Ok(first) => Ok(first),
@@ -102,10 +107,10 @@ fn first_number(k: u8, m: u8, from: Option<u128>, count: u16) -> Result<u128, St
 /// The same with the fault itself.
 fn accepted_number(k: u8, m: u8, from: Option<u128>, count: u16) -> Result<u128, TextFault>
     requires some { 1 ≤ count }
-    ensures accepted { IfOk result (λ first. survey_fault k m first count ≡ None) }
+    ensures accepted { IfOk result (λ first. numbers_fault k m first count ≡ None) }
     ensures number { (n : ℕ) → MatchOption from (2 ^ 128 ≤ n) (λ first. first ≡ n) → MatchResult result
         (λ first. first ≡ n)
-        (λ fault. survey_fault k m n count ≡ Some fault) }
+        (λ fault. numbers_fault k m n count ≡ Some fault) }
 {
     let Some(first) = from else {
         return Err(fault_past_all(k, m));
@@ -117,26 +122,33 @@ fn accepted_number(k: u8, m: u8, from: Option<u128>, count: u16) -> Result<u128,
     Ok(first)
 }
 
-/// The first fault of numbers so great that no shape has them.
-fn fault_past_all(k: u8, m: u8) -> TextFault
-    ensures { (number : ℕ) → 2 ^ 128 ≤ number →
-        option_or (sample_fault k m) (number_fault k m number) ≡ Some result }
+/// Counts what holds of the rules with so many numbers from this one on; else the stop for the first
+/// fault.
+fn tally_of_numbers(k: u8, m: u8, first: u128, count: u16) -> Result<Tally, Stop>
+    requires some { 1 ≤ count }
+    requires few { count ≤ 4096 }
+    ensures { MatchResult result
+        (λ tally. (numbers_fault k m first count ≡ None) × IsTally (survey_rules k m first count) tally)
+        (IsShapeStop (numbers_fault k m first count)) }
 {
-    match numbered(k, m, 0, 0) {
-        Ok(_) => TextFault::Number,
-        Err(fault) => fault,
+    let mut bytes = [0; MOST_RULES];
+    let bytes = &mut bytes[..usize::from(count)];
+    match verdict_bytes(k, m, first, bytes) {
+        Ok(()) => Ok(tally_of_bytes(k, m, first, bytes)),
+        Err(fault) => Err(Stop::RuleFault(1, fault)),
     }
 }
 
-/// Counts what holds of the rules with so many numbers from this one on.
-fn tally_of_numbers(k: u8, m: u8, first: u128, count: u16) -> Tally
-    requires accepted { survey_fault k m first count ≡ None }
-    requires few { count ≤ 4096 }
-    ensures { IsTally (survey_rules k m first count) result }
+/// Counts what holds of the rules with the numbers from this one on, of which each byte says it.
+fn tally_of_bytes(k: u8, m: u8, first: u128, bytes: &[u8]) -> Tally
+    requires accepted { numbers_fault k m first (length bytes.now) ≡ None }
+    requires bytes { AreVerdictBytes k m first bytes.now }
+    requires few { length bytes.now ≤ 4096 }
+    ensures { IsTally (survey_rules k m first (length bytes.now)) result }
 {
     let mut tally = Tally::new();
-    for i in 0..count {
-        tally.add(&verdicts(&surveyed(k, m, first, count, i)));
+    for byte in bytes {
+        tally.add(&Truths::of_byte(*byte));
     }
     tally
 }
@@ -149,7 +161,7 @@ fn classes_of_numbers(
     first: u128,
     count: u16,
 ) -> Result<ClassTally, AllocError>
-    requires accepted { survey_fault k m first count ≡ None }
+    requires accepted { numbers_fault k m first count ≡ None }
     requires few { count ≤ 4096 }
     ensures { IfOk result (IsClassTally k m (survey_rules k m first count)) }
 {
@@ -162,7 +174,7 @@ fn classes_of_numbers(
 
 /// The rule at this place of so many that have a number.
 fn surveyed(k: u8, m: u8, first: u128, count: u16, place: u16) -> Rule
-    requires accepted { survey_fault k m first count ≡ None }
+    requires accepted { numbers_fault k m first count ≡ None }
     requires place { place < count }
     ensures { result ≡ numbered_rule k m (first + place) }
 {
@@ -178,11 +190,23 @@ fn tally_of_draws(k: u8, m: u8, seed: u64, count: u16) -> Tally
     requires few { count ≤ 4096 }
     ensures { IsTally (sample_rules k m seed count) result }
 {
+    let size = usize::from(k).pow(u32::from(m));
+    let mut table = [0; MOST_ENTRIES];
+    tally_in(k, m, seed, count, &mut table[..size])
+}
+
+/// The same, where each table is drawn in the place of the one before.
+fn tally_in(k: u8, m: u8, seed: u64, count: u16, table: &mut [u8]) -> Tally
+    requires shape { IsShape k m (pos 0) }
+    requires few { count ≤ 4096 }
+    requires long { length table.old ≡ k ^ m }
+    ensures { IsTally (sample_rules k m seed count) result }
+{
     let mut generator = Generator::from_seed(seed);
     let mut tally = Tally::new();
     for _i in 0..count {
-        let rule = generator.rule(k, m);
-        tally.add(&verdicts(&rule));
+        generator.fill(table, k);
+        tally.add(&Truths::of_table(k, m, table));
     }
     tally
 }

@@ -1,13 +1,12 @@
 //! Of how many rules each verdict is true.
 ghost use Rattle.std.specs.Prelude.{◌≡◌, ◌<◌, List, [], ◌∷◌, ◌++◌, length, OnOk};
-ghost use Rattle.word_image.specs.LocalRules.{LocalRule};
-ghost use Rattle.word_image.specs.Weights.{own_weights};
-ghost use Rattle.cert_check.specs.Accepted.{AreTrue};
+ghost use Rattle.word_image.specs.LocalRules.{LocalRule, IsRule};
+ghost use Rattle.rule_verdicts.specs.Truths.{AreTruths};
 ghost use Rattle.ca_cli.specs.Summaries.{count_line};
 ghost use Rattle.ca_cli.specs.Tallies.{IsTally, summary_of};
 
 use crate::output::Output;
-use cert_check::Verdicts;
+use rule_verdicts::Truths;
 use std::alloc::{AllocError, Global};
 
 /// How many of some rules have each property.
@@ -38,21 +37,18 @@ impl Tally {
         }
     }
 
-    /// Counts one rule more, by its verdicts with own weights.
-    pub fn add(&mut self, verdicts: &Verdicts)
+    /// Counts one rule more, by what holds of it.
+    pub fn add(&mut self, truths: &Truths)
         requires { (rules : List LocalRule) × IsTally rules self.old × (length rules < 4096) }
-        ensures { (rules : List LocalRule) → IsTally rules self.old →
-            AreTrue verdicts.now → verdicts.now.weights ≡ own_weights (verdicts.now.rule).states → IsTally (rules ++ verdicts.now.rule ∷ []) self.new }
+        ensures { (rules : List LocalRule) (r : LocalRule) → IsTally rules self.old → IsRule r → AreTruths r truths.now → IsTally (rules ++ r ∷ []) self.new }
     {
-        // That the rule keeps the limits is what each of its calls says.
-        let _states = verdicts.rule.k();
         self.rules += 1;
-        self.surjective += u16::from(verdicts.surjective);
-        self.injective += u16::from(verdicts.injective);
-        self.right += u16::from(verdicts.right);
-        self.left += u16::from(verdicts.left);
-        self.both += u16::from(verdicts.is_open());
-        self.conserving += u16::from(verdicts.conserving);
+        self.surjective += u16::from(truths.surjective);
+        self.injective += u16::from(truths.injective);
+        self.right += u16::from(truths.right);
+        self.left += u16::from(truths.left);
+        self.both += u16::from(truths.is_open());
+        self.conserving += u16::from(truths.conserving);
     }
 
     /// Appends the seven lines of a summary.

@@ -1,11 +1,10 @@
 -- Two rings of one length have one image exactly where the rule gives one letter on their windows at each place.
-use Rattle.std.proofs.Common.{◌≡◌, ℕ, ◌<◌, ◌≤◌, List, length, ℤ, pos, ◌+ℤ◌, ◌-ℤ◌, refl, sym, ap, ◌∙◌, arith}
+use Rattle.std.proofs.Common.{◌≡◌, ℕ, ◌<◌, ◌≤◌, List, length, ℤ, pos, ◌+ℤ◌, ◌-ℤ◌, sym, ap, ◌∙◌, arith}
 use Rattle.std.proofs.lemmas.Int.{ints}
-use Rattle.std.proofs.lemmas.List.FromFn.{fill_by_all}
 use Rattle.word_image.specs.LocalRules.{LocalRule, local_map}
 use Rattle.word_image.specs.Rings.{ring_letter, ring_letters, ring_image}
-use Rattle.tail_config.specs.Tails.{cells, image_cell}
-use Rattle.tail_config.proofs.laws.Cells.{length-cells, get_or-cells}
+use Rattle.tail_config.specs.Tails.{image_cell, cell}
+use Rattle.tail_config.proofs.laws.Runs.{run-same}
 use Rattle.tail_laws.proofs.TwinTails.{round, cell-round, ShareImage-turn, ShareImage-rings, ring_image-shared}
 
 -- what the rule gives on the window at this place of a ring
@@ -16,8 +15,9 @@ window_letter r p i = local_map r (ring_letters p (pos i) r.width)
 image_cell-window : (r : LocalRule) (p : List ℕ) (i : ℕ) → image_cell r (round p) (pos 0 -ℤ r.offset +ℤ pos i) ≡ window_letter r p i
 image_cell-window r p i =
     let at : ℤ = pos 0 -ℤ r.offset +ℤ pos i +ℤ r.offset in
-    ap (local_map r) (fill_by_all (λ j. ring_letter p (pos i +ℤ pos j)) (cells (round p) at r.width) r.width 0 (length-cells (round p) at r.width)
-    (λ j h. let place : at +ℤ pos j ≡ pos i +ℤ pos j = omega (arith, ints) in get_or-cells (round p) at (at +ℤ pos j) r.width j h refl ∙ cell-round p (at +ℤ pos j) ∙ ap (ring_letter p) place))
+    ap (local_map r) (run-same (cell (round p)) (ring_letter p) at (pos i) r.width (λ j h.
+    let place : at +ℤ pos j ≡ pos i +ℤ pos j = omega (arith, ints) in
+    cell-round p (at +ℤ pos j) ∙ ap (ring_letter p) place))
 
 -- one letter at each place, and so one image
 pub ring_image-windows : (r : LocalRule) (x y : List ℕ) → 1 ≤ length x → length x ≡ length y → ((i : ℕ) → i < length x → window_letter r x i ≡ window_letter r y i) → ring_image r x ≡ ring_image r y

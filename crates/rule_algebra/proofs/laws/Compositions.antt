@@ -9,8 +9,9 @@ use Rattle.word_image.specs.LocalRules.{LocalRule, IsRule, IsShape, IsWord, loca
 use Rattle.word_image.specs.Words.{image}
 use Rattle.word_image.proofs.laws.Words.{length-image, entry-below}
 use Rattle.word_image.proofs.laws.Images.{get_or-image, image-by_letters, image-drop, image-take}
-use Rattle.tail_config.specs.Tails.{cells}
-use Rattle.tail_config.proofs.laws.Cells.{length-cells, IsWord-cells, image-cells}
+use Rattle.tail_config.specs.Tails.{cells, cell}
+use Rattle.tail_config.proofs.laws.Runs.{length-run, IsWord-run, image-run}
+use Rattle.tail_config.proofs.laws.Cells.{cell-below}
 use Rattle.rule_algebra.specs.Algebra.{IsComposed}
 use Rattle.rule_algebra.specs.MadeImages.{ComposesCells}
 use Rattle.rule_algebra.specs.AlgebraFaults.{limit_fault, compose_fault}
@@ -64,9 +65,9 @@ ComposesCells-composed {first} {second} before after = λ t i tail.
     let place : i +ℤ second.offset +ℤ first.offset ≡ j = omega (arith, ints) in
     let one : 2 ≤ first.width = before.shape.least_width in
     let wide : m ≡ second.width + (first.width - 1) = omega arith in
-    local_map-composed first second (cells t j m) (IsWord-cells tail j m) (length-cells t j m)
+    local_map-composed first second (cells t j m) (IsWord-run (cell-below tail) j m) (length-run (cell t) j m)
     ∙ ap (λ n. local_map second (image first (cells t j n))) wide
-    ∙ ap (local_map second) (image-cells before t (i +ℤ second.offset) j second.width place)
+    ∙ ap (local_map second) (image-run before (cell t) (i +ℤ second.offset) j second.width place)
 
 -- rules of one number of states have the first fault of the shape
 pub compose_fault-same : (first second : LocalRule) → first.states ≡ second.states

@@ -7,9 +7,11 @@ use Rattle.std.proofs.lemmas.List.Elements.{All-drop, All-append, All-replicate}
 use Rattle.word_image.specs.LocalRules.{LocalRule, IsRule, IsWord, local_map, mirrored}
 use Rattle.word_image.proofs.laws.Images.{IsWord-reverse, local_map-mirrored}
 use Rattle.word_image.proofs.laws.Lists.{reverse-cut}
-use Rattle.tail_config.specs.Tails.{TailConfig, IsTail, image_cell, mirror_of}
+use Rattle.tail_config.specs.Configs.{IsConfig}
+use Rattle.tail_config.specs.Tails.{TailConfig, IsTail, cell, image_cell, mirror_of}
 use Rattle.tail_config.specs.TailValues.{config_of}
-use Rattle.tail_config.proofs.laws.Mirror.{IsTail-mirror, image_cell-mirror}
+use Rattle.tail_config.proofs.laws.Cells.{cell-below}
+use Rattle.tail_config.proofs.laws.Mirror.{IsTail-mirror, cell-mirror, image_of-backwards}
 use Rattle.rule_algebra.specs.Algebra.{KeepsImages, Ignores, IsTrimmed}
 use Rattle.rule_algebra.specs.Tables.{IsRest, DropsFirsts}
 use Rattle.rule_algebra.proofs.laws.Trimming.{Ignores-firsts, firsts_ignored, Ignores-rest, rest_letters, KeepsImages-rest}
@@ -28,9 +30,9 @@ KeepsImages-mirrored {r} {g} rule other same keeps = λ t i tail.
     let back : i +ℤ j +ℤ pos 1 ≡ pos (length (reverse t.middle)) = omega (arith, ints, length-reverse t.middle) in
     let fore : j +ℤ i +ℤ pos 1 ≡ pos (length t.middle) = omega (arith, ints) in
     ap (λ u. image_cell (mirrored g) u i) (sym (mirror_of-mirror_of t))
-    ∙ image_cell-mirror other (subst (λ k. IsTail k (mirror_of t)) (sym same) there) i j back
+    ∙ image_of-backwards other (subst (λ k. IsConfig k (cell (mirror_of t))) (sym same) (cell-below there)) (cell-mirror there) i j back
     ∙ keeps (mirror_of t) j there
-    ∙ image_cell-mirror rule tail j i fore
+    ∙ image_of-backwards rule (cell-below tail) (cell-mirror tail) j i fore
 
 -- ignored last cells are ignored first cells of the mirrored rule
 Ignores-mirrored : (r : LocalRule) (e : ℕ) → e ≤ r.width → Ignores r 0 e → Ignores (mirrored r) e 0

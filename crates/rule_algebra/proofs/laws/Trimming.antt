@@ -9,8 +9,9 @@ use Rattle.std.proofs.lemmas.List.Elements.{All-cons, All-take, All-drop, All-ap
 use Rattle.word_image.specs.LocalRules.{LocalRule, IsRule, IsWord, value, word_of, local_map, node_count}
 use Rattle.word_image.proofs.laws.Values.{value-below, value-word_of, length-word_of, IsWord-word_of}
 use Rattle.word_image.proofs.laws.Graphs.{value-tail}
-use Rattle.tail_config.specs.Tails.{cells}
-use Rattle.tail_config.proofs.laws.Cells.{length-cells, IsWord-cells, drop-cells}
+use Rattle.tail_config.specs.Tails.{cells, cell}
+use Rattle.tail_config.proofs.laws.Runs.{length-run, IsWord-run, drop-run}
+use Rattle.tail_config.proofs.laws.Cells.{cell-below}
 use Rattle.rule_algebra.specs.Algebra.{KeepsImages, Ignores}
 use Rattle.rule_algebra.specs.Tables.{without_first, IsRest, DropsFirsts}
 
@@ -169,5 +170,5 @@ pub KeepsImages-rest : {r g : LocalRule} {n : ℕ} → IsRest r n g → KeepsIma
 KeepsImages-rest {r} {g} {n} rest = λ t i tail.
     let j : ℤ = i +ℤ r.offset in
     let place : j +ℤ pos n ≡ i +ℤ g.offset = omega (arith, ints, rest.offset) in
-    ap (local_map g) (sym (ap (λ m. drop n (cells t j m)) (sym rest.width) ∙ drop-cells t j (i +ℤ g.offset) n g.width place))
-    ∙ rest.letters (cells t j r.width) (IsWord-cells tail j r.width) (length-cells t j r.width)
+    ap (local_map g) (sym (ap (λ m. drop n (cells t j m)) (sym rest.width) ∙ drop-run (cell t) j (i +ℤ g.offset) n g.width place))
+    ∙ rest.letters (cells t j r.width) (IsWord-run (cell-below tail) j r.width) (length-run (cell t) j r.width)

@@ -2,8 +2,9 @@
 use Rattle.std.proofs.Common.{◌≡◌, ℕ, ◌-◌, ◌/◌, ◌^◌, ◌<◌, ◌≤◌, List, take, slice_index, ℤ, ◌+ℤ◌, sym, ap, ◌∙◌}
 use Rattle.word_image.specs.LocalRules.{LocalRule, IsRule, IsShape, local_map, word_of}
 use Rattle.word_image.proofs.laws.Words.{entry-below}
-use Rattle.tail_config.specs.Tails.{cells}
-use Rattle.tail_config.proofs.laws.Cells.{length-cells, IsWord-cells, take-cells}
+use Rattle.tail_config.specs.Tails.{cells, cell}
+use Rattle.tail_config.proofs.laws.Runs.{length-run, IsWord-run, take-run}
+use Rattle.tail_config.proofs.laws.Cells.{cell-below}
 use Rattle.rule_algebra.specs.Algebra.{KeepsImages}
 use Rattle.rule_algebra.specs.Tables.{widened}
 use Rattle.rule_algebra.proofs.laws.WindowValues.{value-take-word_of}
@@ -23,8 +24,8 @@ IsRule-widened {r} rule m shape =
 pub KeepsImages-widened : (r : LocalRule) (m : ℕ) → r.width ≤ m → KeepsImages r (widened r m)
 KeepsImages-widened r m h = λ t i tail.
     let j : ℤ = i +ℤ r.offset in
-    table_by-at r.states m (λ w. local_map r (take r.width w)) (cells t j m) (IsWord-cells tail j m) (length-cells t j m)
-    ∙ ap (local_map r) (take-cells t j m r.width h)
+    table_by-at r.states m (λ w. local_map r (take r.width w)) (cells t j m) (IsWord-run (cell-below tail) j m) (length-run (cell t) j m)
+    ∙ ap (local_map r) (take-run (cell t) j m r.width h)
 
 -- its table's letter for a window is the old one for the first digits of the window's value
 pub widened-entry : (r : LocalRule) (m v : ℕ) → r.width ≤ m → v < r.states ^ m → slice_index r.table (v / r.states ^ (m - r.width)) ≡ local_map r (take r.width (word_of r.states m v))

@@ -1,5 +1,5 @@
 -- What the rules of a class have in common, and how its least rule is found.
-use Rattle.std.proofs.Common.{◌≡◌, ℕ, ◌<◌, ◌≤◌, List, Bool, true, false, sym, ap, ◌∙◌, subst, ⊎_elim, arith}
+use Rattle.std.proofs.Common.{◌≡◌, ℕ, ◌<◌, ◌≤◌, List, Bool, true, false, refl, sym, ap, ◌∙◌, subst, ⊎_elim, arith}
 use Rattle.std.specs.Prelude.{◌↔◌}
 use Rattle.std.proofs.lemmas.Bool.{true≢false, false≢true}
 use Rattle.word_image.specs.LocalRules.{LocalRule, IsRule, mirrored, wolfram_number}
@@ -121,3 +121,12 @@ IsLeastOfClass-unique {r} {g} {h} rule a b first second =
     same_number (IsRule-class rule a first.member) (IsRule-class rule b second.member)
     (here.0 ∙ sym there.0) (here.1 ∙ sym there.1) (first.member.offset ∙ sym second.member.offset)
     (omega (arith, first.least b h second.member, second.least a g first.member))
+
+-- whether the least rule takes the mirrored rule is said in one way
+pub IsLeastOfClass-mirrored : {r g h : LocalRule} → IsRule r → (a b : Bool) → IsLeastOfClass r a g → IsLeastOfClass r b h → a ≡ b
+IsLeastOfClass-mirrored rule true true first second = refl
+IsLeastOfClass-mirrored rule false false first second = refl
+IsLeastOfClass-mirrored {r} rule true false first second =
+    absurd (false≢true (second.needed.1 (subst (λ g. ¬ IsInClass r false g) (IsLeastOfClass-unique rule true false first second) (first.needed.0 refl))))
+IsLeastOfClass-mirrored {r} rule false true first second =
+    absurd (false≢true (first.needed.1 (subst (λ g. ¬ IsInClass r false g) (IsLeastOfClass-unique rule true false second first) (second.needed.0 refl))))

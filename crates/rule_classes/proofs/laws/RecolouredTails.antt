@@ -5,7 +5,8 @@ use Rattle.std.proofs.lemmas.Int.{ints}
 use Rattle.std.proofs.lemmas.List.{length-map, get_or-map}
 use Rattle.word_image.specs.LocalRules.{LocalRule, IsRule, local_map}
 use Rattle.tail_config.specs.Tails.{TailConfig, IsTail, cell, cells, image_cell, Same, ShareImage, IsInjective, IsRightClosing, IsLeftClosing}
-use Rattle.tail_config.proofs.laws.Cells.{cell-middle, cell-right, cell-below, length-cells, get_or-cells, cells-by_letters, IsWord-cells}
+use Rattle.tail_config.proofs.laws.Runs.{run-by_letters, length-run, get_or-run, IsWord-run}
+use Rattle.tail_config.proofs.laws.Cells.{cell-middle, cell-right, cell-below}
 use Rattle.rule_algebra.specs.Algebra.{IsRecoloured, recoloured}
 use Rattle.rule_classes.specs.Colourings.{AreInverse}
 use Rattle.rule_classes.proofs.laws.Colours.{AreInverse-swap, IsWord-colours}
@@ -51,12 +52,12 @@ cell-recoloured {k} {t} colours tail (negsuc i) =
 cells-recoloured : {k : ℕ} {t : TailConfig} → (colours : List ℕ) → IsTail k t → (i : ℤ) (n : ℕ) → cells (recoloured_tail colours t) i n ≡ recoloured colours (cells t i n)
 cells-recoloured {k} {t} colours tail i n =
     let w : List ℕ = recoloured colours (cells t i n) in
-    let old : length (cells t i n) ≡ n = length-cells t i n in
+    let old : length (cells t i n) ≡ n = length-run (cell t) i n in
     let long : length w ≡ n = length-map (cells t i n) (slice_index colours) ∙ old in
     ap (cells (recoloured_tail colours t) i) (sym long)
-    ∙ sym (cells-by_letters (recoloured_tail colours t) i w (λ a l.
+    ∙ sym (run-by_letters (cell (recoloured_tail colours t)) i (length w) w refl (λ a l.
     get_or-map (slice_index colours) (cells t i n) a 0 0 (omega arith)
-    ∙ ap (slice_index colours) (get_or-cells t i (i +ℤ pos a) n a (omega arith) refl)
+    ∙ ap (slice_index colours) (get_or-run (cell t) i (i +ℤ pos a) n a (omega arith) refl)
     ∙ sym (cell-recoloured colours tail (i +ℤ pos a))))
 
 -- the image cells of the recoloured rule are the image cells in the new colours, as far apart as the offsets
@@ -65,7 +66,7 @@ image_cell-recoloured : {r g : LocalRule} {colours : List ℕ} {t : TailConfig} 
 image_cell-recoloured {r} {g} {colours} {t} new tail i j e =
     ap₂ (λ (p : ℤ) (m : ℕ). local_map g (cells (recoloured_tail colours t) p m)) e new.width
     ∙ ap (local_map g) (cells-recoloured colours tail (j +ℤ r.offset) r.width)
-    ∙ new.letters (cells t (j +ℤ r.offset) r.width) (IsWord-cells tail (j +ℤ r.offset) r.width) (length-cells t (j +ℤ r.offset) r.width)
+    ∙ new.letters (cells t (j +ℤ r.offset) r.width) (IsWord-run (cell-below tail) (j +ℤ r.offset) r.width) (length-run (cell t) (j +ℤ r.offset) r.width)
 
 -- two configurations that share an image share it in the new colours
 ShareImage-recoloured : {r g : LocalRule} {colours : List ℕ} {x y : TailConfig} → IsRecoloured colours r g → IsTail r.states x → IsTail r.states y

@@ -7,8 +7,10 @@ use Rattle.std.proofs.lemmas.List.{take_at}
 use Rattle.std.proofs.lemmas.List.FromFn.{length-map-range_with_len, get_or-map-range_with_len, fill_by_all}
 use Rattle.word_image.specs.LocalRules.{LocalRule, IsRule, value, local_map}
 use Rattle.word_image.specs.Words.{IsPreimage, IsOrphan}
+use Rattle.tail_config.specs.Configs.{run, image_of}
 use Rattle.tail_config.specs.Tails.{TailConfig, IsTail, cell, cells, image_cell}
-use Rattle.tail_config.proofs.laws.Cells.{length-cells, IsWord-cells, cells-same, take-cells, drop-cells, cells-middle, cells-left, cells-right, image_cells, image-cells}
+use Rattle.tail_config.proofs.laws.Runs.{length-run, IsWord-run, run-same, take-run, drop-run, image-run}
+use Rattle.tail_config.proofs.laws.Cells.{cell-below, cells-middle, cells-left, cells-right}
 use Rattle.tail_config.proofs.laws.Periods.{RepeatsRight-times}
 use Rattle.tail_config.proofs.laws.Repeats.{cell-right_period}
 use Rattle.tail_preimage.specs.Walks.{IsWalk, before_last}
@@ -23,15 +25,15 @@ IsPreimage-placed : {r : LocalRule} {t : TailConfig} {p : PlacedConfig} → IsRu
 IsPreimage-placed {r} {t} {p} rule h i j n e =
     let c : TailConfig = p.config in
     let first : ℤ = i -ℤ p.at in
-    let labels : image_cells r c first n ≡ cells t i n =
-    fill_by_all (λ a. cell t (i +ℤ pos a)) (image_cells r c first n) n 0 (length-map-range_with_len (λ a. image_cell r c (first +ℤ pos a)) 0 n)
+    let labels : run (image_of r (cell c)) first n ≡ cells t i n =
+    fill_by_all (λ a. cell t (i +ℤ pos a)) (run (image_of r (cell c)) first n) n 0 (length-map-range_with_len (λ a. image_cell r c (first +ℤ pos a)) 0 n)
     (λ a l. let place : i +ℤ pos a +ℤ r.offset -ℤ p.at ≡ first +ℤ pos a +ℤ r.offset = omega (arith, ints) in
     get_or-map-range_with_len (λ b. image_cell r c (first +ℤ pos b)) 0 n a a 0 l (omega arith)
     ∙ ap (local_map r) (sym (placed_cells-cells p (i +ℤ pos a +ℤ r.offset) (first +ℤ pos a +ℤ r.offset) r.width place)) ∙ h.cells (i +ℤ pos a)) in
     record {
-      word = IsWord-cells h.config j (n + (r.width - 1));
-      long = length-cells c j (n + (r.width - 1)) ∙ ap (λ a. a + (r.width - 1)) (sym (length-cells t i n));
-      maps = image-cells rule c first j n (omega (arith, ints, e)) ∙ labels;
+      word = IsWord-run (cell-below h.config) j (n + (r.width - 1));
+      long = length-run (cell c) j (n + (r.width - 1)) ∙ ap (λ a. a + (r.width - 1)) (sym (length-run (cell t) i n));
+      maps = image-run rule (cell c) first j n (omega (arith, ints, e)) ∙ labels;
     }
 
 -- the node of a configuration that begins at a place
@@ -45,8 +47,8 @@ IsWalk-placed {r} {t} {p} rule h i j n e =
     let d : ℕ = r.width - 1 in
     record {
       preimage = IsPreimage-placed rule h i j n e;
-      first = ap (value r.states) (take-cells p.config j (n + d) d (omega arith));
-      last = ap (λ a. value r.states (drop a (cells p.config j (n + d)))) (length-cells t i n) ∙ ap (value r.states) (drop-cells p.config j (j +ℤ pos n) n d refl);
+      first = ap (value r.states) (take-run (cell p.config) j (n + d) d (omega arith));
+      last = ap (λ a. value r.states (drop a (cells p.config j (n + d)))) (length-run (cell t) i n) ∙ ap (value r.states) (drop-run (cell p.config) j (j +ℤ pos n) n d refl);
     }
 
 -- a stretch has a preimage where some placed configuration maps to all
@@ -67,7 +69,7 @@ run-lefts t b n i e =
     let p : ℕ = length t.left in
     let long : (n + b) * p ≡ n * p + b * p = add-mul n b p in
     ap (λ j. cells t j (n * p)) e
-    ∙ sym (take-cells t (stretch_start t (n + b)) ((n + b) * p) (n * p) (omega arith))
+    ∙ sym (take-run (cell t) (stretch_start t (n + b)) ((n + b) * p) (n * p) (omega arith))
     ∙ ap (take (n * p)) (cells-lefts t (n + b) ∙ repeat-add n b t.left)
     ∙ take_at (repeat n t.left) (repeat b t.left) (n * p) (length-repeat n t.left)
 
@@ -76,7 +78,7 @@ run-rights : {k : ℕ} {t : TailConfig} → IsTail k t → (a n : ℕ) → cells
 run-rights {t = t} h a n =
     let p : ℕ = length t.right in
     let m : ℤ = pos (length t.middle) in
-    cells-same t t (pos (length t.middle + a * p)) m (n * p) (λ c l.
+    run-same (cell t) (cell t) (pos (length t.middle + a * p)) m (n * p) (λ c l.
     let place : pos (length t.middle + a * p) +ℤ pos c ≡ m +ℤ pos c +ℤ pos (a * p) = omega (arith, ints) in
     ap (cell t) place ∙ RepeatsRight-times a p (cell t) m (cell-right_period t) (m +ℤ pos c) (omega (arith, ints)))
     ∙ cells-rights h n
@@ -84,8 +86,8 @@ run-rights {t = t} h a n =
 -- a walk along a run of n letters, whose letters before its last node are the run of the configuration there
 before_last-cells : (r : LocalRule) (c : TailConfig) (j : ℤ) (n : ℕ) → before_last r (cells c j (n + (r.width - 1))) ≡ cells c j n
 before_last-cells r c j n =
-    let long : length (cells c j (n + (r.width - 1))) - (r.width - 1) ≡ n = omega (arith, length-cells c j (n + (r.width - 1))) in
-    ap (λ i. take i (cells c j (n + (r.width - 1)))) long ∙ take-cells c j (n + (r.width - 1)) n (omega arith)
+    let long : length (cells c j (n + (r.width - 1))) - (r.width - 1) ≡ n = omega (arith, length-run (cell c) j (n + (r.width - 1))) in
+    ap (λ i. take i (cells c j (n + (r.width - 1)))) long ∙ take-run (cell c) j (n + (r.width - 1)) n (omega arith)
 
 -- three walks of the shape of a placed configuration, which is theirs
 pub record HasLoopWalks (r : LocalRule) (t : TailConfig) (s : Shape) (p : PlacedConfig) : Type 0 where
@@ -125,7 +127,7 @@ HasLoopWalks-shape {r} {t} {s} {p} rule ht h =
     let round : node_from r c first ≡ v =
     ap (value r.states) (sym (placed_cells-cells p (p.at -ℤ pos left) first d at_loop) ∙ sym h.shape.node ∙ placed_cells-cells p p.at (pos 0) d at_node) in
     let turn : node_from r c (last +ℤ pos right) ≡ w =
-    ap (value r.states) (cells-same c c (last +ℤ pos right) last d (λ a l.
+    ap (value r.states) (run-same (cell c) (cell c) (last +ℤ pos right) last d (λ a l.
     let place : last +ℤ pos right +ℤ pos a ≡ last +ℤ pos a +ℤ pos (length c.right) = omega (arith, ints) in
     ap (cell c) place ∙ cell-right_period c (last +ℤ pos a) (omega (arith, ints)))) in
     let back_end : first +ℤ pos left ≡ pos 0 = omega (arith, ints) in
@@ -151,5 +153,5 @@ HasLoopWalks-shape {r} {t} {s} {p} rule ht h =
       };
       left = before_last-cells r c first left ∙ ap (λ n. cells c (neg_ℤ (pos n)) n) (sym left_long) ∙ cells-left c;
       middle = before_last-cells r c (pos 0) middle ∙ ap (cells c (pos 0)) (sym middle_long) ∙ cells-middle c;
-      right = before_last-cells r c last right ∙ ap₂ (λ (a b : ℕ). cells c (pos a) b) (sym middle_long) (sym right_long) ∙ cells-right h.maps.config;
+      right = before_last-cells r c last right ∙ ap₂ (λ (a b : ℕ). cells c (pos a) b) (sym middle_long) (sym right_long) ∙ cells-right c;
     }

@@ -13,7 +13,8 @@ use Rattle.word_image.proofs.laws.Images.{get_or-image}
 use Rattle.pair_laws.proofs.Joins.{same_node}
 use Rattle.tail_config.specs.Tails.{TailConfig, IsTail, cell, cells}
 use Rattle.tail_config.specs.TailValues.{config_of}
-use Rattle.tail_config.proofs.laws.Cells.{length-cells, get_or-cells, IsWord-cells, slice_range-cells, take-cells}
+use Rattle.tail_config.proofs.laws.Runs.{length-run, get_or-run, IsWord-run, slice_range-run, take-run}
+use Rattle.tail_config.proofs.laws.Cells.{cell-below}
 use Rattle.tail_preimage.specs.Walks.{IsWalk, before_last}
 use Rattle.tail_preimage.specs.Preimages.{PlacedConfig, MapsTo, Shape, IsShapedPreimage, stretch, placed_cell, placed_cells}
 use Rattle.tail_preimage.specs.FirstWalks.{AreLoopWalks, placed_of}
@@ -140,10 +141,10 @@ spelled-window {r} {t} {s} {w = w} {x = x} {y = y} {z = z} rule ht h n e inside 
     ap (take (e + m - e)) (drop-append-le e run end (omega arith))
     ∙ take-append-le (e + m - e) (drop e run) end (omega (arith, length-drop e run))
     ∙ ap (λ i. slice_range i e (e + m)) (sym (cells-stretch hc n n))
-    ∙ slice_range-cells c (stretch_start c n) (stretch_start c n +ℤ pos e) (stretch_length c n n) e m inside refl in
+    ∙ slice_range-run (cell c) (stretch_start c n) (stretch_start c n +ℤ pos e) (stretch_length c n n) e m inside refl in
     sym (get_or-image r (run ++ end) e (omega arith) ∙ ap (local_map r) window)
     ∙ ap (λ i. get_or i e 0) (walk.preimage.maps ∙ sym (cells-stretch ht b a))
-    ∙ get_or-cells t (stretch_start t b) (stretch_start t b +ℤ pos e) (stretch_length t b a) e (omega arith) refl
+    ∙ get_or-run (cell t) (stretch_start t b) (stretch_start t b +ℤ pos e) (stretch_length t b a) e (omega arith) refl
 
 -- the placed configuration of the walks maps to what they spell
 pub MapsTo-placed_of : {r : LocalRule} {t : TailConfig} {s : Shape} {v w : ℕ} {x y z : List ℕ} → IsRule r → IsTail r.states t → AreLoopWalks r t s v w x y z
@@ -180,7 +181,7 @@ spelled-node {r} {t} {w = w} {x = x} {y = y} {z = z} rule ht h b =
     let run : List ℕ = stretch c b d in
     let inside : d ≤ stretch_length c b d = omega arith in
     ap (value r.states)
-    (sym (take-cells c (stretch_start c b) (stretch_length c b d) d inside) ∙ ap (take d) (cells-stretch hc b d)
+    (sym (take-run (cell c) (stretch_start c b) (stretch_length c b d) d inside) ∙ ap (take d) (cells-stretch hc b d)
     ∙ sym (take-append-le d run (word_of r.states d w) (omega (arith, length-stretch c b d))))
     ∙ (IsWalk-rounds rule h b d).first
 
@@ -206,8 +207,8 @@ IsShapedPreimage-placed_of {r} {t} {s} {x = x} {y = y} {z = z} rule ht h =
         right = length-before_last h.right ∙ length-repeat s.on t.right;
         at = refl;
         node = placed_cells-cells p p.at (stretch_start c 0) d here
-            ∙ value-injective r.states (cells c (stretch_start c 0) d) (cells c (stretch_start c 1) d) (IsWord-cells hc (stretch_start c 0) d) (IsWord-cells hc (stretch_start c 1) d)
-            (length-cells c (stretch_start c 0) d ∙ sym (length-cells c (stretch_start c 1) d)) (spelled-node rule ht h 0 ∙ sym (spelled-node rule ht h 1))
+            ∙ value-injective r.states (cells c (stretch_start c 0) d) (cells c (stretch_start c 1) d) (IsWord-run (cell-below hc) (stretch_start c 0) d) (IsWord-run (cell-below hc) (stretch_start c 1) d)
+            (length-run (cell c) (stretch_start c 0) d ∙ sym (length-run (cell c) (stretch_start c 1) d)) (spelled-node rule ht h 0 ∙ sym (spelled-node rule ht h 1))
             ∙ sym (placed_cells-cells p (p.at -ℤ pos (s.back * length t.left)) (stretch_start c 1) d before);
       };
     }

@@ -7,7 +7,8 @@ use Rattle.std.proofs.lemmas.List.{append-nil}
 use Rattle.std.proofs.lemmas.List.Elements.{All-nil, All-append}
 use Rattle.word_image.specs.LocalRules.{IsWord}
 use Rattle.tail_config.specs.Tails.{TailConfig, IsTail, cell, cells}
-use Rattle.tail_config.proofs.laws.Cells.{cells-same, cells-middle, cells-left, cells-right, cells-append}
+use Rattle.tail_config.proofs.laws.Runs.{run-same, run-append}
+use Rattle.tail_config.proofs.laws.Cells.{cells-middle, cells-left, cells-right}
 use Rattle.tail_config.proofs.laws.Periods.{RepeatsLeft-times}
 use Rattle.tail_config.proofs.laws.Repeats.{cell-left_period, cell-right_period}
 use Rattle.tail_preimage.specs.Preimages.{stretch}
@@ -75,11 +76,11 @@ cells-lefts t (suc b) =
     let long : suc b * p ≡ p + b * p = omega (arith, suc-mul b p) in
     let seam : start +ℤ pos p ≡ neg_ℤ (pos (b * p)) = omega (arith, ints, suc-mul b p) in
     let first : cells t start p ≡ t.left =
-    cells-same t t start (neg_ℤ (pos p)) p (λ a l.
+    run-same (cell t) (cell t) start (neg_ℤ (pos p)) p (λ a l.
     let place : start +ℤ pos a ≡ neg_ℤ (pos p) +ℤ pos a -ℤ pos (b * p) = omega (arith, ints, suc-mul b p) in
     ap (cell t) place ∙ RepeatsLeft-times b p (cell t) (pos 0) (cell-left_period t) (neg_ℤ (pos p) +ℤ pos a) (omega (arith, ints)))
     ∙ cells-left t in
-    ap (cells t start) long ∙ cells-append t start (neg_ℤ (pos (b * p))) p (b * p) seam ∙ ap₂ (λ (x y : List ℕ). x ++ y) first (cells-lefts t b)
+    ap (cells t start) long ∙ run-append (cell t) start (neg_ℤ (pos (b * p))) p (b * p) seam ∙ ap₂ (λ (x y : List ℕ). x ++ y) first (cells-lefts t b)
 
 -- right of the middle stand copies of the right period
 pub cells-rights : {k : ℕ} {t : TailConfig} → IsTail k t → (a : ℕ) → cells t (pos (length t.middle)) (a * length t.right) ≡ repeat a t.right
@@ -89,10 +90,10 @@ cells-rights {t = t} h (suc a) =
     let start : ℤ = pos (length t.middle) in
     let long : suc a * p ≡ p + a * p = omega (arith, suc-mul a p) in
     let rest : cells t (start +ℤ pos p) (a * p) ≡ cells t start (a * p) =
-    cells-same t t (start +ℤ pos p) start (a * p) (λ c l.
+    run-same (cell t) (cell t) (start +ℤ pos p) start (a * p) (λ c l.
     let place : start +ℤ pos p +ℤ pos c ≡ start +ℤ pos c +ℤ pos p = omega (arith, ints) in
     ap (cell t) place ∙ cell-right_period t (start +ℤ pos c) (omega (arith, ints))) in
-    ap (cells t start) long ∙ cells-append t start (start +ℤ pos p) p (a * p) refl ∙ ap₂ (λ (x y : List ℕ). x ++ y) (cells-right h) (rest ∙ cells-rights h a)
+    ap (cells t start) long ∙ run-append (cell t) start (start +ℤ pos p) p (a * p) refl ∙ ap₂ (λ (x y : List ℕ). x ++ y) (cells-right t) (rest ∙ cells-rights h a)
 
 -- the place at which b left periods before place 0 begin
 abbrev pub stretch_start : TailConfig → ℕ → ℤ
@@ -104,7 +105,7 @@ cells-stretch {t = t} h b a =
     let left : ℕ = b * length t.left in
     let m : ℕ = length t.middle in
     let start : ℤ = stretch_start t b in
-    cells-append t start (pos m) (left + m) (a * length t.right) (omega (arith, ints))
+    run-append (cell t) start (pos m) (left + m) (a * length t.right) (omega (arith, ints))
     ∙ ap₂ (λ (x y : List ℕ). x ++ y)
-    (cells-append t start (pos 0) left m (omega (arith, ints)) ∙ ap₂ (λ (x y : List ℕ). x ++ y) (cells-lefts t b) (cells-middle t))
+    (run-append (cell t) start (pos 0) left m (omega (arith, ints)) ∙ ap₂ (λ (x y : List ℕ). x ++ y) (cells-lefts t b) (cells-middle t))
     (cells-rights h a)

@@ -1,5 +1,4 @@
-use Rattle.std.proofs.Common.{ℕ, List, ap, subst, subst₂}
-use Rattle.word_image.specs.LocalRules.{LocalRule}
+use Rattle.std.proofs.Common.{ℕ, List, ap, subst}
 use Rattle.word_image.specs.Graphs.{full_set}
 use Rattle.cert_format.specs.Certificates.{Certificate}
 use Rattle.cert_format.specs.Parts.{surjective_of}
@@ -13,6 +12,7 @@ use Rattle.cert_check.proofs.orphans.orphan_read.Goals as goal
 
 pub returns-else-reached-eq0 : goal.returns-else-reached-eq0
 returns-else-reached-eq0 c =
-    let leads = subst₂ (λ (r : LocalRule) (w : List ℕ). LeadsTo r (full_set r) w c.reached.result) c.of.ensures c.as_slice.ensures c.reached.ensures in
+    let r = c.cert.inside.rule in
+    let leads = subst (λ (w : List ℕ). LeadsTo r (full_set r) w c.reached.result) c.as_slice.ensures c.reached.ensures in
     subst (λ (x : Certificate). IsBreach x condition.OrphanRead refusal.Orphan) c.cert.view_is
-    (NoOrphan c.in-Orphan.word (ap surjective_of c.in-Orphan.is) (λ empty. c.if-reached-eq0.false (LeadsTo-unique c.cert.inside.rule c.in-Orphan.word (full_set c.cert.inside.rule) c.reached.result 0 leads empty)))
+    (NoOrphan c.in-Orphan.word (ap surjective_of c.in-Orphan.is) (λ empty. c.if-reached-eq0.false (LeadsTo-unique r c.in-Orphan.word (full_set r) c.reached.result 0 leads empty)))

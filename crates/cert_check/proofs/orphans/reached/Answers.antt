@@ -8,10 +8,10 @@ use Rattle.cert_check.proofs.orphans.reached.Goals as goal
 
 pub loop-letter-init : goal.loop-letter-init
 loop-letter-init c =
-    sym c.full-set.ensures.set
+    sym c.all_nodes-set.ensures.set
 
 pub loop-letter-preserved : goal.loop-letter-preserved
 loop-letter-preserved c =
-    let r = c.args.graph.now in
+    let r = c.args.rule.now in
     subst (λ w. LeadsTo r (full_set r) w c.step-set.result) (sym (take_more c.args.word.now c.loop-letter.letter-index 0 c.loop-letter-test.true))
     (Walk-push (IsStep r) (take c.loop-letter.letter-index c.args.word.now) _ (full_set r) c.loop-letter.set c.step-set.result c.loop-letter.invariant c.step-set.ensures.step)

@@ -5,4 +5,4 @@ use Rattle.cert_check.proofs.orphans.reached.Given as goal
 
 -- the letters so far are read
 abbrev pub invariant-loop-letter : goal.invariant-loop-letter
-invariant-loop-letter l = LeadsTo l.graph (full_set l.graph) (take l.letter-index l.word) l.set
+invariant-loop-letter l = LeadsTo l.rule (full_set l.rule) (take l.letter-index l.word) l.set

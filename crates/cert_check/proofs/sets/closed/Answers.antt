@@ -1,4 +1,4 @@
-use Rattle.std.proofs.Common.{ℕ, List, length, slice_index, sym, ap, subst, subst₂}
+use Rattle.std.proofs.Common.{ℕ, List, length, slice_index, sym, ap, subst}
 use Rattle.word_image.specs.LocalRules.{LocalRule}
 use Rattle.cert_format.specs.declared.cert_version.CertVersion.{CertVersion}
 use Rattle.cert_format.specs.Certificates.{Certificate}
@@ -20,14 +20,15 @@ pub returns-in-Some : goal.returns-in-Some
 returns-in-Some c =
     let place = c.in-Some.place in
     let letter = c.in-Some.letter in
-    let both = subst₂ (λ (r : LocalRule) (sets : List ℕ). IsFirstBreach (length sets) (IsClosedAt c.cert.inside.version r sets) place × IsFirstBreach r.states (StepIsKept c.cert.inside.version r sets (slice_index sets place)) letter)
-    c.of.ensures c.as_slice.ensures c.in-Some.ensures in
+    let r = c.cert.inside.rule in
+    let both = subst (λ (sets : List ℕ). IsFirstBreach (length sets) (IsClosedAt c.cert.inside.version r sets) place × IsFirstBreach r.states (StepIsKept c.cert.inside.version r sets (slice_index sets place)) letter)
+    c.as_slice.ensures c.in-Some.ensures in
     subst (λ (x : Certificate). IsBreach x condition.Closed (refusal.NotClosed place letter)) c.cert.view_is
     (NotClosed c.in-Sets.sets place letter (ap surjective_of c.in-Sets.is) both.0 both.1)
 
 pub returns-in-None : goal.returns-in-None
 returns-in-None c =
     let r = c.cert.inside.rule in
-    let each = subst₂ (λ (r : LocalRule) (sets : List ℕ). EachBelow (length sets) (IsClosedAt c.cert.inside.version r sets)) c.of.ensures c.as_slice.ensures c.in-None.ensures in
+    let each = subst (λ (sets : List ℕ). EachBelow (length sets) (IsClosedAt c.cert.inside.version r sets)) c.as_slice.ensures c.in-None.ensures in
     subst (λ (x : Certificate). Holds x condition.Closed) c.cert.view_is
     (subst (λ e. OfSets e (λ sets. EachBelow (length sets) (IsClosedAt c.cert.inside.version r sets))) (sym (ap surjective_of c.in-Sets.is)) each)

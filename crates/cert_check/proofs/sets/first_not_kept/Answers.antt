@@ -6,13 +6,13 @@ use Rattle.cert_check.proofs.sets.first_not_kept.Goals as goal
 
 pub loop-letter-preserved : goal.loop-letter-preserved
 loop-letter-preserved c version sets marked =
-    let small : c.step.result ≤ full_set c.args.graph.now = let within = c.step.ensures.step.within in omega arith in
-    below_more (StepIsKept version c.args.graph.now sets c.args.set) c.loop-letter.letter (c.loop-letter.invariant version sets marked)
+    let small : c.step.result ≤ full_set c.args.rule.now = let within = c.step.ensures.step.within in omega arith in
+    below_more (StepIsKept version c.args.rule.now sets c.args.set) c.loop-letter.letter (c.loop-letter.invariant version sets marked)
     (c.step.result, c.step.ensures.step, (marked c.step.result small).0 (c.has.ensures.0 c.if-not-has.false))
 
 pub returns-then-not-has : goal.returns-then-not-has
 returns-then-not-has c version sets marked =
-    let small : c.step.result ≤ full_set c.args.graph.now = let within = c.step.ensures.step.within in omega arith in
+    let small : c.step.result ≤ full_set c.args.rule.now = let within = c.step.ensures.step.within in omega arith in
     record {
       within = omega arith;
       fails = λ (after, step, kept).

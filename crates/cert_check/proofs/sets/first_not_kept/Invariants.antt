@@ -8,4 +8,4 @@ use Rattle.cert_check.proofs.sets.first_not_kept.Given as goal
 
 -- the steps so far are as they should be
 abbrev pub invariant-loop-letter : goal.invariant-loop-letter
-invariant-loop-letter l = (version : CertVersion) (sets : List ℕ) → AreKept version (full_set l.graph) sets l.kept.rows → EachBelow l.letter (StepIsKept version l.graph sets l.set)
+invariant-loop-letter l = (version : CertVersion) (sets : List ℕ) → AreKept version (full_set l.rule) sets l.kept.rows → EachBelow l.letter (StepIsKept version l.rule sets l.set)

@@ -7,7 +7,7 @@ use Rattle.cert_check.proofs.sets.first_open.Goals as goal
 
 pub loop-place-preserved-then-has : goal.loop-place-preserved-then-has
 loop-place-preserved-then-has c =
-    let r = c.args.graph.now in
+    let r = c.args.rule.now in
     let sets = c.args.sets.now in
     let inv = c.loop-place.invariant in
     record {
@@ -17,10 +17,10 @@ loop-place-preserved-then-has c =
 
 pub loop-place-preserved : goal.loop-place-preserved
 loop-place-preserved c =
-    let r = c.args.graph.now in
+    let r = c.args.rule.now in
     let sets = c.args.sets.now in
     let inv = c.loop-place.invariant in
-    let kept : AreKept c.args.version (full_set r) sets c.kept-kept.result.rows = subst (λ full. AreKept c.args.version full sets c.kept-kept.result.rows) c.full.ensures.set c.kept-kept.ensures in
+    let kept : AreKept c.args.version (full_set r) sets c.kept-kept.result.rows = subst (λ full. AreKept c.args.version full sets c.kept-kept.result.rows) c.all_nodes.ensures.set c.kept-kept.ensures in
     let here : EachBelow r.states (StepIsKept c.args.version r sets (slice_index sets c.loop-place.place)) = c.in_default.ensures c.args.version sets kept in
     record {
       so_far = below_more (λ i. EachBelow r.states (StepIsKept c.args.version r sets (slice_index sets i))) c.loop-place.place inv.so_far here;

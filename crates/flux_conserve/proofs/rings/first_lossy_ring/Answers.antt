@@ -5,7 +5,10 @@ use Rattle.flux_conserve.proofs.LeastRings.{IsLeastLossyRing-first}
 use Rattle.flux_conserve.proofs.rings.first_lossy_ring.Goals as goal
 
 pub returns-in-Some : goal.returns-in-Some
-returns-in-Some c = IsLeastLossyRing-first c.loop-count.invariant c.in-Some.ensures.first
+returns-in-Some c = record {
+  least = IsLeastLossyRing-first c.loop-count.invariant c.in-Some.ensures.first;
+  short = omega (arith, c.in-Some.ensures.first.long);
+}
 
 pub unreachable-requires : goal.unreachable-requires
 unreachable-requires c =

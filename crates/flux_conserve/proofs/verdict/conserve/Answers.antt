@@ -26,4 +26,5 @@ returns-then-is_flux c =
     record {
       conserving = (λ yes. (IsConserving-gains_row rule weight).1 flux, λ keep. refl);
       shown = subst (IsFluxRow weight r) (sym c.walk_flows-flows.ensures) (IsFluxRow-gains_row rule weight flux);
+      short = tt;
     }

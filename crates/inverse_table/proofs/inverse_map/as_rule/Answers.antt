@@ -5,7 +5,8 @@ use Rattle.word_image.specs.LocalRules.{IsRule}
 use Rattle.word_image.specs.RuleFaults.{shape_fault}
 use Rattle.word_image.proofs.laws.RuleFaults.{IsShape-shape_fault, shape_fault-IsShape}
 use Rattle.word_image.proofs.laws.RulesBy.{IsRuleBy-entries}
-use Rattle.inverse_table.specs.InverseMaps.{WindowMap, map_rule}
+use Rattle.tail_config.specs.InverseMaps.{WindowMap}
+use Rattle.inverse_table.specs.InverseMaps.{map_rule}
 use Rattle.inverse_table.specs.MapLimits.{IsWindowMap}
 use Rattle.inverse_table.proofs.MapRules.{IsRule-map_rule, shape_fault-limit}
 use Rattle.inverse_table.proofs.inverse_map.as_rule.Goals as goal

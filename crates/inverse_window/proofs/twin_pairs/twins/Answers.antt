@@ -1,36 +1,12 @@
-use Rattle.std.proofs.Common.{◌≡◌, map, true, false, refl}
-use Rattle.word_image.specs.LocalRules.{IsRule}
-use Rattle.word_image.specs.Graphs.{pair_count}
-use Rattle.word_image.specs.Rings.{IsLeastTwins}
-use Rattle.search_laws.specs.PairWalks.{uncode}
-use Rattle.tail_laws.proofs.TwinTails.{no_twins}
-use Rattle.tail_laws.proofs.NoTwins.{IsInjective-no_twins}
-use Rattle.tail_laws.specs.FirstLists.{NoneBelow, IsFirstBelow}
-use Rattle.tail_laws.specs.Turns.{IsTurn}
-use Rattle.tail_laws.proofs.FirstLists.{spelled_pair}
-use Rattle.tail_laws.proofs.LeastTwins.{IsLeastTwins-first, no_twins-none, length-IsLeastTwins}
+use Rattle.std.proofs.Common.{◌↔◌, ℕ, List, IfOk, IsNone, MatchOption, subst}
+use Rattle.word_image.specs.LocalRules.{LocalRule}
+use Rattle.word_image.specs.Rings.{IsTwins, IsLeastTwins}
+use Rattle.tail_config.specs.Tails.{IsInjective}
 use Rattle.inverse_window.proofs.twin_pairs.twins.Goals as goal
 
-pub returns-in_ok-x-in-Some-clause-least : goal.returns-in_ok-x-in-Some-clause-least
-returns-in_ok-x-in-Some-clause-least c =
-    let turn : IsFirstBelow (IsTurn c.args.pairs.now) (pair_count c.args.pairs.now) (map (uncode 16) c.in-Some.steps.items) = rw c.in-Some.is at c.in_ok-steps.ensures.turn in
-    spelled_pair (IsLeastTwins c.args.pairs.now) c.in-Some.steps.items c.deref.ensures.value c.in_ok-x-in-Some.ensures.first c.in_ok-x-in-Some.ensures.second (IsLeastTwins-first c.in_ok-steps.ensures.rule turn)
+pub returns-clause-injective : goal.returns-clause-injective
+returns-clause-injective c = subst (λ (r : LocalRule). IfOk c.twins_over.result (λ found. IsNone found ↔ IsInjective r)) c.of.ensures c.twins_over.ensures.injective
 
-pub returns-in_ok-x-in-Some-clause-injective : goal.returns-in_ok-x-in-Some-clause-injective
-returns-in_ok-x-in-Some-clause-injective c = (
-  λ none. let not : true ≡ false = none in cc,
-  λ injective. absurd (no_twins (returns-in_ok-x-in-Some-clause-least c).twins injective),
-)
-
-pub returns-in_ok-x-in-Some-clause-most : goal.returns-in_ok-x-in-Some-clause-most
-returns-in_ok-x-in-Some-clause-most c = length-IsLeastTwins c.in_ok-steps.ensures.rule (returns-in_ok-x-in-Some-clause-least c)
-
-pub returns-in-None-clause-least : goal.returns-in-None-clause-least
-returns-in-None-clause-least c =
-    let rule : IsRule c.args.pairs.now = c.in_ok-steps.ensures.rule in
-    let none : NoneBelow (IsTurn c.args.pairs.now) (pair_count c.args.pairs.now) = rw c.in-None.is at c.in_ok-steps.ensures.turn in
-    no_twins-none rule none
-
-pub returns-in-None-clause-injective : goal.returns-in-None-clause-injective
-returns-in-None-clause-injective c =
-    (λ none. (IsInjective-no_twins (c.in_ok-steps.ensures.rule)).1 (returns-in-None-clause-least c), λ injective. refl)
+pub returns-clause-least : goal.returns-clause-least
+returns-clause-least c =
+    subst (λ (r : LocalRule). IfOk c.twins_over.result (λ found. MatchOption found ((x y : List ℕ) → ¬ IsTwins r x y) (λ pair. IsLeastTwins r pair.x pair.y))) c.of.ensures c.twins_over.ensures.least

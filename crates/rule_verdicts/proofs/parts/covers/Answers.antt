@@ -15,5 +15,5 @@ IsCoverList-verdict Orphan f h every = absurd (IsOrphan-not_surjective h.0.orpha
 
 pub returns : goal.returns
 returns c =
-    let list : c.of.result ≡ c.run.new.self.cover = c.of.ensures ∙ c.in_ok-to_vec.ensures.items_if_clones_equal (λ x y e. e) ∙ c.cover.ensures in
-    subst (IsCoverList c.args.graph.now) (sym list) (IsCoverList-verdict c.run.result c.run.new.self c.run.ensures.verdict c.requires)
+    let list : c.of.result ≡ c.run_over.new.self.cover = c.of.ensures ∙ c.in_ok-to_vec.ensures.items_if_clones_equal (λ x y e. e) ∙ c.cover.ensures in
+    subst (IsCoverList c.args.graph.now) (sym list) (IsCoverList-verdict c.run_over.result c.run_over.new.self c.run_over.ensures.verdict c.requires)

@@ -35,3 +35,9 @@ loop-node-preserved c =
 
 pub returns-clause-edges : goal.returns-clause-edges
 returns-clause-edges c = AreEdgeRows-all c.nodes-node-end.ensures.rule (subst (λ n. HaveEdges c.args.side c.args.rule.now (n * c.args.rule.now.states) c.loop-node.ends) (omega arith) c.loop-node.invariant)
+
+pub returns-clause-tall : goal.returns-clause-tall
+returns-clause-tall c = c.loop-node.invariant.tall
+
+pub returns-clause-wide : goal.returns-clause-wide
+returns-clause-wide c = c.loop-node.invariant.wide

@@ -6,8 +6,8 @@ use Rattle.ca_cli.proofs.laws.ClassSummaries.{verdict_through}
 use Rattle.ca_cli.proofs.commands.class_tally.of_member.Goals as goal
 use Rattle.ca_cli.proofs.commands.class_tally.of_member.Goals.{then-mirrored, else-mirrored}
 
-pub returns-clause-are_true : goal.returns-clause-are_true
-returns-clause-are_true c one are =
+pub returns-clause-truths : goal.returns-clause-truths
+returns-clause-truths c g one are =
     let r : LocalRule = c.args.rule.now in
     let right : IsTrue c.if-mirrored.right.0 ↔ IsRightClosing r =
     elim c.if-mirrored.branch [
@@ -24,5 +24,5 @@ returns-clause-are_true c one are =
       right = right;
       left = left;
       open_ = both_true _ _ right left;
-      conserving = c.is_conserving.ensures;
+      conserving = c.keeps_sums.ensures.sums;
     }

@@ -1,7 +1,8 @@
 use Rattle.std.proofs.Common.{◌≡◌, [], ◌∷◌, ◌++◌, sym, subst, arith}
 use Rattle.std.proofs.lemmas.List.FromFn.{length-map-range_with_len}
 use Rattle.word_image.specs.LocalRules.{LocalRule}
-use Rattle.ca_cli.specs.Samples.{numbered_rule, survey_rules}
+use Rattle.rule_verdicts.specs.Numbers.{numbered_rule}
+use Rattle.ca_cli.specs.Samples.{survey_rules}
 use Rattle.ca_cli.specs.ClassTallies.{IsClassTally}
 use Rattle.ca_cli.proofs.laws.Samples.{survey_rules-more}
 use Rattle.ca_cli.proofs.commands.summaries.classes_of_numbers.Goals as goal

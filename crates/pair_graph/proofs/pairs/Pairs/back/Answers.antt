@@ -12,4 +12,5 @@ returns c =
       exactly = λ p.
           let exact = LeadsBack-follow (subst IsRule c.rule.ensures c.follow.ensures.rule) c.args.q c.args.a c.args.b p c.requires.pair c.requires.first c.requires.second in
           ((λ some. exact.0 (sym is ∙ some)), (λ back. is ∙ exact.1 back));
+      pair = is;
     }

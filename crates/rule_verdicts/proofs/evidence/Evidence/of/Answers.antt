@@ -23,14 +23,14 @@ pub invariant_of-result : goal.invariant_of-result
 invariant_of-result c =
     let r = c.args.rule.now in
     let pairs = c.of-pairs.ensures in
-    let right = c.side_part.ensures.right r (subst (λ (q : LocalRule). IsRightAnswer q c.in_ok-right.field-0) pairs c.in_ok-right.ensures.answer) in
-    let left = c.side_part-2.ensures.left r (subst (λ (q : LocalRule). IsLeftAnswer q c.in_ok-left.field-0) pairs c.in_ok-left.ensures.answer) in
-    (search rules, c.of-ranks.ensures ∙ pairs, right.1, left.1, found c.args.weights.now pairs c.graph.ensures c.in_ok-first_orphan.ensures c.in_ok-injective_part.ensures.least right.0 left.0 c.in_ok-sum_part.ensures, record { each_letter = c.requires; small = subst (All (λ w. w ≤ 255)) c.as_slice.ensures.weights c.have_eight_bits.ensures })
+    let right = c.side_part.ensures.right r (subst (λ (q : LocalRule). IsRightAnswer q c.in_ok-right_over.field-0) pairs c.in_ok-right_over.ensures) in
+    let left = c.side_part-2.ensures.left r (subst (λ (q : LocalRule). IsLeftAnswer q c.in_ok-left_over.field-0) pairs c.in_ok-left_over.ensures) in
+    (search rules, c.over-ranks.ensures ∙ pairs, right.1, left.1, found c.args.weights.now pairs c.graph.ensures c.in_ok-first_orphan.ensures c.in_ok-injective_part.ensures.least right.0 left.0 c.in_ok-sum_part.ensures, record { each_letter = c.requires; small = subst (All (λ w. w ≤ 255)) c.as_slice.ensures.weights c.have_eight_bits.ensures })
 
 pub returns-clause-least : goal.returns-clause-least
 returns-clause-least c =
     let r = c.args.rule.now in
     let pairs = c.of-pairs.ensures in
-    let right = c.side_part.ensures.right r (subst (λ (q : LocalRule). IsRightAnswer q c.in_ok-right.field-0) pairs c.in_ok-right.ensures.answer) in
-    let left = c.side_part-2.ensures.left r (subst (λ (q : LocalRule). IsLeftAnswer q c.in_ok-left.field-0) pairs c.in_ok-left.ensures.answer) in
+    let right = c.side_part.ensures.right r (subst (λ (q : LocalRule). IsRightAnswer q c.in_ok-right_over.field-0) pairs c.in_ok-right_over.ensures) in
+    let left = c.side_part-2.ensures.left r (subst (λ (q : LocalRule). IsLeftAnswer q c.in_ok-left_over.field-0) pairs c.in_ok-left_over.ensures) in
     found c.args.weights.now pairs c.graph.ensures c.in_ok-first_orphan.ensures c.in_ok-injective_part.ensures.least right.0 left.0 c.in_ok-sum_part.ensures

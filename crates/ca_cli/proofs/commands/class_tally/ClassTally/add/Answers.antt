@@ -1,10 +1,8 @@
-use Rattle.std.proofs.Common.{[], ◌∷◌, ◌++◌, All, IfOk, sym, ap, ◌∙◌, subst, subst₂}
+use Rattle.std.proofs.Common.{All, IfOk, subst, subst₂}
 use Rattle.word_image.specs.LocalRules.{LocalRule}
-use Rattle.word_image.specs.Weights.{own_weights}
 use Rattle.rule_classes.specs.Classes.{IsLeastOfClass}
 use Rattle.rule_classes.specs.ClassVerdicts.{HaveOneVerdict}
-use Rattle.ca_cli.specs.ClassTallies.{IsDecided}
-use Rattle.ca_cli.specs.Tallies.{IsTally}
+use Rattle.ca_cli.specs.ClassTallies.{IsDecided, IsRuleAdded, rules_in}
 use Rattle.ca_cli.proofs.laws.ClassSummaries.{AreLeastRules-push, least_shape}
 use Rattle.ca_cli.proofs.commands.class_tally.ClassTally.add.Goals as goal
 
@@ -16,9 +14,11 @@ returns c rules tally =
     let one : HaveOneVerdict r place.mirrored place.least = subst (λ x. IfOk x (λ p. HaveOneVerdict r p.mirrored p.least)) c.unwrap-place.ensures c.class_of.ensures.verdicts in
     let shape = least_shape place.mirrored least in
     let decided = c.in_ok-least.ensures in
-    let own = c.of_member.ensures.weights ∙ ap (λ (q : LocalRule). own_weights q.states) (sym c.of_member.ensures.rule) in
-    let same = subst (λ (g : LocalRule). HaveOneVerdict r place.mirrored g) (sym decided.rule) one in record {
-      tally = subst (λ (q : LocalRule). IsTally (rules ++ q ∷ []) c.add.new.self) c.of_member.ensures.rule (c.add.ensures rules tally.tally (c.of_member.ensures.are_true same decided.are_true) own);
-      decided = subst₂ (λ k m. All (IsDecided k m) (c.decided.new.known).entries) shape.0 shape.1 decided.known;
-      leasts = AreLeastRules-push (place.mirrored, least) decided.added tally.leasts;
+    let old = c.args.self.now.leasts.entries in
+    let new = (c.decided.new.known).entries in
+    let added = subst₂ (λ k m. IsRuleAdded place.least (rules_in k m old) (rules_in k m new)) shape.0 shape.1 decided.added in
+    record {
+      tally = c.add.ensures rules r tally.tally c.of_member.ensures.rule (c.of_member.ensures.truths place.least one decided.truths);
+      decided = subst₂ (λ k m. All (IsDecided k m) new) shape.0 shape.1 decided.known;
+      leasts = AreLeastRules-push (place.mirrored, least) added tally.leasts;
     }

@@ -1,4 +1,4 @@
-use Rattle.std.proofs.Common.{◌+◌, ap, sym, ◌∙◌, arith, length-append}
+use Rattle.std.proofs.Common.{◌+◌, refl, ap, sym, ◌∙◌, arith, length-append}
 use Rattle.std.specs.Int.{from_bool}
 use Rattle.ca_cli.proofs.laws.OwnWeights.{IsConserving-tested}
 use Rattle.ca_cli.proofs.laws.Summaries.{AreMany-le, AreMany-push}
@@ -23,13 +23,12 @@ pub overflow_add-self-7 : goal.overflow_add-self-7
 overflow_add-self-7 c = let few = AreMany-le c.requires.1.conserving_true in grind (arith, few, c.requires.2, c.from-6.ensures)
 
 pub returns : goal.returns
-returns c rules tally verdicts own =
-    let r = c.args.verdicts.now.rule in record {
-      rules_true = ap (λ n. n + 1) tally.rules_true ∙ sym (length-append rules _);
-      surjective_true = AreMany-push r c.from.ensures verdicts.surjective tally.surjective_true;
-      injective_true = AreMany-push r c.from-2.ensures verdicts.injective tally.injective_true;
-      right_true = AreMany-push r c.from-3.ensures verdicts.right tally.right_true;
-      left_true = AreMany-push r c.from-4.ensures verdicts.left tally.left_true;
-      open_true = AreMany-push r (c.from-5.ensures ∙ ap from_bool c.is_open.ensures) verdicts.open_ tally.open_true;
-      conserving_true = AreMany-push r c.from-6.ensures (IsConserving-tested c.k-states.ensures.rule own verdicts.conserving) tally.conserving_true;
-    }
+returns c rules r tally rule truths = record {
+  rules_true = ap (λ n. n + 1) tally.rules_true ∙ sym (length-append rules _);
+  surjective_true = AreMany-push r c.from.ensures truths.surjective tally.surjective_true;
+  injective_true = AreMany-push r c.from-2.ensures truths.injective tally.injective_true;
+  right_true = AreMany-push r c.from-3.ensures truths.right tally.right_true;
+  left_true = AreMany-push r c.from-4.ensures truths.left tally.left_true;
+  open_true = AreMany-push r (c.from-5.ensures ∙ ap from_bool c.is_open.ensures) truths.open_ tally.open_true;
+  conserving_true = AreMany-push r c.from-6.ensures (IsConserving-tested rule refl truths.conserving) tally.conserving_true;
+}

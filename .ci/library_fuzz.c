@@ -1,0 +1,298 @@
+/*
+ * Calls the library for C with words, inputs, tables and buffers that are drawn, for so many seconds:
+ *
+ *   library_fuzz [SECONDS [SEED]]
+ *
+ * Each buffer ends before a page that can't be touched, so that a step past its end stops the program, also in code that
+ * no sanitizer has seen. After each call it looks at what include/ca.h says of codes, lengths and bytes. The last line has
+ * the counts.
+ */
+#define _GNU_SOURCE
+#include "ca.h"
+
+#include <stdio.h>
+#include <stdlib.h>
+#include <string.h>
+#include <sys/mman.h>
+#include <time.h>
+#include <unistd.h>
+
+#define COUNT(list) (sizeof(list) / sizeof(list)[0])
+
+enum { MOST_TEXT = 4096, MOST_OUTPUT = 1 << 19, MOST_TABLE = 300, FILLING = 0xa5 };
+
+static unsigned long passed;
+static unsigned long failed;
+static uint64_t state;
+
+static void is(const char *name, bool holds)
+{
+    if (holds) {
+        passed++;
+    } else {
+        failed++;
+        fprintf(stderr, "library_fuzz: %s\n", name);
+    }
+}
+
+/* A number below the bound. */
+static size_t below(size_t bound)
+{
+    state = state * 6364136223846793005u + 1442695040888963407u;
+    return (size_t)(state >> 33) % bound;
+}
+
+/* The end of so much memory and more, where a page begins that can't be touched. */
+static uint8_t *fence(size_t size)
+{
+    size_t page = (size_t)sysconf(_SC_PAGESIZE);
+    size_t room = (size / page + 1) * page;
+    uint8_t *begin = (uint8_t *)mmap(NULL, room + page, PROT_READ | PROT_WRITE, MAP_PRIVATE | MAP_ANONYMOUS, -1, 0);
+    if (begin == MAP_FAILED || mprotect(begin + room, page, PROT_NONE) != 0)
+        abort();
+    return begin + room;
+}
+
+/* Bytes that are drawn, or put together. */
+struct text {
+    uint8_t bytes[MOST_TEXT];
+    size_t length;
+};
+
+static void add(struct text *text, const char *bytes, size_t length)
+{
+    if (length > MOST_TEXT - text->length)
+        length = MOST_TEXT - text->length;
+    memcpy(text->bytes + text->length, bytes, length);
+    text->length += length;
+}
+
+static void add_any(struct text *text, size_t length)
+{
+    for (size_t at = 0; at < length; at++) {
+        char byte = (char)below(256);
+        add(text, &byte, 1);
+    }
+}
+
+static void add_of(struct text *text, size_t length, const char *letters, size_t count)
+{
+    for (size_t at = 0; at < length; at++)
+        add(text, letters + below(count), 1);
+}
+
+/* Turns up to so many bits. */
+static void turn(struct text *text, size_t most)
+{
+    for (size_t count = text->length == 0 ? 0 : below(most + 1); count > 0; count--)
+        text->bytes[below(text->length)] ^= (uint8_t)(1u << below(8));
+}
+
+/* A rule's text, whose table seldom has a letter that is too great. */
+static void add_rule(struct text *text)
+{
+    char head[32];
+    int states = 2 + (int)below(15);
+    int width = 2 + (int)below(states == 2 ? 4 : states < 5 ? 2 : 1);
+    size_t size = 1;
+    for (int place = 0; place < width; place++)
+        size *= (size_t)states;
+    add(text, head, (size_t)snprintf(head, sizeof head, "%d:%d:%d:t", states, width, (int)below(33) - 16));
+    add_of(text, size, "0123456789abcdefg", (size_t)states + (below(50) == 0));
+    add(text, "", 1);
+}
+
+static const char *const NAMES[] = {
+    "decide", "orphan", "number", "survey", "sample", "classes", "certify", "brief", "check", "language", "same",
+    "preimage", "erase", "inverse", "compose", "trim", "widen", "shift", "reflect", "permute", "least", "lift", "unlift"};
+
+static const char *const OPERANDS[] = {
+    "110", "90", "0", "255", "256", "2:3:-1:t01110110", "2:2:0:t0110", "3:2:0:w0", "4:3:0:w1", "2:5:0:w4294967295",
+    "5:2:16:w7", "16:2:0:t0", "0|1|0", "0|101|0", "01|0|10", "|", "||", "1,4", "0,2", "0,1,2", "-1", "-16", "4096",
+    "10", "0123", "3", "5", "\xff", "\xc3\xa9", ":", "t", "2:", "-", ""};
+
+/* A command with up to four operands. */
+static void add_command(struct text *text)
+{
+    const char *name = NAMES[below(COUNT(NAMES))];
+    add(text, name, strlen(name) + 1);
+    for (size_t count = below(5); count > 0; count--) {
+        const char *operand = OPERANDS[below(COUNT(OPERANDS))];
+        if (below(4) == 0)
+            add_rule(text);
+        else
+            add(text, operand, strlen(operand) + 1);
+    }
+}
+
+/* Words: any bytes, letters of operands, or a command; now and then with a few bits turned, or without the last byte. */
+static void draw_words(struct text *words)
+{
+    static const char letters[] = "0123456789:tw|-,\0";
+    words->length = 0;
+    switch (below(6)) {
+    case 0: add_any(words, below(300)); break;
+    case 1: add_of(words, below(64), letters, sizeof letters); break;
+    default: add_command(words);
+    }
+    if (below(3) == 0)
+        turn(words, 3);
+    if (below(30) == 0 && words->length > 0)
+        words->length--;
+}
+
+static const char *const CERTIFICATES[] = {
+    "{\"conserving\":{\"ring\":\"1\"},\"injective\":{\"twins\":[\"0\",\"1\"]},\"left\":{\"ahead\":1},\"ranks\":"
+    "{\"backward\":[null,null,null,null],\"forward\":[null,null,null,null]},\"right\":{\"ahead\":1},"
+    "\"rule\":\"2:2:0:t0110\",\"surjective\":{\"sets\":[3]},\"version\":2}",
+    "{\"conserving\":{\"flux\":[0,-2]},\"injective\":{\"c\":1,\"n\":1},\"left\":{\"ahead\":2},\"ranks\":"
+    "{\"backward\":[null,0,0,null],\"forward\":[null,null,null,null]},\"right\":{\"ahead\":1},"
+    "\"rule\":\"2:2:0:t0101\",\"surjective\":{\"sets\":[3,1,2]},\"version\":2,\"weights\":[0,2]}",
+    "{\"conserving\":{\"flux\":[0,0]},\"injective\":{\"c\":0,\"n\":1},\"left\":{\"ahead\":1},\"ranks\":"
+    "{\"backward\":[null,null,null,null],\"forward\":[null,0,0,null]},\"right\":{\"ahead\":2},"
+    "\"rule\":\"2:2:0:t0011\",\"surjective\":{\"pairs\":[1,2]},\"version\":3}"};
+
+/* A certificate with up to three changes: a byte made another one or left out, or all that follows a place cut or put
+ * there once more. */
+static void draw_certificate(struct text *input)
+{
+    const char *text = CERTIFICATES[below(COUNT(CERTIFICATES))];
+    struct text rest;
+    input->length = 0;
+    add(input, text, strlen(text));
+    for (size_t count = below(4); count > 0 && input->length > 0; count--) {
+        size_t at = below(input->length);
+        switch (below(4)) {
+        case 0: input->bytes[at] = (uint8_t)"0123456789[]{},:\"n"[below(18)]; break;
+        case 1: memmove(input->bytes + at, input->bytes + at + 1, --input->length - at); break;
+        case 2: input->length = below(5) == 0 ? at : input->length; break;
+        default:
+            rest = *input;
+            add(input, (const char *)rest.bytes + at, rest.length - at);
+        }
+    }
+    turn(input, 1);
+}
+
+/* Whether the bytes right before an end are as they were filled. */
+static bool is_kept(const uint8_t *end, size_t length)
+{
+    for (size_t at = 1; at <= length; at++)
+        if (end[-(ptrdiff_t)at] != FILLING)
+            return false;
+    return true;
+}
+
+/* Where buffers end. */
+static uint8_t *words_end, *input_end, *output_end, *table_end;
+
+/* Calls ca_run, and looks at the code and at all bytes that it was passed. */
+static uint8_t run(const struct text *words, const struct text *input, size_t room, size_t *length)
+{
+    memcpy(words_end - words->length, words->bytes, words->length);
+    memcpy(input_end - input->length, input->bytes, input->length);
+    memset(output_end - room, FILLING, room);
+    *length = 12345;
+    uint8_t code = ca_run(words_end - words->length, words->length, input_end - input->length, input->length,
+                          output_end - room, room, length);
+    is("the words are kept", memcmp(words_end - words->length, words->bytes, words->length) == 0);
+    is("the input is kept", memcmp(input_end - input->length, input->bytes, input->length) == 0);
+    if (code <= CA_CODE_TOO_LONG)
+        is("the output fits, and the rest is kept", *length <= room && is_kept(output_end, room - *length));
+    else if (code == CA_CODE_SHORT)
+        is("the output doesn't fit, and the buffer is kept", *length > room && is_kept(output_end, room));
+    else
+        is("no words or no memory, and the buffer is kept",
+           (code == CA_CODE_NO_WORDS || code == CA_CODE_MEMORY) && *length == 0 && is_kept(output_end, room));
+    return code;
+}
+
+/* A call of ca_run, and where the buffer is too short one with a byte too few and one with just room enough. */
+static void call_run(void)
+{
+    static struct text words, input;
+    size_t length, again;
+    input.length = 0;
+    if (below(4) == 0) {
+        words.length = 0;
+        add(&words, "check", 6);
+        draw_certificate(&input);
+    } else {
+        draw_words(&words);
+    }
+    uint8_t code = run(&words, &input, below(3) != 0 ? below(600) : below(100000), &length);
+    if (code == CA_CODE_SHORT && length <= MOST_OUTPUT) {
+        code = run(&words, &input, length - 1, &again);
+        is("a byte too few is too few", code == CA_CODE_SHORT && again == length);
+        code = run(&words, &input, length, &again);
+        is("just room enough is enough", code <= CA_CODE_TOO_LONG && again == length);
+    }
+}
+
+/* The first fault of a table of these states and this width, as the header lists them. */
+static int fault_of(uint8_t states, uint8_t width, const uint8_t *table, size_t length)
+{
+    size_t nodes = 1;
+    if (states < 2 || states > 16)
+        return CA_FAULT_STATES;
+    if (width < 2 || width > 5)
+        return CA_FAULT_WIDTH;
+    for (int place = 1; place < width; place++)
+        nodes *= states;
+    if (nodes > 16)
+        return CA_FAULT_NODES;
+    if (length != nodes * states)
+        return CA_FAULT_LENGTH;
+    for (size_t at = 0; at < length; at++)
+        if (table[at] >= states)
+            return CA_FAULT_LETTER;
+    return CA_FAULT_NONE;
+}
+
+/* A call of ca_verdicts: its fault is the first one, and its verdicts are such as a rule can have. */
+static void call_verdicts(void)
+{
+    bool any = below(8) == 0;
+    uint8_t states = (uint8_t)below(any ? 256 : 18);
+    uint8_t width = (uint8_t)below(any ? 256 : 7);
+    size_t length = 1;
+    for (int place = 0; place < width && length <= MOST_TABLE; place++)
+        length *= states;
+    if (length > MOST_TABLE || below(8) == 0)
+        length = below(MOST_TABLE);
+    uint8_t *table = table_end - length;
+    for (size_t at = 0; at < length; at++)
+        table[at] = (uint8_t)(states == 0 || below(400) == 0 ? states + below(2) * below(256) : below(states));
+    struct ca_rule_verdicts found = ca_verdicts(states, width, table, length);
+    is("the first fault", found.fault == fault_of(states, width, table, length));
+    if (found.fault != CA_FAULT_NONE)
+        is("no verdict where there is a fault", !(found.surjective || found.injective || found.right || found.left
+                                                  || found.is_open || found.conserving));
+    is("open is both sides", found.is_open == (found.right && found.left));
+    is("an injective rule is open", !found.injective || found.is_open);
+    is("a closing rule is surjective", !(found.right || found.left) || found.surjective);
+}
+
+static double now(void)
+{
+    struct timespec time;
+    clock_gettime(CLOCK_MONOTONIC, &time);
+    return (double)time.tv_sec + 1e-9 * (double)time.tv_nsec;
+}
+
+int main(int argc, char **argv)
+{
+    double end = now() + (argc > 1 ? atof(argv[1]) : 10);
+    state = argc > 2 ? strtoull(argv[2], NULL, 10) : 1;
+    words_end = fence(MOST_TEXT);
+    input_end = fence(MOST_TEXT);
+    output_end = fence(MOST_OUTPUT);
+    table_end = fence(MOST_TABLE);
+    while (now() < end) {
+        call_run();
+        for (int call = 0; call < 8; call++)
+            call_verdicts();
+    }
+    printf("%lu passed, %lu failed\n", passed, failed);
+    return failed != 0;
+}

@@ -1,0 +1,61 @@
+"""Proves and builds the static library in this folder over the libraries below it as `rt ci` left them: over_ci.py BEGUN.
+
+`rt lib` would prove each of those once more, since rt ci leaves no stamp beside them. BEGUN is a file that was made right
+before rt ci began. A library counts that is as its stamp says, or that has none and was made since then, where no source
+has changed since; where there is another one this builds nothing and ends with 1. Those without a stamp are then removed:
+no command of rt takes them, and a later rt ci would put them back in place of its own.
+"""
+import importlib.util
+import os
+import shutil
+import subprocess
+import sys
+from importlib.machinery import SourceFileLoader
+from pathlib import Path
+
+
+def library_of_rt():
+    """The module by which rt builds."""
+    page = subprocess.run(["rt", "doc"], stdout=subprocess.PIPE, text=True, check=True).stdout.strip()
+    loader = SourceFileLoader("rtlib", str(Path(page).parent / "bin" / "rtlib.py"))
+    made = importlib.util.module_from_spec(importlib.util.spec_from_loader("rtlib", loader))
+    sys.modules["rtlib"] = made
+    loader.exec_module(made)
+    return made
+
+
+def is_newer(path, begun):
+    return path.stat().st_mtime_ns > begun
+
+
+def is_left(crate, begun):
+    """Whether the library of the crate is there, and of its sources as they stand."""
+    if crate.is_built():
+        return True
+    rlib, parts = Path(crate.rlib), [Path(crate.folder, part) for part in ["src", "specs", "proofs"]]
+    return (rlib / "format").exists() and not (rlib.parent / "stamp").exists() and is_newer(rlib, begun) and not any(
+        is_newer(path, begun) for part in parts for path in part.rglob("*"))
+
+
+def main():
+    rtlib = library_of_rt()
+    rtlib.guarded()
+    begun = Path(sys.argv[1]).stat().st_mtime_ns
+    here = os.getcwd()
+    crate = rtlib.Crate(here, rtlib.root_above(here), {})
+    rtlib.lock([*crate.below(), crate])
+    others = [it.name for it in crate.below() if not is_left(it, begun)]
+    if others:
+        print(f"rt ci left no library of these as they stand: {' '.join(others)}", file=sys.stderr)
+        return 1
+    os.makedirs("out", exist_ok=True)
+    unstamped = [Path(it.rlib).parent for it in crate.below() if not it.is_built()]
+    status = crate.build_static([])
+    if status == 0:
+        for folder in unstamped:
+            shutil.rmtree(folder)
+    return status
+
+
+if __name__ == "__main__":
+    sys.exit(main())

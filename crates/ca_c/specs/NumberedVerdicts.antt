@@ -1,0 +1,17 @@
+-- What a call hands back of rules with consecutive numbers.
+use Rattle.std.specs.Prelude.{ℕ, Option, Some, None}
+use Rattle.rule_text.specs.declared.text_fault.TextFault.{TextFault}
+use Rattle.rule_text.specs.declared.text_fault.TextFault.TheVariants.{Form, States, Width, Nodes, Offset, Length, Letter, Kind, Number}
+
+-- the number that stands for a fault, and 0 for none. Of consecutive numbers only 1, 2, 3, 7 and 8 come
+abbrev pub number_code : Option TextFault → ℕ
+number_code None = 0
+number_code (Some States) = 1
+number_code (Some Width) = 2
+number_code (Some Nodes) = 3
+number_code (Some Offset) = 4
+number_code (Some Length) = 5
+number_code (Some (Letter place)) = 6
+number_code (Some Kind) = 7
+number_code (Some Number) = 8
+number_code (Some (Form place)) = 9

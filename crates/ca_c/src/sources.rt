@@ -1,0 +1,34 @@
+//! A source over borrowed bytes.
+ghost use Rattle.std.specs.Prelude.{◌≡◌, Some};
+
+use ca_io::{Failed, Source};
+
+/// Borrowed bytes, read from the first one on. No read fails.
+#[derive(Drop)]
+pub struct SliceSource<'a> {
+    // The bytes that are left.
+    rest: &'a [u8],
+}
+
+impl<'a> SliceSource<'a> {
+    /// A source that gives these bytes.
+    pub fn new(bytes: &'a [u8]) -> SliceSource<'a>
+        ensures { result.rest.now ≡ bytes.now }
+    {
+        SliceSource { rest: bytes }
+    }
+}
+
+impl Source for SliceSource<'_> {
+    ghost left = { λ s. Some s.rest.now };
+
+    ghost faults = { λ _. 0 };
+
+    /// Gives the most bytes that `buf` has places for and that are left.
+    fn read(&mut self, buf: &mut [u8]) -> Result<usize, Failed> {
+        let n = buf.len().min(self.rest.len());
+        buf[..n].copy_from_slice(&self.rest[..n]);
+        self.rest = &self.rest[n..];
+        Ok(n)
+    }
+}

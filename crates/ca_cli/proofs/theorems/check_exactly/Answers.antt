@@ -1,0 +1,11 @@
+use Rattle.ca_cli.proofs.laws.CheckAnswers.{check_accepted, check_refused, check_too_long}
+use Rattle.ca_cli.proofs.theorems.check_exactly.Goals as goal
+
+pub returns-clause-done : goal.returns-clause-done
+returns-clause-done c words left v s out = check_accepted
+
+pub returns-clause-refused : goal.returns-clause-refused
+returns-clause-refused c words left f s out = check_refused
+
+pub returns-clause-too_long : goal.returns-clause-too_long
+returns-clause-too_long c words left s out = check_too_long

@@ -1,0 +1,62 @@
+-- Every word has a preimage exactly where every configuration is matched by an image on every finite part.
+use Rattle.std.proofs.Common.{◌≡◌, ℕ, ◌+◌, ◌-◌, ◌<◌, List, length, get_or, ℤ, pos, ◌+ℤ◌, ◌-ℤ◌, neg_ℤ, unsigned_abs, refl, sym, ap, subst, ◌∙◌, arith}
+use Rattle.std.specs.Prelude.{◌↔◌}
+use Rattle.std.proofs.lemmas.Int.{ints}
+use Rattle.word_image.specs.LocalRules.{LocalRule, IsRule}
+use Rattle.word_image.specs.Words.{IsPreimage, IsSurjective}
+use Rattle.word_image.proofs.laws.WindowParts.{some_letter}
+use Rattle.tail_config.specs.Configs.{Config, IsConfig, run, image_of, zeros}
+use Rattle.config_laws.specs.Maps.{IsDenseMap}
+use Rattle.tail_config.proofs.laws.Runs.{length-run, get_or-run, IsWord-run, run-same}
+use Rattle.config_laws.proofs.Images.{IsPreimage-run}
+use Rattle.config_laws.proofs.Joined.{written, IsConfig-written, image_of-written, run-written, between_zeros}
+
+-- a configuration whose image has the n letters of y from place i on
+pub record Matches (r : LocalRule) (y : Config) (i : ℤ) (n : ℕ) : Type 0 where
+  pub x : Config
+  pub config : IsConfig r.states x
+  pub equal : (a : ℕ) → a < n → image_of r x (i +ℤ pos a) ≡ y (i +ℤ pos a)
+
+-- where every word has a preimage, each configuration is matched on any run
+pub matches : {r : LocalRule} {y : Config} → IsRule r → IsSurjective r → IsConfig r.states y → (i : ℤ) (n : ℕ) → Matches r y i n
+matches {r} {y} rule every hy i n =
+    let found = every (run y i n) (IsWord-run hy i n) in
+    let w : List ℕ = found.0 in
+    let p : IsPreimage r (run y i n) w = found.1 in
+    record {
+      x = written zeros (i +ℤ r.offset) w;
+      config = IsConfig-written (some_letter rule) (λ j. some_letter rule) (i +ℤ r.offset) w p.word;
+      equal = λ a l. image_of-written rule zeros i w a (omega (arith, p.long, length-run y i n))
+          ∙ ap (λ u. get_or u a 0) p.maps ∙ get_or-run y i (i +ℤ pos a) n a l refl;
+    }
+
+-- the images of a surjective rule are dense
+IsDenseMap-surjective : {r : LocalRule} → IsRule r → IsSurjective r → IsDenseMap r
+IsDenseMap-surjective {r} rule every y n hy =
+    let s : ℤ = neg_ℤ (pos n) in
+    let m : Matches r y s (n + n + 1) = matches rule every hy s (n + n + 1) in (
+      m.x,
+      m.config,
+      λ i low high.
+          let a : ℕ = unsigned_abs (i -ℤ s) in
+          let here : s +ℤ pos a ≡ i = omega (arith, ints) in
+          sym (ap (image_of r m.x) here) ∙ m.equal a (omega (arith, ints)) ∙ ap y here,
+    )
+
+-- a word that stands in an image has a preimage
+pub preimage_inside : {r : LocalRule} {x : Config} → IsRule r → IsConfig r.states x → (w : List ℕ) → run (image_of r x) (pos 0) (length w) ≡ w → (z : List ℕ) × IsPreimage r w z
+preimage_inside {r} {x} rule hx w same =
+    let z : List ℕ = run x (pos 0 +ℤ r.offset) (length w + (r.width - 1)) in
+    (z, subst (λ v. IsPreimage r v z) same (IsPreimage-run rule hx (pos 0) (pos 0 +ℤ r.offset) (length w) refl))
+
+-- where the images are dense, every word has a preimage
+IsSurjective-dense : {r : LocalRule} → IsRule r → IsDenseMap r → IsSurjective r
+IsSurjective-dense {r} rule dense w hw =
+    let y : Config = between_zeros w in
+    let found = dense y (length w) (IsConfig-written (some_letter rule) (λ i. some_letter rule) (pos 0) w hw) in
+    preimage_inside rule found.1 w
+    (run-same (image_of r found.0) y (pos 0) (pos 0) (length w) (λ a l. found.2 (pos 0 +ℤ pos a) (omega (arith, ints)) (omega (arith, ints))) ∙ run-written zeros (pos 0) w)
+
+-- a rule is surjective exactly where the images are dense
+pub IsSurjective-everywhere : {r : LocalRule} → IsRule r → IsSurjective r ↔ IsDenseMap r
+IsSurjective-everywhere rule = (IsDenseMap-surjective rule, IsSurjective-dense rule)

@@ -1,0 +1,74 @@
+-- Configurations joined at a place, and words written into them.
+use Rattle.std.proofs.Common.{◌≡◌, ℕ, ◌+◌, ◌-◌, ◌<◌, ◌≤◌, List, length, get_or, ⊎_elim, ℤ, pos, negsuc, ◌+ℤ◌, ◌-ℤ◌, unsigned_abs, refl, sym, ap, ◌∙◌, arith}
+use Rattle.std.specs.Prelude.{◌<ℤ◌, ◌≤ℤ◌}
+use Rattle.std.proofs.lemmas.Int.{ints, by_lt_z}
+use Rattle.std.proofs.lemmas.Bool.{cases_lt}
+use Rattle.std.proofs.lemmas.List.{get_or_past}
+use Rattle.word_image.specs.LocalRules.{LocalRule, IsRule, IsWord}
+use Rattle.word_image.specs.Words.{image}
+use Rattle.tail_config.specs.Configs.{Config, IsConfig, zeros, run, image_of}
+use Rattle.config_laws.specs.Sums.{IsFinite}
+use Rattle.tail_config.proofs.laws.Runs.{run-by_letters}
+use Rattle.config_laws.proofs.Images.{image_of-letters}
+
+-- a before place 0, and then what f says
+abbrev from_zero : ℕ → (ℕ → ℕ) → ℤ → ℕ
+from_zero a f (pos i) = f i
+from_zero a f (negsuc i) = a
+
+-- the letters of x left of place e, and those that f says from there on
+abbrev pub joined : Config → ℤ → (ℕ → ℕ) → Config
+joined x e f i = from_zero (x i) f (i -ℤ e)
+
+-- left of the place are the letters of x
+pub joined-left : (x : Config) (e : ℤ) (f : ℕ → ℕ) (i : ℤ) → i <ℤ e → joined x e f i ≡ x i
+joined-left x e f i l =
+    let place : i -ℤ e ≡ negsuc (unsigned_abs (i -ℤ e) - 1) = omega (arith, ints) in
+    ap (from_zero (x i) f) place
+
+-- from the place on is what f says
+pub joined-right : (x : Config) (e : ℤ) (f : ℕ → ℕ) (i : ℤ) (a : ℕ) → e +ℤ pos a ≡ i → joined x e f i ≡ f a
+joined-right x e f i a h =
+    let place : i -ℤ e ≡ pos a = omega (arith, ints) in
+    ap (from_zero (x i) f) place
+
+-- it is a configuration if both parts have letters alone
+pub IsConfig-joined : {k : ℕ} {x : Config} {f : ℕ → ℕ} → IsConfig k x → (e : ℤ) → ((a : ℕ) → f a < k) → IsConfig k (joined x e f)
+IsConfig-joined {k} {x} {f} hx e hf i =
+    by_lt_z i e (λ l. omega (arith, joined-left x e f i l, hx i))
+    (λ l. let a : ℕ = unsigned_abs (i -ℤ e) in omega (arith, joined-right x e f i a (omega (arith, ints)), hf a))
+
+-- the letters of x left of place e, those of a word from there on, and then zeros
+abbrev pub written : Config → ℤ → List ℕ → Config
+written x e w = joined x e (λ a. get_or w a 0)
+
+-- it is a configuration if x is one and w a word
+pub IsConfig-written : {k : ℕ} {x : Config} → 0 < k → IsConfig k x → (e : ℤ) (w : List ℕ) → IsWord k w → IsConfig k (written x e w)
+IsConfig-written {k} {x} some hx e w hw =
+    IsConfig-joined hx e (λ a. ⊎_elim (λ l. hw a 0 l) (λ l. omega (arith, get_or_past w a 0 l)) (cases_lt a (length w)))
+
+-- its image has the word's image
+pub image_of-written : {r : LocalRule} → IsRule r → (x : Config) (i : ℤ) (w : List ℕ) (a : ℕ) → a < length w - (r.width - 1) → image_of r (written x (i +ℤ r.offset) w) (i +ℤ pos a) ≡ get_or (image r w) a 0
+image_of-written {r} rule x i w a l =
+    let wide : 2 ≤ r.width = rule.shape.least_width in
+    image_of-letters r (written x (i +ℤ r.offset) w) (i +ℤ pos a) w a l (omega arith) (λ c g.
+    sym (joined-right x (i +ℤ r.offset) (λ b. get_or w b 0) (i +ℤ pos a +ℤ r.offset +ℤ pos c) (a + c) (omega (arith, ints))))
+
+-- the word stands in it
+pub run-written : (x : Config) (e : ℤ) (w : List ℕ) → run (written x e w) e (length w) ≡ w
+run-written x e w = sym (run-by_letters (written x e w) e (length w) w refl (λ a l. sym (joined-right x e (λ b. get_or w b 0) (e +ℤ pos a) a refl)))
+
+-- a word between zeros
+abbrev pub between_zeros : List ℕ → Config
+between_zeros w = written zeros (pos 0) w
+
+-- its letter at a place of the word or behind it
+pub letter-right : (w : List ℕ) (j : ℤ) → pos 0 ≤ℤ j → between_zeros w j ≡ get_or w (unsigned_abs j) 0
+letter-right w j l = joined-right zeros (pos 0) (λ a. get_or w a 0) j (unsigned_abs j) (omega (arith, ints))
+
+-- it is finite
+pub IsFinite-between : (w : List ℕ) → IsFinite (between_zeros w)
+IsFinite-between w = (
+  (pos 0, λ j l. joined-left zeros (pos 0) (λ a. get_or w a 0) j l),
+  (pos (length w), λ j l. letter-right w j (omega (arith, ints)) ∙ get_or_past w (unsigned_abs j) 0 (omega (arith, ints))),
+)

@@ -1,0 +1,176 @@
+-- The principle that of two tests one passes is needed: it follows if each configuration is an image under one surjective rule, which says of its letters only far away whether they are even or odd.
+use Rattle.std.proofs.Common.{◌≡◌, ◌⊎◌, ℕ, zero, suc, ◌+◌, ◌-◌, ◌%◌, ◌<◌, inl, inr, ⊎_elim, Bool, true, false, List, [], ◌∷◌, ℤ, pos, negsuc, ◌+ℤ◌, refl, sym, ap, ap₂, ◌∙◌, arith}
+use Rattle.std.proofs.lemmas.Bool.{cases_Bool, cases_eq, true≢false}
+use Rattle.std.proofs.lemmas.List.Elements.{All-cons, All-tail}
+use Rattle.std.proofs.lemmas.Bool.Decides.{Decides-by_and, Decides-ltb}
+use Rattle.std.proofs.lemmas.Int.{ints}
+use Rattle.std.specs.List.{list_all}
+use Rattle.std.specs.Prelude.{nat_lt}
+use Rattle.word_image.specs.LocalRules.{LocalRule, IsRule, IsWord, local_map}
+use Rattle.word_image.specs.Words.{IsPreimage, IsSurjective}
+use Rattle.pair_laws.proofs.Joins.{image-cut}
+use Rattle.tail_config.specs.Configs.{Config, IsConfig}
+use Rattle.config_laws.specs.Maps.{IsOntoMap}
+use Rattle.config_laws.specs.OneOfTwo.{Falls, OneOfTwo, AllOrNot}
+use Rattle.config_laws.specs.Examples.{parities}
+
+-- a list is a word where the test of its letters says so
+word_by_test : (k : ℕ) (w : List ℕ) → list_all (λ a. nat_lt a k) w ≡ true → IsWord k w
+word_by_test k w = (Decides-by_and (λ a. nat_lt a k) (λ a. a < k) (list_all (λ a. nat_lt a k)) (λ a. Decides-ltb a k) refl (λ a v. refl) w).0
+
+-- the example is a rule
+IsRule-parities : IsRule parities
+IsRule-parities = record {
+  shape = record {
+    least_states = omega arith;
+    most_states = omega arith;
+    least_width = omega arith;
+    most_width = omega arith;
+    most_nodes = omega arith;
+    least_offset = omega (arith, ints);
+    most_offset = omega (arith, ints);
+  };
+  entries = refl;
+  letters = word_by_test 4 parities.table refl;
+}
+
+-- what holds of the four letters holds of each
+each_letter : (P : ℕ → Type 0) → P 0 → P 1 → P 2 → P 3 → (a : ℕ) → a < 4 → P a
+each_letter P p q s t zero l = p
+each_letter P p q s t (suc zero) l = q
+each_letter P p q s t (suc (suc zero)) l = s
+each_letter P p q s t (suc (suc (suc zero))) l = t
+each_letter P p q s t (suc (suc (suc (suc a)))) l = absurd (omega arith)
+
+-- what the rule gives
+abbrev gives : ℕ → ℕ → ℕ
+gives a b = local_map parities (a ∷ b ∷ [])
+
+-- what its letter says of the two of a window
+abbrev Says : ℕ → ℕ → Type 0
+Says a b = (gives a b ≡ 0 → a % 2 ≡ b % 2) × (gives a b ≡ 1 → a ≡ 2) × (gives a b ≡ 2 → a ≡ 3)
+
+says : (a b : ℕ) → a < 4 → b < 4 → Says a b
+says a b ha hb = each_letter (λ a. Says a b)
+    (each_letter (λ b. Says 0 b) (λ e. refl, λ e. absurd (omega arith), λ e. absurd (omega arith)) (λ e. absurd (omega arith), λ e. absurd (omega arith), λ e. absurd (omega arith)) (λ e. refl, λ e. absurd (omega arith), λ e. absurd (omega arith)) (λ e. absurd (omega arith), λ e. absurd (omega arith), λ e. absurd (omega arith)) b hb)
+    (each_letter (λ b. Says 1 b) (λ e. absurd (omega arith), λ e. absurd (omega arith), λ e. absurd (omega arith)) (λ e. refl, λ e. absurd (omega arith), λ e. absurd (omega arith)) (λ e. absurd (omega arith), λ e. absurd (omega arith), λ e. absurd (omega arith)) (λ e. refl, λ e. absurd (omega arith), λ e. absurd (omega arith)) b hb)
+    (each_letter (λ b. Says 2 b) (λ e. absurd (omega arith), λ e. refl, λ e. absurd (omega arith)) (λ e. absurd (omega arith), λ e. refl, λ e. absurd (omega arith)) (λ e. absurd (omega arith), λ e. refl, λ e. absurd (omega arith)) (λ e. absurd (omega arith), λ e. refl, λ e. absurd (omega arith)) b hb)
+    (each_letter (λ b. Says 3 b) (λ e. absurd (omega arith), λ e. absurd (omega arith), λ e. refl) (λ e. absurd (omega arith), λ e. absurd (omega arith), λ e. refl) (λ e. absurd (omega arith), λ e. absurd (omega arith), λ e. refl) (λ e. absurd (omega arith), λ e. absurd (omega arith), λ e. refl) b hb)
+    a ha
+
+-- the letter that becomes y before b
+abbrev before : ℕ → ℕ → ℕ
+before zero b = b % 2
+before (suc zero) b = 2
+before (suc (suc zero)) b = 3
+before (suc (suc (suc y))) b = 1 - b % 2
+
+-- that letter is below 4, and the rule gives y on it and b
+abbrev Becomes : ℕ → ℕ → Type 0
+Becomes y b = (before y b < 4) × (gives (before y b) b ≡ y)
+
+becomes : (y b : ℕ) → y < 4 → b < 4 → Becomes y b
+becomes y b hy hb = each_letter (λ y. Becomes y b)
+    (each_letter (λ b. Becomes 0 b) (omega arith, refl) (omega arith, refl) (omega arith, refl) (omega arith, refl) b hb)
+    (each_letter (λ b. Becomes 1 b) (omega arith, refl) (omega arith, refl) (omega arith, refl) (omega arith, refl) b hb)
+    (each_letter (λ b. Becomes 2 b) (omega arith, refl) (omega arith, refl) (omega arith, refl) (omega arith, refl) b hb)
+    (each_letter (λ b. Becomes 3 b) (omega arith, refl) (omega arith, refl) (omega arith, refl) (omega arith, refl) b hb)
+    y hy
+
+-- the first letter of the preimage of a word that ends with 0, and the others
+abbrev first : List ℕ → ℕ
+first [] = 0
+first (y ∷ w) = before y (first w)
+
+abbrev rest : List ℕ → List ℕ
+rest [] = []
+rest (y ∷ w) = first w ∷ rest w
+
+first-below : (w : List ℕ) → IsWord 4 w → first w < 4
+first-below [] h = omega arith
+first-below (y ∷ w) h = (becomes y (first w) (h 0 0 (omega arith)) (first-below w (All-tail (λ a. a < 4) y w h))).0
+
+-- it is a preimage
+IsPreimage-first : (w : List ℕ) → IsWord 4 w → IsPreimage parities w (first w ∷ rest w)
+IsPreimage-first [] h = record { word = word_by_test 4 (0 ∷ []) refl; long = refl; maps = refl }
+IsPreimage-first (y ∷ w) h =
+    let tail : IsWord 4 w = All-tail (λ a. a < 4) y w h in
+    let p : IsPreimage parities w (first w ∷ rest w) = IsPreimage-first w tail in
+    let at : Becomes y (first w) = becomes y (first w) (h 0 0 (omega arith)) (first-below w tail) in
+    record {
+      word = All-cons (λ a. a < 4) (before y (first w)) (first w ∷ rest w) at.0 p.word;
+      long = omega (arith, p.long);
+      maps = image-cut IsRule-parities 1 (before y (first w) ∷ first w ∷ rest w) ∙ ap₂ (λ (a : ℕ) (u : List ℕ). a ∷ u) at.1 p.maps;
+    }
+
+IsSurjective-parities : IsSurjective parities
+IsSurjective-parities w h = (first w ∷ rest w, IsPreimage-first w h)
+
+-- 0 where both tests pass, and else which doesn't
+abbrev mark : Bool → Bool → ℕ
+mark true true = 0
+mark true false = 2
+mark false b = 1
+
+mark-below : (a b : Bool) → mark a b < 4
+mark-below true true = omega arith
+mark-below true false = omega arith
+mark-below false b = omega arith
+
+-- these, from place 0 on
+abbrev marks : (ℕ → Bool) → (ℕ → Bool) → Config
+marks p q (pos j) = mark (p j) (q j)
+marks p q (negsuc j) = 0
+
+IsConfig-marks : (p q : ℕ → Bool) → IsConfig 4 (marks p q)
+IsConfig-marks p q (pos j) = mark-below (p j) (q j)
+IsConfig-marks p q (negsuc j) = omega arith
+
+-- numbers with one parity back to where it is known
+parity-back : (s : ℕ → ℕ) (v n : ℕ) → ((j : ℕ) → (s j % 2 ≡ s (suc j) % 2) ⊎ (s j % 2 ≡ v)) → s n % 2 ≡ v → (d j : ℕ) → j + d ≡ n → s j % 2 ≡ v
+parity-back s v n on known zero j e = let here : j ≡ n = omega arith in ap (λ i. s i % 2) here ∙ known
+parity-back s v n on known (suc d) j e = ⊎_elim (λ same. same ∙ parity-back s v n on known d (suc j) (omega arith)) (λ at. at) (on j)
+
+-- a test that falls passes at each number before one at which it passes
+falls : (p : ℕ → Bool) → Falls p → (n e : ℕ) → p (n + e) ≡ true → p n ≡ true
+falls p down n zero h = let all : n ≡ n + 0 = omega arith in ap p all ∙ h
+falls p down n (suc e) h = let all : suc (n + e) ≡ n + suc e = omega arith in falls p down n e (down (n + e) (ap p all ∙ h))
+
+-- where one test fails the other passes everywhere
+passes_everywhere : (p q : ℕ → Bool) → Falls p → Falls q → ((n : ℕ) → (p n ≡ true) ⊎ (q n ≡ true)) → (n : ℕ) → q n ≡ false → (m : ℕ) → p m ≡ true
+passes_everywhere p q down_p down_q either n fails m =
+    ⊎_elim (falls p down_p m n) (λ h. let turn : n + m ≡ m + n = omega arith in absurd (true≢false (sym (falls q down_q n m (ap q turn ∙ h)) ∙ fails))) (either (m + n))
+
+-- by the law of the excluded middle one of two tests passes at all numbers: if the first doesn't, then the second can't fail
+pub OneOfTwo-excluded_middle : AllOrNot → OneOfTwo
+OneOfTwo-excluded_middle decided p q down_p down_q either =
+    ⊎_elim (λ all. inl all)
+    (λ not_all. inr (λ n. ⊎_elim (λ h. h) (λ fails. absurd (not_all (passes_everywhere p q down_p down_q either n fails))) (cases_Bool (q n))))
+    (decided p)
+
+-- if each configuration is an image under this rule, one of two tests passes at all numbers
+pub OneOfTwo-onto : IsOntoMap parities → OneOfTwo
+OneOfTwo-onto onto p q down_p down_q either =
+    let found = onto (marks p q) (IsConfig-marks p q) in
+    let x : Config = found.0 in
+    let s : ℕ → ℕ = λ j. x (pos j) in
+    let tells : (j : ℕ) → gives (s j) (s (suc j)) ≡ mark (p j) (q j) = λ j.
+    let here : pos j +ℤ pos 0 +ℤ pos 0 ≡ pos j = omega (arith, ints) in
+    let next : pos j +ℤ pos 0 +ℤ pos 1 ≡ pos (suc j) = omega (arith, ints) in
+    sym (ap₂ (λ (a b : ℤ). gives (x a) (x b)) here next) ∙ ap (λ (z : Config). z (pos j)) found.2 in
+    let of : (j : ℕ) → Says (s j) (s (suc j)) = λ j. says (s j) (s (suc j)) (found.1 (pos j)) (found.1 (pos (suc j))) in
+    let odd : (n : ℕ) → q n ≡ false → s 0 % 2 ≡ 1 = λ n fails.
+    let all = passes_everywhere p q down_p down_q either n fails in
+    let three : (j : ℕ) → q j ≡ false → s j % 2 ≡ 1 = λ j e. ap (λ a. a % 2) ((of j).2 (tells j ∙ ap₂ mark (all j) e)) in
+    parity-back s 1 n (λ j. ⊎_elim (λ e. inl ((of j).0 (tells j ∙ ap₂ mark (all j) e))) (λ e. inr (three j e)) (cases_Bool (q j))) (three n fails) n 0 (omega arith) in
+    let even : (n : ℕ) → p n ≡ false → s 0 % 2 ≡ 0 = λ n fails.
+    let all = passes_everywhere q p down_q down_p (λ m. ⊎_elim (λ e. inr e) (λ e. inl e) (either m)) n fails in
+    let two : (j : ℕ) → p j ≡ false → s j % 2 ≡ 0 = λ j e. ap (λ a. a % 2) ((of j).1 (tells j ∙ ap₂ mark e (all j))) in
+    parity-back s 0 n (λ j. ⊎_elim (λ e. inl ((of j).0 (tells j ∙ ap₂ mark e (all j)))) (λ e. inr (two j e)) (cases_Bool (p j))) (two n fails) n 0 (omega arith) in
+    ⊎_elim (λ e. inr (λ n. ⊎_elim (λ h. h) (λ h. absurd (omega (arith, e, odd n h))) (cases_Bool (q n))))
+    (λ other. inl (λ n. ⊎_elim (λ h. h) (λ h. absurd (other (even n h))) (cases_Bool (p n))))
+    (cases_eq (s 0 % 2) 0)
+
+-- if each configuration is an image under each surjective rule, one of two tests passes at all numbers
+pub OneOfTwo-needed : ((r : LocalRule) → IsRule r → IsSurjective r → IsOntoMap r) → OneOfTwo
+OneOfTwo-needed onto = OneOfTwo-onto (onto parities IsRule-parities IsSurjective-parities)

@@ -1,0 +1,14 @@
+use Rattle.std.proofs.Common.{refl}
+use Rattle.tail_laws.proofs.Closing.{ahead_letter}
+use Rattle.config_laws.proofs.Closing.{IsRightClosing-everywhere}
+use Rattle.config_laws.proofs.Flips.{IsLeftClosing-everywhere}
+use Rattle.config_laws.proofs.closing_everywhere.Goals as goal
+
+pub returns-clause-right : goal.returns-clause-right
+returns-clause-right c r rule = IsRightClosing-everywhere rule
+
+pub returns-clause-left : goal.returns-clause-left
+returns-clause-left c r rule = IsLeftClosing-everywhere rule
+
+pub returns-clause-ahead : goal.returns-clause-ahead
+returns-clause-ahead c r n x y i rule ahead hx hy = ahead_letter rule ahead hx hy i _ refl

@@ -1,0 +1,30 @@
+-- A rule under which a configuration tells the letters of its preimages only from far away, and what the definitions give on configurations done by hand, which the check computes.
+use Rattle.std.specs.Prelude.{◌≡◌, ℕ, [], ◌∷◌, ◌==◌, if◌then◌else◌, pos, negsuc, refl}
+use Rattle.word_image.specs.LocalRules.{LocalRule}
+use Rattle.tail_config.specs.Configs.{Config, run, image_of}
+use Rattle.config_laws.specs.Sums.{weight_on, weight_within}
+
+-- 2 becomes 1 and 3 becomes 2; 0 and 1 become 0 where the letter to the right is even or odd as they are, and 3 where not: the text 4:2:0:t0303303011112222
+abbrev pub parities : LocalRule
+parities = record { states = 4; width = 2; offset = pos 0; table = 0 ∷ 3 ∷ 0 ∷ 3 ∷ 3 ∷ 0 ∷ 3 ∷ 0 ∷ 1 ∷ 1 ∷ 1 ∷ 1 ∷ 2 ∷ 2 ∷ 2 ∷ 2 ∷ [] }
+
+-- the letter a up to place 0, b at place 1, and zeros from there on
+abbrev steps_to : ℕ → ℕ → Config
+steps_to a b (pos i) = if i == 0 then a else (if i == 1 then b else 0)
+steps_to a b (negsuc i) = a
+
+-- zeros before a 2, and ones before a 3: the two images are equal left of place 1, and differ there
+
+image_of-zeros_2 : run (image_of parities (steps_to 0 2)) (negsuc 1) 5 ≡ 0 ∷ 0 ∷ 0 ∷ 1 ∷ 0 ∷ []
+image_of-zeros_2 = refl
+
+image_of-ones_3 : run (image_of parities (steps_to 1 3)) (negsuc 1) 5 ≡ 0 ∷ 0 ∷ 0 ∷ 2 ∷ 0 ∷ []
+image_of-ones_3 = refl
+
+-- the letters at the places -1 to 2 of the second weigh 1 + 1 + 3 + 0, and those from -2 to 2 one more
+
+weight_on-ones_3 : weight_on (λ a. a) (steps_to 1 3) (negsuc 0) 4 ≡ 5
+weight_on-ones_3 = refl
+
+weight_within-ones_3 : weight_within (λ a. a) 2 (steps_to 1 3) ≡ 6
+weight_within-ones_3 = refl

@@ -1,0 +1,5 @@
+pub mod Maps
+pub mod OneOfTwo
+pub mod Repeating
+pub mod Sums
+pub mod Examples

@@ -1,0 +1,124 @@
+//! The verdicts said of all configurations: of every function from the integers to letters, however it
+//! goes on. The other crates speak of words, of rings and of configurations with periodic tails, which
+//! can be written down. Here it is proved that nothing is lost by that.
+//!
+//! A rule takes a configuration to its image, which has at each place what the rule gives on its window.
+//! Two configurations are near where they agree from -n to n for a large n: so a map is open, and images
+//! are dense, as the topologist says. Two that agree far to the left agree at each place left of some
+//! place.
+//!
+//! Rule 90, the sum of two neighbours, is closing on both sides: what is near the image of x is the image
+//! of what is near x. Rule 30 is surjective and has a right split: its images are dense, but it isn't
+//! open.
+//!
+//! A window and a look-ahead speak of words, so they reach every configuration: injective, closing and
+//! preinjective say of all configurations what they say of those with periodic tails. Surjective says
+//! that the images are dense, and conserving that finite configurations keep their sums.
+//!
+//! Closing on both sides is open. Let n be a right look-ahead and l = m - 2 + n. A word of l letters that
+//! can be read from a node can be followed there by any letter: put a letter in behind the node of a
+//! preimage, and read again. What is read tells the letter and what was read before, so of the words
+//! that begin so none is missed. Hence what agrees with the image of a configuration on l places is
+//! followed to the right for ever, and under a left look-ahead to the left. Conversely, let an open rule
+//! have a right split. From the node before it two ways read the same, and each can be followed by
+//! anything: so by what leads the one back to the node, and to the split again. Soon there are more ways
+//! than nodes, and two that end at one node are an erasable pair.
+//!
+//! No law uses the law of the excluded middle. That each configuration is an image under every surjective
+//! rule can't be had without a part of it, and `surjective_is_onto` says which.
+//!
+//! The functions here do nothing, and take no time. Each carries a law by its contract.
+#![tactic(auto)]
+
+ghost use Rattle.std.specs.Prelude.{◌≡◌, ◌↔◌, ◌-◌, ℕ, List, ℤ, pos, ◌+ℤ◌, ◌-ℤ◌};
+ghost use Rattle.word_image.specs.LocalRules.{LocalRule, IsRule, node_count};
+ghost use Rattle.word_image.specs.Words.{IsSurjective};
+ghost use Rattle.word_image.specs.Windows.{IsDetermined, IsRightAhead};
+ghost use Rattle.word_image.specs.Rings.{IsConserving, IsFlux};
+ghost use Rattle.tail_config.specs.Tails.{IsInjective, IsRightClosing, IsLeftClosing, IsOpen};
+ghost use Rattle.tail_config.specs.InverseMaps.{WindowMap, IsInverseMap, mapped};
+ghost use Rattle.tail_config.specs.Configs.{Config, IsConfig, run, image_of};
+ghost use Rattle.config_laws.specs.Maps.{IsInjectiveMap, IsRightClosingMap, IsLeftClosingMap, IsPreinjectiveMap, IsRightContinuingMap, IsLeftContinuingMap, IsDenseMap, IsOntoMap, IsOpenMap, IsEvenlyOpenMap, AreMany};
+ghost use Rattle.config_laws.specs.OneOfTwo.{OneOfTwo, AllOrNot};
+ghost use Rattle.config_laws.specs.Repeating.{IsOntoTails};
+ghost use Rattle.config_laws.specs.Sums.{weight_on, flow_under, KeepsFiniteSums, KeepsChanges};
+
+/// A rule is injective exactly where no two different configurations have one image. A determined window
+/// is the reason: n letters of the image of any configuration tell one of its letters.
+pub fn injective_everywhere()
+    ensures exactly { (r : LocalRule) → IsRule r → (IsInjective r ↔ IsInjectiveMap r) }
+    ensures window { (r : LocalRule) (n c : ℕ) (x y : Config) (i : ℤ) → IsRule r → IsDetermined r n c → IsConfig r.states x → IsConfig r.states y → run (image_of r x) i n ≡ run (image_of r y) i n → x (i +ℤ r.offset +ℤ pos c) ≡ y (i +ℤ r.offset +ℤ pos c) }
+{}
+
+/// A rule is closing on a side exactly where no two different configurations that agree far out on the
+/// other side have one image. A look-ahead is the reason.
+pub fn closing_everywhere()
+    ensures right { (r : LocalRule) → IsRule r → (IsRightClosing r ↔ IsRightClosingMap r) }
+    ensures left { (r : LocalRule) → IsRule r → (IsLeftClosing r ↔ IsLeftClosingMap r) }
+    ensures ahead { (r : LocalRule) (n : ℕ) (x y : Config) (i : ℤ) → IsRule r → IsRightAhead r n → IsConfig r.states x → IsConfig r.states y → run x (i +ℤ r.offset) (r.width - 1) ≡ run y (i +ℤ r.offset) (r.width - 1) → run (image_of r x) i n ≡ run (image_of r y) i n → x (i +ℤ r.offset +ℤ pos (r.width - 1)) ≡ y (i +ℤ r.offset +ℤ pos (r.width - 1)) }
+{}
+
+/// The Garden of Eden law over all configurations: a rule is surjective exactly where no two different
+/// ones that agree far out on both sides have one image.
+pub fn surjective_is_preinjective_everywhere()
+    ensures { (r : LocalRule) → IsRule r → (IsSurjective r ↔ IsPreinjectiveMap r) }
+{}
+
+/// A rule is surjective exactly where no more than k^(m - 1) configurations that all differ have one
+/// image (Hedlund 1969).
+pub fn surjective_is_few_to_one()
+    ensures { (r : LocalRule) → IsRule r → (IsSurjective r ↔ ((xs : ℕ → Config) → ¬ AreMany r (node_count r) xs)) }
+{}
+
+/// A rule is surjective exactly where the images are dense: each configuration is matched by an image
+/// on every finite part.
+pub fn surjective_is_dense()
+    ensures { (r : LocalRule) → IsRule r → (IsSurjective r ↔ IsDenseMap r) }
+{}
+
+/// A rule is surjective exactly where each configuration is an image (compactness), if of two tests one
+/// passes, which is known as the lesser limited principle of omniscience. It follows from the law of the
+/// excluded middle. It is needed: it holds if each configuration is an image under every surjective rule.
+pub fn surjective_is_onto()
+    ensures exactly { OneOfTwo → (r : LocalRule) → IsRule r → (IsSurjective r ↔ IsOntoMap r) }
+    ensures onto { (r : LocalRule) → IsRule r → IsOntoMap r → IsSurjective r }
+    ensures follows { AllOrNot → OneOfTwo }
+    ensures needed { ((r : LocalRule) → IsRule r → IsSurjective r → IsOntoMap r) → OneOfTwo }
+{}
+
+/// A rule is surjective exactly where each configuration that repeats far out on both sides is the image
+/// of one that does.
+pub fn surjective_is_onto_repeating()
+    ensures { (r : LocalRule) → IsRule r → (IsSurjective r ↔ IsOntoTails r) }
+{}
+
+/// A rule that is closing on a side is continuing on it: what agrees far out on the other side with an
+/// image is the image of what agrees there.
+pub fn closing_is_continuing()
+    ensures right { (r : LocalRule) → IsRule r → IsRightClosing r → IsRightContinuingMap r }
+    ensures left { (r : LocalRule) → IsRule r → IsLeftClosing r → IsLeftContinuingMap r }
+{}
+
+/// A rule is closing on both sides exactly where its map is open (Hedlund 1969), evenly so, and then
+/// each configuration is an image.
+pub fn open_is_open_map()
+    ensures exactly { (r : LocalRule) → IsRule r → (IsOpen r ↔ IsOpenMap r) }
+    ensures evenly { (r : LocalRule) → IsRule r → (IsOpen r ↔ IsEvenlyOpenMap r) }
+    ensures onto { (r : LocalRule) → IsRule r → IsOpen r → IsOntoMap r }
+{}
+
+/// The image of a part of a configuration weighs more than the part by the difference of the flux at its
+/// two ends. So a rule keeps the sums of rings exactly where it keeps those of finite configurations, and
+/// exactly where finitely many new letters change the sum of the image as they change that of the letters.
+pub fn conserving_everywhere()
+    ensures flux { (weight : ℕ → ℕ) (r : LocalRule) (phi : List ℤ) (x : Config) (i : ℤ) (n : ℕ) → IsRule r → IsFlux weight r phi → IsConfig r.states x → (pos (weight_on weight (image_of r x) i n) -ℤ pos (weight_on weight x (i +ℤ r.offset) n)) ≡ (flow_under r phi x i -ℤ flow_under r phi x (i +ℤ pos n)) }
+    ensures finite { (weight : ℕ → ℕ) (r : LocalRule) → IsRule r → (IsConserving weight r ↔ KeepsFiniteSums weight r) }
+    ensures changes { (weight : ℕ → ℕ) (r : LocalRule) → IsRule r → (IsConserving weight r ↔ KeepsChanges weight r) }
+{}
+
+/// The inverse map of a determined window gives every configuration back from its image, and the rule
+/// gives every configuration back from what the map makes of it.
+pub fn inverse_everywhere()
+    ensures back { (r : LocalRule) (n c : ℕ) (g : WindowMap) (x : Config) → IsRule r → IsDetermined r n c → IsInverseMap r n c g → IsConfig r.states x → mapped g (image_of r x) ≡ x }
+    ensures forth { (r : LocalRule) (n c : ℕ) (g : WindowMap) (x : Config) → IsRule r → IsDetermined r n c → IsInverseMap r n c g → IsConfig r.states x → image_of r (mapped g x) ≡ x }
+{}

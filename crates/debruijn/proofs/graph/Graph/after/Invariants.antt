@@ -1,9 +1,0 @@
-use Rattle.std.proofs.Common.{IsBitSet}
-use Rattle.word_image.specs.LocalRules.{node_count}
-use Rattle.word_image.specs.Graphs.{HasBit}
-use Rattle.word_image.proofs.laws.Unions.{IsUnion}
-use Rattle.debruijn.proofs.graph.Graph.after.Given as goal
-
--- the first nodes are done
-abbrev pub invariant-loop-u : goal.invariant-loop-u
-invariant-loop-u l = IsUnion (node_count l.self) (λ u v. IsBitSet l.set u × HasBit l.rows u v) l.u l.after

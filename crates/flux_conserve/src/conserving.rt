@@ -1,0 +1,20 @@
+//! Whether a rule is conserving, without what shows it.
+ghost use Rattle.std.specs.Prelude.{◌≡◌, ◌↔◌, length, slice_index, IsTrue};
+ghost use Rattle.word_image.specs.Rings.{IsConserving};
+
+use crate::flows::walks_flow;
+use word_image::{Rule, Weights};
+
+/// Whether every ring has the sum of its image, with these weights of the letters. It makes no flux, and
+/// looks for no ring: it ends at the first window that shows that there is no flux.
+pub fn is_conserving(rule: &Rule, weights: &Weights) -> bool
+    requires { length weights.now ≡ rule.now.states }
+    ensures { IsTrue result ↔ IsConserving (slice_index weights.now) rule.now }
+{
+    for window in 0..rule.size() {
+        if !walks_flow(rule, weights, window) {
+            return false;
+        }
+    }
+    true
+}

@@ -1,0 +1,4 @@
+pub mod Statuses
+pub mod Lines
+pub mod Lists
+pub mod Answers

@@ -1,0 +1,54 @@
+-- The lines that the program writes.
+use Rattle.std.specs.Prelude.{◌≡◌, ℕ, ◌-◌, ◌^◌, List, [], ◌∷◌, ◌++◌, length, min, codes}
+use Rattle.std.specs.Fmt.{decimal}
+use Rattle.word_image.specs.LocalRules.{LocalRule}
+use Rattle.rule_text.specs.PrintedRules.{printed_rule}
+use Rattle.rule_text.specs.declared.text_fault.TextFault.{TextFault}
+use Rattle.rule_text.specs.declared.text_fault.TextFault.TheVariants.{Form, States, Width, Nodes, Offset, Kind, Length, Letter, Number}
+
+-- a text, and the byte that ends a line
+abbrev pub line : List ℕ → List ℕ
+line text = text ++ 10 ∷ []
+
+-- the words are no listing
+abbrev pub usage_line : List ℕ
+usage_line = line (codes "usage error")
+
+-- the kind of a fault in lower case, and its place where it has one
+abbrev pub fault_text : TextFault → List ℕ
+fault_text (Form place) = codes "form " ++ decimal place
+fault_text States = codes "states"
+fault_text Width = codes "width"
+fault_text Nodes = codes "nodes"
+fault_text Offset = codes "offset"
+fault_text Kind = codes "kind"
+fault_text Length = codes "length"
+fault_text (Letter place) = codes "letter " ++ decimal place
+fault_text Number = codes "number"
+
+-- the beginning, the one operand that is a text of a rule, has this fault
+abbrev pub fault_line : TextFault → List ℕ
+fault_line f = line (codes "rule fault 1 " ++ fault_text f)
+
+-- a table of this shape, at its offset
+abbrev pub with_table : LocalRule → List ℕ → LocalRule
+with_table shape table = record { states = shape.states; width = shape.width; offset = shape.offset; table = table }
+
+-- the line of a rule that is listed
+abbrev pub rule_line : LocalRule → LocalRule → List ℕ
+rule_line shape r = line (printed_rule (with_table shape r.table))
+
+-- the lines of all, one after another
+abbrev pub rule_lines : LocalRule → List LocalRule → List ℕ
+rule_lines shape [] = []
+rule_lines shape (r ∷ rs) = rule_line shape r ++ rule_lines shape rs
+
+-- how many there are; the count stops at 2^64 - 1
+abbrev pub last_line : List LocalRule → List ℕ
+last_line rules = line (codes "rules " ++ decimal (min (length rules) (2 ^ 64 - 1)))
+
+-- the line of a rule of this shape, whatever its letters
+pub record IsLineOf (shape : LocalRule) (bytes : List ℕ) : Type 0 where
+  pub table : List ℕ
+  pub long : length table ≡ shape.states ^ shape.width
+  pub text : bytes ≡ line (printed_rule (with_table shape table))

@@ -1,0 +1,20 @@
+-- The statuses with which the program ends.
+use Rattle.std.specs.Prelude.{ℕ, ⊤}
+use Rattle.list_run.specs.declared.status.Status.{Status}
+use Rattle.list_run.specs.declared.status.Status.TheVariants.{Done, Usage, RuleFault, WriteFault, Memory}
+
+-- the exit status of the program
+abbrev pub code_of : Status → ℕ
+code_of Done = 0
+code_of Usage = 2
+code_of RuleFault = 3
+code_of WriteFault = 7
+code_of Memory = 8
+
+-- the status says what came of the words, and not what failed on the way
+abbrev pub IsAnswered : Status → Type 0
+IsAnswered Done = ⊤
+IsAnswered Usage = ⊤
+IsAnswered RuleFault = ⊤
+IsAnswered WriteFault = ⊥
+IsAnswered Memory = ⊥

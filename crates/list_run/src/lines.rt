@@ -1,0 +1,56 @@
+//! The lines that the program writes.
+ghost use Rattle.std.specs.Prelude.{◌≡◌, ◌^◌, IfOk, length, map, string_bytes};
+ghost use Rattle.word_image.specs.Digits.{lower_digit};
+ghost use Rattle.list_run.specs.Lines.{IsLineOf, fault_line, rule_line};
+
+use rule_text::{TextFault, print};
+use std::alloc::{AllocError, Global};
+use word_image::{Rule, digit};
+
+/// The line that says which fault a beginning has.
+pub fn fault_line(alloc: Global, fault: TextFault) -> Result<String, AllocError>
+    ensures { IfOk result (λ text. string_bytes text ≡ fault_line fault) }
+{
+    match fault {
+        TextFault::Form(place) => format!(in alloc; "rule fault 1 form {place}\n"),
+        TextFault::States => String::from_str(alloc, "rule fault 1 states\n"),
+        TextFault::Width => String::from_str(alloc, "rule fault 1 width\n"),
+        TextFault::Nodes => String::from_str(alloc, "rule fault 1 nodes\n"),
+        TextFault::Offset => String::from_str(alloc, "rule fault 1 offset\n"),
+        TextFault::Kind => String::from_str(alloc, "rule fault 1 kind\n"),
+        TextFault::Length => String::from_str(alloc, "rule fault 1 length\n"),
+        TextFault::Letter(place) => format!(in alloc; "rule fault 1 letter {place}\n"),
+        TextFault::Number => String::from_str(alloc, "rule fault 1 number\n"),
+    }
+}
+
+/// The line of a rule.
+pub fn first_line(alloc: Global, rule: &Rule) -> Result<Vec<u8>, AllocError>
+    ensures { IfOk result (λ line. IsLineOf rule.now line.items) }
+{
+    let mut line = print(alloc, rule)?;
+    line.push(b'\n')?;
+    Ok(line)
+}
+
+/// Makes a line that of a rule, at the offset of the rule with its shape. It takes no memory.
+pub fn set_table(line: &mut [u8], shape: &Rule, rule: &Rule)
+    requires line { IsLineOf shape.now line.old }
+    requires states { rule.now.states ≡ shape.now.states }
+    requires width { rule.now.width ≡ shape.now.width }
+    ensures { line.new ≡ rule_line shape.now rule.now }
+{
+    let end = line.len() - 1;
+    let place = end - usize::from(rule.size());
+    write_digits(&mut line[place..end], rule);
+}
+
+/// Writes the digits of a table.
+fn write_digits(digits: &mut [u8], rule: &Rule)
+    requires { length digits.old ≡ rule.now.states ^ rule.now.width }
+    ensures { digits.new ≡ map lower_digit rule.now.table }
+{
+    for window in 0..rule.size() {
+        digits[usize::from(window)] = digit(rule.at(window));
+    }
+}

@@ -1,0 +1,10 @@
+-- Tables by their letters: how often each stands in them, and which mean they have.
+use Rattle.std.specs.Prelude.{◌≡◌, ℕ, ◌+◌, ◌*◌, ◌<◌, ◌==◌, List, length, sum, count_by}
+
+-- each of k letters stands in the table equally often
+abbrev pub IsEven : ℕ → List ℕ → Type 0
+IsEven k table = (a : ℕ) → a < k → k * count_by (λ b. b == a) table ≡ length table
+
+-- the letters of the table have the mean of k letters, (k - 1) / 2: twice their sum is k - 1 times the length
+abbrev pub HasMean : ℕ → List ℕ → Type 0
+HasMean k table = 2 * sum table + length table ≡ k * length table

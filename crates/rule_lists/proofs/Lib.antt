@@ -1,0 +1,5 @@
+pub mod laws
+pub mod Sure
+pub mod NoInjective
+pub mod Barred
+pub mod FixedReached

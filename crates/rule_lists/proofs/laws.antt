@@ -1,0 +1,5 @@
+pub mod Ranks
+pub mod Filled
+pub mod Advance
+pub mod Going
+pub mod Calls

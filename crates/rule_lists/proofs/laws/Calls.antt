@@ -1,0 +1,89 @@
+-- Calls one after another give each listed rule once.
+use Rattle.std.proofs.Common.{◌≡◌, ◌≢◌, ℕ, ◌+◌, ◌^◌, ◌<◌, ◌≤◌, ◌↔◌, List, [], ◌∷◌, ◌++◌, ◌⊎◌, inl, inr, length, Option, Some, None, refl, sym, ap, ap₂, ◌∙◌, subst, arith, ⊎_elim}
+use Rattle.std.specs.Prelude.{Contains, slice_index}
+use Rattle.std.proofs.lemmas.Bool.{cases_lt}
+use Rattle.std.proofs.lemmas.List.{ext_get_or}
+use Rattle.std.proofs.lemmas.List.Elements.{Contains-append_left, Contains-append_right, Contains-append_cases, Contains-push, Contains-push_cases}
+use Rattle.word_image.specs.LocalRules.{LocalRule}
+use Rattle.word_image.proofs.laws.SameRules.{rule_from_parts}
+use Rattle.rule_lists.specs.Ranks.{IsOrder, rank, rank_of_first}
+use Rattle.rule_lists.specs.Listed.{IsOfShape, IsListed, IsFirst, NoneIs}
+use Rattle.rule_lists.specs.Calls.{IsAfter, AreAll, AreSoFar, AreAscending, AreListed}
+use Rattle.rule_lists.specs.declared.properties.Property.{Property}
+use Rattle.rule_lists.proofs.laws.Ranks.{same_letters}
+use Rattle.rule_lists.proofs.laws.Going.{IsTable-shape}
+
+-- two rules of a shape with one rank are one
+pub one_rule : (k m : ℕ) (order : List ℕ) (q r : LocalRule) → IsOrder (k ^ m) order → IsOfShape k m q → IsOfShape k m r → rank k order q.table ≡ rank k order r.table → q ≡ r
+one_rule k m order q r h first second e =
+    let long : (s : LocalRule) → IsOfShape k m s → length s.table ≡ k ^ m = λ s of. of.rule.entries ∙ ap₂ (λ (a b : ℕ). a ^ b) of.states of.width in
+    let whole : rank_of_first k order q.table (k ^ m) ≡ rank_of_first k order r.table (k ^ m) = subst (λ n. rank_of_first k order q.table n ≡ rank_of_first k order r.table n) h.long e in
+    let each : (v : ℕ) → v < k ^ m → slice_index q.table v ≡ slice_index r.table v = λ v l.
+    let (i, below, at) = h.all v l in
+    subst (λ w. slice_index q.table w ≡ slice_index r.table w) at (same_letters k (k ^ m) order q.table r.table (k ^ m) h (IsTable-shape first) (IsTable-shape second) (omega arith) whole i below) in
+    let tables : q.table ≡ r.table = ext_get_or 0 q.table r.table (long q first ∙ sym (long r second)) (λ v l. each v (omega (arith, long q first))) in
+    rule_from_parts {r = q} {s = r} (first.states ∙ sym second.states) (first.width ∙ sym second.width) (first.offset ∙ sym second.offset) tables
+
+-- a rule after one that comes later comes later
+IsAfter-more : (k : ℕ) (order : List ℕ) (last : Option LocalRule) (r q : LocalRule) → IsAfter k order last r → rank k order r.table < rank k order q.table → IsAfter k order last q
+IsAfter-more k order None r q h l = tt
+IsAfter-more k order (Some p) r q h l = omega (arith, h, l)
+
+-- the first element, and those behind it
+Contains-first : (rs : List LocalRule) (r : LocalRule) → Contains (r ∷ rs) r
+Contains-first rs r = Contains-append_left (r ∷ []) rs r (Contains-push [] r)
+
+Contains-behind : (rs : List LocalRule) (r q : LocalRule) → Contains rs q → Contains (r ∷ rs) q
+Contains-behind rs r q h = Contains-append_right (r ∷ []) rs q h
+
+Contains-cases : (rs : List LocalRule) (r q : LocalRule) → Contains (r ∷ rs) q → (r ≡ q) ⊎ Contains rs q
+Contains-cases rs r q h =
+    ⊎_elim
+    (λ first. ⊎_elim (λ (i, l, e). absurd (omega arith)) (λ e. inl e) (Contains-push_cases [] r q first))
+    (λ behind. inr behind)
+    (Contains-append_cases (r ∷ []) rs q h)
+
+-- the rules are listed, and come after the last one
+sound : (property : Property) (k m : ℕ) (begin order : List ℕ) (last : Option LocalRule) (rs : List LocalRule) → AreAll property k m begin order last rs → (q : LocalRule) → Contains rs q → IsListed property k m begin q × IsAfter k order last q
+sound property k m begin order last [] all q (i, l, e) = absurd (omega arith)
+sound property k m begin order last (r ∷ rs) all q has =
+    ⊎_elim
+    (λ e. subst (λ p. IsListed property k m begin p × IsAfter k order last p) e (all.0.listed, all.0.from))
+    (λ behind. let (listed, after) = sound property k m begin order (Some r) rs all.1 q behind in (listed, IsAfter-more k order last r q all.0.from after))
+    (Contains-cases rs r q has)
+
+-- each listed rule after the last one is there
+complete : (property : Property) (k m : ℕ) (begin order : List ℕ) (last : Option LocalRule) (rs : List LocalRule) → IsOrder (k ^ m) order → AreAll property k m begin order last rs → (q : LocalRule) → IsListed property k m begin q → IsAfter k order last q → Contains rs q
+complete property k m begin order last [] h all q listed after = absurd (all q listed after)
+complete property k m begin order last (r ∷ rs) h all q listed after =
+    ⊎_elim
+    (λ l. Contains-behind rs r q (complete property k m begin order (Some r) rs h all.1 q listed l))
+    (λ most.
+    let least : rank k order r.table ≤ rank k order q.table = all.0.least q listed after in
+    let same : r ≡ q = one_rule k m order r q h all.0.listed.shape listed.shape (omega arith) in
+    subst (λ p. Contains (r ∷ rs) p) same (Contains-first rs r))
+    (cases_lt (rank k order r.table) (rank k order q.table))
+
+-- they ascend
+ascending : (property : Property) (k m : ℕ) (begin order : List ℕ) (last : Option LocalRule) (rs : List LocalRule) → AreAll property k m begin order last rs → AreAscending k order last rs
+ascending property k m begin order last [] all = tt
+ascending property k m begin order last (r ∷ rs) all = (all.0.from, ascending property k m begin order (Some r) rs all.1)
+
+-- all that calls give are each listed rule once
+pub AreListed-all : (property : Property) (k m : ℕ) (begin order : List ℕ) (rs : List LocalRule) → IsOrder (k ^ m) order → AreAll property k m begin order None rs → AreListed property k m begin order rs
+AreListed-all property k m begin order rs h all = record {
+  every = λ q. ((λ has. (sound property k m begin order None rs all q has).0), (λ listed. complete property k m begin order None rs h all q listed tt));
+  ascending = ascending property k m begin order None rs all;
+}
+
+-- one rule more
+pub AreSoFar-next : (property : Property) (k m : ℕ) (begin order : List ℕ) (first : Option LocalRule) (rs : List LocalRule) (last : Option LocalRule) (r : LocalRule) → AreSoFar property k m begin order first rs last → IsFirst property k m begin order (IsAfter k order last) r
+    → AreSoFar property k m begin order first (rs ++ r ∷ []) (Some r)
+AreSoFar-next property k m begin order first [] last r e is = (subst (λ o. IsFirst property k m begin order (IsAfter k order o) r) (sym e) is, refl)
+AreSoFar-next property k m begin order first (q ∷ rs) last r h is = (h.0, AreSoFar-next property k m begin order (Some q) rs last r h.1 is)
+
+-- where none comes after the last one, they are all
+pub AreAll-ended : (property : Property) (k m : ℕ) (begin order : List ℕ) (first : Option LocalRule) (rs : List LocalRule) (last : Option LocalRule) → AreSoFar property k m begin order first rs last → NoneIs property k m begin (IsAfter k order last)
+    → AreAll property k m begin order first rs
+AreAll-ended property k m begin order first [] last e none = subst (λ o. NoneIs property k m begin (IsAfter k order o)) (sym e) none
+AreAll-ended property k m begin order first (q ∷ rs) last h none = (h.0, AreAll-ended property k m begin order (Some q) rs last h.1 none)

@@ -1,0 +1,17 @@
+use Rattle.std.proofs.Common.{◌≤◌, ◌^◌, ◌↔◌, IfSome}
+use Rattle.word_image.specs.LocalRules.{LocalRule}
+use Rattle.rule_lists.specs.Tables.{IsTable, IsPast}
+use Rattle.rule_lists.specs.Listed.{IsListed}
+use Rattle.rule_lists.proofs.laws.Going.{to_come}
+use Rattle.rule_lists.proofs.search.from.Given as goal
+
+-- the same rules are still to come
+abbrev pub invariant-loop-next : goal.invariant-loop-next
+invariant-loop-next l = record {
+  table : IsTable l.shape.states (l.shape.states ^ l.shape.width) l.entries;
+  within : IfSome l.next (λ n. n ≤ l.shape.states ^ l.shape.width);
+  same : (q : LocalRule) → IsListed l.property l.shape.states l.shape.width l.begin q → IsPast l.shape.states l.order l.fn.start l.fn.first q.table ↔ IsPast l.shape.states l.order l.entries l.next q.table;
+}
+
+abbrev pub decreases-loop-next : goal.decreases-loop-next
+decreases-loop-next l = to_come l.shape.states (l.shape.states ^ l.shape.width) l.order l.entries l.next

@@ -1,0 +1,10 @@
+pub mod Properties
+pub mod Ranks
+pub mod Tables
+pub mod Listed
+pub mod Completions
+pub mod EndlessPairs
+pub mod Reached
+pub mod Bars
+pub mod Flags
+pub mod Calls

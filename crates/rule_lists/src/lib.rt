@@ -1,0 +1,34 @@
+//! All rules of a shape that have a property, one after another.
+//!
+//! A shape has `k^(k^m)` tables, too many to ask each: 7.6 million million of three states and width 3,
+//! of which 1,800 are reversible. So tables are filled letter by letter, the windows in a given order, and
+//! what stands so far may forbid the property for whatever else is filled in: then none of these tables
+//! is tried.
+//!
+//! The rank of a rule is the number of its letters in the order of the windows. [`first_rule`] gives the
+//! rule of least rank that has the property and [`rule_after`] the next one, so between them each rule
+//! that has it is given exactly once.
+//!
+//! With the windows in the order 111, 110, .., 000 the rank is the Wolfram number. The surjective rules of
+//! two states and width 3 are then those with the numbers 15, 30, 45, 51, 60, .., 240: 30 rules.
+#![tactic(auto)]
+
+mod closing_cuts;
+mod cuts;
+mod endless;
+mod lost;
+mod orders;
+mod properties;
+mod search;
+mod tables;
+mod theorems;
+
+pub use lost::Letters;
+pub use orders::{is_order, order_for};
+pub use properties::{Property, has};
+pub use search::{first_rule, rule_after};
+pub use theorems::{
+    calls_list_each_rule_once, fixed_endless_first_pair_forbids_closing,
+    fixed_endless_nodes_forbid_injective, fixed_erasable_pair_forbids_surjective,
+    one_rule_of_a_rank,
+};

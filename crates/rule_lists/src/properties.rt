@@ -1,0 +1,54 @@
+//! Properties of rules that are listed.
+ghost use Rattle.std.specs.Prelude.{◌≡◌, ◌↔◌, IsTrue};
+ghost use Rattle.rule_lists.specs.Properties.{Has};
+ghost use Rattle.tail_config.specs.Tails.{IsOpen};
+
+use closing_test::{is_left_closing, is_right_closing};
+use debruijn::Graph;
+use eden_law::is_surjective;
+use inverse_window::is_injective;
+use pair_graph::Pairs;
+use pair_rank::Endless;
+use word_image::Rule;
+
+/// A property of rules.
+#[derive(Clone, Copy, Debug, PartialEq, Eq)]
+pub enum Property {
+    /// Every word has a preimage.
+    Surjective,
+    /// No two different configurations share an image.
+    Injective,
+    /// No two that agree on the left do.
+    RightClosing,
+    /// No two that agree on the right do.
+    LeftClosing,
+    /// The rule closes on both sides.
+    Open,
+}
+
+/// Whether a rule has the property.
+pub fn has(property: Property, rule: &Rule) -> bool
+    ensures { IsTrue result ↔ Has property rule.now }
+{
+    match property {
+        Property::Surjective => is_surjective(&Graph::of(rule)),
+        Property::Injective => is_injective(&endless(rule)),
+        Property::RightClosing => is_right_closing(&endless(rule)),
+        Property::LeftClosing => is_left_closing(&endless(rule)),
+        Property::Open => is_open(&endless(rule)),
+    }
+}
+
+/// Whether the rule closes on both sides.
+fn is_open(endless: &Endless) -> bool
+    ensures { IsTrue result ↔ IsOpen endless.now }
+{
+    is_right_closing(endless) && is_left_closing(endless)
+}
+
+/// The endless pairs of a rule.
+fn endless(rule: &Rule) -> Endless
+    ensures { result ≡ rule.now }
+{
+    Endless::over(&Pairs::of(rule))
+}

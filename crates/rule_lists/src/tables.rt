@@ -1,0 +1,45 @@
+//! Tables that are filled window by window.
+ghost use Rattle.std.specs.Prelude.{◌≡◌, ◌+◌, ◌-◌, ◌*◌, ◌^◌, ◌<◌, ◌≤◌, ◌↔◌, ℕ, List, IfSome, IsTrue, length, slice_index};
+ghost use Rattle.rule_lists.specs.Ranks.{IsOrder, rank_of_first};
+ghost use Rattle.rule_lists.specs.Tables.{IsTable, HasLetters, IsPast};
+
+use crate::lost::Letters;
+use word_image::MOST_ENTRIES;
+
+/// The letters of a table by the values of the windows, and anything after them.
+pub(crate) type Entries = [u8; MOST_ENTRIES];
+
+/// Whether a table has each letter that is fixed from the beginning.
+pub(crate) fn has_letters(k: u8, begin: &Letters, entries: &Entries, size: u16) -> bool
+    requires { size ≤ 256 }
+    ensures { IsTrue result ↔ HasLetters k size begin.now entries.now }
+{
+    for window in 0..usize::from(size) {
+        if begin[window] < k && entries[window] != begin[window] {
+            return false;
+        }
+    }
+    true
+}
+
+/// Makes the letters at the first n windows of the order the next ones, and answers how many of these stand; `None`
+/// where there are no next ones.
+pub(crate) fn advance(k: u8, order: &[u8], entries: &mut Entries, n: u16) -> Option<u16>
+    requires states { 2 ≤ k }
+    requires order { (size : ℕ) × (size ≤ 256) × IsOrder size order.now }
+    requires table { IsTable k (length order.now) entries.old }
+    requires within { n ≤ length order.now }
+    ensures table { IsTable k (length order.now) entries.new }
+    ensures within { IfSome result (λ i. i ≤ n) }
+    ensures next { IfSome result (λ i. rank_of_first k order.now entries.new i * k ^ (n - i) ≡ rank_of_first k order.now entries.old n + 1) }
+    ensures past { (t : List ℕ) → IsTable k (length order.now) t → (rank_of_first k order.now entries.old n < rank_of_first k order.now t n) ↔ IsPast k order.now entries.new result t }
+{
+    for place in (0..n).rev() {
+        let window = usize::from(order[usize::from(place)]);
+        if entries[window] < k - 1 {
+            entries[window] += 1;
+            return Some(place + 1);
+        }
+    }
+    None
+}

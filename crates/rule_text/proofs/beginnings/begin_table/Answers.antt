@@ -1,0 +1,41 @@
+use Rattle.std.proofs.Common.{◌≡◌, ℕ, ◌^◌, List, Some, take, map, length, sym, ap, ap₂, ◌∙◌, arith, rules, FitsSigned, w8, to_z, of_z}
+use Rattle.std.specs.Prelude.{ℤ}
+use Rattle.std.proofs.lemmas.Int.{to_z-of_z}
+use Rattle.std.specs.Option.{option_map}
+use Rattle.std.proofs.lemmas.List.{length-map}
+use Rattle.word_image.specs.Digits.{letter_at}
+use Rattle.word_image.specs.LocalRules.{LocalRule}
+use Rattle.word_image.specs.RuleFaults.{shape_fault, table_fault, rule_fault}
+use Rattle.word_image.proofs.laws.RuleFaults.{window_count-le}
+use Rattle.rule_text.specs.RuleTexts.{in_text}
+use Rattle.rule_text.specs.Beginnings.{filled}
+use Rattle.rule_text.proofs.laws.Beginnings.{fault_in_text, take-filled}
+use Rattle.rule_text.proofs.beginnings.begin_table.Goals as goal
+
+pub returns-in-Ok : goal.returns-in-Ok
+returns-in-Ok c =
+    let h = c.args.head.now in
+    let fits : FitsSigned w8 h.o = search rules in
+    let offset : to_z w8 (of_z w8 h.o) ≡ h.o = to_z-of_z w8 h.o fits in
+    let letters : List ℕ = map letter_at c.args.digits.now in
+    let size : c.pow-size.result ≡ h.k ^ h.m = c.pow-size.ensures ∙ ap₂ (λ (k m : ℕ). k ^ m) c.from.ensures c.from-2.ensures in
+    let table : take c.pow-size.result c.filled-table.result ≡ filled (h.k ^ h.m) letters =
+    ap₂ take size c.filled-table.ensures
+    ∙ take-filled letters (length c.args.digits.now) (h.k ^ h.m) (sym (length-map c.args.digits.now letter_at)) (omega (arith, c.if-digits-size.false, size)) (window_count-le h.k h.m h.o c.requires.shape) in (
+      fault_in_text h.place (shape_fault h.k h.m h.o) (table_fault h.k h.m (filled (h.k ^ h.m) letters)) ∙ ap (option_map (in_text h.place)) (sym (c.in-Ok.ensures.fault ∙ ap₂ (rule_fault h.k h.m) offset table)),
+      c.in-Ok.ensures.rule ∙ ap₂ (λ (o : ℤ) (t : List ℕ). record { states = h.k; width = h.m; offset = o; table = t }) offset table,
+      sym (length-map c.args.digits.now letter_at),
+    )
+
+pub returns-in-Err : goal.returns-in-Err
+returns-in-Err c =
+    let h = c.args.head.now in
+    let fits : FitsSigned w8 h.o = search rules in
+    let offset : to_z w8 (of_z w8 h.o) ≡ h.o = to_z-of_z w8 h.o fits in
+    let letters : List ℕ = map letter_at c.args.digits.now in
+    let size : c.pow-size.result ≡ h.k ^ h.m = c.pow-size.ensures ∙ ap₂ (λ (k m : ℕ). k ^ m) c.from.ensures c.from-2.ensures in
+    let table : take c.pow-size.result c.filled-table.result ≡ filled (h.k ^ h.m) letters =
+    ap₂ take size c.filled-table.ensures
+    ∙ take-filled letters (length c.args.digits.now) (h.k ^ h.m) (sym (length-map c.args.digits.now letter_at)) (omega (arith, c.if-digits-size.false, size)) (window_count-le h.k h.m h.o c.requires.shape) in
+    fault_in_text h.place (shape_fault h.k h.m h.o) (table_fault h.k h.m (filled (h.k ^ h.m) letters))
+    ∙ ap (option_map (in_text h.place)) (sym (c.in-Err.ensures.fault ∙ ap₂ (rule_fault h.k h.m) offset table)) ∙ sym (ap Some c.in_text.ensures)

@@ -1,0 +1,6 @@
+use Rattle.std.proofs.Common.{ℕ, List, ◌++◌, length, ap₂}
+use Rattle.std.proofs.lemmas.List.{drop-replicate}
+use Rattle.rule_text.proofs.beginnings.filled.Goals as goal
+
+pub returns : goal.returns
+returns c = ap₂ (λ (xs ys : List ℕ). xs ++ ys) c.write_letters.ensures (drop-replicate (length c.args.digits.now) 256 0)

@@ -1,0 +1,83 @@
+//! The beginning of a rule's table text.
+ghost use Rattle.std.specs.Prelude.{◌≡◌, ◌+◌, ◌-◌, ◌^◌, ◌<◌, ◌≤◌, ◌++◌, IfOk, IfErr, All, map, length, take, replicate};
+ghost use Rattle.word_image.specs.LocalRules.{IsShape};
+ghost use Rattle.word_image.specs.Digits.{IsHexDigit, letter_at};
+ghost use Rattle.rule_text.specs.RuleTexts.{Table};
+ghost use Rattle.rule_text.specs.Heads.{IsEntries, said_of, said_with};
+ghost use Rattle.rule_text.specs.Beginnings.{IsBeginning, IsBeginningFault, IsBeginningOf, filled};
+
+use crate::digits::{first_stop, write_letters};
+use crate::head::{Head, Kind, read_head};
+use crate::text_fault::{TextFault, in_text};
+use word_image::{MOST_ENTRIES, Rule, check_shape};
+
+/// What the beginning of a table text says: `2:3:-1:t01` stands for all rules whose table begins so.
+#[derive(Clone, Copy, Debug)]
+pub struct Beginning {
+    /// The rule with the letters that are given and 0 behind them.
+    pub rule: Rule,
+    /// How many letters are given.
+    pub given: u16,
+}
+
+/// Reads the beginning of a table text: a head and at most as many letters as there are windows. Its
+/// faults are those of a text of a rule, but that `Length` comes only where there are more letters than
+/// windows, and `Kind` where a number is given, in any form.
+pub fn parse_beginning(text: &[u8]) -> Result<Beginning, TextFault>
+    ensures beginning { IfOk result (λ b. IsBeginning text.now b) }
+    ensures fault { IfErr result (λ f. IsBeginningFault text.now f) }
+{
+    let head = read_head(text)?;
+    let digits = &text[head.place..];
+    if let Some(stop) = first_stop(head.kind, digits) {
+        let place = head.place + stop;
+        return Err(TextFault::Form(place));
+    }
+    begin(&head, digits)
+}
+
+/// The beginning that a head says with these digits; else the first fault.
+fn begin(head: &Head, digits: &[u8]) -> Result<Beginning, TextFault>
+    requires entries { IsEntries head.now.kind digits.now }
+    requires place { head.now.place + 2 ^ 16 < 2 ^ 64 }
+    ensures { IsBeginningOf (said_of head.now digits.now) result }
+{
+    if let Err(fault) = check_shape(head.k, head.m, head.o) {
+        return Err(in_text(fault, head.place));
+    }
+    match head.kind {
+        Kind::Table => begin_table(head, digits),
+        Kind::Number => Err(TextFault::Kind),
+    }
+}
+
+/// That of the table form, for an accepted shape.
+fn begin_table(head: &Head, digits: &[u8]) -> Result<Beginning, TextFault>
+    requires shape { IsShape head.now.k head.now.m head.now.o }
+    requires digits { All IsHexDigit digits.now }
+    requires place { head.now.place + 2 ^ 16 < 2 ^ 64 }
+    ensures { IsBeginningOf (said_with head.now (Table (map letter_at digits.now))) result }
+{
+    let size = usize::from(head.k).pow(u32::from(head.m));
+    if digits.len() > size {
+        return Err(TextFault::Length);
+    }
+    let table = filled(digits);
+    match Rule::new(head.k, head.m, head.o, &table[..size]) {
+        Ok(rule) => Ok(Beginning {
+            rule,
+            given: digits.len() as u16,
+        }),
+        Err(fault) => Err(in_text(fault, head.place)),
+    }
+}
+
+/// The letters that digits stand for, and 0 behind them.
+fn filled(digits: &[u8]) -> [u8; MOST_ENTRIES]
+    requires { length digits.now ≤ 256 }
+    ensures { result ≡ map letter_at digits.now ++ replicate (256 - length digits.now) 0 }
+{
+    let mut table = [0; MOST_ENTRIES];
+    write_letters(&mut table[..digits.len()], digits);
+    table
+}

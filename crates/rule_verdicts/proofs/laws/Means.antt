@@ -1,0 +1,16 @@
+-- What the table of a rule shows before the rule is looked at.
+use Rattle.std.proofs.Common.{◌≡◌, ◌^◌, ◌<◌, ◌≤◌, length, arith}
+use Rattle.std.proofs.Math.Nat.{one-le-pow}
+use Rattle.word_image.specs.LocalRules.{LocalRule, IsRule}
+use Rattle.word_image.specs.Words.{IsSurjective}
+use Rattle.ring_laws.specs.Tables.{HasMean}
+use Rattle.ring_laws.proofs.MeanTables.{HasMean-even}
+use Rattle.eden_laws.proofs.EvenTables.{IsEven-surjective}
+
+-- a table has a letter
+pub some_letters : {r : LocalRule} → IsRule r → 0 < length r.table
+some_letters {r} rule = let two : 2 ≤ r.states = rule.shape.least_states in omega (arith, rule.entries, one-le-pow r.width r.states (omega arith))
+
+-- under a surjective rule each letter stands equally often, so the letters have the mean
+pub HasMean-surjective : {r : LocalRule} → IsRule r → IsSurjective r → HasMean r.states r.table
+HasMean-surjective rule every = HasMean-even rule (IsEven-surjective rule every)

@@ -1,0 +1,44 @@
+use Rattle.std.proofs.Common.{◌≡◌, ℕ, ◌+◌, ◌-◌, ◌^◌, ◌<◌, ◌≤◌, None, List, length, reverse, refl, sym, ap, ◌∙◌, subst, arith}
+use Rattle.std.specs.Prelude.{pos}
+use Rattle.word_image.specs.LocalRules.{LocalRule, value}
+use Rattle.std.specs.Option.{option_map, option_or}
+use Rattle.word_image.specs.RuleFaults.{shape_fault}
+use Rattle.rule_text.specs.RuleTexts.{by_number, in_text, number_fault}
+use Rattle.rule_text.specs.TextReadings.{IsReading}
+use Rattle.rule_verdicts.specs.Numbers.{numbers_fault, numbered_rule, AreVerdictBytes}
+use Rattle.rule_verdicts.proofs.laws.Numbers.{numbers_fault-room}
+use Rattle.rule_verdicts.proofs.laws.Tables.{length-numbered, value-numbered}
+use Rattle.rule_verdicts.proofs.numbers.verdict_bytes.Goals.{After-copy_from_slice}
+use Rattle.rule_verdicts.proofs.numbers.verdict_bytes.Goals as goal
+
+-- the last number has a rule
+none : (c : After-copy_from_slice) → numbers_fault c.args.k c.args.m c.args.first (length c.args.bytes.now) ≡ None
+none c =
+    let last : c.in-Some.last ≡ c.args.first + length c.args.bytes.now - 1 = omega (arith, c.in-Some.ensures.1, c.requires) in
+    let reading = subst (IsReading (by_number c.args.k c.args.m (pos 0) c.in-Some.last)) c.in_ok-numbered.was c.numbered.ensures in
+    subst (λ n. option_or (option_map (in_text 0) (shape_fault c.args.k c.args.m (pos 0))) (number_fault c.args.k c.args.m n) ≡ None) last reading.0
+
+-- so each does
+room : (c : After-copy_from_slice) → c.args.first + length c.args.bytes.now ≤ c.args.k ^ (c.args.k ^ c.args.m)
+room c = numbers_fault-room c.args.k c.args.m c.args.first (length c.args.bytes.now) c.requires (none c)
+
+-- the rule of the first one
+first_rule : (c : After-copy_from_slice) → c.in_ok-rule.rule ≡ numbered_rule c.args.k c.args.m c.args.first
+first_rule c = let reading = subst (IsReading (by_number c.args.k c.args.m (pos 0) c.args.first)) c.in_ok-rule.was c.numbered-2.ensures in reading.1
+
+-- and its number
+number : (c : After-copy_from_slice) → value c.args.k (reverse c.copy_from_slice.new.self) ≡ c.args.first
+number c =
+    value-numbered c.args.k c.args.m c.args.first c.in_ok-rule.rule c.copy_from_slice.new.self (omega (arith, room c, c.requires)) (first_rule c) (c.copy_from_slice.ensures.after ∙ c.table-2.ensures.table)
+
+pub write_bytes-requires-clause-room : goal.write_bytes-requires-clause-room
+write_bytes-requires-clause-room c =
+    let d : After-copy_from_slice = (goal.at.write_bytes-requires-clause-room c).After-copy_from_slice in
+    let long : length c.copy_from_slice.new.self ≡ c.args.k ^ c.args.m =
+    length-numbered c.args.k c.args.m c.args.first c.in_ok-rule.rule c.copy_from_slice.new.self (first_rule d) (c.copy_from_slice.ensures.after ∙ c.table-2.ensures.table) in
+    omega (arith, number d, room d, ap (λ n. c.args.k ^ n) long)
+
+pub returns : goal.returns
+returns c =
+    let d : After-copy_from_slice = (goal.at.returns c).After-copy_from_slice in
+    (none d, subst (λ n. AreVerdictBytes c.args.k c.args.m n c.write_bytes.new.bytes) (number d) c.write_bytes.ensures)

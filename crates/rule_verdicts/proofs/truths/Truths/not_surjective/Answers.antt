@@ -1,0 +1,23 @@
+use Rattle.std.proofs.Common.{◌≡◌, Bool, false, sym, ◌∙◌}
+use Rattle.std.specs.Prelude.{◌↔◌, IsTrue}
+use Rattle.std.proofs.lemmas.Bool.{false≢true}
+use Rattle.eden_laws.proofs.Preinjective.{IsSurjective-injective, IsSurjective-right_closing, IsSurjective-left_closing}
+use Rattle.cert_check.proofs.laws.Soundness.{both_true}
+use Rattle.rule_verdicts.proofs.truths.Truths.not_surjective.Goals as goal
+
+-- a no is true of what doesn't hold
+no : {P : Type 0} → ¬ P → IsTrue false ↔ P
+no none = ((λ t. absurd (false≢true t)), (λ p. absurd (none p)))
+
+pub returns : goal.returns
+returns c r rule lacks keep =
+    let right = no (λ closing. lacks (IsSurjective-right_closing rule closing)) in
+    let left = no (λ closing. lacks (IsSurjective-left_closing rule closing)) in
+    record {
+      surjective = no lacks;
+      injective = no (λ injective. lacks (IsSurjective-injective rule injective));
+      right = right;
+      left = left;
+      open_ = both_true false false right left;
+      conserving = keep;
+    }

@@ -1,0 +1,1 @@
+use Rattle.rule_verdicts.proofs.truths.may_be_surjective.Goals as goal

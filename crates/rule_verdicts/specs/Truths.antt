@@ -1,0 +1,33 @@
+-- What holds of a rule, each letter of which weighs its own value, and all of it in one number.
+use Rattle.std.specs.Prelude.{ℕ, ◌+◌, ◌*◌, ◌&&◌, List, pos}
+use Rattle.std.specs.Int.{from_bool}
+use Rattle.word_image.specs.LocalRules.{LocalRule}
+use Rattle.word_image.specs.Weights.{own_weights}
+use Rattle.cert_check.specs.declared.verdicts.Verdicts.{Verdicts}
+use Rattle.cert_check.specs.Accepted.{AreTrue}
+use Rattle.rule_verdicts.specs.declared.truths.Truths.{Truths}
+
+-- the rule of k states, width m and offset 0 with this table
+abbrev pub table_rule : ℕ → ℕ → List ℕ → LocalRule
+table_rule k m table = record { states = k; width = m; offset = pos 0; table = table }
+
+-- what is said of a rule
+abbrev pub said_of : LocalRule → Truths → Verdicts
+said_of r t = record {
+  rule = r;
+  weights = own_weights r.states;
+  surjective = t.surjective;
+  injective = t.injective;
+  right = t.right;
+  left = t.left;
+  conserving = t.conserving;
+}
+
+-- all of it is true
+abbrev pub AreTruths : LocalRule → Truths → Type 0
+AreTruths r t = AreTrue (said_of r t)
+
+-- one power of two for each of six questions
+abbrev pub byte_of : Truths → ℕ
+byte_of t =
+    from_bool t.surjective + 2 * from_bool t.injective + 4 * from_bool t.right + 8 * from_bool t.left + 16 * from_bool (t.right && t.left) + 32 * from_bool t.conserving

@@ -1,0 +1,36 @@
+-- Configurations: functions from the integers to letters, however they go on, and what a rule makes of them.
+use Rattle.std.specs.Prelude.{◌≡◌, ℕ, ◌<◌, List, map, ℤ, pos, ◌+ℤ◌, neg_ℤ, ◌<ℤ◌, ◌≤ℤ◌}
+use Rattle.std.specs.List.{range_with_len}
+use Rattle.word_image.specs.LocalRules.{LocalRule, local_map}
+
+-- a letter at each place
+abbrev pub Config : Type 0
+Config = ℤ → ℕ
+
+-- the letters are below k
+abbrev pub IsConfig : ℕ → Config → Type 0
+IsConfig k x = (i : ℤ) → x i < k
+
+-- the letter 0 everywhere
+abbrev pub zeros : Config
+zeros i = 0
+
+-- the n letters from place i on
+abbrev pub run : Config → ℤ → ℕ → List ℕ
+run x i n = map (λ j. x (i +ℤ pos j)) (range_with_len 0 n)
+
+-- the image: at each place what the rule gives on its window
+abbrev pub image_of : LocalRule → Config → Config
+image_of r x i = local_map r (run x (i +ℤ r.offset) r.width)
+
+-- the letters are equal at the places from -n to n
+abbrev pub AgreeWithin : ℕ → Config → Config → Type 0
+AgreeWithin n x y = (i : ℤ) → neg_ℤ (pos n) ≤ℤ i → i ≤ℤ pos n → x i ≡ y i
+
+-- they are equal at each place left of some place
+abbrev pub AgreeFarLeft : Config → Config → Type 0
+AgreeFarLeft x y = (p : ℤ) × ((i : ℤ) → i <ℤ p → x i ≡ y i)
+
+-- they are equal at each place right of some place
+abbrev pub AgreeFarRight : Config → Config → Type 0
+AgreeFarRight x y = (p : ℤ) × ((i : ℤ) → p <ℤ i → x i ≡ y i)

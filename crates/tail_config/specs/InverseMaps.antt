@@ -1,0 +1,29 @@
+-- The inverse map of a rule over a determined window (Amoroso and Patt 1972), and what it makes of configurations.
+use Rattle.std.specs.Prelude.{◌≡◌, ℕ, ◌^◌, List, length, slice_index, ℤ, pos, neg_ℤ, ◌+ℤ◌, ◌-ℤ◌}
+use Rattle.word_image.specs.LocalRules.{LocalRule, IsWord, value}
+use Rattle.word_image.specs.Words.{IsPreimage}
+use Rattle.tail_config.specs.Configs.{Config, run}
+
+-- what reads `width` letters of an image from cell i + offset on, and gives a letter for cell i
+pub record WindowMap : Type 0 where
+  pub states : ℕ
+  pub width : ℕ
+  pub offset : ℤ
+  pub table : List ℕ
+
+-- what the map gives on a word of `width` letters
+abbrev pub map_letter : WindowMap → List ℕ → ℕ
+map_letter g w = slice_index g.table (value g.states w)
+
+-- what it makes of a configuration: at each place what it gives on the letters from its offset on
+abbrev pub mapped : WindowMap → Config → Config
+mapped g y i = map_letter g (run y (i +ℤ g.offset) g.width)
+
+-- it gives letter c of every preimage of a word of n letters, and 0 where the word has none
+pub record IsInverseMap (r : LocalRule) (n c : ℕ) (g : WindowMap) : Type 0 where
+  pub states : g.states ≡ r.states
+  pub width : g.width ≡ n
+  pub offset : g.offset ≡ neg_ℤ r.offset -ℤ pos c
+  pub entries : length g.table ≡ r.states ^ n
+  pub letter : (w x : List ℕ) → length w ≡ n → IsPreimage r w x → map_letter g w ≡ slice_index x c
+  pub none : (w : List ℕ) → IsWord r.states w → length w ≡ n → ((x : List ℕ) → ¬ IsPreimage r w x) → map_letter g w ≡ 0

@@ -1,0 +1,79 @@
+"""Writes docs/ca.1, the page for man, made of COMMANDS.md: `python3 docs/man.py > docs/ca.1`.
+
+It knows of Markdown what that page uses: headings, paragraphs, tables, blocks that are indented by four blanks, and in a
+line code, links and nothing else.
+"""
+import re
+import sys
+from pathlib import Path
+
+PAGE = Path(__file__).with_name("COMMANDS.md")
+
+HEAD = r""".\" Made of docs/COMMANDS.md by docs/man.py; not to be edited.
+.TH CA 1
+.SH NAME
+ca \- decides what holds of one\-dimensional cellular automata
+.SH SYNOPSIS
+.B ca
+.I COMMAND OPERANDS"""
+
+
+def escaped(text):
+    """The text as roff reads it."""
+    for old, new in [("\\", r"\e"), ("-", r"\-"), ("^", r"\(ha"), ("~", r"\(ti"), ("'", r"\(aq"), ("`", r"\(ga")]:
+        text = text.replace(old, new)
+    return r"\&" + text if text.startswith(".") else text
+
+
+def inline(text):
+    """A line with its code in bold, and of its links the words."""
+    text = re.sub(r"\[([^]]*)\]\([^)]*\)", r"\1", text)
+    parts = [escaped(part) for part in text.split("`")]
+    return "".join(part if place % 2 == 0 else rf"\fB{part}\fR" for place, part in enumerate(parts))
+
+
+def cells(row):
+    return [cell.strip() for cell in row.strip().strip("|").split("|")]
+
+
+def table(rows):
+    """A list with a row's first cell as its tag; where there are more than two columns each of the others has its head."""
+    heads = cells(rows[0])
+    for row in rows[2:]:
+        tag, *others = cells(row)
+        others = [(head, cell) for head, cell in zip(heads[1:], others) if cell]
+        if not tag:
+            tag = " ".join(others.pop(0))
+        lines = [inline(cell if len(heads) == 2 else f"{head}: {cell}") for head, cell in others]
+        yield from [".TP", inline(tag), "\n.br\n".join(lines)]
+
+
+def blocks(text):
+    """The parts of a page that blank lines part: each a list of lines. A heading stands alone."""
+    for block in re.split(r"\n{2,}", text.strip("\n")):
+        yield block.split("\n")
+
+
+def written(block):
+    first = block[0]
+    if first.startswith("## "):
+        yield ".SH " + inline(first[3:])
+    elif first.startswith("### "):
+        yield ".SS " + inline(first[4:])
+    elif first.startswith("|"):
+        yield from table(block)
+    elif first.startswith("    "):
+        yield from [".PP", ".RS 4", ".nf", *[escaped(line[4:]) for line in block], ".fi", ".RE"]
+    else:
+        yield from [".PP", *[inline(line) for line in " ".join(block).split("\n")]]
+
+
+def main():
+    title, synopsis, *body = blocks(PAGE.read_text())
+    assert title == ["# Commands"] and synopsis == ["    ./ca COMMAND OPERANDS"], "the page begins otherwise"
+    lines = [HEAD, ".SH DESCRIPTION", *[line for block in body for line in written(block)]]
+    print("\n".join(lines))
+
+
+if __name__ == "__main__":
+    sys.exit(main())
