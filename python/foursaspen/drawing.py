@@ -19,7 +19,7 @@ NIGHT = {PAPER: "#15181c", SHADE: "#22272e", MARK: "#5a4310", DARK: "#e8e8e8", G
 MARGIN = 24                                     # left of all, and below it
 WIDEST = 1200                                   # of a picture whose words have room in it
 FONT = "DejaVu Sans, Verdana, sans-serif"
-LETTER = 0.58                                   # the width of a letter of size 1
+LETTER, BOLD = 0.65, 0.7                        # the widths of digits of size 1
 Point = tuple[float, float]
 
 
@@ -51,7 +51,7 @@ class Canvas:
     def text(self, x: float, y: float, text: str, size: float = 12, anchor: str = "middle", color: str = DARK,
              bold: bool = False) -> None:
         """A text with its base line at y."""
-        beyond = {"start": 1.0, "middle": 0.5, "end": 0.0}[anchor] * len(text) * size * LETTER
+        beyond = {"start": 1.0, "middle": 0.5, "end": 0.0}[anchor] * len(text) * size * (BOLD if bold else LETTER)
         self._reach(x + beyond, y + size / 3)
         weight = ' font-weight="bold"' if bold else ""
         self._parts.append(f'<text x="{x:.1f}" y="{y:.1f}" font-size="{size:g}" text-anchor="{anchor}" '
@@ -60,7 +60,8 @@ class Canvas:
     def lines_of_text(self, y: float, text: str, size: float = 13, color: str = DARK, bold: bool = False,
                       room: float = WIDEST) -> float:
         """A text from the left margin on, in as many lines as it takes; where the last one stands."""
-        for place, line in enumerate(textwrap.wrap(text, int((room - 2 * MARGIN) / (size * LETTER)))):
+        letters = int((room - 2 * MARGIN) / (size * (BOLD if bold else LETTER)))
+        for place, line in enumerate(textwrap.wrap(text, letters)):
             y += 1.35 * size if place else 0
             self.text(MARGIN, y, line, size, "start", color, bold)
         return y

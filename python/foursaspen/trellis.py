@@ -18,7 +18,7 @@ class Trellis:
     def __init__(self, canvas: Canvas, graph: Graph, steps: int, top: float) -> None:
         self.canvas, self.graph, self.top = canvas, graph, top
         self.left: float = MARGIN + 92.0
-        room = (WIDEST - self.left - 2 * MARGIN) / max(steps, 1)
+        room = (WIDEST - self.left - 52) / max(steps, 1)    # the margin, and half a word beyond the last column
         self.column: float = max(LEAST, min(38.0 + 3.5 * graph.nodes, room))
         for node in range(graph.nodes):
             canvas.text(self.left - 22, self.y(node) + 4.3, graph.name(node), anchor="end", bold=True)

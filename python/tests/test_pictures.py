@@ -104,6 +104,11 @@ class Pictures(unittest.TestCase):
                     long = max(map(len, rows_of(ca.picture(rule, show)).values()), default=0)
                     self.assertLessEqual(int(drawing.get("width", 0)), max(1200, 170 + 16 * long))
 
+    def test_a_long_orphan_fits(self) -> None:
+        rule = "2:5:0:t00110011001111001100110011000110"
+        self.assertEqual(len(ca.orphan(rule) or ""), 19)
+        self.assertLessEqual(int(tree.fromstring(ca.picture(rule)).get("width", 0)), 1200)
+
     def test_another_word_for_show(self) -> None:
         self.assertRaises(ValueError, ca.picture, 110, "loop")
 
