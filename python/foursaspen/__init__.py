@@ -16,7 +16,7 @@ from .drawing import Picture
 from .faults import (Fault, FoursaspenError, LibraryMissing, LibraryMissingError, NotFit, NotFitError, OutOfMemory,
                      OutOfMemoryError, Refused, RefusedError, RuleError, RuleFault, TooLong, TooLongError, UsageError,
                      UsageFault, WordsError, WordsFault)
-from .library import Outcome
+from .library import Outcome, keep_freed_memory
 from .operands import Rule, Weights
 from .pictures import picture
 from .report import (Answer, Certificate, ClassSummary, Closing, Gap, Inverse, Language, Pair, Preimage, Report, Same,
@@ -30,6 +30,7 @@ __all__ = [
     "Outcome", "Pair", "Picture", "Preimage", "Progress", "Refused", "RefusedError", "Report", "Rule", "RuleError",
     "RuleFault", "Same", "Split", "Summary", "Tail", "TooLong", "TooLongError", "UsageError", "UsageFault",
     "Verdicts", "Weights", "Window", "WordsError", "WordsFault", "brief", "certify", "check", "classes", "compose",
-    "decide", "erase", "inverse", "language", "least", "lift", "number", "orphan", "permute", "picture", "preimage",
-    "reflect", "run", "same", "sample", "shift", "survey", "survey_over", "trim", "unlift", "verdict_bytes", "widen",
+    "decide", "erase", "inverse", "keep_freed_memory", "language", "least", "lift", "number", "orphan", "permute",
+    "picture", "preimage", "reflect", "run", "same", "sample", "shift", "survey", "survey_over", "trim", "unlift",
+    "verdict_bytes", "widen",
 ]

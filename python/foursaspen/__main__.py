@@ -14,6 +14,7 @@ import sys
 
 from . import __version__, atlas
 from .faults import FoursaspenError
+from .library import keep_freed_memory
 from .page import page
 from .pictures import picture
 
@@ -42,6 +43,7 @@ def main() -> int:
     """Writes what is asked for; the status is 1 where a rule is refused or hasn't what is to be shown."""
     parser = arguments()
     asked = parser.parse_args()
+    keep_freed_memory()                         # an atlas decides many rules, and the process is its own
     try:
         if asked.command == "picture":
             text: str = picture(asked.rule, asked.show)

@@ -11,10 +11,12 @@ import sys
 import tempfile
 import unittest
 import unittest.mock
+from ctypes import CDLL as cdll
 from pathlib import Path
+from unittest import mock
 
 import foursaspen as ca
-from foursaspen import faults
+from foursaspen import faults, library
 from foursaspen.commands import said
 
 from .support import TOP
@@ -179,6 +181,14 @@ class Faults(unittest.TestCase):
                 self.assertIn(f"CA_LIBRARY names {named}, which isn't there" if named else "there is no library", done.stdout)
                 self.assertIn("install the wheel" if path == folder else f"run ./library in {TOP},", done.stdout)
                 self.assertNotIn("crates", done.stdout)
+
+    def test_the_heap_is_tuned_where_it_is_asked_for(self) -> None:
+        heap = mock.MagicMock()
+        with mock.patch("ctypes.CDLL", side_effect=lambda name: heap if name is None else cdll(name)):
+            library.Library(library.place()).run(["decide", "110"])
+            heap.mallopt.assert_not_called()
+            ca.keep_freed_memory()
+            self.assertEqual(heap.mallopt.call_count, 2)
 
     def test_all_are_faults(self) -> None:
         for kind in [*faults.KINDS.values(), ca.LibraryMissingError]:

@@ -13,8 +13,11 @@ import foursaspen
 
 from .support import TOP, output
 
-CODE = ("import foursaspen; print(foursaspen.decide(110).orphan, foursaspen.__version__, foursaspen.library.library().path,"
-        " foursaspen.picture(110)[:4], len(foursaspen.page.page(110)) > 10000, len(foursaspen.atlas.as_html(2, 2)) > 5000)")
+CODE = """import foursaspen
+from foursaspen import atlas, library, page
+print(foursaspen.decide(110).orphan, foursaspen.__version__, library.library().path, foursaspen.picture(110)[:4],
+      len(page.page(110)) > 10000, len(atlas.as_html(2, 2)) > 5000)
+"""
 # No package index, and no way out of this machine.
 ALONE = {name: value for name, value in os.environ.items() if name not in ("CA_LIBRARY", "PYTHONPATH")} | {
     "PIP_NO_INDEX": "1", "PIP_DISABLE_PIP_VERSION_CHECK": "1", "http_proxy": "http://127.0.0.1:9",
@@ -64,22 +67,19 @@ class Wheel(unittest.TestCase):
         self.assertEqual(library, str((folder / "foursaspen" / "libca_c.so").resolve()))
 
     def test_installed(self) -> None:
+        """By the two commands that docs/PYTHON.md begins with, which end in a picture."""
+        commands = [line.strip() for line in (TOP / "docs" / "PYTHON.md").read_text().splitlines()[2:4]]
+        self.assertEqual([command.split()[0] for command in commands], ["pip", "python"])
         python = self.environment("installed")
-        output([python, "-m", "pip", "install", "-q", str(self.wheel)], ALONE)
+        script = " && ".join(commands).replace("./wheel", f"{TOP}/wheel {self.room}")
+        known = dict(ALONE, CA_LIBRARY=LIBRARY, PATH=f"{Path(python).parent}:{ALONE['PATH']}")
+        output(["bash", "-c", script], known, str(self.room))
+        self.assertEqual((self.room / "rule110.svg").read_text(), (TOP / "docs" / "rule110.svg").read_text())
         self.assertIn("site-packages", self.runs(python))
         shown = output([python, "-m", "pip", "show", "foursaspen"], ALONE)
         for line in (f"Version: {foursaspen.__version__}", "License: MIT", "Summary: Decides properties of one-dimens"):
             self.assertIn(line, shown)
         self.assertEqual(output([python, "-m", "foursaspen", "--version"], ALONE), f"foursaspen {foursaspen.__version__}\n")
-
-    def test_the_first_two_commands(self) -> None:
-        """Those that docs/PYTHON.md begins with end in a picture."""
-        commands = [line.strip() for line in (TOP / "docs" / "PYTHON.md").read_text().splitlines()[2:4]]
-        python = self.environment("commands")
-        script = " && ".join(commands).replace("./wheel", f"{TOP}/wheel {self.room}")
-        known = dict(ALONE, CA_LIBRARY=LIBRARY, PATH=f"{Path(python).parent}:{ALONE['PATH']}")
-        output(["bash", "-c", script], known, str(self.room))
-        self.assertEqual((self.room / "rule110.svg").read_text(), (TOP / "docs" / "rule110.svg").read_text())
 
     def test_the_repository_installed(self) -> None:
         """By pip, as a copy with the library and to be edited in place."""
