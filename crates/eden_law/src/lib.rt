@@ -24,9 +24,15 @@
 //! a node u on a letter a are one step of a set, on the label that a has from u. It stops at the first
 //! pair of two equal nodes, which nearly every rule that isn't surjective reaches soon.
 //!
+//! [`is_even`] and [`is_even_at_zeros`] read the table alone: each letter stands in that of a surjective rule
+//! equally often, and as many words of m + 1 letters have the image 0 0 as there are nodes. Rule 110 gives 1 on
+//! five windows of eight, so it isn't surjective. Rule 232, the majority of three cells, gives 1 on four, and six
+//! words of four letters have the image 0 0, where there are four nodes.
+//!
 //! For N = k^(m - 1) nodes [`erasable`] takes time **O(N^4·k)** in operations on rows, N^2 walks in a
 //! graph of 2·N^2 states, and memory for its words; [`reached`] takes time **O(N^2·k^2)** and memory for
-//! N^2 pairs; [`is_surjective`] takes time **O(N^3·k)** at most, and no memory.
+//! N^2 pairs; [`is_surjective`] takes time **O(N^3·k)** at most, and no
+//! memory. The tests of a table take time **O(N·k^2)** at most.
 #![tactic(auto)]
 
 mod erased;

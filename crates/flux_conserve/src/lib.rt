@@ -15,6 +15,11 @@
 //! is 0 0 0 -3. Rule 232 gives the majority of three cells. The ring 0 0 1 becomes 0 0 0, and no ring
 //! before it in the order of words loses or gains anything.
 //!
+//! [`has_mean`] and [`keeps_ends`] read the table alone: under a conserving rule, each letter of which weighs its
+//! own value, the letters of the table have the mean (k - 1) / 2, and the first and the last window keep
+//! theirs. [`is_conserving`] asks for no evidence: it compares windows with the walks from their two nodes,
+//! until one shows that there is no flux.
+//!
 //! [`conserve`] looks at the rings of one letter in time O(k m), then makes the walks' gains in time
 //! O(N m) and tests them on all windows in time O(N k). Only where they are no flux it lists rings,
 //! shorter ones first, until one doesn't keep its weight: at most 2 k^(2m-1), which is 8,192, each in

@@ -79,11 +79,7 @@ fn decided(known: &mut IndexMap<u128, Truths>, rule: &Rule) -> Result<Truths, Al
 }
 
 /// Keeps what holds of a rule under a number that has nothing.
-fn keep(
-    known: &mut IndexMap<u128, Truths>,
-    number: u128,
-    truths: &Truths,
-) -> Result<(), AllocError>
+fn keep(known: &mut IndexMap<u128, Truths>, number: u128, truths: &Truths) -> Result<(), AllocError>
     requires { get nat_eq known.old number ≡ None }
     ensures { OnOk result (known.new.entries ≡ known.old.entries ++ (number, truths.now) ∷ []) }
 {
