@@ -1,4 +1,4 @@
-# What ./ca, ./try and ./library share; each names itself in `me` and the checkout in `top`, and sources this.
+# What ./ca, ./try, ./rules and ./library share; each names itself in `me` and the checkout in `top`, and sources this.
 
 # needs_rt: whether rt is there; says what it is where it isn't.
 needs_rt() {
