@@ -1,4 +1,4 @@
-# What ./ca, ./try and ./library share; each names itself in `me` and the checkout in `top`, and sources this.
+# What ./ca, ./try, ./rules and ./library share; each names itself in `me` and the checkout in `top`, and sources this.
 
 # needs_rt: whether rt is there; says what it is where it isn't.
 needs_rt() {
@@ -17,6 +17,9 @@ tell_forms() {
         sed -n '/^## [a-z]/{ s/^## /    .\/ca /; s/, /\n    .\/ca /g; p }' "$top/docs/COMMANDS.md"
     } >&2
 }
+
+# The crates on which no program of ca's and no library stands.
+apart=(answer_laws config_laws list_run rule_lists rules worked_examples)
 
 # is_current CRATE OTHER..: whether the crate was built, and no source changed since that began, but for those
 # of the other crates.

@@ -43,9 +43,13 @@ abbrev pub rule_lines : LocalRule → List LocalRule → List ℕ
 rule_lines shape [] = []
 rule_lines shape (r ∷ rs) = rule_line shape r ++ rule_lines shape rs
 
+-- so many rules are listed
+abbrev pub count_line : ℕ → List ℕ
+count_line count = line (codes "rules " ++ decimal count)
+
 -- how many there are; the count stops at 2^64 - 1
 abbrev pub last_line : List LocalRule → List ℕ
-last_line rules = line (codes "rules " ++ decimal (min (length rules) (2 ^ 64 - 1)))
+last_line rules = count_line (min (length rules) (2 ^ 64 - 1))
 
 -- the line of a rule of this shape, whatever its letters
 pub record IsLineOf (shape : LocalRule) (bytes : List ℕ) : Type 0 where

@@ -9,7 +9,7 @@ use Rattle.list_run.specs.Lines.{rule_lines, last_line}
 
 -- the letters that a beginning gives are fixed, and no others: 255 is no letter
 pub record AreGiven (b : Beginning) (letters : List ℕ) : Type 0 where
-  pub given : (v : ℕ) → v < b.given → slice_index letters v ≡ slice_index b.rule.table v
+  pub given : (v : ℕ) → v < b.given → v < b.rule.states ^ b.rule.width → slice_index letters v ≡ slice_index b.rule.table v
   pub open_ : (v : ℕ) → b.given ≤ v → v < b.rule.states ^ b.rule.width → slice_index letters v ≡ 255
 
 -- the line of each rule that has the property and whose table begins so, each once, and that of their number; the rules ascend in some order of the windows

@@ -1,7 +1,9 @@
 //! The lines that the program writes.
 ghost use Rattle.std.specs.Prelude.{◌≡◌, ◌^◌, IfOk, length, map, string_bytes};
+ghost use Rattle.std.specs.Prelude.{ℕ, ◌<◌, ◌-◌};
+ghost use Rattle.word_image.specs.LocalRules.{IsRule};
 ghost use Rattle.word_image.specs.Digits.{lower_digit};
-ghost use Rattle.list_run.specs.Lines.{IsLineOf, fault_line, rule_line};
+ghost use Rattle.list_run.specs.Lines.{IsLineOf, count_line, fault_line, rule_line};
 
 use rule_text::{TextFault, print};
 use std::alloc::{AllocError, Global};
@@ -26,11 +28,19 @@ pub fn fault_line(alloc: Global, fault: TextFault) -> Result<String, AllocError>
 
 /// The line of a rule.
 pub fn first_line(alloc: Global, rule: &Rule) -> Result<Vec<u8>, AllocError>
+    requires { IsRule rule.now }
     ensures { IfOk result (λ line. IsLineOf rule.now line.items) }
 {
     let mut line = print(alloc, rule)?;
     line.push(b'\n')?;
     Ok(line)
+}
+
+/// The line that says how many rules there are.
+pub fn last_line(alloc: Global, count: u64) -> Result<String, AllocError>
+    ensures { IfOk result (λ text. string_bytes text ≡ count_line count) }
+{
+    format!(in alloc; "rules {count}\n")
 }
 
 /// Makes a line that of a rule, at the offset of the rule with its shape. It takes no memory.

@@ -1,21 +1,49 @@
 //! The list, written as it is found.
-ghost use Rattle.std.specs.Prelude.{◌≡◌, ◌⊎◌, ℕ, ◌-◌, ◌^◌, ◌<◌, ◌≤◌, List, Option, None, length, min, take, is_some, slice_index, IfOk, OnOk, OnErr};
+ghost use Rattle.std.specs.Prelude.{◌≡◌, ◌≢◌, ◌⊎◌, ℕ, ◌^◌, ◌<◌, ◌≤◌, List, ◌++◌, length, take, is_some, IfOk, OnOk, OnErr, Err};
 ghost use Rattle.std.specs.Io.KnownBytes.{Appends};
-ghost use Rattle.word_image.specs.LocalRules.{LocalRule};
+ghost use Rattle.word_image.specs.LocalRules.{IsRule};
 ghost use Rattle.ca_io.specs.Faults.{Rose, CountsFaults};
 ghost use Rattle.rule_lists.specs.Ranks.{IsOrder};
-ghost use Rattle.rule_lists.specs.Calls.{AreAll, AreSoFar};
-ghost use Rattle.list_run.specs.Lines.{IsLineOf, rule_lines};
-ghost use Rattle.list_run.specs.Lists.{AreGiven};
+ghost use Rattle.list_run.specs.Lines.{IsLineOf, count_line};
+ghost use Rattle.list_run.specs.Lists.{AreGiven, IsList, IsListSoFar};
 
-use crate::lines::set_table;
+use crate::cut::Cut;
+use crate::lines::{first_line, last_line, set_table};
 use ca_io::{Failed, Sink, write_all};
-use rule_lists::{Letters, Property, first_rule, rule_after};
+use rule_lists::{Letters, Property, first_rule, order_for, rule_after};
 use rule_text::Beginning;
+use std::alloc::{AllocError, Global};
 use word_image::MOST_ENTRIES;
 
+/// Writes the list of a beginning. Nothing is written before there is memory for a line of it.
+pub fn write_list<T: Sink>(
+    alloc: Global,
+    property: Property,
+    beginning: &Beginning,
+    sink: &mut T,
+) -> Result<(), Cut>
+    ensures whole { OnOk result ((out : List ℕ) × IsList property beginning.now out
+        × Appends (T.taken sink.old) (T.taken sink.new) out) }
+    ensures failed { result ≡ Err Cut.Failed → (out : List ℕ) × (n : ℕ)
+        × (IsList property beginning.now out ⊎ IsListSoFar property beginning.now out) × (n < length out)
+        × Appends (T.taken sink.old) (T.taken sink.new) (take n out) }
+    ensures memory { (fault : AllocError) → result ≡ Err (Cut.Memory fault) → (sink.new ≡ sink.old)
+        ⊎ ((out : List ℕ) × IsListSoFar property beginning.now out × Appends (T.taken sink.old) (T.taken sink.new) out) }
+    ensures rose { result ≡ Err Cut.Failed → Rose (T.faults sink.old) (T.faults sink.new) }
+    ensures kept { result ≢ Err Cut.Failed → T.faults sink.new ≡ T.faults sink.old }
+    ensures telling { is_some (T.taken sink.new) ≡ is_some (T.taken sink.old) }
+{
+    let letters = given_letters(beginning);
+    let order = order_for(alloc, property, &beginning.rule)?;
+    let mut line = first_line(alloc, &beginning.rule)?;
+    let count = write_rules(property, beginning, &letters, &order, &mut line, sink)?;
+    let last = last_line(alloc, count)?;
+    write_all(sink, last.as_bytes())?;
+    Ok(())
+}
+
 /// Writes a line for each rule of the list, and answers how many there are; the count stops at 2^64 - 1.
-pub fn write_rules<T: Sink>(
+fn write_rules<T: Sink>(
     property: Property,
     beginning: &Beginning,
     letters: &Letters,
@@ -25,22 +53,19 @@ pub fn write_rules<T: Sink>(
 ) -> Result<u64, Failed>
     requires order { IsOrder (beginning.now.rule.states ^ beginning.now.rule.width) order.now }
     requires line { IsLineOf beginning.now.rule line.old }
-    ensures all { IfOk result (λ count. (rules : List LocalRule)
-        × AreAll property beginning.now.rule.states beginning.now.rule.width letters.now order.now None rules
-        × (count ≡ min (length rules) (2 ^ 64 - 1))
-        × Appends (T.taken sink.old) (T.taken sink.new) (rule_lines beginning.now.rule rules)) }
-    ensures part { OnErr result ((rules : List LocalRule) × (last : Option LocalRule) × (n : ℕ)
-        × AreSoFar property beginning.now.rule.states beginning.now.rule.width letters.now order.now None rules last
-        × (n < length (rule_lines beginning.now.rule rules))
-        × Appends (T.taken sink.old) (T.taken sink.new) (take n (rule_lines beginning.now.rule rules))) }
+    requires given { AreGiven beginning.now letters.now }
+    ensures all { IfOk result (λ count. (out : List ℕ) × IsListSoFar property beginning.now out
+        × IsList property beginning.now (out ++ count_line count)
+        × Appends (T.taken sink.old) (T.taken sink.new) out) }
+    ensures part { OnErr result ((out : List ℕ) × (n : ℕ) × IsListSoFar property beginning.now out × (n < length out)
+        × Appends (T.taken sink.old) (T.taken sink.new) (take n out)) }
     ensures telling { is_some (T.taken sink.new) ≡ is_some (T.taken sink.old) }
     ensures counted { CountsFaults (T.faults sink.old) (T.faults sink.new) result }
 {
-    let shape = &beginning.rule;
     let mut count = 0u64;
-    let mut next = first_rule(property, shape, letters, order);
+    let mut next = first_rule(property, &beginning.rule, letters, order);
     while let Some(rule) = next {
-        set_table(line, shape, &rule);
+        set_table(line, &beginning.rule, &rule);
         write_all(sink, line)?;
         count = count.saturating_add(1);
         next = rule_after(property, letters, order, &rule);
@@ -49,12 +74,12 @@ pub fn write_rules<T: Sink>(
 }
 
 /// The letters that a beginning gives, and no letter elsewhere.
-pub fn given_letters(beginning: &Beginning) -> Letters
-    requires { beginning.now.given ≤ beginning.now.rule.states ^ beginning.now.rule.width }
-    ensures { AreGiven beginning.now result }
+fn given_letters(beginning: &Beginning) -> Letters
+    ensures letters { AreGiven beginning.now result }
+    ensures rule { IsRule beginning.now.rule }
 {
     let mut letters = [u8::MAX; MOST_ENTRIES];
-    for window in 0..beginning.given {
+    for window in 0..beginning.given.min(beginning.rule.size()) {
         letters[usize::from(window)] = beginning.rule.at(window);
     }
     letters

@@ -1,6 +1,9 @@
--- How lines are made of lines.
-use Rattle.std.proofs.Common.{◌≡◌, ℕ, ◌+◌, ◌-◌, ◌≤◌, List, [], ◌∷◌, ◌++◌, length, take, drop, refl, sym, ap, ap₂, ◌∙◌, arith}
-use Rattle.std.proofs.lemmas.List.{append_assoc, append-nil}
+-- Lines behind lines.
+use Rattle.std.proofs.Common.{◌≡◌, ℕ, ◌+◌, ◌<◌, List, [], ◌∷◌, ◌++◌, length, take, Option, sym, ap, ◌∙◌, subst, arith}
+use Rattle.std.specs.Io.KnownBytes.{Appends}
+use Rattle.std.proofs.lemmas.List.{append_assoc, append-nil, length-append}
+use Rattle.std.proofs.Math.Seq.{take-append-add}
+use Rattle.std.proofs.KnownBytes.{Appends-trans}
 use Rattle.word_image.specs.LocalRules.{LocalRule}
 use Rattle.list_run.specs.Lines.{rule_line, rule_lines}
 
@@ -8,3 +11,36 @@ use Rattle.list_run.specs.Lines.{rule_line, rule_lines}
 pub rule_lines-next : (shape : LocalRule) (rs : List LocalRule) (r : LocalRule) → rule_lines shape (rs ++ r ∷ []) ≡ rule_lines shape rs ++ rule_line shape r
 rule_lines-next shape [] r = append-nil (rule_line shape r)
 rule_lines-next shape (q ∷ rs) r = ap (λ (xs : List ℕ). rule_line shape q ++ xs) (rule_lines-next shape rs r) ∙ sym (append_assoc (rule_line shape q) (rule_lines shape rs) (rule_line shape r))
+
+-- it was taken whole
+pub whole_line : (shape : LocalRule) (rs : List LocalRule) (r : LocalRule) (bytes : List ℕ) (a b c : Option (List ℕ)) → bytes ≡ rule_line shape r → Appends a b (rule_lines shape rs) → Appends b c bytes
+    → Appends a c (rule_lines shape (rs ++ r ∷ []))
+whole_line shape rs r bytes a b c is p q =
+    subst (λ (xs : List ℕ). Appends a c xs) (sym (rule_lines-next shape rs r)) (Appends-trans a b c (rule_lines shape rs) (rule_line shape r) p (subst (λ (xs : List ℕ). Appends b c xs) is q))
+
+-- or in part
+pub cut_line : (shape : LocalRule) (rs : List LocalRule) (r : LocalRule) (bytes : List ℕ) (n : ℕ) (a b c : Option (List ℕ)) → bytes ≡ rule_line shape r → n < length bytes → Appends a b (rule_lines shape rs) → Appends b c (take n bytes)
+    → (m : ℕ) × (m < length (rule_lines shape (rs ++ r ∷ []))) × Appends a c (take m (rule_lines shape (rs ++ r ∷ [])))
+cut_line shape rs r bytes n a b c is less p q =
+    let m : ℕ = length (rule_lines shape rs) + n in
+    let whole : length (rule_lines shape rs ++ rule_line shape r) ≡ length (rule_lines shape rs) + length (rule_line shape r) = length-append (rule_lines shape rs) (rule_line shape r) in
+    let long : length bytes ≡ length (rule_line shape r) = ap length is in
+    let below : m < length (rule_lines shape rs ++ rule_line shape r) = omega arith in (
+      m,
+      subst (λ (xs : List ℕ). m < length xs) (sym (rule_lines-next shape rs r)) below,
+      subst (λ (xs : List ℕ). Appends a c (take m xs)) (sym (rule_lines-next shape rs r))
+          (subst (λ (xs : List ℕ). Appends a c xs) (sym (take-append-add (rule_lines shape rs) (rule_line shape r) n))
+          (Appends-trans a b c (rule_lines shape rs) (take n (rule_line shape r)) p (subst (λ (xs : List ℕ). Appends b c (take n xs)) is q))),
+    )
+
+-- a last piece was taken in part
+pub cut_behind : (out bytes tail : List ℕ) (n : ℕ) (a b c : Option (List ℕ)) → bytes ≡ tail → n < length bytes → Appends a b out → Appends b c (take n bytes)
+    → (m : ℕ) × (m < length (out ++ tail)) × Appends a c (take m (out ++ tail))
+cut_behind out bytes tail n a b c is less p q =
+    let whole : length (out ++ tail) ≡ length out + length tail = length-append out tail in
+    let long : length bytes ≡ length tail = ap length is in
+    let below : length out + n < length (out ++ tail) = omega arith in (
+      length out + n,
+      below,
+      subst (λ (xs : List ℕ). Appends a c xs) (sym (take-append-add out tail n)) (Appends-trans a b c out (take n tail) p (subst (λ (xs : List ℕ). Appends b c (take n xs)) is q)),
+    )
