@@ -13,3 +13,4 @@ pub mod Samples
 pub mod Rows
 pub mod OwnWeights
 pub mod WeightTexts
+pub mod OneClass

@@ -1,5 +1,5 @@
 -- The lines that say which words are images: the least automaton, the word that tells two rules apart, an erasable pair.
-use Rattle.std.specs.Prelude.{◌≡◌, ℕ, ◌+◌, ◌-◌, ◌*◌, List, ◌++◌, codes, Option, None, Some, slice_index}
+use Rattle.std.specs.Prelude.{◌≡◌, ℕ, ◌+◌, ◌-◌, ◌*◌, List, ◌++◌, codes, Option, None, Some, replicate, slice_index}
 use Rattle.std.specs.List.{flat_map, range_with_len}
 use Rattle.std.specs.Fmt.{decimal}
 use Rattle.word_image.specs.Digits.{word_text}
@@ -29,6 +29,10 @@ class_line m i = line (decimal (after_class m i 0) ++ flat_map (λ a. codes " " 
 -- the lines of an automaton
 abbrev pub automaton_lines : Automaton → List ℕ
 automaton_lines m = classes_line m.classes ++ dead_line m.dead ++ flat_map (class_line m) (range_with_len 0 m.classes)
+
+-- the automaton of one class, to which each letter leads, and of no orphan
+abbrev pub one_class : ℕ → Automaton
+one_class k = record { states = k; classes = 1; next = replicate k 0; dead = None }
 
 -- these are the lines of the least automaton of the rule
 abbrev pub IsLanguage : LocalRule → List ℕ → Type 0

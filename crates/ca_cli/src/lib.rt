@@ -49,6 +49,7 @@
 
 mod answers;
 mod commands;
+mod decimals;
 mod lines;
 mod output;
 mod status;

@@ -6,6 +6,7 @@ ghost use Rattle.word_image.specs.Digits.{word_text};
 ghost use Rattle.ca_cli.specs.Lines.{line};
 ghost use Rattle.ca_cli.specs.StatusLines.{unfit_line};
 
+use crate::decimals::{MOST_DIGITS, write_decimal};
 use std::alloc::{AllocError, Global};
 use std::marker::Model;
 use word_image::word_text;
@@ -105,10 +106,12 @@ impl Output {
     }
 
     /// Appends the decimal digits of a number.
-    pub fn push_number(&mut self, alloc: Global, number: u32) -> Result<(), AllocError>
+    pub fn push_number(&mut self, number: u32) -> Result<(), AllocError>
         ensures { OnOk result (self.new ≡ self.old ++ decimal number) }
     {
-        self.push(format!(in alloc; "{number}")?.as_bytes())
+        let mut bytes = [0; MOST_DIGITS];
+        let first = write_decimal(number, &mut bytes, MOST_DIGITS);
+        self.push(&bytes[first..])
     }
 
     /// Appends the text as a line.

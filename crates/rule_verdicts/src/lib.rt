@@ -29,6 +29,6 @@ mod parts;
 mod truths;
 
 pub use evidence::Evidence;
-pub use numbers::{fault_past_all, verdict_bytes};
+pub use numbers::{fault_past_all, next_table, verdict_bytes};
 pub use parts::{injectivity, least_orphan};
 pub use truths::{Truths, keeps_sums};

@@ -51,7 +51,7 @@ fn write_bytes(k: u8, m: u8, table: &mut [u8], bytes: &mut [u8])
     let mut total = letter_sum(table);
     for byte in bytes.iter_mut() {
         *byte = verdict_byte(k, m, table, total);
-        total = advance(k, table, total);
+        total = next_table(k, table, total);
     }
 }
 
@@ -70,7 +70,7 @@ fn verdict_byte(k: u8, m: u8, table: &[u8], total: u16) -> u8
 
 /// Makes of a table that of the next number, the first letter the least significant; of the last one
 /// the first. Gives the sum of its letters, from that of the old ones.
-fn advance(k: u8, table: &mut [u8], total: u16) -> u16
+pub fn next_table(k: u8, table: &mut [u8], total: u16) -> u16
     requires word { IsWord k table.old }
     requires few { length table.old ≤ 256 }
     requires total { total ≡ sum table.old }

@@ -1,5 +1,5 @@
 -- Of an input that is told `check` has one right answer.
-use Rattle.std.proofs.Common.{◌≡◌, ℕ, ◌+◌, ◌≤◌, List, length, refl, sym, ap, subst, arith}
+use Rattle.std.proofs.Common.{◌≡◌, ℕ, ◌+◌, ◌≤◌, List, length, refl, ap, subst, arith}
 use Rattle.std.specs.Prelude.{Some, ◌↔◌}
 use Rattle.cert_check.specs.Accepted.{IsAccepted}
 use Rattle.cert_check.specs.Refusals.{IsRefusal}

@@ -9,13 +9,9 @@ use Rattle.std.proofs.lemmas.Nat.{div-add-mod'}
 use Rattle.std.proofs.Math.Nat.{add-mul-mod_self_right}
 use Rattle.std.proofs.lemmas.List.Elements.{All-map, All-from_get_or}
 use Rattle.word_image.specs.LocalRules.{LocalRule, IsShape, IsRule}
-use Rattle.word_image.specs.RuleFaults.{shape_fault}
-use Rattle.word_image.proofs.laws.RuleFaults.{IsShape-shape_fault}
-use Rattle.rule_text.specs.RuleTexts.{in_text, number_fault}
-use Rattle.rule_text.proofs.laws.Numbers.{number_limit}
-use Rattle.rule_text.proofs.laws.AcceptedRules.{none_or, none_map, number-below}
+use Rattle.rule_text.specs.RuleTexts.{number_fault}
+use Rattle.rule_text.proofs.laws.AcceptedRules.{none_or}
 use Rattle.rule_verdicts.specs.Numbers.{numbered_rule, numbers_fault}
-use Rattle.rule_verdicts.proofs.laws.Numbers.{few_states}
 use Rattle.ca_cli.specs.Samples.{survey_rules, next_state, state_after, drawn, drawn_rule, sample_rules, sample_fault}
 
 -- a survey of one rule more
@@ -104,16 +100,3 @@ pub survey-accepted : (k m first count i : ℕ) → numbers_fault k m first coun
 survey-accepted k m first count i none below =
     let parts = none_or (sample_fault k m) (number_fault k m (first + count - 1)) none in
     sample_fault-none k m (first + i) parts.0 ∙ number_fault-below k m (first + count - 1) (first + i) parts.1 (omega arith)
-
--- a shape without a fault is accepted
-pub IsShape-sample_fault : (k m : ℕ) → sample_fault k m ≡ None → IsShape k m (pos 0)
-IsShape-sample_fault k m none = IsShape-shape_fault k m (pos 0) (none_map (in_text 0) (shape_fault k m (pos 0)) none)
-
--- each number of an accepted survey fits 128 bits
-pub survey-fits : (k m first count i : ℕ) → numbers_fault k m first count ≡ None → i < count → first + i < 2 ^ 128
-survey-fits k m first count i none below =
-    let parts = none_or (sample_fault k m) (number_fault k m (first + count - 1)) none in
-    let shape = IsShape-sample_fault k m parts.0 in
-    let limit = number_limit k m (pos 0) shape (few_states k m (first + count - 1) parts.1) in
-    let last = number-below k m (first + count - 1) parts.1 in
-    omega arith

@@ -1,23 +1,34 @@
 //! The commands on the words that are images.
-ghost use Rattle.std.specs.Prelude.{◌≡◌, ◌<◌, ◌++◌, IfOk, OnOk};
+ghost use Rattle.std.specs.Prelude.{◌≡◌, ℕ, ◌<◌, ◌≤◌, ◌++◌, slice_index, IfOk, OnOk};
 ghost use Rattle.image_minimal.specs.ImageLanguages.{Automaton, IsLeastAutomaton};
-ghost use Rattle.ca_cli.specs.LanguageLines.{IsErasedLine, IsLanguage, automaton_lines, class_line, dead_line};
+ghost use Rattle.ca_cli.specs.LanguageLines.{IsErasedLine, IsLanguage, after_class, automaton_lines, class_line, dead_line, one_class};
 ghost use Rattle.ca_cli.specs.Outcomes.{Comes};
 ghost use Rattle.ca_cli.specs.Outputs.{IsCauseOfTwo, IsOutputOfTwo};
 
+use crate::decimals::write_decimal;
 use crate::output::Output;
 use crate::stop::Stop;
 use crate::words::request::AskOfTwo;
-use eden_law::erasable;
+use debruijn::Graph;
+use eden_law::{erasable, is_surjective};
 use image_minimal::{Minimal, SepFault, separate};
 use least_walk::Walker;
 use std::alloc::{AllocError, Global};
-use word_image::Rule;
+use word_image::{MOST_STATES, Rule};
+
+/// The most bytes of a class in a line: five digits, since it is below 65,536, and a blank or the line end.
+const MOST_PIECE: usize = 6;
+
+/// The most bytes of the line of a class.
+const MOST_LINE: usize = MOST_PIECE * MOST_STATES;
 
 /// `language R`: the least automaton of the words that have a preimage.
 pub fn language(alloc: Global, rule: &Rule) -> Result<Output, AllocError>
     ensures { IfOk result (IsLanguage rule.now) }
 {
+    if is_surjective(&Graph::of(rule)) {
+        return one_class_output(alloc, rule.k());
+    }
     let automaton = image_minimal::least(alloc, rule)?;
     automaton_output(alloc, &automaton)
 }
@@ -53,12 +64,14 @@ fn automaton_output(alloc: Global, automaton: &Minimal) -> Result<Output, AllocE
     ensures { IfOk result (λ output. (a : Automaton) → IsLeastAutomaton automaton.now a → output ≡ automaton_lines a) }
 {
     let len = automaton.len();
-    // A class below 65,536 has at most five digits, and a blank or a line end behind them.
-    let mut output = Output::with_room(alloc, 6 * len as usize * usize::from(automaton.k()))?;
+    let mut output = Output::with_room(
+        alloc,
+        MOST_PIECE * len as usize * usize::from(automaton.k()),
+    )?;
     output.push_line(&format!(in alloc; "classes {len}")?)?;
     write_dead(alloc, &mut output, automaton.dead())?;
     for class in 0..len {
-        write_class(alloc, &mut output, automaton, class)?;
+        write_class(&mut output, automaton, class)?;
     }
     Ok(output)
 }
@@ -74,20 +87,39 @@ fn write_dead(alloc: Global, output: &mut Output, dead: Option<u32>) -> Result<(
 }
 
 /// Appends the line of the classes to which a class leads.
-fn write_class(
-    alloc: Global,
-    output: &mut Output,
-    automaton: &Minimal,
-    class: u32,
-) -> Result<(), AllocError>
+fn write_class(output: &mut Output, automaton: &Minimal, class: u32) -> Result<(), AllocError>
     requires { (a : Automaton) → IsLeastAutomaton automaton.now a → class < a.classes }
     ensures { OnOk result ((a : Automaton) → IsLeastAutomaton automaton.now a → output.new ≡ output.old ++ class_line a class) }
 {
-    let row = automaton.row(class);
-    output.push_number(alloc, u32::from(row[0]))?;
-    for letter in 1..automaton.k() {
-        output.push(b" ")?;
-        output.push_number(alloc, u32::from(row[letter as usize]))?;
+    write_row(output, automaton.k(), &automaton.row(class))
+}
+
+/// Appends the line of these classes, one for each of k letters.
+fn write_row(output: &mut Output, k: u8, row: &[u16; MOST_STATES]) -> Result<(), AllocError>
+    requires some { 0 < k }
+    requires most { k ≤ 16 }
+    ensures { OnOk result ((a : Automaton) (i : ℕ) → a.states ≡ k → ((l : ℕ) → l < k → slice_index row.now l ≡ after_class a i l) → output.new ≡ output.old ++ class_line a i) }
+{
+    // The line is written from its end.
+    let mut bytes = [b'\n'; MOST_LINE];
+    let mut first = MOST_LINE - 1;
+    for letter in (1..k).rev() {
+        first = write_decimal(u32::from(row[letter as usize]), &mut bytes, first) - 1;
+        bytes[first] = b' ';
     }
-    output.push(b"\n")
+    first = write_decimal(u32::from(row[0]), &mut bytes, first);
+    output.push(&bytes[first..])
+}
+
+/// The lines of the automaton of one class.
+fn one_class_output(alloc: Global, k: u8) -> Result<Output, AllocError>
+    requires some { 0 < k }
+    requires most { k ≤ 16 }
+    ensures { IfOk result (λ output. output ≡ automaton_lines (one_class k)) }
+{
+    let mut output = Output::new(alloc);
+    output.push_line("classes 1")?;
+    write_dead(alloc, &mut output, None)?;
+    write_row(&mut output, k, &[0; MOST_STATES])?;
+    Ok(output)
 }

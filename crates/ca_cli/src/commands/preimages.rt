@@ -78,9 +78,9 @@ fn gap_output(alloc: Global, before: u16, after: u16, word: &[u8]) -> Result<Out
 {
     let mut output = Output::new(alloc);
     output.push(b"no preimage ")?;
-    output.push_number(alloc, u32::from(before))?;
+    output.push_number(u32::from(before))?;
     output.push(b" ")?;
-    output.push_number(alloc, u32::from(after))?;
+    output.push_number(u32::from(after))?;
     output.push(b" ")?;
     output.push_word(alloc, word)?;
     output.push(b"\n")?;

@@ -1,6 +1,6 @@
 //! The commands that count what holds of many rules.
-ghost use Rattle.std.specs.Prelude.{◌≡◌, ℕ, ◌+◌, ◌^◌, ◌<◌, ◌≤◌, None, Some, length, IfOk, MatchOption, MatchResult, pos};
-ghost use Rattle.word_image.specs.LocalRules.{IsShape};
+ghost use Rattle.std.specs.Prelude.{◌≡◌, ℕ, ◌+◌, ◌^◌, ◌<◌, ◌≤◌, None, Some, length, reverse, IfOk, MatchOption, MatchResult, pos};
+ghost use Rattle.word_image.specs.LocalRules.{IsRule, IsShape, value};
 ghost use Rattle.ca_cli.specs.ClassSummaries.{IsClassSummary};
 ghost use Rattle.ca_cli.specs.ClassTallies.{IsClassTally};
 ghost use Rattle.ca_cli.specs.Requests.{BeginsAt, asked_of_many};
@@ -9,6 +9,7 @@ ghost use Rattle.ca_cli.specs.Outputs.{IsOutputOfMany, rules_of, rules_fault};
 ghost use Rattle.ca_cli.specs.Samples.{survey_rules, sample_rules, sample_fault};
 ghost use Rattle.ca_cli.specs.Summaries.{IsSummary};
 ghost use Rattle.rule_verdicts.specs.Numbers.{numbered_rule, numbers_fault, AreVerdictBytes};
+ghost use Rattle.rule_verdicts.specs.Truths.{table_rule};
 ghost use Rattle.ca_cli.specs.Tallies.{IsTally};
 
 use crate::commands::class_tally::ClassTally;
@@ -17,8 +18,9 @@ use crate::commands::tally::Tally;
 use crate::output::Output;
 use crate::stop::Stop;
 use crate::words::request::Rules;
+use flux_conserve::letter_sum;
 use rule_text::{TextFault, check_shape, numbered};
-use rule_verdicts::{Truths, fault_past_all, verdict_bytes};
+use rule_verdicts::{Truths, fault_past_all, next_table, verdict_bytes};
 use std::alloc::{AllocError, Global};
 use word_image::{MOST_ENTRIES, Rule};
 
@@ -153,7 +155,7 @@ fn tally_of_bytes(k: u8, m: u8, first: u128, bytes: &[u8]) -> Tally
     tally
 }
 
-/// Counts what holds of these rules by their classes.
+/// Counts by their classes what holds of the rules with so many numbers from this one on.
 fn classes_of_numbers(
     alloc: Global,
     k: u8,
@@ -162,26 +164,59 @@ fn classes_of_numbers(
     count: u16,
 ) -> Result<ClassTally, AllocError>
     requires accepted { numbers_fault k m first count ≡ None }
+    requires some { 1 ≤ count }
     requires few { count ≤ 4096 }
     ensures { IfOk result (IsClassTally k m (survey_rules k m first count)) }
 {
+    let rule = first_rule(k, m, first, count);
+    let mut table = [0; MOST_ENTRIES];
+    let table = &mut table[..rule.table().len()];
+    table.copy_from_slice(rule.table());
+    classes_from(alloc, k, m, table, count)
+}
+
+/// The first rule of so many that have a number.
+fn first_rule(k: u8, m: u8, first: u128, count: u16) -> Rule
+    requires accepted { numbers_fault k m first count ≡ None }
+    requires some { 1 ≤ count }
+    ensures { result ≡ numbered_rule k m first }
+{
+    match numbered(k, m, 0, first) {
+        Ok(rule) => rule,
+        Err(_) => unreachable!(),
+    }
+}
+
+/// Counts by their classes what holds of so many rules, those with the numbers from that of this table
+/// on. The table goes on with them.
+fn classes_from(
+    alloc: Global,
+    k: u8,
+    m: u8,
+    table: &mut [u8],
+    count: u16,
+) -> Result<ClassTally, AllocError>
+    requires rule { IsRule (table_rule k m table.old) }
+    requires states { k ≤ 6 }
+    requires room { value k (reverse table.old) + count ≤ k ^ length table.old }
+    requires few { count ≤ 4096 }
+    ensures { IfOk result (IsClassTally k m (survey_rules k m (value k (reverse table.old)) count)) }
+{
+    let mut total = letter_sum(table);
     let mut tally = ClassTally::new(alloc);
-    for place in 0..count {
-        tally.add(&surveyed(k, m, first, count, place))?;
+    for _place in 0..count {
+        tally.add(&rule_of_table(k, m, table))?;
+        total = next_table(k, table, total);
     }
     Ok(tally)
 }
 
-/// The rule at this place of so many that have a number.
-fn surveyed(k: u8, m: u8, first: u128, count: u16, place: u16) -> Rule
-    requires accepted { numbers_fault k m first count ≡ None }
-    requires place { place < count }
-    ensures { result ≡ numbered_rule k m (first + place) }
+/// The rule of a table that is known to be one.
+fn rule_of_table(k: u8, m: u8, table: &[u8]) -> Rule
+    requires { IsRule (table_rule k m table.now) }
+    ensures { result ≡ table_rule k m table.now }
 {
-    match numbered(k, m, 0, first + u128::from(place)) {
-        Ok(rule) => rule,
-        Err(_) => unreachable!(),
-    }
+    Rule::by(k, m, 0, |window| table[usize::from(window)])
 }
 
 /// Counts what holds of the first rules that a seed stands for.

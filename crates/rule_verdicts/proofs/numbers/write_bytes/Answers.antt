@@ -39,10 +39,10 @@ loop-byte-preserved c =
     let same : table_rule k m table ≡ numbered_rule k m (first + i) = sym (ap (numbered_rule k m) (sym number) ∙ numbered_rule-table k m table rule) in
     let power : k ^ length table ≡ k ^ length c.args.table.now = ap (λ n. k ^ n) c.loop-byte.invariant.long in
     record {
-      word = c.advance-total.ensures.word;
-      long = c.advance-total.auto.table ∙ c.loop-byte.invariant.long;
-      total = c.advance-total.ensures.total;
-      number = λ l. omega (arith, c.advance-total.ensures.next (omega (arith, l, number, power)), number);
+      word = c.next_table-total.ensures.word;
+      long = c.next_table-total.auto.table ∙ c.loop-byte.invariant.long;
+      total = c.next_table-total.ensures.total;
+      number = λ l. omega (arith, c.next_table-total.ensures.next (omega (arith, l, number, power)), number);
       written = written_more (λ j x. IsVerdictByte (numbered_rule k m (first + j)) x) c.loop-byte.bytes i c.verdict_byte.result (omega arith) c.loop-byte.invariant.written
           (subst (λ (r : LocalRule). IsVerdictByte r c.verdict_byte.result) same c.verdict_byte.ensures);
     }

@@ -1,32 +1,36 @@
-use Rattle.std.proofs.Common.{◌≡◌, [], ◌∷◌, ◌++◌, sym, subst, arith}
-use Rattle.std.proofs.lemmas.List.FromFn.{length-map-range_with_len}
-use Rattle.word_image.specs.LocalRules.{LocalRule}
-use Rattle.rule_verdicts.specs.Numbers.{numbered_rule}
-use Rattle.ca_cli.specs.Samples.{survey_rules}
+use Rattle.std.proofs.Common.{◌≡◌, ◌+◌, ◌-◌, ◌^◌, ◌≤◌, IfOk, length, reverse, ap, ◌∙◌, subst, arith}
+use Rattle.word_image.specs.LocalRules.{value}
+use Rattle.rule_text.specs.RuleTexts.{number_fault}
+use Rattle.rule_text.proofs.laws.AcceptedRules.{none_or}
+use Rattle.rule_verdicts.proofs.laws.Numbers.{few_states, numbers_fault-room}
+use Rattle.rule_verdicts.proofs.laws.Tables.{length-numbered, value-numbered}
+use Rattle.ca_cli.specs.Samples.{survey_rules, sample_fault}
 use Rattle.ca_cli.specs.ClassTallies.{IsClassTally}
-use Rattle.ca_cli.proofs.laws.Samples.{survey_rules-more}
+use Rattle.ca_cli.proofs.commands.summaries.classes_of_numbers.Goals.{After-copy_from_slice}
 use Rattle.ca_cli.proofs.commands.summaries.classes_of_numbers.Goals as goal
 
-pub loop-place-init : goal.loop-place-init
-loop-place-init c = c.new-tally.ensures c.args.k c.args.m
+-- each number has a table
+room : (c : After-copy_from_slice) → c.args.first + c.args.count ≤ c.args.k ^ (c.args.k ^ c.args.m)
+room c = numbers_fault-room c.args.k c.args.m c.args.first c.args.count c.requires.some c.requires.accepted
 
-pub add-requires-clause-tally : goal.add-requires-clause-tally
-add-requires-clause-tally c =
-    let sofar = survey_rules c.args.k c.args.m c.args.first c.loop-place.place in (
-      sofar,
-      subst (λ (r : LocalRule). IsClassTally r.states r.width sofar c.loop-place.tally) (sym c.surveyed.ensures) c.loop-place.invariant,
-      omega (arith, length-map-range_with_len (numbered_rule c.args.k c.args.m) c.args.first c.loop-place.place, c.loop-place-test.true, c.requires.few),
-    )
+-- the table is that of the first one
+number : (c : After-copy_from_slice) → value c.args.k (reverse c.copy_from_slice.new.self) ≡ c.args.first
+number c =
+    value-numbered c.args.k c.args.m c.args.first c.first_rule-rule.result c.copy_from_slice.new.self (omega (arith, room c, c.requires.some)) c.first_rule-rule.ensures (c.copy_from_slice.ensures.after ∙ c.table-2.ensures.table)
 
-pub loop-place-preserved : goal.loop-place-preserved
-loop-place-preserved c =
-    let sofar = survey_rules c.args.k c.args.m c.args.first c.loop-place.place in
-    let counted =
-    c.in_ok-add.ensures sofar (subst (λ (r : LocalRule). IsClassTally r.states r.width sofar c.loop-place.tally) (sym c.surveyed.ensures) c.loop-place.invariant) in
-    subst (λ rules. IsClassTally c.args.k c.args.m rules c.add.new.self) (sym (survey_rules-more c.args.k c.args.m c.args.first c.loop-place.place))
-    (subst (λ (r : LocalRule). IsClassTally r.states r.width (sofar ++ r ∷ []) c.add.new.self) c.surveyed.ensures counted)
+pub classes_from-requires-clause-states : goal.classes_from-requires-clause-states
+classes_from-requires-clause-states c =
+    let last = c.args.first + c.args.count - 1 in
+    few_states c.args.k c.args.m last (none_or (sample_fault c.args.k c.args.m) (number_fault c.args.k c.args.m last) c.requires.accepted).1
+
+pub classes_from-requires-clause-room : goal.classes_from-requires-clause-room
+classes_from-requires-clause-room c =
+    let d : After-copy_from_slice = (goal.at.classes_from-requires-clause-room c).After-copy_from_slice in
+    let long : length c.copy_from_slice.new.self ≡ c.args.k ^ c.args.m =
+    length-numbered c.args.k c.args.m c.args.first c.first_rule-rule.result c.copy_from_slice.new.self c.first_rule-rule.ensures (c.copy_from_slice.ensures.after ∙ c.table-2.ensures.table) in
+    omega (arith, number d, room d, ap (λ n. c.args.k ^ n) long)
 
 pub returns : goal.returns
 returns c =
-    let all : c.loop-place.place ≡ c.args.count = omega (arith, c.loop-place-test.false, c.loop-place.auto.place-end) in
-    subst (λ i. IsClassTally c.args.k c.args.m (survey_rules c.args.k c.args.m c.args.first i) c.loop-place.tally) all c.loop-place.invariant
+    let d : After-copy_from_slice = (goal.at.returns c).After-copy_from_slice in
+    subst (λ n. IfOk c.classes_from.result (IsClassTally c.args.k c.args.m (survey_rules c.args.k c.args.m n c.args.count))) (number d) c.classes_from.ensures

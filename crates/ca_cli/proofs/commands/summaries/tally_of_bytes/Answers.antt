@@ -1,6 +1,6 @@
-use Rattle.std.proofs.Common.{◌≡◌, ◌+◌, ◌<◌, length, sym, ◌∙◌, subst, arith, pos}
+use Rattle.std.proofs.Common.{◌≡◌, ◌+◌, ◌<◌, length, sym, subst, arith, pos}
 use Rattle.std.proofs.lemmas.List.FromFn.{length-map-range_with_len}
-use Rattle.word_image.specs.LocalRules.{LocalRule, IsRule}
+use Rattle.word_image.specs.LocalRules.{IsRule}
 use Rattle.rule_text.specs.RuleTexts.{by_number}
 use Rattle.rule_text.proofs.laws.AcceptedRules.{IsRule-said}
 use Rattle.rule_verdicts.specs.Truths.{AreTruths}

@@ -1,6 +1,6 @@
 use Rattle.std.proofs.Common.{◌≡◌, ◌+◌, ◌^◌, length, reverse, sum}
 use Rattle.word_image.specs.LocalRules.{IsWord, value}
-use Rattle.rule_verdicts.proofs.numbers.advance.Given as goal
+use Rattle.rule_verdicts.proofs.numbers.next_table.Given as goal
 
 -- a step at the place is still to be carried
 abbrev pub invariant-loop-place : goal.invariant-loop-place

@@ -5,7 +5,7 @@ use Rattle.std.proofs.lemmas.List.Elements.{All-set}
 use Rattle.std.proofs.lemmas.List.Sums.{sum_by-set, sum_by-le}
 use Rattle.word_image.specs.LocalRules.{IsWord, value}
 use Rattle.rule_verdicts.proofs.laws.Tables.{value-set_more, value-set_carry}
-use Rattle.rule_verdicts.proofs.numbers.advance.Goals as goal
+use Rattle.rule_verdicts.proofs.numbers.next_table.Goals as goal
 
 pub loop-place-init : goal.loop-place-init
 loop-place-init c = record { word = c.requires.word; long = refl; total = c.requires.total; carried = omega (arith, pow-zero c.args.k) }
