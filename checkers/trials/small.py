@@ -1,8 +1,8 @@
 """Looks for a false verdict that checkers/judge.py accepts: `small.py PROGRAM EVERY [LIBRARY]`.
 
 Of the 16 rules of two states and width 2 the certificate that the program writes gets each small part in place of its
-own: 1.4 million in all, of which one in EVERY is drawn. What is accepted must be what truth.py decides. A library is
-asked by its ca_run for the same certificates, and must answer the same.
+own: 1.4 million in all. Of those with claims and splits, nearly all, one in EVERY is drawn. What is accepted must be
+what truth.py decides. A library is asked by its ca_run for the same certificates, and must answer the same.
 """
 import ctypes
 import itertools
@@ -31,8 +31,8 @@ def words(least, most):
         yield from map("".join, itertools.product("01", repeat=length))
 
 
-def parts():
-    """What is put into a certificate, by its key."""
+def lists_and_words():
+    """What is put into a certificate, by its key: lists of sets and of pairs, orphans and twins."""
     for size in range(5):
         for numbers in map(list, itertools.combinations(range(4), size)):
             for version in (1, 2, 3):
@@ -43,6 +43,9 @@ def parts():
     for length in range(5):
         for twins in itertools.product(words(length, length), repeat=2):
             yield {"injective": {"twins": twins}}
+
+
+def claims_and_splits():
     for forward in CLAIMS:
         for ahead in range(1, 5):
             yield {"ranks": {"backward": NONE, "forward": forward}, "right": {"ahead": ahead}}
@@ -65,20 +68,18 @@ def sums():
 
 
 def certificates(program, number, draw):
-    """The drawn certificates of a rule, and the weights that each is about."""
+    """The certificates of a rule, where `draw` says which of the many, and the weights that each is about."""
     def written(*weights):
         names = [",".join(map(str, weights))] if weights else []
         done = subprocess.run([program, "certify", f"2:2:0:w{number}", *names], stdout=subprocess.PIPE, check=True)
         return json.loads(done.stdout)
     base = written()
-    for part in parts():
-        if draw():
-            yield {**base, **part}, (0, 1)
+    for part in itertools.chain(lists_and_words(), filter(draw, claims_and_splits())):
+        yield {**base, **part}, (0, 1)
     for weights in ((0, 1), (0, 0), (1, 0), (0, 2), (1, 1), (3, 5)):
         base = written(*weights)
         for part in sums():
-            if draw():
-                yield {**base, **part, "weights": weights}, weights
+            yield {**base, **part, "weights": weights}, weights
 
 
 def asked(path):
@@ -108,7 +109,7 @@ def tried(program, every, library, number):
     """The trials of a rule: how many there were, how many were accepted, and in words what is wrong."""
     chance, library = random.Random(number), library and asked(library)
     count, accepted, faults = 0, 0, []
-    for certificate, weights in certificates(program, number, lambda: chance.random() * every < 1):
+    for certificate, weights in certificates(program, number, lambda _: chance.random() * every < 1):
         data = json.dumps(certificate, separators=(",", ":")).encode()
         answer = judge(data)
         wrong = fault(data, answer, number, weights)
