@@ -4,7 +4,8 @@
     python3 judge.py < certificate.json
 
 The exit status is 0 where it is accepted, 1 where it is refused, 5 where it is too long, 6 where it can't be read,
-7 where the answer can't be written, 8 where there is no memory, and 70 where Python fails otherwise. The steps of the shape and the conditions stand in the order of that page's tables.
+7 where the answer can't be written, 8 where there is no memory, and 70 where Python fails otherwise. The steps of the
+shape and the conditions stand in the order of that page's tables.
 """
 import contextlib
 import os

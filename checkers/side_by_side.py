@@ -11,6 +11,7 @@ import sys
 from pathlib import Path
 
 from judge import judge
+from listed import listed
 
 ROOT = Path(__file__).resolve().parent.parent
 
@@ -66,23 +67,6 @@ def documented():
     """All certificates that stand in the docs on a line of their own."""
     lines = [line for page in sorted((ROOT / "docs").glob("*.md")) for line in page.read_text().splitlines()]
     return [line.strip() for line in lines if re.fullmatch(r' {4}\{"conserving":.*\}', line)]
-
-
-def listed():
-    """The certificates of certificates.txt by their names, and its rows: a name and the text in each version."""
-    named, rows = {}, []
-    for line in (ROOT / "checkers" / "certificates.txt").read_text().splitlines():
-        if line.startswith("= "):
-            name, text = line[2:].split(" ", 1)
-            named[name] = text
-        elif line[:1].isdigit():
-            versions, base, *changes = re.split(" {2,}", line)[:-1]
-            text = named.get(base, base)
-            for old, new in (change.split(" =>") for change in changes):
-                assert text.count(old) == 1, (old, text)
-                text = text.replace(old, new.strip())
-            rows += [text.replace(":V", f":{version}") for version in versions]
-    return named, rows
 
 
 NAMED, ROWS = listed()
@@ -145,7 +129,7 @@ def made():
     """Names and bytes of all inputs that are made by hand."""
     for text in documented():
         yield "docs", text.encode()
-    for text in ROWS:
+    for text, _ in ROWS:
         yield "listed", text.encode()
     for text in RULE_TEXTS:
         yield "rule text", SHIFT.replace("2:2:0:t0101", text).encode()
@@ -317,6 +301,8 @@ def main():
     for cases in [made(), long()]:
         for name, data in cases:
             tally.case(name, data)
+    for text, wanted in ROWS:
+        tally.same("listed", judge(text.encode()), wanted, text.encode())
     certificates = []
     for name, data in written(tally, int(sys.argv[2]), draw):
         tally.case(name, data)

@@ -75,8 +75,15 @@ def pairs_of(report: ca.Report) -> Iterator[tuple[str, list[str], range]]:
 
 
 class Pictures(unittest.TestCase):
-    def test_the_picture_of_the_readme(self) -> None:
-        self.assertEqual((TOP / "docs" / "rule110.svg").read_text(), ca.picture(110))
+    def test_the_pictures_of_the_docs(self) -> None:
+        """Each is what the line of docs/EVIDENCE.md makes that names its file."""
+        lines = [line.split() for line in (TOP / "docs" / "EVIDENCE.md").read_text().splitlines()
+                 if line.startswith("    PYTHONPATH=python python3 -m foursaspen picture ")]
+        files = sorted(f"docs/{path.name}" for path in (TOP / "docs").glob("*.svg"))
+        self.assertEqual(sorted(line[-1] for line in lines), files)
+        for line in lines:
+            with self.subTest(line[-1]):
+                self.assertEqual((TOP / line[-1]).read_text(), ca.picture(*line[5:-2]))
 
     def test_edges_of_rule_110(self) -> None:
         """Its eight labels, as the README's report of rule 110 has the table."""
