@@ -9,7 +9,7 @@ shows them, and `verdict_bytes` (foursaspen.bits) decides many rules with consec
 are frozen dataclasses (foursaspen.report), everything else is an exception (foursaspen.faults). The work is done by a
 library that is proved; this package is not, and only hands over words and reads lines.
 """
-from .bits import Bit, verdict_bytes
+from .bits import Bit, verdict_bytes, verdicts
 from .commands import (brief, certify, check, classes, compose, decide, erase, inverse, language, least, lift, number,
                        orphan, permute, preimage, reflect, run, same, sample, shift, survey, trim, unlift, widen)
 from .drawing import Picture
@@ -32,5 +32,5 @@ __all__ = [
     "Verdicts", "Weights", "Window", "WordsError", "WordsFault", "brief", "certify", "check", "classes", "compose",
     "decide", "erase", "inverse", "keep_freed_memory", "language", "least", "lift", "number", "orphan", "permute",
     "picture", "preimage", "reflect", "run", "same", "sample", "shift", "survey", "survey_over", "trim", "unlift",
-    "verdict_bytes", "widen",
+    "verdict_bytes", "verdicts", "widen",
 ]

@@ -1,7 +1,8 @@
-"""What holds of many rules with consecutive numbers, a byte for each."""
+"""What holds of a rule, and of many rules with consecutive numbers, in a byte for each."""
 from __future__ import annotations
 
 import ctypes
+from collections.abc import Iterable
 from enum import IntFlag
 from typing import SupportsIndex
 
@@ -12,7 +13,8 @@ from .operands import shape, whole
 PART = 1 << 20                                  # rules of one call of the library: a second at most
 MOST_NUMBERS = 1 << 128                         # a number of a rule is below this
 
-FAULTS = {3: "nodes", 7: "kind", 8: "number"}   # a shape has been looked at before
+# Of enum ca_fault what can come: states, widths and letters have been looked at before.
+FAULTS = {3: "nodes", 5: "length", 7: "kind", 8: "number"}
 
 
 class Bit(IntFlag):
@@ -23,6 +25,18 @@ class Bit(IntFlag):
     LEFT = 8
     OPEN = 16
     CONSERVING = 32
+
+
+def verdicts(states: SupportsIndex, width: SupportsIndex, table: Iterable[SupportsIndex]) -> Bit:
+    """What holds of the rule with this table, at offset 0: the letter of each window, in the order of the windows'
+    values. Neither a text nor evidence is made, so it takes some microseconds."""
+    states, width = shape(states, width)
+    letters = bytes(whole("a letter is", letter, 0, states - 1) for letter in table)
+    found = library().verdicts(states, width, letters)
+    if found.fault:
+        raise RuleError(f"rule fault 1 {FAULTS[found.fault]}\n")
+    held = (found.surjective, found.injective, found.right, found.left, found.is_open, found.conserving)
+    return Bit(sum(int(bit) for bit, holds in zip(list(Bit), held) if holds))
 
 
 def verdict_bytes(states: SupportsIndex, width: SupportsIndex, first: SupportsIndex, count: SupportsIndex) -> bytes:

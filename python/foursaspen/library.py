@@ -34,6 +34,12 @@ ADVICE = (f"run ./library in {TOP}, which proves and builds it" if (TOP / "libra
           "install the wheel that ./wheel makes in the repository, or name a library by the environment variable CA_LIBRARY")
 
 
+class RuleVerdicts(ctypes.Structure):
+    """What holds of a rule, or the number of the fault for which nothing is known."""
+    _fields_ = [("fault", ctypes.c_uint8), *((name, ctypes.c_bool) for name in (
+        "surjective", "injective", "right", "left", "is_open", "conserving"))]
+
+
 class Outcome(NamedTuple):
     """What the program comes to: the code of its status, and what it prints."""
     code: int
@@ -47,6 +53,7 @@ class Library:
         try:
             loaded = ctypes.CDLL(str(path))
             self._run = loaded.ca_run
+            self._verdicts = loaded.ca_verdicts
             self._verdict_bytes = loaded.ca_verdict_bytes
             version = int(loaded.ca_version())
         except (OSError, AttributeError) as fault:
@@ -57,6 +64,8 @@ class Library:
         self._run.argtypes = [text, size, text, size, text, size, ctypes.POINTER(size)]
         self._run.restype = ctypes.c_uint8
         byte, word = ctypes.c_uint8, ctypes.c_uint64
+        self._verdicts.argtypes = [byte, byte, text, size]
+        self._verdicts.restype = RuleVerdicts
         self._verdict_bytes.argtypes = [byte, byte, word, word, text, size]
         self._verdict_bytes.restype = byte
         self._rooms = threading.local()
@@ -79,6 +88,11 @@ class Library:
         if code == NO_WORDS:
             raise WordsError("the words aren't UTF-8")
         return Outcome(code, ctypes.string_at(room, length.value))
+
+    def verdicts(self, states: int, width: int, table: bytes) -> RuleVerdicts:
+        """What holds of the rule with this table, at offset 0, or the number of the first fault."""
+        found: RuleVerdicts = self._verdicts(states, width, table, len(table))
+        return found
 
     def verdict_bytes(self, states: int, width: int, first: int, room: ctypes.Array[ctypes.c_char]) -> int:
         """Fills the room with the bytes of rules with consecutive numbers; gives 0, or the number of the first fault.

@@ -107,6 +107,16 @@ class Bytes(unittest.TestCase):
             self.assertEqual(len(found), rules)
             self.assertEqual(tuple(sum(byte & bit != 0 for byte in found) for bit in ca.Bit), counts)
 
+    def test_of_a_table(self) -> None:
+        for number, byte in enumerate(ca.verdict_bytes(2, 3, 0, 256)):
+            self.assertEqual(ca.verdicts(2, 3, [number >> window & 1 for window in range(8)]), byte)
+        with self.assertRaises(ca.RuleError) as caught:
+            ca.verdicts(2, 3, [0] * 7)
+        self.assertEqual(caught.exception.kind, "length")
+        for states, width, table in ((2, 3, [0] * 7 + [2]), (2, 6, [0]), (17, 2, [0])):
+            with self.assertRaises(ca.UsageError):
+                ca.verdicts(states, width, table)
+
     def test_parts_join(self) -> None:
         with unittest.mock.patch("foursaspen.bits.PART", 100):
             self.assertEqual(ca.verdict_bytes(2, 4, 40000, 1234), ca.verdict_bytes(2, 4, 40000, 234) + ca.verdict_bytes(2, 4, 40234, 1000))
