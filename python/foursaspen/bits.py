@@ -36,7 +36,7 @@ def verdicts(states: SupportsIndex, width: SupportsIndex, table: Iterable[Suppor
     if found.fault:
         raise RuleError(f"rule fault 1 {FAULTS[found.fault]}\n")
     held = (found.surjective, found.injective, found.right, found.left, found.is_open, found.conserving)
-    return Bit(sum(int(bit) for bit, holds in zip(list(Bit), held) if holds))
+    return Bit(sum(1 << place for place, holds in enumerate(held) if holds))
 
 
 def verdict_bytes(states: SupportsIndex, width: SupportsIndex, first: SupportsIndex, count: SupportsIndex) -> bytes:
