@@ -31,20 +31,8 @@ is_current() {
         "$top"/crates/*/proofs "${others[@]}" -newer "$stamp" -print -quit 2>&1)" ]
 }
 
-# Says of the lines that rt prints which crate is being proved. Those that were proved before go by unsaid.
-tell() {
-    local line crates place
-    mapfile -t crates < <(sed -n 's/^\([a-z_]*\)[^:#]*:.*/\1/p' "$top/crates.txt")
-    while IFS= read -r line; do
-        for place in "${!crates[@]}"; do
-            [[ $line != "rt: chose --jobs "*" for ${crates[place]}" ]] ||
-                echo "$me: ${crates[place]}, crate $((place + 1)) of ${#crates[@]}" >&2
-        done
-    done
-}
-
-# build CRATE COMMAND..: proves and builds the crate by this command in its folder, calls finish, and leaves out/built,
-# which is as old as the beginning of this. In a shell of its own, which clears up however it ends.
+# build CRATE COMMAND..: proves and builds the crate by this command in its folder, says how far it is, calls finish, and
+# leaves out/built, which is as old as the beginning of this. In a shell of its own, which clears up however it ends.
 build() (
     stamp=$top/crates/$1/out/built
     begun=$stamp.$$
@@ -54,7 +42,7 @@ build() (
     cd "$top/crates/$1" || exit
     shift
     set -o pipefail
-    if ! "$@" 2>&1 </dev/null | tee "$begun.log" | tell; then
+    if ! "$@" 2>&1 </dev/null | tee "$begun.log" | sed -un "s/^[0-9]* of [0-9]* crates, /$me: &/p" >&2; then
         tail -n 40 "$begun.log" >&2
         exit 1
     fi

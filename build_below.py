@@ -1,0 +1,146 @@
+"""Runs a command of rt in this folder, after the crates below were built side by side: build_below.py WORD..
+
+rt proves the crates below one after the other, and a second command of rt in a checkout waits for the first. But what one
+checkout of a machine has built another one takes over. So each crate below is built by `rt lib` in one of a few copies of the
+checkout, once those that it stands on are there, first the one with the most lines of proof on the way up from it; then the
+command runs here. On standard error stands how far it is. However it ends, it stops what it began and removes the copies.
+"""
+import os
+import re
+import shutil
+import signal
+import subprocess
+import sys
+import tempfile
+import time
+from pathlib import Path
+
+# The most memory that a crate takes, in bytes.
+MOST_MEMORY = 3_400_000_000
+
+here = Path.cwd()
+top = here.parent.parent
+
+
+def crates_below(name):
+    """The crates below this one, each with those that it stands on, by crates.txt."""
+    stand_on = {}
+    for line in (top / "crates.txt").read_text().splitlines():
+        if found := re.match(r"(\w+)[^:#]*:([^#]*)", line):
+            stand_on[found[1]] = found[2].split()
+    below, left = {}, [name]
+    while left:
+        for other in stand_on[left.pop()]:
+            if other in stand_on and other not in below:
+                below[other] = [it for it in stand_on[other] if it in stand_on]
+                left.append(other)
+    return below
+
+
+def lines_of(name):
+    """How many lines the crate's files have, which tells how long it takes."""
+    files = [it for part in ["src", "specs", "proofs"] for it in (top / "crates" / name / part).rglob("*") if it.is_file()]
+    return sum(it.read_bytes().count(b"\n") for it in files)
+
+
+def longest_ways(below):
+    """The lines of each crate and of those on the longest way up from it."""
+    above = {name: [it for it in below if name in below[it]] for name in below}
+    ways = {}
+
+    def way(name):
+        if name not in ways:
+            ways[name] = lines_of(name) + max(map(way, above[name]), default=0)
+        return ways[name]
+
+    return {name: way(name) for name in below}
+
+
+def how_many():
+    """How many crates are built at a time: one for each processor, as far as memory goes."""
+    free = re.search(r"MemAvailable:\s+(\d+)", Path("/proc/meminfo").read_text())
+    return max(1, min(len(os.sched_getaffinity(0)), 1024 * int(free[1]) // MOST_MEMORY))
+
+
+def copy_into(folder):
+    folder.mkdir()
+    shutil.copy(top / "crates.txt", folder)
+    shutil.copytree(top / "crates", folder / "crates", ignore=shutil.ignore_patterns("out"))
+
+
+class Builds:
+    """The copies, and what is being built in them."""
+
+    def __init__(self, room, below):
+        self.below, self.ways = below, longest_ways(below)
+        self.most = how_many()
+        self.free = [room / str(i) for i in range(self.most)]
+        self.built, self.running, self.begun = set(), {}, time.monotonic()
+        for folder in self.free:
+            copy_into(folder)
+
+    def ready(self):
+        """The crates that can be begun, those with the longest way up first."""
+        begun = self.built | {name for name, _ in self.running.values()}
+        ready = [name for name in self.below if name not in begun and self.built.issuperset(self.below[name])]
+        return sorted(ready, key=self.ways.get, reverse=True)
+
+    def begin(self, name):
+        """Begins with a crate. The one with the longest way up gets all processors, and the others what it leaves of them."""
+        is_first = self.ways[name] == max(self.ways[it] for it in self.below if it not in self.built)
+        words = ["rt", "lib", "--jobs", str(self.most)] if is_first else ["nice", "rt", "lib", "--jobs", "1"]
+        folder = self.free.pop()
+        with open(folder / f"{name}.log", "wb") as log:
+            process = subprocess.Popen(words, cwd=folder / "crates" / name, stdin=subprocess.DEVNULL, stdout=log,
+                                       stderr=log, start_new_session=True)
+        self.running[process.pid] = name, folder
+
+    def end_one(self):
+        """Waits for one of them, and gives whether it was built."""
+        pid, status = os.wait()
+        name, folder = self.running.pop(pid)
+        self.free.append(folder)
+        if status:
+            sys.stdout.write((folder / f"{name}.log").read_text(errors="replace"))
+            return False
+        self.built.add(name)
+        return True
+
+    def build_all(self):
+        """Builds them all, and gives whether they were built."""
+        while len(self.built) < len(self.below):
+            for name in self.ready()[: len(self.free)]:
+                self.begin(name)
+            self.tell()
+            if not self.end_one():
+                return False
+        return True
+
+    def tell(self):
+        minutes = int(time.monotonic() - self.begun) // 60
+        names = " ".join(name for name, _ in self.running.values())
+        print(f"{len(self.built)} of {len(self.below)} crates, {minutes} minutes: {names}", file=sys.stderr, flush=True)
+
+    def stop(self):
+        for pid in self.running:
+            os.killpg(pid, signal.SIGTERM)
+        for pid in self.running:
+            os.waitpid(pid, 0)
+
+
+def main():
+    for it in (signal.SIGTERM, signal.SIGHUP, signal.SIGINT):
+        signal.signal(it, lambda number, _: sys.exit(128 + number))
+    (here / "out").mkdir(exist_ok=True)
+    with tempfile.TemporaryDirectory(prefix="below-", dir=here / "out", ignore_cleanup_errors=True) as room:
+        builds = Builds(Path(room), crates_below(here.name))
+        try:
+            if not builds.build_all():
+                return 1
+        finally:
+            builds.stop()
+        return subprocess.run(sys.argv[1:], check=False).returncode
+
+
+if __name__ == "__main__":
+    sys.exit(main())
