@@ -6,7 +6,7 @@ ghost use Rattle.word_image.specs.Words.{IsSurjective};
 ghost use Rattle.word_image.specs.declared.side.Side.{Side};
 ghost use Rattle.word_image.specs.declared.side.Side.TheVariants.{Right, Left};
 ghost use Rattle.tail_config.specs.Tails.{IsInjective};
-ghost use Rattle.tail_laws.specs.FirstWindows.{IsClosing};
+ghost use Rattle.tail_laws.specs.Closing.{IsClosing};
 ghost use Rattle.rule_lists.specs.Ranks.{IsOrder, rank};
 ghost use Rattle.rule_lists.specs.Listed.{IsOfShape};
 ghost use Rattle.rule_lists.specs.Calls.{AreAll, AreListed};

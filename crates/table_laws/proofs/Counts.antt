@@ -3,7 +3,7 @@ use Rattle.std.proofs.Common.{◌≡◌, ℕ, zero, suc, ◌+◌, ◌-◌, ◌%�
 use Rattle.std.specs.Int.{from_bool}
 use Rattle.std.proofs.lemmas.Bool.{cases_lt}
 use Rattle.word_image.proofs.laws.Searches.{twice_below}
-use Rattle.eden_laws.specs.ZeroPairs.{count_below}
+use Rattle.table_laws.specs.ZeroPairs.{count_below}
 
 -- none below 0
 pub count_below-none : (p : ℕ → Bool) → count_below p 0 ≡ 0

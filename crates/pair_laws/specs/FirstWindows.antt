@@ -1,19 +1,12 @@
--- Closing on a side, and windows that differ in the letter at their end on it.
+-- Windows that differ in the letter at their end on a side, and first pairs that go on together for ever.
 use Rattle.std.specs.Prelude.{◌≡◌, ◌≢◌, ℕ, ◌^◌, ◌<◌, slice_index}
 use Rattle.word_image.specs.LocalRules.{LocalRule}
 use Rattle.word_image.specs.Graphs.{pair_of}
 use Rattle.word_image.specs.Ranks.{IsEndless}
 use Rattle.word_image.specs.declared.side.Side.{Side}
-use Rattle.word_image.specs.declared.side.Side.TheVariants.{Right, Left}
 use Rattle.word_image.specs.Sides.{other, PairGoes}
 use Rattle.word_image.specs.FirstPairs.{IsFirstOf}
 use Rattle.word_image.specs.Ends.{window_with, end_node}
-use Rattle.tail_config.specs.Tails.{IsRightClosing, IsLeftClosing}
-
--- the rule closes on this side
-abbrev pub IsClosing : Side → LocalRule → Type 0
-IsClosing Right r = IsRightClosing r
-IsClosing Left r = IsLeftClosing r
 
 -- the window with this letter at its end
 abbrev pub with_end : Side → LocalRule → ℕ → ℕ → ℕ

@@ -1,5 +1,5 @@
 -- The mean of the letters of a table. Under a conserving rule it is that of all letters: what all windows gain is what the numbers of a flux give at their first nodes, less what they give at their last ones, and these are the same numbers. It is so too where each letter stands equally often.
-use Rattle.std.proofs.Common.{◌≡◌, ℕ, zero, suc, ◌+◌, ◌-◌, ◌*◌, ◌/◌, ◌%◌, ◌^◌, ◌<◌, ◌≤◌, List, [], ◌∷◌, length, take, slice_index, get_or, sum, count_by, cond, ⊎_elim, ℤ, pos, ◌+ℤ◌, ◌-ℤ◌, refl, sym, ap, ap₂, ◌∙◌, arith, pow-suc, mod-eq_of_lt}
+use Rattle.std.proofs.Common.{◌≡◌, ℕ, zero, suc, ◌+◌, ◌-◌, ◌*◌, ◌/◌, ◌%◌, ◌^◌, ◌<◌, ◌≤◌, List, [], ◌∷◌, length, take, slice_index, get_or, sum, count_by, cond, ⊎_elim, ℤ, pos, ◌+ℤ◌, ◌-ℤ◌, refl, sym, ap, ap₂, ◌∙◌, arith, mod-eq_of_lt}
 use Rattle.std.specs.Prelude.{◌==◌}
 use Rattle.std.proofs.Math.Nat.{mul-add, add-mul, suc-mul, mul-suc, mul-zero, zero-mul, mul-one, mul_assoc, mul_comm, mul-div_cancel_left, zero-div, one-le-pow}
 use Rattle.std.proofs.lemmas.Bool.{cases_eq, eq-eqb, ne_eqb, cond-true, cond-false}
@@ -11,10 +11,11 @@ use Rattle.std.proofs.lemmas.List.Sums.{sum_by_more, sum_by-cons}
 use Rattle.word_image.specs.LocalRules.{LocalRule, IsRule, IsWord, node_count}
 use Rattle.word_image.specs.Rings.{IsConserving, IsFlux}
 use Rattle.word_image.proofs.laws.Graphs.{node_count_pos}
+use Rattle.word_image.proofs.laws.WindowParts.{windows-nodes}
 use Rattle.ring_laws.proofs.FluxWindows.{window_gain, FlowsAt-flux}
 use Rattle.ring_laws.proofs.FluxWalks.{walk_gains}
 use Rattle.ring_laws.proofs.LossyRings.{IsConserving-walk_gains}
-use Rattle.ring_laws.specs.Tables.{IsEven, HasMean}
+use Rattle.table_laws.specs.Tables.{IsEven, HasMean}
 
 -- f 0 + f 1 + .. + f (n - 1)
 total : (ℕ → ℤ) → ℕ → ℤ
@@ -113,13 +114,6 @@ unfolding total triangle
 total-letters zero = refl
 total-letters (suc n) = omega (arith, ints, total-letters n)
 
--- a number of windows, in two ways
-windows : {r : LocalRule} → IsRule r → (r.states ^ r.width ≡ node_count r * r.states)
-windows {r} rule =
-    let wide : 2 ≤ r.width = rule.shape.least_width in
-    let one : suc (r.width - 1) ≡ r.width = omega arith in
-    ap (λ n. r.states ^ n) (sym one) ∙ pow-suc r.states (r.width - 1)
-
 -- all windows together gain nothing
 all_gain : {r : LocalRule} → IsRule r → IsConserving (λ a. a) r → total (window_gain (λ a. a) r) (r.states ^ r.width) ≡ pos 0
 all_gain {r} rule keep =
@@ -128,9 +122,9 @@ all_gain {r} rule keep =
     let phi : List ℤ = walk_gains (λ a. a) r in
     let flux : IsFlux (λ a. a) r phi = (IsConserving-walk_gains rule (λ a. a)).0 keep in
     let at : ℕ → ℤ = λ u. get_or phi u (pos 0) in
-    let firsts : total (λ v. at (v / k)) (k ^ r.width) ≡ times k (total at n) = ap (total (λ v. at (v / k))) (windows rule) ∙ total-div at k n in
+    let firsts : total (λ v. at (v / k)) (k ^ r.width) ≡ times k (total at n) = ap (total (λ v. at (v / k))) (windows-nodes rule) ∙ total-div at k n in
     let lasts : total (λ v. at (v % n)) (k ^ r.width) ≡ times k (total at n) =
-    ap (total (λ v. at (v % n))) (windows rule ∙ mul_comm n k) ∙ total-rem at n k in
+    ap (total (λ v. at (v % n))) (windows-nodes rule ∙ mul_comm n k) ∙ total-rem at n k in
     total-agree (window_gain (λ a. a) r) (λ v. at (v / k) -ℤ at (v % n)) (k ^ r.width) (λ v l. FlowsAt-flux rule flux v l)
     ∙ total-sub (λ v. at (v / k)) (λ v. at (v % n)) (k ^ r.width)
     ∙ omega (arith, ints, firsts, lasts)
@@ -144,11 +138,11 @@ HasMean-conserving {r} rule keep =
     let new : total (λ v. pos (slice_index r.table v)) size ≡ pos (sum r.table) =
     total-table r.table size (omega (arith, rule.entries)) ∙ ap (λ xs. pos (sum xs)) (take_all size r.table (omega (arith, rule.entries))) in
     let old : total (λ v. pos (v / n)) size ≡ pos (n * triangle k) =
-    ap (total (λ v. pos (v / n))) (windows rule ∙ mul_comm n k) ∙ total-div (λ a. pos a) n k ∙ ap (times n) (total-letters k) ∙ times-pos n (triangle k) in
+    ap (total (λ v. pos (v / n))) (windows-nodes rule ∙ mul_comm n k) ∙ total-div (λ a. pos a) n k ∙ ap (times n) (total-letters k) ∙ times-pos n (triangle k) in
     let both : total (window_gain (λ a. a) r) size ≡ total (λ v. pos (slice_index r.table v)) size -ℤ total (λ v. pos (v / n)) size =
     total-sub (λ v. pos (slice_index r.table v)) (λ v. pos (v / n)) size in
     let all : sum r.table ≡ n * triangle k = omega (arith, ints, new, old, both, all_gain rule keep) in
-    let long : length r.table ≡ n * k = rule.entries ∙ windows rule in
+    let long : length r.table ≡ n * k = rule.entries ∙ windows-nodes rule in
     let square : n * (2 * triangle k + k) ≡ n * (k * k) = ap (λ x. n * x) (triangle-twice k) in
     let length_twice : k * (n * k) ≡ n * (k * k) = mul_comm k (n * k) ∙ mul_assoc n k k in
     let sum_twice : n * (2 * triangle k) ≡ 2 * (n * triangle k) = sym (mul_assoc n 2 (triangle k)) ∙ ap (λ x. x * triangle k) (mul_comm n 2) ∙ mul_assoc 2 n (triangle k) in
@@ -213,7 +207,7 @@ HasMean-even {r} rule even =
     let k : ℕ = r.states in
     let q : ℕ = node_count r in
     let some : 0 < k = let two : 2 ≤ k = rule.shape.least_states in omega arith in
-    let long : length r.table ≡ q * k = rule.entries ∙ windows rule in
+    let long : length r.table ≡ q * k = rule.entries ∙ windows-nodes rule in
     let each : (a : ℕ) → a < k → count_by (λ b. b == a) r.table ≡ q = λ a l.
     sym (mul-div_cancel_left (count_by (λ b. b == a) r.table) some)
     ∙ ap (λ n. n / k) (even a l ∙ long ∙ mul_comm q k)
@@ -235,7 +229,7 @@ keeps-loop {r} rule keep v within loop =
     let same : get_or phi (v / r.states) (pos 0) ≡ get_or phi (v % node_count r) (pos 0) = ap (λ u. get_or phi u (pos 0)) loop in
     omega (arith, ints, gain, same)
 
--- so the window of letters 0 has the letter 0
+-- under a conserving rule the window of letters 0 has the letter 0
 pub keeps-zeros : {r : LocalRule} → IsRule r → IsConserving (λ a. a) r → slice_index r.table 0 ≡ 0
 keeps-zeros {r} rule keep =
     let k : ℕ = r.states in
@@ -247,14 +241,14 @@ keeps-zeros {r} rule keep =
     let last : 0 % n ≡ 0 = mod-eq_of_lt {n = 0} nodes in
     keeps-loop rule keep 0 all (first ∙ sym last) ∙ zero-div n
 
--- and that of the greatest letters the greatest letter
+-- under a conserving rule the window of the greatest letters has the greatest letter
 pub keeps-greatest : {r : LocalRule} → IsRule r → IsConserving (λ a. a) r → slice_index r.table (length r.table - 1) ≡ r.states - 1
 keeps-greatest {r} rule keep =
     let k : ℕ = r.states in
     let n : ℕ = node_count r in
     let some : 0 < k = let two : 2 ≤ k = rule.shape.least_states in omega arith in
     let nodes : 0 < n = node_count_pos rule in
-    let long : length r.table ≡ n * k = rule.entries ∙ windows rule in
+    let long : length r.table ≡ n * k = rule.entries ∙ windows-nodes rule in
     let v : ℕ = length r.table - 1 in
     let one_less : suc (n - 1) ≡ n = omega arith in
     let rows : n * k ≡ (n - 1) * k + k = ap (λ i. i * k) (sym one_less) ∙ suc-mul (n - 1) k in

@@ -12,7 +12,7 @@ use Rattle.pair_laws.proofs.Pairs.{first_of-pair_of, second_of-pair_of, pair_of-
 use Rattle.word_image.specs.declared.side.Side.{Side}
 use Rattle.word_image.specs.declared.side.Side.TheVariants.{Right, Left}
 use Rattle.word_image.specs.Ends.{end_node}
-use Rattle.tail_laws.specs.FirstWindows.{with_end, end_pair, AreFirst}
+use Rattle.pair_laws.specs.FirstWindows.{with_end, end_pair, AreFirst}
 
 -- two windows that differ in their last letter alone lead to a first pair of the right
 right-first : {r : LocalRule} → IsRule r → (w a : ℕ) → AreFirst Right r w a → IsFirstOfRight r (end_pair Right r w a)

@@ -1,6 +1,6 @@
-use Rattle.eden_laws.proofs.EvenTables.{IsEven-surjective}
-use Rattle.eden_laws.proofs.ZeroPairs.{zero_pairs-surjective}
-use Rattle.eden_laws.proofs.surjective_is_even.Goals as goal
+use Rattle.table_laws.proofs.EvenTables.{IsEven-surjective}
+use Rattle.table_laws.proofs.ZeroPairs.{zero_pairs-surjective}
+use Rattle.table_laws.proofs.surjective_is_even.Goals as goal
 
 pub returns-clause-table : goal.returns-clause-table
 returns-clause-table c r rule = IsEven-surjective rule

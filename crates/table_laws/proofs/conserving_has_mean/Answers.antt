@@ -1,5 +1,5 @@
-use Rattle.ring_laws.proofs.MeanTables.{HasMean-conserving, keeps-zeros, keeps-greatest}
-use Rattle.ring_laws.proofs.conserving_has_mean.Goals as goal
+use Rattle.table_laws.proofs.MeanTables.{HasMean-conserving, keeps-zeros, keeps-greatest}
+use Rattle.table_laws.proofs.conserving_has_mean.Goals as goal
 
 pub returns-clause-mean : goal.returns-clause-mean
 returns-clause-mean c r rule = HasMean-conserving rule
