@@ -5,7 +5,7 @@ use Rattle.std.proofs.lemmas.List.{drop_more, drop-drop, length-take-le, nil_fro
 use Rattle.std.proofs.lemmas.List.Elements.{All-take}
 use Rattle.word_image.specs.LocalRules.{LocalRule, IsRule, value, node_count}
 use Rattle.word_image.specs.Windows.{HaveOneImage}
-use Rattle.word_image.specs.Graphs.{label, pair_of}
+use Rattle.word_image.specs.Graphs.{pair_of}
 use Rattle.word_image.proofs.laws.Graphs.{value-node}
 use Rattle.pair_laws.proofs.Edges.{image-first, value-first}
 use Rattle.pair_laws.proofs.Joins.{HaveOneImage-take, HaveOneImage-drop}
