@@ -1,5 +1,5 @@
 -- Marks on sets of nodes, in rows of 64 bits, and those of the sets that contain one of a family.
-use Rattle.std.specs.Prelude.{◌≡◌, ◌≢◌, AllPairs, ℕ, ◌-◌, ◌*◌, ◌/◌, ◌%◌, ◌^◌, ◌<◌, ◌≤◌, ◌↔◌, ◌⊎◌, List, length, slice_index, Contains, IsBitSet, bit_and}
+use Rattle.std.specs.Prelude.{◌≢◌, AllPairs, ℕ, ◌-◌, ◌*◌, ◌/◌, ◌%◌, ◌^◌, ◌<◌, ◌≤◌, ◌↔◌, ◌⊎◌, List, length, slice_index, Contains, IsBitSet, bit_and}
 use Rattle.word_image.specs.Graphs.{HasBit}
 
 -- set x is marked

@@ -1,4 +1,4 @@
-use Rattle.std.proofs.Common.{◌≡◌, ◌*◌, length, refl, subst, arith}
+use Rattle.std.proofs.Common.{◌*◌, length, refl, subst, arith}
 use Rattle.image_subsets.specs.Marks.{AreMarksTo}
 use Rattle.image_subsets.proofs.MarkSpreads.{AreMarksTo-start, AreMarksTo-next, AreAbove-all}
 use Rattle.image_subsets.proofs.marks.mark_above.Goals as goal

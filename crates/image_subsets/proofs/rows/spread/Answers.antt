@@ -1,4 +1,4 @@
-use Rattle.std.proofs.Common.{◌≡◌, ◌↔◌, ◌*◌, ◌+◌, length, refl, subst, arith, ◌∙◌}
+use Rattle.std.proofs.Common.{◌≡◌, ◌*◌, ◌+◌, length, refl, subst, arith, ◌∙◌}
 use Rattle.std.proofs.lemmas.List.{length-set}
 use Rattle.image_subsets.specs.Marks.{IsSpreadTo}
 use Rattle.image_subsets.proofs.MarkSpreads.{IsSpreadTo-start, IsSpreadTo-row, HoldsWithout-same}

@@ -1,4 +1,4 @@
-use Rattle.std.proofs.Common.{◌≡◌, ◌*◌, ◌+◌, length, refl, arith, ◌∙◌}
+use Rattle.std.proofs.Common.{◌≡◌, length, refl, arith, ◌∙◌}
 use Rattle.std.proofs.lemmas.List.{length-set}
 use Rattle.image_subsets.proofs.MarkSpreads.{IsSpreadTo-start, IsSpreadTo-row}
 use Rattle.image_subsets.proofs.rows.spread_from.Goals as goal
