@@ -74,6 +74,7 @@ fn bars(property: Property, shape: &Rule, letters: &Letters) -> bool
         Property::RightClosing => bars_closing(Side::Right, shape, letters),
         Property::LeftClosing => bars_closing(Side::Left, shape, letters),
         Property::Open => bars_open(shape, letters),
+        Property::Conserving => false,
     }
 }
 
