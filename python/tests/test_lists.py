@@ -32,7 +32,7 @@ class Lists(unittest.TestCase):
     def test_the_rules_have_the_property(self) -> None:
         for name, bit in lists.PROPERTIES.items():
             for rule in ca.rules(name, 3, 2):
-                self.assertIn(bit, ca.verdicts(3, 2, [int(letter) for letter in rule[len("3:2:0:t"):]]))
+                self.assertTrue(bit in ca.verdicts(3, 2, [int(letter) for letter in rule[len("3:2:0:t"):]]))
 
     def test_the_order_is_that_of_the_page(self) -> None:
         self.assertEqual(list(ca.rules("injective", 2, 3, -1)), REVERSIBLE)
@@ -43,7 +43,7 @@ class Lists(unittest.TestCase):
     def test_parts_of_a_beginning_add_up(self) -> None:
         parts = [set(ca.rules("surjective", 3, 2, 0, f"{first}{second}")) for first in range(3) for second in range(3)]
         self.assertEqual(sum(map(len, parts)), 420)
-        self.assertEqual(set().union(*parts), set(ca.rules("surjective", 3, 2)))
+        self.assertEqual(set[str]().union(*parts), set(ca.rules("surjective", 3, 2)))
 
     def test_each_executor_lists_the_same(self) -> None:
         wanted = list(ca.rules("surjective", 2, 3))
