@@ -17,6 +17,7 @@ from .faults import (Fault, FoursaspenError, LibraryMissing, LibraryMissingError
                      OutOfMemoryError, Refused, RefusedError, RuleError, RuleFault, TooLong, TooLongError, UsageError,
                      UsageFault, WordsError, WordsFault)
 from .library import Outcome, keep_freed_memory
+from .lists import Listing, rules
 from .operands import Rule, Weights
 from .pictures import picture
 from .report import (Answer, Certificate, ClassSummary, Closing, Gap, Inverse, Language, Pair, Preimage, Report, Same,
@@ -26,11 +27,11 @@ from .surveys import Progress, survey_over
 __version__ = "2"
 __all__ = [
     "Answer", "Bit", "Certificate", "ClassSummary", "Closing", "Fault", "FoursaspenError", "Gap", "Inverse",
-    "Language", "LibraryMissing", "LibraryMissingError", "NotFit", "NotFitError", "OutOfMemory", "OutOfMemoryError",
+    "Language", "LibraryMissing", "LibraryMissingError", "Listing", "NotFit", "NotFitError", "OutOfMemory", "OutOfMemoryError",
     "Outcome", "Pair", "Picture", "Preimage", "Progress", "Refused", "RefusedError", "Report", "Rule", "RuleError",
     "RuleFault", "Same", "Split", "Summary", "Tail", "TooLong", "TooLongError", "UsageError", "UsageFault",
     "Verdicts", "Weights", "Window", "WordsError", "WordsFault", "brief", "certify", "check", "classes", "compose",
     "decide", "erase", "inverse", "keep_freed_memory", "language", "least", "lift", "number", "orphan", "permute",
-    "picture", "preimage", "reflect", "run", "same", "sample", "shift", "survey", "survey_over", "trim", "unlift",
+    "picture", "preimage", "reflect", "rules", "run", "same", "sample", "shift", "survey", "survey_over", "trim", "unlift",
     "verdict_bytes", "verdicts", "widen",
 ]

@@ -55,6 +55,8 @@ class Library:
             self._run = loaded.ca_run
             self._verdicts = loaded.ca_verdicts
             self._verdict_bytes = loaded.ca_verdict_bytes
+            self._window_order = loaded.ca_window_order
+            self._next_rule = loaded.ca_next_rule
             version = int(loaded.ca_version())
         except (OSError, AttributeError) as fault:
             raise LibraryMissingError(f"the library can't be loaded: {fault}; {ADVICE}") from fault
@@ -68,6 +70,10 @@ class Library:
         self._verdicts.restype = RuleVerdicts
         self._verdict_bytes.argtypes = [byte, byte, word, word, text, size]
         self._verdict_bytes.restype = byte
+        self._window_order.argtypes = [byte, byte, byte, text, size]
+        self._window_order.restype = byte
+        self._next_rule.argtypes = [byte, byte, byte, text, size, text, size, byte, text, size]
+        self._next_rule.restype = byte
         self._rooms = threading.local()
         self.path = path
 
@@ -98,6 +104,22 @@ class Library:
         """Fills the room with the bytes of rules with consecutive numbers; gives 0, or the number of the first fault.
         Other threads run meanwhile."""
         return int(self._verdict_bytes(states, width, first >> 64, first & WORD, room, len(room)))
+
+    def window_order(self, property: int, states: int, width: int) -> bytes:
+        """The order of the windows in which the rules of a shape with a property are soon found."""
+        room = ctypes.create_string_buffer(states ** width)
+        fault = self._window_order(property, states, width, room, len(room))
+        if fault:
+            raise AssertionError(f"ca_window_order gives {fault}")
+        return room.raw
+
+    def next_rule(self, property: int, states: int, width: int, order: bytes, begin: bytes, after: bool,
+                  table: bytes) -> tuple[int, bytes]:
+        """0, and the table of the first rule of a shape with a property and the letters that are fixed, or of the first
+        one after this table; else why there is none, and the same table. Other threads run meanwhile."""
+        room = ctypes.create_string_buffer(table, len(table))
+        fault = self._next_rule(property, states, width, order, len(order), begin, len(begin), after, room, len(room))
+        return int(fault), room.raw
 
 
 def keep_freed_memory() -> None:

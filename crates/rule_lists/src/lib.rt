@@ -26,7 +26,7 @@ mod tables;
 mod theorems;
 
 pub use lost::Letters;
-pub use orders::{is_order, order_for};
+pub use orders::{is_order, order_for, write_order};
 pub use properties::{Property, has};
 pub use search::{first_rule, rule_after};
 pub use theorems::{
