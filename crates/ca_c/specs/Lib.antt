@@ -3,3 +3,4 @@ pub mod Calls
 pub mod Verdicts
 pub mod Examples
 pub mod NumberedVerdicts
+pub mod RuleSums
