@@ -40,6 +40,12 @@ class RuleVerdicts(ctypes.Structure):
         "surjective", "injective", "right", "left", "is_open", "conserving"))]
 
 
+class KeptTable(ctypes.Structure):
+    """The sums that a rule keeps: struct ca_kept_sums."""
+    _fields_ = [("rows", (ctypes.c_int64 * 16) * 16), ("counts", ctypes.c_uint8 * 16),
+                ("rings", (ctypes.c_uint8 * 15) * 16)]
+
+
 class Outcome(NamedTuple):
     """What the program comes to: the code of its status, and what it prints."""
     code: int
@@ -55,6 +61,7 @@ class Library:
             self._run = loaded.ca_run
             self._verdicts = loaded.ca_verdicts
             self._verdict_bytes = loaded.ca_verdict_bytes
+            self._kept_sums = loaded.ca_kept_sums
             version = int(loaded.ca_version())
         except (OSError, AttributeError) as fault:
             raise LibraryMissingError(f"the library can't be loaded: {fault}; {ADVICE}") from fault
@@ -68,6 +75,8 @@ class Library:
         self._verdicts.restype = RuleVerdicts
         self._verdict_bytes.argtypes = [byte, byte, word, word, text, size]
         self._verdict_bytes.restype = byte
+        self._kept_sums.argtypes = [byte, byte, text, size, byte, ctypes.POINTER(KeptTable)]
+        self._kept_sums.restype = byte
         self._rooms = threading.local()
         self.path = path
 
@@ -98,6 +107,14 @@ class Library:
         """Fills the room with the bytes of rules with consecutive numbers; gives 0, or the number of the first fault.
         Other threads run meanwhile."""
         return int(self._verdict_bytes(states, width, first >> 64, first & WORD, room, len(room)))
+
+    def kept_sums(self, states: int, width: int, table: bytes, letters: int) -> KeptTable:
+        """The sums of weights of words of so many letters that the rule with this table keeps. Other threads run
+        meanwhile."""
+        found = KeptTable()
+        fault = int(self._kept_sums(states, width, table, len(table), letters, ctypes.byref(found)))
+        assert not fault, fault                 # the table is a rule's, and the number of letters has been looked at
+        return found
 
 
 def keep_freed_memory() -> None:
