@@ -31,6 +31,14 @@ class KeptSums(Answer):
     rows: tuple[dict[str, int], ...]
     rings: dict[str, str]
 
+    @property
+    def fluxes(self) -> tuple[dict[str, int], ...]:
+        """A flux for each row, by the words of width + range - 2 letters that have a number other than 0: what the walk
+        from the word gains that reads as many letters 0. They are worked out here and not proved; checkers/sums.py of the
+        repository says what makes a flux."""
+        graph = Graph(self.rule)
+        return tuple(flux_of(graph, self.range, row) for row in self.rows)
+
     def _repr_html_(self) -> str:
         words = free_words(int(self.rule.split(":")[0]), self.range)
         heads = [f"row {place}" for place in range(1, len(self.rows) + 1)]
@@ -81,3 +89,22 @@ def text_of(rows: tuple[dict[str, int], ...], rings: dict[str, str]) -> str:
     lines = ["row " + " ".join(f"{word}:{weight}" for word, weight in row.items()) for row in rows]
     lines += [f"ring {word} {ring}" for word, ring in rings.items()]
     return "".join(f"{line}\n" for line in [f"rows {len(rows)}", *lines])
+
+
+def flux_of(graph: Graph, letters: int, row: dict[str, int]) -> dict[str, int]:
+    """The flux of a row that has 0 at the word of letters 0."""
+    long = graph.width + letters - 2
+
+    def gain(window: str) -> int:
+        return row.get(image(graph, window), 0) - row.get(window[:letters], 0)
+
+    def walk(word: str) -> int:
+        read = word + "0" * long
+        return sum(gain(read[start:start + long + 1]) for start in range(long))
+    return {word: number for word in all_words(graph.states, long) if (number := walk(word))}
+
+
+def image(graph: Graph, word: str) -> str:
+    """The image of a word."""
+    return "".join(DIGITS[graph.table[int(word[start:start + graph.width], graph.states)]]
+                   for start in range(len(word) - graph.width + 1))

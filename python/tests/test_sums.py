@@ -25,6 +25,15 @@ class Sums(unittest.TestCase):
         self.assertEqual(ca.kept_sums(ca.decide(14), 2), pairs)
         self.assertEqual([ca.kept_sums(n).rows for n in (0, 170, 204)], [(), ({"1": 1},), ({"1": 1},)])
 
+    def test_fluxes(self) -> None:
+        """By README's flux of rule 184, and by the one of the report."""
+        self.assertEqual(ca.kept_sums(184).fluxes, ({"11": -1},))
+        for number in (170, 184, 204, 226, 240):
+            flux = ca.decide(number).flux
+            assert flux is not None
+            self.assertEqual(ca.kept_sums(number).fluxes, ({f"{node:02b}": phi for node, phi in enumerate(flux) if phi},))
+        self.assertEqual([len(ca.kept_sums("2:5:0:t" + "01" * 16, letters).fluxes) for letters in (1, 2, 3, 4)], [1, 2, 4, 8])
+
     def test_text_and_table(self) -> None:
         pairs = ca.kept_sums(14, 2)
         self.assertEqual(str(pairs), "rows 1\nrow 10:1\nring 11 1\n")
