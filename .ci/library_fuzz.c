@@ -299,7 +299,8 @@ static bool has(int property, uint8_t states, uint8_t width, const uint8_t *tabl
 {
     struct ca_rule_verdicts v = ca_verdicts(states, width, table, size);
     return property == CA_BIT_SURJECTIVE ? v.surjective : property == CA_BIT_INJECTIVE ? v.injective
-        : property == CA_BIT_RIGHT ? v.right : property == CA_BIT_LEFT ? v.left : v.is_open;
+        : property == CA_BIT_RIGHT ? v.right : property == CA_BIT_LEFT ? v.left : property == CA_BIT_OPEN ? v.is_open
+        : v.conserving;
 }
 
 /* What is asked of ca_next_rule. */
@@ -316,7 +317,7 @@ static void draw_question(struct question *q)
 {
     q->states = (uint8_t)(2 + below(15));
     q->width = (uint8_t)(2 + below(q->states == 2 ? 4 : q->states < 5 ? 2 : 1));
-    q->property = (uint8_t)(1u << below(5));
+    q->property = (uint8_t)(1u << below(6));
     q->after = below(2) == 0;
     q->size = 1;
     for (int place = 0; place < q->width; place++)
@@ -356,7 +357,7 @@ static int reason(const struct question *q)
     int fault = fault_of(q->states, q->width, q->table, q->length);
     if (fault != CA_FAULT_NONE)
         return fault;
-    if (q->property == 0 || q->property > CA_BIT_OPEN || (q->property & (q->property - 1)) != 0)
+    if (q->property == 0 || q->property > CA_BIT_CONSERVING || (q->property & (q->property - 1)) != 0)
         return CA_FAULT_PROPERTY;
     if (!is_order(q->order, q->order_length, q->size))
         return CA_FAULT_ORDER;

@@ -73,13 +73,22 @@ def is_open(k, N, f):
     return is_right(k, N, f) and is_left(k, N, f)
 
 
-PROPERTIES = {"surjective": is_surjective, "injective": is_injective, "right": is_right, "left": is_left, "open": is_open}
+def is_conserving(k, N, f):
+    """Whether each window gives its first letter and what flows into its cell, where zeros stand before the window (Hattori
+    and Takesue 1991)."""
+    m = next(m for m in itertools.count(1) if k ** m == k * N)
+    return f[0] == 0 and all(f[w] == w // N + sum(f[w % N // k ** (i - 1)] - f[w // k ** i] for i in range(1, m))
+                             for w in range(k * N))
+
+
+PROPERTIES = {"surjective": is_surjective, "injective": is_injective, "right": is_right, "left": is_left, "open": is_open,
+              "conserving": is_conserving}
 
 
 def class_of(name, k, m, window):
     """By what windows are ordered before their values."""
     word = [window // k ** place % k for place in reversed(range(m))]
-    if name != "injective":
+    if name not in ("injective", "conserving"):
         return max(word), m - word.count(0)
     period = next(p for p in range(1, m + 1) if word[p:] == word[:m - p])
     return period, min(word[turn:period] + word[:turn] for turn in range(period))

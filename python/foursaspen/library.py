@@ -40,6 +40,12 @@ class RuleVerdicts(ctypes.Structure):
         "surjective", "injective", "right", "left", "is_open", "conserving"))]
 
 
+class KeptTable(ctypes.Structure):
+    """The sums that a rule keeps: struct ca_kept_sums."""
+    _fields_ = [("rows", (ctypes.c_int64 * 16) * 16), ("counts", ctypes.c_uint8 * 16),
+                ("rings", (ctypes.c_uint8 * 15) * 16)]
+
+
 class Outcome(NamedTuple):
     """What the program comes to: the code of its status, and what it prints."""
     code: int
@@ -57,6 +63,7 @@ class Library:
             self._verdict_bytes = loaded.ca_verdict_bytes
             self._window_order = loaded.ca_window_order
             self._next_rule = loaded.ca_next_rule
+            self._kept_sums = loaded.ca_kept_sums
             version = int(loaded.ca_version())
         except (OSError, AttributeError) as fault:
             raise LibraryMissingError(f"the library can't be loaded: {fault}; {ADVICE}") from fault
@@ -74,6 +81,8 @@ class Library:
         self._window_order.restype = byte
         self._next_rule.argtypes = [byte, byte, byte, text, size, text, size, byte, text, size]
         self._next_rule.restype = byte
+        self._kept_sums.argtypes = [byte, byte, text, size, byte, ctypes.POINTER(KeptTable)]
+        self._kept_sums.restype = byte
         self._rooms = threading.local()
         self.path = path
 
@@ -120,6 +129,14 @@ class Library:
         room = ctypes.create_string_buffer(table, len(table))
         fault = self._next_rule(property, states, width, order, len(order), begin, len(begin), after, room, len(room))
         return int(fault), room.raw
+
+    def kept_sums(self, states: int, width: int, table: bytes, letters: int) -> KeptTable:
+        """The sums of weights of words of so many letters that the rule with this table keeps. Other threads run
+        meanwhile."""
+        found = KeptTable()
+        fault = int(self._kept_sums(states, width, table, len(table), letters, ctypes.byref(found)))
+        assert not fault, fault                 # the table is a rule's, and the number of letters has been looked at
+        return found
 
 
 def keep_freed_memory() -> None:

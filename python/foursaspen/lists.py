@@ -24,7 +24,7 @@ DIGITS = "0123456789abcdef"
 
 # The properties by their words. The number of each is that of its bit.
 PROPERTIES = {"surjective": Bit.SURJECTIVE, "injective": Bit.INJECTIVE, "right": Bit.RIGHT, "left": Bit.LEFT,
-              "open": Bit.OPEN}
+              "open": Bit.OPEN, "conserving": Bit.CONSERVING}
 
 NO_RULE = 13                                    # of enum ca_fault
 
@@ -46,8 +46,8 @@ def rules(property: str, states: SupportsIndex, width: SupportsIndex, offset: Su
           executor: Executor | None = None, progress: Callable[[Listing], object] | None = None,
           bar: bool = False) -> Generator[str, None, None]:
     """The texts of all rules of a shape that have a property and whose tables begin so, each once. The property is
-    `surjective`, `injective`, `right`, `left` or `open`; `begin` has the first digits of the table. docs/LISTS.md has
-    the order, and which shapes have an end in sight.
+    `surjective`, `injective`, `right`, `left`, `open` or `conserving`; `begin` has the first digits of the table.
+    docs/LISTS.md has the order, and which shapes have an end in sight.
 
     Without an executor each rule is searched when it is asked for. An executor, any of concurrent.futures whose workers
     have this package, searches the parts of the shape side by side, and the rules of a part come together; the order

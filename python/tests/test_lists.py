@@ -16,8 +16,8 @@ from foursaspen import lists
 from .support import output
 from .test_surveys import AtOnce
 
-# How many rules are surjective, injective, right-closing, left-closing and open, as docs/LISTS.md has them.
-COUNTS = {(2, 3): (30, 6, 22, 22, 14), (2, 4): (582, 16, 314, 314, 46), (3, 2): (420, 48, 240, 240, 60)}
+# How many rules are surjective, injective, right-closing, left-closing, open and conserving, as docs/LISTS.md has them.
+COUNTS = {(2, 3): (30, 6, 22, 22, 14, 5), (2, 4): (582, 16, 314, 314, 46, 22), (3, 2): (420, 48, 240, 240, 60, 4)}
 REVERSIBLE = ["2:3:-1:t00001111", "2:3:-1:t01010101", "2:3:-1:t00110011", "2:3:-1:t11001100", "2:3:-1:t10101010",
               "2:3:-1:t11110000"]
 

@@ -4,3 +4,4 @@ pub mod Verdicts
 pub mod Examples
 pub mod NumberedVerdicts
 pub mod NextRules
+pub mod RuleSums

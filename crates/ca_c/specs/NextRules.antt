@@ -6,7 +6,7 @@ use Rattle.word_image.specs.declared.local_rule.RuleFault.{RuleFault}
 use Rattle.rule_lists.specs.Ranks.{IsOrder, rank}
 use Rattle.rule_lists.specs.Listed.{IsFirst, NoneIs}
 use Rattle.rule_lists.specs.declared.properties.Property.{Property}
-use Rattle.rule_lists.specs.declared.properties.Property.TheVariants.{Surjective, Injective, RightClosing, LeftClosing, Open}
+use Rattle.rule_lists.specs.declared.properties.Property.TheVariants.{Surjective, Injective, RightClosing, LeftClosing, Open, Conserving}
 use Rattle.ca_c.specs.Verdicts.{rule_of_table, fault_code}
 
 -- the number that stands for a property: what it adds to the byte of a rule that has it
@@ -16,6 +16,7 @@ property_number Injective = 2
 property_number RightClosing = 4
 property_number LeftClosing = 8
 property_number Open = 16
+property_number Conserving = 32
 
 -- the number stands for no property
 abbrev pub IsNoProperty : ℕ → Type 0

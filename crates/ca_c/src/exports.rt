@@ -5,14 +5,18 @@ ghost use Rattle.cert_check.specs.Accepted.{AreTrue, is_open};
 ghost use Rattle.ca_c.specs.Calls.{IsHandedBack};
 ghost use Rattle.rule_verdicts.specs.Numbers.{numbers_fault, AreVerdictBytes};
 ghost use Rattle.ca_c.specs.NumberedVerdicts.{number_code};
+ghost use Rattle.kept_sums.specs.Stages.{AreKeptSums};
+ghost use Rattle.ca_c.specs.RuleSums.{sums_code};
 ghost use Rattle.ca_c.specs.Verdicts.{AreNone, fault_code, rule_of_table, verdicts_about};
 ghost use Rattle.ca_c.specs.NextRules.{IsNext, IsWindowOrder};
 
 use crate::calls::{CallFault, call, put};
 use crate::next_rules::{letters_of, next_rule, property_of, shape_rule, write_table};
 use crate::numbered_verdicts::{joined, number_of};
+use crate::rule_sums::range_number;
 use crate::table_verdicts::{RuleVerdicts, fault_number};
 use ca_cli::Status;
+use kept_sums::{KeptSums, check_range, kept_sums};
 use rule_lists::{is_order, write_order};
 use rule_verdicts::verdict_bytes;
 use std::alloc::Global;
@@ -188,4 +192,31 @@ pub extern "C" fn ca_next_rule(
         }
         None => NO_RULE,
     }
+}
+
+/// Finds the sums of weights of words of so many letters that the rule keeps with these states, this width and
+/// this table, whose window begins at its cell, and writes them to `sums`. It gives 0, or the number of the
+/// first fault, and then `sums` is as it was. It takes no memory.
+#[unsafe(no_mangle)]
+pub extern "C" fn ca_kept_sums(
+    states: u8,
+    width: u8,
+    table: &[u8],
+    range: u8,
+    sums: &mut KeptSums,
+) -> u8
+    ensures fault { result ≡ sums_code states width table.now range }
+    ensures done { result ≡ 0 → AreKeptSums (rule_of_table states width table.now) range sums.new.rows sums.new.counts sums.new.rings }
+    ensures kept { 0 < result → sums.new ≡ sums.old }
+{
+    let made = Rule::new(states, width, 0, table);
+    let rule = match made {
+        Ok(rule) => rule,
+        Err(fault) => return fault_number(fault),
+    };
+    if let Err(fault) = check_range(states, range) {
+        return range_number(fault);
+    }
+    *sums = kept_sums(&rule, range);
+    0
 }

@@ -19,6 +19,7 @@ pub fn property_of(number: u8) -> Option<Property>
         4 => Some(Property::RightClosing),
         8 => Some(Property::LeftClosing),
         16 => Some(Property::Open),
+        32 => Some(Property::Conserving),
         _ => None,
     }
 }
