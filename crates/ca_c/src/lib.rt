@@ -30,5 +30,7 @@ mod sinks;
 mod sources;
 mod table_verdicts;
 
-pub use exports::{ca_next_rule, ca_run, ca_verdict_bytes, ca_verdicts, ca_version, ca_window_order};
+pub use exports::{
+    ca_next_rule, ca_run, ca_verdict_bytes, ca_verdicts, ca_version, ca_window_order,
+};
 pub use table_verdicts::RuleVerdicts;
