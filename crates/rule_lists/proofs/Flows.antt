@@ -1,5 +1,5 @@
 -- What a flux says of the levels of trees.
-use Rattle.std.proofs.Common.{◌≡◌, ◌≢◌, ℕ, ◌+◌, ◌/◌, ◌%◌, ◌^◌, ◌<◌, ◌≤◌, ◌⊎◌, inl, inr, ⊎_elim, List, slice_index, slice_index_or, ℤ, pos, ◌-ℤ◌, refl, sym, ap, ap₂, ◌∙◌, subst, arith}
+use Rattle.std.proofs.Common.{◌≡◌, ◌≢◌, ℕ, ◌+◌, ◌*◌, ◌/◌, ◌%◌, ◌^◌, ◌<◌, ◌≤◌, ◌⊎◌, inl, inr, ⊎_elim, List, slice_index, slice_index_or, ℤ, pos, ◌-ℤ◌, refl, sym, ap, ap₂, ◌∙◌, subst, arith}
 use Rattle.std.proofs.lemmas.Int.{ints}
 use Rattle.word_image.specs.LocalRules.{LocalRule, IsRule, node_count}
 use Rattle.word_image.specs.Rings.{IsFlux, IsConserving}

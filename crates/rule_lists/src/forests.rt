@@ -55,8 +55,9 @@ fn with_letter(shape: &Rule, letters: &Letters, window: u16, forest: &Forest) ->
     ensures known { AreKnown shape.now letters.now result.trees result.levels }
     ensures small { AreUpTo ((window + 1) * 1048576) result.levels }
 {
+    let k = shape.k();
     let letter = letters[usize::from(window)];
-    if letter >= shape.k() {
+    if letter >= k {
         return *forest;
     }
     with_window(shape, window, letter, forest)

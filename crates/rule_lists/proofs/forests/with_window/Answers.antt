@@ -7,11 +7,11 @@ use Rattle.rule_lists.proofs.forests.with_window.Goals as goal
 pub returns-then-kept-gone : goal.returns-then-kept-gone
 returns-then-kept-gone c = record { levels = λ phi gains old. old; small = λ v l. omega (arith, c.requires.small v l) }
 
-pub returns-then-rise-MOST_RISE : goal.returns-then-rise-MOST_RISE
-returns-then-rise-MOST_RISE c = record { levels = λ phi gains old. old; small = λ v l. omega (arith, c.requires.small v l) }
+pub returns-then-rise-gt-MOST_RISE : goal.returns-then-rise-gt-MOST_RISE
+returns-then-rise-gt-MOST_RISE c = record { levels = λ phi gains old. old; small = λ v l. omega (arith, c.requires.small v l) }
 
-pub returns-then-other-MOST_RISE : goal.returns-then-other-MOST_RISE
-returns-then-other-MOST_RISE c = record { levels = λ phi gains old. old; small = λ v l. omega (arith, c.requires.small v l) }
+pub returns-then-other-gt-MOST_RISE : goal.returns-then-other-gt-MOST_RISE
+returns-then-other-gt-MOST_RISE c = record { levels = λ phi gains old. old; small = λ v l. omega (arith, c.requires.small v l) }
 
 pub returns : goal.returns
 returns c =
@@ -35,5 +35,5 @@ returns c =
           refl is_rise refl is_other c.joined.ensures old;
       small = AreUpTo-joined levels c.joined.result.trees trees c.joined.result.levels
           (slice_index trees first) (slice_index levels last + c.from.result) (slice_index trees last) (slice_index levels first + c.from-2.result) w
-          (omega (arith, c.if-rise-MOST_RISE.false)) (omega (arith, c.if-other-MOST_RISE.false)) c.joined.ensures c.requires.small;
+          (omega (arith, c.if-rise-gt-MOST_RISE.false)) (omega (arith, c.if-other-gt-MOST_RISE.false)) c.joined.ensures c.requires.small;
     }
