@@ -20,7 +20,9 @@ pub(crate) fn image_values(alloc: Global, rule: &Rule, n: u16) -> Result<Vec<u16
 }
 
 /// From the images of all words of one length, those of the words that are one letter longer. The last
-/// nodes of the words come round in their order.
+/// nodes of the words come round in their order. Where it stands in line with its callers, its loop keeps what it
+/// needs on the stack, and `inverse` takes 6 in 100 more instructions.
+#[inline(never)]
 fn longer(alloc: Global, rule: &Rule, images: &[u16]) -> Result<Vec<u16>, AllocError>
     requires fits { All (λ image. image * rule.now.states + rule.now.states ≤ 65536) images.now }
     requires few { length images.now ≤ 1048576 }
