@@ -1,6 +1,5 @@
-use Rattle.std.proofs.Common.{◌≡◌, ℕ, ◌+◌, ◌/◌, ◌%◌, ◌<◌, ◌≤◌, ◌-ℤ◌, pos, slice_index, slice_index_or, refl, sym, ap, ap₂, ◌∙◌, arith}
+use Rattle.std.proofs.Common.{◌≡◌, ℕ, ◌+◌, ◌/◌, ◌%◌, ◌-ℤ◌, pos, slice_index, slice_index_or, refl, sym, ap, ap₂, ◌∙◌, arith}
 use Rattle.word_image.specs.LocalRules.{node_count}
-use Rattle.word_image.proofs.laws.RuleFaults.{window_count-le}
 use Rattle.rule_lists.proofs.Flows.{AreLevels-joined, AreUpTo-joined}
 use Rattle.rule_lists.proofs.forests.with_window.Goals as goal
 
