@@ -16,16 +16,16 @@ IsWindowOrder-fault {number} {states} {width} {code} {before} {f} fault coded =
     subst (λ (n : ℕ). IsWindowOrder number states width before n before) (sym coded) (IsWindowOrder.NoShape f (sym fault))
 
 -- the number of the fault that there isn't one byte for each window
-pub IsWindowOrder-length : {number states width i j size code : ℕ} {before : List ℕ} {property : Property} → None ≡ shape_fault states width (pos 0) → number ≡ property_number property
+pub IsWindowOrder-length : (property : Property) {number states width i j size code : ℕ} {before : List ℕ} → None ≡ shape_fault states width (pos 0) → number ≡ property_number property
     → size ≡ i ^ j → i ≡ states → j ≡ width → length before ≢ size → code ≡ 5 → IsWindowOrder number states width before code before
-IsWindowOrder-length {number} {states} {width} {i} {j} {size} {code} {before} {property} shape numbered windows same_states same_width other coded =
+IsWindowOrder-length property {number} {states} {width} {i} {j} {size} {code} {before} shape numbered windows same_states same_width other coded =
     let all : size ≡ states ^ width = windows ∙ ap₂ (λ (a b : ℕ). a ^ b) same_states same_width in
     subst (λ (n : ℕ). IsWindowOrder number states width before n before) (sym coded) (IsWindowOrder.NoLength property (sym shape) numbered (λ same. other (same ∙ sym all)))
 
 -- an order of the windows of a rule of the shape
-pub IsWindowOrder-order : {number states width i j : ℕ} {before order : List ℕ} {property : Property} → None ≡ shape_fault states width (pos 0) → number ≡ property_number property
+pub IsWindowOrder-order : (property : Property) {number states width i j : ℕ} {before order : List ℕ} → None ≡ shape_fault states width (pos 0) → number ≡ property_number property
     → i ≡ states → j ≡ width → IsOrder (i ^ j) order → IsWindowOrder number states width before 0 order
-IsWindowOrder-order {number} {states} {width} {i} {j} {before} {order} {property} shape numbered same_states same_width ordered =
+IsWindowOrder-order property {number} {states} {width} {i} {j} {before} {order} shape numbered same_states same_width ordered =
     IsWindowOrder.Order property order (sym shape) numbered (subst (λ (n : ℕ). IsOrder n order) (ap₂ (λ (a b : ℕ). a ^ b) same_states same_width) ordered)
 
 -- as many windows as those of the rule of a table
@@ -39,15 +39,15 @@ IsNext-fault {number} {states} {width} {code} {order} {begin} {before} {after} {
     subst (λ (n : ℕ). IsNext number states width order begin after before n before) (sym coded) (IsNext.NoTable f (sym fault))
 
 -- no order of all windows
-pub IsNext-no_order : {number states width size : ℕ} {order begin before : List ℕ} {after : Bool} {property : Property} → IsRule (rule_of_table states width before) → number ≡ property_number property
+pub IsNext-no_order : (property : Property) {number states width size : ℕ} {order begin before : List ℕ} {after : Bool} → IsRule (rule_of_table states width before) → number ≡ property_number property
     → size ≡ states ^ width → ¬ IsOrder size order → IsNext number states width order begin after before 11 before
-IsNext-no_order {order = order} {property = property} rule numbered windows none =
+IsNext-no_order property {order = order} rule numbered windows none =
     IsNext.NoOrder property rule numbered (λ ordered. none (subst (λ (n : ℕ). IsOrder n order) (sym windows) ordered))
 
 -- more fixed letters than all windows
-pub IsNext-no_beginning : {number states width size : ℕ} {order begin before : List ℕ} {after : Bool} {property : Property} → IsRule (rule_of_table states width before) → number ≡ property_number property
+pub IsNext-no_beginning : (property : Property) {number states width size : ℕ} {order begin before : List ℕ} {after : Bool} → IsRule (rule_of_table states width before) → number ≡ property_number property
     → size ≡ states ^ width → IsOrder size order → size < length begin → IsNext number states width order begin after before 12 before
-IsNext-no_beginning {order = order} {begin = begin} {property = property} rule numbered windows ordered more =
+IsNext-no_beginning property {order = order} {begin = begin} rule numbered windows ordered more =
     IsNext.NoBeginning property rule numbered (subst (λ (n : ℕ). IsOrder n order) windows ordered) (subst (λ (n : ℕ). n < length begin) windows more)
 
 -- a question, by the number of windows
@@ -66,7 +66,7 @@ pub IsNext-none : {number states width : ℕ} {order begin before letters : List
     → IsNext number states width order begin after before 13 before
 IsNext-none {states = states} {width = width} {order = order} {before = before} {letters = letters} {after = after} {property = property} question same fixed none =
     IsNext.NoRule property question (subst (λ (xs : List ℕ). NoneIs property states width xs (IsToCome after states order before)) fixed
-        (subst (λ (q : LocalRule). NoneIs property q.states q.width letters (IsToCome after q.states order q.table)) same none))
+    (subst (λ (q : LocalRule). NoneIs property q.states q.width letters (IsToCome after q.states order q.table)) same none))
 
 -- the table of the first rule behind that of the table before
 pub IsNext-rule : {number states width : ℕ} {order begin before letters table : List ℕ} {after : Bool} {property : Property} {last r : LocalRule} → IsQuestion property number states width order begin before
@@ -74,12 +74,5 @@ pub IsNext-rule : {number states width : ℕ} {order begin before letters table 
     → IsNext number states width order begin after before 0 table
 IsNext-rule {number} {states} {width} {order} {begin} {before} {letters} {table} {after} {property} {last} {r} question same fixed first written =
     subst (λ (t : List ℕ). IsNext number states width order begin after before 0 t) (sym written)
-        (IsNext.Rule property r question (subst (λ (xs : List ℕ). IsFirst property states width xs order (IsToCome after states order before) r) fixed
-            (subst (λ (q : LocalRule). IsFirst property q.states q.width letters order (IsToCome after q.states order q.table) r) same first)))
-
--- a listed rule has as many letters as a table of its shape
-pub length-first : (states width : ℕ) (before : List ℕ) {order letters : List ℕ} {property : Property} {From : LocalRule → Type 0} {last r : LocalRule} → IsRule (rule_of_table states width before)
-    → last ≡ rule_of_table states width before → IsFirst property last.states last.width letters order From r → length before ≡ length r.table
-length-first states width before rule same first =
-    let shape = first.listed.shape in
-    rule.entries ∙ sym (shape.rule.entries ∙ ap₂ (λ (a b : ℕ). a ^ b) (shape.states ∙ ap (λ (q : LocalRule). q.states) same) (shape.width ∙ ap (λ (q : LocalRule). q.width) same))
+    (IsNext.Rule property r question (subst (λ (xs : List ℕ). IsFirst property states width xs order (IsToCome after states order before) r) fixed
+    (subst (λ (q : LocalRule). IsFirst property q.states q.width letters order (IsToCome after q.states order q.table) r) same first)))

@@ -11,8 +11,8 @@ returns-in_default-property_of c = IsWindowOrder.NoProperty (sym c.in_default.en
 
 pub returns-then-order-from : goal.returns-then-order-from
 returns-then-order-from c =
-    IsWindowOrder-length c.in_default.ensures c.in-Some.ensures.some (c.from.ensures ∙ c.size.ensures.size) c.shape_rule-shape.ensures.states c.shape_rule-shape.ensures.width c.if-order-from.true
-        c.fault_number-then-order-from.ensures
+    IsWindowOrder-length c.in-Some.property c.in_default.ensures c.in-Some.ensures.some (c.from.ensures ∙ c.size.ensures.size) c.shape_rule-shape.ensures.states c.shape_rule-shape.ensures.width c.if-order-from.true
+    c.fault_number-then-order-from.ensures
 
 pub returns : goal.returns
-returns c = IsWindowOrder-order c.in_default.ensures c.in-Some.ensures.some c.shape_rule-shape.ensures.states c.shape_rule-shape.ensures.width c.write_order.ensures
+returns c = IsWindowOrder-order c.in-Some.property c.in_default.ensures c.in-Some.ensures.some c.shape_rule-shape.ensures.states c.shape_rule-shape.ensures.width c.write_order.ensures
