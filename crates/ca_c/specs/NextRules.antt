@@ -1,5 +1,5 @@
 -- What a call hands back of the rules of a shape that have a property.
-use Rattle.std.specs.Prelude.{◌≡◌, ◌≢◌, ℕ, ◌^◌, ◌-◌, ◌<◌, ◌≤◌, Bool, true, false, ⊤, List, ◌++◌, length, replicate, Option, Some, None, pos}
+use Rattle.std.specs.Prelude.{◌≡◌, ◌≢◌, ℕ, ◌^◌, ◌-◌, ◌<◌, ◌≤◌, Bool, true, false, ⊤, List, ◌++◌, length, replicate, Some, None, pos}
 use Rattle.word_image.specs.LocalRules.{LocalRule, IsRule}
 use Rattle.word_image.specs.RuleFaults.{rule_fault, shape_fault}
 use Rattle.word_image.specs.declared.local_rule.RuleFault.{RuleFault}
