@@ -1,5 +1,5 @@
 -- What a call hands back of the rules of a shape that have a property.
-use Rattle.std.specs.Prelude.{◌≡◌, ◌≢◌, ℕ, ◌^◌, ◌-◌, ◌<◌, ◌≤◌, Bool, true, false, ⊤, List, ◌++◌, length, replicate, Option, Some, None, pos}
+use Rattle.std.specs.Prelude.{◌≡◌, ◌≢◌, ℕ, ◌^◌, ◌-◌, ◌<◌, ◌≤◌, Bool, true, false, ⊤, List, ◌++◌, length, replicate, Some, None, pos}
 use Rattle.word_image.specs.LocalRules.{LocalRule, IsRule}
 use Rattle.word_image.specs.RuleFaults.{rule_fault, shape_fault}
 use Rattle.word_image.specs.declared.local_rule.RuleFault.{RuleFault}
@@ -34,9 +34,9 @@ IsToCome true states order table q = rank states order table < rank states order
 -- the table makes a rule, the number is that of a property, the windows are in an order, and no more letters are fixed than there are windows
 pub record IsQuestion (property : Property) (number states width : ℕ) (order begin table : List ℕ) : Type 0 where
   pub rule : IsRule (rule_of_table states width table)
-  pub number : number ≡ property_number property
-  pub order : IsOrder (states ^ width) order
-  pub begin : length begin ≤ states ^ width
+  pub numbered : number ≡ property_number property
+  pub ordered : IsOrder (states ^ width) order
+  pub within : length begin ≤ states ^ width
 
 -- the code and the table that are handed back, where the table was this before: the first line that fits
 pub data IsNext (number states width : ℕ) (order begin : List ℕ) (after : Bool) (before : List ℕ) : ℕ → List ℕ → Type 0 where

@@ -65,7 +65,7 @@ pub fn next_rule(
 
 /// Writes the letters of a rule.
 pub fn write_table(rule: &Rule, table: &mut [u8])
-    requires { length table.old ≡ rule.now.states ^ rule.now.width }
+    requires { length table.old ≡ length rule.now.table }
     ensures { table.new ≡ rule.now.table }
 {
     table.copy_from_slice(rule.table());
