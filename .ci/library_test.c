@@ -322,6 +322,7 @@ static void test_next_rule(void)
     is("an order of 27 nodes", orders_nothing(1, 3, 4, 81, CA_FAULT_NODES));
     is("an order for no property", orders_nothing(64, 2, 2, 4, CA_FAULT_PROPERTY));
     is("an order in too much room", orders_nothing(1, 2, 2, 5, CA_FAULT_LENGTH));
+}
 
 /* The sums that an elementary rule keeps. */
 static struct ca_kept_sums sums_of(int number, uint8_t range)
@@ -365,7 +366,7 @@ static int keeping(uint8_t range)
 }
 
 /* Whether a call finds no sums, and writes nothing, for this fault. */
-static bool finds_none(uint8_t states, uint8_t width, const uint8_t *table, size_t length, uint8_t range, int fault)
+static bool finds_no_sums(uint8_t states, uint8_t width, const uint8_t *table, size_t length, uint8_t range, int fault)
 {
     struct ca_kept_sums sums;
     memset(&sums, FILLING, sizeof sums);
@@ -385,14 +386,14 @@ static void test_kept_sums(void)
     is("elementary rules that keep a sum of words of 2 letters", keeping(2) == 38);
     is("elementary rules that keep a sum of words of 3 letters", keeping(3) == 66);
     is("elementary rules that keep a sum of words of 4 letters", keeping(4) == 88);
-    is("sums of one state", finds_none(1, 2, zeros, 1, 1, CA_FAULT_STATES));
-    is("sums of width 6", finds_none(2, 6, zeros, 64, 1, CA_FAULT_WIDTH));
-    is("sums of a table of seven letters", finds_none(2, 3, zeros, 7, 0, CA_FAULT_LENGTH));
-    is("sums of a letter that is too great", finds_none(2, 2, two, 4, 1, CA_FAULT_LETTER));
-    is("sums of words of no letter", finds_none(2, 3, zeros, 8, 0, CA_FAULT_RANGE));
-    is("sums of 32 words", finds_none(2, 3, zeros, 8, 5, CA_FAULT_WORDS));
-    is("sums of 27 words", finds_none(3, 2, zeros, 9, 3, CA_FAULT_WORDS));
-    is("sums of words of 255 letters", finds_none(2, 3, zeros, 8, 255, CA_FAULT_WORDS));
+    is("sums of one state", finds_no_sums(1, 2, zeros, 1, 1, CA_FAULT_STATES));
+    is("sums of width 6", finds_no_sums(2, 6, zeros, 64, 1, CA_FAULT_WIDTH));
+    is("sums of a table of seven letters", finds_no_sums(2, 3, zeros, 7, 0, CA_FAULT_LENGTH));
+    is("sums of a letter that is too great", finds_no_sums(2, 2, two, 4, 1, CA_FAULT_LETTER));
+    is("sums of words of no letter", finds_no_sums(2, 3, zeros, 8, 0, CA_FAULT_RANGE));
+    is("sums of 32 words", finds_no_sums(2, 3, zeros, 8, 5, CA_FAULT_WORDS));
+    is("sums of 27 words", finds_no_sums(3, 2, zeros, 9, 3, CA_FAULT_WORDS));
+    is("sums of words of 255 letters", finds_no_sums(2, 3, zeros, 8, 255, CA_FAULT_WORDS));
 }
 
 static void *call_often(void *right)
