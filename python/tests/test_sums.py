@@ -43,7 +43,9 @@ class Sums(unittest.TestCase):
         self.assertEqual(told.stdout, str(pairs))
 
     def test_faults(self) -> None:
-        for rule, letters in ((14, 0), (14, 5), (14, -1), (14, 1 << 70), ("3:2:0:t000000000", 3), ("5:2:0:t" + "0" * 25, 2)):
+        cases: list[tuple[int | str, int]] = [(14, 0), (14, 5), (14, -1), (14, 1 << 70), ("3:2:0:t000000000", 3),
+                                              ("5:2:0:t" + "0" * 25, 2)]
+        for rule, letters in cases:
             with self.assertRaisesRegex(ca.UsageError, "^range is 1 to "):
                 ca.kept_sums(rule, letters)
         with self.assertRaises(TypeError):
