@@ -273,6 +273,134 @@ static void call_verdicts(void)
     is("a closing rule is surjective", !(found.right || found.left) || found.surjective);
 }
 
+/* Whether a list has each window once. */
+static bool is_order(const uint8_t *order, size_t length, size_t size)
+{
+    bool seen[256] = {false};
+    for (size_t at = 0; at < length; at++) {
+        if (order[at] >= size || seen[order[at]])
+            return false;
+        seen[order[at]] = true;
+    }
+    return length == size;
+}
+
+/* Whether a table is behind another one, in an order of the windows. */
+static bool is_behind(const uint8_t *table, const uint8_t *last, const uint8_t *order, size_t size)
+{
+    for (size_t at = 0; at < size; at++)
+        if (table[order[at]] != last[order[at]])
+            return table[order[at]] > last[order[at]];
+    return false;
+}
+
+/* Whether the rule of a table has a property. */
+static bool has(int property, uint8_t states, uint8_t width, const uint8_t *table, size_t size)
+{
+    struct ca_rule_verdicts v = ca_verdicts(states, width, table, size);
+    return property == CA_BIT_SURJECTIVE ? v.surjective : property == CA_BIT_INJECTIVE ? v.injective
+        : property == CA_BIT_RIGHT ? v.right : property == CA_BIT_LEFT ? v.left : property == CA_BIT_OPEN ? v.is_open
+        : v.conserving;
+}
+
+/* What is asked of ca_next_rule. */
+struct question {
+    uint8_t property, states, width;
+    size_t size, order_length, begin_length, length;
+    uint8_t order[MOST_TABLE], begin[MOST_TABLE], table[MOST_TABLE];
+    bool after;
+};
+
+/* A question of any shape: each letter is fixed, or up to nine windows are in it, so that each answer comes soon. In one of
+ * four something is out of its range. */
+static void draw_question(struct question *q)
+{
+    q->states = (uint8_t)(2 + below(15));
+    q->width = (uint8_t)(2 + below(q->states == 2 ? 4 : q->states < 5 ? 2 : 1));
+    q->property = (uint8_t)(1u << below(6));
+    q->after = below(2) == 0;
+    q->size = 1;
+    for (int place = 0; place < q->width; place++)
+        q->size *= q->states;
+    q->order_length = q->begin_length = q->length = q->size;
+    bool open = q->size <= 9;
+    for (size_t at = 0; at < MOST_TABLE; at++) {
+        q->order[at] = (uint8_t)at;
+        q->begin[at] = (uint8_t)(open && below(3) != 0 ? q->states + below(250 - q->states) : below(q->states));
+        q->table[at] = (uint8_t)below(q->states);
+    }
+    for (size_t at = q->size - 1; at > 0; at--) {
+        size_t other = below(at + 1);
+        uint8_t window = q->order[at];
+        q->order[at] = q->order[other];
+        q->order[other] = window;
+    }
+    if (below(2) == 0)
+        ca_window_order(q->property, q->states, q->width, q->order, q->size);
+    if (open)
+        q->begin_length = below(q->size + 1);
+    if (below(4) != 0)
+        return;
+    switch (below(6)) {
+    case 0: q->property = (uint8_t)below(256); break;
+    case 1: q->order[below(q->size)] = (uint8_t)below(256); break;
+    case 2: q->order_length = below(MOST_TABLE); break;
+    case 3: q->begin_length = q->size + 1 + below(MOST_TABLE - q->size); break;
+    case 4: q->length = below(MOST_TABLE); break;
+    default: q->table[below(q->size)] = (uint8_t)below(256);
+    }
+}
+
+/* The first reason for which there is no rule but that there is no further one, as the header lists them. */
+static int reason(const struct question *q)
+{
+    int fault = fault_of(q->states, q->width, q->table, q->length);
+    if (fault != CA_FAULT_NONE)
+        return fault;
+    if (q->property == 0 || q->property > CA_BIT_CONSERVING || (q->property & (q->property - 1)) != 0)
+        return CA_FAULT_PROPERTY;
+    if (!is_order(q->order, q->order_length, q->size))
+        return CA_FAULT_ORDER;
+    return q->begin_length > q->size ? CA_FAULT_BEGIN : CA_FAULT_NONE;
+}
+
+/* A call of ca_next_rule: the reason is the first one, and what is found has the property and the fixed letters, and is
+ * behind the table; where each letter is fixed it is found if it can be. */
+static void call_next_rule(void)
+{
+    static struct question q;
+    draw_question(&q);
+    uint8_t *order = input_end - q.order_length, *begin = words_end - q.begin_length, *table = table_end - q.length;
+    memcpy(order, q.order, q.order_length);
+    memcpy(begin, q.begin, q.begin_length);
+    memcpy(table, q.table, q.length);
+    int wanted = reason(&q);
+    int code = ca_next_rule(q.property, q.states, q.width, order, q.order_length, begin, q.begin_length, q.after, table,
+                            q.length);
+    is("the order and the beginning are kept", memcmp(order, q.order, q.order_length) == 0
+                                                   && memcmp(begin, q.begin, q.begin_length) == 0);
+    if (code != CA_FAULT_NONE)
+        is("without a rule the table is kept", memcmp(table, q.table, q.length) == 0);
+    if (wanted != CA_FAULT_NONE) {
+        is("the first reason", code == wanted);
+        return;
+    }
+    is("a rule, or none", code == CA_FAULT_NONE || code == CA_FAULT_NO_RULE);
+    bool fixed = q.begin_length == q.size;
+    for (size_t at = 0; at < q.begin_length; at++) {
+        fixed = fixed && q.begin[at] < q.states;
+        if (code == CA_FAULT_NONE)
+            is("a fixed letter stands", q.begin[at] >= q.states || table[at] == q.begin[at]);
+    }
+    if (code == CA_FAULT_NONE) {
+        is("it has the property", has(q.property, q.states, q.width, table, q.size));
+        is("it is behind the table", !q.after || is_behind(table, q.table, q.order, q.size));
+    } else if (fixed) {
+        is("there is none", !has(q.property, q.states, q.width, q.begin, q.size)
+                                || (q.after && !is_behind(q.begin, q.table, q.order, q.size)));
+    }
+}
+
 static double now(void)
 {
     struct timespec time;
@@ -290,8 +418,10 @@ int main(int argc, char **argv)
     table_end = fence(MOST_TABLE);
     while (now() < end) {
         call_run();
-        for (int call = 0; call < 8; call++)
+        for (int call = 0; call < 8; call++) {
             call_verdicts();
+            call_next_rule();
+        }
     }
     printf("%lu passed, %lu failed\n", passed, failed);
     return failed != 0;

@@ -226,6 +226,176 @@ static void test_verdict_bytes(void)
     is("no bytes", writes_nothing(7, 7, 0, 0, 0, CA_FAULT_NONE));
 }
 
+/* How many rules ca_next_rule finds one after another that begin so, each of a greater rank than the one before, and each
+ * with the property by ca_verdicts; -1 where one isn't so, or the calls end in another way. */
+static int rules(int property, uint8_t states, uint8_t width, const uint8_t *begin, size_t given)
+{
+    uint8_t order[256], table[256] = {0}, last[256];
+    size_t size = 1;
+    int count = 0;
+    for (int place = 0; place < width; place++)
+        size *= states;
+    if (ca_window_order((uint8_t)property, states, width, order, size) != CA_FAULT_NONE)
+        return -1;
+    for (;; count++) {
+        memcpy(last, table, size);
+        int code = ca_next_rule((uint8_t)property, states, width, order, size, begin, given, count > 0, table, size);
+        if (code != CA_FAULT_NONE)
+            return code == CA_FAULT_NO_RULE && memcmp(last, table, size) == 0 ? count : -1;
+        size_t first = 0;
+        while (first < size && last[order[first]] == table[order[first]])
+            first++;
+        if (count > 0 && (first == size || last[order[first]] > table[order[first]]))
+            return -1;
+        struct ca_rule_verdicts v = ca_verdicts(states, width, table, size);
+        int bits = v.surjective * CA_BIT_SURJECTIVE + v.injective * CA_BIT_INJECTIVE + v.right * CA_BIT_RIGHT
+            + v.left * CA_BIT_LEFT + v.is_open * CA_BIT_OPEN + v.conserving * CA_BIT_CONSERVING;
+        if (v.fault != CA_FAULT_NONE || !(bits & property))
+            return -1;
+        for (size_t at = 0; at < given; at++)
+            if (begin[at] < states && table[at] != begin[at])
+                return -1;
+    }
+}
+
+/* Whether each property of a shape, in the order of their bits, is that of so many rules. */
+static bool lists(uint8_t states, uint8_t width, const int *said)
+{
+    for (int bit = 0; bit < 6; bit++)
+        if (rules(1 << bit, states, width, (const uint8_t *)"", 0) != said[bit])
+            return false;
+    return true;
+}
+
+/* Whether a call finds no rule, for this reason, and writes nothing. */
+static bool finds_none(int property, uint8_t states, uint8_t width, const uint8_t *order, size_t order_length,
+                       size_t given, uint8_t letter, size_t length, int reason)
+{
+    uint8_t table[ROOM];
+    memset(table, letter, sizeof table);
+    int code = ca_next_rule((uint8_t)property, states, width, order, order_length, (const uint8_t *)"\0\0\0\0\0", given,
+                            false, table, length);
+    for (size_t at = 0; at < sizeof table; at++)
+        if (table[at] != letter)
+            return false;
+    return code == reason;
+}
+
+/* Whether no order is written, for this reason. */
+static bool orders_nothing(int property, uint8_t states, uint8_t width, size_t length, int reason)
+{
+    uint8_t order[ROOM];
+    memset(order, FILLING, sizeof order);
+    return ca_window_order((uint8_t)property, states, width, order, length) == reason
+        && is_kept(order, 0, sizeof order);
+}
+
+static void test_next_rule(void)
+{
+    static const int elementary[6] = {30, 6, 22, 22, 14, 5};
+    static const int width_4[6] = {582, 16, 314, 314, 46, 22};
+    static const int three_states[6] = {420, 48, 240, 240, 60, 4};
+    static const uint8_t zero[1] = {0}, one[1] = {1}, shifts[8] = {0, 1, 0, 1, 0, 1, 0, 1}, last_is_0[4] = {9, 9, 9, 0};
+    static const uint8_t by_value[4] = {0, 1, 2, 3}, twice[4] = {0, 1, 1, 3}, past[4] = {0, 1, 2, 4};
+    is("lists of 2 states and width 3", lists(2, 3, elementary));
+    is("lists of 2 states and width 4", lists(2, 4, width_4));
+    is("lists of 3 states and width 2", lists(3, 2, three_states));
+    is("the injective rules that begin with 0", rules(CA_BIT_INJECTIVE, 2, 3, zero, 1) == 3);
+    is("the injective rules that begin with 1", rules(CA_BIT_INJECTIVE, 2, 3, one, 1) == 3);
+    is("the one that shifts", rules(CA_BIT_INJECTIVE, 2, 3, shifts, 8) == 1);
+    is("the surjective rules that end in 0, by a letter behind three open windows",
+       rules(CA_BIT_SURJECTIVE, 2, 2, last_is_0, 4) == 3);
+    is("rules of one state", finds_none(1, 1, 2, by_value, 4, 0, 0, 4, CA_FAULT_STATES));
+    is("rules of width 6", finds_none(1, 2, 6, by_value, 4, 0, 0, 64, CA_FAULT_WIDTH));
+    is("rules of 27 nodes", finds_none(1, 3, 4, by_value, 4, 0, 0, 81, CA_FAULT_NODES));
+    is("a table of three letters", finds_none(1, 2, 2, by_value, 4, 0, 0, 3, CA_FAULT_LENGTH));
+    is("a table with a letter that is too great", finds_none(1, 2, 2, by_value, 4, 0, 2, 4, CA_FAULT_LETTER));
+    is("no property", finds_none(0, 2, 2, by_value, 4, 0, 0, 4, CA_FAULT_PROPERTY));
+    is("two properties", finds_none(3, 2, 2, by_value, 4, 0, 0, 4, CA_FAULT_PROPERTY));
+    is("an order of three windows", finds_none(1, 2, 2, by_value, 3, 0, 0, 4, CA_FAULT_ORDER));
+    is("an order with a window twice", finds_none(1, 2, 2, twice, 4, 0, 0, 4, CA_FAULT_ORDER));
+    is("an order with a window that there isn't", finds_none(1, 2, 2, past, 4, 0, 0, 4, CA_FAULT_ORDER));
+    is("five letters for four windows", finds_none(1, 2, 2, by_value, 4, 5, 0, 4, CA_FAULT_BEGIN));
+    is("a beginning that no rule has", finds_none(2, 2, 2, by_value, 4, 4, 0, 4, CA_FAULT_NO_RULE));
+    is("an order of one state", orders_nothing(1, 1, 2, 1, CA_FAULT_STATES));
+    is("an order of width 6", orders_nothing(1, 2, 6, 64, CA_FAULT_WIDTH));
+    is("an order of 27 nodes", orders_nothing(1, 3, 4, 81, CA_FAULT_NODES));
+    is("an order for no property", orders_nothing(64, 2, 2, 4, CA_FAULT_PROPERTY));
+    is("an order in too much room", orders_nothing(1, 2, 2, 5, CA_FAULT_LENGTH));
+}
+
+/* The sums that an elementary rule keeps. */
+static struct ca_kept_sums sums_of(int number, uint8_t range)
+{
+    uint8_t table[8];
+    struct ca_kept_sums sums;
+    for (int window = 0; window < 8; window++)
+        table[window] = number >> window & 1;
+    if (ca_kept_sums(2, 3, table, sizeof table, range, &sums) != CA_FAULT_NONE)
+        abort();
+    return sums;
+}
+
+/* Whether there is a row in a place, with 1 there and else zeros. */
+static bool has_unit(const struct ca_kept_sums *sums, int place)
+{
+    for (int word = 0; word < 16; word++)
+        if (sums->rows[place][word] != (word == place))
+            return false;
+    return sums->counts[place] == 0;
+}
+
+/* Whether there is the ring of the one letter 1 in a place. */
+static bool has_ring_1(const struct ca_kept_sums *sums, int place)
+{
+    return sums->counts[place] == 1 && sums->rings[place][0] == 1 && sums->rows[place][place] == 0;
+}
+
+/* How many elementary rules keep a sum of words of so many letters that isn't trivial. */
+static int keeping(uint8_t range)
+{
+    int rules = 0;
+    for (int number = 0; number < 256; number++) {
+        struct ca_kept_sums sums = sums_of(number, range);
+        int rows = 0;
+        for (int place = 0; place < 16; place++)
+            rows += sums.rows[place][place] > 0;
+        rules += rows > 0;
+    }
+    return rules;
+}
+
+/* Whether a call finds no sums, and writes nothing, for this fault. */
+static bool finds_no_sums(uint8_t states, uint8_t width, const uint8_t *table, size_t length, uint8_t range, int fault)
+{
+    struct ca_kept_sums sums;
+    memset(&sums, FILLING, sizeof sums);
+    return ca_kept_sums(states, width, table, length, range, &sums) == fault
+        && is_kept((const uint8_t *)&sums, 0, sizeof sums);
+}
+
+static void test_kept_sums(void)
+{
+    static const uint8_t zeros[64];
+    static const uint8_t two[4] = {0, 1, 1, 2};
+    struct ca_kept_sums cars = sums_of(184, 1), letters = sums_of(14, 1), words = sums_of(14, 2);
+    is("rule 184 keeps the number of 1", has_unit(&cars, 1));
+    is("rule 14 keeps no sum of letters", has_ring_1(&letters, 1));
+    is("rule 14 keeps the number of 10", has_unit(&words, 2) && has_ring_1(&words, 3));
+    is("elementary rules that keep a sum of letters", keeping(1) == 5);
+    is("elementary rules that keep a sum of words of 2 letters", keeping(2) == 38);
+    is("elementary rules that keep a sum of words of 3 letters", keeping(3) == 66);
+    is("elementary rules that keep a sum of words of 4 letters", keeping(4) == 88);
+    is("sums of one state", finds_no_sums(1, 2, zeros, 1, 1, CA_FAULT_STATES));
+    is("sums of width 6", finds_no_sums(2, 6, zeros, 64, 1, CA_FAULT_WIDTH));
+    is("sums of a table of seven letters", finds_no_sums(2, 3, zeros, 7, 0, CA_FAULT_LENGTH));
+    is("sums of a letter that is too great", finds_no_sums(2, 2, two, 4, 1, CA_FAULT_LETTER));
+    is("sums of words of no letter", finds_no_sums(2, 3, zeros, 8, 0, CA_FAULT_RANGE));
+    is("sums of 32 words", finds_no_sums(2, 3, zeros, 8, 5, CA_FAULT_WORDS));
+    is("sums of 27 words", finds_no_sums(3, 2, zeros, 9, 3, CA_FAULT_WORDS));
+    is("sums of words of 255 letters", finds_no_sums(2, 3, zeros, 8, 255, CA_FAULT_WORDS));
+}
+
 static void *call_often(void *right)
 {
     for (int call = 0; call < CALLS; call++)
@@ -251,12 +421,15 @@ int main(void)
 {
     is("the version", ca_version() == CA_VERSION);
     is("the size of the verdicts", sizeof(struct ca_rule_verdicts) == 7);
+    is("the size of the sums", sizeof(struct ca_kept_sums) == 16 * 16 * 8 + 16 + 16 * 15);
     test_commands();
     test_words();
     test_room();
     test_input();
     test_verdicts();
     test_verdict_bytes();
+    test_next_rule();
+    test_kept_sums();
     test_threads();
     printf("%d passed, %d failed\n", passed, failed);
     return failed != 0;

@@ -55,19 +55,28 @@ enum ca_code {
     CA_SHORT = CA_CODE_SHORT
 };
 
-/* Why ca_verdicts or ca_verdict_bytes gives no verdicts: the first that holds. */
+/* Why a call gives no verdicts, no order, no rule or no sums: the first that holds. */
 enum ca_fault {
-    CA_FAULT_NONE = 0,   /* there are verdicts */
+    CA_FAULT_NONE = 0,   /* it gives them */
     CA_FAULT_STATES = 1, /* there are not 2 to 16 states */
     CA_FAULT_WIDTH = 2,  /* the width is not 2 to 5 */
     CA_FAULT_NODES = 3,  /* there are more than 16 words of width - 1 letters */
-    CA_FAULT_LENGTH = 5, /* the table has not one letter for each window */
+    CA_FAULT_LENGTH = 5, /* the table, or the order, has not one byte for each window */
     CA_FAULT_LETTER = 6, /* a letter of the table is not below states */
     CA_FAULT_KIND = 7,   /* there are more than six states, so rules have no numbers */
-    CA_FAULT_NUMBER = 8  /* a number has no rule */
+    CA_FAULT_NUMBER = 8, /* a number has no rule */
+
+    CA_FAULT_PROPERTY = 10, /* the property is none */
+    CA_FAULT_ORDER = 11,    /* the order has not each window once */
+    CA_FAULT_BEGIN = 12,    /* more letters are fixed than there are windows */
+    CA_FAULT_NO_RULE = 13,  /* there is no further rule */
+
+    CA_FAULT_RANGE = 14, /* words of no letter */
+    CA_FAULT_WORDS = 15  /* there are more than 16 words of so many letters */
 };
 
-/* What the byte of a rule is the sum of: those that hold, in the words of struct ca_rule_verdicts. */
+/* What the byte of a rule is the sum of: those that hold, in the words of struct ca_rule_verdicts. For ca_window_order and
+ * ca_next_rule each is a property. */
 enum ca_bit {
     CA_BIT_SURJECTIVE = 1,
     CA_BIT_INJECTIVE = 2,
@@ -86,6 +95,19 @@ struct ca_rule_verdicts {
     bool left;       /* no two that agree on the right do: the rule is left-closing */
     bool is_open;    /* both of these: the rule is open */
     bool conserving; /* every ring keeps the sum of its letters */
+};
+
+/*
+ * The sums that a rule keeps, of weights of words of range letters.
+ *
+ * A word stands at its value, the number whose digits in base states are its letters, the leftmost the most
+ * significant. The place of a word that doesn't begin with 0 has a row or a ring, every other place neither.
+ */
+struct ca_kept_sums {
+    int64_t rows[16][16];  /* the weights of the words, where there is a row: its first number that isn't 0
+                              stands at its own place, is positive, and is 0 in all other rows; else zeros */
+    uint8_t counts[16];    /* how many letters the ring has, where there is one; else 0 */
+    uint8_t rings[16][15]; /* so many letters, and others after them */
 };
 
 /* The version of the interface that was linked. */
@@ -136,6 +158,59 @@ struct ca_rule_verdicts ca_verdicts(uint8_t states, uint8_t width, const uint8_t
  */
 uint8_t ca_verdict_bytes(uint8_t states, uint8_t width, uint64_t first_high, uint64_t first_low,
                          uint8_t *bytes, size_t bytes_length);
+
+/*
+ * Writes an order of the windows in which ca_next_rule soon finds the rules of a shape that have a property, and takes no
+ * memory.
+ *
+ * The property is an enum ca_bit. order has room for one byte for each window, states to the power of width of them, and
+ * the windows are written by their values. The order is the same in every call, and that of docs/LISTS.md.
+ *
+ * It gives CA_FAULT_NONE, or CA_FAULT_STATES, CA_FAULT_WIDTH, CA_FAULT_NODES, CA_FAULT_PROPERTY or CA_FAULT_LENGTH, the
+ * first that holds; the bytes are then as they were.
+ */
+uint8_t ca_window_order(uint8_t property, uint8_t states, uint8_t width, uint8_t *order,
+                        size_t order_length);
+
+/*
+ * Finds the next rule of a shape that has a property, and takes no memory.
+ *
+ * Rules ascend by the letters of their tables, read in the order of the windows that the caller gives: that of
+ * ca_window_order or any other that has each window once. Where after is 0 it finds the first rule, and else the first
+ * one behind the table that is handed in; that table need not have the property. So each rule is found once by
+ *
+ *     uint8_t order[27], table[27] = {0};
+ *     ca_window_order(CA_BIT_INJECTIVE, 3, 3, order, 27);
+ *     for (int after = 0; ca_next_rule(CA_BIT_INJECTIVE, 3, 3, order, 27, order, 0, after, table, 27)
+ *                         == CA_FAULT_NONE; after = 1)
+ *         print(table);
+ *
+ * Only rules are found that have the first begin_length letters of begin at the windows of the same places; a byte that is
+ * not below states leaves its window open. So a shape can be asked for in parts, side by side.
+ *
+ * table has a letter for each window, each below states, before the call too, whatever they are for the first rule. It
+ * gives CA_FAULT_NONE, and then table has the rule's; or CA_FAULT_STATES, CA_FAULT_WIDTH, CA_FAULT_NODES,
+ * CA_FAULT_LENGTH, CA_FAULT_LETTER, CA_FAULT_PROPERTY, CA_FAULT_ORDER, CA_FAULT_BEGIN or CA_FAULT_NO_RULE, the first that
+ * holds; table is then as it was. How long a call takes is docs/LISTS.md's; many shapes have no end in sight.
+ */
+uint8_t ca_next_rule(uint8_t property, uint8_t states, uint8_t width, const uint8_t *order,
+                     size_t order_length, const uint8_t *begin, size_t begin_length, uint8_t after,
+                     uint8_t *table, size_t table_length);
+
+/*
+ * Finds all sums that a rule keeps, and takes no memory. The rule is that of ca_verdicts.
+ *
+ * A sum weighs each word of range letters by an integer, and adds up on a ring the weights of the words that begin
+ * at each place. It is kept where each ring, however long, has the sum of its image. A multiple of each sum that
+ * is kept is a sum of integer multiples of the rows and of a trivial one, which every rule keeps: it weighs a
+ * word c + phi(its first range - 1 letters) - phi(its last range - 1 letters), for a number c and a function phi, and
+ * comes to c times the number of letters. The rings show that there are no more: that is so of each sum that they keep.
+ *
+ * It gives CA_FAULT_NONE, or CA_FAULT_STATES to CA_FAULT_NODES, CA_FAULT_LENGTH, CA_FAULT_LETTER, CA_FAULT_RANGE or
+ * CA_FAULT_WORDS, the first that holds; *sums is then as it was.
+ */
+uint8_t ca_kept_sums(uint8_t states, uint8_t width, const uint8_t *table, size_t table_length, uint8_t range,
+                     struct ca_kept_sums *sums);
 
 #ifdef __cplusplus
 }

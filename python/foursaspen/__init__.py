@@ -5,7 +5,8 @@
     '01010'
 
 Each command of the program is a function of its name, in foursaspen.commands; docs/PYTHON.md of the repository
-shows them, and `verdict_bytes` (foursaspen.bits) decides many rules with consecutive numbers, a byte for each. Answers
+shows them, `verdict_bytes` (foursaspen.bits) decides many rules with consecutive numbers, a byte for each, and `kept_sums`
+(foursaspen.sums) finds all sums that a rule keeps. Answers
 are frozen dataclasses (foursaspen.report), everything else is an exception (foursaspen.faults). The work is done by a
 library that is proved; this package is not, and only hands over words and reads lines.
 """
@@ -17,20 +18,22 @@ from .faults import (Fault, FoursaspenError, LibraryMissing, LibraryMissingError
                      OutOfMemoryError, Refused, RefusedError, RuleError, RuleFault, TooLong, TooLongError, UsageError,
                      UsageFault, WordsError, WordsFault)
 from .library import Outcome, keep_freed_memory
+from .lists import Listing, rules
 from .operands import Rule, Weights
 from .pictures import picture
 from .report import (Answer, Certificate, ClassSummary, Closing, Gap, Inverse, Language, Pair, Preimage, Report, Same,
                      Split, Summary, Tail, Verdicts, Window)
+from .sums import KeptSums, kept_sums
 from .surveys import Progress, survey_over
 
 __version__ = "2"
 __all__ = [
     "Answer", "Bit", "Certificate", "ClassSummary", "Closing", "Fault", "FoursaspenError", "Gap", "Inverse",
-    "Language", "LibraryMissing", "LibraryMissingError", "NotFit", "NotFitError", "OutOfMemory", "OutOfMemoryError",
-    "Outcome", "Pair", "Picture", "Preimage", "Progress", "Refused", "RefusedError", "Report", "Rule", "RuleError",
-    "RuleFault", "Same", "Split", "Summary", "Tail", "TooLong", "TooLongError", "UsageError", "UsageFault",
+    "KeptSums", "Language", "LibraryMissing", "LibraryMissingError", "Listing", "NotFit", "NotFitError", "OutOfMemory",
+    "OutOfMemoryError", "Outcome", "Pair", "Picture", "Preimage", "Progress", "Refused", "RefusedError", "Report", "Rule",
+    "RuleError", "RuleFault", "Same", "Split", "Summary", "Tail", "TooLong", "TooLongError", "UsageError", "UsageFault",
     "Verdicts", "Weights", "Window", "WordsError", "WordsFault", "brief", "certify", "check", "classes", "compose",
-    "decide", "erase", "inverse", "keep_freed_memory", "language", "least", "lift", "number", "orphan", "permute",
-    "picture", "preimage", "reflect", "run", "same", "sample", "shift", "survey", "survey_over", "trim", "unlift",
-    "verdict_bytes", "verdicts", "widen",
+    "decide", "erase", "inverse", "keep_freed_memory", "kept_sums", "language", "least", "lift", "number", "orphan",
+    "permute", "picture", "preimage", "reflect", "rules", "run", "same", "sample", "shift", "survey", "survey_over",
+    "trim", "unlift", "verdict_bytes", "verdicts", "widen",
 ]

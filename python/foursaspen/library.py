@@ -40,6 +40,12 @@ class RuleVerdicts(ctypes.Structure):
         "surjective", "injective", "right", "left", "is_open", "conserving"))]
 
 
+class KeptTable(ctypes.Structure):
+    """The sums that a rule keeps: struct ca_kept_sums."""
+    _fields_ = [("rows", (ctypes.c_int64 * 16) * 16), ("counts", ctypes.c_uint8 * 16),
+                ("rings", (ctypes.c_uint8 * 15) * 16)]
+
+
 class Outcome(NamedTuple):
     """What the program comes to: the code of its status, and what it prints."""
     code: int
@@ -55,6 +61,9 @@ class Library:
             self._run = loaded.ca_run
             self._verdicts = loaded.ca_verdicts
             self._verdict_bytes = loaded.ca_verdict_bytes
+            self._window_order = loaded.ca_window_order
+            self._next_rule = loaded.ca_next_rule
+            self._kept_sums = loaded.ca_kept_sums
             version = int(loaded.ca_version())
         except (OSError, AttributeError) as fault:
             raise LibraryMissingError(f"the library can't be loaded: {fault}; {ADVICE}") from fault
@@ -68,6 +77,12 @@ class Library:
         self._verdicts.restype = RuleVerdicts
         self._verdict_bytes.argtypes = [byte, byte, word, word, text, size]
         self._verdict_bytes.restype = byte
+        self._window_order.argtypes = [byte, byte, byte, text, size]
+        self._window_order.restype = byte
+        self._next_rule.argtypes = [byte, byte, byte, text, size, text, size, byte, text, size]
+        self._next_rule.restype = byte
+        self._kept_sums.argtypes = [byte, byte, text, size, byte, ctypes.POINTER(KeptTable)]
+        self._kept_sums.restype = byte
         self._rooms = threading.local()
         self.path = path
 
@@ -98,6 +113,30 @@ class Library:
         """Fills the room with the bytes of rules with consecutive numbers; gives 0, or the number of the first fault.
         Other threads run meanwhile."""
         return int(self._verdict_bytes(states, width, first >> 64, first & WORD, room, len(room)))
+
+    def window_order(self, property: int, states: int, width: int) -> bytes:
+        """The order of the windows in which the rules of a shape with a property are soon found."""
+        room = ctypes.create_string_buffer(states ** width)
+        fault = self._window_order(property, states, width, room, len(room))
+        if fault:
+            raise AssertionError(f"ca_window_order gives {fault}")
+        return room.raw
+
+    def next_rule(self, property: int, states: int, width: int, order: bytes, begin: bytes, after: bool,
+                  table: bytes) -> tuple[int, bytes]:
+        """0, and the table of the first rule of a shape with a property and the letters that are fixed, or of the first
+        one after this table; else why there is none, and the same table. Other threads run meanwhile."""
+        room = ctypes.create_string_buffer(table, len(table))
+        fault = self._next_rule(property, states, width, order, len(order), begin, len(begin), after, room, len(room))
+        return int(fault), room.raw
+
+    def kept_sums(self, states: int, width: int, table: bytes, letters: int) -> KeptTable:
+        """The sums of weights of words of so many letters that the rule with this table keeps. Other threads run
+        meanwhile."""
+        found = KeptTable()
+        fault = int(self._kept_sums(states, width, table, len(table), letters, ctypes.byref(found)))
+        assert not fault, fault                 # the table is a rule's, and the number of letters has been looked at
+        return found
 
 
 def keep_freed_memory() -> None:

@@ -103,10 +103,10 @@ def part(states: int, width: int, first: int, count: int) -> Summary:
     return sum(calls, Summary())
 
 
-def bar_of(of: int, done: int) -> Any:
+def bar_of(of: int, done: int, unit: str = " rules") -> Any:
     """A bar of tqdm; None where it isn't installed."""
     try:
-        return importlib.import_module("tqdm").tqdm(total=of, initial=done, unit=" rules", unit_scale=True)
+        return importlib.import_module("tqdm").tqdm(total=of, initial=done, unit=unit, unit_scale=True)
     except ImportError:
         return None
 

@@ -3,3 +3,5 @@ pub mod Calls
 pub mod Verdicts
 pub mod Examples
 pub mod NumberedVerdicts
+pub mod NextRules
+pub mod RuleSums

@@ -1,19 +1,26 @@
 //! The functions that C calls.
-ghost use Rattle.std.specs.Prelude.{◌≡◌, ◌≢◌, ◌+◌, ◌*◌, ◌^◌, ◌<◌, ◌≤◌, length, pos};
+ghost use Rattle.std.specs.Prelude.{◌≡◌, ◌≢◌, ◌+◌, ◌*◌, ◌^◌, ◌<◌, ◌≤◌, ◌==◌, not, length, pos};
 ghost use Rattle.word_image.specs.RuleFaults.{rule_fault};
 ghost use Rattle.cert_check.specs.Accepted.{AreTrue, is_open};
 ghost use Rattle.ca_c.specs.Calls.{IsHandedBack};
 ghost use Rattle.rule_verdicts.specs.Numbers.{numbers_fault, AreVerdictBytes};
 ghost use Rattle.ca_c.specs.NumberedVerdicts.{number_code};
+ghost use Rattle.kept_sums.specs.Stages.{AreKeptSums};
+ghost use Rattle.ca_c.specs.RuleSums.{sums_code};
 ghost use Rattle.ca_c.specs.Verdicts.{AreNone, fault_code, rule_of_table, verdicts_about};
+ghost use Rattle.ca_c.specs.NextRules.{IsNext, IsWindowOrder};
 
 use crate::calls::{CallFault, call, put};
+use crate::next_rules::{letters_of, next_rule, property_of, shape_rule, write_table};
 use crate::numbered_verdicts::{joined, number_of};
-use crate::table_verdicts::RuleVerdicts;
+use crate::rule_sums::range_number;
+use crate::table_verdicts::{RuleVerdicts, fault_number};
 use ca_cli::Status;
+use kept_sums::{KeptSums, check_range, kept_sums};
+use rule_lists::{is_order, write_order};
 use rule_verdicts::verdict_bytes;
 use std::alloc::Global;
-use word_image::Rule;
+use word_image::{Rule, RuleFault, check_shape};
 
 /// The version of the interface.
 const VERSION: u32 = 1;
@@ -23,6 +30,21 @@ const NO_WORDS: u8 = 9;
 
 /// The code where the buffer is too short.
 const SHORT: u8 = 10;
+
+/// The code where a rule or an order is handed back.
+const FOUND: u8 = 0;
+
+/// The code where a number stands for no property.
+const NO_PROPERTY: u8 = 10;
+
+/// The code where windows are in no order.
+const NO_ORDER: u8 = 11;
+
+/// The code where more letters are fixed than there are windows.
+const NO_BEGINNING: u8 = 12;
+
+/// The code where there is no further rule.
+const NO_RULE: u8 = 13;
 
 /// The version of the interface: which functions there are, and what they take and give.
 #[unsafe(no_mangle)]
@@ -110,4 +132,91 @@ pub extern "C" fn ca_verdict_bytes(
         Ok(()) => 0,
         Err(fault) => number_of(fault),
     }
+}
+
+/// Writes an order of the windows of a shape, in which the rules with a property are soon found. The property is the number
+/// of its bit in a byte of verdicts. It gives 0, or the number of the first fault, and then the bytes are as they were. It
+/// takes no memory.
+#[unsafe(no_mangle)]
+pub extern "C" fn ca_window_order(property: u8, states: u8, width: u8, order: &mut [u8]) -> u8
+    ensures { IsWindowOrder property states width order.old result order.new }
+{
+    if let Err(fault) = check_shape(states, width, 0) {
+        return fault_number(fault);
+    }
+    let Some(property) = property_of(property) else {
+        return NO_PROPERTY;
+    };
+    let shape = shape_rule(states, width);
+    if order.len() != usize::from(shape.size()) {
+        return fault_number(RuleFault::Length);
+    }
+    write_order(property, &shape, order);
+    FOUND
+}
+
+/// Finds the next rule of a shape that has a property: the one whose table has the least rank in this order of the windows,
+/// or where `after` isn't 0 the least rank that is greater than that of the table before, among those that have each letter of
+/// `begin` at the window of its place. A letter that isn't below the states leaves its window open. It gives 0 and writes the
+/// table of the rule; 13 where there is none, or the number of the first fault, and then the table is as it was. It takes no
+/// memory.
+#[unsafe(no_mangle)]
+pub extern "C" fn ca_next_rule(
+    property: u8,
+    states: u8,
+    width: u8,
+    order: &[u8],
+    begin: &[u8],
+    after: u8,
+    table: &mut [u8],
+) -> u8
+    ensures { IsNext property states width order.now begin.now (not (after == 0)) table.old result table.new }
+{
+    let last = match Rule::new(states, width, 0, table) {
+        Ok(rule) => rule,
+        Err(fault) => return fault_number(fault),
+    };
+    let Some(property) = property_of(property) else {
+        return NO_PROPERTY;
+    };
+    if !is_order(last.size(), order) {
+        return NO_ORDER;
+    }
+    if begin.len() > usize::from(last.size()) {
+        return NO_BEGINNING;
+    }
+    match next_rule(property, &letters_of(begin), order, after != 0, &last) {
+        Some(rule) => {
+            write_table(&rule, table);
+            FOUND
+        }
+        None => NO_RULE,
+    }
+}
+
+/// Finds the sums of weights of words of so many letters that the rule keeps with these states, this width and
+/// this table, whose window begins at its cell, and writes them to `sums`. It gives 0, or the number of the
+/// first fault, and then `sums` is as it was. It takes no memory.
+#[unsafe(no_mangle)]
+pub extern "C" fn ca_kept_sums(
+    states: u8,
+    width: u8,
+    table: &[u8],
+    range: u8,
+    sums: &mut KeptSums,
+) -> u8
+    ensures fault { result ≡ sums_code states width table.now range }
+    ensures done { result ≡ 0 → AreKeptSums (rule_of_table states width table.now) range sums.new.rows sums.new.counts sums.new.rings }
+    ensures kept { 0 < result → sums.new ≡ sums.old }
+{
+    let made = Rule::new(states, width, 0, table);
+    let rule = match made {
+        Ok(rule) => rule,
+        Err(fault) => return fault_number(fault),
+    };
+    if let Err(fault) = check_range(states, range) {
+        return range_number(fault);
+    }
+    *sums = kept_sums(&rule, range);
+    0
 }

@@ -51,7 +51,7 @@ impl RuleVerdicts {
         ensures none { AreNone result }
     {
         RuleVerdicts {
-            fault: number_of(fault),
+            fault: fault_number(fault),
             surjective: false,
             injective: false,
             right: false,
@@ -63,7 +63,7 @@ impl RuleVerdicts {
 }
 
 /// The number that stands for a fault.
-fn number_of(fault: RuleFault) -> u8
+pub fn fault_number(fault: RuleFault) -> u8
     ensures { result ≡ fault_code (Some fault) }
 {
     match fault {

@@ -24,8 +24,8 @@
 //!
 //! For k states and N nodes the claims take time **O(N²·k²)**, and so do listed pairs, with **O(s)** for s
 //! of them. Of s listed sets, of which d are different, the check takes **O(s + d·k·N)**, and from version
-//! 2 on **O(2^N)** besides; an orphan of n letters takes **O(n·N)**, twins and a ring **O(n·m)**. No
-//! condition takes memory.
+//! 2 on **O(2^N)** besides; up to 256 sets are looked at one by one, in **O(s·k·(s + N))**. An orphan of n
+//! letters takes **O(n·N)**, twins and a ring **O(n·m)**. No condition takes memory.
 #![tactic(auto)]
 
 mod aheads;

@@ -1,10 +1,10 @@
 //! Listed sets that prove a rule surjective.
 
-ghost use Rattle.std.specs.Prelude.{◌≢◌, ◌<◌, ℕ, List, length, slice_index, MatchOption};
+ghost use Rattle.std.specs.Prelude.{◌≢◌, ◌<◌, ℕ, List, length, slice_index, MatchOption, ◌↔◌, IsTrue};
 ghost use Rattle.word_image.specs.Graphs.{full_set};
 ghost use Rattle.word_image.specs.Edges.{AreEdgeRows};
 ghost use Rattle.cert_check.specs.Breaches.{EachBelow, IsFirstBreach};
-ghost use Rattle.cert_check.specs.Sets.{StepIsKept};
+ghost use Rattle.cert_check.specs.Sets.{HasPart, IsKept, StepIsKept};
 ghost use Rattle.cert_check.specs.Rows.{AreKept};
 ghost use Rattle.cert_check.specs.Checks.{IsChecked, FirstBreach};
 
@@ -13,6 +13,10 @@ use crate::marks::Marks;
 use crate::refusal::Refusal;
 use cert_format::{Cert, CertVersion, SurjectivePart};
 use word_image::{EdgeRows, Rule, Side, edge_rows, step};
+
+/// The most listed sets that are all looked at for each step. With more, marks on the sets that contain a
+/// listed one take less: they are made once, by a look at each of 65,536 sets.
+const FEW: usize = 256;
 
 /// Whether the full set is listed.
 pub fn full_listed(cert: &Cert) -> Result<(), Refusal>
@@ -86,6 +90,9 @@ fn first_open(
         (λ (i, a). IsFirstBreach (length sets.now) (λ i. EachBelow rule.now.states (StepIsKept version rule.now sets.now (slice_index sets.now i))) i
         × IsFirstBreach rule.now.states (StepIsKept version rule.now sets.now (slice_index sets.now i)) a) }
 {
+    if sets.len() <= FEW {
+        return first_open_of_few(version, rule, edges, sets);
+    }
     let kept = Marks::kept(version, rule.all_nodes(), sets);
     let mut closed = Marks::new();
     for (place, set) in sets.iter().enumerate() {
@@ -111,4 +118,66 @@ fn first_not_kept(rule: &Rule, edges: &EdgeRows, kept: &Marks, set: u16) -> Opti
         }
     }
     None
+}
+
+/// The place and the letter of that step, by a look at each listed set for each step.
+fn first_open_of_few(
+    version: CertVersion,
+    rule: &Rule,
+    edges: &EdgeRows,
+    sets: &[u16],
+) -> Option<(usize, u8)>
+    requires { AreEdgeRows Side.Right rule.now edges.now }
+    ensures { MatchOption result
+        (EachBelow (length sets.now) (λ i. EachBelow rule.now.states (StepIsKept version rule.now sets.now (slice_index sets.now i))))
+        (λ (i, a). IsFirstBreach (length sets.now) (λ i. EachBelow rule.now.states (StepIsKept version rule.now sets.now (slice_index sets.now i))) i
+        × IsFirstBreach rule.now.states (StepIsKept version rule.now sets.now (slice_index sets.now i)) a) }
+{
+    for (place, set) in sets.iter().enumerate() {
+        if let Some(letter) = first_outside(version, rule, edges, sets, *set) {
+            return Some((place, letter));
+        }
+    }
+    None
+}
+
+/// The first letter on which the step of a set isn't as the version asks.
+fn first_outside(
+    version: CertVersion,
+    rule: &Rule,
+    edges: &EdgeRows,
+    sets: &[u16],
+    set: u16,
+) -> Option<u8>
+    requires { AreEdgeRows Side.Right rule.now edges.now }
+    ensures { FirstBreach rule.now.states (StepIsKept version rule.now sets.now set) result }
+{
+    for letter in 0..rule.k() {
+        if !is_kept(version, sets, step(rule, edges, set, letter)) {
+            return Some(letter);
+        }
+    }
+    None
+}
+
+/// Whether a set is as the version asks of a step.
+fn is_kept(version: CertVersion, sets: &[u16], set: u16) -> bool
+    ensures { IsTrue result ↔ IsKept version sets.now set }
+{
+    match version {
+        CertVersion::One => sets.contains(&set),
+        CertVersion::Two | CertVersion::Three => has_part(sets, set),
+    }
+}
+
+/// Whether a set contains a listed one.
+fn has_part(sets: &[u16], set: u16) -> bool
+    ensures { IsTrue result ↔ HasPart sets.now set }
+{
+    for part in sets {
+        if *part & set == *part {
+            return true;
+        }
+    }
+    false
 }

@@ -7,11 +7,12 @@ use Rattle.pair_laws.proofs.BothWays.{some_ahead}
 use Rattle.word_image.specs.declared.side.Side.{Side}
 use Rattle.word_image.specs.Sides.{Together, PairGoes}
 use Rattle.word_image.specs.FirstPairs.{IsFirstOf}
-use Rattle.tail_laws.specs.FirstWindows.{IsClosing, end_pair}
+use Rattle.pair_laws.specs.FirstWindows.{end_pair}
+use Rattle.tail_laws.specs.Closing.{IsClosing}
 use Rattle.closing_test.specs.Sides.{IsFound}
 use Rattle.closing_test.specs.EndlessFirsts.{IsEndlessWith}
-use Rattle.tail_laws.proofs.FirstWindows.{IsFirst-ends, first_ends}
-use Rattle.tail_laws.proofs.EndlessFirsts.{closing_ahead}
+use Rattle.pair_laws.proofs.FirstWindows.{IsFirst-ends, first_ends}
+use Rattle.tail_laws.proofs.Certainty.{closing_ahead}
 use Rattle.closing_test.proofs.LookAheads.{end_pair-goes}
 
 -- both say that it looks ahead

@@ -5,19 +5,20 @@ use Rattle.std.specs.Ordering.{ord_max, nat_cmp, is_lt}
 use Rattle.std.proofs.lemmas.Bool.{cases_lt, cases_eq}
 use Rattle.std.proofs.lemmas.Cmp.{ranked, by_ranked}
 use Rattle.word_image.specs.LocalRules.{LocalRule, IsRule}
-use Rattle.word_image.specs.Windows.{IsRightAhead, IsLeastRightAhead}
+use Rattle.word_image.specs.Windows.{IsLeastRightAhead}
 use Rattle.word_image.specs.Graphs.{pair_of}
 use Rattle.word_image.specs.Ranks.{IsRank, IsEndless}
 use Rattle.pair_laws.proofs.Pairs.{PairGoes-pair_of, PairGoes-less}
 use Rattle.pair_laws.proofs.BothWays.{ahead_pairs}
-use Rattle.tail_laws.proofs.EndlessFirsts.{closing_ahead}
+use Rattle.tail_laws.proofs.Certainty.{closing_ahead}
 use Rattle.word_image.specs.declared.side.Side.{Side}
 use Rattle.word_image.specs.Sides.{seen_from, Together, PairGoes}
 use Rattle.word_image.specs.FirstPairs.{IsFirstOf}
-use Rattle.tail_laws.specs.FirstWindows.{end_pair, IsClosing, HasEndlessFirst}
+use Rattle.pair_laws.specs.FirstWindows.{end_pair, HasEndlessFirst}
+use Rattle.tail_laws.specs.Closing.{IsClosing}
 use Rattle.closing_test.specs.Sides.{AreEndNodes, IsFound}
 use Rattle.closing_test.specs.LeastAheads.{IsLeastFor, IsFirstWith, IsFirstAt}
-use Rattle.tail_laws.proofs.FirstWindows.{IsFirst-ends, first_ends}
+use Rattle.pair_laws.proofs.FirstWindows.{IsFirst-ends, first_ends}
 
 -- The least number for some pairs
 

@@ -4,7 +4,7 @@ use Rattle.word_image.specs.LocalRules.{LocalRule}
 use Rattle.word_image.specs.Ranks.{IsEndless}
 use Rattle.word_image.specs.declared.side.Side.{Side}
 use Rattle.word_image.specs.Sides.{PairGoes}
-use Rattle.tail_laws.specs.FirstWindows.{AreFirst, end_pair}
+use Rattle.pair_laws.specs.FirstWindows.{AreFirst, end_pair}
 
 -- the ends of this window and of that with this letter at its end are an endless first pair
 pub record IsEndlessWith (side : Side) (r : LocalRule) (w a : ℕ) : Type 0 where

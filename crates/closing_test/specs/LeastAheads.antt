@@ -2,7 +2,7 @@
 use Rattle.std.specs.Prelude.{◌≡◌, ℕ, ◌+◌, ◌-◌, ◌≤◌}
 use Rattle.word_image.specs.LocalRules.{LocalRule}
 use Rattle.word_image.specs.declared.side.Side.{Side}
-use Rattle.tail_laws.specs.FirstWindows.{AreFirst, end_pair}
+use Rattle.pair_laws.specs.FirstWindows.{AreFirst, end_pair}
 
 -- n is the least number from 1 on for which none of these pairs goes on together for n - 1
 pub record IsLeastFor (Among : ℕ → Type 0) (Goes : ℕ → ℕ → Type 0) (n : ℕ) : Type 0 where

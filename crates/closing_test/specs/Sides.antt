@@ -3,7 +3,7 @@ use Rattle.std.specs.Prelude.{◌≡◌, ℕ, ◌<◌}
 use Rattle.word_image.specs.LocalRules.{LocalRule, node_count}
 use Rattle.word_image.specs.declared.side.Side.{Side}
 use Rattle.word_image.specs.Ends.{end_node}
-use Rattle.tail_laws.specs.FirstWindows.{with_end, AreFirst}
+use Rattle.pair_laws.specs.FirstWindows.{with_end, AreFirst}
 
 -- the two nodes at the ends of two windows that differ in one letter
 pub record AreEndNodes (side : Side) (r : LocalRule) (w a u v : ℕ) : Type 0 where

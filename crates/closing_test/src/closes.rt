@@ -5,7 +5,7 @@ ghost use Rattle.word_image.specs.LocalRules.{node_count};
 ghost use Rattle.word_image.specs.Ranks.{IsEndless};
 ghost use Rattle.tail_config.specs.Tails.{IsRightClosing, IsLeftClosing};
 ghost use Rattle.word_image.specs.Sides.{Together};
-ghost use Rattle.tail_laws.specs.FirstWindows.{IsClosing};
+ghost use Rattle.tail_laws.specs.Closing.{IsClosing};
 ghost use Rattle.closing_test.specs.EndlessFirsts.{IsEndlessAt, IsEndlessWith};
 
 use crate::ends::first_nodes;

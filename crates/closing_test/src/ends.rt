@@ -2,7 +2,7 @@
 
 ghost use Rattle.std.specs.Prelude.{◌≡◌, ◌^◌, ◌<◌, MatchOption};
 ghost use Rattle.word_image.specs.LocalRules.{IsRule};
-ghost use Rattle.tail_laws.specs.FirstWindows.{AreFirst, with_end};
+ghost use Rattle.pair_laws.specs.FirstWindows.{AreFirst, with_end};
 ghost use Rattle.closing_test.specs.Sides.{IsFound};
 
 use word_image::{Rule, Side};

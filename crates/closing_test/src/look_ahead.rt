@@ -6,7 +6,8 @@ ghost use Rattle.word_image.specs.Words.{IsSurjective};
 ghost use Rattle.word_image.specs.Windows.{IsRightAhead, IsLeastRightAhead};
 ghost use Rattle.tail_config.specs.Tails.{IsRightClosing, IsLeftClosing};
 ghost use Rattle.word_image.specs.Sides.{PairGoes, seen_from, IsLeftAhead};
-ghost use Rattle.tail_laws.specs.FirstWindows.{IsClosing, HasEndlessFirst};
+ghost use Rattle.pair_laws.specs.FirstWindows.{HasEndlessFirst};
+ghost use Rattle.tail_laws.specs.Closing.{IsClosing};
 ghost use Rattle.closing_test.specs.LeastAheads.{IsLeastFor, IsFirstAt, IsFirstWith};
 
 use crate::ends::first_nodes;

@@ -2,21 +2,15 @@
 use Rattle.std.proofs.Common.{◌≡◌, ◌⊎◌, ℕ, zero, suc, ◌+◌, ◌-◌, ◌%◌, ◌<◌, inl, inr, ⊎_elim, Bool, true, false, List, [], ◌∷◌, ℤ, pos, negsuc, ◌+ℤ◌, refl, sym, ap, ap₂, ◌∙◌, arith}
 use Rattle.std.proofs.lemmas.Bool.{cases_Bool, cases_eq, true≢false}
 use Rattle.std.proofs.lemmas.List.Elements.{All-cons, All-tail}
-use Rattle.std.proofs.lemmas.Bool.Decides.{Decides-by_and, Decides-ltb}
 use Rattle.std.proofs.lemmas.Int.{ints}
-use Rattle.std.specs.List.{list_all}
-use Rattle.std.specs.Prelude.{nat_lt}
 use Rattle.word_image.specs.LocalRules.{LocalRule, IsRule, IsWord, local_map}
 use Rattle.word_image.specs.Words.{IsPreimage, IsSurjective}
+use Rattle.word_image.proofs.laws.Words.{word_by_test}
 use Rattle.pair_laws.proofs.Joins.{image-cut}
 use Rattle.tail_config.specs.Configs.{Config, IsConfig}
 use Rattle.config_laws.specs.Maps.{IsOntoMap}
 use Rattle.config_laws.specs.OneOfTwo.{Falls, OneOfTwo, AllOrNot}
 use Rattle.config_laws.specs.Examples.{parities}
-
--- a list is a word where the test of its letters says so
-word_by_test : (k : ℕ) (w : List ℕ) → list_all (λ a. nat_lt a k) w ≡ true → IsWord k w
-word_by_test k w = (Decides-by_and (λ a. nat_lt a k) (λ a. a < k) (list_all (λ a. nat_lt a k)) (λ a. Decides-ltb a k) refl (λ a v. refl) w).0
 
 -- the example is a rule
 IsRule-parities : IsRule parities

@@ -19,7 +19,7 @@ flow_under r phi x i = get_or phi (value r.states (run x (i +ℤ r.offset) (r.wi
 abbrev pub IsFinite : Config → Type 0
 IsFinite x = AgreeFarLeft x zeros × AgreeFarRight x zeros
 
--- such a configuration weighs as much as its image: within all n from some on
+-- a configuration that is 0 at all but finitely many places weighs as much as its image: within all n from some on
 abbrev pub KeepsFiniteSums : (ℕ → ℕ) → LocalRule → Type 0
 KeepsFiniteSums weight r = (x : Config) → IsConfig r.states x → IsFinite x
     → (N : ℕ) × ((n : ℕ) → N ≤ n → weight_within weight n (image_of r x) ≡ weight_within weight n x)

@@ -2,7 +2,7 @@
 ghost use Rattle.std.specs.Prelude.{◌≡◌, ◌==◌, ◌≤◌, ◌↔◌, length, count_by, IsTrue};
 ghost use Rattle.word_image.specs.LocalRules.{LocalRule, IsRule};
 ghost use Rattle.word_image.specs.Words.{IsSurjective};
-ghost use Rattle.ring_laws.specs.Tables.{IsEven};
+ghost use Rattle.table_laws.specs.Tables.{IsEven};
 
 /// Whether each of k letters stands in a table equally often. A rule whose table isn't so is not
 /// surjective.

@@ -8,7 +8,4 @@ pub mod ReachedPairs
 pub mod Preinjective
 pub mod Numbered
 pub mod Balance
-pub mod Counts
-pub mod EvenTables
-pub mod ZeroPairs
 mod Examples

@@ -1,5 +1,4 @@
 pub mod ReachedPairs
 pub mod Preinjective
 pub mod Preimages
-pub mod ZeroPairs
 pub mod Examples

@@ -19,8 +19,8 @@
 //! cite them.
 #![tactic(auto)]
 
-ghost use Rattle.std.specs.Prelude.{◌≡◌, ◌≢◌, ◌↔◌, ℕ, List};
-ghost use Rattle.word_image.specs.LocalRules.{LocalRule, IsRule, node_count};
+ghost use Rattle.std.specs.Prelude.{◌≢◌, ◌↔◌, ℕ, List};
+ghost use Rattle.word_image.specs.LocalRules.{LocalRule, IsRule};
 ghost use Rattle.word_image.specs.Words.{IsSurjective};
 ghost use Rattle.word_image.specs.Graphs.{first_of, second_of};
 ghost use Rattle.word_image.specs.Erasure.{IsErasable};
@@ -28,9 +28,7 @@ ghost use Rattle.word_image.specs.PairLists.{IsPairList};
 ghost use Rattle.tail_config.specs.Tails.{IsInjective, IsRightClosing, IsLeftClosing};
 ghost use Rattle.eden_laws.specs.ReachedPairs.{IsReached};
 ghost use Rattle.eden_laws.specs.Preinjective.{IsPreinjective};
-ghost use Rattle.ring_laws.specs.Tables.{IsEven};
 ghost use Rattle.eden_laws.specs.Preimages.{IsBalanced};
-ghost use Rattle.eden_laws.specs.ZeroPairs.{zero_pairs};
 
 /// The Garden of Eden law: a rule is surjective exactly where no two words are an erasable pair.
 pub fn surjective_erases_nothing()
@@ -53,13 +51,6 @@ pub fn injective_or_closing_is_surjective()
 /// A rule is surjective exactly where every word has exactly k^(m - 1) preimages (Hedlund 1969).
 pub fn surjective_is_balanced()
     ensures { (r : LocalRule) → IsRule r → (IsSurjective r ↔ IsBalanced r) }
-{}
-
-/// So under a surjective rule each letter stands in the table equally often, and as many words have the image
-/// 0 0 as there are nodes.
-pub fn surjective_is_even()
-    ensures table { (r : LocalRule) → IsRule r → IsSurjective r → IsEven r.states r.table }
-    ensures zeros { (r : LocalRule) → IsRule r → IsSurjective r → zero_pairs r.states r.table ≡ node_count r }
 {}
 
 /// A rule is surjective exactly where no reached pair has two equal nodes, and a pair list proves that

@@ -10,9 +10,9 @@
 //! where these numbers are a flux, and they are the only one with phi(0) = 0.
 //!
 //! Rule 184 moves each 1 to the right where a 0 stands there. Where each letter weighs its own value
-//! its flux is 0 0 0 -1: on the window 1 1 0 it gives 1, no more than the first letter, and on the
-//! window 0 1 1 it gives 1, one more, which is phi(01) - phi(11). Where 0 weighs 1 and 1 weighs 4 it
-//! is 0 0 0 -3. Rule 232 gives the majority of three cells. The ring 0 0 1 becomes 0 0 0, and no ring
+//! its flux is 0 0 0 -1: on the window 1 1 0 it gives 0, one less than the first letter, which is
+//! phi(11) - phi(10), and on the window 0 1 1 it gives 1, one more, which is phi(01) - phi(11). Where 0
+//! weighs 1 and 1 weighs 4 it is 0 0 0 -3. Rule 232 gives the majority of three cells. The ring 0 0 1 becomes 0 0 0, and no ring
 //! before it in the order of words loses or gains anything.
 //!
 //! [`has_mean`] and [`keeps_ends`] read the table alone: under a conserving rule, each letter of which weighs its

@@ -2,7 +2,7 @@
 ghost use Rattle.std.specs.Prelude.{◌≡◌, ◌+◌, ◌*◌, ◌<◌, ◌≤◌, ◌↔◌, length, sum, IsTrue};
 ghost use Rattle.word_image.specs.LocalRules.{LocalRule, IsRule};
 ghost use Rattle.word_image.specs.Rings.{IsConserving};
-ghost use Rattle.ring_laws.specs.Tables.{HasMean};
+ghost use Rattle.table_laws.specs.Tables.{HasMean};
 
 /// Whether the letters of a table have the mean of k letters, (k - 1) / 2. A rule whose table hasn't
 /// changes the sum of a ring, if each letter weighs its own value.

@@ -1,52 +1,93 @@
--- A list of different sets with its index, one set more at a time.
-use Rattle.std.proofs.Common.{◌≡◌, ◌≢◌, ℕ, ◌<◌, ◌≤◌, List, [], ◌∷◌, ◌++◌, length, slice_index, slice_set, Contains, AllPairs, refl, sym, ap, ◌∙◌, subst, arith, ⊎_elim}
+-- A list of different sets with a mark on each, one set more at a time, and emptied.
+use Rattle.std.proofs.Common.{◌≡◌, ◌≢◌, ℕ, ◌*◌, ◌/◌, ◌%◌, ◌^◌, ◌<◌, ◌≤◌, ◌↔◌, ◌⊎◌, inl, inr, List, [], ◌∷◌, ◌++◌, length, replicate, slice_index, slice_set, Contains, IsBitSet, bit_or, refl, sym, ap, ◌∙◌, subst, arith, ⊎_elim}
 use Rattle.std.proofs.lemmas.Bool.{cases_eq}
 use Rattle.std.proofs.lemmas.Bool.Decides.{Decides-eqb}
-use Rattle.std.proofs.lemmas.List.{length_push, length-set, get_or_append_left, get_or_at, get_or-set_other, get_or_default}
-use Rattle.std.proofs.lemmas.Grind.{get_or-set_at}
+use Rattle.std.proofs.lemmas.List.{length_push, length-set, length-replicate, get_or_append_left, get_or_at, get_or_default}
+use Rattle.std.proofs.lemmas.List.Elements.{Contains-push, Contains-append_left, Contains-push_cases}
+use Rattle.std.proofs.lemmas.List.Quantifiers.{all_pairs_push}
 use Rattle.std.proofs.lemmas.Map.Made.{IsDistinct-from_AllPairs}
 use Rattle.std.proofs.lemmas.Map.Steps.{length-le_from_distinct_below}
 use Rattle.std.proofs.lemmas.Map.Views.{Contains-from_any}
-use Rattle.image_subsets.specs.Masks.{IsIndex}
+use Rattle.std.proofs.lemmas.Nat.{one_shl}
+use Rattle.word_image.proofs.laws.Bits.{IsBitSet-pow}
+use Rattle.pair_laws.proofs.Rows.{HasBit-or, HasBit-none}
+use Rattle.image_subsets.specs.Marks.{IsSetMarked}
+use Rattle.image_subsets.specs.Masks.{AreMembers}
 
--- the index after a new set is put in at the end
-pub IsIndex-push : {sets places : List ℕ} → IsIndex sets places → (set end : ℕ) → end ≡ length sets → set < 65536 → ¬ Contains sets set
-    → IsIndex (sets ++ set ∷ []) (slice_set places set end)
-IsIndex-push {sets} {places} h set end last small new = record {
-  long = length-set places set end ∙ h.long;
-  below = λ i within. ⊎_elim
-      (λ same. subst (λ s. s < 65536) (sym (get_or_at sets set [] 0 i (sym same))) small)
-      (λ other.
-      let before : i < length sets = omega (arith, within, length_push sets set, other) in
-      subst (λ s. s < 65536) (sym (get_or_append_left sets (set ∷ []) 0 i before)) (h.below i before))
-      (cases_eq i (length sets));
-  leads = λ i below. ⊎_elim
-      (λ same.
-      let here : slice_index (sets ++ set ∷ []) i ≡ set = get_or_at sets set [] 0 i (sym same) in
-      ap (slice_index (slice_set places set end)) here ∙ get_or-set_at places set set end 0 refl (omega (arith, h.long)) ∙ last ∙ sym same)
-      (λ other.
-      let before : i < length sets = omega (arith, below, length_push sets set, other) in
-      let there : slice_index (sets ++ set ∷ []) i ≡ slice_index sets i = get_or_append_left sets (set ∷ []) 0 i before in
-      ap (slice_index (slice_set places set end)) there
-      ∙ get_or-set_other places set (slice_index sets i) end 0 (λ e. new (i, before, get_or_default sets i set 0 before ∙ e))
-      ∙ h.leads i before)
-      (cases_eq i (length sets));
+-- no set is marked in rows of zeros
+pub AreMembers-none : (rows : List ℕ) → rows ≡ replicate 1024 0 → AreMembers [] rows
+AreMembers-none rows zeros = record {
+  long = ap length zeros ∙ length-replicate {A = ℕ} 1024 0;
+  below = λ i less. absurd (omega (arith, less));
+  apart = λ i j d less within. absurd (omega (arith, within));
+  marked = λ x small. (
+    (λ some. absurd (HasBit-none 1024 (x / 64) (x % 64) (subst (λ l. IsSetMarked l x) zeros some))),
+    (λ has. absurd (let within = has.1 in omega (arith, within))),
+  );
 }
 
--- the sets are different
-pub sets-apart : {sets places : List ℕ} → IsIndex sets places → AllPairs (λ s t. s ≢ t) sets
-sets-apart {sets} {places} h i j d less within same =
-    let at : slice_index sets i ≡ slice_index sets j = get_or_default sets i 0 d (omega arith) ∙ same ∙ sym (get_or_default sets j 0 d within) in
-    let one : i ≡ j = sym (h.leads i (omega arith)) ∙ ap (slice_index places) at ∙ h.leads j within in
-    omega (arith, one)
+-- rows with a mark more
+pub IsSetMarked-more : (rows : List ℕ) (set i v : ℕ) → i < length rows → i ≡ set / 64 → v ≡ set % 64 → (x : ℕ)
+    → IsSetMarked (slice_set rows i (bit_or (slice_index rows i) (1 * 2 ^ v % 2 ^ 64))) x ↔ ((x ≡ set) ⊎ IsSetMarked rows x)
+IsSetMarked-more rows set i v inside row bit x =
+    let more = HasBit-or rows i (1 * 2 ^ v % 2 ^ 64) inside (x / 64) (x % 64) in
+    let narrow : v < 64 = omega (arith, bit) in
+    let mask : 1 * 2 ^ v % 2 ^ 64 ≡ 2 ^ v = one_shl v 64 narrow in
+    let one = IsBitSet-pow v (x % 64) in (
+      (λ some. ⊎_elim
+          (λ new.
+          let same = one.0 (subst (λ n. IsBitSet n (x % 64)) mask new.1) in
+          inl (omega (arith, new.0, same, row, bit)))
+          (λ old. inr old)
+          (more.0 some)),
+      (λ either. more.1 (⊎_elim
+          (λ same. inl (ap (λ y. y / 64) same ∙ sym row, subst (λ n. IsBitSet n (x % 64)) (sym mask) (one.1 (ap (λ y. y % 64) same ∙ sym bit))))
+          (λ old. inr old)
+          either)),
+    )
+
+-- a new set is put in at the end
+pub AreMembers-push : {sets rows : List ℕ} → AreMembers sets rows → (set i v : ℕ) → i ≡ set / 64 → v ≡ set % 64 → set < 65536 → ¬ Contains sets set
+    → AreMembers (sets ++ set ∷ []) (slice_set rows i (bit_or (slice_index rows i) (1 * 2 ^ v % 2 ^ 64)))
+AreMembers-push {sets} {rows} h set i v row bit small new = record {
+  long = length-set rows i (bit_or (slice_index rows i) (1 * 2 ^ v % 2 ^ 64)) ∙ h.long;
+  below = λ k within. ⊎_elim
+      (λ same. subst (λ s. s < 65536) (sym (get_or_at sets set [] 0 k (sym same))) small)
+      (λ other.
+      let before : k < length sets = omega (arith, within, length_push sets set, other) in
+      subst (λ s. s < 65536) (sym (get_or_append_left sets (set ∷ []) 0 k before)) (h.below k before))
+      (cases_eq k (length sets));
+  apart = all_pairs_push (λ s t. s ≢ t) sets set h.apart (λ k d within same. new (k, within, get_or_default sets k set d within ∙ same));
+  marked = λ x below.
+      let more = IsSetMarked-more rows set i v (omega (arith, row, small, h.long)) row bit x in (
+        (λ some. ⊎_elim
+            (λ same. subst (Contains (sets ++ set ∷ [])) (sym same) (Contains-push sets set))
+            (λ old. Contains-append_left sets (set ∷ []) x ((h.marked x below).0 old))
+            (more.0 some)),
+        (λ has. more.1 (⊎_elim (λ there. inr ((h.marked x below).1 there)) (λ same. inl (sym same)) (Contains-push_cases sets set x has))),
+      );
+}
+
+-- the marks of all sets are taken
+pub AreMembers-cleared : {sets rows left : List ℕ} → AreMembers sets rows → length left ≡ length rows
+    → ((x : ℕ) → IsSetMarked left x → IsSetMarked rows x × ¬ Contains sets x) → AreMembers [] left
+AreMembers-cleared {sets} {rows} {left} h long kept = record {
+  long = long ∙ h.long;
+  below = λ i less. absurd (omega (arith, less));
+  apart = λ i j d less within. absurd (omega (arith, within));
+  marked = λ x small. (
+    (λ some. let (old, none) = kept x some in absurd (none ((h.marked x small).0 old))),
+    (λ has. absurd (let within = has.1 in omega (arith, within))),
+  );
+}
 
 -- so there are at most as many as masks
-length-masks-le : {sets places : List ℕ} → IsIndex sets places → length sets ≤ 65536
-length-masks-le {sets} {places} h =
-    length-le_from_distinct_below sets 65536 (IsDistinct-from_AllPairs Decides-eqb sets (sets-apart h)) (λ s any.
+length-masks-le : {sets rows : List ℕ} → AreMembers sets rows → length sets ≤ 65536
+length-masks-le {sets} h =
+    length-le_from_distinct_below sets 65536 (IsDistinct-from_AllPairs Decides-eqb sets h.apart) (λ s any.
     let (i, within, same) = Contains-from_any (λ x y same. (Decides-eqb x y).0 same) s sets any in
     subst (λ z. z < 65536) (get_or_default sets i 0 s within ∙ same) (h.below i within))
 
 -- and fewer before a new one is put in
-pub few_before_new : {sets places : List ℕ} → IsIndex sets places → (set : ℕ) → set < 65536 → ¬ Contains sets set → length sets < 65536
-few_before_new {sets} {places} h set small new = omega (arith, length-masks-le (IsIndex-push h set (length sets) refl small new), length_push sets set)
+pub few_before_new : {sets rows : List ℕ} → AreMembers sets rows → (set : ℕ) → set < 65536 → ¬ Contains sets set → length sets < 65536
+few_before_new {sets} h set small new = omega (arith, length-masks-le (AreMembers-push h set (set / 64) (set % 64) refl refl small new), length_push sets set)

@@ -1,9 +1,10 @@
--- Marks of the sets of nodes that contain one of a family.
-use Rattle.std.specs.Prelude.{◌≡◌, ◌≢◌, AllPairs, ℕ, ◌-◌, ◌^◌, ◌<◌, ◌≤◌, ◌↔◌, ◌⊎◌, List, Bool, false, length, slice_index, slice_index_or, IsTrue, IsBitSet, bit_and}
+-- Marks on sets of nodes, in rows of 64 bits, and those of the sets that contain one of a family.
+use Rattle.std.specs.Prelude.{◌≢◌, AllPairs, ℕ, ◌-◌, ◌*◌, ◌/◌, ◌%◌, ◌^◌, ◌<◌, ◌≤◌, ◌↔◌, ◌⊎◌, List, length, slice_index, Contains, IsBitSet, bit_and}
+use Rattle.word_image.specs.Graphs.{HasBit}
 
 -- set x is marked
-abbrev pub IsSetMarked : List Bool → ℕ → Type 0
-IsSetMarked marks x = IsTrue (slice_index_or marks x false)
+abbrev pub IsSetMarked : List ℕ → ℕ → Type 0
+IsSetMarked rows x = HasBit rows (x / 64) (x % 64)
 
 -- all nodes of the one set are nodes of the other
 abbrev pub IsPart : ℕ → ℕ → Type 0
@@ -13,19 +14,31 @@ IsPart s x = (i : ℕ) → IsBitSet s i → IsBitSet x i
 abbrev pub set_without : ℕ → ℕ → ℕ
 set_without x u = bit_and x (65535 - 2 ^ u)
 
--- of the first n sets those are marked that were, or that have node u and without it were
-pub record IsSpreadTo (u n : ℕ) (old new : List Bool) : Type 0 where
-  pub long : length new ≡ length old
-  pub done : (x : ℕ) → x < n → (IsSetMarked new x ↔ (IsSetMarked old x ⊎ (IsBitSet x u × IsSetMarked old (set_without x u))))
-  pub rest : (x : ℕ) → n ≤ x → slice_index_or new x false ≡ slice_index_or old x false
+-- set x has node u, and without it is marked
+abbrev pub HoldsWithout : List ℕ → ℕ → ℕ → Type 0
+HoldsWithout rows u x = IsBitSet x u × IsSetMarked rows (set_without x u)
+
+-- of the first n sets those are marked that were, or that have node u and without it are marked in other rows
+pub record IsSpreadTo (u n : ℕ) (others old new : List ℕ) : Type 0 where
+  pub done : (x : ℕ) → x < n → (IsSetMarked new x ↔ (IsSetMarked old x ⊎ HoldsWithout others u x))
+  pub rest : (x : ℕ) → n ≤ x → (IsSetMarked new x ↔ IsSetMarked old x)
+
+-- of the sets of n nodes exactly these are marked
+pub record AreListed (sets : List ℕ) (n : ℕ) (rows : List ℕ) : Type 0 where
+  pub within : (i : ℕ) → i < length sets → slice_index sets i < 2 ^ n
+  pub marked : (x : ℕ) → x < 2 ^ n → (IsSetMarked rows x ↔ Contains sets x)
 
 -- of the sets of n nodes exactly those are marked that contain one of these
-abbrev pub AreMarks : List ℕ → ℕ → List Bool → Type 0
-AreMarks sets n marks = (x : ℕ) → x < 2 ^ n → (IsSetMarked marks x ↔ ((i : ℕ) × (i < length sets) × IsPart (slice_index sets i) x))
+abbrev pub AreAbove : List ℕ → ℕ → List ℕ → Type 0
+AreAbove sets n rows = (x : ℕ) → x < 2 ^ n → (IsSetMarked rows x ↔ ((i : ℕ) × (i < length sets) × IsPart (slice_index sets i) x))
 
--- the set without one of its n nodes is marked
-abbrev pub HoldsSmaller : List Bool → ℕ → ℕ → Type 0
-HoldsSmaller marks n set = (u : ℕ) × (u < n) × IsBitSet set u × IsSetMarked marks (set_without set u)
+-- of the sets of n nodes exactly those are marked that contain another one of these
+abbrev pub AreBeyond : List ℕ → ℕ → List ℕ → Type 0
+AreBeyond sets n rows = (x : ℕ) → x < 2 ^ n → (IsSetMarked rows x ↔ ((i : ℕ) × (i < length sets) × (slice_index sets i ≢ x) × IsPart (slice_index sets i) x))
+
+-- the set without one of its first n nodes is marked
+abbrev pub HoldsSmaller : List ℕ → ℕ → ℕ → Type 0
+HoldsSmaller rows n set = (u : ℕ) × (u < n) × HoldsWithout rows u set
 
 -- one of the sets is part of x, and has each node of x from u on
 pub record ContainsBy (sets : List ℕ) (u x : ℕ) : Type 0 where
@@ -35,16 +48,18 @@ pub record ContainsBy (sets : List ℕ) (u x : ℕ) : Type 0 where
   pub agree : (i : ℕ) → u ≤ i → IsBitSet x i → IsBitSet (slice_index sets place) i
 
 -- of the sets of n nodes exactly those are marked that contain one of these and differ from it in the first u nodes alone
-abbrev pub AreMarksTo : List ℕ → ℕ → ℕ → List Bool → Type 0
-AreMarksTo sets n u marks = (x : ℕ) → x < 2 ^ n → (IsSetMarked marks x ↔ ContainsBy sets u x)
+abbrev pub AreMarksTo : List ℕ → ℕ → ℕ → List ℕ → Type 0
+AreMarksTo sets n u rows = (x : ℕ) → x < 2 ^ n → (IsSetMarked rows x ↔ ContainsBy sets u x)
 
 -- no other set is part of that at place i
 abbrev pub IsMinimal : List ℕ → ℕ → Type 0
 IsMinimal sets i = (j : ℕ) → j < length sets → j ≢ i → ¬ IsPart (slice_index sets j) (slice_index sets i)
 
--- the marks are those of different sets of n nodes
-pub record AreCovers (n : ℕ) (sets : List ℕ) (marks : List Bool) : Type 0 where
-  pub few : n ≤ 16
-  pub within : (i : ℕ) → i < length sets → slice_index sets i < 2 ^ n
+-- the marks are those of the sets that contain another one of these, which are different
+pub record AreCovers (sets rows : List ℕ) : Type 0 where
+  pub nodes : ℕ
+  pub few : nodes ≤ 16
+  pub room : 2 ^ nodes ≤ 64 * length rows
+  pub within : (i : ℕ) → i < length sets → slice_index sets i < 2 ^ nodes
   pub apart : AllPairs (λ s t. s ≢ t) sets
-  pub marked : AreMarks sets n marks
+  pub marked : AreBeyond sets nodes rows

@@ -27,9 +27,7 @@ pub struct Family {
     parents: Vec<Option<(u16, u8)>>,
     // The steps of the graph that was explored last.
     tables: StepTables,
-    // How many nodes that graph has.
-    nodes: u8,
-    // Where no set is empty, a mark on each set that contains one of the family.
+    // Where no set is empty, a mark on each set that contains another one of the family.
     marks: Marks,
 }
 
@@ -44,7 +42,7 @@ impl Model for Family {
     ghost view = { λ f. record { sets = f.sets; parents = f.parents.items } };
 
     ghost invariant = { λ f. (MOST_SETS ≤ vec_capacity f.parents) × IsTree (record { sets = f.sets; parents = f.parents.items })
-        × (0 < length f.sets → ¬ Contains f.sets 0 → AreCovers f.nodes f.sets f.marks) };
+        × (0 < length f.sets → ¬ Contains f.sets 0 → AreCovers f.sets f.marks) };
 }
 
 impl Family {
@@ -56,7 +54,6 @@ impl Family {
             sets: Masks::new(alloc)?,
             parents: Vec::with_capacity(alloc, MOST_SETS)?,
             tables: StepTables::new(alloc)?,
-            nodes: 0,
             marks: Marks::new(alloc)?,
         })
     }
@@ -83,8 +80,7 @@ impl Family {
             }
             place += 1;
         }
-        self.nodes = graph.nodes();
-        self.marks.mark(&self.sets, self.nodes);
+        self.marks.mark(&self.sets, graph.nodes());
     }
 
     /// How many sets there are: none before a graph is explored, and then from 1 to 65,536 different
@@ -98,13 +94,13 @@ impl Family {
     }
 
     /// Whether no other set of the family is part of that at place i, where none is empty. It takes
-    /// O(N) time, by marks that `explore` makes in O(N 2^N).
+    /// O(1) time, by marks that `explore` makes in O(N 2^N).
     pub fn minimal(&self, i: u32) -> bool
         requires place { i < length self.now.sets }
         requires nonempty { ¬ Contains self.now.sets 0 }
         ensures { result ≡ is_minimal self.now.sets (slice_index self.now.sets i) }
     {
-        !self.marks.holds_smaller(self.set(i), self.nodes)
+        !self.marks.has(self.set(i))
     }
 
     /// The set at place i: node u is bit u.

@@ -16,13 +16,14 @@
 //!
 //! A family has at most 2^N sets for the N = k^(m - 1) nodes. One of s sets takes **O(s k)** time, and
 //! **O(2^8 k)** for the tables by which steps are looked up; where no set is empty **O(N 2^N)** more for
-//! the marks by which minimal sets are told. Its room is that of all 2^16 sets, taken once.
+//! the marks by which minimal sets are told, 64 sets at once. Its room is that of all 2^16 sets, taken once.
 #![tactic(auto)]
 
 mod family;
 mod graph_steps;
 mod marks;
 mod masks;
+mod rows;
 mod step_tables;
 #[cfg(test)]
 mod tests;

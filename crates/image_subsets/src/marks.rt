@@ -1,110 +1,114 @@
-//! Marks of the sets that contain one of a family.
+//! Marks of the sets that contain another one of a family.
 
-ghost use Rattle.std.specs.Prelude.{◌≡◌, ◌≢◌, ◌^◌, ◌<◌, ◌≤◌, ◌↔◌, ◌⊎◌, ℕ, false, length, slice_index, slice_index_or, IsTrue, IsBitSet};
-ghost use Rattle.image_subsets.specs.Marks.{IsSetMarked, IsSpreadTo, AreMarks, HoldsSmaller, set_without};
+ghost use Rattle.std.specs.Prelude.{◌≡◌, ◌*◌, ◌^◌, ◌<◌, ◌≤◌, ◌↔◌, ◌⊎◌, ℕ, List, length, slice_index, vec_capacity, replicate, IsTrue};
+ghost use Rattle.image_subsets.specs.Marks.{IsSetMarked, HoldsSmaller, AreListed, AreAbove, AreBeyond};
 
-use crate::masks::{MOST_SETS, Masks};
+use crate::masks::Masks;
+use crate::rows::{MOST_ROWS, ROW, is_marked, spread, spread_from};
 use std::alloc::{AllocError, Global};
 use std::marker::Model;
 
-/// A mark for each set of nodes, seen as the list of the marks. All room is taken when it is made.
+/// A mark on each set that contains another one of a family, seen as rows of 64 marks. All room is taken
+/// when it is made.
 #[derive(Debug, Drop)]
 pub(crate) struct Marks {
-    marks: Vec<bool>,
+    // A mark on each set that contains one of the family.
+    above: Vec<u64>,
+    // A mark on each of these that contains another one.
+    beyond: Vec<u64>,
 }
 
 impl Model for Marks {
-    ghost use Rattle.std.specs.Prelude.{◌≡◌, List, Bool, length};
+    ghost use Rattle.std.specs.Prelude.{◌≤◌, List, ℕ, vec_capacity};
+    ghost use Rattle.image_subsets.specs.declared.rows.TheConstants.{MOST_ROWS};
 
-    ghost Value = { List Bool };
+    ghost Value = { List ℕ };
 
-    ghost view = { λ m. m.marks.items };
+    ghost view = { λ m. m.beyond.items };
 
-    ghost invariant = { λ m. length m.marks.items ≡ 65536 };
+    ghost invariant = { λ m. (MOST_ROWS ≤ vec_capacity m.above) × (MOST_ROWS ≤ vec_capacity m.beyond) };
 }
 
 impl Marks {
     /// No marks.
     pub fn new(alloc: Global) -> Result<Marks, AllocError> {
         Ok(Marks {
-            marks: Vec::from_elem(alloc, false, MOST_SETS)?,
+            above: Vec::with_capacity(alloc, MOST_ROWS)?,
+            beyond: Vec::with_capacity(alloc, MOST_ROWS)?,
         })
     }
 
-    /// Marks the sets of n nodes that contain one of these, in O(n 2^n) time.
+    /// Marks the sets of n nodes that contain another one of these, in O(n 2^n) time.
     pub fn mark(&mut self, sets: &Masks, n: u8)
         requires nodes { n ≤ 16 }
         requires sets { (i : ℕ) → i < length sets.now → slice_index sets.now i < 2 ^ n }
-        ensures { AreMarks sets.now n self.new }
+        ensures room { 2 ^ n ≤ 64 * length self.new }
+        ensures marks { AreBeyond sets.now n self.new }
     {
-        let count = 1u32 << n;
-        self.clear(count);
-        self.mark_only(sets);
-        for u in 0..n {
-            self.spread(u, count);
-        }
+        let count = ((1usize << n) + ROW - 1) / ROW;
+        copy(&mut self.above, sets.rows(), count);
+        blank(&mut self.beyond, count);
+        mark_above(&mut self.above, n);
+        mark_beyond(&mut self.beyond, &self.above, n);
     }
 
-    /// Whether a set without one of its nodes is marked.
-    pub fn holds_smaller(&self, set: u16, n: u8) -> bool
-        requires { n ≤ 16 }
-        ensures { IsTrue result ↔ HoldsSmaller self.now n set }
+    /// Whether a set is marked.
+    pub fn has(&self, set: u16) -> bool
+        requires { set < 64 * length self.now }
+        ensures { IsTrue result ↔ IsSetMarked self.now set }
     {
-        for u in 0..n {
-            if self.is_marked_without(set, u) {
-                return true;
-            }
-        }
-        false
+        is_marked(&self.beyond, set)
     }
+}
 
-    /// Takes the marks from the first sets.
-    fn clear(&mut self, count: u32)
-        requires { count ≤ 65536 }
-        ensures { (x : ℕ) → x < count → ¬ IsSetMarked self.new x }
-    {
-        for x in 0..count {
-            self.marks[x as usize] = false;
-        }
+/// Makes them copies of the first ones of these.
+fn copy(rows: &mut Vec<u64>, others: &[u64], count: usize)
+    requires count { count ≤ length others.now }
+    requires most { count ≤ 1024 }
+    requires room { MOST_ROWS ≤ vec_capacity rows.old }
+    ensures rows { (i : ℕ) → i < count → slice_index rows.new.items i ≡ slice_index others.now i }
+    ensures long { length rows.new.items ≡ count }
+    ensures room { MOST_ROWS ≤ vec_capacity rows.new }
+{
+    rows.clear();
+    for i in 0..count {
+        rows.push_reserved(others[i]);
     }
+}
 
-    /// Marks these sets.
-    fn mark_only(&mut self, sets: &Masks)
-        ensures { (x : ℕ) → (IsSetMarked self.new x ↔ (IsSetMarked self.old x ⊎ ((i : ℕ) × (i < length sets.now) × (slice_index sets.now i ≡ x)))) }
-    {
-        for i in 0..sets.len() {
-            self.marks[usize::from(sets.at(i))] = true;
-        }
+/// Makes them so many rows without marks.
+fn blank(rows: &mut Vec<u64>, count: usize)
+    requires most { count ≤ 1024 }
+    requires room { MOST_ROWS ≤ vec_capacity rows.old }
+    ensures rows { rows.new.items ≡ replicate count 0 }
+    ensures room { MOST_ROWS ≤ vec_capacity rows.new }
+{
+    rows.clear();
+    for _row in 0..count {
+        rows.push_reserved(0);
     }
+}
 
-    /// Marks those of the first sets that have node u and without it are marked.
-    fn spread(&mut self, u: u8, count: u32)
-        requires node { u < 16 }
-        requires count { count ≤ 65536 }
-        ensures { IsSpreadTo u count self.old self.new }
-    {
-        for x in 0..count {
-            self.spread_to(u, x as u16);
-        }
+/// Marks the sets of n nodes that contain a marked one.
+fn mark_above(rows: &mut [u64], n: u8)
+    requires nodes { n ≤ 16 }
+    requires most { length rows.old ≤ 1024 }
+    requires room { 2 ^ n ≤ 64 * length rows.old }
+    ensures { (sets : List ℕ) → AreListed sets n rows.old → AreAbove sets n rows.new }
+{
+    for u in 0..n {
+        spread(rows, u);
     }
+}
 
-    /// Marks the set if it has node u and without it is marked.
-    fn spread_to(&mut self, u: u8, x: u16)
-        requires { u < 16 }
-        ensures long { length self.new ≡ length self.old }
-        ensures here { IsSetMarked self.new x ↔ (IsSetMarked self.old x ⊎ (IsBitSet x u × IsSetMarked self.old (set_without x u))) }
-        ensures others { (y : ℕ) → y ≢ x → slice_index_or self.new y false ≡ slice_index_or self.old y false }
-    {
-        if self.is_marked_without(x, u) {
-            self.marks[usize::from(x)] = true;
-        }
-    }
-
-    /// Whether the set has node u, and is marked without it.
-    fn is_marked_without(&self, set: u16, u: u8) -> bool
-        requires { u < 16 }
-        ensures { IsTrue result ↔ (IsBitSet set u × IsSetMarked self.now (set_without set u)) }
-    {
-        set >> u & 1 == 1 && self.marks[usize::from(set & !(1u16 << u))]
+/// Marks the sets that without one of the first n nodes are marked in other rows.
+fn mark_beyond(rows: &mut [u64], others: &[u64], n: u8)
+    requires nodes { n ≤ 16 }
+    requires most { length others.now ≤ 1024 }
+    requires same { length rows.old ≡ length others.now }
+    ensures { (x : ℕ) → x < 64 * length others.now → (IsSetMarked rows.new x ↔ (IsSetMarked rows.old x ⊎ HoldsSmaller others.now n x)) }
+{
+    for u in 0..n {
+        spread_from(rows, others, u);
     }
 }

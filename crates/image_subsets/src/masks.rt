@@ -1,8 +1,10 @@
-//! Different sets of nodes in the order in which they were put in, with an index by set.
+//! Different sets of nodes in the order in which they were put in, with a mark on each.
 
 ghost use Rattle.std.specs.Prelude.{◌≡◌, ◌≢◌, ◌<◌, ◌↔◌, AllPairs, List, ℕ, [], length, slice_index, Contains, IsTrue, IfOk};
 ghost use Rattle.image_subsets.specs.Masks.{IsInserted};
+ghost use Rattle.image_subsets.specs.Marks.{IsSetMarked};
 
+use crate::rows::{MOST_ROWS, is_marked, unmark};
 use std::alloc::{AllocError, Global};
 use std::marker::Model;
 use word_image::MOST_NODES;
@@ -12,26 +14,25 @@ pub const MOST_SETS: usize = 1 << MOST_NODES;
 
 /// A list of different sets, seen as that list. All its room is taken when it is made.
 ///
-/// A set is looked up in O(1) time, and so is the list emptied: what stands in the index counts only
-/// where it leads to a place of the list that holds the set.
+/// A set is looked up in O(1) time, and the list is emptied in the time of its length.
 #[derive(Debug, Drop)]
 pub(crate) struct Masks {
     // The sets in their order.
     sets: Vec<u16>,
-    // For each set its place, if it is in the list; else any number.
-    places: Vec<u16>,
+    // A mark on each of them, in rows of 64.
+    members: Vec<u64>,
 }
 
 impl Model for Masks {
     ghost use Rattle.std.specs.Prelude.{List, ℕ, ◌≤◌, vec_capacity};
     ghost use Rattle.image_subsets.specs.declared.masks.TheConstants.{MOST_SETS};
-    ghost use Rattle.image_subsets.specs.Masks.{IsIndex};
+    ghost use Rattle.image_subsets.specs.Masks.{AreMembers};
 
     ghost Value = { List ℕ };
 
     ghost view = { λ m. m.sets.items };
 
-    ghost invariant = { λ m. (MOST_SETS ≤ vec_capacity m.sets) × IsIndex m.sets.items m.places.items };
+    ghost invariant = { λ m. (MOST_SETS ≤ vec_capacity m.sets) × AreMembers m.sets.items m.members.items };
 }
 
 impl Masks {
@@ -41,7 +42,7 @@ impl Masks {
     {
         Ok(Masks {
             sets: Vec::with_capacity(alloc, MOST_SETS)?,
-            places: Vec::from_elem(alloc, 0, MOST_SETS)?,
+            members: Vec::from_elem(alloc, 0, MOST_ROWS)?,
         })
     }
 
@@ -68,10 +69,19 @@ impl Masks {
         &self.sets
     }
 
+    /// A mark on each of the sets, for all sets of sixteen nodes.
+    pub fn rows(&self) -> &[u64]
+        ensures rows { length result.now ≡ 1024 }
+        ensures marked { (x : ℕ) → x < 65536 → (IsSetMarked result.now x ↔ Contains self.now x) }
+    {
+        &self.members
+    }
+
     /// Takes all sets out.
     pub fn clear(&mut self)
         ensures { self.new ≡ [] }
     {
+        unmark(&mut self.members, &self.sets);
         self.sets.clear();
     }
 
@@ -79,19 +89,11 @@ impl Masks {
     pub fn insert(&mut self, set: u16) -> bool
         ensures { IsInserted self.old self.new set result }
     {
-        if self.contains(set) {
+        if is_marked(&self.members, set) {
             return false;
         }
-        self.places[usize::from(set)] = self.sets.len() as u16;
+        self.members[usize::from(set / 64)] |= 1u64 << (set % 64);
         self.sets.push_reserved(set);
         true
-    }
-
-    /// Whether the set is there.
-    fn contains(&self, set: u16) -> bool
-        ensures { IsTrue result ↔ Contains self.now set }
-    {
-        let place = usize::from(self.places[usize::from(set)]);
-        place < self.sets.len() && self.sets[place] == set
     }
 }

@@ -15,7 +15,7 @@ use Rattle.word_image.proofs.laws.WindowParts.{windows-nodes}
 use Rattle.inverse_table.specs.ImageValues.{AreImageValues, labels_from}
 
 -- the rows before another one
-row_below : (i j k : ℕ) → i < j → i * k + k ≤ j * k
+pub row_below : (i j k : ℕ) → i < j → i * k + k ≤ j * k
 row_below i j k l = let more : (i + 1) * k ≤ j * k = mul-le-mul_right k (omega arith) in omega arith
 
 -- the labels of a node's edges

@@ -1,11 +1,10 @@
 //! The images of all words of one length.
-ghost use Rattle.std.specs.Prelude.{◌≡◌, ℕ, ◌+◌, ◌*◌, ◌^◌, ◌<◌, ◌≤◌, ◌++◌, All, length, map, vec_len, vec_capacity, IfOk};
-ghost use Rattle.word_image.specs.LocalRules.{node_count};
-ghost use Rattle.inverse_table.specs.ImageValues.{AreImageValues, labels_from};
+ghost use Rattle.std.specs.Prelude.{◌≡◌, ℕ, ◌+◌, ◌*◌, ◌^◌, ◌<◌, ◌≤◌, ◌++◌, All, length, map, slice_range, vec_len, vec_capacity, IfOk};
+ghost use Rattle.inverse_table.specs.ImageValues.{AreImageValues};
 
-use crate::cycles::after;
+use crate::cycles::after_row;
 use std::alloc::{AllocError, Global};
-use word_image::{Rule, Side};
+use word_image::Rule;
 
 /// The values of the images of all words of n + m - 1 letters, in the order of the words.
 pub(crate) fn image_values(alloc: Global, rule: &Rule, n: u16) -> Result<Vec<u16>, AllocError>
@@ -20,32 +19,33 @@ pub(crate) fn image_values(alloc: Global, rule: &Rule, n: u16) -> Result<Vec<u16
 }
 
 /// From the images of all words of one length, those of the words that are one letter longer. The last
-/// nodes of the words come round in their order.
+/// nodes of the words come round in their order, and with them the rows of the table. The loop keeps more on the stack
+/// where it stands in line with its callers.
+#[inline(never)]
 fn longer(alloc: Global, rule: &Rule, images: &[u16]) -> Result<Vec<u16>, AllocError>
     requires fits { All (λ image. image * rule.now.states + rule.now.states ≤ 65536) images.now }
     requires few { length images.now ≤ 1048576 }
     ensures { (n : ℕ) → AreImageValues rule.now n images.now → IfOk result (λ v. AreImageValues rule.now (n + 1) v.items) }
 {
-    let k = usize::from(rule.k());
-    let nodes = usize::from(rule.nodes());
-    let mut values = Vec::with_capacity(alloc, images.len() * k)?;
-    let mut node = 0;
+    let k = rule.k();
+    let table = rule.table();
+    let row = usize::from(k);
+    let mut values = Vec::with_capacity(alloc, images.len() * row)?;
+    let mut place = 0;
     for image in images {
-        let first = *image * u16::from(rule.k());
-        push_all(&mut values, first, labels(rule, node));
-        node = after(node, nodes);
+        let first = *image * u16::from(k);
+        push_all(&mut values, first, row_at(table, place, row));
+        place = after_row(place, row, table.len());
     }
     Ok(values)
 }
 
-/// The labels of the edges from a node, in the order of their letters.
-fn labels(rule: &Rule, node: usize) -> &[u8]
-    requires { node < node_count rule.now }
-    ensures { result.now ≡ labels_from rule.now node }
+/// The letters of a row of the table.
+fn row_at(table: &[u8], place: usize, row: usize) -> &[u8]
+    requires { place + row ≤ length table.now }
+    ensures { result.now ≡ slice_range table.now place (place + row) }
 {
-    let k = usize::from(rule.k());
-    let first = usize::from(Side::Right.window_with(rule, node as u8, 0));
-    &rule.table()[first..first + k]
+    &table[place..place + row]
 }
 
 /// Adds the values of the images that are one letter longer, from the first that there may be.

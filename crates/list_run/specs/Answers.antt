@@ -4,7 +4,7 @@ use Rattle.rule_text.specs.declared.text_fault.TextFault.{TextFault}
 use Rattle.rule_text.specs.declared.beginnings.Beginning.{Beginning}
 use Rattle.rule_text.specs.Beginnings.{IsBeginning, IsBeginningFault}
 use Rattle.rule_lists.specs.declared.properties.Property.{Property}
-use Rattle.rule_lists.specs.declared.properties.Property.TheVariants.{Surjective, Injective, RightClosing, LeftClosing, Open}
+use Rattle.rule_lists.specs.declared.properties.Property.TheVariants.{Surjective, Injective, RightClosing, LeftClosing, Open, Conserving}
 use Rattle.list_run.specs.declared.status.Status.{Status}
 use Rattle.list_run.specs.declared.status.Status.TheVariants as status
 use Rattle.list_run.specs.Lines.{usage_line, fault_line}
@@ -17,6 +17,7 @@ name_of Injective = codes "injective"
 name_of RightClosing = codes "right"
 name_of LeftClosing = codes "left"
 name_of Open = codes "open"
+name_of Conserving = codes "conserving"
 
 -- the words are a property and any text
 abbrev pub IsListing : List (List ℕ) → Property → List ℕ → Type 0

@@ -101,6 +101,7 @@ fn named(name: &str) -> Option<Property>
         "right" => Some(Property::RightClosing),
         "left" => Some(Property::LeftClosing),
         "open" => Some(Property::Open),
+        "conserving" => Some(Property::Conserving),
         _ => None,
     }
 }

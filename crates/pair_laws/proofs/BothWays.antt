@@ -12,6 +12,7 @@ use Rattle.word_image.specs.FirstPairs.{IsFirstOf}
 use Rattle.word_image.specs.Ranks.{IsEndless}
 use Rattle.word_image.proofs.laws.Values.{length-word_of, IsWord-word_of, value-word_of}
 use Rattle.word_image.proofs.laws.Graphs.{value-next, next-below, pair_count_pos}
+use Rattle.pair_laws.specs.FirstWindows.{HasEndlessFirst}
 use Rattle.pair_laws.proofs.Ranks.{Together-below, Together-less}
 use Rattle.pair_laws.proofs.Pairs.{first_of-pair_of, second_of-pair_of, pair-below, first_of-below, second_of-below, follow-some, PairGoes-push}
 use Rattle.pair_laws.proofs.Windows.{node_letter-at, IsDetermined-pairs}
@@ -137,3 +138,7 @@ some_ahead side {r} rule = (
   (λ h p f endless. ((ahead_pairs side rule h.0).0 h.1).1 p f (endless (h.0 - 1))),
   (λ none. (pair_count r + 1, (ahead_pairs side rule (pair_count r + 1)).1 (omega arith, (λ p f goes. none p f (Together-endless side rule (first_of r p) (second_of r p) (pair_count r + 1 - 1) (omega arith) goes))))),
 )
+
+-- a rule with an endless first pair doesn't look ahead on that side
+pub no_ahead : (side : Side) {r : LocalRule} → IsRule r → HasEndlessFirst side r → (n : ℕ) → ¬ IsRightAhead (seen_from side r) n
+no_ahead side rule h n ahead = (some_ahead side rule).0 (n, ahead) h.0 h.1 h.2

@@ -15,3 +15,4 @@ pub mod Endless
 pub mod Decisions
 pub mod Evidence
 pub mod BothWays
+pub mod FirstWindows

@@ -5,4 +5,3 @@ pub mod FluxWalks
 pub mod LossyRings
 pub mod FluxWindows
 pub mod SameWeights
-pub mod MeanTables

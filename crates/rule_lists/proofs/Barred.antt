@@ -9,16 +9,16 @@ use Rattle.word_image.specs.declared.side.Side.{Side}
 use Rattle.word_image.specs.declared.side.Side.TheVariants.{Right, Left}
 use Rattle.word_image.proofs.laws.WindowParts.{window_with-within, end_node-below, some_letter}
 use Rattle.pair_laws.proofs.Pairs.{first_of-below, second_of-below, first_of-pair_of, second_of-pair_of, pair_of-first_of, pair_of-below}
-use Rattle.tail_laws.specs.FirstWindows.{with_end, end_pair, IsClosing}
-use Rattle.tail_laws.proofs.FirstWindows.{IsFirst-ends}
-use Rattle.tail_laws.proofs.EndlessFirsts.{not_closing}
-use Rattle.std.proofs.Common.{◌≤◌, length, set, inl, inr, ⊎_elim}
+use Rattle.pair_laws.specs.FirstWindows.{with_end, end_pair}
+use Rattle.tail_laws.specs.Closing.{IsClosing}
+use Rattle.pair_laws.proofs.FirstWindows.{IsFirst-ends}
+use Rattle.tail_laws.proofs.Certainty.{not_closing}
+use Rattle.std.proofs.Common.{length, set, inl, inr, ⊎_elim}
 use Rattle.std.proofs.lemmas.Bool.{cases_eq}
 use Rattle.std.proofs.lemmas.List.{get_or-set_same, get_or-set_other}
 use Rattle.rule_lists.specs.Listed.{IsStanding}
 use Rattle.rule_lists.specs.Completions.{IsCompletion}
 use Rattle.rule_lists.specs.EndlessPairs.{FixedLeadsOn, AreEndlessOn, IsFixedEndless}
-use Rattle.rule_lists.specs.Flags.{InFlags}
 use Rattle.rule_lists.proofs.Sure.{node_count-completion, pair_of-completion}
 use Rattle.rule_lists.proofs.NoInjective.{PairGoes-fixed}
 

@@ -3,3 +3,4 @@ pub mod Sure
 pub mod NoInjective
 pub mod Barred
 pub mod FixedReached
+pub mod Flows

@@ -3,3 +3,4 @@ pub mod Filled
 pub mod Advance
 pub mod Going
 pub mod Calls
+pub mod Parts

@@ -2,7 +2,7 @@
 use Rattle.std.specs.Prelude.{ℕ, List}
 use Rattle.word_image.specs.LocalRules.{LocalRule}
 use Rattle.word_image.specs.declared.side.Side.{Side}
-use Rattle.tail_laws.specs.FirstWindows.{IsClosing}
+use Rattle.tail_laws.specs.Closing.{IsClosing}
 use Rattle.rule_lists.specs.Properties.{Has}
 use Rattle.rule_lists.specs.Completions.{IsCompletion}
 use Rattle.rule_lists.specs.declared.properties.Property.{Property}

@@ -4,7 +4,7 @@ use Rattle.word_image.specs.LocalRules.{LocalRule, node_count}
 use Rattle.word_image.specs.Ends.{window_with}
 use Rattle.word_image.specs.Graphs.{next, pair_of, first_of, second_of, pair_count}
 use Rattle.word_image.specs.declared.side.Side.{Side}
-use Rattle.tail_laws.specs.FirstWindows.{with_end, end_pair}
+use Rattle.pair_laws.specs.FirstWindows.{with_end, end_pair}
 use Rattle.word_image.specs.declared.side.Side.TheVariants.{Right, Left}
 
 -- two letters lead from one pair to another, along two windows with one fixed letter; the rule gives the shape alone

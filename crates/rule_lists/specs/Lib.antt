@@ -8,3 +8,4 @@ pub mod Reached
 pub mod Bars
 pub mod Flags
 pub mod Calls
+pub mod Forests

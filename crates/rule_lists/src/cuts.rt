@@ -14,6 +14,7 @@ use crate::closing_cuts::bars_closing;
 use crate::endless::settled;
 use crate::lost::{Flags, Letters, is_lost};
 use crate::properties::Property;
+use crate::sums::bars_conserving;
 use crate::tables::Entries;
 use word_image::{MOST_PAIRS, Rule, Side};
 
@@ -74,6 +75,7 @@ fn bars(property: Property, shape: &Rule, letters: &Letters) -> bool
         Property::RightClosing => bars_closing(Side::Right, shape, letters),
         Property::LeftClosing => bars_closing(Side::Left, shape, letters),
         Property::Open => bars_open(shape, letters),
+        Property::Conserving => bars_conserving(shape, letters),
     }
 }
 

@@ -16,19 +16,21 @@
 mod closing_cuts;
 mod cuts;
 mod endless;
+mod forests;
 mod lost;
 mod orders;
 mod properties;
 mod search;
+mod sums;
 mod tables;
 mod theorems;
 
 pub use lost::Letters;
-pub use orders::{is_order, order_for};
+pub use orders::{is_order, order_for, write_order};
 pub use properties::{Property, has};
 pub use search::{first_rule, rule_after};
 pub use theorems::{
     calls_list_each_rule_once, fixed_endless_first_pair_forbids_closing,
     fixed_endless_nodes_forbid_injective, fixed_erasable_pair_forbids_surjective,
-    one_rule_of_a_rank,
+    levels_give_letters_of_conserving, one_rule_of_a_rank, parts_add_up,
 };

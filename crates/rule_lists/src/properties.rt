@@ -2,14 +2,16 @@
 ghost use Rattle.std.specs.Prelude.{◌≡◌, ◌↔◌, IsTrue};
 ghost use Rattle.rule_lists.specs.Properties.{Has};
 ghost use Rattle.tail_config.specs.Tails.{IsOpen};
+ghost use Rattle.word_image.specs.Rings.{IsConserving};
 
 use closing_test::{is_left_closing, is_right_closing};
 use debruijn::Graph;
 use eden_law::is_surjective;
+use flux_conserve::is_conserving;
 use inverse_window::is_injective;
 use pair_graph::Pairs;
 use pair_rank::Endless;
-use word_image::Rule;
+use word_image::{Rule, Weights};
 
 /// A property of rules.
 #[derive(Clone, Copy, Debug, PartialEq, Eq)]
@@ -24,6 +26,8 @@ pub enum Property {
     LeftClosing,
     /// The rule closes on both sides.
     Open,
+    /// Every ring keeps the sum of its letters.
+    Conserving,
 }
 
 /// Whether a rule has the property.
@@ -36,6 +40,7 @@ pub fn has(property: Property, rule: &Rule) -> bool
         Property::RightClosing => is_right_closing(&endless(rule)),
         Property::LeftClosing => is_left_closing(&endless(rule)),
         Property::Open => is_open(&endless(rule)),
+        Property::Conserving => keeps_sums(rule),
     }
 }
 
@@ -44,6 +49,13 @@ fn is_open(endless: &Endless) -> bool
     ensures { IsTrue result ↔ IsOpen endless.now }
 {
     is_right_closing(endless) && is_left_closing(endless)
+}
+
+/// Whether every ring keeps the sum of its letters.
+fn keeps_sums(rule: &Rule) -> bool
+    ensures { IsTrue result ↔ IsConserving (λ a. a) rule.now }
+{
+    is_conserving(rule, &Weights::own(rule.k()))
 }
 
 /// The endless pairs of a rule.

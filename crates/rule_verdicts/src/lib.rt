@@ -11,7 +11,7 @@
 //! rings 0 and 1 both become the ring 0. And it isn't conserving, since the ring 1 loses its sum so.
 //!
 //! [`Truths::of`] decides without evidence and takes no memory, and [`verdict_bytes`] does so for many rules with
-//! consecutive numbers, a byte for each. They ask first what costs little: of a rule that is surjective or
+//! consecutive numbers, a byte for each; [`next_table`] makes of a table that of the next number. They ask first what costs little: of a rule that is surjective or
 //! conserving the letters of the table have the mean of all letters, which one sum tells, and of a
 //! surjective one as many words have the image 0 0 as there are nodes. [`Evidence::of`] finds the evidence, with
 //! weights of the letters, and [`Evidence::certificate`] adds to it what the judge of certificates asks

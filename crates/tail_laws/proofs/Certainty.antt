@@ -8,13 +8,16 @@ use Rattle.word_image.specs.Graphs.{next, label, first_of, second_of, pair_count
 use Rattle.word_image.specs.Ranks.{BeginTogether}
 use Rattle.word_image.proofs.laws.Graphs.{next-below}
 use Rattle.word_image.proofs.laws.Images.{IsRule-mirrored}
+use Rattle.word_image.specs.declared.side.Side.{Side}
 use Rattle.word_image.specs.declared.side.Side.TheVariants.{Right, Left}
-use Rattle.word_image.specs.Sides.{PairGoes, IsLeftAhead}
+use Rattle.word_image.specs.Sides.{PairGoes, IsLeftAhead, seen_from}
+use Rattle.pair_laws.specs.FirstWindows.{HasEndlessFirst}
 use Rattle.pair_laws.proofs.Pairs.{first_of-below, second_of-below, PairGoes-pair_of}
 use Rattle.word_image.proofs.laws.Searches.{some_below, decide_both, exists_below}
 use Rattle.pair_laws.proofs.Decisions.{Together-decide}
-use Rattle.pair_laws.proofs.BothWays.{IsDetermined-none_both_ways, some_ahead}
+use Rattle.pair_laws.proofs.BothWays.{IsDetermined-none_both_ways, some_ahead, no_ahead}
 use Rattle.tail_config.specs.Tails.{IsInjective, IsRightClosing, IsLeftClosing}
+use Rattle.tail_laws.specs.Closing.{IsClosing}
 use Rattle.tail_laws.proofs.Injective.{IsInjective-determined}
 use Rattle.tail_laws.proofs.Closing.{IsRightClosing-ahead}
 use Rattle.tail_laws.proofs.Sides.{IsLeftClosing-mirrored, IsLeftClosing-ahead}
@@ -107,3 +110,12 @@ IsLeftClosing-window {r} rule = (
   λ closing. (IsRightClosing-window (IsRule-mirrored rule)).0 ((IsLeftClosing-mirrored rule).0 closing),
   λ a. IsLeftClosing-ahead rule a.1,
 )
+
+-- a rule closes on a side exactly where it looks ahead there
+pub closing_ahead : (side : Side) {r : LocalRule} → IsRule r → IsClosing side r ↔ ((n : ℕ) × IsRightAhead (seen_from side r) n)
+closing_ahead Right rule = IsRightClosing-window rule
+closing_ahead Left rule = IsLeftClosing-window rule
+
+-- a rule with an endless first pair doesn't close
+pub not_closing : (side : Side) {r : LocalRule} → IsRule r → HasEndlessFirst side r → ¬ IsClosing side r
+not_closing side rule h closing = let ahead = (closing_ahead side rule).0 closing in no_ahead side rule h ahead.0 ahead.1

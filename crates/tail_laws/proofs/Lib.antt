@@ -22,5 +22,3 @@ pub mod LeastSplits
 pub mod MarkedTurns
 pub mod FirstLists
 pub mod LeastTwins
-pub mod FirstWindows
-pub mod EndlessFirsts

@@ -3,7 +3,7 @@ use Rattle.std.proofs.Common.{◌≡◌, ℕ, ◌+◌, ◌-◌, ◌<◌, ◌≤�
 use Rattle.std.specs.Prelude.{◌<ℤ◌, ◌≤ℤ◌, ◌↔◌}
 use Rattle.std.proofs.lemmas.Int.{ints, by_lt_z}
 use Rattle.word_image.specs.LocalRules.{LocalRule, IsRule, local_map}
-use Rattle.tail_config.specs.Tails.{TailConfig, IsTail, ShareImage, Different, IsRightSplit, IsRightClosing, cell, cells}
+use Rattle.tail_config.specs.Tails.{TailConfig, IsTail, ShareImage, Different, IsRightSplit, IsRightClosing, cell}
 use Rattle.tail_config.specs.Splits.{IsNormalRightSplit}
 use Rattle.tail_config.proofs.laws.Runs.{length-run, run-same}
 use Rattle.tail_config.proofs.laws.Cells.{IsWord-zero, same_left_part}
@@ -31,11 +31,6 @@ cell-zeroed d n p t turn repeats i j l e =
     let old : neg_ℤ (pos d) +ℤ pos (unsigned_abs i) ≡ j = omega (arith, ints) in
     ap (cell (zeroed d n p t)) new ∙ cell-recut (0 ∷ []) t (neg_ℤ (pos d)) (d + n + d) p turn (λ a h. repeats a (omega (arith, ints))) (unsigned_abs i) ∙ ap (cell t) old
 
--- runs of these cells are runs of d places before
-cells-zeroed : (d n p : ℕ) (t : TailConfig) → 1 ≤ p → RepeatsRight p (cell t) (pos n) → (i j : ℤ) (m : ℕ) → pos 0 ≤ℤ i → j +ℤ pos d ≡ i → cells (zeroed d n p t) i m ≡ cells t j m
-cells-zeroed d n p t turn repeats i j m l e =
-    run-same (cell (zeroed d n p t)) (cell t) i j m (λ a h. cell-zeroed d n p t turn repeats (i +ℤ pos a) (j +ℤ pos a) (omega (arith, ints)) (omega (arith, ints)))
-
 -- the right period leads back to the node at which it begins
 IsLooped-zeroed : (r : LocalRule) (n p : ℕ) (t : TailConfig) → 1 ≤ p → RepeatsRight p (cell t) (pos n) → IsLooped r (zeroed (r.width - 1) n p t)
 IsLooped-zeroed r n p t turn repeats =
@@ -53,7 +48,8 @@ label_over-zeroed : (r : LocalRule) (n p : ℕ) (t : TailConfig) → 1 ≤ p →
     → label_over r (zeroed (r.width - 1) n p t) i ≡ label_over r t j
 label_over-zeroed r n p t turn repeats i j l e =
     let d : ℕ = r.width - 1 in
-    ap (local_map r) (cells-zeroed d n p t turn repeats (i -ℤ pos d) (j -ℤ pos d) r.width (omega (arith, ints)) (omega (arith, ints)))
+    ap (local_map r) (run-same (cell (zeroed d n p t)) (cell t) (i -ℤ pos d) (j -ℤ pos d) r.width (λ a h.
+    cell-zeroed d n p t turn repeats (i -ℤ pos d +ℤ pos a) (j -ℤ pos d +ℤ pos a) (omega (arith, ints)) (omega (arith, ints))))
 
 -- two configurations that are equal left of place 0 are so d places further on
 zeroed-same : (d n p : ℕ) (x y : TailConfig) → 1 ≤ p → RepeatsRight p (cell x) (pos n) → RepeatsRight p (cell y) (pos n)

@@ -1,5 +1,5 @@
 -- Normal right splits are the walks in the graph of pairs that lead from the pair of the nodes of zeros into a loop.
-use Rattle.std.proofs.Common.{◌≡◌, ℕ, ◌+◌, ◌-◌, ◌%◌, List, [], ◌∷◌, ◌++◌, length, drop, replicate, slice_index, ℤ, pos, negsuc, ◌+ℤ◌, ◌-ℤ◌, neg_ℤ, sym, ap, ap₂, ◌∙◌, subst, arith}
+use Rattle.std.proofs.Common.{◌≡◌, ℕ, ◌+◌, ◌-◌, ◌%◌, List, [], ◌∷◌, ◌++◌, length, replicate, slice_index, pos, negsuc, ◌+ℤ◌, ◌-ℤ◌, neg_ℤ, sym, ap, ap₂, ◌∙◌, subst, arith}
 use Rattle.std.specs.List.{zip}
 use Rattle.std.proofs.lemmas.Int.{ints}
 use Rattle.std.proofs.lemmas.List.{length-replicate, get_or-replicate}
@@ -8,18 +8,12 @@ use Rattle.word_image.specs.Graphs.{pair_of}
 use Rattle.word_image.proofs.laws.Values.{value-zeros}
 use Rattle.tail_config.specs.Tails.{TailConfig, IsTail, Same, cell, cells}
 use Rattle.tail_config.specs.Splits.{last_letters, IsSettled, IsNormalRightSplit}
-use Rattle.tail_config.proofs.laws.Runs.{length-run, run-by_letters, run-same, drop-run, run-append}
+use Rattle.tail_config.proofs.laws.Runs.{run-by_letters, run-same, last-run, run-append}
 use Rattle.tail_config.proofs.laws.Cells.{cells-middle, cells-right, same_left_part}
 use Rattle.tail_laws.proofs.Nodes.{node_at, same_nodes}
 use Rattle.tail_laws.proofs.Loops.{IsLooped, IsInStep}
 use Rattle.tail_laws.proofs.PairLeads.{PairLeads, pair_at, IsInStep-walk, ShareImage-walk, walk-ShareImage}
 use Rattle.tail_config.proofs.laws.Decisions.{Different-from_not_same}
-
--- the last letters of a run are a run
-pub last_letters-cells : (t : TailConfig) (i j : ℤ) (a n : ℕ) → i +ℤ pos a ≡ j → last_letters n (cells t i (a + n)) ≡ cells t j n
-last_letters-cells t i j a n e =
-    let place : length (cells t i (a + n)) - n ≡ a = omega (arith, length-run (cell t) i (a + n)) in
-    ap (λ b. drop b (cells t i (a + n))) place ∙ drop-run (cell t) i j a n e
 
 -- where the left period is the letter 0 the cells left of place 0 are zeros
 cell-zero : (t : TailConfig) → t.left ≡ 0 ∷ [] → (i : ℕ) → cell t (negsuc i) ≡ 0
@@ -50,14 +44,14 @@ last-middle : (t : TailConfig) (n : ℕ) → t.left ≡ 0 ∷ [] → last_letter
 last-middle t n e =
     let order : n + length t.middle ≡ length t.middle + n = omega arith in
     ap (last_letters n) (zeros-middle t n e ∙ ap (cells t (neg_ℤ (pos n))) order)
-    ∙ last_letters-cells t (neg_ℤ (pos n)) (pos (length t.middle) -ℤ pos n) (length t.middle) n (omega (arith, ints))
+    ∙ last-run (cell t) (neg_ℤ (pos n)) (pos (length t.middle) -ℤ pos n) (length t.middle) n (omega (arith, ints))
 
 -- and those of the other the cells left of its second turn
 last-right : {k : ℕ} {t : TailConfig} → IsTail k t → (n : ℕ) → t.left ≡ 0 ∷ [] → last_letters n (replicate n 0 ++ t.middle ++ t.right) ≡ cells t (pos (length t.middle + length t.right) -ℤ pos n) n
 last-right {k} {t} h n e =
     let order : n + length t.middle + length t.right ≡ length t.middle + length t.right + n = omega arith in
     ap (last_letters n) (zeros-right t n e ∙ ap (cells t (neg_ℤ (pos n))) order)
-    ∙ last_letters-cells t (neg_ℤ (pos n)) (pos (length t.middle + length t.right) -ℤ pos n) (length t.middle + length t.right) n (omega (arith, ints))
+    ∙ last-run (cell t) (neg_ℤ (pos n)) (pos (length t.middle + length t.right) -ℤ pos n) (length t.middle + length t.right) n (omega (arith, ints))
 
 -- the right period of a settled configuration leads back to the node at which it begins
 pub IsLooped-settled : {r : LocalRule} {t : TailConfig} → IsTail r.states t → IsSettled r t → IsLooped r t

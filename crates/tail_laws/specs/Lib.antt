@@ -1,4 +1,4 @@
 pub mod SplitWalks
 pub mod FirstLists
 pub mod Turns
-pub mod FirstWindows
+pub mod Closing

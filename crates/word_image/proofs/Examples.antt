@@ -1,13 +1,11 @@
 -- Worked examples that need a proof: what some definitions hold of, and what they refuse.
 use Rattle.std.proofs.Common.{◌≡◌, ◌≢◌, ℕ, zero, suc, ◌+◌, ◌^◌, ◌<◌, List, [], ◌∷◌, inl, inr, length, take, drop, replicate, Some, refl, sym, ap, ap₂, ◌∙◌, subst, arith}
-use Rattle.std.specs.Prelude.{true, nat_lt, ℤ, pos, negsuc, ◌-ℤ◌, slice_index, slice_get}
-use Rattle.std.specs.List.{list_all}
+use Rattle.std.specs.Prelude.{ℤ, pos, negsuc, ◌-ℤ◌, slice_index, slice_get}
 use Rattle.std.specs.Ordering.{ordering_then, nat_cmp, is_gt}
 use Rattle.std.specs.Cmp.{nat_cmp_is}
 use Rattle.std.specs.Cmp.Lexicographic.{slice_cmp}
 use Rattle.std.specs.declared.cmp.Ordering.TheVariants.{Less, Greater}
 use Rattle.std.proofs.lemmas.Bool.{true≢false}
-use Rattle.std.proofs.lemmas.Bool.Decides.{Decides-by_and, Decides-ltb}
 use Rattle.std.proofs.lemmas.Option.{same_Some}
 use Rattle.std.proofs.lemmas.List.{length-replicate, get_or-drop}
 use Rattle.std.proofs.lemmas.List.Elements.{All-head, All-replicate}
@@ -23,10 +21,7 @@ use Rattle.word_image.specs.PairLists.{IsPairList}
 use Rattle.word_image.specs.FirstPairs.{IsFirstOfRight, IsFirstOfLeft}
 use Rattle.word_image.specs.Examples.{rule184, lossy_at_three, shift, stay, both, zero_rule}
 use Rattle.word_image.proofs.laws.Values.{value-below, word_of-value}
-
--- a list is a word where the test of its letters says so
-word_by_test : (k : ℕ) (w : List ℕ) → list_all (λ a. nat_lt a k) w ≡ true → IsWord k w
-word_by_test k w = (Decides-by_and (λ a. nat_lt a k) (λ a. a < k) (list_all (λ a. nat_lt a k)) (λ a. Decides-ltb a k) refl (λ a v. refl) w).0
+use Rattle.word_image.proofs.laws.Words.{word_by_test}
 
 -- what holds of the four words of two letters holds of each
 each_of_four : (P : List ℕ → Type 0) → P (0 ∷ 0 ∷ []) → P (0 ∷ 1 ∷ []) → P (1 ∷ 0 ∷ []) → P (1 ∷ 1 ∷ []) → (x : List ℕ) → IsWord 2 x → length x ≡ 2 → P x

@@ -27,7 +27,7 @@ none_before (a ∷ v) e =
     let less : word_cmp [] (a ∷ v) ≡ Less = ap (λ o. ordering_then o (slice_cmp nat_cmp [] (a ∷ v))) (sym (nat_cmp_is 0 (length (a ∷ v)) Less (omega arith))) in
     true≢false (sym (ap is_gt e) ∙ ap is_gt less)
 
--- it stands first, and alone
+-- the empty word is the first of a list of nothing else
 first_is : (i : ℕ) (w : List ℕ) → slice_get ([] ∷ []) i ≡ Some w → w ≡ []
 first_is i w at =
     let within : i < 1 = slice_get_within ([] ∷ []) i w at in
@@ -37,7 +37,7 @@ first_is i w at =
 at_first : (w : List ℕ) (i : ℕ) → i ≡ 0 → slice_get (w ∷ []) i ≡ Some w
 at_first w i first = subst (λ j. slice_get (w ∷ []) j ≡ Some w) (sym first) refl
 
--- the least automaton of a surjective rule has one class
+-- the automaton of one class is the least one of a surjective rule
 pub IsLeastAutomaton-surjective : {r : LocalRule} → IsSurjective r → IsLeastAutomaton r (one_class r.states)
 IsLeastAutomaton-surjective {r} every = record {
   words = [] ∷ [];

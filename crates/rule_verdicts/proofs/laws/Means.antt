@@ -3,9 +3,9 @@ use Rattle.std.proofs.Common.{◌≡◌, ◌^◌, ◌<◌, ◌≤◌, length, ar
 use Rattle.std.proofs.Math.Nat.{one-le-pow}
 use Rattle.word_image.specs.LocalRules.{LocalRule, IsRule}
 use Rattle.word_image.specs.Words.{IsSurjective}
-use Rattle.ring_laws.specs.Tables.{HasMean}
-use Rattle.ring_laws.proofs.MeanTables.{HasMean-even}
-use Rattle.eden_laws.proofs.EvenTables.{IsEven-surjective}
+use Rattle.table_laws.specs.Tables.{HasMean}
+use Rattle.table_laws.proofs.MeanTables.{HasMean-even}
+use Rattle.table_laws.proofs.EvenTables.{IsEven-surjective}
 
 -- a table has a letter
 pub some_letters : {r : LocalRule} → IsRule r → 0 < length r.table

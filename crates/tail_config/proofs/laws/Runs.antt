@@ -1,5 +1,5 @@
 -- The runs of letters of a configuration, and their images.
-use Rattle.std.proofs.Common.{◌≡◌, ℕ, suc, ◌+◌, ◌-◌, ◌<◌, ◌≤◌, List, [], ◌∷◌, ◌++◌, length, take, drop, map, get_or, slice_range, ℤ, pos, ◌+ℤ◌, refl, sym, ap, ap₂, ◌∙◌, arith, length-drop, take-append-drop}
+use Rattle.std.proofs.Common.{◌≡◌, ℕ, suc, ◌+◌, ◌-◌, ◌<◌, ◌≤◌, List, [], ◌∷◌, ◌++◌, length, take, drop, get_or, slice_range, ℤ, pos, ◌+ℤ◌, refl, sym, ap, ap₂, ◌∙◌, arith, length-drop, take-append-drop}
 use Rattle.std.specs.List.{range_with_len}
 use Rattle.std.proofs.lemmas.Int.{ints}
 use Rattle.std.proofs.lemmas.List.{length-take, get_or-take, get_or-drop}
@@ -52,6 +52,12 @@ pub drop-run : (x : Config) (i j : ℤ) (a n : ℕ) → i +ℤ pos a ≡ j → d
 drop-run x i j a n e =
     run-by_letters x j n (drop a (run x i (a + n))) (omega (arith, length-drop a (run x i (a + n)), length-run x i (a + n)))
     (λ c h. get_or-drop a (run x i (a + n)) c 0 ∙ get_or-run x i (j +ℤ pos c) (a + n) (a + c) (omega arith) (omega (arith, ints)))
+
+-- the last letters of a run are a run
+pub last-run : (x : Config) (i j : ℤ) (a n : ℕ) → i +ℤ pos a ≡ j → drop (length (run x i (a + n)) - n) (run x i (a + n)) ≡ run x j n
+last-run x i j a n e =
+    let place : length (run x i (a + n)) - n ≡ a = omega (arith, length-run x i (a + n)) in
+    ap (λ b. drop b (run x i (a + n))) place ∙ drop-run x i j a n e
 
 -- two runs side by side are a run
 pub run-append : (x : Config) (i j : ℤ) (a b : ℕ) → i +ℤ pos a ≡ j → run x i (a + b) ≡ run x i a ++ run x j b

@@ -4,11 +4,10 @@ use Rattle.std.specs.List.{repeat}
 use Rattle.std.proofs.Math.Nat.{add-mul}
 use Rattle.std.proofs.lemmas.Int.{ints}
 use Rattle.std.proofs.lemmas.List.{take_at}
-use Rattle.std.proofs.lemmas.List.FromFn.{length-map-range_with_len, get_or-map-range_with_len, fill_by_all}
 use Rattle.word_image.specs.LocalRules.{LocalRule, IsRule, value, local_map}
 use Rattle.word_image.specs.Words.{IsPreimage, IsOrphan}
 use Rattle.tail_config.specs.Configs.{run, image_of}
-use Rattle.tail_config.specs.Tails.{TailConfig, IsTail, cell, cells, image_cell}
+use Rattle.tail_config.specs.Tails.{TailConfig, IsTail, cell, cells}
 use Rattle.tail_config.proofs.laws.Runs.{length-run, IsWord-run, run-same, take-run, drop-run, image-run}
 use Rattle.tail_config.proofs.laws.Cells.{cell-below, cells-middle, cells-left, cells-right}
 use Rattle.tail_config.proofs.laws.Periods.{RepeatsRight-times}
@@ -26,10 +25,9 @@ IsPreimage-placed {r} {t} {p} rule h i j n e =
     let c : TailConfig = p.config in
     let first : ℤ = i -ℤ p.at in
     let labels : run (image_of r (cell c)) first n ≡ cells t i n =
-    fill_by_all (λ a. cell t (i +ℤ pos a)) (run (image_of r (cell c)) first n) n 0 (length-map-range_with_len (λ a. image_cell r c (first +ℤ pos a)) 0 n)
-    (λ a l. let place : i +ℤ pos a +ℤ r.offset -ℤ p.at ≡ first +ℤ pos a +ℤ r.offset = omega (arith, ints) in
-    get_or-map-range_with_len (λ b. image_cell r c (first +ℤ pos b)) 0 n a a 0 l (omega arith)
-    ∙ ap (local_map r) (sym (placed_cells-cells p (i +ℤ pos a +ℤ r.offset) (first +ℤ pos a +ℤ r.offset) r.width place)) ∙ h.cells (i +ℤ pos a)) in
+    run-same (image_of r (cell c)) (cell t) first i n (λ a l.
+    let place : i +ℤ pos a +ℤ r.offset -ℤ p.at ≡ first +ℤ pos a +ℤ r.offset = omega (arith, ints) in
+    ap (local_map r) (sym (placed_cells-cells p (i +ℤ pos a +ℤ r.offset) (first +ℤ pos a +ℤ r.offset) r.width place)) ∙ h.cells (i +ℤ pos a)) in
     record {
       word = IsWord-run (cell-below h.config) j (n + (r.width - 1));
       long = length-run (cell c) j (n + (r.width - 1)) ∙ ap (λ a. a + (r.width - 1)) (sym (length-run (cell t) i n));

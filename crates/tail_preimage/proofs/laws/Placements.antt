@@ -5,7 +5,6 @@ use Rattle.std.proofs.Math.Nat.{suc-mul, zero-mul, add-mul, mul-one, mul-le-mul_
 use Rattle.std.proofs.lemmas.Int.{ints}
 use Rattle.std.proofs.lemmas.Nat.{mul-le}
 use Rattle.std.proofs.lemmas.List.{take-append-drop, take-append-le, drop-append-le, length-take-le, append-nil}
-use Rattle.std.proofs.lemmas.List.FromFn.{length-map-range_with_len, get_or-map-range_with_len, fill_by_all}
 use Rattle.std.proofs.lemmas.List.Elements.{All-take}
 use Rattle.word_image.specs.LocalRules.{LocalRule, IsRule, IsWord, value, word_of, local_map}
 use Rattle.word_image.proofs.laws.Values.{length-word_of, value-injective}
@@ -13,7 +12,7 @@ use Rattle.word_image.proofs.laws.Images.{get_or-image}
 use Rattle.pair_laws.proofs.Joins.{same_node}
 use Rattle.tail_config.specs.Tails.{TailConfig, IsTail, cell, cells}
 use Rattle.tail_config.specs.TailValues.{config_of}
-use Rattle.tail_config.proofs.laws.Runs.{length-run, get_or-run, IsWord-run, slice_range-run, take-run}
+use Rattle.tail_config.proofs.laws.Runs.{length-run, get_or-run, IsWord-run, run-same, slice_range-run, take-run}
 use Rattle.tail_config.proofs.laws.Cells.{cell-below}
 use Rattle.tail_preimage.specs.Walks.{IsWalk, before_last}
 use Rattle.tail_preimage.specs.Preimages.{PlacedConfig, MapsTo, Shape, IsShapedPreimage, stretch, placed_cell, placed_cells}
@@ -104,9 +103,7 @@ IsTail-spelled {r} {t} {s} {x = x} {y = y} {z = z} ht h =
 -- the cells of a placed configuration are cells of the configuration
 pub placed_cells-cells : (p : PlacedConfig) (i j : ℤ) (n : ℕ) → i -ℤ p.at ≡ j → placed_cells p i n ≡ cells p.config j n
 placed_cells-cells p i j n e =
-    fill_by_all (λ a. cell p.config (j +ℤ pos a)) (placed_cells p i n) n 0 (length-map-range_with_len (λ a. placed_cell p (i +ℤ pos a)) 0 n)
-    (λ a l. let place : i +ℤ pos a -ℤ p.at ≡ j +ℤ pos a = omega (arith, ints, e) in
-    get_or-map-range_with_len (λ b. placed_cell p (i +ℤ pos b)) 0 n a a 0 l (omega arith) ∙ ap (cell p.config) place)
+    run-same (placed_cell p) (cell p.config) i j n (λ a l. let place : i +ℤ pos a -ℤ p.at ≡ j +ℤ pos a = omega (arith, ints, e) in ap (cell p.config) place)
 
 -- what n rounds of the left loop span
 lefts-rounds : (t : TailConfig) (s : Shape) (n p : ℕ) → p ≡ s.back * length t.left → n * p + s.before * length t.left ≡ (n * s.back + s.before) * length t.left

@@ -1,7 +1,9 @@
 -- Images and preimages, one letter at a time.
-use Rattle.std.proofs.Common.{◌≡◌, ℕ, ◌+◌, ◌-◌, ◌<◌, ◌≤◌, List, [], ◌∷◌, ◌++◌, length, map, take, drop, get_or, slice_index, slice_range, sym, ap, ap₂, ◌∙◌, ⊎_elim, arith, length-drop}
-use Rattle.std.specs.List.{range_with_len}
+use Rattle.std.proofs.Common.{◌≡◌, ℕ, ◌+◌, ◌-◌, ◌<◌, ◌≤◌, List, [], ◌∷◌, ◌++◌, length, map, take, drop, get_or, slice_index, slice_range, true, refl, sym, ap, ap₂, ◌∙◌, ⊎_elim, arith, length-drop}
+use Rattle.std.specs.Prelude.{nat_lt}
+use Rattle.std.specs.List.{range_with_len, list_all}
 use Rattle.std.proofs.lemmas.Bool.{cases_lt}
+use Rattle.std.proofs.lemmas.Bool.Decides.{Decides-by_and, Decides-ltb}
 use Rattle.std.proofs.lemmas.List.{length_push, length-take-le, same_from_push, nil_from_length, drop-append-le, take-append-le, take_all, take_more, get_or_past}
 use Rattle.std.proofs.lemmas.List.FromFn.{length-map-range_with_len, get_or-map-range_with_len, map-range_with_len_more, fill_by_all}
 use Rattle.std.proofs.lemmas.List.Elements.{All-push, All-take, All-map}
@@ -20,6 +22,10 @@ entry-below {r} rule v =
     ⊎_elim (λ l. rule.letters v 0 l)
     (λ l. let past : get_or r.table v 0 ≡ 0 = get_or_past r.table v 0 l in omega arith)
     (cases_lt v (length r.table))
+
+-- a list is a word where the test of its letters says so
+pub word_by_test : (k : ℕ) (w : List ℕ) → list_all (λ a. nat_lt a k) w ≡ true → IsWord k w
+word_by_test k w = (Decides-by_and (λ a. nat_lt a k) (λ a. a < k) (list_all (λ a. nat_lt a k)) (λ a. Decides-ltb a k) refl (λ a v. refl) w).0
 
 -- a word over k letters is a word over more
 pub IsWord-le : (j k : ℕ) (w : List ℕ) → j ≤ k → IsWord j w → IsWord k w

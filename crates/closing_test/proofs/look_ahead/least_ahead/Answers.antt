@@ -3,7 +3,8 @@ use Rattle.word_image.specs.Sides.{PairGoes}
 use Rattle.word_image.specs.FirstPairs.{IsFirstOf}
 use Rattle.closing_test.specs.LeastAheads.{IsLeastFor, IsFirstAt}
 use Rattle.closing_test.proofs.LookAheads.{Below, IsLeastFor-next, IsLeastFor-windows, ord_max-le, IsLeastRightAhead-first, IsClosing-first}
-use Rattle.tail_laws.proofs.EndlessFirsts.{no_ahead, not_closing}
+use Rattle.pair_laws.proofs.BothWays.{no_ahead}
+use Rattle.tail_laws.proofs.Certainty.{not_closing}
 use Rattle.closing_test.proofs.look_ahead.least_ahead.Goals as goal
 
 pub loop-window-preserved : goal.loop-window-preserved

@@ -1,8 +1,8 @@
 use Rattle.std.proofs.Common.{◌≡◌, ℕ, ◌+◌, ◌*◌, ◌<◌, List, length, count_by, refl, sym, ap₂, subst, ⊎_elim, arith}
 use Rattle.std.specs.Prelude.{◌==◌}
 use Rattle.std.proofs.lemmas.Bool.{cases_eq}
-use Rattle.ring_laws.specs.Tables.{IsEven}
-use Rattle.eden_laws.proofs.EvenTables.{IsEven-surjective}
+use Rattle.table_laws.specs.Tables.{IsEven}
+use Rattle.table_laws.proofs.EvenTables.{IsEven-surjective}
 use Rattle.eden_law.proofs.even.is_even.Goals as goal
 
 -- a letter that stands equally often, after others that do

@@ -4,7 +4,7 @@ use Rattle.std.proofs.Math.Nat.{add-mul, one-mul, mul_comm, mul-le-mul_left}
 use Rattle.std.proofs.lemmas.Bool.{cases_eq}
 use Rattle.std.proofs.lemmas.Grind.{get_or-set_at}
 use Rattle.std.proofs.lemmas.List.{get_or-set_other, length-set}
-use Rattle.eden_laws.specs.ZeroPairs.{count_below}
+use Rattle.table_laws.specs.ZeroPairs.{count_below}
 use Rattle.eden_law.specs.ZeroEdges.{AreZeroEdges}
 use Rattle.eden_law.proofs.zeros.zero_edges.Goals as goal
 

@@ -2,9 +2,9 @@ use Rattle.std.proofs.Common.{◌≡◌, ℕ, ◌+◌, ◌*◌, ◌<◌, ◌≤�
 use Rattle.std.specs.Prelude.{◌==◌, ◌&&◌}
 use Rattle.std.proofs.Math.Nat.{add-mul, one-mul, zero-mul}
 use Rattle.std.proofs.lemmas.Bool.{eq-eqb, ne_eqb}
-use Rattle.eden_laws.specs.ZeroPairs.{count_below, gives_zeros}
-use Rattle.eden_laws.proofs.Counts.{count_below-none, count_below-add, count_below-agree, count_below-never}
-use Rattle.eden_laws.proofs.ZeroPairs.{gives_zeros-block}
+use Rattle.table_laws.specs.ZeroPairs.{count_below, gives_zeros}
+use Rattle.table_laws.proofs.Counts.{count_below-none, count_below-add, count_below-agree, count_below-never}
+use Rattle.table_laws.proofs.ZeroPairs.{gives_zeros-block}
 use Rattle.eden_law.proofs.zeros.zeros_behind.Goals.{then-table-first-eq0, else-table-first-eq0}
 use Rattle.eden_law.proofs.zeros.zeros_behind.Goals as goal
 

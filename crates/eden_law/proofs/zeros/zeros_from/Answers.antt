@@ -1,7 +1,7 @@
 use Rattle.std.proofs.Common.{◌≡◌, ℕ, ◌+◌, ◌≤◌, Bool, true, false, slice_index, sym, ap, ◌∙◌, arith}
 use Rattle.std.specs.Prelude.{◌==◌}
 use Rattle.std.specs.Int.{from_bool}
-use Rattle.eden_laws.proofs.Counts.{count_below-none, count_below-more}
+use Rattle.table_laws.proofs.Counts.{count_below-none, count_below-more}
 use Rattle.eden_law.proofs.zeros.zeros_from.Goals as goal
 
 -- it is 0 or 1

@@ -1,6 +1,6 @@
 use Rattle.std.proofs.Common.{◌≡◌, ◌+◌, ◌≤◌, slice_index}
 use Rattle.std.specs.Prelude.{◌==◌}
-use Rattle.eden_laws.specs.ZeroPairs.{count_below}
+use Rattle.table_laws.specs.ZeroPairs.{count_below}
 use Rattle.eden_law.proofs.zeros.zeros_from.Given as goal
 
 -- how many of the letters so far are 0

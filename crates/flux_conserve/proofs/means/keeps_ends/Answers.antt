@@ -1,6 +1,6 @@
 use Rattle.std.proofs.Common.{◌≡◌, ℕ, ◌-◌, ◌≤◌, List, length, slice_index, sym, ap, ◌∙◌, arith}
 use Rattle.std.proofs.lemmas.Bool.{eq-eqb}
-use Rattle.ring_laws.proofs.MeanTables.{keeps-zeros, keeps-greatest}
+use Rattle.table_laws.proofs.MeanTables.{keeps-zeros, keeps-greatest}
 use Rattle.flux_conserve.proofs.means.keeps_ends.Goals as goal
 
 pub returns-then-table-eq0 : goal.returns-then-table-eq0

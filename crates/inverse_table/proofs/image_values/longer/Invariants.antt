@@ -1,4 +1,4 @@
-use Rattle.std.proofs.Common.{◌≡◌, ◌*◌, ◌%◌, ◌<◌, ◌≤◌, length, vec_capacity}
+use Rattle.std.proofs.Common.{◌≡◌, ◌*◌, ◌%◌, ◌≤◌, length, vec_capacity}
 use Rattle.word_image.specs.LocalRules.{node_count}
 use Rattle.inverse_table.proofs.ImageLaws.{AreLonger}
 use Rattle.inverse_table.proofs.image_values.longer.Given as goal
@@ -7,6 +7,5 @@ abbrev pub invariant-loop-image : goal.invariant-loop-image
 invariant-loop-image l = record {
   longer : AreLonger l.rule l.images l.image-index l.values.items;
   room : length l.images * l.rule.states ≤ vec_capacity l.values;
-  node : l.node ≡ l.image-index % node_count l.rule;
-  below : l.node < node_count l.rule;
+  place : l.place ≡ l.image-index % node_count l.rule * l.rule.states;
 }

@@ -1,7 +1,7 @@
 use Rattle.std.proofs.Common.{◌≡◌, ◌<◌, ◌^◌, slice_index, sym, ap, ap₂, ◌∙◌, subst}
 use Rattle.word_image.specs.Ends.{window_with, end_node}
 use Rattle.word_image.specs.Graphs.{pair_of, pair_count}
-use Rattle.tail_laws.specs.FirstWindows.{with_end, end_pair}
+use Rattle.pair_laws.specs.FirstWindows.{with_end, end_pair}
 use Rattle.rule_lists.proofs.closing_cuts.is_first.Goals as goal
 
 pub returns-then-on-from-eq1 : goal.returns-then-on-from-eq1

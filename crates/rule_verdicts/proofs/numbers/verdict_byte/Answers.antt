@@ -1,8 +1,8 @@
 use Rattle.std.proofs.Common.{◌≡◌, ◌+◌, ◌*◌, length, sum, sym, ◌∙◌, subst}
 use Rattle.std.proofs.lemmas.Bool.{false≢true}
-use Rattle.ring_laws.specs.Tables.{HasMean}
+use Rattle.table_laws.specs.Tables.{HasMean}
 use Rattle.ring_laws.proofs.SameWeights.{IsConserving-own}
-use Rattle.ring_laws.proofs.MeanTables.{HasMean-conserving}
+use Rattle.table_laws.proofs.MeanTables.{HasMean-conserving}
 use Rattle.rule_verdicts.specs.Truths.{table_rule}
 use Rattle.rule_verdicts.proofs.laws.Means.{HasMean-surjective}
 use Rattle.rule_verdicts.proofs.numbers.verdict_byte.Goals as goal

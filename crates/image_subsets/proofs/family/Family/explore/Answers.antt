@@ -44,17 +44,19 @@ returns-then-expand c =
 
 pub mark-requires-clause-sets : goal.mark-requires-clause-sets
 mark-requires-clause-sets c i inside =
-    subst (λ m. slice_index c.loop-place.self-inside.sets i < 2 ^ m) (sym c.nodes-self-inside.ensures.nodes) (set-below c.loop-place.invariant.search.0 i inside)
+    subst (λ m. slice_index c.loop-place.self-inside.sets i < 2 ^ m) (sym c.nodes.ensures.nodes) (set-below c.loop-place.invariant.search.0 i inside)
 
 pub invariant_of-self-2 : goal.invariant_of-self-2
 invariant_of-self-2 c = (
   c.loop-place.invariant.capacity,
   IsTree-search c.full.ensures.rule c.loop-place.invariant.search.0,
   (λ some none. record {
-    few = omega (arith, c.nodes-self-inside.ensures.rule.shape.most_nodes, c.nodes-self-inside.ensures.nodes);
-    within = λ i inside. subst (λ m. slice_index c.loop-place.self-inside.sets i < 2 ^ m) (sym c.nodes-self-inside.ensures.nodes) (set-below c.loop-place.invariant.search.0 i inside);
+    nodes = c.nodes.result;
+    few = omega (arith, c.nodes.ensures.rule.shape.most_nodes, c.nodes.ensures.nodes);
+    room = c.mark.ensures.room;
+    within = λ i inside. subst (λ m. slice_index c.loop-place.self-inside.sets i < 2 ^ m) (sym c.nodes.ensures.nodes) (set-below c.loop-place.invariant.search.0 i inside);
     apart = c.len.ensures.apart;
-    marked = c.mark.ensures;
+    marked = c.mark.ensures.marks;
   }),
 )
 

@@ -2,7 +2,7 @@ use Rattle.std.proofs.Common.{◌≡◌, ◌≤◌, ℕ, List, length, sym, ap, 
 use Rattle.std.proofs.lemmas.Bool.{false≢true}
 use Rattle.word_image.specs.LocalRules.{LocalRule, IsRule}
 use Rattle.word_image.proofs.laws.RuleFaults.{window_count-le}
-use Rattle.ring_laws.specs.Tables.{HasMean}
+use Rattle.table_laws.specs.Tables.{HasMean}
 use Rattle.ring_laws.proofs.SameWeights.{IsConserving-own}
 use Rattle.rule_verdicts.proofs.laws.Means.{HasMean-surjective}
 use Rattle.rule_verdicts.proofs.truths.Truths.of.Goals as goal

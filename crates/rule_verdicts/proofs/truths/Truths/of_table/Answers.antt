@@ -1,7 +1,7 @@
 use Rattle.std.proofs.Common.{◌≡◌, sym, ◌∙◌}
 use Rattle.std.proofs.lemmas.Bool.{false≢true}
 use Rattle.ring_laws.proofs.SameWeights.{IsConserving-own}
-use Rattle.ring_laws.proofs.MeanTables.{HasMean-conserving}
+use Rattle.table_laws.proofs.MeanTables.{HasMean-conserving}
 use Rattle.rule_verdicts.specs.Truths.{table_rule}
 use Rattle.rule_verdicts.proofs.laws.Means.{HasMean-surjective}
 use Rattle.rule_verdicts.proofs.truths.Truths.of_table.Goals as goal

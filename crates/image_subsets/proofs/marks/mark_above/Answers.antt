@@ -1,0 +1,21 @@
+use Rattle.std.proofs.Common.{◌*◌, length, refl, subst, arith}
+use Rattle.image_subsets.specs.Marks.{AreMarksTo}
+use Rattle.image_subsets.proofs.MarkSpreads.{AreMarksTo-start, AreMarksTo-next, AreAbove-all}
+use Rattle.image_subsets.proofs.marks.mark_above.Goals as goal
+
+pub loop-u-init : goal.loop-u-init
+loop-u-init c = record { long = refl; marks = λ sets listed. AreMarksTo-start listed }
+
+pub loop-u-preserved : goal.loop-u-preserved
+loop-u-preserved c =
+    let h = c.loop-u.invariant in
+    record {
+      long = omega (arith, h.long);
+      marks = λ sets listed. AreMarksTo-next sets c.args.n c.loop-u.u c.loop-u.rows c.spread.new.rows (64 * length c.loop-u.rows) c.requires.nodes c.loop-u-test.true
+          (omega (arith, c.requires.room, h.long)) c.spread.ensures (h.marks sets listed);
+    }
+
+pub returns : goal.returns
+returns c sets listed =
+    AreAbove-all sets c.args.n c.loop-u.rows
+    (subst (λ m. AreMarksTo sets c.args.n m c.loop-u.rows) (omega (arith, c.loop-u.auto.u-end, c.loop-u-test.false)) (c.loop-u.invariant.marks sets listed))

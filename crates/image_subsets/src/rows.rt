@@ -1,0 +1,83 @@
+//! Rows of marks on sets of nodes, 64 sets a row: set s is bit s % 64 of row s / 64.
+
+ghost use Rattle.std.specs.Prelude.{◌≡◌, ◌+◌, ◌*◌, ◌/◌, ◌<◌, ◌≤◌, ◌↔◌, ◌⊎◌, ℕ, length, Contains, IsTrue, IsBitSet};
+ghost use Rattle.image_subsets.specs.Marks.{IsSetMarked, IsSpreadTo, HoldsWithout};
+
+use word_image::MOST_NODES;
+
+/// How many sets a row has.
+pub const ROW: usize = 64;
+
+/// How many rows have all sets of sixteen nodes.
+pub const MOST_ROWS: usize = (1 << MOST_NODES) / ROW;
+
+/// How many nodes the sets of one row are of.
+const LOW_NODES: u8 = 6;
+
+/// For each of these nodes the sets of a row that have it.
+const WITH_LOW_NODE: [u64; 6] = [
+    0xaaaa_aaaa_aaaa_aaaa,
+    0xcccc_cccc_cccc_cccc,
+    0xf0f0_f0f0_f0f0_f0f0,
+    0xff00_ff00_ff00_ff00,
+    0xffff_0000_ffff_0000,
+    0xffff_ffff_0000_0000,
+];
+
+/// Whether a set is marked.
+pub fn is_marked(rows: &[u64], set: u16) -> bool
+    requires { set / 64 < length rows.now }
+    ensures { IsTrue result ↔ IsSetMarked rows.now set }
+{
+    rows[usize::from(set / 64)] >> (set % 64) & 1 == 1
+}
+
+/// Takes the marks from the rows of these sets.
+pub fn unmark(rows: &mut [u64], sets: &[u16])
+    requires { 1024 ≤ length rows.old }
+    ensures { (x : ℕ) → IsSetMarked rows.new x → IsSetMarked rows.old x × ¬ Contains sets.now x }
+{
+    for set in sets {
+        rows[usize::from(*set / 64)] = 0;
+    }
+}
+
+/// Marks those sets that have node u and without it are marked.
+pub fn spread(rows: &mut [u64], u: u8)
+    requires node { u < 16 }
+    requires rows { length rows.old ≤ 1024 }
+    ensures { IsSpreadTo u (64 * length rows.old) rows.old rows.old rows.new }
+{
+    for i in 0..rows.len() {
+        let more = with_node(rows, i, u);
+        rows[i] |= more;
+    }
+}
+
+/// Marks those sets that have node u and without it are marked in other rows.
+pub fn spread_from(rows: &mut [u64], others: &[u64], u: u8)
+    requires node { u < 16 }
+    requires most { length others.now ≤ 1024 }
+    requires same { length rows.old ≡ length others.now }
+    ensures { (x : ℕ) → x < 64 * length others.now → (IsSetMarked rows.new x ↔ (IsSetMarked rows.old x ⊎ HoldsWithout others.now u x)) }
+{
+    for i in 0..rows.len() {
+        rows[i] |= with_node(others, i, u);
+    }
+}
+
+/// Those sets of row i that have node u and without it are marked.
+fn with_node(rows: &[u64], i: usize, u: u8) -> u64
+    requires node { u < 16 }
+    requires row { i < length rows.now }
+    requires most { i < 1024 }
+    ensures { (b : ℕ) → b < 64 → (IsBitSet result b ↔ HoldsWithout rows.now u (64 * i + b)) }
+{
+    if u < LOW_NODES {
+        rows[i] << (1u8 << u) & WITH_LOW_NODE[usize::from(u)]
+    } else if i >> (u - LOW_NODES) & 1 == 1 {
+        rows[i - (1 << (u - LOW_NODES))]
+    } else {
+        0
+    }
+}

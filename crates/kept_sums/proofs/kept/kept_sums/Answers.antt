@@ -1,0 +1,49 @@
+use Rattle.std.proofs.Common.{◌<◌, ◌≤◌, length, ⊎_elim, arith}
+use Rattle.std.proofs.lemmas.Bool.{cases_lt}
+use Rattle.kept_sums.specs.Spans.{entry}
+use Rattle.kept_sums.proofs.laws.Densities.{IsKept-short_rings}
+use Rattle.kept_sums.proofs.laws.Ranges.{short}
+use Rattle.kept_sums.proofs.laws.Starts.{IsZero-none, RowsKeep-zeros}
+use Rattle.kept_sums.proofs.kept.kept_sums.Goals as goal
+
+pub overflow_add-count-end : goal.overflow_add-count-end
+overflow_add-count-end c = omega (arith, short c.m.ensures.rule c.args.range c.requires.few)
+
+pub overflow_mul-count-end : goal.overflow_mul-count-end
+overflow_mul-count-end c = omega (arith, short c.m.ensures.rule c.args.range c.requires.few)
+
+pub returns : goal.returns
+returns c =
+    let r = c.args.rule.now in
+    let rule = c.m.ensures.rule in
+    let (stage, keep) = c.loop-count.invariant in
+    let wide = rule.shape.least_width in
+    let width = c.m.ensures.width in
+    record {
+      stage = stage;
+      kept = λ i l. IsKept-short_rings rule c.args.range (entry _ i) c.requires.some (λ p ring fits. keep p ring (omega arith) i l);
+    }
+
+pub returns-then-not-has_row : goal.returns-then-not-has_row
+returns-then-not-has_row c =
+    let r = c.args.rule.now in
+    let (stage, keep) = c.loop-count.invariant in
+    record {
+      stage = stage;
+      kept = RowsKeep-zeros c.m.ensures.rule c.args.range _ c.requires.few (IsZero-none stage (c.has_row.ensures.none c.if-not-has_row.true));
+    }
+
+pub loop-count-preserved : goal.loop-count-preserved
+loop-count-preserved c =
+    let (stage, keep) = c.loop-count.invariant in
+    let made = c.narrowed_by_rings-sums.ensures in (
+      made.stage,
+      λ q ring l.
+          ⊎_elim
+          (λ (less : length q < c.loop-count.count). made.others q ring (keep q ring less))
+          (λ (most : c.loop-count.count ≤ length q). made.keep q ring (omega arith))
+          (cases_lt (length q) c.loop-count.count),
+    )
+
+pub narrowed_by_rings-sums-requires-clause-most : goal.narrowed_by_rings-sums-requires-clause-most
+narrowed_by_rings-sums-requires-clause-most c = omega (arith, short c.m.ensures.rule c.args.range c.requires.few)

@@ -1,0 +1,84 @@
+-- Weights are kept exactly where they have a flux; and weights of letters from 0 on exactly where the rule conserves them.
+use Rattle.std.proofs.Common.{◌≡◌, ℕ, ◌+◌, ◌-◌, ◌*◌, ◌%◌, ◌<◌, ◌≤◌, ◌↔◌, List, [], ◌∷◌, length, take, drop, sum_by, slice_index, ℤ, pos, ◌+ℤ◌, ◌-ℤ◌, refl, sym, ap, ap₂, ◌∙◌, arith, length-drop}
+use Rattle.std.proofs.Math.Nat.{mod-eq_of_lt, pow-zero}
+use Rattle.std.proofs.lemmas.Int.{ints}
+use Rattle.std.proofs.lemmas.List.{length-take-le}
+use Rattle.std.proofs.lemmas.List.Sums.{sum_by-cons}
+use Rattle.std.proofs.lemmas.List.Elements.{All-take, All-drop}
+use Rattle.std.proofs.lemmas.List.FromFn.{fill_by_all}
+use Rattle.word_image.specs.LocalRules.{LocalRule, IsRule, IsWord, value, word_of}
+use Rattle.word_image.specs.Rings.{ring_letters, ring_image, IsConserving}
+use Rattle.word_image.proofs.laws.Rings.{IsWord-ring_letters}
+use Rattle.word_image.proofs.laws.RingSums.{ring_letters-turn}
+use Rattle.word_image.proofs.laws.Values.{word_of-value}
+use Rattle.ring_laws.proofs.Rings.{length-ring_letters, take-ring_letters, drop-ring_letters}
+use Rattle.kept_sums.specs.Sums.{sum_at, blocks, IsKept}
+use Rattle.kept_sums.specs.Fluxes.{IsFluxOf}
+use Rattle.kept_sums.proofs.laws.Spans.{sum_to-agree}
+use Rattle.kept_sums.proofs.laws.Turns.{sum_to-steps}
+use Rattle.kept_sums.proofs.laws.Locals.{potential, window-potential}
+use Rattle.kept_sums.proofs.laws.Densities.{window_gain, gain-windows, KeepsSumOf-gain, gain-KeepsSumOf}
+
+-- kept weights have a flux
+pub IsFluxOf-kept : {r : LocalRule} → IsRule r → (range : ℕ) (weight : ℕ → ℤ) → 1 ≤ range → IsKept range weight r → (phi : ℕ → ℤ) × IsFluxOf range weight r phi
+IsFluxOf-kept {r} rule range weight some kept =
+    let states = rule.shape.least_states in
+    let wide = rule.shape.least_width in
+    let k : ℕ = r.states in
+    let d : ℕ = range + (r.width - 1) - 1 in
+    let h : List ℕ → ℤ = window_gain r range weight in
+    let phi : ℕ → ℤ = λ v. potential h d (word_of k d v) in
+    let back : (u : List ℕ) → IsWord k u → length u ≡ d → phi (value k u) ≡ potential h d u = λ u word long.
+    ap (potential h d) (ap (λ n. word_of k n (value k u)) (sym long) ∙ word_of-value k u word) in (
+      phi,
+      record {
+        flows = λ w word long.
+            let one : length w - 1 ≡ d = omega arith in
+            let first = back (take (length w - 1) w) (All-take (λ a. a < k) (length w - 1) w word) (length-take-le (length w - 1) w (omega arith) ∙ one) in
+            let last = back (drop 1 w) (All-drop (λ a. a < k) 1 w word) (omega (arith, length-drop 1 w)) in
+            window-potential k h d (omega arith) (λ p ring short. sym (gain-windows rule range d weight p (omega arith) ring.some) ∙ KeepsSumOf-gain range weight r p (kept p ring)) w word (omega arith)
+            ∙ ap₂ (λ (x y : ℤ). x -ℤ y) (ap (λ n. potential h d (take n w)) (sym one) ∙ sym first) (sym last);
+      },
+    )
+
+-- weights that have a flux are kept
+pub IsKept-flux : {r : LocalRule} → IsRule r → (range : ℕ) (weight : ℕ → ℤ) (phi : ℕ → ℤ) → 1 ≤ range → IsFluxOf range weight r phi → IsKept range weight r
+IsKept-flux {r} rule range weight phi some flux p ring =
+    let wide = rule.shape.least_width in
+    let k : ℕ = r.states in
+    let d : ℕ = range + (r.width - 1) - 1 in
+    let at_place : ℕ → ℤ = λ i. phi (value k (ring_letters p (pos i) d)) in
+    let step : (i : ℕ) → i < length p → window_gain r range weight (ring_letters p (pos i) (d + 1)) ≡ at_place i -ℤ at_place (i + 1) = λ i l.
+    let w : List ℕ = ring_letters p (pos i) (d + 1) in
+    let long : length w ≡ d + 1 = length-ring_letters p (pos i) (d + 1) in
+    let less : length w - 1 ≡ d = omega arith in
+    let next : 1 + d ≡ d + 1 = omega arith in
+    let first : take (length w - 1) w ≡ ring_letters p (pos i) d = ap (λ n. take n w) less ∙ take-ring_letters p (pos i) (d + 1) d (omega arith) in
+    let last : drop 1 w ≡ ring_letters p (pos i +ℤ pos 1) d = ap (λ n. drop 1 (ring_letters p (pos i) n)) (sym next) ∙ drop-ring_letters p (pos i) 1 d in
+    flux.flows w (IsWord-ring_letters ring (pos i) (d + 1)) (omega arith) ∙ ap₂ (λ (x y : List ℕ). phi (value k x) -ℤ phi (value k y)) first last in
+    let whole : pos (length p) ≡ pos 0 +ℤ pos (length p) = omega (arith, ints) in
+    let again : at_place (length p) ≡ at_place 0 = ap (λ o. phi (value k (ring_letters p o d))) whole ∙ ap (λ x. phi (value k x)) (ring_letters-turn p (pos 0) d ring.some) in
+    gain-KeepsSumOf range weight r p
+    (gain-windows rule range d weight p (omega arith) ring.some
+    ∙ sum_to-agree (length p) step ∙ sum_to-steps (length p) at_place ∙ ap (λ (x : ℤ). at_place 0 -ℤ x) again ∙ omega (arith, ints))
+
+-- the words of one letter round a ring are its letters
+blocks-one : (k : ℕ) (p : List ℕ) → blocks k 1 p ≡ p
+blocks-one k p =
+    sym (fill_by_all (λ i. value k (ring_letters p (pos i) 1)) p (length p) 0 refl (λ i l.
+    let e : i + 0 ≡ i = omega arith in
+    let value_is : value k (slice_index p ((i + 0) % length p) ∷ []) ≡ slice_index p ((i + 0) % length p) = let one = ap (λ n. slice_index p ((i + 0) % length p) * n) (pow-zero k) in omega (arith, one) in
+    sym (value_is ∙ ap (λ j. slice_index p (j % length p)) e ∙ ap (slice_index p) (mod-eq_of_lt l))))
+
+-- sums of numbers from 0 on, as integers
+sum_at-pos : (weight : ℕ → ℕ) (w : List ℕ) → sum_at (λ a. pos (weight a)) w ≡ pos (sum_by weight w)
+sum_at-pos weight [] = refl
+sum_at-pos weight (a ∷ w) = let rest = sum_at-pos weight w in let parts = sum_by-cons weight a w in omega (arith, ints)
+
+-- weights of letters from 0 on are kept exactly where the rule conserves them
+pub IsKept-conserving : (weight : ℕ → ℕ) (r : LocalRule) → IsKept 1 (λ a. pos (weight a)) r ↔ IsConserving weight r
+IsKept-conserving weight r =
+    let total : (q : List ℕ) → sum_at (λ a. pos (weight a)) (blocks r.states 1 q) ≡ pos (sum_by weight q) = λ q. ap (sum_at (λ a. pos (weight a))) (blocks-one r.states q) ∙ sum_at-pos weight q in (
+      λ kept p ring. let before = total p in let after = total (ring_image r p) in let same = kept p ring in omega (arith, ints, before, after, same),
+      λ keep p ring. total p ∙ ap pos (keep p ring) ∙ sym (total (ring_image r p)),
+    )

@@ -1,0 +1,60 @@
+-- Rings of integers: products over sums, and that a product is zero only where a factor is.
+use Rattle.std.proofs.Common.{◌≡◌, ℕ, zero, suc, ◌*◌, ◌≤◌, ℤ, pos, negsuc, ◌+ℤ◌, ◌-ℤ◌, ◌*ℤ◌, neg_ℤ, refl, sym, ap, ap₂, ◌∙◌, arith}
+use Rattle.std.proofs.lemmas.Int.{ints}
+use borrow.Author.Differences.{up, down, sum_is_lem, product_is, neg_is}
+
+-- a product with a sum
+pub mul-add : (x a b : ℤ) → x *ℤ (a +ℤ b) ≡ (x *ℤ a) +ℤ (x *ℤ b)
+mul-add x a b =
+    let first = ap (λ (n : ℕ). up x * n) (sum_is_lem a b) in
+    let second = ap (λ (n : ℕ). down x * n) (sum_is_lem a b) in
+    omega (arith, ints)
+
+-- the factors of a product change places
+pub mul-comm : (a b : ℤ) → a *ℤ b ≡ b *ℤ a
+mul-comm a b = omega (arith, ints)
+
+-- a product with a negative
+pub mul-neg : (x a : ℤ) → x *ℤ neg_ℤ a ≡ neg_ℤ (x *ℤ a)
+mul-neg x a =
+    let one = ap (λ (n : ℕ). up x * n) (neg_is a).0 in
+    let two = ap (λ (n : ℕ). down x * n) (neg_is a).0 in
+    let three = ap (λ (n : ℕ). up x * n) (neg_is a).1 in
+    let four = ap (λ (n : ℕ). down x * n) (neg_is a).1 in
+    omega (arith, ints)
+
+-- a product with a difference
+pub mul-sub : (x a b : ℤ) → x *ℤ (a -ℤ b) ≡ (x *ℤ a) -ℤ (x *ℤ b)
+mul-sub x a b = mul-add x a (neg_ℤ b) ∙ ap (λ (z : ℤ). (x *ℤ a) +ℤ z) (mul-neg x b)
+
+-- the product of a sum
+pub add-mul : (a b x : ℤ) → (a +ℤ b) *ℤ x ≡ (a *ℤ x) +ℤ (b *ℤ x)
+add-mul a b x = mul-comm (a +ℤ b) x ∙ mul-add x a b ∙ ap₂ (λ (u v : ℤ). u +ℤ v) (mul-comm x a) (mul-comm x b)
+
+-- the product of three numbers, from either end
+pub mul-assoc : (a b c : ℤ) → (a *ℤ b) *ℤ c ≡ a *ℤ (b *ℤ c)
+mul-assoc a b c =
+    let one = ap (λ (n : ℕ). n * up c) (product_is a b).0 in
+    let two = ap (λ (n : ℕ). n * down c) (product_is a b).0 in
+    let three = ap (λ (n : ℕ). n * up c) (product_is a b).1 in
+    let four = ap (λ (n : ℕ). n * down c) (product_is a b).1 in
+    let five = ap (λ (n : ℕ). up a * n) (product_is b c).0 in
+    let six = ap (λ (n : ℕ). down a * n) (product_is b c).0 in
+    let seven = ap (λ (n : ℕ). up a * n) (product_is b c).1 in
+    let eight = ap (λ (n : ℕ). down a * n) (product_is b c).1 in
+    omega (arith, ints)
+
+-- two factors change places
+pub mul-swap : (a b c : ℤ) → a *ℤ (b *ℤ c) ≡ b *ℤ (a *ℤ c)
+mul-swap a b c = sym (mul-assoc a b c) ∙ ap (λ (x : ℤ). x *ℤ c) (mul-comm a b) ∙ mul-assoc b a c
+
+-- a positive number times a number that isn't 0 isn't 0
+pub zero-of_times : (n : ℕ) (x : ℤ) → 1 ≤ n → pos n *ℤ x ≡ pos 0 → x ≡ pos 0
+zero-of_times zero x some e = absurd (omega arith)
+zero-of_times (suc n) (pos zero) some e = refl
+zero-of_times (suc n) (pos (suc a)) some e = absurd (omega (arith, ints))
+zero-of_times (suc n) (negsuc a) some e = absurd (omega (arith, ints))
+
+-- the product of a difference
+pub sub-mul : (a b x : ℤ) → (a -ℤ b) *ℤ x ≡ (a *ℤ x) -ℤ (b *ℤ x)
+sub-mul a b x = mul-comm (a -ℤ b) x ∙ mul-sub x a b ∙ ap₂ (λ (u v : ℤ). u -ℤ v) (mul-comm x a) (mul-comm x b)

@@ -1,0 +1,70 @@
+-- The limits of the shapes: no small solution has a number above 2^56.
+use Rattle.std.proofs.Common.{◌≡◌, ℕ, zero, suc, ◌+◌, ◌-◌, ◌*◌, ◌^◌, ◌<◌, ◌≤◌, ap, ◌∙◌, ⊎_elim, arith}
+use Rattle.std.proofs.Math.Nat.{pow-le-pow_left, pow-le-pow_right, pow-suc, pow-zero}
+use Rattle.std.proofs.lemmas.Bool.{cases_lt}
+use Rattle.word_image.specs.LocalRules.{LocalRule, IsRule}
+use Rattle.kept_sums.proofs.laws.Bounds.{free_count}
+
+-- a power of 1
+one_pow : (n : ℕ) → 1 ^ n ≡ 1
+one_pow zero = pow-zero 1
+one_pow (suc n) = pow-suc 1 n ∙ omega (arith, one_pow n)
+
+-- a power that is at most 16 has a small exponent
+exponent : (b c k n : ℕ) → 1 ≤ b → b ≤ k → 16 < b ^ c → k ^ n ≤ 16 → n < c
+exponent b c k n some least more few =
+    ⊎_elim
+    (λ (less : n < c). less)
+    (λ (most : c ≤ n).
+    let base : b ^ n ≤ k ^ n = pow-le-pow_left least n in
+    let grows : b ^ c ≤ b ^ n = pow-le-pow_right some {i = c} {j = n} most in
+    absurd (omega arith))
+    (cases_lt n c)
+
+-- a power of a number and an exponent that have bounds
+power : (b e base top : ℕ) → b ≤ base → e ≤ top → 1 ≤ base → base ^ top ≤ 2 ^ 56 → b ^ e ≤ 2 ^ 56
+power b e base top one two some within =
+    let first : b ^ e ≤ base ^ e = pow-le-pow_left one e in
+    let second : base ^ e ≤ base ^ top = pow-le-pow_right some {i = e} {j = top} two in
+    omega arith
+
+-- the free places of two, three, four, and more states
+free_two : (k p : ℕ) → k ≡ 2 → p * k ≤ 16 → p * k - p ≤ 8
+free_two k p e l = let here = ap (λ j. p * j) e in omega arith
+
+-- at most 12 places of three states are free
+free_three : (k p : ℕ) → k ≡ 3 → p * k ≤ 16 → p * k - p ≤ 12
+free_three k p e l = let here = ap (λ j. p * j) e in omega arith
+
+-- at most 12 places of four states are free
+free_four : (k p : ℕ) → k ≡ 4 → p * k ≤ 16 → p * k - p ≤ 12
+free_four k p e l = let here = ap (λ j. p * j) e in omega arith
+
+-- in no shape is the bound of a small solution above 2^56
+pub limits : {r : LocalRule} → IsRule r → (range h e : ℕ) → 1 ≤ range → r.states ^ range ≤ 16 → h + 3 ≡ 2 * (r.width + range) → e ≤ free_count r range + 1 → (2 * h) ^ e ≤ 2 ^ 56
+limits {r} rule range h e some few long most =
+    let k : ℕ = r.states in
+    let p : ℕ = k ^ (range - 1) in
+    let states = rule.shape.least_states in
+    let nodes = rule.shape.most_nodes in
+    let wide = rule.shape.most_width in
+    let least = rule.shape.least_width in
+    let split : k ^ range ≡ p * k = let next : range ≡ suc (range - 1) = omega arith in ap (λ n. k ^ n) next ∙ pow-suc k (range - 1) in
+    let positive : 1 ≤ p = let one : 1 ^ (range - 1) ≤ p = pow-le-pow_left (omega arith) (range - 1) in let e = one_pow (range - 1) in omega arith in
+    ⊎_elim
+    (λ (two : k < 3).
+    let short = exponent 2 5 k range (omega arith) states (omega arith) few in
+    let free = free_two k p (omega arith) (omega arith) in
+    power (2 * h) e 30 9 (omega arith) (omega arith) (omega arith) (omega arith))
+    (λ (more : 3 ≤ k). ⊎_elim
+    (λ (middle : k < 5).
+    let short = exponent 3 3 k range (omega arith) more (omega arith) few in
+    let narrow = exponent 3 3 k (r.width - 1) (omega arith) more (omega arith) nodes in
+    let free : p * k - p ≤ 12 = ⊎_elim (λ (three : k < 4). free_three k p (omega arith) (omega arith)) (λ (four : 4 ≤ k). free_four k p (omega arith) (omega arith)) (cases_lt k 4) in
+    power (2 * h) e 14 13 (omega arith) (omega arith) (omega arith) (omega arith))
+    (λ (many : 5 ≤ k).
+    let short = exponent 5 2 k range (omega arith) many (omega arith) few in
+    let narrow = exponent 5 2 k (r.width - 1) (omega arith) many (omega arith) nodes in
+    power (2 * h) e 6 16 (omega arith) (omega arith) (omega arith) (omega arith))
+    (cases_lt k 5))
+    (cases_lt k 3)

@@ -1,0 +1,27 @@
+-- Words of which there are at most 16 have at most 4 letters.
+use Rattle.std.proofs.Common.{ℕ, ◌+◌, ◌*◌, ◌^◌, ◌<◌, ◌≤◌, ⊎_elim, arith}
+use Rattle.std.proofs.Math.Nat.{pow-le-pow_left, pow-le-pow_right}
+use Rattle.std.proofs.lemmas.Bool.{cases_lt}
+use Rattle.word_image.specs.LocalRules.{LocalRule, IsRule}
+
+-- words of which there are at most 16 have at most 4 letters
+pub few : (k range : ℕ) → 2 ≤ k → k ^ range ≤ 16 → range ≤ 4
+few k range some most =
+    ⊎_elim
+    (λ (less : range < 5). omega arith)
+    (λ (more : 5 ≤ range).
+    let base : 2 ^ range ≤ k ^ range = pow-le-pow_left some range in
+    let exponent : 2 ^ 5 ≤ 2 ^ range = pow-le-pow_right (omega arith) {i = 5} {j = range} more in
+    absurd (omega arith))
+    (cases_lt range 5)
+
+-- a window of such words has few letters
+pub short : {r : LocalRule} → IsRule r → (range : ℕ) → r.states ^ range ≤ 16 → r.width + range ≤ 9
+short {r} rule range most =
+    let wide = rule.shape.most_width in
+    let states = rule.shape.least_states in
+    omega (arith, few r.states range states most)
+
+-- a ring has at most 15 letters
+pub few_letters : {r : LocalRule} → IsRule r → (range count : ℕ) → r.states ^ range ≤ 16 → count + 3 ≤ 2 * (r.width + range) → count ≤ 15
+few_letters rule range count few fits = let wide = short rule range few in omega arith

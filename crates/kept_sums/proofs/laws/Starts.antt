@@ -1,0 +1,153 @@
+-- The first stage: each free place has the row that gives it the weight 1.
+use Rattle.std.proofs.Common.{◌≡◌, ◌≢◌, ℕ, ◌-◌, ◌^◌, ◌<◌, ◌≤◌, List, [], replicate, slice_index, slice_index_or, ℤ, pos, ◌*ℤ◌, sym, ap, subst, ◌∙◌, ⊎_elim, arith}
+use Rattle.std.proofs.Math.Nat.{eq-one_of_dvd-one}
+use Rattle.std.proofs.Math.ListN.{get_or-eq_default}
+use Rattle.std.specs.Int.RustNames.{unsigned_abs}
+use Prim.Native.Nat.{◌∣◌}
+use Rattle.std.proofs.lemmas.Int.{ints}
+use Rattle.std.proofs.lemmas.Bool.{cases_lt}
+use Rattle.std.proofs.lemmas.List.{get_or-replicate, length-replicate}
+use Rattle.word_image.specs.LocalRules.{LocalRule, IsRule}
+use Rattle.word_image.proofs.laws.Lists.{slice_index-zeros}
+use Rattle.kept_sums.specs.Sums.{IsKept, sum_to}
+use Rattle.kept_sums.specs.Rows.{at, IsUnit, IsCombined}
+use Rattle.kept_sums.specs.Spans.{entry, IsSpanned}
+use Rattle.kept_sums.specs.Stages.{IsFree, IsZero, IsStage}
+use Rattle.kept_sums.proofs.laws.Parts.{at-replicate}
+use Rattle.kept_sums.proofs.laws.Spans.{sum_to-one}
+use Rattle.kept_sums.proofs.laws.Stages.{is_free, same_or_other}
+use Rattle.kept_sums.proofs.laws.Densities.{gain-KeepsSumOf}
+use Rattle.kept_sums.proofs.laws.Narrowed.{gain_at-zero}
+use Rattle.kept_sums.proofs.laws.AfterRings.{IsWord-blocks, within, IsRing-ring_image}
+
+-- rows of zeros have them everywhere
+pub entry-zeros : (i a : ℕ) → entry (replicate 16 (replicate 16 (pos 0))) i a ≡ pos 0
+entry-zeros i a =
+    ⊎_elim
+    (λ (l : i < 16). ap (λ row. at row a) (get_or-replicate 16 i (replicate 16 (pos 0)) [] l) ∙ at-replicate 16 a)
+    (λ (l : 16 ≤ i). ap (λ row. at row a) (get_or-eq_default (replicate 16 (replicate 16 (pos 0))) [] (omega (arith, length-replicate 16 (replicate 16 (pos 0))))))
+    (cases_lt i 16)
+
+-- the rows from first on and before size have one number that isn't 0, and the others none
+pub record AreUnits (first size : ℕ) (rows : List (List ℤ)) : Type 0 where
+  pub units : (i : ℕ) → first ≤ i → i < size → IsUnit i (slice_index_or rows i [])
+  pub before : (i : ℕ) → i < first → (a : ℕ) → entry rows i a ≡ pos 0
+  pub after : (i : ℕ) → size ≤ i → (a : ℕ) → entry rows i a ≡ pos 0
+
+-- beside the places of the rows there are zeros
+off : {first size : ℕ} {rows : List (List ℤ)} → AreUnits first size rows → (i a : ℕ) → a ≢ i → entry rows i a ≡ pos 0
+off {first} {size} {rows} units i a other =
+    ⊎_elim
+    (λ (l : i < first). units.before i l a)
+    (λ (l : first ≤ i). ⊎_elim (λ (h : i < size). (units.units i l h).others a other) (λ (h : size ≤ i). units.after i h a) (cases_lt i size))
+    (cases_lt i first)
+
+-- a row that isn't in a free place is one of zeros
+past : {k range : ℕ} {rows : List (List ℤ)} → AreUnits (k ^ (range - 1)) (k ^ range) rows → (i : ℕ) → ¬ IsFree k range i → IsZero rows i
+past {k} {range} {rows} units i outside a _ =
+    ⊎_elim
+    (λ (l : i < k ^ (range - 1)). units.before i l a)
+    (λ (l : k ^ (range - 1) ≤ i). ⊎_elim (λ (h : i < k ^ range). absurd (outside (record { least = l; most = h }))) (λ (h : k ^ range ≤ i). units.after i h a) (cases_lt i (k ^ range)))
+    (cases_lt i (k ^ (range - 1)))
+
+-- small numbers
+small_at : {first size : ℕ} {rows : List (List ℤ)} → AreUnits first size rows → (i a : ℕ) → unsigned_abs (entry rows i a) ≤ 2 ^ 56
+small_at {first} {size} {rows} units i a =
+    let none = λ (e : entry rows i a ≡ pos 0). subst (λ (z : ℤ). unsigned_abs z ≤ 2 ^ 56) (sym e) (omega arith) in
+    ⊎_elim
+    (λ (same : a ≡ i).
+    ⊎_elim
+    (λ (l : i < first). none (units.before i l a))
+    (λ (l : first ≤ i). ⊎_elim
+    (λ (h : i < size). subst (λ (b : ℕ). unsigned_abs (entry rows i b) ≤ 2 ^ 56) (sym same) (subst (λ (z : ℤ). unsigned_abs z ≤ 2 ^ 56) (sym (units.units i l h).one) (omega arith)))
+    (λ (h : size ≤ i). none (units.after i h a))
+    (cases_lt i size))
+    (cases_lt i first))
+    (λ (other : a ≢ i). none (off units i a other))
+    (same_or_other a i)
+
+-- each normal weight is the sum of them, each as often as the weight says
+spanned : {first size : ℕ} {rows : List (List ℤ)} → size ≤ 16 → AreUnits first size rows → (weight : ℕ → ℤ) → ((a : ℕ) → a < first → weight a ≡ pos 0) → IsSpanned size rows weight
+spanned {first} {size} {rows} few units weight normal = record {
+  times = 1;
+  some = omega arith;
+  parts = weight;
+  sums = λ a l.
+      let beside : (i : ℕ) → i ≢ a → weight i *ℤ entry rows i a ≡ pos 0 = λ i other.
+      ap (λ (z : ℤ). weight i *ℤ z) (off units i a (λ e. other (sym e))) ∙ omega (arith, ints) in
+      let whole : sum_to 16 (λ i. weight i *ℤ entry rows i a) ≡ weight a *ℤ entry rows a a =
+      sum_to-one 16 (λ i. weight i *ℤ entry rows i a) a (λ i h. beside i (λ e. omega arith)) (λ i h m. beside i (λ e. omega arith)) (omega arith) in
+      let here : weight a *ℤ entry rows a a ≡ weight a =
+      ⊎_elim
+      (λ (h : a < first). ap (λ (z : ℤ). z *ℤ entry rows a a) (normal a h) ∙ ap (λ (z : ℤ). pos 0 *ℤ z) (units.before a h a) ∙ sym (normal a h))
+      (λ (h : first ≤ a). ap (λ (z : ℤ). weight a *ℤ z) (units.units a h l).one ∙ omega (arith, ints))
+      (cases_lt a first) in
+      omega (arith, ints, whole, here);
+}
+
+-- 1 is combined of one number that is 1
+combined_unit : (i : ℕ) (row : List ℤ) → i < 16 → IsUnit i row → IsCombined 16 row 1
+combined_unit i row l unit = record {
+  parts = λ a. pos 1;
+  is =
+      sum_to-one 16 (λ a. pos 1 *ℤ pos (unsigned_abs (at row a))) i
+      (λ a h. ap (λ (z : ℤ). pos 1 *ℤ pos (unsigned_abs z)) (unit.others a (λ e. omega arith)))
+      (λ a h m. ap (λ (z : ℤ). pos 1 *ℤ pos (unsigned_abs z)) (unit.others a (λ e. omega arith))) l
+      ∙ ap (λ (z : ℤ). pos 1 *ℤ pos (unsigned_abs z)) unit.one;
+}
+
+-- rows of one number each are the first stage
+pub IsStage-start : (r : LocalRule) (range : ℕ) (rows : List (List ℤ)) → IsRule r → 1 ≤ range → r.states ^ range ≤ 16 → AreUnits (r.states ^ (range - 1)) (r.states ^ range) rows
+    → IsStage r range rows (replicate 16 0) (replicate 16 (replicate 15 0))
+IsStage-start r range rows rule letter few units =
+    let k : ℕ = r.states in
+    let none : (i : ℕ) → ¬ (1 ≤ slice_index (replicate 16 0) i) = λ i some. let e = slice_index-zeros 16 i in absurd (omega arith) in
+    record {
+      places = λ i l. record {
+        standing = λ free _.
+            let unit = units.units i free.least free.most in
+            record {
+              leads = let one : entry rows i i ≡ pos 1 = unit.one in omega (arith, ints);
+              begins = λ a h. off units i a (λ e. omega arith);
+              alone = λ m h other. off units m i (λ e. other (sym e));
+              primitive = λ d divides.
+                  let whole : d ∣ unsigned_abs (pos 1) = subst (λ (z : ℤ). d ∣ unsigned_abs z) unit.one (divides i l) in
+                  eq-one_of_dvd-one whole;
+              combined = combined_unit i (slice_index_or rows i []) l unit;
+            };
+        dropped = λ some. absurd (none i some);
+        ring = λ some. absurd (none i some);
+        free = λ some. absurd (none i some);
+        past = λ no. past units i no;
+      };
+      ends = λ i a l from h.
+          ⊎_elim (λ (m : i < k ^ range). off units i a (λ e. omega arith)) (λ (m : k ^ range ≤ i). units.after i m a) (cases_lt i (k ^ range));
+      complete = λ weight normal _. spanned few units weight normal;
+      short = λ i l. let e = slice_index-zeros 16 i in let wide = rule.shape.least_width in omega arith;
+      small = λ i l. record { small = λ a h. small_at units i a };
+      many_counts = length-replicate {A = ℕ} 16 0;
+      many_rings = length-replicate {A = List ℕ} 16 (replicate 15 0);
+    }
+
+-- where no row has a number in its own place, all are rows of zeros
+pub IsZero-none : {r : LocalRule} {range : ℕ} {rows : List (List ℤ)} {counts : List ℕ} {rings : List (List ℕ)} → IsStage r range rows counts rings
+    → ((i : ℕ) → i < 16 → entry rows i i ≡ pos 0) → (i : ℕ) → i < 16 → IsZero rows i
+IsZero-none {r} {range} {rows} {counts} stage none i l =
+    let place = stage.places i l in
+    ⊎_elim
+    (λ (free : IsFree r.states range i). ⊎_elim
+    (λ (zeroth : slice_index counts i < 1).
+    let stands = place.standing free (omega arith) in
+    let leads = stands.leads in
+    let nothing = none i l in
+    absurd (omega (arith, ints)))
+    (λ (some : 1 ≤ slice_index counts i). place.dropped some)
+    (cases_lt (slice_index counts i) 1))
+    (λ (outside : ¬ IsFree r.states range i). place.past outside)
+    (is_free r.states range i)
+
+-- each ring keeps the sums of rows of zeros
+pub RowsKeep-zeros : {r : LocalRule} → IsRule r → (range : ℕ) (rows : List (List ℤ)) → r.states ^ range ≤ 16 → ((i : ℕ) → i < 16 → IsZero rows i) → (i : ℕ) → i < 16 → IsKept range (entry rows i) r
+RowsKeep-zeros {r} rule range rows few none i l p ring =
+    gain-KeepsSumOf range (entry rows i) r p
+    (gain_at-zero rows i _ _ (within few _ (IsWord-blocks range (IsRing-ring_image rule ring))) (within few _ (IsWord-blocks range ring)) (none i l))

@@ -1,0 +1,191 @@
+-- Trivial weights: each rule keeps their sums; each weight is a normal one and a trivial one; only 0 is both.
+use Rattle.std.proofs.Common.{◌≡◌, ℕ, zero, suc, ◌+◌, ◌-◌, ◌*◌, ◌/◌, ◌%◌, ◌^◌, ◌<◌, ◌≤◌, List, length, take, drop, ℤ, pos, ◌+ℤ◌, ◌-ℤ◌, ◌*ℤ◌, sym, ap, ap₂, subst, ◌∙◌, arith, mod-lt}
+use Rattle.std.proofs.Math.Nat.{pow-suc, pow-zero, div-div-eq-div-mul, div-eq_of_lt, mod-eq_of_lt, div-one, zero-div, div-lt_iff_lt-mul, pow-le-pow_right}
+use Rattle.std.proofs.lemmas.Int.{ints}
+use Rattle.word_image.specs.LocalRules.{LocalRule, IsRule, IsWord, value, word_of}
+use Rattle.word_image.specs.Rings.{IsRing, ring_letters, ring_image}
+use Rattle.word_image.proofs.laws.Rings.{IsWord-ring_letters}
+use Rattle.word_image.proofs.laws.RingSums.{ring_letters-turn}
+use Rattle.word_image.proofs.laws.Values.{value-take, value-drop, length-word_of, IsWord-word_of, value-word_of}
+use Rattle.ring_laws.proofs.Rings.{length-ring_letters, take-ring_letters, drop-ring_letters}
+use Rattle.kept_sums.specs.Sums.{sum_at, blocks, KeepsSumOf, IsKept, sum_to}
+use Rattle.kept_sums.specs.Stages.{IsNormal, ring_at, NotedKeep, IsStage}
+use Rattle.kept_sums.specs.Trivials.{IsTrivial, IsSpannedUpToTrivial}
+use Rattle.kept_sums.proofs.laws.Integers.{mul-add, mul-sub}
+use Rattle.kept_sums.proofs.laws.Sums.{sum_at-sub}
+use Rattle.kept_sums.proofs.laws.Spans.{sum_to-agree, sum_to-add}
+use Rattle.kept_sums.proofs.laws.Turns.{sum_at-map, sum_to-steps, sum_to-ends}
+use Rattle.kept_sums.proofs.laws.Densities.{length-ring_image}
+use Rattle.kept_sums.proofs.laws.AfterRings.{IsRing-ring_image}
+
+-- the sum of n times one number
+sum_to-constant : (n : ℕ) (c : ℤ) → sum_to n (λ i. c) ≡ pos n *ℤ c
+unfolding sum_to
+sum_to-constant zero c = omega (arith, ints)
+sum_to-constant (suc n) c = let rest = sum_to-constant n c in omega (arith, ints)
+
+-- on a ring trivial weights say how many letters it has
+trivial_sum : {k range : ℕ} {weight : ℕ → ℤ} → 1 ≤ range → (trivial : IsTrivial k range weight) → (p : List ℕ) → IsRing k p → sum_at weight (blocks k range p) ≡ pos (length p) *ℤ trivial.constant
+trivial_sum {k} {range} {weight} some trivial p ring =
+    let n : ℕ = length p in
+    let d : ℕ = range - 1 in
+    let next : 1 + d ≡ range = omega arith in
+    let at_place : ℕ → ℤ = λ i. trivial.phi (value k (ring_letters p (pos i) d)) in
+    let step : (i : ℕ) → i < n → weight (value k (ring_letters p (pos i) range)) ≡ trivial.constant +ℤ (at_place i -ℤ at_place (i + 1)) = λ i l.
+    let word : List ℕ = ring_letters p (pos i) range in
+    let first : take d word ≡ ring_letters p (pos i) d = take-ring_letters p (pos i) range d (omega arith) in
+    let last : drop 1 word ≡ ring_letters p (pos i +ℤ pos 1) d = ap (λ m. drop 1 (ring_letters p (pos i) m)) (sym next) ∙ drop-ring_letters p (pos i) 1 d in
+    trivial.is word (IsWord-ring_letters ring (pos i) range) (length-ring_letters p (pos i) range)
+    ∙ ap₂ (λ (x y : List ℕ). trivial.constant +ℤ (trivial.phi (value k x) -ℤ trivial.phi (value k y))) first last in
+    let whole : pos n ≡ pos 0 +ℤ pos n = omega (arith, ints) in
+    let again : at_place n ≡ at_place 0 = ap (λ o. trivial.phi (value k (ring_letters p o d))) whole ∙ ap (λ x. trivial.phi (value k x)) (ring_letters-turn p (pos 0) d ring.some) in
+    let steps = sum_to-steps n at_place in
+    sum_at-map weight (λ i. value k (ring_letters p (pos i) range)) n
+    ∙ sum_to-agree n step
+    ∙ sum_to-add n (λ i. trivial.constant) (λ i. at_place i -ℤ at_place (i + 1))
+    ∙ ap₂ (λ (x y : ℤ). x +ℤ y) (sum_to-constant n trivial.constant) steps
+    ∙ omega (arith, ints)
+
+-- each rule keeps the sums of trivial weights
+pub IsKept-trivial : {r : LocalRule} → IsRule r → (range : ℕ) (weight : ℕ → ℤ) → 1 ≤ range → IsTrivial r.states range weight → IsKept range weight r
+IsKept-trivial {r} rule range weight some trivial p ring =
+    trivial_sum some trivial p ring
+    ∙ ap (λ n. pos n *ℤ trivial.constant) (sym (length-ring_image r p))
+    ∙ sym (trivial_sum some trivial (ring_image r p) (IsRing-ring_image rule ring))
+
+-- the function that makes weights trivial on the words that begin with the letter 0
+pub potential_of : ℕ → ℕ → (ℕ → ℤ) → ℕ → ℤ
+potential_of k d weight v = sum_to d (λ j. weight 0 -ℤ weight (v / k ^ j))
+
+-- what it gives without the last letter
+potential-step : (k d : ℕ) (weight : ℕ → ℤ) (v : ℕ) → v < k ^ d → weight v ≡ weight 0 +ℤ (potential_of k d weight (v / k) -ℤ potential_of k d weight v)
+unfolding potential_of
+potential-step k d weight v l =
+    let down : ℕ → ℤ = λ j. weight 0 -ℤ weight (v / k ^ j) in
+    let next : (j : ℕ) → j < d → (weight 0 -ℤ weight (v / k / k ^ j)) ≡ down (j + 1) = λ j h.
+    let e : k * k ^ j ≡ k ^ (j + 1) = let one : j + 1 ≡ suc j = omega arith in omega (arith, pow-suc k j, ap (λ i. k ^ i) one) in
+    ap (λ i. weight 0 -ℤ weight i) (div-div-eq-div-mul v k (k ^ j) ∙ ap (λ i. v / i) e) in
+    let shifted : sum_to d (λ j. weight 0 -ℤ weight (v / k / k ^ j)) ≡ sum_to d (λ j. down (j + 1)) = sum_to-agree d next in
+    let ends = sum_to-ends d down in
+    let first : down 0 ≡ weight 0 -ℤ weight v = ap (λ i. weight 0 -ℤ weight i) (ap (λ i. v / i) (pow-zero k) ∙ div-one v) in
+    let last : down d ≡ weight 0 -ℤ weight 0 = ap (λ i. weight 0 -ℤ weight i) (div-eq_of_lt l) in
+    omega (arith, ints, shifted, ends, first, last)
+
+-- the trivial part of weights
+abbrev pub trivial_part : ℕ → ℕ → (ℕ → ℤ) → ℕ → ℤ
+trivial_part k range weight x = weight 0 +ℤ (potential_of k (range - 1) weight (x / k) -ℤ potential_of k (range - 1) weight (x % k ^ (range - 1)))
+
+-- what is left of them
+abbrev pub normal_part : ℕ → ℕ → (ℕ → ℤ) → ℕ → ℤ
+normal_part k range weight x = weight x -ℤ trivial_part k range weight x
+
+-- the first letters of a word but for the last, and the last but for the first, by its value
+ends_of_word : (k range : ℕ) (w : List ℕ) → 1 ≤ range → IsWord k w → length w ≡ range → (value k (take (range - 1) w) ≡ value k w / k) × (value k (drop 1 w) ≡ value k w % k ^ (range - 1))
+ends_of_word k range w some word long =
+    let one : length w - (range - 1) ≡ 1 = omega arith in
+    let letters : k ^ 1 ≡ k = omega (arith, pow-suc k 0, ap (λ n. n * k) (pow-zero k)) in (
+      value-take k (range - 1) w word (omega arith) ∙ ap (λ n. value k w / k ^ n) one ∙ ap (λ n. value k w / n) letters,
+      value-drop k 1 w word (omega arith) ∙ ap (λ n. value k w % k ^ (n - 1)) long,
+    )
+
+-- the trivial part is trivial
+pub IsTrivial-part : (k range : ℕ) (weight : ℕ → ℤ) → 1 ≤ range → IsTrivial k range (trivial_part k range weight)
+IsTrivial-part k range weight some = record {
+  constant = weight 0;
+  phi = potential_of k (range - 1) weight;
+  is = λ w word long.
+      let ends = ends_of_word k range w some word long in
+      ap₂ (λ (x y : ℕ). weight 0 +ℤ (potential_of k (range - 1) weight x -ℤ potential_of k (range - 1) weight y)) (sym ends.0) (sym ends.1);
+}
+
+-- what is left is normal
+pub IsNormal-part : (k range : ℕ) (weight : ℕ → ℤ) → IsNormal k range (normal_part k range weight)
+IsNormal-part k range weight a l =
+    let step = potential-step k (range - 1) weight a l in
+    let here = ap (λ i. potential_of k (range - 1) weight i) (mod-eq_of_lt l) in
+    omega (arith, ints, step, here)
+
+-- a power of 0 has nothing below it
+base_positive : (k n v : ℕ) → v < k ^ suc n → 0 < k
+base_positive zero n v l = absurd (omega (arith, pow-suc 0 n))
+base_positive (suc k) n v l = omega arith
+
+-- a function that doesn't see the last letter gives one number on all words
+same_of_step : (k : ℕ) (phi : ℕ → ℤ) (d n : ℕ) → n ≤ d → ((v : ℕ) → v < k ^ d → phi v ≡ phi (v / k)) → (v : ℕ) → v < k ^ n → phi v ≡ phi 0
+same_of_step k phi d zero few step v l = let none : v ≡ 0 = omega (arith, pow-zero k) in ap phi none
+same_of_step k phi d (suc n) few step v l =
+    let some : 0 < k = base_positive k n v l in
+    let more : k ^ suc n ≤ k ^ d = pow-le-pow_right some {i = suc n} {j = d} few in
+    let below : v / k < k ^ n = (div-lt_iff_lt-mul some).1 (omega (arith, pow-suc k n)) in
+    step v (omega arith) ∙ same_of_step k phi d n (omega arith) step (v / k) below
+
+-- weights that are normal and trivial are 0
+pub IsNormal-trivial : (k range : ℕ) (weight : ℕ → ℤ) → 2 ≤ k → 1 ≤ range → IsNormal k range weight → IsTrivial k range weight → (a : ℕ) → a < k ^ range → weight a ≡ pos 0
+IsNormal-trivial k range weight states some normal trivial a l =
+    let d : ℕ = range - 1 in
+    let phi = trivial.phi in
+    let c = trivial.constant in
+    let positive : 0 < k = omega arith in
+    let size : k ^ range ≡ k ^ d * k = let e : range ≡ suc d = omega arith in ap (λ n. k ^ n) e ∙ pow-suc k d in
+    let one : 1 ≤ k ^ d = subst (λ n. n ≤ k ^ d) (pow-zero k) (pow-le-pow_right positive {i = 0} {j = d} (omega arith)) in
+    let at_value : (x : ℕ) → x < k ^ range → weight x ≡ c +ℤ (phi (x / k) -ℤ phi (x % k ^ d)) = λ x h.
+    let w : List ℕ = word_of k range x in
+    let word : IsWord k w = IsWord-word_of k range x h in
+    let long : length w ≡ range = length-word_of k range x in
+    let is : value k w ≡ x = value-word_of k range x h in
+    let ends = ends_of_word k range w some word long in
+    ap weight (sym is)
+    ∙ trivial.is w word long
+    ∙ ap₂ (λ (u v : ℕ). c +ℤ (phi u -ℤ phi v)) (ends.0 ∙ ap (λ n. n / k) is) (ends.1 ∙ ap (λ n. n % k ^ d) is) in
+    let whole : k ^ d ≤ k ^ range = pow-le-pow_right positive {i = d} {j = range} (omega arith) in
+    let front : (x : ℕ) → x < k ^ d → pos 0 ≡ c +ℤ (phi (x / k) -ℤ phi x) = λ x h.
+    sym (normal x h) ∙ at_value x (omega arith) ∙ ap (λ n. c +ℤ (phi (x / k) -ℤ phi n)) (mod-eq_of_lt h) in
+    let constant : c ≡ pos 0 = let zeroth = front 0 (omega arith) in let e = ap phi (zero-div k) in omega (arith, ints, zeroth, e) in
+    let step : (v : ℕ) → v < k ^ d → phi v ≡ phi (v / k) = λ v h. let here = front v h in omega (arith, ints, here, constant) in
+    let same : (v : ℕ) → v < k ^ d → phi v ≡ phi 0 = same_of_step k phi d d (omega arith) step in
+    let first : phi (a / k) ≡ phi 0 = same (a / k) ((div-lt_iff_lt-mul positive).1 (omega arith)) in
+    let last : phi (a % k ^ d) ≡ phi 0 = same (a % k ^ d) (mod-lt a one) in
+    let here = at_value a l in
+    omega (arith, ints, here, constant, first, last)
+
+-- a ring keeps the sum of a difference where it keeps both
+KeepsSumOf-sub : (range : ℕ) (f g : ℕ → ℤ) (r : LocalRule) (p : List ℕ) → KeepsSumOf range f r p → KeepsSumOf range g r p → KeepsSumOf range (λ a. f a -ℤ g a) r p
+KeepsSumOf-sub range f g r p one two =
+    sum_at-sub f g (blocks r.states range p)
+    ∙ ap₂ (λ (x y : ℤ). x -ℤ y) one two
+    ∙ sym (sum_at-sub f g (blocks r.states range (ring_image r p)))
+
+-- a multiple of trivial weights is trivial
+IsTrivial-times : {k range : ℕ} {weight : ℕ → ℤ} (n : ℤ) → IsTrivial k range weight → IsTrivial k range (λ a. n *ℤ weight a)
+IsTrivial-times {k} {range} {weight} n trivial = record {
+  constant = n *ℤ trivial.constant;
+  phi = λ v. n *ℤ trivial.phi v;
+  is = λ w word long.
+      let first = trivial.phi (value k (take (range - 1) w)) in
+      let last = trivial.phi (value k (drop 1 w)) in
+      ap (λ (x : ℤ). n *ℤ x) (trivial.is w word long)
+      ∙ mul-add n trivial.constant (first -ℤ last)
+      ∙ ap (λ (x : ℤ). (n *ℤ trivial.constant) +ℤ x) (mul-sub n first last);
+}
+
+-- each kept weight is a rational combination of the rows and trivial weights
+pub IsSpannedUpToTrivial-kept : {r : LocalRule} {range : ℕ} {rows : List (List ℤ)} {counts : List ℕ} {rings : List (List ℕ)} → IsRule r → 1 ≤ range → IsStage r range rows counts rings
+    → (weight : ℕ → ℤ) → NotedKeep r range counts rings weight → IsSpannedUpToTrivial r.states range rows weight
+IsSpannedUpToTrivial-kept {r} {range} {rows} {counts} {rings} rule some stage weight keep =
+    let k : ℕ = r.states in
+    let trivial = IsTrivial-part k range weight some in
+    let kept = IsKept-trivial rule range (trivial_part k range weight) some trivial in
+    let normal : NotedKeep r range counts rings (normal_part k range weight) = λ i l noted.
+    KeepsSumOf-sub range weight (trivial_part k range weight) r (ring_at counts rings i) (keep i l noted) (kept (ring_at counts rings i) ((stage.places i l).ring noted)) in
+    let spanned = stage.complete (normal_part k range weight) (IsNormal-part k range weight) normal in
+    record {
+      times = spanned.times;
+      some = spanned.some;
+      parts = spanned.parts;
+      rest = λ a. pos spanned.times *ℤ trivial_part k range weight a;
+      trivial = IsTrivial-times (pos spanned.times) trivial;
+      sums = λ a l.
+          let normal_sum = spanned.sums a l in
+          let split = mul-sub (pos spanned.times) (weight a) (trivial_part k range weight a) in
+          omega (arith, ints, normal_sum, split);
+    }

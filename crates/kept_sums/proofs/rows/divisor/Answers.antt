@@ -1,0 +1,24 @@
+use Rattle.std.proofs.Common.{◌≡◌, ◌^◌, below_more, ap, subst, sym, ◌∙◌, arith}
+use Rattle.std.specs.Int.RustNames.{unsigned_abs}
+use Rattle.std.proofs.lemmas.Nat.Gcd.{dvd_trans, dvd-zero}
+use Prim.Native.Nat.{◌∣◌}
+use mir.Syntax.{w128}
+use Rattle.kept_sums.specs.Rows.{at}
+use Rattle.kept_sums.proofs.Casts.{back}
+use Rattle.kept_sums.proofs.laws.Combined.{IsCombined-none, IsCombined-more}
+use Rattle.kept_sums.proofs.rows.divisor.Goals as goal
+
+pub loop-entry-preserved : goal.loop-entry-preserved
+loop-entry-preserved c =
+    let n = c.loop-entry.entry-index in
+    let g = c.gcd-divisor.result in
+    let (one, two, most) = c.gcd-divisor.ensures.greatest in
+    let entry : c.unsigned_abs.result ≡ unsigned_abs (at c.args.cross.now n) =
+    c.unsigned_abs.ensures.value ∙ ap unsigned_abs (back w128 (at c.args.cross.now n) (2 ^ 118) (c.requires n (omega arith)) (omega arith)) in (
+      below_more _ _ (λ a l. dvd_trans g one (c.loop-entry.invariant.0 a l)) (subst (λ n. g ∣ n) entry two),
+      λ d all. most d (c.loop-entry.invariant.1 d all) (subst (λ n. d ∣ n) (sym entry) (all n (omega arith))),
+      IsCombined-more n c.args.cross.now c.loop-entry.divisor c.unsigned_abs.result g entry c.loop-entry.invariant.2 c.gcd-divisor.ensures.combined,
+    )
+
+pub loop-entry-init : goal.loop-entry-init
+loop-entry-init c = (λ a l. absurd (omega arith), λ d all. dvd-zero d, IsCombined-none c.args.cross.now)

@@ -1,0 +1,39 @@
+use Rattle.std.proofs.Common.{◌≡◌, ℕ, ◌*◌, ◌^◌, ◌≤◌, ℤ, pos, ◌*ℤ◌, sym, subst, ◌∙◌, w64, to_z, of_z, arith}
+use Rattle.std.specs.Int.RustNames.{unsigned_abs}
+use Rattle.std.proofs.lemmas.List.{length-set}
+use mir.Syntax.{w128}
+use Prim.Native.Nat.{◌∣◌}
+use Rattle.kept_sums.specs.Rows.{at}
+use Rattle.kept_sums.proofs.Casts.{back}
+use Rattle.kept_sums.proofs.laws.Parts.{put, IsPart-zeros, IsPart-divided}
+use Rattle.kept_sums.proofs.rows.reduced.Goals as goal
+
+pub returns-then-divisor-eq0-clause-part : goal.returns-then-divisor-eq0-clause-part
+returns-then-divisor-eq0-clause-part c = IsPart-zeros c.args.cross.now c.divisor-divisor.result c.divisor-divisor.ensures (omega arith)
+
+pub quotient-requires-clause-divides : goal.quotient-requires-clause-divides
+quotient-requires-clause-divides c =
+    let n = c.loop-place.place in
+    subst (λ (z : ℤ). c.divisor-divisor.result ∣ unsigned_abs z) (sym (back w128 (at c.args.cross.now n) (2 ^ 118) (c.requires.bounds n (omega arith)) (omega arith)))
+    (c.divisor-divisor.ensures.divides n (omega arith))
+
+pub loop-place-preserved : goal.loop-place-preserved
+loop-place-preserved c =
+    let n = c.loop-place.place in
+    let x = c.quotient.result in
+    let P : ℕ → ℤ → Type 0 = λ a x. (pos c.divisor-divisor.result *ℤ x ≡ at c.args.cross.now a) × (unsigned_abs x ≤ 2 ^ 56) in
+    let most = c.quotient.ensures.small in
+    let same : to_z w64 (of_z w64 x) ≡ x = back w64 x (2 ^ 56) most (omega arith) in
+    let number = back w128 (at c.args.cross.now n) (2 ^ 118) (c.requires.bounds n (omega arith)) (omega arith) in (
+      length-set c.loop-place.row n _ ∙ c.loop-place.invariant.0,
+      put P c.loop-place.row n _ (omega arith) c.loop-place.invariant.1 (subst (P n) (sym same) (c.quotient.ensures.quotient ∙ number, most)),
+    )
+
+pub returns-clause-part : goal.returns-clause-part
+returns-clause-part c = IsPart-divided c.args.cross.now c.loop-place.row c.divisor-divisor.result c.divisor-divisor.ensures (omega arith) (λ a l. (c.loop-place.invariant.1 a (omega arith)).0)
+
+pub quotient-requires-clause-small : goal.quotient-requires-clause-small
+quotient-requires-clause-small c =
+    let n = c.loop-place.place in
+    subst (λ (z : ℤ). unsigned_abs z ≤ c.divisor-divisor.result * 2 ^ 56) (sym (back w128 (at c.args.cross.now n) (2 ^ 118) (c.requires.bounds n (omega arith)) (omega arith)))
+    (c.requires.divides c.divisor-divisor.result c.divisor-divisor.ensures n (omega arith))

@@ -1,0 +1,87 @@
+//! Rings of few letters: one by one, their images, and the words round them.
+ghost use Rattle.std.specs.Prelude.{◌≡◌, ◌^◌, ◌<◌, ◌≤◌, length, take, pos};
+ghost use Rattle.std.specs.Int.{int_rem_euclid};
+ghost use Rattle.word_image.specs.LocalRules.{value, word_of};
+ghost use Rattle.word_image.specs.Rings.{IsRing, ring_letters, ring_image};
+ghost use Rattle.kept_sums.specs.Sums.{blocks};
+
+use word_image::{Rule, ring_apply};
+
+/// The most letters of a ring that is looked at: 2 (m + range) - 3 at width 5 and range 4.
+pub const LONGEST: usize = 15;
+
+/// The values of the words of so many letters round a ring, one from each place on, and zeros after
+/// them.
+pub(crate) fn blocks(k: u8, range: u8, ring: &[u8]) -> [u8; LONGEST]
+    requires ring { IsRing k ring.now }
+    requires short { length ring.now ≤ 15 }
+    requires some { 2 ≤ k }
+    requires few { k ^ range ≤ 16 }
+    ensures { take (length ring.now) result ≡ blocks k range ring.now }
+{
+    let mut values = [0; LONGEST];
+    for place in 0..ring.len() {
+        values[place] = block(k, range, ring, place);
+    }
+    values
+}
+
+/// The value of the word of so many letters that begins at a place of a ring.
+fn block(k: u8, range: u8, ring: &[u8], place: usize) -> u8
+    requires ring { IsRing k ring.now }
+    requires short { length ring.now ≤ 15 }
+    requires some { 2 ≤ k }
+    requires few { k ^ range ≤ 16 }
+    requires place { place < length ring.now }
+    ensures { result ≡ value k (ring_letters ring.now (pos place) range) }
+{
+    let mut word = 0;
+    for i in 0..range {
+        word = word * k + ring[(place + usize::from(i)) % ring.len()];
+    }
+    word
+}
+
+/// The image of a ring, and zeros after it.
+pub(crate) fn image_letters(rule: &Rule, ring: &[u8]) -> [u8; LONGEST]
+    requires ring { IsRing rule.now.states ring.now }
+    requires short { length ring.now ≤ 15 }
+    ensures { take (length ring.now) result ≡ ring_image rule.now ring.now }
+{
+    let count = ring.len();
+    let first = first_place(rule, count);
+    let mut letters = [0; LONGEST];
+    for place in 0..count {
+        letters[place] = ring_apply(rule, ring, (first + place) % count);
+    }
+    letters
+}
+
+/// Where the window of place 0 begins, on a ring of this many letters.
+fn first_place(rule: &Rule, count: usize) -> usize
+    requires some { 0 < count }
+    requires fits { count < 2 ^ 63 }
+    ensures { pos result ≡ int_rem_euclid rule.now.offset (pos count) }
+{
+    i64::from(rule.o()).rem_euclid(count as i64) as usize
+}
+
+/// The word of so many letters that has this value, and zeros after it.
+pub(crate) fn word_with(k: u8, count: u8, value: u64) -> [u8; LONGEST]
+    requires some { 1 ≤ k }
+    requires few { k ≤ 16 }
+    requires short { count ≤ 15 }
+    requires value { value < k ^ count }
+    ensures { take count result ≡ word_of k count value }
+{
+    let base = u64::from(k);
+    let mut letters = [0; LONGEST];
+    let mut power = base.pow(u32::from(count));
+    let mut rest = value;
+    for place in 0..usize::from(count) {
+        power /= base;
+        letters[place] = (rest / power) as u8;
+        rest %= power;
+    }
+    letters
+}

@@ -1,0 +1,50 @@
+-- The parts of a list, by the letter at one more window.
+use Rattle.std.proofs.Common.{◌≡◌, ◌≢◌, ℕ, ◌^◌, ◌<◌, ◌≤◌, ◌↔◌, List, length, slice_index, set, sym, ap, ◌∙◌, subst, arith, ⊎_elim}
+use Rattle.std.proofs.lemmas.Bool.{cases_eq}
+use Rattle.std.proofs.lemmas.List.{get_or-set_same, get_or-set_other}
+use Rattle.word_image.specs.LocalRules.{LocalRule}
+use Rattle.rule_lists.specs.Tables.{HasLetters}
+use Rattle.rule_lists.specs.Listed.{IsListed}
+use Rattle.rule_lists.specs.declared.properties.Property.{Property}
+use Rattle.rule_lists.proofs.laws.Going.{IsTable-shape}
+
+-- a table with a letter at one more window has this letter there
+letter-set : (k size : ℕ) (begin t : List ℕ) (w a : ℕ) → w < size → w < length begin → a < k → HasLetters k size (set begin w a) t → slice_index t w ≡ a
+letter-set k size begin t w a inside room letter has =
+    let at : slice_index (set begin w a) w ≡ a = get_or-set_same begin w a 0 room in
+    has w inside (omega (arith, at, letter)) ∙ at
+
+-- it has the letters that are fixed elsewhere, where none is fixed at the window
+HasLetters-unset : (k size : ℕ) (begin t : List ℕ) (w a : ℕ) → k ≤ slice_index begin w → HasLetters k size (set begin w a) t → HasLetters k size begin t
+HasLetters-unset k size begin t w a open_ has v l fixed =
+    let other : v ≢ w = λ e. let same : slice_index begin v ≡ slice_index begin w = ap (slice_index begin) e in absurd (omega (arith, fixed, open_, same)) in
+    let same : slice_index (set begin w a) v ≡ slice_index begin v = get_or-set_other begin w v a 0 other in
+    has v l (omega (arith, same, fixed)) ∙ same
+
+-- a table has those letters and the one that it has at the window
+HasLetters-set : (k size : ℕ) (begin t : List ℕ) (w : ℕ) → w < length begin → HasLetters k size begin t → HasLetters k size (set begin w (slice_index t w)) t
+HasLetters-set k size begin t w room has v l fixed =
+    ⊎_elim
+    (λ e. ap (slice_index t) e ∙ sym (ap (slice_index (set begin w (slice_index t w))) e ∙ get_or-set_same begin w (slice_index t w) 0 room))
+    (λ other.
+    let same : slice_index (set begin w (slice_index t w)) v ≡ slice_index begin v = get_or-set_other begin w v (slice_index t w) 0 other in
+    has v l (omega (arith, same, fixed)) ∙ sym same)
+    (cases_eq v w)
+
+-- a rule is listed exactly where it is in a part
+pub IsListed-parts : (property : Property) (k m : ℕ) (begin : List ℕ) (w : ℕ) (r : LocalRule) → w < k ^ m → w < length begin → k ≤ slice_index begin w
+    → IsListed property k m begin r ↔ ((a : ℕ) × (a < k) × IsListed property k m (set begin w a) r)
+IsListed-parts property k m begin w r inside room open_ = (
+  λ h. (
+    slice_index r.table w,
+    IsTable-shape h.shape w inside,
+    record { shape = h.shape; has = h.has; begins = HasLetters-set k (k ^ m) begin r.table w room h.begins },
+  ),
+  λ (a, letter, h). record { shape = h.shape; has = h.has; begins = HasLetters-unset k (k ^ m) begin r.table w a open_ h.begins },
+)
+
+-- in one part alone
+pub IsListed-one_part : (property : Property) (k m : ℕ) (begin : List ℕ) (w a b : ℕ) (r : LocalRule) → w < k ^ m → w < length begin → a < k → b < k
+    → IsListed property k m (set begin w a) r → IsListed property k m (set begin w b) r → a ≡ b
+IsListed-one_part property k m begin w a b r inside room ha hb first second =
+    sym (letter-set k (k ^ m) begin r.table w a inside room ha first.begins) ∙ letter-set k (k ^ m) begin r.table w b inside room hb second.begins

@@ -1,0 +1,50 @@
+//! Whether fixed letters bar that a rule conserves the sum of every ring.
+ghost use Rattle.std.specs.Prelude.{◌≡◌, ◌*◌, ◌^◌, ◌<◌, IsTrue};
+ghost use Rattle.rule_lists.specs.Bars.{Bars};
+ghost use Rattle.rule_lists.specs.Forests.{AreKnown, AreUpTo};
+ghost use Rattle.rule_lists.specs.declared.properties.Property.TheVariants.{Conserving};
+
+use crate::forests::{Forest, forest_of};
+use crate::lost::Letters;
+use word_image::{Rule, Side};
+
+/// Whether the fixed letters bar that the rule is conserving, each letter of which weighs its own value.
+pub(crate) fn bars_conserving(shape: &Rule, letters: &Letters) -> bool
+    ensures { IsTrue result → Bars Conserving shape.now.states shape.now.width letters.now }
+{
+    let forest = forest_of(shape, letters);
+    for window in 0..shape.size() {
+        if has_no_letter(shape, letters, &forest, window) {
+            return true;
+        }
+    }
+    false
+}
+
+/// Whether the nodes of a window are of one tree, and the letter with which it gains the difference of
+/// their levels is none, or not the one that is fixed.
+fn has_no_letter(shape: &Rule, letters: &Letters, forest: &Forest, window: u16) -> bool
+    requires window { window < shape.now.states ^ shape.now.width }
+    requires known { AreKnown shape.now letters.now forest.now.trees forest.now.levels }
+    requires small { AreUpTo (256 * 1048576) forest.now.levels }
+    ensures { IsTrue result → Bars Conserving shape.now.states shape.now.width letters.now }
+{
+    let first = usize::from(Side::Left.end_node(shape, window));
+    let last = usize::from(Side::Right.end_node(shape, window));
+    if forest.trees[first] != forest.trees[last] {
+        return false;
+    }
+    let least = forest.levels[last];
+    let level = forest.levels[first] + u32::from(Side::Left.end_letter(shape, window));
+    if level < least {
+        return true;
+    }
+    if least + u32::from(shape.k()) <= level {
+        return true;
+    }
+    let letter = letters[usize::from(window)];
+    if letter >= shape.k() {
+        return false;
+    }
+    least + u32::from(letter) != level
+}

@@ -1,0 +1,5 @@
+pub mod Counts
+pub mod TestedWords
+pub mod EvenTables
+pub mod ZeroPairs
+pub mod MeanTables
