@@ -1,9 +1,11 @@
 """Runs a command of rt in this folder, after the crates below were built side by side: build_below.py WORD..
 
-rt proves the crates below one after the other, and a second command of rt in a checkout waits for the first. But what one
-checkout of a machine has built another one takes over. So each crate below is built by `rt lib` in one of a few copies of the
-checkout, once those that it stands on are there, first the one with the most lines of proof on the way up from it; then the
-command runs here. On standard error stands how far it is. However it ends, it stops what it began and removes the copies.
+rt proves the crates below one after the other, and a second command of rt in a checkout waits for the first. But it takes
+a library as built wherever it lies, by the stamp beside it, which is a sum of its sources and of those below. So each crate
+below is built by `rt lib` in one of a few copies of the checkout, once those that it stands on are there, first the one
+with the most lines on the way up from it. It takes along what an earlier run left of it, brings it back here, and
+its library is linked into the other copies; then the command runs here. On standard error stands how far it is. However it
+ends, it stops what it began and removes the copies.
 """
 import os
 import re
@@ -65,7 +67,26 @@ def how_many():
 def copy_into(folder):
     folder.mkdir()
     shutil.copy(top / "crates.txt", folder)
-    shutil.copytree(top / "crates", folder / "crates", ignore=shutil.ignore_patterns("out"))
+    shutil.copytree(top / "crates", folder / "crates", ignore=shutil.ignore_patterns("out", "must-fail", "twins"))
+
+
+def out_of(checkout, name):
+    """The folder in which rt keeps what it made of a crate."""
+    return checkout / "crates" / name / "out"
+
+
+def move(name, begin, end):
+    """Moves what rt made of a crate from one checkout into another one."""
+    if out_of(begin, name).exists():
+        shutil.rmtree(out_of(end, name), ignore_errors=True)
+        out_of(begin, name).rename(out_of(end, name))
+
+
+def link_library(name, folders):
+    """Puts the library of a crate into these copies, as links to its files, which rt never writes a second time."""
+    for folder in folders:
+        shutil.rmtree(out_of(folder, name), ignore_errors=True)
+        shutil.copytree(out_of(top, name) / "rlib", out_of(folder, name) / "rlib", copy_function=os.link)
 
 
 class Builds:
@@ -74,9 +95,10 @@ class Builds:
     def __init__(self, room, below):
         self.below, self.ways = below, longest_ways(below)
         self.most = how_many()
-        self.free = [room / str(i) for i in range(self.most)]
+        self.copies = [room / str(i) for i in range(self.most)]
+        self.free = self.copies[:]
         self.built, self.running, self.begun = set(), {}, time.monotonic()
-        for folder in self.free:
+        for folder in self.copies:
             copy_into(folder)
 
     def ready(self):
@@ -90,6 +112,7 @@ class Builds:
         is_first = self.ways[name] == max(self.ways[it] for it in self.below if it not in self.built)
         words = ["rt", "lib", "--jobs", str(self.most)] if is_first else ["nice", "rt", "lib", "--jobs", "1"]
         folder = self.free.pop()
+        move(name, top, folder)
         with open(folder / f"{name}.log", "wb") as log:
             process = subprocess.Popen(words, cwd=folder / "crates" / name, stdin=subprocess.DEVNULL, stdout=log,
                                        stderr=log, start_new_session=True)
@@ -99,10 +122,12 @@ class Builds:
         """Waits for one of them, and gives whether it was built."""
         pid, status = os.wait()
         name, folder = self.running.pop(pid)
+        move(name, folder, top)
         self.free.append(folder)
         if status:
             sys.stdout.write((folder / f"{name}.log").read_text(errors="replace"))
             return False
+        link_library(name, self.copies)
         self.built.add(name)
         return True
 
@@ -124,8 +149,9 @@ class Builds:
     def stop(self):
         for pid in self.running:
             os.killpg(pid, signal.SIGTERM)
-        for pid in self.running:
+        for pid, (name, folder) in self.running.items():
             os.waitpid(pid, 0)
+            move(name, folder, top)
 
 
 def main():
