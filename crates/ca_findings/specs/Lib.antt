@@ -1,0 +1,5 @@
+pub mod Questions
+pub mod Numbers
+pub mod Counts
+pub mod Findings
+pub mod Values

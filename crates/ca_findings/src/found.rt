@@ -1,0 +1,128 @@
+//! What is found, and why nothing fits.
+use cert_format::{Cert, InjectivePart, SidePart, SumPart};
+use inverse_table::InverseMap;
+use rule_algebra::AlgebraFault;
+use rule_classes::LiftFault;
+use std::alloc::AllocError;
+use tail_config::TailFault;
+use tail_preimage::Pre;
+use word_image::{Rule, Weights, Word};
+
+/// What is found.
+#[derive(Drop)]
+pub enum Found {
+    /// The verdicts of a rule, each with the least evidence.
+    Report(Report),
+    /// The certificate of a rule.
+    Written(Cert),
+    /// The least orphan; none where the rule is surjective.
+    Orphan(Option<Word>),
+    /// The Wolfram number, of a rule of at most six states.
+    Number(Option<u128>),
+    /// The rule that was made.
+    Rule(Rule),
+    /// The inverse of a rule.
+    Inverse(Inverse),
+    /// The least automaton of the words that are images.
+    Language(Automaton),
+    /// The first word that is an orphan of exactly one of two rules.
+    Same(Option<Word>),
+    /// The least erasable pair.
+    Erased(Option<Pair>),
+    /// What maps to a configuration, or why nothing does.
+    Preimage(Pre),
+    /// How many of some rules have each property.
+    Summary(Counts),
+    /// The same, and how many classes they have.
+    Classes(Counts, usize),
+}
+
+/// The verdicts of a rule, each with the least evidence.
+#[derive(Drop)]
+pub struct Report {
+    pub rule: Rule,
+    pub weights: Weights,
+    pub orphan: Option<Word>,
+    pub injective: InjectivePart,
+    pub right: SidePart,
+    pub left: SidePart,
+    pub conserving: SumPart,
+}
+
+/// An inverse map over the window (n, c), and the map as a rule where it is one.
+#[derive(Drop)]
+pub struct Inverse {
+    pub n: u16,
+    pub c: u16,
+    pub map: InverseMap,
+    pub rule: Option<Rule>,
+}
+
+/// Classes by number: the class after class i on letter a stands at i k + a.
+#[derive(Drop)]
+pub struct Automaton {
+    pub states: u8,
+    pub classes: u32,
+    pub next: Vec<u16>,
+    pub dead: Option<u32>,
+}
+
+/// Two words.
+#[derive(Drop)]
+pub struct Pair {
+    pub x: Word,
+    pub y: Word,
+}
+
+/// How many rules there are, and how many of them have each property.
+#[derive(Clone, Copy)]
+pub struct Counts {
+    pub rules: u16,
+    pub surjective: u16,
+    pub injective: u16,
+    pub right: u16,
+    pub left: u16,
+    pub open: u16,
+    pub conserving: u16,
+}
+
+/// Why nothing fits.
+#[derive(Drop)]
+pub enum Cause {
+    /// The rule has these twins, and so no inverse.
+    Twins(Pair),
+    /// Its inverse reads so many letters, which are too many.
+    Wide(u16),
+    /// It has too many states for a search over the names of its letters.
+    Colours,
+    /// It has no lift.
+    Lift(LiftFault),
+    /// No rule is made.
+    Algebra(AlgebraFault),
+    /// The parts make no configuration.
+    Tail(TailFault),
+    /// There isn't one weight for each letter.
+    Weights,
+    /// Two rules have different numbers of states.
+    States,
+}
+
+/// Why nothing is found.
+#[derive(Drop)]
+pub enum Stop {
+    /// Nothing fits.
+    Unfit(Cause),
+    /// There was no memory.
+    Memory(AllocError),
+}
+
+impl From<AllocError> for Stop {
+    ghost use Rattle.std.specs.Prelude.{◌≡◌};
+    ghost use Rattle.ca_findings.specs.declared.found.Stop.TheVariants.{Memory};
+
+    ghost from_gives = { λ fault stop. stop ≡ Memory fault };
+
+    fn from(fault: AllocError) -> Stop {
+        Stop::Memory(fault)
+    }
+}

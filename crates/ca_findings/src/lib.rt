@@ -1,0 +1,27 @@
+//! What is asked of rules, what is found, and why nothing fits: values, and no text.
+//!
+//! A question names its rules, and beside them weights, numbers, letters or a configuration. A *finding* is a
+//! value that may answer it: verdicts with their evidence, a certificate, a rule, an automaton, a word or none,
+//! counts. A question doesn't *fit* where it can have no finding, for a cause. The question for the inverse of
+//! rule 170 has the map 0 1 over the window (1, 2); that for the inverse of rule 90 doesn't fit, since the rings
+//! 0 and 1 have one image, and the cause is these twins.
+//!
+//! `IsFinding` of specs/Findings.antt says which finding is right for which question, and `IsUnfitFor` which
+//! cause; nothing else says it. [`found_or_unfit`] is their law. A function that answers a question has the
+//! contract `Answers` of specs/Values.antt, and what is written of a finding is made of the value alone.
+//!
+//! [`Found`], [`Cause`] and [`Stop`] are these values in code. Each is a plain enum, and `finding_of` and
+//! `unfit_of` say what it is seen as.
+#![tactic(auto)]
+
+mod found;
+
+ghost use Rattle.ca_findings.specs.Findings.{IsFinding, IsUnfitFor, Finding, Unfit};
+ghost use Rattle.ca_findings.specs.Questions.{Question};
+
+pub use found::{Automaton, Cause, Counts, Found, Inverse, Pair, Report, Stop};
+
+/// Nothing fits a question that has a right finding.
+pub fn found_or_unfit()
+    ensures { (q : Question) (f : Finding) (u : Unfit) → IsFinding q f → ¬ IsUnfitFor q u }
+{}
