@@ -1,0 +1,58 @@
+use Rattle.std.proofs.Common.{◌≡◌, ℕ, ◌+◌, ◌-◌, ◌≤◌, List, [], ◌∷◌, ◌++◌, length-drop, drop, take, sym, ap, ap₂, ◌∙◌, arith, add-one, append_assoc}
+use Rattle.std.specs.Prelude.{codes}
+use Rattle.std.specs.List.{flat_map, range_with_len}
+use Rattle.std.specs.Fmt.{decimal}
+use Rattle.std.proofs.lemmas.List.{drop-set, take_all}
+use Rattle.std.proofs.lemmas.Result.{on_ok_weaker}
+use Rattle.image_minimal.specs.ImageLanguages.{Automaton}
+use Rattle.ca_text.specs.Lines.{after_class}
+use Rattle.ca_text.proofs.languages.write_row.Goals as goal
+
+-- what is written for a letter
+abbrev next_text : Automaton → ℕ → ℕ → List ℕ
+next_text m i l = codes " " ++ decimal (after_class m i l)
+
+-- what is written for one letter more, before the others
+flat_map-before : (f : ℕ → List ℕ) (a n j k : ℕ) → j + 1 ≡ a → k ≡ n + 1 → flat_map f (range_with_len j k) ≡ f j ++ flat_map f (range_with_len a n)
+flat_map-before f a n j k next more =
+    ap (λ x. flat_map f (range_with_len j x)) (more ∙ add-one n) ∙ ap (λ x. f j ++ flat_map f (range_with_len x n)) next
+
+pub loop-letter-preserved : goal.loop-letter-preserved
+loop-letter-preserved c =
+    let k : ℕ = c.args.k in
+    let letter : ℕ = c.loop-letter.letter in
+    let place : ℕ = c.write_short-first.result in
+    let bytes = c.write_short-first.new.bytes in
+    let some : 1 ≤ place = omega (arith, c.write_short-first.ensures.few.1, c.loop-letter.invariant.room, c.loop-letter-test.true, c.write_short-first.ensures.first) in
+    let back : place - 1 + 1 ≡ place = omega (arith, some) in
+    let next : letter - 1 + 1 ≡ letter = omega (arith, c.loop-letter-test.true) in
+    let more : k - (letter - 1) ≡ k - letter + 1 = omega (arith, next, c.loop-letter.auto.letter) in
+    record {
+      some = omega (arith, c.loop-letter-test.true, next);
+      room = omega (arith, c.write_short-first.ensures.few.1, c.loop-letter.invariant.room, c.write_short-first.ensures.first, some, next);
+      within = omega (arith, c.loop-letter.invariant.within, c.write_short-first.ensures.first);
+      written = λ a i states row.
+          let number = row (letter - 1) (omega (arith, next, c.loop-letter.auto.letter)) in
+          let others = flat_map (next_text a i) (range_with_len letter (k - letter)) in
+          drop-set bytes (place - 1) 32 (omega arith) ∙ ap (λ n. 32 ∷ drop n bytes) back
+          ∙ ap (λ (x : List ℕ). 32 ∷ x) (c.write_short-first.ensures.digits ∙ ap₂ (λ (n : ℕ) (x : List ℕ). decimal n ++ x) number (c.loop-letter.invariant.written a i states row)
+          ∙ sym (append_assoc (decimal (after_class a i (letter - 1))) others (10 ∷ [])))
+          ∙ ap (λ (x : List ℕ). x ++ 10 ∷ []) (sym (flat_map-before (next_text a i) letter (k - letter) (letter - 1) (k - (letter - 1)) next more));
+    }
+
+pub returns : goal.returns
+returns c =
+    on_ok_weaker c.push.result (λ written a i states row.
+    let k : ℕ = c.args.k in
+    let letter : ℕ = c.loop-letter.letter in
+    let first : letter ≡ 1 = omega (arith, c.loop-letter-test.false, c.loop-letter.invariant.some) in
+    let number = row 0 c.requires.some in
+    let others = λ (l n : ℕ). flat_map (next_text a i) (range_with_len l n) in
+    let all : k - letter ≡ a.states - 1 = omega (arith, first, states) in
+    let place : ℕ = c.write_short-first-2.result in
+    let bytes = c.write_short-first-2.new.bytes in
+    let whole : take (96 - place) (drop place bytes) ≡ drop place bytes = take_all (96 - place) (drop place bytes) (omega (arith, length-drop place bytes, c.write_short-first-2.auto.bytes)) in
+    written ∙ ap (λ (x : List ℕ). c.args.output.now ++ x) (whole ∙ c.write_short-first-2.ensures.digits
+    ∙ ap₂ (λ (n : ℕ) (x : List ℕ). decimal n ++ x) number (c.loop-letter.invariant.written a i states row ∙ ap₂ (λ (l n : ℕ). others l n ++ 10 ∷ []) first all)
+    ∙ sym (append_assoc (decimal (after_class a i 0)) (others 1 (a.states - 1)) (10 ∷ []))))
+    c.push.ensures

@@ -1,0 +1,4 @@
+pub mod Appended
+pub mod WeightLines
+pub mod Rows
+pub mod Writable

@@ -1,0 +1,10 @@
+use Rattle.std.proofs.Common.{◌++◌, ap, ◌∙◌}
+use Rattle.std.specs.Prelude.{codes}
+use Rattle.std.proofs.lemmas.Result.{on_ok_weaker}
+use Rattle.word_image.specs.Digits.{word_text}
+use Rattle.ca_text.specs.Reports.{line}
+use Rattle.ca_text.proofs.report.write_conserving.Goals as goal
+
+pub returns-in-Ring : goal.returns-in-Ring
+returns-in-Ring c =
+    rw c.in-Ring.is (on_ok_weaker c.push_named.result (λ e. e ∙ ap (λ w. c.args.output.now ++ line (codes "conserving no ring " ++ word_text w)) c.as_slice-in-Ring.ensures) c.push_named.ensures)

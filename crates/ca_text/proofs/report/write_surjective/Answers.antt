@@ -1,0 +1,10 @@
+use Rattle.std.proofs.Common.{◌++◌, ap, ◌∙◌}
+use Rattle.std.specs.Prelude.{codes}
+use Rattle.std.proofs.lemmas.Result.{on_ok_weaker}
+use Rattle.word_image.specs.Digits.{word_text}
+use Rattle.ca_text.specs.Reports.{line}
+use Rattle.ca_text.proofs.report.write_surjective.Goals as goal
+
+pub returns-in-Some : goal.returns-in-Some
+returns-in-Some c =
+    rw c.in-Some.is (on_ok_weaker c.push_named.result (λ e. e ∙ ap (λ w. c.args.output.now ++ line (codes "surjective no orphan " ++ word_text w)) c.as_slice.ensures) c.push_named.ensures)

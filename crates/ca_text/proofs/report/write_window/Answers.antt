@@ -1,0 +1,13 @@
+use Rattle.std.proofs.Common.{◌≡◌, ◌++◌, append_assoc, sym, ap, ◌∙◌, subst}
+use Rattle.std.specs.Prelude.{codes, OnOk}
+use Rattle.std.specs.Fmt.{decimal}
+use Rattle.ca_text.specs.Reports.{line}
+use Rattle.ca_text.proofs.report.write_window.Goals as goal
+
+pub returns : goal.returns
+returns c =
+    let n = decimal c.args.n in
+    let place = decimal c.args.c in
+    let named : c.deref.result.now ≡ codes "injective yes window " ++ n ++ codes " " ++ place =
+    c.deref.ensures ∙ c.in_ok-format.ensures.ok ∙ ap (λ text. codes "injective yes window " ++ text) (sym (append_assoc n (codes " ") place)) in
+    subst (λ text. OnOk c.push_line.result (c.push_line.new.self ≡ c.args.output.now ++ line text)) named c.push_line.ensures

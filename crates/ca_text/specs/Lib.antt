@@ -1,0 +1,5 @@
+pub mod Reports
+pub mod Lines
+pub mod Texts
+pub mod StatusLines
+pub mod Writable

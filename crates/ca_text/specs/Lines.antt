@@ -1,0 +1,77 @@
+-- The lines of what is found but of a report, and the kind of a fault.
+use Rattle.std.specs.Prelude.{ℕ, ◌+◌, ◌-◌, ◌*◌, List, ◌++◌, codes, slice_index, Option, None, Some}
+use Rattle.std.specs.List.{flat_map, range_with_len}
+use Rattle.std.specs.Fmt.{decimal}
+use Rattle.word_image.specs.Digits.{word_text}
+use Rattle.word_image.specs.LocalRules.{LocalRule}
+use Rattle.rule_text.specs.PrintedRules.{printed_rule, offset_text}
+use Rattle.rule_text.specs.declared.text_fault.TextFault.{TextFault}
+use Rattle.rule_text.specs.declared.text_fault.TextFault.TheVariants as fault
+use Rattle.tail_config.specs.TailTexts as tail
+use Rattle.tail_config.specs.InverseMaps.{WindowMap}
+use Rattle.image_minimal.specs.ImageLanguages.{Automaton}
+use Rattle.tail_preimage.specs.Preimages.{PlacedConfig}
+use Rattle.ca_findings.specs.Counts.{Counts}
+use Rattle.ca_text.specs.Reports.{line}
+
+-- the kind of a fault in lower case, and its place where it has one
+abbrev pub fault_text : TextFault → List ℕ
+fault_text (fault.Form place) = codes "form " ++ decimal place
+fault_text fault.States = codes "states"
+fault_text fault.Width = codes "width"
+fault_text fault.Nodes = codes "nodes"
+fault_text fault.Offset = codes "offset"
+fault_text fault.Kind = codes "kind"
+fault_text fault.Length = codes "length"
+fault_text (fault.Letter place) = codes "letter " ++ decimal place
+fault_text fault.Number = codes "number"
+
+-- a rule, or that there is none
+abbrev pub rule_text : Option LocalRule → List ℕ
+rule_text None = codes "none"
+rule_text (Some r) = printed_rule r
+
+-- the four lines of a map over a window: the window, where the cells that it reads begin, its letters, and what is said of it as a rule
+abbrev pub map_lines : ℕ → ℕ → WindowMap → Option LocalRule → List ℕ
+map_lines n c g rule =
+    line (codes "window " ++ decimal n ++ codes " " ++ decimal c) ++ line (codes "offset " ++ offset_text g.offset)
+    ++ line (codes "map " ++ word_text g.table) ++ line (codes "rule " ++ rule_text rule)
+
+-- how many classes there are
+abbrev pub classes_line : ℕ → List ℕ
+classes_line n = line (codes "classes " ++ decimal n)
+
+-- the class of the orphans
+abbrev pub dead_line : Option ℕ → List ℕ
+dead_line None = line (codes "dead none")
+dead_line (Some i) = line (codes "dead " ++ decimal i)
+
+-- the class after class i on a letter
+abbrev pub after_class : Automaton → ℕ → ℕ → ℕ
+after_class m i a = slice_index m.next (i * m.states + a)
+
+-- the classes after class i, letters ascending, with a blank between
+abbrev pub class_line : Automaton → ℕ → List ℕ
+class_line m i = line (decimal (after_class m i 0) ++ flat_map (λ a. codes " " ++ decimal (after_class m i a)) (range_with_len 1 (m.states - 1)))
+
+-- the lines of an automaton
+abbrev pub automaton_lines : Automaton → List ℕ
+automaton_lines m = classes_line m.classes ++ dead_line m.dead ++ flat_map (class_line m) (range_with_len 0 m.classes)
+
+-- the place where its middle begins, and the configuration
+abbrev pub placed_text : PlacedConfig → List ℕ
+placed_text p = codes "preimage " ++ offset_text p.at ++ codes " " ++ tail.printed p.config
+
+-- how many left and right periods the word spans, and the word
+abbrev pub gap_text : ℕ → ℕ → List ℕ → List ℕ
+gap_text before after w = codes "no preimage " ++ decimal before ++ codes " " ++ decimal after ++ codes " " ++ word_text w
+
+-- a name and a count
+abbrev pub count_line : List ℕ → ℕ → List ℕ
+count_line name n = line (name ++ codes " " ++ decimal n)
+
+-- the seven lines of some counts
+abbrev pub counts_lines : Counts → List ℕ
+counts_lines t =
+    count_line (codes "rules") t.rules ++ count_line (codes "surjective") t.surjective ++ count_line (codes "injective") t.injective
+    ++ count_line (codes "right") t.right ++ count_line (codes "left") t.left ++ count_line (codes "open") t.open_ ++ count_line (codes "conserving") t.conserving

@@ -1,0 +1,46 @@
+-- How a line is written, and the lines of a report.
+use Rattle.std.specs.Prelude.{ℕ, List, [], ◌∷◌, ◌++◌, codes, Option, None, Some, if◌then◌else◌}
+use Rattle.std.specs.List.{flat_map}
+use Rattle.std.specs.Fmt.{decimal}
+use Rattle.word_image.specs.Digits.{word_text}
+use Rattle.tail_config.specs.TailTexts as tail
+use Rattle.rule_text.specs.PrintedRules.{printed_rule, offset_text}
+use Rattle.cert_format.specs.Evidence.{InjectiveEvidence, SideEvidence, SumEvidence, Window, Twins, Ahead, Split, Flux, Ring}
+use Rattle.certificate_laws.specs.LeastEvidence.{Evidence, close_both}
+use Rattle.ca_findings.specs.Numbers.{number_found}
+
+-- a text, and the byte that ends a line
+abbrev pub line : List ℕ → List ℕ
+line text = text ++ 10 ∷ []
+
+-- a number, where there is one
+abbrev pub number_line : Option ℕ → List ℕ
+number_line None = line (codes "number none")
+number_line (Some n) = line (codes "number " ++ decimal n)
+
+-- every word has a preimage, or else this is an orphan
+abbrev pub surjective_line : Option (List ℕ) → List ℕ
+surjective_line None = line (codes "surjective yes")
+surjective_line (Some w) = line (codes "surjective no orphan " ++ word_text w)
+
+-- a window, or else twins
+abbrev pub injective_line : InjectiveEvidence → List ℕ
+injective_line (Window n c) = line (codes "injective yes window " ++ decimal n ++ codes " " ++ decimal c)
+injective_line (Twins x y) = line (codes "injective no twins " ++ word_text x ++ codes " " ++ word_text y)
+
+-- of a side by its name: a look-ahead, or else a split
+abbrev pub side_line : List ℕ → SideEvidence → List ℕ
+side_line name (Ahead n) = line (name ++ codes " yes ahead " ++ decimal n)
+side_line name (Split x y) = line (name ++ codes " no split " ++ tail.printed x ++ codes " " ++ tail.printed y)
+
+-- a flux, or else a ring
+abbrev pub conserving_line : SumEvidence → List ℕ
+conserving_line (Flux phi) = line (codes "conserving yes flux" ++ flat_map (λ z. codes " " ++ offset_text z) phi)
+conserving_line (Ring p) = line (codes "conserving no ring " ++ word_text p)
+
+-- the eight lines of a report
+abbrev pub report_lines : Evidence → List ℕ
+report_lines e =
+    line (codes "rule " ++ printed_rule e.rule) ++ number_line (number_found e.rule) ++ surjective_line e.orphan ++ injective_line e.injective
+    ++ side_line (codes "right") e.right ++ side_line (codes "left") e.left ++ line (if close_both e.right e.left then codes "open yes" else codes "open no")
+    ++ conserving_line e.conserving

@@ -1,0 +1,72 @@
+-- How findings are written, and why nothing fits.
+use Rattle.std.specs.Prelude.{ℕ, List, ◌++◌, codes, Option, None, Some}
+use Rattle.std.specs.Fmt.{decimal}
+use Rattle.word_image.specs.Digits.{word_text}
+use Rattle.rule_text.specs.PrintedRules.{printed_rule}
+use Rattle.rule_algebra.specs.declared.fault.AlgebraFault.{AlgebraFault}
+use Rattle.rule_algebra.specs.declared.fault.AlgebraFault.TheVariants as algebra
+use Rattle.rule_classes.specs.declared.lifts.LiftFault.{LiftFault}
+use Rattle.rule_classes.specs.declared.lifts.LiftFault.TheVariants as lift
+use Rattle.tail_config.specs.declared.faults.TailFault.{TailFault}
+use Rattle.tail_config.specs.declared.faults.TailFault.TheVariants as tail
+use Rattle.cert_format.specs.WrittenTexts.{certificate_text}
+use Rattle.ca_findings.specs.Findings.{Finding, Unfit}
+use Rattle.ca_text.specs.Reports.{line, number_line, surjective_line, report_lines}
+use Rattle.ca_text.specs.Lines.{map_lines, automaton_lines, placed_text, gap_text, counts_lines, count_line}
+
+-- the line of `same`, and of `erase`
+abbrev pub same_line : Option (List ℕ) → List ℕ
+same_line None = line (codes "same yes")
+same_line (Some w) = line (codes "same no " ++ word_text w)
+
+abbrev pub erased_line : Option (List ℕ × List ℕ) → List ℕ
+erased_line None = line (codes "erase none")
+erased_line (Some pair) = line (codes "erase " ++ word_text pair.0 ++ codes " " ++ word_text pair.1)
+
+-- what is written of a finding
+abbrev pub text_of : Finding → List ℕ
+text_of (Finding.Report e) = report_lines e
+text_of (Finding.Written c) = certificate_text c
+text_of (Finding.Orphan orphan) = surjective_line orphan
+text_of (Finding.Number n) = number_line n
+text_of (Finding.Rule r) = line (printed_rule r)
+text_of (Finding.Inverse n c g rule) = map_lines n c g rule
+text_of (Finding.Language m) = automaton_lines m
+text_of (Finding.Same word) = same_line word
+text_of (Finding.Erased pair) = erased_line pair
+text_of (Finding.Preimage p) = line (placed_text p)
+text_of (Finding.Gap before after w) = line (gap_text before after w)
+text_of (Finding.Summary t) = counts_lines t
+text_of (Finding.Classes t n) = counts_lines t ++ count_line (codes "classes") n
+
+-- why rules make no rule
+abbrev pub algebra_text : AlgebraFault → List ℕ
+algebra_text algebra.States = codes "states"
+algebra_text algebra.NotPermutation = codes "permutation"
+algebra_text algebra.Width = codes "width"
+algebra_text algebra.Nodes = codes "nodes"
+algebra_text algebra.Offset = codes "offset"
+
+-- why a rule has no lift
+abbrev pub lift_text : LiftFault → List ℕ
+lift_text lift.States = codes "states"
+lift_text lift.Nodes = codes "nodes"
+lift_text lift.Centre = codes "centre"
+
+-- why three parts make no configuration
+abbrev pub tail_text : TailFault → List ℕ
+tail_text tail.LeftEmpty = codes "tail leftempty"
+tail_text tail.RightEmpty = codes "tail rightempty"
+tail_text (tail.Long part) = codes "tail long"
+tail_text (tail.Letter part place) = codes "tail letter"
+
+-- why nothing fits
+abbrev pub unfit_text : Unfit → List ℕ
+unfit_text (Unfit.Twins x y) = codes "twins " ++ word_text x ++ codes " " ++ word_text y
+unfit_text (Unfit.Wide n) = codes "wide " ++ decimal n
+unfit_text Unfit.Colours = codes "colours"
+unfit_text (Unfit.Lift f) = lift_text f
+unfit_text (Unfit.Algebra f) = algebra_text f
+unfit_text (Unfit.Tail f) = tail_text f
+unfit_text Unfit.Weights = codes "weights"
+unfit_text Unfit.States = codes "states"

@@ -1,0 +1,35 @@
+//! The lines of counts.
+ghost use Rattle.std.specs.Prelude.{◌≡◌, ◌++◌, codes, OnOk};
+ghost use Rattle.ca_findings.specs.Values.{counts_of};
+ghost use Rattle.ca_text.specs.Lines.{count_line, counts_lines};
+
+use crate::output::Output;
+use ca_findings::Counts;
+use std::alloc::{AllocError, Global};
+
+/// Appends the seven lines of a summary.
+pub fn write_counts(alloc: Global, output: &mut Output, counts: &Counts) -> Result<(), AllocError>
+    ensures { OnOk result (output.new ≡ output.old ++ counts_lines (counts_of counts.now)) }
+{
+    write_count(alloc, output, "rules", counts.rules)?;
+    write_count(alloc, output, "surjective", counts.surjective)?;
+    write_count(alloc, output, "injective", counts.injective)?;
+    write_count(alloc, output, "right", counts.right)?;
+    write_count(alloc, output, "left", counts.left)?;
+    write_count(alloc, output, "open", counts.open)?;
+    write_count(alloc, output, "conserving", counts.conserving)
+}
+
+/// Appends the line of a name and a count.
+fn write_count(alloc: Global, output: &mut Output, name: &str, count: u16) -> Result<(), AllocError>
+    ensures { OnOk result (output.new ≡ output.old ++ count_line name.now count) }
+{
+    output.push_line(&format!(in alloc; "{name} {count}")?)
+}
+
+/// Appends the line of how many classes there are.
+pub fn write_classes(alloc: Global, output: &mut Output, classes: usize) -> Result<(), AllocError>
+    ensures { OnOk result (output.new ≡ output.old ++ count_line (codes "classes") classes) }
+{
+    output.push_line(&format!(in alloc; "classes {classes}")?)
+}

@@ -1,0 +1,25 @@
+//! The decimal digits of a number.
+ghost use Rattle.std.specs.Prelude.{◌≡◌, ◌+◌, ◌≤◌, ◌++◌, length, drop};
+ghost use Rattle.std.specs.Fmt.{decimal};
+
+/// The most digits of a number below 2^32.
+pub const MOST_DIGITS: usize = 10;
+
+/// Writes the digits of a number into the bytes, so that they end before place `end`, and gives the place
+/// of the first. What stands from `end` on stays.
+pub fn write_decimal(number: u32, bytes: &mut [u8], end: usize) -> usize
+    requires room { length (decimal number) ≤ end }
+    requires end { end ≤ length bytes.old }
+    ensures first { result + length (decimal number) ≡ end }
+    ensures digits { drop result bytes.new ≡ decimal number ++ drop end bytes.old }
+{
+    let mut left = number;
+    let mut place = end - 1;
+    while left >= 10 {
+        bytes[place] = b'0' + (left % 10) as u8;
+        left /= 10;
+        place -= 1;
+    }
+    bytes[place] = b'0' + left as u8;
+    place
+}

@@ -1,0 +1,99 @@
+//! What is said of a fault, and why nothing fits.
+ghost use Rattle.std.specs.Prelude.{◌≡◌, IfOk, string_bytes};
+ghost use Rattle.ca_findings.specs.Values.{unfit_of};
+ghost use Rattle.ca_text.specs.Lines.{fault_text};
+ghost use Rattle.ca_text.specs.StatusLines.{operand_fault_line, unfit_line};
+ghost use Rattle.ca_text.specs.Texts.{algebra_text, lift_text, tail_text, unfit_text};
+ghost use Rattle.ca_text.specs.Writable.{IsWritableUnfit};
+
+use crate::output::Output;
+use ca_findings::Cause;
+use rule_algebra::AlgebraFault;
+use rule_classes::LiftFault;
+use rule_text::TextFault;
+use std::alloc::{AllocError, Global};
+use tail_config::TailFault;
+
+/// The line of a cause for which nothing fits.
+pub fn unfit_output(alloc: Global, cause: &Cause) -> Result<Output, AllocError>
+    requires { IsWritableUnfit (unfit_of cause.now) }
+    ensures { IfOk result (λ output. output ≡ unfit_line (unfit_text (unfit_of cause.now))) }
+{
+    match cause {
+        Cause::Twins(pair) => {
+            Output::named_pair(alloc, "notfit twins ", pair.x.as_slice(), pair.y.as_slice())
+        }
+        Cause::Wide(n) => Output::unfit(alloc, &format!(in alloc; "wide {n}")?),
+        Cause::Colours => Output::unfit(alloc, "colours"),
+        Cause::Lift(fault) => Output::unfit(alloc, lift_name(*fault)),
+        Cause::Algebra(fault) => Output::unfit(alloc, algebra_name(*fault)),
+        Cause::Tail(fault) => Output::unfit(alloc, tail_name(*fault)),
+        Cause::Weights => Output::unfit(alloc, "weights"),
+        Cause::States => Output::unfit(alloc, "states"),
+    }
+}
+
+/// The line that says which fault the operand with this number has.
+pub fn operand_fault_output(
+    alloc: Global,
+    operand: u8,
+    fault: TextFault,
+) -> Result<Output, AllocError>
+    ensures { IfOk result (λ output. output ≡ operand_fault_line operand fault) }
+{
+    let kind = fault_kind(alloc, fault)?;
+    Output::line(alloc, &format!(in alloc; "rule fault {operand} {kind}")?)
+}
+
+/// The kind of a fault, and its place where it has one.
+pub fn fault_kind(alloc: Global, fault: TextFault) -> Result<String, AllocError>
+    ensures { IfOk result (λ text. string_bytes text ≡ fault_text fault) }
+{
+    match fault {
+        TextFault::Form(place) => format!(in alloc; "form {place}"),
+        TextFault::States => String::from_str(alloc, "states"),
+        TextFault::Width => String::from_str(alloc, "width"),
+        TextFault::Nodes => String::from_str(alloc, "nodes"),
+        TextFault::Offset => String::from_str(alloc, "offset"),
+        TextFault::Kind => String::from_str(alloc, "kind"),
+        TextFault::Length => String::from_str(alloc, "length"),
+        TextFault::Letter(place) => format!(in alloc; "letter {place}"),
+        TextFault::Number => String::from_str(alloc, "number"),
+    }
+}
+
+/// Why rules make no rule.
+fn algebra_name(fault: AlgebraFault) -> &'static str
+    ensures { result.now ≡ algebra_text fault }
+{
+    match fault {
+        AlgebraFault::States => "states",
+        AlgebraFault::NotPermutation => "permutation",
+        AlgebraFault::Width => "width",
+        AlgebraFault::Nodes => "nodes",
+        AlgebraFault::Offset => "offset",
+    }
+}
+
+/// Why a rule has no lift.
+fn lift_name(fault: LiftFault) -> &'static str
+    ensures { result.now ≡ lift_text fault }
+{
+    match fault {
+        LiftFault::States => "states",
+        LiftFault::Nodes => "nodes",
+        LiftFault::Centre => "centre",
+    }
+}
+
+/// Why three parts make no configuration.
+fn tail_name(fault: TailFault) -> &'static str
+    ensures { result.now ≡ tail_text fault }
+{
+    match fault {
+        TailFault::LeftEmpty => "tail leftempty",
+        TailFault::RightEmpty => "tail rightempty",
+        TailFault::Long(_) => "tail long",
+        TailFault::Letter(..) => "tail letter",
+    }
+}

@@ -1,0 +1,111 @@
+//! The lines that say which words are images.
+ghost use Rattle.std.specs.Prelude.{◌≡◌, ℕ, ◌+◌, ◌<◌, ◌≤◌, ◌++◌, drop, length, slice_index, IfOk, OnOk};
+ghost use Rattle.std.specs.Fmt.{decimal};
+ghost use Rattle.image_minimal.specs.ImageLanguages as languages;
+ghost use Rattle.ca_findings.specs.Values.{automaton_of, pair_of};
+ghost use Rattle.ca_text.specs.Lines.{after_class, automaton_lines, class_line, dead_line};
+ghost use Rattle.ca_text.specs.Texts.{erased_line, same_line};
+ghost use Rattle.ca_text.specs.Writable.{HasDigits, HasRows, HavePairDigits};
+
+use crate::decimals::write_decimal;
+use crate::output::Output;
+use ca_findings::{Automaton, Pair};
+use std::alloc::{AllocError, Global};
+use word_image::{MOST_STATES, Word};
+
+/// The most bytes of a class in a line: five digits, since it is below 65,536, and a blank or the line end.
+const MOST_PIECE: usize = 6;
+
+/// The most bytes of the line of a class.
+const MOST_LINE: usize = MOST_PIECE * MOST_STATES;
+
+/// The lines of an automaton.
+pub fn automaton_output(alloc: Global, automaton: &Automaton) -> Result<Output, AllocError>
+    requires { HasRows (automaton_of automaton.now) }
+    ensures { IfOk result (λ output. output ≡ automaton_lines (automaton_of automaton.now)) }
+{
+    let classes = automaton.classes;
+    let mut output = Output::with_room(
+        alloc,
+        MOST_PIECE * classes as usize * usize::from(automaton.states),
+    )?;
+    output.push_line(&format!(in alloc; "classes {classes}")?)?;
+    write_dead(alloc, &mut output, automaton.dead)?;
+    for class in 0..classes {
+        write_class(&mut output, automaton, class)?;
+    }
+    Ok(output)
+}
+
+/// Appends the line that names the class of the orphans.
+fn write_dead(alloc: Global, output: &mut Output, dead: Option<u32>) -> Result<(), AllocError>
+    ensures { OnOk result (output.new ≡ output.old ++ dead_line dead) }
+{
+    match dead {
+        None => output.push_line("dead none"),
+        Some(class) => output.push_line(&format!(in alloc; "dead {class}")?),
+    }
+}
+
+/// Appends the line of the classes to which a class leads.
+fn write_class(output: &mut Output, automaton: &Automaton, class: u32) -> Result<(), AllocError>
+    requires rows { HasRows (automaton_of automaton.now) }
+    requires class { class < automaton.now.classes }
+    ensures { OnOk result (output.new ≡ output.old ++ class_line (automaton_of automaton.now) class) }
+{
+    let k = usize::from(automaton.states);
+    let first = class as usize * k;
+    write_row(output, automaton.states, &automaton.next[first..first + k])
+}
+
+/// Appends the line of these classes, one for each of k letters.
+fn write_row(output: &mut Output, k: u8, row: &[u16]) -> Result<(), AllocError>
+    requires some { 0 < k }
+    requires most { k ≤ 16 }
+    requires long { length row.now ≡ k }
+    ensures { OnOk result ((a : languages.Automaton) (i : ℕ) → a.states ≡ k → ((l : ℕ) → l < k → slice_index row.now l ≡ after_class a i l) → output.new ≡ output.old ++ class_line a i) }
+{
+    // The line is written from its end.
+    let mut bytes = [b'\n'; MOST_LINE];
+    let mut first = MOST_LINE - 1;
+    for letter in (1..k).rev() {
+        first = write_short(row[letter as usize], &mut bytes, first) - 1;
+        bytes[first] = b' ';
+    }
+    first = write_short(row[0], &mut bytes, first);
+    output.push(&bytes[first..])
+}
+
+/// Writes the digits of a class, at most five, so that they end before place `end`, and gives the place of
+/// the first.
+fn write_short(class: u16, bytes: &mut [u8], end: usize) -> usize
+    requires room { 5 ≤ end }
+    requires end { end ≤ length bytes.old }
+    ensures first { result + length (decimal class) ≡ end }
+    ensures few { (1 ≤ length (decimal class)) × (length (decimal class) ≤ 5) }
+    ensures digits { drop result bytes.new ≡ decimal class ++ drop end bytes.old }
+{
+    write_decimal(u32::from(class), bytes, end)
+}
+
+/// The line of a word that is an orphan of one rule alone, or of none.
+pub fn same_output(alloc: Global, word: &Option<Word>) -> Result<Output, AllocError>
+    requires { HasDigits word.now }
+    ensures { IfOk result (λ output. output ≡ same_line word.now) }
+{
+    match word {
+        None => Output::line(alloc, "same yes"),
+        Some(word) => Output::named(alloc, "same no ", word.as_slice()),
+    }
+}
+
+/// The line of an erasable pair, or of none.
+pub fn erased_output(alloc: Global, pair: &Option<Pair>) -> Result<Output, AllocError>
+    requires { HavePairDigits (pair_of pair.now) }
+    ensures { IfOk result (λ output. output ≡ erased_line (pair_of pair.now)) }
+{
+    match pair {
+        None => Output::line(alloc, "erase none"),
+        Some(pair) => Output::named_pair(alloc, "erase ", pair.x.as_slice(), pair.y.as_slice()),
+    }
+}

@@ -1,0 +1,40 @@
+//! How findings are written, and all else that the program says.
+//!
+//! A text is made of values that are there: it decides nothing. What is written of a finding is `text_of` of
+//! specs/Texts.antt, a line for each kind, and [`text`] writes it: the eight lines of a report, the four of an inverse map,
+//! the seven of counts, and an eighth where classes are counted, an automaton's two and one for each class, a certificate
+//! as it is, and otherwise one line. `unfit_text` is what is written of a cause for which nothing fits, and
+//! [`unfit_output`] its line. Beside them stand the lines of the statuses: of an operand with a fault, of an
+//! accepted certificate and of a refused one.
+//!
+//! A word is written with a hexadecimal digit for each letter, so only what has letters below 16 can be written. Each
+//! right finding about accepted rules has, which is the law [`right_findings_are_writable`].
+//!
+//! A text is whole in memory, an [`Output`], and takes time and memory **O(n)** for its n bytes.
+#![tactic(auto)]
+
+mod counts;
+mod decimals;
+mod faults;
+mod inverses;
+mod languages;
+mod output;
+mod preimages;
+mod report;
+mod texts;
+mod verdicts;
+
+ghost use Rattle.ca_findings.specs.Questions.{Question, AreRules};
+ghost use Rattle.ca_findings.specs.Findings.{Finding, Unfit, IsFinding, IsUnfitFor};
+ghost use Rattle.ca_text.specs.Writable.{IsWritable, IsWritableUnfit};
+
+pub use faults::{operand_fault_output, unfit_output};
+pub use output::Output;
+pub use texts::text;
+pub use verdicts::{refused_output, write_accepted};
+
+/// What is right for accepted rules can be written.
+pub fn right_findings_are_writable()
+    ensures found { (q : Question) (f : Finding) → AreRules q → IsFinding q f → IsWritable f }
+    ensures unfit { (q : Question) (u : Unfit) → AreRules q → IsUnfitFor q u → IsWritableUnfit u }
+{}

@@ -1,0 +1,61 @@
+//! The line of what maps to a configuration, or of a gap in it.
+ghost use Rattle.std.specs.Prelude.{◌≡◌, IfOk};
+ghost use Rattle.word_image.specs.LocalRules.{IsWord};
+ghost use Rattle.tail_preimage.specs.Answers.{placed_config};
+ghost use Rattle.ca_findings.specs.Values.{preimage_of};
+ghost use Rattle.ca_text.specs.Reports.{line};
+ghost use Rattle.ca_text.specs.Lines.{gap_text, placed_text};
+ghost use Rattle.ca_text.specs.Texts.{text_of};
+ghost use Rattle.ca_text.specs.Writable.{HasTailDigits, IsWritable};
+
+use crate::output::Output;
+use std::alloc::{AllocError, Global};
+use tail_preimage::{Placed, Pre};
+
+/// The line of an answer.
+pub fn preimage_output(alloc: Global, answer: &Pre) -> Result<Output, AllocError>
+    requires { IsWritable (preimage_of answer.now) }
+    ensures { IfOk result (λ output. output ≡ text_of (preimage_of answer.now)) }
+{
+    match answer {
+        Pre::From(placed) => placed_output(alloc, placed),
+        Pre::Gap {
+            before,
+            after,
+            word,
+        } => gap_output(alloc, *before, *after, word.as_slice()),
+    }
+}
+
+/// The line of a placed configuration.
+fn placed_output(alloc: Global, placed: &Placed) -> Result<Output, AllocError>
+    requires { HasTailDigits (placed_config placed.now).config }
+    ensures { IfOk result (λ output. output ≡ line (placed_text (placed_config placed.now))) }
+{
+    let at = placed.at;
+    let mut output = Output::new(alloc);
+    output.push(format!(in alloc; "preimage {at} ")?.as_bytes())?;
+    output.push_word(alloc, placed.left.as_slice())?;
+    output.push(b"|")?;
+    output.push_word(alloc, placed.middle.as_slice())?;
+    output.push(b"|")?;
+    output.push_word(alloc, placed.right.as_slice())?;
+    output.push(b"\n")?;
+    Ok(output)
+}
+
+/// The line of a gap.
+fn gap_output(alloc: Global, before: u16, after: u16, word: &[u8]) -> Result<Output, AllocError>
+    requires { IsWord 16 word.now }
+    ensures { IfOk result (λ output. output ≡ line (gap_text before after word.now)) }
+{
+    let mut output = Output::new(alloc);
+    output.push(b"no preimage ")?;
+    output.push_number(u32::from(before))?;
+    output.push(b" ")?;
+    output.push_number(u32::from(after))?;
+    output.push(b" ")?;
+    output.push_word(alloc, word)?;
+    output.push(b"\n")?;
+    Ok(output)
+}

@@ -1,0 +1,175 @@
+//! The lines of a report.
+ghost use Rattle.std.specs.Prelude.{◌≡◌, ◌++◌, codes, if◌then◌else◌, OnOk};
+ghost use Rattle.std.specs.List.{flat_map};
+ghost use Rattle.tail_config.specs.TailTexts as tail;
+ghost use Rattle.rule_text.specs.PrintedRules.{printed_rule, offset_text};
+ghost use Rattle.cert_format.specs.Evidence.InjectiveEvidence.{Window};
+ghost use Rattle.cert_format.specs.Parts.{injective_of, side_of, sum_of};
+ghost use Rattle.certificate_laws.specs.LeastEvidence.{close_both};
+ghost use Rattle.ca_text.specs.Reports.{line, number_line, surjective_line, injective_line, side_line, conserving_line, report_lines};
+ghost use Rattle.ca_findings.specs.Findings.{Finding};
+ghost use Rattle.ca_findings.specs.Values.{evidence_of};
+ghost use Rattle.ca_text.specs.Writable.{HasDigits, HasTwinDigits, HasRingDigits, IsWritable};
+
+use crate::output::Output;
+use ca_findings::Report;
+use cert_format::{InjectivePart, SidePart, SumPart};
+use rule_text::{number, print};
+use std::alloc::{AllocError, Global};
+use tail_config::Tail;
+use word_image::{Rule, Word};
+
+/// Appends the eight lines of a report.
+pub fn write_report(alloc: Global, output: &mut Output, report: &Report) -> Result<(), AllocError>
+    requires { IsWritable (Finding.Report (evidence_of report.now)) }
+    ensures { OnOk result (output.new ≡ output.old ++ report_lines (evidence_of report.now)) }
+{
+    write_rule(alloc, output, &report.rule)?;
+    write_number(alloc, output, number(&report.rule))?;
+    write_surjective(alloc, output, &report.orphan)?;
+    write_injective(alloc, output, &report.injective)?;
+    write_side(alloc, output, "right", &report.right)?;
+    write_side(alloc, output, "left", &report.left)?;
+    write_open(output, are_ahead(&report.right, &report.left))?;
+    write_conserving(alloc, output, &report.conserving)
+}
+
+/// Whether both sides have a look-ahead.
+fn are_ahead(right: &SidePart, left: &SidePart) -> bool
+    ensures { result ≡ close_both (side_of right.now) (side_of left.now) }
+{
+    matches!((right, left), (SidePart::Ahead(_), SidePart::Ahead(_)))
+}
+
+/// Appends the printed rule.
+pub fn write_rule(alloc: Global, output: &mut Output, rule: &Rule) -> Result<(), AllocError>
+    ensures { OnOk result (output.new ≡ output.old ++ line (codes "rule " ++ printed_rule rule.now)) }
+{
+    output.push(b"rule ")?;
+    output.push(&print(alloc, rule)?)?;
+    output.push(b"\n")
+}
+
+/// Appends the line of a number, where there is one.
+pub fn write_number(
+    alloc: Global,
+    output: &mut Output,
+    number: Option<u128>,
+) -> Result<(), AllocError>
+    ensures { OnOk result (output.new ≡ output.old ++ number_line number) }
+{
+    match number {
+        Some(number) => output.push_line(&format!(in alloc; "number {number}")?),
+        None => output.push_line("number none"),
+    }
+}
+
+/// Appends the line on surjectivity.
+pub fn write_surjective(
+    alloc: Global,
+    output: &mut Output,
+    orphan: &Option<Word>,
+) -> Result<(), AllocError>
+    requires { HasDigits orphan.now }
+    ensures { OnOk result (output.new ≡ output.old ++ surjective_line orphan.now) }
+{
+    match orphan {
+        None => output.push_line("surjective yes"),
+        Some(word) => output.push_named(alloc, "surjective no orphan ", word.as_slice()),
+    }
+}
+
+/// Appends the line on injectivity.
+fn write_injective(
+    alloc: Global,
+    output: &mut Output,
+    found: &InjectivePart,
+) -> Result<(), AllocError>
+    requires { HasTwinDigits (injective_of found.now) }
+    ensures { OnOk result (output.new ≡ output.old ++ injective_line (injective_of found.now)) }
+{
+    match found {
+        InjectivePart::Window { n, c } => write_window(alloc, output, *n, *c),
+        InjectivePart::Twins { x, y } => {
+            output.push_named_pair(alloc, "injective no twins ", x.as_slice(), y.as_slice())
+        }
+    }
+}
+
+/// Appends the line that names a determined window.
+fn write_window(alloc: Global, output: &mut Output, n: u16, c: u16) -> Result<(), AllocError>
+    ensures { OnOk result (output.new ≡ output.old ++ injective_line (Window n c)) }
+{
+    output.push_line(&format!(in alloc; "injective yes window {n} {c}")?)
+}
+
+/// Appends the line of a side.
+fn write_side(
+    alloc: Global,
+    output: &mut Output,
+    name: &str,
+    found: &SidePart,
+) -> Result<(), AllocError>
+    ensures { OnOk result (output.new ≡ output.old ++ side_line name.now (side_of found.now)) }
+{
+    match found {
+        SidePart::Ahead(n) => output.push_line(&format!(in alloc; "{name} yes ahead {n}")?),
+        SidePart::Split(x, y) => write_split(alloc, output, name, x, y),
+    }
+}
+
+/// Appends the line that names a split.
+fn write_split(
+    alloc: Global,
+    output: &mut Output,
+    name: &str,
+    x: &Tail,
+    y: &Tail,
+) -> Result<(), AllocError>
+    ensures { OnOk result (output.new ≡ output.old ++ line (name.now ++ codes " no split " ++ tail.printed x.now.config ++ codes " " ++ tail.printed y.now.config)) }
+{
+    let x = tail_config::print(alloc, x)?;
+    let y = tail_config::print(alloc, y)?;
+    write_texts(output, name, &x, &y)
+}
+
+/// Appends the line of a side that doesn't close, with the texts of two configurations.
+fn write_texts(output: &mut Output, name: &str, x: &[u8], y: &[u8]) -> Result<(), AllocError>
+    ensures { OnOk result (output.new ≡ output.old ++ line (name.now ++ codes " no split " ++ (x.now ++ codes " " ++ y.now))) }
+{
+    output.push(name.as_bytes())?;
+    output.push(b" no split ")?;
+    output.push(x)?;
+    output.push(b" ")?;
+    output.push(y)?;
+    output.push(b"\n")
+}
+
+/// Appends the line that says whether the rule closes on both sides.
+fn write_open(output: &mut Output, both: bool) -> Result<(), AllocError>
+    ensures { OnOk result (output.new ≡ output.old ++ line (if both then codes "open yes" else codes "open no")) }
+{
+    output.push_line(if both { "open yes" } else { "open no" })
+}
+
+/// Appends the line on the sum of the letters.
+fn write_conserving(alloc: Global, output: &mut Output, found: &SumPart) -> Result<(), AllocError>
+    requires { HasRingDigits (sum_of found.now) }
+    ensures { OnOk result (output.new ≡ output.old ++ conserving_line (sum_of found.now)) }
+{
+    match found {
+        SumPart::Flux(row) => write_flux(alloc, output, row.as_slice()),
+        SumPart::Ring(ring) => output.push_named(alloc, "conserving no ring ", ring.as_slice()),
+    }
+}
+
+/// Appends the line that names a flux.
+fn write_flux(alloc: Global, output: &mut Output, flows: &[i32]) -> Result<(), AllocError>
+    ensures { OnOk result (output.new ≡ output.old ++ line (codes "conserving yes flux" ++ flat_map (λ z. codes " " ++ offset_text z) flows.now)) }
+{
+    output.push(b"conserving yes flux")?;
+    for flow in flows {
+        output.push(format!(in alloc; " {flow}")?.as_bytes())?;
+    }
+    output.push(b"\n")
+}

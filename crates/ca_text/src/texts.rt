@@ -1,0 +1,99 @@
+//! The text of a finding.
+ghost use Rattle.std.specs.Prelude.{◌≡◌, ◌++◌, codes, IfOk};
+ghost use Rattle.rule_text.specs.PrintedRules.{printed_rule};
+ghost use Rattle.ca_findings.specs.Values.{counts_of, evidence_of, finding_of};
+ghost use Rattle.ca_findings.specs.Findings.{Finding};
+ghost use Rattle.ca_text.specs.Reports.{line, number_line, report_lines, surjective_line};
+ghost use Rattle.ca_text.specs.Lines.{count_line, counts_lines};
+ghost use Rattle.ca_text.specs.Texts.{text_of};
+ghost use Rattle.ca_text.specs.Writable.{HasDigits, IsWritable};
+
+use crate::counts::{write_classes, write_counts};
+use crate::inverses::map_output;
+use crate::languages::{automaton_output, erased_output, same_output};
+use crate::output::Output;
+use crate::preimages::preimage_output;
+use crate::report::{write_number, write_report, write_surjective};
+use ca_findings::{Counts, Found, Report};
+use cert_format::to_bytes;
+use rule_text::print;
+use std::alloc::{AllocError, Global};
+use word_image::{Rule, Word};
+
+/// What is written of a finding.
+pub fn text(alloc: Global, found: &Found) -> Result<Output, AllocError>
+    requires { IsWritable (finding_of found.now) }
+    ensures { IfOk result (λ output. output ≡ text_of (finding_of found.now)) }
+{
+    match found {
+        Found::Report(report) => report_output(alloc, report),
+        Found::Written(cert) => Ok(Output::of(to_bytes(alloc, cert)?)),
+        Found::Orphan(orphan) => orphan_output(alloc, orphan),
+        Found::Number(number) => number_output(alloc, *number),
+        Found::Rule(rule) => rule_output(alloc, rule),
+        Found::Inverse(inverse) => map_output(alloc, inverse),
+        Found::Language(automaton) => automaton_output(alloc, automaton),
+        Found::Same(word) => same_output(alloc, word),
+        Found::Erased(pair) => erased_output(alloc, pair),
+        Found::Preimage(answer) => preimage_output(alloc, answer),
+        Found::Summary(counts) => counts_output(alloc, counts),
+        Found::Classes(counts, classes) => classes_output(alloc, counts, *classes),
+    }
+}
+
+/// The eight lines of a report.
+fn report_output(alloc: Global, report: &Report) -> Result<Output, AllocError>
+    requires { IsWritable (Finding.Report (evidence_of report.now)) }
+    ensures { IfOk result (λ output. output ≡ report_lines (evidence_of report.now)) }
+{
+    let mut output = Output::new(alloc);
+    write_report(alloc, &mut output, report)?;
+    Ok(output)
+}
+
+/// The line of an orphan, or of none.
+fn orphan_output(alloc: Global, orphan: &Option<Word>) -> Result<Output, AllocError>
+    requires { HasDigits orphan.now }
+    ensures { IfOk result (λ output. output ≡ surjective_line orphan.now) }
+{
+    let mut output = Output::new(alloc);
+    write_surjective(alloc, &mut output, orphan)?;
+    Ok(output)
+}
+
+/// The line of a number, where there is one.
+fn number_output(alloc: Global, number: Option<u128>) -> Result<Output, AllocError>
+    ensures { IfOk result (λ output. output ≡ number_line number) }
+{
+    let mut output = Output::new(alloc);
+    write_number(alloc, &mut output, number)?;
+    Ok(output)
+}
+
+/// The text of a rule, as a line.
+fn rule_output(alloc: Global, rule: &Rule) -> Result<Output, AllocError>
+    ensures { IfOk result (λ output. output ≡ line (printed_rule rule.now)) }
+{
+    let mut output = Output::new(alloc);
+    output.push(&print(alloc, rule)?)?;
+    output.push(b"\n")?;
+    Ok(output)
+}
+
+/// The seven lines of a summary.
+fn counts_output(alloc: Global, counts: &Counts) -> Result<Output, AllocError>
+    ensures { IfOk result (λ output. output ≡ counts_lines (counts_of counts.now)) }
+{
+    let mut output = Output::new(alloc);
+    write_counts(alloc, &mut output, counts)?;
+    Ok(output)
+}
+
+/// The same, and that of the classes.
+fn classes_output(alloc: Global, counts: &Counts, classes: usize) -> Result<Output, AllocError>
+    ensures { IfOk result (λ output. output ≡ counts_lines (counts_of counts.now) ++ count_line (codes "classes") classes) }
+{
+    let mut output = counts_output(alloc, counts)?;
+    write_classes(alloc, &mut output, classes)?;
+    Ok(output)
+}
