@@ -1,0 +1,14 @@
+use Rattle.std.proofs.Common.{sym, ◌∙◌, subst}
+use Rattle.std.proofs.lemmas.List.{length-map}
+use Rattle.ca_findings.specs.Questions.{Question}
+use Rattle.ca_findings.specs.Findings.{Finding, IsFinding}
+use Rattle.ca_findings.specs.Values.{counts_of}
+use Rattle.ca_answers.specs.ClassTallies.{rule_in, rules_in}
+use Rattle.ca_answers.proofs.class_tally.ClassTally.found.Goals as goal
+
+pub returns : goal.returns
+returns c k m rules is =
+    let t = c.args.self.now in
+    let entries = (t.leasts).entries in
+    subst (λ n. IsFinding (Question.Classes rules) (Finding.Classes (counts_of t.counts) n)) (length-map entries (rule_in k m) ∙ sym c.len.ensures.len)
+    (IsFinding.Classes rules (rules_in k m entries) (counts_of t.counts) is.counts is.leasts)

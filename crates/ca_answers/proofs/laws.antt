@@ -1,0 +1,5 @@
+pub mod Samples
+pub mod Counts
+pub mod ClassTallies
+pub mod OneClass
+pub mod OwnWeights

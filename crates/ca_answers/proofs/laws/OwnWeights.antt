@@ -1,0 +1,41 @@
+-- With own weights what is found of a rule is what the values of its letters say.
+use Rattle.std.proofs.Common.{◌≡◌, ◌↔◌, List, ℕ, slice_index, Bool, IsTrue, subst}
+use Rattle.std.specs.Prelude.{Option, None, Some}
+use Rattle.word_image.specs.LocalRules.{LocalRule, IsRule}
+use Rattle.word_image.specs.Rings.{IsConserving}
+use Rattle.word_image.specs.Weights.{own_weights}
+use Rattle.ring_laws.proofs.SameWeights.{AgreeOn-own, IsConserving-own, IsFlux-agree, IsLeastLossyRing-agree}
+use Rattle.cert_format.specs.Evidence.{SumEvidence}
+use Rattle.cert_format.specs.Evidence.SumEvidence.{Flux, Ring}
+use Rattle.certificate_laws.specs.LeastEvidence.{Evidence, IsConservingPart, IsLeastEvidence}
+use Rattle.ca_findings.specs.Questions.{Question}
+use Rattle.ca_findings.specs.Findings.{Unfit, IsUnfitFor, AreFor, weight_by, weights_by}
+
+-- of one verdict
+pub IsConserving-tested : {r : LocalRule} {weights : List ℕ} {keeps : Bool} → IsRule r → weights ≡ own_weights r.states → IsTrue keeps ↔ IsConserving (slice_index weights) r → IsTrue keeps ↔ IsConserving (λ a. a) r
+IsConserving-tested {r} {weights} {keeps} rule own exact =
+    let test = subst (λ (ws : List ℕ). IsTrue keeps ↔ IsConserving (slice_index ws) r) own exact in
+    let same = IsConserving-own rule in
+    ((λ yes. same.0 (test.0 yes)), (λ keep. test.1 (same.1 keep)))
+
+-- of its evidence
+IsConservingPart-own : {r : LocalRule} → IsRule r → (e : SumEvidence) → IsConservingPart (slice_index (own_weights r.states)) r e → IsConservingPart (λ a. a) r e
+IsConservingPart-own {r} rule (Flux phi) part = ((IsConserving-own rule).0 part.0, IsFlux-agree rule (AgreeOn-own r.states) part.1, part.2)
+IsConservingPart-own {r} rule (Ring p) part = ((λ keep. part.0 ((IsConserving-own rule).1 keep)), IsLeastLossyRing-agree rule (AgreeOn-own r.states) part.1)
+
+-- of all evidence
+pub IsLeastEvidence-by : {r : LocalRule} {e : Evidence} (named : Option (List ℕ)) → IsRule r → IsLeastEvidence (slice_index (weights_by named r)) r e → IsLeastEvidence (weight_by named) r e
+IsLeastEvidence-by {r} {e} None rule least = record {
+  rule = least.rule;
+  surjective = least.surjective;
+  injective = least.injective;
+  right = least.right;
+  left = least.left;
+  conserving = IsConservingPart-own rule e.conserving least.conserving;
+}
+IsLeastEvidence-by (Some weights) rule least = least
+
+-- a report of weights that aren't one for each letter
+pub unfit-report : {r : LocalRule} (named : Option (List ℕ)) → ¬ AreFor named r → IsUnfitFor (Question.Report r named) Unfit.Weights
+unfit-report None other = absurd (other tt)
+unfit-report {r} (Some weights) other = IsUnfitFor.Report r weights other

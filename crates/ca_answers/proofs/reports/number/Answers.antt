@@ -1,0 +1,10 @@
+use Rattle.std.proofs.Common.{sym, subst}
+use Rattle.ca_findings.specs.Questions.{Question}
+use Rattle.ca_findings.specs.Findings.{Finding, IsFinding}
+use Rattle.ca_findings.proofs.Numbers.{number_found-is}
+use Rattle.ca_answers.proofs.reports.number.Goals as goal
+
+pub returns : goal.returns
+returns c =
+    let r = c.args.rule.now in
+    subst (λ n. IsFinding (Question.Number r) (Finding.Number n)) (sym (number_found-is r c.number.result c.number.ensures)) (IsFinding.Number r)

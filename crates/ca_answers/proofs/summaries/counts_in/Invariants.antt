@@ -1,0 +1,11 @@
+use Rattle.std.proofs.Common.{◌≡◌, ◌-◌, List, ◌++◌, length}
+use Rattle.word_image.specs.LocalRules.{LocalRule}
+use Rattle.ca_answers.specs.Samples.{sample_rules}
+use Rattle.ca_findings.specs.Counts.{AreCounts}
+use Rattle.ca_findings.specs.Values.{counts_of}
+use Rattle.ca_answers.proofs.summaries.counts_in.Given as goal
+
+-- the rules so far are counted, and the others go on from the state that they left
+abbrev pub invariant-loop-i : goal.invariant-loop-i
+invariant-loop-i l =
+    (done : List LocalRule) × AreCounts done (counts_of l.counts) × (length done ≡ l._i) × (sample_rules l.k l.m l.seed l.count ≡ done ++ sample_rules l.k l.m l.generator (l.count - l._i))

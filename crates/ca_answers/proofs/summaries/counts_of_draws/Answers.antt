@@ -1,0 +1,11 @@
+use Rattle.std.proofs.Common.{◌≡◌, ◌^◌, refl, rules}
+use Rattle.std.specs.Prelude.{pos}
+use Rattle.word_image.proofs.laws.RuleFaults.{window_count-le, part_long}
+use Rattle.ca_answers.proofs.summaries.counts_of_draws.Goals as goal
+
+pub counts_in-requires-clause-long : goal.counts_in-requires-clause-long
+counts_in-requires-clause-long c =
+    let k = c.args.k in
+    let m = c.args.m in
+    let size : c.pow-size.result ≡ k ^ m = search rules in
+    part_long c.pow-size.result (k ^ m) _ refl size (window_count-le k m (pos 0) c.requires.shape)

@@ -1,0 +1,6 @@
+use Rattle.ca_findings.specs.Findings.{IsFinding}
+use Rattle.ca_findings.specs.Values.{counts_of}
+use Rattle.ca_answers.proofs.summaries.summary.Goals as goal
+
+pub returns : goal.returns
+returns c rules are = IsFinding.Summary rules (counts_of c.args.counts) are

@@ -1,0 +1,4 @@
+pub mod Samples
+pub mod ClassTallies
+pub mod OneClass
+pub mod NoRules

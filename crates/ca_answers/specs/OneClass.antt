@@ -1,0 +1,7 @@
+-- The automaton of a surjective rule.
+use Rattle.std.specs.Prelude.{ℕ, None, replicate}
+use Rattle.image_minimal.specs.ImageLanguages.{Automaton}
+
+-- one class, to which each letter leads, and which isn't that of an orphan
+abbrev pub one_class : ℕ → Automaton
+one_class k = record { states = k; classes = 1; next = replicate k 0; dead = None }

@@ -1,0 +1,107 @@
+//! Of how many rules each verdict is true, where a class is decided once.
+ghost use Rattle.std.specs.Prelude.{◌≡◌, ◌<◌, ◌≤◌, ◌+◌, ℕ, List, [], ◌∷◌, ◌++◌, length, nat_eq, None, All, IfOk, OnOk, pos};
+ghost use Rattle.indexmap.specs.IndexMap.{get};
+ghost use Rattle.word_image.specs.LocalRules.{LocalRule, IsRule};
+ghost use Rattle.rule_classes.specs.ClassVerdicts.{HaveOneVerdict};
+ghost use Rattle.rule_verdicts.specs.Truths.{AreTruths};
+ghost use Rattle.ca_findings.specs.Questions.{Question};
+ghost use Rattle.ca_findings.specs.Findings.{IsFinding};
+ghost use Rattle.ca_findings.specs.Values.{finding_of};
+ghost use Rattle.ca_answers.specs.ClassTallies.{IsRuleAdded, IsClassTally, IsDecided, rules_in};
+
+use crate::tally;
+use ca_findings::{Counts, Found};
+use indexmap::IndexMap;
+use rule_classes::class_of;
+use rule_text::number;
+use rule_verdicts::{Truths, keeps_sums};
+use std::alloc::{AllocError, Global};
+use word_image::Rule;
+
+/// How many of some rules have each property, and what holds of the least rules of their classes.
+#[derive(Drop)]
+pub struct ClassTally {
+    counts: Counts,
+    // By Wolfram number, in the order in which they came.
+    leasts: IndexMap<u128, Truths>,
+}
+
+impl ClassTally {
+    /// The counts of no rules.
+    pub fn new(alloc: Global) -> ClassTally
+        ensures { (k m : ℕ) → IsClassTally k m [] result }
+    {
+        ClassTally {
+            counts: tally::no_rules(),
+            leasts: IndexMap::new(alloc),
+        }
+    }
+
+    /// Counts one rule more.
+    pub fn add(&mut self, rule: &Rule) -> Result<(), AllocError>
+        requires states { rule.now.states ≤ 6 }
+        requires tally { (rules : List LocalRule) × IsClassTally rule.now.states rule.now.width rules self.old × (length rules < 4096) }
+        ensures { (rules : List LocalRule) → IsClassTally rule.now.states rule.now.width rules self.old →
+            OnOk result (IsClassTally rule.now.states rule.now.width (rules ++ rule.now ∷ []) self.new) }
+    {
+        let place = class_of(rule).unwrap();
+        let least = decided(&mut self.leasts, &place.least)?;
+        tally::add(&mut self.counts, &of_member(rule, place.mirrored, &least));
+        Ok(())
+    }
+
+    /// What is counted, and how many classes there are.
+    pub fn found(&self) -> Found
+        ensures { (k m : ℕ) (rules : List LocalRule) → IsClassTally k m rules self.now → IsFinding (Question.Classes rules) (finding_of result) }
+    {
+        Found::Classes(self.counts, self.leasts.len())
+    }
+}
+
+/// What holds of a rule, which is kept under its number.
+fn decided(known: &mut IndexMap<u128, Truths>, rule: &Rule) -> Result<Truths, AllocError>
+    requires states { rule.now.states ≤ 6 }
+    requires offset { rule.now.offset ≡ pos 0 }
+    requires known { All (IsDecided rule.now.states rule.now.width) known.old.entries }
+    ensures truths { IfOk result (AreTruths rule.now) }
+    ensures known { OnOk result (All (IsDecided rule.now.states rule.now.width) known.new.entries) }
+    ensures added { OnOk result (IsRuleAdded rule.now (rules_in rule.now.states rule.now.width known.old.entries) (rules_in rule.now.states rule.now.width known.new.entries)) }
+{
+    let _states = rule.k();
+    let number = number(rule).unwrap();
+    if let Some(truths) = known.get(&number).copied() {
+        return Ok(truths);
+    }
+    let truths = Truths::of(rule);
+    keep(known, number, &truths)?;
+    Ok(truths)
+}
+
+/// Keeps what holds of a rule under a number that has nothing.
+fn keep(known: &mut IndexMap<u128, Truths>, number: u128, truths: &Truths) -> Result<(), AllocError>
+    requires { get nat_eq known.old number ≡ None }
+    ensures { OnOk result (known.new.entries ≡ known.old.entries ++ (number, truths.now) ∷ []) }
+{
+    known.insert(number, *truths)?;
+    Ok(())
+}
+
+/// What holds of a rule, by what holds of the least rule of its class. Of the sums of rings that says
+/// nothing, since other names of the letters change them.
+fn of_member(rule: &Rule, mirrored: bool, least: &Truths) -> Truths
+    ensures rule { IsRule rule.now }
+    ensures truths { (g : LocalRule) → HaveOneVerdict rule.now mirrored g → AreTruths g least.now → AreTruths rule.now result }
+{
+    let (right, left) = if mirrored {
+        (least.left, least.right)
+    } else {
+        (least.right, least.left)
+    };
+    Truths {
+        surjective: least.surjective,
+        injective: least.injective,
+        right,
+        left,
+        conserving: keeps_sums(rule),
+    }
+}

@@ -1,0 +1,82 @@
+//! The words that are images.
+ghost use Rattle.std.specs.Prelude.{◌≤◌, IfOk, ◌≡◌};
+ghost use Rattle.image_minimal.specs.ImageLanguages.{IsLeastAutomaton};
+ghost use Rattle.ca_findings.specs.Questions.{Question};
+ghost use Rattle.ca_findings.specs.Values.{Answers, automaton_of};
+ghost use Rattle.ca_answers.specs.OneClass as one;
+
+use ca_findings::{Automaton, Cause, Found, Pair, Stop};
+use debruijn::Graph;
+use eden_law::{erasable, is_surjective};
+use image_minimal::{Minimal, SepFault, separate};
+use least_walk::Walker;
+use std::alloc::{AllocError, Global};
+use word_image::Rule;
+
+/// The least automaton of the words that have a preimage.
+pub fn language(alloc: Global, rule: &Rule) -> Result<Found, Stop>
+    ensures { Answers (Question.Language rule.now) result }
+{
+    if is_surjective(&Graph::of(rule)) {
+        return Ok(Found::Language(one_class(alloc, rule.k())?));
+    }
+    let minimal = image_minimal::least(alloc, rule)?;
+    Ok(Found::Language(automaton(alloc, &minimal)?))
+}
+
+/// The automaton of a surjective rule of k states.
+fn one_class(alloc: Global, k: u8) -> Result<Automaton, AllocError>
+    ensures { IfOk result (λ m. automaton_of m ≡ one.one_class k) }
+{
+    Ok(Automaton {
+        states: k,
+        classes: 1,
+        next: vec![in alloc; 0; usize::from(k)]?,
+        dead: None,
+    })
+}
+
+/// An automaton with all its rows.
+fn automaton(alloc: Global, minimal: &Minimal) -> Result<Automaton, AllocError>
+    ensures { IfOk result (λ m. IsLeastAutomaton minimal.now (automaton_of m)) }
+{
+    let k = usize::from(minimal.k());
+    let classes = minimal.len();
+    let mut next = Vec::with_capacity(alloc, classes as usize * k)?;
+    for class in 0..classes {
+        let row = minimal.row(class);
+        next.extend_from_slice(&row[..k])?;
+    }
+    Ok(Automaton {
+        states: minimal.k(),
+        classes,
+        next,
+        dead: minimal.dead(),
+    })
+}
+
+/// Whether the two rules have the same orphans, with the first word that is one of exactly one of them
+/// where they haven't.
+pub fn same(alloc: Global, first: &Rule, second: &Rule) -> Result<Found, Stop>
+    ensures { Answers (Question.Same first.now second.now) result }
+{
+    match separate(alloc, first, second) {
+        Ok(word) => Ok(Found::Same(word)),
+        Err(SepFault::States) => Err(Stop::Unfit(Cause::States)),
+        Err(SepFault::Memory(fault)) => Err(Stop::Memory(fault)),
+    }
+}
+
+/// The least erasable pair, where the rule isn't surjective.
+pub fn erase(alloc: Global, rule: &Rule) -> Result<Found, Stop>
+    ensures { Answers (Question.Erase rule.now) result }
+{
+    let mut walker = Walker::new(alloc)?;
+    match erasable(alloc, rule, &mut walker)? {
+        None => Ok(Found::Erased(None)),
+        Some(pair) => Ok(Found::Erased(Some(Pair {
+            x: pair.x,
+            y: pair.y,
+        }))),
+    }
+}

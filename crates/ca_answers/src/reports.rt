@@ -1,0 +1,72 @@
+//! What holds of a rule, with evidence.
+ghost use Rattle.std.specs.Prelude.{◌≡◌, length, slice_index, option_copied, IfNone, IfOk, IfSome};
+ghost use Rattle.certificate_laws.specs.LeastEvidence.{IsLeastEvidence};
+ghost use Rattle.ca_findings.specs.Questions.{Question};
+ghost use Rattle.ca_findings.specs.Findings.{AreFor, IsFinding, weights_by};
+ghost use Rattle.ca_findings.specs.Values.{Answers, evidence_of, finding_of};
+
+use ca_findings::{Cause, Found, Report, Stop};
+use rule_verdicts::{Evidence, least_orphan};
+use std::alloc::{AllocError, Global};
+use word_image::{Rule, Weights};
+
+/// The verdicts of a rule, each with the least evidence, where its letters have these weights; without
+/// any, each letter weighs its own value.
+pub fn report(alloc: Global, rule: &Rule, weights: Option<&[u8]>) -> Result<Found, Stop>
+    ensures { Answers (Question.Report rule.now (option_copied weights.entry)) result }
+{
+    // That the rule keeps the limits is what each of its calls says.
+    let _states = rule.k();
+    match weights_for(rule, weights) {
+        Some(weights) => Ok(Found::Report(report_with(alloc, rule, &weights)?)),
+        None => Err(Stop::Unfit(Cause::Weights)),
+    }
+}
+
+/// The report of a rule and weights of its letters.
+fn report_with(alloc: Global, rule: &Rule, weights: &Weights) -> Result<Report, AllocError>
+    requires { length weights.now ≡ rule.now.states }
+    ensures weights { IfOk result (λ report. report.weights ≡ weights.now) }
+    ensures least { IfOk result (λ report. IsLeastEvidence (slice_index weights.now) rule.now (evidence_of report)) }
+{
+    let evidence = Evidence::of(alloc, rule, weights)?;
+    Ok(Report {
+        rule: evidence.rule,
+        weights: evidence.weights,
+        orphan: evidence.orphan,
+        injective: evidence.injective,
+        right: evidence.right,
+        left: evidence.left,
+        conserving: evidence.conserving,
+    })
+}
+
+/// The weights that are named, where there is one for each letter of the rule, or its letters' own values.
+fn weights_for(rule: &Rule, weights: Option<&[u8]>) -> Option<Weights>
+    ensures each { IfSome result (λ each. AreFor (option_copied weights.entry) rule.now) }
+    ensures weights { IfSome result (λ each. each ≡ weights_by (option_copied weights.entry) rule.now) }
+    ensures letters { IfSome result (λ each. length each ≡ rule.now.states) }
+    ensures none { IfNone result (¬ AreFor (option_copied weights.entry) rule.now) }
+{
+    let Some(list) = weights else {
+        return Some(Weights::own(rule.k()));
+    };
+    match Weights::new(rule.k(), list) {
+        Ok(weights) => Some(weights),
+        Err(_) => None,
+    }
+}
+
+/// The least orphan; none where the rule is surjective.
+pub fn orphan(alloc: Global, rule: &Rule) -> Result<Found, Stop>
+    ensures { Answers (Question.Orphan rule.now) result }
+{
+    Ok(Found::Orphan(least_orphan(alloc, rule)?))
+}
+
+/// The Wolfram number, of a rule of at most six states.
+pub fn number(rule: &Rule) -> Found
+    ensures { IsFinding (Question.Number rule.now) (finding_of result) }
+{
+    Found::Number(rule_text::number(rule))
+}
