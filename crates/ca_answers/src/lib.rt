@@ -31,5 +31,5 @@ pub use class_rules::{least, lift, unlift};
 pub use inverses::inverse;
 pub use languages::{erase, language, same};
 pub use preimages::preimage;
-pub use reports::{number, orphan, report};
+pub use reports::{certificate, number, orphan, report};
 pub use summaries::{NoRules, classes, sample, survey};

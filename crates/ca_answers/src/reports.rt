@@ -1,11 +1,13 @@
 //! What holds of a rule, with evidence.
-ghost use Rattle.std.specs.Prelude.{◌≡◌, length, slice_index, option_copied, IfNone, IfOk, IfSome};
+ghost use Rattle.std.specs.Prelude.{◌≡◌, length, slice_index, true, option_copied, IfNone, IfOk, IfSome};
+ghost use Rattle.cert_format.specs.Versions.{names_weights};
 ghost use Rattle.certificate_laws.specs.LeastEvidence.{IsLeastEvidence};
 ghost use Rattle.ca_findings.specs.Questions.{Question};
 ghost use Rattle.ca_findings.specs.Findings.{AreFor, IsFinding, weights_by};
 ghost use Rattle.ca_findings.specs.Values.{Answers, evidence_of, finding_of};
 
 use ca_findings::{Cause, Found, Report, Stop};
+use cert_format::CertVersion;
 use rule_verdicts::{Evidence, least_orphan};
 use std::alloc::{AllocError, Global};
 use word_image::{Rule, Weights};
@@ -54,6 +56,25 @@ fn weights_for(rule: &Rule, weights: Option<&[u8]>) -> Option<Weights>
     match Weights::new(rule.k(), list) {
         Ok(weights) => Some(weights),
         Err(_) => None,
+    }
+}
+
+/// The certificate of this version, which is 2 or 3, of the rule and such weights.
+pub fn certificate(
+    alloc: Global,
+    version: CertVersion,
+    rule: &Rule,
+    weights: Option<&[u8]>,
+) -> Result<Found, Stop>
+    requires { names_weights version ≡ true }
+    ensures { Answers (Question.Certify version rule.now (option_copied weights.entry)) result }
+{
+    match weights_for(rule, weights) {
+        Some(weights) => {
+            let cert = Evidence::of(alloc, rule, &weights)?.certificate(alloc, version)?;
+            Ok(Found::Written(cert))
+        }
+        None => Err(Stop::Unfit(Cause::Weights)),
     }
 }
 

@@ -11,6 +11,8 @@ use Rattle.cert_check.specs.Accepted.{IsAccepted, verdicts_of}
 use Rattle.certificate_laws.specs.WrittenCertificates.{HasWrittenParts, IsWritten}
 use Rattle.certificate_laws.proofs.MetConditions.{MeetsConditions-written}
 use Rattle.certificate_laws.proofs.ShortTexts.{short-written}
+use Rattle.certificate_laws.proofs.TextsReadBack.{IsCertificateText-own}
+use Rattle.certificate_laws.proofs.WrittenShapes.{IsShaped-written}
 
 -- bytes that say what is written for a rule are accepted with its verdicts
 pub IsAccepted-written : {version : CertVersion} {r : LocalRule} {weights : List ℕ} {c : Certificate} {bytes : List ℕ} → IsRule r → HasWrittenParts version r weights c → IsCertificateText bytes c
@@ -26,3 +28,8 @@ IsWritten-read_back {c = c} names rule are parts written text =
       accepted = IsAccepted-written rule parts (subst (λ b. IsCertificateText b c) written text);
       short = short-written names rule are parts;
     }
+
+-- and so is what has the parts, of an accepted rule and weights of its letters: its text is read back
+pub IsWritten-parts : {version : CertVersion} {r : LocalRule} {weights : List ℕ} {c : Certificate} → names_weights version ≡ true → IsRule r → AreWeights r.states weights
+    → HasWrittenParts version r weights c → IsWritten version r weights c
+IsWritten-parts names rule are parts = IsWritten-read_back names rule are parts refl (IsCertificateText-own (IsShaped-written names rule are parts))

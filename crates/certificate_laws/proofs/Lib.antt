@@ -10,4 +10,6 @@ pub mod FamilySizes
 pub mod ShortOrphans
 pub mod ShortWords
 pub mod ShortTexts
+pub mod ReadBack
+pub mod TextsReadBack
 pub mod Accepted

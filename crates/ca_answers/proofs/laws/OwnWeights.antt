@@ -5,6 +5,7 @@ use Rattle.word_image.specs.LocalRules.{LocalRule, IsRule}
 use Rattle.word_image.specs.Rings.{IsConserving}
 use Rattle.word_image.specs.Weights.{own_weights}
 use Rattle.ring_laws.proofs.SameWeights.{AgreeOn-own, IsConserving-own, IsFlux-agree, IsLeastLossyRing-agree}
+use Rattle.cert_format.specs.declared.cert_version.CertVersion.{CertVersion}
 use Rattle.cert_format.specs.Evidence.{SumEvidence}
 use Rattle.cert_format.specs.Evidence.SumEvidence.{Flux, Ring}
 use Rattle.certificate_laws.specs.LeastEvidence.{Evidence, IsConservingPart, IsLeastEvidence}
@@ -39,3 +40,8 @@ IsLeastEvidence-by (Some weights) rule least = least
 pub unfit-report : {r : LocalRule} (named : Option (List ℕ)) → ¬ AreFor named r → IsUnfitFor (Question.Report r named) Unfit.Weights
 unfit-report None other = absurd (other tt)
 unfit-report {r} (Some weights) other = IsUnfitFor.Report r weights other
+
+-- and so a certificate
+pub unfit-certificate : {v : CertVersion} {r : LocalRule} (named : Option (List ℕ)) → ¬ AreFor named r → IsUnfitFor (Question.Certify v r named) Unfit.Weights
+unfit-certificate None other = absurd (other tt)
+unfit-certificate {v} {r} (Some weights) other = IsUnfitFor.Written v r weights other
