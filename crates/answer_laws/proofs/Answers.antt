@@ -20,13 +20,17 @@ use Rattle.ca_cli.specs.declared.words.request.AskOfTwo.TheVariants as two
 use Rattle.ca_cli.specs.declared.status.Status.{Status}
 use Rattle.ca_cli.specs.declared.status.Status.TheVariants as status
 use Rattle.ca_cli.specs.Commands.{AskWith, AskOfMany, Command, IsCommand}
+use Rattle.ca_words.specs.Commands as line
 use Rattle.ca_cli.specs.Readings.{ReadsNothing}
 use Rattle.ca_cli.specs.Outputs.{IsOutput, IsOutputWith, IsOutputOfTwo, IsOutputOfMany, rules_of, rules_fault}
 use Rattle.ca_cli.specs.StatusLines.{operand_fault_line, unfit_line, accepted_lines, refused_line}
-use Rattle.ca_cli.specs.RightAnswers.{IsAnswer, IsOperandFault, IsRight}
-use Rattle.ca_cli.specs.RightAnswers.IsAnswer.{Usage, RuleFault, Right}
-use Rattle.ca_cli.specs.RightAnswers.IsRight.{Unfit, Accepted, Refused, TooLong}
-use Rattle.ca_cli.proofs.laws.RightAnswers.{IsCommand-unique, usage_says, rule_fault_says}
+use Rattle.ca_cli.specs.RightAnswers.{IsAnswer}
+use Rattle.ca_cli.specs.AnswersByShape.{IsAnswerByShape, IsOperandFault, IsRight}
+use Rattle.ca_cli.specs.AnswersByShape.IsAnswerByShape.{Usage, RuleFault, Right}
+use Rattle.ca_cli.specs.AnswersByShape.IsRight.{Unfit, Accepted, Refused, TooLong}
+use Rattle.ca_cli.proofs.laws.OneStatus.{answer_over_none}
+use Rattle.ca_cli.proofs.laws.shapes.Whole.{one_relation}
+use Rattle.answer_laws.proofs.Commands.{IsCommand-unique, usage_says, rule_fault_says}
 use Rattle.ca_cli.specs.PreimageLines.{IsPreimageLine}
 use Rattle.answer_laws.proofs.Evidence.{IsSurjectiveLine-unique, IsReport-unique}
 use Rattle.answer_laws.proofs.Certificates.{IsCertified-unique}
@@ -36,7 +40,7 @@ use Rattle.answer_laws.proofs.Lines.{IsSameLine-unique, IsErasedLine-unique, IsP
 use Rattle.answer_laws.proofs.Rules.{IsRuleLine-unique}
 use Rattle.answer_laws.proofs.Tables.{IsWidened-unique, IsTrimmed-unique, IsComposed-unique, IsRecoloured-unique}
 use Rattle.answer_laws.proofs.Inverses.{IsInverse-unique}
-use Rattle.ca_cli.proofs.laws.Causes.{IsOffset-unique}
+use Rattle.ca_cli.proofs.laws.Asked.{IsOffset-unique}
 use Rattle.answer_laws.proofs.Causes.{IsUnfit-unique}
 
 -- a command has one first operand with a fault, and that one first fault
@@ -106,41 +110,28 @@ IsRight-unique (Refused bytes f whole refused) (Refused others g also refused') 
 IsRight-unique (TooLong long) (TooLong _) = refl
 
 -- words whose operand has a fault have one line that says it
-one_fault : {words : List (List ℕ)} {input : Option (List ℕ)} {out other : List ℕ} → IsAnswer words input status.RuleFault out → IsAnswer words input status.RuleFault other → out ≡ other
+one_fault : {words : List (List ℕ)} {input : Option (List ℕ)} {out other : List ℕ} → IsAnswerByShape words input status.RuleFault out → IsAnswerByShape words input status.RuleFault other → out ≡ other
 one_fault here there =
     let (c, i, f, is, fault, said) = rule_fault_says here in
     let (d, j, g, also, fault', said') = rule_fault_says there in
     said ∙ IsOperandFault-unique fault (subst (λ e. IsOperandFault e j g) (IsCommand-unique also is) fault') ∙ sym said'
 
--- so words have one output with each status
-pub one_output : {words : List (List ℕ)} {left : List ℕ} {s : Status} {out other : List ℕ}
-    → IsAnswer words (Some left) s out → IsAnswer words (Some left) s other → out ≡ other
-one_output (Usage none) there = sym (usage_says there).1
-one_output (RuleFault c operand f is fault) there = one_fault (RuleFault c operand f is fault) there
-one_output (Right c s out is right) (Usage none) = absurd (none c is)
-one_output (Right c s out is right) (RuleFault d operand f also fault) = one_fault (Right c status.RuleFault out is right) (RuleFault d operand f also fault)
-one_output {left = left} {other = other} (Right c s out is right) (Right d _ _ also right') =
+-- so words have one output with each status, by shape
+one_by_shape : {words : List (List ℕ)} {left : List ℕ} {s : Status} {out other : List ℕ}
+    → IsAnswerByShape words (Some left) s out → IsAnswerByShape words (Some left) s other → out ≡ other
+one_by_shape (Usage none) there = sym (usage_says there).1
+one_by_shape (RuleFault c operand f is fault) there = one_fault (RuleFault c operand f is fault) there
+one_by_shape (Right c s out is right) (Usage none) = absurd (none c is)
+one_by_shape (Right c s out is right) (RuleFault d operand f also fault) = one_fault (Right c status.RuleFault out is right) (RuleFault d operand f also fault)
+one_by_shape {left = left} {other = other} (Right c s out is right) (Right d _ _ also right') =
     IsRight-unique right (subst (λ e. IsRight (Some left) e s other) (IsCommand-unique also is) right')
 
--- what is right for a command that reads nothing is right over an empty input
-over_none : {input : Option (List ℕ)} {c : Command} {s : Status} {out : List ℕ} → ReadsNothing c → IsRight input c s out → IsRight (Some []) c s out
-over_none reads (IsRight.OfRule a text r out says output) = IsRight.OfRule a text r out says output
-over_none reads (IsRight.OfRuleWith a text operand r out says output) = IsRight.OfRuleWith a text operand r out says output
-over_none reads (IsRight.OfTwo a first second r s out says also output) = IsRight.OfTwo a first second r s out says also output
-over_none reads (IsRight.OfMany a k m from count out accepted output) = IsRight.OfMany a k m from count out accepted output
-over_none reads (Unfit c cause unfits) = Unfit c cause unfits
-over_none reads (Accepted bytes v whole accepted are_true) = absurd (reads refl)
-over_none reads (Refused bytes f whole refused) = absurd (reads refl)
-over_none reads (TooLong long) = absurd (reads refl)
-
--- an answer to words whose command reads nothing is one over an empty input
-answer_over_none : {words : List (List ℕ)} {input : Option (List ℕ)} {s : Status} {out : List ℕ} → ((c : Command) → IsCommand words c → ReadsNothing c)
-    → IsAnswer words input s out → IsAnswer words (Some []) s out
-answer_over_none reads (Usage none) = Usage none
-answer_over_none reads (RuleFault c operand f is fault) = RuleFault c operand f is fault
-answer_over_none reads (Right c s out is right) = Right c s out is (over_none (reads c is) right)
+-- and whatever their shape
+pub one_output : {words : List (List ℕ)} {left : List ℕ} {s : Status} {out other : List ℕ}
+    → IsAnswer words (Some left) s out → IsAnswer words (Some left) s other → out ≡ other
+one_output {words} {left} {s} {out} {other} here there = one_by_shape ((one_relation words (Some left) s out).1 here) ((one_relation words (Some left) s other).1 there)
 
 -- words that are no command, or one that reads nothing, have one output with each status, whatever the source tells
-pub one_output_unread : {words : List (List ℕ)} {input : Option (List ℕ)} {s : Status} {out other : List ℕ} → ((c : Command) → IsCommand words c → ReadsNothing c)
+pub one_output_unread : {words : List (List ℕ)} {input : Option (List ℕ)} {s : Status} {out other : List ℕ} → ((c : line.Command) → line.IsCommand words c → ReadsNothing c)
     → IsAnswer words input s out → IsAnswer words input s other → out ≡ other
 one_output_unread reads here there = one_output (answer_over_none reads here) (answer_over_none reads there)

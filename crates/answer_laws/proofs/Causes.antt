@@ -19,8 +19,8 @@ use Rattle.ca_cli.specs.Outputs.{IsCause, IsCauseWith, IsCauseOfTwo}
 use Rattle.ca_cli.specs.Outputs.IsCause.{Twins, Wide, Colours, Lift, Unlift}
 use Rattle.ca_cli.specs.Outputs.IsCauseWith.{Shift, Widen, Permute, Tail, Decide, Certify, Brief}
 use Rattle.ca_cli.specs.Outputs.IsCauseOfTwo.{Compose, States}
-use Rattle.ca_cli.specs.RightAnswers.{IsUnfit}
-use Rattle.ca_cli.proofs.laws.Causes.{IsOffset-unique}
+use Rattle.ca_cli.specs.AnswersByShape.{IsUnfit}
+use Rattle.ca_cli.proofs.laws.Asked.{IsOffset-unique}
 use Rattle.answer_laws.proofs.Least.{IsLeastTwins-unique, IsLeastDetermined-unique}
 
 -- of two faults of which both are found both are one

@@ -10,7 +10,8 @@ use Rattle.rule_classes.proofs.laws.Classes.{IsLeastOfClass-unique}
 use Rattle.rule_verdicts.specs.Numbers.{numbered_rule, numbers_fault}
 use Rattle.ca_cli.specs.Samples.{survey_rules}
 use Rattle.ca_cli.specs.Summaries.{count_line}
-use Rattle.ca_cli.specs.ClassSummaries.{AreLeastRules, IsClassSummary}
+use Rattle.ca_findings.specs.Counts.{AreLeastRules}
+use Rattle.ca_cli.specs.ClassSummaries.{IsClassSummary}
 use Rattle.ca_cli.proofs.laws.ClassSummaries.{HasLeast}
 use Rattle.ca_cli.proofs.laws.Samples.{survey-accepted}
 use Rattle.answer_laws.proofs.Lists.{length-le_from_contained}

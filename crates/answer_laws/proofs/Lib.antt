@@ -10,4 +10,5 @@ pub mod Rules
 pub mod Tables
 pub mod Inverses
 pub mod Causes
+pub mod Commands
 pub mod Answers

@@ -1,8 +1,9 @@
 -- Rules are counted in one way.
 use Rattle.std.proofs.Common.{◌≡◌, ℕ, ◌+◌, List, ◌++◌, codes, length, refl, sym, ap, ap₂, ◌∙◌}
 use Rattle.word_image.specs.LocalRules.{LocalRule}
-use Rattle.ca_cli.specs.Summaries.{AreMany, IsSummary, count_line}
-use Rattle.ca_cli.specs.Summaries.AreMany.{None, One, Other}
+use Rattle.ca_findings.specs.Counts.{AreMany}
+use Rattle.ca_cli.specs.Summaries.{IsSummary, count_line}
+use Rattle.ca_findings.specs.Counts.AreMany.{None, One, Other}
 
 -- so many of the rules have a property, and no more
 pub AreMany-unique : {Has : LocalRule → Type 0} {rules : List LocalRule} {n m : ℕ} → AreMany Has rules n → AreMany Has rules m → n ≡ m

@@ -1,10 +1,11 @@
 pub mod Outcomes
 pub mod Inputs
-pub mod Causes
+pub mod Asked
 pub mod RightAnswers
-pub mod Certified
 pub mod CheckAnswers
-pub mod Operands
+pub mod OneStatus
+pub mod Certified
+pub mod shapes
 pub mod Requests
 pub mod Reports
 pub mod Summaries
@@ -12,5 +13,4 @@ pub mod ClassSummaries
 pub mod Samples
 pub mod Rows
 pub mod OwnWeights
-pub mod WeightTexts
 pub mod OneClass

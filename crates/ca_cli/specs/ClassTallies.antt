@@ -6,7 +6,7 @@ use Rattle.rule_verdicts.specs.Truths.{AreTruths}
 use Rattle.rule_verdicts.specs.Numbers.{numbered_rule}
 use Rattle.ca_cli.specs.declared.commands.class_tally.ClassTally.{ClassTally}
 use Rattle.ca_cli.specs.Tallies.{IsTally}
-use Rattle.ca_cli.specs.ClassSummaries.{AreLeastRules}
+use Rattle.ca_findings.specs.Counts.{AreLeastRules}
 
 -- the rule of k states, width m and offset 0 that an entry is about
 abbrev pub rule_in : ℕ → ℕ → ℕ × Truths → LocalRule

@@ -1,9 +1,9 @@
 -- The commands of the program, the words of each, and the form of their operands.
-use Rattle.std.specs.Prelude.{◌≡◌, ℕ, ◌^◌, ◌<◌, ◌≤◌, List, [], ◌∷◌, length, codes, All, ℤ, ⊤}
-use Rattle.word_image.specs.Digits.{IsHexDigit}
+use Rattle.std.specs.Prelude.{◌≡◌, ℕ, List, [], ◌∷◌, codes, ℤ, ⊤}
 use Rattle.tail_config.specs.TailFaults.{HasForm}
-use Rattle.rule_text.specs.RuleTexts.{IsDecimal, IsOffset, decimal_value}
-use Rattle.ca_cli.specs.WeightTexts.{AreWeightTexts}
+use Rattle.rule_text.specs.RuleTexts.{IsDecimal, IsOffset}
+use Rattle.ca_words.specs.Operands.{AreColours, IsCount, IsSeed}
+use Rattle.ca_words.specs.WeightTexts.{AreWeightTexts}
 use Rattle.ca_cli.specs.declared.words.request.Ask.{Ask}
 use Rattle.ca_cli.specs.declared.words.request.Ask.TheVariants as ask
 use Rattle.ca_cli.specs.declared.words.request.AskOfTwo.{AskOfTwo}
@@ -77,23 +77,6 @@ words_of (OfMany asked states width from count) = name_of_many asked ∷ states 
 words_of Check = codes "check" ∷ []
 
 -- The form of the operands
-
--- from one to sixteen hexadecimal digits, one for each new letter
-pub record AreColours (text : List ℕ) : Type 0 where
-  pub digits : All IsHexDigit text
-  pub least : 1 ≤ length text
-  pub most : length text ≤ 16
-
--- up to four decimal digits of a number from 1 to 4,096
-pub record IsCount (count : List ℕ) : Type 0 where
-  pub decimal : IsDecimal 1 4 count
-  pub least : 1 ≤ decimal_value count
-  pub most : decimal_value count ≤ 4096
-
--- up to twenty decimal digits of a number below 2 ^ 64
-pub record IsSeed (seed : List ℕ) : Type 0 where
-  pub decimal : IsDecimal 1 20 seed
-  pub most : decimal_value seed < 2 ^ 64
 
 -- the operand beside a rule
 abbrev pub IsOperand : AskWith → List ℕ → Type 0

@@ -1,8 +1,6 @@
 pub mod Statuses
-pub mod WeightTexts
 pub mod Commands
 pub mod Requests
-pub mod CertificateCommands
 pub mod Inputs
 pub mod Readings
 pub mod Lines
@@ -19,6 +17,8 @@ pub mod Tallies
 pub mod ClassSummaries
 pub mod ClassTallies
 pub mod Outputs
+pub mod Asked
 pub mod RightAnswers
+pub mod AnswersByShape
 pub mod Outcomes
 pub mod Examples

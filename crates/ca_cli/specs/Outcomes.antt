@@ -8,7 +8,7 @@ use Rattle.ca_cli.specs.declared.stop.Stop.{Stop}
 use Rattle.ca_cli.specs.declared.stop.Stop.TheVariants as stop
 use Rattle.ca_cli.specs.Commands.{Command}
 use Rattle.ca_cli.specs.StatusLines.{refused_line, too_long_line, unfit_line}
-use Rattle.ca_cli.specs.RightAnswers.{IsOperandFault, IsRight}
+use Rattle.ca_cli.specs.AnswersByShape.{IsOperandFault, IsRight}
 
 -- the status of a command that stopped
 abbrev pub status_of : Stop → Status

@@ -29,7 +29,7 @@ use Rattle.ca_cli.specs.declared.words.request.Ask.TheVariants as ask
 use Rattle.ca_cli.specs.declared.words.request.AskOfTwo.{AskOfTwo}
 use Rattle.ca_cli.specs.declared.words.request.AskOfTwo.TheVariants as two
 use Rattle.ca_cli.specs.Commands.{AskWith, AskOfMany}
-use Rattle.ca_cli.specs.WeightTexts.{weights_said}
+use Rattle.ca_words.specs.WeightTexts.{weights_said}
 use Rattle.ca_cli.specs.Lines.{line}
 use Rattle.ca_cli.specs.StatusLines.{algebra_text, twins_text, wide_text}
 use Rattle.ca_cli.specs.LiftTexts.{lift_text}

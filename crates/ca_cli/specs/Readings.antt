@@ -5,7 +5,8 @@ use Rattle.ca_io.specs.Faults.{Rose}
 use Rattle.ca_cli.specs.declared.status.Status.{Status}
 use Rattle.ca_cli.specs.declared.status.Status.TheVariants as status
 use Rattle.ca_cli.specs.Inputs.{most_input}
-use Rattle.ca_cli.specs.Commands.{Command, Check}
+use Rattle.ca_words.specs.declared.names.Name.TheVariants as name
+use Rattle.ca_words.specs.Commands.{Command}
 
 -- at most this many bytes were taken, those that came first
 pub record TakesAtMost (most : ℕ) (before after : Option (List ℕ)) : Type 0 where
@@ -40,4 +41,4 @@ pub record Reading (failed : Type 0) (before after : Option (List ℕ)) (faults 
 
 -- the command reads nothing from the source
 abbrev pub ReadsNothing : Command → Type 0
-ReadsNothing c = c ≢ Check
+ReadsNothing c = c.name ≢ name.Check

@@ -1,60 +1,72 @@
 -- Which status and which output are right for the words of the command line, and for what the source had left.
-use Rattle.std.specs.Prelude.{◌≡◌, ℕ, List, Option, Some, None}
-use Rattle.word_image.specs.LocalRules.{LocalRule}
+use Rattle.std.specs.Prelude.{◌≡◌, ℕ, List, Option}
 use Rattle.rule_text.specs.declared.text_fault.TextFault.{TextFault}
-use Rattle.rule_text.specs.RuleTexts.{IsRuleText, IsTextFault, decimal_value}
 use Rattle.cert_check.specs.Accepted.{IsAccepted, AreTrue}
 use Rattle.cert_check.specs.Refusals.{IsRefusal}
 use Rattle.cert_check.specs.declared.refusal.Refusal.{Refusal}
 use Rattle.cert_check.specs.declared.verdicts.Verdicts.{Verdicts}
-use Rattle.ca_cli.specs.declared.words.request.Ask.{Ask}
-use Rattle.ca_cli.specs.declared.words.request.AskOfTwo.{AskOfTwo}
+use Rattle.ca_words.specs.declared.names.Name.TheVariants as name
+use Rattle.ca_words.specs.Commands.{Command, IsCommand}
+use Rattle.ca_findings.specs.Questions.{Question}
+use Rattle.ca_findings.specs.Findings.{Finding, Unfit, IsFinding, IsUnfitFor}
+use Rattle.ca_text.specs.Texts.{text_of, unfit_text}
 use Rattle.ca_cli.specs.declared.status.Status.{Status}
 use Rattle.ca_cli.specs.declared.status.Status.TheVariants as status
-use Rattle.ca_cli.specs.Commands.{AskWith, AskOfMany, Command, IsCommand}
+use Rattle.ca_cli.specs.Asked.{IsAsked, IsOperandFault}
 use Rattle.ca_cli.specs.Inputs.{IsWholeInput, IsLongInput}
-use Rattle.ca_cli.specs.Outputs.{IsOutput, IsOutputWith, IsOutputOfTwo, IsOutputOfMany, rules_of, rules_fault, IsCause, IsCauseWith, IsCauseOfTwo}
 use Rattle.ca_cli.specs.StatusLines.{usage_line, operand_fault_line, unfit_line, accepted_lines, refused_line, too_long_line}
 
--- the operand with this number is the first with a fault, and this is its first fault; the shape of many rules counts as operand 1
-pub data IsOperandFault : Command → ℕ → TextFault → Type 0 where
-  OfRule : (asked : Ask) (text : List ℕ) (f : TextFault) → IsTextFault text f → IsOperandFault (Command.OfRule asked text) 1 f
-  OfRuleWith : (asked : AskWith) (text operand : List ℕ) (f : TextFault) → IsTextFault text f → IsOperandFault (Command.OfRuleWith asked text operand) 1 f
-  OfFirst : (asked : AskOfTwo) (first second : List ℕ) (f : TextFault) → IsTextFault first f → IsOperandFault (Command.OfTwo asked first second) 1 f
-  OfSecond : (asked : AskOfTwo) (first second : List ℕ) (r : LocalRule) (f : TextFault) → IsRuleText first r → IsTextFault second f
-      → IsOperandFault (Command.OfTwo asked first second) 2 f
-  OfMany : (asked : AskOfMany) (k m from count : List ℕ) (f : TextFault)
-      → rules_fault asked (decimal_value k) (decimal_value m) (decimal_value from) (decimal_value count) ≡ Some f
-      → IsOperandFault (Command.OfMany asked k m from count) 1 f
+-- what is said to words, in values
+pub data Reply : Type 0 where
+  Found : (finding : Finding) → Reply
+  NoFit : (cause : Unfit) → Reply
+  RuleFault : (operand : ℕ) (fault : TextFault) → Reply
+  Accepted : (verdicts : Verdicts) → Reply
+  Refused : (refusal : Refusal) → Reply
+  TooLong : Reply
+  Usage : Reply
 
--- nothing can be made as the command asks of its rules, for this cause
-pub data IsUnfit : Command → List ℕ → Type 0 where
-  OfRule : (asked : Ask) (text : List ℕ) (r : LocalRule) (cause : List ℕ) → IsRuleText text r → IsCause asked r cause → IsUnfit (Command.OfRule asked text) cause
-  OfRuleWith : (asked : AskWith) (text operand : List ℕ) (r : LocalRule) (cause : List ℕ) → IsRuleText text r → IsCauseWith asked r operand cause
-      → IsUnfit (Command.OfRuleWith asked text operand) cause
-  OfTwo : (asked : AskOfTwo) (first second : List ℕ) (r s : LocalRule) (cause : List ℕ) → IsRuleText first r → IsRuleText second s → IsCauseOfTwo asked r s cause
-      → IsUnfit (Command.OfTwo asked first second) cause
+-- its status
+abbrev pub reply_status : Reply → Status
+reply_status (Found f) = status.Done
+reply_status (NoFit u) = status.NotFit
+reply_status (RuleFault i f) = status.RuleFault
+reply_status (Accepted v) = status.Done
+reply_status (Refused f) = status.Refused
+reply_status TooLong = status.TooLong
+reply_status Usage = status.Usage
 
--- what is right for a command whose operands are accepted: what it says of the rule, of the rules or of the input is true
-pub data IsRight (input : Option (List ℕ)) : Command → Status → List ℕ → Type 0 where
-  OfRule : (asked : Ask) (text : List ℕ) (r : LocalRule) (out : List ℕ) → IsRuleText text r → IsOutput asked r out
-      → IsRight input (Command.OfRule asked text) status.Done out
-  OfRuleWith : (asked : AskWith) (text operand : List ℕ) (r : LocalRule) (out : List ℕ) → IsRuleText text r → IsOutputWith asked r operand out
-      → IsRight input (Command.OfRuleWith asked text operand) status.Done out
-  OfTwo : (asked : AskOfTwo) (first second : List ℕ) (r s : LocalRule) (out : List ℕ) → IsRuleText first r → IsRuleText second s → IsOutputOfTwo asked r s out
-      → IsRight input (Command.OfTwo asked first second) status.Done out
-  OfMany : (asked : AskOfMany) (k m from count out : List ℕ)
-      → rules_fault asked (decimal_value k) (decimal_value m) (decimal_value from) (decimal_value count) ≡ None
-      → IsOutputOfMany asked (rules_of asked (decimal_value k) (decimal_value m) (decimal_value from) (decimal_value count)) out
-      → IsRight input (Command.OfMany asked k m from count) status.Done out
-  Unfit : (c : Command) (cause : List ℕ) → IsUnfit c cause → IsRight input c status.NotFit (unfit_line cause)
-  Accepted : (bytes : List ℕ) (v : Verdicts) → IsWholeInput input bytes → IsAccepted bytes v → AreTrue v → IsRight input Command.Check status.Done (accepted_lines v)
-  Refused : (bytes : List ℕ) (f : Refusal) → IsWholeInput input bytes → IsRefusal bytes f → IsRight input Command.Check status.Refused (refused_line f)
-  TooLong : IsLongInput input → IsRight input Command.Check status.TooLong too_long_line
+-- its text
+abbrev pub reply_text : Reply → List ℕ
+reply_text (Found f) = text_of f
+reply_text (NoFit u) = unfit_line (unfit_text u)
+reply_text (RuleFault i f) = operand_fault_line i f
+reply_text (Accepted v) = accepted_lines v
+reply_text (Refused f) = refused_line f
+reply_text TooLong = too_long_line
+reply_text Usage = usage_line
 
--- the words are no command, or an operand of theirs is refused, or the answer is right for their command
-pub data IsAnswer (words : List (List ℕ)) (input : Option (List ℕ)) : Status → List ℕ → Type 0 where
-  Usage : ((c : Command) → ¬ IsCommand words c) → IsAnswer words input status.Usage usage_line
-  RuleFault : (c : Command) (operand : ℕ) (f : TextFault) → IsCommand words c → IsOperandFault c operand f
-      → IsAnswer words input status.RuleFault (operand_fault_line operand f)
-  Right : (c : Command) (s : Status) (out : List ℕ) → IsCommand words c → IsRight input c s out → IsAnswer words input s out
+-- the reply is right for the command: what is found for its question is, or nothing fits, or an operand is refused, or it is what `check` says of the input
+pub data IsReply (input : Option (List ℕ)) : Command → Reply → Type 0 where
+  Found : (c : Command) (q : Question) (f : Finding) → IsAsked c q → IsFinding q f → IsReply input c (Reply.Found f)
+  NoFit : (c : Command) (q : Question) (u : Unfit) → IsAsked c q → IsUnfitFor q u → IsReply input c (Reply.NoFit u)
+  RuleFault : (c : Command) (i : ℕ) (f : TextFault) → IsOperandFault c i f → IsReply input c (Reply.RuleFault i f)
+  Accepted : (c : Command) (bytes : List ℕ) (v : Verdicts) → c.name ≡ name.Check → IsWholeInput input bytes → IsAccepted bytes v → AreTrue v → IsReply input c (Reply.Accepted v)
+  Refused : (c : Command) (bytes : List ℕ) (f : Refusal) → c.name ≡ name.Check → IsWholeInput input bytes → IsRefusal bytes f → IsReply input c (Reply.Refused f)
+  TooLong : (c : Command) → c.name ≡ name.Check → IsLongInput input → IsReply input c Reply.TooLong
+
+-- the status and the output are those of a right reply to the command
+abbrev pub IsReplyOf : Option (List ℕ) → Command → Status → List ℕ → Type 0
+IsReplyOf input c s out = (reply : Reply) × IsReply input c reply × (s ≡ reply_status reply) × (out ≡ reply_text reply)
+
+-- the reply is right for the words: they are no command, or it is right for their command
+pub data IsReplyTo (words : List (List ℕ)) (input : Option (List ℕ)) : Reply → Type 0 where
+  Usage : ((c : Command) → ¬ IsCommand words c) → IsReplyTo words input Reply.Usage
+  Right : (c : Command) (reply : Reply) → IsCommand words c → IsReply input c reply → IsReplyTo words input reply
+
+-- the status and the output are those of a right reply to the words
+pub record IsAnswer (words : List (List ℕ)) (input : Option (List ℕ)) (s : Status) (out : List ℕ) : Type 0 where
+  pub reply : Reply
+  pub right : IsReplyTo words input reply
+  pub status_is : s ≡ reply_status reply
+  pub output_is : out ≡ reply_text reply

@@ -1,17 +1,12 @@
 -- What a summary says of some rules.
-use Rattle.std.specs.Prelude.{◌≡◌, ℕ, ◌+◌, List, [], ◌∷◌, ◌++◌, length, codes}
+use Rattle.std.specs.Prelude.{◌≡◌, ℕ, List, ◌++◌, length, codes}
 use Rattle.std.specs.Fmt.{decimal}
 use Rattle.word_image.specs.LocalRules.{LocalRule}
 use Rattle.word_image.specs.Words.{IsSurjective}
 use Rattle.word_image.specs.Rings.{IsConserving}
 use Rattle.tail_config.specs.Tails.{IsInjective, IsRightClosing, IsLeftClosing, IsOpen}
+use Rattle.ca_findings.specs.Counts.{AreMany}
 use Rattle.ca_cli.specs.Lines.{line}
-
--- so many of the rules have the property
-pub data AreMany (Has : LocalRule → Type 0) : List LocalRule → ℕ → Type 0 where
-  None : AreMany Has [] 0
-  One : (r : LocalRule) (rules : List LocalRule) (n : ℕ) → Has r → AreMany Has rules n → AreMany Has (r ∷ rules) (n + 1)
-  Other : (r : LocalRule) (rules : List LocalRule) (n : ℕ) → ¬ Has r → AreMany Has rules n → AreMany Has (r ∷ rules) n
 
 -- a name and a count
 abbrev pub count_line : List ℕ → ℕ → List ℕ

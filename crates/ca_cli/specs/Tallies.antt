@@ -5,7 +5,8 @@ use Rattle.word_image.specs.Words.{IsSurjective}
 use Rattle.word_image.specs.Rings.{IsConserving}
 use Rattle.tail_config.specs.Tails.{IsInjective, IsRightClosing, IsLeftClosing, IsOpen}
 use Rattle.ca_cli.specs.declared.commands.tally.Tally.{Tally}
-use Rattle.ca_cli.specs.Summaries.{AreMany, count_line}
+use Rattle.ca_findings.specs.Counts.{AreMany}
+use Rattle.ca_cli.specs.Summaries.{count_line}
 
 -- the counts are those of these rules
 pub record IsTally (rules : List LocalRule) (t : Tally) : Type 0 where

@@ -1,8 +1,10 @@
 //! From the words to the answer, which is whole in memory before anything is written.
 ghost use Rattle.std.specs.Prelude.{◌≡◌, ◌↔◌, ℕ, List, Option, Result, map, IfOk, string_bytes};
-ghost use Rattle.ca_cli.specs.Commands.{Command, IsCommand};
+ghost use Rattle.ca_words.specs.Commands.{IsCommand, check_command};
+ghost use Rattle.ca_cli.specs.Commands as shape;
 ghost use Rattle.ca_cli.specs.Readings.{IsReadFor, Reading};
 ghost use Rattle.ca_cli.specs.Outcomes.{IsOutcome, outcome_status};
+ghost use Rattle.ca_cli.specs.AnswersByShape.{IsAnswerByShape};
 ghost use Rattle.ca_cli.specs.RightAnswers.{IsAnswer};
 
 use crate::commands::carry_out;
@@ -33,10 +35,10 @@ pub fn answer_to<S: Source>(
     ensures answer { IfOk result (λ answer.
         IsAnswer (map string_bytes words.now) (S.left source.old) answer.status answer.output) }
 
-    ensures unread { ¬ IsCommand (map string_bytes words.now) Command.Check → source.new ≡ source.old }
-    ensures read { IsCommand (map string_bytes words.now) Command.Check →
+    ensures unread { ¬ IsCommand (map string_bytes words.now) check_command → source.new ≡ source.old }
+    ensures read { IsCommand (map string_bytes words.now) check_command →
         IfOk result (λ answer. IsReadFor answer.status (S.left source.old) (S.left source.new)) }
-    ensures failed { result ≡ Err InputFault.Failed → IsCommand (map string_bytes words.now) Command.Check }
+    ensures failed { result ≡ Err InputFault.Failed → IsCommand (map string_bytes words.now) check_command }
     ensures reading { Reading (result ≡ Err InputFault.Failed)
         (S.left source.old) (S.left source.new) (S.faults source.old) (S.faults source.new) }
 {
@@ -53,8 +55,8 @@ pub fn answer_to<S: Source>(
 /// The answer of a command that came to this.
 fn concluded(alloc: Global, outcome: Result<Output, Stop>) -> Result<Answer, InputFault>
     ensures answer { IfOk result (λ answer.
-        (words : List (List ℕ)) (input : Option (List ℕ)) (c : Command) →
-        IsCommand words c → IsOutcome input c outcome → IsAnswer words input answer.status answer.output) }
+        (words : List (List ℕ)) (input : Option (List ℕ)) (c : shape.Command) →
+        shape.IsCommand words c → IsOutcome input c outcome → IsAnswerByShape words input answer.status answer.output) }
     ensures status { IfOk result (λ answer. answer.status ≡ outcome_status outcome) }
     ensures failed { result ≡ Err InputFault.Failed ↔ outcome ≡ Err Stop.ReadFault }
 {

@@ -2,7 +2,7 @@
 ghost use Rattle.std.specs.Prelude.{◌≡◌, ◌≢◌, ℕ, ◌+◌, ◌-◌, ◌^◌, ◌<◌, List, length, take, map, is_some, string_bytes};
 ghost use Rattle.std.specs.Io.KnownBytes.{Appends};
 ghost use Rattle.ca_io.specs.Faults.{Rose};
-ghost use Rattle.ca_cli.specs.Commands.{Command, IsCommand};
+ghost use Rattle.ca_words.specs.Commands.{IsCommand, check_command};
 ghost use Rattle.ca_cli.specs.Inputs.{most_input};
 ghost use Rattle.ca_cli.specs.Readings.{IsReadFor, TakesAtMost};
 ghost use Rattle.ca_cli.specs.RightAnswers.{IsAnswer};
@@ -42,7 +42,7 @@ pub fn run<S: Source, T: Sink>(
 
     // A failed read is one of `check`, which the source has counted.
     ensures read_counted { result ≡ Status.ReadFault →
-        IsCommand (map string_bytes words.now) Command.Check
+        IsCommand (map string_bytes words.now) check_command
         × Rose (S.faults source.old) (S.faults source.new) }
 
     // Where a read failed, or there was no memory, nothing was written.
@@ -51,8 +51,8 @@ pub fn run<S: Source, T: Sink>(
 
     // Of the source `check` takes what it needs: all that there is where it is judged, and one byte more
     // than is judged where it is too long. On other words the source is as it was.
-    ensures unread { ¬ IsCommand (map string_bytes words.now) Command.Check → source.new ≡ source.old }
-    ensures read { IsCommand (map string_bytes words.now) Command.Check →
+    ensures unread { ¬ IsCommand (map string_bytes words.now) check_command → source.new ≡ source.old }
+    ensures read { IsCommand (map string_bytes words.now) check_command →
         IsReadFor result (S.left source.old) (S.left source.new) }
     ensures most { TakesAtMost (most_input + 1) (S.left source.old) (S.left source.new) }
 

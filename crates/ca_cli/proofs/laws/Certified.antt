@@ -2,53 +2,60 @@
 use Rattle.std.proofs.Common.{◌≡◌, ℕ, ◌≤◌, ◌∙◌, List, length, refl, sym, ap, subst, arith}
 use Rattle.std.specs.Prelude.{Option, Some, ◌↔◌}
 use Rattle.word_image.specs.LocalRules.{LocalRule}
-use Rattle.word_image.specs.Weights.{own_weights}
-use Rattle.rule_text.specs.RuleTexts.{IsRuleText}
 use Rattle.cert_format.specs.declared.cert_version.CertVersion.{CertVersion}
+use Rattle.cert_format.specs.Certificates.{Certificate}
+use Rattle.cert_format.specs.WrittenTexts.{certificate_text}
 use Rattle.cert_check.specs.Accepted.{IsAccepted, AreTrue, verdicts_of}
-use Rattle.cert_check.specs.Refusals.{IsRefusal}
 use Rattle.cert_check.specs.declared.verdicts.Verdicts.{Verdicts}
-use Rattle.cert_check.proofs.laws.OneAnswer.{IsAccepted-unique, accepted_not_refused}
 use Rattle.cert_check.proofs.laws.Soundness.{AreTrue-accepted}
+use Rattle.certificate_laws.specs.WrittenCertificates.{IsWritten}
+use Rattle.ca_words.specs.Commands.{Command, IsCommand, check_command, words_of}
+use Rattle.ca_findings.specs.Questions.{Question}
+use Rattle.ca_findings.specs.Findings.{Finding, IsFinding, weights_by}
+use Rattle.ca_text.specs.Texts.{text_of}
 use Rattle.ca_cli.specs.declared.status.Status.{Status}
 use Rattle.ca_cli.specs.declared.status.Status.TheVariants as status
-use Rattle.ca_cli.specs.Commands.{Command}
-use Rattle.ca_cli.specs.Commands as commands
+use Rattle.ca_cli.specs.Asked.{IsAsked}
 use Rattle.ca_cli.specs.Inputs.{most_input}
 use Rattle.ca_cli.specs.StatusLines.{accepted_lines}
-use Rattle.ca_cli.specs.Outputs.{IsCertified}
-use Rattle.ca_cli.specs.RightAnswers.{IsRight}
-use Rattle.ca_cli.specs.CertificateCommands.{AsksCertificate}
-use Rattle.ca_cli.specs.CertificateCommands.AsksCertificate.{Certify, Brief, CertifyWith, BriefWith}
-use Rattle.ca_cli.specs.RightAnswers.IsRight.{OfRule, OfRuleWith, Unfit, Accepted, Refused, TooLong}
+use Rattle.ca_cli.specs.RightAnswers.{Reply, IsReply, IsReplyOf, reply_status, reply_text}
+use Rattle.ca_cli.specs.RightAnswers.IsReply.{Found, NoFit, RuleFault, Accepted, Refused, TooLong}
+use Rattle.ca_cli.proofs.laws.Asked.{IsAsked-unique, IsAsked-reads_nothing}
+use Rattle.ca_cli.proofs.laws.CheckAnswers.{accepted_exactly}
 
--- of an input that is accepted `check` says its verdicts, and nothing else
-pub accepted_alone : {bytes : List ℕ} {v : Verdicts} → IsAccepted bytes v → length bytes ≤ most_input → (s : Status) (lines : List ℕ) → IsRight (Some bytes) commands.Check s lines
-    → (s ≡ status.Done) × (lines ≡ accepted_lines v)
-accepted_alone accepted short s lines (Unfit _ cause unfits) = elim unfits [ ]
-accepted_alone accepted short s lines (Accepted others w whole also are_true) = (refl, ap accepted_lines (IsAccepted-unique (subst (λ b. IsAccepted b w) whole.all also) accepted))
-accepted_alone accepted short s lines (Refused others f whole refused) = absurd (accepted_not_refused accepted (subst (λ b. IsRefusal b f) whole.all refused))
-accepted_alone accepted short s lines (TooLong long) = absurd (omega (arith, short, long))
+-- what is said of a text that is a written certificate
+abbrev IsAcceptedAs : LocalRule → List ℕ → List ℕ → Type 0
+IsAcceptedAs r weights out =
+    (v : Verdicts) × (v.rule ≡ r) × (v.weights ≡ weights) × AreTrue v
+    × ((s : Status) (lines : List ℕ) → IsReplyOf (Some out) check_command s lines ↔ ((s ≡ status.Done) × (lines ≡ accepted_lines v)))
 
--- so it says of a certificate that is written
-written_accepted : {version : CertVersion} {text weights out : List ℕ} {r : LocalRule} → IsRuleText text r → IsCertified version r weights out
-    → (v : Verdicts) × IsRuleText text v.rule × (v.rule ≡ r) × (v.weights ≡ weights) × AreTrue v × ((s : Status) (lines : List ℕ) → IsRight (Some out) commands.Check s lines ↔ ((s ≡ status.Done) × (lines ≡ accepted_lines v)))
-written_accepted {text = text} {out = out} says (c, written, is) =
+-- the word `check` is the command that reads
+check_is : IsCommand (words_of check_command) check_command
+check_is = record { words_are = refl; rules = refl; operands = tt }
+
+-- `check` accepts it
+written_accepted : {version : CertVersion} {r : LocalRule} {weights out : List ℕ} (c : Certificate) → IsWritten version r weights c → out ≡ certificate_text c → IsAcceptedAs r weights out
+written_accepted {out = out} c written is =
     let accepted : IsAccepted out (verdicts_of c) = subst (λ b. IsAccepted b (verdicts_of c)) (sym is) written.accepted in
     let short : length out ≤ most_input = omega (arith, ap length is, written.short) in
-    let are_true = AreTrue-accepted accepted in (
-      verdicts_of c,
-      subst (IsRuleText text) (sym written.parts.least.rule) says,
-      written.parts.least.rule,
-      written.parts.weights_are,
-      are_true,
-      λ s lines. (accepted_alone accepted short s lines, (λ (done, same). rw (done, same) (Accepted out (verdicts_of c) (record { all = refl; short = short }) accepted are_true))),
-    )
+    (verdicts_of c, written.parts.least.rule, written.parts.weights_are, AreTrue-accepted accepted, λ s lines. accepted_exactly check_is short accepted)
 
--- and of what a command writes that asks for one
-pub certified_accepted : {input : Option (List ℕ)} {c : Command} {text out : List ℕ} {weights : ℕ → List ℕ} → AsksCertificate c text weights → IsRight input c status.Done out
-    → (v : Verdicts) × IsRuleText text v.rule × (v.weights ≡ weights v.rule.states) × AreTrue v × ((s : Status) (lines : List ℕ) → IsRight (Some out) commands.Check s lines ↔ ((s ≡ status.Done) × (lines ≡ accepted_lines v)))
-certified_accepted (Certify _) (OfRule _ text r out says is) = let (v, named, rule, weights, are_true, rest) = written_accepted says is in (v, named, weights ∙ ap (λ q. own_weights q.states) (sym rule), are_true, rest)
-certified_accepted (Brief _) (OfRule _ text r out says is) = let (v, named, rule, weights, are_true, rest) = written_accepted says is in (v, named, weights ∙ ap (λ q. own_weights q.states) (sym rule), are_true, rest)
-certified_accepted (CertifyWith _ _) (OfRuleWith _ text weights r out says is) = let (v, named, rule, same, are_true, rest) = written_accepted says is.1 in (v, named, same, are_true, rest)
-certified_accepted (BriefWith _ _) (OfRuleWith _ text weights r out says is) = let (v, named, rule, same, are_true, rest) = written_accepted says is.1 in (v, named, same, are_true, rest)
+-- what is found for a question that asks for a certificate is a certificate
+certificate_found : {version : CertVersion} {r : LocalRule} {weights : Option (List ℕ)} {f : Finding} → IsFinding (Question.Certify version r weights) f
+    → (c : Certificate) × IsWritten version r (weights_by weights r) c × (text_of f ≡ certificate_text c)
+certificate_found (IsFinding.Written version r weights c each written) = (c, written, refl)
+
+-- so is what is said to a command that asks for one
+said_accepted : {input : Option (List ℕ)} {c : Command} {version : CertVersion} {r : LocalRule} {weights : Option (List ℕ)} {out : List ℕ} {reply : Reply}
+    → IsAsked c (Question.Certify version r weights) → IsReply input c reply → status.Done ≡ reply_status reply → out ≡ reply_text reply → IsAcceptedAs r (weights_by weights r) out
+said_accepted asked (Found c q f also right) done text =
+    let (cert, written, is) = certificate_found (subst (λ p. IsFinding p f) (IsAsked-unique also asked) right) in written_accepted cert written (text ∙ is)
+said_accepted asked (NoFit c q u also unfits) done text = absurd cc
+said_accepted asked (RuleFault c i f fault) done text = absurd cc
+said_accepted asked (Accepted c bytes v check whole accepted are_true) done text = absurd (IsAsked-reads_nothing asked check)
+said_accepted asked (Refused c bytes f check whole refused) done text = absurd cc
+said_accepted asked (TooLong c check long) done text = absurd cc
+
+pub certified_accepted : {input : Option (List ℕ)} {c : Command} {version : CertVersion} {r : LocalRule} {weights : Option (List ℕ)} {out : List ℕ}
+    → IsAsked c (Question.Certify version r weights) → IsReplyOf input c status.Done out → IsAcceptedAs r (weights_by weights r) out
+certified_accepted asked (reply, right, done, text) = said_accepted asked right done text

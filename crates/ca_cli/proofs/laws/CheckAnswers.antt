@@ -1,63 +1,85 @@
 -- Of an input that is told `check` has one right answer.
-use Rattle.std.proofs.Common.{◌≡◌, ℕ, ◌+◌, ◌≤◌, List, length, refl, ap, subst, arith}
+use Rattle.std.proofs.Common.{◌≡◌, ℕ, ◌+◌, ◌≤◌, List, length, refl, ap, ◌∙◌, subst, arith}
 use Rattle.std.specs.Prelude.{Some, ◌↔◌}
 use Rattle.cert_check.specs.Accepted.{IsAccepted}
 use Rattle.cert_check.specs.Refusals.{IsRefusal}
 use Rattle.cert_check.specs.declared.refusal.Refusal.{Refusal}
 use Rattle.cert_check.specs.declared.verdicts.Verdicts.{Verdicts}
-use Rattle.cert_check.proofs.laws.OneAnswer.{IsRefusal-unique, accepted_not_refused}
+use Rattle.cert_check.proofs.laws.OneAnswer.{IsAccepted-unique, IsRefusal-unique, accepted_not_refused}
 use Rattle.cert_check.proofs.laws.Soundness.{AreTrue-accepted}
+use Rattle.ca_words.specs.declared.names.Name.TheVariants as name
+use Rattle.ca_words.specs.Commands.{Command, IsCommand, check_command}
 use Rattle.ca_cli.specs.declared.status.Status.{Status}
 use Rattle.ca_cli.specs.declared.status.Status.TheVariants as status
-use Rattle.ca_cli.specs.Commands.{IsCommand}
-use Rattle.ca_cli.specs.Commands as commands
 use Rattle.ca_cli.specs.Inputs.{most_input}
 use Rattle.ca_cli.specs.StatusLines.{accepted_lines, refused_line, too_long_line}
-use Rattle.ca_cli.specs.RightAnswers.{IsAnswer, IsRight}
-use Rattle.ca_cli.specs.RightAnswers.IsAnswer.{Right}
-use Rattle.ca_cli.specs.RightAnswers.IsRight.{Unfit, Accepted, Refused, TooLong}
-use Rattle.ca_cli.proofs.laws.RightAnswers.{right_says}
-use Rattle.ca_cli.proofs.laws.Certified.{accepted_alone}
+use Rattle.ca_cli.specs.RightAnswers.{Reply, IsReply, IsReplyOf, IsAnswer, reply_status, reply_text}
+use Rattle.ca_cli.specs.RightAnswers.IsReply.{Found, NoFit, RuleFault, Accepted, Refused, TooLong}
+use Rattle.ca_cli.proofs.laws.Asked.{IsAsked-reads_nothing, IsOperandFault-reads_nothing}
+use Rattle.ca_cli.proofs.laws.RightAnswers.{right_exactly, reply_alone}
 
--- of an input that is refused `check` says why, and nothing else
-refused_alone : {bytes : List ℕ} {f : Refusal} → IsRefusal bytes f → length bytes ≤ most_input → (s : Status) (lines : List ℕ) → IsRight (Some bytes) commands.Check s lines
-    → (s ≡ status.Refused) × (lines ≡ refused_line f)
-refused_alone refused short s lines (Unfit _ cause unfits) = elim unfits [ ]
-refused_alone refused short s lines (Accepted others v whole accepted are_true) = absurd (accepted_not_refused (subst (λ b. IsAccepted b v) whole.all accepted) refused)
-refused_alone refused short s lines (Refused others g whole also) = (refl, ap refused_line (IsRefusal-unique (subst (λ b. IsRefusal b g) whole.all also) refused))
-refused_alone refused short s lines (TooLong long) = absurd (omega (arith, short, long))
+-- the reply has the status and the text of another
+abbrev IsAlike : Reply → Reply → Type 0
+IsAlike a b = (reply_status a ≡ reply_status b) × (reply_text a ≡ reply_text b)
 
--- of an input that is too long `check` says that it is, and nothing else
-long_alone : {bytes : List ℕ} → most_input + 1 ≤ length bytes → (s : Status) (lines : List ℕ) → IsRight (Some bytes) commands.Check s lines → (s ≡ status.TooLong) × (lines ≡ too_long_line)
-long_alone long s lines (Unfit _ cause unfits) = elim unfits [ ]
-long_alone long s lines (Accepted others v whole accepted are_true) = absurd (omega (arith, long, ap length whole.all, whole.short))
-long_alone long s lines (Refused others f whole refused) = absurd (omega (arith, long, ap length whole.all, whole.short))
-long_alone long s lines (TooLong _) = (refl, refl)
+-- of an input that is accepted `check` says its verdicts, and nothing else
+pub accepted_alone : {words : List (List ℕ)} {c : Command} {left : List ℕ} {v : Verdicts} → IsCommand words c → c.name ≡ name.Check → IsAccepted left v → length left ≤ most_input
+    → (reply : Reply) → IsReply (Some left) c reply → IsAlike reply (Reply.Accepted v)
+accepted_alone is check accepted short _ (Found c q f asked right) = absurd (IsAsked-reads_nothing asked check)
+accepted_alone is check accepted short _ (NoFit c q u asked unfits) = absurd (IsAsked-reads_nothing asked check)
+accepted_alone is check accepted short _ (RuleFault c i f fault) = absurd (IsOperandFault-reads_nothing is fault check)
+accepted_alone is check accepted short _ (Accepted c others w _ whole also are_true) = (refl, ap accepted_lines (IsAccepted-unique (subst (λ b. IsAccepted b w) whole.all also) accepted))
+accepted_alone is check accepted short _ (Refused c others f _ whole refused) = absurd (accepted_not_refused accepted (subst (λ b. IsRefusal b f) whole.all refused))
+accepted_alone is check accepted short _ (TooLong c _ long) = absurd (omega (arith, short, long))
 
--- an answer to `check` is what is right for it, since it has no operand that is refused
-check_says : {words : List (List ℕ)} {left : List ℕ} {s : Status} {out : List ℕ} → IsCommand words commands.Check → IsAnswer words (Some left) s out → IsRight (Some left) commands.Check s out
-check_says is = right_says commands.Check is (λ operand f fault. elim fault [ ])
+-- of one that is refused it says why, and nothing else
+pub refused_alone : {words : List (List ℕ)} {c : Command} {left : List ℕ} {f : Refusal} → IsCommand words c → c.name ≡ name.Check → IsRefusal left f → length left ≤ most_input
+    → (reply : Reply) → IsReply (Some left) c reply → IsAlike reply (Reply.Refused f)
+refused_alone is check refused short _ (Found c q f asked right) = absurd (IsAsked-reads_nothing asked check)
+refused_alone is check refused short _ (NoFit c q u asked unfits) = absurd (IsAsked-reads_nothing asked check)
+refused_alone is check refused short _ (RuleFault c i f fault) = absurd (IsOperandFault-reads_nothing is fault check)
+refused_alone is check refused short _ (Accepted c others w _ whole accepted are_true) = absurd (accepted_not_refused (subst (λ b. IsAccepted b w) whole.all accepted) refused)
+refused_alone is check refused short _ (Refused c others g _ whole also) = (refl, ap refused_line (IsRefusal-unique (subst (λ b. IsRefusal b g) whole.all also) refused))
+refused_alone is check refused short _ (TooLong c _ long) = absurd (omega (arith, short, long))
 
--- over an accepted input the answer to `check` is Done with its verdicts
-pub check_accepted : {words : List (List ℕ)} {left : List ℕ} {v : Verdicts} {s : Status} {out : List ℕ} → IsCommand words commands.Check → length left ≤ most_input → IsAccepted left v
+-- of one that is too long it says that it is, and nothing else
+pub long_alone : {words : List (List ℕ)} {c : Command} {left : List ℕ} → IsCommand words c → c.name ≡ name.Check → most_input + 1 ≤ length left
+    → (reply : Reply) → IsReply (Some left) c reply → IsAlike reply Reply.TooLong
+long_alone is check long _ (Found c q f asked right) = absurd (IsAsked-reads_nothing asked check)
+long_alone is check long _ (NoFit c q u asked unfits) = absurd (IsAsked-reads_nothing asked check)
+long_alone is check long _ (RuleFault c i f fault) = absurd (IsOperandFault-reads_nothing is fault check)
+long_alone is check long _ (Accepted c others w _ whole accepted are_true) = absurd (omega (arith, long, ap length whole.all, whole.short))
+long_alone is check long _ (Refused c others g _ whole refused) = absurd (omega (arith, long, ap length whole.all, whole.short))
+long_alone is check long _ (TooLong c _ _) = (refl, refl)
+
+-- the right answer over an accepted input is Done with its verdicts
+pub accepted_exactly : {words : List (List ℕ)} {left : List ℕ} {v : Verdicts} {s : Status} {out : List ℕ} → IsCommand words check_command → length left ≤ most_input → IsAccepted left v
+    → IsReplyOf (Some left) check_command s out ↔ ((s ≡ status.Done) × (out ≡ accepted_lines v))
+accepted_exactly {left = left} {v = v} is short accepted =
+    reply_alone (Reply.Accepted v) (Accepted check_command left v refl (record { all = refl; short = short }) accepted (AreTrue-accepted accepted)) (accepted_alone is refl accepted short)
+
+-- that over a refused one is Refused with the reason
+pub refused_exactly : {words : List (List ℕ)} {left : List ℕ} {f : Refusal} {s : Status} {out : List ℕ} → IsCommand words check_command → length left ≤ most_input → IsRefusal left f
+    → IsReplyOf (Some left) check_command s out ↔ ((s ≡ status.Refused) × (out ≡ refused_line f))
+refused_exactly {left = left} {f = f} is short refused =
+    reply_alone (Reply.Refused f) (Refused check_command left f refl (record { all = refl; short = short }) refused) (refused_alone is refl refused short)
+
+-- and that over one that is too long is TooLong
+pub too_long_exactly : {words : List (List ℕ)} {left : List ℕ} {s : Status} {out : List ℕ} → IsCommand words check_command → most_input + 1 ≤ length left
+    → IsReplyOf (Some left) check_command s out ↔ ((s ≡ status.TooLong) × (out ≡ too_long_line))
+too_long_exactly is long = reply_alone Reply.TooLong (TooLong check_command refl long) (long_alone is refl long)
+
+-- so are the right answers to the words
+pub check_accepted : {words : List (List ℕ)} {left : List ℕ} {v : Verdicts} {s : Status} {out : List ℕ} → IsCommand words check_command → length left ≤ most_input → IsAccepted left v
     → IsAnswer words (Some left) s out ↔ ((s ≡ status.Done) × (out ≡ accepted_lines v))
-check_accepted {left = left} {v} {s} {out} is short accepted = (
-  λ answer. accepted_alone accepted short s out (check_says is answer),
-  λ (done, same). rw (done, same) (Right commands.Check status.Done (accepted_lines v) is (Accepted left v (record { all = refl; short = short }) accepted (AreTrue-accepted accepted))),
-)
+check_accepted is short accepted =
+    ((λ answer. (accepted_exactly is short accepted).0 ((right_exactly is).0 answer)), (λ said. (right_exactly is).1 ((accepted_exactly is short accepted).1 said)))
 
--- over a refused input the answer to `check` is Refused with the reason
-pub check_refused : {words : List (List ℕ)} {left : List ℕ} {f : Refusal} {s : Status} {out : List ℕ} → IsCommand words commands.Check → length left ≤ most_input → IsRefusal left f
+pub check_refused : {words : List (List ℕ)} {left : List ℕ} {f : Refusal} {s : Status} {out : List ℕ} → IsCommand words check_command → length left ≤ most_input → IsRefusal left f
     → IsAnswer words (Some left) s out ↔ ((s ≡ status.Refused) × (out ≡ refused_line f))
-check_refused {left = left} {f} {s} {out} is short refused = (
-  λ answer. refused_alone refused short s out (check_says is answer),
-  λ (done, same). rw (done, same) (Right commands.Check status.Refused (refused_line f) is (Refused left f (record { all = refl; short = short }) refused)),
-)
+check_refused is short refused =
+    ((λ answer. (refused_exactly is short refused).0 ((right_exactly is).0 answer)), (λ said. (right_exactly is).1 ((refused_exactly is short refused).1 said)))
 
--- over an input that is too long the answer to `check` is TooLong
-pub check_too_long : {words : List (List ℕ)} {left : List ℕ} {s : Status} {out : List ℕ} → IsCommand words commands.Check → most_input + 1 ≤ length left
+pub check_too_long : {words : List (List ℕ)} {left : List ℕ} {s : Status} {out : List ℕ} → IsCommand words check_command → most_input + 1 ≤ length left
     → IsAnswer words (Some left) s out ↔ ((s ≡ status.TooLong) × (out ≡ too_long_line))
-check_too_long {left = left} {s} {out} is long = (
-  λ answer. long_alone long s out (check_says is answer),
-  λ (done, same). rw (done, same) (Right commands.Check status.TooLong too_long_line is (TooLong long)),
-)
+check_too_long is long = ((λ answer. (too_long_exactly is long).0 ((right_exactly is).0 answer)), (λ said. (right_exactly is).1 ((too_long_exactly is long).1 said)))

@@ -15,7 +15,8 @@ use Rattle.std.proofs.lemmas.List.Quantifiers.{all_pairs_push}
 use Rattle.ca_cli.specs.declared.commands.class_tally.ClassTally.{ClassTally}
 use Rattle.ca_cli.specs.Summaries.{count_line}
 use Rattle.ca_cli.specs.Tallies.{summary_of}
-use Rattle.ca_cli.specs.ClassSummaries.{AreLeastRules, IsClassSummary, IsLeastOfItsClass}
+use Rattle.ca_findings.specs.Counts.{AreLeastRules, IsLeastOfItsClass}
+use Rattle.ca_cli.specs.ClassSummaries.{IsClassSummary}
 use Rattle.ca_cli.specs.ClassTallies.{IsRuleAdded, IsClassTally, IsDecided, rule_in, rules_in}
 use Rattle.ca_cli.specs.ClassTallies.IsRuleAdded.{Old, New}
 use Rattle.ca_cli.proofs.laws.Summaries.{IsSummary-tally}

@@ -11,9 +11,9 @@ use Rattle.cert_check.specs.Refusals.{IsRefusal}
 use Rattle.ca_cli.specs.Commands.{Command}
 use Rattle.ca_cli.specs.Commands as commands
 use Rattle.ca_cli.specs.Inputs.{most_input, IsWholeInput, IsLongInput}
-use Rattle.ca_cli.specs.Readings.{IsReadFor, Reading, ReadsNothing}
+use Rattle.ca_cli.specs.Readings.{IsReadFor, Reading}
 use Rattle.ca_cli.specs.Outcomes.{IsOutcome, IsStop, status_of}
-use Rattle.ca_cli.specs.RightAnswers.IsRight.{Refused}
+use Rattle.ca_cli.specs.AnswersByShape.IsRight.{Refused}
 
 -- an input of which so much was taken is long
 pub IsLongInput-taken : (before after : Option (List ℕ)) (bytes : List ℕ) → Consumes before after bytes → most_input + 1 ≤ length bytes → IsLongInput before
@@ -31,7 +31,7 @@ nothing_read left faults good = record {
 }
 
 -- a command that reads nothing meets no failed read
-pub reads_without_fault : (input : Option (List ℕ)) (c : Command) (result : Result (List ℕ) Stop) → ReadsNothing c → IsOutcome input c result → ¬ (result ≡ Err stop.ReadFault)
+pub reads_without_fault : (input : Option (List ℕ)) (c : Command) (result : Result (List ℕ) Stop) → c ≢ commands.Check → IsOutcome input c result → ¬ (result ≡ Err stop.ReadFault)
 reads_without_fault input c result reads outcome failed = reads (subst (IsOutcome input c) failed outcome)
 
 -- a source after a call that didn't fail, said of another

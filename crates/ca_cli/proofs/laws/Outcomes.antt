@@ -10,8 +10,8 @@ use Rattle.ca_cli.specs.declared.stop.Stop.{Stop}
 use Rattle.ca_cli.specs.declared.stop.Stop.TheVariants as stop
 use Rattle.ca_cli.specs.Commands.{Command}
 use Rattle.ca_cli.specs.Outcomes.{IsOutcome, IsRuleFault, IsStopFor, Comes}
-use Rattle.ca_cli.specs.RightAnswers.{IsOperandFault, IsUnfit, IsRight}
-use Rattle.ca_cli.specs.RightAnswers.IsRight.{Unfit}
+use Rattle.ca_cli.specs.AnswersByShape.{IsOperandFault, IsUnfit, IsRight}
+use Rattle.ca_cli.specs.AnswersByShape.IsRight.{Unfit}
 
 -- what is appended to an empty output is all of it
 pub appended_to_nothing : {before after text : List ℕ} → before ≡ [] → after ≡ before ++ text → after ≡ text

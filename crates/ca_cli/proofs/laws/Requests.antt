@@ -1,9 +1,8 @@
 -- The words of a command, one by one, and what a request means.
-use Rattle.std.proofs.Common.{◌≡◌, ◌<◌, ◌≤◌, List, [], ◌∷◌, length, get_or, refl, arith}
+use Rattle.std.proofs.Common.{◌≡◌, ◌≢◌, ◌<◌, ◌≤◌, List, [], ◌∷◌, length, get_or, refl, arith}
 use Rattle.ca_cli.specs.declared.words.request.Unread.{Unread}
 use Rattle.ca_cli.specs.declared.words.request.Unread.TheVariants as unread
-use Rattle.ca_cli.specs.Commands.{Command}
-use Rattle.ca_cli.specs.Readings.{ReadsNothing}
+use Rattle.ca_cli.specs.Commands.{Command, Check}
 use Rattle.ca_cli.specs.Requests.{Means}
 
 -- a list of five is its first five
@@ -13,7 +12,7 @@ five_items (p ∷ q ∷ r ∷ s ∷ t ∷ []) least most a b c d e = rw (a, b, c
 five_items _ least most a b c d e = absurd (omega (arith, least, most))
 
 -- a request that isn't for `check` means a command that reads nothing
-pub Means-reads_nothing : (asked : Unread) {c : Command} → Means asked c → ReadsNothing c
+pub Means-reads_nothing : (asked : Unread) {c : Command} → Means asked c → c ≢ Check
 Means-reads_nothing (unread.OfRule a rule) means is = cc
 Means-reads_nothing (unread.OfRuleWith change rule) (operand, _, means) is = cc
 Means-reads_nothing (unread.OfTwo a first second) means is = cc

@@ -5,9 +5,10 @@ use Rattle.std.specs.Int.{from_bool}
 use Rattle.std.proofs.lemmas.Bool.{false≢true}
 use Rattle.word_image.specs.LocalRules.{LocalRule}
 use Rattle.ca_cli.specs.declared.commands.tally.Tally.{Tally}
-use Rattle.ca_cli.specs.Summaries.{AreMany, IsSummary}
+use Rattle.ca_findings.specs.Counts.{AreMany}
+use Rattle.ca_cli.specs.Summaries.{IsSummary}
 use Rattle.ca_cli.specs.Tallies.{IsTally, summary_of}
-use Rattle.ca_cli.specs.Summaries.AreMany.{None, One, Other}
+use Rattle.ca_findings.specs.Counts.AreMany.{None, One, Other}
 
 -- no more rules have a property than there are
 pub AreMany-le : {Has : LocalRule → Type 0} {rules : List LocalRule} {n : ℕ} → AreMany Has rules n → n ≤ length rules

@@ -5,7 +5,7 @@ ghost use Rattle.cert_format.specs.Versions.{names_weights};
 ghost use Rattle.ca_cli.specs.Commands.{AskWith};
 ghost use Rattle.ca_cli.specs.Outcomes.{Comes};
 ghost use Rattle.ca_cli.specs.Outputs.{IsCauseWith, IsCertified, IsOutputWith};
-ghost use Rattle.ca_cli.specs.WeightTexts.{AreWeightTexts};
+ghost use Rattle.ca_words.specs.WeightTexts.{AreWeightTexts};
 
 use crate::output::Output;
 use crate::stop::Stop;

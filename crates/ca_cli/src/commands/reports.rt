@@ -3,7 +3,7 @@ ghost use Rattle.std.specs.Prelude.{◌≡◌, length, slice_index, IfOk};
 ghost use Rattle.ca_cli.specs.Commands.{AskWith};
 ghost use Rattle.ca_cli.specs.Outcomes.{Comes};
 ghost use Rattle.ca_cli.specs.Outputs.{IsCauseWith, IsOutputWith};
-ghost use Rattle.ca_cli.specs.WeightTexts.{AreWeightTexts};
+ghost use Rattle.ca_words.specs.WeightTexts.{AreWeightTexts};
 ghost use Rattle.ca_cli.specs.Reports.{IsReport, IsSurjectiveLine, number_line};
 
 use crate::lines::report::{write_report, write_surjective};

@@ -4,8 +4,7 @@ ghost use Rattle.ca_cli.specs.Commands.{AskWith, Command, IsCommand, IsOperand, 
 ghost use Rattle.ca_cli.specs.Requests.{IsChange, BeginsAt, IsRequest, asked_of_many, asked_with};
 ghost use Rattle.rule_text.specs.RuleTexts.{decimal_value};
 
-use crate::words::operands::{are_colours, count_of, seed, small};
-use crate::words::weight_lists::are_weights;
+use ca_words::{are_colours, are_weights, count_of, seed, small};
 use rule_text::{decimal_number, decimal_offset, is_decimal};
 use tail_config::has_form;
 

@@ -2,7 +2,7 @@ use Rattle.std.proofs.Common.{sym, subst}
 use Rattle.rule_text.specs.RuleTexts.{decimal_value}
 use Rattle.ca_cli.specs.Requests.{Means, asked_of_many}
 use Rattle.ca_cli.specs.Commands as commands
-use Rattle.ca_cli.specs.RightAnswers.{IsOperandFault, IsUnfit, IsRight}
+use Rattle.ca_cli.specs.AnswersByShape.{IsOperandFault, IsUnfit, IsRight}
 use Rattle.ca_cli.proofs.laws.Outcomes.{refused, outcome}
 use Rattle.ca_cli.proofs.commands.carry_out.Goals as goal
 

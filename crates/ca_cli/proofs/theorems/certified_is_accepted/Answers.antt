@@ -2,4 +2,4 @@ use Rattle.ca_cli.proofs.laws.Certified.{certified_accepted}
 use Rattle.ca_cli.proofs.theorems.certified_is_accepted.Goals as goal
 
 pub returns : goal.returns
-returns c command text out weights input = certified_accepted
+returns c input command version r weights out = certified_accepted

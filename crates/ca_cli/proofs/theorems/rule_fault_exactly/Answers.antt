@@ -1,10 +1,8 @@
-use Rattle.std.proofs.Common.{sym, subst}
-use Rattle.ca_cli.specs.declared.status.Status.TheVariants as status
-use Rattle.ca_cli.specs.RightAnswers.{IsAnswer}
-use Rattle.ca_cli.specs.RightAnswers.IsAnswer.{RuleFault}
+use Rattle.std.proofs.Common.{refl}
+use Rattle.ca_cli.specs.RightAnswers.{Reply, IsReply, IsReplyTo}
 use Rattle.ca_cli.proofs.laws.RightAnswers.{rule_fault_says}
 use Rattle.ca_cli.proofs.theorems.rule_fault_exactly.Goals as goal
 
 pub returns : goal.returns
 returns c words input out =
-    (rule_fault_says, (λ (command, operand, fault, words_are, first, is). subst (IsAnswer words input status.RuleFault) (sym is) (RuleFault command operand fault words_are first)))
+    (rule_fault_says, (λ (command, i, f, is, fault, line). record { reply = Reply.RuleFault i f; right = IsReplyTo.Right command (Reply.RuleFault i f) is (IsReply.RuleFault command i f fault); status_is = refl; output_is = line }))

@@ -2,8 +2,8 @@ use Rattle.std.proofs.Common.{sym, subst}
 use Rattle.ca_cli.specs.declared.status.Status.TheVariants as status
 use Rattle.ca_cli.specs.Commands as commands
 use Rattle.ca_cli.specs.Inputs.{IsWholeInput}
-use Rattle.ca_cli.specs.RightAnswers.{IsRight}
-use Rattle.ca_cli.specs.RightAnswers.IsRight.{Accepted}
+use Rattle.ca_cli.specs.AnswersByShape.{IsRight}
+use Rattle.ca_cli.specs.AnswersByShape.IsRight.{Accepted}
 use Rattle.ca_cli.proofs.laws.Inputs.{stops_for, read_for, read_without_fault, no_read_fault}
 use Rattle.ca_cli.proofs.laws.Outcomes.{appended_to_nothing}
 use Rattle.ca_cli.proofs.commands.checks.check.Goals as goal

@@ -1,6 +1,6 @@
 use Rattle.std.proofs.Common.{◌≡◌, ◌+◌, length, arith}
 use Rattle.ca_cli.specs.Inputs.{most_input}
-use Rattle.ca_cli.specs.RightAnswers.IsRight.{TooLong}
+use Rattle.ca_cli.specs.AnswersByShape.IsRight.{TooLong}
 use Rattle.ca_cli.proofs.laws.Inputs.{IsLongInput-taken}
 use Rattle.ca_cli.proofs.commands.checks.whole_input.Goals as goal
 

@@ -1,5 +1,5 @@
 use Rattle.std.proofs.Common.{refl}
-use Rattle.ca_cli.specs.Summaries.AreMany.{None}
+use Rattle.ca_findings.specs.Counts.AreMany.{None}
 use Rattle.ca_cli.proofs.commands.tally.Tally.new.Goals as goal
 
 pub returns : goal.returns
