@@ -1,8 +1,8 @@
--- The order of splits by the numbers of their letter pairs, and the search for the least one, state by state.
-use Rattle.std.proofs.Common.{◌≡◌, ◌≢◌, ℕ, ◌+◌, ◌-◌, ◌/◌, ◌%◌, ◌<◌, ◌≤◌, List, [], ◌∷◌, length, map, Option, Some, None, Bool, true≢false, refl, sym, ap, ap₂, ◌∙◌, subst, ⊎_elim, arith}
+-- The order of splits by the numbers of their letter pairs, and where no split at a state comes before the least one so far.
+use Rattle.std.proofs.Common.{◌≡◌, ◌≢◌, ℕ, ◌+◌, ◌/◌, ◌%◌, ◌<◌, ◌≤◌, List, [], ◌∷◌, length, map, Option, Some, None, Bool, true≢false, refl, sym, ap, ap₂, ◌∙◌, subst, ⊎_elim, arith}
 use Rattle.std.specs.Ordering.{ordering_then, nat_cmp, is_gt}
 use Rattle.std.specs.Prelude.{◌↔◌, IsTrue, MatchOption}
-use Rattle.std.specs.Option.{SomeIff, option_or}
+use Rattle.std.specs.Option.{SomeIff}
 use Rattle.std.specs.Cmp.{nat_cmp_is}
 use Rattle.std.specs.Cmp.Lexicographic.{slice_cmp}
 use Rattle.std.specs.declared.cmp.Ordering.{Ordering}
@@ -10,15 +10,15 @@ use Rattle.std.specs.declared.cmp.Ordering.TheVariants.{Less, Equal, Greater}
 use Rattle.std.proofs.lemmas.Bool.{cases_lt}
 use Rattle.std.proofs.lemmas.Cmp.{ranked, by_ranked}
 use Rattle.std.proofs.lemmas.List.{length-map}
-use Rattle.word_image.specs.LocalRules.{LocalRule, IsRule}
+use Rattle.word_image.specs.LocalRules.{LocalRule}
 use Rattle.word_image.specs.MarkedPairs.{marked}
 use Rattle.word_image.specs.Rings.{pair_cmp}
 use Rattle.search_laws.specs.PairWalks.{PairWalk, IsLeastWalkTo, uncode}
 use Rattle.tail_config.specs.Splits.{splits_cmp}
 use Rattle.tail_laws.specs.SplitWalks.{IsLeastSplitAt, split_of, with_mark}
-use Rattle.tail_laws.proofs.LeastSplits.{splits_cmp-walks, no_earlier-least, IsLeastBelow-next, IsLeastBelow-taken, IsLeastBelow-first, IsNoSplitBelow-next}
+use Rattle.tail_laws.proofs.LeastSplits.{splits_cmp-walks, no_earlier-least}
 use Rattle.closing_test.specs.declared.walks.Walks.{Walks}
-use Rattle.closing_test.specs.Walks.{middle_pairs, period_pairs, split_by, ComesBefore, IsNoneBefore, AreEarlier, IsLeastSoFar}
+use Rattle.closing_test.specs.Walks.{middle_pairs, period_pairs, split_by, ComesBefore, IsMostAfter, IsNoneBefore, AreEarlier}
 
 -- numbers of letter pairs are compared as the pairs are
 pair_cmp-uncode : (c d : ℕ) → pair_cmp (uncode 16 c) (uncode 16 d) ≡ nat_cmp c d
@@ -70,20 +70,12 @@ is_gt-greater Less s b e f = (λ h. absurd (true≢false (sym h ∙ e)), λ h. a
 is_gt-greater Equal s b e f = (λ h. absurd (true≢false (sym h ∙ e)), λ h. absurd (true≢false (ap is_gt (sym (f ∙ h)))))
 is_gt-greater Greater s b e f = (λ h. sym f, λ h. e)
 
--- one state more, at which none comes before the least one so far, or these walks make the least one that does
-pub IsLeastSoFar-next : (r : LocalRule) (t : ℕ) (best found : Option Walks) → IsRule r → IsLeastSoFar r t best → MatchOption found (IsNoneBefore r t best) (AreEarlier r t best)
-    → IsLeastSoFar r (t + 1) (option_or found best)
-IsLeastSoFar-next r t None None rule h none = IsNoSplitBelow-next h (λ w v at. none w v at tt)
-IsLeastSoFar-next r t (Some best) None rule h none = IsLeastBelow-next h none
-IsLeastSoFar-next r t None (Some found) rule h here = IsLeastBelow-first rule h here.least
-IsLeastSoFar-next r t (Some best) (Some found) rule h here = IsLeastBelow-taken rule h here.least here.before
-
 -- none comes before it where no walk leads to the state
 pub IsNoneBefore-none : {r : LocalRule} {t : ℕ} (best : Option Walks) → ((w : List (ℕ × ℕ)) → ¬ PairWalk (marked r) r.states 0 w t) → IsNoneBefore r t best
 IsNoneBefore-none best none w v at before = none w at.reach
 
 -- a first walk has no more letters than another one
-length-reach : {follow : ℕ → ℕ → ℕ → Option ℕ} {k s t : ℕ} {u w : List (ℕ × ℕ)} → IsLeastWalkTo follow k s t u → PairWalk follow k s w t → length u ≤ length w
+pub length-reach : {follow : ℕ → ℕ → ℕ → Option ℕ} {k s t : ℕ} {u w : List (ℕ × ℕ)} → IsLeastWalkTo follow k s t u → PairWalk follow k s w t → length u ≤ length w
 length-reach {u = u} {w} reach walk =
     ⊎_elim
     (λ above. absurd (reach.least w walk (ap (λ o. ordering_then o (slice_cmp pair_cmp u w)) (sym (nat_cmp_is (length u) (length w) Greater above)))))
@@ -102,15 +94,27 @@ splits_cmp-more best w v more greater =
     ∙ ap (λ o. ordering_then o (ordering_then (nat_cmp (length m) (length w)) (ordering_then (slice_cmp pair_cmp m w) (slice_cmp pair_cmp p v)))) letters in
     true≢false (sym (ap is_gt greater) ∙ ap is_gt less)
 
+-- and so does one of as many with a longer middle
+splits_cmp-middle : (best : Walks) (w v : List (ℕ × ℕ)) → length best.middle.items + length best.period.items ≡ length w + length v → length best.middle.items < length w → splits_cmp (split_by best) (split_of w v) ≢ Greater
+splits_cmp-middle best w v same longer greater =
+    let m : List (ℕ × ℕ) = middle_pairs best in
+    let p : List (ℕ × ℕ) = period_pairs best in
+    let rest : Ordering = ordering_then (slice_cmp pair_cmp m w) (slice_cmp pair_cmp p v) in
+    let letters : nat_cmp (length m + length p) (length w + length v) ≡ Equal =
+    sym (nat_cmp_is (length m + length p) (length w + length v) Equal (omega (arith, same, length-map best.middle.items (uncode 16), length-map best.period.items (uncode 16)))) in
+    let middles : nat_cmp (length m) (length w) ≡ Less = sym (nat_cmp_is (length m) (length w) Less (omega (arith, longer, length-map best.middle.items (uncode 16)))) in
+    let less : splits_cmp (split_by best) (split_of w v) ≡ Less = splits_cmp-walks m p w v ∙ ap₂ (λ o q. ordering_then o (ordering_then q rest)) letters middles in
+    true≢false (sym (ap is_gt greater) ∙ ap is_gt less)
+
 -- or no walk leads round it in so few steps as the best one leaves
-pub IsNoneBefore-long : {r : LocalRule} {t most : ℕ} {u : List (ℕ × ℕ)} (best : Option Walks)
-    → MatchOption best (most ≡ 512) (λ walks. most ≡ length walks.middle.items + length walks.period.items - length u) → IsLeastWalkTo (marked r) r.states 0 t u
+pub IsNoneBefore-long : {r : LocalRule} {t most n : ℕ} (best : Option Walks)
+    → MatchOption best (most ≡ 512) (λ walks. IsMostAfter walks n most) → ((w : List (ℕ × ℕ)) → PairWalk (marked r) r.states 0 w t → n ≤ length w)
     → ((v : List (ℕ × ℕ)) → 0 < length v → length v ≤ most → ¬ PairWalk (marked r) r.states t v (with_mark r t))
     → (512 ≤ most → (v : List (ℕ × ℕ)) → 0 < length v → ¬ PairWalk (marked r) r.states t v (with_mark r t)) → IsNoneBefore r t best
 IsNoneBefore-long None is reach short all w v at before = all (omega arith) v at.some at.round
 IsNoneBefore-long {most = most} (Some best) is reach short all w v at before =
     ⊎_elim
-    (λ more. splits_cmp-more best w v (omega (arith, is, more, length-reach reach at.reach)) before)
+    (λ more. ⊎_elim (λ letters. splits_cmp-more best w v letters before) (λ (same, longer). splits_cmp-middle best w v same longer before) (is (length w) (length v) (reach w at.reach) more))
     (λ few. short v at.some few at.round)
     (cases_lt most (length v))
 

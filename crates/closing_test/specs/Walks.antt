@@ -1,5 +1,5 @@
 -- Two walks of pairs that make a normal split, each letter pair (a, b) written as a * 16 + b.
-use Rattle.std.specs.Prelude.{◌≡◌, ℕ, ◌/◌, ◌%◌, List, [], ◌∷◌, map, Option, Some, None}
+use Rattle.std.specs.Prelude.{◌≡◌, ℕ, ◌+◌, ◌/◌, ◌%◌, ◌<◌, ◌≤◌, ◌⊎◌, length, List, [], ◌∷◌, map, Option, Some, None}
 use Rattle.std.specs.declared.cmp.Ordering.TheVariants.{Greater}
 use Rattle.word_image.specs.LocalRules.{LocalRule}
 use Rattle.search_laws.specs.PairWalks.{uncode}
@@ -35,6 +35,11 @@ split_by w = split_of (middle_pairs w) (period_pairs w)
 abbrev pub ComesBefore : TailConfig × TailConfig → Option Walks → Type 0
 ComesBefore split None = Unit {0}
 ComesBefore split (Some best) = splits_cmp (split_by best) split ≡ Greater
+
+-- walks of n letters or more and of more than so many make a split that comes after that of these walks, by letters or middle
+abbrev pub IsMostAfter : Walks → ℕ → ℕ → Type 0
+IsMostAfter best n most = (w v : ℕ) → n ≤ w → most < v
+    → (length best.middle.items + length best.period.items < w + v) ⊎ ((length best.middle.items + length best.period.items ≡ w + v) × (length best.middle.items < w))
 
 -- no normal split at state t comes before that one
 abbrev pub IsNoneBefore : LocalRule → ℕ → Option Walks → Type 0

@@ -1,9 +1,11 @@
 //! The least normal right split.
 
-ghost use Rattle.std.specs.Prelude.{◌≡◌, ◌+◌, ◌≤◌, IfOk, map};
+ghost use Rattle.std.specs.Prelude.{◌≡◌, ◌+◌, ◌*◌, ◌<◌, ◌≤◌, All, IfOk, IfSome, map};
 ghost use Rattle.word_image.specs.Graphs.{pair_count};
 ghost use Rattle.tail_config.specs.Tails.{IsTail, IsRightClosing};
-ghost use Rattle.closing_test.specs.Walks.{IsLeastSoFar, letter_of, tail_by};
+ghost use Rattle.tail_config.specs.Splits.{IsNormalRightSplit};
+ghost use Rattle.tail_laws.specs.SplitWalks.{first_tail, second_tail};
+ghost use Rattle.closing_test.specs.Walks.{IsLeastSoFar, letter_of, middle_pairs, period_pairs, tail_by};
 ghost use Rattle.closing_test.specs.Closing.{IsLeastSplitOf};
 
 use crate::walks::Walks;
@@ -38,7 +40,7 @@ pub fn least_split(
 }
 
 /// The walks of the least normal right split, if there is one: the earliest of at most one candidate
-/// for each state of the marked graph.
+/// for each state of the marked graph, those of short middles first, so that later periods are short too.
 fn least_walks(
     alloc: Global,
     pairs: &Pairs,
@@ -46,11 +48,39 @@ fn least_walks(
 ) -> Result<Option<Walks>, AllocError>
     ensures { IfOk result (IsLeastSoFar pairs.now (pair_count pairs.now + pair_count pairs.now)) }
 {
-    let states = 2 * pairs.count();
+    // That the pairs are of a rule is what this call says.
+    let _count = pairs.count();
     let middles = WalkTree::of(alloc, pairs, 0)?;
+    let states = middles.pairs(alloc)?;
+    let mut best = short_walks(alloc, pairs, walker, &middles, &states)?;
+    for i in 0..states.len() {
+        best = Walks::earlier(alloc, pairs, walker, &middles, states[i], &best)?.or(best);
+    }
+    Ok(best)
+}
+
+/// Of the splits whose period is one letter pair the least one that is found, if there is any: it keeps the
+/// searches for longer periods short.
+fn short_walks(
+    alloc: Global,
+    pairs: &Pairs,
+    walker: &mut Walker,
+    middles: &WalkTree,
+    states: &[u16],
+) -> Result<Option<Walks>, AllocError>
+    requires middles { middles.now ≡ record { rule = pairs.now; start = 0; most = 512 } }
+    requires states { All (λ t. t < 2 * pair_count pairs.now) states.now }
+    ensures { IfOk result (λ found. IfSome found (λ walks. IsNormalRightSplit pairs.now (first_tail (middle_pairs walks) (period_pairs walks)) (second_tail (middle_pairs walks) (period_pairs walks)))) }
+{
+    let (rule, count) = (pairs.rule(), pairs.count());
     let mut best = None;
-    for state in 0..states {
-        best = Walks::earlier(alloc, pairs, walker, &middles, state, &best)?.or(best);
+    for i in 0..states.len() {
+        let p = states[i] % count;
+        let (u, v) = rule.nodes_of(p);
+        let k = rule.k();
+        if pairs.marked(states[i], u % k, v % k) == Some(p + count) {
+            best = Walks::earlier(alloc, pairs, walker, middles, states[i], &best)?.or(best);
+        }
     }
     Ok(best)
 }

@@ -1,6 +1,6 @@
 //! Splits as two walks of pairs.
 
-ghost use Rattle.std.specs.Prelude.{◌≡◌, ◌*◌, ◌+◌, ◌-◌, ◌<◌, ◌≤◌, ◌↔◌, IfOk, IsTrue, MatchOption, length};
+ghost use Rattle.std.specs.Prelude.{◌≡◌, ◌*◌, ◌+◌, ◌<◌, ◌≤◌, ◌↔◌, IfOk, IsTrue, MatchOption, length};
 ghost use Rattle.std.specs.Option.{SomeIff};
 ghost use Rattle.std.specs.declared.cmp.Ordering.TheVariants.{Greater};
 ghost use Rattle.word_image.specs.Graphs.{pair_count};
@@ -23,7 +23,7 @@ pub struct Walks {
 }
 
 impl Walks {
-    ghost use Rattle.closing_test.specs.Walks.{ComesBefore, IsNoneBefore, AreEarlier, split_by};
+    ghost use Rattle.closing_test.specs.Walks.{ComesBefore, IsMostAfter, IsNoneBefore, AreEarlier, split_by};
 
     /// How many letters both walks have.
     fn letters(&self) -> usize
@@ -55,16 +55,22 @@ impl Walks {
         state: u16,
         best: &Option<Walks>,
     ) -> Result<Option<Walks>, AllocError>
-        requires middles { middles.now ≡ record { rule = pairs.now; start = 0 } }
+        requires middles { middles.now ≡ record { rule = pairs.now; start = 0; most = 512 } }
         requires state { state < 2 * pair_count pairs.now }
         ensures { IfOk result (λ found. MatchOption found (IsNoneBefore pairs.now state best.now) (AreEarlier pairs.now state best.now)) }
     {
-        let Some(middle) = middles.walk_to(alloc, state)? else {
+        let Some(steps) = middles.steps_to(state) else {
             return Ok(None);
         };
-        let most = most_steps(best, middle.len());
+        let most = Walks::most_steps(best, steps);
+        if most == 0 {
+            return Ok(None);
+        }
         let count = pairs.count();
         let Some(period) = walker.walk_within(pairs, state, state % count + count, most) else {
+            return Ok(None);
+        };
+        let Some(middle) = middles.walk_to(alloc, state)? else {
             return Ok(None);
         };
         let found = Walks {
@@ -83,15 +89,20 @@ impl Walks {
             _ => Some(self),
         }
     }
-}
 
-/// How many steps a period after a middle of so many may have, for the split to come before the best
-/// one so far.
-fn most_steps(best: &Option<Walks>, middle: usize) -> usize
-    ensures { MatchOption best.now (result ≡ 512) (λ walks. result ≡ length walks.middle.items + length walks.period.items - middle) }
-{
-    match best {
-        Some(best) => best.letters().saturating_sub(middle),
-        None => MOST_STEPS,
+    /// How many steps a period after a middle of so many may have, for the split to come before the best
+    /// one so far. Of two splits with as many letters the one with the longer middle comes later.
+    fn most_steps(best: &Option<Walks>, middle: usize) -> usize
+        ensures { MatchOption best.now (result ≡ 512) (λ walks. IsMostAfter walks middle result) }
+    {
+        let Some(best) = best else {
+            return MOST_STEPS;
+        };
+        let most = best.letters().saturating_sub(middle);
+        if best.middle.len() < middle {
+            most.saturating_sub(1)
+        } else {
+            most
+        }
     }
 }

@@ -29,8 +29,9 @@
 //! five windows of eight, so it isn't surjective. Rule 232, the majority of three cells, gives 1 on four, and six
 //! words of four letters have the image 0 0, where there are four nodes.
 //!
-//! For N = k^(m - 1) nodes [`erasable`] takes time **O(N^4·k)** in operations on rows, N^2 walks in a
-//! graph of 2·N^2 states, and memory for its words; [`reached`] takes time **O(N^2·k^2)** and memory for
+//! For N = k^(m - 1) nodes [`erasable`] takes time **O(N^3·k)** in operations on rows, N searches in a
+//! graph of 2·N^2 states of which the later ones end where no walk can come first any more, and O(N^2)
+//! memory; where the rule is surjective it searches nothing. [`reached`] takes time **O(N^2·k^2)** and memory for
 //! N^2 pairs; [`is_surjective`] takes time **O(N^3·k)** at most, and no
 //! memory. The tests of a table take time **O(N·k^2)** at most.
 #![tactic(auto)]

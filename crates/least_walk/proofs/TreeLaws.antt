@@ -1,11 +1,12 @@
 -- The tree of a search that has ended with all that is reached.
-use Rattle.std.proofs.Common.{append-nil, ◌≡◌, ◌≢◌, ℕ, ◌+◌, ◌*◌, ◌<◌, ◌≤◌, List, [], ◌++◌, length, map, reverse, Option, Some, None, slice_index, slice_set, sym, ap, ◌∙◌, subst, subst₂, arith, ⊎_elim}
+use Rattle.std.proofs.Common.{append-nil, ◌≡◌, ◌≢◌, ℕ, ◌+◌, ◌*◌, ◌<◌, ◌≤◌, List, [], ◌∷◌, ◌++◌, length, map, reverse, Option, Some, None, slice_index, slice_set, sym, ap, ◌∙◌, subst, subst₂, arith, ⊎_elim}
 use Rattle.std.specs.List.{slice_get}
-use Rattle.std.specs.Prelude.{IfSome, IfNone}
+use Rattle.std.specs.Prelude.{IfSome, IfNone, All, Contains, slice_index_or}
 use Rattle.std.proofs.lemmas.Bool.{cases_eq}
 use Rattle.std.proofs.lemmas.Grind.{get_or-set_at}
-use Rattle.std.proofs.lemmas.List.{get_or-set_other}
-use Rattle.std.proofs.lemmas.Option.{none-some}
+use Rattle.std.proofs.lemmas.List.{get_or-set_other, length-map}
+use Rattle.std.proofs.lemmas.List.Elements.{All-map}
+use Rattle.std.proofs.lemmas.Option.{none-some, slice_get-get_or, slice_get_within, get_or_from_slice_get}
 use Rattle.std.proofs.Math.Nat.{mul-le-mul_right}
 use Rattle.word_image.specs.LocalRules.{LocalRule, IsRule, node_count}
 use Rattle.word_image.specs.Graphs.{pair_count}
@@ -14,6 +15,8 @@ use Rattle.word_image.specs.Rings.{pairs_cmp}
 use Rattle.word_image.specs.Words.{word_cmp}
 use Rattle.word_image.proofs.laws.Places.{slice_get-unique}
 use Rattle.search_laws.specs.SearchQueues.{TreeSpells}
+use Rattle.search_laws.proofs.QueueStates.{mapped_at}
+use Rattle.search_laws.proofs.SpelledWords.{TreeSpells-some}
 use Rattle.search_laws.proofs.LeastFirst.{IsLeastTo-spelled, reached_all}
 use Rattle.search_laws.proofs.PairWalks.{PairWalk-leads, ArePairs-walk, pairs_cmp-codes, codes-uncode, code, Leads-walk}
 use Rattle.search_laws.specs.PairWalks.{PairWalk, IsLeastWalkTo, uncode}
@@ -22,7 +25,7 @@ use Rattle.least_walk.specs.declared.queue.Arrival.{Arrival}
 use Rattle.least_walk.specs.declared.queue.Ends.{Ends}
 use Rattle.least_walk.specs.Queues.{places_of, place_of, SpellsBefore, IsWalking, IsEnded, IsArrival}
 use Rattle.least_walk.specs.Trees.{AreApart, IsWalkTree}
-use Rattle.least_walk.proofs.Walking.{place_at, reached_at, length-walking-le, queued-below, all_followed}
+use Rattle.least_walk.proofs.Walking.{place_at, reached_at, length-walking-le, length-walked, no_walk-edge, queued-below, all_followed}
 
 -- marked pairs are below 512
 pub states-few : {r : LocalRule} → IsRule r → 2 * pair_count r ≤ 512
@@ -73,18 +76,68 @@ IsLeastWalkTo-spelled {r} {queue = queue} {i = i} {w} walking spells x at =
           first.least (map (code 16) v) (Leads-walk 16 le other) (sym order ∙ greater);
     }
 
--- and no walk leads to what stands at no place
-pub no_walk-absent : {r : LocalRule} {start t : ℕ} {queue : List Reached} {places : List ℕ} → IsWalkTree r start queue places → ((i : ℕ) (x : Reached) → slice_get queue i ≡ Some x → x.pair ≢ t)
-    → (w : List (ℕ × ℕ)) → ¬ PairWalk (marked r) r.states start w t
-no_walk-absent {t = t} {queue} tree absent w walk =
+-- and no walk of at most so many steps leads to what stands at no place
+pub no_walk-absent : {r : LocalRule} {start most t : ℕ} {queue : List Reached} {places : List ℕ} → IsWalkTree r start most queue places → ((i : ℕ) (x : Reached) → slice_get queue i ≡ Some x → x.pair ≢ t)
+    → (w : List (ℕ × ℕ)) → length w ≤ most → ¬ PairWalk (marked r) r.states start w t
+no_walk-absent {queue = queue} tree absent [] short walk =
+    let fills = tree.ended.walking.filled.fills in
+    let (x, root, alike) = reached_at queue 0 fills.first fills.root in
+    absent 0 x root (ap (λ z. z.state) alike ∙ fills.starts ∙ walk.steps)
+no_walk-absent {queue = queue} tree absent (ab ∷ w) short walk =
+    no_walk-edge tree.ended
+    (λ i a u y at letter less step same.
+    let (j, z, there, state, _) = tree.ended.walking.filled.fills.done i a u y at letter less step in
+    let (x, stands, alike) = reached_at queue j z there in
+    absent j x stands (ap (λ p. p.state) alike ∙ state ∙ same))
+    (ab ∷ w) (omega arith) short walk
+
+-- with a bound of 512 what a walk leads to stands among them
+pub Contains-walk : {r : LocalRule} {start most t : ℕ} {queue : List Reached} {places : List ℕ} {w : List (ℕ × ℕ)} → IsWalkTree r start most queue places → 512 ≤ most → PairWalk (marked r) r.states start w t
+    → Contains (map (λ x. x.pair) queue) t
+Contains-walk {t = t} {queue = queue} {w = w} tree large walk =
     let walking = tree.ended.walking in
-    let reached = reached_all walking.filled (all_followed (omega arith) tree.ended) (map (code 16) w) t (Leads-walk 16 walking.rule.shape.most_states walk) in
+    let reached = reached_all walking.filled (all_followed large tree.ended) (map (code 16) w) t (Leads-walk 16 walking.rule.shape.most_states walk) in
+    let (x, at, alike) = reached_at queue reached.at reached.place reached.stands in (
+      reached.at,
+      omega (arith, slice_get_within queue reached.at x at, length-map queue (λ (y : Reached). y.pair)),
+      get_or_from_slice_get (map (λ (y : Reached). y.pair) queue) reached.at x.pair t (mapped_at (λ (y : Reached). y.pair) queue reached.at x at) ∙ ap (λ z. z.state) alike ∙ reached.of_state,
+    )
+
+-- each of them is a marked pair
+pub All-pairs : {r : LocalRule} {start most : ℕ} {queue : List Reached} {places : List ℕ} → IsWalkTree r start most queue places → All (λ t. t < 2 * pair_count r) (map (λ x. x.pair) queue)
+All-pairs {r} {queue = queue} tree =
+    All-map (λ t. t < 2 * pair_count r) (λ (x : Reached). x.pair) queue
+    (λ i d l. queued-below tree.ended.walking i (slice_index_or queue i d) (slice_get-get_or queue i d l))
+
+-- with a bound of 512 no walk at all
+pub no_walk-absent_all : {r : LocalRule} {start most t : ℕ} {queue : List Reached} {places : List ℕ} → IsWalkTree r start most queue places → ((i : ℕ) (x : Reached) → slice_get queue i ≡ Some x → x.pair ≢ t)
+    → 512 ≤ most → (w : List (ℕ × ℕ)) → ¬ PairWalk (marked r) r.states start w t
+no_walk-absent_all {t = t} {queue} tree absent large w walk =
+    let walking = tree.ended.walking in
+    let reached = reached_all walking.filled (all_followed large tree.ended) (map (code 16) w) t (Leads-walk 16 walking.rule.shape.most_states walk) in
     let (x, at, alike) = reached_at queue reached.at reached.place reached.stands in
     absent reached.at x at (ap (λ z. z.state) alike ∙ reached.of_state)
 
 -- so are those that are written before nothing
-pub IsLeastWalkTo-steps : {r : LocalRule} {start : ℕ} {queue : List Reached} {places : List ℕ} {i : ℕ} {old steps : List ℕ} → IsWalkTree r start queue places
+pub IsLeastWalkTo-steps : {r : LocalRule} {start most : ℕ} {queue : List Reached} {places : List ℕ} {i : ℕ} {old steps : List ℕ} → IsWalkTree r start most queue places
     → (x : Reached) (t : ℕ) → slice_get queue i ≡ Some x → x.pair ≡ t → old ≡ [] → SpellsBefore queue i old steps → IsLeastWalkTo (marked r) r.states start t (map (uncode 16) steps)
 IsLeastWalkTo-steps {r} {start} {steps = steps} tree x t at same none (w, spells, whole) =
     let alone : steps ≡ w = whole ∙ ap (λ o. w ++ reverse o) none ∙ append-nil w in
     subst₂ (λ u s. IsLeastWalkTo (marked r) r.states start u (map (uncode 16) s)) same (sym alone) (IsLeastWalkTo-spelled tree.ended.walking spells x at)
+
+-- which has at most so many steps
+pub length-steps : {r : LocalRule} {start most : ℕ} {queue : List Reached} {places : List ℕ} {i : ℕ} {old steps : List ℕ} → IsWalkTree r start most queue places
+    → (x : Reached) → slice_get queue i ≡ Some x → old ≡ [] → SpellsBefore queue i old steps → length steps ≤ most
+length-steps {i = i} {steps = steps} tree x at none (w, spells, whole) =
+    let alone : steps ≡ w = whole ∙ ap (λ o. w ++ reverse o) none ∙ append-nil w in
+    omega (arith, ap length alone, length-walked tree.ended.walking spells x at, tree.ended.near i x at)
+
+-- the least walk to what stands at a place has as many steps as lead there, and no more than the bound
+pub steps-place : {r : LocalRule} {start most : ℕ} {queue : List Reached} {places : List ℕ} (i : ℕ) → IsWalkTree r start most queue places → (x : Reached) → slice_get queue i ≡ Some x
+    → ((w : List (ℕ × ℕ)) × IsLeastWalkTo (marked r) r.states start x.pair w × (length w ≡ x.depth)) × (x.depth ≤ most)
+steps-place {queue = queue} i tree x at =
+    let walking = tree.ended.walking in
+    let (w, spells) = TreeSpells-some walking.filled.fills i (place_of x) (place_at queue i x at) in (
+      (map (uncode 16) w, IsLeastWalkTo-spelled walking spells x at, length-map w (uncode 16) ∙ length-walked walking spells x at),
+      tree.ended.near i x at,
+    )

@@ -295,6 +295,24 @@ deeper {queue = queue} w i j x y le at there =
       depth_at-place queue j y there,
     )
 
+-- where the edges from the places before the head alone have been followed, and these places are less than so many steps away, none is further away than that
+pub near-all : {r : LocalRule} {ends : Ends} {queue : List Reached} {most : ℕ} → (h : ℕ) → IsWalking r ends queue (h * step_count r)
+    → ((i : ℕ) (x : Reached) → i < h → slice_get queue i ≡ Some x → x.depth < most) → (i : ℕ) (x : Reached) → slice_get queue i ≡ Some x → x.depth ≤ most
+near-all h w near zero x at = omega (arith, w.depths.root x at)
+near-all {r} {ends} {queue} {most} h w near (suc i) x at =
+    let (p, stands, further) = w.depths.more (suc i) x (omega arith) at in
+    let early = w.filled.fills.so_far (suc i) (place_of x) (place_at queue (suc i) x at) in
+    let before : x.parent < h = ⊎_elim
+    (λ less. less)
+    (λ past. let rows : h * step_count r ≤ x.parent * step_count r = mul-le-mul_right (step_count r) past in absurd (omega (arith, early, rows)))
+    (cases_lt x.parent h) in
+    omega (arith, near x.parent p before stands, further)
+
+-- the word that is spelled to a place has as many letters as steps lead there
+pub length-walked : {r : LocalRule} {ends : Ends} {queue : List Reached} {e i : ℕ} {w : List ℕ} → IsWalking r ends queue e → TreeSpells (places_of queue) i w
+    → (x : Reached) → slice_get queue i ≡ Some x → length w ≡ x.depth
+length-walked {queue = queue} {i = i} {w = w} walking spells x at = length-spelled (AreDepths-queue walking) i w spells ∙ depth_at-place queue i x at
+
 -- the steps to the place where a search arrives, and the last one, are the least walk
 pub IsLeastWalk-arrival : {r : LocalRule} {ends : Ends} {queue : List Reached} {place step goal : ℕ} {steps : List ℕ} → IsArrival r ends queue place step → ends.goal ≡ Some goal
     → SpellsBefore queue place (step ∷ []) steps → IsLeastWalk (marked r) r.states ends.start goal (map (uncode 16) steps)
@@ -317,18 +335,23 @@ length-arrival {queue = queue} {place} {step} a near (w, spells, whole) =
       ap length whole,
     )
 
--- a search that stops before places that are so many steps away has not missed a walk of so many steps
-pub no_walk-ended : {r : LocalRule} {ends : Ends} {queue : List Reached} {most goal : ℕ} → IsEnded r ends queue most → ends.goal ≡ Some goal
+-- a search that stops before places that are so many steps away, in which no edge leads to a marked pair, has not missed a walk of so many steps to it
+pub no_walk-edge : {r : LocalRule} {ends : Ends} {queue : List Reached} {most goal : ℕ} → (x : IsEnded r ends queue most) → NoEdgeBefore (MarkedStep r) (step_count r) (places_of queue) x.edges goal
     → (w : List (ℕ × ℕ)) → 0 < length w → length w ≤ most → ¬ PairWalk (marked r) r.states ends.start w goal
-no_walk-ended {r} {ends} {queue} {most} {goal} x sought w some short walk =
+no_walk-edge {r} {ends} {queue} {most} {goal} x none w some short walk =
     let depths = AreDepths-queue x.walking in
     no_word_within {most = most} x.walking.filled depths
     (record {
       followed = x.followed;
       deep = λ i z past at. let (y, there, alike) = reached_at queue i z at in omega (arith, x.deep i y past there, depth_at-place queue i y there);
     })
-    (x.walking.none goal sought) (map (code 16) w) (omega (arith, length-map w (code 16))) (omega (arith, length-map w (code 16)))
+    none (map (code 16) w) (omega (arith, length-map w (code 16))) (omega (arith, length-map w (code 16)))
     (Leads-walk 16 x.walking.rule.shape.most_states walk)
+
+-- none leads to its goal
+pub no_walk-ended : {r : LocalRule} {ends : Ends} {queue : List Reached} {most goal : ℕ} → IsEnded r ends queue most → ends.goal ≡ Some goal
+    → (w : List (ℕ × ℕ)) → 0 < length w → length w ≤ most → ¬ PairWalk (marked r) r.states ends.start w goal
+no_walk-ended {goal = goal} x sought = no_walk-edge x (x.walking.none goal sought)
 
 -- with a bound of 512 it has followed all edges
 pub all_followed : {r : LocalRule} {ends : Ends} {queue : List Reached} {most : ℕ} → 512 ≤ most → (x : IsEnded r ends queue most) → length (places_of queue) * step_count r ≤ x.edges

@@ -43,12 +43,13 @@ pub record IsWalkSearch (r : LocalRule) (ends : Ends) (queue : List Reached) (ro
   pub listed : (t : ℕ) → t < 2 * pair_count r → HasPair r rows t → (ends.goal ≢ Some t) × ((i : ℕ) × (x : Reached) × (slice_get queue i ≡ Some x) × (x.pair ≡ t))
   pub all : (i : ℕ) (x : Reached) → slice_get queue i ≡ Some x → ends.goal ≢ Some x.pair → HasPair r rows x.pair
 
--- the edges from the places before the head have been followed, and so many steps or more lead to the others
+-- the edges from the places before the head have been followed, so many steps or more lead to the others, and no more than that to any
 pub record IsEnded (r : LocalRule) (ends : Ends) (queue : List Reached) (most : ℕ) : Type 0 where
   pub edges : ℕ
   pub head : ℕ
   pub followed : head * step_count r ≤ edges
   pub deep : (i : ℕ) (x : Reached) → head ≤ i → slice_get queue i ≡ Some x → most ≤ x.depth
+  pub near : (i : ℕ) (x : Reached) → slice_get queue i ≡ Some x → x.depth ≤ most
   pub walking : IsWalking r ends queue edges
 
 -- the first edge that leads to the goal is the step from this place

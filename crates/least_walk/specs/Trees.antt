@@ -4,10 +4,11 @@ use Rattle.word_image.specs.LocalRules.{LocalRule}
 use Rattle.least_walk.specs.declared.queue.Reached.{Reached}
 use Rattle.least_walk.specs.Queues.{IsEnded}
 
--- a rule, and the marked pair where walks start
+-- a rule, the marked pair where walks start, and how many steps they may have
 pub record WalkSource : Type 0 where
   pub rule : LocalRule
   pub start : ℕ
+  pub most : ℕ
 
 -- at most 512 numbers below 512 stand in the queue, each once
 pub record AreApart (queue : List Reached) : Type 0 where
@@ -19,7 +20,7 @@ pub record AreApart (queue : List Reached) : Type 0 where
 abbrev pub IsPairIndex : List Reached → List ℕ → Type 0
 IsPairIndex queue places = (i : ℕ) (x : Reached) → slice_get queue i ≡ Some x → slice_index places x.pair ≡ i
 
--- a search from the start has ended with all that is reached, and these are the places
-pub record IsWalkTree (r : LocalRule) (start : ℕ) (queue : List Reached) (places : List ℕ) : Type 0 where
-  pub ended : IsEnded r (record { start = start; goal = None }) queue 512
+-- a search from the start has ended with all that is reached by at most so many steps, and these are the places
+pub record IsWalkTree (r : LocalRule) (start most : ℕ) (queue : List Reached) (places : List ℕ) : Type 0 where
+  pub ended : IsEnded r (record { start = start; goal = None }) queue most
   pub index : IsPairIndex queue places

@@ -1,6 +1,6 @@
 //! The least walks from one marked pair to all others.
 
-ghost use Rattle.std.specs.Prelude.{◌≡◌, ℕ, ◌*◌, ◌<◌, ◌≤◌, List, length, map, Some, slice_get, IfOk, IfSome, IfNone, MatchOption};
+ghost use Rattle.std.specs.Prelude.{All, Contains, ◌≡◌, ℕ, ◌*◌, ◌<◌, ◌≤◌, List, length, map, Some, slice_get, IfOk, IfSome, IfNone, MatchOption};
 ghost use Rattle.word_image.specs.Graphs.{pair_count};
 ghost use Rattle.word_image.specs.MarkedPairs.{marked};
 ghost use Rattle.search_laws.specs.PairWalks.{PairWalk, IsLeastWalkTo, uncode};
@@ -14,14 +14,16 @@ use std::alloc::{AllocError, Global};
 use std::marker::Model;
 use word_image::Rule;
 
-/// The least walks from one marked pair to all to which walks lead, as the tree that one search makes.
-/// It is seen as the rule and the marked pair where they start.
+/// The least walks from one marked pair to all to which walks of at most so many steps lead, as the tree
+/// that one search makes. It is seen as the rule, the marked pair where they start, and that bound.
 #[derive(Debug, Drop)]
 pub struct WalkTree {
     // The rule.
     rule: Rule,
     // Where the walks start.
     start: u16,
+    // How many steps they may have.
+    most: usize,
     // The marked pairs to which they lead, in the order of the walks.
     queue: Vec<Reached>,
     // The place of each of these; for the others any number.
@@ -33,35 +35,74 @@ impl Model for WalkTree {
 
     ghost Value = { WalkSource };
 
-    ghost view = { λ t. record { rule = t.rule; start = t.start } };
+    ghost view = { λ t. record { rule = t.rule; start = t.start; most = t.most } };
 
-    ghost invariant = { λ t. IsWalkTree t.rule t.start t.queue.items t.places };
+    ghost invariant = { λ t. IsWalkTree t.rule t.start t.most t.queue.items t.places };
 }
 
 impl WalkTree {
     /// The least walks from this marked pair.
     pub fn of(alloc: Global, pairs: &Pairs, start: u16) -> Result<WalkTree, AllocError>
         requires { start < 2 * pair_count pairs.now }
-        ensures { IfOk result (λ tree. tree ≡ record { rule = pairs.now; start = start }) }
+        ensures { IfOk result (λ tree. tree ≡ record { rule = pairs.now; start = start; most = 512 }) }
+    {
+        WalkTree::within(alloc, pairs, start, MOST_STEPS)
+    }
+
+    /// The least walks from this marked pair, of at most so many steps.
+    pub fn within(
+        alloc: Global,
+        pairs: &Pairs,
+        start: u16,
+        most: usize,
+    ) -> Result<WalkTree, AllocError>
+        requires { start < 2 * pair_count pairs.now }
+        ensures { IfOk result (λ tree. tree ≡ record { rule = pairs.now; start = start; most = most }) }
     {
         let mut queue = Vec::with_capacity(alloc, MOST_MARKED_PAIRS)?;
         let ends = Ends { start, goal: None };
-        search(&mut queue, pairs, ends, MOST_MARKED_PAIRS);
+        search(&mut queue, pairs, ends, most);
         let places = index(&queue);
         Ok(WalkTree {
             rule: *pairs.rule(),
             start,
+            most,
             queue,
             places,
         })
     }
 
+    /// The marked pairs to which these walks lead, those of shorter walks first.
+    pub fn pairs(&self, alloc: Global) -> Result<Vec<u16>, AllocError>
+        ensures below { IfOk result (λ pairs. All (λ t. t < 2 * pair_count self.now.rule) pairs.items) }
+        ensures all { IfOk result (λ pairs. 512 ≤ self.now.most → (w : List (ℕ × ℕ)) (t : ℕ) → PairWalk (marked self.now.rule) self.now.rule.states self.now.start w t → Contains pairs.items t) }
+    {
+        pairs_of(alloc, &self.queue)
+    }
+
+    /// How many steps the walk to a marked pair has that `walk_to` gives; `None` exactly where that gives none.
+    pub fn steps_to(&self, to: u16) -> Option<usize>
+        requires { to < 2 * pair_count self.now.rule }
+        ensures steps { IfSome result (λ n. (w : List (ℕ × ℕ)) × IsLeastWalkTo (marked self.now.rule) self.now.rule.states self.now.start to w × (length w ≡ n)) }
+        ensures within { IfSome result (λ n. n ≤ self.now.most) }
+        ensures none { IfNone result ((w : List (ℕ × ℕ)) → length w ≤ self.now.most → ¬ PairWalk (marked self.now.rule) self.now.rule.states self.now.start w to) }
+        ensures all { IfNone result (512 ≤ self.now.most → (w : List (ℕ × ℕ)) → ¬ PairWalk (marked self.now.rule) self.now.rule.states self.now.start w to) }
+    {
+        match place_of(&self.queue, &self.places, to) {
+            Some(place) => Some(usize::from(self.queue[usize::from(place)].depth)),
+            None => None,
+        }
+    }
+
     /// Among the walks to a marked pair the shortest, and among these the first in the dictionary order
-    /// of their letter pairs: to the start that of no step. `None` exactly where no walk exists.
+    /// of their letter pairs: to the start that of no step. `None` exactly where each walk has more steps
+    /// than these may have. A bound of [`MOST_STEPS`] or more excludes no walk.
     pub fn walk_to(&self, alloc: Global, to: u16) -> Result<Option<Vec<u8>>, AllocError>
         requires { to < 2 * pair_count self.now.rule }
-        ensures walk { IfOk result (λ found. MatchOption found ((w : List (ℕ × ℕ)) → ¬ PairWalk (marked self.now.rule) self.now.rule.states self.now.start w to) (λ steps. IsLeastWalkTo (marked self.now.rule) self.now.rule.states self.now.start to (map (uncode 16) steps.items))) }
+        ensures walk { IfOk result (λ found. MatchOption found ((w : List (ℕ × ℕ)) → length w ≤ self.now.most → ¬ PairWalk (marked self.now.rule) self.now.rule.states self.now.start w to) (λ steps. IsLeastWalkTo (marked self.now.rule) self.now.rule.states self.now.start to (map (uncode 16) steps.items))) }
+        ensures within { IfOk result (λ found. IfSome found (λ steps. length steps.items ≤ self.now.most)) }
         ensures most { IfOk result (λ found. IfSome found (λ steps. length steps.items ≤ 512)) }
+        ensures all { IfOk result (λ found. IfNone found (512 ≤ self.now.most → (w : List (ℕ × ℕ)) → ¬ PairWalk (marked self.now.rule) self.now.rule.states self.now.start w to)) }
     {
         let Some(place) = place_of(&self.queue, &self.places, to) else {
             return Ok(None);
@@ -70,6 +111,13 @@ impl WalkTree {
         spell(&self.queue, place, &mut steps);
         Ok(Some(steps))
     }
+}
+
+/// The marked pairs in the queue.
+fn pairs_of(alloc: Global, queue: &[Reached]) -> Result<Vec<u16>, AllocError>
+    ensures { IfOk result (λ pairs. pairs.items ≡ map (λ reached. reached.pair) queue.now) }
+{
+    queue.iter().map(|reached| reached.pair).collect(alloc)
 }
 
 /// For each marked pair in the queue its place.

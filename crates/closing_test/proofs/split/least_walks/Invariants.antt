@@ -1,5 +1,5 @@
-use Rattle.closing_test.specs.Walks.{IsLeastSoFar}
+use Rattle.closing_test.proofs.SeenSplits.{IsLeastSeen}
 use Rattle.closing_test.proofs.split.least_walks.Given as goal
 
-abbrev pub invariant-loop-state : goal.invariant-loop-state
-invariant-loop-state l = IsLeastSoFar l.pairs l.state l.best
+abbrev pub invariant-loop-i : goal.invariant-loop-i
+invariant-loop-i l = IsLeastSeen l.pairs l.states.items l.i l.best

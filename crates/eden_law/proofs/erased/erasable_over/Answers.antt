@@ -1,6 +1,7 @@
-use Rattle.std.proofs.Common.{◌≡◌, map, true, false, refl}
+use Rattle.std.proofs.Common.{◌≡◌, map, true, false, refl, subst}
 use Rattle.word_image.specs.LocalRules.{LocalRule, IsRule}
 use Rattle.word_image.specs.Graphs.{pair_count}
+use Rattle.word_image.specs.Words.{IsSurjective}
 use Rattle.word_image.specs.Erasure.{IsLeastErasable}
 use Rattle.search_laws.specs.PairWalks.{uncode}
 use Rattle.eden_laws.proofs.GardenOfEden.{IsSurjective-none_erasable, none_erasable-surjective}
@@ -34,3 +35,7 @@ returns-in-None-clause-least c =
 
 pub returns-in-None-clause-surjective : goal.returns-in-None-clause-surjective
 returns-in-None-clause-surjective c = ((λ none. IsSurjective-none_erasable (c.in_ok-steps.ensures.rule) (returns-in-None-clause-least c)), (λ every. refl))
+
+pub returns-then-is_surjective-clause-least : goal.returns-then-is_surjective-clause-least
+returns-then-is_surjective-clause-least c =
+    none_erasable-surjective c.count-count.ensures.rule (subst IsSurjective c.graph.ensures (c.is_surjective.ensures.surjective.0 c.if-is_surjective.true))

@@ -1,4 +1,4 @@
-use Rattle.std.proofs.Common.{◌≡◌, ◌≢◌, ℕ, ◌*◌, ◌<◌, ◌↔◌, inl, List, [], ◌∷◌, ◌++◌, replicate, get_or, Some, refl, sym, ap, ◌∙◌, subst, arith, ⊎_elim}
+use Rattle.std.proofs.Common.{◌≡◌, ◌≢◌, ℕ, ◌+◌, ◌*◌, ◌<◌, ◌↔◌, inl, List, [], ◌∷◌, ◌++◌, replicate, get_or, Some, refl, sym, ap, ◌∙◌, subst, arith, ⊎_elim}
 use Rattle.std.specs.List.{slice_get}
 use Rattle.std.proofs.lemmas.Option.{slice_get_within, slice_get-get_or, get_or_from_slice_get}
 use Rattle.word_image.specs.Graphs.{pair_count, second_of}
@@ -6,7 +6,7 @@ use Rattle.pair_laws.proofs.Rows.{HasBit-none}
 use Rattle.least_walk.specs.Marks.{HasPair, IsAdded, row_of, pair_part}
 use Rattle.least_walk.specs.declared.queue.Reached.{Reached}
 use Rattle.least_walk.specs.Queues.{IsWalkSearch, step_count}
-use Rattle.least_walk.proofs.Walking.{IsWalkSearch-start, length-walking-le, deeper, goal-tells}
+use Rattle.least_walk.proofs.Walking.{IsWalkSearch-start, length-walking-le, deeper, goal-tells, near-all}
 use Rattle.least_walk.proofs.queue.search.Goals as goal
 use Rattle.least_walk.proofs.queue.search.Goals.{then-eq, else-eq}
 
@@ -32,11 +32,25 @@ loop-head-init c =
               (λ both. (added t inside).1 (inl both.0)),
             )))
       ];
+      near = λ i y less at. absurd (omega (arith, less));
     }
 
 -- what stands at the head
 at_head : (queue : List Reached) (head : ℕ) (x y : Reached) → y ≡ get_or queue head y → slice_get queue head ≡ Some x → y ≡ x
 at_head queue head x y is at = is ∙ get_or_from_slice_get queue head x y at
+
+pub loop-head-preserved : goal.loop-head-preserved
+loop-head-preserved c =
+    let h : ℕ = c.loop-head.head in
+    let x : Reached = c.index.result.now in
+    let search : IsWalkSearch c.args.pairs.now c.args.ends c.follow.new.queue.items c.follow.new.rows ((h + 1) * step_count c.args.pairs.now) = c.in_default.ensures.none in
+    let here : slice_get c.loop-head.queue.items h ≡ Some x = slice_get-get_or c.loop-head.queue.items h x (omega (arith, c.loop-head.queue.ok)) ∙ ap Some (sym c.index.ensures) in
+    let stands : slice_get c.follow.new.queue.items h ≡ Some x = c.in_default.ensures.same ∙ here in
+    record {
+      room = c.in_default.ensures.room;
+      search = search;
+      near = λ i y less at. omega (arith, deeper search.walking i h y x (omega (arith, less)) at stands, c.from.ensures, c.if-from-most.false);
+    }
 
 pub returns-then-from-most-clause-none : goal.returns-then-from-most-clause-none
 returns-then-from-most-clause-none c =
@@ -49,6 +63,7 @@ returns-then-from-most-clause-none c =
           let y = c.index.result.now in
           let here = slice_get-get_or c.loop-head.queue.items c.loop-head.head y (omega (arith, c.loop-head.queue.ok)) ∙ ap Some (sym c.index.ensures) in
           omega (arith, deeper search.walking c.loop-head.head i y x past here at, c.from.ensures);
+      near = near-all c.loop-head.head search.walking c.loop-head.invariant.near;
       walking = search.walking;
     }
 
@@ -64,6 +79,7 @@ returns-clause-none c =
       head = c.loop-head.head;
       followed = omega arith;
       deep = λ i x past at. absurd (omega (arith, slice_get_within c.loop-head.queue.items i x at, c.loop-head.queue.ok));
+      near = near-all c.loop-head.head c.loop-head.invariant.search.walking c.loop-head.invariant.near;
       walking = c.loop-head.invariant.search.walking;
     }
 

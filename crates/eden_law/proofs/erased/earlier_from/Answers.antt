@@ -1,0 +1,69 @@
+use Rattle.std.proofs.Common.{◌≡◌, ℕ, ◌+◌, ◌-◌, ◌*◌, ◌<◌, ◌≤◌, List, ◌++◌, length, map, sym, ap, ap₂, ◌∙◌, subst, subst₂, arith}
+use Rattle.std.specs.Prelude.{MatchOption}
+use Rattle.std.proofs.lemmas.Nat.{div_below}
+use Rattle.word_image.specs.LocalRules.{LocalRule, IsRule, word_of, node_count}
+use Rattle.word_image.specs.Graphs.{first_of, second_of, pair_of, pair_count}
+use Rattle.word_image.specs.MarkedPairs.{marked}
+use Rattle.search_laws.specs.PairWalks.{PairWalk, IsLeastWalkTo, uncode}
+use Rattle.pair_laws.proofs.Pairs.{first_of-pair_of, second_of-pair_of, pair_of-below}
+use Rattle.least_walk.specs.Trees.{WalkSource}
+use Rattle.eden_law.specs.Erasures.{IsErasure}
+use Rattle.tail_laws.specs.FirstLists.{IsLeastOf, IsFirstFound}
+use Rattle.tail_laws.proofs.FirstLists.{IsFirstFound-next}
+use Rattle.eden_law.proofs.LeastErasures.{start_of, goal_of, erasure_letters, IsLeastOf-walk, IsFirstFound-within}
+use Rattle.eden_law.proofs.FoundErasures.{ArePairs-erasure, uncode-node}
+use Rattle.eden_law.proofs.erased.earlier_from.Goals as goal
+use Rattle.eden_law.proofs.erased.earlier_from.Goals.{in-Some+in_ok-steps, in_default}
+
+pub loop-to-init : goal.loop-to-init
+loop-to-init c =
+    subst (λ n. IsFirstFound (IsErasure c.args.pairs.now) n c.args.before) (omega arith) c.requires.before
+
+pub loop-to-preserved : goal.loop-to-preserved
+loop-to-preserved c =
+    let r : LocalRule = c.args.pairs.now in
+    let rule : IsRule r = c.count-count.ensures.rule in
+    let same = c.rule-rule.ensures in
+    let u : ℕ = c.args.node in
+    let v : ℕ = c.loop-to.to in
+    let p : ℕ = u * node_count r + v in
+    let nodes = c.nodes-to-end.ensures.nodes ∙ ap node_count same in
+    let hv : v < node_count r = omega (arith, c.loop-to-test.true, nodes, c.loop-to.auto.to-end) in
+    let below : p < pair_count r = pair_of-below r u v c.requires.node hv in
+    let first : first_of r p ≡ u = first_of-pair_of r u v hv in
+    let second : second_of r p ≡ v = second_of-pair_of r u v hv in
+    let start : c.pair_of.result ≡ start_of r p = c.pair_of.ensures.pair ∙ ap₂ (λ (s : LocalRule) n. pair_of s n n) same (sym first) in
+    let end : c.pair_of-in-loop-to.result + c.count-count.result ≡ goal_of r p =
+    ap₂ (λ q n. q + n) (c.pair_of-in-loop-to.ensures.pair ∙ ap₂ (λ (s : LocalRule) n. pair_of s n n) same (sym second)) c.count-count.ensures.count in
+    let tree = c.in_ok-walks.ensures in
+    subst (λ n. IsFirstFound (IsErasure r) n c.match-branch-3.first) (omega arith)
+    (elim c.match-branch-3.branch [
+      | in-Some+in_ok-steps w ↦
+          let walk : List ℕ = w.in-Some.walk.items in
+          let least : IsLeastWalkTo (marked r) r.states (start_of r p) (goal_of r p) (map (uncode 16) walk) =
+          subst₂ (λ s t. IsLeastWalkTo (marked r) r.states s t (map (uncode 16) walk)) start end
+          (subst (λ (s : WalkSource). IsLeastWalkTo (marked s.rule) s.rule.states s.start (c.pair_of-in-loop-to.result + c.count-count.result) (map (uncode 16) walk)) tree (rw w.in-Some.is at c.in_ok-walk.ensures.walk)) in
+          let bytes : map (uncode 16) w.in_ok-steps.steps.items ≡ erasure_letters r p (map (uncode 16) walk) =
+          ap (map (uncode 16)) (w.in_ok-steps.ensures ∙ ap (λ l. map (λ a. 16 * a + a) (word_of c.rule-rule.result.now.states (c.rule-rule.result.now.width - 1) u) ++ l) w.deref.ensures.value ∙ ap₂ (λ (s : LocalRule) n. map (λ a. 16 * a + a) (word_of s.states (s.width - 1) n) ++ walk) same (sym first)) ∙ uncode-node rule below walk in
+          subst (IsFirstFound (IsErasure r) (p + 1)) (sym w.first-is)
+          (IsFirstFound-next (λ q abs l e. ArePairs-erasure rule (omega (arith, l, below)) e) c.loop-to.first w.in_ok-steps.steps.items w.earlier.result.items w.earlier.ensures c.loop-to.invariant
+          (subst (IsLeastOf (IsErasure r) p) (sym bytes) (IsLeastOf-walk least)))
+      | in_default w ↦
+          let goal : ℕ = c.pair_of-in-loop-to.result + c.count-count.result in
+          subst (IsFirstFound (IsErasure r) (p + 1)) (sym w.first-is)
+          (IsFirstFound-within c.args.before c.loop-to.first rule below (omega arith)
+          (λ q less. subst (λ n. first_of r q < n) (sym first) (div_below q (node_count r) u (omega (arith, hv)) less))
+          (subst (λ (s : LocalRule). MatchOption c.args.before (c.most_steps-most.result ≡ 512) (λ steps. c.most_steps-most.result ≡ length steps.items - s.width)) same c.most_steps-most.ensures)
+          c.requires.before c.loop-to.invariant
+          (subst₂ (λ s t. (v : List (ℕ × ℕ)) → length v ≤ c.most_steps-most.result → ¬ PairWalk (marked r) r.states s v t) start end
+          (subst (λ (s : WalkSource). (v : List (ℕ × ℕ)) → length v ≤ s.most → ¬ PairWalk (marked s.rule) s.rule.states s.start v goal) tree (rw w.in_default.is at c.in_ok-walk.ensures.walk)))
+          (subst₂ (λ s t. 512 ≤ c.most_steps-most.result → (v : List (ℕ × ℕ)) → ¬ PairWalk (marked r) r.states s v t) start end
+          (subst (λ (s : WalkSource). 512 ≤ s.most → (v : List (ℕ × ℕ)) → ¬ PairWalk (marked s.rule) s.rule.states s.start v goal) tree (rw w.in_default.is at c.in_ok-walk.ensures.all))))
+    ])
+
+pub returns : goal.returns
+returns c =
+    let r : LocalRule = c.args.pairs.now in
+    let nodes = c.nodes-to-end.ensures.nodes ∙ ap node_count c.rule-rule.ensures in
+    let all : c.loop-to.to ≡ node_count r = omega (arith, c.loop-to-test.false, nodes, c.loop-to.auto.to-end) in
+    subst (λ n. IsFirstFound (IsErasure r) n c.loop-to.first) (ap (λ n. c.args.node * node_count r + n) all ∙ omega arith) c.loop-to.invariant
