@@ -1,10 +1,10 @@
 //! Which sums a rule keeps.
-ghost use Rattle.std.specs.Prelude.{◌≡◌, ◌≢◌, ℕ, ◌+◌, ◌-◌, ◌*◌, ◌^◌, ◌<◌, ◌≤◌, List, length, take, set, true, pos};
+ghost use Rattle.std.specs.Prelude.{◌≡◌, ◌≢◌, ℕ, ◌+◌, ◌-◌, ◌*◌, ◌^◌, ◌<◌, ◌≤◌, ◌⊎◌, List, length, take, set, All, true, pos};
 ghost use Rattle.word_image.specs.LocalRules.{IsRule};
 ghost use Rattle.word_image.specs.Rings.{IsRing};
 ghost use Rattle.kept_sums.specs.Rows.{IsUnit};
 ghost use Rattle.kept_sums.specs.Sums.{IsKept};
-ghost use Rattle.kept_sums.specs.Spans.{entry, AreSmall};
+ghost use Rattle.kept_sums.specs.Spans.{entry, AreSmall, IsNarrowed, IsLastGain, FitNarrowed};
 ghost use Rattle.kept_sums.specs.Stages.{IsStage, IsAfterRing, IsAfterRings, AreKeptSums};
 
 use crate::fluxes::is_kept;
@@ -80,6 +80,31 @@ fn narrowed_by_ring(
     let Some(pivot) = last_gain(&sums.rows, after, before) else {
         return *sums;
     };
+    narrowed_at(sums, pivot, after, before, letters, count)
+}
+
+/// The sums with the rows that are crossed with the last one that gains, and a ring noted in its place.
+fn narrowed_at(
+    sums: &KeptSums,
+    pivot: u8,
+    after: &[u8],
+    before: &[u8],
+    letters: &[u8; LONGEST],
+    count: u8,
+) -> KeptSums
+    requires small { AreSmall sums.now.rows }
+    requires after { All (λ a. a < 16) after.now }
+    requires before { All (λ a. a < 16) before.now }
+    requires few_after { length after.now ≤ 16 }
+    requires few_before { length before.now ≤ 16 }
+    requires last { IsLastGain sums.now.rows after.now before.now pivot }
+    requires fits { FitNarrowed sums.now.rows after.now before.now pivot }
+    requires turned { FitNarrowed sums.now.rows before.now after.now pivot }
+    ensures narrowed { IsNarrowed sums.now.rows after.now before.now pivot result.rows ⊎ IsNarrowed sums.now.rows before.now after.now pivot result.rows }
+    ensures small { AreSmall result.rows }
+    ensures counts { result.counts ≡ set sums.now.counts pivot count }
+    ensures rings { result.rings ≡ set sums.now.rings pivot letters.now }
+{
     let rows = narrowed_by(&sums.rows, pivot, after, before);
     noted(sums, rows, pivot, letters, count)
 }
