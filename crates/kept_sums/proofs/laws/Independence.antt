@@ -1,6 +1,6 @@
 -- The rows of an answer are independent apart from trivial weights, and so are the conditions of its rings.
-use Rattle.std.proofs.Common.{◌≡◌, ◌≢◌, ℕ, zero, suc, ◌+◌, ◌-◌, ◌*◌, ◌^◌, ◌<◌, ◌≤◌, List, [], ◌∷◌, length, map, take, set, slice_index, slice_index_or, get_or-set_other, get_or-set_same, ℤ, pos, negsuc, ◌*ℤ◌, neg_ℤ, refl, sym, ap, subst, ◌∙◌, ⊎_elim, ◌⊎◌, inl, inr, arith}
-use Rattle.std.specs.Prelude.{◌<ℤ◌, ◌==◌, if◌then◌else◌}
+use Rattle.std.proofs.Common.{◌≡◌, ◌≢◌, ℕ, zero, suc, ◌+◌, ◌-◌, ◌^◌, ◌<◌, ◌≤◌, List, [], ◌∷◌, length, map, take, set, slice_index, slice_index_or, get_or-set_other, get_or-set_same, ℤ, pos, negsuc, ◌*ℤ◌, refl, sym, ap, subst, ◌∙◌, ⊎_elim, ◌⊎◌, inl, inr, arith}
+use Rattle.std.specs.Prelude.{◌==◌, if◌then◌else◌}
 use Rattle.std.specs.Int.RustNames.{unsigned_abs}
 use Rattle.std.proofs.Math.Nat.{pow-le-pow_right}
 use Rattle.std.proofs.lemmas.Bool.{cases_lt, cases_eq}
@@ -16,12 +16,11 @@ use Rattle.kept_sums.specs.Trivials.{IsTrivial}
 use Rattle.kept_sums.specs.Independence.{ring_gain, IsNeeded, places_with}
 use Rattle.kept_sums.proofs.laws.Integers.{mul-neg, zero-of_times}
 use Rattle.kept_sums.proofs.laws.Spans.{sum_to-one, sum_to-none}
-use Rattle.kept_sums.proofs.laws.Stages.{is_free}
 use Rattle.kept_sums.proofs.laws.Densities.{length-ring_image, KeepsSumOf-gain, gain-KeepsSumOf}
 use Rattle.kept_sums.proofs.laws.AfterRings.{length-blocks}
 use Rattle.kept_sums.proofs.laws.Ranges.{few_letters}
 use Rattle.kept_sums.proofs.laws.Trivials.{IsNormal-trivial}
-use Rattle.kept_sums.proofs.laws.Unique.{Stands, stands_or_zero, not_both, part-zero, factor-zero, zero-factor, factor-none}
+use Rattle.kept_sums.proofs.laws.Unique.{Stands, stands_or_zero, part-zero, factor-zero, zero-factor, factor-none}
 use Rattle.kept_sums.proofs.laws.Siegel.{In, Condition, small_solution}
 use Rattle.kept_sums.proofs.laws.Bounds.{noted, In-noted, noted-In, Apart-noted, free_count, condition_of, ring_short, stands-count, Each-of, Each-all}
 

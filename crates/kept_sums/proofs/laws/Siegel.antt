@@ -11,7 +11,6 @@ use Rattle.std.proofs.lemmas.List.{length-map}
 use Rattle.word_image.specs.LocalRules.{IsWord, value, word_of}
 use Rattle.word_image.proofs.laws.Searches.{twice_below}
 use Rattle.word_image.proofs.laws.Values.{value-below, value-injective, length-word_of, IsWord-word_of, value-word_of}
-use Rattle.kept_sums.specs.Sums.{sum_at}
 use Rattle.kept_sums.specs.Spans.{gain_at}
 use Rattle.kept_sums.proofs.laws.Ranges.{power-positive}
 use Rattle.kept_sums.proofs.laws.Sums.{gain_at-sub, sum_at-pos}

@@ -15,7 +15,6 @@ use Rattle.kept_sums.specs.Spans.{entry, IsSpanned}
 use Rattle.kept_sums.specs.Stages.{IsFree, IsZero, IsStage}
 use Rattle.kept_sums.proofs.laws.Parts.{at-replicate}
 use Rattle.kept_sums.proofs.laws.Spans.{sum_to-one}
-use Rattle.kept_sums.proofs.laws.Stages.{is_free}
 use Rattle.kept_sums.proofs.laws.Densities.{gain-KeepsSumOf}
 use Rattle.kept_sums.proofs.laws.Narrowed.{gain_at-zero}
 use Rattle.kept_sums.proofs.laws.Unique.{Stands, stands_or_zero, not_both}

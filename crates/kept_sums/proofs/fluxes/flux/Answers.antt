@@ -1,4 +1,4 @@
-use Rattle.std.proofs.Common.{◌≡◌, ℕ, ◌+◌, ◌-◌, ◌^◌, ◌<◌, ◌≤◌, List, ℤ, pos, ◌-ℤ◌, refl, sym, ap, ap₂, subst₂, ◌∙◌, arith}
+use Rattle.std.proofs.Common.{◌≡◌, ℕ, ◌+◌, ◌-◌, ◌^◌, ◌<◌, ◌≤◌, List, ℤ, pos, refl, sym, ap, ap₂, subst₂, ◌∙◌, arith}
 use Rattle.word_image.specs.LocalRules.{LocalRule, IsRule}
 use Rattle.kept_sums.specs.Rows.{at}
 use Rattle.kept_sums.specs.Fluxes.{IsFluxList, AreGains, IsFlowBy}

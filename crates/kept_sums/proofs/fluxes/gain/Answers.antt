@@ -1,5 +1,4 @@
-use Rattle.std.proofs.Common.{◌≡◌, ℕ, ◌+◌, ◌-◌, ◌/◌, ◌^◌, ◌<◌, ◌≤◌, take, ℤ, ◌-ℤ◌, sym, ap, ap₂, ◌∙◌, arith}
-use Rattle.word_image.specs.LocalRules.{value, word_of}
+use Rattle.std.proofs.Common.{◌≡◌, ℕ, ◌-◌, ◌/◌, ◌^◌, ◌-ℤ◌, sym, ap, ap₂, ◌∙◌, arith}
 use Rattle.kept_sums.specs.Rows.{at}
 use Rattle.kept_sums.proofs.Casts.{back-sub}
 use Rattle.kept_sums.proofs.laws.Ranges.{power-positive}

@@ -1,4 +1,4 @@
-use Rattle.std.proofs.Common.{◌≡◌, ◌≢◌, ℕ, ◌<◌, pos}
+use Rattle.std.proofs.Common.{◌≢◌, ℕ, ◌<◌, pos}
 use Rattle.kept_sums.specs.Sums.{IsKept}
 use Rattle.kept_sums.specs.Spans.{entry}
 use Rattle.kept_sums.proofs.kept.are_kept.Given as goal
