@@ -396,6 +396,45 @@ static void test_kept_sums(void)
     is("sums of words of 255 letters", finds_no_sums(2, 3, zeros, 8, 255, CA_FAULT_WORDS));
 }
 
+/* Whether the flux of a row of an elementary rule has this number at one word, and zeros else. */
+static bool has_flux(int number, uint8_t range, int row, int word, int64_t value)
+{
+    uint8_t table[8];
+    int64_t numbers[128];
+    struct ca_kept_sums sums = sums_of(number, range);
+    for (int window = 0; window < 8; window++)
+        table[window] = number >> window & 1;
+    memset(numbers, FILLING, sizeof numbers);
+    if (ca_flux(2, 3, table, sizeof table, range, sums.rows[row], numbers) != CA_FAULT_NONE)
+        return false;
+    for (int at = 0; at < 128; at++)
+        if (numbers[at] != (at == word ? value : 0))
+            return false;
+    return true;
+}
+
+/* Whether a call finds no flux, and writes nothing, for this fault. */
+static bool finds_no_flux(uint8_t states, const uint8_t *table, size_t length, uint8_t range, int64_t weight, int fault)
+{
+    int64_t weights[16] = {0, weight}, numbers[128];
+    memset(numbers, FILLING, sizeof numbers);
+    return ca_flux(states, 3, table, length, range, weights, numbers) == fault
+        && is_kept((const uint8_t *)numbers, 0, sizeof numbers);
+}
+
+static void test_flux(void)
+{
+    static const uint8_t zeros[8], cars[8] = {0, 0, 0, 1, 1, 1, 0, 1};
+    is("what flows under rule 184", has_flux(184, 1, 1, 3, -1));
+    is("flux of one state", finds_no_flux(1, zeros, 8, 1, 1, CA_FAULT_STATES));
+    is("flux of a table of seven letters", finds_no_flux(2, zeros, 7, 0, 1, CA_FAULT_LENGTH));
+    is("flux of words of no letter", finds_no_flux(2, zeros, 8, 0, 1, CA_FAULT_RANGE));
+    is("flux of 32 words", finds_no_flux(2, zeros, 8, 5, 1, CA_FAULT_WORDS));
+    is("flux of a weight that is too great", finds_no_flux(2, cars, 8, 1, ((int64_t)1 << 56) + 1, CA_FAULT_WEIGHT));
+    is("flux of a weight that is too little", finds_no_flux(2, cars, 8, 1, INT64_MIN, CA_FAULT_WEIGHT));
+    is("flux of a sum that isn't kept", finds_no_flux(2, zeros, 8, 1, 1, CA_FAULT_LOST));
+}
+
 static void *call_often(void *right)
 {
     for (int call = 0; call < CALLS; call++)
@@ -430,6 +469,7 @@ int main(void)
     test_verdict_bytes();
     test_next_rule();
     test_kept_sums();
+    test_flux();
     test_threads();
     printf("%d passed, %d failed\n", passed, failed);
     return failed != 0;

@@ -68,8 +68,14 @@ def rows_of(states, width, table, letters):
 
 
 def judged(states, width, table, letters, tally):
+    """The rows and rings by what they say, and the flux of each row; and that no other place alone has one."""
+    rule = sums.Rule(states, width, table)
     rows, rings = found(states, width, table, letters)
-    tally.count(f"{states}:{width} {table} at range {letters}", sums.fault(sums.Rule(states, width, table), letters, rows, rings), None)
+    units = [[int(place == word) for word in range(states ** letters)] for place in rings]
+    asked = [*rows.values(), *units]
+    got = [library().flux(states, width, bytes(table), letters, weights) for weights in asked]
+    tally.count(f"{states}:{width} {table} at range {letters}", (sums.fault(rule, letters, rows, rings), got),
+                (None, [rule.flux(weights, letters) for weights in asked]))
 
 
 def main():

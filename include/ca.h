@@ -55,7 +55,7 @@ enum ca_code {
     CA_SHORT = CA_CODE_SHORT
 };
 
-/* Why a call gives no verdicts, no order, no rule or no sums: the first that holds. */
+/* Why a call gives no verdicts, no order, no rule, no sums or no flux: the first that holds. */
 enum ca_fault {
     CA_FAULT_NONE = 0,   /* it gives them */
     CA_FAULT_STATES = 1, /* there are not 2 to 16 states */
@@ -71,8 +71,10 @@ enum ca_fault {
     CA_FAULT_BEGIN = 12,    /* more letters are fixed than there are windows */
     CA_FAULT_NO_RULE = 13,  /* there is no further rule */
 
-    CA_FAULT_RANGE = 14, /* words of no letter */
-    CA_FAULT_WORDS = 15  /* there are more than 16 words of so many letters */
+    CA_FAULT_RANGE = 14,  /* words of no letter */
+    CA_FAULT_WORDS = 15,  /* there are more than 16 words of so many letters */
+    CA_FAULT_WEIGHT = 16, /* a weight is greater than 2^56, or less than its negative */
+    CA_FAULT_LOST = 17    /* the sum isn't kept */
 };
 
 /* What the byte of a rule is the sum of: those that hold, in the words of struct ca_rule_verdicts. For ca_window_order and
@@ -211,6 +213,21 @@ uint8_t ca_next_rule(uint8_t property, uint8_t states, uint8_t width, const uint
  */
 uint8_t ca_kept_sums(uint8_t states, uint8_t width, const uint8_t *table, size_t table_length, uint8_t range,
                      struct ca_kept_sums *sums);
+
+/*
+ * Finds the flux of a sum that a rule keeps, which shows that it is kept, and takes no memory. The rule is that of
+ * ca_verdicts, and weights has the weight of each word of range letters at its value: a row of struct ca_kept_sums will do.
+ *
+ * A flux is a number for each word of width + range - 2 letters, so that for each word of one letter more what its image
+ * weighs more than its first range letters is the number of its first letters but for the last less that of its last
+ * letters but for the first. There is one with 0 for the word of letters 0: numbers has it, the number of each word at
+ * its value, and behind the last one zeros.
+ *
+ * It gives CA_FAULT_NONE; or CA_FAULT_STATES to CA_FAULT_NODES, CA_FAULT_LENGTH, CA_FAULT_LETTER, CA_FAULT_RANGE,
+ * CA_FAULT_WORDS, CA_FAULT_WEIGHT or CA_FAULT_LOST, the first that holds; numbers is then as it was.
+ */
+uint8_t ca_flux(uint8_t states, uint8_t width, const uint8_t *table, size_t table_length, uint8_t range,
+                const int64_t weights[16], int64_t numbers[128]);
 
 #ifdef __cplusplus
 }

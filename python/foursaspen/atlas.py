@@ -16,9 +16,10 @@ from .commands import decide, least, survey
 from .faults import UsageError
 from .page import STYLE
 from .report import Closing, Report
+from .sums import kept_sums, ranges
 
 HEAD = ("least", "members", "surjective", "orphan", "injective", "window", "twins", "right", "right evidence", "left",
-        "left evidence", "open", "conserving", "conserving evidence")
+        "left evidence", "open", "conserving", "conserving evidence", "kept sums")
 
 
 MOST = 2 ** 20                                  # rules of a shape: these take some minutes
@@ -63,7 +64,12 @@ def row(entry: Class) -> list[str]:
     return [str(entry.members[0]), " ".join(map(str, entry.members)), said(report.surjective), report.orphan or "",
             said(report.injective), window, twins, said(report.right), closing(report.right), said(report.left),
             closing(report.left), said(report.open), said(report.conserving),
-            report.ring or " ".join(map(str, report.flux or ()))]
+            report.ring or " ".join(map(str, report.flux or ())), " ".join(map(str, kept(report.rule)))]
+
+
+def kept(rule: str) -> list[int]:
+    """How many sums a rule keeps apart from the trivial ones, of words of 1 letter, of 2 and so on."""
+    return [len(kept_sums(rule, letters).rows) for letters in ranges(int(rule.split(":")[0]))]
 
 
 def as_csv(states: int, width: int) -> str:
@@ -104,6 +110,9 @@ the least ring whose sum isn't kept. [COMMANDS.md](COMMANDS.md#decide-r) says wh
 a class right and left are exchanged. That the number of ones is kept is the same for a whole class here, since then
 the number of zeros is kept too.
 
+The last column has how many sums of words of 1, 2, 3 and 4 letters are kept apart from those that every rule keeps, none of
+them a combination of the others: [SUMS.md](SUMS.md). They are as many for each rule of a class.
+
 """
 
 
@@ -134,7 +143,8 @@ def page_row(entry: Class) -> str:
         f"**{entry.members[0]}**", ", ".join(map(str, entry.members)),
         cell(report.surjective, cells["orphan"]), cell(report.injective, cells["window"] or cells["twins"]),
         cell(report.right, cells["right evidence"]), cell(report.left, cells["left evidence"]),
-        cell(report.open, ""), cell(report.conserving, cells["conserving evidence"])]) + " |"
+        cell(report.open, ""), cell(report.conserving, cells["conserving evidence"]),
+        cells["kept sums"]]) + " |"
 
 
 def page() -> str:
@@ -142,6 +152,6 @@ def page() -> str:
     entries = list(classes_of(2, 3))
     lines: Iterable[str] = [
         *summary_lines(entries), "",
-        "| Least | Members | Surjective | Injective | Right-closing | Left-closing | Open | Conserving |",
-        "|---|---|---|---|---|---|---|---|", *map(page_row, entries)]
+        "| Least | Members | Surjective | Injective | Right-closing | Left-closing | Open | Conserving | Kept sums |",
+        "|---|---|---|---|---|---|---|---|---|", *map(page_row, entries)]
     return INTRODUCTION + "\n".join(lines) + "\n"

@@ -9,7 +9,7 @@ import ctypes
 import functools
 import os
 import threading
-from collections.abc import Iterable
+from collections.abc import Iterable, Sequence
 from pathlib import Path
 from typing import NamedTuple
 
@@ -23,6 +23,7 @@ ROOM = 1 << 16                                  # bytes, at first
 WORD = (1 << 64) - 1                            # the greatest number of 64 bits
 
 MEMORY, NO_WORDS, NO_ROOM = 8, 9, 10            # codes that come without an output
+NOT_KEPT = 17                                   # the code of a sum that has no flux
 
 # Of the C library's mallopt, where it is glibc: from which size on a block is asked of the system, and how much free
 # memory at the end of the heap is kept.
@@ -46,6 +47,10 @@ class KeptTable(ctypes.Structure):
                 ("rings", (ctypes.c_uint8 * 15) * 16)]
 
 
+Weights = ctypes.c_int64 * 16                   # of words, by their values
+Flux = ctypes.c_int64 * 128                     # a number for each word, by its value
+
+
 class Outcome(NamedTuple):
     """What the program comes to: the code of its status, and what it prints."""
     code: int
@@ -64,6 +69,7 @@ class Library:
             self._window_order = loaded.ca_window_order
             self._next_rule = loaded.ca_next_rule
             self._kept_sums = loaded.ca_kept_sums
+            self._flux = loaded.ca_flux
             version = int(loaded.ca_version())
         except (OSError, AttributeError) as fault:
             raise LibraryMissingError(f"the library can't be loaded: {fault}; {ADVICE}") from fault
@@ -83,6 +89,8 @@ class Library:
         self._next_rule.restype = byte
         self._kept_sums.argtypes = [byte, byte, text, size, byte, ctypes.POINTER(KeptTable)]
         self._kept_sums.restype = byte
+        self._flux.argtypes = [byte, byte, text, size, byte, ctypes.POINTER(Weights), ctypes.POINTER(Flux)]
+        self._flux.restype = byte
         self._rooms = threading.local()
         self.path = path
 
@@ -137,6 +145,14 @@ class Library:
         fault = int(self._kept_sums(states, width, table, len(table), letters, ctypes.byref(found)))
         assert not fault, fault                 # the table is a rule's, and the number of letters has been looked at
         return found
+
+    def flux(self, states: int, width: int, table: bytes, letters: int, weights: Sequence[int]) -> list[int] | None:
+        """The flux of weights of words of so many letters, by their values: a number for each word of width + letters - 2
+        letters, by its value. None where the rule doesn't keep their sum. Other threads run meanwhile."""
+        found = Flux()
+        fault = int(self._flux(states, width, table, len(table), letters, Weights(*weights), found))
+        assert fault in (0, NOT_KEPT), fault
+        return None if fault else found[:states ** (width + letters - 2)]
 
 
 def keep_freed_memory() -> None:

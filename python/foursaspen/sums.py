@@ -33,11 +33,13 @@ class KeptSums(Answer):
 
     @property
     def fluxes(self) -> tuple[dict[str, int], ...]:
-        """A flux for each row, by the words of width + range - 2 letters that have a number other than 0: what the walk
-        from the word gains that reads as many letters 0. They are worked out here and not proved; checkers/sums.py of the
-        repository says what makes a flux."""
+        """The flux of each row, by the words of width + range - 2 letters that have a number other than 0: for each word of
+        one letter more, what its image weighs more than its first letters is the number of its first letters but for the
+        last less that of its last letters but for the first."""
         graph = Graph(self.rule)
-        return tuple(flux_of(graph, self.range, row) for row in self.rows)
+        words = all_words(graph.states, graph.width + self.range - 2)
+        return tuple(dict((word, number) for word, number in zip(words, flux_of(graph, self.range, row)) if number)
+                     for row in self.rows)
 
     def _repr_html_(self) -> str:
         words = free_words(int(self.rule.split(":")[0]), self.range)
@@ -64,11 +66,16 @@ def kept_sums(rule: Rule, range: SupportsIndex = 1) -> KeptSums:
 def whole_range(states: int, range: SupportsIndex) -> int:
     """How many letters the words have, where they have one and there are few enough."""
     letters = index("range is", "a whole number", range)
-    most = max(count for count in (1, 2, 3, 4) if states ** count <= MOST_WORDS)
+    most = ranges(states)[-1]
     if not 1 <= letters <= most:
         raise UsageError(f"range is 1 to {most}, since there are at most {MOST_WORDS} words of so many letters, "
                          f"and not {letters}")
     return letters
+
+
+def ranges(states: int) -> list[int]:
+    """How many letters the words may have."""
+    return [letters for letters in (1, 2, 3, 4) if states ** letters <= MOST_WORDS]
 
 
 def all_words(states: int, letters: int) -> list[str]:
@@ -91,20 +98,9 @@ def text_of(rows: tuple[dict[str, int], ...], rings: dict[str, str]) -> str:
     return "".join(f"{line}\n" for line in [f"rows {len(rows)}", *lines])
 
 
-def flux_of(graph: Graph, letters: int, row: dict[str, int]) -> dict[str, int]:
-    """The flux of a row that has 0 at the word of letters 0."""
-    long = graph.width + letters - 2
-
-    def gain(window: str) -> int:
-        return row.get(image(graph, window), 0) - row.get(window[:letters], 0)
-
-    def walk(word: str) -> int:
-        read = word + "0" * long
-        return sum(gain(read[start:start + long + 1]) for start in range(long))
-    return {word: number for word in all_words(graph.states, long) if (number := walk(word))}
-
-
-def image(graph: Graph, word: str) -> str:
-    """The image of a word."""
-    return "".join(DIGITS[graph.table[int(word[start:start + graph.width], graph.states)]]
-                   for start in range(len(word) - graph.width + 1))
+def flux_of(graph: Graph, letters: int, row: dict[str, int]) -> list[int]:
+    """The flux of a row, by the values of the words."""
+    weights = [row.get(word, 0) for word in all_words(graph.states, letters)]
+    found = library().flux(graph.states, graph.width, bytes(graph.table), letters, weights)
+    assert found is not None                    # a row is kept
+    return found

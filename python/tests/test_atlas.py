@@ -3,6 +3,7 @@ from __future__ import annotations
 
 import csv
 import io
+import re
 import unittest
 
 import foursaspen as ca
@@ -48,6 +49,15 @@ class Elementary(unittest.TestCase):
         self.assertEqual(len(self.having("surjective")), 30)
         self.assertEqual(self.having("injective"), INJECTIVE)
         self.assertEqual(self.having("conserving"), CONSERVING)
+
+    def test_kept_sums(self) -> None:
+        """By the table of docs/SUMS.md, which is another program's."""
+        page = (TOP / "docs" / "SUMS.md").read_text()
+        told = {int(least): counts.replace(" |", "").strip() for least, counts in
+                re.findall(r"^\| (\d+) \| [\d, ]+ \|((?: \d \|){4})$", page, re.M)}
+        self.assertEqual(len(told), 29)
+        for entry in self.entries:
+            self.assertEqual(" ".join(map(str, atlas.kept(entry.report.rule))), told.get(entry.members[0], "0 0 0 0"))
 
     def test_a_class_has_the_verdicts_of_each_member(self) -> None:
         for entry in self.entries:

@@ -6,7 +6,7 @@ ghost use Rattle.ca_c.specs.Calls.{IsHandedBack};
 ghost use Rattle.rule_verdicts.specs.Numbers.{numbers_fault, AreVerdictBytes};
 ghost use Rattle.ca_c.specs.NumberedVerdicts.{number_code};
 ghost use Rattle.kept_sums.specs.Stages.{AreKeptSums};
-ghost use Rattle.ca_c.specs.RuleSums.{sums_code};
+ghost use Rattle.ca_c.specs.RuleSums.{sums_code, IsFluxCall};
 ghost use Rattle.ca_c.specs.Verdicts.{AreNone, fault_code, rule_of_table, verdicts_about};
 ghost use Rattle.ca_c.specs.NextRules.{IsNext, IsWindowOrder};
 
@@ -16,7 +16,7 @@ use crate::numbered_verdicts::{joined, number_of};
 use crate::rule_sums::range_number;
 use crate::table_verdicts::{RuleVerdicts, fault_number};
 use ca_cli::Status;
-use kept_sums::{KeptSums, check_range, kept_sums};
+use kept_sums::{Flux, KeptSums, Row, are_small, check_range, flux, kept_sums};
 use rule_lists::{is_order, write_order};
 use rule_verdicts::verdict_bytes;
 use std::alloc::Global;
@@ -45,6 +45,12 @@ const NO_BEGINNING: u8 = 12;
 
 /// The code where there is no further rule.
 const NO_RULE: u8 = 13;
+
+/// The code where a weight is too great.
+const GREAT_WEIGHT: u8 = 16;
+
+/// The code where a sum isn't kept.
+const NOT_KEPT: u8 = 17;
 
 /// The version of the interface: which functions there are, and what they take and give.
 #[unsafe(no_mangle)]
@@ -219,4 +225,40 @@ pub extern "C" fn ca_kept_sums(
     }
     *sums = kept_sums(&rule, range);
     0
+}
+
+/// Writes the flux of weights of words of so many letters, for the rule with these states, this width and this
+/// table, whose window begins at its cell: a number for each word of width + range - 2 letters, by its value,
+/// with 0 for the word of letters 0 and behind the last word. It gives 0, or the number of the first fault, and
+/// then `numbers` is as it was: of the rule, of the range, 16 where a weight is greater than 2^56 or less than its
+/// negative, 17 where the rule doesn't keep the sum. It takes no memory.
+#[unsafe(no_mangle)]
+pub extern "C" fn ca_flux(
+    states: u8,
+    width: u8,
+    table: &[u8],
+    range: u8,
+    weights: &Row,
+    numbers: &mut Flux,
+) -> u8
+    ensures { IsFluxCall states width table.now range weights.now numbers.old result numbers.new }
+{
+    let made = Rule::new(states, width, 0, table);
+    let rule = match made {
+        Ok(rule) => rule,
+        Err(fault) => return fault_number(fault),
+    };
+    if let Err(fault) = check_range(states, range) {
+        return range_number(fault);
+    }
+    if !are_small(weights) {
+        return GREAT_WEIGHT;
+    }
+    match flux(&rule, range, weights) {
+        Some(found) => {
+            *numbers = found;
+            FOUND
+        }
+        None => NOT_KEPT,
+    }
 }

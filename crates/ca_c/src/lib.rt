@@ -1,10 +1,10 @@
-//! The interface for C: seven functions with C's calling convention, in a static library.
+//! The interface for C: eight functions with C's calling convention, in a static library.
 //!
 //! [`ca_run`] carries out a command as the program does, over bytes in memory. [`ca_verdicts`] decides the
 //! questions of a rule without a text, and [`ca_verdict_bytes`] those of many rules with consecutive numbers, a
 //! byte for each. [`ca_next_rule`] finds the rules of a shape that have a property, one a call, in an order of the
-//! windows, which [`ca_window_order`] writes. [`ca_kept_sums`] finds all sums that a rule keeps. [`ca_version`] gives the
-//! version of the interface. include/ca.h declares them for C.
+//! windows, which [`ca_window_order`] writes. [`ca_kept_sums`] finds all sums that a rule keeps, and [`ca_flux`] the flux
+//! of one. [`ca_version`] gives the version of the interface. include/ca.h declares them for C.
 //!
 //! The words of a command line come in one *block*, each with a 0 byte after it: `orphan` and `110` are
 //! the eleven bytes `orphan`, 0, `110`, 0. The output goes into a buffer of the caller's:
@@ -32,6 +32,7 @@ mod sources;
 mod table_verdicts;
 
 pub use exports::{
-    ca_kept_sums, ca_next_rule, ca_run, ca_verdict_bytes, ca_verdicts, ca_version, ca_window_order,
+    ca_flux, ca_kept_sums, ca_next_rule, ca_run, ca_verdict_bytes, ca_verdicts, ca_version,
+    ca_window_order,
 };
 pub use table_verdicts::RuleVerdicts;

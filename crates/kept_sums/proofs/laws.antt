@@ -13,9 +13,10 @@ pub mod Starts
 pub mod Ranges
 pub mod Trivials
 pub mod Unique
-pub mod Pigeons
 pub mod Siegel
 pub mod Bounds
 pub mod Limits
 pub mod Fits
 pub mod Flows
+pub mod Windows
+pub mod Independence

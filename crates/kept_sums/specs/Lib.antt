@@ -5,3 +5,4 @@ pub mod Stages
 pub mod Trivials
 pub mod Fluxes
 pub mod RangeFaults
+pub mod Independence

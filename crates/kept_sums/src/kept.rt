@@ -1,11 +1,13 @@
 //! Which sums a rule keeps.
-ghost use Rattle.std.specs.Prelude.{◌≡◌, ℕ, ◌+◌, ◌-◌, ◌*◌, ◌^◌, ◌<◌, ◌≤◌, List, length, take, set, false, pos};
+ghost use Rattle.std.specs.Prelude.{◌≡◌, ◌≢◌, ℕ, ◌+◌, ◌-◌, ◌*◌, ◌^◌, ◌<◌, ◌≤◌, ◌⊎◌, List, length, take, set, All, true, pos};
 ghost use Rattle.word_image.specs.LocalRules.{IsRule};
 ghost use Rattle.word_image.specs.Rings.{IsRing};
 ghost use Rattle.kept_sums.specs.Rows.{IsUnit};
-ghost use Rattle.kept_sums.specs.Spans.{entry};
+ghost use Rattle.kept_sums.specs.Sums.{IsKept};
+ghost use Rattle.kept_sums.specs.Spans.{entry, AreSmall, IsNarrowed, IsLastGain, FitNarrowed};
 ghost use Rattle.kept_sums.specs.Stages.{IsStage, IsAfterRing, IsAfterRings, AreKeptSums};
 
+use crate::fluxes::is_kept;
 use crate::rings::{LONGEST, blocks, image_letters, word_with};
 use crate::rows::Row;
 use crate::steps::{Rows, last_gain, narrowed_by};
@@ -78,6 +80,31 @@ fn narrowed_by_ring(
     let Some(pivot) = last_gain(&sums.rows, after, before) else {
         return *sums;
     };
+    narrowed_at(sums, pivot, after, before, letters, count)
+}
+
+/// The sums with the rows that are crossed with the last one that gains, and a ring noted in its place.
+fn narrowed_at(
+    sums: &KeptSums,
+    pivot: u8,
+    after: &[u8],
+    before: &[u8],
+    letters: &[u8; LONGEST],
+    count: u8,
+) -> KeptSums
+    requires small { AreSmall sums.now.rows }
+    requires after { All (λ a. a < 16) after.now }
+    requires before { All (λ a. a < 16) before.now }
+    requires few_after { length after.now ≤ 16 }
+    requires few_before { length before.now ≤ 16 }
+    requires last { IsLastGain sums.now.rows after.now before.now pivot }
+    requires fits { FitNarrowed sums.now.rows after.now before.now pivot }
+    requires turned { FitNarrowed sums.now.rows before.now after.now pivot }
+    ensures narrowed { IsNarrowed sums.now.rows after.now before.now pivot result.rows ⊎ IsNarrowed sums.now.rows before.now after.now pivot result.rows }
+    ensures small { AreSmall result.rows }
+    ensures counts { result.counts ≡ set sums.now.counts pivot count }
+    ensures rings { result.rings ≡ set sums.now.rings pivot letters.now }
+{
     let rows = narrowed_by(&sums.rows, pivot, after, before);
     noted(sums, rows, pivot, letters, count)
 }
@@ -119,16 +146,19 @@ fn narrowed_by_rings(rule: &Rule, range: u8, sums: KeptSums, count: u8) -> KeptS
     sums
 }
 
-/// Whether some row has a number in its own place.
-fn has_row(rows: &Rows) -> bool
-    ensures none { result ≡ false → (i : ℕ) → i < 16 → entry rows.now i i ≡ pos 0 }
+/// Whether the rule keeps the sum of each row that has a number in its own place.
+fn are_kept(rule: &Rule, range: u8, rows: &Rows) -> bool
+    requires some { 1 ≤ range }
+    requires few { rule.now.states ^ range ≤ 16 }
+    requires small { AreSmall rows.now }
+    ensures { result ≡ true → (i : ℕ) → i < 16 → entry rows.now i i ≢ pos 0 → IsKept range (entry rows.now i) rule.now }
 {
     for place in 0..MOST_STATES {
-        if rows[place][place] != 0 {
-            return true;
+        if rows[place][place] != 0 && !is_kept(rule, range, &rows[place]) {
+            return false;
         }
     }
-    false
+    true
 }
 
 /// The sums of integer weights of words of so many letters that a rule keeps on every ring.
@@ -139,7 +169,7 @@ pub fn kept_sums(rule: &Rule, range: u8) -> KeptSums
 {
     let mut sums = start(rule, range);
     for count in 1..2 * (rule.m() + range) - 2 {
-        if !has_row(&sums.rows) {
+        if are_kept(rule, range, &sums.rows) {
             return sums;
         }
         sums = narrowed_by_rings(rule, range, sums, count);

@@ -4,7 +4,7 @@ use Rattle.std.specs.Int.RustNames.{unsigned_abs}
 use Prim.Native.Nat.{◌∣◌}
 use Rattle.std.proofs.Math.Nat.{eq-zero_of_zero-dvd, eq_of_mul-eq-mul_left, mul_left_comm, mul_assoc, mul-le-mul, mul-le-mul_left, mul-le-mul_right}
 use Rattle.std.proofs.Math.IntN.{pos-*ℤ-pos}
-use Rattle.std.proofs.lemmas.Bool.{cases_lt}
+use Rattle.std.proofs.lemmas.Bool.{cases_lt, cases_eq}
 use Rattle.std.proofs.lemmas.Int.{ints, unsigned_abs-mul}
 use Rattle.std.proofs.lemmas.List.{length-map, length-take}
 use Rattle.word_image.specs.LocalRules.{LocalRule, IsRule, IsWord}
@@ -18,7 +18,7 @@ use Rattle.kept_sums.proofs.laws.Sums.{gain_at-agree, gain_at-scaled}
 use Rattle.kept_sums.proofs.laws.Spans.{sum_to-agree, sum_to-add, sum_to-scaled, sum_to-times, sum_to-one, gain_at-sum_to}
 use Rattle.kept_sums.proofs.laws.Densities.{length-ring_image, gain-KeepsSumOf}
 use Rattle.kept_sums.proofs.laws.Narrowed.{gain_at-zero}
-use Rattle.kept_sums.proofs.laws.Stages.{IsPivot-gains, same_or_other}
+use Rattle.kept_sums.proofs.laws.Stages.{IsPivot-gains}
 use Rattle.kept_sums.proofs.laws.AfterRings.{length-blocks, within, after_of, before_of}
 use Rattle.kept_sums.proofs.laws.Unique.{Stands, stands_or_zero, not_both, part-zero, zero-factor, factor-none}
 use Rattle.kept_sums.proofs.laws.Siegel.{In, Apart, Condition, Each, AreShort, SmallSolution, small_solution}
@@ -49,10 +49,10 @@ length-noted counts first (suc n) =
     omega arith
 
 -- what is listed
-record Noted (counts : List ℕ) (first n a : ℕ) : Type 0 where
-  least : first ≤ a
-  most : a < first + n
-  some : 1 ≤ slice_index counts a
+pub record Noted (counts : List ℕ) (first n a : ℕ) : Type 0 where
+  pub least : first ≤ a
+  pub most : a < first + n
+  pub some : 1 ≤ slice_index counts a
 
 -- a listed place is the one that was added, or stood there before
 In-keep_if : (counts : List ℕ) (p a : ℕ) (ps : List ℕ) (c : (slice_index counts p < 1) ⊎ (1 ≤ slice_index counts p)) → In a (keep_if c p ps) → ((a ≡ p) × (1 ≤ slice_index counts p)) ⊎ In a ps
@@ -61,7 +61,7 @@ In-keep_if counts p a ps (inl none) h = inr h
 In-keep_if counts p a ps (inr some) h = ⊎_elim (λ (e : a ≡ p). inl (e, some)) (λ (rest : In a ps). inr rest) h
 
 -- each listed place is one in which a ring is noted
-In-noted : (counts : List ℕ) (first n a : ℕ) → In a (noted counts first n) → Noted counts first n a
+pub In-noted : (counts : List ℕ) (first n a : ℕ) → In a (noted counts first n) → Noted counts first n a
 unfolding noted
 In-noted counts first zero a h = absurd h
 In-noted counts first (suc n) a h =
@@ -78,7 +78,7 @@ keep_if-In counts p a ps (inl none) h = ⊎_elim (λ (here : (a ≡ p) × (1 ≤
 keep_if-In counts p a ps (inr some) h = ⊎_elim (λ (here : (a ≡ p) × (1 ≤ slice_index counts p)). inl here.0) (λ (rest : In a ps). inr rest) h
 
 -- each place in which a ring is noted is listed
-noted-In : (counts : List ℕ) (first n a : ℕ) → Noted counts first n a → In a (noted counts first n)
+pub noted-In : (counts : List ℕ) (first n a : ℕ) → Noted counts first n a → In a (noted counts first n)
 unfolding noted
 noted-In counts first zero a h = let least = h.least in let most = h.most in absurd (omega arith)
 noted-In counts first (suc n) a h =
@@ -97,7 +97,7 @@ Apart-keep_if counts p ps (inl none) beside apart = apart
 Apart-keep_if counts p ps (inr some) beside apart = (beside, apart)
 
 -- no place is listed twice
-Apart-noted : (counts : List ℕ) (first n : ℕ) → Apart (noted counts first n)
+pub Apart-noted : (counts : List ℕ) (first n : ℕ) → Apart (noted counts first n)
 unfolding noted
 Apart-noted counts first zero = tt
 Apart-noted counts first (suc n) =
@@ -109,12 +109,12 @@ abbrev pub condition_of : LocalRule → ℕ → List ℕ → List (List ℕ) →
 condition_of r range counts rings m = (after_of r range (ring_at counts rings m), before_of r range (ring_at counts rings m))
 
 -- what holds of each listed place holds of one
-Each-of : (P : Condition → Type 0) (f : ℕ → Condition) (ps : List ℕ) (m : ℕ) → Each P (map f ps) → In m ps → P (f m)
+pub Each-of : (P : Condition → Type 0) (f : ℕ → Condition) (ps : List ℕ) (m : ℕ) → Each P (map f ps) → In m ps → P (f m)
 Each-of P f [] m each h = absurd h
 Each-of P f (p ∷ ps) m each h = ⊎_elim (λ (e : m ≡ p). subst (λ q. P (f q)) (sym e) each.0) (λ (rest : In m ps). Each-of P f ps m each.1 rest) h
 
 -- what holds of every listed place holds of each condition
-Each-all : (P : Condition → Type 0) (f : ℕ → Condition) (ps : List ℕ) → ((m : ℕ) → In m ps → P (f m)) → Each P (map f ps)
+pub Each-all : (P : Condition → Type 0) (f : ℕ → Condition) (ps : List ℕ) → ((m : ℕ) → In m ps → P (f m)) → Each P (map f ps)
 Each-all P f [] all = tt
 Each-all P f (p ∷ ps) all = (all p (inl refl), Each-all P f ps (λ m h. all m (inr h)))
 
@@ -218,11 +218,11 @@ abbrev pub free_count : LocalRule → ℕ → ℕ
 free_count r range = r.states ^ range - r.states ^ (range - 1)
 
 -- a ring that is noted has no more letters than are counted
-ring_short : (counts : List ℕ) (rings : List (List ℕ)) (m h : ℕ) → slice_index counts m ≤ h → length (ring_at counts rings m) ≤ h
+pub ring_short : (counts : List ℕ) (rings : List (List ℕ)) (m h : ℕ) → slice_index counts m ≤ h → length (ring_at counts rings m) ≤ h
 ring_short counts rings m h l = let cut = length-take (slice_index counts m) (slice_index_or rings m []) in omega (arith, cut)
 
 -- where a row stands no ring is noted
-stands-count : {r : LocalRule} {range : ℕ} {rows : List (List ℤ)} {counts : List ℕ} {rings : List (List ℕ)} → IsStage r range rows counts rings → (m : ℕ) → m < 16 → IsStanding rows m → ¬ (1 ≤ slice_index counts m)
+pub stands-count : {r : LocalRule} {range : ℕ} {rows : List (List ℤ)} {counts : List ℕ} {rings : List (List ℕ)} → IsStage r range rows counts rings → (m : ℕ) → m < 16 → IsStanding rows m → ¬ (1 ≤ slice_index counts m)
 stands-count {rows = rows} stage m l standing some = not_both (entry rows m m) standing.leads ((stage.places m l).dropped some m l)
 
 -- which places are listed
@@ -295,7 +295,7 @@ meant {r} {range} {h} {j} {lead} {rows} {counts} {rings} {x} {y} setting most i 
     zero-factor (part m) (crossed m a) (part-zero spanned m l upright none))
     (λ (zeros : IsZero rows m). factor-none (part m) (crossed m a) (cross-zero lead (entry rows m a) (gain m) (entry rows j a) (zeros a n) (gain_at-zero rows m x y x_16 y_16 zeros)))
     (stands_or_zero (stage.places m l)))
-    (same_or_other m j) in
+    (cases_eq m j) in
     let front : (a : ℕ) → a < 16 → sum_to 16 (λ m. part m *ℤ crossed m a) ≡ part i *ℤ at cross a = λ a l.
     sum_to-one 16 (λ m. part m *ℤ crossed m a) i (λ m h. beside m a (omega arith) l (λ e. omega arith)) (λ m h n. beside m a n l (λ e. omega arith)) i_within
     ∙ ap (λ (v : ℤ). part i *ℤ v) (sym (crosses a l)) in
@@ -380,4 +380,4 @@ bounded_cross {r} {range} {h} {j} {lead} {rows} {counts} {rings} {x} {y} setting
     (λ (zeros : IsZero rows i).
     nil (crosses.entries a n ∙ cross-zero lead (entry rows i a) (gain_at (entry rows i) x y) (entry rows j a) (zeros a n) (gain_at-zero rows i x y x_16 y_16 zeros)))
     (stands_or_zero (stage.places i l)))
-    (same_or_other i j)
+    (cases_eq i j)

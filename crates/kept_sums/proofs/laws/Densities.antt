@@ -14,6 +14,7 @@ use Rattle.word_image.proofs.laws.RingSums.{ring_letters-turn}
 use Rattle.ring_laws.proofs.Rings.{image-ring_letters, take-ring_letters}
 use Rattle.kept_sums.specs.Sums.{sum_at, blocks, KeepsSumOf, IsKept, sum_to}
 use Rattle.kept_sums.specs.Spans.{gain_at}
+use Rattle.kept_sums.specs.Fluxes.{window_gain}
 use Rattle.kept_sums.proofs.laws.Spans.{sum_to-agree}
 use Rattle.kept_sums.proofs.laws.Turns.{sum_at-map, sum_to-sub, sum_to-turn}
 use Rattle.kept_sums.proofs.laws.Locals.{turn_sum, turn_sum-vanishes}
@@ -56,10 +57,6 @@ ring_letters-image {r} rule p i n some =
     let place : pos (i + j) +ℤ r.offset ≡ pos j +ℤ (pos i +ℤ r.offset) = omega (arith, ints) in
     ring_letter-image r p (i + j) some ∙ ap (λ o. local_map r (ring_letters p o r.width)) place))
     ∙ sym (image-ring_letters rule p (pos i +ℤ r.offset) n)
-
--- what a window of m + range - 1 letters adds to the sum
-abbrev pub window_gain : LocalRule → ℕ → (ℕ → ℤ) → List ℕ → ℤ
-window_gain r range weight x = weight (value r.states (image r x)) -ℤ weight (value r.states (take range x))
 
 -- how much more the words round the image weigh is what the windows add
 pub gain-windows : {r : LocalRule} → IsRule r → (range d : ℕ) (weight : ℕ → ℤ) (p : List ℕ) → d + 1 ≡ range + (r.width - 1) → 0 < length p

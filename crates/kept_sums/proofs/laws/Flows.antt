@@ -3,7 +3,6 @@ use Rattle.std.proofs.Common.{◌≡◌, ℕ, ◌+◌, ◌-◌, ◌*◌, ◌%◌
 use Rattle.std.proofs.Math.Nat.{mod-eq_of_lt, pow-zero}
 use Rattle.std.proofs.lemmas.Int.{ints}
 use Rattle.std.proofs.lemmas.List.{length-take-le}
-use Rattle.std.proofs.lemmas.List.Sums.{sum_by-cons}
 use Rattle.std.proofs.lemmas.List.Elements.{All-take, All-drop}
 use Rattle.std.proofs.lemmas.List.FromFn.{fill_by_all}
 use Rattle.word_image.specs.LocalRules.{LocalRule, IsRule, IsWord, value, word_of}
@@ -13,11 +12,12 @@ use Rattle.word_image.proofs.laws.RingSums.{ring_letters-turn}
 use Rattle.word_image.proofs.laws.Values.{word_of-value}
 use Rattle.ring_laws.proofs.Rings.{length-ring_letters, take-ring_letters, drop-ring_letters}
 use Rattle.kept_sums.specs.Sums.{sum_at, blocks, IsKept}
-use Rattle.kept_sums.specs.Fluxes.{IsFluxOf}
+use Rattle.kept_sums.specs.Fluxes.{IsFluxOf, window_gain}
+use Rattle.kept_sums.proofs.laws.Sums.{sum_at-pos}
 use Rattle.kept_sums.proofs.laws.Spans.{sum_to-agree}
 use Rattle.kept_sums.proofs.laws.Turns.{sum_to-steps}
 use Rattle.kept_sums.proofs.laws.Locals.{potential, window-potential}
-use Rattle.kept_sums.proofs.laws.Densities.{window_gain, gain-windows, KeepsSumOf-gain, gain-KeepsSumOf}
+use Rattle.kept_sums.proofs.laws.Densities.{gain-windows, KeepsSumOf-gain, gain-KeepsSumOf}
 
 -- kept weights have a flux
 pub IsFluxOf-kept : {r : LocalRule} → IsRule r → (range : ℕ) (weight : ℕ → ℤ) → 1 ≤ range → IsKept range weight r → (phi : ℕ → ℤ) × IsFluxOf range weight r phi
@@ -69,11 +69,6 @@ blocks-one k p =
     let e : i + 0 ≡ i = omega arith in
     let value_is : value k (slice_index p ((i + 0) % length p) ∷ []) ≡ slice_index p ((i + 0) % length p) = let one = ap (λ n. slice_index p ((i + 0) % length p) * n) (pow-zero k) in omega (arith, one) in
     sym (value_is ∙ ap (λ j. slice_index p (j % length p)) e ∙ ap (slice_index p) (mod-eq_of_lt l))))
-
--- sums of numbers from 0 on, as integers
-sum_at-pos : (weight : ℕ → ℕ) (w : List ℕ) → sum_at (λ a. pos (weight a)) w ≡ pos (sum_by weight w)
-sum_at-pos weight [] = refl
-sum_at-pos weight (a ∷ w) = let rest = sum_at-pos weight w in let parts = sum_by-cons weight a w in omega (arith, ints)
 
 -- weights of letters from 0 on are kept exactly where the rule conserves them
 pub IsKept-conserving : (weight : ℕ → ℕ) (r : LocalRule) → IsKept 1 (λ a. pos (weight a)) r ↔ IsConserving weight r

@@ -1,14 +1,10 @@
 -- The limits of the shapes: no small solution has a number above 2^56.
-use Rattle.std.proofs.Common.{◌≡◌, ℕ, zero, suc, ◌+◌, ◌-◌, ◌*◌, ◌^◌, ◌<◌, ◌≤◌, ap, ◌∙◌, ⊎_elim, arith}
-use Rattle.std.proofs.Math.Nat.{pow-le-pow_left, pow-le-pow_right, pow-suc, pow-zero}
+use Rattle.std.proofs.Common.{◌≡◌, ℕ, suc, ◌+◌, ◌-◌, ◌*◌, ◌^◌, ◌<◌, ◌≤◌, ap, ◌∙◌, ⊎_elim, arith}
+use Rattle.std.proofs.Math.Nat.{pow-le-pow_left, pow-le-pow_right, pow-suc}
 use Rattle.std.proofs.lemmas.Bool.{cases_lt}
 use Rattle.word_image.specs.LocalRules.{LocalRule, IsRule}
+use Rattle.kept_sums.proofs.laws.Ranges.{power-positive}
 use Rattle.kept_sums.proofs.laws.Bounds.{free_count}
-
--- a power of 1
-one_pow : (n : ℕ) → 1 ^ n ≡ 1
-one_pow zero = pow-zero 1
-one_pow (suc n) = pow-suc 1 n ∙ omega (arith, one_pow n)
 
 -- a power that is at most 16 has a small exponent
 exponent : (b c k n : ℕ) → 1 ≤ b → b ≤ k → 16 < b ^ c → k ^ n ≤ 16 → n < c
@@ -50,7 +46,7 @@ limits {r} rule range h e some few long most =
     let wide = rule.shape.most_width in
     let least = rule.shape.least_width in
     let split : k ^ range ≡ p * k = let next : range ≡ suc (range - 1) = omega arith in ap (λ n. k ^ n) next ∙ pow-suc k (range - 1) in
-    let positive : 1 ≤ p = let one : 1 ^ (range - 1) ≤ p = pow-le-pow_left (omega arith) (range - 1) in let e = one_pow (range - 1) in omega arith in
+    let positive : 1 ≤ p = power-positive k (range - 1) (omega arith) in
     ⊎_elim
     (λ (two : k < 3).
     let short = exponent 2 5 k range (omega arith) states (omega arith) few in

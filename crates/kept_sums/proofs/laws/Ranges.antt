@@ -1,6 +1,6 @@
 -- Words of which there are at most 16 have at most 4 letters.
-use Rattle.std.proofs.Common.{ℕ, ◌+◌, ◌*◌, ◌^◌, ◌<◌, ◌≤◌, ⊎_elim, arith}
-use Rattle.std.proofs.Math.Nat.{pow-le-pow_left, pow-le-pow_right}
+use Rattle.std.proofs.Common.{ℕ, ◌+◌, ◌*◌, ◌^◌, ◌<◌, ◌≤◌, subst, ⊎_elim, arith}
+use Rattle.std.proofs.Math.Nat.{pow-le-pow_left, pow-le-pow_right, pow-zero}
 use Rattle.std.proofs.lemmas.Bool.{cases_lt}
 use Rattle.word_image.specs.LocalRules.{LocalRule, IsRule}
 
@@ -14,6 +14,10 @@ few k range some most =
     let exponent : 2 ^ 5 ≤ 2 ^ range = pow-le-pow_right (omega arith) {i = 5} {j = range} more in
     absurd (omega arith))
     (cases_lt range 5)
+
+-- a power of a positive number is positive
+pub power-positive : (b e : ℕ) → 1 ≤ b → 1 ≤ b ^ e
+power-positive b e some = subst (λ n. n ≤ b ^ e) (pow-zero b) (pow-le-pow_right some {i = 0} {j = e} (omega arith))
 
 -- a window of such words has few letters
 pub short : {r : LocalRule} → IsRule r → (range : ℕ) → r.states ^ range ≤ 16 → r.width + range ≤ 9

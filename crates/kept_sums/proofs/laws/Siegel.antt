@@ -1,19 +1,19 @@
 -- Fewer conditions on integers than there are integers have a small solution that isn't 0 (Siegel 1929, after Thue).
 use Rattle.std.proofs.Common.{◌≡◌, ◌≢◌, ℕ, suc, ◌+◌, ◌-◌, ◌*◌, ◌^◌, ◌<◌, ◌≤◌, List, [], ◌∷◌, length, map, sum_by, ℤ, pos, ◌-ℤ◌, refl, sym, ap, ap₂, subst, ◌∙◌, ⊎_elim, ◌⊎◌, inl, inr, arith}
 use Rattle.std.specs.Int.RustNames.{unsigned_abs}
-use Rattle.std.proofs.Math.Nat.{pow-suc, pow-zero, pow-le-pow_left, pow-le-pow_right, mul-le-mul_right}
+use Rattle.std.proofs.Math.Nat.{pow-suc, pow-le-pow_left, mul-le-mul_right}
+use Rattle.std.proofs.lemmas.Bool.{cases_eq}
 use Rattle.std.proofs.lemmas.Nat.{mul-pow}
 use Rattle.std.proofs.lemmas.List.Elements.{All-tail, All-cons}
 use Rattle.std.proofs.lemmas.Int.{ints}
 use Rattle.std.proofs.lemmas.List.Sums.{sum_by-cons}
 use Rattle.std.proofs.lemmas.List.{length-map}
 use Rattle.word_image.specs.LocalRules.{IsWord, value, word_of}
+use Rattle.word_image.proofs.laws.Searches.{twice_below}
 use Rattle.word_image.proofs.laws.Values.{value-below, value-injective, length-word_of, IsWord-word_of, value-word_of}
-use Rattle.kept_sums.specs.Sums.{sum_at}
 use Rattle.kept_sums.specs.Spans.{gain_at}
-use Rattle.kept_sums.proofs.laws.Sums.{gain_at-sub}
-use Rattle.kept_sums.proofs.laws.Stages.{same_or_other}
-use Rattle.kept_sums.proofs.laws.Pigeons.{collide}
+use Rattle.kept_sums.proofs.laws.Ranges.{power-positive}
+use Rattle.kept_sums.proofs.laws.Sums.{gain_at-sub, sum_at-pos}
 
 -- a number of a list
 abbrev pub In : ℕ → List ℕ → Type 0
@@ -34,7 +34,7 @@ chosen (inr b) d e = e
 pub spread : List ℕ → List ℕ → ℕ → ℕ
 spread [] ds a = 0
 spread (p ∷ ps) [] a = 0
-spread (p ∷ ps) (d ∷ ds) a = chosen (same_or_other a p) d (spread ps ds a)
+spread (p ∷ ps) (d ∷ ds) a = chosen (cases_eq a p) d (spread ps ds a)
 
 -- at a number's own place it is chosen
 chosen-here : (a p d e : ℕ) (c : (a ≡ p) ⊎ (a ≢ p)) → a ≡ p → chosen c d e ≡ d
@@ -60,7 +60,7 @@ unfolding spread
 spread-outside [] ds a outside = refl
 spread-outside (p ∷ ps) [] a outside = refl
 spread-outside (p ∷ ps) (d ∷ ds) a outside =
-    chosen-there a p d (spread ps ds a) (same_or_other a p) (λ e. outside (inl e)) ∙ spread-outside ps ds a (λ h. outside (inr h))
+    chosen-there a p d (spread ps ds a) (cases_eq a p) (λ e. outside (inl e)) ∙ spread-outside ps ds a (λ h. outside (inr h))
 
 -- no number is greater than the letters
 spread-most : (x : ℕ) (ps ds : List ℕ) (a : ℕ) → IsWord (x + 1) ds → spread ps ds a ≤ x
@@ -69,7 +69,7 @@ spread-most x [] ds a word = omega arith
 spread-most x (p ∷ ps) [] a word = omega arith
 spread-most x (p ∷ ps) (d ∷ ds) a word =
     let head = word 0 0 (omega arith) in
-    chosen-most x a p d (spread ps ds a) (same_or_other a p) (omega (arith, head)) (spread-most x ps ds a (All-tail (λ b. b < x + 1) d ds word))
+    chosen-most x a p d (spread ps ds a) (cases_eq a p) (omega (arith, head)) (spread-most x ps ds a (All-tail (λ b. b < x + 1) d ds word))
 
 -- words that differ give numbers that differ at some place
 pub record Differ (ps ds es : List ℕ) : Type 0 where
@@ -94,17 +94,17 @@ differ (p ∷ ps) (d ∷ ds) (e ∷ es) apart l m other =
       place = rest.place;
       listed = inr rest.listed;
       apart = λ equal. rest.apart
-          (sym (chosen-there rest.place p d (spread ps ds rest.place) (same_or_other rest.place p) beside)
+          (sym (chosen-there rest.place p d (spread ps ds rest.place) (cases_eq rest.place p) beside)
           ∙ equal
-          ∙ chosen-there rest.place p e (spread ps es rest.place) (same_or_other rest.place p) beside);
+          ∙ chosen-there rest.place p e (spread ps es rest.place) (cases_eq rest.place p) beside);
     })
     (λ (differs : d ≢ e). record {
       place = p;
       listed = inl refl;
       apart = λ equal. differs
-          (sym (chosen-here p p d (spread ps ds p) (same_or_other p p) refl) ∙ equal ∙ chosen-here p p e (spread ps es p) (same_or_other p p) refl);
+          (sym (chosen-here p p d (spread ps ds p) (cases_eq p p) refl) ∙ equal ∙ chosen-here p p e (spread ps es p) (cases_eq p p) refl);
     })
-    (same_or_other d e)
+    (cases_eq d e)
 
 -- a condition: two words that are to weigh the same
 abbrev pub Condition : Type 0
@@ -136,11 +136,6 @@ codes-below h x w most (c ∷ cs) short =
     let grows = mul-le-mul_right x short.0.0 in
     let head : code h x w c < 2 * h * x + 1 = omega (arith, first, grows) in
     All-cons (λ b. b < 2 * h * x + 1) (code h x w c) (map (code h x w) cs) head (codes-below h x w most cs short.1)
-
--- sums of numbers from 0 on, as integers
-sum_at-pos : (w : ℕ → ℕ) (xs : List ℕ) → sum_at (λ a. pos (w a)) xs ≡ pos (sum_by w xs)
-sum_at-pos w [] = refl
-sum_at-pos w (a ∷ xs) = let rest = sum_at-pos w xs in let parts = sum_by-cons w a xs in omega (arith, ints)
 
 -- one code, one gain
 gain-code : (h x : ℕ) (w v : ℕ → ℕ) → ((a : ℕ) → w a ≤ x) → ((a : ℕ) → v a ≤ x) → (c : Condition) → length c.1 ≤ h → code h x w c ≡ code h x v c
@@ -174,10 +169,6 @@ pub record SmallSolution (places : List ℕ) (conditions : List Condition) (most
   pub some : weight place ≢ pos 0
   pub solves : Each (λ c. gain_at weight c.0 c.1 ≡ pos 0) conditions
 
--- a power of a positive number
-one_power : (b e : ℕ) → 1 ≤ b → 1 ≤ b ^ e
-one_power b e some = subst (λ n. n ≤ b ^ e) (pow-zero b) (pow-le-pow_right some {i = 0} {j = e} (omega arith))
-
 -- there are more words than codes
 more_words : (l e : ℕ) → 1 ≤ l → (l * l ^ e + 1) ^ e < (l ^ e + 1) ^ (e + 1)
 more_words l e some =
@@ -186,7 +177,7 @@ more_words l e some =
     let whole : (l * x + 1) ^ e ≤ (l * (x + 1)) ^ e = pow-le-pow_left base e in
     let split : (l * (x + 1)) ^ e ≡ x * (x + 1) ^ e = mul-pow l (x + 1) e in
     let next : (x + 1) ^ (e + 1) ≡ (x + 1) ^ e * (x + 1) = let one : e + 1 ≡ suc e = omega arith in ap (λ n. (x + 1) ^ n) one ∙ pow-suc (x + 1) e in
-    let positive : 1 ≤ (x + 1) ^ e = one_power (x + 1) e (omega arith) in
+    let positive : 1 ≤ (x + 1) ^ e = power-positive (x + 1) e (omega arith) in
     omega (arith, whole, split, next, positive)
 
 -- one condition fewer than places has a solution there that isn't 0, and no number of it is above (2 h)^e
@@ -203,20 +194,23 @@ small_solution h places cs some apart long short =
     let few : (v : ℕ) → v < (x + 1) ^ n → number v < (2 * h * x + 1) ^ e = λ v l.
     subst (λ j. number v < (2 * h * x + 1) ^ j) (length-map cs (code h x (w v))) (value-below (2 * h * x + 1) (map (code h x (w v)) cs) (coded v l)) in
     let more : (2 * h * x + 1) ^ e < (x + 1) ^ n = subst (λ j. (2 * h * x + 1) ^ e < (x + 1) ^ j) (sym long) (more_words (2 * h) e (omega arith)) in
-    let pair = collide ((2 * h * x + 1) ^ e) ((x + 1) ^ n) number more few in
-    let one_within : pair.one < (x + 1) ^ n = let l = pair.less in let m = pair.within in omega arith in
-    let codes : map (code h x (w pair.other)) cs ≡ map (code h x (w pair.one)) cs =
-    value-injective (2 * h * x + 1) _ _ (coded pair.other pair.within) (coded pair.one one_within) (length-map cs (code h x (w pair.other)) ∙ sym (length-map cs (code h x (w pair.one)))) (sym pair.same) in
-    let words : digits pair.other ≢ digits pair.one = λ same.
-    let equal : pair.other ≡ pair.one = sym (value-word_of (x + 1) n pair.other pair.within) ∙ ap (value (x + 1)) same ∙ value-word_of (x + 1) n pair.one one_within in
-    let l = pair.less in absurd (omega arith) in
-    let differs = differ places (digits pair.other) (digits pair.one) apart (length-word_of (x + 1) n pair.other) (length-word_of (x + 1) n pair.one) words in
+    let pair = twice_below ((2 * h * x + 1) ^ e) number (λ v l. few v (omega (arith, more, l))) in
+    let i : ℕ = pair.0 in
+    let j : ℕ = pair.1 in
+    let j_within : j < (x + 1) ^ n = omega (arith, more, pair.3) in
+    let i_within : i < (x + 1) ^ n = omega (arith, j_within, pair.2) in
+    let codes : map (code h x (w j)) cs ≡ map (code h x (w i)) cs =
+    value-injective (2 * h * x + 1) _ _ (coded j j_within) (coded i i_within) (length-map cs (code h x (w j)) ∙ sym (length-map cs (code h x (w i)))) (sym pair.4) in
+    let words : digits j ≢ digits i = λ same.
+    let equal : j ≡ i = sym (value-word_of (x + 1) n j j_within) ∙ ap (value (x + 1)) same ∙ value-word_of (x + 1) n i i_within in
+    absurd (omega (arith, equal, pair.2)) in
+    let differs = differ places (digits j) (digits i) apart (length-word_of (x + 1) n j) (length-word_of (x + 1) n i) words in
     record {
-      weight = λ a. pos (w pair.other a) -ℤ pos (w pair.one a);
-      small = λ a. let one = most pair.other pair.within a in let two = most pair.one one_within a in omega (arith, ints, one, two);
-      outside = λ a out. ap₂ (λ (u v : ℕ). pos u -ℤ pos v) (spread-outside places (digits pair.other) a out) (spread-outside places (digits pair.one) a out);
+      weight = λ a. pos (w j a) -ℤ pos (w i a);
+      small = λ a. let one = most j j_within a in let two = most i i_within a in omega (arith, ints, one, two);
+      outside = λ a out. ap₂ (λ (u v : ℕ). pos u -ℤ pos v) (spread-outside places (digits j) a out) (spread-outside places (digits i) a out);
       place = differs.place;
       listed = differs.listed;
       some = λ none. differs.apart (omega (arith, ints, none));
-      solves = gains-codes h x (w pair.other) (w pair.one) (most pair.other pair.within) (most pair.one one_within) cs short codes;
+      solves = gains-codes h x (w j) (w i) (most j j_within) (most i i_within) cs short codes;
     }

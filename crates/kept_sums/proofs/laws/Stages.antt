@@ -1,6 +1,6 @@
 -- Stages: the first one, and that after a ring whose sum some row doesn't keep.
 use Rattle.std.proofs.Common.{◌≡◌, ◌≢◌, ℕ, ◌+◌, ◌-◌, ◌*◌, ◌^◌, ◌<◌, ◌≤◌, List, [], length, take, set, slice_index, get_or-set_other, get_or-set_same, ℤ, pos, sym, ap, ap₂, subst, ◌∙◌, ⊎_elim, ◌⊎◌, inl, inr, arith}
-use Rattle.std.proofs.lemmas.Bool.{cases_lt}
+use Rattle.std.proofs.lemmas.Bool.{cases_lt, cases_eq}
 use Rattle.std.proofs.lemmas.List.{length-set}
 use Rattle.word_image.specs.LocalRules.{LocalRule, IsWord}
 use Rattle.word_image.specs.Rings.{IsRing}
@@ -45,14 +45,6 @@ ring_at-here counts rings j n letters l h = ap₂ (λ (m : ℕ) (xs : List ℕ).
 ring_at-other : (counts : List ℕ) (rings : List (List ℕ)) (j n : ℕ) (letters : List ℕ) (i : ℕ) → i ≢ j → ring_at (set counts j n) (set rings j letters) i ≡ ring_at counts rings i
 ring_at-other counts rings j n letters i other = ap₂ (λ (m : ℕ) (xs : List ℕ). take m xs) (get_or-set_other counts j i n 0 other) (get_or-set_other rings j i letters [] other)
 
--- two places are one, or differ
-pub same_or_other : (i j : ℕ) → (i ≡ j) ⊎ (i ≢ j)
-same_or_other i j =
-    ⊎_elim
-    (λ (less : i < j). inr (λ e. omega arith))
-    (λ (most : j ≤ i). ⊎_elim (λ (more : j < i). inr (λ e. omega arith)) (λ (least : i ≤ j). inl (omega arith)) (cases_lt j i))
-    (cases_lt i j)
-
 -- the rows are narrowed by a ring, which is noted: x and y are the words round it and its image, in this order or the other one
 pub IsStage-narrowed : {r : LocalRule} {range : ℕ} {rows news : List (List ℤ)} {counts : List ℕ} {rings : List (List ℕ)} {x y : List ℕ} {j : ℕ} (n : ℕ) (letters : List ℕ)
     → IsStage r range rows counts rings → r.states ^ range ≤ 16 → IsWord (r.states ^ range) x → IsWord (r.states ^ range) y → IsWord 16 x → IsWord 16 y
@@ -88,7 +80,7 @@ IsStage-narrowed {r} {range} {rows} {news} {counts} {rings} {x} {y} {j} n letter
             free = λ some. old.free (subst (λ m. 1 ≤ m) count some);
             past = λ no. IsZero-narrowed narrowed one two i l (old.past no);
           })
-          (same_or_other i j);
+          (cases_eq i j);
       ends = λ i a l from h. entry-narrowed narrowed i a l h (stage.ends i a l from h) (stage.ends j a within from h);
       complete = λ weight normal keep.
           let keeps_old : NotedKeep r range counts rings weight = λ i l count.
@@ -101,7 +93,7 @@ IsStage-narrowed {r} {range} {rows} {news} {counts} {rings} {x} {y} {j} n letter
           ⊎_elim
           (λ (same : i ≡ j). subst (λ a. slice_index (set counts j n) a + 3 ≤ 2 * (r.width + range)) (sym same) (omega (arith, here, fits)))
           (λ (other : i ≢ j). let count = get_or-set_other counts j i n 0 other in let old = stage.short i l in omega (arith, count, old))
-          (same_or_other i j);
+          (cases_eq i j);
       small = small;
       many_counts = length-set counts j n ∙ many;
       many_rings = length-set rings j letters ∙ many_rings;

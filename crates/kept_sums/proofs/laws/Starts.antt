@@ -5,7 +5,7 @@ use Rattle.std.proofs.Math.ListN.{get_or-eq_default}
 use Rattle.std.specs.Int.RustNames.{unsigned_abs}
 use Prim.Native.Nat.{◌∣◌}
 use Rattle.std.proofs.lemmas.Int.{ints}
-use Rattle.std.proofs.lemmas.Bool.{cases_lt}
+use Rattle.std.proofs.lemmas.Bool.{cases_lt, cases_eq}
 use Rattle.std.proofs.lemmas.List.{get_or-replicate, length-replicate}
 use Rattle.word_image.specs.LocalRules.{LocalRule, IsRule}
 use Rattle.word_image.proofs.laws.Lists.{slice_index-zeros}
@@ -15,9 +15,9 @@ use Rattle.kept_sums.specs.Spans.{entry, IsSpanned}
 use Rattle.kept_sums.specs.Stages.{IsFree, IsZero, IsStage}
 use Rattle.kept_sums.proofs.laws.Parts.{at-replicate}
 use Rattle.kept_sums.proofs.laws.Spans.{sum_to-one}
-use Rattle.kept_sums.proofs.laws.Stages.{is_free, same_or_other}
 use Rattle.kept_sums.proofs.laws.Densities.{gain-KeepsSumOf}
 use Rattle.kept_sums.proofs.laws.Narrowed.{gain_at-zero}
+use Rattle.kept_sums.proofs.laws.Unique.{Stands, stands_or_zero, not_both}
 use Rattle.kept_sums.proofs.laws.AfterRings.{IsWord-blocks, within, IsRing-ring_image}
 
 -- rows of zeros have them everywhere
@@ -64,7 +64,7 @@ small_at {first} {size} {rows} units i a =
     (cases_lt i size))
     (cases_lt i first))
     (λ (other : a ≢ i). none (off units i a other))
-    (same_or_other a i)
+    (cases_eq a i)
 
 -- each normal weight is the sum of them, each as often as the weight says
 spanned : {first size : ℕ} {rows : List (List ℤ)} → size ≤ 16 → AreUnits first size rows → (weight : ℕ → ℤ) → ((a : ℕ) → a < first → weight a ≡ pos 0) → IsSpanned size rows weight
@@ -129,25 +129,13 @@ IsStage-start r range rows rule letter few units =
       many_rings = length-replicate {A = List ℕ} 16 (replicate 15 0);
     }
 
--- where no row has a number in its own place, all are rows of zeros
-pub IsZero-none : {r : LocalRule} {range : ℕ} {rows : List (List ℤ)} {counts : List ℕ} {rings : List (List ℕ)} → IsStage r range rows counts rings
-    → ((i : ℕ) → i < 16 → entry rows i i ≡ pos 0) → (i : ℕ) → i < 16 → IsZero rows i
-IsZero-none {r} {range} {rows} {counts} stage none i l =
-    let place = stage.places i l in
+-- each row is kept where those are that have a number in their own places
+pub IsKept-rows : {r : LocalRule} {range : ℕ} {rows : List (List ℤ)} {counts : List ℕ} {rings : List (List ℕ)} → IsRule r → r.states ^ range ≤ 16 → IsStage r range rows counts rings
+    → ((i : ℕ) → i < 16 → entry rows i i ≢ pos 0 → IsKept range (entry rows i) r) → (i : ℕ) → i < 16 → IsKept range (entry rows i) r
+IsKept-rows {r} {range} {rows} rule few stage kept i l =
     ⊎_elim
-    (λ (free : IsFree r.states range i). ⊎_elim
-    (λ (zeroth : slice_index counts i < 1).
-    let stands = place.standing free (omega arith) in
-    let leads = stands.leads in
-    let nothing = none i l in
-    absurd (omega (arith, ints)))
-    (λ (some : 1 ≤ slice_index counts i). place.dropped some)
-    (cases_lt (slice_index counts i) 1))
-    (λ (outside : ¬ IsFree r.states range i). place.past outside)
-    (is_free r.states range i)
-
--- each ring keeps the sums of rows of zeros
-pub RowsKeep-zeros : {r : LocalRule} → IsRule r → (range : ℕ) (rows : List (List ℤ)) → r.states ^ range ≤ 16 → ((i : ℕ) → i < 16 → IsZero rows i) → (i : ℕ) → i < 16 → IsKept range (entry rows i) r
-RowsKeep-zeros {r} rule range rows few none i l p ring =
+    (λ (stands : Stands r.states range rows i). kept i l (not_both (entry rows i i) stands.standing.leads))
+    (λ (zeros : IsZero rows i). λ p ring.
     gain-KeepsSumOf range (entry rows i) r p
-    (gain_at-zero rows i _ _ (within few _ (IsWord-blocks range (IsRing-ring_image rule ring))) (within few _ (IsWord-blocks range ring)) (none i l))
+    (gain_at-zero rows i _ _ (within few _ (IsWord-blocks range (IsRing-ring_image rule ring))) (within few _ (IsWord-blocks range ring)) zeros))
+    (stands_or_zero (stage.places i l))

@@ -1,7 +1,8 @@
 -- Sums of weights over words are linear in the weights.
-use Rattle.std.proofs.Common.{◌≡◌, ℕ, ◌+◌, ◌<◌, List, [], ◌∷◌, ◌++◌, length, take, get_or, ℤ, pos, ◌+ℤ◌, ◌-ℤ◌, ◌*ℤ◌, refl, sym, ap, ap₂, ◌∙◌, arith}
+use Rattle.std.proofs.Common.{◌≡◌, ℕ, ◌+◌, ◌<◌, List, [], ◌∷◌, ◌++◌, length, take, get_or, sum_by, ℤ, pos, ◌+ℤ◌, ◌-ℤ◌, ◌*ℤ◌, refl, sym, ap, ap₂, ◌∙◌, arith}
 use Rattle.std.proofs.lemmas.Int.{ints}
 use Rattle.std.proofs.lemmas.List.{take_more}
+use Rattle.std.proofs.lemmas.List.Sums.{sum_by-cons}
 use Rattle.std.proofs.lemmas.List.Elements.{All-tail}
 use Rattle.word_image.specs.LocalRules.{IsWord}
 use Rattle.kept_sums.specs.Sums.{sum_at}
@@ -33,6 +34,11 @@ sum_at-sub f g (a ∷ w) = let rest = sum_at-sub f g w in omega (arith, ints)
 pub sum_at-none : (w : List ℕ) → sum_at (λ a. pos 0) w ≡ pos 0
 sum_at-none [] = refl
 sum_at-none (a ∷ w) = let rest = sum_at-none w in omega (arith, ints)
+
+-- sums of numbers from 0 on, as integers
+pub sum_at-pos : (weight : ℕ → ℕ) (w : List ℕ) → sum_at (λ a. pos (weight a)) w ≡ pos (sum_by weight w)
+sum_at-pos weight [] = refl
+sum_at-pos weight (a ∷ w) = let rest = sum_at-pos weight w in let parts = sum_by-cons weight a w in omega (arith, ints)
 
 -- weights that agree on two words gain the same
 pub gain_at-agree : {k : ℕ} {f g : ℕ → ℤ} → ((a : ℕ) → a < k → f a ≡ g a) → (x y : List ℕ) → IsWord k x → IsWord k y → gain_at f x y ≡ gain_at g x y

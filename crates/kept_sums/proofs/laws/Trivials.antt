@@ -1,5 +1,5 @@
 -- Trivial weights: each rule keeps their sums; each weight is a normal one and a trivial one; only 0 is both.
-use Rattle.std.proofs.Common.{◌≡◌, ℕ, zero, suc, ◌+◌, ◌-◌, ◌*◌, ◌/◌, ◌%◌, ◌^◌, ◌<◌, ◌≤◌, List, length, take, drop, ℤ, pos, ◌+ℤ◌, ◌-ℤ◌, ◌*ℤ◌, sym, ap, ap₂, subst, ◌∙◌, arith, mod-lt}
+use Rattle.std.proofs.Common.{◌≡◌, ℕ, zero, suc, ◌+◌, ◌-◌, ◌*◌, ◌/◌, ◌%◌, ◌^◌, ◌<◌, ◌≤◌, List, length, take, drop, ℤ, pos, ◌+ℤ◌, ◌-ℤ◌, ◌*ℤ◌, sym, ap, ap₂, ◌∙◌, arith, mod-lt}
 use Rattle.std.proofs.Math.Nat.{pow-suc, pow-zero, div-div-eq-div-mul, div-eq_of_lt, mod-eq_of_lt, div-one, zero-div, div-lt_iff_lt-mul, pow-le-pow_right}
 use Rattle.std.proofs.lemmas.Int.{ints}
 use Rattle.word_image.specs.LocalRules.{LocalRule, IsRule, IsWord, value, word_of}
@@ -12,6 +12,7 @@ use Rattle.kept_sums.specs.Sums.{sum_at, blocks, KeepsSumOf, IsKept, sum_to}
 use Rattle.kept_sums.specs.Stages.{IsNormal, ring_at, NotedKeep, IsStage}
 use Rattle.kept_sums.specs.Trivials.{IsTrivial, IsSpannedUpToTrivial}
 use Rattle.kept_sums.proofs.laws.Integers.{mul-add, mul-sub}
+use Rattle.kept_sums.proofs.laws.Ranges.{power-positive}
 use Rattle.kept_sums.proofs.laws.Sums.{sum_at-sub}
 use Rattle.kept_sums.proofs.laws.Spans.{sum_to-agree, sum_to-add}
 use Rattle.kept_sums.proofs.laws.Turns.{sum_at-map, sum_to-steps, sum_to-ends}
@@ -80,7 +81,7 @@ abbrev pub normal_part : ℕ → ℕ → (ℕ → ℤ) → ℕ → ℤ
 normal_part k range weight x = weight x -ℤ trivial_part k range weight x
 
 -- the first letters of a word but for the last, and the last but for the first, by its value
-ends_of_word : (k range : ℕ) (w : List ℕ) → 1 ≤ range → IsWord k w → length w ≡ range → (value k (take (range - 1) w) ≡ value k w / k) × (value k (drop 1 w) ≡ value k w % k ^ (range - 1))
+pub ends_of_word : (k range : ℕ) (w : List ℕ) → 1 ≤ range → IsWord k w → length w ≡ range → (value k (take (range - 1) w) ≡ value k w / k) × (value k (drop 1 w) ≡ value k w % k ^ (range - 1))
 ends_of_word k range w some word long =
     let one : length w - (range - 1) ≡ 1 = omega arith in
     let letters : k ^ 1 ≡ k = omega (arith, pow-suc k 0, ap (λ n. n * k) (pow-zero k)) in (
@@ -111,7 +112,7 @@ base_positive zero n v l = absurd (omega (arith, pow-suc 0 n))
 base_positive (suc k) n v l = omega arith
 
 -- a function that doesn't see the last letter gives one number on all words
-same_of_step : (k : ℕ) (phi : ℕ → ℤ) (d n : ℕ) → n ≤ d → ((v : ℕ) → v < k ^ d → phi v ≡ phi (v / k)) → (v : ℕ) → v < k ^ n → phi v ≡ phi 0
+pub same_of_step : (k : ℕ) (phi : ℕ → ℤ) (d n : ℕ) → n ≤ d → ((v : ℕ) → v < k ^ d → phi v ≡ phi (v / k)) → (v : ℕ) → v < k ^ n → phi v ≡ phi 0
 same_of_step k phi d zero few step v l = let none : v ≡ 0 = omega (arith, pow-zero k) in ap phi none
 same_of_step k phi d (suc n) few step v l =
     let some : 0 < k = base_positive k n v l in
@@ -127,7 +128,7 @@ IsNormal-trivial k range weight states some normal trivial a l =
     let c = trivial.constant in
     let positive : 0 < k = omega arith in
     let size : k ^ range ≡ k ^ d * k = let e : range ≡ suc d = omega arith in ap (λ n. k ^ n) e ∙ pow-suc k d in
-    let one : 1 ≤ k ^ d = subst (λ n. n ≤ k ^ d) (pow-zero k) (pow-le-pow_right positive {i = 0} {j = d} (omega arith)) in
+    let one : 1 ≤ k ^ d = power-positive k d positive in
     let at_value : (x : ℕ) → x < k ^ range → weight x ≡ c +ℤ (phi (x / k) -ℤ phi (x % k ^ d)) = λ x h.
     let w : List ℕ = word_of k range x in
     let word : IsWord k w = IsWord-word_of k range x h in

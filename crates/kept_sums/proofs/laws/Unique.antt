@@ -72,7 +72,7 @@ pub not_both : (x : ℤ) → pos 0 <ℤ x → x ≡ pos 0 → ⊥
 not_both x above none = omega (arith, ints, above, none)
 
 -- a product that is 0, of a number and a positive one
-factor-zero : (c x : ℤ) → pos 0 <ℤ x → c *ℤ x ≡ pos 0 → c ≡ pos 0
+pub factor-zero : (c x : ℤ) → pos 0 <ℤ x → c *ℤ x ≡ pos 0 → c ≡ pos 0
 factor-zero c (pos n) above e = zero-of_times n c (omega (arith, ints, above)) (mul-comm (pos n) c ∙ e)
 factor-zero c (negsuc n) above e = absurd (omega (arith, ints, above))
 

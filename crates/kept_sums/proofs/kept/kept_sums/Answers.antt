@@ -3,7 +3,7 @@ use Rattle.std.proofs.lemmas.Bool.{cases_lt}
 use Rattle.kept_sums.specs.Spans.{entry}
 use Rattle.kept_sums.proofs.laws.Densities.{IsKept-short_rings}
 use Rattle.kept_sums.proofs.laws.Ranges.{short}
-use Rattle.kept_sums.proofs.laws.Starts.{IsZero-none, RowsKeep-zeros}
+use Rattle.kept_sums.proofs.laws.Starts.{IsKept-rows}
 use Rattle.kept_sums.proofs.kept.kept_sums.Goals as goal
 
 pub overflow_add-count-end : goal.overflow_add-count-end
@@ -24,14 +24,11 @@ returns c =
       kept = λ i l. IsKept-short_rings rule c.args.range (entry _ i) c.requires.some (λ p ring fits. keep p ring (omega arith) i l);
     }
 
-pub returns-then-not-has_row : goal.returns-then-not-has_row
-returns-then-not-has_row c =
+pub returns-then-are_kept : goal.returns-then-are_kept
+returns-then-are_kept c =
     let r = c.args.rule.now in
     let (stage, keep) = c.loop-count.invariant in
-    record {
-      stage = stage;
-      kept = RowsKeep-zeros c.m.ensures.rule c.args.range _ c.requires.few (IsZero-none stage (c.has_row.ensures.none c.if-not-has_row.true));
-    }
+    record { stage = stage; kept = IsKept-rows c.m.ensures.rule c.requires.few stage (c.are_kept.ensures c.if-are_kept.true) }
 
 pub loop-count-preserved : goal.loop-count-preserved
 loop-count-preserved c =

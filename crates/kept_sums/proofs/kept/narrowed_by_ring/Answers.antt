@@ -63,29 +63,29 @@ last_gain-requires-clause-after c = small_after c.requires.few (words_of (goal.a
 pub last_gain-requires-clause-before : goal.last_gain-requires-clause-before
 last_gain-requires-clause-before c = small_before c.requires.few (words_of (goal.at.last_gain-requires-clause-before c).After-blocks-after)
 
-pub narrowed_by-rows-requires-clause-after : goal.narrowed_by-rows-requires-clause-after
-narrowed_by-rows-requires-clause-after c = small_after c.requires.few (words_of (goal.at.narrowed_by-rows-requires-clause-after c).After-blocks-after)
+pub narrowed_at-requires-clause-after : goal.narrowed_at-requires-clause-after
+narrowed_at-requires-clause-after c = small_after c.requires.few (words_of (goal.at.narrowed_at-requires-clause-after c).After-blocks-after)
 
-pub narrowed_by-rows-requires-clause-before : goal.narrowed_by-rows-requires-clause-before
-narrowed_by-rows-requires-clause-before c = small_before c.requires.few (words_of (goal.at.narrowed_by-rows-requires-clause-before c).After-blocks-after)
+pub narrowed_at-requires-clause-before : goal.narrowed_at-requires-clause-before
+narrowed_at-requires-clause-before c = small_before c.requires.few (words_of (goal.at.narrowed_at-requires-clause-before c).After-blocks-after)
 
 -- the ring isn't long
 ring_fits : (count most : ℕ) (letters : List ℕ) → count + 3 ≤ most → length (take count letters) + 3 ≤ most
 ring_fits count most letters fits = omega (arith, fits, length-take count letters)
 
-pub narrowed_by-rows-requires-clause-fits : goal.narrowed_by-rows-requires-clause-fits
-narrowed_by-rows-requires-clause-fits c =
+pub narrowed_at-requires-clause-fits : goal.narrowed_at-requires-clause-fits
+narrowed_at-requires-clause-fits c =
     let r = c.args.rule.now in
     let p = take c.args.count c.args.letters.now in
-    let words = words_of (goal.at.narrowed_by-rows-requires-clause-fits c).After-blocks-after in
+    let words = words_of (goal.at.narrowed_at-requires-clause-fits c).After-blocks-after in
     subst₂ (λ (x y : List ℕ). FitNarrowed c.args.sums.now.rows x y c.in-Some.pivot) (sym words.after_is) (sym words.before_is)
     (fit_after words.rule c.requires.letter c.requires.few c.requires.stage p words.ring (ring_fits c.args.count _ c.args.letters.now c.requires.short) c.in-Some.pivot c.in-Some.ensures.last.within)
 
-pub narrowed_by-rows-requires-clause-turned : goal.narrowed_by-rows-requires-clause-turned
-narrowed_by-rows-requires-clause-turned c =
+pub narrowed_at-requires-clause-turned : goal.narrowed_at-requires-clause-turned
+narrowed_at-requires-clause-turned c =
     let r = c.args.rule.now in
     let p = take c.args.count c.args.letters.now in
-    let words = words_of (goal.at.narrowed_by-rows-requires-clause-turned c).After-blocks-after in
+    let words = words_of (goal.at.narrowed_at-requires-clause-turned c).After-blocks-after in
     subst₂ (λ (x y : List ℕ). FitNarrowed c.args.sums.now.rows x y c.in-Some.pivot) (sym words.before_is) (sym words.after_is)
     (fit_before words.rule c.requires.letter c.requires.few c.requires.stage p words.ring (ring_fits c.args.count _ c.args.letters.now c.requires.short) c.in-Some.pivot c.in-Some.ensures.last.within)
 
@@ -103,10 +103,10 @@ returns c =
     let rows = c.args.sums.now.rows in
     let words = words_of (goal.at.returns c).After-blocks-after in
     let j = c.in-Some.pivot in
-    let news = c.narrowed_by-rows.result in
+    let news = c.narrowed_at.result.rows in
     let lost : IsLastGain rows (after_of r c.args.range p) (before_of r c.args.range p) j =
     subst₂ (λ (x y : List ℕ). IsLastGain rows x y j) words.after_is words.before_is c.in-Some.ensures.last in
     let either : IsNarrowed rows (after_of r c.args.range p) (before_of r c.args.range p) j news ⊎ IsNarrowed rows (before_of r c.args.range p) (after_of r c.args.range p) j news =
-    subst₂ (λ (x y : List ℕ). IsNarrowed rows x y j news ⊎ IsNarrowed rows y x j news) words.after_is words.before_is c.narrowed_by-rows.ensures.narrowed in
-    rw (c.noted.ensures.rows, c.noted.ensures.counts, c.noted.ensures.rings)
-    (IsAfterRing-narrowed words.rule c.args.count c.args.letters.now c.requires.stage c.requires.few c.requires.some c.requires.short words.ring lost either c.narrowed_by-rows.ensures.small)
+    subst₂ (λ (x y : List ℕ). IsNarrowed rows x y j news ⊎ IsNarrowed rows y x j news) words.after_is words.before_is c.narrowed_at.ensures.narrowed in
+    rw (c.narrowed_at.ensures.counts, c.narrowed_at.ensures.rings)
+    (IsAfterRing-narrowed words.rule c.args.count c.args.letters.now c.requires.stage c.requires.few c.requires.some c.requires.short words.ring lost either c.narrowed_at.ensures.small)

@@ -1,7 +1,8 @@
-use Rattle.std.proofs.Common.{◌≡◌, ℕ, suc, ◌+◌, ◌-◌, ◌/◌, ◌%◌, ◌^◌, ◌<◌, ◌≤◌, List, [], ◌∷◌, ◌++◌, length, take, set, sym, ap, ap₂, subst, ◌∙◌, append_assoc, mod-lt, mul-div_cancel, pow-suc, arith}
-use Rattle.std.proofs.Math.Nat.{pow-le-pow_left, pow-le-pow_right, pow-zero}
+use Rattle.std.proofs.Common.{◌≡◌, ℕ, suc, ◌+◌, ◌-◌, ◌/◌, ◌%◌, ◌^◌, ◌<◌, ◌≤◌, List, [], ◌∷◌, ◌++◌, length, take, set, sym, ap, ap₂, ◌∙◌, append_assoc, mod-lt, mul-div_cancel, pow-suc, arith}
+use Rattle.std.proofs.Math.Nat.{pow-le-pow_left, pow-le-pow_right}
 use Rattle.std.proofs.lemmas.List.{length-set, take_more_set}
 use Rattle.word_image.specs.LocalRules.{word_of}
+use Rattle.kept_sums.proofs.laws.Ranges.{power-positive}
 use Rattle.kept_sums.proofs.rings.word_with.Goals as goal
 
 pub pow-power-requires : goal.pow-power-requires
@@ -15,22 +16,18 @@ lower : (k base power n m : ℕ) → 1 ≤ k → base ≡ k → power ≡ k ^ n 
 lower k base power n m some same is next =
     ap₂ (λ (i j : ℕ). i / j) (is ∙ ap (λ j. k ^ j) next ∙ pow-suc k m) same ∙ mul-div_cancel (k ^ m) some
 
--- a power of a number that isn't 0
-positive : (k m : ℕ) → 1 ≤ k → 0 < k ^ m
-positive k m some = subst (λ n. n ≤ k ^ m) (pow-zero k) (pow-le-pow_right some {i = 0} {j = m} (omega arith))
-
 pub nonzero_div-letters : goal.nonzero_div-letters
 nonzero_div-letters c =
     let m = c.args.count - (c.loop-place.place + 1) in
     let power = lower c.args.k c.from-base.result c.loop-place.power _ m c.requires.some c.from-base.ensures c.loop-place.invariant.1 (omega arith) in
-    let some = positive c.args.k m c.requires.some in
+    let some = power-positive c.args.k m c.requires.some in
     omega (arith, power, some)
 
 pub nonzero_rem-rest : goal.nonzero_rem-rest
 nonzero_rem-rest c =
     let m = c.args.count - (c.loop-place.place + 1) in
     let power = lower c.args.k c.from-base.result c.loop-place.power _ m c.requires.some c.from-base.ensures c.loop-place.invariant.1 (omega arith) in
-    let some = positive c.args.k m c.requires.some in
+    let some = power-positive c.args.k m c.requires.some in
     omega (arith, power, some)
 
 -- one letter more
@@ -53,7 +50,7 @@ loop-place-preserved c =
     let letter = c.loop-place.rest / (c.loop-place.power / c.from-base.result) in (
       length-set c.loop-place.letters place letter ∙ long,
       power,
-      rw power (mod-lt c.loop-place.rest (positive k m c.requires.some)),
+      rw power (mod-lt c.loop-place.rest (power-positive k m c.requires.some)),
       ap (λ p. take (place + 1) (set c.loop-place.letters place letter) ++ word_of k m (c.loop-place.rest % p)) power
           ∙ word_more k (c.args.count - place) m place letter c.loop-place.rest c.loop-place.letters _ (omega arith) (omega arith) (ap (λ p. c.loop-place.rest / p) power) word,
     )

@@ -1,5 +1,6 @@
 use Rattle.kept_sums.proofs.laws.Densities.{IsKept-short_rings}
 use Rattle.kept_sums.proofs.laws.Flows.{IsFluxOf-kept, IsKept-flux}
+use Rattle.kept_sums.proofs.laws.Windows.{IsFluxOf-one}
 use Rattle.kept_sums.proofs.theorems.short_rings_and_fluxes_tell.Goals as goal
 
 pub returns-clause-short : goal.returns-clause-short
@@ -10,3 +11,6 @@ returns-clause-flux c = λ r range weight rule some kept. IsFluxOf-kept rule ran
 
 pub returns-clause-kept : goal.returns-clause-kept
 returns-clause-kept c = λ r range weight phi rule some flux. IsKept-flux rule range weight phi some flux
+
+pub returns-clause-one : goal.returns-clause-one
+returns-clause-one c = λ r range weight phi psi rule some one other v l. IsFluxOf-one rule some one other v l

@@ -1,0 +1,78 @@
+use Rattle.std.proofs.Common.{ℕ, ◌*◌, ◌/◌, ◌^◌, ◌<◌, ◌≤◌, ℤ, ◌-ℤ◌, refl, sym, ap₂, subst, ◌∙◌, ⊎_elim, arith}
+use Rattle.std.specs.Int.RustNames.{unsigned_abs}
+use Rattle.std.proofs.Math.Nat.{pow-zero, div-lt_self}
+use Rattle.std.proofs.lemmas.Bool.{cases_lt}
+use Rattle.std.proofs.lemmas.Int.{ints}
+use Rattle.kept_sums.specs.Rows.{at}
+use Rattle.kept_sums.proofs.Casts.{fits-sub, back-sub}
+use Rattle.kept_sums.proofs.laws.Ranges.{power-positive}
+use Rattle.kept_sums.proofs.laws.Windows.{words-half, AreNumbers-zeros, AreNumbers-next}
+use Rattle.kept_sums.proofs.fluxes.numbers.Goals.{After-from-in-loop-word-2}
+use Rattle.kept_sums.proofs.fluxes.numbers.Goals as goal
+
+pub loop-word-init : goal.loop-word-init
+loop-word-init c = AreNumbers-zeros c.args.k c.args.letters c.args.gains.now
+
+-- the sizes of the two numbers
+record Sizes (c : After-from-in-loop-word-2) : Type 0 where
+  first : unsigned_abs (at c.loop-word.flux c.from-in-loop-word.result) ≤ 2 ^ 60
+  last : unsigned_abs (at c.args.gains.now c.from-in-loop-word-2.result) ≤ 2 ^ 60
+
+-- both are small
+sizes : (c : After-from-in-loop-word-2) → Sizes c
+sizes c =
+    let k = c.args.k in
+    let v = c.loop-word.word in
+    let half = words-half k c.args.letters c.requires.states c.requires.few in
+    let states = c.requires.states in
+    let all = c.pow-word-end.ensures ∙ ap₂ (λ (x y : ℕ). x ^ y) refl c.from.ensures in
+    let less : v / k < v = div-lt_self (omega arith) (omega arith) in
+    let one = c.from-in-loop-word.ensures in
+    let two = c.from-in-loop-word-2.ensures in
+    let first = c.loop-word.invariant.bounds c.from-in-loop-word.result c.args.letters (omega arith) (omega arith) in
+    let last = c.requires.bounds c.from-in-loop-word-2.result (omega arith) in
+    record { first = omega arith; last = omega arith }
+
+pub overflow_sub-flux : goal.overflow_sub-flux
+overflow_sub-flux c =
+    let both = sizes (goal.at.overflow_sub-flux c).After-from-in-loop-word-2 in
+    fits-sub (at c.loop-word.flux c.from-in-loop-word.result) (at c.args.gains.now c.from-in-loop-word-2.result) (2 ^ 60) both.first both.last (omega arith)
+
+pub loop-word-preserved : goal.loop-word-preserved
+loop-word-preserved c =
+    let k = c.args.k in
+    let v = c.loop-word.word in
+    let both = sizes (goal.at.loop-word-preserved c).After-from-in-loop-word-2 in
+    let half = words-half k c.args.letters c.requires.states c.requires.few in
+    let all = c.pow-word-end.ensures ∙ ap₂ (λ (x y : ℕ). x ^ y) refl c.from.ensures in
+    AreNumbers-next k c.args.letters v c.from-in-loop-word-3.result c.args.gains.now c.loop-word.flux _ c.requires.states (omega arith) (omega arith) (omega arith) c.from-in-loop-word-3.ensures
+    (c.requires.bounds v (omega arith))
+    (back-sub (at c.loop-word.flux c.from-in-loop-word.result) (at c.args.gains.now c.from-in-loop-word-2.result) (2 ^ 60) both.first both.last (omega arith)
+    ∙ ap₂ (λ (x y : ℕ). at c.loop-word.flux x -ℤ at c.args.gains.now y) c.from-in-loop-word.ensures c.from-in-loop-word-2.ensures)
+    c.loop-word.invariant
+
+pub returns-clause-numbers : goal.returns-clause-numbers
+returns-clause-numbers c = λ phi by v l.
+    let all = c.pow-word-end.ensures ∙ ap₂ (λ (x y : ℕ). x ^ y) refl c.from.ensures in
+    c.loop-word.invariant.done phi by v (omega arith)
+
+pub returns-clause-bounds : goal.returns-clause-bounds
+returns-clause-bounds c = λ v l.
+    let all = c.pow-word-end.ensures ∙ ap₂ (λ (x y : ℕ). x ^ y) refl c.from.ensures in
+    let short = c.requires.short in
+    let some = power-positive c.args.k c.args.letters (let states = c.requires.states in omega arith) in
+    ⊎_elim
+    (λ (done : v < c.loop-word.word). let small = c.loop-word.invariant.bounds v c.args.letters done (omega arith) in omega arith)
+    (λ (rest : c.loop-word.word ≤ v). subst (λ (z : ℤ). unsigned_abs z ≤ 7 * 2 ^ 57) (sym (c.loop-word.invariant.rest v rest)) (omega arith))
+    (cases_lt v c.loop-word.word)
+
+pub returns-clause-first : goal.returns-clause-first
+returns-clause-first c =
+    let small = c.loop-word.invariant.bounds 0 0 (omega arith) (omega (arith, pow-zero c.args.k)) in
+    omega (arith, ints, small)
+
+pub returns-clause-ends : goal.returns-clause-ends
+returns-clause-ends c = λ v from l.
+    let some = power-positive c.args.k c.args.letters (let states = c.requires.states in omega arith) in
+    let all = c.pow-word-end.ensures ∙ ap₂ (λ (x y : ℕ). x ^ y) refl c.from.ensures in
+    c.loop-word.invariant.rest v (omega arith)

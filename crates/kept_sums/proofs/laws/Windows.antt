@@ -1,0 +1,263 @@
+-- Windows of m + range - 1 letters by their values, and the fluxes of what they add.
+use Rattle.std.proofs.Common.{◌≡◌, ℕ, zero, suc, ◌+◌, ◌-◌, ◌*◌, ◌/◌, ◌%◌, ◌^◌, ◌<◌, ◌≤◌, ◌≢◌, List, length, take, drop, get_or, get_or-set_other, set, replicate, slice_index, ℤ, pos, ◌-ℤ◌, sym, ap, ap₂, subst, ◌∙◌, arith, mod-lt, length-drop}
+use Rattle.std.specs.Int.RustNames.{unsigned_abs}
+use Rattle.std.proofs.Math.Nat.{pow-zero, pow-suc, mul-le-mul, mul-le-mul_left, div-lt_iff_lt-mul, div-lt_self, mod-eq_of_lt}
+use Rattle.std.proofs.lemmas.Nat.{pow-add}
+use Rattle.std.proofs.lemmas.Int.{ints}
+use Rattle.std.proofs.lemmas.List.{length-take-le, length-set, length-replicate, take_all}
+use Rattle.std.proofs.lemmas.List.Elements.{All-take, All-drop}
+use Rattle.word_image.specs.LocalRules.{LocalRule, IsRule, IsWord, value, word_of}
+use Rattle.word_image.specs.Words.{image}
+use Rattle.word_image.proofs.laws.Images.{get_or-image}
+use Rattle.word_image.proofs.laws.Words.{IsWord-image, length-image}
+use Rattle.word_image.proofs.laws.Values.{value-below, value-take_more, value-take-below, value-take, value-drop, length-word_of, IsWord-word_of, value-word_of, word_of-value}
+use Rattle.kept_sums.specs.Rows.{at}
+use Rattle.kept_sums.specs.Fluxes.{IsFluxOf, window_gain, AreGains, IsFlowBy}
+use Rattle.kept_sums.proofs.laws.Ranges.{power-positive}
+use Rattle.kept_sums.proofs.laws.Parts.{put, at-replicate}
+use Rattle.kept_sums.proofs.laws.Trivials.{ends_of_word, same_of_step}
+
+-- there are at most 256 windows
+pub windows-most : {r : LocalRule} → IsRule r → (range : ℕ) → 1 ≤ range → r.states ^ range ≤ 16 → r.states ^ (r.width + range - 1) ≤ 256
+windows-most {r} rule range some few =
+    let wide = rule.shape.least_width in
+    let e : r.width + range - 1 ≡ r.width - 1 + range = omega arith in
+    let split : r.states ^ (r.width + range - 1) ≡ r.states ^ (r.width - 1) * r.states ^ range = ap (λ n. r.states ^ n) e ∙ pow-add r.states (r.width - 1) range in
+    let product : r.states ^ (r.width - 1) * r.states ^ range ≤ 16 * 16 = mul-le-mul rule.shape.most_nodes few in
+    omega (arith, split, product)
+
+-- one letter fewer: half as many words at most
+pub words-half : (k n : ℕ) → 2 ≤ k → k ^ (n + 1) ≤ 256 → k ^ n ≤ 128
+words-half k n states few =
+    let e : n + 1 ≡ suc n = omega arith in
+    let split : k ^ (n + 1) ≡ k ^ n * k = ap (λ j. k ^ j) e ∙ pow-suc k n in
+    let twice : k ^ n * 2 ≤ k ^ n * k = mul-le-mul_left (k ^ n) states in
+    omega (arith, split, twice, few)
+
+-- the first letters of a window
+pub value-front : (k m range v : ℕ) → 1 ≤ m → v < k ^ (m + range - 1) → value k (take range (word_of k (m + range - 1) v)) ≡ v / k ^ (m - 1)
+value-front k m range v some l =
+    let w : List ℕ = word_of k (m + range - 1) v in
+    let long : length w ≡ m + range - 1 = length-word_of k (m + range - 1) v in
+    let rest : length w - range ≡ m - 1 = omega arith in
+    value-take k range w (IsWord-word_of k (m + range - 1) v l) (omega arith)
+    ∙ ap₂ (λ (x n : ℕ). x / k ^ n) (value-word_of k (m + range - 1) v l) rest
+
+-- are one of few words
+pub front-below : (k m range v : ℕ) → 1 ≤ m → k ^ range ≤ 16 → v < k ^ (m + range - 1) → v / k ^ (m - 1) < 16
+front-below k m range v some few l =
+    let w : List ℕ = word_of k (m + range - 1) v in
+    let long : length w ≡ m + range - 1 = length-word_of k (m + range - 1) v in
+    let cut : length (take range w) ≡ range = length-take-le range w (omega arith) in
+    let word : IsWord k (take range w) = All-take (λ a. a < k) range w (IsWord-word_of k (m + range - 1) v l) in
+    let below : value k (take range w) < k ^ range = subst (λ n. value k (take range w) < k ^ n) cut (value-below k (take range w) word) in
+    let front = value-front k m range v some l in
+    omega (arith, below, front, few)
+
+-- the value of a window within a longer one
+pub window-within : (k m after v : ℕ) → 1 ≤ k → v % k ^ (m + after) / k ^ after < k ^ m
+window-within k m after v some =
+    let below : v % k ^ (m + after) < k ^ m * k ^ after = subst (λ n. v % k ^ (m + after) < n) (pow-add k m after) (mod-lt v (power-positive k (m + after) some)) in
+    (div-lt_iff_lt-mul (power-positive k after some)).1 below
+
+-- a letter of a window's image
+pub window-letter : (r : LocalRule) (range i v : ℕ) → 1 ≤ r.width → i < range → v < r.states ^ (r.width + range - 1)
+    → get_or (image r (word_of r.states (r.width + range - 1) v)) i 0 ≡ slice_index r.table (v % r.states ^ (r.width + (range - 1 - i)) / r.states ^ (range - 1 - i))
+window-letter r range i v some l below =
+    let k : ℕ = r.states in
+    let n : ℕ = r.width + range - 1 in
+    let w : List ℕ = word_of k n v in
+    let part : List ℕ = drop i w in
+    let long : length w ≡ n = length-word_of k n v in
+    let word : IsWord k w = IsWord-word_of k n v below in
+    let cut : i + r.width - i ≡ r.width = omega arith in
+    let left : length w - i ≡ r.width + (range - 1 - i) = omega arith in
+    let part_long : length part ≡ r.width + (range - 1 - i) = length-drop i w ∙ left in
+    let after : length part - r.width ≡ range - 1 - i = omega arith in
+    get_or-image r w i (omega arith)
+    ∙ ap (λ j. slice_index r.table (value k (take j part))) cut
+    ∙ ap (slice_index r.table)
+    (value-take k r.width part (All-drop (λ a. a < k) i w word) (omega arith)
+    ∙ ap₂ (λ (x j : ℕ). x / k ^ j) (value-drop k i w word (omega arith) ∙ ap₂ (λ (x j : ℕ). x % k ^ j) (value-word_of k n v below) left) after)
+
+-- how many letters a window's image has
+length-image_of : (r : LocalRule) (range v : ℕ) → 1 ≤ r.width → length (image r (word_of r.states (r.width + range - 1) v)) ≡ range
+length-image_of r range v some =
+    let long = length-word_of r.states (r.width + range - 1) v in
+    let whole = length-image r (word_of r.states (r.width + range - 1) v) in
+    omega arith
+
+-- the value of its first letters and one more is below 16
+pub image-below : (r : LocalRule) → IsRule r → (range i v : ℕ) → i < range → r.states ^ range ≤ 16
+    → value r.states (take i (image r (word_of r.states (r.width + range - 1) v))) * r.states + get_or (image r (word_of r.states (r.width + range - 1) v)) i 0 < 16
+image-below r rule range i v l few =
+    let w : List ℕ = image r (word_of r.states (r.width + range - 1) v) in
+    let wide = rule.shape.least_width in
+    let long : length w ≡ range = length-image_of r range v (omega arith) in
+    value-take-below r.states w i 16 (IsWord-image rule (word_of r.states (r.width + range - 1) v)) (omega arith) (subst (λ n. r.states ^ n ≤ 16) (sym long) few)
+
+-- and with the next letter it is that of one letter more
+pub image-more : (r : LocalRule) → IsRule r → (range i v : ℕ) → i < range
+    → value r.states (take (i + 1) (image r (word_of r.states (r.width + range - 1) v)))
+    ≡ value r.states (take i (image r (word_of r.states (r.width + range - 1) v))) * r.states + get_or (image r (word_of r.states (r.width + range - 1) v)) i 0
+image-more r rule range i v l =
+    let wide = rule.shape.least_width in
+    let long = length-image_of r range v (omega arith) in
+    value-take_more r.states (image r (word_of r.states (r.width + range - 1) v)) i (omega arith)
+
+-- the whole image has a value below 16
+pub image-whole : (r : LocalRule) → IsRule r → (range i v : ℕ) → i ≡ range → r.states ^ range ≤ 16
+    → (take i (image r (word_of r.states (r.width + range - 1) v)) ≡ image r (word_of r.states (r.width + range - 1) v)) × (value r.states (image r (word_of r.states (r.width + range - 1) v)) < 16)
+image-whole r rule range i v e few =
+    let w : List ℕ = image r (word_of r.states (r.width + range - 1) v) in
+    let wide = rule.shape.least_width in
+    let long : length w ≡ range = length-image_of r range v (omega arith) in
+    let below : value r.states w < r.states ^ range = subst (λ n. value r.states w < r.states ^ n) long (value-below r.states w (IsWord-image rule (word_of r.states (r.width + range - 1) v))) in
+    (take_all i w (omega arith), omega arith)
+
+-- a flux is one by the values of the windows
+pub IsFlowBy-flux : {r : LocalRule} {range : ℕ} {weight phi : ℕ → ℤ} {gains : List ℤ} → IsRule r → 1 ≤ range → AreGains r range weight gains → IsFluxOf range weight r phi
+    → IsFlowBy r.states (r.width + range - 2) gains phi
+IsFlowBy-flux {r} {range} {weight} {phi} {gains} rule some are flux = record {
+  flows = λ v l.
+      let wide = rule.shape.least_width in
+      let k : ℕ = r.states in
+      let n : ℕ = r.width + range - 1 in
+      let e : r.width + range - 2 + 1 ≡ n = omega arith in
+      let shorter : n - 1 ≡ r.width + range - 2 = omega arith in
+      let below : v < k ^ n = subst (λ j. v < k ^ j) e l in
+      let w : List ℕ = word_of k n v in
+      let long : length w ≡ n = length-word_of k n v in
+      let cut : length w - 1 ≡ n - 1 = omega arith in
+      let word : IsWord k w = IsWord-word_of k n v below in
+      let is : value k w ≡ v = value-word_of k n v below in
+      let ends = ends_of_word k n w (omega arith) word long in
+      are.windows v below
+      ∙ flux.flows w word (omega arith)
+      ∙ ap₂ (λ (x y : ℕ). phi x -ℤ phi y) (ap (λ j. value k (take j w)) cut ∙ ends.0 ∙ ap (λ x. x / k) is) (ends.1 ∙ ap₂ (λ (x j : ℕ). x % k ^ j) is shorter);
+}
+
+-- and the other way round
+pub IsFluxOf-IsFlowBy : {r : LocalRule} {range : ℕ} {weight phi : ℕ → ℤ} {gains : List ℤ} → IsRule r → 1 ≤ range → AreGains r range weight gains → IsFlowBy r.states (r.width + range - 2) gains phi
+    → IsFluxOf range weight r phi
+IsFluxOf-IsFlowBy {r} {range} {weight} {phi} {gains} rule some are by = record {
+  flows = λ w word long.
+      let wide = rule.shape.least_width in
+      let k : ℕ = r.states in
+      let n : ℕ = r.width + range - 1 in
+      let e : n ≡ r.width + range - 2 + 1 = omega arith in
+      let shorter : n - 1 ≡ r.width + range - 2 = omega arith in
+      let whole : length w ≡ n = omega arith in
+      let cut : length w - 1 ≡ n - 1 = omega arith in
+      let below : value k w < k ^ n = subst (λ j. value k w < k ^ j) whole (value-below k w word) in
+      let same : word_of k n (value k w) ≡ w = ap (λ j. word_of k j (value k w)) (sym whole) ∙ word_of-value k w word in
+      let ends = ends_of_word k n w (omega arith) word whole in
+      ap (window_gain r range weight) (sym same)
+      ∙ sym (are.windows (value k w) below)
+      ∙ by.flows (value k w) (subst (λ j. value k w < k ^ j) e below)
+      ∙ ap₂ (λ (x y : ℕ). phi x -ℤ phi y) (sym (ap (λ j. value k (take j w)) cut ∙ ends.0)) (sym (ends.1 ∙ ap (λ j. value k w % k ^ j) shorter));
+}
+
+-- the words at the two ends of a window
+pub window_ends : (k n v : ℕ) → 1 ≤ k → v < k ^ (n + 1) → (v / k < k ^ n) × (v % k ^ n < k ^ n)
+window_ends k n v some l =
+    let e : n + 1 ≡ suc n = omega arith in
+    let split : k ^ (n + 1) ≡ k ^ n * k = ap (λ j. k ^ j) e ∙ pow-suc k n in
+    ((div-lt_iff_lt-mul some).1 (subst (λ j. v < j) split l), mod-lt v (power-positive k n some))
+
+-- numbers that differ from a flux by one number are a flux
+pub IsFlowBy-less : {k n : ℕ} {gains : List ℤ} {phi psi : ℕ → ℤ} (c : ℤ) → 1 ≤ k → ((v : ℕ) → v < k ^ n → psi v ≡ phi v -ℤ c) → IsFlowBy k n gains phi → IsFlowBy k n gains psi
+IsFlowBy-less {k} {n} c some less by = record {
+  flows = λ v l.
+      let ends = window_ends k n v some l in
+      let first = less (v / k) ends.0 in
+      let last = less (v % k ^ n) ends.1 in
+      let here = by.flows v l in
+      omega (arith, ints, here, first, last);
+}
+
+-- the number of a word by that of its letters but for the last
+pub IsFlowBy-back : {k n : ℕ} {gains : List ℤ} {phi : ℕ → ℤ} → 1 ≤ k → IsFlowBy k n gains phi → (v : ℕ) → v < k ^ n → at gains v ≡ phi (v / k) -ℤ phi v
+IsFlowBy-back {k} {n} {gains} {phi} some by v l =
+    let e : n + 1 ≡ suc n = omega arith in
+    let split : k ^ (n + 1) ≡ k ^ n * k = ap (λ j. k ^ j) e ∙ pow-suc k n in
+    let grows : k ^ n * 1 ≤ k ^ n * k = mul-le-mul_left (k ^ n) some in
+    by.flows v (omega (arith, split, grows, l)) ∙ ap (λ x. phi (v / k) -ℤ phi x) (mod-eq_of_lt l)
+
+-- two fluxes differ by one number
+pub IsFluxOf-one : {r : LocalRule} {range : ℕ} {weight phi psi : ℕ → ℤ} → IsRule r → 1 ≤ range → IsFluxOf range weight r phi → IsFluxOf range weight r psi
+    → (v : ℕ) → v < r.states ^ (r.width + range - 2) → (phi v -ℤ phi 0) ≡ psi v -ℤ psi 0
+IsFluxOf-one {r} {range} {weight} {phi} {psi} rule some one other v l =
+    let wide = rule.shape.least_width in
+    let states = rule.shape.least_states in
+    let k : ℕ = r.states in
+    let d : ℕ = r.width + range - 2 in
+    let n : ℕ = r.width + range - 1 in
+    let next : n ≡ suc d = omega arith in
+    let shorter : n - 1 ≡ d = omega arith in
+    let split : k ^ n ≡ k ^ d * k = ap (λ j. k ^ j) next ∙ pow-suc k d in
+    let step : (u : ℕ) → u < k ^ d → (phi u -ℤ psi u) ≡ phi (u / k) -ℤ psi (u / k) = λ u h.
+    let grows : k ^ d * 1 ≤ k ^ d * k = mul-le-mul_left (k ^ d) (omega arith) in
+    let below : u < k ^ n = omega (arith, split, grows, h) in
+    let w : List ℕ = word_of k n u in
+    let long : length w ≡ n = length-word_of k n u in
+    let cut : length w - 1 ≡ n - 1 = omega arith in
+    let word : IsWord k w = IsWord-word_of k n u below in
+    let is : value k w ≡ u = value-word_of k n u below in
+    let ends = ends_of_word k n w (omega arith) word long in
+    let first : value k (take (length w - 1) w) ≡ u / k = ap (λ j. value k (take j w)) cut ∙ ends.0 ∙ ap (λ x. x / k) is in
+    let last : value k (drop 1 w) ≡ u = ends.1 ∙ ap₂ (λ (x j : ℕ). x % k ^ j) is shorter ∙ mod-eq_of_lt h in
+    let flows : (phi (u / k) -ℤ phi u) ≡ psi (u / k) -ℤ psi u =
+    sym (one.flows w word (omega arith) ∙ ap₂ (λ (x y : ℕ). phi x -ℤ phi y) first last)
+    ∙ other.flows w word (omega arith)
+    ∙ ap₂ (λ (x y : ℕ). psi x -ℤ psi y) first last in
+    omega (arith, ints, flows) in
+    let same : (phi v -ℤ psi v) ≡ phi 0 -ℤ psi 0 = same_of_step k (λ u. phi u -ℤ psi u) d d (omega arith) step v l in
+    omega (arith, ints, same)
+
+-- the first words have the numbers of any flux less that of the word of letters 0, and the others zeros
+pub record AreNumbers (k n word : ℕ) (gains flux : List ℤ) : Type 0 where
+  pub many : length flux ≡ 128
+  pub done : (phi : ℕ → ℤ) → IsFlowBy k n gains phi → (v : ℕ) → v < word → at flux v ≡ phi v -ℤ phi 0
+  pub bounds : (v j : ℕ) → v < word → v < k ^ j → unsigned_abs (at flux v) ≤ j * 2 ^ 57
+  pub rest : (v : ℕ) → word ≤ v → at flux v ≡ pos 0
+
+-- at first there are zeros
+pub AreNumbers-zeros : (k n : ℕ) (gains : List ℤ) → AreNumbers k n 1 gains (replicate 128 (pos 0))
+AreNumbers-zeros k n gains = record {
+  many = length-replicate 128 (pos 0);
+  done = λ phi by v l. let e : v ≡ 0 = omega arith in let same = ap phi e in at-replicate 128 v ∙ omega (arith, ints, same);
+  bounds = λ v j l m. subst (λ (z : ℤ). unsigned_abs z ≤ j * 2 ^ 57) (sym (at-replicate 128 v)) (omega arith);
+  rest = λ v l. at-replicate 128 v;
+}
+
+-- how great the number of the next word may be
+number_small : (k v j : ℕ) (gains flux : List ℤ) (x : ℤ) → 2 ≤ k → 1 ≤ v → v < k ^ j → x ≡ at flux (v / k) -ℤ at gains v → unsigned_abs (at gains v) ≤ 2 ^ 57
+    → ((u i : ℕ) → u < v → u < k ^ i → unsigned_abs (at flux u) ≤ i * 2 ^ 57) → unsigned_abs x ≤ j * 2 ^ 57
+number_small k v zero gains flux x states some l is small bounds = let one = pow-zero k in absurd (omega arith)
+number_small k v (suc i) gains flux x states some l is small bounds =
+    let below : v / k < k ^ i = (div-lt_iff_lt-mul (omega arith)).1 (subst (λ n. v < n) (pow-suc k i) l) in
+    let before : unsigned_abs (at flux (v / k)) ≤ i * 2 ^ 57 = bounds (v / k) i (div-lt_self some states) below in
+    let sum : unsigned_abs (at flux (v / k) -ℤ at gains v) ≤ unsigned_abs (at flux (v / k)) + unsigned_abs (at gains v) = omega (arith, ints) in
+    let here : unsigned_abs x ≡ unsigned_abs (at flux (v / k) -ℤ at gains v) = ap unsigned_abs is in
+    omega arith
+
+-- the number of the next word is that of its letters but for the last less what the window adds between them
+pub AreNumbers-next : (k n v place : ℕ) (gains flux : List ℤ) (x : ℤ) → 2 ≤ k → 1 ≤ v → v < k ^ n → v < 128 → place ≡ v → unsigned_abs (at gains v) ≤ 2 ^ 57 → x ≡ at flux (v / k) -ℤ at gains v
+    → AreNumbers k n v gains flux → AreNumbers k n (v + 1) gains (set flux place x)
+AreNumbers-next k n v place gains flux x states some l few e small is before =
+    let many = before.many in
+    let moved : set flux v x ≡ set flux place x = ap (λ i. set flux i x) (sym e) in
+    subst (λ xs. AreNumbers k n (v + 1) gains xs) moved (record {
+      many = length-set flux v x ∙ many;
+      done = λ phi by.
+          let Q : ℕ → ℤ → Type 0 = λ u z. z ≡ phi u -ℤ phi 0 in
+          let back = IsFlowBy-back (omega arith) by v l in
+          let first = before.done phi by (v / k) (div-lt_self some states) in
+          let here : x ≡ phi v -ℤ phi 0 = omega (arith, ints, is, back, first) in
+          put Q flux v x (omega arith) (before.done phi by) here;
+      bounds = λ u j.
+          let Q : ℕ → ℤ → Type 0 = λ a z. a < k ^ j → unsigned_abs z ≤ j * 2 ^ 57 in
+          λ below. put Q flux v x (omega arith) (λ a m h. before.bounds a j m h) (λ h. number_small k v j gains flux x states some h is small before.bounds) u below;
+      rest = λ u m. let other : u ≢ v = λ same. omega arith in get_or-set_other flux v u x (pos 0) other ∙ before.rest u (omega arith);
+    })

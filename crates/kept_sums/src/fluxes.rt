@@ -1,0 +1,139 @@
+//! The flux of weights that a rule keeps.
+ghost use Rattle.std.specs.Prelude.{◌≡◌, ℕ, ◌+◌, ◌-◌, ◌*◌, ◌^◌, ◌<◌, ◌≤◌, ◌↔◌, ℤ, pos, ◌-ℤ◌, IfSome, IsSome, IsTrue};
+ghost use Rattle.std.specs.Int.RustNames.{unsigned_abs};
+ghost use Rattle.word_image.specs.LocalRules.{value, word_of};
+ghost use Rattle.word_image.specs.Words.{image};
+ghost use Rattle.kept_sums.specs.Sums.{IsKept};
+ghost use Rattle.kept_sums.specs.Rows.{at, IsSmall};
+ghost use Rattle.kept_sums.specs.Fluxes.{IsFluxList, AreGains, IsFlowBy, window_gain};
+
+use crate::rows::Row;
+use word_image::Rule;
+
+/// The most words of m + range - 2 letters: those of seven letters of two states.
+pub const MOST_FLOWS: usize = 128;
+
+/// The most words of m + range - 1 letters.
+const MOST_WINDOWS: usize = 256;
+
+/// A number for each word of m + range - 2 letters, by its value, and zeros after them.
+pub type Flux = [i64; MOST_FLOWS];
+
+/// A number for each word of m + range - 1 letters, by its value, and zeros after them.
+type Gains = [i64; MOST_WINDOWS];
+
+/// The flux of weights of words, the one with 0 for the word of letters 0 (Hattori and Takesue 1991); or
+/// nothing, where the rule doesn't keep their sum. No weight may be greater than 2^56, or less than its negative.
+pub fn flux(rule: &Rule, range: u8, weights: &Row) -> Option<Flux>
+    requires some { 1 ≤ range }
+    requires few { rule.now.states ^ range ≤ 16 }
+    requires small { IsSmall weights.now }
+    ensures flux { IfSome result (IsFluxList range (at weights.now) rule.now) }
+    ensures kept { IsSome result ↔ IsKept range (at weights.now) rule.now }
+{
+    let k = u16::from(rule.k());
+    let letters = rule.m() + range - 2;
+    let gains = gains(rule, range, weights);
+    let flux = numbers(k, letters, &gains);
+    if flow_by(k, letters, &gains, &flux) {
+        Some(flux)
+    } else {
+        None
+    }
+}
+
+/// Whether the rule keeps the sum of these weights.
+pub(crate) fn is_kept(rule: &Rule, range: u8, weights: &Row) -> bool
+    requires some { 1 ≤ range }
+    requires few { rule.now.states ^ range ≤ 16 }
+    requires small { IsSmall weights.now }
+    ensures { IsTrue result ↔ IsKept range (at weights.now) rule.now }
+{
+    flux(rule, range, weights).is_some()
+}
+
+/// What each window of m + range - 1 letters adds to the sum, by its value.
+fn gains(rule: &Rule, range: u8, weights: &Row) -> Gains
+    requires some { 1 ≤ range }
+    requires few { rule.now.states ^ range ≤ 16 }
+    requires small { IsSmall weights.now }
+    ensures { AreGains rule.now range (at weights.now) result }
+{
+    let k = u16::from(rule.k());
+    let letters = u32::from(rule.m() + range - 1);
+    let mut gains = [0; MOST_WINDOWS];
+    for window in 0..k.pow(letters) {
+        gains[usize::from(window)] = gain(rule, range, weights, window);
+    }
+    gains
+}
+
+/// What the image of a window weighs more than its first letters.
+fn gain(rule: &Rule, range: u8, weights: &Row, window: u16) -> i64
+    requires some { 1 ≤ range }
+    requires few { rule.now.states ^ range ≤ 16 }
+    requires small { IsSmall weights.now }
+    requires window { window < rule.now.states ^ (rule.now.width + range - 1) }
+    ensures gain { result ≡ window_gain rule.now range (at weights.now) (word_of rule.now.states (rule.now.width + range - 1) window) }
+    ensures most { unsigned_abs result ≤ 2 ^ 57 }
+{
+    let after = image_value(rule, range, window);
+    let before = window / u16::from(rule.nodes());
+    weights[usize::from(after)] - weights[usize::from(before)]
+}
+
+/// The value of the image of a window.
+fn image_value(rule: &Rule, range: u8, window: u16) -> u8
+    requires some { 1 ≤ range }
+    requires few { rule.now.states ^ range ≤ 16 }
+    requires window { window < rule.now.states ^ (rule.now.width + range - 1) }
+    ensures value { result ≡ value rule.now.states (image rule.now (word_of rule.now.states (rule.now.width + range - 1) window)) }
+    ensures few { result < 16 }
+{
+    let k = u16::from(rule.k());
+    let mut word = 0;
+    for i in 0..range {
+        let after = range - 1 - i;
+        let left = window % k.pow(u32::from(rule.m() + after));
+        word = word * rule.k() + rule.at(left / k.pow(u32::from(after)));
+    }
+    word
+}
+
+/// The number of each word, if there is a flux: the walk from the word of letters 0 to it adds the negative.
+fn numbers(k: u16, letters: u8, gains: &Gains) -> Flux
+    requires states { 2 ≤ k }
+    requires few { k ^ (letters + 1) ≤ 256 }
+    requires short { letters ≤ 7 }
+    requires bounds { (v : ℕ) → v < 256 → unsigned_abs (at gains.now v) ≤ 2 ^ 57 }
+    ensures numbers { (phi : ℕ → ℤ) → IsFlowBy k letters gains.now phi → (v : ℕ) → v < k ^ letters → at result v ≡ phi v -ℤ phi 0 }
+    ensures bounds { (v : ℕ) → v < 128 → unsigned_abs (at result v) ≤ 7 * 2 ^ 57 }
+    ensures first { at result 0 ≡ pos 0 }
+    ensures ends { (v : ℕ) → k ^ letters ≤ v → v < 128 → at result v ≡ pos 0 }
+{
+    let mut flux = [0; MOST_FLOWS];
+    // The window 0 w goes from w without its last letter to w.
+    for word in 1..k.pow(u32::from(letters)) {
+        flux[usize::from(word)] = flux[usize::from(word / k)] - gains[usize::from(word)];
+    }
+    flux
+}
+
+/// Whether each window adds the number of its first letters less that of its last ones.
+fn flow_by(k: u16, letters: u8, gains: &Gains, flux: &Flux) -> bool
+    requires states { 2 ≤ k }
+    requires few { k ^ (letters + 1) ≤ 256 }
+    requires gains { (v : ℕ) → v < 256 → unsigned_abs (at gains.now v) ≤ 2 ^ 57 }
+    requires flux { (v : ℕ) → v < 128 → unsigned_abs (at flux.now v) ≤ 7 * 2 ^ 57 }
+    ensures { IsTrue result ↔ IsFlowBy k letters gains.now (at flux.now) }
+{
+    let words = k.pow(u32::from(letters));
+    for window in 0..words * k {
+        let first = flux[usize::from(window / k)];
+        let last = flux[usize::from(window % words)];
+        if gains[usize::from(window)] != first - last {
+            return false;
+        }
+    }
+    true
+}
