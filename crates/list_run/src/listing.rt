@@ -3,7 +3,7 @@ ghost use Rattle.std.specs.Prelude.{◌≡◌, ◌≢◌, ◌⊎◌, ℕ, ◌^�
 ghost use Rattle.std.specs.Io.KnownBytes.{Appends};
 ghost use Rattle.word_image.specs.LocalRules.{IsRule};
 ghost use Rattle.ca_io.specs.Faults.{Rose, CountsFaults};
-ghost use Rattle.rule_lists.specs.Ranks.{IsOrder};
+ghost use Rattle.rule_lists.specs.Orders.{IsOrderFor};
 ghost use Rattle.list_run.specs.Lines.{IsLineOf, count_line};
 ghost use Rattle.list_run.specs.Lists.{AreGiven, IsList, IsListSoFar};
 
@@ -51,7 +51,7 @@ fn write_rules<T: Sink>(
     line: &mut [u8],
     sink: &mut T,
 ) -> Result<u64, Failed>
-    requires order { IsOrder (beginning.now.rule.states ^ beginning.now.rule.width) order.now }
+    requires order { IsOrderFor property beginning.now.rule.states beginning.now.rule.width order.now }
     requires line { IsLineOf beginning.now.rule line.old }
     requires given { AreGiven beginning.now letters.now }
     ensures all { IfOk result (λ count. (out : List ℕ) × IsListSoFar property beginning.now out

@@ -6,7 +6,8 @@ ghost use Rattle.rule_lists.specs.Tables.{IsTable, IsPast};
 ghost use Rattle.rule_lists.specs.Listed.{IsFirst, IsFilled, NoneIs, IsOn, Forbids};
 
 use crate::cuts::forbids;
-use crate::lost::Letters;
+use crate::hints::Hints;
+use crate::letters::Letters;
 use crate::properties::{Property, has};
 use crate::tables::{Entries, advance, has_letters};
 use word_image::{MOST_ENTRIES, Rule};
@@ -64,12 +65,14 @@ fn from(
         (IsFirst property shape.now.states shape.now.width begin.now order.now (λ q. IsPast shape.now.states order.now start first q.table)) }
 {
     let mut entries = start;
+    let mut hints = Hints::of(property, shape, begin);
+    hints.catch_up(begin, order, &entries, first.unwrap_or(0));
     let mut next = first;
     while let Some(n) = next {
         if let Some(rule) = found(property, shape, begin, order, &entries, n) {
             return Some(rule);
         }
-        next = step(property, shape, begin, order, &mut entries, n);
+        next = step(property, shape, begin, order, &mut entries, n, &mut hints);
     }
     None
 }
@@ -122,6 +125,7 @@ fn step(
     order: &[u8],
     entries: &mut Entries,
     n: u16,
+    hints: &mut Hints,
 ) -> Option<u16>
     requires order { IsOrder (shape.now.states ^ shape.now.width) order.now }
     requires table { IsTable shape.now.states (shape.now.states ^ shape.now.width) entries.old }
@@ -132,7 +136,7 @@ fn step(
     if n == shape.size() {
         return advance(shape.k(), order, entries, n);
     }
-    if forbids(property, shape, begin, order, entries, n) {
+    if forbids(property, shape, begin, order, entries, n, hints) {
         return advance(shape.k(), order, entries, n);
     }
     entries[usize::from(order[usize::from(n)])] = 0;

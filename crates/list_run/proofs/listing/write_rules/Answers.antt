@@ -46,7 +46,7 @@ loop-next-smaller g c =
     let r = c.in-Some.rule in
     let (found, last, far, next, count, took) = c.loop-next.invariant.found in
     let first : IsFirst c.args.property k m letters order (IsAfter k order last) r = subst (λ o. MatchOption o (NoneIs c.args.property k m letters (IsAfter k order last)) (IsFirst c.args.property k m letters order (IsAfter k order last))) c.in-Some.is next in
-    left_over-less c.args.property k m letters order r c.loop-next.next c.rule_after-next.result c.in-Some.is c.requires.order first.listed (first_after c.args.property k m letters order r c.rule_after-next.result first.listed c.rule_after-next.ensures)
+    left_over-less c.args.property k m letters order r c.loop-next.next c.rule_after-next.result c.in-Some.is c.requires.order.windows first.listed (first_after c.args.property k m letters order r c.rule_after-next.result first.listed c.rule_after-next.ensures)
 
 pub loop-next-preserved : goal.loop-next-preserved
 loop-next-preserved g c =
@@ -92,7 +92,7 @@ returns-clause-all g c =
         rules = found;
         given = c.requires.given;
         windows = c.requires.order;
-        listed = AreListed-all c.args.property k m letters order found c.requires.order all;
+        listed = AreListed-all c.args.property k m letters order found c.requires.order.windows all;
         lines = ap (λ (n : ℕ). rule_lines shape found ++ count_line n) count;
       },
       took,
