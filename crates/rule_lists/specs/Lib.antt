@@ -8,6 +8,5 @@ pub mod EndlessPairs
 pub mod Reached
 pub mod FixedWalks
 pub mod Bars
-pub mod Flags
 pub mod Calls
 pub mod Forests

@@ -37,7 +37,8 @@ pub(crate) fn forbids(
     if !hints.see(begin, order, entries, n, true) {
         return false;
     }
-    bars(property, shape, &standing(begin, order, entries, n), hints.last())
+    let letters = standing(begin, order, entries, n);
+    bars(property, shape, &letters, hints.last())
 }
 
 /// Whether another letter was fixed from the beginning at the last of the first n windows.

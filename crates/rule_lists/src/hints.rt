@@ -131,7 +131,7 @@ impl Hint {
     {
         let from = self.reach.edges.from(window);
         let nodes = match self.property {
-            Property::Surjective | Property::Conserving => return None,
+            Property::Surjective => return None,
             Property::Injective => u16::MAX,
             _ => self.reach.partners(n, from),
         };
@@ -181,7 +181,8 @@ impl Hints {
     }
 
     /// Whether there is a hint that the letters at the first n windows forbid the property, if it is looked
-    /// for. Those at all but the last are the ones that were seen before.
+    /// for. Those at all but the last are the ones that were seen before. Conserving rules are always looked at:
+    /// they have no hints.
     pub(crate) fn see(
         &mut self,
         begin: &Letters,
@@ -193,6 +194,9 @@ impl Hints {
         requires within { n ≤ length order.now }
         requires few { length order.now ≤ 256 }
     {
+        if let Property::Conserving = self.first.property {
+            return true;
+        }
         self.turned = false;
         if self.first.see(begin, order, entries, n, looking) {
             return true;

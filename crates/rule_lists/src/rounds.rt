@@ -84,13 +84,14 @@ impl Rounds {
                 break;
             }
             let top = self.depth - 1;
+            if self.stops[usize::from(top)].rest == 0 && self.turn(edges, letters, top) {
+                return Some(self.closed(edges, top));
+            }
             let stop = self.stops[usize::from(top)];
-            if stop.rest != 0 {
-                self.go_on(edges, top, stop);
-            } else if stop.letter >= edges.k() {
+            if stop.rest == 0 {
                 self.leave(top, stop);
-            } else if let Some(pair) = self.turn(edges, letters, top, stop) {
-                return Some(pair);
+            } else {
+                self.go_on(top, stop);
             }
         }
         None
@@ -110,11 +111,10 @@ impl Rounds {
     }
 
     /// Goes on to the next of the pairs to which a letter leads.
-    fn go_on(&mut self, edges: &Edges, top: u8, stop: Stop) {
+    fn go_on(&mut self, top: u8, stop: Stop) {
         let end = first_node(stop.rest);
         self.stops[usize::from(top)].rest = stop.rest & !bit(end);
         if self.done[usize::from(stop.to % 16)] & bit(end) == 0 {
-            self.link(edges, stop.pair, (stop.to, end));
             self.enter((stop.to, end));
         }
     }
@@ -129,27 +129,42 @@ impl Rounds {
         self.done[usize::from(v % 16)] |= bit(u);
     }
 
-    /// Takes the next letter, and answers with a pair of the walk to which it leads.
-    fn turn(&mut self, edges: &Edges, letters: &Letters, top: u8, stop: Stop) -> Option<u8> {
-        let window = edges.window(stop.pair.0, stop.letter);
-        let label = letters[usize::from(window)];
-        let place = usize::from(top);
-        self.stops[place].letter = stop.letter.wrapping_add(1);
-        if label >= edges.k() {
-            return None;
+    /// Takes the next letter that leads to pairs, and answers whether one of these is of the walk.
+    fn turn(&mut self, edges: &Edges, letters: &Letters, top: u8) -> bool {
+        let stop = self.stops[usize::from(top)];
+        for letter in stop.letter..edges.k() {
+            let window = edges.window(stop.pair.0, letter);
+            let label = letters[usize::from(window)];
+            let to = edges.to(window);
+            let row = usize::from(to % 16);
+            let ends = edges.ends(label, stop.pair.1) & !bit(to) & !self.done[row];
+            if label < edges.k() && ends != 0 {
+                self.stops[usize::from(top)] = Stop {
+                    pair: stop.pair,
+                    letter: letter + 1,
+                    to,
+                    rest: ends,
+                };
+                return ends & self.open[row] != 0;
+            }
         }
-        let to = edges.to(window);
-        let row = usize::from(to % 16);
-        let ends = edges.ends(label, stop.pair.1) & !bit(to) & !self.done[row];
-        let back = ends & self.open[row];
-        if back != 0 {
-            let end = first_node(back);
-            self.link(edges, stop.pair, (to, end));
-            return Some(edges.pair(to, end));
+        self.stops[usize::from(top)].letter = u8::MAX;
+        false
+    }
+
+    /// Notes where the walk goes on, now that the last letter leads back to a pair of it, and answers with this
+    /// pair.
+    fn closed(&mut self, edges: &Edges, top: u8) -> u8 {
+        let stop = self.stops[usize::from(top)];
+        let back = stop.rest & self.open[usize::from(stop.to % 16)];
+        let pair = (stop.to, first_node(back));
+        for place in 0..top {
+            let from = self.stops[usize::from(place)].pair;
+            let next = self.stops[usize::from(place + 1)].pair;
+            self.link(edges, from, next);
         }
-        self.stops[place].to = to;
-        self.stops[place].rest = ends;
-        None
+        self.link(edges, stop.pair, pair);
+        edges.pair(pair.0, pair.1)
     }
 
     /// Notes that the walk goes on from one pair to another, and so where they are turned round.

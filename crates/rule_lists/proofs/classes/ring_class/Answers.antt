@@ -1,4 +1,4 @@
-use Rattle.std.proofs.Common.{◌≡◌, ◌+◌, ◌-◌, ◌∙◌, sym, ap, arith}
+use Rattle.std.proofs.Common.{◌+◌, ◌-◌, ◌∙◌, sym, ap, arith}
 use Rattle.rule_lists.specs.Orders.{ring_number}
 use Rattle.rule_lists.proofs.laws.Orders.{period-here, period-further}
 use Rattle.rule_lists.proofs.classes.ring_class.Goals as goal

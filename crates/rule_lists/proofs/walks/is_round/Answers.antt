@@ -1,4 +1,4 @@
-use Rattle.std.proofs.Common.{sym, subst}
+use Rattle.std.proofs.Common.{subst}
 use Rattle.rule_lists.specs.EndlessPairs.{FixedLeadsOn}
 use Rattle.rule_lists.specs.FixedWalks.IsFixedWalk.{Here}
 use Rattle.rule_lists.proofs.Rounded.{walk-more, IsFixedRound-closed}

@@ -1,5 +1,3 @@
-use Rattle.std.proofs.Common.{sym, ◌∙◌}
-use Rattle.std.proofs.lemmas.Bool.{false≢true}
 use Rattle.rule_lists.specs.FixedWalks.IsFixedWalk.{Here, Step}
 use Rattle.rule_lists.proofs.walks.is_tail.Goals as goal
 
