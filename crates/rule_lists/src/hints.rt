@@ -47,9 +47,10 @@ impl Hint {
         for window in 0..shape.size() {
             let letter = begin[usize::from(window)];
             if letter < shape.k() && !hint.begun {
-                hint.begun = hint.set(window as u8, letter, 0, true);
+                hint.begun = hint.set(window as u8, letter, true);
             }
         }
+        hint.reach.settle(0);
         hint
     }
 
@@ -86,12 +87,12 @@ impl Hint {
         }
         self.forget(begin, order, n - 1);
         self.placed = n;
-        self.reach.take_over(n);
+        self.reach.go_back(n - 1);
         let window = order[usize::from(n - 1)];
-        if begin[usize::from(window)] < self.reach.edges.k() {
-            return false;
-        }
-        self.set(window, entries[usize::from(window)], n, looking)
+        let stood = begin[usize::from(window)] < self.reach.edges.k();
+        let hint = !stood && self.set(window, entries[usize::from(window)], looking);
+        self.reach.settle(n);
+        hint
     }
 
     /// Takes the letters away that stand behind the first n windows.
@@ -107,18 +108,16 @@ impl Hint {
     }
 
     /// Sets a letter, and answers whether this gives a hint.
-    fn set(&mut self, window: u8, letter: u8, n: u16, looking: bool) -> bool
-        requires { n ≤ 256 }
-    {
+    fn set(&mut self, window: u8, letter: u8, looking: bool) -> bool {
         self.letters[usize::from(window)] = letter;
-        if let Some(pair) = self.reach.add(&self.letters, n, window, letter) {
+        if let Some(pair) = self.reach.add(&self.letters, window, letter) {
             self.pair = pair;
             return true;
         }
         if !looking {
             return false;
         }
-        if let Some(pair) = self.round(n, window, letter) {
+        if let Some(pair) = self.round(window, letter) {
             self.pair = pair;
             return true;
         }
@@ -126,14 +125,12 @@ impl Hint {
     }
 
     /// A pair from which the letters lead round since one stands at a window, where the property forbids it.
-    fn round(&mut self, n: u16, window: u8, letter: u8) -> Option<u8>
-        requires { n ≤ 256 }
-    {
+    fn round(&mut self, window: u8, letter: u8) -> Option<u8> {
         let from = self.reach.edges.from(window);
         let nodes = match self.property {
             Property::Surjective => return None,
             Property::Injective => u16::MAX,
-            _ => self.reach.partners(n, from),
+            _ => self.reach.partners(from),
         };
         let to = self.reach.edges.to(window);
         let ends = self.reach.edges.all_ends(letter, nodes);
@@ -141,9 +138,10 @@ impl Hint {
     }
 }
 
-/// The hints that belong to a property: on its side, or on both.
+/// What a search keeps from step to step, and from one rule to the next: the hints that belong to a
+/// property, on its side or on both. It has no part in which rule is found, only in how soon.
 #[derive(Drop)]
-pub(crate) struct Hints {
+pub struct Hints {
     /// On the right, or on the one side that the property has.
     first: Hint,
     /// On the left, for open rules.
@@ -153,8 +151,9 @@ pub(crate) struct Hints {
 }
 
 impl Hints {
-    /// With the letters alone that are fixed from the beginning.
-    pub(crate) fn of(property: Property, shape: &Rule, begin: &Letters) -> Hints {
+    /// With the letters alone that are fixed from the beginning, for a search among the rules of the states
+    /// and the width of this one.
+    pub fn of(property: Property, shape: &Rule, begin: &Letters) -> Hints {
         let side = match property {
             Property::LeftClosing => Side::Left,
             _ => Side::Right,
@@ -170,12 +169,13 @@ impl Hints {
         }
     }
 
-    /// Sees the letters at the first n windows but the last one, one after another.
+    /// Sees the letters at the first n windows but the last one, one after another, from those on that
+    /// weren't seen.
     pub(crate) fn catch_up(&mut self, begin: &Letters, order: &[u8], entries: &Entries, n: u16)
         requires within { n ≤ length order.now }
         requires few { length order.now ≤ 256 }
     {
-        for place in 1..n {
+        for place in self.first.placed.saturating_add(1).max(1)..n {
             let _ = self.see(begin, order, entries, place, false);
         }
     }

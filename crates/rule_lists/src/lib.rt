@@ -29,6 +29,7 @@ mod tables;
 mod theorems;
 mod walks;
 
+pub use hints::Hints;
 pub use letters::Letters;
 pub use orders::{is_order, order_for, write_order};
 pub use properties::{Property, has};

@@ -8,23 +8,27 @@ use word_image::{MOST_NODES, MOST_PAIRS, Rule, Side};
 /// For each pair of nodes another one.
 pub(crate) type Links = [u8; MOST_PAIRS];
 
-/// Of how many letters pairs are kept: none to those of all windows.
+/// From no letters to those of all windows.
 const MOST_LEVELS: usize = 257;
 
-/// The pairs of nodes to which letters lead from a node with itself, by two different ones first. They are
-/// kept for each number of letters that stand, so that a letter more only adds what it leads to.
+/// The pairs of nodes to which letters lead from a node with itself, by two different ones first, in the
+/// order in which they were found: a letter more only adds some, and a letter less takes these away.
 #[derive(Drop)]
 pub(crate) struct Reach {
     /// The edges of the windows whose letters stand.
     pub(crate) edges: Edges,
     /// The pair from which a step led to each pair first.
     pub(crate) before: Links,
-    /// For each number of letters and each node the nodes with which it is such a pair.
-    rows: [[u16; MOST_NODES]; MOST_LEVELS],
-    /// The pairs from which no step was looked for yet.
-    waiting: [(u8, u8); MOST_PAIRS],
-    /// How many these are.
+    /// For each node the nodes with which it is such a pair.
+    rows: [u16; MOST_NODES],
+    /// The pairs.
+    found: [(u8, u8); MOST_PAIRS],
+    /// How many there are.
     count: u8,
+    /// From how many of them steps were looked for.
+    looked: u8,
+    /// How many there are for each number of letters.
+    counts: [u8; MOST_LEVELS],
 }
 
 impl Reach {
@@ -33,35 +37,46 @@ impl Reach {
         Reach {
             edges: Edges::of(side, shape),
             before: [0; MOST_PAIRS],
-            rows: [[0; MOST_NODES]; MOST_LEVELS],
-            waiting: [(0, 0); MOST_PAIRS],
+            rows: [0; MOST_NODES],
+            found: [(0, 0); MOST_PAIRS],
             count: 0,
+            looked: 0,
+            counts: [0; MOST_LEVELS],
         }
     }
 
-    /// Takes over what a letter less led to.
-    pub(crate) fn take_over(&mut self, n: u16)
+    /// Notes that these are the pairs of n letters.
+    pub(crate) fn settle(&mut self, n: u16)
         requires { n < 257 }
     {
-        self.rows[usize::from(n)] = self.rows[usize::from(n.saturating_sub(1))];
+        self.counts[usize::from(n)] = self.count;
+    }
+
+    /// Goes back to the pairs of n letters.
+    pub(crate) fn go_back(&mut self, n: u16)
+        requires { n < 257 }
+    {
+        let kept = self.counts[usize::from(n)];
+        for place in kept..self.count {
+            let (u, v) = self.found[usize::from(place)];
+            self.rows[usize::from(u % 16)] &= !bit(v);
+            self.rows[usize::from(v % 16)] &= !bit(u);
+        }
+        self.count = kept;
     }
 
     /// A node and those with which it is a pair.
-    pub(crate) fn partners(&self, n: u16, node: u8) -> u16
-        requires { n < 257 }
-    {
-        self.rows[usize::from(n)][usize::from(node % 16)] | bit(node)
+    pub(crate) fn partners(&self, node: u8) -> u16 {
+        self.rows[usize::from(node % 16)] | bit(node)
     }
 
     /// Adds what a window with this label leads to, and answers with a pair of two equal nodes where it
     /// leads to one.
-    pub(crate) fn add(&mut self, letters: &Letters, n: u16, window: u8, label: u8) -> Option<u8>
-        requires { n < 257 }
-    {
+    pub(crate) fn add(&mut self, letters: &Letters, window: u8, label: u8) -> Option<u8> {
         self.edges.add(window, label);
-        self.count = 0;
+        self.looked = self.count;
         let (from, to) = (self.edges.from(window), self.edges.to(window));
-        let mut rest = self.partners(n, from);
+        let mut rest = self.partners(from);
         for _ in 0..MOST_NODES {
             if rest == 0 {
                 break;
@@ -70,24 +85,22 @@ impl Reach {
             rest &= rest - 1;
             let own = if node == from { bit(to) } else { 0 };
             let ends = self.edges.ends(label, node) & !own;
-            if self.join(n, (from, node), to, ends) {
+            if self.join((from, node), to, ends) {
                 return Some(self.edges.pair(to, to));
             }
         }
-        self.spread(letters, n)
+        self.spread(letters)
     }
 
-    /// Goes on from the pairs that wait.
-    fn spread(&mut self, letters: &Letters, n: u16) -> Option<u8>
-        requires { n < 257 }
-    {
+    /// Goes on from the pairs from which no steps were looked for.
+    fn spread(&mut self, letters: &Letters) -> Option<u8> {
         for _ in 0..MOST_PAIRS {
-            if self.count == 0 {
+            if self.looked == self.count {
                 break;
             }
-            self.count -= 1;
-            let pair = self.waiting[usize::from(self.count)];
-            if let Some(found) = self.spread_from(letters, n, pair) {
+            let pair = self.found[usize::from(self.looked)];
+            self.looked = self.looked.wrapping_add(1);
+            if let Some(found) = self.spread_from(letters, pair) {
                 return Some(found);
             }
         }
@@ -95,16 +108,14 @@ impl Reach {
     }
 
     /// Goes on from a pair.
-    fn spread_from(&mut self, letters: &Letters, n: u16, pair: (u8, u8)) -> Option<u8>
-        requires { n < 257 }
-    {
+    fn spread_from(&mut self, letters: &Letters, pair: (u8, u8)) -> Option<u8> {
         for letter in 0..self.edges.k() {
             let window = self.edges.window(pair.0, letter);
             let label = letters[usize::from(window)];
             if label < self.edges.k() {
                 let to = self.edges.to(window);
                 let ends = self.edges.ends(label, pair.1);
-                if self.join(n, pair, to, ends) {
+                if self.join(pair, to, ends) {
                     return Some(self.edges.pair(to, to));
                 }
             }
@@ -114,32 +125,27 @@ impl Reach {
 
     /// Makes pairs of a node and those of a set, to which steps lead from a pair; answers whether the node
     /// is in the set.
-    fn join(&mut self, n: u16, pair: (u8, u8), to: u8, ends: u16) -> bool
-        requires { n < 257 }
-    {
-        let mut rest = ends & !self.rows[usize::from(n)][usize::from(to % 16)];
+    fn join(&mut self, pair: (u8, u8), to: u8, ends: u16) -> bool {
+        let mut rest = ends & !self.rows[usize::from(to % 16)];
         for _ in 0..MOST_NODES {
             if rest == 0 {
                 break;
             }
             let end = first_node(rest);
             rest &= rest - 1;
-            self.link(n, pair, to, end);
+            self.link(pair, to, end);
         }
         ends & bit(to) != 0
     }
 
     /// Makes a pair of two nodes to which a step leads from a pair.
-    fn link(&mut self, n: u16, pair: (u8, u8), to: u8, end: u8)
-        requires { n < 257 }
-    {
-        let level = usize::from(n);
-        self.rows[level][usize::from(to % 16)] |= bit(end);
-        self.rows[level][usize::from(end % 16)] |= bit(to);
+    fn link(&mut self, pair: (u8, u8), to: u8, end: u8) {
+        self.rows[usize::from(to % 16)] |= bit(end);
+        self.rows[usize::from(end % 16)] |= bit(to);
         let (here, turned) = (self.edges.pair(to, end), self.edges.pair(end, to));
         self.before[usize::from(here)] = self.edges.pair(pair.0, pair.1);
         self.before[usize::from(turned)] = self.edges.pair(pair.1, pair.0);
-        self.waiting[usize::from(self.count)] = (to, end);
+        self.found[usize::from(self.count)] = (to, end);
         self.count = self.count.wrapping_add(1);
     }
 }
