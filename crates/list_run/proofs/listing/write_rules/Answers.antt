@@ -1,12 +1,13 @@
-use Rattle.std.proofs.Common.{◌≡◌, ℕ, ◌+◌, ◌^◌, List, [], ◌∷◌, ◌++◌, ◌<◌, length, take, rules, Option, Some, None, refl, sym, ap, ap₂, ◌∙◌, subst, arith}
+use Rattle.std.proofs.Common.{◌≡◌, ℕ, ◌+◌, ◌^◌, List, [], ◌∷◌, ◌++◌, ◌<◌, length, take, rules, Some, None, refl, ap, ap₂, ◌∙◌, subst, arith}
 use Rattle.std.specs.Prelude.{MatchOption}
 use Rattle.std.specs.Io.KnownBytes.{Appends}
 use Rattle.std.proofs.lemmas.List.{length-append}
+use Rattle.std.proofs.KnownBytes.{Appends-nil}
 use Rattle.rule_lists.specs.Listed.{IsFirst, NoneIs}
 use Rattle.rule_lists.specs.Calls.{IsAfter}
 use Rattle.rule_lists.proofs.laws.Calls.{AreSoFar-next, AreAll-ended, AreListed-all}
 use Rattle.list_run.specs.Lines.{count_line, rule_lines}
-use Rattle.list_run.specs.Lists.{IsList, IsListSoFar}
+use Rattle.list_run.specs.Lists.{IsListSoFar}
 use Rattle.list_run.proofs.laws.Lines.{whole_line, cut_line}
 use Rattle.list_run.proofs.laws.Steps.{first_after, left_over-less, ended}
 use Rattle.list_run.proofs.listing.write_rules.Goals as goal
@@ -35,6 +36,14 @@ returns-in_err-write_all-clause-part g c =
     } in
     let cut_off : (out : List ℕ) × (j : ℕ) × IsListSoFar c.args.property c.args.beginning.now out × (j < length out) × Appends (g.T.Sink.taken c.args.sink.now) (g.T.Sink.taken c.write_all.new.sink) (take j out) = (rule_lines shape (found ++ r ∷ []), i, so_far, below, cut) in
     search rules
+
+pub loop-next-init : goal.loop-next-init
+loop-next-init g c = record {
+  line = c.requires.line;
+  found = ([], None, refl, c.first_rule-next.ensures, refl, Appends-nil _);
+  telling = refl;
+  counted = refl;
+}
 
 pub loop-next-smaller : goal.loop-next-smaller
 loop-next-smaller g c =
