@@ -162,7 +162,7 @@ uint8_t ca_verdict_bytes(uint8_t states, uint8_t width, uint64_t first_high, uin
                          uint8_t *bytes, size_t bytes_length);
 
 /*
- * Writes an order of the windows in which ca_next_rule soon finds the rules of a shape that have a property, and takes no
+ * Writes the order of the windows in which ca_next_rule soon finds the rules of a shape that have a property, and takes no
  * memory.
  *
  * The property is an enum ca_bit. order has room for one byte for each window, states to the power of width of them, and

@@ -4,6 +4,7 @@ use Rattle.word_image.specs.LocalRules.{LocalRule, IsRule}
 use Rattle.word_image.specs.RuleFaults.{rule_fault, shape_fault}
 use Rattle.word_image.specs.declared.local_rule.RuleFault.{RuleFault}
 use Rattle.rule_lists.specs.Ranks.{IsOrder, rank}
+use Rattle.rule_lists.specs.Orders.{IsOrderFor}
 use Rattle.rule_lists.specs.Listed.{IsFirst, NoneIs}
 use Rattle.rule_lists.specs.declared.properties.Property.{Property}
 use Rattle.rule_lists.specs.declared.properties.Property.TheVariants.{Surjective, Injective, RightClosing, LeftClosing, Open, Conserving}
@@ -65,6 +66,6 @@ pub data IsWindowOrder (number states width : ℕ) (before : List ℕ) : ℕ →
   NoProperty : shape_fault states width (pos 0) ≡ None → IsNoProperty number → IsWindowOrder number states width before 10 before
   -- there isn't one byte for each window
   NoLength : (property : Property) → shape_fault states width (pos 0) ≡ None → number ≡ property_number property → length before ≢ states ^ width → IsWindowOrder number states width before 5 before
-  -- an order of the windows
-  Order : (property : Property) (order : List ℕ) → shape_fault states width (pos 0) ≡ None → number ≡ property_number property → IsOrder (states ^ width) order
+  -- the order of the windows for the property
+  Order : (property : Property) (order : List ℕ) → shape_fault states width (pos 0) ≡ None → number ≡ property_number property → IsOrderFor property states width order
       → IsWindowOrder number states width before 0 order

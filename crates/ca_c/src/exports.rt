@@ -140,7 +140,7 @@ pub extern "C" fn ca_verdict_bytes(
     }
 }
 
-/// Writes an order of the windows of a shape, in which the rules with a property are soon found. The property is the number
+/// Writes the order of the windows of a shape in which the rules with a property are soon found. The property is the number
 /// of its bit in a byte of verdicts. It gives 0, or the number of the first fault, and then the bytes are as they were. It
 /// takes no memory.
 #[unsafe(no_mangle)]

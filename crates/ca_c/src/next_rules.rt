@@ -5,7 +5,7 @@ ghost use Rattle.rule_lists.specs.Ranks.{IsOrder};
 ghost use Rattle.rule_lists.specs.Listed.{IsFirst, NoneIs};
 ghost use Rattle.ca_c.specs.NextRules.{IsNoProperty, IsToCome, fixed_letters, property_number};
 
-use rule_lists::{Letters, Property, first_rule, rule_after};
+use rule_lists::{Hints, Letters, Property, first_rule, rule_after};
 use word_image::{MOST_ENTRIES, Rule};
 
 /// The property that a number stands for, that of its bit in a byte of verdicts.
@@ -56,10 +56,11 @@ pub fn next_rule(
         (NoneIs property rule.now.states rule.now.width letters.now (IsToCome after rule.now.states order.now rule.now.table))
         (IsFirst property rule.now.states rule.now.width letters.now order.now (IsToCome after rule.now.states order.now rule.now.table)) }
 {
+    let mut hints = Hints::of(property, rule, letters);
     if after {
-        rule_after(property, letters, order, rule)
+        rule_after(property, letters, order, rule, &mut hints)
     } else {
-        first_rule(property, rule, letters, order)
+        first_rule(property, rule, letters, order, &mut hints)
     }
 }
 

@@ -2,7 +2,7 @@
 use Rattle.std.specs.Prelude.{◌≡◌, ℕ, ◌^◌, ◌<◌, ◌≤◌, List, ◌++◌, slice_index, Option, None}
 use Rattle.word_image.specs.LocalRules.{LocalRule}
 use Rattle.rule_text.specs.declared.beginnings.Beginning.{Beginning}
-use Rattle.rule_lists.specs.Ranks.{IsOrder}
+use Rattle.rule_lists.specs.Orders.{IsOrderFor}
 use Rattle.rule_lists.specs.Calls.{AreSoFar, AreListed}
 use Rattle.rule_lists.specs.declared.properties.Property.{Property}
 use Rattle.list_run.specs.Lines.{rule_lines, last_line}
@@ -12,13 +12,13 @@ pub record AreGiven (b : Beginning) (letters : List ℕ) : Type 0 where
   pub given : (v : ℕ) → v < b.given → v < b.rule.states ^ b.rule.width → slice_index letters v ≡ slice_index b.rule.table v
   pub open_ : (v : ℕ) → b.given ≤ v → v < b.rule.states ^ b.rule.width → slice_index letters v ≡ 255
 
--- the line of each rule that has the property and whose table begins so, each once, and that of their number; the rules ascend in some order of the windows
+-- the line of each rule that has the property and whose table begins so, each once, and that of their number; the rules ascend in the order of the windows for the property
 pub record IsList (property : Property) (b : Beginning) (out : List ℕ) : Type 0 where
   pub letters : List ℕ
   pub order : List ℕ
   pub rules : List LocalRule
   pub given : AreGiven b letters
-  pub windows : IsOrder (b.rule.states ^ b.rule.width) order
+  pub windows : IsOrderFor property b.rule.states b.rule.width order
   pub listed : AreListed property b.rule.states b.rule.width letters order rules
   pub lines : out ≡ rule_lines b.rule rules ++ last_line rules
 
@@ -29,6 +29,6 @@ pub record IsListSoFar (property : Property) (b : Beginning) (out : List ℕ) : 
   pub rules : List LocalRule
   pub last : Option LocalRule
   pub given : AreGiven b letters
-  pub windows : IsOrder (b.rule.states ^ b.rule.width) order
+  pub windows : IsOrderFor property b.rule.states b.rule.width order
   pub so_far : AreSoFar property b.rule.states b.rule.width letters order None rules last
   pub lines : out ≡ rule_lines b.rule rules

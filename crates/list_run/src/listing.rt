@@ -3,14 +3,14 @@ ghost use Rattle.std.specs.Prelude.{◌≡◌, ◌≢◌, ◌⊎◌, ℕ, ◌^�
 ghost use Rattle.std.specs.Io.KnownBytes.{Appends};
 ghost use Rattle.word_image.specs.LocalRules.{IsRule};
 ghost use Rattle.ca_io.specs.Faults.{Rose, CountsFaults};
-ghost use Rattle.rule_lists.specs.Ranks.{IsOrder};
+ghost use Rattle.rule_lists.specs.Orders.{IsOrderFor};
 ghost use Rattle.list_run.specs.Lines.{IsLineOf, count_line};
 ghost use Rattle.list_run.specs.Lists.{AreGiven, IsList, IsListSoFar};
 
 use crate::cut::Cut;
 use crate::lines::{first_line, last_line, set_table};
 use ca_io::{Failed, Sink, write_all};
-use rule_lists::{Letters, Property, first_rule, order_for, rule_after};
+use rule_lists::{Hints, Letters, Property, first_rule, order_for, rule_after};
 use rule_text::Beginning;
 use std::alloc::{AllocError, Global};
 use word_image::MOST_ENTRIES;
@@ -51,7 +51,7 @@ fn write_rules<T: Sink>(
     line: &mut [u8],
     sink: &mut T,
 ) -> Result<u64, Failed>
-    requires order { IsOrder (beginning.now.rule.states ^ beginning.now.rule.width) order.now }
+    requires order { IsOrderFor property beginning.now.rule.states beginning.now.rule.width order.now }
     requires line { IsLineOf beginning.now.rule line.old }
     requires given { AreGiven beginning.now letters.now }
     ensures all { IfOk result (λ count. (out : List ℕ) × IsListSoFar property beginning.now out
@@ -63,12 +63,13 @@ fn write_rules<T: Sink>(
     ensures counted { CountsFaults (T.faults sink.old) (T.faults sink.new) result }
 {
     let mut count = 0u64;
-    let mut next = first_rule(property, &beginning.rule, letters, order);
+    let mut hints = Hints::of(property, &beginning.rule, letters);
+    let mut next = first_rule(property, &beginning.rule, letters, order, &mut hints);
     while let Some(rule) = next {
         set_table(line, &beginning.rule, &rule);
         write_all(sink, line)?;
         count = count.saturating_add(1);
-        next = rule_after(property, letters, order, &rule);
+        next = rule_after(property, letters, order, &rule, &mut hints);
     }
     Ok(count)
 }

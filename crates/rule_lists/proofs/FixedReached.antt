@@ -1,5 +1,5 @@
 -- What fixed letters alone lead to is reached in each rule that has them.
-use Rattle.std.proofs.Common.{◌≡◌, ℕ, List, ap, subst}
+use Rattle.std.proofs.Common.{◌≡◌, ℕ, List}
 use Rattle.word_image.specs.LocalRules.{LocalRule, IsRule}
 use Rattle.word_image.specs.Graphs.{first_of, second_of}
 use Rattle.eden_laws.specs.ReachedPairs.{IsReached}

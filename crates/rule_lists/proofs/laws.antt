@@ -1,4 +1,5 @@
 pub mod Ranks
+pub mod Orders
 pub mod Filled
 pub mod Advance
 pub mod Going

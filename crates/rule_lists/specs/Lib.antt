@@ -1,11 +1,12 @@
 pub mod Properties
 pub mod Ranks
+pub mod Orders
 pub mod Tables
 pub mod Listed
 pub mod Completions
 pub mod EndlessPairs
 pub mod Reached
+pub mod FixedWalks
 pub mod Bars
-pub mod Flags
 pub mod Calls
 pub mod Forests

@@ -1,5 +1,5 @@
 -- The pairs that the fixed letters of a table already make reached.
-use Rattle.std.specs.Prelude.{◌≡◌, ℕ, ◌<◌, List, length, slice_index}
+use Rattle.std.specs.Prelude.{ℕ, List}
 use Rattle.word_image.specs.LocalRules.{LocalRule}
 use Rattle.eden_laws.specs.ReachedPairs.{IsReached}
 use Rattle.rule_lists.specs.Completions.{IsCompletion}
@@ -13,8 +13,3 @@ pub data IsFixedReached (r : LocalRule) (letters : List ℕ) : ℕ → Type 0 wh
 -- the pair is reached in each rule that has the fixed letters
 abbrev pub IsSure : ℕ → ℕ → List ℕ → ℕ → Type 0
 IsSure k m letters p = (s : LocalRule) → IsCompletion k m letters s → IsReached s p
-
--- flags of pairs: 1 only where the pair is sure
-pub record AreSure (k m : ℕ) (letters flags : List ℕ) : Type 0 where
-  pub long : length flags ≡ 256
-  pub sure : (p : ℕ) → p < 256 → slice_index flags p ≡ 1 → IsSure k m letters p

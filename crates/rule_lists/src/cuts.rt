@@ -3,22 +3,20 @@ ghost use Rattle.std.specs.Prelude.{◌≡◌, ◌≢◌, ◌^◌, ◌<◌, ◌�
 ghost use Rattle.rule_lists.specs.Ranks.{IsOrder};
 ghost use Rattle.rule_lists.specs.Tables.{IsTable};
 ghost use Rattle.rule_lists.specs.Listed.{Forbids, IsStanding};
-ghost use Rattle.rule_lists.specs.Bars.{Bars};
-ghost use Rattle.rule_lists.specs.EndlessPairs.{AreEndlessOn};
-ghost use Rattle.rule_lists.specs.Flags.{InFlags};
-ghost use Rattle.word_image.specs.Graphs.{pair_count, first_of, second_of};
-ghost use Rattle.word_image.specs.declared.side.Side.TheVariants.{Right, Left};
+ghost use Rattle.rule_lists.specs.Bars.{Bars, BarsClosing};
+ghost use Rattle.rule_lists.specs.Completions.{IsLost};
 ghost use Rattle.rule_lists.specs.declared.properties.Property.TheVariants.{Open, Injective};
 
-use crate::closing_cuts::bars_closing;
-use crate::endless::settled;
-use crate::lost::{Flags, Letters, is_lost};
+use crate::hints::{Hint, Hints};
+use crate::letters::Letters;
 use crate::properties::Property;
 use crate::sums::bars_conserving;
 use crate::tables::Entries;
-use word_image::{MOST_PAIRS, Rule, Side};
+use crate::walks::{has_one_node, is_round, is_tail};
+use word_image::{Rule, Side};
 
-/// Whether the letters at the first n windows forbid the property.
+/// Whether the letters at the first n windows forbid the property. Those at all but the last are the ones
+/// of which hints were asked before.
 pub(crate) fn forbids(
     property: Property,
     shape: &Rule,
@@ -26,6 +24,7 @@ pub(crate) fn forbids(
     order: &[u8],
     entries: &Entries,
     n: u16,
+    hints: &mut Hints,
 ) -> bool
     requires order { IsOrder (shape.now.states ^ shape.now.width) order.now }
     requires table { IsTable shape.now.states (shape.now.states ^ shape.now.width) entries.now }
@@ -35,7 +34,11 @@ pub(crate) fn forbids(
     if has_other(shape.k(), begin, order, entries, n) {
         return true;
     }
-    bars(property, shape, &standing(begin, order, entries, n))
+    if !hints.see(begin, order, entries, n, true) {
+        return false;
+    }
+    let letters = standing(begin, order, entries, n);
+    bars(property, shape, &letters, hints.last())
 }
 
 /// Whether another letter was fixed from the beginning at the last of the first n windows.
@@ -65,61 +68,75 @@ fn standing(begin: &Letters, order: &[u8], entries: &Entries, n: u16) -> Letters
     letters
 }
 
-/// Whether the fixed letters bar the property.
-fn bars(property: Property, shape: &Rule, letters: &Letters) -> bool
+/// Whether the fixed letters bar the property, by a hint.
+fn bars(property: Property, shape: &Rule, letters: &Letters, hint: &Hint) -> bool
     ensures { IsTrue result → Bars property shape.now.states shape.now.width letters.now }
 {
     match property {
-        Property::Surjective => is_lost(shape, letters),
-        Property::Injective => bars_injective(shape, letters),
-        Property::RightClosing => bars_closing(Side::Right, shape, letters),
-        Property::LeftClosing => bars_closing(Side::Left, shape, letters),
-        Property::Open => bars_open(shape, letters),
+        Property::Surjective => is_lost(shape, letters, hint),
+        Property::Injective => bars_injective(shape, letters, hint),
+        Property::RightClosing => bars_closing(Side::Right, shape, letters, hint),
+        Property::LeftClosing => bars_closing(Side::Left, shape, letters, hint),
+        Property::Open => bars_open(shape, letters, hint),
         Property::Conserving => bars_conserving(shape, letters),
     }
 }
 
-/// Whether they bar that the rule is open.
-fn bars_open(shape: &Rule, letters: &Letters) -> bool
-    ensures { IsTrue result → Bars Open shape.now.states shape.now.width letters.now }
+/// Whether they lead from a node, by different letters, to a pair of two equal nodes.
+fn is_lost(shape: &Rule, letters: &Letters, hint: &Hint) -> bool
+    ensures { IsTrue result → IsLost shape.now.states shape.now.width letters.now }
 {
-    if bars_closing(Side::Right, shape, letters) {
-        return true;
+    let pair = hint.pair();
+    if pair >= shape.pairs() {
+        return false;
     }
-    bars_closing(Side::Left, shape, letters)
+    if !has_one_node(shape, pair) {
+        return false;
+    }
+    is_tail(Side::Right, shape, letters, hint.before(), pair)
 }
 
-/// Whether they bar that the rule is injective.
-fn bars_injective(shape: &Rule, letters: &Letters) -> bool
+/// Whether they bar that the rule is injective: such a pair, or two different nodes that they lead round.
+fn bars_injective(shape: &Rule, letters: &Letters, hint: &Hint) -> bool
     ensures { IsTrue result → Bars Injective shape.now.states shape.now.width letters.now }
 {
-    let Some(on) = settled(Side::Right, shape, letters, [1; MOST_PAIRS]) else {
-        return false;
-    };
-    let Some(back) = settled(Side::Left, shape, letters, on) else {
-        return false;
-    };
-    for pair in 0..shape.pairs() {
-        if has_both(shape, &on, &back, pair) {
-            return true;
-        }
+    if is_lost(shape, letters, hint) {
+        return true;
     }
-    false
+    let pair = hint.pair();
+    if pair >= shape.pairs() {
+        return false;
+    }
+    if has_one_node(shape, pair) {
+        return false;
+    }
+    is_round(Side::Right, shape, letters, hint.after(), pair)
 }
 
-/// Whether a pair of two different nodes is in both sets.
-fn has_both(shape: &Rule, on: &Flags, back: &Flags, pair: u16) -> bool
-    requires { pair < pair_count shape.now }
-    ensures on { IsTrue result → InFlags shape.now on.now pair }
-    ensures back { IsTrue result → InFlags shape.now back.now pair }
-    ensures different { IsTrue result → first_of shape.now pair ≢ second_of shape.now pair }
+/// Whether they bar that the rule closes on this side: they lead from a node, by different letters, to a
+/// pair of two equal nodes, or to one that they lead round.
+fn bars_closing(side: Side, shape: &Rule, letters: &Letters, hint: &Hint) -> bool
+    ensures { IsTrue result → BarsClosing side shape.now.states shape.now.width letters.now }
 {
-    let (u, v) = shape.nodes_of(pair);
-    if u == v {
+    let pair = hint.pair();
+    if pair >= shape.pairs() {
         return false;
     }
-    if on[usize::from(pair)] != 1 {
+    if !is_tail(side, shape, letters, hint.before(), pair) {
         return false;
     }
-    back[usize::from(pair)] == 1
+    if has_one_node(shape, pair) {
+        return true;
+    }
+    is_round(side, shape, letters, hint.after(), pair)
+}
+
+/// Whether they bar that the rule is open.
+fn bars_open(shape: &Rule, letters: &Letters, hint: &Hint) -> bool
+    ensures { IsTrue result → Bars Open shape.now.states shape.now.width letters.now }
+{
+    match hint.side {
+        Side::Right => bars_closing(Side::Right, shape, letters, hint),
+        Side::Left => bars_closing(Side::Left, shape, letters, hint),
+    }
 }

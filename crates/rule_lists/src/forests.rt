@@ -3,7 +3,7 @@ ghost use Rattle.std.specs.Prelude.{◌≡◌, ◌+◌, ◌*◌, ◌^◌, ◌<�
 ghost use Rattle.word_image.specs.LocalRules.{node_count};
 ghost use Rattle.rule_lists.specs.Forests.{AreKnown, AreLevels, AreUpTo, GainsWith, IsMoved};
 
-use crate::lost::Letters;
+use crate::letters::Letters;
 use word_image::{MOST_NODES, Rule, Side};
 
 /// Trees of nodes. Under each conserving rule that has the fixed letters the flux at two nodes of one

@@ -13,19 +13,24 @@
 //! two states and width 3 are then those with the numbers 15, 30, 45, 51, 60, .., 240: 30 rules.
 #![tactic(auto)]
 
-mod closing_cuts;
+mod classes;
 mod cuts;
-mod endless;
+mod edges;
 mod forests;
-mod lost;
+mod hints;
+mod letters;
 mod orders;
 mod properties;
+mod reach;
+mod rounds;
 mod search;
 mod sums;
 mod tables;
 mod theorems;
+mod walks;
 
-pub use lost::Letters;
+pub use hints::Hints;
+pub use letters::Letters;
 pub use orders::{is_order, order_for, write_order};
 pub use properties::{Property, has};
 pub use search::{first_rule, rule_after};

@@ -6,25 +6,46 @@ ghost use Rattle.rule_lists.specs.Tables.{IsTable, IsPast};
 ghost use Rattle.rule_lists.specs.Listed.{IsFirst, IsFilled, NoneIs, IsOn, Forbids};
 
 use crate::cuts::forbids;
-use crate::lost::Letters;
+use crate::hints::Hints;
+use crate::letters::Letters;
 use crate::properties::{Property, has};
 use crate::tables::{Entries, advance, has_letters};
 use word_image::{MOST_ENTRIES, Rule};
 
 /// The rule of least rank that has the property and each letter that is fixed from the beginning, of the
 /// states and the width of this rule and at offset 0; `None` exactly where there is none.
-pub fn first_rule(property: Property, shape: &Rule, begin: &Letters, order: &[u8]) -> Option<Rule>
+pub fn first_rule(
+    property: Property,
+    shape: &Rule,
+    begin: &Letters,
+    order: &[u8],
+    hints: &mut Hints,
+) -> Option<Rule>
     requires { IsOrder (shape.now.states ^ shape.now.width) order.now }
     ensures { MatchOption result
         (NoneIs property shape.now.states shape.now.width begin.now (λ q. ⊤))
         (IsFirst property shape.now.states shape.now.width begin.now order.now (λ q. ⊤)) }
 {
-    from(property, shape, begin, order, entries_of(shape), Some(0))
+    from(
+        property,
+        shape,
+        begin,
+        order,
+        entries_of(shape),
+        Some(0),
+        hints,
+    )
 }
 
 /// The rule of least rank greater than that of this rule, of its shape at offset 0, that has the
 /// property; `None` exactly where there is none.
-pub fn rule_after(property: Property, begin: &Letters, order: &[u8], rule: &Rule) -> Option<Rule>
+pub fn rule_after(
+    property: Property,
+    begin: &Letters,
+    order: &[u8],
+    rule: &Rule,
+    hints: &mut Hints,
+) -> Option<Rule>
     requires { IsOrder (rule.now.states ^ rule.now.width) order.now }
     ensures { MatchOption result
         (NoneIs property rule.now.states rule.now.width begin.now (λ q. rank rule.now.states order.now rule.now.table < rank rule.now.states order.now q.table))
@@ -32,7 +53,7 @@ pub fn rule_after(property: Property, begin: &Letters, order: &[u8], rule: &Rule
 {
     let mut entries = entries_of(rule);
     let next = advance(rule.k(), order, &mut entries, rule.size());
-    from(property, rule, begin, order, entries, next)
+    from(property, rule, begin, order, entries, next, hints)
 }
 
 /// The letters of a rule, and anything after them.
@@ -55,6 +76,7 @@ fn from(
     order: &[u8],
     start: Entries,
     first: Option<u16>,
+    hints: &mut Hints,
 ) -> Option<Rule>
     requires order { IsOrder (shape.now.states ^ shape.now.width) order.now }
     requires table { IsTable shape.now.states (shape.now.states ^ shape.now.width) start }
@@ -64,12 +86,13 @@ fn from(
         (IsFirst property shape.now.states shape.now.width begin.now order.now (λ q. IsPast shape.now.states order.now start first q.table)) }
 {
     let mut entries = start;
+    hints.catch_up(begin, order, &entries, first.unwrap_or(0));
     let mut next = first;
     while let Some(n) = next {
         if let Some(rule) = found(property, shape, begin, order, &entries, n) {
             return Some(rule);
         }
-        next = step(property, shape, begin, order, &mut entries, n);
+        next = step(property, shape, begin, order, &mut entries, n, hints);
     }
     None
 }
@@ -122,6 +145,7 @@ fn step(
     order: &[u8],
     entries: &mut Entries,
     n: u16,
+    hints: &mut Hints,
 ) -> Option<u16>
     requires order { IsOrder (shape.now.states ^ shape.now.width) order.now }
     requires table { IsTable shape.now.states (shape.now.states ^ shape.now.width) entries.old }
@@ -132,7 +156,7 @@ fn step(
     if n == shape.size() {
         return advance(shape.k(), order, entries, n);
     }
-    if forbids(property, shape, begin, order, entries, n) {
+    if forbids(property, shape, begin, order, entries, n, hints) {
         return advance(shape.k(), order, entries, n);
     }
     entries[usize::from(order[usize::from(n)])] = 0;

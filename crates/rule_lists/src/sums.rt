@@ -5,7 +5,7 @@ ghost use Rattle.rule_lists.specs.Forests.{AreKnown, AreUpTo};
 ghost use Rattle.rule_lists.specs.declared.properties.Property.TheVariants.{Conserving};
 
 use crate::forests::{Forest, forest_of};
-use crate::lost::Letters;
+use crate::letters::Letters;
 use word_image::{Rule, Side};
 
 /// Whether the fixed letters bar that the rule is conserving, each letter of which weighs its own value.

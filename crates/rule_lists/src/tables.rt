@@ -3,7 +3,7 @@ ghost use Rattle.std.specs.Prelude.{◌≡◌, ◌+◌, ◌-◌, ◌*◌, ◌^�
 ghost use Rattle.rule_lists.specs.Ranks.{IsOrder, rank_of_first};
 ghost use Rattle.rule_lists.specs.Tables.{IsTable, HasLetters, IsPast};
 
-use crate::lost::Letters;
+use crate::letters::Letters;
 use word_image::MOST_ENTRIES;
 
 /// The letters of a table by the values of the windows, and anything after them.

@@ -1,9 +1,10 @@
 -- What is handed back of the rules of a shape, in the words of the code.
-use Rattle.std.proofs.Common.{◌≡◌, ◌≢◌, ℕ, ◌^◌, ◌<◌, ◌≤◌, Bool, List, length, Some, None, pos, sym, ap, ap₂, subst, ◌∙◌}
+use Rattle.std.proofs.Common.{◌≡◌, ◌≢◌, ℕ, ◌^◌, ◌<◌, ◌≤◌, Bool, List, length, Some, None, pos, sym, ap, ap₂, subst, subst₂, ◌∙◌}
 use Rattle.word_image.specs.LocalRules.{LocalRule, IsRule}
 use Rattle.word_image.specs.RuleFaults.{rule_fault, shape_fault}
 use Rattle.word_image.specs.declared.local_rule.RuleFault.{RuleFault}
 use Rattle.rule_lists.specs.Ranks.{IsOrder}
+use Rattle.rule_lists.specs.Orders.{IsOrderFor}
 use Rattle.rule_lists.specs.Listed.{IsFirst, NoneIs}
 use Rattle.rule_lists.specs.declared.properties.Property.{Property}
 use Rattle.ca_c.specs.Verdicts.{rule_of_table, fault_code}
@@ -22,11 +23,11 @@ IsWindowOrder-length property {number} {states} {width} {i} {j} {size} {code} {b
     let all : size ≡ states ^ width = windows ∙ ap₂ (λ (a b : ℕ). a ^ b) same_states same_width in
     subst (λ (n : ℕ). IsWindowOrder number states width before n before) (sym coded) (IsWindowOrder.NoLength property (sym shape) numbered (λ same. other (same ∙ sym all)))
 
--- an order of the windows of a rule of the shape
+-- the order of the windows of a rule of the shape
 pub IsWindowOrder-order : (property : Property) {number states width i j : ℕ} {before order : List ℕ} → None ≡ shape_fault states width (pos 0) → number ≡ property_number property
-    → i ≡ states → j ≡ width → IsOrder (i ^ j) order → IsWindowOrder number states width before 0 order
+    → i ≡ states → j ≡ width → IsOrderFor property i j order → IsWindowOrder number states width before 0 order
 IsWindowOrder-order property {number} {states} {width} {i} {j} {before} {order} shape numbered same_states same_width ordered =
-    IsWindowOrder.Order property order (sym shape) numbered (subst (λ (n : ℕ). IsOrder n order) (ap₂ (λ (a b : ℕ). a ^ b) same_states same_width) ordered)
+    IsWindowOrder.Order property order (sym shape) numbered (subst₂ (λ (k m : ℕ). IsOrderFor property k m order) same_states same_width ordered)
 
 -- as many windows as those of the rule of a table
 pub size-rule_of_table : (states width : ℕ) (table : List ℕ) {size : ℕ} {r : LocalRule} → size ≡ r.states ^ r.width → r ≡ rule_of_table states width table → size ≡ states ^ width

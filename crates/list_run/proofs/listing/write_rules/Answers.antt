@@ -1,12 +1,13 @@
-use Rattle.std.proofs.Common.{◌≡◌, ℕ, ◌+◌, ◌^◌, List, [], ◌∷◌, ◌++◌, ◌<◌, length, take, rules, Option, Some, None, refl, sym, ap, ap₂, ◌∙◌, subst, arith}
+use Rattle.std.proofs.Common.{◌≡◌, ℕ, ◌+◌, ◌^◌, List, [], ◌∷◌, ◌++◌, ◌<◌, length, take, rules, Some, None, refl, ap, ap₂, ◌∙◌, subst, arith}
 use Rattle.std.specs.Prelude.{MatchOption}
 use Rattle.std.specs.Io.KnownBytes.{Appends}
 use Rattle.std.proofs.lemmas.List.{length-append}
+use Rattle.std.proofs.KnownBytes.{Appends-nil}
 use Rattle.rule_lists.specs.Listed.{IsFirst, NoneIs}
 use Rattle.rule_lists.specs.Calls.{IsAfter}
 use Rattle.rule_lists.proofs.laws.Calls.{AreSoFar-next, AreAll-ended, AreListed-all}
 use Rattle.list_run.specs.Lines.{count_line, rule_lines}
-use Rattle.list_run.specs.Lists.{IsList, IsListSoFar}
+use Rattle.list_run.specs.Lists.{IsListSoFar}
 use Rattle.list_run.proofs.laws.Lines.{whole_line, cut_line}
 use Rattle.list_run.proofs.laws.Steps.{first_after, left_over-less, ended}
 use Rattle.list_run.proofs.listing.write_rules.Goals as goal
@@ -36,6 +37,14 @@ returns-in_err-write_all-clause-part g c =
     let cut_off : (out : List ℕ) × (j : ℕ) × IsListSoFar c.args.property c.args.beginning.now out × (j < length out) × Appends (g.T.Sink.taken c.args.sink.now) (g.T.Sink.taken c.write_all.new.sink) (take j out) = (rule_lines shape (found ++ r ∷ []), i, so_far, below, cut) in
     search rules
 
+pub loop-next-init : goal.loop-next-init
+loop-next-init g c = record {
+  line = c.requires.line;
+  found = ([], None, refl, c.first_rule-next.ensures, refl, Appends-nil _);
+  telling = refl;
+  counted = refl;
+}
+
 pub loop-next-smaller : goal.loop-next-smaller
 loop-next-smaller g c =
     let shape = c.args.beginning.now.rule in
@@ -46,7 +55,7 @@ loop-next-smaller g c =
     let r = c.in-Some.rule in
     let (found, last, far, next, count, took) = c.loop-next.invariant.found in
     let first : IsFirst c.args.property k m letters order (IsAfter k order last) r = subst (λ o. MatchOption o (NoneIs c.args.property k m letters (IsAfter k order last)) (IsFirst c.args.property k m letters order (IsAfter k order last))) c.in-Some.is next in
-    left_over-less c.args.property k m letters order r c.loop-next.next c.rule_after-next.result c.in-Some.is c.requires.order first.listed (first_after c.args.property k m letters order r c.rule_after-next.result first.listed c.rule_after-next.ensures)
+    left_over-less c.args.property k m letters order r c.loop-next.next c.rule_after-next.result c.in-Some.is c.requires.order.windows first.listed (first_after c.args.property k m letters order r c.rule_after-next.result first.listed c.rule_after-next.ensures)
 
 pub loop-next-preserved : goal.loop-next-preserved
 loop-next-preserved g c =
@@ -92,7 +101,7 @@ returns-clause-all g c =
         rules = found;
         given = c.requires.given;
         windows = c.requires.order;
-        listed = AreListed-all c.args.property k m letters order found c.requires.order all;
+        listed = AreListed-all c.args.property k m letters order found c.requires.order.windows all;
         lines = ap (λ (n : ℕ). rule_lines shape found ++ count_line n) count;
       },
       took,

@@ -21,5 +21,5 @@ returns c told q of begins same =
       fixed = λ v l small. ⊎_elim
           (λ (i, below, at, is). subst (λ w. slice_index q.table w ≡ slice_index c.args.entries.now w) at (same i below) ∙ sym is)
           (λ is. begins v l (subst (λ a. a < r.states) is small) ∙ sym is)
-          (c.standing.ensures v (omega (arith, l, window_count-le r.states r.width r.offset rule.shape)));
+          (c.standing-letters.ensures v (omega (arith, l, window_count-le r.states r.width r.offset rule.shape)));
     })

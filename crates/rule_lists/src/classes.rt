@@ -1,0 +1,99 @@
+//! The classes of windows, by which they are put in order.
+ghost use Rattle.std.specs.Prelude.{◌≡◌, ◌≤◌, ◌<◌, ◌+◌, ◌*◌, ◌-◌, ◌/◌, ◌%◌, ◌^◌, ◌==◌, ◌↔◌, ℕ, IsTrue, slice_index};
+ghost use Rattle.word_image.specs.LocalRules.{IsRule};
+ghost use Rattle.rule_lists.specs.Orders.{class_of, ring_class, ring_number, turned, has_period, weight_class};
+
+use crate::properties::Property;
+use word_image::{MOST_ENTRIES, Rule};
+
+/// The class of each window.
+pub(crate) fn classes_of(property: Property, shape: &Rule) -> [u32; MOST_ENTRIES]
+    ensures { (w : ℕ) → w < shape.now.states ^ shape.now.width → slice_index result w ≡ class_of property shape.now.states shape.now.width w }
+{
+    let mut classes = [0; MOST_ENTRIES];
+    for window in 0..shape.size() {
+        classes[usize::from(window)] = class_for(property, shape, window);
+    }
+    classes
+}
+
+/// The class of a window for this property.
+fn class_for(property: Property, shape: &Rule, window: u16) -> u32
+    ensures { result ≡ class_of property shape.now.states shape.now.width window }
+{
+    match property {
+        Property::Injective | Property::Conserving => ring_class(shape, window),
+        _ => weight_class(shape, window),
+    }
+}
+
+/// How many letters the shortest ring with the window has, and the least number of its rotations.
+fn ring_class(shape: &Rule, window: u16) -> u32
+    ensures { result ≡ ring_class shape.now.states shape.now.width window }
+{
+    for length in 1..shape.m() {
+        if has_period(shape, window, length) {
+            return ring_number(shape, window, length);
+        }
+    }
+    ring_number(shape, window, shape.m())
+}
+
+/// The length of the ring of the first letters of a window, and the least number of its rotations.
+fn ring_number(shape: &Rule, window: u16, length: u8) -> u32
+    requires { length ≤ shape.now.width }
+    ensures { result ≡ ring_number shape.now.states shape.now.width window length }
+{
+    let ring = u32::from(window) / power(shape, shape.m() - length);
+    let mut least = ring;
+    for from in 0..length {
+        least = least.min(turned(shape, ring, length, from));
+    }
+    u32::from(length) * 256 + least
+}
+
+/// The number of a ring of so many letters, read from one of them on.
+fn turned(shape: &Rule, ring: u32, length: u8, from: u8) -> u32
+    requires small { ring < 2 ^ 16 }
+    requires within { length ≤ shape.now.width }
+    requires from { from < length }
+    ensures { result ≡ turned shape.now.states length ring from }
+{
+    let behind = power(shape, length - from);
+    ring % behind * power(shape, from) + ring / behind
+}
+
+/// Whether each letter of the window is the one that stands so many before it, where there is one.
+fn has_period(shape: &Rule, window: u16, length: u8) -> bool
+    requires { length ≤ shape.now.width }
+    ensures { result ≡ has_period shape.now.states shape.now.width window length }
+{
+    let first = u32::from(window) / power(shape, length);
+    let last = u32::from(window) % power(shape, shape.m() - length);
+    first == last
+}
+
+/// The greatest letter of the window, and how many aren't 0.
+fn weight_class(shape: &Rule, window: u16) -> u32
+    ensures { result ≡ weight_class shape.now.states shape.now.width window }
+{
+    let mut greatest = 0;
+    let mut some = 0;
+    for behind in 0..shape.m() {
+        let letter = u32::from(window) / power(shape, behind) % u32::from(shape.k());
+        greatest = greatest.max(letter);
+        some += letter.min(1);
+    }
+    greatest * 8 + some
+}
+
+/// How many words of so many letters there are.
+fn power(shape: &Rule, length: u8) -> u32
+    requires { length ≤ shape.now.width }
+    ensures power { result ≡ shape.now.states ^ length }
+    ensures some { 0 < result }
+    ensures few { result ≤ 256 }
+    ensures rule { IsRule shape.now }
+{
+    u32::from(shape.k()).pow(u32::from(length))
+}

@@ -1,0 +1,114 @@
+//! The edges of the windows whose letters stand, and steps along them.
+use word_image::{EdgeRows, MOST_ENTRIES, MOST_NODES, MOST_STATES, Rule, Side};
+
+/// The edges of the windows whose letters stand, read to one side: along them to the right, and against
+/// them to the left. Nothing is said of them: what is found by them is looked at afterwards.
+#[derive(Drop)]
+pub(crate) struct Edges {
+    /// The node where each window begins.
+    from: [u8; MOST_ENTRIES],
+    /// The node where it ends.
+    to: [u8; MOST_ENTRIES],
+    /// How far apart the windows of two nodes that follow each other are.
+    node_step: u8,
+    /// The same of two letters.
+    letter_step: u8,
+    /// How many letters there are.
+    k: u8,
+    /// How many nodes there are.
+    nodes: u8,
+    /// For each label and node the set of the nodes where edges lead.
+    ends: EdgeRows,
+}
+
+impl Edges {
+    /// No edges yet.
+    pub(crate) fn of(side: Side, shape: &Rule) -> Edges {
+        let mut from = [0; MOST_ENTRIES];
+        let mut to = [0; MOST_ENTRIES];
+        for window in 0..shape.size() {
+            from[usize::from(window)] = side.other().end_node(shape, window);
+            to[usize::from(window)] = side.end_node(shape, window);
+        }
+        let (k, nodes) = (shape.k(), shape.nodes());
+        let (node_step, letter_step) = match side {
+            Side::Right => (k, 1),
+            Side::Left => (1, nodes),
+        };
+        Edges {
+            from,
+            to,
+            node_step,
+            letter_step,
+            k,
+            nodes,
+            ends: [[0; MOST_NODES]; MOST_STATES],
+        }
+    }
+
+    /// How many letters there are.
+    pub(crate) fn k(&self) -> u8 {
+        self.k
+    }
+
+    /// The node where a window begins.
+    pub(crate) fn from(&self, window: u8) -> u8 {
+        self.from[usize::from(window)]
+    }
+
+    /// The node where it ends.
+    pub(crate) fn to(&self, window: u8) -> u8 {
+        self.to[usize::from(window)]
+    }
+
+    /// The window of a node and a letter.
+    pub(crate) fn window(&self, node: u8, letter: u8) -> u8 {
+        node.wrapping_mul(self.node_step)
+            .wrapping_add(letter.wrapping_mul(self.letter_step))
+    }
+
+    /// The number of the pair of two nodes.
+    pub(crate) fn pair(&self, first: u8, second: u8) -> u8 {
+        first.wrapping_mul(self.nodes).wrapping_add(second)
+    }
+
+    /// Where the edges with a label lead from a node.
+    pub(crate) fn ends(&self, label: u8, node: u8) -> u16 {
+        self.ends[usize::from(label % 16)][usize::from(node % 16)]
+    }
+
+    /// Where they lead from the nodes of a set.
+    pub(crate) fn all_ends(&self, label: u8, nodes: u16) -> u16 {
+        let mut ends = 0;
+        for node in 0..self.nodes {
+            if nodes & bit(node) != 0 {
+                ends |= self.ends(label, node);
+            }
+        }
+        ends
+    }
+
+    /// Adds the edge of a window with this label.
+    pub(crate) fn add(&mut self, window: u8, label: u8) {
+        let node = usize::from(self.from(window) % 16);
+        let end = bit(self.to(window));
+        self.ends[usize::from(label % 16)][node] |= end;
+    }
+
+    /// Takes it away.
+    pub(crate) fn take(&mut self, window: u8, label: u8) {
+        let node = usize::from(self.from(window) % 16);
+        let end = bit(self.to(window));
+        self.ends[usize::from(label % 16)][node] &= !end;
+    }
+}
+
+/// The set of one node.
+pub(crate) fn bit(node: u8) -> u16 {
+    1u16 << (node % 16)
+}
+
+/// The first node of a set.
+pub(crate) fn first_node(set: u16) -> u8 {
+    set.trailing_zeros() as u8
+}

@@ -1,0 +1,18 @@
+//! Letters that are fixed of a table.
+ghost use Rattle.std.specs.Prelude.{◌≡◌, ◌<◌, IsTrue, slice_index};
+
+use word_image::MOST_ENTRIES;
+
+/// Letters of a table, by the values of windows: a letter is fixed where it is below k.
+pub type Letters = [u8; MOST_ENTRIES];
+
+/// Whether two windows are fixed, with one letter.
+pub(crate) fn are_one(k: u8, letters: &Letters, first: u16, second: u16) -> bool
+    requires first { first < 256 }
+    requires second { second < 256 }
+    ensures fixed { IsTrue result → slice_index letters.now first < k }
+    ensures one { IsTrue result → slice_index letters.now first ≡ slice_index letters.now second }
+{
+    let letter = letters[usize::from(first)];
+    letter < k && letter == letters[usize::from(second)]
+}

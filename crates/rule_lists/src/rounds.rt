@@ -1,0 +1,176 @@
+//! Rounds of pairs of different nodes: walks that come back to where they began.
+use crate::edges::{Edges, bit, first_node};
+use crate::letters::Letters;
+use crate::reach::Links;
+use word_image::{MOST_NODES, MOST_PAIRS};
+
+/// More turns than a search takes: each of at most 120 pairs has 16 letters, and 256 pairs behind it.
+const MOST_TURNS: u16 = 40_000;
+
+/// A pair of a walk, and which ways from it are left.
+#[derive(Clone, Copy)]
+struct Stop {
+    /// Its nodes.
+    pair: (u8, u8),
+    /// The first letter that wasn't tried.
+    letter: u8,
+    /// The first node of the pairs to which the letter before it leads.
+    to: u8,
+    /// The second nodes of those that weren't tried.
+    rest: u16,
+}
+
+/// A search in depth for a round.
+#[derive(Drop)]
+pub(crate) struct Rounds {
+    /// The pair to which the walk goes on from each pair of it.
+    pub(crate) after: Links,
+    /// The walk.
+    stops: [Stop; MOST_PAIRS],
+    /// How many pairs it has.
+    depth: u8,
+    /// For each node the nodes with which it is a pair of the walk.
+    open: [u16; MOST_NODES],
+    /// The same of the pairs from which all ways were tried.
+    done: [u16; MOST_NODES],
+}
+
+impl Rounds {
+    /// No walk yet.
+    pub(crate) fn new() -> Rounds {
+        let stop = Stop {
+            pair: (0, 0),
+            letter: 0,
+            to: 0,
+            rest: 0,
+        };
+        Rounds {
+            after: [0; MOST_PAIRS],
+            stops: [stop; MOST_PAIRS],
+            depth: 0,
+            open: [0; MOST_NODES],
+            done: [0; MOST_NODES],
+        }
+    }
+
+    /// Looks for a round behind the pairs of a node and those of a set, and answers with a pair of it.
+    pub(crate) fn find(
+        &mut self,
+        edges: &Edges,
+        letters: &Letters,
+        node: u8,
+        others: u16,
+    ) -> Option<u8> {
+        self.depth = 0;
+        self.open = [0; MOST_NODES];
+        self.done = [0; MOST_NODES];
+        for _ in 0..MOST_NODES {
+            let left = others & !bit(node) & !self.done[usize::from(node % 16)];
+            if left == 0 {
+                break;
+            }
+            self.enter((node, first_node(left)));
+            if let Some(pair) = self.walk(edges, letters) {
+                return Some(pair);
+            }
+        }
+        None
+    }
+
+    /// Tries all ways of the walk.
+    fn walk(&mut self, edges: &Edges, letters: &Letters) -> Option<u8> {
+        for _ in 0..MOST_TURNS {
+            if self.depth == 0 {
+                break;
+            }
+            let top = self.depth - 1;
+            if self.stops[usize::from(top)].rest == 0 && self.turn(edges, letters, top) {
+                return Some(self.closed(edges, top));
+            }
+            let stop = self.stops[usize::from(top)];
+            if stop.rest == 0 {
+                self.leave(top, stop);
+            } else {
+                self.go_on(top, stop);
+            }
+        }
+        None
+    }
+
+    /// Goes on to a pair.
+    fn enter(&mut self, pair: (u8, u8)) {
+        self.stops[usize::from(self.depth)] = Stop {
+            pair,
+            letter: 0,
+            to: 0,
+            rest: 0,
+        };
+        self.depth = self.depth.wrapping_add(1);
+        self.open[usize::from(pair.0 % 16)] |= bit(pair.1);
+        self.open[usize::from(pair.1 % 16)] |= bit(pair.0);
+    }
+
+    /// Goes on to the next of the pairs to which a letter leads.
+    fn go_on(&mut self, top: u8, stop: Stop) {
+        let end = first_node(stop.rest);
+        self.stops[usize::from(top)].rest = stop.rest & !bit(end);
+        if self.done[usize::from(stop.to % 16)] & bit(end) == 0 {
+            self.enter((stop.to, end));
+        }
+    }
+
+    /// Goes back from a pair.
+    fn leave(&mut self, top: u8, stop: Stop) {
+        let (u, v) = stop.pair;
+        self.depth = top;
+        self.open[usize::from(u % 16)] &= !bit(v);
+        self.open[usize::from(v % 16)] &= !bit(u);
+        self.done[usize::from(u % 16)] |= bit(v);
+        self.done[usize::from(v % 16)] |= bit(u);
+    }
+
+    /// Takes the next letter that leads to pairs, and answers whether one of these is of the walk.
+    fn turn(&mut self, edges: &Edges, letters: &Letters, top: u8) -> bool {
+        let stop = self.stops[usize::from(top)];
+        for letter in stop.letter..edges.k() {
+            let window = edges.window(stop.pair.0, letter);
+            let label = letters[usize::from(window)];
+            let to = edges.to(window);
+            let row = usize::from(to % 16);
+            let ends = edges.ends(label, stop.pair.1) & !bit(to) & !self.done[row];
+            if label < edges.k() && ends != 0 {
+                self.stops[usize::from(top)] = Stop {
+                    pair: stop.pair,
+                    letter: letter + 1,
+                    to,
+                    rest: ends,
+                };
+                return ends & self.open[row] != 0;
+            }
+        }
+        self.stops[usize::from(top)].letter = u8::MAX;
+        false
+    }
+
+    /// Notes where the walk goes on, now that the last letter leads back to a pair of it, and answers with this
+    /// pair.
+    fn closed(&mut self, edges: &Edges, top: u8) -> u8 {
+        let stop = self.stops[usize::from(top)];
+        let back = stop.rest & self.open[usize::from(stop.to % 16)];
+        let pair = (stop.to, first_node(back));
+        for place in 0..top {
+            let from = self.stops[usize::from(place)].pair;
+            let next = self.stops[usize::from(place + 1)].pair;
+            self.link(edges, from, next);
+        }
+        self.link(edges, stop.pair, pair);
+        edges.pair(pair.0, pair.1)
+    }
+
+    /// Notes that the walk goes on from one pair to another, and so where they are turned round.
+    fn link(&mut self, edges: &Edges, pair: (u8, u8), next: (u8, u8)) {
+        let (here, turned) = (edges.pair(pair.0, pair.1), edges.pair(pair.1, pair.0));
+        self.after[usize::from(here)] = edges.pair(next.0, next.1);
+        self.after[usize::from(turned)] = edges.pair(next.1, next.0);
+    }
+}

@@ -1,0 +1,109 @@
+//! Walks of pairs of nodes by fixed letters alone, looked at step by step.
+ghost use Rattle.std.specs.Prelude.{◌≡◌, ◌<◌, ◌↔◌, IsTrue, slice_index};
+ghost use Rattle.word_image.specs.Graphs.{pair_count, first_of, second_of};
+ghost use Rattle.rule_lists.specs.EndlessPairs.{FixedLeadsOn, IsFixedStep};
+ghost use Rattle.rule_lists.specs.FixedWalks.{IsFixedRound, IsFixedTail};
+
+use crate::letters::{Letters, are_one};
+use crate::reach::Links;
+use word_image::{Rule, Side};
+
+/// Whether the fixed letters lead to a pair from a node with itself, first to two different nodes: back
+/// along links to the pairs before.
+pub(crate) fn is_tail(
+    side: Side,
+    shape: &Rule,
+    letters: &Letters,
+    before: &Links,
+    pair: u16,
+) -> bool
+    requires { pair < pair_count shape.now }
+    ensures { IsTrue result → IsFixedTail side shape.now letters.now pair }
+{
+    let mut at = pair;
+    for _ in 0..shape.pairs() {
+        let from = u16::from(before[usize::from(at)]);
+        if !leads_on(side, shape, letters, from, at) {
+            return false;
+        }
+        if has_one_node(shape, from) {
+            return !has_one_node(shape, at);
+        }
+        at = from;
+    }
+    false
+}
+
+/// Whether the fixed letters lead from a pair back to it, along links to the pairs behind.
+pub(crate) fn is_round(
+    side: Side,
+    shape: &Rule,
+    letters: &Letters,
+    after: &Links,
+    pair: u16,
+) -> bool
+    requires { pair < pair_count shape.now }
+    ensures { IsTrue result → IsFixedRound side shape.now letters.now pair }
+{
+    let mut at = pair;
+    for _ in 0..shape.pairs() {
+        let next = u16::from(after[usize::from(at)]);
+        if !leads_on(side, shape, letters, at, next) {
+            return false;
+        }
+        if next == pair {
+            return true;
+        }
+        at = next;
+    }
+    false
+}
+
+/// Whether a number is that of a pair, and the two nodes are one.
+pub(crate) fn has_one_node(shape: &Rule, pair: u16) -> bool
+    requires { pair < pair_count shape.now }
+    ensures { IsTrue result ↔ (first_of shape.now pair ≡ second_of shape.now pair) }
+{
+    let (u, v) = shape.nodes_of(pair);
+    u == v
+}
+
+/// Whether fixed letters lead from one pair to another on this side.
+fn leads_on(side: Side, shape: &Rule, letters: &Letters, from: u16, to: u16) -> bool
+    ensures from { IsTrue result → from < pair_count shape.now }
+    ensures to { IsTrue result → to < pair_count shape.now }
+    ensures leads { IsTrue result → FixedLeadsOn side shape.now letters.now from to }
+{
+    if from >= shape.pairs() {
+        return false;
+    }
+    if to >= shape.pairs() {
+        return false;
+    }
+    match side {
+        Side::Right => is_step(shape, letters, from, to),
+        Side::Left => is_step(shape, letters, to, from),
+    }
+}
+
+/// Whether two letters lead from one pair to another, along two windows with one fixed letter.
+fn is_step(shape: &Rule, letters: &Letters, from: u16, to: u16) -> bool
+    requires from { from < pair_count shape.now }
+    requires to { to < pair_count shape.now }
+    ensures { IsTrue result → IsFixedStep shape.now letters.now from to }
+{
+    let (u, v) = shape.nodes_of(from);
+    let (x, y) = shape.nodes_of(to);
+    let a = x % shape.k();
+    let b = y % shape.k();
+    let first = Side::Right.window_with(shape, u, a);
+    let second = Side::Right.window_with(shape, v, b);
+    if !are_one(shape.k(), letters, first, second) {
+        return false;
+    }
+    let next = shape.pair_of(
+        Side::Right.end_node(shape, first),
+        Side::Right.end_node(shape, second),
+    );
+    next == to
+}
