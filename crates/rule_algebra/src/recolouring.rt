@@ -6,7 +6,7 @@ ghost use Rattle.rule_algebra.specs.MadeImages.{RecoloursImages};
 ghost use Rattle.rule_algebra.specs.Tables.{AreOldLetters};
 
 use crate::fault::AlgebraFault;
-use word_image::{MOST_STATES, Rule};
+use word_image::{MOST_STATES, Rule, letter_of, value_by};
 
 /// The rule g of the same width and offset with g(colours of w) = colours[f(w)] for every window w,
 /// so that the image of every recoloured word is the recoloured image; `NotPermutation` exactly
@@ -66,11 +66,10 @@ fn recoloured_value(rule: &Rule, colours: &[u8], window: u16) -> u16
         (word_of rule.now.states rule.now.width window)) }
     ensures within { result < rule.now.states ^ rule.now.width }
 {
-    let k = u16::from(rule.k());
-    let mut value = 0;
-    for place in 0..rule.m() {
-        let letter = window / k.pow(u32::from(rule.m() - 1 - place)) % k;
-        value = value * k + u16::from(colours[usize::from(letter)]);
-    }
-    value
+    let (k, m) = (rule.k(), rule.m());
+    value_by(
+        k,
+        m,
+        |place| colours[usize::from(letter_of(k, m, window, place))],
+    )
 }

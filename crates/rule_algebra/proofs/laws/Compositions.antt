@@ -1,9 +1,7 @@
 -- Images and image cells under the second rule after the first.
-use Rattle.std.proofs.Common.{◌≡◌, None, eq-eqb, ℕ, ◌+◌, ◌-◌, ◌<◌, ◌≤◌, List, length, take, drop, slice_range, ℤ, ◌+ℤ◌, refl, sym, ap, ap₂, subst, ◌∙◌, arith, length-drop}
+use Rattle.std.proofs.Common.{◌≡◌, None, eq-eqb, ℕ, ◌+◌, ◌-◌, ◌<◌, ◌≤◌, List, length, take, drop, slice_range, ℤ, ◌+ℤ◌, refl, sym, ap, ap₂, subst, ◌∙◌, arith, length-drop, not, if◌then◌else◌, Some, length-take-le}
 use Rattle.std.proofs.lemmas.Bool.Decides.{nat_tests}
-use Rattle.std.specs.Prelude.{not, if◌then◌else◌, Some}
 use Rattle.std.proofs.lemmas.Int.{ints}
-use Rattle.std.proofs.lemmas.List.{length-take-le}
 use Rattle.std.proofs.lemmas.List.Elements.{All-take, All-drop}
 use Rattle.word_image.specs.LocalRules.{LocalRule, IsRule, IsShape, IsWord, local_map}
 use Rattle.word_image.specs.Words.{image}
