@@ -5,9 +5,9 @@ use Rattle.std.proofs.lemmas.Nat.{same_from_place}
 use Rattle.word_image.specs.LocalRules.{LocalRule, IsRule, node_count}
 use Rattle.word_image.specs.Graphs.{first_of, second_of, pair_of, pair_count, LeadsOn}
 use Rattle.word_image.specs.Ranks.{IsRank, IsEndless}
+use Rattle.word_image.specs.Sides.{Together, PairGoes}
 use Rattle.word_image.specs.declared.side.Side.{Side}
 use Rattle.word_image.specs.declared.side.Side.TheVariants.{Right, Left}
-use Rattle.word_image.specs.Sides.{Together, PairGoes}
 use Rattle.pair_laws.proofs.Walks.{LeadTogether, place_node, HaveOneImage-between, LeadTogether-front, LeadTogether-rest, LeadTogether-join, LeadTogether-first, LeadTogether-none}
 use Rattle.pair_laws.proofs.Ranks.{LeadTogether-begin, LeadTogether-end, BeginTogether-walk, EndTogether-walk, Together-less, Together-zero}
 use Rattle.pair_laws.proofs.Pairs.{first_of-below, second_of-below, pair_of-below, LeadsOn-from, PairGoes-step, PairGoes-push}

@@ -1,7 +1,6 @@
 -- Determined windows by pairs of nodes: no two that differ at a letter end together for what is before it and begin together for what is behind.
-use Rattle.std.proofs.Common.{◌≡◌, ◌≢◌, ℕ, ◌+◌, ◌-◌, ◌<◌, ◌≤◌, ◌↔◌, min, List, ◌++◌, length, take, drop, get_or, slice_index, refl, subst₂, sym, ap, ap₂, ◌∙◌, ⊎_elim, arith, length-drop}
+use Rattle.std.proofs.Common.{◌≡◌, ◌≢◌, ℕ, ◌+◌, ◌-◌, ◌<◌, ◌≤◌, ◌↔◌, min, List, ◌++◌, length, take, drop, get_or, slice_index, refl, subst₂, sym, ap, ap₂, ◌∙◌, ⊎_elim, arith, length-drop, length-take-le, get_or-take, get_or-drop}
 use Rattle.std.proofs.lemmas.Bool.{cases_eq}
-use Rattle.std.proofs.lemmas.List.{length-take-le, get_or-take, get_or-drop}
 use Rattle.std.proofs.lemmas.List.Elements.{All-take, All-drop}
 use Rattle.word_image.specs.LocalRules.{LocalRule, IsRule, IsWord, value, word_of, node_count}
 use Rattle.word_image.specs.Windows.{HaveOneImage, IsDetermined}

@@ -3,8 +3,8 @@ use Rattle.std.specs.Prelude.{ℕ}
 use Rattle.word_image.specs.LocalRules.{LocalRule, mirrored}
 use Rattle.word_image.specs.Graphs.{first_of, second_of}
 use Rattle.word_image.specs.Ranks.{BeginTogether, EndTogether}
-pub use Rattle.word_image.specs.declared.side.Side.{Side}
-pub use Rattle.word_image.specs.declared.side.Side.TheVariants.{Right, Left}
+use Rattle.word_image.specs.declared.side.Side.{Side}
+use Rattle.word_image.specs.declared.side.Side.TheVariants.{Right, Left}
 use Rattle.word_image.specs.Windows.{IsRightAhead}
 
 -- the other side
