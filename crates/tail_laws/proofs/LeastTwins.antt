@@ -1,7 +1,5 @@
 -- The least twins are the first of the least walks in the marked graph from a pair without the mark to the same pair with it.
-use Rattle.std.proofs.Common.{◌≡◌, ◌≢◌, ℕ, ◌+◌, ◌<◌, ◌≤◌, List, [], ◌∷◌, length, map, sym, ◌∙◌, subst, arith}
-use Rattle.std.specs.List.{zip}
-use Rattle.std.specs.declared.cmp.Ordering.TheVariants.{Greater}
+use Rattle.std.proofs.Common.{◌≡◌, ◌≢◌, ℕ, ◌+◌, ◌<◌, ◌≤◌, List, [], ◌∷◌, length, map, sym, ◌∙◌, subst, arith, zip, Greater}
 use Rattle.std.proofs.lemmas.List.{length-map}
 use Rattle.std.proofs.lemmas.Slice.Zip.{length-zip}
 use Rattle.word_image.specs.LocalRules.{LocalRule, IsRule}
