@@ -1,9 +1,8 @@
 -- Either word of an erasable pair may stand for the other in any word and in any configuration, and the image stays.
-use Rattle.std.proofs.Common.{◌≡◌, ℕ, ◌+◌, ◌-◌, ◌<◌, ◌≤◌, List, [], ◌∷◌, ◌++◌, length, map, take, drop, refl, sym, ap, ap₂, ◌∙◌, ⊎_elim, arith, append_assoc, ℤ, pos, ◌+ℤ◌, ◌-ℤ◌, unsigned_abs, subst}
-use Rattle.std.specs.Prelude.{◌<ℤ◌, ◌≤ℤ◌}
+use Rattle.std.proofs.Common.{◌≡◌, ℕ, ◌+◌, ◌-◌, ◌<◌, ◌≤◌, List, [], ◌∷◌, ◌++◌, length, map, take, drop, refl, sym, ap, ap₂, ◌∙◌, ⊎_elim, arith, append_assoc, ℤ, pos, ◌+ℤ◌, ◌-ℤ◌, unsigned_abs, subst, ◌<ℤ◌, ◌≤ℤ◌, take_all, take_at}
 use Rattle.std.proofs.lemmas.Int.{ints}
 use Rattle.std.proofs.lemmas.Bool.{cases_lt}
-use Rattle.std.proofs.lemmas.List.{take_all, take_at, take-append-le, drop-append-le}
+use Rattle.std.proofs.lemmas.List.{take-append-le, drop-append-le}
 use Rattle.std.proofs.Math.Seq.{take-append-add, drop-append_seam}
 use Rattle.word_image.specs.LocalRules.{LocalRule, IsRule, value, word_of}
 use Rattle.word_image.specs.Words.{image}

@@ -1,8 +1,8 @@
 -- A flux by the values of the windows: what a decider computes and a checker tests.
-use Rattle.std.proofs.Common.{◌≡◌, ℕ, zero, suc, ◌+◌, ◌-◌, ◌*◌, ◌/◌, ◌%◌, ◌^◌, ◌<◌, List, [], ◌∷◌, ◌++◌, length, take, drop, get_or, slice_index, replicate, ℤ, pos, ◌+ℤ◌, ◌-ℤ◌, sym, ap, ap₂, subst, ◌∙◌, arith, length-drop, length-append, append_assoc, pow-suc}
+use Rattle.std.proofs.Common.{◌≡◌, ℕ, zero, suc, ◌+◌, ◌-◌, ◌*◌, ◌/◌, ◌%◌, ◌^◌, ◌<◌, List, [], ◌∷◌, ◌++◌, length, take, drop, get_or, slice_index, replicate, ℤ, pos, ◌+ℤ◌, ◌-ℤ◌, sym, ap, ap₂, subst, ◌∙◌, arith, length-drop, length-append, append_assoc, pow-suc, take-append-drop}
 use Rattle.std.proofs.Math.Nat.{pow-zero}
 use Rattle.std.proofs.lemmas.Nat.{div-mul-add}
-use Rattle.std.proofs.lemmas.List.{length_push, take-append-drop}
+use Rattle.std.proofs.lemmas.List.{length_push}
 use Rattle.std.proofs.lemmas.List.Elements.{All-push, All-drop, All-tail}
 use Rattle.std.proofs.lemmas.Option.{get_or_from_slice_get}
 use Rattle.word_image.specs.LocalRules.{LocalRule, IsRule, IsWord, local_map, value, word_of, node_count}

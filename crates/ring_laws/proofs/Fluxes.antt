@@ -1,7 +1,7 @@
 -- A weight that has a flux is conserved: round a ring its terms cancel (Hattori and Takesue 1991).
-use Rattle.std.proofs.Common.{◌≡◌, ℕ, zero, suc, ◌+◌, ◌-◌, ◌<◌, ◌≤◌, List, [], ◌∷◌, ◌++◌, length, take, drop, get_or, slice_index, ℤ, pos, ◌+ℤ◌, ◌-ℤ◌, sym, ap, ◌∙◌, arith, length-drop}
+use Rattle.std.proofs.Common.{◌≡◌, ℕ, zero, suc, ◌+◌, ◌-◌, ◌<◌, ◌≤◌, List, [], ◌∷◌, ◌++◌, length, take, drop, get_or, slice_index, ℤ, pos, ◌+ℤ◌, ◌-ℤ◌, sym, ap, ◌∙◌, arith, length-drop, length-take-le, take_all, take-take, drop-drop, get_or-drop}
 use Rattle.std.proofs.lemmas.Int.{ints}
-use Rattle.std.proofs.lemmas.List.{length_push, length-take-le, drop-append-le, take-append-le, take_all, take-take, drop-drop, get_or-drop, get_or_append_left}
+use Rattle.std.proofs.lemmas.List.{length_push, drop-append-le, take-append-le, get_or_append_left}
 use Rattle.std.proofs.lemmas.List.Elements.{All-take, All-drop, All-push}
 use Rattle.std.proofs.lemmas.Option.{slice_get-get_or}
 use Rattle.word_image.specs.LocalRules.{LocalRule, IsRule, IsWord, local_map, value, node_count}

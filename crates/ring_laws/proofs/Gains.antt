@@ -1,8 +1,8 @@
 -- What the image of a word weighs more than the letters at which its windows begin: letter by letter, in two parts, and round a ring.
-use Rattle.std.proofs.Common.{◌≡◌, ℕ, ◌+◌, ◌-◌, ◌<◌, ◌≤◌, List, [], ◌∷◌, ◌++◌, length, take, drop, get_or, slice_index, sum_by, ℤ, pos, ◌+ℤ◌, ◌-ℤ◌, sym, ap, ap₂, ◌∙◌, arith, length-append}
+use Rattle.std.proofs.Common.{◌≡◌, ℕ, ◌+◌, ◌-◌, ◌<◌, ◌≤◌, List, [], ◌∷◌, ◌++◌, length, take, drop, get_or, slice_index, sum_by, ℤ, pos, ◌+ℤ◌, ◌-ℤ◌, sym, ap, ap₂, ◌∙◌, arith, length-append, length-take-le, take_all, get_or-take}
 use Rattle.std.proofs.Math.Seq.{take-append-add, take-append_seam, drop-append_seam}
 use Rattle.std.proofs.lemmas.Int.{ints}
-use Rattle.std.proofs.lemmas.List.{length_push, length-take-le, take-append-le, take_all, take_more, get_or-take}
+use Rattle.std.proofs.lemmas.List.{length_push, take-append-le, take_more}
 use Rattle.std.proofs.lemmas.List.Sums.{sum_by-append, sum_by_push, sum_by-take-drop}
 use Rattle.word_image.specs.LocalRules.{LocalRule, IsRule, local_map}
 use Rattle.word_image.specs.Words.{image}

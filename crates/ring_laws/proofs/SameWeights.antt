@@ -1,6 +1,5 @@
 -- Weights that agree on the letters of a rule say the same of its rings, so own weights say what the letters themselves say.
-use Rattle.std.proofs.Common.{◌≡◌, ℕ, ◌+◌, ◌<◌, List, [], ◌∷◌, slice_index, sum_by, ℤ, pos, ◌-ℤ◌, refl, sym, ap₂, ◌∙◌, arith}
-use Rattle.std.specs.Prelude.{◌↔◌}
+use Rattle.std.proofs.Common.{◌≡◌, ℕ, ◌+◌, ◌<◌, List, [], ◌∷◌, slice_index, sum_by, ℤ, pos, ◌-ℤ◌, refl, sym, ap₂, ◌∙◌, arith, ◌↔◌}
 use Rattle.std.proofs.lemmas.List.Sums.{sum_by-cons}
 use Rattle.std.proofs.lemmas.List.Elements.{All-tail}
 use Rattle.word_image.specs.LocalRules.{LocalRule, IsRule, IsWord, local_map}

@@ -1,11 +1,9 @@
 -- Under a surjective rule as many words have the image 0 0 as there are nodes.
-use Rattle.std.proofs.Common.{◌≡◌, ℕ, suc, ◌+◌, ◌-◌, ◌*◌, ◌/◌, ◌%◌, ◌^◌, ◌<◌, ◌≤◌, ◌↔◌, List, [], ◌∷◌, ◌++◌, length, take, drop, slice_index, get_or, Bool, true, false, sym, ap, ap₂, ◌∙◌, arith, pow-suc, length-drop}
-use Rattle.std.specs.Prelude.{◌==◌, ◌&&◌}
-use Rattle.std.proofs.Math.Nat.{pow-zero, add-mul, mul_assoc, mul_comm}
-use Rattle.std.proofs.lemmas.Bool.{false≢true, eq-eqb}
+use Rattle.std.proofs.Common.{◌≡◌, ℕ, suc, ◌+◌, ◌-◌, ◌*◌, ◌/◌, ◌%◌, ◌^◌, ◌<◌, ◌≤◌, ◌↔◌, List, [], ◌∷◌, ◌++◌, length, take, drop, slice_index, get_or, Bool, true, false, sym, ap, ap₂, ◌∙◌, arith, pow-suc, length-drop, ◌==◌, ◌&&◌, add-mul, mul_assoc, mul_comm, eq-eqb, length-take-le}
+use Rattle.std.proofs.Math.Nat.{pow-zero}
+use Rattle.std.proofs.lemmas.Bool.{false≢true}
 use Rattle.std.proofs.lemmas.Bool.Decides.{Decides-eqb}
 use Rattle.std.proofs.lemmas.Nat.{mul-add-lt, div-mul-add, mod-mul-add}
-use Rattle.std.proofs.lemmas.List.{length-take-le}
 use Rattle.std.proofs.lemmas.List.Elements.{All-cons, All-nil}
 use Rattle.word_image.specs.LocalRules.{LocalRule, IsRule, IsWord, value, node_count}
 use Rattle.word_image.specs.Words.{image, IsSurjective}
