@@ -1,7 +1,7 @@
 //! One rule after another.
 ghost use Rattle.std.specs.Prelude.{◌≡◌, ◌≤◌, ◌+◌, ◌-◌, ◌<◌, ◌^◌, IfOk, slice_index};
 ghost use Rattle.std.specs.Result.{result_err};
-ghost use Rattle.word_image.specs.LocalRules.{IsRule, value, word_of};
+ghost use Rattle.word_image.specs.LocalRules.{IsRule, value, word_of, most_windows};
 ghost use Rattle.word_image.specs.Words.{image};
 ghost use Rattle.rule_algebra.specs.Algebra.{IsComposed};
 ghost use Rattle.rule_algebra.specs.MadeImages.{ComposesCells};
@@ -55,7 +55,7 @@ fn composed_rule(first: &Rule, second: &Rule) -> Rule
 /// The value of the image of a window, of which n letters are the image.
 fn image_value(rule: &Rule, n: u8, window: u16) -> u16
     requires some { 1 ≤ n }
-    requires fits { rule.now.states ^ (rule.now.width + n - 1) ≤ 256 }
+    requires fits { rule.now.states ^ (rule.now.width + n - 1) ≤ most_windows }
     requires window { window < rule.now.states ^ (rule.now.width + n - 1) }
     ensures value { result ≡ value rule.now.states (image rule.now
         (word_of rule.now.states (rule.now.width + n - 1) window)) }
@@ -66,7 +66,7 @@ fn image_value(rule: &Rule, n: u8, window: u16) -> u16
 
 /// The letter at a place of the image of a window, of which n letters are the image.
 fn image_letter(rule: &Rule, n: u8, window: u16, start: u8) -> u8
-    requires fits { rule.now.states ^ (rule.now.width + n - 1) ≤ 256 }
+    requires fits { rule.now.states ^ (rule.now.width + n - 1) ≤ most_windows }
     requires window { window < rule.now.states ^ (rule.now.width + n - 1) }
     requires start { start < n }
     ensures { result ≡ slice_index (image rule.now (word_of rule.now.states (rule.now.width + n - 1) window)) start }

@@ -1,6 +1,6 @@
 //! Rules with other names for their letters.
 ghost use Rattle.std.specs.Prelude.{◌≡◌, ◌<◌, ◌≤◌, ◌^◌, ◌↔◌, length, IfOk, IfErr, IsOk, IsTrue};
-ghost use Rattle.word_image.specs.LocalRules.{IsWord, value, word_of};
+ghost use Rattle.word_image.specs.LocalRules.{IsWord, value, word_of, most_states};
 ghost use Rattle.rule_algebra.specs.Algebra.{IsRecolouring, IsRecoloured, recoloured};
 ghost use Rattle.rule_algebra.specs.MadeImages.{RecoloursImages};
 ghost use Rattle.rule_algebra.specs.Tables.{AreOldLetters};
@@ -46,7 +46,7 @@ fn is_recolouring(k: u8, colours: &[u8]) -> bool
 /// The letter that has each colour.
 fn old_letters(k: u8, colours: &[u8]) -> [u8; MOST_STATES]
     requires some { 0 < k }
-    requires few { k ≤ 16 }
+    requires few { k ≤ most_states }
     requires colours { IsRecolouring k colours.now }
     ensures { AreOldLetters k colours.now k result }
 {
