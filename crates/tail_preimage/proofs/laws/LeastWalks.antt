@@ -1,10 +1,9 @@
 -- The first walk of a word from a node into a set of nodes is found edge by edge: at each place the least letter from whose edge the set can still be reached.
-use Rattle.std.proofs.Common.{◌≡◌, ◌≢◌, ◌↔◌, ℕ, ◌+◌, ◌-◌, ◌<◌, ◌≤◌, List, [], ◌∷◌, ◌++◌, length, take, drop, get_or, IsBitSet, sym, ap, ◌∙◌, subst, arith, length-drop, ⊎_elim}
-use Rattle.std.specs.Ordering.{ordering_then, nat_cmp}
+use Rattle.std.proofs.Common.{◌≡◌, ◌≢◌, ◌↔◌, ℕ, ◌+◌, ◌-◌, ◌<◌, ◌≤◌, List, [], ◌∷◌, ◌++◌, length, take, drop, get_or, IsBitSet, sym, ap, ◌∙◌, subst, arith, length-drop, ⊎_elim, nat_cmp, Equal, Greater, take-append-drop, take_all, take-take, take_at, length-take-le}
+use Rattle.std.specs.Ordering.{ordering_then}
 use Rattle.std.specs.Cmp.Lexicographic.{slice_cmp}
-use Rattle.std.specs.declared.cmp.Ordering.TheVariants.{Equal, Greater}
 use Rattle.std.proofs.lemmas.Bool.{cases_lt}
-use Rattle.std.proofs.lemmas.List.{take-append-drop, take_all, take_more, take-take, take_at, length-take-le, nil_from_length}
+use Rattle.std.proofs.lemmas.List.{take_more, nil_from_length}
 use Rattle.word_image.specs.LocalRules.{LocalRule, IsRule, value, node_count}
 use Rattle.word_image.specs.Graphs.{next, label}
 use Rattle.word_image.specs.Edges.{IsEdge}

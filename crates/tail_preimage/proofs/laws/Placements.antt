@@ -1,10 +1,9 @@
 -- Three walks, a loop, one from it to another loop, and that loop, are a placed configuration that maps to the letters which they spell.
-use Rattle.std.proofs.Common.{◌≡◌, ℕ, zero, suc, ◌+◌, ◌-◌, ◌*◌, ◌<◌, ◌≤◌, List, [], ◌++◌, length, take, drop, get_or, slice_range, ℤ, pos, ◌+ℤ◌, ◌-ℤ◌, unsigned_abs, refl, sym, ap, ap₂, ◌∙◌, subst, arith, length-append, length-drop, append_assoc, mul_assoc}
+use Rattle.std.proofs.Common.{◌≡◌, ℕ, zero, suc, ◌+◌, ◌-◌, ◌*◌, ◌<◌, ◌≤◌, List, [], ◌++◌, length, take, drop, get_or, slice_range, ℤ, pos, ◌+ℤ◌, ◌-ℤ◌, unsigned_abs, refl, sym, ap, ap₂, ◌∙◌, subst, arith, length-append, length-drop, append_assoc, mul_assoc, suc-mul, zero-mul, add-mul, mul-one, mul-le-mul_left, take-append-drop, length-take-le, append-nil}
 use Rattle.std.specs.List.{repeat}
-use Rattle.std.proofs.Math.Nat.{suc-mul, zero-mul, add-mul, mul-one, mul-le-mul_left}
 use Rattle.std.proofs.lemmas.Int.{ints}
 use Rattle.std.proofs.lemmas.Nat.{mul-le}
-use Rattle.std.proofs.lemmas.List.{take-append-drop, take-append-le, drop-append-le, length-take-le, append-nil}
+use Rattle.std.proofs.lemmas.List.{take-append-le, drop-append-le}
 use Rattle.std.proofs.lemmas.List.Elements.{All-take}
 use Rattle.word_image.specs.LocalRules.{LocalRule, IsRule, IsWord, value, word_of, local_map}
 use Rattle.word_image.proofs.laws.Values.{length-word_of, value-injective}
