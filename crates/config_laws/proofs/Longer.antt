@@ -1,6 +1,6 @@
 -- Under a right look-ahead what reads long words reads all longer ones: letters put in behind the first node of a preimage change its image so that none is lost.
-use Rattle.std.proofs.Common.{◌≡◌, ℕ, zero, suc, ◌+◌, ◌-◌, ◌^◌, ◌<◌, ◌≤◌, List, [], ◌∷◌, ◌++◌, length, take, drop, get_or, refl, sym, ap, ap₂, subst, ◌∙◌, arith, length-append, length-drop}
-use Rattle.std.proofs.lemmas.List.{length_push, length-take-le, take-take, take_at, drop_at, drop-drop, drop-take, take_all, take_more, get_or-take, get_or-drop, get_or_at, take-append-drop, append_assoc}
+use Rattle.std.proofs.Common.{◌≡◌, ℕ, zero, suc, ◌+◌, ◌-◌, ◌^◌, ◌<◌, ◌≤◌, List, [], ◌∷◌, ◌++◌, length, take, drop, get_or, refl, sym, ap, ap₂, subst, ◌∙◌, arith, length-append, length-drop, length-take-le, take-take, take_at, drop_at, drop-drop, take_all, get_or-take, get_or-drop, take-append-drop, append_assoc}
+use Rattle.std.proofs.lemmas.List.{length_push, drop-take, take_more, get_or_at}
 use Rattle.std.proofs.lemmas.List.Elements.{All-append, All-cons, All-push, All-take, All-drop}
 use Rattle.word_image.specs.LocalRules.{LocalRule, IsRule, IsWord, value}
 use Rattle.word_image.specs.Words.{image, IsPreimage}
