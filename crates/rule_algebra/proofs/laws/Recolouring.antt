@@ -85,7 +85,6 @@ pub RecoloursImages-recoloured : {r g : LocalRule} {colours : List ℕ} → IsRu
 RecoloursImages-recoloured {r} {g} {colours} rule new = λ x word.
     let y : List ℕ = recoloured colours x in
     let shape = new.width in
-    let wide : 2 ≤ r.width = rule.shape.least_width in
     let here : length y ≡ length x = length-map x (slice_index colours) in
     let letters : length (recoloured colours (image r x)) ≡ length (image r x) = length-map (image r x) (slice_index colours) in
     let old : length (image r x) ≡ length x - (r.width - 1) = length-image r x in
