@@ -19,7 +19,6 @@ same_take {r} {n} {l} {x} {y} rule ahead h front zero few =
     ap (λ i. take i x) all ∙ front ∙ sym (ap (λ i. take i y) all)
 same_take {r} {n} {l} {x} {y} rule ahead h front (suc j) few =
     let d : ℕ = r.width - 1 in
-    let some : 1 ≤ n = ahead.some in
     let before : take (j + d) x ≡ take (j + d) y = same_take rule ahead h front j (omega arith) in
     let one = HaveOneImage-take rule n (l - j - n) (l - j) (omega arith) (HaveOneImage-drop j (l - j) l (omega arith) h) in
     let node : (z : List ℕ) → take d (take (n + d) (drop j z)) ≡ drop j (take (j + d) z) = λ z. take-take d (n + d) (drop j z) (omega arith) ∙ sym (drop-take j d z) in

@@ -170,7 +170,6 @@ IsOntoMap-surjective {r} rule one every y hy =
     let least : ℤ → ℕ = λ j. unsigned_abs (j -ℤ r.offset) in
     let place : ℤ → ℕ → ℕ = λ j n. unsigned_abs (j -ℤ r.offset +ℤ pos n) in
     let x : Config = λ j. get_or (at (least j)).w (place j (least j)) 0 in
-    let wide : 2 ≤ r.width = rule.shape.least_width in
     let letter : (j : ℤ) (n : ℕ) → least j ≤ n → x j ≡ get_or (at n).w (place j n) 0 = λ j n l.
     let t : ℕ = n - least j in
     let all : least j + t ≡ n = omega arith in

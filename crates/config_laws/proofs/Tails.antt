@@ -52,7 +52,6 @@ loops_on {r} {x} {y} {i} {p} rule hx h =
     let s : ℤ = i +ℤ r.offset in
     let f : ℕ → ℕ = λ t. x (s +ℤ pos (t % p)) in
     let z : Config = joined x s f in
-    let wide : 2 ≤ r.width = rule.shape.least_width in
     record {
       goes = record {
         z = z;

@@ -160,7 +160,6 @@ same_number {r} {w} {j} {y} {z} rule hw q few hy hz e =
 -- there are two nodes at least
 node_count-two : {r : LocalRule} → IsRule r → 2 ≤ node_count r
 node_count-two {r} rule =
-    let wide : 2 ≤ r.width = rule.shape.least_width in
     let one : r.states ^ 1 ≡ r.states = pow-suc r.states 0 ∙ ap (λ n. n * r.states) (pow-zero r.states) ∙ one-mul r.states in
     let most : r.states ^ 1 ≤ r.states ^ (r.width - 1) = pow-le-pow_right (omega (arith, rule.shape.least_states)) (omega arith) in
     omega (arith, rule.shape.least_states)

@@ -49,7 +49,6 @@ image-exchange {r} {x} {y} rule h p s =
 pub image_of-exchange : {r : LocalRule} {x y : List ℕ} {f g : Config} → IsRule r → IsErasable r x y → (s : ℤ) → run f s (length x) ≡ x → run g s (length x) ≡ y
     → ((j : ℤ) → j <ℤ s → f j ≡ g j) → ((j : ℤ) → (s +ℤ pos (length x)) ≤ℤ j → f j ≡ g j) → (j : ℤ) → image_of r f j ≡ image_of r g j
 image_of-exchange {r} {x} {y} {f} {g} rule h s at_f at_g before after j =
-    let wide : 2 ≤ r.width = rule.shape.least_width in
     let l : ℕ = length x in
     let a : ℕ = unsigned_abs (j +ℤ r.offset -ℤ s) in
     let b : ℕ = a + r.width in

@@ -29,7 +29,6 @@ get_or-letter d z a rest e = ap (λ y. get_or y d 0) (append_assoc z (a ∷ []) 
 pub BeginTogether-ahead : {r : LocalRule} {n : ℕ} → IsRule r → IsRightAhead r n → (u a b : ℕ) → u < node_count r → a < r.states → b < r.states
     → a ≢ b → label r u a ≡ label r u b → ¬ BeginTogether r (next r u a) (next r u b) (n - 1)
 BeginTogether-ahead {r} {n} rule ahead u a b hu ha hb different l h =
-    let some : 1 ≤ n = ahead.some in
     let z : List ℕ = word_of r.states (r.width - 1) u in
     let word : IsWord r.states z = IsWord-word_of r.states (r.width - 1) u hu in
     let long : length z ≡ r.width - 1 = length-word_of r.states (r.width - 1) u in

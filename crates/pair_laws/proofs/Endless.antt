@@ -33,8 +33,6 @@ Loops-long {r} {u} {v} {p} {q} {n} rule many h =
     let twice = twice_below (pair_count r) f (λ i l. let within = nodes i (omega arith) in pair_of-below r _ _ within.0 within.1) in
     let i : ℕ = twice.0 in
     let j : ℕ = twice.1 in
-    let earlier : i < j = twice.2 in
-    let inside : j ≤ pair_count r = twice.3 in
     let same = same_from_place (place_node r h.x i) (place_node r h.y i) (place_node r h.x j) (place_node r h.y j) (node_count r) (nodes i (omega arith)).1 (nodes j (omega arith)).1 twice.4 in
     let loop = HaveOneImage-between rule i (suc (j - i - 1)) j (n - j) n (omega arith) (omega arith) h.one_image in
     record {

@@ -106,7 +106,6 @@ IsLeftAhead-words {r} rule n = (
   (λ words. record {
     some = words.0;
     letter = λ x y h same.
-        let some : 1 ≤ n = words.0 in
         let back : HaveOneImage r n (reverse x) (reverse y) = subst (λ (s : LocalRule). HaveOneImage s n (reverse x) (reverse y)) (mirrored-mirrored rule) (HaveOneImage-reverse (IsRule-mirrored rule) h) in
         let place : length x - 1 - (n - 1) ≡ r.width - 1 = omega arith in
         let place_y : length y - 1 - (n - 1) ≡ r.width - 1 = omega arith in

@@ -14,7 +14,6 @@ ShortRingsKeepSum weight r = (p : List ℕ) → IsRing r.states p → length p �
 keeps_after_zeros : {r : LocalRule} → IsRule r → (weight : ℕ → ℕ) → ShortRingsKeepSum weight r → (w : List ℕ) → IsWord r.states w → length w ≤ r.width
     → KeepsSum weight r (zeros r ++ w)
 keeps_after_zeros {r} rule weight keep w word short =
-    let wide = rule.shape.least_width in
     let ring : IsRing r.states (zeros r ++ w) = record {
       word = All-append (λ a. a < r.states) (zeros r) w (IsWord-zeros rule) word;
       some = omega (arith, length-append (zeros r) w, length-zeros r);

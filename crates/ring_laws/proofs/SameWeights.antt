@@ -41,7 +41,6 @@ pub IsFlux-agree : {weight other : ℕ → ℕ} {r : LocalRule} {phi : List ℤ}
 IsFlux-agree {r = r} rule agree flux = record {
   entries = flux.entries;
   flows = λ w first last word long at_first at_last.
-      let wide = rule.shape.least_width in
       ap₂ (λ (m n : ℕ). pos m -ℤ pos n) (sym (agree (local_map r w) (entry-below rule _))) (sym (agree (slice_index w 0) (word 0 0 (omega arith))))
       ∙ flux.flows w first last word long at_first at_last;
 }

@@ -35,7 +35,6 @@ IsEven-surjective {r} rule every a letter =
     let k : ℕ = r.states in
     let n : ℕ = length r.table in
     let is : ℕ → Bool = λ b. b == a in
-    let wide : 2 ≤ r.width = rule.shape.least_width in
     let one : 1 + (r.width - 1) ≡ r.width = omega arith in
     let size : k ^ (1 + (r.width - 1)) ≡ n = ap (λ i. k ^ i) one ∙ sym rule.entries in
     let places : count_below (λ v. is (slice_index r.table v)) (k ^ (1 + (r.width - 1))) ≡ node_count r =

@@ -17,7 +17,6 @@ use Rattle.table_laws.proofs.TestedWords.{count_below-image}
 image-two : {r : LocalRule} → IsRule r → (x : List ℕ) → IsWord r.states x → length x ≡ 2 + (r.width - 1)
     → image r x ≡ slice_index r.table (value r.states x / r.states) ∷ slice_index r.table (value r.states x % length r.table) ∷ []
 image-two {r} rule x word long =
-    let wide : 2 ≤ r.width = rule.shape.least_width in
     let k : ℕ = r.states in
     let m : ℕ = 1 + (r.width - 1) in
     let one : length x - m ≡ 1 = omega arith in
@@ -46,7 +45,6 @@ two_zeros a b = (
 pub zero_pairs-surjective : {r : LocalRule} → IsRule r → IsSurjective r → zero_pairs r.states r.table ≡ node_count r
 zero_pairs-surjective {r} rule every =
     let k : ℕ = r.states in
-    let wide : 2 ≤ r.width = rule.shape.least_width in
     let some : 0 < k = let two : 2 ≤ k = rule.shape.least_states in omega arith in
     let one : suc r.width ≡ 2 + (r.width - 1) = omega arith in
     let size : length r.table * k ≡ k ^ (2 + (r.width - 1)) = ap (λ n. n * k) rule.entries ∙ sym (pow-suc k r.width) ∙ ap (λ n. k ^ n) one in

@@ -64,7 +64,6 @@ ShareImage-zeroed : {r : LocalRule} → IsRule r → (n p : ℕ) (x y : TailConf
     → ((i : ℤ) → i <ℤ pos 0 → cell x i ≡ cell y i) → ShareImage r x y → ShareImage r (zeroed (r.width - 1) n p x) (zeroed (r.width - 1) n p y)
 ShareImage-zeroed {r} rule n p x y turn fx fy left share =
     let d : ℕ = r.width - 1 in
-    let wide : 2 ≤ r.width = rule.shape.least_width in
     ShareImage-labels r (zeroed d n p x) (zeroed d n p y) (λ i.
     by_lt_z i (pos d)
     (λ l. ap (local_map r) (run-same (cell (zeroed d n p x)) (cell (zeroed d n p y)) (i -ℤ pos d) (i -ℤ pos d) r.width (λ a h.

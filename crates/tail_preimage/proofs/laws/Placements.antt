@@ -32,7 +32,6 @@ pub join-before_last : {r : LocalRule} {u v s : ℕ} {w z x y : List ℕ} → Is
 join-before_last {r} {w = w} {z = z} {x = x} {y = y} h g =
     let d : ℕ = r.width - 1 in
     let long_x : length x ≡ length w + d = h.preimage.long in
-    let long_y : length y ≡ length z + d = g.preimage.long in
     let here : length x - d ≡ length w = omega arith in
     let seam : drop (length x - d) x ≡ take d y =
     ap (λ n. drop n x) here ∙ same_node r.states (length w) d x y h.preimage.word g.preimage.word long_x (omega arith) (h.last ∙ sym g.first) in
@@ -121,11 +120,9 @@ spelled-window {r} {t} {s} {w = w} {x = x} {y = y} {z = z} rule ht h n e inside 
     let c : TailConfig = spelled r x y z in
     let hc : IsTail r.states c = IsTail-spelled ht h in
     let m : ℕ = r.width in
-    let wide : 2 ≤ m = rule.shape.least_width in
     let end : List ℕ = word_of r.states (m - 1) w in
     let run : List ℕ = stretch c n n in
     let walk = IsWalk-rounds rule h n n in
-    let long : length (run ++ end) ≡ length (rounds t s n n) + (m - 1) = walk.preimage.long in
     let run_long : length run ≡ stretch_length c n n = length-stretch c n n in
     let end_long : length end ≡ m - 1 = length-word_of r.states (m - 1) w in
     let b : ℕ = n * s.back + s.before in

@@ -84,8 +84,6 @@ IsFirstShape-keys {r} {t} {parts} h left right before after keys =
     let A : ℕ → ℕ → Type 0 = HasBit parts.left.period in
     let C : ℕ → ℕ → Type 0 = HasBit parts.right.period in
     let s : Shape = record { before = before; back = left - before; after = after; on = right - after } in
-    let l = keys.before_less in
-    let k = keys.after_less in
     record {
       possible = IsPossible-through h s (omega arith) (omega arith) keys.after_first.holds;
       small = record { left = omega (arith, keys.left_few); right = omega (arith, keys.right_few) };
