@@ -25,7 +25,6 @@ loop-place-preserved c =
     let long : ℕ = n + (r.width - 1) in
     let place = c.loop-place.place in
     let w : List ℕ = word_of r.states long c.args.value in
-    let wide = c.k.ensures.rule.shape.least_width in
     let same : c.from-k.result ≡ r.states = c.from-k.ensures ∙ c.k.ensures.states in
     let rest : c.from.result + c.from-2.result - 1 - 1 - place ≡ long - 1 - place = omega arith in
     let behind : c.pow.result ≡ r.states ^ (long - 1 - place) = c.pow.ensures ∙ ap₂ (λ (i j : ℕ). i ^ j) same rest in
@@ -40,5 +39,4 @@ returns c =
     let r = c.args.rule.now in
     let long : ℕ = c.args.n + (r.width - 1) in
     let w : List ℕ = word_of r.states long c.args.value in
-    let wide = c.k.ensures.rule.shape.least_width in
     c.of.ensures ∙ c.loop-place.invariant ∙ take_all c.loop-place.place w (omega (arith, length-word_of r.states long c.args.value))
