@@ -201,7 +201,7 @@ fn tail_value(alloc: Global, tail: &Tail) -> Result<Value, AllocError>
 fn rule_value(alloc: Global, rule: &Rule) -> Result<Value, AllocError>
     ensures { IfOk result (λ v. view v ≡ string (printed_rule rule.now)) }
 {
-    prove!(rule.k() <= 16);
+    rule.keeps_limits();
     Ok(text_value(rule_text::print(alloc, rule)?))
 }
 

@@ -1,9 +1,8 @@
 -- Each set of a list contains a set of its cover list, and each set of the cover list is listed.
-use Rattle.std.proofs.Common.{◌≡◌, ◌≢◌, ℕ, zero, suc, ◌+◌, ◌<◌, ◌≤◌, Bool, true, false, cond, List, [], ◌∷◌, length, get_or, Contains, bit_and, refl, sym, ap, ap₂, subst, ◌∙◌, ⊎_elim, arith}
-use Rattle.std.specs.Prelude.{◌==◌, ◌&&◌, not}
-use Rattle.std.specs.List.{filter, list_any}
+use Rattle.std.proofs.Common.{◌≡◌, ◌≢◌, ℕ, zero, suc, ◌+◌, ◌<◌, ◌≤◌, Bool, true, false, cond, List, [], ◌∷◌, length, get_or, Contains, bit_and, refl, sym, ap, ap₂, subst, ◌∙◌, ⊎_elim, arith, ◌==◌, ◌&&◌, not, filter, ne_eqb, eqb-true}
+use Rattle.std.specs.List.{list_any}
 use Rattle.std.specs.Int.Bits.{and_self}
-use Rattle.std.proofs.lemmas.Bool.{cases_eq, ne_eqb, eqb-true, eqb-false, and_parts, not-true}
+use Rattle.std.proofs.lemmas.Bool.{cases_eq, eqb-false, and_parts, not-true}
 use Rattle.std.proofs.lemmas.Nat.{and_le_r}
 use Rattle.std.proofs.lemmas.List.Elements.{All-filter, All-contains_itself}
 use Rattle.cert_format.proofs.laws.Objects.{some_passes}

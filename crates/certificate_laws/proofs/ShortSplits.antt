@@ -1,14 +1,13 @@
 -- The least normal right split is short: its middle and right period have together at most as many letters as there are pairs, and m more.
-use Rattle.std.proofs.Common.{◌≡◌, ℕ, ◌+◌, ◌-◌, ◌<◌, ◌≤◌, List, ◌∷◌, length, subst, ⊎_elim, arith, length-append}
-use Rattle.std.specs.declared.cmp.Ordering.TheVariants.{Greater}
+use Rattle.std.proofs.Common.{◌≡◌, ℕ, ◌+◌, ◌-◌, ◌<◌, ◌≤◌, List, ◌∷◌, length, subst, ⊎_elim, arith, length-append, Greater}
 use Rattle.std.proofs.lemmas.Bool.{cases_lt}
 use Rattle.word_image.specs.LocalRules.{LocalRule, IsRule, word_of}
 use Rattle.word_image.specs.Windows.{IsRightAhead}
 use Rattle.word_image.specs.Graphs.{pair_count}
 use Rattle.word_image.specs.FirstPairs.{IsFirstOfRight}
 use Rattle.word_image.proofs.laws.Values.{length-word_of}
-use Rattle.word_image.specs.declared.side.Side.TheVariants.{Right}
 use Rattle.word_image.specs.Sides.{PairGoes}
+use Rattle.word_image.specs.declared.side.Side.TheVariants.{Right}
 use Rattle.pair_laws.proofs.Pairs.{pair_of-first_of}
 use Rattle.pair_laws.proofs.Aheads.{IsRightAhead-pairs}
 use Rattle.pair_laws.proofs.Endless.{Together-endless}

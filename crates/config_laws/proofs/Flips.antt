@@ -1,6 +1,5 @@
 -- A configuration read backwards, under the mirrored rule: what is said of the right side is said of the left.
-use Rattle.std.proofs.Common.{◌≡◌, pos, neg_ℤ, sym, ap, ◌∙◌, subst, arith}
-use Rattle.std.specs.Prelude.{◌↔◌}
+use Rattle.std.proofs.Common.{◌≡◌, pos, neg_ℤ, sym, ap, ◌∙◌, subst, arith, ◌↔◌}
 use Rattle.std.proofs.Math.Path.{fun_ext}
 use Rattle.std.proofs.Math.IntN.{neg_ℤ-neg_ℤ}
 use Rattle.std.proofs.lemmas.Int.{ints}

@@ -1,8 +1,6 @@
 -- Under a right look-ahead a configuration whose image agrees with another one for long enough can be changed right of that, so that its image agrees with it for ever.
-use Rattle.std.proofs.Common.{◌≡◌, ℕ, zero, suc, ◌+◌, ◌-◌, ◌<◌, ◌≤◌, List, [], ◌∷◌, ◌++◌, length, take, drop, get_or, ℤ, pos, ◌+ℤ◌, ◌-ℤ◌, unsigned_abs, refl, sym, ap, subst, ◌∙◌, arith, length-drop}
-use Rattle.std.specs.Prelude.{◌<ℤ◌, ◌≤ℤ◌}
+use Rattle.std.proofs.Common.{◌≡◌, ℕ, zero, suc, ◌+◌, ◌-◌, ◌<◌, List, [], ◌∷◌, ◌++◌, length, take, drop, get_or, ℤ, pos, ◌+ℤ◌, ◌-ℤ◌, unsigned_abs, refl, sym, ap, subst, ◌∙◌, arith, length-drop, ◌<ℤ◌, ◌≤ℤ◌, get_or-take, get_or-drop}
 use Rattle.std.proofs.lemmas.Int.{ints, by_lt_z}
-use Rattle.std.proofs.lemmas.List.{get_or-take, get_or-drop}
 use Rattle.std.proofs.lemmas.List.Elements.{All-drop}
 use Rattle.word_image.specs.LocalRules.{LocalRule, IsRule}
 use Rattle.word_image.specs.Words.{IsPreimage}
@@ -86,7 +84,6 @@ GoesOn-letters : {r : LocalRule} {n : ℕ} {x y : Config} → IsRule r → IsCon
     → ((a t : ℕ) → a < r.width → f (t + a) ≡ get_or (at t).x a 0) → ((a : ℕ) → a < r.width - 1 → f a ≡ x (i +ℤ r.offset +ℤ pos a)) → GoesOn r x y i
 GoesOn-letters {r} {n} {x} {y} rule hx i f at window front =
     let s : ℤ = i +ℤ r.offset in
-    let wide : 2 ≤ r.width = rule.shape.least_width in
     record {
       z = joined x s f;
       config = IsConfig-joined hx s (λ t. letter t);

@@ -1,6 +1,5 @@
 -- The image of a configuration, and the words inside it as preimages.
-use Rattle.std.proofs.Common.{◌≡◌, ℕ, ◌+◌, ◌-◌, ◌<◌, ◌≤◌, List, length, drop, get_or, slice_range, ℤ, pos, ◌+ℤ◌, sym, ap, ◌∙◌, arith, length-drop}
-use Rattle.std.proofs.lemmas.List.{length-take-le, get_or-take, get_or-drop}
+use Rattle.std.proofs.Common.{◌≡◌, ℕ, ◌+◌, ◌-◌, ◌<◌, ◌≤◌, List, length, drop, get_or, slice_range, ℤ, pos, ◌+ℤ◌, sym, ap, ◌∙◌, arith, length-drop, length-take-le, get_or-take, get_or-drop}
 use Rattle.word_image.specs.LocalRules.{LocalRule, IsRule, local_map}
 use Rattle.word_image.specs.Words.{image, IsPreimage}
 use Rattle.word_image.proofs.laws.Words.{entry-below}

@@ -1,6 +1,5 @@
 -- Injective says of configurations with periodic tails what it says of all.
-use Rattle.std.proofs.Common.{ap}
-use Rattle.std.specs.Prelude.{◌↔◌}
+use Rattle.std.proofs.Common.{ap, ◌↔◌}
 use Rattle.std.proofs.Math.Path.{fun_ext}
 use Rattle.word_image.specs.LocalRules.{LocalRule, IsRule}
 use Rattle.tail_config.specs.Configs.{Config}

@@ -1,6 +1,5 @@
 -- Configurations joined at a place, and words written into them.
-use Rattle.std.proofs.Common.{◌≡◌, ℕ, ◌+◌, ◌-◌, ◌<◌, ◌≤◌, List, length, get_or, ⊎_elim, ℤ, pos, negsuc, ◌+ℤ◌, ◌-ℤ◌, unsigned_abs, refl, sym, ap, ◌∙◌, arith}
-use Rattle.std.specs.Prelude.{◌<ℤ◌, ◌≤ℤ◌}
+use Rattle.std.proofs.Common.{◌≡◌, ℕ, ◌+◌, ◌-◌, ◌<◌, List, length, get_or, ⊎_elim, ℤ, pos, negsuc, ◌+ℤ◌, ◌-ℤ◌, unsigned_abs, refl, sym, ap, ◌∙◌, arith, ◌<ℤ◌, ◌≤ℤ◌}
 use Rattle.std.proofs.lemmas.Int.{ints, by_lt_z}
 use Rattle.std.proofs.lemmas.Bool.{cases_lt}
 use Rattle.std.proofs.lemmas.List.{get_or_past}
@@ -50,7 +49,6 @@ IsConfig-written {k} {x} some hx e w hw =
 -- its image has the word's image
 pub image_of-written : {r : LocalRule} → IsRule r → (x : Config) (i : ℤ) (w : List ℕ) (a : ℕ) → a < length w - (r.width - 1) → image_of r (written x (i +ℤ r.offset) w) (i +ℤ pos a) ≡ get_or (image r w) a 0
 image_of-written {r} rule x i w a l =
-    let wide : 2 ≤ r.width = rule.shape.least_width in
     image_of-letters r (written x (i +ℤ r.offset) w) (i +ℤ pos a) w a l (omega arith) (λ c g.
     sym (joined-right x (i +ℤ r.offset) (λ b. get_or w b 0) (i +ℤ pos a +ℤ r.offset +ℤ pos c) (a + c) (omega (arith, ints))))
 

@@ -1,6 +1,6 @@
 -- Under a right look-ahead what reads long words reads all longer ones: letters put in behind the first node of a preimage change its image so that none is lost.
-use Rattle.std.proofs.Common.{◌≡◌, ℕ, zero, suc, ◌+◌, ◌-◌, ◌^◌, ◌<◌, ◌≤◌, List, [], ◌∷◌, ◌++◌, length, take, drop, get_or, refl, sym, ap, ap₂, subst, ◌∙◌, arith, length-append, length-drop}
-use Rattle.std.proofs.lemmas.List.{length_push, length-take-le, take-take, take_at, drop_at, drop-drop, drop-take, take_all, take_more, get_or-take, get_or-drop, get_or_at, take-append-drop, append_assoc}
+use Rattle.std.proofs.Common.{◌≡◌, ℕ, zero, suc, ◌+◌, ◌-◌, ◌^◌, ◌<◌, ◌≤◌, List, [], ◌∷◌, ◌++◌, length, take, drop, get_or, refl, sym, ap, ap₂, subst, ◌∙◌, arith, length-append, length-drop, length-take-le, take-take, take_at, drop_at, drop-drop, take_all, get_or-take, get_or-drop, take-append-drop, append_assoc}
+use Rattle.std.proofs.lemmas.List.{length_push, drop-take, take_more, get_or_at}
 use Rattle.std.proofs.lemmas.List.Elements.{All-append, All-cons, All-push, All-take, All-drop}
 use Rattle.word_image.specs.LocalRules.{LocalRule, IsRule, IsWord, value}
 use Rattle.word_image.specs.Words.{image, IsPreimage}
@@ -19,7 +19,6 @@ same_take {r} {n} {l} {x} {y} rule ahead h front zero few =
     ap (λ i. take i x) all ∙ front ∙ sym (ap (λ i. take i y) all)
 same_take {r} {n} {l} {x} {y} rule ahead h front (suc j) few =
     let d : ℕ = r.width - 1 in
-    let some : 1 ≤ n = ahead.some in
     let before : take (j + d) x ≡ take (j + d) y = same_take rule ahead h front j (omega arith) in
     let one = HaveOneImage-take rule n (l - j - n) (l - j) (omega arith) (HaveOneImage-drop j (l - j) l (omega arith) h) in
     let node : (z : List ℕ) → take d (take (n + d) (drop j z)) ≡ drop j (take (j + d) z) = λ z. take-take d (n + d) (drop j z) (omega arith) ∙ sym (drop-take j d z) in

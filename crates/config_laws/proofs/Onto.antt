@@ -1,12 +1,11 @@
 -- Where every word has a preimage each configuration has one, if one of two tests passes: of the preimages of its longer and longer middles one goes on for ever (Hedlund 1969).
-use Rattle.std.proofs.Common.{◌≡◌, ◌⊎◌, ℕ, zero, suc, ◌+◌, ◌-◌, ◌^◌, ◌<◌, ◌≤◌, ◌↔◌, refl, inl, inr, ⊎_elim, List, length, take, drop, get_or, ℤ, pos, ◌+ℤ◌, ◌-ℤ◌, neg_ℤ, unsigned_abs, sym, ap, ◌∙◌, subst, arith, length-drop}
+use Rattle.std.proofs.Common.{◌≡◌, ◌⊎◌, ℕ, zero, suc, ◌+◌, ◌-◌, ◌^◌, ◌<◌, ◌≤◌, ◌↔◌, refl, inl, inr, ⊎_elim, List, length, take, drop, get_or, ℤ, pos, ◌+ℤ◌, ◌-ℤ◌, neg_ℤ, unsigned_abs, sym, ap, ◌∙◌, subst, arith, length-drop, bytes_eq, length-take-le, take-take, drop-drop, get_or-take, get_or-drop}
 use Rattle.std.proofs.Math.Path.{fun_ext}
 use Rattle.std.proofs.lemmas.Bool.{cases_Bool}
 use Rattle.std.proofs.lemmas.Bool.Decides.{not_from_Decides}
-use Rattle.std.specs.Str.{bytes_eq}
 use Rattle.std.proofs.lemmas.Slice.Eq.{bytes_eq-Decides}
 use Rattle.std.proofs.lemmas.Int.{ints}
-use Rattle.std.proofs.lemmas.List.{length-take-le, take-take, drop-drop, drop-take, get_or-take, get_or-drop}
+use Rattle.std.proofs.lemmas.List.{drop-take}
 use Rattle.std.proofs.lemmas.List.Elements.{All-take, All-drop}
 use Rattle.word_image.specs.LocalRules.{LocalRule, IsRule, value, word_of}
 use Rattle.word_image.specs.Words.{image, IsPreimage, IsSurjective}
@@ -171,7 +170,6 @@ IsOntoMap-surjective {r} rule one every y hy =
     let least : ℤ → ℕ = λ j. unsigned_abs (j -ℤ r.offset) in
     let place : ℤ → ℕ → ℕ = λ j n. unsigned_abs (j -ℤ r.offset +ℤ pos n) in
     let x : Config = λ j. get_or (at (least j)).w (place j (least j)) 0 in
-    let wide : 2 ≤ r.width = rule.shape.least_width in
     let letter : (j : ℤ) (n : ℕ) → least j ≤ n → x j ≡ get_or (at n).w (place j n) 0 = λ j n l.
     let t : ℕ = n - least j in
     let all : least j + t ≡ n = omega arith in

@@ -1,7 +1,6 @@
 -- Under a surjective rule each configuration that repeats far out is the image of one that does: a preimage of many periods passes one node twice, and goes round between for ever.
-use Rattle.std.proofs.Common.{◌≡◌, ℕ, zero, suc, ◌+◌, ◌-◌, ◌*◌, ◌%◌, ◌<◌, ◌≤◌, ◌↔◌, ⊎_elim, List, length, ℤ, pos, ◌+ℤ◌, ◌-ℤ◌, neg_ℤ, unsigned_abs, sym, ap, ◌∙◌, arith, mod-lt, mod-eq_of_lt}
-use Rattle.std.specs.Prelude.{◌<ℤ◌, ◌≤ℤ◌}
-use Rattle.std.proofs.Math.Nat.{mod-add-mod, mod-eq-sub-mod, add-mod_right, add-mul}
+use Rattle.std.proofs.Common.{◌≡◌, ℕ, zero, suc, ◌+◌, ◌-◌, ◌*◌, ◌%◌, ◌<◌, ◌≤◌, ◌↔◌, ⊎_elim, List, length, ℤ, pos, ◌+ℤ◌, ◌-ℤ◌, neg_ℤ, unsigned_abs, sym, ap, ◌∙◌, arith, mod-lt, mod-eq_of_lt, ◌<ℤ◌, ◌≤ℤ◌, add-mul}
+use Rattle.std.proofs.Math.Nat.{mod-add-mod, mod-eq-sub-mod, add-mod_right}
 use Rattle.std.proofs.lemmas.Bool.{cases_lt}
 use Rattle.std.proofs.lemmas.Int.{ints, by_lt_z}
 use Rattle.std.proofs.lemmas.Nat.{mul-le}
@@ -53,7 +52,6 @@ loops_on {r} {x} {y} {i} {p} rule hx h =
     let s : ℤ = i +ℤ r.offset in
     let f : ℕ → ℕ = λ t. x (s +ℤ pos (t % p)) in
     let z : Config = joined x s f in
-    let wide : 2 ≤ r.width = rule.shape.least_width in
     record {
       goes = record {
         z = z;

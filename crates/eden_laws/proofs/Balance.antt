@@ -1,9 +1,9 @@
 -- Under a surjective rule every word has as many preimages as there are nodes (Hedlund 1969): with fewer of one word, words that have it again and again would have too few.
-use Rattle.std.proofs.Common.{◌≡◌, ℕ, ◌+◌, ◌-◌, ◌*◌, ◌/◌, ◌%◌, ◌^◌, ◌<◌, ◌≤◌, ◌↔◌, List, [], ◌∷◌, ◌++◌, length, map, take, drop, All, refl, sym, ap, ap₂, ◌∙◌, subst, ⊎_elim, arith, mod-lt, mod-eq_of_lt, length-append, length-drop, length-take-le, pow-suc, one-mul}
+use Rattle.std.proofs.Common.{◌≡◌, ℕ, ◌+◌, ◌-◌, ◌*◌, ◌/◌, ◌%◌, ◌^◌, ◌<◌, ◌≤◌, ◌↔◌, List, [], ◌∷◌, ◌++◌, length, map, take, drop, All, refl, sym, ap, ap₂, ◌∙◌, subst, ⊎_elim, arith, mod-lt, mod-eq_of_lt, length-append, length-drop, length-take-le, pow-suc, one-mul, pow-add, div-add-mod', take_at, drop_at, drop-drop}
 use Rattle.std.proofs.Math.Nat.{pow-zero, one-le-pow, pow-le-pow_right}
 use Rattle.std.proofs.lemmas.Bool.{cases_eq, cases_lt}
-use Rattle.std.proofs.lemmas.Nat.{mul-add-lt, same_from_place, pow-add, div_below, div-add-mod'}
-use Rattle.std.proofs.lemmas.List.{length-map, take_at, drop_at, drop-drop}
+use Rattle.std.proofs.lemmas.Nat.{mul-add-lt, same_from_place, div_below}
+use Rattle.std.proofs.lemmas.List.{length-map}
 use Rattle.std.proofs.lemmas.List.Elements.{All-nil, All-cons, All-head, All-tail, All-take, All-drop, All-append, All-map}
 use Rattle.word_image.specs.LocalRules.{LocalRule, IsRule, IsWord, value, word_of, node_count}
 use Rattle.word_image.specs.Words.{image, IsPreimage, IsSurjective}
@@ -160,7 +160,6 @@ same_number {r} {w} {j} {y} {z} rule hw q few hy hz e =
 -- there are two nodes at least
 node_count-two : {r : LocalRule} → IsRule r → 2 ≤ node_count r
 node_count-two {r} rule =
-    let wide : 2 ≤ r.width = rule.shape.least_width in
     let one : r.states ^ 1 ≡ r.states = pow-suc r.states 0 ∙ ap (λ n. n * r.states) (pow-zero r.states) ∙ one-mul r.states in
     let most : r.states ^ 1 ≤ r.states ^ (r.width - 1) = pow-le-pow_right (omega (arith, rule.shape.least_states)) (omega arith) in
     omega (arith, rule.shape.least_states)

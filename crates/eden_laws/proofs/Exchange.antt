@@ -1,9 +1,8 @@
 -- Either word of an erasable pair may stand for the other in any word and in any configuration, and the image stays.
-use Rattle.std.proofs.Common.{◌≡◌, ℕ, ◌+◌, ◌-◌, ◌<◌, ◌≤◌, List, [], ◌∷◌, ◌++◌, length, map, take, drop, refl, sym, ap, ap₂, ◌∙◌, ⊎_elim, arith, append_assoc, ℤ, pos, ◌+ℤ◌, ◌-ℤ◌, unsigned_abs, subst}
-use Rattle.std.specs.Prelude.{◌<ℤ◌, ◌≤ℤ◌}
+use Rattle.std.proofs.Common.{◌≡◌, ℕ, ◌+◌, ◌-◌, ◌<◌, ◌≤◌, List, [], ◌∷◌, ◌++◌, length, map, take, drop, refl, sym, ap, ap₂, ◌∙◌, ⊎_elim, arith, append_assoc, ℤ, pos, ◌+ℤ◌, ◌-ℤ◌, unsigned_abs, subst, ◌<ℤ◌, ◌≤ℤ◌, take_all, take_at}
 use Rattle.std.proofs.lemmas.Int.{ints}
 use Rattle.std.proofs.lemmas.Bool.{cases_lt}
-use Rattle.std.proofs.lemmas.List.{take_all, take_at, take-append-le, drop-append-le}
+use Rattle.std.proofs.lemmas.List.{take-append-le, drop-append-le}
 use Rattle.std.proofs.Math.Seq.{take-append-add, drop-append_seam}
 use Rattle.word_image.specs.LocalRules.{LocalRule, IsRule, value, word_of}
 use Rattle.word_image.specs.Words.{image}
@@ -50,7 +49,6 @@ image-exchange {r} {x} {y} rule h p s =
 pub image_of-exchange : {r : LocalRule} {x y : List ℕ} {f g : Config} → IsRule r → IsErasable r x y → (s : ℤ) → run f s (length x) ≡ x → run g s (length x) ≡ y
     → ((j : ℤ) → j <ℤ s → f j ≡ g j) → ((j : ℤ) → (s +ℤ pos (length x)) ≤ℤ j → f j ≡ g j) → (j : ℤ) → image_of r f j ≡ image_of r g j
 image_of-exchange {r} {x} {y} {f} {g} rule h s at_f at_g before after j =
-    let wide : 2 ≤ r.width = rule.shape.least_width in
     let l : ℕ = length x in
     let a : ℕ = unsigned_abs (j +ℤ r.offset -ℤ s) in
     let b : ℕ = a + r.width in

@@ -1,7 +1,7 @@
 -- The pairs that are reached from the first pairs of the right: none of them has two equal nodes exactly where the rule is surjective. So a pair list proves surjectivity.
-use Rattle.std.proofs.Common.{◌≡◌, ◌≢◌, ℕ, zero, suc, ◌+◌, ◌-◌, ◌<◌, ◌⊎◌, inl, inr, ◌↔◌, List, [], ◌∷◌, ◌++◌, length, take, drop, Contains, Some, refl, sym, ap, ap₂, ◌∙◌, subst, ⊎_elim, arith, length-drop}
+use Rattle.std.proofs.Common.{◌≡◌, ◌≢◌, ℕ, zero, suc, ◌+◌, ◌-◌, ◌<◌, ◌⊎◌, inl, inr, ◌↔◌, List, [], ◌∷◌, ◌++◌, length, take, drop, Contains, Some, refl, sym, ap, ap₂, ◌∙◌, subst, ⊎_elim, arith, length-drop, take_all}
 use Rattle.std.proofs.lemmas.Bool.{cases_eq}
-use Rattle.std.proofs.lemmas.List.{take_all, take-append-le, same_from_push}
+use Rattle.std.proofs.lemmas.List.{take-append-le, same_from_push}
 use Rattle.std.proofs.lemmas.List.Elements.{All-drop}
 use Rattle.word_image.specs.LocalRules.{LocalRule, IsRule, IsWord, value, word_of, node_count}
 use Rattle.word_image.specs.Words.{IsSurjective}

@@ -1,7 +1,5 @@
 -- A search through sets of nodes that are put into a list, and the unread sets that one lists.
-use Rattle.std.proofs.Common.{◌≡◌, ℕ, suc, ◌+◌, ◌*◌, ◌<◌, ◌≤◌, List, [], ◌∷◌, length, Some, Contains, refl, sym, ap, ◌∙◌, subst, arith, ⊎_elim}
-use Rattle.std.specs.List.{slice_get}
-use Rattle.std.proofs.Math.Nat.{mul-le-mul_right, suc-mul}
+use Rattle.std.proofs.Common.{◌≡◌, ℕ, suc, ◌+◌, ◌*◌, ◌<◌, ◌≤◌, List, [], ◌∷◌, length, Some, Contains, refl, sym, ap, ◌∙◌, subst, arith, ⊎_elim, slice_get, mul-le-mul_right, suc-mul}
 use Rattle.std.proofs.lemmas.Option.{slice_get_within}
 use Rattle.word_image.specs.LocalRules.{LocalRule}
 use Rattle.word_image.proofs.laws.Places.{Contains-slice_get}

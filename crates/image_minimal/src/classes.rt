@@ -1,7 +1,7 @@
 //! The classes of alike words, found breadth first by the closures of their sets.
 
 ghost use Rattle.std.specs.Prelude.{◌≡◌, ◌+◌, ◌*◌, ◌<◌, ◌≤◌, ℕ, length, slice_index, IfOk};
-ghost use Rattle.word_image.specs.LocalRules.{LocalRule, IsRule};
+ghost use Rattle.word_image.specs.LocalRules.{LocalRule, IsRule, most_sets};
 ghost use Rattle.image_minimal.specs.ImageLanguages.{Automaton, IsLeastAutomaton};
 ghost use Rattle.image_minimal.specs.Closures.{AreClosures};
 ghost use Rattle.image_minimal.specs.Searches.{IsClassSearch, HasClasses};
@@ -64,7 +64,7 @@ impl Minimal {
         ensures automaton { (a : Automaton) × IsLeastAutomaton self.now a }
         ensures len { (a : Automaton) → IsLeastAutomaton self.now a → result ≡ a.classes }
         ensures some { 1 ≤ result }
-        ensures most { result ≤ 65536 }
+        ensures most { result ≤ most_sets }
     {
         self.classes.len()
     }

@@ -1,6 +1,7 @@
 //! Different sets of nodes in the order in which they were found, with an index by set.
 
 ghost use Rattle.std.specs.Prelude.{◌≡◌, ◌<◌, ◌≤◌, [], length, slice_index, IfOk};
+ghost use Rattle.word_image.specs.LocalRules.{most_sets};
 ghost use Rattle.image_minimal.specs.Indexes.{IsInsertedAt, IsPlaceOf};
 
 use std::alloc::{AllocError, Global};
@@ -40,7 +41,7 @@ impl Listed {
     /// How many sets there are, at most 65,536.
     pub fn len(&self) -> u32
         ensures len { result ≡ length self.now }
-        ensures most { result ≤ 65536 }
+        ensures most { result ≤ most_sets }
     {
         self.sets.len() as u32
     }

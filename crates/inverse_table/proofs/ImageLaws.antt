@@ -1,9 +1,9 @@
 -- The values of the images of all words of one length.
-use Rattle.std.proofs.Common.{◌≡◌, ℕ, suc, ◌+◌, ◌-◌, ◌*◌, ◌%◌, ◌^◌, ◌<◌, ◌≤◌, List, [], ◌∷◌, ◌++◌, All, length, map, take, drop, get_or, slice_index, sym, ap, ap₂, subst, ◌∙◌, ⊎_elim, arith, length-append, length-drop, pow-suc}
-use Rattle.std.proofs.Math.Nat.{mod-lt, mul-le-mul_right, pow-le-pow_right}
+use Rattle.std.proofs.Common.{◌≡◌, ℕ, suc, ◌+◌, ◌-◌, ◌*◌, ◌%◌, ◌^◌, ◌<◌, ◌≤◌, List, [], ◌∷◌, ◌++◌, All, length, map, take, drop, get_or, slice_index, sym, ap, ap₂, subst, ◌∙◌, ⊎_elim, arith, length-append, length-drop, pow-suc, mod-lt, mul-le-mul_right, length-take-le, get_or-drop, get_or-take}
+use Rattle.std.proofs.Math.Nat.{pow-le-pow_right}
 use Rattle.std.proofs.Math.ListN.{get_or-append}
 use Rattle.std.proofs.lemmas.Bool.{cases_lt}
-use Rattle.std.proofs.lemmas.List.{length-map, length-take-le, get_or-append_right, get_or-drop, get_or-map, get_or-take}
+use Rattle.std.proofs.lemmas.List.{length-map, get_or-append_right, get_or-map}
 use Rattle.std.proofs.lemmas.List.Elements.{All-take, All-from_get_or}
 use Rattle.word_image.specs.LocalRules.{LocalRule, IsRule, IsWord, value, word_of, local_map, node_count}
 use Rattle.word_image.specs.Words.{image}

@@ -1,8 +1,7 @@
 -- From the letters that are read back from images to the inverse map, and what the map does.
-use Rattle.std.proofs.Common.{◌≡◌, ℕ, ◌+◌, ◌-◌, ◌/◌, ◌%◌, ◌^◌, ◌<◌, ◌≤◌, List, length, map, take, drop, slice_index, slice_range, ℤ, pos, neg_ℤ, ◌+ℤ◌, ◌-ℤ◌, refl, sym, ap, subst, ◌∙◌, arith, length-drop}
+use Rattle.std.proofs.Common.{◌≡◌, ℕ, ◌+◌, ◌-◌, ◌/◌, ◌%◌, ◌^◌, ◌<◌, ◌≤◌, List, length, map, take, drop, slice_index, slice_range, ℤ, pos, neg_ℤ, ◌+ℤ◌, ◌-ℤ◌, refl, sym, ap, subst, ◌∙◌, arith, length-drop, length-take-le, get_or-take, get_or-drop}
 use Rattle.std.specs.List.{range_with_len}
 use Rattle.std.proofs.lemmas.Int.{ints}
-use Rattle.std.proofs.lemmas.List.{length-take-le, get_or-take, get_or-drop}
 use Rattle.std.proofs.lemmas.List.FromFn.{fill_by_all, length-map-range_with_len}
 use Rattle.std.proofs.lemmas.List.Elements.{All-from_get_or, All-take, All-drop}
 use Rattle.word_image.specs.LocalRules.{LocalRule, IsRule, IsWord, value, word_of, local_map}
@@ -38,7 +37,6 @@ pub record IsReadingBack (r : LocalRule) (n c : ℕ) (letter : ℕ → ℕ) (ima
 pub letter_by_unit-place : {r : LocalRule} → IsRule r → (n c k unit : ℕ) → 1 ≤ n → c ≤ n + r.width - 2 → k ≡ r.states → unit ≡ r.states ^ (n + (r.width - 1) - 1 - c)
     → (x : List ℕ) → IsWord r.states x → length x ≡ n + (r.width - 1) → letter_by_unit k unit (value r.states x) ≡ slice_index x c
 letter_by_unit-place {r} rule n c k unit some inside same behind x h long =
-    let wide = rule.shape.least_width in
     ap (λ j. value r.states x / unit % j) same ∙ ap (λ u. value r.states x / u % r.states) behind
     ∙ letter-value r.states x c (n + (r.width - 1) - 1 - c) h (omega arith)
 
@@ -126,7 +124,6 @@ pub IsWindowMap-read : {r : LocalRule} {n c : ℕ} {letter : ℕ → ℕ} {image
 IsWindowMap-read {r} {n} {c} {letters = letters} rule h all few =
     let shape = rule.shape in
     let most = length-most rule n few in
-    let inside = h.inside in
     record {
       least_states = shape.least_states;
       most_states = shape.most_states;
@@ -159,7 +156,6 @@ map_letter-image {r} {n} h x word long =
 map_letter-cells : {r : LocalRule} {n c : ℕ} {g : WindowMap} → IsRule r → c ≤ n + r.width - 2 → 1 ≤ n → IsInverseMap r n c g → (t : TailConfig) → IsTail r.states t → (i : ℤ)
     → map_letter g (run (image_of r (cell t)) (i +ℤ g.offset) n) ≡ cell t i
 map_letter-cells {r} {n} {c} {g} rule inside some h t tail i =
-    let wide = rule.shape.least_width in
     let start : ℤ = i -ℤ pos c in
     let before : i +ℤ g.offset +ℤ r.offset ≡ start = omega (arith, ints, h.offset) in
     let long : length (run (image_of r (cell t)) (i +ℤ g.offset) n) ≡ n = length-map-range_with_len (λ j. image_cell r t (i +ℤ g.offset +ℤ pos j)) 0 n in
@@ -189,7 +185,6 @@ IsPreimage-part {r} {w} {x} rule p i n l =
 map_image-part : {r : LocalRule} {n c : ℕ} {g : WindowMap} {x z : List ℕ} → IsRule r → 1 ≤ n → c ≤ n + r.width - 2 → IsInverseMap r n c g → length x ≡ n + (r.width - 1) → IsPreimage r x z
     → map_image g x ≡ slice_range z c (c + r.width)
 map_image-part {r} {n} {c} {g} {x} {z} rule some inside h long p =
-    let wide = rule.shape.least_width in
     let few : length x + 1 - n ≡ r.width = omega arith in
     let count : c + r.width - c ≡ r.width = omega arith in
     let letter : ℕ → ℕ = λ i. map_letter g (slice_range x i (i + n)) in
@@ -208,7 +203,6 @@ map_image-part {r} {n} {c} {g} {x} {z} rule some inside h long p =
 local_map-map_image : {r : LocalRule} {n c : ℕ} {g : WindowMap} → IsRule r → IsDetermined r n c → IsInverseMap r n c g
     → (x : List ℕ) → IsWord r.states x → length x ≡ n + (r.width - 1) → local_map r (map_image g x) ≡ slice_index x c
 local_map-map_image {r} {n} {c} {g} rule window h x word long =
-    let wide = rule.shape.least_width in
     let found = IsSurjective-determined rule window x word in
     let z : List ℕ = found.0 in
     let p : IsPreimage r x z = found.1 in

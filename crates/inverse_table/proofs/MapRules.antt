@@ -1,9 +1,8 @@
 -- An inverse map as a rule: its shape, its table, and the first limit that it breaks.
-use Rattle.std.proofs.Common.{◌≡◌, ℕ, subst, false, ◌*◌, ◌/◌, ◌^◌, ◌<◌, ◌≤◌, length, map, slice_index, sym, ap, ◌∙◌, ⊎_elim, arith, pow-suc, one-mul}
+use Rattle.std.proofs.Common.{◌≡◌, ℕ, subst, false, ◌*◌, ◌/◌, ◌^◌, ◌<◌, ◌≤◌, length, map, slice_index, sym, ap, ◌∙◌, ⊎_elim, arith, pow-suc, one-mul, ◌==◌, max, nat_lt, ◌||◌, eq-eqb, ne_eqb}
 use Rattle.std.specs.List.{range_with_len}
-use Rattle.std.specs.Prelude.{◌==◌, max, nat_lt, ◌||◌}
 use Rattle.std.proofs.Math.Nat.{pow-zero}
-use Rattle.std.proofs.lemmas.Bool.{cases_eq, cases_lt, eq-eqb, ne_eqb, cond-true, cond-false}
+use Rattle.std.proofs.lemmas.Bool.{cases_eq, cases_lt, cond-true, cond-false}
 use Rattle.std.proofs.lemmas.Bool.Decides.{nat_tests}
 use Rattle.std.proofs.lemmas.List.{get_or_past}
 use Rattle.std.proofs.lemmas.Nat.{div_below}

@@ -1,8 +1,7 @@
 -- How many words of one length there are, where at most 65,536 words have n letters.
-use Rattle.std.proofs.Common.{◌≡◌, ℕ, ◌+◌, ◌-◌, ◌*◌, ◌%◌, ◌^◌, ◌<◌, ◌≤◌, sym, ap, ◌∙◌, ⊎_elim, arith, mul-le-mul}
+use Rattle.std.proofs.Common.{◌≡◌, ℕ, ◌+◌, ◌-◌, ◌*◌, ◌%◌, ◌^◌, ◌<◌, ◌≤◌, sym, ap, ◌∙◌, ⊎_elim, arith, mul-le-mul, pow-add}
 use Rattle.std.proofs.Math.Nat.{mul-mod_left, one-le-pow, pow-le-pow_left, pow-le-pow_right}
 use Rattle.std.proofs.lemmas.Bool.{cases_lt}
-use Rattle.std.proofs.lemmas.Nat.{pow-add}
 use Rattle.word_image.specs.LocalRules.{LocalRule, IsRule}
 
 -- at most 2^20 words of n + m - 1 letters, and less where they have fewer

@@ -1,7 +1,5 @@
 -- The first determined windows of two families are the first of both.
-use Rattle.std.proofs.Common.{◌≡◌, ℕ, ◌+◌, ◌-◌, ◌∙◌, ◌≤◌, ◌⊎◌, inl, inr, Option, Some, None, sym, subst, ⊎_elim, arith}
-use Rattle.std.specs.Prelude.{IfSome, IsSomeAnd}
-use Rattle.std.specs.Option.{option_map}
+use Rattle.std.proofs.Common.{◌≡◌, ℕ, ◌+◌, ◌-◌, ◌∙◌, ◌≤◌, ◌⊎◌, inl, inr, Option, Some, None, sym, subst, ⊎_elim, arith, IfSome, IsSomeAnd, option_map}
 use Rattle.std.proofs.lemmas.Bool.{cases_lt}
 use Rattle.word_image.specs.LocalRules.{LocalRule}
 use Rattle.word_image.specs.Windows.{IsDetermined, WindowBefore}

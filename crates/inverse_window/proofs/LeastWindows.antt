@@ -1,7 +1,5 @@
 -- The first of all windows inside their words is the least determined one.
-use Rattle.std.proofs.Common.{◌≡◌, ℕ, ◌+◌, ◌-◌, ◌<◌, ◌↔◌, inl, inr, Option, Some, None, true, false, refl, sym, subst, ⊎_elim, arith}
-use Rattle.std.specs.Prelude.{MatchOption, IsSome}
-use Rattle.std.specs.Option.{option_map}
+use Rattle.std.proofs.Common.{◌≡◌, ℕ, ◌+◌, ◌-◌, ◌<◌, ◌↔◌, inl, inr, Option, Some, None, true, false, refl, sym, subst, ⊎_elim, arith, MatchOption, IsSome, option_map}
 use Rattle.std.proofs.lemmas.Bool.{cases_eq}
 use Rattle.word_image.specs.LocalRules.{LocalRule, IsRule}
 use Rattle.word_image.specs.Windows.{IsDetermined, IsLeastDetermined}

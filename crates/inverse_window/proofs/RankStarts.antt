@@ -1,7 +1,5 @@
 -- The table of starts by rank, pair by pair.
-use Rattle.std.proofs.Common.{◌≡◌, ◌≢◌, ℕ, ◌+◌, ◌<◌, ◌≤◌, List, length, Option, Some, None, get_or, replicate, sym, subst, ⊎_elim, arith, ◌∙◌, length-set, get_or-set_same, get_or-set_other}
-use Rattle.std.specs.Prelude.{IfSome, MatchOption, unwrap_or}
-use Rattle.std.proofs.Math.ListN.{set}
+use Rattle.std.proofs.Common.{◌≡◌, ◌≢◌, ℕ, ◌+◌, ◌<◌, ◌≤◌, List, length, Option, Some, None, get_or, replicate, sym, subst, ⊎_elim, arith, ◌∙◌, length-set, get_or-set_same, get_or-set_other, IfSome, MatchOption, unwrap_or, set}
 use Rattle.std.proofs.lemmas.Bool.{cases_eq, cases_lt}
 use Rattle.std.proofs.lemmas.List.{get_or-replicate, length-replicate}
 use Rattle.word_image.specs.LocalRules.{LocalRule, IsRule}

@@ -1,6 +1,5 @@
 -- From which number on facts hold.
-use Rattle.std.proofs.Common.{ℕ, ◌+◌, ◌≤◌, ◌↔◌, Option, Some, None, subst, ⊎_elim, arith}
-use Rattle.std.specs.Prelude.{IfSome}
+use Rattle.std.proofs.Common.{ℕ, ◌+◌, ◌≤◌, ◌↔◌, Option, Some, None, subst, ⊎_elim, arith, IfSome}
 use Rattle.std.proofs.lemmas.Bool.{cases_eq, cases_lt}
 use Rattle.word_image.specs.Ranks.{IsRank}
 use Rattle.inverse_window.specs.Starts.{HoldsFrom, later}

@@ -1,8 +1,5 @@
 -- The cover list of a family, one set more at a time.
-use Rattle.std.proofs.Common.{◌≡◌, ◌≢◌, ℕ, ◌+◌, ◌<◌, List, [], ◌∷◌, ◌++◌, Bool, cond, AllPairs, length, take, slice_index, refl, sym, ap, ◌∙◌, arith}
-use Rattle.std.specs.Prelude.{◌&&◌, not}
-use Rattle.std.specs.List.{filter}
-use Rattle.std.proofs.lemmas.Bool.{eq-eqb, ne_eqb}
+use Rattle.std.proofs.Common.{◌≡◌, ◌≢◌, ℕ, ◌+◌, ◌<◌, List, [], ◌∷◌, ◌++◌, Bool, cond, AllPairs, length, take, slice_index, refl, sym, ap, ◌∙◌, arith, ◌&&◌, not, filter, eq-eqb, ne_eqb}
 use Rattle.std.proofs.lemmas.List.Elements.{filter_more}
 use Rattle.word_image.specs.Families.{is_minimal, is_cover}
 

@@ -1,8 +1,7 @@
 -- Rows of sets by lanes: one lane for each second node.
-use Rattle.std.proofs.Common.{◌≡◌, ◌≢◌, ℕ, ◌+◌, ◌%◌, ◌^◌, ◌<◌, ◌↔◌, List, [], length, map, replicate, Bool, false, not, cond, nat_eq, slice_index, slice_index_or, IsBitSet, bit_and, bit_or, sym, ap, ◌∙◌, subst, arith, w16}
+use Rattle.std.proofs.Common.{◌≡◌, ◌≢◌, ℕ, ◌+◌, ◌%◌, ◌^◌, ◌<◌, ◌↔◌, List, [], length, map, replicate, Bool, false, not, cond, nat_eq, slice_index, slice_index_or, IsBitSet, bit_and, bit_or, sym, ap, ◌∙◌, subst, arith, w16, ne_eqb}
 use Rattle.std.specs.Simd.Lanes.{zip2, mask_l, top}
 use Rattle.std.specs.Int.{bit_at}
-use Rattle.std.proofs.lemmas.Bool.{ne_eqb}
 use Rattle.std.proofs.lemmas.Nat.{and_le_r}
 use Rattle.std.proofs.lemmas.List.{get_or-map, get_or-replicate, length-map}
 use Rattle.std.proofs.lemmas.Simd.{get_or-zip2, length-zip2, length-replicate, mask_l-lt, bitmask_splat, bit_mask_l}

@@ -1,9 +1,8 @@
 -- Rows of sets and lists of truth values, and the steps of pairs that they hold.
-use Rattle.std.proofs.Common.{◌≡◌, ◌≢◌, ◌==◌, ℕ, ◌+◌, ◌-◌, ◌*◌, ◌/◌, ◌%◌, ◌^◌, ◌<◌, ◌≤◌, ◌↔◌, List, length, Bool, IsTrue, slice_index, slice_set, IsBitSet, bit_and, Some, refl, sym, ap, ap₂, ◌∙◌, subst, subst₂, arith, ⊎_elim, mod-lt}
+use Rattle.std.proofs.Common.{◌≡◌, ◌≢◌, ◌==◌, ℕ, ◌+◌, ◌-◌, ◌*◌, ◌/◌, ◌%◌, ◌^◌, ◌<◌, ◌≤◌, ◌↔◌, List, length, Bool, IsTrue, slice_index, slice_set, IsBitSet, bit_and, Some, refl, sym, ap, ap₂, ◌∙◌, subst, subst₂, arith, ⊎_elim, mod-lt, get_or-set_other, length-set, div-add-mod'}
 use Rattle.std.specs.Int.{bit_at}
 use Rattle.std.proofs.lemmas.Bool.Decides.{Decides-eqb}
-use Rattle.std.proofs.lemmas.List.{get_or-set_other, length-set}
-use Rattle.std.proofs.lemmas.Nat.{div-mul-add, mod-mul-add, div-add-mod', div_below, mul-add-lt, and_le_l}
+use Rattle.std.proofs.lemmas.Nat.{div-mul-add, mod-mul-add, div_below, mul-add-lt, and_le_l}
 use Rattle.word_image.specs.LocalRules.{LocalRule, IsRule, node_count}
 use Rattle.word_image.specs.Graphs.{first_of, second_of, pair_of, pair_count, follow_on}
 use Rattle.word_image.proofs.laws.Bits.{bit_at-IsBitSet}

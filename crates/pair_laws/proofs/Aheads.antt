@@ -1,14 +1,14 @@
 -- Right look-aheads by pairs of nodes: no pair to which two different letters lead from one node begins together for the rest.
-use Rattle.std.proofs.Common.{◌≡◌, ◌≢◌, ℕ, ◌-◌, ◌<◌, ◌≤◌, ◌↔◌, List, [], ◌∷◌, ◌++◌, length, take, drop, get_or, refl, sym, ap, subst, subst₂, ◌∙◌, ⊎_elim, arith}
+use Rattle.std.proofs.Common.{◌≡◌, ◌≢◌, ℕ, ◌-◌, ◌<◌, ◌≤◌, ◌↔◌, List, [], ◌∷◌, ◌++◌, length, take, drop, get_or, refl, sym, ap, subst, subst₂, ◌∙◌, ⊎_elim, arith, append_assoc, length-take-le, take_at}
 use Rattle.std.proofs.lemmas.Bool.{cases_eq}
-use Rattle.std.proofs.lemmas.List.{append_assoc, length-take-le, take_at, get_or_at}
+use Rattle.std.proofs.lemmas.List.{get_or_at}
 use Rattle.std.proofs.lemmas.List.Elements.{All-take}
 use Rattle.word_image.specs.LocalRules.{LocalRule, IsRule, IsWord, value, word_of, node_count}
 use Rattle.word_image.specs.Windows.{HaveOneImage, IsRightAhead}
 use Rattle.word_image.specs.Graphs.{next, label, pair_of}
 use Rattle.word_image.specs.Ranks.{BeginTogether}
-use Rattle.word_image.specs.declared.side.Side.TheVariants.{Right}
 use Rattle.word_image.specs.Sides.{PairGoes}
+use Rattle.word_image.specs.declared.side.Side.TheVariants.{Right}
 use Rattle.word_image.specs.FirstPairs.{IsFirstOfRight}
 use Rattle.word_image.proofs.laws.Values.{length-word_of, IsWord-word_of, value-word_of}
 use Rattle.word_image.proofs.laws.Graphs.{value-node, value-next, next-below}
@@ -29,7 +29,6 @@ get_or-letter d z a rest e = ap (λ y. get_or y d 0) (append_assoc z (a ∷ []) 
 pub BeginTogether-ahead : {r : LocalRule} {n : ℕ} → IsRule r → IsRightAhead r n → (u a b : ℕ) → u < node_count r → a < r.states → b < r.states
     → a ≢ b → label r u a ≡ label r u b → ¬ BeginTogether r (next r u a) (next r u b) (n - 1)
 BeginTogether-ahead {r} {n} rule ahead u a b hu ha hb different l h =
-    let some : 1 ≤ n = ahead.some in
     let z : List ℕ = word_of r.states (r.width - 1) u in
     let word : IsWord r.states z = IsWord-word_of r.states (r.width - 1) u hu in
     let long : length z ≡ r.width - 1 = length-word_of r.states (r.width - 1) u in

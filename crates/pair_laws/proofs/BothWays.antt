@@ -1,13 +1,13 @@
 -- When there is a determined window or a look-ahead at all: no two different nodes are endless both ways, and no first pair is endless.
-use Rattle.std.proofs.Common.{◌≡◌, ◌≢◌, ℕ, zero, suc, ◌+◌, ◌-◌, ◌<◌, ◌≤◌, ◌↔◌, Some, min, List, [], ◌∷◌, ◌++◌, length, take, drop, slice_index, refl, sym, ap, subst, ◌∙◌, ⊎_elim, arith, length-drop}
-use Rattle.std.proofs.lemmas.List.{ext_get_or, length_push, take_all, get_or_append_left}
+use Rattle.std.proofs.Common.{◌≡◌, ◌≢◌, ℕ, zero, suc, ◌+◌, ◌-◌, ◌<◌, ◌≤◌, ◌↔◌, Some, min, List, [], ◌∷◌, ◌++◌, length, take, drop, slice_index, refl, sym, ap, subst, ◌∙◌, ⊎_elim, arith, length-drop, ext_get_or, take_all}
+use Rattle.std.proofs.lemmas.List.{length_push, get_or_append_left}
 use Rattle.std.proofs.lemmas.List.Elements.{All-push}
 use Rattle.word_image.specs.LocalRules.{LocalRule, IsRule, IsWord, value, word_of, node_count}
 use Rattle.word_image.specs.Windows.{IsDetermined, IsRightAhead}
 use Rattle.word_image.specs.Graphs.{next, follow, pair_of, first_of, second_of, pair_count, node_letter}
+use Rattle.word_image.specs.Sides.{PairGoes, seen_from}
 use Rattle.word_image.specs.declared.side.Side.{Side}
 use Rattle.word_image.specs.declared.side.Side.TheVariants.{Right, Left}
-use Rattle.word_image.specs.Sides.{PairGoes, seen_from}
 use Rattle.word_image.specs.FirstPairs.{IsFirstOf}
 use Rattle.word_image.specs.Ranks.{IsEndless}
 use Rattle.word_image.proofs.laws.Values.{length-word_of, IsWord-word_of, value-word_of}
@@ -108,8 +108,6 @@ pub IsDetermined-not_both_ways : {r : LocalRule} {n c : ℕ} → IsRule r → Is
 IsDetermined-not_both_ways {r} {n} {c} rule h p different endless =
     let nodes = Together-below Right _ _ _ _ (endless.begins 0) in
     let found = node_letter-different r (first_of r p) (second_of r p) nodes.0 nodes.1 different in
-    let inside : c ≤ n + r.width - 2 = h.inside in
-    let wide : 2 ≤ r.width = rule.shape.least_width in
     let first : DifferBothWays r 0 = differ_first rule found.0 found.1 (record { pair = p; endless = endless; different = found.2 }) in
     let d : DifferBothWays r (c - min c n) = differ_each rule (c - min c n) (omega arith) first in
     ((IsDetermined-pairs rule n c).0 h).2 d.pair (pair-below rule d.pair (Together-below Right _ _ _ _ (d.endless.begins 0)).0) d.different (d.endless.ends (min c n)) (d.endless.begins (n - min c n))
@@ -118,7 +116,6 @@ IsDetermined-not_both_ways {r} {n} {c} rule h p different endless =
 pub IsDetermined-none_both_ways : {r : LocalRule} → IsRule r → ((p : ℕ) → p < pair_count r → first_of r p ≢ second_of r p → ¬ IsEndlessBothWays r p)
     → IsDetermined r (pair_count r + pair_count r) (pair_count r)
 IsDetermined-none_both_ways {r} rule none =
-    let wide : 2 ≤ r.width = rule.shape.least_width in
     (IsDetermined-pairs rule (pair_count r + pair_count r) (pair_count r)).1 (
       omega (arith, pair_count_pos rule),
       omega (arith, pair_count_pos rule),

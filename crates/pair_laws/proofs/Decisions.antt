@@ -4,9 +4,9 @@ use Rattle.std.proofs.lemmas.Bool.{cases_eq}
 use Rattle.word_image.specs.LocalRules.{LocalRule, IsRule, node_count}
 use Rattle.word_image.specs.Graphs.{next, label, pair_count}
 use Rattle.word_image.specs.Ranks.{BeginTogether, IsRank, IsEndless}
+use Rattle.word_image.specs.Sides.{Together}
 use Rattle.word_image.specs.declared.side.Side.{Side}
 use Rattle.word_image.specs.declared.side.Side.TheVariants.{Right, Left}
-use Rattle.word_image.specs.Sides.{Together}
 use Rattle.word_image.proofs.laws.Graphs.{next-below}
 use Rattle.word_image.proofs.laws.Images.{IsRule-mirrored}
 use Rattle.pair_laws.proofs.Ranks.{Together-zero, BeginTogether-step, BeginTogether-push}

@@ -5,9 +5,9 @@ use Rattle.std.proofs.lemmas.Nat.{same_from_place}
 use Rattle.word_image.specs.LocalRules.{LocalRule, IsRule, node_count}
 use Rattle.word_image.specs.Graphs.{first_of, second_of, pair_of, pair_count, LeadsOn}
 use Rattle.word_image.specs.Ranks.{IsRank, IsEndless}
+use Rattle.word_image.specs.Sides.{Together, PairGoes}
 use Rattle.word_image.specs.declared.side.Side.{Side}
 use Rattle.word_image.specs.declared.side.Side.TheVariants.{Right, Left}
-use Rattle.word_image.specs.Sides.{Together, PairGoes}
 use Rattle.pair_laws.proofs.Walks.{LeadTogether, place_node, HaveOneImage-between, LeadTogether-front, LeadTogether-rest, LeadTogether-join, LeadTogether-first, LeadTogether-none}
 use Rattle.pair_laws.proofs.Ranks.{LeadTogether-begin, LeadTogether-end, BeginTogether-walk, EndTogether-walk, Together-less, Together-zero}
 use Rattle.pair_laws.proofs.Pairs.{first_of-below, second_of-below, pair_of-below, LeadsOn-from, PairGoes-step, PairGoes-push}
@@ -33,8 +33,6 @@ Loops-long {r} {u} {v} {p} {q} {n} rule many h =
     let twice = twice_below (pair_count r) f (λ i l. let within = nodes i (omega arith) in pair_of-below r _ _ within.0 within.1) in
     let i : ℕ = twice.0 in
     let j : ℕ = twice.1 in
-    let earlier : i < j = twice.2 in
-    let inside : j ≤ pair_count r = twice.3 in
     let same = same_from_place (place_node r h.x i) (place_node r h.y i) (place_node r h.x j) (place_node r h.y j) (node_count r) (nodes i (omega arith)).1 (nodes j (omega arith)).1 twice.4 in
     let loop = HaveOneImage-between rule i (suc (j - i - 1)) j (n - j) n (omega arith) (omega arith) h.one_image in
     record {

@@ -1,6 +1,6 @@
 -- The first pairs of a side are the ends of two windows that differ in their last letter on that side alone and have one label.
-use Rattle.std.proofs.Common.{◌≡◌, ℕ, ◌+◌, ◌-◌, ◌*◌, ◌/◌, ◌%◌, ◌^◌, ◌<◌, drop, slice_index, sym, ap, ap₂, ◌∙◌, subst, arith, mul_comm, mod-lt}
-use Rattle.std.proofs.lemmas.Nat.{mul-add-lt, div_below, div-mul-add, mod-mul-add, div-add-mod'}
+use Rattle.std.proofs.Common.{◌≡◌, ℕ, ◌+◌, ◌-◌, ◌*◌, ◌/◌, ◌%◌, ◌^◌, ◌<◌, drop, slice_index, sym, ap, ap₂, ◌∙◌, subst, arith, mul_comm, mod-lt, div-add-mod'}
+use Rattle.std.proofs.lemmas.Nat.{mul-add-lt, div_below, div-mul-add, mod-mul-add}
 use Rattle.word_image.specs.LocalRules.{LocalRule, IsRule, node_count, value, word_of}
 use Rattle.word_image.specs.Graphs.{next, label, node_letter, pair_of, first_of, second_of, pair_count}
 use Rattle.word_image.specs.FirstPairs.{IsFirstOfRight, IsFirstOfLeft, IsFirstOf}

@@ -1,15 +1,15 @@
 -- Left look-aheads by pairs of nodes: no two that differ in their first letter alone, and go on with one label, end together for the rest.
-use Rattle.std.proofs.Common.{◌≡◌, ◌≢◌, ℕ, ◌+◌, ◌-◌, ◌<◌, ◌≤◌, ◌↔◌, List, [], ◌∷◌, ◌++◌, length, take, drop, get_or, slice_index, refl, sym, ap, ap₂, subst₂, ◌∙◌, ⊎_elim, arith, length-drop}
+use Rattle.std.proofs.Common.{◌≡◌, ◌≢◌, ℕ, ◌+◌, ◌-◌, ◌<◌, ◌≤◌, ◌↔◌, List, [], ◌∷◌, ◌++◌, length, take, drop, get_or, slice_index, refl, sym, ap, ap₂, subst₂, ◌∙◌, ⊎_elim, arith, length-drop, length-take-le, drop-drop, get_or-drop}
 use Rattle.std.proofs.lemmas.Bool.{cases_eq}
-use Rattle.std.proofs.lemmas.List.{length-take-le, drop-append-le, drop-drop, drop-take, get_or-drop, get_or_append_left}
+use Rattle.std.proofs.lemmas.List.{drop-append-le, drop-take, get_or_append_left}
 use Rattle.std.proofs.lemmas.List.Elements.{All-take, All-drop}
 use Rattle.word_image.specs.FirstPairs.{IsFirstOfLeft}
 use Rattle.word_image.specs.LocalRules.{LocalRule, IsRule, IsWord, value, word_of, node_count}
 use Rattle.word_image.specs.Windows.{HaveOneImage}
 use Rattle.word_image.specs.Graphs.{label, first_of, second_of, pair_of, node_letter}
 use Rattle.word_image.specs.Ranks.{EndTogether}
-use Rattle.word_image.specs.declared.side.Side.TheVariants.{Left}
 use Rattle.word_image.specs.Sides.{PairGoes, IsLeftAhead}
+use Rattle.word_image.specs.declared.side.Side.TheVariants.{Left}
 use Rattle.word_image.proofs.laws.Values.{length-word_of, word_of-value}
 use Rattle.pair_laws.proofs.Edges.{image-one, HaveOneImage-push}
 use Rattle.pair_laws.proofs.Joins.{HaveOneImage-drop}
@@ -44,7 +44,6 @@ end_word r u j x h e at =
 drop_push : {r : LocalRule} → IsRule r → (u j n : ℕ) (x : List ℕ) (c : ℕ) → IsWord r.states x → length x ≡ j + (r.width - 1) → value r.states (drop j x) ≡ u → j + 1 ≡ n
     → drop n (x ++ c ∷ []) ≡ drop 1 (word_of r.states (r.width - 1) u) ++ c ∷ []
 drop_push {r} rule u j n x c h e at s =
-    let wide : 2 ≤ r.width = rule.shape.least_width in
     ap (λ i. drop i (x ++ c ∷ [])) (sym s) ∙ sym (drop-drop 1 j (x ++ c ∷ []))
     ∙ ap (drop 1) (drop-append-le j x (c ∷ []) (omega arith) ∙ ap (λ z. z ++ c ∷ []) (end_word r u j x h e at))
     ∙ drop-append-le 1 (word_of r.states (r.width - 1) u) (c ∷ []) (omega (arith, length-word_of r.states (r.width - 1) u))
@@ -53,7 +52,6 @@ drop_push {r} rule u j n x c h e at s =
 get_or_push_node : {r : LocalRule} → IsRule r → (u j : ℕ) (x : List ℕ) (c : ℕ) → IsWord r.states x → length x ≡ j + (r.width - 1) → value r.states (drop j x) ≡ u
     → slice_index (x ++ c ∷ []) j ≡ node_letter r u 0
 get_or_push_node {r} rule u j x c h e at =
-    let wide : 2 ≤ r.width = rule.shape.least_width in
     let place : j + 0 ≡ j = omega arith in
     get_or_append_left x (c ∷ []) 0 j (omega arith) ∙ ap (slice_index x) (sym place) ∙ sym (get_or-drop j x 0 0) ∙ ap (λ z. get_or z 0 0) (end_word r u j x h e at)
 
@@ -61,7 +59,6 @@ get_or_push_node {r} rule u j x c h e at =
 pub EndTogether-ahead : {r : LocalRule} {n u v : ℕ} → IsRule r → IsLeftAhead r n → IsLeftPair r u v → ¬ EndTogether r u v (n - 1)
 EndTogether-ahead {r} {n} {u} {v} rule ahead f h =
     let words = (IsLeftAhead-words rule n).0 ahead in
-    let some : 1 ≤ n = words.0 in
     let labels : label r (value r.states (drop (n - 1) h.x)) f.letter ≡ label r (value r.states (drop (n - 1) h.y)) f.letter =
     ap (λ s. label r s f.letter) h.first ∙ f.one_label ∙ ap (λ s. label r s f.letter) (sym h.second) in
     let whole : HaveOneImage r n (h.x ++ f.letter ∷ []) (h.y ++ f.letter ∷ []) = HaveOneImage-push rule (omega arith) h.one_image f.letter f.letter f.in_letters f.in_letters labels in
@@ -74,7 +71,6 @@ EndTogether-ahead {r} {n} {u} {v} rule ahead f h =
 node_rest : {r : LocalRule} → IsRule r → (j n : ℕ) (x : List ℕ) → j + 1 ≡ n → IsWord r.states x → length x ≡ n + (r.width - 1)
     → drop 1 (word_of r.states (r.width - 1) (value r.states (take (r.width - 1) (drop j x)))) ≡ take (r.width - 1 - 1) (drop n x)
 node_rest {r} rule j n x e h long =
-    let wide : 2 ≤ r.width = rule.shape.least_width in
     let split : r.width - 1 ≡ 1 + (r.width - 1 - 1) = omega arith in
     ap (drop 1) (node_word r j x h (omega arith)) ∙ ap (λ d. drop 1 (take d (drop j x))) split ∙ drop-take 1 (r.width - 1 - 1) (drop j x)
     ∙ ap (take (r.width - 1 - 1)) (drop-drop 1 j x ∙ ap (λ i. drop i x) e)
@@ -82,7 +78,6 @@ node_rest {r} rule j n x e h long =
 -- the last letter of a word
 last_letter : {r : LocalRule} → IsRule r → (j n : ℕ) (x : List ℕ) → j + 1 ≡ n → get_or (drop j x) (r.width - 1) 0 ≡ get_or (drop n x) (r.width - 1 - 1) 0
 last_letter {r} rule j n x e =
-    let wide : 2 ≤ r.width = rule.shape.least_width in
     let place : j + (r.width - 1) ≡ n + (r.width - 1 - 1) = omega arith in
     get_or-drop j x (r.width - 1) 0 ∙ ap (slice_index x) place ∙ sym (get_or-drop n x (r.width - 1 - 1) 0)
 
@@ -92,7 +87,6 @@ pub IsLeftAhead-apart : {r : LocalRule} {n : ℕ} → IsRule r → 1 ≤ n
 IsLeftAhead-apart {r} {n} rule some apart = (IsLeftAhead-words rule n).1 (
   some,
   (λ x y h same.
-      let wide : 2 ≤ r.width = rule.shape.least_width in
       let before : n - 1 + 1 ≡ n = omega arith in
       let place : n - 1 + 0 ≡ n - 1 = omega arith in
       let u : ℕ = value r.states (take (r.width - 1) (drop (n - 1) x)) in

@@ -1,13 +1,13 @@
 -- The mirrored rule: words with one image read backwards, mirrored nodes, and left look-aheads said in words.
-use Rattle.std.proofs.Common.{◌≡◌, ℕ, ◌+◌, ◌-◌, ◌<◌, ◌≤◌, ◌↔◌, List, length, take, drop, reverse, slice_index, sym, ap, subst, subst₂, ◌∙◌, arith, length-drop}
-use Rattle.std.proofs.lemmas.List.{length-reverse, reverse-reverse, get_or-reverse, length-take-le}
+use Rattle.std.proofs.Common.{◌≡◌, ℕ, ◌+◌, ◌-◌, ◌<◌, ◌≤◌, ◌↔◌, List, length, take, drop, reverse, slice_index, sym, ap, subst, subst₂, ◌∙◌, arith, length-drop, length-take-le}
+use Rattle.std.proofs.lemmas.List.{length-reverse, reverse-reverse, get_or-reverse}
 use Rattle.std.proofs.lemmas.List.Elements.{All-take, All-drop}
 use Rattle.word_image.specs.LocalRules.{LocalRule, IsRule, IsWord, value, word_of, node_count, mirrored}
 use Rattle.word_image.specs.Windows.{HaveOneImage}
 use Rattle.word_image.specs.Ranks.{BeginTogether, EndTogether}
+use Rattle.word_image.specs.Sides.{Together, IsLeftAhead}
 use Rattle.word_image.specs.declared.side.Side.{Side}
 use Rattle.word_image.specs.declared.side.Side.TheVariants.{Right, Left}
-use Rattle.word_image.specs.Sides.{Together, IsLeftAhead}
 use Rattle.word_image.proofs.laws.Values.{length-word_of, IsWord-word_of, value-word_of, word_of-value}
 use Rattle.word_image.proofs.laws.Images.{IsWord-reverse, image-mirrored, IsRule-mirrored, mirrored-mirrored}
 use Rattle.word_image.proofs.laws.Graphs.{value-node}
@@ -106,7 +106,6 @@ IsLeftAhead-words {r} rule n = (
   (λ words. record {
     some = words.0;
     letter = λ x y h same.
-        let some : 1 ≤ n = words.0 in
         let back : HaveOneImage r n (reverse x) (reverse y) = subst (λ (s : LocalRule). HaveOneImage s n (reverse x) (reverse y)) (mirrored-mirrored rule) (HaveOneImage-reverse (IsRule-mirrored rule) h) in
         let place : length x - 1 - (n - 1) ≡ r.width - 1 = omega arith in
         let place_y : length y - 1 - (n - 1) ≡ r.width - 1 = omega arith in

@@ -1,8 +1,8 @@
 -- Sets of nodes as bits: what two have both, and what one has more than another.
-use Rattle.std.proofs.Common.{◌≡◌, ℕ, ◌+◌, ◌-◌, ◌*◌, ◌/◌, ◌%◌, ◌^◌, ◌<◌, ◌↔◌, IsBitSet, bit_and, sym, ap, ◌∙◌, subst, arith, ⊎_elim}
-use Rattle.std.specs.Int.{bit_at, w16}
+use Rattle.std.proofs.Common.{◌≡◌, ℕ, ◌+◌, ◌-◌, ◌*◌, ◌/◌, ◌%◌, ◌^◌, ◌<◌, ◌↔◌, IsBitSet, bit_and, sym, ap, ◌∙◌, subst, arith, ⊎_elim, w16, pow-add}
+use Rattle.std.specs.Int.{bit_at}
 use Rattle.std.proofs.lemmas.Bool.{cases_lt}
-use Rattle.std.proofs.lemmas.Nat.{one_shl, pow-add, and_le_r}
+use Rattle.std.proofs.lemmas.Nat.{one_shl, and_le_r}
 use Rattle.std.proofs.Math.Nat.{div-div-eq-div-mul}
 use Rattle.std.proofs.lemmas.Nat.Bits.{bit_at_and, bit_at_not, bit_at_above, bit_at-lt}
 use Rattle.word_image.specs.Graphs.{IsSetOf}

@@ -1,7 +1,6 @@
 -- Determined windows by pairs of nodes: no two that differ at a letter end together for what is before it and begin together for what is behind.
-use Rattle.std.proofs.Common.{◌≡◌, ◌≢◌, ℕ, ◌+◌, ◌-◌, ◌<◌, ◌≤◌, ◌↔◌, min, List, ◌++◌, length, take, drop, get_or, slice_index, refl, subst₂, sym, ap, ap₂, ◌∙◌, ⊎_elim, arith, length-drop}
+use Rattle.std.proofs.Common.{◌≡◌, ◌≢◌, ℕ, ◌+◌, ◌-◌, ◌<◌, ◌≤◌, ◌↔◌, min, List, ◌++◌, length, take, drop, get_or, slice_index, refl, subst₂, sym, ap, ap₂, ◌∙◌, ⊎_elim, arith, length-drop, length-take-le, get_or-take, get_or-drop}
 use Rattle.std.proofs.lemmas.Bool.{cases_eq}
-use Rattle.std.proofs.lemmas.List.{length-take-le, get_or-take, get_or-drop}
 use Rattle.std.proofs.lemmas.List.Elements.{All-take, All-drop}
 use Rattle.word_image.specs.LocalRules.{LocalRule, IsRule, IsWord, value, word_of, node_count}
 use Rattle.word_image.specs.Windows.{HaveOneImage, IsDetermined}
@@ -65,7 +64,6 @@ IsApart r n c u v = node_letter r u (c - min c n) ≢ node_letter r v (c - min c
 pub IsApart-determined : {r : LocalRule} {n c : ℕ} → IsRule r → IsDetermined r n c → (u v : ℕ) → IsApart r n c u v
 IsApart-determined {r} {n} {c} rule h u v different ends begins =
     let m : Meet r u v (min c n) n = Meet-together rule (omega arith) ends begins in
-    let inside : c ≤ n + r.width - 2 = h.inside in
     let place : min c n + (c - min c n) ≡ c = omega arith in
     let first : node_letter r u (c - min c n) ≡ slice_index m.x (min c n + (c - min c n)) = node_letter-at r u (min c n) (c - min c n) m.x m.one_image.first (omega arith) m.first (omega arith) in
     let second : node_letter r v (c - min c n) ≡ slice_index m.y (min c n + (c - min c n)) = node_letter-at r v (min c n) (c - min c n) m.y m.one_image.second (omega arith) m.second (omega arith) in

@@ -2,8 +2,8 @@
 use Rattle.std.proofs.Common.{◌≡◌, ℕ, Some, ◌+◌, ◌<◌, ◌↔◌, refl}
 use Rattle.word_image.specs.LocalRules.{LocalRule, IsRule}
 use Rattle.word_image.specs.Graphs.{first_of, second_of, pair_of, pair_count, follow_on}
-use Rattle.word_image.specs.declared.side.Side.{Side}
 use Rattle.word_image.specs.Sides.{Together, PairGoes}
+use Rattle.word_image.specs.declared.side.Side.{Side}
 use Rattle.pair_laws.proofs.Ranks.{Together-below}
 use Rattle.pair_laws.proofs.Pairs.{PairGoes-pair_of, PairGoes-step, PairGoes-push}
 use Rattle.pair_laws.proofs.BackSteps.{LeadsOn-follows}

@@ -6,9 +6,9 @@ use Rattle.word_image.specs.LocalRules.{LocalRule, IsRule, node_count}
 use Rattle.word_image.specs.Graphs.{first_of, second_of, pair_of, pair_count}
 use Rattle.word_image.specs.Ranks.{IsEndless}
 use Rattle.pair_laws.proofs.Pairs.{first_of-below, second_of-below, pair_of-below, pair-below, PairGoes-pair_of}
-use Rattle.word_image.specs.declared.side.Side.{Side}
 use Rattle.pair_graph.specs.PairSets.{holds, IsTrimmedSet}
 use Rattle.word_image.specs.Sides.{Together, PairGoes}
+use Rattle.word_image.specs.declared.side.Side.{Side}
 use Rattle.pair_rank.specs.Sides.{AreEndless}
 use Rattle.pair_laws.proofs.Ranks.{Together-zero, Together-below, Together-less}
 use Rattle.pair_laws.proofs.Decisions.{Together-rank}

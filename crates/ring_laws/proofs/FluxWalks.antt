@@ -1,9 +1,9 @@
 -- What the walks from each node to node 0 gain is a flux if two rings for each window keep their sums, and the only one that has 0 at node 0.
-use Rattle.std.proofs.Common.{◌≡◌, ℕ, ◌-◌, ◌<◌, ◌≤◌, List, ◌++◌, length, map, take, drop, get_or, slice_index, ℤ, pos, ◌+ℤ◌, ◌-ℤ◌, sym, ap, ◌∙◌, arith, length-drop, length-append, append_assoc, replicate, Some}
-use Rattle.std.specs.List.{range_with_len, slice_get}
+use Rattle.std.proofs.Common.{◌≡◌, ℕ, ◌-◌, ◌<◌, List, ◌++◌, length, map, take, drop, get_or, slice_index, ℤ, pos, ◌+ℤ◌, ◌-ℤ◌, sym, ap, ◌∙◌, arith, length-drop, length-append, append_assoc, replicate, Some, slice_get, length-take-le, take-append-drop, take_all}
+use Rattle.std.specs.List.{range_with_len}
 use Rattle.std.proofs.lemmas.Int.{ints}
 use Rattle.std.proofs.Math.Seq.{drop-append_seam}
-use Rattle.std.proofs.lemmas.List.{length-replicate, length-take-le, take-append-drop, take-append-le, take_all}
+use Rattle.std.proofs.lemmas.List.{length-replicate, take-append-le}
 use Rattle.std.proofs.lemmas.List.Elements.{All-append, All-take, All-drop, All-replicate}
 use Rattle.std.proofs.lemmas.List.FromFn.{length-map-range_with_len, get_or-map-range_with_len, fill_by_all}
 use Rattle.std.proofs.lemmas.Option.{slice_get-get_or, get_or_from_slice_get}
@@ -56,7 +56,6 @@ pub gain-rings : {r : LocalRule} → IsRule r → (weight : ℕ → ℕ) (w : Li
     → KeepsSum weight r (window_ring r w) → KeepsSum weight r (node_ring r w)
     → (pos (weight (local_map r w)) -ℤ pos (weight (slice_index w 0))) ≡ gain weight r (take (r.width - 1) w ++ zeros r) -ℤ gain weight r (drop 1 w ++ zeros r)
 gain-rings {r} rule weight w e whole part =
-    let wide : 2 ≤ r.width = rule.shape.least_width in
     let d : ℕ = r.width - 1 in
     let z : List ℕ = zeros r in
     let u : List ℕ = take d w in
@@ -94,7 +93,6 @@ pub IsFlux-rings : {r : LocalRule} → IsRule r → (weight : ℕ → ℕ)
 IsFlux-rings {r} rule weight keep = record {
   entries = length-map-range_with_len (walk_gain weight r) 0 (node_count r);
   flows = λ w first last word e at_first at_last.
-      let wide : 2 ≤ r.width = rule.shape.least_width in
       let kept = keep w word e in
       let one = gain-rings rule weight w e kept.0 kept.1 in
       let begins : first ≡ gain weight r (take (r.width - 1) w ++ zeros r) =

@@ -1,8 +1,8 @@
 -- A flux by the values of the windows: what a decider computes and a checker tests.
-use Rattle.std.proofs.Common.{◌≡◌, ℕ, zero, suc, ◌+◌, ◌-◌, ◌*◌, ◌/◌, ◌%◌, ◌^◌, ◌<◌, List, [], ◌∷◌, ◌++◌, length, take, drop, get_or, slice_index, replicate, ℤ, pos, ◌+ℤ◌, ◌-ℤ◌, sym, ap, ap₂, subst, ◌∙◌, arith, length-drop, length-append, append_assoc, pow-suc}
+use Rattle.std.proofs.Common.{◌≡◌, ℕ, zero, suc, ◌+◌, ◌-◌, ◌*◌, ◌/◌, ◌%◌, ◌^◌, ◌<◌, List, [], ◌∷◌, ◌++◌, length, take, drop, get_or, slice_index, replicate, ℤ, pos, ◌+ℤ◌, ◌-ℤ◌, sym, ap, ap₂, subst, ◌∙◌, arith, length-drop, length-append, append_assoc, pow-suc, take-append-drop}
 use Rattle.std.proofs.Math.Nat.{pow-zero}
 use Rattle.std.proofs.lemmas.Nat.{div-mul-add}
-use Rattle.std.proofs.lemmas.List.{length_push, take-append-drop}
+use Rattle.std.proofs.lemmas.List.{length_push}
 use Rattle.std.proofs.lemmas.List.Elements.{All-push, All-drop, All-tail}
 use Rattle.std.proofs.lemmas.Option.{get_or_from_slice_get}
 use Rattle.word_image.specs.LocalRules.{LocalRule, IsRule, IsWord, local_map, value, word_of, node_count}
@@ -34,7 +34,6 @@ first_letter k (a ∷ w) some word =
 window_gain-value : {r : LocalRule} → IsRule r → (weight : ℕ → ℕ) (w : List ℕ) → IsWord r.states w → length w ≡ r.width
     → (pos (weight (local_map r w)) -ℤ pos (weight (slice_index w 0))) ≡ window_gain weight r (value r.states w)
 window_gain-value {r} rule weight w word e =
-    let wide = rule.shape.least_width in
     let begins : slice_index w 0 ≡ value r.states w / node_count r =
     first_letter r.states w (omega arith) word ∙ ap (λ n. value r.states w / r.states ^ (n - 1)) e in
     ap (λ a. pos (weight (local_map r w)) -ℤ pos (weight a)) begins
@@ -42,7 +41,6 @@ window_gain-value {r} rule weight w word e =
 -- its first node, by its value
 pub value-first_node : {r : LocalRule} → IsRule r → (w : List ℕ) → IsWord r.states w → length w ≡ r.width → value r.states (take (r.width - 1) w) ≡ value r.states w / r.states
 value-first_node {r} rule w word e =
-    let wide = rule.shape.least_width in
     let one : length w - (r.width - 1) ≡ 1 = omega arith in
     let letters : r.states ^ 1 ≡ r.states = omega (arith, pow-suc r.states 0, ap (λ n. n * r.states) (pow-zero r.states)) in
     value-take r.states (r.width - 1) w word (omega arith) ∙ ap (λ n. value r.states w / r.states ^ n) one ∙ ap (λ n. value r.states w / n) letters
@@ -56,7 +54,6 @@ gain-walk_sum : {r : LocalRule} → IsRule r → (weight : ℕ → ℕ) (n : ℕ
     → gain weight r (z ++ replicate n 0) ≡ walk_sum weight r (value r.states z) n
 gain-walk_sum {r} rule weight zero z word e = gain-short weight r (z ++ []) (omega (arith, length-append z []))
 gain-walk_sum {r} rule weight (suc n) z word e =
-    let wide = rule.shape.least_width in
     let states = rule.shape.least_states in
     let window : List ℕ = z ++ 0 ∷ [] in
     let after : List ℕ = drop 1 window in

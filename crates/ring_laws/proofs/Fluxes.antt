@@ -1,7 +1,7 @@
 -- A weight that has a flux is conserved: round a ring its terms cancel (Hattori and Takesue 1991).
-use Rattle.std.proofs.Common.{◌≡◌, ℕ, zero, suc, ◌+◌, ◌-◌, ◌<◌, ◌≤◌, List, [], ◌∷◌, ◌++◌, length, take, drop, get_or, slice_index, ℤ, pos, ◌+ℤ◌, ◌-ℤ◌, sym, ap, ◌∙◌, arith, length-drop}
+use Rattle.std.proofs.Common.{◌≡◌, ℕ, zero, suc, ◌+◌, ◌-◌, ◌<◌, List, [], ◌∷◌, ◌++◌, length, take, drop, get_or, slice_index, ℤ, pos, ◌+ℤ◌, ◌-ℤ◌, sym, ap, ◌∙◌, arith, length-drop, length-take-le, take_all, take-take, drop-drop, get_or-drop}
 use Rattle.std.proofs.lemmas.Int.{ints}
-use Rattle.std.proofs.lemmas.List.{length_push, length-take-le, drop-append-le, take-append-le, take_all, take-take, drop-drop, get_or-drop, get_or_append_left}
+use Rattle.std.proofs.lemmas.List.{length_push, drop-append-le, take-append-le, get_or_append_left}
 use Rattle.std.proofs.lemmas.List.Elements.{All-take, All-drop, All-push}
 use Rattle.std.proofs.lemmas.Option.{slice_get-get_or}
 use Rattle.word_image.specs.LocalRules.{LocalRule, IsRule, IsWord, local_map, value, node_count}
@@ -21,12 +21,10 @@ flow_at r phi z = get_or phi (value r.states z) (pos 0)
 pub window-flux : {weight : ℕ → ℕ} {r : LocalRule} {phi : List ℤ} → IsRule r → IsFlux weight r phi → (w : List ℕ) → IsWord r.states w → length w ≡ r.width
     → (pos (weight (local_map r w)) -ℤ pos (weight (slice_index w 0))) ≡ flow_at r phi (take (r.width - 1) w) -ℤ flow_at r phi (drop 1 w)
 window-flux {weight} {r} {phi} rule flux w word e =
-    let wide : 2 ≤ r.width = rule.shape.least_width in
     let first : value r.states (take (r.width - 1) w) < node_count r =
     value-node r (take (r.width - 1) w) (All-take (λ b. b < r.states) (r.width - 1) w word) (length-take-le (r.width - 1) w (omega arith)) in
     let last : value r.states (drop 1 w) < node_count r =
     value-node r (drop 1 w) (All-drop (λ b. b < r.states) 1 w word) (omega (arith, length-drop 1 w)) in
-    let entries : length phi ≡ node_count r = flux.entries in
     flux.flows w _ _ word e
     (slice_get-get_or phi (value r.states (take (r.width - 1) w)) (pos 0) (omega arith))
     (slice_get-get_or phi (value r.states (drop 1 w)) (pos 0) (omega arith))
@@ -39,7 +37,6 @@ gain-flux {weight} {r} {phi} rule flux zero x word e =
     let same : flow_at r phi (take (r.width - 1) x) ≡ flow_at r phi x = ap (flow_at r phi) (take_all (r.width - 1) x (omega arith)) in
     omega (arith, ints)
 gain-flux {weight} {r} {phi} rule flux (suc n) x word e =
-    let wide : 2 ≤ r.width = rule.shape.least_width in
     let front : List ℕ = take (length x - 1) x in
     let a : ℕ = get_or x (length x - 1) 0 in
     let split : x ≡ front ++ a ∷ [] = split_last x (omega arith) in

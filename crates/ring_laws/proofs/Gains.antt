@@ -1,8 +1,8 @@
 -- What the image of a word weighs more than the letters at which its windows begin: letter by letter, in two parts, and round a ring.
-use Rattle.std.proofs.Common.{◌≡◌, ℕ, ◌+◌, ◌-◌, ◌<◌, ◌≤◌, List, [], ◌∷◌, ◌++◌, length, take, drop, get_or, slice_index, sum_by, ℤ, pos, ◌+ℤ◌, ◌-ℤ◌, sym, ap, ap₂, ◌∙◌, arith, length-append}
+use Rattle.std.proofs.Common.{◌≡◌, ℕ, ◌+◌, ◌-◌, ◌<◌, ◌≤◌, List, [], ◌∷◌, ◌++◌, length, take, drop, get_or, slice_index, sum_by, ℤ, pos, ◌+ℤ◌, ◌-ℤ◌, sym, ap, ap₂, ◌∙◌, arith, length-append, length-take-le, take_all, get_or-take}
 use Rattle.std.proofs.Math.Seq.{take-append-add, take-append_seam, drop-append_seam}
 use Rattle.std.proofs.lemmas.Int.{ints}
-use Rattle.std.proofs.lemmas.List.{length_push, length-take-le, take-append-le, take_all, take_more, get_or-take}
+use Rattle.std.proofs.lemmas.List.{length_push, take-append-le, take_more}
 use Rattle.std.proofs.lemmas.List.Sums.{sum_by-append, sum_by_push, sum_by-take-drop}
 use Rattle.word_image.specs.LocalRules.{LocalRule, IsRule, local_map}
 use Rattle.word_image.specs.Words.{image}
@@ -20,7 +20,6 @@ gain weight r x = pos (sum_by weight (image r x)) -ℤ pos (sum_by weight (take 
 pub gain-snoc : {r : LocalRule} → IsRule r → (weight : ℕ → ℕ) (n : ℕ) (x : List ℕ) (a : ℕ) → length x ≡ n + (r.width - 1)
     → gain weight r (x ++ a ∷ []) ≡ gain weight r x +ℤ (pos (weight (local_map r (drop n x ++ a ∷ []))) -ℤ pos (weight (slice_index x n)))
 gain-snoc {r} rule weight n x a e =
-    let wide : 2 ≤ r.width = rule.shape.least_width in
     let window : ℕ → ℕ = λ i. local_map r (drop i x ++ a ∷ []) in
     let place : length x - (r.width - 1) ≡ n = omega arith in
     let longer : length (x ++ a ∷ []) - (r.width - 1) ≡ n + 1 = omega (arith, length_push x a) in
@@ -59,7 +58,6 @@ gain-ring {r} rule weight p o some =
 pub gain-window : {r : LocalRule} → IsRule r → (weight : ℕ → ℕ) (w : List ℕ) → length w ≡ r.width
     → gain weight r w ≡ pos (weight (local_map r w)) -ℤ pos (weight (slice_index w 0))
 gain-window {r} rule weight w e =
-    let wide : 2 ≤ r.width = rule.shape.least_width in
     let front : List ℕ = take (length w - 1) w in
     let split : w ≡ front ++ get_or w (length w - 1) 0 ∷ [] = split_last w (omega arith) in
     let long : length front ≡ r.width - 1 = length-take-le (length w - 1) w (omega arith) ∙ omega arith in
@@ -101,7 +99,6 @@ gain-append {r} rule weight a b c e =
 pub gain-closed : {r : LocalRule} → IsRule r → (weight : ℕ → ℕ) (p : List ℕ) → r.width - 1 ≤ length p → KeepsSum weight r p
     → gain weight r (p ++ take (r.width - 1) p) ≡ pos 0
 gain-closed {r} rule weight p h keeps =
-    let wide : 2 ≤ r.width = rule.shape.least_width in
     let closed : gain weight r (ring_letters p (pos 0) (length p + (r.width - 1))) ≡ gain weight r (p ++ take (r.width - 1) p) =
     ap (gain weight r) (ring_letters-closed p (r.width - 1) h) in
     let around = gain-ring rule weight p (pos 0) (omega arith) in

@@ -1,6 +1,5 @@
 -- A weight is conserved exactly where it has a flux; else a ring of at most 2 m - 1 letters doesn't keep its sum (Hattori and Takesue 1991).
-use Rattle.std.proofs.Common.{ℕ, ◌-◌, ◌*◌, ◌↔◌, ◌<◌, ◌≤◌, List, ◌++◌, length, take, arith, length-append}
-use Rattle.std.proofs.lemmas.List.{length-take}
+use Rattle.std.proofs.Common.{ℕ, ◌-◌, ◌*◌, ◌↔◌, ◌<◌, ◌≤◌, List, ◌++◌, length, take, arith, length-append, length-take}
 use Rattle.std.proofs.lemmas.List.Elements.{All-append, All-take}
 use Rattle.word_image.specs.LocalRules.{LocalRule, IsRule, IsWord}
 use Rattle.word_image.specs.Rings.{IsRing, KeepsSum, IsConserving, IsFlux}
@@ -15,7 +14,6 @@ ShortRingsKeepSum weight r = (p : List ℕ) → IsRing r.states p → length p �
 keeps_after_zeros : {r : LocalRule} → IsRule r → (weight : ℕ → ℕ) → ShortRingsKeepSum weight r → (w : List ℕ) → IsWord r.states w → length w ≤ r.width
     → KeepsSum weight r (zeros r ++ w)
 keeps_after_zeros {r} rule weight keep w word short =
-    let wide = rule.shape.least_width in
     let ring : IsRing r.states (zeros r ++ w) = record {
       word = All-append (λ a. a < r.states) (zeros r) w (IsWord-zeros rule) word;
       some = omega (arith, length-append (zeros r) w, length-zeros r);

@@ -1,6 +1,5 @@
 -- Weights that agree on the letters of a rule say the same of its rings, so own weights say what the letters themselves say.
-use Rattle.std.proofs.Common.{◌≡◌, ℕ, ◌+◌, ◌<◌, List, [], ◌∷◌, slice_index, sum_by, ℤ, pos, ◌-ℤ◌, refl, sym, ap₂, ◌∙◌, arith}
-use Rattle.std.specs.Prelude.{◌↔◌}
+use Rattle.std.proofs.Common.{◌≡◌, ℕ, ◌+◌, ◌<◌, List, [], ◌∷◌, slice_index, sum_by, ℤ, pos, ◌-ℤ◌, refl, sym, ap₂, ◌∙◌, arith, ◌↔◌}
 use Rattle.std.proofs.lemmas.List.Sums.{sum_by-cons}
 use Rattle.std.proofs.lemmas.List.Elements.{All-tail}
 use Rattle.word_image.specs.LocalRules.{LocalRule, IsRule, IsWord, local_map}
@@ -42,7 +41,6 @@ pub IsFlux-agree : {weight other : ℕ → ℕ} {r : LocalRule} {phi : List ℤ}
 IsFlux-agree {r = r} rule agree flux = record {
   entries = flux.entries;
   flows = λ w first last word long at_first at_last.
-      let wide = rule.shape.least_width in
       ap₂ (λ (m n : ℕ). pos m -ℤ pos n) (sym (agree (local_map r w) (entry-below rule _))) (sym (agree (slice_index w 0) (word 0 0 (omega arith))))
       ∙ flux.flows w first last word long at_first at_last;
 }

@@ -1,6 +1,6 @@
 -- The first condition that is broken where a rule is made of rules.
 use Rattle.std.specs.Prelude.{ℕ, ◌+◌, ◌-◌, ◌^◌, Option, Some, None, nat_lt, ◌==◌, ◌||◌, not, if◌then◌else◌, ℤ, pos, negsuc, ◌+ℤ◌, int_lt}
-use Rattle.word_image.specs.LocalRules.{LocalRule}
+use Rattle.word_image.specs.LocalRules.{LocalRule, most_width, most_nodes}
 use Rattle.rule_algebra.specs.declared.fault.AlgebraFault.{AlgebraFault}
 use Rattle.rule_algebra.specs.declared.fault.AlgebraFault.TheVariants.{States, Width, Nodes, Offset}
 
@@ -11,8 +11,8 @@ offset_fault m o = if int_lt o (negsuc 15) || int_lt (pos 16) (o +ℤ pos (m - 1
 -- of k states, of which a rule stands, at width m and offset o
 abbrev pub limit_fault : ℕ → ℕ → ℤ → Option AlgebraFault
 limit_fault k m o =
-    if nat_lt 5 m then Some Width
-    else (if nat_lt 16 (k ^ (m - 1)) then Some Nodes
+    if nat_lt most_width m then Some Width
+    else (if nat_lt most_nodes (k ^ (m - 1)) then Some Nodes
     else offset_fault m o)
 
 -- of a rule that is shifted

@@ -1,6 +1,6 @@
 -- The composed, the widened and the narrower rule, by their tables.
 use Rattle.std.specs.Prelude.{◌≡◌, ℕ, ◌+◌, ◌-◌, ◌<◌, ◌≤◌, List, length, take, drop, slice_index, pos, ◌+ℤ◌}
-use Rattle.word_image.specs.LocalRules.{LocalRule, IsWord, local_map, node_count}
+use Rattle.word_image.specs.LocalRules.{LocalRule, IsWord, local_map, node_count, most_states}
 use Rattle.word_image.specs.Words.{image}
 use Rattle.rule_algebra.specs.Algebra.{Ignores}
 use Rattle.rule_algebra.specs.Tabulated.{table_by}
@@ -34,7 +34,7 @@ without_first r = record {
 
 -- the letters that have the colours of the letters below n, at these colours, and letters below k elsewhere
 pub record AreOldLetters (k : ℕ) (colours : List ℕ) (n : ℕ) (letters : List ℕ) : Type 0 where
-  pub long : length letters ≡ 16
+  pub long : length letters ≡ most_states
   pub word : IsWord k letters
   pub back : (a : ℕ) → a < n → slice_index letters (slice_index colours a) ≡ a
 

@@ -1,7 +1,7 @@
 //! One rule after another.
-ghost use Rattle.std.specs.Prelude.{◌≡◌, ◌≤◌, ◌+◌, ◌-◌, ◌<◌, ◌^◌, IfOk};
+ghost use Rattle.std.specs.Prelude.{◌≡◌, ◌≤◌, ◌+◌, ◌-◌, ◌<◌, ◌^◌, IfOk, slice_index};
 ghost use Rattle.std.specs.Result.{result_err};
-ghost use Rattle.word_image.specs.LocalRules.{IsRule, value, word_of};
+ghost use Rattle.word_image.specs.LocalRules.{IsRule, value, word_of, most_windows};
 ghost use Rattle.word_image.specs.Words.{image};
 ghost use Rattle.rule_algebra.specs.Algebra.{IsComposed};
 ghost use Rattle.rule_algebra.specs.MadeImages.{ComposesCells};
@@ -9,7 +9,7 @@ ghost use Rattle.rule_algebra.specs.AlgebraFaults.{compose_fault};
 ghost use Rattle.rule_algebra.specs.Tables.{composed};
 
 use crate::fault::{AlgebraFault, check_limits};
-use word_image::Rule;
+use word_image::{Rule, value_by};
 
 /// The second rule after the first: its image is the second rule's image of the first rule's image.
 /// Its width is the sum of the widths less 1, its offset the sum of the offsets.
@@ -55,17 +55,22 @@ fn composed_rule(first: &Rule, second: &Rule) -> Rule
 /// The value of the image of a window, of which n letters are the image.
 fn image_value(rule: &Rule, n: u8, window: u16) -> u16
     requires some { 1 ≤ n }
-    requires fits { rule.now.states ^ (rule.now.width + n - 1) ≤ 256 }
+    requires fits { rule.now.states ^ (rule.now.width + n - 1) ≤ most_windows }
     requires window { window < rule.now.states ^ (rule.now.width + n - 1) }
     ensures value { result ≡ value rule.now.states (image rule.now
         (word_of rule.now.states (rule.now.width + n - 1) window)) }
     ensures within { result < rule.now.states ^ n }
 {
-    let k = u16::from(rule.k());
-    let mut value = 0;
-    for start in 0..n {
-        let part = window / k.pow(u32::from(n - 1 - start)) % rule.size();
-        value = value * k + u16::from(rule.at(part));
-    }
-    value
+    value_by(rule.k(), n, |start| image_letter(rule, n, window, start))
+}
+
+/// The letter at a place of the image of a window, of which n letters are the image.
+fn image_letter(rule: &Rule, n: u8, window: u16, start: u8) -> u8
+    requires fits { rule.now.states ^ (rule.now.width + n - 1) ≤ most_windows }
+    requires window { window < rule.now.states ^ (rule.now.width + n - 1) }
+    requires start { start < n }
+    ensures { result ≡ slice_index (image rule.now (word_of rule.now.states (rule.now.width + n - 1) window)) start }
+{
+    let behind = u16::from(rule.k()).pow(u32::from(n - 1 - start));
+    rule.at(window / behind % rule.size())
 }

@@ -1,6 +1,7 @@
 //! Why rules make no rule, and the limits that a rule keeps.
 ghost use Rattle.std.specs.Prelude.{◌≡◌, ◌≤◌, IfOk};
 ghost use Rattle.std.specs.Result.{result_err};
+ghost use Rattle.word_image.specs.LocalRules.{most_states};
 ghost use Rattle.rule_algebra.specs.AlgebraFaults.{offset_fault, limit_fault};
 
 use word_image::{MOST_NODES, MOST_WIDTH};
@@ -35,7 +36,7 @@ pub(crate) fn check_offset(m: u8, o: i16) -> Result<i8, AlgebraFault>
 /// The offset, if a rule of k states may have width m and this offset; else the first of `Width`,
 /// `Nodes` and `Offset` that holds.
 pub(crate) fn check_limits(k: u8, m: u8, o: i16) -> Result<i8, AlgebraFault>
-    requires states { k ≤ 16 }
+    requires states { k ≤ most_states }
     requires width { 1 ≤ m }
     ensures fault { result_err result ≡ limit_fault k m o }
     ensures offset { IfOk result (λ p. p ≡ o) }

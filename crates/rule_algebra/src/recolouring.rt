@@ -1,12 +1,12 @@
 //! Rules with other names for their letters.
 ghost use Rattle.std.specs.Prelude.{◌≡◌, ◌<◌, ◌≤◌, ◌^◌, ◌↔◌, length, IfOk, IfErr, IsOk, IsTrue};
-ghost use Rattle.word_image.specs.LocalRules.{IsWord, value, word_of};
+ghost use Rattle.word_image.specs.LocalRules.{IsWord, value, word_of, most_states};
 ghost use Rattle.rule_algebra.specs.Algebra.{IsRecolouring, IsRecoloured, recoloured};
 ghost use Rattle.rule_algebra.specs.MadeImages.{RecoloursImages};
 ghost use Rattle.rule_algebra.specs.Tables.{AreOldLetters};
 
 use crate::fault::AlgebraFault;
-use word_image::{MOST_STATES, Rule};
+use word_image::{MOST_STATES, Rule, letter_of, value_by};
 
 /// The rule g of the same width and offset with g(colours of w) = colours[f(w)] for every window w,
 /// so that the image of every recoloured word is the recoloured image; `NotPermutation` exactly
@@ -46,7 +46,7 @@ fn is_recolouring(k: u8, colours: &[u8]) -> bool
 /// The letter that has each colour.
 fn old_letters(k: u8, colours: &[u8]) -> [u8; MOST_STATES]
     requires some { 0 < k }
-    requires few { k ≤ 16 }
+    requires few { k ≤ most_states }
     requires colours { IsRecolouring k colours.now }
     ensures { AreOldLetters k colours.now k result }
 {
@@ -66,11 +66,10 @@ fn recoloured_value(rule: &Rule, colours: &[u8], window: u16) -> u16
         (word_of rule.now.states rule.now.width window)) }
     ensures within { result < rule.now.states ^ rule.now.width }
 {
-    let k = u16::from(rule.k());
-    let mut value = 0;
-    for place in 0..rule.m() {
-        let letter = window / k.pow(u32::from(rule.m() - 1 - place)) % k;
-        value = value * k + u16::from(colours[usize::from(letter)]);
-    }
-    value
+    let (k, m) = (rule.k(), rule.m());
+    value_by(
+        k,
+        m,
+        |place| colours[usize::from(letter_of(k, m, window, place))],
+    )
 }

@@ -1,6 +1,6 @@
 -- Tables that are filled from window to window.
 use Rattle.std.specs.Prelude.{◌≡◌, ℕ, ◌+◌, ◌*◌, ◌^◌, ◌<◌, ◌≤◌, List, length, slice_index}
-use Rattle.word_image.specs.LocalRules.{LocalRule}
+use Rattle.word_image.specs.LocalRules.{LocalRule, most_windows}
 use Rattle.rule_classes.specs.Colourings.{entry, old_value}
 use Rattle.rule_classes.specs.declared.colourings.Colouring.{Colouring}
 use Rattle.rule_classes.specs.declared.colourings.Row.{Row}
@@ -11,12 +11,12 @@ pub record IsRow (r : LocalRule) (c : Colouring) (u : ℕ) (row : Row) : Type 0 
 
 -- a table has room for 256 letters, and zeros after its own
 pub record HasZeros (r : LocalRule) (entries : List ℕ) : Type 0 where
-  pub long : length entries ≡ 256
+  pub long : length entries ≡ most_windows
   pub zeros : (v : ℕ) → r.states ^ r.width ≤ v → slice_index entries v ≡ 0
 
 -- the old values of the first n windows, and their entries
 pub record AreFilled (r : LocalRule) (c : Colouring) (n : ℕ) (windows entries : List ℕ) : Type 0 where
-  pub windows_long : length windows ≡ 256
+  pub windows_long : length windows ≡ most_windows
   pub first : slice_index windows 0 ≡ old_value r c 0
   pub values : (v : ℕ) → v < n → slice_index windows v ≡ old_value r c v
   pub colours : (v : ℕ) → v < n → slice_index entries v ≡ entry r c v

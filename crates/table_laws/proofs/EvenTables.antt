@@ -1,10 +1,8 @@
 -- Under a surjective rule each letter stands in the table equally often: its places are the words of which it is the image, by their values.
-use Rattle.std.proofs.Common.{◌≡◌, ℕ, zero, suc, ◌+◌, ◌-◌, ◌*◌, ◌^◌, ◌<◌, ◌≤◌, List, [], ◌∷◌, length, take, slice_index, get_or, count_by, Bool, sym, ap, ◌∙◌, ⊎_elim, arith, mul_comm}
-use Rattle.std.specs.Prelude.{◌==◌}
+use Rattle.std.proofs.Common.{◌≡◌, ℕ, zero, suc, ◌+◌, ◌-◌, ◌*◌, ◌^◌, ◌<◌, ◌≤◌, List, [], ◌∷◌, length, take, slice_index, get_or, count_by, Bool, sym, ap, ◌∙◌, ⊎_elim, arith, mul_comm, ◌==◌, eq-eqb, take_all}
 use Rattle.std.specs.Int.{from_bool}
-use Rattle.std.proofs.lemmas.Bool.{cases_Bool, eq-eqb}
+use Rattle.std.proofs.lemmas.Bool.{cases_Bool}
 use Rattle.std.proofs.lemmas.Bool.Decides.{Decides-eqb}
-use Rattle.std.proofs.lemmas.List.{take_all}
 use Rattle.std.proofs.lemmas.List.Elements.{All-cons, All-nil}
 use Rattle.std.proofs.lemmas.List.Sums.{count_by_more_yes, count_by_more_no}
 use Rattle.word_image.specs.LocalRules.{LocalRule, IsRule, value, node_count}
@@ -37,7 +35,6 @@ IsEven-surjective {r} rule every a letter =
     let k : ℕ = r.states in
     let n : ℕ = length r.table in
     let is : ℕ → Bool = λ b. b == a in
-    let wide : 2 ≤ r.width = rule.shape.least_width in
     let one : 1 + (r.width - 1) ≡ r.width = omega arith in
     let size : k ^ (1 + (r.width - 1)) ≡ n = ap (λ i. k ^ i) one ∙ sym rule.entries in
     let places : count_below (λ v. is (slice_index r.table v)) (k ^ (1 + (r.width - 1))) ≡ node_count r =

@@ -1,11 +1,9 @@
 -- Under a surjective rule as many words have the image 0 0 as there are nodes.
-use Rattle.std.proofs.Common.{◌≡◌, ℕ, suc, ◌+◌, ◌-◌, ◌*◌, ◌/◌, ◌%◌, ◌^◌, ◌<◌, ◌≤◌, ◌↔◌, List, [], ◌∷◌, ◌++◌, length, take, drop, slice_index, get_or, Bool, true, false, sym, ap, ap₂, ◌∙◌, arith, pow-suc, length-drop}
-use Rattle.std.specs.Prelude.{◌==◌, ◌&&◌}
-use Rattle.std.proofs.Math.Nat.{pow-zero, add-mul, mul_assoc, mul_comm}
-use Rattle.std.proofs.lemmas.Bool.{false≢true, eq-eqb}
+use Rattle.std.proofs.Common.{◌≡◌, ℕ, suc, ◌+◌, ◌-◌, ◌*◌, ◌/◌, ◌%◌, ◌^◌, ◌<◌, ◌≤◌, ◌↔◌, List, [], ◌∷◌, ◌++◌, length, take, drop, slice_index, get_or, Bool, true, false, sym, ap, ap₂, ◌∙◌, arith, pow-suc, length-drop, ◌==◌, ◌&&◌, add-mul, mul_assoc, mul_comm, eq-eqb, length-take-le}
+use Rattle.std.proofs.Math.Nat.{pow-zero}
+use Rattle.std.proofs.lemmas.Bool.{false≢true}
 use Rattle.std.proofs.lemmas.Bool.Decides.{Decides-eqb}
 use Rattle.std.proofs.lemmas.Nat.{mul-add-lt, div-mul-add, mod-mul-add}
-use Rattle.std.proofs.lemmas.List.{length-take-le}
 use Rattle.std.proofs.lemmas.List.Elements.{All-cons, All-nil}
 use Rattle.word_image.specs.LocalRules.{LocalRule, IsRule, IsWord, value, node_count}
 use Rattle.word_image.specs.Words.{image, IsSurjective}
@@ -19,7 +17,6 @@ use Rattle.table_laws.proofs.TestedWords.{count_below-image}
 image-two : {r : LocalRule} → IsRule r → (x : List ℕ) → IsWord r.states x → length x ≡ 2 + (r.width - 1)
     → image r x ≡ slice_index r.table (value r.states x / r.states) ∷ slice_index r.table (value r.states x % length r.table) ∷ []
 image-two {r} rule x word long =
-    let wide : 2 ≤ r.width = rule.shape.least_width in
     let k : ℕ = r.states in
     let m : ℕ = 1 + (r.width - 1) in
     let one : length x - m ≡ 1 = omega arith in
@@ -48,7 +45,6 @@ two_zeros a b = (
 pub zero_pairs-surjective : {r : LocalRule} → IsRule r → IsSurjective r → zero_pairs r.states r.table ≡ node_count r
 zero_pairs-surjective {r} rule every =
     let k : ℕ = r.states in
-    let wide : 2 ≤ r.width = rule.shape.least_width in
     let some : 0 < k = let two : 2 ≤ k = rule.shape.least_states in omega arith in
     let one : suc r.width ≡ 2 + (r.width - 1) = omega arith in
     let size : length r.table * k ≡ k ^ (2 + (r.width - 1)) = ap (λ n. n * k) rule.entries ∙ sym (pow-suc k r.width) ∙ ap (λ n. k ^ n) one in

@@ -1,6 +1,5 @@
 -- Nodes that begin or end together for as long as there are pairs give loops, and loops give splits and twins.
-use Rattle.std.proofs.Common.{◌≡◌, ◌≢◌, ℕ, ◌-◌, ◌<◌, List, ◌++◌, length, take, drop, ℤ, pos, ◌+ℤ◌, ◌-ℤ◌, refl, sym, ap, ap₂, ◌∙◌, subst, subst₂, arith, length-drop, length-append, take_at}
-use Rattle.std.specs.List.{zip}
+use Rattle.std.proofs.Common.{◌≡◌, ◌≢◌, ℕ, ◌-◌, ◌<◌, List, ◌++◌, length, take, drop, ℤ, pos, ◌+ℤ◌, ◌-ℤ◌, refl, sym, ap, ap₂, ◌∙◌, subst, subst₂, arith, length-drop, length-append, take_at, zip}
 use Rattle.std.proofs.lemmas.Int.{ints}
 use Rattle.std.proofs.lemmas.Nat.{same_from_place}
 use Rattle.std.proofs.lemmas.List.Elements.{All-append, All-drop}
@@ -9,8 +8,8 @@ use Rattle.word_image.specs.Graphs.{pair_of, follow, pair_count}
 use Rattle.word_image.specs.Ranks.{BeginTogether, EndTogether}
 use Rattle.word_image.specs.FirstPairs.{IsFirstOfRight}
 use Rattle.pair_laws.proofs.Walks.{LeadTogether, LeadTogether-first, LeadTogether-last}
-use Rattle.word_image.specs.declared.side.Side.TheVariants.{Right}
 use Rattle.word_image.specs.Sides.{PairGoes}
+use Rattle.word_image.specs.declared.side.Side.TheVariants.{Right}
 use Rattle.pair_laws.proofs.Ranks.{BeginTogether-walk, EndTogether-walk}
 use Rattle.pair_laws.proofs.Pairs.{pair_of-first_of}
 use Rattle.pair_laws.proofs.Endless.{Loops-long}

@@ -1,7 +1,5 @@
 -- The least twins are the first of the least walks in the marked graph from a pair without the mark to the same pair with it.
-use Rattle.std.proofs.Common.{◌≡◌, ◌≢◌, ℕ, ◌+◌, ◌<◌, ◌≤◌, List, [], ◌∷◌, length, map, sym, ◌∙◌, subst, arith}
-use Rattle.std.specs.List.{zip}
-use Rattle.std.specs.declared.cmp.Ordering.TheVariants.{Greater}
+use Rattle.std.proofs.Common.{◌≢◌, ℕ, ◌+◌, ◌<◌, ◌≤◌, List, [], ◌∷◌, length, map, sym, ◌∙◌, subst, arith, zip, Greater}
 use Rattle.std.proofs.lemmas.List.{length-map}
 use Rattle.std.proofs.lemmas.Slice.Zip.{length-zip}
 use Rattle.word_image.specs.LocalRules.{LocalRule, IsRule}
@@ -24,7 +22,6 @@ IsLeastTurn r p w = IsLeastWalk (marked r) r.states p (p + pair_count r) w
 -- such a walk has a step
 pub turn-some : {r : LocalRule} → IsRule r → (p : ℕ) (w : List (ℕ × ℕ)) → IsTurn r p w → 0 < length w
 turn-some {r} rule p [] turn =
-    let here : p ≡ p + pair_count r = turn.steps in
     let pairs : 0 < pair_count r = pair_count_pos rule in
     absurd (omega arith)
 turn-some rule p (ab ∷ w) turn = omega arith

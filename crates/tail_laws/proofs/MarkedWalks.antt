@@ -1,7 +1,5 @@
 -- Walks in the marked graph are walks of pairs, and the mark tells whether two letters have differed.
-use Rattle.std.proofs.Common.{◌≡◌, ◌≢◌, ◌⊎◌, ℕ, ◌+◌, ◌%◌, ◌<◌, ◌≤◌, List, [], ◌∷◌, length, drop, slice_index, Some, None, if◌then◌else◌, ◌==◌, ◌||◌, not, refl, sym, ap, ap₂, ◌∙◌, subst, inl, inr, ⊎_elim, arith, mod-eq_of_lt}
-use Rattle.std.specs.Prelude.{◌↔◌, nat_le}
-use Rattle.std.specs.List.{zip}
+use Rattle.std.proofs.Common.{◌≡◌, ◌≢◌, ◌⊎◌, ℕ, ◌+◌, ◌%◌, ◌<◌, ◌≤◌, List, [], ◌∷◌, length, drop, slice_index, Some, None, if◌then◌else◌, ◌==◌, ◌||◌, not, refl, sym, ap, ap₂, ◌∙◌, subst, inl, inr, ⊎_elim, arith, mod-eq_of_lt, ◌↔◌, nat_le, zip}
 use Rattle.std.proofs.Math.Nat.{add-mod_right}
 use Rattle.std.proofs.lemmas.Bool.{cases_lt, cases_eq}
 use Rattle.std.proofs.lemmas.Bool.Decides.{nat_tests}

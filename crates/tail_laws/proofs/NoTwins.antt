@@ -1,6 +1,5 @@
 -- A rule without twins is injective: from two different configurations that share an image two rings are cut (Amoroso and Patt 1972).
-use Rattle.std.proofs.Common.{◌≡◌, ℕ, ◌+◌, ◌-◌, ◌%◌, ◌<◌, ◌≤◌, List, length, slice_index, ℤ, pos, negsuc, ◌+ℤ◌, ◌-ℤ◌, neg_ℤ, unsigned_abs, refl, sym, ap, ◌∙◌, ⊎_elim, arith, mod-lt, mod-eq_of_lt}
-use Rattle.std.specs.Prelude.{◌<ℤ◌, ◌≤ℤ◌, ◌↔◌}
+use Rattle.std.proofs.Common.{◌≡◌, ℕ, ◌+◌, ◌-◌, ◌%◌, ◌<◌, ◌≤◌, List, length, slice_index, ℤ, pos, negsuc, ◌+ℤ◌, ◌-ℤ◌, neg_ℤ, unsigned_abs, refl, sym, ap, ◌∙◌, ⊎_elim, arith, mod-lt, mod-eq_of_lt, ◌<ℤ◌, ◌≤ℤ◌, ◌↔◌}
 use Rattle.std.proofs.lemmas.Bool.{cases_lt}
 use Rattle.std.proofs.lemmas.Int.{ints, by_lt_z}
 use Rattle.word_image.specs.LocalRules.{LocalRule, IsRule}
@@ -125,7 +124,6 @@ cell-seam t i n a low high =
 -- the rings of such runs are equal on the d places before and the d places after the seam
 seam_cells : (x y : TailConfig) (i : ℤ) (n d : ℕ) → HaveEqualEnds x y i n d → (a : ℕ) → n ≤ a + d → a < n + d → cell (round (cells x i n)) (pos a) ≡ cell (round (cells y i n)) (pos a)
 seam_cells x y i n d ends a low high =
-    let long : d ≤ n = ends.long in
     ⊎_elim (λ l. cell-run x i n a l ∙ ends.last a l low ∙ sym (cell-run y i n a l))
     (λ l. cell-seam x i n a l (omega arith) ∙ ends.first (a - n) (omega arith) ∙ sym (cell-seam y i n a l (omega arith)))
     (cases_lt a n)
@@ -135,8 +133,6 @@ turn-ends : {r : LocalRule} → IsRule r → (x y : TailConfig) (i : ℤ) (n : �
     → (k : ℕ) → k < n → image_cell r (round (cells x i n)) (neg_ℤ r.offset +ℤ pos k) ≡ image_cell r (round (cells y i n)) (neg_ℤ r.offset +ℤ pos k)
 turn-ends {r} rule x y i n ends share k within =
     let d : ℕ = r.width - 1 in
-    let wide : 2 ≤ r.width = rule.shape.least_width in
-    let some : 1 ≤ n = ends.some in
     let start : ℤ = neg_ℤ r.offset in
     let inside : (t : TailConfig) → k + d < n → image_cell r (round (cells t i n)) (start +ℤ pos k) ≡ image_cell r t (i +ℤ (start +ℤ pos k)) = λ t l.
     image_of-window r (cell (round (cells t i n))) (cell t) (start +ℤ pos k) (i +ℤ (start +ℤ pos k)) (λ a h.
@@ -153,7 +149,6 @@ turn-ends {r} rule x y i n ends share k within =
 twins_inside : {r : LocalRule} {x y : TailConfig} → IsRule r → IsTail r.states x → IsTail r.states y → ShareImage r x y → Different x y → AgreeLeft x y → AgreeRight x y → HasTwins r
 twins_inside {r} {x} {y} rule hx hy share apart agree_left agree_right =
     let d : ℕ = r.width - 1 in
-    let wide : 2 ≤ r.width = rule.shape.least_width in
     let i : ℤ = neg_ℤ (pos d) in
     let n : ℕ = d + most_middle x y + d in
     let ends : HaveEqualEnds x y i n d = record {

@@ -1,6 +1,5 @@
 -- A rule with a right split has a normal one: zeros replace what stands left of the cells that the first different window reads.
-use Rattle.std.proofs.Common.{◌≡◌, ℕ, ◌+◌, ◌-◌, ◌<◌, ◌≤◌, [], ◌∷◌, length, ℤ, pos, negsuc, ◌+ℤ◌, ◌-ℤ◌, neg_ℤ, unsigned_abs, refl, sym, ap, ◌∙◌, arith}
-use Rattle.std.specs.Prelude.{◌<ℤ◌, ◌≤ℤ◌, ◌↔◌}
+use Rattle.std.proofs.Common.{◌≡◌, ℕ, ◌+◌, ◌-◌, ◌<◌, ◌≤◌, [], ◌∷◌, length, ℤ, pos, negsuc, ◌+ℤ◌, ◌-ℤ◌, neg_ℤ, unsigned_abs, refl, sym, ap, ◌∙◌, arith, ◌<ℤ◌, ◌≤ℤ◌, ◌↔◌}
 use Rattle.std.proofs.lemmas.Int.{ints, by_lt_z}
 use Rattle.word_image.specs.LocalRules.{LocalRule, IsRule, local_map}
 use Rattle.tail_config.specs.Tails.{TailConfig, IsTail, ShareImage, Different, IsRightSplit, IsRightClosing, cell}
@@ -65,7 +64,6 @@ ShareImage-zeroed : {r : LocalRule} → IsRule r → (n p : ℕ) (x y : TailConf
     → ((i : ℤ) → i <ℤ pos 0 → cell x i ≡ cell y i) → ShareImage r x y → ShareImage r (zeroed (r.width - 1) n p x) (zeroed (r.width - 1) n p y)
 ShareImage-zeroed {r} rule n p x y turn fx fy left share =
     let d : ℕ = r.width - 1 in
-    let wide : 2 ≤ r.width = rule.shape.least_width in
     ShareImage-labels r (zeroed d n p x) (zeroed d n p y) (λ i.
     by_lt_z i (pos d)
     (λ l. ap (local_map r) (run-same (cell (zeroed d n p x)) (cell (zeroed d n p y)) (i -ℤ pos d) (i -ℤ pos d) r.width (λ a h.

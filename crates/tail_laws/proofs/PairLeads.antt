@@ -1,6 +1,5 @@
 -- Two configurations in step, as a walk in the graph of pairs of nodes.
-use Rattle.std.proofs.Common.{◌≡◌, ℕ, zero, suc, ◌+◌, ◌-◌, ◌<◌, List, ◌∷◌, length, ℤ, pos, ◌+ℤ◌, Some, sym, ap, ap₂, ◌∙◌, subst, subst₂, ⊎_elim, arith}
-use Rattle.std.specs.List.{zip}
+use Rattle.std.proofs.Common.{◌≡◌, ℕ, zero, suc, ◌+◌, ◌-◌, ◌<◌, List, ◌∷◌, length, ℤ, pos, ◌+ℤ◌, Some, sym, ap, ap₂, ◌∙◌, subst, subst₂, ⊎_elim, arith, zip}
 use Rattle.std.proofs.lemmas.Bool.{cases_lt}
 use Rattle.std.proofs.lemmas.Nat.{same_from_place}
 use Rattle.std.proofs.lemmas.Int.{ints}

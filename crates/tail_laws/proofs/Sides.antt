@@ -1,6 +1,5 @@
 -- What is said of the left side is said of the right side on the line that is read backwards.
-use Rattle.std.proofs.Common.{◌≡◌, ℕ, length, ℤ, pos, ◌-ℤ◌, sym, ◌∙◌, subst, arith}
-use Rattle.std.specs.Prelude.{◌↔◌}
+use Rattle.std.proofs.Common.{◌≡◌, ℕ, length, ℤ, pos, ◌-ℤ◌, sym, ◌∙◌, subst, arith, ◌↔◌}
 use Rattle.std.proofs.lemmas.Int.{ints}
 use Rattle.word_image.specs.LocalRules.{LocalRule, IsRule, mirrored}
 use Rattle.word_image.specs.Sides.{IsLeftAhead}

@@ -1,6 +1,5 @@
 -- What pairs of configurations say of a rule: that it isn't injective, right-closing or left-closing.
-use Rattle.std.proofs.Common.{ℕ, ⊎_elim}
-use Rattle.std.specs.Prelude.{◌↔◌}
+use Rattle.std.proofs.Common.{ℕ, ⊎_elim, ◌↔◌}
 use Rattle.word_image.specs.LocalRules.{LocalRule, IsRule}
 use Rattle.tail_config.specs.Tails.{TailConfig, IsTail, Same, Different, ShareImage, IsInjective, IsRightSplit, IsRightClosing, IsLeftClosing}
 use Rattle.tail_config.specs.LeftSplits.{IsLeftSplit}

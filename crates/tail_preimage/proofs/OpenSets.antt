@@ -1,8 +1,8 @@
 -- The sets of nodes from which the rest of a word leads into a goal, from the end of the word on, and the first walk through them.
-use Rattle.std.proofs.Common.{◌≡◌, ◌≢◌, ℕ, zero, suc, ◌+◌, ◌-◌, ◌*◌, ◌/◌, ◌%◌, ◌^◌, ◌<◌, List, [], ◌∷◌, ◌++◌, length, drop, get_or, slice_index, IsBitSet, bit_and, refl, sym, ◌∙◌, ap, subst, subst₂, arith, ⊎_elim, mod-lt, mod-eq_of_lt, pow-suc, one-mul, mul_assoc}
-use Rattle.std.proofs.Math.Nat.{pow-zero, div-one, one-le-pow, add-mul-mod_self_right}
+use Rattle.std.proofs.Common.{◌≡◌, ◌≢◌, ℕ, zero, suc, ◌+◌, ◌-◌, ◌*◌, ◌/◌, ◌%◌, ◌^◌, ◌<◌, List, [], ◌∷◌, ◌++◌, length, drop, get_or, slice_index, IsBitSet, bit_and, refl, sym, ◌∙◌, ap, subst, subst₂, arith, ⊎_elim, mod-lt, mod-eq_of_lt, pow-suc, one-mul, mul_assoc, div-one, div-add-mod'}
+use Rattle.std.proofs.Math.Nat.{pow-zero, one-le-pow, add-mul-mod_self_right}
 use Rattle.std.proofs.lemmas.Bool.{cases_lt}
-use Rattle.std.proofs.lemmas.Nat.{mod-mul-add, div-add-mod'}
+use Rattle.std.proofs.lemmas.Nat.{mod-mul-add}
 use Rattle.std.proofs.lemmas.List.{get_or_append_left, get_or_default, get_or_push, length_push, drop_all}
 use Rattle.word_image.specs.LocalRules.{LocalRule, IsRule, word_of, node_count}
 use Rattle.word_image.specs.Graphs.{next, node_letter, IsNodeSet, HasBit}

@@ -1,7 +1,7 @@
 -- The parts of a configuration as relations: which shapes are possible, and how many periods lead nowhere.
 use Rattle.std.specs.Prelude.{◌≢◌, ℕ, ◌<◌, ◌≤◌, [], get_or}
 use Rattle.std.specs.declared.cmp.Ordering.TheVariants.{Greater}
-use Rattle.word_image.specs.LocalRules.{LocalRule, IsRule, node_count}
+use Rattle.word_image.specs.LocalRules.{LocalRule, IsRule, node_count, most_nodes}
 use Rattle.tail_config.specs.Tails.{TailConfig}
 use Rattle.tail_preimage.specs.Walks.{HasWalk}
 use Rattle.tail_preimage.specs.Preimages.{Shape, shape_cmp, IsSmall}
@@ -14,7 +14,7 @@ use Rattle.tail_preimage.specs.declared.shapes.Spans.{Spans}
 -- the relations of 0 to 16 periods are those of so many steps
 pub record ArePeriods (r : LocalRule) (periods : Periods) : Type 0 where
   pub period : AreSets r periods.period
-  pub powers : (n : ℕ) → n ≤ 16 → IsRelation r (Steps (HasBit periods.period) n) (get_or periods.powers n [])
+  pub powers : (n : ℕ) → n ≤ most_nodes → IsRelation r (Steps (HasBit periods.period) n) (get_or periods.powers n [])
 
 -- a left period leads from its end to its start, and the others from start to end
 pub record AreTailParts (r : LocalRule) (t : TailConfig) (parts : Parts) : Type 0 where
@@ -64,8 +64,8 @@ pub record IsFirstShape (r : LocalRule) (parts : Parts) (s : Shape) : Type 0 whe
 
 -- the first numbers of periods, at most 16, that lead nowhere: the left ones with 16 right ones, and then the right ones
 pub record IsFirstGap (r : LocalRule) (parts : Parts) (b a : ℕ) : Type 0 where
-  pub before_few : b ≤ 16
-  pub after_few : a ≤ 16
+  pub before_few : b ≤ most_nodes
+  pub after_few : a ≤ most_nodes
   pub closed : ¬ PassesThrough r parts b a
-  pub before_least : (i : ℕ) → i < b → ¬ ¬ PassesThrough r parts i 16
+  pub before_least : (i : ℕ) → i < b → ¬ ¬ PassesThrough r parts i most_nodes
   pub after_least : (j : ℕ) → j < a → ¬ ¬ PassesThrough r parts b j

@@ -5,7 +5,7 @@ use Rattle.std.specs.Ordering.{ordering_then, nat_cmp}
 use Rattle.std.specs.declared.cmp.Ordering.{Ordering}
 use Rattle.std.specs.declared.cmp.Ordering.TheVariants.{Greater}
 use Rattle.std.specs.Cmp.Lexicographic.{slice_cmp}
-use Rattle.word_image.specs.LocalRules.{LocalRule, local_map}
+use Rattle.word_image.specs.LocalRules.{LocalRule, local_map, most_nodes}
 use Rattle.word_image.specs.Words.{IsOrphan}
 use Rattle.tail_config.specs.Tails.{TailConfig, IsTail, cell}
 
@@ -80,8 +80,8 @@ pub record IsLeastGap (r : LocalRule) (t : TailConfig) (before after : ℕ) (w :
 
 -- at most 16 periods on either side
 pub record IsSmall (s : Shape) : Type 0 where
-  pub left : s.back + s.before ≤ 16
-  pub right : s.on + s.after ≤ 16
+  pub left : s.back + s.before ≤ most_nodes
+  pub right : s.on + s.after ≤ most_nodes
 
 -- the first placed configuration that maps to t
 pub record IsFrom (r : LocalRule) (t : TailConfig) (p : PlacedConfig) : Type 0 where
@@ -91,6 +91,6 @@ pub record IsFrom (r : LocalRule) (t : TailConfig) (p : PlacedConfig) : Type 0 w
 -- the first gap, where none does
 pub record IsGap (r : LocalRule) (t : TailConfig) (before after : ℕ) (w : List ℕ) : Type 0 where
   pub least : IsLeastGap r t before after w
-  pub before_few : before ≤ 16
-  pub after_few : after ≤ 16
+  pub before_few : before ≤ most_nodes
+  pub after_few : after ≤ most_nodes
   pub none : (p : PlacedConfig) → ¬ MapsTo r p t

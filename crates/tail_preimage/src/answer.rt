@@ -2,7 +2,7 @@
 
 ghost use Rattle.std.specs.Prelude.{◌≡◌, ◌-◌, ◌^◌, ◌<◌, ◌+◌, ◌≤◌, ◌↔◌, IfOk, IsTrue, length, pos, ◌-ℤ◌, ◌*◌};
 ghost use Rattle.std.specs.List.{repeat};
-ghost use Rattle.word_image.specs.LocalRules.{IsWord, node_count};
+ghost use Rattle.word_image.specs.LocalRules.{IsWord, node_count, most_nodes};
 ghost use Rattle.word_image.specs.Graphs.{IsNodeSet};
 ghost use Rattle.tail_preimage.specs.Preimages.{PlacedConfig, MapsTo, IsFrom};
 ghost use Rattle.tail_preimage.specs.Answers.{IsPreimageAnswer, is_from, placed_config};
@@ -118,8 +118,8 @@ fn first_loop(
 
 /// The nodes from which three walks of a possible shape lead.
 fn starts(graph: &Graph, parts: &Parts, spans: Spans) -> u16
-    requires left { spans.back + spans.before ≤ 16 }
-    requires right { spans.on + spans.after ≤ 16 }
+    requires left { spans.back + spans.before ≤ most_nodes }
+    requires right { spans.on + spans.after ≤ most_nodes }
     requires parts { HaveParts graph.now parts.now }
     ensures { IsNodeSet graph.now (Starts graph.now parts.now (shape_of spans)) result }
 {

@@ -1,6 +1,7 @@
 //! The first numbers of periods with which a configuration's middle is an orphan.
 
 ghost use Rattle.std.specs.Prelude.{MatchOption};
+ghost use Rattle.word_image.specs.LocalRules.{most_nodes};
 ghost use Rattle.tail_preimage.specs.Parts.{HaveParts, PassesThrough, IsFirstGap};
 
 use crate::periods::{least_closed, open};
@@ -13,7 +14,7 @@ use word_image::MOST_NODES;
 /// periods that lead nowhere with these; `None` where 16 periods on either side lead through.
 pub fn first_gap(graph: &Graph, parts: &Parts) -> Option<(u8, u8)>
     requires { HaveParts graph.now parts.now }
-    ensures { MatchOption result (PassesThrough graph.now parts.now 16 16) (λ (b, a). IsFirstGap graph.now parts.now b a) }
+    ensures { MatchOption result (PassesThrough graph.now parts.now most_nodes most_nodes) (λ (b, a). IsFirstGap graph.now parts.now b a) }
 {
     let rears = before(
         graph,

@@ -1,6 +1,7 @@
 //! The periods on one side of a configuration, as they lead away from its middle.
 
 ghost use Rattle.std.specs.Prelude.{◌≡◌, ◌-◌, ◌<◌, ◌≤◌, ℕ, IfSome, MatchOption};
+ghost use Rattle.word_image.specs.LocalRules.{most_nodes};
 ghost use Rattle.word_image.specs.Graphs.{IsNodeSet, AreSets, HasBit};
 ghost use Rattle.tail_preimage.specs.Relations.{Steps, Open, Rounds, SomeRounds, IsFirst, Meets};
 ghost use Rattle.tail_preimage.specs.Parts.{ArePeriods};
@@ -32,7 +33,7 @@ pub fn periods_of(graph: &Graph, period: Relation) -> Periods
 
 /// The nodes from which n periods lead anywhere.
 pub fn open(graph: &Graph, periods: &Periods, n: u8) -> u16
-    requires few { n ≤ 16 }
+    requires few { n ≤ most_nodes }
     requires periods { ArePeriods graph.now periods.now }
     ensures { IsNodeSet graph.now (Open (HasBit periods.now.period) n) result }
 {
@@ -41,7 +42,7 @@ pub fn open(graph: &Graph, periods: &Periods, n: u8) -> u16
 
 /// The nodes to which n periods lead back.
 pub fn loops(graph: &Graph, periods: &Periods, n: u8) -> u16
-    requires few { n ≤ 16 }
+    requires few { n ≤ most_nodes }
     requires periods { ArePeriods graph.now periods.now }
     ensures { IsNodeSet graph.now (λ u. Steps (HasBit periods.now.period) n u u) result }
 {
@@ -50,8 +51,8 @@ pub fn loops(graph: &Graph, periods: &Periods, n: u8) -> u16
 
 /// The nodes from which n periods lead to a node to which `on` periods lead back.
 pub fn rounds(graph: &Graph, periods: &Periods, n: u8, on: u8) -> u16
-    requires n_few { n ≤ 16 }
-    requires on_few { on ≤ 16 }
+    requires n_few { n ≤ most_nodes }
+    requires on_few { on ≤ most_nodes }
     requires periods { ArePeriods graph.now periods.now }
     ensures { IsNodeSet graph.now (Rounds (HasBit periods.now.period) n on) result }
 {
@@ -64,7 +65,7 @@ pub fn rounds(graph: &Graph, periods: &Periods, n: u8, on: u8) -> u16
 
 /// The same for any two numbers with this sum, of which the second one isn't 0.
 pub fn some_rounds(graph: &Graph, periods: &Periods, sum: u8) -> u16
-    requires few { sum ≤ 16 }
+    requires few { sum ≤ most_nodes }
     requires periods { ArePeriods graph.now periods.now }
     ensures { IsNodeSet graph.now (SomeRounds (HasBit periods.now.period) sum) result }
 {
@@ -78,8 +79,8 @@ pub fn some_rounds(graph: &Graph, periods: &Periods, sum: u8) -> u16
 /// The least number of periods that lead nowhere from a set of nodes; `None` where 16 lead somewhere.
 pub fn least_closed(graph: &Graph, periods: &Periods, set: u16) -> Option<u8>
     requires periods { ArePeriods graph.now periods.now }
-    ensures few { IfSome result (λ n. n ≤ 16) }
-    ensures first { MatchOption result (Meets graph.now (Open (HasBit periods.now.period) 16) set)
+    ensures few { IfSome result (λ n. n ≤ most_nodes) }
+    ensures first { MatchOption result (Meets graph.now (Open (HasBit periods.now.period) most_nodes) set)
         (IsFirst (λ n. ¬ Meets graph.now (Open (HasBit periods.now.period) n) set)) }
 {
     for n in 0..17 {
@@ -93,8 +94,8 @@ pub fn least_closed(graph: &Graph, periods: &Periods, set: u16) -> Option<u8>
 /// The least sum with which `some_rounds` meets a set of nodes, where some sum up to 16 does.
 pub fn least_sum(graph: &Graph, periods: &Periods, set: u16) -> u8
     requires periods { ArePeriods graph.now periods.now }
-    requires some { (sum : ℕ) × (sum ≤ 16) × Meets graph.now (SomeRounds (HasBit periods.now.period) sum) set }
-    ensures few { result ≤ 16 }
+    requires some { (sum : ℕ) × (sum ≤ most_nodes) × Meets graph.now (SomeRounds (HasBit periods.now.period) sum) set }
+    ensures few { result ≤ most_nodes }
     ensures first { IsFirst (λ sum. Meets graph.now (SomeRounds (HasBit periods.now.period) sum) set) result }
 {
     for sum in 0..17 {
@@ -107,7 +108,7 @@ pub fn least_sum(graph: &Graph, periods: &Periods, set: u16) -> u8
 
 /// The least n with which `rounds` of this sum meets a set of nodes, where some n does.
 pub fn least_first(graph: &Graph, periods: &Periods, sum: u8, set: u16) -> u8
-    requires few { sum ≤ 16 }
+    requires few { sum ≤ most_nodes }
     requires periods { ArePeriods graph.now periods.now }
     requires some { (n : ℕ) × (n < sum) × Meets graph.now (Rounds (HasBit periods.now.period) n (sum - n)) set }
     ensures below { result < sum }

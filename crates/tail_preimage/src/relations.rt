@@ -1,7 +1,7 @@
 //! Relations between nodes, and the sets of nodes that they make.
 
 ghost use Rattle.std.specs.Prelude.{◌≡◌, ◌+◌, ◌<◌, ◌≤◌, ℕ, [], get_or, IsBitSet};
-ghost use Rattle.word_image.specs.LocalRules.{IsRule, IsWord, node_count};
+ghost use Rattle.word_image.specs.LocalRules.{IsRule, IsWord, node_count, most_nodes};
 ghost use Rattle.word_image.specs.Graphs.{IsNodeSet, AreSets, HasBit};
 ghost use Rattle.word_image.specs.Edges.{IsEdge};
 ghost use Rattle.word_image.specs.declared.side.Side.TheVariants.{Right};
@@ -100,7 +100,7 @@ pub fn relation(graph: &Graph, word: &[u8]) -> Relation
 /// The relations of 0 to 16 steps.
 pub fn powers(graph: &Graph, step: &Relation) -> [Relation; MOST_NODES + 1]
     requires { AreSets graph.now step.now }
-    ensures { (n : ℕ) → n ≤ 16 → IsRelation graph.now (Steps (HasBit step.now) n) (get_or result n []) }
+    ensures { (n : ℕ) → n ≤ most_nodes → IsRelation graph.now (Steps (HasBit step.now) n) (get_or result n []) }
 {
     let mut all = [identity(graph); MOST_NODES + 1];
     for n in 0..MOST_NODES {

@@ -1,6 +1,7 @@
 //! The first shape that a placed configuration can have.
 
 ghost use Rattle.std.specs.Prelude.{◌≡◌};
+ghost use Rattle.word_image.specs.LocalRules.{most_nodes};
 ghost use Rattle.tail_config.specs.Tails.{IsTail};
 ghost use Rattle.tail_preimage.specs.Parts.{AreTailParts, HaveParts, PassesThrough, IsFirstShape, shape_of};
 
@@ -51,7 +52,7 @@ pub fn parts_of(graph: &Graph, tail: &Tail) -> Parts
 /// The first possible shape, where 16 periods on either side lead through.
 pub fn first_shape(graph: &Graph, parts: &Parts) -> Spans
     requires parts { HaveParts graph.now parts.now }
-    requires some { PassesThrough graph.now parts.now 16 16 }
+    requires some { PassesThrough graph.now parts.now most_nodes most_nodes }
     ensures { IsFirstShape graph.now parts.now (shape_of result) }
 {
     let rears = before(

@@ -17,6 +17,7 @@ pub mod LastNodes
 pub mod LastSets
 pub mod RuleFaults
 pub mod RulesBy
+pub mod WordsBy
 pub mod Searches
 pub mod SameRules
 pub mod Weights

@@ -1,6 +1,6 @@
 -- The edges of the de Bruijn graph, read along them to the right and against them to the left, as sets in which node v is bit v.
 use Rattle.std.specs.Prelude.{◌≡◌, ◌<◌, ◌≤◌, ℕ, List, [], slice_index, slice_index_or, IsBitSet}
-use Rattle.word_image.specs.LocalRules.{LocalRule, node_count}
+use Rattle.word_image.specs.LocalRules.{LocalRule, node_count, most_states, most_nodes}
 use Rattle.word_image.specs.Graphs.{IsNodeSet}
 use Rattle.word_image.specs.Ends.{label_at, end_at}
 use Rattle.word_image.specs.declared.side.Side.{Side}
@@ -24,5 +24,5 @@ ends_at rows label u = slice_index (slice_index_or rows label []) u
 
 -- the rows have the ends of all edges, label by label and node by node, and nothing past the nodes
 pub record AreEdgeRows (side : Side) (r : LocalRule) (rows : List (List ℕ)) : Type 0 where
-  pub ends : (label u : ℕ) → label < 16 → u < node_count r → IsEnds side r u label (ends_at rows label u)
-  pub past : (label u : ℕ) → label < 16 → u < 16 → node_count r ≤ u → ends_at rows label u ≡ 0
+  pub ends : (label u : ℕ) → label < most_states → u < node_count r → IsEnds side r u label (ends_at rows label u)
+  pub past : (label u : ℕ) → label < most_states → u < most_nodes → node_count r ≤ u → ends_at rows label u ≡ 0

@@ -15,6 +15,7 @@ pub mod Sides
 pub mod Edges
 pub mod RuleFaults
 pub mod RulesBy
+pub mod WordsBy
 pub mod ImageFaults
 pub mod RingFaults
 pub mod Families

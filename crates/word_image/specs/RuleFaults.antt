@@ -1,15 +1,16 @@
 -- Which of the limits of an accepted rule is the first to be broken.
 use Rattle.std.specs.Prelude.{ℕ, ◌-◌, ◌^◌, List, length, Option, Some, None, nat_lt, nat_le, ◌==◌, ◌||◌, not, if◌then◌else◌, ℤ, pos, negsuc, ◌+ℤ◌, int_lt, position}
 use Rattle.std.specs.Option.{option_map, option_or}
+use Rattle.word_image.specs.LocalRules.{most_states, most_width, most_nodes}
 use Rattle.word_image.specs.declared.local_rule.RuleFault.{RuleFault}
 use Rattle.word_image.specs.declared.local_rule.RuleFault.TheVariants.{States, Width, Nodes, Offset, Length, Letter}
 
 -- of k states, width m and offset o
 abbrev pub shape_fault : ℕ → ℕ → ℤ → Option RuleFault
 shape_fault k m o =
-    if nat_lt k 2 || nat_lt 16 k then Some States
-    else (if nat_lt m 2 || nat_lt 5 m then Some Width
-    else (if nat_lt 16 (k ^ (m - 1)) then Some Nodes
+    if nat_lt k 2 || nat_lt most_states k then Some States
+    else (if nat_lt m 2 || nat_lt most_width m then Some Width
+    else (if nat_lt most_nodes (k ^ (m - 1)) then Some Nodes
     else (if int_lt o (negsuc 15) || int_lt (pos 16) (o +ℤ pos (m - 1)) then Some Offset
     else None)))
 

@@ -1,7 +1,7 @@
 //! The edges of the de Bruijn graph as rows of sets of nodes, and steps of sets along them.
 
 ghost use Rattle.std.specs.Prelude.{◌≡◌, ◌^◌, ◌<◌, ◌≤◌, ℕ, List, [], ◌∷◌, ◌++◌, length, slice_index, slice_index_or, IsBitSet};
-ghost use Rattle.word_image.specs.LocalRules.{IsRule};
+ghost use Rattle.word_image.specs.LocalRules.{IsRule, most_states, most_nodes};
 ghost use Rattle.word_image.specs.Graphs.{IsSetOf, HasBit};
 ghost use Rattle.word_image.specs.Ranks.{IsLastSet};
 ghost use Rattle.word_image.specs.Edges.{AreEdgeRows, IsStep};
@@ -17,8 +17,8 @@ pub type EdgeRows = [[u16; MOST_NODES]; MOST_STATES];
 /// them to the left.
 pub fn edge_rows(rule: &Rule, side: Side) -> EdgeRows
     ensures edges { AreEdgeRows side rule.now result }
-    ensures tall { length result ≡ 16 }
-    ensures wide { (label : ℕ) → label < 16 → length (slice_index_or result label []) ≡ 16 }
+    ensures tall { length result ≡ most_states }
+    ensures wide { (label : ℕ) → label < most_states → length (slice_index_or result label []) ≡ most_nodes }
     ensures rule { IsRule rule.now }
 {
     let mut ends = [[0; MOST_NODES]; MOST_STATES];
@@ -46,7 +46,7 @@ pub fn step(rule: &Rule, edges: &EdgeRows, set: u16, a: u8) -> u16
 
 /// Of so many nodes those to which a node of the set is related, where row u is the set of those to which node u is.
 pub fn after(nodes: u8, rows: &[u16; MOST_NODES], set: u16) -> u16
-    requires few { nodes ≤ 16 }
+    requires few { nodes ≤ most_nodes }
     requires within { (u : ℕ) → u < nodes → slice_index rows.now u < 2 ^ nodes }
     ensures { IsSetOf nodes (λ v. (u : ℕ) × (u < nodes) × (IsBitSet set u × HasBit rows.now u v)) result }
 {

@@ -1,13 +1,13 @@
 //! Letters and words, and how they are written.
 ghost use Rattle.std.specs.Prelude.{◌≡◌, ◌<◌, map, IfOk};
-ghost use Rattle.word_image.specs.LocalRules.{IsWord};
+ghost use Rattle.word_image.specs.LocalRules.{IsWord, most_states};
 ghost use Rattle.word_image.specs.Digits.{lower_digit, hex_value, letter_at, word_text};
 
 use std::alloc::{AllocError, Global};
 
 /// The ASCII byte of the lower-case hexadecimal digit of a letter below 16.
 pub fn digit(letter: u8) -> u8
-    requires { letter < 16 }
+    requires { letter < most_states }
     ensures { result ≡ lower_digit letter }
 {
     if letter < 10 {
@@ -43,7 +43,7 @@ pub fn text_word(alloc: Global, digits: &[u8]) -> Result<Vec<u8>, AllocError>
 /// The text of a word: the lower-case digit of each letter, which is below 16. The only error is
 /// want of memory.
 pub fn word_text(alloc: Global, word: &[u8]) -> Result<Vec<u8>, AllocError>
-    requires { IsWord 16 word.now }
+    requires { IsWord most_states word.now }
     ensures { IfOk result (λ text. text.items ≡ word_text word.now) }
 {
     let mut text = Vec::with_capacity(alloc, word.len())?;

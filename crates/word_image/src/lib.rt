@@ -27,6 +27,7 @@ mod local_rule;
 mod pairs;
 mod rings;
 mod side;
+mod values;
 mod weights;
 
 pub use edges::{EdgeRows, after, edge_rows, step};
@@ -39,6 +40,7 @@ pub use local_rule::{
 };
 pub use rings::{RingFault, keeps_sum, ring_apply, ring_image};
 pub use side::Side;
+pub use values::{letter_of, value_by};
 pub use weights::{WeightFault, Weights};
 
 #[cfg(test)]

@@ -3,11 +3,12 @@ ghost use Rattle.std.specs.Prelude.{◌≡◌, ℕ, ◌-◌, ◌^◌, ◌<◌, �
 ghost use Rattle.std.specs.Cmp.Rules.{comparing};
 ghost use Rattle.std.proofs.Common.{rules};
 ghost use Rattle.std.specs.Result.{result_err};
-ghost use Rattle.word_image.specs.LocalRules.{IsShape, IsWord, value, word_of};
+ghost use Rattle.word_image.specs.LocalRules.{IsShape, IsWord, value, word_of, most_windows};
 ghost use Rattle.word_image.specs.SameRules.{same_rule};
 ghost use Rattle.word_image.specs.RuleFaults.{shape_fault, table_fault};
 ghost use Rattle.word_image.specs.Storage.{padded};
 
+use crate::values::{letter_of, value_by};
 use std::marker::Model;
 
 /// The most states of an accepted rule.
@@ -60,7 +61,7 @@ pub struct Rule {
 impl Model for Rule {
     ghost use Rattle.std.specs.Prelude.{◌≡◌, ◌^◌, ◌-◌, length, take, drop, replicate};
     ghost use Rattle.std.proofs.Common.{sym};
-    ghost use Rattle.word_image.specs.LocalRules.{LocalRule, IsRule, node_count};
+    ghost use Rattle.word_image.specs.LocalRules.{LocalRule, IsRule, node_count, most_windows};
     ghost use Rattle.word_image.specs.Storage.{padded, in_row-take};
 
     ghost Value = { LocalRule };
@@ -68,7 +69,7 @@ impl Model for Rule {
     ghost view = { λ r. record { states = r.k; width = r.m; offset = r.o; table = take (r.k ^ r.m) r.entries } };
 
     ghost invariant = { λ r. IsRule (record { states = r.k; width = r.m; offset = r.o; table = take (r.k ^ r.m) r.entries })
-        × (drop (r.k ^ r.m) r.entries ≡ replicate (256 - r.k ^ r.m) 0) × (r.nodes ≡ r.k ^ (r.m - 1)) };
+        × (drop (r.k ^ r.m) r.entries ≡ replicate (most_windows - r.k ^ r.m) 0) × (r.nodes ≡ r.k ^ (r.m - 1)) };
 
     ghost inverse = { λ v. record { k = v.states; m = v.width; o = v.offset; nodes = node_count v; entries = padded v.table } };
 
@@ -77,7 +78,7 @@ impl Model for Rule {
       m = r.m;
       o = r.o;
       nodes = sym h.2 i;
-      entries = in_row-take 256 (r.k ^ r.m) r.entries h.0.entries h.1 i;
+      entries = in_row-take most_windows (r.k ^ r.m) r.entries h.0.entries h.1 i;
     } };
 }
 
@@ -123,6 +124,13 @@ impl Rule {
             nodes: node_count(k, m),
             entries,
         }
+    }
+
+    /// Says only that the rule keeps the limits: nothing is done.
+    pub fn keeps_limits(&self)
+        ensures { IsRule self.now }
+    {
+        let _ = &self.k;
     }
 
     /// The number of states k, from 2 to 16.
@@ -187,8 +195,7 @@ impl Rule {
         requires place { place < self.now.width - 1 }
         ensures letter { result ≡ node_letter self.now node place }
     {
-        let after = self.m() - 2 - place;
-        node / self.k().pow(u32::from(after)) % self.k()
+        letter_of(self.k(), self.m() - 1, u16::from(node), place)
     }
 
     /// The letter that the rule gives on a window of m letters below k.
@@ -244,7 +251,7 @@ impl Eq for Rule {
 
 /// The letters of a table, and zeros after them.
 fn in_memory(table: &[u8]) -> [u8; MOST_ENTRIES]
-    requires { length table.now ≤ 256 }
+    requires { length table.now ≤ most_windows }
     ensures { result ≡ padded table.now }
 {
     let mut entries = [0; MOST_ENTRIES];
@@ -265,13 +272,13 @@ fn node_count(k: u8, m: u8) -> u8
 pub fn check_shape(k: u8, m: u8, o: i8) -> Result<(), RuleFault>
     ensures { result_err result ≡ shape_fault k m o }
 {
-    if k < 2 || k > 16 {
+    if k < 2 || k > MOST_STATES as u8 {
         return Err(RuleFault::States);
     }
-    if m < 2 || m > 5 {
+    if m < 2 || m > MOST_WIDTH as u8 {
         return Err(RuleFault::Width);
     }
-    if u32::from(k).pow(u32::from(m - 1)) > 16 {
+    if u32::from(k).pow(u32::from(m - 1)) > MOST_NODES as u32 {
         return Err(RuleFault::Nodes);
     }
     let last = i16::from(o) + i16::from(m) - 1;
@@ -283,7 +290,7 @@ pub fn check_shape(k: u8, m: u8, o: i8) -> Result<(), RuleFault>
 
 /// The first fault of a table, for a shape that is accepted.
 fn check_table(k: u8, m: u8, table: &[u8]) -> Result<(), RuleFault>
-    requires { k ^ m ≤ 256 }
+    requires { k ^ m ≤ most_windows }
     ensures { result_err result ≡ table_fault k m table.now }
 {
     if table.len() != usize::from(k).pow(u32::from(m)) {
@@ -306,7 +313,7 @@ pub fn first_foreign(k: u8, word: &[u8]) -> Option<usize>
 /// The value of a window of letters below k, short enough for its value to fit.
 fn value_of(k: u8, window: &[u8]) -> u16
     requires word { IsWord k window.now }
-    requires fits { k ^ length window.now ≤ 256 }
+    requires fits { k ^ length window.now ≤ most_windows }
     ensures { result ≡ value k window.now }
 {
     let mut value = 0;
@@ -319,17 +326,10 @@ fn value_of(k: u8, window: &[u8]) -> u16
 /// The value of a window, read backwards.
 fn backwards(k: u8, m: u8, window: u16) -> u16
     requires states { 0 < k }
-    requires fits { k ^ m ≤ 256 }
+    requires fits { k ^ m ≤ most_windows }
     requires window { window < k ^ m }
     ensures value { result ≡ value k (reverse (word_of k m window)) }
     ensures below { result < k ^ m }
 {
-    let k = u16::from(k);
-    let mut left = window;
-    let mut read = 0;
-    for _ in 0..m {
-        read = read * k + left % k;
-        left /= k;
-    }
-    read
+    value_by(k, m, |place| letter_of(k, m, window, m - 1 - place))
 }

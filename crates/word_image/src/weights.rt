@@ -1,5 +1,6 @@
 //! What each letter weighs.
 ghost use Rattle.std.specs.Prelude.{◌≡◌, ◌<◌, ◌≤◌, ◌↔◌, length, slice_index, IfOk, IsOk, IsTrue};
+ghost use Rattle.word_image.specs.LocalRules.{most_states};
 ghost use Rattle.word_image.specs.Weights.{own_weights};
 
 use crate::local_rule::MOST_STATES;
@@ -23,19 +24,20 @@ pub struct Weights {
 
 impl Model for Weights {
     ghost use Rattle.std.specs.Prelude.{◌≡◌, ◌≤◌, ◌-◌, ℕ, List, length, take, drop, replicate};
+    ghost use Rattle.word_image.specs.LocalRules.{most_states};
     ghost use Rattle.word_image.specs.Storage.{in_row, in_row-take};
 
     ghost Value = { List ℕ };
 
     ghost view = { λ w. take w.k w.numbers };
 
-    ghost invariant = { λ w. (2 ≤ w.k) × (w.k ≤ 16) × (length (take w.k w.numbers) ≡ w.k) × (drop w.k w.numbers ≡ replicate (16 - w.k) 0) };
+    ghost invariant = { λ w. (2 ≤ w.k) × (w.k ≤ most_states) × (length (take w.k w.numbers) ≡ w.k) × (drop w.k w.numbers ≡ replicate (most_states - w.k) 0) };
 
-    ghost inverse = { λ v. record { k = length v; numbers = in_row 16 v } };
+    ghost inverse = { λ v. record { k = length v; numbers = in_row most_states v } };
 
     ghost inverse_ok = { λ w h i. record {
       k = h.2 i;
-      numbers = in_row-take 16 w.k w.numbers h.2 h.3 i;
+      numbers = in_row-take most_states w.k w.numbers h.2 h.3 i;
     } };
 }
 
@@ -43,7 +45,7 @@ impl Weights {
     /// The weights of this list, exactly where it has one for each of k letters.
     pub fn new(k: u8, list: &[u8]) -> Result<Weights, WeightFault>
         requires least { 2 ≤ k }
-        requires most { k ≤ 16 }
+        requires most { k ≤ most_states }
         ensures weights { IfOk result (λ w. w ≡ list.now) }
         ensures accepted { IsOk result ↔ (length list.now ≡ k) }
     {
@@ -58,7 +60,7 @@ impl Weights {
     /// Each letter weighs its own value.
     pub fn own(k: u8) -> Weights
         requires least { 2 ≤ k }
-        requires most { k ≤ 16 }
+        requires most { k ≤ most_states }
         ensures weights { result ≡ own_weights k }
         ensures letters { length result ≡ k }
     {
@@ -73,7 +75,7 @@ impl Weights {
     pub fn k(&self) -> u8
         ensures states { result ≡ length self.now }
         ensures least { 2 ≤ result }
-        ensures most { result ≤ 16 }
+        ensures most { result ≤ most_states }
     {
         self.k
     }

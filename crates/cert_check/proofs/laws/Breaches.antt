@@ -1,7 +1,6 @@
 -- A breach of a condition says that the condition isn't met, and a certificate has at most one first breach.
-use Rattle.std.proofs.Common.{◌≡◌, ◌≢◌, sym, ap, subst, List, [], ◌∷◌, ◌++◌, length, take, drop, get_or, slice_index, ℕ, zero, suc, ◌+◌, ◌<◌, ◌^◌, ◌≤◌, Some, Contains, arith}
-use Rattle.std.specs.Prelude.{All, slice_get}
-use Rattle.std.proofs.lemmas.Option.{none-some, same_Some, slice_get-get_or}
+use Rattle.std.proofs.Common.{◌≡◌, ◌≢◌, sym, subst, List, length, take, drop, get_or, slice_index, ℕ, suc, ◌+◌, ◌<◌, ◌^◌, ◌≤◌, Contains, arith, All}
+use Rattle.std.proofs.lemmas.Option.{slice_get-get_or}
 use Rattle.std.proofs.lemmas.List.{take_more}
 use Rattle.std.proofs.lemmas.List.Elements.{All-push}
 use Rattle.word_image.specs.LocalRules.{LocalRule, word_of}
@@ -9,6 +8,7 @@ use Rattle.word_image.specs.Rings.{ring_image}
 use Rattle.word_image.specs.Graphs.{full_set, first_of, second_of, pair_count}
 use Rattle.word_image.specs.declared.side.Side.TheVariants as side
 use Rattle.word_image.specs.FirstPairs.{IsFirstOf}
+use Rattle.word_image.proofs.laws.Places.{slice_get-cut}
 use Rattle.tail_config.specs.Tails.{TailConfig, Different, ShareImage}
 use Rattle.cert_format.specs.Certificates.{Certificate}
 use Rattle.cert_check.specs.declared.conditions.Condition.{Condition}
@@ -70,19 +70,13 @@ breach_fails {c} (NoRing p same other) h = other (subst (λ e. OfRing e (IsLossy
 pub unmet_fails : {c : Certificate} {f : Refusal} → IsFirstUnmet c f → ¬ MeetsConditions c
 unmet_fails h meets = breach_fails h.breach (meets h.unmet)
 
--- a list is what stands before a place, the element there and what stands after it
-cut_at : {A : Type 0} (xs : List A) (i : ℕ) (x : A) → slice_get xs i ≡ Some x → xs ≡ take i xs ++ x ∷ drop (suc i) xs
-cut_at [] i x e = absurd (none-some x e)
-cut_at (y ∷ xs) zero x e = ap (λ z. z ∷ xs) (same_Some y x e)
-cut_at (y ∷ xs) (suc i) x e = ap (λ l. y ∷ l) (cut_at xs i x e)
-
 -- where the conditions before a place are met, a breach of the one there is the first
 pub IsFirstUnmet-at : {c : Certificate} {f : Refusal} (i : ℕ) (d : Condition) → i < length conditions → All (Holds c) (take i conditions) → IsBreach c (get_or conditions i d) f → IsFirstUnmet c f
 IsFirstUnmet-at i d inside before breach =
     let one = get_or conditions i d in
     record {
       unmet = one;
-      first = record { before = take i conditions; after = drop (suc i) conditions; list = cut_at conditions i one (slice_get-get_or conditions i d inside); earlier = before; fails = breach_fails breach };
+      first = record { before = take i conditions; after = drop (suc i) conditions; list = slice_get-cut conditions i one (slice_get-get_or conditions i d inside); earlier = before; fails = breach_fails breach };
       breach = breach;
     }
 

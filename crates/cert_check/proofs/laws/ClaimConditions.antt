@@ -1,15 +1,14 @@
 -- What claims of ranks say of windows and look-aheads, and so of injectivity and of closing on either side; what twins and splits say against them.
-use Rattle.std.proofs.Common.{◌≡◌, ◌≢◌, ℕ, ◌≤◌, List, length, Option, refl, arith}
+use Rattle.std.proofs.Common.{◌≡◌, ◌≢◌, ℕ, ◌≤◌, List, length, Option, refl, arith, ◌↔◌, IsTrue}
 use Rattle.std.proofs.lemmas.Bool.{false≢true}
-use Rattle.std.specs.Prelude.{◌↔◌, IsTrue}
 use Rattle.word_image.specs.LocalRules.{LocalRule, IsRule, IsWord}
 use Rattle.word_image.specs.Rings.{ring_image, IsTwins}
 use Rattle.word_image.specs.Windows.{IsDetermined, IsRightAhead}
 use Rattle.word_image.specs.Graphs.{pair_count}
 use Rattle.word_image.specs.FirstPairs.{IsFirstOfRight, IsFirstOfLeft, IsFirstOf}
+use Rattle.word_image.specs.Sides.{seen_from}
 use Rattle.word_image.specs.declared.side.Side.{Side}
 use Rattle.word_image.specs.declared.side.Side.TheVariants.{Right, Left}
-use Rattle.word_image.specs.Sides.{seen_from}
 use Rattle.pair_laws.proofs.Evidence.{IsDetermined-claims, ahead-claims}
 use Rattle.tail_config.specs.Tails.{TailConfig, Different, ShareImage, AgreeLeft, AgreeRight, IsInjective, IsRightSplit, IsRightClosing, IsLeftClosing}
 use Rattle.tail_config.specs.LeftSplits.{IsLeftSplit}

@@ -6,9 +6,9 @@ use Rattle.word_image.specs.Words.{IsSurjective, IsOrphan}
 use Rattle.word_image.specs.Rings.{IsTwins, IsFlux, IsLossyRing}
 use Rattle.word_image.specs.Windows.{IsDetermined, IsRightAhead}
 use Rattle.word_image.specs.Graphs.{full_set, pair_count}
+use Rattle.word_image.specs.Sides.{seen_from}
 use Rattle.word_image.specs.declared.side.Side.{Side}
 use Rattle.word_image.specs.declared.side.Side.TheVariants.{Right, Left}
-use Rattle.word_image.specs.Sides.{seen_from}
 use Rattle.word_image.specs.FirstPairs.{IsFirstOf}
 use Rattle.word_image.specs.Ranks.{IsLastSet}
 use Rattle.word_image.proofs.laws.LastSets.{IsLastSet-full, IsLastSet-step, IsOrphan-empty_set, IsOrphan-not_surjective}

@@ -1,6 +1,5 @@
 -- What reading bytes says of their acceptance and refusal.
-use Rattle.std.proofs.Common.{◌≡◌, ℕ, List, ◌⊎◌, Ok, Err, ap, ◌∙◌, subst, ⊎_elim}
-use Rattle.std.specs.Prelude.{Result, alloc_error}
+use Rattle.std.proofs.Common.{◌≡◌, ℕ, List, ◌⊎◌, Ok, Err, ap, ◌∙◌, subst, ⊎_elim, Result, alloc_error}
 use Rattle.cert_format.specs.Certificates.{Certificate}
 use Rattle.cert_format.specs.CertificateTexts.{IsCertificateText}
 use Rattle.cert_format.specs.ShapeFaults.{IsShapeFault}

@@ -1,6 +1,5 @@
 -- What the judge accepts is true: each verdict of a certificate that meets the conditions, a yes and a no alike.
-use Rattle.std.proofs.Common.{Bool, true, false, refl, sym, subst}
-use Rattle.std.specs.Prelude.{List, ℕ, slice_index, ◌↔◌, ◌&&◌, IsTrue}
+use Rattle.std.proofs.Common.{Bool, true, false, refl, sym, subst, List, ℕ, slice_index, ◌↔◌, ◌&&◌, IsTrue}
 use Rattle.std.proofs.lemmas.Bool.{false≢true}
 use Rattle.rule_text.proofs.laws.AcceptedRules.{IsRule-text}
 use Rattle.cert_format.specs.Certificates.{Certificate}

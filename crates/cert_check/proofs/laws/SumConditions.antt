@@ -1,6 +1,5 @@
 -- What a flux and a lossy ring say of conservation, and what says so of every rule (Hattori and Takesue 1991).
-use Rattle.std.proofs.Common.{◌≡◌, ℕ, ◌^◌, List, length, refl}
-use Rattle.std.specs.Prelude.{ℤ, ◌↔◌, IsTrue}
+use Rattle.std.proofs.Common.{◌≡◌, ℕ, ◌^◌, List, length, refl, ℤ, ◌↔◌, IsTrue}
 use Rattle.std.proofs.lemmas.Bool.{false≢true}
 use Rattle.word_image.specs.LocalRules.{LocalRule, IsRule, IsWord, word_of, node_count}
 use Rattle.word_image.specs.Rings.{IsFlux, IsLossyRing, IsConserving}

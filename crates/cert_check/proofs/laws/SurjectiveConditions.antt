@@ -1,6 +1,5 @@
 -- What is said of surjectivity by listed sets, listed pairs or an orphan is true where its conditions are met.
-use Rattle.std.proofs.Common.{◌≢◌, length, slice_index, Contains, refl}
-use Rattle.std.specs.Prelude.{◌↔◌, IsTrue}
+use Rattle.std.proofs.Common.{◌≢◌, length, slice_index, Contains, refl, ◌↔◌, IsTrue}
 use Rattle.std.proofs.lemmas.Bool.{false≢true}
 use Rattle.word_image.specs.LocalRules.{LocalRule, IsRule}
 use Rattle.word_image.specs.Words.{IsSurjective}

@@ -1,6 +1,5 @@
 -- Which step of reading a certificate fails.
-use Rattle.std.proofs.Common.{◌≡◌, refl, sym, ◌∙◌, subst, List, ◌∷◌, ◌++◌, ℕ, inl, inr, Result, Ok, Err, Option, Some, None, true, false, is_some}
-use Rattle.std.specs.Prelude.{codes, alloc_error, IsUtf8, IfOk, IfErr}
+use Rattle.std.proofs.Common.{◌≡◌, refl, sym, ◌∙◌, subst, List, ◌∷◌, ◌++◌, ℕ, inl, inr, Result, Ok, Err, Option, Some, None, true, false, is_some, codes, alloc_error, IsUtf8, IfOk, IfErr}
 use Rattle.std.specs.List.{AllByRecursion}
 use Rattle.std.proofs.lemmas.List.Elements.{All-from_recursion}
 use Rattle.std.proofs.lemmas.Option.{none-some}

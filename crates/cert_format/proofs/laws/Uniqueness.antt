@@ -1,6 +1,5 @@
 -- A JSON value says one thing, and bytes are the text of one certificate.
-use Rattle.std.proofs.Common.{◌≡◌, refl, sym, ap, ◌∙◌, subst, subst₂, List, [], ◌∷◌, length, map, ℕ, zero, suc, ℤ, Option, Some, None, slice_index, arith}
-use Rattle.std.specs.Prelude.{codes}
+use Rattle.std.proofs.Common.{◌≡◌, refl, sym, ap, ◌∙◌, subst, subst₂, List, [], ◌∷◌, length, map, ℕ, zero, suc, ℤ, Option, Some, None, slice_index, arith, codes}
 use Rattle.std.specs.List.{AllZip}
 use Rattle.std.proofs.lemmas.Option.{none-some, same_Some}
 use Rattle.serde_json.specs.Data.{Data, null, Members, no_members, member}

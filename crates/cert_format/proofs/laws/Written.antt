@@ -1,6 +1,5 @@
 -- What is written for a certificate within its limits is read back as it.
-use Rattle.std.proofs.Common.{◌≡◌, ℕ, ◌-◌, ◌^◌, ◌<◌, ◌≤◌, List, [], ◌∷◌, codes, map, Option, Some, None, All, nat_cmp, Contains, refl, sym, ap, subst, ⊎_elim, ◌++◌, arith}
-use Rattle.std.specs.Prelude.{ℤ, pos, negsuc, ◌≤ℤ◌, if◌then◌else◌}
+use Rattle.std.proofs.Common.{◌≡◌, ℕ, ◌-◌, ◌^◌, ◌<◌, ◌≤◌, List, [], ◌∷◌, codes, map, Option, Some, None, All, nat_cmp, Contains, refl, sym, ap, subst, ⊎_elim, ◌++◌, arith, ℤ, pos, negsuc, ◌≤ℤ◌, if◌then◌else◌}
 use Rattle.std.specs.List.{AllZip}
 use Rattle.std.specs.Cmp.Lexicographic.{slice_cmp}
 use Rattle.std.proofs.lemmas.Bool.Decides.{nat_tests}

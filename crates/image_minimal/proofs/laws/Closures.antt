@@ -1,6 +1,5 @@
 -- The closure of a set: two words are alike exactly where the sets of their last nodes have one closure.
-use Rattle.std.proofs.Common.{◌≡◌, ℕ, ◌^◌, ◌<◌, ◌↔◌, List, [], ◌∷◌, refl, sym, subst, arith}
-use Rattle.std.proofs.lemmas.Nat.{pow_pos}
+use Rattle.std.proofs.Common.{◌≡◌, ℕ, ◌^◌, ◌<◌, ◌↔◌, List, [], ◌∷◌, refl, sym, subst, arith, pow_pos}
 use Rattle.word_image.specs.LocalRules.{LocalRule, IsRule, node_count}
 use Rattle.word_image.specs.Graphs.{full_set}
 use Rattle.word_image.specs.Edges.{IsStep}

@@ -1,9 +1,7 @@
 -- Images and image cells under the second rule after the first.
-use Rattle.std.proofs.Common.{◌≡◌, None, eq-eqb, ℕ, ◌+◌, ◌-◌, ◌<◌, ◌≤◌, List, length, take, drop, slice_range, ℤ, ◌+ℤ◌, refl, sym, ap, ap₂, subst, ◌∙◌, arith, length-drop}
+use Rattle.std.proofs.Common.{◌≡◌, None, eq-eqb, ℕ, ◌+◌, ◌-◌, ◌<◌, ◌≤◌, List, length, take, drop, slice_range, ℤ, ◌+ℤ◌, refl, sym, ap, ap₂, subst, ◌∙◌, arith, length-drop, not, if◌then◌else◌, Some, length-take-le}
 use Rattle.std.proofs.lemmas.Bool.Decides.{nat_tests}
-use Rattle.std.specs.Prelude.{not, if◌then◌else◌, Some}
 use Rattle.std.proofs.lemmas.Int.{ints}
-use Rattle.std.proofs.lemmas.List.{length-take-le}
 use Rattle.std.proofs.lemmas.List.Elements.{All-take, All-drop}
 use Rattle.word_image.specs.LocalRules.{LocalRule, IsRule, IsShape, IsWord, local_map}
 use Rattle.word_image.specs.Words.{image}
@@ -42,8 +40,6 @@ pub image-composed : {first second : LocalRule} → IsRule first → IsRule seco
     → image (composed first second) x ≡ image second (image first x)
 image-composed {first} {second} before after x word =
     let m : ℕ = first.width + second.width - 1 in
-    let one : 2 ≤ first.width = before.shape.least_width in
-    let two : 2 ≤ second.width = after.shape.least_width in
     let middle : length (image first x) ≡ length x - (first.width - 1) = length-image first x in
     let last : length (image second (image first x)) ≡ length (image first x) - (second.width - 1) = length-image second (image first x) in
     image-by_letters (composed first second) x (image second (image first x)) (omega arith) (λ i l.
@@ -63,7 +59,6 @@ ComposesCells-composed {first} {second} before after = λ t i tail.
     let m : ℕ = first.width + second.width - 1 in
     let j : ℤ = i +ℤ (first.offset +ℤ second.offset) in
     let place : i +ℤ second.offset +ℤ first.offset ≡ j = omega (arith, ints) in
-    let one : 2 ≤ first.width = before.shape.least_width in
     let wide : m ≡ second.width + (first.width - 1) = omega arith in
     local_map-composed first second (cells t j m) (IsWord-run (cell-below tail) j m) (length-run (cell t) j m)
     ∙ ap (λ n. local_map second (image first (cells t j n))) wide
@@ -83,8 +78,6 @@ compose_fault-states first second none = grind (arith, nat_tests)
 pub IsRule-composed_fault : {first second : LocalRule} → IsRule first → IsRule second → compose_fault first second ≡ None → IsRule (composed first second)
 IsRule-composed_fault {first} {second} before after none =
     let same = compose_fault-states first second none in
-    let one : 2 ≤ first.width = before.shape.least_width in
-    let two : 2 ≤ second.width = after.shape.least_width in
     IsRule-composed first second after same
     (IsShape-limit_fault first.states (first.width + second.width - 1) (first.offset +ℤ second.offset) before.shape.least_states before.shape.most_states (omega arith)
     (sym (compose_fault-same first second same) ∙ none))

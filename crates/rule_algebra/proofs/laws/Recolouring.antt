@@ -1,14 +1,12 @@
 -- Words, rules and images in new colours.
-use Rattle.std.proofs.Common.{◌≡◌, ◌≢◌, ℕ, ◌+◌, ◌-◌, ◌/◌, ◌%◌, ◌^◌, ◌<◌, ◌≤◌, List, [], ◌∷◌, length, take, drop, get_or, slice_index, slice_range, set, refl, sym, ap, ap₂, ◌∙◌, ⊎_elim, arith, length-drop}
+use Rattle.std.proofs.Common.{◌≡◌, ◌≢◌, ℕ, ◌+◌, ◌-◌, ◌<◌, ◌≤◌, List, [], ◌∷◌, length, take, drop, get_or, slice_index, slice_range, set, refl, sym, ap, ap₂, ◌∙◌, ⊎_elim, arith, length-drop, length-take-le, get_or-set_same, get_or-set_other, length-set}
 use Rattle.std.proofs.lemmas.Bool.{cases_lt}
-use Rattle.std.proofs.lemmas.List.{length-map, length-take-le, take-map, drop-map, get_or-map, get_or_past, get_or-set_same, get_or-set_other, length-set}
+use Rattle.std.proofs.lemmas.List.{length-map, take-map, drop-map, get_or-map, get_or_past}
 use Rattle.std.proofs.lemmas.List.Elements.{All-map, All-take, All-drop, All-head, All-tail, All-set}
-use Rattle.word_image.specs.LocalRules.{LocalRule, IsRule, IsWord, word_of, local_map}
+use Rattle.word_image.specs.LocalRules.{LocalRule, IsRule, IsWord, local_map}
 use Rattle.word_image.specs.Words.{image}
-use Rattle.word_image.proofs.laws.Values.{value-word_of, length-word_of, IsWord-word_of}
 use Rattle.word_image.proofs.laws.Words.{length-image}
 use Rattle.word_image.proofs.laws.Images.{get_or-image, image-by_letters}
-use Rattle.word_image.proofs.laws.WindowParts.{letter-value}
 use Rattle.rule_algebra.specs.Algebra.{IsRecolouring, IsRecoloured, recoloured}
 use Rattle.rule_algebra.specs.MadeImages.{RecoloursImages}
 use Rattle.rule_algebra.specs.Tables.{AreOldLetters}
@@ -29,12 +27,6 @@ colour-below k colours word some a =
 -- a recoloured word is a word
 pub IsWord-recoloured : (k : ℕ) (colours : List ℕ) → IsWord k colours → 0 < k → (w : List ℕ) → IsWord k (recoloured colours w)
 IsWord-recoloured k colours word some w = All-map (λ a. a < k) (slice_index colours) w (λ i d l. colour-below k colours word some _)
-
--- letter i of the window of a value
-pub get_or-word_of : (k i m v : ℕ) → i < m → v < k ^ m → get_or (word_of k m v) i 0 ≡ v / k ^ (m - 1 - i) % k
-get_or-word_of k i m v l below =
-    sym (letter-value k (word_of k m v) i (m - 1 - i) (IsWord-word_of k m v below) (omega (arith, length-word_of k m v)))
-    ∙ ap (λ x. x / k ^ (m - 1 - i) % k) (value-word_of k m v below)
 
 -- one more letter
 pub AreOldLetters-more : {k n : ℕ} {colours letters : List ℕ} → k ≤ 16 → IsRecolouring k colours → n < k → AreOldLetters k colours n letters
@@ -93,7 +85,6 @@ pub RecoloursImages-recoloured : {r g : LocalRule} {colours : List ℕ} → IsRu
 RecoloursImages-recoloured {r} {g} {colours} rule new = λ x word.
     let y : List ℕ = recoloured colours x in
     let shape = new.width in
-    let wide : 2 ≤ r.width = rule.shape.least_width in
     let here : length y ≡ length x = length-map x (slice_index colours) in
     let letters : length (recoloured colours (image r x)) ≡ length (image r x) = length-map (image r x) (slice_index colours) in
     let old : length (image r x) ≡ length x - (r.width - 1) = length-image r x in

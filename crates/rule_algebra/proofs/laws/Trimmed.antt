@@ -1,9 +1,9 @@
 -- Last cells are the first cells of the mirrored rule, and a trimmed rule is twice without its first cells.
-use Rattle.std.proofs.Common.{◌≡◌, ℕ, ◌+◌, ◌-◌, ◌<◌, ◌≤◌, List, ◌++◌, length, take, drop, reverse, replicate, sym, ap, ap₂, subst, ◌∙◌, arith, length-append, length-drop, ℤ, pos, negsuc, ◌+ℤ◌, neg_ℤ}
+use Rattle.std.proofs.Common.{◌≡◌, ℕ, ◌+◌, ◌-◌, ◌<◌, ◌≤◌, List, ◌++◌, length, take, drop, reverse, replicate, sym, ap, ap₂, subst, ◌∙◌, arith, length-drop, ℤ, pos, negsuc, ◌+ℤ◌, neg_ℤ}
 use Rattle.std.proofs.Math.Seq.{take-append-add}
 use Rattle.std.proofs.lemmas.Int.{ints}
 use Rattle.std.proofs.lemmas.List.{length-reverse, length-replicate, reverse-reverse, drop-take}
-use Rattle.std.proofs.lemmas.List.Elements.{All-drop, All-append, All-replicate}
+use Rattle.std.proofs.lemmas.List.Elements.{All-drop}
 use Rattle.word_image.specs.LocalRules.{LocalRule, IsRule, IsWord, local_map, mirrored}
 use Rattle.word_image.proofs.laws.Images.{IsWord-reverse, local_map-mirrored}
 use Rattle.word_image.proofs.laws.Lists.{reverse-cut}
@@ -14,7 +14,7 @@ use Rattle.tail_config.proofs.laws.Cells.{cell-below}
 use Rattle.tail_config.proofs.laws.Mirror.{IsTail-mirror, cell-mirror, image_of-backwards}
 use Rattle.rule_algebra.specs.Algebra.{KeepsImages, Ignores, IsTrimmed}
 use Rattle.rule_algebra.specs.Tables.{IsRest, DropsFirsts}
-use Rattle.rule_algebra.proofs.laws.Trimming.{Ignores-firsts, firsts_ignored, Ignores-rest, rest_letters, KeepsImages-rest}
+use Rattle.rule_algebra.proofs.laws.Trimming.{Ignores-firsts, firsts_ignored, Ignores-rest, behind_zeros, rest_letters, KeepsImages-rest}
 
 -- mirrored twice, a configuration is itself
 mirror_of-mirror_of : (t : TailConfig) → mirror_of (mirror_of t) ≡ t
@@ -66,17 +66,15 @@ lasts-rest {r} {g} {n} rest e h ignored = λ v w hv hw lv lw same.
 -- and the other way round
 rest-lasts : {r g : LocalRule} {n : ℕ} → IsRule r → IsRest r n g → (e : ℕ) → e ≤ g.width → Ignores r 0 e → Ignores g 0 e
 rest-lasts {r} {g} {n} rule rest e h ignored = λ v w hv hw lv lw same.
-    let some : 0 < r.states = omega (arith, rule.shape.least_states) in
     let zeros : List ℕ = replicate n 0 in
     let fore : length zeros ≡ n = length-replicate n 0 in
-    let word : (x : List ℕ) → IsWord g.states x → IsWord r.states x = λ x letters. subst (λ k. IsWord k x) rest.states letters in
-    let letters : (x : List ℕ) → IsWord g.states x → IsWord r.states (zeros ++ x) = λ x l. All-append (λ a. a < r.states) zeros x (All-replicate (λ a. a < r.states) n 0 some) (word x l) in
-    let there : (x : List ℕ) → length x ≡ g.width → length (zeros ++ x) ≡ r.width = λ x long. omega (arith, length-append zeros x, rest.width) in
     let place : r.width - e ≡ length zeros + (g.width - e) = omega (arith, rest.width) in
     let kept : (x : List ℕ) → take (r.width - e) (zeros ++ x) ≡ zeros ++ take (g.width - e) x = λ x. ap (λ j. take j (zeros ++ x)) place ∙ take-append-add zeros x (g.width - e) in
-    sym (rest_letters rule rest v (word v hv) lv)
-    ∙ ignored (zeros ++ v) (zeros ++ w) (letters v hv) (letters w hw) (there v lv) (there w lw) (kept v ∙ ap (λ y. zeros ++ y) same ∙ sym (kept w))
-    ∙ rest_letters rule rest w (word w hw) lw
+    let x = behind_zeros rule rest v hv lv in
+    let y = behind_zeros rule rest w hw lw in
+    sym (rest_letters rule rest v hv lv)
+    ∙ ignored (zeros ++ v) (zeros ++ w) x.0 y.0 x.1 y.1 (kept v ∙ ap (λ u. zeros ++ u) same ∙ sym (kept w))
+    ∙ rest_letters rule rest w hw lw
 
 -- without its first cells and then, mirrored, without its first cells again, a rule is trimmed
 pub IsTrimmed-rests : {r s g : LocalRule} → IsRule r → IsRule s → IsRule g → DropsFirsts r s → DropsFirsts (mirrored s) g → IsTrimmed r (mirrored g)

@@ -1,14 +1,15 @@
 -- Cells that a rule ignores, and the rule without them.
-use Rattle.std.proofs.Common.{◌≡◌, ℕ, ◌+◌, ◌-◌, ◌%◌, ◌^◌, ◌<◌, ◌≤◌, List, ◌∷◌, ◌++◌, length, take, drop, replicate, slice_index, refl, sym, ap, subst, ◌∙◌, ⊎_elim, arith, length-append, length-drop, zero-mul, ℤ, pos, ◌+ℤ◌}
+use Rattle.std.proofs.Common.{◌≡◌, ℕ, ◌+◌, ◌-◌, ◌%◌, ◌^◌, ◌<◌, ◌≤◌, List, ◌∷◌, ◌++◌, length, take, drop, replicate, slice_index, refl, sym, ap, subst, ◌∙◌, ⊎_elim, arith, length-append, length-drop, zero-mul, ℤ, pos, ◌+ℤ◌, take_all, length-take-le, drop-drop, get_or-take}
 use Rattle.std.proofs.Math.Nat.{pow-le-pow_right}
 use Rattle.std.proofs.Math.Seq.{drop-append_seam}
 use Rattle.std.proofs.lemmas.Bool.{cases_lt}
 use Rattle.std.proofs.lemmas.Int.{ints}
-use Rattle.std.proofs.lemmas.List.{take_all, length-take-le, length-replicate, drop-drop, get_or-take}
+use Rattle.std.proofs.lemmas.List.{length-replicate}
 use Rattle.std.proofs.lemmas.List.Elements.{All-cons, All-take, All-drop, All-append, All-replicate}
 use Rattle.word_image.specs.LocalRules.{LocalRule, IsRule, IsWord, value, word_of, local_map, node_count}
 use Rattle.word_image.proofs.laws.Values.{value-below, value-word_of, length-word_of, IsWord-word_of}
 use Rattle.word_image.proofs.laws.Graphs.{value-tail}
+use Rattle.word_image.proofs.laws.WindowParts.{some_letter}
 use Rattle.tail_config.specs.Tails.{cells, cell}
 use Rattle.tail_config.proofs.laws.Runs.{length-run, IsWord-run, drop-run}
 use Rattle.tail_config.proofs.laws.Cells.{cell-below}
@@ -55,7 +56,6 @@ value-zero k w = omega (arith, zero-mul (k ^ length w))
 pub first_row : {r : LocalRule} → IsRule r → Ignores r 1 0 → (w : List ℕ) → IsWord r.states w → length w ≡ r.width → slice_index r.table (value r.states (drop 1 w)) ≡ local_map r w
 first_row {r} rule ignored w word long =
     let some : 0 < r.states = omega (arith, rule.shape.least_states) in
-    let wide : 2 ≤ r.width = rule.shape.least_width in
     let z : List ℕ = 0 ∷ drop 1 w in
     let letters : IsWord r.states z = All-cons (λ a. a < r.states) 0 (drop 1 w) some (All-drop (λ a. a < r.states) 1 w word) in
     ap (slice_index r.table) (sym (value-zero r.states (drop 1 w)))
@@ -128,31 +128,32 @@ IsRest-more {r} {g} {n} rest rule wide ignored = record {
 pub Ignores-rest : {r g : LocalRule} {n : ℕ} → IsRest r n g → Ignores r n 0
 Ignores-rest {r} {g} {n} rest = Ignores-firsts r n (λ v w hv hw lv lw e. sym (rest.letters v hv lv) ∙ ap (local_map g) e ∙ rest.letters w hw lw)
 
--- what the rest gives on a word, by any letters before it
-pub rest_letters : {r g : LocalRule} {n : ℕ} → IsRule r → IsRest r n g → (v : List ℕ) → IsWord r.states v → length v ≡ g.width → local_map r (replicate n 0 ++ v) ≡ local_map g v
-rest_letters {r} {g} {n} rule rest v word long =
-    let some : 0 < r.states = omega (arith, rule.shape.least_states) in
+-- zeros before a word of the rest make a word of the rule, of which it is what is left
+pub behind_zeros : {r g : LocalRule} {n : ℕ} → IsRule r → IsRest r n g → (v : List ℕ) → IsWord g.states v → length v ≡ g.width
+    → IsWord r.states (replicate n 0 ++ v) × (length (replicate n 0 ++ v) ≡ r.width) × (drop n (replicate n 0 ++ v) ≡ v)
+behind_zeros {r} {g} {n} rule rest v word long =
     let zeros : List ℕ = replicate n 0 in
     let fore : length zeros ≡ n = length-replicate n 0 in
-    let letters : IsWord r.states (zeros ++ v) = All-append (λ a. a < r.states) zeros v (All-replicate (λ a. a < r.states) n 0 some) word in
-    let there : length (zeros ++ v) ≡ r.width = omega (arith, length-append zeros v, rest.width) in
-    let cut : drop n (zeros ++ v) ≡ v = ap (λ j. drop j (zeros ++ v)) (sym fore) ∙ drop-append_seam zeros v in
-    sym (rest.letters (zeros ++ v) letters there) ∙ ap (local_map g) cut
+    let there : length (zeros ++ v) ≡ r.width = omega (arith, length-append zeros v, rest.width) in (
+      All-append (λ a. a < r.states) zeros v (All-replicate (λ a. a < r.states) n 0 (some_letter rule)) (subst (λ k. IsWord k v) rest.states word),
+      there,
+      ap (λ j. drop j (zeros ++ v)) (sym fore) ∙ drop-append_seam zeros v,
+    )
+
+-- what the rest gives on a word, by zeros before it
+pub rest_letters : {r g : LocalRule} {n : ℕ} → IsRule r → IsRest r n g → (v : List ℕ) → IsWord g.states v → length v ≡ g.width → local_map r (replicate n 0 ++ v) ≡ local_map g v
+rest_letters {r} {g} {n} rule rest v word long =
+    let behind = behind_zeros rule rest v word long in
+    sym (rest.letters (replicate n 0 ++ v) behind.0 behind.1) ∙ ap (local_map g) behind.2
 
 -- a rest that ignores its first cell is no whole rest
 pub Ignores-of_rest : {r g : LocalRule} {n : ℕ} → IsRule r → IsRest r n g → Ignores r (n + 1) 0 → Ignores g 1 0
 Ignores-of_rest {r} {g} {n} rule rest ignored = Ignores-firsts g 1 (λ v w hv hw lv lw e.
-    let some : 0 < r.states = omega (arith, rule.shape.least_states) in
-    let zeros : List ℕ = replicate n 0 in
-    let fore : length zeros ≡ n = length-replicate n 0 in
-    let letters : (x : List ℕ) → IsWord g.states x → IsWord r.states (zeros ++ x) = λ x word.
-    All-append (λ a. a < r.states) zeros x (All-replicate (λ a. a < r.states) n 0 some) (subst (λ k. IsWord k x) rest.states word) in
-    let there : (x : List ℕ) → length x ≡ g.width → length (zeros ++ x) ≡ r.width = λ x long. omega (arith, length-append zeros x, rest.width) in
-    let cut : (x : List ℕ) → drop (n + 1) (zeros ++ x) ≡ drop 1 x = λ x.
-    sym (drop-drop 1 n (zeros ++ x)) ∙ ap (drop 1) (ap (λ j. drop j (zeros ++ x)) (sym fore) ∙ drop-append_seam zeros x) in
-    sym (rest_letters rule rest v (subst (λ k. IsWord k v) rest.states hv) lv)
-    ∙ firsts_ignored r (n + 1) ignored (zeros ++ v) (zeros ++ w) (letters v hv) (letters w hw) (there v lv) (there w lw) (cut v ∙ e ∙ sym (cut w))
-    ∙ rest_letters rule rest w (subst (λ k. IsWord k w) rest.states hw) lw)
+    let x = behind_zeros rule rest v hv lv in
+    let y = behind_zeros rule rest w hw lw in
+    sym (rest_letters rule rest v hv lv)
+    ∙ firsts_ignored r (n + 1) ignored _ _ x.0 y.0 x.1 y.1 (sym (drop-drop 1 n _) ∙ ap (drop 1) x.2 ∙ e ∙ sym (ap (drop 1) y.2) ∙ drop-drop 1 n _)
+    ∙ rest_letters rule rest w hw lw)
 
 -- a rest of which no first cell may be dropped is the rest without all that are ignored
 pub DropsFirsts-rest : {r g : LocalRule} {n : ℕ} → IsRule r → IsRest r n g → ¬ ((2 < g.width) × Ignores g 1 0) → DropsFirsts r g

@@ -1,7 +1,7 @@
 -- The values of the parts of a window.
-use Rattle.std.proofs.Common.{◌≡◌, ℕ, ◌+◌, ◌-◌, ◌/◌, ◌%◌, ◌^◌, ◌<◌, ◌≤◌, List, length, take, drop, get_or, slice_index, slice_range, sym, ap, ap₂, ◌∙◌, arith}
+use Rattle.std.proofs.Common.{◌≡◌, ℕ, ◌+◌, ◌-◌, ◌/◌, ◌%◌, ◌^◌, ◌<◌, ◌≤◌, List, length, take, drop, get_or, slice_index, slice_range, sym, ap, ap₂, ◌∙◌, arith, length-take-le}
 use Rattle.std.proofs.Math.Nat.{pow-le-pow_right}
-use Rattle.std.proofs.lemmas.List.{length-take-le, drop-take}
+use Rattle.std.proofs.lemmas.List.{drop-take}
 use Rattle.std.proofs.lemmas.List.Elements.{All-take}
 use Rattle.word_image.specs.LocalRules.{LocalRule, IsRule, IsWord, value, word_of}
 use Rattle.word_image.specs.Words.{image}
@@ -42,14 +42,12 @@ fewer_values {r} rule i n fits l = let grows : r.states ^ i ≤ r.states ^ n = p
 -- the image of a window of so many letters has n letters
 pub length-image-word_of : {r : LocalRule} → IsRule r → (n v : ℕ) → length (image r (word_of r.states (r.width + n - 1) v)) ≡ n
 length-image-word_of {r} rule n v =
-    let wide : 2 ≤ r.width = rule.shape.least_width in
     omega (arith, length-image r (word_of r.states (r.width + n - 1) v), length-word_of r.states (r.width + n - 1) v)
 
 -- letter i of it
 pub get_or-image-word_of : {r : LocalRule} → IsRule r → (n i v : ℕ) → i < n → v < r.states ^ (r.width + n - 1)
     → slice_index r.table (v / r.states ^ (n - 1 - i) % r.states ^ r.width) ≡ get_or (image r (word_of r.states (r.width + n - 1) v)) i 0
 get_or-image-word_of {r} rule n i v l below =
-    let wide : 2 ≤ r.width = rule.shape.least_width in
     let m : ℕ = r.width + n - 1 in
     let after : n - 1 - i ≡ m - (i + r.width) = omega arith in
     let long : length (word_of r.states m v) ≡ m = length-word_of r.states m v in

@@ -1,7 +1,7 @@
 -- The rules that colourings make are those of the class, and their numbers compare as their entries do.
-use Rattle.std.proofs.Common.{◌≡◌, ℕ, ◌^◌, ◌<◌, List, length, take, get_or, slice_index, Bool, true, false, pos, refl, sym, ap, ◌∙◌, arith}
+use Rattle.std.proofs.Common.{◌≡◌, ℕ, ◌^◌, ◌<◌, List, length, take, get_or, slice_index, Bool, true, false, pos, refl, sym, ap, ◌∙◌, arith, get_or-take, ext_get_or}
 use Rattle.std.proofs.lemmas.Int.{ints}
-use Rattle.std.proofs.lemmas.List.{length-map, get_or-take, get_or_append_left, ext_get_or}
+use Rattle.std.proofs.lemmas.List.{length-map, get_or_append_left}
 use Rattle.std.proofs.lemmas.List.FromFn.{get_or-map-range_with_len}
 use Rattle.word_image.specs.LocalRules.{LocalRule, IsRule, value, word_of, local_map, wolfram_number}
 use Rattle.word_image.proofs.laws.Values.{length-word_of, IsWord-word_of, value-word_of}

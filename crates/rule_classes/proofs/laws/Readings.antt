@@ -1,8 +1,8 @@
 -- A window is read from its last letter on, in the old letters.
-use Rattle.std.proofs.Common.{◌≡◌, ℕ, suc, ◌+◌, ◌-◌, ◌*◌, ◌/◌, ◌%◌, ◌^◌, ◌<◌, ◌≤◌, List, [], ◌∷◌, ◌++◌, length, take, drop, reverse, get_or, slice_index, if◌then◌else◌, Bool, true, false, refl, sym, ap, ap₂, ◌∙◌, subst, arith, length-drop, drop-cons, pow-suc, mod-lt, mod-eq_of_lt}
-use Rattle.std.proofs.Math.Nat.{pow-le-pow_right, pow-zero, one-le-pow, mul-le-mul_right}
-use Rattle.std.proofs.lemmas.Nat.{div-mul-add, mod-mul-add, div-add-mod', div_below}
-use Rattle.std.proofs.lemmas.List.{take_all, length_push, map-append, length-map, length-reverse, get_or-map, reverse-append, drop_all}
+use Rattle.std.proofs.Common.{◌≡◌, ℕ, suc, ◌+◌, ◌-◌, ◌*◌, ◌/◌, ◌%◌, ◌^◌, ◌<◌, ◌≤◌, List, [], ◌∷◌, ◌++◌, length, take, drop, reverse, get_or, slice_index, if◌then◌else◌, Bool, true, false, refl, sym, ap, ap₂, ◌∙◌, subst, arith, length-drop, drop-cons, pow-suc, mod-lt, mod-eq_of_lt, mul-le-mul_right, div-add-mod', take_all}
+use Rattle.std.proofs.Math.Nat.{pow-le-pow_right, pow-zero, one-le-pow}
+use Rattle.std.proofs.lemmas.Nat.{div-mul-add, mod-mul-add, div_below}
+use Rattle.std.proofs.lemmas.List.{length_push, map-append, length-map, length-reverse, get_or-map, reverse-append, drop_all}
 use Rattle.std.proofs.lemmas.List.Elements.{All-drop, All-push}
 use Rattle.word_image.specs.LocalRules.{LocalRule, IsRule, IsWord, value, word_of, local_map, node_count}
 use Rattle.word_image.proofs.laws.Values.{value-snoc, value-below, value-injective, value-take_more, value-word_of, IsWord-word_of, length-word_of}

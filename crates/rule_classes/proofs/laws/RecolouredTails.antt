@@ -44,7 +44,6 @@ cell-recoloured {k} {t} colours tail (pos i) =
     (cases_lt i (length t.middle))
 cell-recoloured {k} {t} colours tail (negsuc i) =
     let new : TailConfig = recoloured_tail colours t in
-    let some : 1 ≤ length t.left = tail.left_some in
     ap (λ n. slice_index new.left (n - 1 - i % n)) (length-map t.left (slice_index colours))
     ∙ get_or-map (slice_index colours) t.left (length t.left - 1 - i % length t.left) 0 0 (omega arith)
 

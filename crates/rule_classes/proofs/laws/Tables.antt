@@ -1,8 +1,8 @@
 -- Tables that are filled: from the table of another rule, window by window, to that of the recoloured rule.
-use Rattle.std.proofs.Common.{◌≡◌, ℕ, ◌+◌, ◌-◌, ◌^◌, ◌<◌, ◌≤◌, List, length, get_or, set, replicate, slice_index, false, sym, ap, ◌∙◌, subst, ⊎_elim, arith}
+use Rattle.std.proofs.Common.{◌≡◌, ℕ, ◌+◌, ◌-◌, ◌^◌, ◌<◌, ◌≤◌, List, length, get_or, set, replicate, slice_index, false, sym, ap, ◌∙◌, subst, ⊎_elim, arith, length-set, length-append, get_or-set_same, get_or-set_other, ext_get_or}
 use Rattle.std.proofs.Math.Seq.{get_or-append_right}
 use Rattle.std.proofs.lemmas.Bool.{cases_lt}
-use Rattle.std.proofs.lemmas.List.{length-set, length-map, length-append, length-replicate, get_or-map, get_or-set_same, get_or-set_other, get_or_append_left, ext_get_or}
+use Rattle.std.proofs.lemmas.List.{length-map, length-replicate, get_or-map, get_or_append_left}
 use Rattle.word_image.specs.LocalRules.{LocalRule, IsRule, IsWord, word_of, local_map}
 use Rattle.word_image.specs.Storage.{padded}
 use Rattle.word_image.proofs.laws.RuleFaults.{window_count-le}

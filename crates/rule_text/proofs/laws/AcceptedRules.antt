@@ -1,6 +1,6 @@
 -- The rule of a text is an accepted rule, which a checker needs of a text that it was handed.
-use Rattle.std.proofs.Common.{◌≡◌, ℕ, ◌^◌, ◌<◌, List, Option, Some, None, refl, sym, subst, arith}
-use Rattle.std.specs.Option.{option_map, option_or}
+use Rattle.std.proofs.Common.{◌≡◌, ℕ, ◌^◌, ◌<◌, List, Option, Some, None, refl, sym, subst, arith, option_map}
+use Rattle.std.specs.Option.{option_or}
 use Rattle.std.proofs.lemmas.Option.{none-some}
 use Rattle.std.proofs.lemmas.Bool.Decides.{nat_tests}
 use Rattle.word_image.specs.LocalRules.{LocalRule, IsShape, IsRule}

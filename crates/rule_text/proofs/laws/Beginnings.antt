@@ -1,7 +1,6 @@
 -- The beginning of a table text: its form, its letters and its faults.
-use Rattle.std.proofs.Common.{◌≡◌, ℕ, Bool, true, false, List, ◌++◌, ◌+◌, ◌-◌, ◌≤◌, Ok, Err, Result, Option, Some, None, take, length, replicate, refl, sym, ap, ◌∙◌, subst, arith}
-use Rattle.std.specs.Prelude.{IfOk, IfErr, nat_lt, nat_le, ◌^◌, if◌then◌else◌}
-use Rattle.std.specs.Option.{option_map, option_or}
+use Rattle.std.proofs.Common.{◌≡◌, ℕ, Bool, true, false, List, ◌++◌, ◌+◌, ◌-◌, ◌≤◌, Ok, Err, Result, Option, Some, None, take, length, replicate, refl, sym, ap, ◌∙◌, subst, arith, IfOk, IfErr, nat_lt, nat_le, ◌^◌, if◌then◌else◌, option_map}
+use Rattle.std.specs.Option.{option_or}
 use Rattle.std.proofs.lemmas.Bool.{false≢true}
 use Rattle.std.proofs.lemmas.List.{take-replicate}
 use Rattle.std.proofs.Math.Seq.{take-append-add}

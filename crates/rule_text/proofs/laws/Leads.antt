@@ -1,10 +1,8 @@
 -- From the parts of a text to the whole: what its beginning leads to, and where it goes wrong.
-use Rattle.std.proofs.Common.{◌≡◌, ℕ, ◌+◌, ◌≤◌, inl, inr, List, [], ◌∷◌, ◌++◌, length, take, drop, get_or, None, refl, sym, ap, subst, ◌∙◌, arith, append_assoc, take-append-drop, length-append, length-take-le, get_or-take, get_or-drop}
-use Rattle.std.specs.Prelude.{All, ℤ, codes, unwrap_or}
-use Rattle.std.specs.List.{slice_get}
+use Rattle.std.proofs.Common.{◌≡◌, ℕ, ◌+◌, ◌≤◌, inl, inr, List, [], ◌∷◌, ◌++◌, length, take, drop, get_or, None, refl, sym, ap, subst, ◌∙◌, arith, append_assoc, take-append-drop, length-append, length-take-le, get_or-take, get_or-drop, All, ℤ, codes, unwrap_or, slice_get, get_or-append-add, take-take}
 use Rattle.std.proofs.lemmas.Bool.{cases_eq, cases_lt}
 use Rattle.std.proofs.lemmas.Option.{none-some, slice_get-get_or, unwrap_or-slice_get}
-use Rattle.std.proofs.lemmas.List.{get_or_past, get_or-append-add, get_or_append_left, take-take, take-append-le}
+use Rattle.std.proofs.lemmas.List.{get_or_past, get_or_append_left, take-append-le}
 use Rattle.std.proofs.lemmas.List.Elements.{All-append, All-nil}
 use Rattle.std.proofs.Math.Seq.{get_or-append_seam}
 use Rattle.word_image.specs.Digits.{IsHexDigit}

@@ -1,7 +1,7 @@
 -- The letters of a number in base k, from the least significant on: the table of a Wolfram number.
-use Rattle.std.proofs.Common.{◌≡◌, ℕ, suc, ◌+◌, ◌*◌, ◌/◌, ◌%◌, ◌^◌, ◌<◌, [], ◌∷◌, ◌++◌, reverse, sym, ap, ap₂, ◌∙◌, arith, add-one, add-mul, mul_assoc, mul_comm, pow-suc, mod-lt, mul-le-mul}
+use Rattle.std.proofs.Common.{◌≡◌, ℕ, suc, ◌+◌, ◌*◌, ◌/◌, ◌%◌, ◌^◌, ◌<◌, [], ◌∷◌, ◌++◌, reverse, sym, ap, ap₂, ◌∙◌, arith, add-one, add-mul, mul_assoc, mul_comm, pow-suc, mod-lt, mul-le-mul, div-add-mod'}
 use Rattle.std.proofs.Math.Nat.{div-div-eq-div-mul, one-le-pow}
-use Rattle.std.proofs.lemmas.Nat.{div_below, div-add-mod', div-mul-add, mod-mul-add}
+use Rattle.std.proofs.lemmas.Nat.{div_below, div-mul-add, mod-mul-add}
 use Rattle.std.proofs.lemmas.List.{reverse-append}
 use Rattle.word_image.specs.LocalRules.{word_of}
 

@@ -1,6 +1,5 @@
 -- A rule is open exactly where its evidence has a look-ahead on both sides.
-use Rattle.std.proofs.Common.{refl}
-use Rattle.std.specs.Prelude.{◌↔◌, IsTrue}
+use Rattle.std.proofs.Common.{refl, ◌↔◌, IsTrue}
 use Rattle.std.proofs.lemmas.Bool.{false≢true}
 use Rattle.word_image.specs.LocalRules.{LocalRule}
 use Rattle.tail_config.specs.Tails.{IsOpen}

@@ -1,7 +1,5 @@
 -- Three parts have no fault exactly where they are a configuration with short parts.
-use Rattle.std.proofs.Common.{◌≡◌, ℕ, ◌≤◌, List, [], ◌∷◌, ◌++◌, length, leb, Option, None, Some, refl, arith}
-use Rattle.std.specs.Prelude.{nat_le, position, ◌↔◌}
-use Rattle.std.specs.Option.{option_map}
+use Rattle.std.proofs.Common.{◌≡◌, ℕ, ◌≤◌, List, [], ◌∷◌, ◌++◌, length, leb, Option, None, Some, refl, arith, nat_le, position, ◌↔◌, option_map}
 use Rattle.std.specs.List.{position_or_len}
 use Rattle.std.proofs.lemmas.Bool.Decides.{nat_tests}
 use Rattle.std.proofs.lemmas.List.Sums.{position_or_len_is}

@@ -1,10 +1,8 @@
 -- How a text is cut at its bars, and where it leaves the grammar.
-use Rattle.std.proofs.Common.{◌≡◌, ◌≢◌, ℕ, ◌+◌, ◌-◌, ◌<◌, ◌≤◌, ◌&&◌, List, [], ◌∷◌, ◌++◌, length, map, take, drop, get_or, slice_range, codes, Option, None, Some, is_some, unwrap_or, All, refl, sym, ap, ap₂, subst, ◌∙◌, arith, append_assoc, append-nil, take-append-drop}
-use Rattle.std.specs.Prelude.{nat_lt, ◌==◌, if◌then◌else◌}
-use Rattle.std.specs.Option.{option_and_then}
+use Rattle.std.proofs.Common.{◌≡◌, ◌≢◌, ℕ, ◌+◌, ◌-◌, ◌<◌, ◌≤◌, ◌&&◌, List, [], ◌∷◌, ◌++◌, length, map, take, drop, get_or, slice_range, codes, Option, None, Some, is_some, unwrap_or, All, refl, sym, ap, ap₂, subst, ◌∙◌, arith, append_assoc, append-nil, take-append-drop, nat_lt, ◌==◌, if◌then◌else◌, option_and_then, take-take, take_all}
 use Rattle.std.proofs.lemmas.Bool.Decides.{nat_tests}
 use Rattle.std.proofs.lemmas.Option.{none-some, same_Some}
-use Rattle.std.proofs.lemmas.List.{take-take, drop-take, take_more, take_all}
+use Rattle.std.proofs.lemmas.List.{drop-take, take_more}
 use Rattle.std.proofs.lemmas.List.Elements.{All-nil, All-cons, All-head, All-tail}
 use Rattle.word_image.specs.Digits.{hex_value, lower_digit, IsHexDigit, letter_at, word_text}
 use Rattle.word_image.specs.Grammars.{Begins, IsFormFault}

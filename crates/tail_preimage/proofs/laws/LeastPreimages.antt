@@ -1,14 +1,12 @@
 -- Of the first shape the first loop walks are the least preimage: the least node with a loop, and first walks for each of the three parts. There is one least preimage.
-use Rattle.std.proofs.Common.{◌≡◌, ◌≢◌, ℕ, ◌+◌, ◌-◌, ◌<◌, ◌≤◌, List, ◌++◌, length, take, drop, ℤ, refl, sym, ap, ap₂, ◌∙◌, subst, arith, length-append, length-drop, append_assoc, ⊎_elim}
+use Rattle.std.proofs.Common.{◌≡◌, ◌≢◌, ℕ, ◌+◌, ◌-◌, ◌<◌, ◌≤◌, List, ◌++◌, length, take, drop, ℤ, refl, sym, ap, ap₂, ◌∙◌, subst, arith, length-append, length-drop, append_assoc, ⊎_elim, nat_cmp, Ordering, Less, Equal, Greater, take-append-drop, length-take-le, take_at, drop_at}
 use Rattle.std.specs.List.{repeat}
-use Rattle.std.specs.Ordering.{ordering_then, nat_cmp}
+use Rattle.std.specs.Ordering.{ordering_then}
 use Rattle.std.specs.Cmp.{IsTotalOrder, nat_cmp_is}
 use Rattle.std.specs.Cmp.Lexicographic.{slice_cmp}
-use Rattle.std.specs.declared.cmp.Ordering.{Ordering}
-use Rattle.std.specs.declared.cmp.Ordering.TheVariants.{Less, Equal, Greater}
 use Rattle.std.proofs.lemmas.Bool.{cases_lt}
 use Rattle.std.proofs.lemmas.Cmp.{nat_cmp_total, nat_list_cmp_total, on_total, then_total}
-use Rattle.std.proofs.lemmas.List.{take-append-drop, drop-append-le, length-take-le, take_at, drop_at}
+use Rattle.std.proofs.lemmas.List.{drop-append-le}
 use Rattle.std.proofs.lemmas.List.Elements.{All-take}
 use Rattle.word_image.specs.LocalRules.{LocalRule, IsRule, value}
 use Rattle.word_image.proofs.laws.Bits.{IsBitSet-pow}
@@ -37,8 +35,6 @@ behind-not_greater : {r : LocalRule} {w z x y : List ℕ} {u v s : ℕ} → IsWa
     → slice_cmp nat_cmp (drop (r.width - 1) x) (drop (r.width - 1) y) ≢ Greater
 behind-not_greater {r} {x = x} {y = y} h g e least greater =
     let d : ℕ = r.width - 1 in
-    let long_x = h.preimage.long in
-    let long_y = g.preimage.long in
     let front : slice_cmp nat_cmp (take d x) (take d y) ≡ Equal = slice_cmp-same (take d x) (take d y) (same_first h g) in
     least (cmp-first r x y (omega arith) (omega arith) ∙ ap (λ (o : Ordering). ordering_then o (slice_cmp nat_cmp (drop d x) (drop d y))) front ∙ greater)
 
@@ -52,8 +48,6 @@ same-behind {r} {x = x} {y = y} h g e =
 lesser-node : {r : LocalRule} {w z x y : List ℕ} {u v s t : ℕ} → IsWalk r w u v x → IsWalk r z s t y → length w ≡ length z → u < s → slice_cmp nat_cmp x y ≡ Less
 lesser-node {r} {x = x} {y = y} {u = u} {s = s} h g e l =
     let d : ℕ = r.width - 1 in
-    let long_x = h.preimage.long in
-    let long_y = g.preimage.long in
     let front : slice_cmp nat_cmp (take d x) (take d y) ≡ nat_cmp u s =
     slice_cmp-value r.states (take d x) (take d y) (All-take (λ a. a < r.states) d x h.preimage.word) (All-take (λ a. a < r.states) d y g.preimage.word)
     (length-take-le d x (omega arith) ∙ sym (length-take-le d y (omega arith)))
@@ -69,7 +63,6 @@ whole-letters : {r : LocalRule} {t : TailConfig} {s : Shape} {v w : ℕ} {x y z 
     → whole r x y z ≡ letters (placed_of r t s.before x y z) ++ drop (length z - (r.width - 1)) z
 whole-letters {r} {t} {s} {v} {w} {x} {y} {z} rule h =
     let d : ℕ = r.width - 1 in
-    let long_y = h.middle.preimage.long in
     let bx : List ℕ = before_last r x in
     let by : List ℕ = before_last r y in
     let bz : List ℕ = before_last r z in
@@ -87,8 +80,6 @@ whole-not_greater : {r : LocalRule} {t : TailConfig} {s : Shape} {v w v' w' : �
 whole-not_greater {r} {t} {s} {v} {w} {v'} {w'} {x} {y} {z} {x'} {y'} {z'} rule h g =
     let d : ℕ = r.width - 1 in
     let long : (a b : List ℕ) → length a ≡ length (repeat s.back t.left) + d → length b ≡ length (repeat s.back t.left) + d → length a ≡ length b = λ a b i j. omega arith in
-    let long_y = h.middle.walk.preimage.long in
-    let long_y' = g.middle.preimage.long in
     let parts : slice_cmp nat_cmp (whole r x y z) (whole r x' y' z')
     ≡ ordering_then (slice_cmp nat_cmp x x') (slice_cmp nat_cmp (drop d y ++ drop d z) (drop d y' ++ drop d z')) =
     slice_cmp-append x (drop d y ++ drop d z) x' (drop d y' ++ drop d z') (long x x' h.left.walk.preimage.long g.left.preimage.long) in

@@ -1,10 +1,9 @@
 -- The first walk of a word from a node into a set of nodes is found edge by edge: at each place the least letter from whose edge the set can still be reached.
-use Rattle.std.proofs.Common.{◌≡◌, ◌≢◌, ◌↔◌, ℕ, ◌+◌, ◌-◌, ◌<◌, ◌≤◌, List, [], ◌∷◌, ◌++◌, length, take, drop, get_or, IsBitSet, sym, ap, ◌∙◌, subst, arith, length-drop, ⊎_elim}
-use Rattle.std.specs.Ordering.{ordering_then, nat_cmp}
+use Rattle.std.proofs.Common.{◌≡◌, ◌≢◌, ◌↔◌, ℕ, ◌+◌, ◌-◌, ◌<◌, ◌≤◌, List, [], ◌∷◌, ◌++◌, length, take, drop, get_or, IsBitSet, sym, ap, ◌∙◌, subst, arith, length-drop, ⊎_elim, nat_cmp, Equal, Greater, take-append-drop, take_all, take-take, take_at, length-take-le}
+use Rattle.std.specs.Ordering.{ordering_then}
 use Rattle.std.specs.Cmp.Lexicographic.{slice_cmp}
-use Rattle.std.specs.declared.cmp.Ordering.TheVariants.{Equal, Greater}
 use Rattle.std.proofs.lemmas.Bool.{cases_lt}
-use Rattle.std.proofs.lemmas.List.{take-append-drop, take_all, take_more, take-take, take_at, length-take-le, nil_from_length}
+use Rattle.std.proofs.lemmas.List.{take_more, nil_from_length}
 use Rattle.word_image.specs.LocalRules.{LocalRule, IsRule, value, node_count}
 use Rattle.word_image.specs.Graphs.{next, label}
 use Rattle.word_image.specs.Edges.{IsEdge}
@@ -36,7 +35,6 @@ pub record IsLeastBegun (r : LocalRule) (w : List ℕ) (u goal n v : ℕ) (x : L
 pub IsLeastBegun-start : {r : LocalRule} {w : List ℕ} {u goal : ℕ} {x : List ℕ} → IsRule r → IsWalk r [] u u x → Reaches r w goal u → IsLeastBegun r w u goal 0 u x
 IsLeastBegun-start {r} {w} {u} {x = x} rule walk reach =
     let d : ℕ = r.width - 1 in
-    let long = walk.preimage.long in
     record {
       walk = walk;
       open_still = reach;
@@ -63,7 +61,6 @@ IsOther-edge : {r : LocalRule} {w rest y : List ℕ} {u s node : ℕ} (goal : �
 IsOther-edge {r} {w} {rest} {y} {s = s} goal n inside at edge after =
     let d : ℕ = r.width - 1 in
     let front_long : length (take n w) ≡ n = length-take-le n w (omega arith) in
-    let before_long : length edge.before ≡ length (take n w) + d = edge.walk.preimage.long in
     record {
       before = edge.before;
       node = edge.node;
@@ -93,8 +90,6 @@ push-not_greater : {r : LocalRule} {w : List ℕ} {u goal n v : ℕ} {x y : List
 push-not_greater {r} {w} {u} {goal} {n} {v} {x} {y} walk b none least o e =
     let d : ℕ = r.width - 1 in
     let c : ℕ = o.letter in
-    let x_long : length x ≡ length (take n w) + d = walk.preimage.long in
-    let before_long : length o.before ≡ length (take n w) + d = o.walk.preimage.long in
     let first : slice_cmp nat_cmp x o.before ≢ Greater = subst (λ z. slice_cmp nat_cmp x z ≢ Greater) o.begins least in
     let letters : slice_cmp nat_cmp (x ++ b ∷ []) (o.before ++ c ∷ []) ≡ ordering_then (slice_cmp nat_cmp x o.before) (slice_cmp nat_cmp (b ∷ []) (c ∷ [])) =
     slice_cmp-append x (b ∷ []) o.before (c ∷ []) (omega arith) in
@@ -126,6 +121,5 @@ IsLeastBegun-end {r} {w} {u} {goal} {n} {v} {x} rule e h =
       walk = subst (λ z. IsWalk r z u v x) (take_all n w (omega arith)) h.walk;
       within = (Reaches-none goal v node).0 (subst (λ z. Reaches r z goal v) none h.open_still);
       least = λ s y at other.
-          let long = other.preimage.long in
           subst (λ z. slice_cmp nat_cmp x z ≢ Greater) (take_all (n + d) y (omega arith)) (h.least s y at other);
     }

@@ -1,9 +1,7 @@
 -- A placed configuration that maps to another is a walk that spells the other's letters, and from its shape come three walks.
-use Rattle.std.proofs.Common.{◌≡◌, ℕ, ◌+◌, ◌-◌, ◌*◌, List, length, take, drop, ℤ, pos, ◌+ℤ◌, ◌-ℤ◌, neg_ℤ, refl, sym, ap, ap₂, ◌∙◌, subst, subst₂, arith}
+use Rattle.std.proofs.Common.{◌≡◌, ℕ, ◌+◌, ◌-◌, ◌*◌, List, length, take, drop, ℤ, pos, ◌+ℤ◌, ◌-ℤ◌, neg_ℤ, refl, sym, ap, ap₂, ◌∙◌, subst, subst₂, arith, add-mul, take_at}
 use Rattle.std.specs.List.{repeat}
-use Rattle.std.proofs.Math.Nat.{add-mul}
 use Rattle.std.proofs.lemmas.Int.{ints}
-use Rattle.std.proofs.lemmas.List.{take_at}
 use Rattle.word_image.specs.LocalRules.{LocalRule, IsRule, value, local_map}
 use Rattle.word_image.specs.Words.{IsPreimage, IsOrphan}
 use Rattle.tail_config.specs.Configs.{run, image_of}

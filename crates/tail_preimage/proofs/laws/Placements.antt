@@ -1,10 +1,9 @@
 -- Three walks, a loop, one from it to another loop, and that loop, are a placed configuration that maps to the letters which they spell.
-use Rattle.std.proofs.Common.{◌≡◌, ℕ, zero, suc, ◌+◌, ◌-◌, ◌*◌, ◌<◌, ◌≤◌, List, [], ◌++◌, length, take, drop, get_or, slice_range, ℤ, pos, ◌+ℤ◌, ◌-ℤ◌, unsigned_abs, refl, sym, ap, ap₂, ◌∙◌, subst, arith, length-append, length-drop, append_assoc, mul_assoc}
+use Rattle.std.proofs.Common.{◌≡◌, ℕ, zero, suc, ◌+◌, ◌-◌, ◌*◌, ◌<◌, ◌≤◌, List, [], ◌++◌, length, take, drop, get_or, slice_range, ℤ, pos, ◌+ℤ◌, ◌-ℤ◌, unsigned_abs, refl, sym, ap, ap₂, ◌∙◌, subst, arith, length-append, length-drop, append_assoc, mul_assoc, suc-mul, zero-mul, add-mul, mul-one, mul-le-mul_left, take-append-drop, length-take-le, append-nil}
 use Rattle.std.specs.List.{repeat}
-use Rattle.std.proofs.Math.Nat.{suc-mul, zero-mul, add-mul, mul-one, mul-le-mul_left}
 use Rattle.std.proofs.lemmas.Int.{ints}
 use Rattle.std.proofs.lemmas.Nat.{mul-le}
-use Rattle.std.proofs.lemmas.List.{take-append-drop, take-append-le, drop-append-le, length-take-le, append-nil}
+use Rattle.std.proofs.lemmas.List.{take-append-le, drop-append-le}
 use Rattle.std.proofs.lemmas.List.Elements.{All-take}
 use Rattle.word_image.specs.LocalRules.{LocalRule, IsRule, IsWord, value, word_of, local_map}
 use Rattle.word_image.proofs.laws.Values.{length-word_of, value-injective}
@@ -33,7 +32,6 @@ pub join-before_last : {r : LocalRule} {u v s : ℕ} {w z x y : List ℕ} → Is
 join-before_last {r} {w = w} {z = z} {x = x} {y = y} h g =
     let d : ℕ = r.width - 1 in
     let long_x : length x ≡ length w + d = h.preimage.long in
-    let long_y : length y ≡ length z + d = g.preimage.long in
     let here : length x - d ≡ length w = omega arith in
     let seam : drop (length x - d) x ≡ take d y =
     ap (λ n. drop n x) here ∙ same_node r.states (length w) d x y h.preimage.word g.preimage.word long_x (omega arith) (h.last ∙ sym g.first) in
@@ -122,11 +120,9 @@ spelled-window {r} {t} {s} {w = w} {x = x} {y = y} {z = z} rule ht h n e inside 
     let c : TailConfig = spelled r x y z in
     let hc : IsTail r.states c = IsTail-spelled ht h in
     let m : ℕ = r.width in
-    let wide : 2 ≤ m = rule.shape.least_width in
     let end : List ℕ = word_of r.states (m - 1) w in
     let run : List ℕ = stretch c n n in
     let walk = IsWalk-rounds rule h n n in
-    let long : length (run ++ end) ≡ length (rounds t s n n) + (m - 1) = walk.preimage.long in
     let run_long : length run ≡ stretch_length c n n = length-stretch c n n in
     let end_long : length end ≡ m - 1 = length-word_of r.states (m - 1) w in
     let b : ℕ = n * s.back + s.before in

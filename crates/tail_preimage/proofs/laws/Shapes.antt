@@ -1,6 +1,6 @@
 -- The first possible shape is found key by key, and the first gap side by side.
-use Rattle.std.proofs.Common.{◌≡◌, ◌↔◌, ℕ, ◌+◌, ◌-◌, ◌<◌, ◌≤◌, IsBitSet, refl, sym, subst, arith, ⊎_elim}
-use Rattle.std.specs.Ordering.{ordering_then, nat_cmp}
+use Rattle.std.proofs.Common.{◌≡◌, ◌↔◌, ℕ, ◌+◌, ◌-◌, ◌<◌, ◌≤◌, IsBitSet, refl, sym, subst, arith, ⊎_elim, nat_cmp}
+use Rattle.std.specs.Ordering.{ordering_then}
 use Rattle.std.proofs.lemmas.Bool.{cases_lt}
 use Rattle.word_image.specs.LocalRules.{LocalRule, node_count}
 use Rattle.word_image.specs.Graphs.{IsNodeSet, HasBit}
@@ -84,8 +84,6 @@ IsFirstShape-keys {r} {t} {parts} h left right before after keys =
     let A : ℕ → ℕ → Type 0 = HasBit parts.left.period in
     let C : ℕ → ℕ → Type 0 = HasBit parts.right.period in
     let s : Shape = record { before = before; back = left - before; after = after; on = right - after } in
-    let l = keys.before_less in
-    let k = keys.after_less in
     record {
       possible = IsPossible-through h s (omega arith) (omega arith) keys.after_first.holds;
       small = record { left = omega (arith, keys.left_few); right = omega (arith, keys.right_few) };

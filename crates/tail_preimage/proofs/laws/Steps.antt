@@ -1,7 +1,6 @@
 -- Steps of a relation between at most 16 nodes: one after another, round and round, and that 16 of them pass some node twice.
-use Rattle.std.proofs.Common.{◌≡◌, ℕ, zero, suc, ◌+◌, ◌-◌, ◌*◌, ◌<◌, ◌≤◌, replicate, refl, sym, subst, arith}
+use Rattle.std.proofs.Common.{◌≡◌, ℕ, zero, suc, ◌+◌, ◌-◌, ◌*◌, ◌<◌, ◌≤◌, replicate, refl, sym, subst, arith, suc-mul, zero-mul, mul-one, mul-le-mul_left}
 use Rattle.std.proofs.lemmas.List.{replicate-append-replicate}
-use Rattle.std.proofs.Math.Nat.{suc-mul, zero-mul, mul-one, mul-le-mul_left}
 use Rattle.word_image.proofs.laws.Searches.{twice_below}
 use Rattle.search_laws.specs.Walks.{Walk}
 use Rattle.search_laws.proofs.Walks.{Walk-join, Walk-cut}

@@ -1,6 +1,6 @@
 -- Walks: cut in two, joined, and one edge longer at either end.
-use Rattle.std.proofs.Common.{◌≡◌, ◌↔◌, ℕ, ◌+◌, ◌-◌, ◌<◌, List, [], ◌∷◌, ◌++◌, length, take, drop, refl, sym, ap, ap₂, ◌∙◌, subst, arith, length-append, length-drop}
-use Rattle.std.proofs.lemmas.List.{length_push, length-take-le, take-append-le, take_all, take_at, drop_at, take-take, drop-drop}
+use Rattle.std.proofs.Common.{◌≡◌, ◌↔◌, ℕ, ◌+◌, ◌-◌, ◌<◌, List, [], ◌∷◌, ◌++◌, length, take, drop, refl, sym, ap, ap₂, ◌∙◌, subst, arith, length-append, length-drop, length-take-le, take_all, take_at, drop_at, take-take, drop-drop}
+use Rattle.std.proofs.lemmas.List.{length_push, take-append-le}
 use Rattle.std.proofs.lemmas.List.Elements.{All-append, All-take, All-drop}
 use Rattle.word_image.specs.LocalRules.{LocalRule, IsRule, IsWord, value, word_of, node_count}
 use Rattle.word_image.specs.Words.{IsOrphan}
@@ -18,7 +18,6 @@ use Rattle.tail_preimage.specs.Walks.{IsWalk, HasWalk}
 -- a walk begins with a node
 pub IsWalk-first : {r : LocalRule} {w x : List ℕ} {u v : ℕ} → IsWalk r w u v x → u < node_count r
 IsWalk-first {r} {x = x} h =
-    let long = h.preimage.long in
     rw (← h.first) (value-node r (take (r.width - 1) x) (All-take (λ a. a < r.states) (r.width - 1) x h.preimage.word) (length-take-le (r.width - 1) x (omega arith)))
 
 -- and ends with one
@@ -29,8 +28,6 @@ IsWalk-last {x = x} h = IsLastNode-below (record { x = x; preimage = h.preimage;
 pub same_first : {r : LocalRule} {w z x y : List ℕ} {u v s : ℕ} → IsWalk r w u v x → IsWalk r z u s y → take (r.width - 1) x ≡ take (r.width - 1) y
 same_first {r} {x = x} {y = y} h g =
     let d : ℕ = r.width - 1 in
-    let long_x = h.preimage.long in
-    let long_y = g.preimage.long in
     value-injective r.states (take d x) (take d y) (All-take (λ a. a < r.states) d x h.preimage.word) (All-take (λ a. a < r.states) d y g.preimage.word)
     (length-take-le d x (omega arith) ∙ sym (length-take-le d y (omega arith))) (h.first ∙ sym g.first)
 
@@ -48,7 +45,6 @@ IsWalk-none r u l =
 -- a walk of no edge stays at its node
 pub IsWalk-stays : {r : LocalRule} {u v : ℕ} {x : List ℕ} → IsWalk r [] u v x → u ≡ v
 IsWalk-stays {r} {x = x} h =
-    let long = h.preimage.long in
     sym h.first ∙ ap (value r.states) (take_all (r.width - 1) x (omega arith)) ∙ h.last
 
 -- a walk that ends where another begins goes on as that one
@@ -56,7 +52,6 @@ pub IsWalk-join : {r : LocalRule} {u v s : ℕ} {w z x y : List ℕ} → IsRule 
 IsWalk-join {r} {w = w} {z = z} {x = x} {y = y} rule h g =
     let d : ℕ = r.width - 1 in
     let long_x : length x ≡ length w + d = h.preimage.long in
-    let long_y : length y ≡ length z + d = g.preimage.long in
     let seam : drop (length w) x ≡ take d y = same_node r.states (length w) d x y h.preimage.word g.preimage.word long_x (omega arith) (h.last ∙ sym g.first) in
     record {
       preimage = record {
@@ -127,7 +122,6 @@ pub record HasLastEdge (r : LocalRule) (w : List ℕ) (a u s : ℕ) (x : List �
 pub IsWalk-snoc : {r : LocalRule} {u s : ℕ} {x : List ℕ} → IsRule r → (w : List ℕ) (a : ℕ) → IsWalk r (w ++ a ∷ []) u s x → HasLastEdge r w a u s x
 IsWalk-snoc {r} {x = x} rule w a h =
     let p : IsLongerPreimage r w a x = IsPreimage-snoc rule w a x h.preimage in
-    let long = h.preimage.long in
     let (label, leads) = last_edge rule w a x p in
     record {
       before = p.before;

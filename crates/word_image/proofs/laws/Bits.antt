@@ -1,7 +1,7 @@
 -- The bits of a number, as a set of the places where it has one.
-use Rattle.std.proofs.Common.{◌≡◌, ℕ, suc, ◌*◌, ◌^◌, ◌<◌, ◌≤◌, ◌↔◌, ◌⊎◌, inl, inr, IsBitSet, bit_and, bit_or, ◌/◌, ◌%◌, zero-mul, pow-suc, ap, ◌∙◌, arith, ⊎_elim}
+use Rattle.std.proofs.Common.{◌≡◌, ℕ, suc, ◌*◌, ◌^◌, ◌<◌, ◌≤◌, ◌↔◌, ◌⊎◌, inl, inr, IsBitSet, bit_and, bit_or, ◌/◌, ◌%◌, zero-mul, pow-suc, ap, ◌∙◌, arith, ⊎_elim, pow_pos}
 use Rattle.std.proofs.lemmas.Bool.{cases_eq}
-use Rattle.std.proofs.lemmas.Nat.{pow_pos, leading_top, le-div, div_below}
+use Rattle.std.proofs.lemmas.Nat.{leading_top, le-div, div_below}
 use Rattle.std.proofs.lemmas.Nat.Bits.{bit_at-zero, bit_at_or, bit_at-pow_same, bit_at-pow_other, and_pow, bit_at-lt}
 use Rattle.std.specs.Int.{bit_at}
 

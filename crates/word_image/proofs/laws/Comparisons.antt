@@ -1,9 +1,7 @@
 -- Orders of words, letter pairs and lists of these: what isn't greater, and what comes no later.
-use Rattle.std.proofs.Common.{◌≡◌, ◌≢◌, ℕ, ◌<◌, ◌≤◌, List, length, false, refl, ap, ◌∙◌, subst, arith, sym}
-use Rattle.std.specs.Ordering.{ordering_then, ordering_reverse, nat_cmp, is_gt, MatchOrdering}
+use Rattle.std.proofs.Common.{◌≡◌, ◌≢◌, ℕ, ◌<◌, ◌≤◌, List, length, false, refl, ap, ◌∙◌, subst, arith, sym, nat_cmp, is_gt, Ordering, Less, Equal, Greater}
+use Rattle.std.specs.Ordering.{ordering_then, ordering_reverse, MatchOrdering}
 use Rattle.std.specs.Cmp.{IsTotalOrder, upto}
-use Rattle.std.specs.declared.cmp.Ordering.{Ordering}
-use Rattle.std.specs.declared.cmp.Ordering.TheVariants.{Less, Equal, Greater}
 use Rattle.std.proofs.lemmas.Cmp.{then_total, on_total, lists_total, nat_cmp_total, ranked, tied_itself, nat_list_cmp_total}
 use Rattle.std.specs.Cmp.Lexicographic.{slice_cmp}
 use Rattle.word_image.specs.Rings.{pair_cmp, pairs_cmp}

@@ -1,7 +1,7 @@
 -- The de Bruijn graph of a rule read on words: nodes are ends of words, edges are windows.
-use Rattle.std.proofs.Common.{◌≡◌, ℕ, ◌+◌, ◌-◌, ◌*◌, ◌%◌, ◌^◌, ◌<◌, ◌≤◌, List, [], ◌∷◌, ◌++◌, length, drop, slice_index, sym, ap, ◌∙◌, subst, arith, length-drop, mod-lt, mul-pos}
-use Rattle.std.proofs.Math.Nat.{one-le-pow, mul-pos, mul-le-mul}
-use Rattle.std.proofs.lemmas.List.{drop-append-le, drop-drop, length_push}
+use Rattle.std.proofs.Common.{◌≡◌, ℕ, ◌+◌, ◌-◌, ◌*◌, ◌%◌, ◌^◌, ◌<◌, ◌≤◌, List, [], ◌∷◌, ◌++◌, length, drop, slice_index, sym, ap, ◌∙◌, subst, arith, length-drop, mod-lt, mul-pos, mul-le-mul, drop-drop}
+use Rattle.std.proofs.Math.Nat.{one-le-pow}
+use Rattle.std.proofs.lemmas.List.{drop-append-le, length_push}
 use Rattle.std.proofs.lemmas.List.Elements.{All-drop, All-push}
 use Rattle.word_image.specs.LocalRules.{LocalRule, IsRule, IsWord, value, local_map, node_count}
 use Rattle.word_image.specs.Graphs.{next, label, pair_count}

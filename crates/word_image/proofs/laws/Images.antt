@@ -1,7 +1,7 @@
 -- Images of parts of a word, and of a word that is read backwards.
-use Rattle.std.proofs.Common.{◌≡◌, ℕ, ◌+◌, ◌-◌, ◌^◌, ◌<◌, ◌≤◌, List, length, take, drop, reverse, get_or, slice_index, slice_range, ℤ, pos, ◌+ℤ◌, neg_ℤ, sym, ap, ap₂, subst, ◌∙◌, arith, length-drop}
+use Rattle.std.proofs.Common.{◌≡◌, ℕ, ◌+◌, ◌-◌, ◌^◌, ◌<◌, ◌≤◌, List, length, take, drop, reverse, get_or, slice_index, slice_range, ℤ, pos, ◌+ℤ◌, neg_ℤ, sym, ap, ap₂, subst, ◌∙◌, arith, length-drop, length-take, length-take-le, ext_get_or, get_or-take, get_or-drop, drop-drop, take-take}
 use Rattle.std.specs.List.{range_with_len}
-use Rattle.std.proofs.lemmas.List.{length-take, length-take-le, length-reverse, reverse-reverse, ext_get_or, get_or-take, get_or-drop, get_or-reverse, drop-drop, drop-take, take-take}
+use Rattle.std.proofs.lemmas.List.{length-reverse, reverse-reverse, get_or-reverse, drop-take}
 use Rattle.std.proofs.lemmas.List.FromFn.{length-map-range_with_len, get_or-map-range_with_len, fill_by_all}
 use Rattle.std.proofs.lemmas.List.Elements.{All-take, All-drop, All-map, All-from_get_or}
 use Rattle.std.proofs.lemmas.Int.{ints}

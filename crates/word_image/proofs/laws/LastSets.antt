@@ -1,6 +1,5 @@
 -- Sets of last nodes, step by step, and what they say of preimages.
-use Rattle.std.proofs.Common.{◌≡◌, ℕ, ◌<◌, List, [], ◌∷◌, ◌++◌, length, drop, arith, IsBitSet}
-use Rattle.std.proofs.lemmas.Nat.{pow_pos}
+use Rattle.std.proofs.Common.{◌≡◌, ℕ, ◌<◌, List, [], ◌∷◌, ◌++◌, length, drop, arith, IsBitSet, pow_pos}
 use Rattle.std.proofs.lemmas.Nat.Bits.{bit_at_ones}
 use Rattle.std.proofs.lemmas.List.Elements.{All-nil, All-push}
 use Rattle.word_image.specs.LocalRules.{LocalRule, IsRule, value, node_count}

@@ -1,8 +1,8 @@
 -- Lists that know no rule: a list that grows by what a function gives at each place, two lists that are paired, and one that is read backwards.
-use Rattle.std.proofs.Common.{◌≡◌, ℕ, zero, suc, ◌+◌, ◌-◌, ◌<◌, List, [], ◌∷◌, ◌++◌, length, get_or, map, set, take, drop, reverse, length-drop, map-id, replicate, Some, refl, sym, ap, ap₂, ◌∙◌, arith, append_assoc, slice_index}
-use Rattle.std.specs.List.{AllZip, range_with_len, slice_get}
-use Rattle.std.proofs.lemmas.List.{length-reverse, reverse-append, take-append-drop, take_at, drop_at}
-use Rattle.std.proofs.lemmas.List.FromFn.{length-map-range_with_len, map-range_with_len_more}
+use Rattle.std.proofs.Common.{◌≡◌, ℕ, zero, suc, ◌+◌, ◌-◌, ◌<◌, Contains, List, [], ◌∷◌, ◌++◌, length, get_or, map, set, take, drop, reverse, length-drop, map-id, replicate, Some, refl, sym, ap, ap₂, ◌∙◌, arith, append_assoc, slice_index, slice_get, take-append-drop, take_at, drop_at}
+use Rattle.std.specs.List.{AllZip, range_with_len}
+use Rattle.std.proofs.lemmas.List.{length-reverse, reverse-append}
+use Rattle.std.proofs.lemmas.List.FromFn.{length-range_with_len, get_or-range_with_len, length-map-range_with_len, map-range_with_len_more}
 use Rattle.std.proofs.Math.Seq.{set-append_seam}
 
 -- what f gives at the first i places, with its value at i after it, is what it gives at one place more
@@ -57,6 +57,10 @@ slice_index-zeros (suc n) (suc i) = slice_index-zeros n i
 pub range-more : (a n j : ℕ) → a + n ≡ j → range_with_len a (n + 1) ≡ range_with_len a n ++ j ∷ []
 range-more a n j is =
     sym (map-id (range_with_len a (n + 1))) ∙ map-range_with_len_more (λ (i : ℕ). i) a n j is ∙ ap (λ (xs : List ℕ). xs ++ j ∷ []) (map-id (range_with_len a n))
+
+-- each number below n is in the list of them
+pub Contains-range : (n a : ℕ) → a < n → Contains (range_with_len 0 n) a
+Contains-range n a l = (a, omega (arith, length-range_with_len 0 n), get_or-range_with_len 0 n a a l ∙ (let e : 0 + a ≡ a = omega arith in e))
 
 -- a list of i + j elements read backwards begins with its last j, and goes on with the others
 pub reverse-cut : (i j : ℕ) (x : List ℕ) → length x ≡ i + j → (take j (reverse x) ≡ reverse (drop i x)) × (drop j (reverse x) ≡ reverse (take i x))

@@ -1,8 +1,6 @@
 -- The element at a place of a list, where there is one.
-use Rattle.std.proofs.Common.{◌≡◌, ◌≢◌, ℕ, zero, suc, ◌<◌, ◌⊎◌, inl, inr, List, [], ◌∷◌, ◌++◌, length, set, Some, Contains, refl, sym, ap, ◌∙◌, ⊎_elim, arith}
-use Rattle.std.specs.List.{slice_get}
-use Rattle.std.proofs.lemmas.List.{get_or-set_same, get_or-set_other, length-set}
-use Rattle.std.proofs.lemmas.Option.{slice_get_within, slice_get-get_or, get_or_from_slice_get, none-some}
+use Rattle.std.proofs.Common.{◌≡◌, ◌≢◌, ℕ, zero, suc, ◌<◌, ◌⊎◌, inl, inr, List, [], ◌∷◌, ◌++◌, length, take, drop, set, Some, Contains, refl, sym, ap, ◌∙◌, ⊎_elim, arith, slice_get, get_or-set_same, get_or-set_other, length-set}
+use Rattle.std.proofs.lemmas.Option.{slice_get_within, slice_get-get_or, get_or_from_slice_get, none-some, same_Some}
 
 -- a place keeps its element where the list grows
 pub slice_get-append : {X : Type 0} (xs ys : List X) (i : ℕ) (x : X) → slice_get xs i ≡ Some x → slice_get (xs ++ ys) i ≡ Some x
@@ -54,3 +52,9 @@ slice_get-set_other xs i j x y other at =
 pub slice_get-set_before : {X : Type 0} (xs : List X) (i j : ℕ) (x y : X) → j ≢ i → slice_get (set xs i x) j ≡ Some y → slice_get xs j ≡ Some y
 slice_get-set_before xs i j x y other at =
     slice_get-get_or xs j y (omega (arith, length-set xs i x, slice_get_within (set xs i x) j y at)) ∙ ap Some (sym (get_or-set_other xs i j x y other) ∙ get_or_from_slice_get (set xs i x) j y y at)
+
+-- a list is what stands before a place, the element there and what stands after it
+pub slice_get-cut : {A : Type 0} (xs : List A) (i : ℕ) (x : A) → slice_get xs i ≡ Some x → xs ≡ take i xs ++ x ∷ drop (suc i) xs
+slice_get-cut [] i x e = absurd (none-some x e)
+slice_get-cut (y ∷ xs) zero x e = ap (λ z. z ∷ xs) (same_Some y x e)
+slice_get-cut (y ∷ xs) (suc i) x e = ap (λ l. y ∷ l) (slice_get-cut xs i x e)

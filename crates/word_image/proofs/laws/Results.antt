@@ -1,7 +1,5 @@
 -- What a function hands on.
-use Rattle.std.specs.Prelude.{◌≡◌, Result, Ok, Err, IfErr}
-use Rattle.std.proofs.Common.{sym, subst}
-use Rattle.std.specs.Result.{IsErrAnd}
+use Rattle.std.proofs.Common.{sym, subst, ◌≡◌, Result, Ok, Err, IfErr, IsErrAnd}
 
 -- an error that is handed on is the one that came
 pub handed_on : {T E : Type 0} {e : E} (P : E → Type 0) (r : Result T E) → IsErrAnd r (λ f. f ≡ e) → P e → IfErr r P

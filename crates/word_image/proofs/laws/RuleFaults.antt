@@ -1,13 +1,20 @@
 -- No limit is broken exactly where the rule is accepted.
-use Rattle.std.proofs.Common.{◌≡◌, ℕ, suc, ap, pow-suc, mul-le-mul, ◌*◌, ◌-◌, ◌^◌, ◌<◌, ◌≤◌, List, length, take, leb, None, ℤ, pos, negsuc, ◌+ℤ◌, ◌≤ℤ◌, ◌∙◌, arith, length-take-le}
-use Rattle.std.specs.Prelude.{nat_le, position}
+use Rattle.std.proofs.Common.{◌≡◌, ℕ, suc, ap, pow-suc, mul-le-mul, ◌+◌, ◌*◌, ◌-◌, ◌^◌, ◌<◌, ◌≤◌, List, length, take, leb, None, ℤ, pos, negsuc, ◌+ℤ◌, ◌≤ℤ◌, ◌∙◌, arith, length-take-le, nat_le, position}
+use Rattle.std.proofs.Math.Nat.{pow-le-pow_left, pow-le-pow_right}
 use Rattle.std.proofs.lemmas.Bool.Decides.{nat_tests}
 use Rattle.std.proofs.lemmas.Int.{ints}
 use Rattle.std.specs.List.{position_or_len}
 use Rattle.std.proofs.lemmas.List.Sums.{position_or_len_is, fails_before_first}
 use Rattle.std.proofs.lemmas.List.Elements.{All-from_get_or}
-use Rattle.word_image.specs.LocalRules.{IsWord, IsShape}
+use Rattle.word_image.specs.LocalRules.{IsWord, IsShape, most_states, most_width, most_sets}
 use Rattle.word_image.specs.RuleFaults.{shape_fault, table_fault}
+
+-- a power that is taken before it is known to be small: at most 16^4
+pub power-few : {k : ℕ} (j : ℕ) → k ≤ most_states → j + 1 ≤ most_width → k ^ j ≤ most_sets
+power-few {k} j few short =
+    let base : k ^ j ≤ 16 ^ j = pow-le-pow_left few j in
+    let exponent : 16 ^ j ≤ 16 ^ 4 = pow-le-pow_right (omega arith) {i = j} {j = 4} (omega arith) in
+    omega arith
 
 -- a shape with no fault is accepted
 pub IsShape-shape_fault : (k m : ℕ) (o : ℤ) → shape_fault k m o ≡ None → IsShape k m o

@@ -1,8 +1,8 @@
 -- Sets of numbers as unions, one part at a time.
-use Rattle.std.proofs.Common.{◌≡◌, ℕ, ◌+◌, ◌^◌, ◌<◌, ◌↔◌, inl, inr, IsBitSet, bit_or, refl, sym, subst, arith, ⊎_elim}
+use Rattle.std.proofs.Common.{◌≡◌, ℕ, ◌+◌, ◌^◌, ◌<◌, ◌↔◌, inl, inr, IsBitSet, bit_or, refl, sym, subst, arith, ⊎_elim, pow_pos}
 use Rattle.std.proofs.Math.Pow.{pow-lt}
 use Rattle.std.proofs.lemmas.Bool.{cases_eq}
-use Rattle.std.proofs.lemmas.Nat.{or_lt, pow_pos}
+use Rattle.std.proofs.lemmas.Nat.{or_lt}
 use Rattle.word_image.specs.Graphs.{IsSetOf}
 use Rattle.word_image.proofs.laws.Bits.{IsBitSet-or, IsBitSet-pow, IsBitSet-zero}
 

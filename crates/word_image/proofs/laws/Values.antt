@@ -1,7 +1,7 @@
 -- Words and their values: each word of n letters is one number below k ^ n.
-use Rattle.std.proofs.Common.{◌≡◌, ℕ, zero, suc, ◌+◌, ◌-◌, ◌*◌, ◌/◌, ◌%◌, ◌^◌, ◌<◌, ◌≤◌, List, [], ◌∷◌, ◌++◌, length, take, drop, get_or, refl, sym, ap, ap₂, ◌∙◌, arith, length-append, length-drop, take-append-drop, add-mul, mul_assoc, mul_comm, mul-one, zero-mul, one-mul, pow-suc, mod-lt, length-take-le, replicate}
-use Rattle.std.proofs.Math.Nat.{pow-zero, pow-le-pow_right, pos_of_ne-zero}
-use Rattle.std.proofs.lemmas.Nat.{pow-add, mul-add-lt, same_from_place, div_below, div-add-mod', div-mul-add, mod-mul-add}
+use Rattle.std.proofs.Common.{◌≡◌, ℕ, zero, suc, ◌+◌, ◌-◌, ◌*◌, ◌/◌, ◌%◌, ◌^◌, ◌<◌, ◌≤◌, List, [], ◌∷◌, ◌++◌, length, take, drop, get_or, refl, sym, ap, ap₂, ◌∙◌, arith, length-append, length-drop, take-append-drop, add-mul, mul_assoc, mul_comm, mul-one, zero-mul, one-mul, pow-suc, mod-lt, length-take-le, replicate, pos_of_ne-zero, pow-add, div-add-mod'}
+use Rattle.std.proofs.Math.Nat.{pow-zero, pow-le-pow_right}
+use Rattle.std.proofs.lemmas.Nat.{mul-add-lt, same_from_place, div_below, div-mul-add, mod-mul-add}
 use Rattle.std.proofs.lemmas.List.{nil_from_length, take_more}
 use Rattle.std.proofs.lemmas.List.Elements.{All-nil, All-cons, All-head, All-tail, All-take, All-drop}
 use Rattle.word_image.specs.LocalRules.{IsWord, value, word_of}

@@ -1,7 +1,7 @@
 -- Windows and nodes taken apart by their values: a window is a node and a letter from either end, and a node's letters are the digits of its number.
-use Rattle.std.proofs.Common.{◌≡◌, ℕ, zero, suc, ◌+◌, ◌-◌, ◌*◌, ◌/◌, ◌%◌, ◌^◌, ◌<◌, ◌≤◌, List, [], ◌∷◌, length, drop, slice_index, sym, ap, ◌∙◌, arith, mod-eq_of_lt, mod-lt, pow-suc, mul_assoc}
+use Rattle.std.proofs.Common.{◌≡◌, ℕ, zero, suc, ◌+◌, ◌-◌, ◌*◌, ◌/◌, ◌%◌, ◌^◌, ◌<◌, ◌≤◌, List, [], ◌∷◌, length, drop, slice_index, sym, ap, ◌∙◌, arith, mod-eq_of_lt, mod-lt, pow-suc, mul_assoc, pow-add}
 use Rattle.std.proofs.Math.Nat.{mul-add-div_right, mul-add-mod_self_right, one-le-pow, pow-le-pow_right}
-use Rattle.std.proofs.lemmas.Nat.{pow-add, div-mul-add, div_below, mul-add-lt}
+use Rattle.std.proofs.lemmas.Nat.{div-mul-add, div_below, mul-add-lt}
 use Rattle.std.proofs.lemmas.List.Elements.{All-head, All-tail}
 use Rattle.word_image.specs.LocalRules.{LocalRule, IsRule, IsWord, value, word_of, node_count}
 use Rattle.word_image.specs.Graphs.{node_letter}
@@ -72,11 +72,11 @@ letter-value k (a ∷ w) (suc i) j h e =
     ∙ ap (λ n. n % k) (mul-add-div_right positive (a * k ^ i * k) (value k w))
     ∙ mul-add-mod_self_right (a * k ^ i) k (value k w / k ^ j) ∙ letter-value k w i j (All-tail (λ c. c < k) a w h) (omega arith)
 
--- a letter of a node, as a digit of its number
-pub node_letter-digit : (r : LocalRule) (u i j : ℕ) → u < node_count r → i + j + 1 ≡ r.width - 1 → node_letter r u i ≡ u / r.states ^ j % r.states
-node_letter-digit r u i j below e =
-    sym (letter-value r.states (word_of r.states (r.width - 1) u) i j (IsWord-word_of r.states (r.width - 1) u below) (e ∙ sym (length-word_of r.states (r.width - 1) u)))
-    ∙ ap (λ v. v / r.states ^ j % r.states) (value-word_of r.states (r.width - 1) u below)
+-- letter i of the word of a value
+pub get_or-word_of : (k i m v : ℕ) → i < m → v < k ^ m → slice_index (word_of k m v) i ≡ v / k ^ (m - 1 - i) % k
+get_or-word_of k i m v l below =
+    sym (letter-value k (word_of k m v) i (m - 1 - i) (IsWord-word_of k m v below) (omega (arith, length-word_of k m v)))
+    ∙ ap (λ x. x / k ^ (m - 1 - i) % k) (value-word_of k m v below)
 
 -- the window of a node and a letter is one of the windows
 pub window_with-within : (side : Side) {r : LocalRule} → IsRule r → (u a : ℕ) → u < node_count r → a < r.states → window_with side r u a < r.states ^ r.width

@@ -1,10 +1,9 @@
 -- Images and preimages, one letter at a time.
-use Rattle.std.proofs.Common.{◌≡◌, ℕ, ◌+◌, ◌-◌, ◌<◌, ◌≤◌, List, [], ◌∷◌, ◌++◌, length, map, take, drop, get_or, slice_index, slice_range, true, refl, sym, ap, ap₂, ◌∙◌, ⊎_elim, arith, length-drop}
-use Rattle.std.specs.Prelude.{nat_lt}
+use Rattle.std.proofs.Common.{◌≡◌, ℕ, ◌+◌, ◌-◌, ◌<◌, ◌≤◌, List, [], ◌∷◌, ◌++◌, length, map, take, drop, get_or, slice_index, slice_range, true, refl, sym, ap, ap₂, ◌∙◌, ⊎_elim, arith, length-drop, nat_lt, length-take-le, take_all}
 use Rattle.std.specs.List.{range_with_len, list_all}
 use Rattle.std.proofs.lemmas.Bool.{cases_lt}
 use Rattle.std.proofs.lemmas.Bool.Decides.{Decides-by_and, Decides-ltb}
-use Rattle.std.proofs.lemmas.List.{length_push, length-take-le, same_from_push, nil_from_length, drop-append-le, take-append-le, take_all, take_more, get_or_past}
+use Rattle.std.proofs.lemmas.List.{length_push, same_from_push, nil_from_length, drop-append-le, take-append-le, take_more, get_or_past}
 use Rattle.std.proofs.lemmas.List.FromFn.{length-map-range_with_len, get_or-map-range_with_len, map-range_with_len_more, fill_by_all}
 use Rattle.std.proofs.lemmas.List.Elements.{All-push, All-take, All-map}
 use Rattle.word_image.specs.LocalRules.{LocalRule, IsRule, IsWord, local_map}

@@ -1,5 +1,4 @@
-use Rattle.std.proofs.Common.{take}
-use Rattle.std.specs.Prelude.{All}
+use Rattle.std.proofs.Common.{take, All}
 use Rattle.cert_check.specs.Conditions.{conditions, Holds}
 use Rattle.cert_check.proofs.conditions.check_all.Given as goal
 

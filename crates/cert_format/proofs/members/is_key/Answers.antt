@@ -1,5 +1,4 @@
-use Rattle.std.proofs.Common.{[], ◌∷◌, string_bytes}
-use Rattle.std.specs.Prelude.{codes, if◌then◌else◌}
+use Rattle.std.proofs.Common.{[], ◌∷◌, string_bytes, codes, if◌then◌else◌}
 use Rattle.std.proofs.lemmas.List.Elements.{Contains-append_left}
 use Rattle.cert_format.specs.Versions.{names_weights}
 use Rattle.cert_format.specs.CertificateTexts.{keys}

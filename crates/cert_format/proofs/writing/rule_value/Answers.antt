@@ -1,7 +1,6 @@
-use Rattle.std.proofs.Common.{sym, subst}
-use Rattle.std.specs.Prelude.{IsUtf8}
+use Rattle.std.proofs.Common.{sym, subst, IsUtf8}
 use Rattle.cert_format.proofs.laws.AsciiTexts.{IsUtf8-rule}
 use Rattle.cert_format.proofs.writing.rule_value.Goals as goal
 
 pub text_value-requires : goal.text_value-requires
-text_value-requires c = subst IsUtf8 (sym c.in_ok-print.ensures) (IsUtf8-rule c.args.rule.now c.k.ensures.rule)
+text_value-requires c = subst IsUtf8 (sym c.in_ok-print.ensures) (IsUtf8-rule c.args.rule.now c.keeps_limits.ensures)

@@ -1,5 +1,4 @@
-use Rattle.std.proofs.Common.{sym, subst}
-use Rattle.std.specs.Prelude.{IsUtf8}
+use Rattle.std.proofs.Common.{sym, subst, IsUtf8}
 use Rattle.cert_format.proofs.laws.AsciiTexts.{IsUtf8-tail}
 use Rattle.cert_format.proofs.writing.tail_value.Goals as goal
 

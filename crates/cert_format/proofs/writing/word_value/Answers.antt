@@ -1,5 +1,4 @@
-use Rattle.std.proofs.Common.{sym, ap, subst, ◌∙◌}
-use Rattle.std.specs.Prelude.{IsUtf8}
+use Rattle.std.proofs.Common.{sym, ap, subst, ◌∙◌, IsUtf8}
 use Rattle.word_image.specs.Digits.{word_text}
 use Rattle.cert_format.proofs.laws.AsciiTexts.{IsUtf8-word}
 use Rattle.cert_format.proofs.writing.word_value.Goals as goal

@@ -1,5 +1,4 @@
-use Rattle.std.proofs.Common.{◌≡◌, ℕ, ◌-◌, ◌≤◌, List, length, slice_index, sym, ap, ◌∙◌, arith}
-use Rattle.std.proofs.lemmas.Bool.{eq-eqb}
+use Rattle.std.proofs.Common.{◌≡◌, ℕ, ◌-◌, ◌≤◌, List, length, slice_index, sym, ap, ◌∙◌, arith, eq-eqb}
 use Rattle.table_laws.proofs.MeanTables.{keeps-zeros, keeps-greatest}
 use Rattle.flux_conserve.proofs.means.keeps_ends.Goals as goal
 

@@ -1,8 +1,8 @@
-use Rattle.std.proofs.Common.{◌≡◌, ℕ, ◌+◌, ◌^◌, ◌<◌, ◌≤◌, List, ◌++◌, length, slice_index, take, drop, replicate, refl, sym, ap, ap₂, subst, ◌∙◌, ⊎_elim, arith, length-append, length-drop}
+use Rattle.std.proofs.Common.{◌≡◌, ℕ, ◌+◌, ◌^◌, ◌<◌, ◌≤◌, List, ◌++◌, length, slice_index, take, drop, replicate, refl, sym, ap, ap₂, subst, ◌∙◌, ⊎_elim, arith, length-append, length-drop, length-take-le}
 use Rattle.std.proofs.Math.Nat.{pow-le-pow_left, pow-le-pow_right}
 use Rattle.std.proofs.Math.Seq.{take-append_seam}
 use Rattle.std.proofs.lemmas.Bool.{cases_eq}
-use Rattle.std.proofs.lemmas.List.{take-replicate, length-take-le}
+use Rattle.std.proofs.lemmas.List.{take-replicate}
 use Rattle.std.proofs.lemmas.List.Elements.{All-replicate, All-take}
 use Rattle.word_image.specs.LocalRules.{LocalRule, IsWord, value}
 use Rattle.word_image.specs.Rings.{IsRing, KeepsSum}

@@ -1,5 +1,4 @@
-use Rattle.std.proofs.Common.{◌≡◌, ◌+◌, ◌*◌, Some}
-use Rattle.std.specs.List.{slice_get}
+use Rattle.std.proofs.Common.{◌≡◌, ◌+◌, ◌*◌, Some, slice_get}
 use Rattle.image_minimal.specs.Searches.{IsClassSearch}
 use Rattle.image_minimal.proofs.classes.expand.Given as goal
 

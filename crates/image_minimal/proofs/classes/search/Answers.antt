@@ -1,5 +1,4 @@
-use Rattle.std.proofs.Common.{◌≡◌, ℕ, ◌*◌, List, [], ◌∷◌, sym, ap, ◌∙◌, subst, arith}
-use Rattle.std.proofs.Math.Nat.{mul-le-mul_right}
+use Rattle.std.proofs.Common.{◌≡◌, ℕ, ◌*◌, List, [], ◌∷◌, sym, ap, ◌∙◌, subst, arith, mul-le-mul_right}
 use Rattle.word_image.specs.Graphs.{full_set}
 use Rattle.image_minimal.specs.Closures.{IsClosedStep}
 use Rattle.image_minimal.specs.Searches.{IsClassSearch}

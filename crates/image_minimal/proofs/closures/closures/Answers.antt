@@ -1,5 +1,4 @@
-use Rattle.std.proofs.Common.{◌≡◌, ◌+◌, ◌-◌, ◌^◌, ◌<◌, set, sym, subst, arith}
-use Rattle.std.proofs.lemmas.Nat.{pow_pos}
+use Rattle.std.proofs.Common.{◌≡◌, ◌+◌, ◌-◌, ◌^◌, ◌<◌, set, sym, subst, arith, pow_pos}
 use Rattle.word_image.specs.LocalRules.{node_count}
 use Rattle.word_image.proofs.laws.Places.{Contains-slice_get}
 use Rattle.image_minimal.specs.Indexes.{IsPlaceOf}

@@ -1,5 +1,4 @@
-use Rattle.std.proofs.Common.{◌≡◌, ◌+◌, ◌*◌, Some}
-use Rattle.std.specs.List.{slice_get}
+use Rattle.std.proofs.Common.{◌≡◌, ◌+◌, ◌*◌, Some, slice_get}
 use Rattle.image_minimal.specs.Closures.{IsBack}
 use Rattle.search_laws.specs.SearchQueues.{IsSearch}
 use Rattle.image_minimal.proofs.closures.expand.Given as goal

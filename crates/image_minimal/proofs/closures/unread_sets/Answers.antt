@@ -1,6 +1,4 @@
-use Rattle.std.proofs.Common.{◌≡◌, ◌*◌, ◌^◌, [], ◌∷◌, sym, subst, arith}
-use Rattle.std.proofs.Math.Nat.{mul-le-mul_right}
-use Rattle.std.proofs.lemmas.Nat.{pow_pos}
+use Rattle.std.proofs.Common.{◌≡◌, ◌*◌, ◌^◌, [], ◌∷◌, sym, subst, arith, mul-le-mul_right, pow_pos}
 use Rattle.word_image.specs.LocalRules.{node_count}
 use Rattle.image_minimal.specs.Closures.{IsBack}
 use Rattle.search_laws.specs.SearchQueues.{IsSearch}

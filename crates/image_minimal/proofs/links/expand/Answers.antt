@@ -1,7 +1,6 @@
-use Rattle.std.proofs.Common.{◌≡◌, ℕ, ◌+◌, ◌*◌, ◌^◌, ◌%◌, ◌<◌, [], ◌∷◌, ◌++◌, slice_index, refl, ap, ap₂, ◌∙◌, subst, arith}
+use Rattle.std.proofs.Common.{◌≡◌, ℕ, ◌+◌, ◌*◌, ◌^◌, ◌%◌, ◌<◌, [], ◌∷◌, ◌++◌, slice_index, refl, ap, ap₂, ◌∙◌, subst, arith, suc-mul}
 use Rattle.std.proofs.lemmas.Nat.{one_shl}
 use Rattle.std.proofs.lemmas.Option.{slice_get_read}
-use Rattle.std.proofs.Math.Nat.{suc-mul}
 use Rattle.word_image.specs.LocalRules.{node_count}
 use Rattle.word_image.proofs.laws.Places.{slice_get-append}
 use Rattle.image_minimal.specs.Joins.{IsJoin}

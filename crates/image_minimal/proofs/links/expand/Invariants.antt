@@ -1,5 +1,4 @@
-use Rattle.std.proofs.Common.{◌≡◌, ◌+◌, ◌*◌, Some}
-use Rattle.std.specs.List.{slice_get}
+use Rattle.std.proofs.Common.{◌≡◌, ◌+◌, ◌*◌, Some, slice_get}
 use Rattle.image_minimal.specs.declared.links.Link.{Link}
 use Rattle.image_minimal.specs.Links.{IsLinkSearch}
 use Rattle.image_minimal.proofs.links.expand.Given as goal

@@ -1,5 +1,5 @@
 use Rattle.std.proofs.Common.{◌≡◌, ℕ, None, ℤ, w8, w32, FitsSigned, to_z, of_z, refl, sym, ◌∙◌, arith, rules}
-use Rattle.std.proofs.lemmas.Int.{ints, to_z-of_z}
+use Rattle.std.proofs.lemmas.Int.{to_z-of_z, ints}
 use Rattle.std.proofs.lemmas.Option.{none-some}
 use Rattle.word_image.specs.LocalRules.{IsRule}
 use Rattle.word_image.specs.RuleFaults.{shape_fault}

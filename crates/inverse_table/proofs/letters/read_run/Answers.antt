@@ -1,5 +1,4 @@
-use Rattle.std.proofs.Common.{ℕ, ◌+◌, ◌/◌, ◌<◌, length, sym, ap, subst, ◌∙◌, arith, length-set}
-use Rattle.std.proofs.Math.Nat.{mod-lt}
+use Rattle.std.proofs.Common.{ℕ, ◌+◌, ◌/◌, ◌<◌, length, sym, ap, subst, ◌∙◌, arith, length-set, mod-lt}
 use Rattle.inverse_table.specs.ImageValues.{letter_by_unit, IsRead}
 use Rattle.inverse_table.proofs.ReadLaws.{IsRead-same, IsRead-new, HasApart-read}
 use Rattle.inverse_table.proofs.letters.read_run.Goals as goal

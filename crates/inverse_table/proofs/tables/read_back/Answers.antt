@@ -1,6 +1,6 @@
-use Rattle.std.proofs.Common.{◌≡◌, ℕ, ◌+◌, ◌-◌, ◌%◌, ◌<◌, ◌++◌, List, All, length, take, drop, w32, FitsSigned, refl, sym, ap₂, subst, subst₂, ◌∙◌, rules, arith}
+use Rattle.std.proofs.Common.{◌≡◌, ℕ, ◌+◌, ◌-◌, ◌%◌, ◌<◌, ◌++◌, List, All, length, take, drop, w32, FitsSigned, refl, sym, ap₂, subst, subst₂, ◌∙◌, rules, arith, take_all}
 use Rattle.std.proofs.lemmas.Int.{to_z-of_z}
-use Rattle.std.proofs.lemmas.List.{take-append-le, take_all}
+use Rattle.std.proofs.lemmas.List.{take-append-le}
 use Rattle.tail_config.specs.InverseMaps.{IsInverseMap}
 use Rattle.inverse_table.specs.InverseMaps.{GivesBack}
 use Rattle.inverse_table.specs.InverseFaults.{IsApartAt}

@@ -1,8 +1,8 @@
-use Rattle.std.proofs.Common.{◌≡◌, ℕ, ◌+◌, ◌-◌, ◌/◌, ◌%◌, ◌^◌, List, [], ◌∷◌, ◌++◌, slice_index, sym, ap, ap₂, ◌∙◌, arith}
-use Rattle.std.proofs.lemmas.List.{take_all, take_more}
+use Rattle.std.proofs.Common.{◌≡◌, ℕ, ◌+◌, ◌-◌, ◌/◌, ◌%◌, ◌^◌, List, [], ◌∷◌, ◌++◌, slice_index, sym, ap₂, ◌∙◌, arith, take_all}
+use Rattle.std.proofs.lemmas.List.{take_more}
 use Rattle.word_image.specs.LocalRules.{word_of}
-use Rattle.word_image.proofs.laws.Values.{value-word_of, IsWord-word_of, length-word_of}
-use Rattle.inverse_table.proofs.InverseLaws.{letter_by_unit-place}
+use Rattle.word_image.proofs.laws.Values.{length-word_of}
+use Rattle.word_image.proofs.laws.WindowParts.{get_or-word_of}
 use Rattle.inverse_table.proofs.WordCounts.{power-most}
 use Rattle.inverse_table.proofs.tables.word_at.Goals as goal
 
@@ -25,13 +25,11 @@ loop-place-preserved c =
     let long : ℕ = n + (r.width - 1) in
     let place = c.loop-place.place in
     let w : List ℕ = word_of r.states long c.args.value in
-    let wide = c.k.ensures.rule.shape.least_width in
     let same : c.from-k.result ≡ r.states = c.from-k.ensures ∙ c.k.ensures.states in
     let rest : c.from.result + c.from-2.result - 1 - 1 - place ≡ long - 1 - place = omega arith in
     let behind : c.pow.result ≡ r.states ^ (long - 1 - place) = c.pow.ensures ∙ ap₂ (λ (i j : ℕ). i ^ j) same rest in
     let letter : c.args.value / c.pow.result % c.from-k.result ≡ slice_index w place =
-    ap (λ v. v / c.pow.result % c.from-k.result) (sym (value-word_of r.states long c.args.value c.requires.value))
-    ∙ letter_by_unit-place c.k.ensures.rule n place c.from-k.result c.pow.result c.requires.some (omega arith) same behind w (IsWord-word_of r.states long c.args.value c.requires.value) (length-word_of r.states long c.args.value) in
+    ap₂ (λ (u k : ℕ). c.args.value / u % k) behind same ∙ sym (get_or-word_of r.states place long c.args.value (omega arith) c.requires.value) in
     c.in_ok-push.ensures.items
     ∙ ap₂ (λ (xs : List ℕ) (a : ℕ). xs ++ a ∷ []) c.loop-place.invariant letter
     ∙ sym (take_more w place 0 (omega (arith, length-word_of r.states long c.args.value)))
@@ -41,5 +39,4 @@ returns c =
     let r = c.args.rule.now in
     let long : ℕ = c.args.n + (r.width - 1) in
     let w : List ℕ = word_of r.states long c.args.value in
-    let wide = c.k.ensures.rule.shape.least_width in
     c.of.ensures ∙ c.loop-place.invariant ∙ take_all c.loop-place.place w (omega (arith, length-word_of r.states long c.args.value))

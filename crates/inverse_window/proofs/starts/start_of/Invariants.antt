@@ -1,5 +1,4 @@
-use Rattle.std.proofs.Common.{◌≤◌}
-use Rattle.std.specs.Prelude.{IfSome}
+use Rattle.std.proofs.Common.{◌≤◌, IfSome}
 use Rattle.word_image.specs.Graphs.{pair_of}
 use Rattle.inverse_window.specs.Starts.{HoldsFrom}
 use Rattle.inverse_window.specs.FirstWindows.{PairDiffersAt, PairEnds, NoneHolds}

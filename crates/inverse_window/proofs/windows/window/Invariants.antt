@@ -1,5 +1,4 @@
-use Rattle.std.proofs.Common.{◌≤◌}
-use Rattle.std.specs.Prelude.{IfSome}
+use Rattle.std.proofs.Common.{◌≤◌, IfSome}
 use Rattle.inverse_window.specs.FirstWindows.{IsFirstWindowOf}
 use Rattle.inverse_window.proofs.LeastWindows.{IsBefore}
 use Rattle.inverse_window.proofs.windows.window.Given as goal

@@ -1,5 +1,4 @@
-use Rattle.std.proofs.Common.{◌≡◌, ◌≤◌, ◌∷◌, length, take, slice_index, vec_capacity}
-use Rattle.std.specs.List.{filter}
+use Rattle.std.proofs.Common.{◌≡◌, ◌≤◌, ◌∷◌, length, take, slice_index, vec_capacity, filter}
 use Rattle.word_image.specs.Families.{is_cover}
 use Rattle.orphan_search.proofs.search.write_cover.Given as goal
 

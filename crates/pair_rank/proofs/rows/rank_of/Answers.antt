@@ -1,5 +1,4 @@
-use Rattle.std.proofs.Common.{ap, ◌∙◌, subst₂}
-use Rattle.std.specs.Prelude.{MatchOption}
+use Rattle.std.proofs.Common.{ap, ◌∙◌, subst₂, MatchOption}
 use Rattle.word_image.specs.LocalRules.{LocalRule}
 use Rattle.word_image.specs.Graphs.{first_of, second_of}
 use Rattle.word_image.specs.Ranks.{IsRank, IsEndless}

@@ -1,7 +1,7 @@
-use Rattle.std.proofs.Common.{◌≡◌, ℕ, ◌+◌, ◌*◌, ◌-◌, ◌/◌, ◌^◌, ◌<◌, ◌≤◌, ℤ, slice_index, take, w8, to_z, of_z, refl, ap, ◌∙◌, arith, rules}
+use Rattle.std.proofs.Common.{◌≡◌, ℕ, ◌+◌, ◌*◌, ◌-◌, ◌/◌, ◌^◌, ◌<◌, ◌≤◌, ℤ, slice_index, take, w8, to_z, of_z, refl, ap, ◌∙◌, arith, rules, pow-add}
 use Rattle.std.proofs.Math.Nat.{pow-le-pow_right, one-le-pow}
 use Rattle.std.proofs.iter.Serving.{serving}
-use Rattle.std.proofs.lemmas.Nat.{pow-add, div_below}
+use Rattle.std.proofs.lemmas.Nat.{div_below}
 use Rattle.word_image.specs.LocalRules.{LocalRule, IsRule, IsShape, local_map, word_of}
 use Rattle.word_image.specs.RulesBy.{IsRuleBy}
 use Rattle.word_image.proofs.laws.RuleFaults.{window_count-le}

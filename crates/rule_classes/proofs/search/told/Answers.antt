@@ -1,5 +1,4 @@
-use Rattle.std.proofs.Common.{◌≡◌, ◌+◌, ◌-◌, ◌*◌, ◌<◌, slice_index, sym, ap, ◌∙◌, subst, ltb-true, ltb-false, arith}
-use Rattle.std.proofs.lemmas.Bool.{leb-false}
+use Rattle.std.proofs.Common.{◌≡◌, ◌+◌, ◌-◌, ◌*◌, ◌<◌, slice_index, sym, ap, ◌∙◌, subst, ltb-true, ltb-false, arith, leb-false}
 use Rattle.rule_classes.specs.Colourings.{AgreeFrom, IsChosen, entry, old_value}
 use Rattle.rule_classes.proofs.laws.Readings.{IsRow-made, window-below}
 use Rattle.rule_classes.proofs.laws.Colourings.{slice_index-best}

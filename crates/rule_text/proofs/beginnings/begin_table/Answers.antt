@@ -1,7 +1,5 @@
-use Rattle.std.proofs.Common.{◌≡◌, ℕ, ◌^◌, List, Some, take, map, length, sym, ap, ap₂, ◌∙◌, arith, rules, FitsSigned, w8, to_z, of_z}
-use Rattle.std.specs.Prelude.{ℤ}
+use Rattle.std.proofs.Common.{◌≡◌, ℕ, ◌^◌, List, Some, take, map, length, sym, ap, ap₂, ◌∙◌, arith, rules, FitsSigned, w8, to_z, of_z, ℤ, option_map}
 use Rattle.std.proofs.lemmas.Int.{to_z-of_z}
-use Rattle.std.specs.Option.{option_map}
 use Rattle.std.proofs.lemmas.List.{length-map}
 use Rattle.word_image.specs.Digits.{letter_at}
 use Rattle.word_image.specs.LocalRules.{LocalRule}

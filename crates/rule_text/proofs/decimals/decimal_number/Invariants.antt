@@ -1,5 +1,4 @@
-use Rattle.std.proofs.Common.{◌^◌, ◌<◌, take}
-use Rattle.std.specs.Option.{SomeIff}
+use Rattle.std.proofs.Common.{◌^◌, ◌<◌, take, SomeIff}
 use Rattle.rule_text.specs.RuleTexts.{decimal_value}
 use Rattle.rule_text.proofs.decimals.decimal_number.Given as goal
 

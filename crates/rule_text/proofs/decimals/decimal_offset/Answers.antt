@@ -1,5 +1,4 @@
-use Rattle.std.proofs.Common.{◌≡◌, ℕ, Bool, ◌-◌, List, take, drop, length, Some, sym, ap, subst, ◌∙◌, w8, FitsSigned, rules}
-use Rattle.std.specs.Prelude.{ℤ}
+use Rattle.std.proofs.Common.{◌≡◌, ℕ, Bool, ◌-◌, List, take, drop, length, Some, sym, ap, subst, ◌∙◌, w8, FitsSigned, rules, ℤ}
 use Rattle.std.proofs.lemmas.Int.{to_z-of_z}
 use Rattle.std.proofs.lemmas.List.{take_rest}
 use Rattle.rule_text.specs.RuleTexts.{IsDecimal, IsOffset, decimal_value}

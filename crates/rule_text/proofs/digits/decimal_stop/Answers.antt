@@ -1,6 +1,4 @@
-use Rattle.std.proofs.Common.{◌≢◌, length, arith, rules, subst}
-use Rattle.std.specs.Prelude.{List, All}
-use Rattle.std.proofs.lemmas.List.{take_all}
+use Rattle.std.proofs.Common.{◌≢◌, length, arith, rules, subst, List, All, take_all}
 use Rattle.std.proofs.lemmas.List.Elements.{All-more}
 use Rattle.rule_text.specs.RuleTexts.{IsDigit}
 use Rattle.rule_text.specs.Heads.{IsDecimalStop}

@@ -1,5 +1,4 @@
-use Rattle.std.proofs.Common.{◌≤◌, take}
-use Rattle.std.specs.Prelude.{All}
+use Rattle.std.proofs.Common.{◌≤◌, take, All}
 use Rattle.rule_text.specs.RuleTexts.{IsDigit}
 use Rattle.rule_text.proofs.digits.decimal_stop.Given as goal
 

@@ -1,5 +1,4 @@
-use Rattle.std.proofs.Common.{take}
-use Rattle.std.specs.Prelude.{All}
+use Rattle.std.proofs.Common.{take, All}
 use Rattle.word_image.specs.Digits.{IsHexDigit}
 use Rattle.rule_text.proofs.digits.hex_stop.Given as goal
 

@@ -1,6 +1,4 @@
-use Rattle.std.proofs.Common.{◌≡◌, ◌++◌, map, take}
-use Rattle.std.specs.Prelude.{codes}
-use Rattle.std.specs.Fmt.{decimal}
+use Rattle.std.proofs.Common.{◌≡◌, ◌++◌, map, take, codes, decimal}
 use Rattle.word_image.specs.Digits.{lower_digit}
 use Rattle.rule_text.specs.PrintedRules.{head, offset_text}
 use Rattle.rule_text.proofs.printing.print.Given as goal

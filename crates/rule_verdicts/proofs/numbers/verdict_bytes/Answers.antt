@@ -1,7 +1,6 @@
-use Rattle.std.proofs.Common.{◌≡◌, ℕ, ◌+◌, ◌-◌, ◌^◌, ◌<◌, ◌≤◌, None, List, length, reverse, refl, sym, ap, ◌∙◌, subst, arith}
-use Rattle.std.specs.Prelude.{pos}
+use Rattle.std.proofs.Common.{◌≡◌, ℕ, ◌+◌, ◌-◌, ◌^◌, ◌<◌, ◌≤◌, None, List, length, reverse, refl, sym, ap, ◌∙◌, subst, arith, pos, option_map}
 use Rattle.word_image.specs.LocalRules.{LocalRule, value}
-use Rattle.std.specs.Option.{option_map, option_or}
+use Rattle.std.specs.Option.{option_or}
 use Rattle.word_image.specs.RuleFaults.{shape_fault}
 use Rattle.rule_text.specs.RuleTexts.{by_number, in_text, number_fault}
 use Rattle.rule_text.specs.TextReadings.{IsReading}

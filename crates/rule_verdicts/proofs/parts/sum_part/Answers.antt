@@ -1,5 +1,4 @@
-use Rattle.std.proofs.Common.{ℕ, zero, suc, ◌<◌, List, [], ◌∷◌, take, slice_index, ◌≡◌, refl, sym, subst, arith}
-use Rattle.std.specs.Prelude.{pos, Some, slice_get}
+use Rattle.std.proofs.Common.{ℕ, zero, suc, ◌<◌, List, [], ◌∷◌, take, slice_index, ◌≡◌, refl, sym, subst, arith, pos, Some, slice_get}
 use Rattle.std.proofs.lemmas.Bool.{false≢true}
 use Rattle.word_image.specs.LocalRules.{node_count}
 use Rattle.word_image.proofs.laws.Graphs.{node_count_pos}

@@ -1,7 +1,6 @@
-use Rattle.std.proofs.Common.{ℕ, ◌<◌, ◌≤◌, List, ◌∙◌, rules, IsBitSet}
-use Rattle.std.specs.List.{repeat}
-use Rattle.std.specs.Int.{w64}
+use Rattle.std.proofs.Common.{ℕ, ◌<◌, ◌≤◌, List, ◌∙◌, rules, IsBitSet, w64}
 use Rattle.std.proofs.lemmas.Int.{to_z-of_z}
+use Rattle.std.specs.List.{repeat}
 use Rattle.word_image.specs.LocalRules.{LocalRule, node_count}
 use Rattle.word_image.specs.Graphs.{IsNodeSet, HasBit}
 use Rattle.word_image.proofs.laws.Bits.{IsBitSet-zero}

@@ -1,5 +1,4 @@
-use borrow.Author.Count.{below_more}
-use Rattle.std.proofs.Common.{◌-◌, arith}
+use Rattle.std.proofs.Common.{◌-◌, arith, below_more}
 use Rattle.tail_preimage.specs.Relations.{Rounds, Meets}
 use Rattle.word_image.specs.Graphs.{HasBit}
 use Rattle.tail_preimage.proofs.Meets.{IsSetOf-meets}

@@ -1,5 +1,4 @@
-use Rattle.std.proofs.Common.{◌≡◌, suc, ◌+◌, [], refl, ◌∙◌, subst, arith}
-use Rattle.std.proofs.lemmas.List.{length-set}
+use Rattle.std.proofs.Common.{◌≡◌, suc, ◌+◌, [], refl, ◌∙◌, subst, arith, length-set}
 use Rattle.pair_laws.proofs.Sets.{IsBitSet-below}
 use Rattle.word_image.specs.LocalRules.{node_count}
 use Rattle.tail_preimage.specs.Relations.{IsRelation, Steps}

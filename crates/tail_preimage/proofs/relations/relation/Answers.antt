@@ -14,7 +14,6 @@ loop-n-init c =
 
 pub loop-n-preserved : goal.loop-n-preserved
 loop-n-preserved c =
-    let r = c.args.graph.now in
     let w = c.args.word.now in
     let n = c.loop-n.n in
     let a = slice_index w (length w - 1 - n) in

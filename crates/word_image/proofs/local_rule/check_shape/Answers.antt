@@ -1,9 +1,8 @@
-use Rattle.std.proofs.Common.{◌-◌, ◌^◌, ◌≤◌, arith}
-use Rattle.std.proofs.Math.Nat.{pow-le-pow_left, pow-le-pow_right}
+use Rattle.std.proofs.Common.{◌-◌, arith}
+use Rattle.word_image.proofs.laws.RuleFaults.{power-few}
 use Rattle.word_image.proofs.local_rule.check_shape.Goals as goal
 
 pub pow-requires : goal.pow-requires
 pow-requires c =
-    let base : c.args.k ^ (c.args.m - 1) ≤ 16 ^ (c.args.m - 1) = pow-le-pow_left c.if-k-gt16.false (c.args.m - 1) in
-    let exponent : 16 ^ (c.args.m - 1) ≤ 16 ^ 4 = pow-le-pow_right (omega arith) {i = c.args.m - 1} {j = 4} (omega arith) in
-    rw (c.from.ensures, c.from-2.ensures) (omega arith)
+    let few = power-few {k = c.args.k} (c.args.m - 1) (omega arith) (omega arith) in
+    rw (c.from.ensures, c.from-2.ensures) (omega (arith, few))

@@ -1,8 +1,7 @@
-use Rattle.std.proofs.Common.{◌≡◌, ℕ, ◌^◌, ◌<◌, List, length, get_or, set, slice_index, Some, refl, sym, ap, ◌∙◌, subst, arith, ⊎_elim}
-use Rattle.std.specs.List.{slice_get}
+use Rattle.std.proofs.Common.{◌≡◌, ℕ, ◌^◌, ◌<◌, List, length, get_or, set, slice_index, Some, refl, sym, ap, ◌∙◌, subst, arith, ⊎_elim, slice_get, get_or-set_same, get_or-set_other, length-set}
 use Rattle.std.proofs.lemmas.Bool.{cases_eq}
 use Rattle.std.proofs.lemmas.Option.{slice_get-get_or}
-use Rattle.std.proofs.lemmas.List.{get_or-set_same, get_or-set_other, get_or_default, length-set}
+use Rattle.std.proofs.lemmas.List.{get_or_default}
 use Rattle.word_image.specs.LocalRules.{LocalRule, node_count}
 use Rattle.image_minimal.specs.ImageLanguages.{Automaton, IsLeastAutomaton}
 use Rattle.image_minimal.specs.Closures.{AreClosures}

@@ -1,5 +1,4 @@
-use Rattle.std.proofs.Common.{◌≡◌, ℕ, ◌<◌, length, slice_index, Some}
-use Rattle.std.specs.List.{slice_get}
+use Rattle.std.proofs.Common.{◌≡◌, ℕ, ◌<◌, length, slice_index, Some, slice_get}
 use Rattle.image_minimal.proofs.classes.Minimal.row.Given as goal
 
 -- the closures of the first steps stand at the places so far

@@ -1,5 +1,4 @@
-use Rattle.std.proofs.Common.{◌≡◌, ℕ, inl, inr, [], ◌∷◌, ◌++◌, length, set, Some, Contains, refl, sym, ap, ap₂, ◌∙◌, subst, arith}
-use Rattle.std.specs.List.{slice_get}
+use Rattle.std.proofs.Common.{◌≡◌, ℕ, inl, inr, [], ◌∷◌, ◌++◌, length, set, Some, Contains, refl, sym, ap, ap₂, ◌∙◌, subst, arith, slice_get}
 use Rattle.std.proofs.lemmas.List.{length_push}
 use Rattle.word_image.proofs.laws.Places.{slice_get-push}
 use Rattle.image_minimal.specs.Indexes.{IsPlaceOf}

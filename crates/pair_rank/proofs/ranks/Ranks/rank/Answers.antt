@@ -1,5 +1,4 @@
-use Rattle.std.proofs.Common.{sym, subst}
-use Rattle.std.specs.Prelude.{MatchOption}
+use Rattle.std.proofs.Common.{sym, subst, MatchOption}
 use Rattle.word_image.specs.Ranks.{IsRank, IsEndless}
 use Rattle.word_image.specs.Sides.{Together}
 use Rattle.pair_rank.proofs.ranks.Ranks.rank.Goals as goal

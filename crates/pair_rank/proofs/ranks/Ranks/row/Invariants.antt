@@ -1,5 +1,4 @@
-use Rattle.std.proofs.Common.{◌≡◌, ℕ, ◌<◌, length, get_or}
-use Rattle.std.specs.Prelude.{None}
+use Rattle.std.proofs.Common.{◌≡◌, ℕ, ◌<◌, length, get_or, None}
 use Rattle.pair_rank.specs.Sides.{IsRankOf}
 use Rattle.pair_rank.proofs.ranks.Ranks.row.Given as goal
 

@@ -1,5 +1,4 @@
-use Rattle.std.proofs.Common.{subst}
-use Rattle.std.specs.Prelude.{◌↔◌, IsTrue}
+use Rattle.std.proofs.Common.{subst, ◌↔◌, IsTrue}
 use Rattle.tail_config.specs.Tails.{IsOpen}
 use Rattle.cert_format.specs.Parts.{side_of}
 use Rattle.certificate_laws.specs.LeastEvidence as found

@@ -1,5 +1,4 @@
-use Rattle.std.proofs.Common.{◌≡◌, ◌≤◌, List, ℕ, All, slice_index, rules, refl, ◌∙◌, subst}
-use Rattle.std.specs.Prelude.{Option}
+use Rattle.std.proofs.Common.{◌≡◌, ◌≤◌, List, ℕ, All, slice_index, rules, refl, ◌∙◌, subst, Option}
 use Rattle.word_image.specs.LocalRules.{LocalRule}
 use Rattle.cert_format.specs.Evidence.{InjectiveEvidence, SideEvidence, SumEvidence}
 use Rattle.closing_test.specs.Closing.{IsRightAnswer, IsLeftAnswer}

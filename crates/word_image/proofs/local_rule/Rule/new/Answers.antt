@@ -1,5 +1,4 @@
-use Rattle.std.proofs.Common.{◌≡◌, ℕ, ◌^◌, List, length, take, drop, None, refl, sym, ap, ◌∙◌, arith, w8, FitsSigned, to_z, of_z}
-use Rattle.std.specs.Prelude.{ℤ}
+use Rattle.std.proofs.Common.{◌≡◌, ℕ, ◌^◌, List, length, take, drop, None, refl, sym, ap, ◌∙◌, arith, w8, FitsSigned, to_z, of_z, ℤ}
 use Rattle.std.proofs.lemmas.Int.{to_z-of_z}
 use Rattle.std.proofs.lemmas.Option.{none-some}
 use Rattle.word_image.specs.LocalRules.{IsWord, IsShape, IsRule}

@@ -1,0 +1,34 @@
+//! The value of a word, and the letters of a value.
+ghost use Rattle.std.specs.Prelude.{◌≡◌, ℕ, ◌^◌, ◌<◌, ◌≤◌, List, slice_index};
+ghost use Rattle.word_image.specs.LocalRules.{value, word_of, most_windows};
+ghost use Rattle.word_image.specs.WordsBy.{IsWordBy};
+
+/// The value of the word of n letters below k that a function gives place by place, where there are
+/// at most 256 such words.
+pub fn value_by<F: Fn(u8) -> u8>(k: u8, n: u8, letter: F) -> u16
+    requires word { (w : List ℕ) × IsWordBy k n (F.post letter) w }
+    requires fits { k ^ n ≤ most_windows }
+    requires callable { (i : ℕ) → i < n → F.pre letter i }
+    ensures value { (w : List ℕ) → IsWordBy k n (F.post letter) w → result ≡ value k w }
+    ensures below { result < k ^ n }
+{
+    let mut value = 0;
+    for place in 0..n {
+        value = value * u16::from(k) + u16::from(letter(place));
+    }
+    value
+}
+
+/// The letter at a place of the word of n letters below k that has this value, where there are at most
+/// 256 such words.
+pub fn letter_of(k: u8, n: u8, word: u16, place: u8) -> u8
+    requires some { 0 < k }
+    requires fits { k ^ n ≤ most_windows }
+    requires word { word < k ^ n }
+    requires place { place < n }
+    ensures letter { result ≡ slice_index (word_of k n word) place }
+    ensures below { result < k }
+{
+    let k = u16::from(k);
+    (word / k.pow(u32::from(n - 1 - place)) % k) as u8
+}
