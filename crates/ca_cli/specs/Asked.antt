@@ -68,7 +68,7 @@ pub data IsFirstFault : List (List ℕ) → ℕ → TextFault → Type 0 where
   Later : (text : List ℕ) (texts : List (List ℕ)) (r : LocalRule) (i : ℕ) (f : TextFault) → IsRuleText text r → IsFirstFault texts i f
       → IsFirstFault (text ∷ texts) (i + 1) f
 
--- the first fault of a shape of which there are no such rules
+-- there are no rules of the shape with the numbers that the operands say, and this is the first fault
 pub data IsShapeFault : Name → List (List ℕ) → TextFault → Type 0 where
   Survey : (k m from count : List ℕ) (f : TextFault) → numbers_fault (decimal_value k) (decimal_value m) (decimal_value from) (decimal_value count) ≡ Some f
       → IsShapeFault name.Survey (k ∷ m ∷ from ∷ count ∷ []) f

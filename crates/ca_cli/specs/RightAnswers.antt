@@ -26,7 +26,7 @@ pub data Reply : Type 0 where
   TooLong : Reply
   Usage : Reply
 
--- its status
+-- the status of a reply
 abbrev pub reply_status : Reply → Status
 reply_status (Found f) = status.Done
 reply_status (NoFit u) = status.NotFit
@@ -36,7 +36,7 @@ reply_status (Refused f) = status.Refused
 reply_status TooLong = status.TooLong
 reply_status Usage = status.Usage
 
--- its text
+-- the text of a reply
 abbrev pub reply_text : Reply → List ℕ
 reply_text (Found f) = text_of f
 reply_text (NoFit u) = unfit_line (unfit_text u)

@@ -10,12 +10,12 @@
 //! 2. the operands that are rules are read, and one function a command makes the output, or a `Stop`
 //!    says why there is none; only `check` has the source;
 //! 3. either becomes an `Answer`, whole in memory;
-//! 4. its output is written, so that the sink takes all of it, or a part of it and not the whole.
+//! 4. its output is written; where a write fails, a sink that tells its bytes took a part of it, and not the whole.
 //!
 //! The contract of [`run`] cites one relation, `IsAnswer` of specs/RightAnswers.antt: which status and
 //! which output are right for the words and for what the source had left. [`one_status`],
-//! [`usage_exactly`], [`rule_fault_exactly`] and [`right_exactly`] are its laws, for all commands
-//! together, and [`certified_is_accepted`] joins `certify` and `check`. By them:
+//! [`usage_exactly`], [`rule_fault_exactly`], [`right_exactly`] and [`done_or_not_fit`] are its laws, for all
+//! commands together; [`check_exactly`] is that of `check`, and [`certified_is_accepted`] joins it and `certify`. By them:
 //!
 //! | Words | Status | Code | Output |
 //! |---|---|---|---|

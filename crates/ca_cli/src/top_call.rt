@@ -32,8 +32,8 @@ pub fn run<S: Source, T: Sink>(
         × IsAnswer (map string_bytes words.now) (S.left source.old) result out
         × Appends (T.taken sink.old) (T.taken sink.new) out }
 
-    // A failed write is one that the sink has counted. A part of a right output was taken, and not
-    // the whole.
+    // A failed write is one that the sink has counted. Where the sink tells its bytes, it took a part of a
+    // right output, and not the whole.
     ensures write_counted { result ≡ Status.WriteFault →
         Rose (T.faults sink.old) (T.faults sink.new) }
     ensures write_part { result ≡ Status.WriteFault → (status : Status) × (out : List ℕ) × (n : ℕ)

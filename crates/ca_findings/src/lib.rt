@@ -21,7 +21,7 @@ ghost use Rattle.ca_findings.specs.Questions.{Question};
 
 pub use found::{Automaton, Cause, Counts, Found, Inverse, Pair, Report, Stop};
 
-/// Nothing fits a question that has a right finding.
+/// No question has both a right finding and a cause for which nothing fits.
 pub fn found_or_unfit()
     ensures { (q : Question) (f : Finding) (u : Unfit) → IsFinding q f → ¬ IsUnfitFor q u }
 {}

@@ -9,8 +9,8 @@
 //! this count, or the count stands at its greatest, `2^64 - 1`. So a caller that has both a source and
 //! a sink knows which of them failed. One that tells its bytes has then moved none.
 //!
-//! [`write_all`] writes a whole output to a sink. Where it answers `Failed`, the sink has taken a part
-//! of the output and not the whole. [`read_up_to`] reads a whole input, up to a limit.
+//! [`write_all`] writes a whole output to a sink. Where it answers `Failed`, a sink that tells its bytes
+//! has taken a part of the output and not the whole. [`read_up_to`] reads a whole input, up to a limit.
 //!
 //! Worked by hand: a `MemSink` with room for 3 bytes, 1 in a call, whose call 1 fails, is handed `ab`,
 //! `cd`, `ef`, `g` and `h`. It answers 1, `Failed`, 1, 1 and `Failed`, since the room is used up. It

@@ -59,13 +59,13 @@ form_of name.Classes = form.Numbers
 form_of name.Sample = form.Seed
 form_of _ = form.Nothing
 
--- nothing stands there
+-- no operand may stand behind the rules
 abbrev pub MayBeNone : Form → Type 0
 MayBeNone form.Nothing = ⊤
 MayBeNone form.Weights = ⊤
 MayBeNone _ = ⊥
 
--- one word stands there
+-- the one operand behind the rules has this form
 abbrev pub IsOperand : Form → List ℕ → Type 0
 IsOperand form.Weights text = AreWeightTexts text
 IsOperand form.Offset text = (o : ℤ) × IsOffset text o
@@ -74,7 +74,7 @@ IsOperand form.Colours text = AreColours text
 IsOperand form.Tail text = HasForm text
 IsOperand _ text = ⊥
 
--- many rules begin there: at a number of up to 39 digits, or at a seed
+-- where many rules begin: a number of up to 39 digits, or a seed
 abbrev pub IsBeginning : Form → List ℕ → Type 0
 IsBeginning form.Numbers text = IsDecimal 1 39 text
 IsBeginning form.Seed text = IsSeed text

@@ -34,7 +34,7 @@ pub record Shape : Type 0 where
   pub after : ℕ
   pub on : ℕ
 
--- the parts of a placed configuration are as long as so many periods of t, its middle stands where these do, and begins with the m - 1 letters that stand one of its left periods before
+-- the parts of a placed configuration are as long as so many periods of t, its middle stands where these do, and the m - 1 cells from there on are those that stand one of its left periods before
 pub record HasShape (r : LocalRule) (t : TailConfig) (s : Shape) (p : PlacedConfig) : Type 0 where
   pub back_some : 1 ≤ s.back
   pub on_some : 1 ≤ s.on
