@@ -2,11 +2,11 @@
  * The decider for one-dimensional cellular automata as a C library.
  *
  * ./library builds libca_c.a and libca_c.so in crates/ca_c/out/library, and prints where they are; ./install
- * PREFIX puts them below a folder as libca.a and libca.so, with this header and ca.pc for pkg-config. The names and
- * the layouts here are those of crates/ca_c/src/exports.rt, whose contracts say what is proved of the
- * functions. That this header agrees with them is tested and not proved.
+ * PREFIX puts them below a folder as libca.a and libca.so, with this header and ca.pc for pkg-config. The functions
+ * here are those of crates/ca_c/src/exports.rt, whose contracts say what is proved of them; the structs are RuleVerdicts of
+ * crates/ca_c/src/table_verdicts.rt and KeptSums of crates/kept_sums/src/kept.rt. That this header agrees with them is tested and not proved.
  *
- * Pointers. Each must point to as many bytes as the length beside it says, and must not be NULL, not even
+ * Pointers. Each must point to as many bytes as the length beside it says, or where there is none to all of its type, and must not be NULL, not even
  * where that length is 0: then any address of an object will do. Nothing is kept of a pointer after a
  * call, nothing is allocated that the caller would have to free, and what is passed as const is only
  * read. What a call writes to, the buffer and *length, must overlap nothing else that it is passed.
@@ -61,7 +61,7 @@ enum ca_fault {
     CA_FAULT_STATES = 1, /* there are not 2 to 16 states */
     CA_FAULT_WIDTH = 2,  /* the width is not 2 to 5 */
     CA_FAULT_NODES = 3,  /* there are more than 16 words of width - 1 letters */
-    CA_FAULT_LENGTH = 5, /* the table, or the order, has not one byte for each window */
+    CA_FAULT_LENGTH = 5, /* the table, or the order to be written, has not one byte for each window */
     CA_FAULT_LETTER = 6, /* a letter of the table is not below states */
     CA_FAULT_KIND = 7,   /* there are more than six states, so rules have no numbers */
     CA_FAULT_NUMBER = 8, /* a number has no rule */

@@ -21,7 +21,7 @@ use std::marker::Model;
 /// so 65,536.
 #[derive(Debug, Drop)]
 pub struct Family {
-    // The sets, in the order in which they were found, with an index by set.
+    // The sets, in the order in which they were found.
     sets: Masks,
     // For each set the place and the letter from which it was found; none for the full set.
     parents: Vec<Option<(u16, u8)>>,

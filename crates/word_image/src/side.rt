@@ -52,6 +52,7 @@ impl Side {
             Side::Left => (window / u16::from(rule.k())) as u8,
         }
     }
+
     /// The letter of a window at its end on this side.
     pub fn end_letter(self, rule: &Rule, window: u16) -> u8
         requires { window < rule.now.states ^ rule.now.width }
