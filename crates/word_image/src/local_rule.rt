@@ -195,7 +195,8 @@ impl Rule {
         requires place { place < self.now.width - 1 }
         ensures letter { result ≡ node_letter self.now node place }
     {
-        letter_of(self.k(), self.m() - 1, u16::from(node), place)
+        let after = self.m() - 2 - place;
+        node / self.k().pow(u32::from(after)) % self.k()
     }
 
     /// The letter that the rule gives on a window of m letters below k.

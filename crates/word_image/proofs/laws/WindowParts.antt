@@ -78,6 +78,12 @@ get_or-word_of k i m v l below =
     sym (letter-value k (word_of k m v) i (m - 1 - i) (IsWord-word_of k m v below) (omega (arith, length-word_of k m v)))
     ∙ ap (λ x. x / k ^ (m - 1 - i) % k) (value-word_of k m v below)
 
+-- a letter of a node, as a digit of its number
+pub node_letter-digit : (r : LocalRule) (u i j : ℕ) → u < node_count r → i + j + 1 ≡ r.width - 1 → node_letter r u i ≡ u / r.states ^ j % r.states
+node_letter-digit r u i j below e =
+    let same : r.width - 1 - 1 - i ≡ j = omega arith in
+    get_or-word_of r.states i (r.width - 1) u (omega arith) below ∙ ap (λ n. u / r.states ^ n % r.states) same
+
 -- the window of a node and a letter is one of the windows
 pub window_with-within : (side : Side) {r : LocalRule} → IsRule r → (u a : ℕ) → u < node_count r → a < r.states → window_with side r u a < r.states ^ r.width
 window_with-within Right {r} rule u a node letter = omega (arith, windows-nodes rule, mul-add-lt u r.states a (node_count r) node letter)
