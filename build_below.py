@@ -67,7 +67,7 @@ def how_many():
 def copy_into(folder):
     folder.mkdir()
     shutil.copy(top / "crates.txt", folder)
-    shutil.copytree(top / "crates", folder / "crates", ignore=shutil.ignore_patterns("out", "must-fail", "twins"))
+    shutil.copytree(top / "crates", folder / "crates", ignore=shutil.ignore_patterns("out"))
 
 
 def out_of(checkout, name):
