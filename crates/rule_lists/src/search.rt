@@ -13,7 +13,8 @@ use crate::tables::{Entries, advance, has_letters};
 use word_image::{MOST_ENTRIES, Rule};
 
 /// The rule of least rank that has the property and each letter that is fixed from the beginning, of the
-/// states and the width of this rule and at offset 0; `None` exactly where there is none.
+/// states and the width of this rule and at offset 0; `None` exactly where there is none. Hints change no
+/// answer: what is kept in them makes the next call on the same list shorter.
 pub fn first_rule(
     property: Property,
     shape: &Rule,
@@ -38,7 +39,7 @@ pub fn first_rule(
 }
 
 /// The rule of least rank greater than that of this rule, of its shape at offset 0, that has the
-/// property; `None` exactly where there is none.
+/// property; `None` exactly where there is none. Hints as in [`first_rule`].
 pub fn rule_after(
     property: Property,
     begin: &Letters,
