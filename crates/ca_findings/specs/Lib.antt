@@ -2,4 +2,5 @@ pub mod Questions
 pub mod Numbers
 pub mod Counts
 pub mod Findings
+pub mod Replies
 pub mod Values

@@ -10,16 +10,21 @@
 //! cause; nothing else says it. [`found_or_unfit`] is their law. A function that answers a question has the
 //! contract `Answers` of specs/Values.antt, and what is written of a finding is made of the value alone.
 //!
-//! [`Found`], [`Cause`] and [`Stop`] are these values in code. Each is a plain enum, and `finding_of` and
-//! `unfit_of` say what it is seen as.
+//! A *reply* is all that can be said to the words of a command line: a finding, a cause, the fault of an operand, what is
+//! said of a judged input, or that they are no command. Text and JSON are forms of a reply.
+//!
+//! [`Found`], [`Cause`], [`Stop`] and [`Reply`] are these values in code. Each is a plain enum, and `finding_of`,
+//! `unfit_of` and `reply_of` say what it is seen as.
 #![tactic(auto)]
 
 mod found;
+mod reply;
 
 ghost use Rattle.ca_findings.specs.Findings.{IsFinding, IsUnfitFor, Finding, Unfit};
 ghost use Rattle.ca_findings.specs.Questions.{Question};
 
 pub use found::{Automaton, Cause, Counts, Found, Inverse, Pair, Report, Stop};
+pub use reply::Reply;
 
 /// No question has both a right finding and a cause for which nothing fits.
 pub fn found_or_unfit()
