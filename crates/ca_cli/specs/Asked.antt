@@ -13,7 +13,7 @@ use Rattle.ca_words.specs.declared.names.Name.TheVariants as name
 use Rattle.ca_words.specs.Commands.{Command}
 use Rattle.ca_words.specs.WeightTexts.{weights_said}
 use Rattle.ca_findings.specs.Questions.{Question}
-use Rattle.ca_cli.specs.Samples.{survey_rules, sample_rules, sample_fault}
+use Rattle.ca_answers.specs.Samples.{survey_rules, sample_rules, sample_fault}
 
 -- The question
 

@@ -1,58 +1,54 @@
--- What a command comes to: its output, or why it stopped.
-use Rattle.std.specs.Prelude.{◌≡◌, ℕ, List, Option, Some, Result, Ok, Err, MatchResult, ⊤}
+-- What comes of a command that reads nothing.
+use Rattle.std.specs.Prelude.{◌≡◌, ℕ, List, [], Result, MatchResult, ⊤}
+use Rattle.word_image.specs.LocalRules.{LocalRule}
 use Rattle.rule_text.specs.declared.text_fault.TextFault.{TextFault}
 use Rattle.rule_text.specs.RuleTexts.{IsTextFault}
-use Rattle.ca_cli.specs.declared.status.Status.{Status}
-use Rattle.ca_cli.specs.declared.status.Status.TheVariants as status
+use Rattle.ca_words.specs.declared.names.Name.{Name}
+use Rattle.ca_words.specs.Commands.{Command}
+use Rattle.ca_findings.specs.declared.found.Found.{Found}
+use Rattle.ca_findings.specs.declared.found.Stop as unfit
+use Rattle.ca_findings.specs.declared.found.Stop.TheVariants as unfit_stop
+use Rattle.ca_findings.specs.Questions.{Question}
+use Rattle.ca_findings.specs.Findings.{IsFinding, IsUnfitFor}
+use Rattle.ca_findings.specs.Values.{Answers, finding_of, unfit_of}
+use Rattle.ca_answers.specs.declared.summaries.NoRules.{NoRules}
+use Rattle.ca_answers.specs.declared.summaries.NoRules.TheVariants as none
 use Rattle.ca_cli.specs.declared.stop.Stop.{Stop}
 use Rattle.ca_cli.specs.declared.stop.Stop.TheVariants as stop
-use Rattle.ca_cli.specs.Commands.{Command}
-use Rattle.ca_cli.specs.StatusLines.{refused_line, too_long_line, unfit_line}
-use Rattle.ca_cli.specs.AnswersByShape.{IsOperandFault, IsRight}
+use Rattle.ca_cli.specs.Asked.{Asks, IsAsked, IsShapeFault, IsOperandFault}
 
--- the status of a command that stopped
-abbrev pub status_of : Stop → Status
-status_of (stop.RuleFault operand f) = status.RuleFault
-status_of (stop.NotFit out) = status.NotFit
-status_of stop.TooLong = status.TooLong
-status_of stop.ReadFault = status.ReadFault
-status_of (stop.Refused f) = status.Refused
-status_of (stop.Memory _) = status.Memory
+-- a command stops where its question does
+abbrev pub stop_of : unfit.Stop → Stop
+stop_of (unfit_stop.Unfit u) = stop.Unfit u
+stop_of (unfit_stop.Memory fault) = stop.Memory fault
 
--- the status of an outcome
-abbrev pub outcome_status : Result (List ℕ) Stop → Status
-outcome_status (Ok out) = status.Done
-outcome_status (Err s) = status_of s
+-- where there are no such rules as it asks for, the fault of their shape is that of operand 1
+abbrev pub shape_stop : NoRules → Stop
+shape_stop (none.Fault f) = stop.RuleFault 1 f
+shape_stop (none.Memory fault) = stop.Memory fault
 
--- the command has to stop for this; want of memory may always be, and a failed read where the command reads
-abbrev pub IsStop : Option (List ℕ) → Command → Stop → Type 0
-IsStop input c (stop.RuleFault operand f) = IsOperandFault c operand f
-IsStop input c (stop.NotFit out) = IsRight input c status.NotFit out
-IsStop input c stop.TooLong = IsRight input c status.TooLong too_long_line
-IsStop input c stop.ReadFault = c ≡ Command.Check
-IsStop input c (stop.Refused f) = IsRight input c status.Refused (refused_line f)
-IsStop input c (stop.Memory _) = ⊤
+-- a command has to stop: one of its operands is refused, or nothing fits its question, or there was no memory
+abbrev pub IsStop : Command → Stop → Type 0
+IsStop c (stop.RuleFault operand f) = IsOperandFault c operand f
+IsStop c (stop.Unfit u) = (q : Question) × IsAsked c q × IsUnfitFor q (unfit_of u)
+IsStop c (stop.Memory _) = ⊤
 
--- the output is right, or the command has to stop
-abbrev pub IsOutcome : Option (List ℕ) → Command → Result (List ℕ) Stop → Type 0
-IsOutcome input c result = MatchResult result (IsRight input c status.Done) (IsStop input c)
+-- what is found is right for the question of the command, or it has to stop
+abbrev pub IsOutcome : Command → Result Found Stop → Type 0
+IsOutcome c result = MatchResult result (λ f. (q : Question) × IsAsked c q × IsFinding q (finding_of f)) (IsStop c)
 
--- a command stops since one of its rules has a fault, or since nothing fits, or for want of memory
-abbrev pub IsStopFor : (ℕ → TextFault → Type 0) → (List ℕ → Type 0) → Stop → Type 0
-IsStopFor Fault Cause (stop.RuleFault operand f) = Fault operand f
-IsStopFor Fault Cause (stop.NotFit out) = (cause : List ℕ) × Cause cause × (out ≡ unfit_line cause)
-IsStopFor Fault Cause stop.TooLong = ⊥
-IsStopFor Fault Cause stop.ReadFault = ⊥
-IsStopFor Fault Cause (stop.Refused f) = ⊥
-IsStopFor Fault Cause (stop.Memory _) = ⊤
+-- this comes of the question that a command of this name asks of these rules, with these operands
+abbrev pub Comes : Name → List LocalRule → List (List ℕ) → Result Found unfit.Stop → Type 0
+Comes n rules operands result = (q : Question) × Asks n rules operands q × Answers q result
 
--- a command stops since the shape of its rules has this fault, or for want of memory
-abbrev pub IsShapeStop : Option TextFault → Stop → Type 0
-IsShapeStop fault = IsStopFor (λ operand f. (operand ≡ 1) × (fault ≡ Some f)) (λ cause. ⊥)
+-- there are no such rules as a command of this name asks for with these operands, or there was no memory
+abbrev pub AreNoRules : Name → List (List ℕ) → NoRules → Type 0
+AreNoRules n operands (none.Fault f) = IsShapeFault n operands f
+AreNoRules n operands (none.Memory _) = ⊤
 
--- a command whose rules are accepted comes to such an output, or nothing fits for such a cause
-abbrev pub Comes : (List ℕ → Type 0) → (List ℕ → Type 0) → Result (List ℕ) Stop → Type 0
-Comes Output Cause result = MatchResult result Output (IsStopFor (λ operand f. ⊥) Cause)
+-- this comes of the question that a command of this name asks of many rules, with these operands
+abbrev pub ComesOfMany : Name → List (List ℕ) → Result Found NoRules → Type 0
+ComesOfMany n operands result = MatchResult result (λ f. (q : Question) × Asks n [] operands q × IsFinding q (finding_of f)) (AreNoRules n operands)
 
 -- the text, the operand with this number, isn't one of a rule
 pub record IsRuleFault (operand : ℕ) (text : List ℕ) (s : Stop) : Type 0 where

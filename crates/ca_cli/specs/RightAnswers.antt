@@ -9,42 +9,12 @@ use Rattle.ca_words.specs.declared.names.Name.TheVariants as name
 use Rattle.ca_words.specs.Commands.{Command, IsCommand}
 use Rattle.ca_findings.specs.Questions.{Question}
 use Rattle.ca_findings.specs.Findings.{Finding, Unfit, IsFinding, IsUnfitFor}
-use Rattle.ca_text.specs.Texts.{text_of, unfit_text}
+use Rattle.ca_findings.specs.Replies.{Reply}
+use Rattle.ca_text.specs.Replies.{reply_text}
 use Rattle.ca_cli.specs.declared.status.Status.{Status}
-use Rattle.ca_cli.specs.declared.status.Status.TheVariants as status
+use Rattle.ca_cli.specs.Statuses.{reply_status}
 use Rattle.ca_cli.specs.Asked.{IsAsked, IsOperandFault}
 use Rattle.ca_cli.specs.Inputs.{IsWholeInput, IsLongInput}
-use Rattle.ca_cli.specs.StatusLines.{usage_line, operand_fault_line, unfit_line, accepted_lines, refused_line, too_long_line}
-
--- what is said to words, in values
-pub data Reply : Type 0 where
-  Found : (finding : Finding) → Reply
-  NoFit : (cause : Unfit) → Reply
-  RuleFault : (operand : ℕ) (fault : TextFault) → Reply
-  Accepted : (verdicts : Verdicts) → Reply
-  Refused : (refusal : Refusal) → Reply
-  TooLong : Reply
-  Usage : Reply
-
--- the status of a reply
-abbrev pub reply_status : Reply → Status
-reply_status (Found f) = status.Done
-reply_status (NoFit u) = status.NotFit
-reply_status (RuleFault i f) = status.RuleFault
-reply_status (Accepted v) = status.Done
-reply_status (Refused f) = status.Refused
-reply_status TooLong = status.TooLong
-reply_status Usage = status.Usage
-
--- the text of a reply
-abbrev pub reply_text : Reply → List ℕ
-reply_text (Found f) = text_of f
-reply_text (NoFit u) = unfit_line (unfit_text u)
-reply_text (RuleFault i f) = operand_fault_line i f
-reply_text (Accepted v) = accepted_lines v
-reply_text (Refused f) = refused_line f
-reply_text TooLong = too_long_line
-reply_text Usage = usage_line
 
 -- the reply is right for the command: what is found for its question is, or nothing fits, or an operand is refused, or it is what `check` says of the input
 pub data IsReply (input : Option (List ℕ)) : Command → Reply → Type 0 where

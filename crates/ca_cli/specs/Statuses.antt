@@ -1,5 +1,7 @@
 -- The statuses with which the program ends.
 use Rattle.std.specs.Prelude.{ℕ, ⊤}
+use Rattle.ca_findings.specs.Replies.{Reply}
+use Rattle.ca_findings.specs.Replies.Reply as said
 use Rattle.ca_cli.specs.declared.status.Status.{Status}
 use Rattle.ca_cli.specs.declared.status.Status.TheVariants.{Done, Refused, Usage, RuleFault, NotFit, TooLong, ReadFault, WriteFault, Memory}
 
@@ -26,3 +28,13 @@ IsAnswered TooLong = ⊤
 IsAnswered ReadFault = ⊥
 IsAnswered WriteFault = ⊥
 IsAnswered Memory = ⊥
+
+-- the status of a reply
+abbrev pub reply_status : Reply → Status
+reply_status (said.Found f) = Done
+reply_status (said.NoFit u) = NotFit
+reply_status (said.RuleFault i f) = RuleFault
+reply_status (said.Accepted v) = Done
+reply_status (said.Refused f) = Refused
+reply_status said.TooLong = TooLong
+reply_status said.Usage = Usage

@@ -1,21 +1,14 @@
-//! From the words to the answer, which is whole in memory before anything is written.
-ghost use Rattle.std.specs.Prelude.{◌≡◌, ◌↔◌, ℕ, List, Option, Result, map, IfOk, string_bytes};
+//! The answer, which is whole in memory before anything is written.
+ghost use Rattle.std.specs.Prelude.{◌≡◌, IfOk, map, string_bytes};
 ghost use Rattle.ca_words.specs.Commands.{IsCommand, check_command};
-ghost use Rattle.ca_cli.specs.Commands as shape;
 ghost use Rattle.ca_cli.specs.Readings.{IsReadFor, Reading};
-ghost use Rattle.ca_cli.specs.Outcomes.{IsOutcome, outcome_status};
-ghost use Rattle.ca_cli.specs.AnswersByShape.{IsAnswerByShape};
 ghost use Rattle.ca_cli.specs.RightAnswers.{IsAnswer};
 
-use crate::commands::carry_out;
-use crate::commands::checks::check;
-use crate::lines::operand_fault_output;
-use crate::lines::verdicts::refused_output;
-use crate::output::Output;
+use crate::replies::reply;
 use crate::status::Status;
-use crate::stop::Stop;
-use crate::words::request::Request;
+use crate::theorems::right_replies_are_writable;
 use ca_io::{InputFault, Source};
+use ca_text::{Output, reply_text};
 use std::alloc::Global;
 
 /// What the program answers to its words: a status, and the output that belongs to it.
@@ -42,46 +35,11 @@ pub fn answer_to<S: Source>(
     ensures reading { Reading (result ≡ Err InputFault.Failed)
         (S.left source.old) (S.left source.new) (S.faults source.old) (S.faults source.new) }
 {
-    match Request::of(words) {
-        None => Ok(Answer {
-            status: Status::Usage,
-            output: Output::line(alloc, "usage error")?,
-        }),
-        Some(Request::Unread(asked)) => concluded(alloc, carry_out(alloc, asked)),
-        Some(Request::Check) => concluded(alloc, check(alloc, source)),
-    }
-}
-
-/// The answer of a command that came to this.
-fn concluded(alloc: Global, outcome: Result<Output, Stop>) -> Result<Answer, InputFault>
-    ensures answer { IfOk result (λ answer.
-        (words : List (List ℕ)) (input : Option (List ℕ)) (c : shape.Command) →
-        shape.IsCommand words c → IsOutcome input c outcome → IsAnswerByShape words input answer.status answer.output) }
-    ensures status { IfOk result (λ answer. answer.status ≡ outcome_status outcome) }
-    ensures failed { result ≡ Err InputFault.Failed ↔ outcome ≡ Err Stop.ReadFault }
-{
-    match outcome {
-        Ok(output) => Ok(Answer {
-            status: Status::Done,
-            output,
-        }),
-        Err(Stop::NotFit(output)) => Ok(Answer {
-            status: Status::NotFit,
-            output,
-        }),
-        Err(Stop::RuleFault(operand, fault)) => Ok(Answer {
-            status: Status::RuleFault,
-            output: operand_fault_output(alloc, operand, fault)?,
-        }),
-        Err(Stop::TooLong) => Ok(Answer {
-            status: Status::TooLong,
-            output: Output::line(alloc, "too long")?,
-        }),
-        Err(Stop::Refused(refusal)) => Ok(Answer {
-            status: Status::Refused,
-            output: refused_output(alloc, refusal)?,
-        }),
-        Err(Stop::ReadFault) => Err(InputFault::Failed),
-        Err(Stop::Memory(fault)) => Err(InputFault::Memory(fault)),
-    }
+    let reply = reply(alloc, words, source)?;
+    right_replies_are_writable();
+    let output = reply_text(alloc, &reply)?;
+    Ok(Answer {
+        status: Status::of(&reply),
+        output,
+    })
 }

@@ -48,19 +48,20 @@
 #![tactic(auto)]
 
 mod answers;
+mod checks;
 mod commands;
-mod decimals;
-mod lines;
-mod output;
+mod many_rules;
+mod questions;
+mod replies;
 mod status;
 mod stop;
 mod theorems;
 mod top_call;
-mod words;
 
+pub use replies::reply;
 pub use status::Status;
 pub use theorems::{
     certified_is_accepted, check_exactly, done_or_not_fit, one_status, right_exactly,
-    rule_fault_exactly, usage_exactly,
+    right_replies_are_writable, rule_fault_exactly, usage_exactly,
 };
 pub use top_call::run;

@@ -1,6 +1,9 @@
 //! The statuses of the program.
 ghost use Rattle.std.specs.Prelude.{◌≡◌};
-ghost use Rattle.ca_cli.specs.Statuses.{code_of};
+ghost use Rattle.ca_findings.specs.Values.{reply_of};
+ghost use Rattle.ca_cli.specs.Statuses.{code_of, reply_status};
+
+use ca_findings::Reply;
 
 /// How the program ended.
 #[derive(Clone, Copy, Debug, PartialEq, Eq)]
@@ -26,6 +29,20 @@ pub enum Status {
 }
 
 impl Status {
+    /// The status that belongs to a reply.
+    pub fn of(reply: &Reply) -> Status
+        ensures { result ≡ reply_status (reply_of reply.now) }
+    {
+        match reply {
+            Reply::Found(_) | Reply::Accepted(_) => Status::Done,
+            Reply::NoFit(_) => Status::NotFit,
+            Reply::RuleFault(..) => Status::RuleFault,
+            Reply::Refused(_) => Status::Refused,
+            Reply::TooLong => Status::TooLong,
+            Reply::Usage => Status::Usage,
+        }
+    }
+
     /// The exit status of the program.
     pub fn code(&self) -> u8
         ensures { result ≡ code_of self.now }

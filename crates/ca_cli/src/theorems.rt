@@ -11,14 +11,16 @@ ghost use Rattle.rule_text.specs.declared.text_fault.TextFault.{TextFault};
 ghost use Rattle.ca_words.specs.Commands.{Command, IsCommand, check_command};
 ghost use Rattle.ca_findings.specs.Questions.{Question};
 ghost use Rattle.ca_findings.specs.Findings.{Unfit, IsUnfitFor, weights_by};
+ghost use Rattle.ca_findings.specs.Replies.{Reply};
+ghost use Rattle.ca_findings.specs.Writable.{IsWritableReply};
 ghost use Rattle.ca_cli.specs.Asked.{IsAsked, IsOperandFault};
 ghost use Rattle.ca_cli.specs.Inputs.{most_input};
 ghost use Rattle.ca_cli.specs.Readings.{ReadsNothing};
-ghost use Rattle.ca_cli.specs.StatusLines.{accepted_lines, operand_fault_line, refused_line, too_long_line, usage_line};
-ghost use Rattle.ca_cli.specs.RightAnswers.{IsAnswer, IsReplyOf};
+ghost use Rattle.ca_text.specs.StatusLines.{accepted_lines, operand_fault_line, refused_line, too_long_line, usage_line};
+ghost use Rattle.ca_cli.specs.RightAnswers.{IsAnswer, IsReplyOf, IsReplyTo};
 
 use crate::status::Status;
-use ca_findings::found_or_unfit;
+use ca_findings::{found_or_unfit, right_findings_are_writable};
 
 /// Words have one right status: whatever the source, where they are no command or one that reads
 /// nothing, and for all words over a source that tells what it has left.
@@ -92,3 +94,10 @@ pub fn certified_is_accepted()
         × ((s : Status) (lines : List ℕ) → IsReplyOf (Some out) check_command s lines
         ↔ ((s ≡ Status.Done) × (lines ≡ accepted_lines v))) }
 {}
+
+/// What is right for words can be written: its letters have a digit each, and an automaton has its rows.
+pub fn right_replies_are_writable()
+    ensures { (words : List (List ℕ)) (input : Option (List ℕ)) (reply : Reply) → IsReplyTo words input reply → IsWritableReply reply }
+{
+    right_findings_are_writable();
+}

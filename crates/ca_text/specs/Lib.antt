@@ -2,4 +2,5 @@ pub mod Reports
 pub mod Lines
 pub mod Texts
 pub mod StatusLines
-pub mod Writable
+pub mod Replies
+pub mod Examples

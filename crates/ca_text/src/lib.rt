@@ -1,14 +1,14 @@
 //! How findings are written, and all else that the program says.
 //!
-//! A text is made of values that are there: it decides nothing. What is written of a finding is `text_of` of
-//! specs/Texts.antt, a line for each kind, and [`text`] writes it: the eight lines of a report, the four of an inverse map,
-//! the seven of counts, and an eighth where classes are counted, an automaton's two and one for each class, a certificate
-//! as it is, and otherwise one line. `unfit_text` is what is written of a cause for which nothing fits, and
-//! [`unfit_output`] its line. Beside them stand the lines of the statuses: of an operand with a fault, of an
-//! accepted certificate and of a refused one.
+//! A text is made of values that are there: it decides nothing. What is written of a reply is the definition `reply_text`
+//! of specs/Replies.antt, and the function [`reply_text`] writes it. Of a finding that is `text_of`, a line for each kind:
+//! the eight lines of a report, the four of an inverse map, the seven of counts, and an eighth where classes are counted,
+//! an automaton's two and one for each class, a certificate as it is, and otherwise one line. Of a cause for which nothing
+//! fits, an operand with a fault, a refused certificate, an input that is too long, and words that are no command it is
+//! one line, and of an accepted certificate seven, and an eighth where a letter doesn't weigh its own value.
 //!
 //! A word is written with a hexadecimal digit for each letter, so only what has letters below 16 can be written. Each
-//! right finding about accepted rules has, which is the law [`right_findings_are_writable`].
+//! right finding about accepted rules has, which is the law `right_findings_are_writable` of ca_findings.
 //!
 //! A text is whole in memory, an [`Output`], and takes time and memory **O(n)** for its n bytes.
 #![tactic(auto)]
@@ -20,21 +20,10 @@ mod inverses;
 mod languages;
 mod output;
 mod preimages;
+mod replies;
 mod report;
 mod texts;
 mod verdicts;
 
-ghost use Rattle.ca_findings.specs.Questions.{Question, AreRules};
-ghost use Rattle.ca_findings.specs.Findings.{Finding, Unfit, IsFinding, IsUnfitFor};
-ghost use Rattle.ca_text.specs.Writable.{IsWritable, IsWritableUnfit};
-
-pub use faults::{operand_fault_output, unfit_output};
 pub use output::Output;
-pub use texts::text;
-pub use verdicts::{refused_output, write_accepted};
-
-/// What is right for accepted rules can be written.
-pub fn right_findings_are_writable()
-    ensures found { (q : Question) (f : Finding) → AreRules q → IsFinding q f → IsWritable f }
-    ensures unfit { (q : Question) (u : Unfit) → AreRules q → IsUnfitFor q u → IsWritableUnfit u }
-{}
+pub use replies::reply_text;

@@ -12,13 +12,16 @@ use Rattle.certificate_laws.specs.WrittenCertificates.{IsWritten}
 use Rattle.ca_words.specs.Commands.{Command, IsCommand, check_command, words_of}
 use Rattle.ca_findings.specs.Questions.{Question}
 use Rattle.ca_findings.specs.Findings.{Finding, IsFinding, weights_by}
+use Rattle.ca_findings.specs.Replies.{Reply}
 use Rattle.ca_text.specs.Texts.{text_of}
+use Rattle.ca_text.specs.Replies.{reply_text}
+use Rattle.ca_text.specs.StatusLines.{accepted_lines}
 use Rattle.ca_cli.specs.declared.status.Status.{Status}
 use Rattle.ca_cli.specs.declared.status.Status.TheVariants as status
 use Rattle.ca_cli.specs.Asked.{IsAsked}
 use Rattle.ca_cli.specs.Inputs.{most_input}
-use Rattle.ca_cli.specs.StatusLines.{accepted_lines}
-use Rattle.ca_cli.specs.RightAnswers.{Reply, IsReply, IsReplyOf, reply_status, reply_text}
+use Rattle.ca_cli.specs.RightAnswers.{IsReply, IsReplyOf}
+use Rattle.ca_cli.specs.Statuses.{reply_status}
 use Rattle.ca_cli.specs.RightAnswers.IsReply.{Found, NoFit, RuleFault, Accepted, Refused, TooLong}
 use Rattle.ca_cli.proofs.laws.Asked.{IsAsked-unique, IsAsked-reads_nothing}
 use Rattle.ca_cli.proofs.laws.CheckAnswers.{accepted_exactly}

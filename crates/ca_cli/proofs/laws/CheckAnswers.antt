@@ -9,11 +9,14 @@ use Rattle.cert_check.proofs.laws.OneAnswer.{IsAccepted-unique, IsRefusal-unique
 use Rattle.cert_check.proofs.laws.Soundness.{AreTrue-accepted}
 use Rattle.ca_words.specs.declared.names.Name.TheVariants as name
 use Rattle.ca_words.specs.Commands.{Command, IsCommand, check_command}
+use Rattle.ca_findings.specs.Replies.{Reply}
+use Rattle.ca_text.specs.Replies.{reply_text}
+use Rattle.ca_text.specs.StatusLines.{accepted_lines, refused_line, too_long_line}
 use Rattle.ca_cli.specs.declared.status.Status.{Status}
 use Rattle.ca_cli.specs.declared.status.Status.TheVariants as status
 use Rattle.ca_cli.specs.Inputs.{most_input}
-use Rattle.ca_cli.specs.StatusLines.{accepted_lines, refused_line, too_long_line}
-use Rattle.ca_cli.specs.RightAnswers.{Reply, IsReply, IsReplyOf, IsAnswer, reply_status, reply_text}
+use Rattle.ca_cli.specs.Statuses.{reply_status}
+use Rattle.ca_cli.specs.RightAnswers.{IsReply, IsReplyOf, IsAnswer}
 use Rattle.ca_cli.specs.RightAnswers.IsReply.{Found, NoFit, RuleFault, Accepted, Refused, TooLong}
 use Rattle.ca_cli.proofs.laws.Asked.{IsAsked-reads_nothing, IsOperandFault-reads_nothing}
 use Rattle.ca_cli.proofs.laws.RightAnswers.{right_exactly, reply_alone}

@@ -5,12 +5,14 @@ use Rattle.rule_text.specs.declared.text_fault.TextFault.{TextFault}
 use Rattle.cert_check.specs.Accepted.{IsAccepted}
 use Rattle.cert_check.specs.Refusals.{IsRefusal}
 use Rattle.ca_words.specs.Commands.{Command, IsCommand}
+use Rattle.ca_findings.specs.Replies.{Reply}
 use Rattle.ca_cli.specs.declared.status.Status.{Status}
 use Rattle.ca_cli.specs.declared.status.Status.TheVariants as status
 use Rattle.ca_cli.specs.Asked.{IsOperandFault}
 use Rattle.ca_cli.specs.Inputs.{IsWholeInput, most_input}
 use Rattle.ca_cli.specs.Readings.{ReadsNothing}
-use Rattle.ca_cli.specs.RightAnswers.{Reply, IsReply, IsReplyTo, IsAnswer, reply_status}
+use Rattle.ca_cli.specs.RightAnswers.{IsReply, IsReplyTo, IsAnswer}
+use Rattle.ca_cli.specs.Statuses.{reply_status}
 use Rattle.ca_cli.specs.RightAnswers.IsReply.{Found, NoFit, RuleFault, Accepted, Refused, TooLong}
 use Rattle.ca_cli.proofs.laws.Asked.{IsAsked-no_fault, IsOperandFault-reads_nothing}
 use Rattle.ca_cli.proofs.laws.RightAnswers.{FoundOrUnfit, to_command, found_says, not_fit_says}

@@ -6,13 +6,15 @@ use Rattle.ca_words.specs.Commands.{Command, IsCommand}
 use Rattle.ca_words.proofs.laws.Names.{IsCommand-unique}
 use Rattle.ca_findings.specs.Questions.{Question}
 use Rattle.ca_findings.specs.Findings.{Finding, Unfit, IsFinding, IsUnfitFor}
+use Rattle.ca_findings.specs.Replies.{Reply}
+use Rattle.ca_text.specs.Replies.{reply_text}
+use Rattle.ca_text.specs.StatusLines.{usage_line, operand_fault_line}
 use Rattle.ca_cli.specs.declared.status.Status.{Status}
 use Rattle.ca_cli.specs.declared.status.Status.TheVariants as status
-use Rattle.ca_cli.specs.Statuses.{IsAnswered}
-use Rattle.ca_cli.specs.StatusLines.{usage_line, operand_fault_line}
+use Rattle.ca_cli.specs.Statuses.{IsAnswered, reply_status}
 use Rattle.ca_cli.specs.Asked.{IsAsked, IsOperandFault}
 use Rattle.ca_cli.specs.Readings.{ReadsNothing}
-use Rattle.ca_cli.specs.RightAnswers.{Reply, IsReply, IsReplyOf, IsReplyTo, IsAnswer, reply_status, reply_text}
+use Rattle.ca_cli.specs.RightAnswers.{IsReply, IsReplyOf, IsReplyTo, IsAnswer}
 use Rattle.ca_cli.specs.RightAnswers.IsReply.{Found, NoFit, RuleFault, Accepted, Refused, TooLong}
 use Rattle.ca_cli.proofs.laws.Asked.{IsAsked-unique, IsAsked-no_fault, IsAsked-reads_nothing}
 

@@ -1,9 +1,0 @@
-use Rattle.std.proofs.Common.{refl, rules}
-use Rattle.word_image.proofs.laws.RulesBy.{IsRuleBy-entries}
-use Rattle.ca_cli.proofs.commands.summaries.rule_of_table.Goals as goal
-
-pub by-requires-clause-rule : goal.by-requires-clause-rule
-by-requires-clause-rule c = (_, IsRuleBy-entries c.requires refl refl refl (λ v a l h. search rules))
-
-pub returns : goal.returns
-returns c = c.by.ensures _ (IsRuleBy-entries c.requires refl refl refl (λ v a l h. search rules))

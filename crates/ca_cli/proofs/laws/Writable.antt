@@ -1,0 +1,62 @@
+-- What is right for words can be written.
+use Rattle.std.proofs.Common.{ℕ, List, ◌∷◌, inl, inr}
+use Rattle.std.specs.Prelude.{Option, ◌⊎◌, ⊤}
+use Rattle.word_image.specs.LocalRules.{LocalRule, IsRule}
+use Rattle.rule_text.proofs.laws.AcceptedRules.{IsRule-text}
+use Rattle.ca_words.specs.declared.names.Name.{Name}
+use Rattle.ca_findings.specs.Questions.{Question, AreRules}
+use Rattle.ca_findings.specs.Findings.{Finding, Unfit, IsFinding, IsUnfitFor}
+use Rattle.ca_findings.specs.Replies.{Reply}
+use Rattle.ca_findings.specs.Writable.{IsWritable, IsWritableUnfit, IsWritableReply}
+use Rattle.ca_words.specs.Commands.{Command}
+use Rattle.ca_cli.specs.Asked.{AreRuleTexts, Asks}
+use Rattle.ca_cli.specs.RightAnswers.{IsReply, IsReplyTo}
+
+-- the question is one of many rules
+abbrev IsOfMany : Question → Type 0
+IsOfMany (Question.Summary rules) = ⊤
+IsOfMany (Question.Classes rules) = ⊤
+IsOfMany _ = ⊥
+
+-- the first of some rules that are read is an accepted one
+first_rule : {texts : List (List ℕ)} {r : LocalRule} {rules : List LocalRule} → AreRuleTexts texts (r ∷ rules) → IsRule r
+first_rule (AreRuleTexts.More text texts r rules says rest) = IsRule-text says
+
+-- the second is
+second_rule : {texts : List (List ℕ)} {r s : LocalRule} {rules : List LocalRule} → AreRuleTexts texts (r ∷ s ∷ rules) → IsRule s
+second_rule (AreRuleTexts.More text texts r rules says rest) = first_rule rest
+
+-- a question is one of many rules, or its rules are accepted ones
+AreRules-asked : {texts : List (List ℕ)} {n : Name} {rules : List LocalRule} {operands : List (List ℕ)} {q : Question} → AreRuleTexts texts rules → Asks n rules operands q → IsOfMany q ⊎ AreRules q
+AreRules-asked are (Asks.Survey k m from count none) = inl tt
+AreRules-asked are (Asks.Sample k m seed count none) = inl tt
+AreRules-asked are (Asks.Classes k m from count none) = inl tt
+AreRules-asked are (Asks.Compose r s) = inr (first_rule are, second_rule are)
+AreRules-asked are (Asks.Same r s) = inr (first_rule are, second_rule are)
+AreRules-asked are _ = inr (first_rule are)
+
+-- what is found of many rules are counts
+found_of_many : {q : Question} {f : Finding} → IsOfMany q → IsFinding q f → IsWritable f
+found_of_many many (IsFinding.Summary rules counts are) = tt
+found_of_many many (IsFinding.Classes rules leasts counts are least) = tt
+found_of_many many _ = absurd many
+
+-- a question of many rules has no cause for which nothing fits
+unfit_of_many : {q : Question} {u : Unfit} → IsOfMany q → IsUnfitFor q u → ⊥
+unfit_of_many many (IsUnfitFor.States r s apart) = many
+unfit_of_many many _ = many
+
+-- right findings of accepted rules can be written, and right causes
+abbrev pub AreWritable : Type 0
+AreWritable = ((q : Question) (f : Finding) → AreRules q → IsFinding q f → IsWritable f) × ((q : Question) (u : Unfit) → AreRules q → IsUnfitFor q u → IsWritableUnfit u)
+
+-- a right reply to a command can be written
+reply_writable : {input : Option (List ℕ)} {c : Command} {reply : Reply} → AreWritable → IsReply input c reply → IsWritableReply reply
+reply_writable law (IsReply.Found c q f asked right) = elim (AreRules-asked asked.texts asked.asks) [ inl many ↦ found_of_many many right | inr are ↦ law.0 q f are right ]
+reply_writable law (IsReply.NoFit c q u asked unfits) = elim (AreRules-asked asked.texts asked.asks) [ inl many ↦ absurd (unfit_of_many many unfits) | inr are ↦ law.1 q u are unfits ]
+reply_writable law _ = tt
+
+-- a right reply to words can be written
+pub IsReplyTo-writable : {words : List (List ℕ)} {input : Option (List ℕ)} {reply : Reply} → AreWritable → IsReplyTo words input reply → IsWritableReply reply
+IsReplyTo-writable law (IsReplyTo.Usage none) = tt
+IsReplyTo-writable law (IsReplyTo.Right c reply is right) = reply_writable law right

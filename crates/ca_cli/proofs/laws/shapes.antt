@@ -1,6 +1,0 @@
-pub mod Asked
-pub mod Outputs
-pub mod Causes
-pub mod Replies
-pub mod Back
-pub mod Whole

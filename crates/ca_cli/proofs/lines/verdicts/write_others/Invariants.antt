@@ -1,9 +1,0 @@
-use Rattle.std.proofs.Common.{◌≡◌, ◌++◌, take}
-use Rattle.std.specs.Prelude.{codes}
-use Rattle.std.specs.List.{flat_map}
-use Rattle.std.specs.Fmt.{decimal}
-use Rattle.ca_cli.proofs.lines.verdicts.write_others.Given as goal
-
--- the numbers so far
-abbrev pub invariant-loop-number : goal.invariant-loop-number
-invariant-loop-number l = l.output ≡ l.fn.output ++ flat_map (λ n. codes "," ++ decimal n) (take l.number-index l.numbers)

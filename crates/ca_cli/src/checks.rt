@@ -1,0 +1,35 @@
+//! The command that judges a certificate.
+ghost use Rattle.std.specs.Prelude.{◌≡◌, ◌→◌, IfOk};
+ghost use Rattle.ca_words.specs.declared.names.Name.TheVariants as name;
+ghost use Rattle.ca_words.specs.Commands.{Command};
+ghost use Rattle.ca_findings.specs.Values.{reply_of};
+ghost use Rattle.ca_cli.specs.Readings.{IsReadFor, Reading};
+ghost use Rattle.ca_cli.specs.RightAnswers.{IsReply};
+ghost use Rattle.ca_cli.specs.Statuses.{reply_status};
+
+use ca_findings::Reply;
+use ca_io::{InputFault, Source, read_up_to};
+use cert_check::{Refusal, judge};
+use std::alloc::Global;
+
+/// The longest input that is judged.
+const LONGEST_INPUT: usize = 4_194_304;
+
+/// `check`: whether the input is a certificate that is accepted, with its verdicts. No more of it is read than
+/// shows that it is too long.
+pub fn check<S: Source>(alloc: Global, source: &mut S) -> Result<Reply, InputFault>
+    ensures reply { IfOk result (λ reply. (c : Command) → c.name ≡ name.Check → IsReply (S.left source.old) c (reply_of reply)) }
+    ensures read { IfOk result (λ reply. IsReadFor (reply_status (reply_of reply)) (S.left source.old) (S.left source.new)) }
+    ensures reading { Reading (result ≡ Err InputFault.Failed)
+        (S.left source.old) (S.left source.new) (S.faults source.old) (S.faults source.new) }
+{
+    let bytes = read_up_to(alloc, source, LONGEST_INPUT + 1)?;
+    if bytes.len() > LONGEST_INPUT {
+        return Ok(Reply::TooLong);
+    }
+    match judge(alloc, &bytes) {
+        Ok(verdicts) => Ok(Reply::Accepted(verdicts)),
+        Err(Refusal::Memory(fault)) => Err(InputFault::Memory(fault)),
+        Err(refusal) => Ok(Reply::Refused(refusal)),
+    }
+}

@@ -1,0 +1,15 @@
+-- What is written of all that can be said.
+use Rattle.std.specs.Prelude.{ℕ, List}
+use Rattle.ca_findings.specs.Replies.{Reply}
+use Rattle.ca_text.specs.Texts.{text_of, unfit_text}
+use Rattle.ca_text.specs.StatusLines.{usage_line, operand_fault_line, unfit_line, accepted_lines, refused_line, too_long_line}
+
+-- the text of a reply
+abbrev pub reply_text : Reply → List ℕ
+reply_text (Reply.Found f) = text_of f
+reply_text (Reply.NoFit u) = unfit_line (unfit_text u)
+reply_text (Reply.RuleFault i f) = operand_fault_line i f
+reply_text (Reply.Accepted v) = accepted_lines v
+reply_text (Reply.Refused f) = refused_line f
+reply_text Reply.TooLong = too_long_line
+reply_text Reply.Usage = usage_line
