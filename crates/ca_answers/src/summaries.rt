@@ -33,6 +33,17 @@ pub enum NoRules {
     Memory(AllocError),
 }
 
+impl From<TextFault> for NoRules {
+    ghost use Rattle.std.specs.Prelude.{◌≡◌};
+    ghost use Rattle.ca_answers.specs.declared.summaries.NoRules.TheVariants.{Fault};
+
+    ghost from_gives = { λ fault none. none ≡ Fault fault };
+
+    fn from(fault: TextFault) -> NoRules {
+        NoRules::Fault(fault)
+    }
+}
+
 impl From<AllocError> for NoRules {
     ghost use Rattle.std.specs.Prelude.{◌≡◌};
     ghost use Rattle.ca_answers.specs.declared.summaries.NoRules.TheVariants.{Memory};

@@ -1,6 +1,7 @@
 pub mod Inputs
 pub mod Asked
 pub mod Operands
+pub mod Outcomes
 pub mod RightAnswers
 pub mod CheckAnswers
 pub mod OneStatus

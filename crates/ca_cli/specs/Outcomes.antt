@@ -10,7 +10,7 @@ use Rattle.ca_findings.specs.declared.found.Stop as unfit
 use Rattle.ca_findings.specs.declared.found.Stop.TheVariants as unfit_stop
 use Rattle.ca_findings.specs.Questions.{Question}
 use Rattle.ca_findings.specs.Findings.{IsFinding, IsUnfitFor}
-use Rattle.ca_findings.specs.Values.{Answers, finding_of, unfit_of}
+use Rattle.ca_findings.specs.Values.{finding_of, unfit_of}
 use Rattle.ca_answers.specs.declared.summaries.NoRules.{NoRules}
 use Rattle.ca_answers.specs.declared.summaries.NoRules.TheVariants as none
 use Rattle.ca_cli.specs.declared.stop.Stop.{Stop}
@@ -27,6 +27,10 @@ abbrev pub shape_stop : NoRules → Stop
 shape_stop (none.Fault f) = stop.RuleFault 1 f
 shape_stop (none.Memory fault) = stop.Memory fault
 
+-- the command of this name, with the texts of its rules and its operands
+abbrev pub command_of : Name → List (List ℕ) → List (List ℕ) → Command
+command_of n rules operands = record { name = n; rules = rules; operands = operands }
+
 -- a command has to stop: one of its operands is refused, or nothing fits its question, or there was no memory
 abbrev pub IsStop : Command → Stop → Type 0
 IsStop c (stop.RuleFault operand f) = IsOperandFault c operand f
@@ -37,9 +41,14 @@ IsStop c (stop.Memory _) = ⊤
 abbrev pub IsOutcome : Command → Result Found Stop → Type 0
 IsOutcome c result = MatchResult result (λ f. (q : Question) × IsAsked c q × IsFinding q (finding_of f)) (IsStop c)
 
+-- nothing fits the question that a command of this name asks of these rules, with these operands, or there was no memory
+abbrev pub IsStopAt : Name → List LocalRule → List (List ℕ) → unfit.Stop → Type 0
+IsStopAt n rules operands (unfit_stop.Unfit u) = (q : Question) × Asks n rules operands q × IsUnfitFor q (unfit_of u)
+IsStopAt n rules operands (unfit_stop.Memory _) = ⊤
+
 -- this comes of the question that a command of this name asks of these rules, with these operands
 abbrev pub Comes : Name → List LocalRule → List (List ℕ) → Result Found unfit.Stop → Type 0
-Comes n rules operands result = (q : Question) × Asks n rules operands q × Answers q result
+Comes n rules operands result = MatchResult result (λ f. (q : Question) × Asks n rules operands q × IsFinding q (finding_of f)) (IsStopAt n rules operands)
 
 -- there are no such rules as a command of this name asks for with these operands, or there was no memory
 abbrev pub AreNoRules : Name → List (List ℕ) → NoRules → Type 0

@@ -1,7 +1,6 @@
 -- The statuses with which the program ends.
 use Rattle.std.specs.Prelude.{ℕ, ⊤}
 use Rattle.ca_findings.specs.Replies.{Reply}
-use Rattle.ca_findings.specs.Replies.Reply as said
 use Rattle.ca_cli.specs.declared.status.Status.{Status}
 use Rattle.ca_cli.specs.declared.status.Status.TheVariants.{Done, Refused, Usage, RuleFault, NotFit, TooLong, ReadFault, WriteFault, Memory}
 
@@ -31,10 +30,10 @@ IsAnswered Memory = ⊥
 
 -- the status of a reply
 abbrev pub reply_status : Reply → Status
-reply_status (said.Found f) = Done
-reply_status (said.NoFit u) = NotFit
-reply_status (said.RuleFault i f) = RuleFault
-reply_status (said.Accepted v) = Done
-reply_status (said.Refused f) = Refused
-reply_status said.TooLong = TooLong
-reply_status said.Usage = Usage
+reply_status (Reply.Found f) = Done
+reply_status (Reply.NoFit u) = NotFit
+reply_status (Reply.RuleFault i f) = RuleFault
+reply_status (Reply.Accepted v) = Done
+reply_status (Reply.Refused f) = Refused
+reply_status Reply.TooLong = TooLong
+reply_status Reply.Usage = Usage

@@ -1,7 +1,8 @@
 //! The command that judges a certificate.
-ghost use Rattle.std.specs.Prelude.{◌≡◌, ◌→◌, IfOk};
+ghost use Rattle.std.specs.Prelude.{◌≡◌, ◌≢◌, alloc_error, IfOk, MatchResult};
 ghost use Rattle.ca_words.specs.declared.names.Name.TheVariants as name;
 ghost use Rattle.ca_words.specs.Commands.{Command};
+ghost use Rattle.ca_findings.specs.declared.reply.Reply.TheVariants as said;
 ghost use Rattle.ca_findings.specs.Values.{reply_of};
 ghost use Rattle.ca_cli.specs.Readings.{IsReadFor, Reading};
 ghost use Rattle.ca_cli.specs.RightAnswers.{IsReply};
@@ -29,7 +30,18 @@ pub fn check<S: Source>(alloc: Global, source: &mut S) -> Result<Reply, InputFau
     }
     match judge(alloc, &bytes) {
         Ok(verdicts) => Ok(Reply::Accepted(verdicts)),
-        Err(Refusal::Memory(fault)) => Err(InputFault::Memory(fault)),
-        Err(refusal) => Ok(Reply::Refused(refusal)),
+        Err(refusal) => refused(refusal),
+    }
+}
+
+/// What is said of an input that is refused. Want of memory is no refusal.
+fn refused(refusal: Refusal) -> Result<Reply, InputFault>
+    ensures { MatchResult result
+        (λ reply. (reply ≡ said.Refused refusal) × (refusal ≢ Refusal.Memory alloc_error))
+        (λ fault. fault ≡ InputFault.Memory alloc_error) }
+{
+    match refusal {
+        Refusal::Memory(fault) => Err(InputFault::Memory(fault)),
+        refusal => Ok(Reply::Refused(refusal)),
     }
 }

@@ -1,12 +1,11 @@
 //! What is said to a command that reads nothing.
-ghost use Rattle.std.specs.Prelude.{◌≡◌, ◌≢◌, ◌∷◌, [], ℕ, List, Option, length, map, IfOk, MatchResult, string_bytes};
+ghost use Rattle.std.specs.Prelude.{◌≡◌, ◌∷◌, [], ℕ, List, Option, map, IfOk, MatchResult, string_bytes};
 ghost use Rattle.rule_text.specs.RuleTexts.{IsRuleText};
 ghost use Rattle.ca_words.specs.Commands.{AreOperands, IsCommand, form_of, rule_count};
 ghost use Rattle.ca_findings.specs.Values.{reply_of};
-ghost use Rattle.ca_cli.specs.Outcomes.{Comes, IsOutcome, IsRuleFault};
+ghost use Rattle.ca_cli.specs.Outcomes.{Comes, IsOutcome, IsRuleFault, command_of};
 ghost use Rattle.ca_cli.specs.Readings.{ReadsNothing};
 ghost use Rattle.ca_cli.specs.RightAnswers.{IsReply};
-ghost use Rattle.word_image.specs.LocalRules.{LocalRule};
 
 use crate::many_rules::of_many;
 use crate::questions::{of_rule, of_rule_with, of_two};
@@ -38,17 +37,31 @@ fn outcome(alloc: Global, command: &Command) -> Result<Found, Stop>
     ensures { IsOutcome command.now result }
 {
     match command.rules() {
-        [text] => {
-            let rule = rule_operand(1, text)?;
-            Ok(of_one(alloc, command.name(), &rule, command.operands())?)
-        }
-        [first, second] => {
-            let first = rule_operand(1, first)?;
-            let second = rule_operand(2, second)?;
-            Ok(of_two(alloc, command.name(), &first, &second)?)
-        }
-        _ => Ok(of_many(alloc, command.name(), command.operands())?),
+        [] => Ok(of_many(alloc, command.name(), command.operands())?),
+        [text] => of_text(alloc, command.name(), text, command.operands()),
+        [first, second] => of_texts(alloc, command.name(), first, second),
+        _ => unreachable!(),
     }
+}
+
+/// What is found for a command of this name, of the rule that a text says and the operands behind it.
+fn of_text(alloc: Global, name: Name, text: &str, operands: &[String]) -> Result<Found, Stop>
+    requires one { rule_count name ≡ 1 }
+    requires operands { AreOperands (form_of name) (map string_bytes operands.now) }
+    ensures { IsOutcome (command_of name (text.now ∷ []) (map string_bytes operands.now)) result }
+{
+    let rule = rule_operand(1, text)?;
+    Ok(of_one(alloc, name, &rule, operands)?)
+}
+
+/// What is found for a command of this name, of the rules that two texts say. A fault of the first comes first.
+fn of_texts(alloc: Global, name: Name, first: &str, second: &str) -> Result<Found, Stop>
+    requires { rule_count name ≡ 2 }
+    ensures { IsOutcome (command_of name (first.now ∷ second.now ∷ []) []) result }
+{
+    let first = rule_operand(1, first)?;
+    let second = rule_operand(2, second)?;
+    Ok(of_two(alloc, name, &first, &second)?)
 }
 
 /// The rule of which the operand with this number is a text.

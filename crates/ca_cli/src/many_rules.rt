@@ -1,7 +1,7 @@
 //! The questions that commands ask of many rules.
 ghost use Rattle.std.specs.Prelude.{◌≡◌, ◌≢◌, ◌∷◌, [], ◌≤◌, ℕ, List, map, string_bytes};
 ghost use Rattle.rule_text.specs.RuleTexts.{decimal_value};
-ghost use Rattle.ca_words.specs.declared.names.Name.TheVariants as name;
+ghost use Rattle.ca_words.specs.declared.names.Name.TheVariants as names;
 ghost use Rattle.ca_words.specs.Commands.{AreOperands, IsBeginning, form_of, rule_count};
 ghost use Rattle.ca_cli.specs.Outcomes.{ComesOfMany};
 
@@ -15,7 +15,7 @@ use std::alloc::Global;
 /// how many there are.
 pub fn of_many(alloc: Global, name: Name, operands: &[String]) -> Result<Found, NoRules>
     requires many { rule_count name ≡ 0 }
-    requires unread { name ≢ name.Check }
+    requires unread { name ≢ names.Check }
     requires operands { AreOperands (form_of name) (map string_bytes operands.now) }
     ensures { ComesOfMany name (map string_bytes operands.now) result }
 {
@@ -46,10 +46,8 @@ fn beginning(
         → ComesOfMany name (k ∷ m ∷ from.now ∷ many ∷ []) result }
 {
     match name {
-        Name::Survey => survey(states, width, decimal_number(from), count).map_err(NoRules::Fault),
-        Name::Sample => {
-            sample(states, width, seed(from).unwrap(), count).map_err(NoRules::Fault)
-        }
+        Name::Survey => Ok(survey(states, width, decimal_number(from), count)?),
+        Name::Sample => Ok(sample(states, width, seed(from).unwrap(), count)?),
         Name::Classes => classes(alloc, states, width, decimal_number(from), count),
         _ => unreachable!(),
     }

@@ -2,7 +2,7 @@
 ghost use Rattle.std.specs.Prelude.{◌≡◌, ◌∷◌, [], ℤ};
 ghost use Rattle.rule_text.specs.RuleTexts.{IsDecimal, IsOffset};
 ghost use Rattle.tail_config.specs.TailFaults.{HasForm};
-ghost use Rattle.ca_words.specs.declared.names.Name.TheVariants as name;
+ghost use Rattle.ca_words.specs.declared.names.Name.TheVariants as names;
 ghost use Rattle.ca_words.specs.Commands.{IsOperand, MayBeNone, form_of, rule_count};
 ghost use Rattle.ca_cli.specs.Outcomes.{Comes};
 
@@ -51,7 +51,12 @@ pub fn of_rule_with(alloc: Global, name: Name, rule: &Rule, text: &[u8]) -> Resu
     match name {
         Name::Decide => report(alloc, rule, Some(&numbers(alloc, text)?)),
         Name::Certify => certificate(alloc, CertVersion::Two, rule, Some(&numbers(alloc, text)?)),
-        Name::Brief => certificate(alloc, CertVersion::Three, rule, Some(&numbers(alloc, text)?)),
+        Name::Brief => certificate(
+            alloc,
+            CertVersion::Three,
+            rule,
+            Some(&numbers(alloc, text)?),
+        ),
         Name::Shift => shifted(rule, text),
         Name::Widen => widened(rule, text),
         Name::Permute => permute(rule, &text_word(alloc, text)?),
@@ -63,7 +68,7 @@ pub fn of_rule_with(alloc: Global, name: Name, rule: &Rule, text: &[u8]) -> Resu
 /// What is found for `shift` with this offset.
 fn shifted(rule: &Rule, text: &[u8]) -> Result<Found, Stop>
     requires { (by : ℤ) × IsOffset text.now by }
-    ensures { Comes name.Shift (rule.now ∷ []) (text.now ∷ []) result }
+    ensures { Comes names.Shift (rule.now ∷ []) (text.now ∷ []) result }
 {
     shift(rule, decimal_offset(text).unwrap())
 }
@@ -71,7 +76,7 @@ fn shifted(rule: &Rule, text: &[u8]) -> Result<Found, Stop>
 /// What is found for `widen` with this width.
 fn widened(rule: &Rule, text: &[u8]) -> Result<Found, Stop>
     requires { IsDecimal 1 1 text.now }
-    ensures { Comes name.Widen (rule.now ∷ []) (text.now ∷ []) result }
+    ensures { Comes names.Widen (rule.now ∷ []) (text.now ∷ []) result }
 {
     widen(rule, small(text, 1).unwrap())
 }
@@ -79,7 +84,7 @@ fn widened(rule: &Rule, text: &[u8]) -> Result<Found, Stop>
 /// What is found for `preimage` with this configuration.
 fn mapped_to(alloc: Global, rule: &Rule, text: &[u8]) -> Result<Found, Stop>
     requires { HasForm text.now }
-    ensures { Comes name.Preimage (rule.now ∷ []) (text.now ∷ []) result }
+    ensures { Comes names.Preimage (rule.now ∷ []) (text.now ∷ []) result }
 {
     match parse(alloc, rule.k(), text) {
         Ok(tail) => preimage(alloc, rule, &tail),

@@ -1,9 +1,10 @@
 -- What was taken of a source, and what it had left.
-use Rattle.std.proofs.Common.{◌≡◌, ◌+◌, ◌≤◌, ℕ, List, [], length, length-append, refl, ap, arith}
+use Rattle.std.proofs.Common.{◌≡◌, ◌+◌, ◌≤◌, ℕ, List, [], ◌++◌, length, length-append, refl, sym, ap, ◌∙◌, arith}
 use Rattle.std.specs.Prelude.{Option, None, Some}
-use Rattle.std.specs.Io.KnownBytes.{Consumes}
+use Rattle.std.specs.Io.KnownBytes.{Consumes, IsAtEnd}
 use Rattle.std.proofs.KnownBytes.{Consumes-nil}
-use Rattle.ca_cli.specs.Inputs.{most_input, IsLongInput}
+use Rattle.std.proofs.lemmas.List.{append-nil}
+use Rattle.ca_cli.specs.Inputs.{most_input, IsWholeInput, IsLongInput}
 use Rattle.ca_cli.specs.Readings.{Reading}
 
 -- an input of which so much was taken is long
@@ -11,6 +12,12 @@ pub IsLongInput-taken : (before after : Option (List ℕ)) (bytes : List ℕ) �
 IsLongInput-taken None after bytes taken many = tt
 IsLongInput-taken (Some left) None bytes taken many = absurd taken
 IsLongInput-taken (Some left) (Some rest) bytes taken many = omega (arith, ap length taken, length-append bytes rest)
+
+-- what was taken of a source that is at its end is its whole input, where it isn't too long
+pub IsWholeInput-taken : (before after : Option (List ℕ)) (bytes : List ℕ) → Consumes before after bytes → IsAtEnd after → length bytes ≤ most_input → IsWholeInput before bytes
+IsWholeInput-taken None after bytes taken end short = record { all = tt; short = short }
+IsWholeInput-taken (Some left) None bytes taken end short = absurd taken
+IsWholeInput-taken (Some left) (Some rest) bytes taken end short = record { all = sym (taken ∙ ap (λ r. bytes ++ r) end ∙ append-nil bytes); short = short }
 
 -- a source that wasn't read is as it was
 pub nothing_read : {failed : Type 0} (left : Option (List ℕ)) (faults : ℕ) → ¬ failed → Reading failed left left faults faults
