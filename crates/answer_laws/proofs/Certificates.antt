@@ -24,11 +24,9 @@ use Rattle.cert_format.specs.declared.cert_version.CertVersion.TheVariants.{Two,
 use Rattle.cert_format.specs.Evidence.{SurjectiveEvidence}
 use Rattle.cert_format.specs.Evidence.SurjectiveEvidence.{Sets, Pairs, Orphan}
 use Rattle.cert_format.specs.Certificates.{Certificate}
-use Rattle.cert_format.specs.WrittenTexts.{certificate_text}
 use Rattle.certificate_laws.specs.LeastEvidence.{Evidence, IsOrphanPart}
-use Rattle.certificate_laws.specs.WrittenCertificates.{orphan_of, IsListPart, IsRankRow, HasWrittenParts}
+use Rattle.certificate_laws.specs.WrittenCertificates.{orphan_of, IsListPart, IsRankRow, HasWrittenParts, IsWritten}
 use Rattle.eden_laws.specs.ReachedPairs.{AreReached}
-use Rattle.ca_cli.specs.Outputs.{IsCertified}
 use Rattle.answer_laws.proofs.Orders.{word_cmp_total, one_word}
 use Rattle.answer_laws.proofs.Lists.{same_members}
 use Rattle.answer_laws.proofs.Evidence.{IsLeastEvidence-unique}
@@ -125,6 +123,6 @@ HasWrittenParts-unique {version} {r} {c = c} {d = d} rule h g =
     let backward : c.backward ≡ d.backward = IsRankRow-unique Left rule h.backward g.backward in
     λ i. record { version = version i; rule = (evidence i).rule; surjective = surjective i; injective = (evidence i).injective; right = (evidence i).right; left = (evidence i).left; conserving = (evidence i).conserving; weights = (evidence i).weights; forward = forward i; backward = backward i }
 
--- and so is its text
-pub IsCertified-unique : {v : CertVersion} {r : LocalRule} {weights out other : List ℕ} → IsRule r → IsCertified v r weights out → IsCertified v r weights other → out ≡ other
-IsCertified-unique rule (c, written, says) (d, also, says') = says ∙ ap certificate_text (HasWrittenParts-unique rule written.parts also.parts) ∙ sym says'
+-- the certificate that is written is one
+pub IsWritten-unique : {v : CertVersion} {r : LocalRule} {weights : List ℕ} {c d : Certificate} → IsRule r → IsWritten v r weights c → IsWritten v r weights d → c ≡ d
+IsWritten-unique rule here there = HasWrittenParts-unique rule here.parts there.parts

@@ -1,4 +1,4 @@
--- The least evidence of a rule is one, and so is what is said of it.
+-- The least evidence of a rule is one.
 use Rattle.std.proofs.Common.{◌≡◌, ℕ, List, refl, sym, ap, ap₂, ◌∙◌}
 use Rattle.std.specs.Prelude.{Option, None, Some}
 use Rattle.word_image.specs.LocalRules.{LocalRule, IsRule}
@@ -8,7 +8,6 @@ use Rattle.cert_format.specs.Evidence.SideEvidence.{Ahead, Split}
 use Rattle.cert_format.specs.Evidence.SumEvidence.{Flux, Ring}
 use Rattle.certificate_laws.specs.LeastEvidence.{Evidence, IsOrphanPart, IsInjectivePart, IsRightPart, IsLeftPart, IsConservingPart, IsLeastEvidence}
 use Rattle.ring_laws.proofs.FluxWalks.{IsFlux-unique}
-use Rattle.ca_cli.specs.Reports.{report_of, surjective_line, IsSurjectiveLine, IsReport}
 use Rattle.answer_laws.proofs.Least.{IsLeastOrphan-unique, IsLeastLossyRing-unique, IsLeastTwins-unique, IsLeastDetermined-unique, IsLeastRightAhead-unique, IsLeastRightSplit-unique, IsLeastLeftSplit-unique}
 
 -- whether the rule is surjective, and the least orphan
@@ -59,20 +58,3 @@ IsLeastEvidence-unique {weight} {r} {e} {f} rule weights h g =
     (IsOrphanPart-unique r e.orphan f.orphan h.surjective g.surjective) (IsInjectivePart-unique r e.injective f.injective h.injective g.injective)
     (IsRightPart-unique r e.right f.right h.right g.right) (IsLeftPart-unique r e.left f.left h.left g.left)
     (IsConservingPart-unique weight rule e.conserving f.conserving h.conserving g.conserving)
-
--- the evidence with other weights
-abbrev weighed : List ℕ → Evidence → Evidence
-weighed ws e = record { rule = e.rule; weights = ws; orphan = e.orphan; injective = e.injective; right = e.right; left = e.left; conserving = e.conserving }
-
--- which say nothing of its being the least
-IsLeastEvidence-weighed : {weight : ℕ → ℕ} {r : LocalRule} {e : Evidence} (ws : List ℕ) → IsLeastEvidence weight r e → IsLeastEvidence weight r (weighed ws e)
-IsLeastEvidence-weighed ws h = record { rule = h.rule; surjective = h.surjective; injective = h.injective; right = h.right; left = h.left; conserving = h.conserving }
-
--- one line says whether a rule is surjective
-pub IsSurjectiveLine-unique : {r : LocalRule} {out other : List ℕ} → IsSurjectiveLine r out → IsSurjectiveLine r other → out ≡ other
-IsSurjectiveLine-unique {r} h g = h.lines ∙ ap surjective_line (IsOrphanPart-unique r h.orphan g.orphan h.least g.least) ∙ sym g.lines
-
--- and eight lines report on it
-pub IsReport-unique : {weight : ℕ → ℕ} {r : LocalRule} {out other : List ℕ} → IsRule r → IsReport weight r out → IsReport weight r other → out ≡ other
-IsReport-unique rule h g =
-    h.lines ∙ ap report_of (IsLeastEvidence-unique {f = weighed (h.evidence).weights g.evidence} rule refl h.least (IsLeastEvidence-weighed (h.evidence).weights g.least)) ∙ sym g.lines

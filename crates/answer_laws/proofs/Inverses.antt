@@ -1,13 +1,13 @@
 -- The inverse map of a rule over its least determined window is one.
 use Rattle.std.proofs.Common.{◌≡◌, ℕ, ◌^◌, ◌<◌, List, get_or, slice_index, ℤ, refl, sym, ap, ap₂, ◌∙◌, subst, arith}
+use Rattle.std.specs.Prelude.{Option, None, Some}
 use Rattle.std.proofs.lemmas.Grind.{same_number_lists}
 use Rattle.word_image.specs.LocalRules.{LocalRule, value, word_of}
 use Rattle.word_image.specs.Words.{IsPreimage}
 use Rattle.word_image.proofs.laws.Values.{length-word_of, IsWord-word_of, value-word_of}
 use Rattle.tail_config.specs.InverseMaps.{WindowMap, IsInverseMap}
 use Rattle.inverse_table.specs.InverseMaps.{GivesBack}
-use Rattle.ca_cli.specs.InverseLines.{map_lines, IsMapRule, IsInverse}
-use Rattle.ca_cli.specs.InverseLines.IsMapRule.{Rule, NoRule}
+use Rattle.ca_findings.specs.Findings.{Finding, IsMapRule, IsInverseFound}
 use Rattle.answer_laws.proofs.Least.{IsLeastDetermined-unique}
 
 -- what the map of a window says of the word of a value is a letter of each preimage of the word
@@ -33,19 +33,19 @@ IsInverseMap-unique {r} {n} {c} {f} {g} gives here there =
     let onto = gives.onto (word_of r.states n v) (IsWord-word_of r.states n v below) (length-word_of r.states n v) in
     map-letter here v below onto.0 onto.1 ∙ sym (map-letter there v below onto.0 onto.1)))
 
--- one text says it as a rule
-IsMapRule-unique : {g : WindowMap} {text other : List ℕ} → IsMapRule g text → IsMapRule g other → text ≡ other
-IsMapRule-unique (Rule rule) (Rule _) = refl
-IsMapRule-unique (Rule rule) (NoRule none) = absurd (none rule)
-IsMapRule-unique (NoRule none) (Rule rule) = absurd (none rule)
-IsMapRule-unique (NoRule none) (NoRule _) = refl
+-- it is one rule, or none
+IsMapRule-unique : (g : WindowMap) (rule other : Option LocalRule) → IsMapRule g rule → IsMapRule g other → rule ≡ other
+IsMapRule-unique g None None none also = refl
+IsMapRule-unique g None (Some r) none is = absurd (none is.0)
+IsMapRule-unique g (Some r) None is none = absurd (none is.0)
+IsMapRule-unique g (Some r) (Some s) is also = ap Some (is.1 ∙ sym also.1)
 
--- and four lines say it
-pub IsInverse-unique : {r : LocalRule} {out other : List ℕ} → IsInverse r out → IsInverse r other → out ≡ other
-IsInverse-unique {r} here there =
+-- a rule has one inverse: its window, its map, and the map as a rule
+pub IsInverseFound-unique : {r : LocalRule} {n c m d : ℕ} {f g : WindowMap} {rule other : Option LocalRule} → IsInverseFound r n c f rule → IsInverseFound r m d g other
+    → Finding.Inverse n c f rule ≡ Finding.Inverse m d g other
+IsInverseFound-unique {r} {n} {c} {m} {d} {f} {g} {rule} {other} here there =
     let (long, place) = IsLeastDetermined-unique here.least there.least in
-    let map : IsInverseMap r here.n here.c there.inverse =
-    subst (λ c. IsInverseMap r here.n c there.inverse) (sym place) (subst (λ n. IsInverseMap r n there.c there.inverse) (sym long) there.map) in
-    let maps : here.inverse ≡ there.inverse = IsInverseMap-unique here.gives_back here.map map in
-    let rules : here.rule ≡ there.rule = IsMapRule-unique (subst (λ g. IsMapRule g here.rule) maps here.as_rule) there.as_rule in
-    here.lines ∙ ap₂ (λ (n c : ℕ). map_lines n c here.inverse here.rule) long place ∙ ap₂ (λ (g : WindowMap) (rule : List ℕ). map_lines there.n there.c g rule) maps rules ∙ sym there.lines
+    let map : IsInverseMap r n c g = subst (λ c. IsInverseMap r n c g) (sym place) (subst (λ n. IsInverseMap r n d g) (sym long) there.map) in
+    let maps : f ≡ g = IsInverseMap-unique here.gives_back here.map map in
+    let rules : rule ≡ other = IsMapRule-unique g rule other (subst (λ g. IsMapRule g rule) maps here.as_rule) there.as_rule in
+    λ i. Finding.Inverse (long i) (place i) (maps i) (rules i)

@@ -1,5 +1,5 @@
 -- What is the least of its kind is one: orphans, twins, rings, windows, look-aheads, splits and erasable pairs.
-use Rattle.std.proofs.Common.{inl, inr, ◌≡◌, ℕ, ◌<◌, List, sym, ap, ap₂, ◌∙◌, arith}
+use Rattle.std.proofs.Common.{inr, ◌≡◌, ℕ, ◌<◌, List, sym, ap, ap₂, ◌∙◌, arith}
 use Rattle.word_image.specs.LocalRules.{LocalRule}
 use Rattle.word_image.specs.Words.{IsLeastOrphan}
 use Rattle.word_image.specs.Rings.{IsLeastTwins, IsLeastLossyRing}
@@ -8,6 +8,7 @@ use Rattle.word_image.specs.Windows.{IsLeastDetermined, IsLeastRightAhead}
 use Rattle.tail_config.specs.Tails.{TailConfig, mirror_of}
 use Rattle.tail_config.specs.TailValues.{config_of}
 use Rattle.tail_config.specs.Splits.{IsLeastRightSplit, IsLeastLeftSplit}
+use Rattle.ca_findings.proofs.Fits.{IsLeastDetermined-length}
 use Rattle.answer_laws.proofs.Orders.{one_word, one_pair, one_split}
 
 -- a rule has one least orphan
@@ -26,13 +27,6 @@ IsLeastTwins-unique {x = x} {y = y} {u = u} {v = v} h g = one_pair x y u v h.twi
 pub IsLeastErasable-unique : {r : LocalRule} {x y u v : List ℕ} → IsLeastErasable r x y → IsLeastErasable r u v → (x ≡ u) × (y ≡ v)
 IsLeastErasable-unique {x = x} {y = y} {u = u} {v = v} h g =
     one_pair x y u v h.erasable.one_length g.erasable.one_length (h.least u v g.erasable) (g.least x y h.erasable)
-
--- least determined windows of one length
-IsLeastDetermined-length : {r : LocalRule} {n c m d : ℕ} → IsLeastDetermined r n c → IsLeastDetermined r m d → n ≡ m
-IsLeastDetermined-length {n = n} {c = c} {m = m} {d = d} first second =
-    let below : ¬ (n < m) = λ less. second.least n c (inl less) first.determined in
-    let above : ¬ (m < n) = λ less. first.least m d (inl less) second.determined in
-    omega (arith, below, above)
 
 -- one least determined window
 pub IsLeastDetermined-unique : {r : LocalRule} {n c m d : ℕ} → IsLeastDetermined r n c → IsLeastDetermined r m d → (n ≡ m) × (c ≡ d)

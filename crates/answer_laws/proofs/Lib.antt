@@ -3,12 +3,10 @@ pub mod Orders
 pub mod Least
 pub mod Evidence
 pub mod Certificates
-pub mod Summaries
-pub mod Classes
-pub mod Lines
-pub mod Rules
+pub mod Counts
+pub mod Words
 pub mod Tables
 pub mod Inverses
-pub mod Causes
-pub mod Commands
-pub mod Answers
+pub mod Findings
+pub mod Asked
+pub mod Replies

@@ -1,18 +1,30 @@
-//! That there is exactly one right answer: the words, and what the source has left, determine the
-//! status (a law of the program's own crate) and, with it, each byte of the output.
+//! That there is exactly one right reply: the words, and what the source has left, determine the value that is
+//! said to them, and with it the status and each byte of every form in which it is written.
 //!
-//! What is said of a rule is the least of its kind, or a number that the rule determines, or a rule
+//! A command asks one question, of accepted rules. A question has one right finding, and where nothing fits, one
+//! cause: what is found of a rule is the least of its kind, or a number that the rule determines, or a rule
 //! that is told by its images, or a list of all of a kind in their order. Of two that come no later than
 //! each other in a total order both are one.
 //!
-//! The function here does nothing. It carries the law by its contract.
+//! The functions here do nothing. They carry the laws by their contracts.
 #![tactic(auto)]
 
 ghost use Rattle.std.specs.Prelude.{◌≡◌, ℕ, List, Option, Some};
 ghost use Rattle.ca_cli.specs.declared.status.Status.{Status};
 ghost use Rattle.ca_words.specs.Commands.{Command, IsCommand};
+ghost use Rattle.ca_findings.specs.Replies.{Reply};
 ghost use Rattle.ca_cli.specs.Readings.{ReadsNothing};
-ghost use Rattle.ca_cli.specs.RightAnswers.{IsAnswer};
+ghost use Rattle.ca_cli.specs.RightAnswers.{IsAnswer, IsReplyTo};
+
+/// Words have one right reply: whatever the source, where they are no command or one that reads nothing, and for
+/// all words over a source that tells what it has left.
+pub fn one_reply()
+    ensures unread { (words : List (List ℕ)) (input : Option (List ℕ)) (reply other : Reply)
+        → ((c : Command) → IsCommand words c → ReadsNothing c)
+        → IsReplyTo words input reply → IsReplyTo words input other → reply ≡ other }
+    ensures told { (words : List (List ℕ)) (left : List ℕ) (reply other : Reply)
+        → IsReplyTo words (Some left) reply → IsReplyTo words (Some left) other → reply ≡ other }
+{}
 
 /// Words have one right output with each status: whatever the source, where they are no command or one that
 /// reads nothing, and for all words over a source that tells what it has left.
