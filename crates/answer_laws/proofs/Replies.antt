@@ -1,7 +1,6 @@
 -- Words have one right reply.
 use Rattle.std.proofs.Common.{◌≡◌, ℕ, List, refl, sym, ap, ap₂, ◌∙◌, subst}
 use Rattle.std.specs.Prelude.{Option, Some}
-use Rattle.rule_text.specs.declared.text_fault.TextFault.{TextFault}
 use Rattle.cert_check.specs.Accepted.{IsAccepted}
 use Rattle.cert_check.specs.Refusals.{IsRefusal}
 use Rattle.cert_check.proofs.laws.OneAnswer.{IsAccepted-unique, IsRefusal-unique}
@@ -13,7 +12,9 @@ use Rattle.ca_findings.proofs.Fits.{IsFinding-fit}
 use Rattle.ca_cli.specs.declared.status.Status.{Status}
 use Rattle.ca_cli.specs.Inputs.{IsWholeInput}
 use Rattle.ca_cli.specs.Readings.{ReadsNothing}
-use Rattle.ca_cli.specs.RightAnswers.{IsReply, IsReplyTo, IsAnswer, reply_status, reply_text}
+use Rattle.ca_text.specs.Replies.{reply_text}
+use Rattle.ca_cli.specs.Statuses.{reply_status}
+use Rattle.ca_cli.specs.RightAnswers.{IsReply, IsReplyTo, IsAnswer}
 use Rattle.ca_cli.specs.RightAnswers.IsReply.{Found, NoFit, RuleFault, Accepted, Refused, TooLong}
 use Rattle.ca_cli.proofs.laws.Asked.{IsAsked-unique, IsAsked-reads_nothing}
 use Rattle.ca_cli.proofs.laws.RightAnswers.{to_command}
