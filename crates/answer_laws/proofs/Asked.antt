@@ -71,24 +71,20 @@ IsShapeFault-unique (IsShapeFault.Survey k m from count f is) (IsShapeFault.Surv
 IsShapeFault-unique (IsShapeFault.Sample k m seed count f is) (IsShapeFault.Sample _ _ _ _ g also) = same_Some f g (sym is ∙ also)
 IsShapeFault-unique (IsShapeFault.Classes k m from count f is) (IsShapeFault.Classes _ _ _ _ g also) = same_Some f g (sym is ∙ also)
 
--- a command with a shape has no texts of rules
-IsShapeFault-no_rules : {n : Name} {operands : List (List ℕ)} {f : TextFault} → IsShapeFault n operands f → rule_count n ≡ 0
-IsShapeFault-no_rules (IsShapeFault.Survey k m from count f is) = refl
-IsShapeFault-no_rules (IsShapeFault.Sample k m seed count f is) = refl
-IsShapeFault-no_rules (IsShapeFault.Classes k m from count f is) = refl
-
 -- a text with a fault is a text
 IsFirstFault-some : {texts : List (List ℕ)} {i : ℕ} {f : TextFault} → IsFirstFault texts i f → 0 < length texts
 IsFirstFault-some (IsFirstFault.Here text texts f is) = omega arith
 IsFirstFault-some (IsFirstFault.Later text texts r i f says fault) = omega arith
 
--- a command has not both a text and a shape with a fault
-text_or_shape : {words : List (List ℕ)} {c : Command} {i : ℕ} {f g : TextFault} → IsCommand words c → IsFirstFault c.rules i f → IsShapeFault c.name c.operands g → ⊥
-text_or_shape is fault shape = omega (arith, is.rules, IsFirstFault-some fault, IsShapeFault-no_rules shape)
+-- a command with texts of rules has no shape with a fault
+IsShapeFault-no_rules : {n : Name} {operands : List (List ℕ)} {g : TextFault} → 0 < rule_count n → IsShapeFault n operands g → ⊥
+IsShapeFault-no_rules some (IsShapeFault.Survey k m from count g is) = omega (arith, some)
+IsShapeFault-no_rules some (IsShapeFault.Sample k m seed count g is) = omega (arith, some)
+IsShapeFault-no_rules some (IsShapeFault.Classes k m from count g is) = omega (arith, some)
 
 -- of the operands of a command one is the first with a fault, and it has one first fault
 pub IsOperandFault-unique : {words : List (List ℕ)} {c : Command} {i j : ℕ} {f g : TextFault} → IsCommand words c → IsOperandFault c i f → IsOperandFault c j g → (i ≡ j) × (f ≡ g)
 IsOperandFault-unique is (IsOperandFault.OfRule c i f fault) (IsOperandFault.OfRule _ j g also) = IsFirstFault-unique fault also
-IsOperandFault-unique is (IsOperandFault.OfRule c i f fault) (IsOperandFault.OfShape _ g shape) = absurd (text_or_shape is fault shape)
-IsOperandFault-unique is (IsOperandFault.OfShape c f shape) (IsOperandFault.OfRule _ j g fault) = absurd (text_or_shape is fault shape)
+IsOperandFault-unique is (IsOperandFault.OfRule c i f fault) (IsOperandFault.OfShape _ g shape) = absurd (IsShapeFault-no_rules (omega (arith, is.rules, IsFirstFault-some fault)) shape)
+IsOperandFault-unique is (IsOperandFault.OfShape c f shape) (IsOperandFault.OfRule _ j g fault) = absurd (IsShapeFault-no_rules (omega (arith, is.rules, IsFirstFault-some fault)) shape)
 IsOperandFault-unique is (IsOperandFault.OfShape c f shape) (IsOperandFault.OfShape _ g also) = (refl, IsShapeFault-unique shape also)

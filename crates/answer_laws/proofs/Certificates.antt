@@ -25,7 +25,7 @@ use Rattle.cert_format.specs.Evidence.{SurjectiveEvidence}
 use Rattle.cert_format.specs.Evidence.SurjectiveEvidence.{Sets, Pairs, Orphan}
 use Rattle.cert_format.specs.Certificates.{Certificate}
 use Rattle.certificate_laws.specs.LeastEvidence.{Evidence, IsOrphanPart}
-use Rattle.certificate_laws.specs.WrittenCertificates.{orphan_of, IsListPart, IsRankRow, HasWrittenParts, IsWritten}
+use Rattle.certificate_laws.specs.WrittenCertificates.{orphan_of, IsListPart, IsRankRow, IsWritten}
 use Rattle.eden_laws.specs.ReachedPairs.{AreReached}
 use Rattle.answer_laws.proofs.Orders.{word_cmp_total, one_word}
 use Rattle.answer_laws.proofs.Lists.{same_members}
@@ -113,16 +113,14 @@ abbrev evidence_of : Certificate → Evidence
 evidence_of c =
     record { rule = c.rule; weights = c.weights; orphan = orphan_of c.surjective; injective = c.injective; right = c.right; left = c.left; conserving = c.conserving }
 
--- the parts that are written for a rule and weights are one certificate
-HasWrittenParts-unique : {version : CertVersion} {r : LocalRule} {weights : List ℕ} {c d : Certificate} → IsRule r → HasWrittenParts version r weights c → HasWrittenParts version r weights d → c ≡ d
-HasWrittenParts-unique {version} {r} {c = c} {d = d} rule h g =
+-- one certificate is written for a rule and weights
+pub IsWritten-unique : {version : CertVersion} {r : LocalRule} {weights : List ℕ} {c d : Certificate} → IsRule r → IsWritten version r weights c → IsWritten version r weights d → c ≡ d
+IsWritten-unique {version} {r} {c = c} {d = d} rule here there =
+    let h = here.parts in
+    let g = there.parts in
     let evidence : evidence_of c ≡ evidence_of d = IsLeastEvidence-unique rule (h.weights_are ∙ sym g.weights_are) h.least g.least in
     let surjective : c.surjective ≡ d.surjective = IsListPart-unique version r c.surjective d.surjective (ap (λ e. e.orphan) evidence) (h.least).surjective h.list g.list in
     let version : c.version ≡ d.version = h.version_is ∙ sym g.version_is in
     let forward : c.forward ≡ d.forward = IsRankRow-unique Right rule h.forward g.forward in
     let backward : c.backward ≡ d.backward = IsRankRow-unique Left rule h.backward g.backward in
     λ i. record { version = version i; rule = (evidence i).rule; surjective = surjective i; injective = (evidence i).injective; right = (evidence i).right; left = (evidence i).left; conserving = (evidence i).conserving; weights = (evidence i).weights; forward = forward i; backward = backward i }
-
--- the certificate that is written is one
-pub IsWritten-unique : {v : CertVersion} {r : LocalRule} {weights : List ℕ} {c d : Certificate} → IsRule r → IsWritten v r weights c → IsWritten v r weights d → c ≡ d
-IsWritten-unique rule here there = HasWrittenParts-unique rule here.parts there.parts

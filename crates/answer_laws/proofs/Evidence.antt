@@ -45,16 +45,13 @@ IsConservingPart-unique weight rule (Flux phi) (Ring q) h g = absurd (g.0 h.0)
 IsConservingPart-unique weight rule (Ring p) (Flux psi) h g = absurd (h.0 g.0)
 IsConservingPart-unique weight rule (Ring p) (Ring q) h g = ap Ring (IsLeastLossyRing-unique h.1 g.1)
 
--- evidence of the same parts is the same
-same_evidence : {e f : Evidence} → e.rule ≡ f.rule → e.weights ≡ f.weights → e.orphan ≡ f.orphan → e.injective ≡ f.injective → e.right ≡ f.right → e.left ≡ f.left
-    → e.conserving ≡ f.conserving → e ≡ f
-same_evidence rule weights orphan injective right left conserving =
-    λ i. record { rule = rule i; weights = weights i; orphan = orphan i; injective = injective i; right = right i; left = left i; conserving = conserving i }
-
 -- a rule has one least evidence
 pub IsLeastEvidence-unique : {weight : ℕ → ℕ} {r : LocalRule} {e f : Evidence} → IsRule r → e.weights ≡ f.weights → IsLeastEvidence weight r e → IsLeastEvidence weight r f → e ≡ f
 IsLeastEvidence-unique {weight} {r} {e} {f} rule weights h g =
-    same_evidence (h.rule ∙ sym g.rule) weights
-    (IsOrphanPart-unique r e.orphan f.orphan h.surjective g.surjective) (IsInjectivePart-unique r e.injective f.injective h.injective g.injective)
-    (IsRightPart-unique r e.right f.right h.right g.right) (IsLeftPart-unique r e.left f.left h.left g.left)
-    (IsConservingPart-unique weight rule e.conserving f.conserving h.conserving g.conserving)
+    let same : e.rule ≡ f.rule = h.rule ∙ sym g.rule in
+    let orphan : e.orphan ≡ f.orphan = IsOrphanPart-unique r e.orphan f.orphan h.surjective g.surjective in
+    let injective : e.injective ≡ f.injective = IsInjectivePart-unique r e.injective f.injective h.injective g.injective in
+    let right : e.right ≡ f.right = IsRightPart-unique r e.right f.right h.right g.right in
+    let left : e.left ≡ f.left = IsLeftPart-unique r e.left f.left h.left g.left in
+    let conserving : e.conserving ≡ f.conserving = IsConservingPart-unique weight rule e.conserving f.conserving h.conserving g.conserving in
+    λ i. record { rule = same i; weights = weights i; orphan = orphan i; injective = injective i; right = right i; left = left i; conserving = conserving i }

@@ -18,20 +18,17 @@ map-letter {r} {n} {c} {g} map v below x is =
     ap (λ i. get_or g.table i 0) (sym (value-word_of r.states n v below)) ∙ ap (λ k. get_or g.table (value k w) 0) (sym map.states)
     ∙ map.letter w x (length-word_of r.states n v) is
 
--- maps of the same parts are the same
-same_parts : {f g : WindowMap} → f.states ≡ g.states → f.width ≡ g.width → f.offset ≡ g.offset → f.table ≡ g.table → f ≡ g
-same_parts {f} {g} states width offset table =
-    let of : ℕ → ℕ → ℤ → List ℕ → WindowMap = λ k m o t. record { states = k; width = m; offset = o; table = t } in
-    ap₂ (λ (k m : ℕ). of k m f.offset f.table) states width ∙ ap₂ (λ (o : ℤ) (t : List ℕ). of g.states g.width o t) offset table
-
 -- where every word has a preimage there is one map
 IsInverseMap-unique : {r : LocalRule} {n c : ℕ} {f g : WindowMap} → GivesBack r n c f → IsInverseMap r n c f → IsInverseMap r n c g → f ≡ g
 IsInverseMap-unique {r} {n} {c} {f} {g} gives here there =
-    same_parts (here.states ∙ sym there.states) (here.width ∙ sym there.width) (here.offset ∙ sym there.offset)
-    (same_number_lists f.table g.table (here.entries ∙ sym there.entries) (λ v l.
+    let states : f.states ≡ g.states = here.states ∙ sym there.states in
+    let width : f.width ≡ g.width = here.width ∙ sym there.width in
+    let offset : f.offset ≡ g.offset = here.offset ∙ sym there.offset in
+    let table : f.table ≡ g.table = same_number_lists f.table g.table (here.entries ∙ sym there.entries) (λ v l.
     let below : v < r.states ^ n = omega (arith, here.entries) in
     let onto = gives.onto (word_of r.states n v) (IsWord-word_of r.states n v below) (length-word_of r.states n v) in
-    map-letter here v below onto.0 onto.1 ∙ sym (map-letter there v below onto.0 onto.1)))
+    map-letter here v below onto.0 onto.1 ∙ sym (map-letter there v below onto.0 onto.1)) in
+    λ i. record { states = states i; width = width i; offset = offset i; table = table i }
 
 -- it is one rule, or none
 IsMapRule-unique : (g : WindowMap) (rule other : Option LocalRule) → IsMapRule g rule → IsMapRule g other → rule ≡ other

@@ -43,16 +43,12 @@ IsLeastRightAhead-unique {n = n} {m = m} h g =
     let above : ¬ (m < n) = λ less. h.least m less g.ahead in
     omega (arith, below, above)
 
--- configurations of the same parts are the same
-same_parts : {x u : TailConfig} → x.left ≡ u.left → x.middle ≡ u.middle → x.right ≡ u.right → x ≡ u
-same_parts {x} {u} left middle right = ap₂ (λ (a b : List ℕ). config_of a b x.right) left middle ∙ ap (config_of u.left u.middle) right
-
 -- one least normal split on the right
 pub IsLeastRightSplit-unique : {r : LocalRule} {x y u v : TailConfig} → IsLeastRightSplit r x y → IsLeastRightSplit r u v → (x ≡ u) × (y ≡ v)
 IsLeastRightSplit-unique {x = x} {y = y} {u = u} {v = v} h g =
     let (middles, rights) = one_split x y u v h.split.middles h.split.rights g.split.middles g.split.rights (h.least u v g.split) (g.least x y h.split) in (
-      same_parts (h.split.first.left ∙ sym g.split.first.left) middles.0 rights.0,
-      same_parts (h.split.second.left ∙ sym g.split.second.left) middles.1 rights.1,
+      λ i. config_of ((h.split.first.left ∙ sym g.split.first.left) i) (middles.0 i) (rights.0 i),
+      λ i. config_of ((h.split.second.left ∙ sym g.split.second.left) i) (middles.1 i) (rights.1 i),
     )
 
 -- and on the left
