@@ -38,7 +38,7 @@ IsRank-unique P less None (Some n) h g = absurd (g.no_more (h (n + 1)))
 IsRank-unique P less (Some n) None h g = absurd (h.no_more (g (n + 1)))
 IsRank-unique P less (Some n) (Some m) h g = ap Some (IsRank-one P less n m h g)
 
--- so the ranks of all pairs are one list
+-- the ranks of all pairs are one list
 IsRankRow-unique : (side : Side) {r : LocalRule} {row other : List (Option ℕ)} → IsRule r → IsRankRow r (Together side r) row → IsRankRow r (Together side r) other → row ≡ other
 IsRankRow-unique side {r} {row} {other} rule here there =
     same_lists row other (here.each_pair ∙ sym there.each_pair) (λ p d within.
@@ -78,7 +78,7 @@ words_within {r} {sets} {others} every here there w (k, within, at) =
     (λ (e, none, _, _). absurd (IsOrphan-not_surjective (IsOrphan-empty_set none) every))
     (there.all w (get_or sets k 0) first.set_of)
 
--- so it has one family
+-- a surjective rule has one family
 IsFamily-unique : {r : LocalRule} {sets others : List ℕ} → IsSurjective r → IsFamily r sets → IsFamily r others → sets ≡ others
 IsFamily-unique {r} {sets} {others} every here there =
     let words = same_members word_cmp_total here.words there.words (words-sorted here) (words-sorted there) (λ w. (words_within every here there w, words_within every there here w)) in
@@ -88,7 +88,7 @@ IsFamily-unique {r} {sets} {others} every here there =
     let second = (paired_at (IsLeastWordOf r) others there.words k 0 [] there.each (omega (arith, within, long))).set_of in
     IsLastSet-unique first (subst (λ ws. IsLastSet r (get_or ws k []) (get_or others k 0)) (sym words) second))
 
--- and one cover list
+-- a surjective rule has one cover list
 IsCoverList-unique : {r : LocalRule} {covers others : List ℕ} → IsSurjective r → IsCoverList r covers → IsCoverList r others → covers ≡ others
 IsCoverList-unique {r} every (family, is, here) (sets, also, there) = here ∙ ap (covers_of (full_set r)) (IsFamily-unique every is also) ∙ sym there
 

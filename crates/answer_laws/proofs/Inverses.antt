@@ -30,7 +30,7 @@ IsInverseMap-unique {r} {n} {c} {f} {g} gives here there =
     map-letter here v below onto.0 onto.1 ∙ sym (map-letter there v below onto.0 onto.1)) in
     λ i. record { states = states i; width = width i; offset = offset i; table = table i }
 
--- it is one rule, or none
+-- a map is one rule, or none
 IsMapRule-unique : (g : WindowMap) (rule other : Option LocalRule) → IsMapRule g rule → IsMapRule g other → rule ≡ other
 IsMapRule-unique g None None none also = refl
 IsMapRule-unique g None (Some r) none is = absurd (none is.0)

@@ -33,7 +33,7 @@ module _ {K : Type 0} {R : K → K → Ordering} (total : IsTotalOrder R) where
       (λ there. ⊎_elim sym (λ here. absurd (not_both x y (less_than x y xs first there) (less_than y x ys second here))) (first_or_rest y x ys j inside also))
       (first_or_rest x y xs i within at)
 
-  -- and so are the members of the rests
+  -- a later item of one list that stands in another with the same first item is a later item there
   rest_within : (x z : K) (xs ys : List K) → IsStrictlySortedBy R (x ∷ xs) → (Contains (x ∷ xs) z → Contains (x ∷ ys) z) → Contains xs z → Contains ys z
   rest_within x z xs ys sorted within there =
       let less = less_than x z xs sorted there in

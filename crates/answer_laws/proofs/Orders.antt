@@ -37,7 +37,7 @@ zip-equal x y u v here there same = (
 pub one_word : (v w : List ℕ) → word_cmp v w ≢ Greater → word_cmp w v ≢ Greater → v ≡ w
 one_word v w here there = slice_cmp-equal v w (then_equal (nat_cmp (length v) (length w)) (slice_cmp nat_cmp v w) (tied word_cmp_total v w here there)).1
 
--- so it is with pairs of words of one length
+-- of two pairs of words of one length that come no later than each other both are one
 pub one_pair : (x y u v : List ℕ) → length x ≡ length y → length u ≡ length v → pairs_cmp (zip x y) (zip u v) ≢ Greater → pairs_cmp (zip u v) (zip x y) ≢ Greater
     → (x ≡ u) × (y ≡ v)
 one_pair x y u v first second here there =
@@ -45,7 +45,7 @@ one_pair x y u v first second here there =
     zip-equal x y u v first second
     (letter_pairs-equal (zip x y) (zip u v) (then_equal (nat_cmp (length (zip x y)) (length (zip u v))) (slice_cmp pair_cmp (zip x y) (zip u v)) one).1)
 
--- and with the middles and right periods of splits
+-- of two splits that come no later than each other the middles and the right periods are one
 pub one_split : (x y u v : TailConfig) → length x.middle ≡ length y.middle → length x.right ≡ length y.right → length u.middle ≡ length v.middle → length u.right ≡ length v.right
     → splits_cmp (x, y) (u, v) ≢ Greater → splits_cmp (u, v) (x, y) ≢ Greater
     → ((x.middle ≡ u.middle) × (y.middle ≡ v.middle)) × ((x.right ≡ u.right) × (y.right ≡ v.right))

@@ -57,7 +57,7 @@ answer {reply = reply} right = record { reply = reply; right = right; status_is 
 pub one_reply_told : {words : List (List ℕ)} {left : List ℕ} {a b : Reply} → IsReplyTo words (Some left) a → IsReplyTo words (Some left) b → a ≡ b
 one_reply_told here there = IsReplyTo-unique (λ c is check bytes others whole also. whole.all ∙ sym also.all) (one_status_told (λ q f u. IsFinding-fit) (answer here) (answer there)) here there
 
--- words that are no command, or one that reads nothing, have one whatever the source tells
+-- words that are no command, or one that reads nothing, have one right reply whatever the source tells
 pub one_reply_unread : {words : List (List ℕ)} {input : Option (List ℕ)} {a b : Reply} → ((c : Command) → IsCommand words c → ReadsNothing c) → IsReplyTo words input a → IsReplyTo words input b → a ≡ b
 one_reply_unread reads here there =
     IsReplyTo-unique (λ c is check bytes others whole also. absurd (reads c is check)) (one_status_unread (λ q f u. IsFinding-fit) reads (answer here) (answer there)) here there

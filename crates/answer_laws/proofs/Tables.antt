@@ -1,4 +1,4 @@
--- Rules of one shape that give the same on each window are one.
+-- A rule is widened, trimmed, composed and recoloured in one way.
 use Rattle.std.proofs.Common.{◌≡◌, ℕ, ◌+◌, ◌-◌, ◌^◌, ◌<◌, ◌≤◌, List, [], ◌∷◌, length, map, get_or, slice_range, ℤ, pos, ◌+ℤ◌, neg_ℤ, sym, ap, ap₂, ◌∙◌, subst, arith}
 use Rattle.std.specs.List.{range_with_len}
 use Rattle.std.proofs.lemmas.Grind.{same_number_lists}
@@ -15,7 +15,7 @@ use Rattle.rule_algebra.specs.Algebra.{KeepsImages, IsTrimmed, IsWidened, IsComp
 use Rattle.rule_classes.proofs.laws.Colours.{inverse_letters}
 use Rattle.rule_classes.proofs.laws.Recoloured.{local_map-back}
 
--- two such rules
+-- rules of one shape that give the same on each window are one
 pub same_letters : {g h : LocalRule} → IsRule g → IsRule h → g.states ≡ h.states → g.width ≡ h.width → g.offset ≡ h.offset
     → ((w : List ℕ) → IsWord g.states w → length w ≡ g.width → local_map g w ≡ local_map h w) → g ≡ h
 same_letters {g} {h} first second states width offset same =
@@ -47,7 +47,7 @@ keeps_window {r} g rule keeps w word long =
     let window : cells (around w) (neg_ℤ g.offset +ℤ g.offset) g.width ≡ w = ap₂ (λ (i : ℤ) (n : ℕ). cells (around w) i n) at (sym long) ∙ cells-middle (around w) in
     sym (ap (local_map g) window) ∙ keeps (around w) (neg_ℤ g.offset) tail
 
--- so such rules of one shape are one
+-- rules of one shape that keep the images of a rule are one
 same_images : {r g h : LocalRule} → IsRule r → IsRule g → IsRule h → g.states ≡ r.states → h.states ≡ r.states → g.width ≡ h.width → g.offset ≡ h.offset
     → KeepsImages r g → KeepsImages r h → g ≡ h
 same_images {r} {g} {h} rule first second states states' width offset keeps keeps' =
@@ -60,7 +60,7 @@ pub IsWidened-unique : {r g h : LocalRule} {m : ℕ} → IsRule r → IsRule g �
 IsWidened-unique rule first second here there =
     same_images rule first second here.states there.states (here.width ∙ sym there.width) (here.offset ∙ sym there.offset) here.images there.images
 
--- and trimmed in one way
+-- a rule is trimmed in one way
 pub IsTrimmed-unique : {r g h : LocalRule} → IsRule r → IsRule g → IsRule h → IsTrimmed r g → IsTrimmed r h → g ≡ h
 IsTrimmed-unique {r} {g} {h} rule first second here there =
     let firsts : here.first ≡ there.first =
@@ -90,7 +90,7 @@ IsComposed-unique {r} {s} {g} {h} first second here there =
     ∙ image-window h w some' (long ∙ width) in
     ap (λ z. get_or z 0 0) images)
 
--- and recoloured in one way
+-- a rule is recoloured in one way
 pub IsRecoloured-unique : {r g h : LocalRule} {colours : List ℕ} → IsRule g → IsRule h → IsRecolouring r.states colours → g.offset ≡ h.offset
     → IsRecoloured colours r g → IsRecoloured colours r h → g ≡ h
 IsRecoloured-unique {r} {g} {h} {colours} first second permutes offset here there =
