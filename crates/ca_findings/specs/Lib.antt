@@ -4,3 +4,4 @@ pub mod Counts
 pub mod Findings
 pub mod Replies
 pub mod Values
+pub mod Writable

@@ -15,13 +15,17 @@
 //!
 //! [`Found`], [`Cause`], [`Stop`] and [`Reply`] are these values in code. Each is a plain enum, and `finding_of`,
 //! `unfit_of` and `reply_of` say what it is seen as.
+//!
+//! A text or JSON has a hexadecimal digit for each letter of a word, so only what has letters below 16 can be written.
+//! Each right finding about accepted rules has, which is the law [`right_findings_are_writable`].
 #![tactic(auto)]
 
 mod found;
 mod reply;
 
 ghost use Rattle.ca_findings.specs.Findings.{IsFinding, IsUnfitFor, Finding, Unfit};
-ghost use Rattle.ca_findings.specs.Questions.{Question};
+ghost use Rattle.ca_findings.specs.Questions.{AreRules, Question};
+ghost use Rattle.ca_findings.specs.Writable.{IsWritable, IsWritableUnfit};
 
 pub use found::{Automaton, Cause, Counts, Found, Inverse, Pair, Report, Stop};
 pub use reply::Reply;
@@ -29,4 +33,10 @@ pub use reply::Reply;
 /// No question has both a right finding and a cause for which nothing fits.
 pub fn found_or_unfit()
     ensures { (q : Question) (f : Finding) (u : Unfit) → IsFinding q f → ¬ IsUnfitFor q u }
+{}
+
+/// What is right for accepted rules can be written.
+pub fn right_findings_are_writable()
+    ensures found { (q : Question) (f : Finding) → AreRules q → IsFinding q f → IsWritable f }
+    ensures unfit { (q : Question) (u : Unfit) → AreRules q → IsUnfitFor q u → IsWritableUnfit u }
 {}

@@ -1,4 +1,3 @@
 pub mod Appended
 pub mod WeightLines
 pub mod Rows
-pub mod Writable

@@ -2,4 +2,3 @@ pub mod Reports
 pub mod Lines
 pub mod Texts
 pub mod StatusLines
-pub mod Writable

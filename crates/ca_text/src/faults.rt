@@ -4,7 +4,7 @@ ghost use Rattle.ca_findings.specs.Values.{unfit_of};
 ghost use Rattle.ca_text.specs.Lines.{fault_text};
 ghost use Rattle.ca_text.specs.StatusLines.{operand_fault_line, unfit_line};
 ghost use Rattle.ca_text.specs.Texts.{algebra_text, lift_text, tail_text, unfit_text};
-ghost use Rattle.ca_text.specs.Writable.{IsWritableUnfit};
+ghost use Rattle.ca_findings.specs.Writable.{IsWritableUnfit};
 
 use crate::output::Output;
 use ca_findings::Cause;

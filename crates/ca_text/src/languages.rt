@@ -5,7 +5,7 @@ ghost use Rattle.image_minimal.specs.ImageLanguages as languages;
 ghost use Rattle.ca_findings.specs.Values.{automaton_of, pair_of};
 ghost use Rattle.ca_text.specs.Lines.{after_class, automaton_lines, class_line, dead_line};
 ghost use Rattle.ca_text.specs.Texts.{erased_line, same_line};
-ghost use Rattle.ca_text.specs.Writable.{HasDigits, HasRows, HavePairDigits};
+ghost use Rattle.ca_findings.specs.Writable.{HasDigits, HasRows, HavePairDigits};
 
 use crate::decimals::write_decimal;
 use crate::output::Output;

@@ -8,7 +8,7 @@
 //! accepted certificate and of a refused one.
 //!
 //! A word is written with a hexadecimal digit for each letter, so only what has letters below 16 can be written. Each
-//! right finding about accepted rules has, which is the law [`right_findings_are_writable`].
+//! right finding about accepted rules has, which is the law `right_findings_are_writable` of ca_findings.
 //!
 //! A text is whole in memory, an [`Output`], and takes time and memory **O(n)** for its n bytes.
 #![tactic(auto)]
@@ -24,17 +24,7 @@ mod report;
 mod texts;
 mod verdicts;
 
-ghost use Rattle.ca_findings.specs.Questions.{Question, AreRules};
-ghost use Rattle.ca_findings.specs.Findings.{Finding, Unfit, IsFinding, IsUnfitFor};
-ghost use Rattle.ca_text.specs.Writable.{IsWritable, IsWritableUnfit};
-
 pub use faults::{operand_fault_output, unfit_output};
 pub use output::Output;
 pub use texts::text;
 pub use verdicts::{refused_output, write_accepted};
-
-/// What is right for accepted rules can be written.
-pub fn right_findings_are_writable()
-    ensures found { (q : Question) (f : Finding) → AreRules q → IsFinding q f → IsWritable f }
-    ensures unfit { (q : Question) (u : Unfit) → AreRules q → IsUnfitFor q u → IsWritableUnfit u }
-{}

@@ -6,7 +6,7 @@ ghost use Rattle.ca_findings.specs.Values.{preimage_of};
 ghost use Rattle.ca_text.specs.Reports.{line};
 ghost use Rattle.ca_text.specs.Lines.{gap_text, placed_text};
 ghost use Rattle.ca_text.specs.Texts.{text_of};
-ghost use Rattle.ca_text.specs.Writable.{HasTailDigits, IsWritable};
+ghost use Rattle.ca_findings.specs.Writable.{HasTailDigits, IsWritable};
 
 use crate::output::Output;
 use std::alloc::{AllocError, Global};

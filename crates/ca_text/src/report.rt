@@ -9,7 +9,7 @@ ghost use Rattle.certificate_laws.specs.LeastEvidence.{close_both};
 ghost use Rattle.ca_text.specs.Reports.{line, number_line, surjective_line, injective_line, side_line, conserving_line, report_lines};
 ghost use Rattle.ca_findings.specs.Findings.{Finding};
 ghost use Rattle.ca_findings.specs.Values.{evidence_of};
-ghost use Rattle.ca_text.specs.Writable.{HasDigits, HasTwinDigits, HasRingDigits, IsWritable};
+ghost use Rattle.ca_findings.specs.Writable.{HasDigits, HasTwinDigits, HasRingDigits, IsWritable};
 
 use crate::output::Output;
 use ca_findings::Report;

@@ -6,7 +6,7 @@ ghost use Rattle.ca_findings.specs.Findings.{Finding};
 ghost use Rattle.ca_text.specs.Reports.{line, number_line, report_lines, surjective_line};
 ghost use Rattle.ca_text.specs.Lines.{count_line, counts_lines};
 ghost use Rattle.ca_text.specs.Texts.{text_of};
-ghost use Rattle.ca_text.specs.Writable.{HasDigits, IsWritable};
+ghost use Rattle.ca_findings.specs.Writable.{HasDigits, IsWritable};
 
 use crate::counts::{write_classes, write_counts};
 use crate::inverses::map_output;

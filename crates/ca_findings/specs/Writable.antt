@@ -5,6 +5,7 @@ use Rattle.tail_config.specs.Tails.{TailConfig}
 use Rattle.image_minimal.specs.ImageLanguages.{Automaton}
 use Rattle.cert_format.specs.Evidence.{InjectiveEvidence, SumEvidence, Window, Twins, Flux, Ring}
 use Rattle.ca_findings.specs.Findings.{Finding, Unfit}
+use Rattle.ca_findings.specs.Replies.{Reply}
 
 -- the letters of a word, where there is one
 abbrev pub HasDigits : Option (List ℕ) → Type 0
@@ -45,7 +46,13 @@ IsWritable (Finding.Preimage p) = HasTailDigits p.config
 IsWritable (Finding.Gap before after w) = IsWord 16 w
 IsWritable _ = ⊤
 
--- a cause can
+-- a cause can be written
 abbrev pub IsWritableUnfit : Unfit → Type 0
 IsWritableUnfit (Unfit.Twins x y) = IsWord 16 x × IsWord 16 y
 IsWritableUnfit _ = ⊤
+
+-- a reply can be written
+abbrev pub IsWritableReply : Reply → Type 0
+IsWritableReply (Reply.Found f) = IsWritable f
+IsWritableReply (Reply.NoFit u) = IsWritableUnfit u
+IsWritableReply _ = ⊤

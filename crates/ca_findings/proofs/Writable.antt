@@ -9,7 +9,7 @@ use Rattle.cert_format.specs.Evidence.SumEvidence.{Flux, Ring}
 use Rattle.certificate_laws.specs.LeastEvidence.{IsOrphanPart, IsInjectivePart, IsConservingPart}
 use Rattle.ca_findings.specs.Questions.{Question, AreRules}
 use Rattle.ca_findings.specs.Findings.{Finding, Unfit, IsFinding, IsUnfitFor}
-use Rattle.ca_text.specs.Writable.{HasDigits, HasTwinDigits, HasRingDigits, IsWritable, IsWritableUnfit}
+use Rattle.ca_findings.specs.Writable.{HasDigits, HasTwinDigits, HasRingDigits, IsWritable, IsWritableUnfit}
 
 -- a word over the letters of an accepted rule
 IsWord-16 : {r : LocalRule} (w : List ℕ) → IsRule r → IsWord r.states w → IsWord 16 w

@@ -1,5 +1,5 @@
-use Rattle.ca_text.proofs.laws.Writable.{IsWritable-right, IsWritableUnfit-right}
-use Rattle.ca_text.proofs.right_findings_are_writable.Goals as goal
+use Rattle.ca_findings.proofs.Writable.{IsWritable-right, IsWritableUnfit-right}
+use Rattle.ca_findings.proofs.right_findings_are_writable.Goals as goal
 
 pub returns-clause-found : goal.returns-clause-found
 returns-clause-found c q f = IsWritable-right
