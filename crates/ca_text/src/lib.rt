@@ -5,7 +5,8 @@
 //! the seven of counts, and an eighth where classes are counted, an automaton's two and one for each class, a certificate
 //! as it is, and otherwise one line. `unfit_text` is what is written of a cause for which nothing fits, and
 //! [`unfit_output`] its line. Beside them stand the lines of the statuses: of an operand with a fault, of an
-//! accepted certificate and of a refused one.
+//! accepted certificate and of a refused one. Other forms of a reply name a cause as its line does, by [`algebra_name`] and
+//! its neighbours.
 //!
 //! A word is written with a hexadecimal digit for each letter, so only what has letters below 16 can be written. Each
 //! right finding about accepted rules has, which is the law `right_findings_are_writable` of ca_findings.
@@ -24,7 +25,9 @@ mod report;
 mod texts;
 mod verdicts;
 
-pub use faults::{operand_fault_output, unfit_output};
+pub use faults::{algebra_name, lift_name, operand_fault_output, unfit_output};
 pub use output::Output;
 pub use texts::text;
-pub use verdicts::{refused_output, write_accepted};
+pub use verdicts::{
+    key_name, refused_output, side_name, split_name, twin_name, write_accepted,
+};
