@@ -62,8 +62,8 @@ pub fn fault_kind(alloc: Global, fault: TextFault) -> Result<String, AllocError>
     }
 }
 
-/// Why rules make no rule.
-fn algebra_name(fault: AlgebraFault) -> &'static str
+/// The name of why rules make no rule.
+pub fn algebra_name(fault: AlgebraFault) -> &'static str
     ensures { result.now ≡ algebra_text fault }
 {
     match fault {
@@ -75,8 +75,8 @@ fn algebra_name(fault: AlgebraFault) -> &'static str
     }
 }
 
-/// Why a rule has no lift.
-fn lift_name(fault: LiftFault) -> &'static str
+/// The name of why a rule has no lift.
+pub fn lift_name(fault: LiftFault) -> &'static str
     ensures { result.now ≡ lift_text fault }
 {
     match fault {

@@ -188,7 +188,8 @@ fn split_words(alloc: Global, side: Side, cause: SplitCause) -> Result<String, A
     format!(in alloc; "split {side} {cause}")
 }
 
-fn key_name(key: Key) -> &'static str
+/// The name of the part that has no right shape.
+pub fn key_name(key: Key) -> &'static str
     ensures { result.now ≡ key_text key }
 {
     match key {
@@ -206,7 +207,8 @@ fn key_name(key: Key) -> &'static str
     }
 }
 
-fn side_name(side: Side) -> &'static str
+/// The name of a side.
+pub fn side_name(side: Side) -> &'static str
     ensures { result.now ≡ side_text side }
 {
     match side {
@@ -215,7 +217,8 @@ fn side_name(side: Side) -> &'static str
     }
 }
 
-fn twin_name(cause: TwinCause) -> &'static str
+/// The name of why two words are no twins.
+pub fn twin_name(cause: TwinCause) -> &'static str
     ensures { result.now ≡ twin_text cause }
 {
     match cause {
@@ -225,7 +228,8 @@ fn twin_name(cause: TwinCause) -> &'static str
     }
 }
 
-fn split_name(cause: SplitCause) -> &'static str
+/// The name of why two configurations are no split.
+pub fn split_name(cause: SplitCause) -> &'static str
     ensures { result.now ≡ split_text cause }
 {
     match cause {

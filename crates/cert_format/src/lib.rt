@@ -29,6 +29,7 @@
 //! JSON, object, version, rule, surjective, injective, right, left, conserving, weights, ranks, and
 //! other keys. `to_bytes` writes it with ascending keys and no blanks, and the weights only where they
 //! aren't the letters' own values. Whether the claims are true is tested by the crate `cert_check`.
+//! [`certificate_value`] is the object that is written, and beside it stand the values of some of its parts.
 //!
 //! Reading n bytes takes time O(n log n), by the map that an object is, and O(n) for the lists in
 //! it; both calls take space O(n).
@@ -52,4 +53,7 @@ pub use cert_version::CertVersion;
 pub use parts::{InjectivePart, SidePart, SumPart, SurjectivePart};
 pub use reading::from_bytes;
 pub use shape_fault::{CertFault, Key, ShapeFault};
-pub use writing::{text_has_one_certificate, to_bytes};
+pub use writing::{
+    certificate_value, flux_value, rule_value, text_has_one_certificate, to_bytes, weights_value,
+    word_value,
+};

@@ -16,7 +16,7 @@ use crate::parts::{InjectivePart, SidePart, SumPart, SurjectivePart};
 use serde_json::{Map, Value, json, put};
 use std::alloc::{AllocError, Global};
 use tail_config::Tail;
-use word_image::{FluxRow, RankRow, Rule, SetList, Weights, Word, word_text};
+use word_image::{FluxRow, RankRow, Rule, SetList, Weights, word_text};
 
 /// The text of a certificate: compact JSON with ascending keys. The only error is want of memory.
 pub fn to_bytes(alloc: Global, cert: &Cert) -> Result<Vec<u8>, AllocError>
@@ -33,8 +33,8 @@ pub fn text_has_one_certificate()
         → IsCertificateText bytes c → IsCertificateText bytes d → c ≡ d }
 {}
 
-/// The whole of a certificate as one object.
-fn certificate_value(alloc: Global, cert: &Cert) -> Result<Value, AllocError>
+/// The whole of a certificate as one object. The only error is want of memory, here and below.
+pub fn certificate_value(alloc: Global, cert: &Cert) -> Result<Value, AllocError>
     ensures value { IfOk result (λ v. view v ≡ written.certificate_value cert.now) }
     ensures shaped { OnOk result (IsShaped cert.now) }
 {
@@ -85,7 +85,7 @@ fn surjective_value(alloc: Global, cert: &Cert) -> Result<Value, AllocError>
             json!(in alloc; {"pairs": pairs})
         }
         SurjectivePart::Orphan(word) => {
-            let word = word_value(alloc, word)?;
+            let word = word_value(alloc, word.as_slice())?;
             json!(in alloc; {"orphan": word})
         }
     }
@@ -98,8 +98,8 @@ fn injective_value(alloc: Global, cert: &Cert) -> Result<Value, AllocError>
     match &cert.injective {
         InjectivePart::Window { n, c } => json!(in alloc; {"c": *c, "n": *n}),
         InjectivePart::Twins { x, y } => {
-            let x = word_value(alloc, x)?;
-            let y = word_value(alloc, y)?;
+            let x = word_value(alloc, x.as_slice())?;
+            let y = word_value(alloc, y.as_slice())?;
             json!(in alloc; {"twins": [x, y]})
         }
     }
@@ -129,7 +129,7 @@ fn sum_value(alloc: Global, cert: &Cert) -> Result<Value, AllocError>
             json!(in alloc; {"flux": flux})
         }
         SumPart::Ring(ring) => {
-            let ring = word_value(alloc, ring)?;
+            let ring = word_value(alloc, ring.as_slice())?;
             json!(in alloc; {"ring": ring})
         }
     }
@@ -163,8 +163,8 @@ fn claims_value(alloc: Global, claims: &RankRow) -> Result<Value, AllocError>
     Ok(Value::from(values))
 }
 
-/// Flows as numbers.
-fn flux_value(alloc: Global, flux: &FluxRow) -> Result<Value, AllocError>
+/// Flows as an array of numbers.
+pub fn flux_value(alloc: Global, flux: &FluxRow) -> Result<Value, AllocError>
     ensures { IfOk result (λ v. view v ≡ array_from (map written.signed_value flux.now)) }
 {
     let flows = flux.as_slice().iter();
@@ -172,8 +172,8 @@ fn flux_value(alloc: Global, flux: &FluxRow) -> Result<Value, AllocError>
     Ok(Value::from(values))
 }
 
-/// Weights as numbers.
-fn weights_value(alloc: Global, weights: &Weights) -> Result<Value, AllocError>
+/// Weights as an array of numbers.
+pub fn weights_value(alloc: Global, weights: &Weights) -> Result<Value, AllocError>
     ensures { IfOk result (λ v. view v ≡ array_from (map written.whole_value weights.now)) }
 {
     let weights = weights.as_slice().iter();
@@ -181,12 +181,12 @@ fn weights_value(alloc: Global, weights: &Weights) -> Result<Value, AllocError>
     Ok(Value::from(values))
 }
 
-/// A word's text.
-fn word_value(alloc: Global, word: &Word) -> Result<Value, AllocError>
-    requires { IsWord 16 word.now }
-    ensures { IfOk result (λ v. view v ≡ written.word_value word.now) }
+/// The digits of letters below 16 as a string.
+pub fn word_value(alloc: Global, letters: &[u8]) -> Result<Value, AllocError>
+    requires { IsWord 16 letters.now }
+    ensures { IfOk result (λ v. view v ≡ written.word_value letters.now) }
 {
-    Ok(text_value(word_text(alloc, word.as_slice())?))
+    Ok(text_value(word_text(alloc, letters)?))
 }
 
 /// A Tail's text.
@@ -197,8 +197,8 @@ fn tail_value(alloc: Global, tail: &Tail) -> Result<Value, AllocError>
     Ok(text_value(tail_config::print(alloc, tail)?))
 }
 
-/// A rule's text.
-fn rule_value(alloc: Global, rule: &Rule) -> Result<Value, AllocError>
+/// A rule's text as a string.
+pub fn rule_value(alloc: Global, rule: &Rule) -> Result<Value, AllocError>
     ensures { IfOk result (λ v. view v ≡ string (printed_rule rule.now)) }
 {
     rule.keeps_limits();

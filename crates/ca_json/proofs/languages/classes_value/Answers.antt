@@ -1,0 +1,13 @@
+use Rattle.std.proofs.Common.{◌≡◌, ◌∙◌, ap, map, rules}
+use Rattle.std.proofs.lemmas.Iterator.{YieldsList-from_slice, YieldsList-from_map_by}
+use Rattle.std.proofs.lemmas.Iterator.Consumers.{map_from_collect}
+use Rattle.std.proofs.lemmas.Result.{IfOk-at_ok}
+use Rattle.serde_json.specs.View.{view}
+use Rattle.cert_format.specs.WrittenTexts.{whole_value, array_from}
+use Rattle.ca_json.proofs.languages.classes_value.Goals as goal
+
+pub returns : goal.returns
+returns c =
+    let values : map view c.in_ok-values.values.items ≡ map whole_value c.args.classes.now =
+    IfOk-at_ok _ c.in_ok-values.was (map_from_collect _ c.collect.ensures.ran (YieldsList-from_map_by _ view whole_value (YieldsList-from_slice c.args.classes.now cc) c.map.ensures.closure (λ x r q k. search rules))) in
+    c.from.ensures ∙ ap array_from values

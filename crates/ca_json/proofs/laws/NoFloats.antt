@@ -1,0 +1,178 @@
+-- The JSON of a reply has no float.
+use Rattle.std.proofs.Common.{◌≡◌, ℕ, List, [], ◌∷◌, map, take, drop, ◌*◌, Option, Some, None, false, refl, ℤ, pos, negsuc}
+use Rattle.std.specs.List.{range_with_len}
+use Rattle.serde_json.specs.Data.{Data}
+use Rattle.serde_json.specs.View.{items_of}
+use Rattle.serde_json.specs.Written.{has_float, items_have_float}
+use Rattle.word_image.specs.LocalRules.{LocalRule}
+use Rattle.tail_config.specs.InverseMaps.{WindowMap}
+use Rattle.image_minimal.specs.ImageLanguages.{Automaton}
+use Rattle.cert_format.specs.declared.shape_fault.ShapeFault.{ShapeFault}
+use Rattle.cert_format.specs.declared.shape_fault.ShapeFault.TheVariants as shape
+use Rattle.cert_check.specs.declared.refusal.Refusal.{Refusal}
+use Rattle.cert_check.specs.declared.refusal.Refusal.TheVariants as refusal
+use Rattle.cert_check.specs.declared.verdicts.Verdicts.{Verdicts}
+use Rattle.cert_format.specs.Evidence.{InjectiveEvidence, SideEvidence, SumEvidence}
+use Rattle.cert_format.specs.Evidence.InjectiveEvidence.{Window, Twins}
+use Rattle.cert_format.specs.Evidence.SideEvidence.{Ahead, Split}
+use Rattle.cert_format.specs.Evidence.SumEvidence.{Flux, Ring}
+use Rattle.cert_format.specs.WrittenTexts.{array_from, whole_value, signed_value, claim_value}
+use Rattle.cert_format.proofs.laws.PlainValues.{IsPlain-certificate}
+use Rattle.certificate_laws.specs.LeastEvidence.{Evidence}
+use Rattle.ca_findings.specs.Numbers.{number_found}
+use Rattle.ca_findings.specs.Findings.{Finding, Unfit}
+use Rattle.ca_findings.specs.Replies.{Reply}
+use Rattle.ca_json.specs.Values.{numbers_json, number_or_null, word_or_null, surjective_json, injective_json, side_json, conserving_json}
+use Rattle.ca_json.specs.Findings.{rule_or_null, pair_or_null, report_json, inverse_json, row_json, automaton_json, finding_json}
+use Rattle.ca_json.specs.Causes.{unfit_json, operand_json, fault_name, fault_place, places_json, format_json, refusal_json}
+use Rattle.ca_json.specs.Replies.{verdicts_json, json_of}
+
+-- a value has none
+abbrev pub NoFloat : Data → Type 0
+NoFloat d = has_float d ≡ false
+
+-- the values of a list's elements
+NoFloat-array : {A : Type 0} (f : A → Data) → ((x : A) → NoFloat (f x)) → (xs : List A) → items_have_float (items_of (map f xs)) ≡ false
+NoFloat-array f each [] = refl
+NoFloat-array f each (x ∷ xs) = rw (each x) (NoFloat-array f each xs)
+
+NoFloat-numbers : (ns : List ℕ) → NoFloat (numbers_json ns)
+NoFloat-numbers ns = NoFloat-array whole_value (λ n. refl) ns
+
+NoFloat-signed : (z : ℤ) → NoFloat (signed_value z)
+NoFloat-signed (pos n) = refl
+NoFloat-signed (negsuc n) = refl
+
+NoFloat-claim : (o : Option ℕ) → NoFloat (claim_value o)
+NoFloat-claim None = refl
+NoFloat-claim (Some n) = refl
+
+NoFloat-number : (o : Option ℕ) → NoFloat (number_or_null o)
+NoFloat-number None = refl
+NoFloat-number (Some n) = refl
+
+NoFloat-word : (o : Option (List ℕ)) → NoFloat (word_or_null o)
+NoFloat-word None = refl
+NoFloat-word (Some w) = refl
+
+NoFloat-pair : (o : Option (List ℕ × List ℕ)) → NoFloat (pair_or_null o)
+NoFloat-pair None = refl
+NoFloat-pair (Some pair) = refl
+
+NoFloat-rule : (o : Option LocalRule) → NoFloat (rule_or_null o)
+NoFloat-rule None = refl
+NoFloat-rule (Some r) = refl
+
+-- Of verdicts with their evidence
+
+NoFloat-surjective : (o : Option (List ℕ)) → NoFloat (surjective_json o)
+NoFloat-surjective None = refl
+NoFloat-surjective (Some w) = refl
+
+NoFloat-injective : (e : InjectiveEvidence) → NoFloat (injective_json e)
+NoFloat-injective (Window n c) = refl
+NoFloat-injective (Twins x y) = refl
+
+NoFloat-side : (e : SideEvidence) → NoFloat (side_json e)
+NoFloat-side (Ahead n) = refl
+NoFloat-side (Split x y) = refl
+
+NoFloat-conserving : (e : SumEvidence) → NoFloat (conserving_json e)
+NoFloat-conserving (Flux phi) = rw (NoFloat-array signed_value NoFloat-signed phi)
+NoFloat-conserving (Ring p) = refl
+
+NoFloat-report : (e : Evidence) → NoFloat (report_json e)
+NoFloat-report e =
+    rw (
+      NoFloat-conserving e.conserving,
+      NoFloat-injective e.injective,
+      NoFloat-side e.left,
+      NoFloat-number (number_found e.rule),
+      NoFloat-side e.right,
+      NoFloat-surjective e.orphan,
+      NoFloat-numbers e.weights,
+    )
+
+-- Of what is found
+
+NoFloat-inverse : (n c : ℕ) (g : WindowMap) (rule : Option LocalRule) → NoFloat (inverse_json n c g rule)
+NoFloat-inverse n c g rule = rw (NoFloat-signed g.offset, NoFloat-rule rule)
+
+NoFloat-rows : (m : Automaton) → NoFloat (array_from (map (row_json m) (range_with_len 0 m.classes)))
+NoFloat-rows m = NoFloat-array (row_json m) (λ i. NoFloat-numbers (take m.states (drop (i * m.states) m.next))) (range_with_len 0 m.classes)
+
+NoFloat-automaton : (m : Automaton) → NoFloat (automaton_json m)
+NoFloat-automaton m = rw (NoFloat-claim m.dead, NoFloat-rows m)
+
+NoFloat-finding : (f : Finding) → NoFloat (finding_json f)
+NoFloat-finding (Finding.Report e) = rw (NoFloat-report e)
+NoFloat-finding (Finding.Written c) = rw ((IsPlain-certificate c).no_float)
+NoFloat-finding (Finding.Orphan orphan) = rw (NoFloat-word orphan)
+NoFloat-finding (Finding.Number n) = rw (NoFloat-number n)
+NoFloat-finding (Finding.Rule r) = refl
+NoFloat-finding (Finding.Inverse n c g rule) = rw (NoFloat-inverse n c g rule)
+NoFloat-finding (Finding.Language m) = rw (NoFloat-automaton m)
+NoFloat-finding (Finding.Same word) = rw (NoFloat-word word)
+NoFloat-finding (Finding.Erased pair) = rw (NoFloat-pair pair)
+NoFloat-finding (Finding.Preimage p) = rw (NoFloat-signed p.at)
+NoFloat-finding (Finding.Gap before after w) = refl
+NoFloat-finding (Finding.Summary t) = refl
+NoFloat-finding (Finding.Classes t n) = refl
+
+-- Of causes
+
+NoFloat-unfit : (u : Unfit) → NoFloat (unfit_json u)
+NoFloat-unfit (Unfit.Twins x y) = refl
+NoFloat-unfit (Unfit.Wide n) = refl
+NoFloat-unfit Unfit.Colours = refl
+NoFloat-unfit (Unfit.Lift f) = refl
+NoFloat-unfit (Unfit.Algebra f) = refl
+NoFloat-unfit (Unfit.Tail f) = refl
+NoFloat-unfit Unfit.Weights = refl
+NoFloat-unfit Unfit.States = refl
+
+NoFloat-operand : (operand : ℕ) (name : List ℕ) (place : Option ℕ) → NoFloat (operand_json operand name place)
+NoFloat-operand operand name None = refl
+NoFloat-operand operand name (Some place) = refl
+
+NoFloat-places : (place : Option ℕ) → NoFloat (places_json place)
+NoFloat-places None = refl
+NoFloat-places (Some place) = refl
+
+NoFloat-format : (f : ShapeFault) → NoFloat (format_json f)
+NoFloat-format shape.NotJson = refl
+NoFloat-format (shape.Version v) = refl
+NoFloat-format (shape.Shape k) = refl
+NoFloat-format (shape.Rule f) = rw (NoFloat-places (fault_place f))
+
+NoFloat-refusal : (f : Refusal) → NoFloat (refusal_json f)
+NoFloat-refusal (refusal.Format f) = NoFloat-format f
+NoFloat-refusal (refusal.Rank s p) = refl
+NoFloat-refusal refusal.NoFull = refl
+NoFloat-refusal (refusal.EmptySet i) = refl
+NoFloat-refusal (refusal.NotClosed i a) = refl
+NoFloat-refusal (refusal.NoFirst p) = refl
+NoFloat-refusal (refusal.Diagonal i) = refl
+NoFloat-refusal (refusal.Leaves i a b) = refl
+NoFloat-refusal refusal.Orphan = refl
+NoFloat-refusal (refusal.Window p) = refl
+NoFloat-refusal (refusal.Twins why) = refl
+NoFloat-refusal (refusal.Ahead s p) = refl
+NoFloat-refusal (refusal.Split s why) = refl
+NoFloat-refusal (refusal.Flux w) = refl
+NoFloat-refusal refusal.Ring = refl
+NoFloat-refusal (refusal.Memory _) = refl
+
+-- of an accepted certificate
+NoFloat-verdicts : (v : Verdicts) → NoFloat (verdicts_json v)
+NoFloat-verdicts v = rw (NoFloat-numbers v.weights)
+
+-- a reply
+pub NoFloat-reply : (reply : Reply) → NoFloat (json_of reply)
+NoFloat-reply (Reply.Found f) = rw (NoFloat-finding f)
+NoFloat-reply (Reply.NoFit u) = rw (NoFloat-unfit u)
+NoFloat-reply (Reply.RuleFault operand f) = NoFloat-operand operand (fault_name f) (fault_place f)
+NoFloat-reply (Reply.Accepted v) = rw (NoFloat-verdicts v)
+NoFloat-reply (Reply.Refused f) = NoFloat-refusal f
+NoFloat-reply Reply.TooLong = refl
+NoFloat-reply Reply.Usage = refl

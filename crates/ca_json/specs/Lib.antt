@@ -1,0 +1,4 @@
+pub mod Values
+pub mod Findings
+pub mod Causes
+pub mod Replies

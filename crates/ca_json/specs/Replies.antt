@@ -1,0 +1,31 @@
+-- The JSON of a reply, and its text.
+use Rattle.std.specs.Prelude.{ℕ, List, [], ◌∷◌, codes}
+use Rattle.serde_json.specs.Data.{Data, boolean, string}
+use Rattle.serde_json.specs.Written.{compact_text}
+use Rattle.rule_text.specs.PrintedRules.{printed_rule}
+use Rattle.cert_check.specs.declared.verdicts.Verdicts.{Verdicts}
+use Rattle.cert_check.specs.Accepted.{is_open}
+use Rattle.ca_findings.specs.Replies.{Reply}
+use Rattle.ca_json.specs.Values.{object_of, status, numbers_json}
+use Rattle.ca_json.specs.Findings.{finding_json}
+use Rattle.ca_json.specs.Causes.{unfit_json, fault_name, fault_place, operand_json, refusal_json}
+
+-- the verdicts of an accepted certificate
+abbrev pub verdicts_json : Verdicts → Data
+verdicts_json v = object_of (
+    (codes "conserving", boolean v.conserving) ∷ (codes "injective", boolean v.injective) ∷ (codes "left", boolean v.left) ∷ (codes "open", boolean (is_open v))
+    ∷ (codes "right", boolean v.right) ∷ (codes "rule", string (printed_rule v.rule)) ∷ (codes "surjective", boolean v.surjective) ∷ (codes "weights", numbers_json v.weights) ∷ [])
+
+-- the object that a reply is, with its status
+abbrev pub json_of : Reply → Data
+json_of (Reply.Found f) = object_of ((codes "finding", finding_json f) ∷ status (codes "done") ∷ [])
+json_of (Reply.NoFit u) = object_of ((codes "cause", unfit_json u) ∷ status (codes "notfit") ∷ [])
+json_of (Reply.RuleFault operand f) = operand_json operand (fault_name f) (fault_place f)
+json_of (Reply.Accepted v) = object_of (status (codes "done") ∷ (codes "verdicts", verdicts_json v) ∷ [])
+json_of (Reply.Refused f) = refusal_json f
+json_of Reply.TooLong = object_of (status (codes "toolong") ∷ [])
+json_of Reply.Usage = object_of (status (codes "usage") ∷ [])
+
+-- its text: keys ascending, and no blanks
+abbrev pub json_text : Reply → List ℕ
+json_text reply = compact_text (json_of reply)

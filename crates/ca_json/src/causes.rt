@@ -1,0 +1,86 @@
+//! Why nothing fits, and the fault of an operand.
+ghost use Rattle.std.specs.Prelude.{◌≡◌, IfOk};
+ghost use Rattle.serde_json.specs.View.{view};
+ghost use Rattle.ca_findings.specs.Values.{unfit_of};
+ghost use Rattle.ca_findings.specs.Writable.{IsWritableUnfit};
+ghost use Rattle.ca_json.specs.Causes as causes;
+
+use crate::values::{pair_value, tagged};
+use ca_findings::Cause;
+use ca_text::{algebra_name, lift_name};
+use rule_text::TextFault;
+use serde_json::{Value, json};
+use std::alloc::{AllocError, Global};
+use tail_config::TailFault;
+
+/// Why nothing fits, under a key that says its kind.
+pub fn unfit_value(alloc: Global, cause: &Cause) -> Result<Value, AllocError>
+    requires { IsWritableUnfit (unfit_of cause.now) }
+    ensures { IfOk result (λ v. view v ≡ causes.unfit_json (unfit_of cause.now)) }
+{
+    match cause {
+        Cause::Twins(pair) => {
+            let twins = pair_value(alloc, pair.x.as_slice(), pair.y.as_slice())?;
+            tagged(alloc, "twins", twins)
+        }
+        Cause::Wide(n) => tagged(alloc, "wide", Value::from(*n)),
+        Cause::Colours => tagged(alloc, "colours", Value::Null),
+        Cause::Lift(fault) => json!(in alloc; {"lift": lift_name(*fault)}),
+        Cause::Algebra(fault) => json!(in alloc; {"algebra": algebra_name(*fault)}),
+        Cause::Tail(fault) => json!(in alloc; {"tail": tail_name(*fault)}),
+        Cause::Weights => tagged(alloc, "weights", Value::Null),
+        Cause::States => tagged(alloc, "states", Value::Null),
+    }
+}
+
+/// Why three parts make no configuration.
+fn tail_name(fault: TailFault) -> &'static str
+    ensures { result.now ≡ causes.tail_name fault }
+{
+    match fault {
+        TailFault::LeftEmpty => "leftempty",
+        TailFault::RightEmpty => "rightempty",
+        TailFault::Long(_) => "long",
+        TailFault::Letter(..) => "letter",
+    }
+}
+
+/// Which fault the operand with this number has, and where.
+pub fn operand_value(alloc: Global, operand: u8, fault: TextFault) -> Result<Value, AllocError>
+    ensures { IfOk result (λ v. view v ≡ causes.operand_json operand (causes.fault_name fault) (causes.fault_place fault)) }
+{
+    let name = fault_name(fault);
+    match fault_place(fault) {
+        None => json!(in alloc; {"fault": name, "operand": operand, "status": "rulefault"}),
+        Some(place) => json!(in alloc; {
+            "fault": name, "operand": operand, "place": place, "status": "rulefault"
+        }),
+    }
+}
+
+/// The kind of a fault.
+pub fn fault_name(fault: TextFault) -> &'static str
+    ensures { result.now ≡ causes.fault_name fault }
+{
+    match fault {
+        TextFault::Form(_) => "form",
+        TextFault::States => "states",
+        TextFault::Width => "width",
+        TextFault::Nodes => "nodes",
+        TextFault::Offset => "offset",
+        TextFault::Kind => "kind",
+        TextFault::Length => "length",
+        TextFault::Letter(_) => "letter",
+        TextFault::Number => "number",
+    }
+}
+
+/// The place of a fault, where it has one.
+pub fn fault_place(fault: TextFault) -> Option<usize>
+    ensures { result ≡ causes.fault_place fault }
+{
+    match fault {
+        TextFault::Form(place) | TextFault::Letter(place) => Some(place),
+        _ => None,
+    }
+}

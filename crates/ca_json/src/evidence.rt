@@ -1,0 +1,129 @@
+//! A report: verdicts with their evidence.
+ghost use Rattle.std.specs.Prelude.{◌≡◌, IfOk};
+ghost use Rattle.serde_json.specs.View.{view};
+ghost use Rattle.cert_format.specs.Parts.{injective_of, side_of, sum_of};
+ghost use Rattle.certificate_laws.specs.LeastEvidence.{close_both};
+ghost use Rattle.ca_findings.specs.Findings.{Finding};
+ghost use Rattle.ca_findings.specs.Numbers.{number_found};
+ghost use Rattle.ca_findings.specs.Values.{evidence_of};
+ghost use Rattle.ca_findings.specs.Writable.{HasDigits, HasRingDigits, HasTwinDigits, IsWritable};
+ghost use Rattle.ca_json.specs.Findings.{report_json};
+ghost use Rattle.ca_json.specs.Values.{conserving_json, injective_json, number_or_null, side_json, surjective_json, tail_json};
+
+use crate::values::{number_or_null, pair_value, tail_value};
+use ca_findings::Report;
+use cert_format::{
+    InjectivePart, SidePart, SumPart, flux_value, rule_value, weights_value, word_value,
+};
+use rule_text::number;
+use serde_json::{Map, Value, json, put};
+use std::alloc::{AllocError, Global};
+use tail_config::Tail;
+use word_image::{Rule, Word};
+
+/// The verdicts of a rule, each with its evidence.
+pub fn report_value(alloc: Global, report: &Report) -> Result<Value, AllocError>
+    requires { IsWritable (Finding.Report (evidence_of report.now)) }
+    ensures { IfOk result (λ v. view v ≡ report_json (evidence_of report.now)) }
+{
+    let conserving = conserving_value(alloc, &report.conserving)?;
+    let injective = injective_value(alloc, &report.injective)?;
+    let left = side_value(alloc, &report.left)?;
+    let number = number_value(alloc, &report.rule)?;
+    let open = Value::from(are_ahead(&report.right, &report.left));
+    let right = side_value(alloc, &report.right)?;
+    let rule = rule_value(alloc, &report.rule)?;
+    let surjective = surjective_value(alloc, &report.orphan)?;
+    let weights = weights_value(alloc, &report.weights)?;
+    let mut members = Map::new(alloc);
+    put(&mut members, alloc, "conserving", conserving)?;
+    put(&mut members, alloc, "injective", injective)?;
+    put(&mut members, alloc, "left", left)?;
+    put(&mut members, alloc, "number", number)?;
+    put(&mut members, alloc, "open", open)?;
+    put(&mut members, alloc, "right", right)?;
+    put(&mut members, alloc, "rule", rule)?;
+    put(&mut members, alloc, "surjective", surjective)?;
+    put(&mut members, alloc, "weights", weights)?;
+    Ok(Value::from(members))
+}
+
+/// The Wolfram number of a rule, or null where it has none.
+fn number_value(alloc: Global, rule: &Rule) -> Result<Value, AllocError>
+    ensures { IfOk result (λ v. view v ≡ number_or_null (number_found rule.now)) }
+{
+    number_or_null(alloc, number(rule))
+}
+
+/// Whether both sides have a look-ahead.
+fn are_ahead(right: &SidePart, left: &SidePart) -> bool
+    ensures { result ≡ close_both (side_of right.now) (side_of left.now) }
+{
+    matches!((right, left), (SidePart::Ahead(_), SidePart::Ahead(_)))
+}
+
+/// That every word has a preimage, or an orphan.
+fn surjective_value(alloc: Global, orphan: &Option<Word>) -> Result<Value, AllocError>
+    requires { HasDigits orphan.now }
+    ensures { IfOk result (λ v. view v ≡ surjective_json orphan.now) }
+{
+    match orphan {
+        None => json!(in alloc; {"holds": true}),
+        Some(word) => {
+            let orphan = word_value(alloc, word.as_slice())?;
+            json!(in alloc; {"holds": false, "orphan": orphan})
+        }
+    }
+}
+
+/// A window, or twins.
+fn injective_value(alloc: Global, found: &InjectivePart) -> Result<Value, AllocError>
+    requires { HasTwinDigits (injective_of found.now) }
+    ensures { IfOk result (λ v. view v ≡ injective_json (injective_of found.now)) }
+{
+    match found {
+        InjectivePart::Window { n, c } => json!(in alloc; {"holds": true, "window": [*n, *c]}),
+        InjectivePart::Twins { x, y } => {
+            let twins = pair_value(alloc, x.as_slice(), y.as_slice())?;
+            json!(in alloc; {"holds": false, "twins": twins})
+        }
+    }
+}
+
+/// A look-ahead of a side, or a split.
+fn side_value(alloc: Global, found: &SidePart) -> Result<Value, AllocError>
+    ensures { IfOk result (λ v. view v ≡ side_json (side_of found.now)) }
+{
+    match found {
+        SidePart::Ahead(n) => json!(in alloc; {"ahead": *n, "holds": true}),
+        SidePart::Split(x, y) => {
+            let x = accepted_tail_value(alloc, x)?;
+            let y = accepted_tail_value(alloc, y)?;
+            json!(in alloc; {"holds": false, "split": [x, y]})
+        }
+    }
+}
+
+/// A flux, or a ring whose image has another sum.
+fn conserving_value(alloc: Global, found: &SumPart) -> Result<Value, AllocError>
+    requires { HasRingDigits (sum_of found.now) }
+    ensures { IfOk result (λ v. view v ≡ conserving_json (sum_of found.now)) }
+{
+    match found {
+        SumPart::Flux(flux) => {
+            let flux = flux_value(alloc, flux)?;
+            json!(in alloc; {"flux": flux, "holds": true})
+        }
+        SumPart::Ring(ring) => {
+            let ring = word_value(alloc, ring.as_slice())?;
+            json!(in alloc; {"holds": false, "ring": ring})
+        }
+    }
+}
+
+/// The periods of a Tail, and its middle.
+fn accepted_tail_value(alloc: Global, tail: &Tail) -> Result<Value, AllocError>
+    ensures { IfOk result (λ v. view v ≡ tail_json (tail.now).config) }
+{
+    tail_value(alloc, tail.left(), tail.middle(), tail.right())
+}

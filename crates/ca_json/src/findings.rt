@@ -1,0 +1,121 @@
+//! What is found.
+ghost use Rattle.std.specs.Prelude.{◌≡◌, codes, IfOk};
+ghost use Rattle.serde_json.specs.View.{view};
+ghost use Rattle.tail_preimage.specs.Answers.{placed_config};
+ghost use Rattle.ca_findings.specs.Values.{counts_of, finding_of, pair_of, preimage_of};
+ghost use Rattle.ca_findings.specs.Writable.{HasTailDigits, HavePairDigits, IsWritable};
+ghost use Rattle.ca_json.specs.Findings.{counts_json, finding_json, inverse_json, pair_or_null, placed_json, rule_or_null};
+
+use crate::evidence::report_value;
+use crate::languages::automaton_value;
+use crate::values::{number_or_null, pair_value, tagged, tail_value, word_or_null};
+use ca_findings::{Counts, Found, Inverse, Pair};
+use cert_format::{certificate_value, rule_value, word_value};
+use serde_json::{Value, json};
+use std::alloc::{AllocError, Global};
+use tail_preimage::{Placed, Pre};
+use word_image::Rule;
+
+/// What is found, under a key that says its kind.
+pub fn finding_value(alloc: Global, found: &Found) -> Result<Value, AllocError>
+    requires { IsWritable (finding_of found.now) }
+    ensures { IfOk result (λ v. view v ≡ finding_json (finding_of found.now)) }
+{
+    match found {
+        Found::Report(report) => tagged(alloc, "report", report_value(alloc, report)?),
+        Found::Written(cert) => tagged(alloc, "certificate", certificate_value(alloc, cert)?),
+        Found::Orphan(orphan) => tagged(alloc, "orphan", word_or_null(alloc, orphan)?),
+        Found::Number(number) => tagged(alloc, "number", number_or_null(alloc, *number)?),
+        Found::Rule(rule) => tagged(alloc, "rule", rule_value(alloc, rule)?),
+        Found::Inverse(inverse) => tagged(alloc, "inverse", inverse_value(alloc, inverse)?),
+        Found::Language(automaton) => {
+            tagged(alloc, "automaton", automaton_value(alloc, automaton)?)
+        }
+        Found::Same(word) => tagged(alloc, "same", word_or_null(alloc, word)?),
+        Found::Erased(pair) => tagged(alloc, "erased", pair_or_null(alloc, pair)?),
+        Found::Preimage(answer) => preimage_value(alloc, answer),
+        Found::Summary(counts) => tagged(alloc, "summary", counts_value(alloc, counts)?),
+        Found::Classes(counts, classes) => {
+            let summary = counts_value(alloc, counts)?;
+            json!(in alloc; {"classes": *classes, "summary": summary})
+        }
+    }
+}
+
+/// A map over a window, and what it is as a rule.
+fn inverse_value(alloc: Global, inverse: &Inverse) -> Result<Value, AllocError>
+    ensures { IfOk result (λ v. view v ≡ inverse_json inverse.now.n inverse.now.c inverse.now.map inverse.now.rule) }
+{
+    let map = word_value(alloc, inverse.map.table())?;
+    let rule = rule_or_null(alloc, &inverse.rule)?;
+    json!(in alloc; {
+        "map": map,
+        "offset": inverse.map.offset(),
+        "rule": rule,
+        "window": [inverse.n, inverse.c],
+    })
+}
+
+/// The printed rule, or null where there is none.
+fn rule_or_null(alloc: Global, rule: &Option<Rule>) -> Result<Value, AllocError>
+    ensures { IfOk result (λ v. view v ≡ rule_or_null rule.now) }
+{
+    match rule {
+        None => Ok(Value::Null),
+        Some(rule) => rule_value(alloc, rule),
+    }
+}
+
+/// Two words, or null where there are none.
+fn pair_or_null(alloc: Global, pair: &Option<Pair>) -> Result<Value, AllocError>
+    requires { HavePairDigits (pair_of pair.now) }
+    ensures { IfOk result (λ v. view v ≡ pair_or_null (pair_of pair.now)) }
+{
+    match pair {
+        None => Ok(Value::Null),
+        Some(pair) => pair_value(alloc, pair.x.as_slice(), pair.y.as_slice()),
+    }
+}
+
+/// What maps to a configuration, or a gap in it.
+fn preimage_value(alloc: Global, answer: &Pre) -> Result<Value, AllocError>
+    requires { IsWritable (preimage_of answer.now) }
+    ensures { IfOk result (λ v. view v ≡ finding_json (preimage_of answer.now)) }
+{
+    match answer {
+        Pre::From(placed) => tagged(alloc, "preimage", placed_value(alloc, placed)?),
+        Pre::Gap {
+            before,
+            after,
+            word,
+        } => {
+            let word = word_value(alloc, word.as_slice())?;
+            json!(in alloc; {"gap": {"after": *after, "before": *before, "word": word}})
+        }
+    }
+}
+
+/// Where the middle of a configuration begins, and the configuration.
+fn placed_value(alloc: Global, placed: &Placed) -> Result<Value, AllocError>
+    requires { HasTailDigits (placed_config placed.now).config }
+    ensures { IfOk result (λ v. view v ≡ placed_json (placed_config placed.now)) }
+{
+    let (left, middle) = (placed.left.as_slice(), placed.middle.as_slice());
+    let tail = tail_value(alloc, left, middle, placed.right.as_slice())?;
+    json!(in alloc; {"at": placed.at, "tail": tail})
+}
+
+/// How many rules there are, and how many of them have each property.
+fn counts_value(alloc: Global, counts: &Counts) -> Result<Value, AllocError>
+    ensures { IfOk result (λ v. view v ≡ counts_json (counts_of counts.now)) }
+{
+    json!(in alloc; {
+        "conserving": counts.conserving,
+        "injective": counts.injective,
+        "left": counts.left,
+        "open": counts.open,
+        "right": counts.right,
+        "rules": counts.rules,
+        "surjective": counts.surjective,
+    })
+}
