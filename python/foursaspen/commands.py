@@ -34,7 +34,7 @@ def decide(rule: Rule, weights: Weights | None = None) -> Report:
     """The report of a rule: each verdict with its least evidence. Where weights are given, one for each letter,
     the sum of a ring is that of its letters' weights."""
     call = Call("decide", rule_text(rule), *weights_text(weights))
-    return Report.of(call, call.finding()["report"])
+    return Report.of(call.finding()["report"]).of_call(call)
 
 
 def orphan(rule: Rule) -> str | None:
@@ -63,7 +63,7 @@ def check(certificate: Text) -> Verdicts:
     """The verdicts of a certificate that is accepted; else RefusedError or TooLongError is raised. It may be a
     Certificate, a text, bytes, or a file that is open for reading."""
     call = Call("check", data=certificate_bytes(certificate))
-    return Verdicts.of(call, call.reply()["verdicts"])
+    return Verdicts.of(call.reply()["verdicts"]).of_call(call)
 
 
 # Images
@@ -71,19 +71,19 @@ def check(certificate: Text) -> Verdicts:
 def language(rule: Rule) -> Language:
     """The least automaton of the words that have a preimage."""
     call = Call("language", rule_text(rule))
-    return Language.of(call, call.finding()["automaton"])
+    return Language.of(call.finding()["automaton"]).of_call(call)
 
 
 def same(rule: Rule, other: Rule) -> Same:
     """Whether the same words have a preimage under two rules."""
     call = Call("same", rule_text(rule), rule_text(other, "other", 2))
-    return Same(call, call.finding()["same"])
+    return Same(call.finding()["same"]).of_call(call)
 
 
 def preimage(rule: Rule, tail: Tail | str) -> Preimage | Gap:
     """The first configuration that the rule maps to this one, or the orphan in it."""
     call = Call("preimage", rule_text(rule), tail_text(tail))
-    return preimage_of(call, call.finding())
+    return preimage_of(call.finding()).of_call(call)
 
 
 def erase(rule: Rule) -> Pair | None:
@@ -97,7 +97,7 @@ def erase(rule: Rule) -> Pair | None:
 def inverse(rule: Rule) -> Inverse:
     """The map that gives every cell back from the image; NotFitError where the rule isn't injective."""
     call = Call("inverse", rule_text(rule))
-    return Inverse.of(call, call.finding()["inverse"])
+    return Inverse.of(call.finding()["inverse"]).of_call(call)
 
 
 def compose(rule: Rule, then: Rule) -> str:
@@ -174,4 +174,4 @@ def classes(states: SupportsIndex, width: SupportsIndex, start: SupportsIndex, c
     """The same as `survey`, and in how many classes the rules lie."""
     call = Call("classes", *shape(states, width), whole("start is", start, 0, START), whole("count is", count, 1, MOST))
     finding = call.finding()
-    return ClassSummary(call, Summary(**finding["summary"]), finding["classes"])
+    return ClassSummary(Summary(**finding["summary"]), finding["classes"]).of_call(call)

@@ -9,13 +9,14 @@ import html
 import json
 from collections.abc import Iterable
 from dataclasses import dataclass, field, fields
-from typing import Any, Literal
+from typing import Any, Literal, TypeVar
 
 from .calls import Call
 from .faults import UsageError
 
 DIGITS = "0123456789abcdef"
 LISTED = 64                                     # rows of a table, and letters in cells of their own
+Kind = TypeVar("Kind", bound="Found")
 
 
 class Answer:
@@ -25,17 +26,23 @@ class Answer:
         return table(line.split(" ", 1) for line in str(self).splitlines())
 
 
-@dataclass(frozen=True)
 class Found(Answer):
-    """An answer with the call that it came of, which is asked for the text when that is wanted."""
-    call: Call = field(repr=False, compare=False)
+    """An answer of the library: values, and beside them the call that they came of, which is asked for the text when that
+    is wanted. One that is made in another way has no text."""
+    _call: Call | None = None
 
-    def __str__(self) -> str:
-        return self.text
+    def of_call(self: Kind, call: Call) -> Kind:
+        object.__setattr__(self, "_call", call)
+        return self
 
     @property
     def text(self) -> str:
-        return self.call.text()
+        if self._call is None:
+            raise ValueError("what no call has found has no text")
+        return self._call.text()
+
+    def __str__(self) -> str:
+        return repr(self) if self._call is None else self.text
 
 
 def table(rows: Iterable[Iterable[str]]) -> str:
@@ -151,10 +158,10 @@ class Report(Found):
     ring: str | None
 
     @staticmethod
-    def of(call: Call, value: dict[str, Any]) -> Report:
+    def of(value: dict[str, Any]) -> Report:
         number, onto, one, kept = (value[name] for name in ("number", "surjective", "injective", "conserving"))
         return Report(
-            call, value["rule"], None if number is None else int(number),
+            value["rule"], None if number is None else int(number),
             onto["holds"], onto.get("orphan"),
             one["holds"], Window(*one["window"]) if one["holds"] else None, None if one["holds"] else Pair(*one["twins"]),
             Closing.of(value["right"]), Closing.of(value["left"]), value["open"],
@@ -200,10 +207,10 @@ class Verdicts(Found):
     weights: tuple[int, ...] | None
 
     @staticmethod
-    def of(call: Call, value: dict[str, Any]) -> Verdicts:
+    def of(value: dict[str, Any]) -> Verdicts:
         weights = tuple(value["weights"])
         parts: dict[str, Any] = {**value, "weights": None if weights == tuple(range(len(weights))) else weights}
-        return Verdicts(call, **parts)
+        return Verdicts(**parts)
 
 
 @dataclass(frozen=True)
@@ -215,8 +222,8 @@ class Language(Found):
     after: tuple[tuple[int, ...], ...] = field(repr=False)
 
     @staticmethod
-    def of(call: Call, value: dict[str, Any]) -> Language:
-        return Language(call, value["classes"], value["dead"], tuple(map(tuple, value["next"])))
+    def of(value: dict[str, Any]) -> Language:
+        return Language(value["classes"], value["dead"], tuple(map(tuple, value["next"])))
 
     def class_of(self, word: object) -> int:
         """The class of a word, which is a text."""
@@ -250,8 +257,8 @@ class Inverse(Found):
     rule: str | None
 
     @staticmethod
-    def of(call: Call, value: dict[str, Any]) -> Inverse:
-        return Inverse(call, Window(*value["window"]), value["offset"], value["map"], value["rule"])
+    def of(value: dict[str, Any]) -> Inverse:
+        return Inverse(Window(*value["window"]), value["offset"], value["map"], value["rule"])
 
 
 @dataclass(frozen=True)
@@ -294,12 +301,12 @@ class Gap(Found):
                       ["right periods in it", str(self.right)]])
 
 
-def preimage_of(call: Call, finding: dict[str, Any]) -> Preimage | Gap:
+def preimage_of(finding: dict[str, Any]) -> Preimage | Gap:
     """What is found of a configuration."""
     if "gap" in finding:
         gap = finding["gap"]
-        return Gap(call, gap["before"], gap["after"], gap["word"])
-    return Preimage(call, finding["preimage"]["at"], Tail(**finding["preimage"]["tail"]))
+        return Gap(gap["before"], gap["after"], gap["word"])
+    return Preimage(finding["preimage"]["at"], Tail(**finding["preimage"]["tail"]))
 
 
 # Answers about many rules

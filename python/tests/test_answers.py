@@ -3,6 +3,7 @@ from __future__ import annotations
 
 import copy
 import dataclasses
+import json
 import os
 import pickle
 import re
@@ -124,6 +125,15 @@ class Texts(unittest.TestCase):
             self.assertEqual((same, len({same, again, answer})), (answer, 1))
         certificate = ca.certify(110)
         self.assertEqual((pickle.loads(pickle.dumps(certificate)), len({certificate, ca.certify(110)})), (certificate, 1))
+
+    def test_answers_are_values_alone(self) -> None:
+        made = ca.Preimage(-1, ca.Tail("0", "0", "01"))
+        self.assertEqual((ca.preimage(90, "0|1|0"), str(made)), (made, repr(made)))
+        with self.assertRaises(ValueError):
+            made.text
+        values = json.loads(json.dumps(dataclasses.asdict(ca.decide(170))))
+        self.assertEqual((values["window"], values["flux"]), ({"letters": 1, "place": 2}, [0, -1, -1, -2]))
+        self.assertEqual(set(values), {field.name for field in dataclasses.fields(ca.Report)})
 
 
 class Bytes(unittest.TestCase):
