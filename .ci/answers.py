@@ -173,6 +173,7 @@ def asked():
         yield from ([command, rule, other] for command in ("same", "compose"))
         yield from (["preimage", rule, configuration], ["shift", rule, "-2"], ["widen", rule, "3"], ["permute", rule, "10"])
         yield ["sample", *rule.split(":")[:2], "7", "20"]
+    yield from (["preimage", "110", "|1|0"], ["preimage", "110", "0|1|2"], ["orphan", "2:3:-1:t01110112"])
 
 
 # What is counted
