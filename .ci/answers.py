@@ -13,7 +13,7 @@ from pathlib import Path
 import listed
 from foursaspen.library import Library, place
 
-SCHEMA = Path(__file__).resolve().parents[1] / "docs" / "answers.schema.json"
+DOCS = Path(__file__).resolve().parents[1] / "docs"
 DIGITS = "0123456789abcdef"
 SHAPES = ((2, 2), (2, 3), (2, 4), (2, 5), (3, 2), (3, 3), (4, 2), (4, 3), (5, 2), (6, 2), (7, 2), (11, 2), (16, 2))
 OF_A_RULE = ("decide", "orphan", "number", "certify", "brief", "language", "erase", "inverse", "reflect", "trim", "least",
@@ -223,12 +223,16 @@ def wrong(words, text, form):
         yield "the weights are others"
 
 
-def validator_of(schema):
-    """What judges by a schema; None where jsonschema isn't there."""
+def validator():
+    """What judges by answers.schema.json, with the schema of certificates that it names inside; None where jsonschema isn't
+    there."""
     try:
         from jsonschema.validators import validator_for
     except ImportError:
         return None
+    schema, inner = (json.loads((DOCS / f"{name}.schema.json").read_text()) for name in ("answers", "certificate"))
+    schema["$id"], inner["$id"] = (f"file:{DOCS}/{name}.schema.json" for name in ("answers", "certificate"))
+    schema["$defs"]["certificate"] = inner
     kind = validator_for(schema)
     kind.check_schema(schema)
     return kind(schema)
@@ -247,17 +251,17 @@ class Tally:
 
 
 def main(file):
-    library, validator = Library(place()), validator_of(json.loads(SCHEMA.read_text()))
+    library, judge = Library(place()), validator()
     tally, missing, unfit = Tally(), set(KINDS), []
     for words, data in chain(written(file), certificates(), ((words, b"") for words in asked())):
         text, form = library.run(words, data), library.run_json(words, data)
         tally.well(f"{' '.join(words)} {data[:200]!r}", list(wrong(words, text, form)))
         missing -= kinds(json.loads(form.output), text.output.decode())
-        if validator is not None:
-            unfit += (f"{' '.join(words)}: {fault.message}" for fault in validator.iter_errors(json.loads(form.output)))
+        if judge is not None:
+            unfit += (f"{' '.join(words)}: {fault.message}" for fault in judge.iter_errors(json.loads(form.output)))
     tally.well("what didn't come up", sorted(missing))
-    if validator is not None:
-        tally.well(f"by {SCHEMA.name}", unfit)
+    if judge is not None:
+        tally.well("by answers.schema.json", unfit)
     print(f"{tally.count - tally.failed} passed, {tally.failed} failed")
 
 
