@@ -1,11 +1,13 @@
 """Makes the text of each answer anew from its JSON form alone, and holds it beside the text: answers.py WORDS.
 
 WORDS has command lines: of each how many words it has, and the words, each of all these with a 0 byte after it. The lines
-are those of docs/COMMANDS.md and docs/CERTIFICATES.md; what is written here knows neither the package nor the library.
+are those of docs/COMMANDS.md and docs/CERTIFICATES.md, and the form is that of docs/ANSWERS.md; what is written here knows
+neither the package nor the library.
 """
 import json
 import operator
 import random
+import re
 import sys
 from itertools import chain
 from pathlib import Path
@@ -238,8 +240,13 @@ def validator():
     return kind(schema)
 
 
+def examples():
+    """The lines of docs/ANSWERS.md that stand beside their form."""
+    return re.findall("^\\| `(.*)` \\| `(.*)` \\|$", (DOCS / "ANSWERS.md").read_text(), re.MULTILINE)
+
+
 class Tally:
-    """What is counted: calls, that each kind came up, and that all forms fit the schema, where that can be judged."""
+    """What is counted: calls, that each kind came up, examples, and that all forms fit the schema, where that can be judged."""
 
     def __init__(self):
         self.count = self.failed = 0
@@ -260,6 +267,9 @@ def main(file):
         if judge is not None:
             unfit += (f"{' '.join(words)}: {fault.message}" for fault in judge.iter_errors(json.loads(form.output)))
     tally.well("what didn't come up", sorted(missing))
+    for text, form in examples():
+        reply = json.loads(form)
+        tally.well(f"docs/ANSWERS.md: {text}", [form] * (STATUSES[reply["status"]][1](reply) != f"{text}\n"))
     if judge is not None:
         tally.well("by answers.schema.json", unfit)
     print(f"{tally.count - tally.failed} passed, {tally.failed} failed")

@@ -17,7 +17,7 @@ class Call:
         self._text: str | None = None
 
     def reply(self) -> dict[str, Any]:
-        """What docs/answers.schema.json says of the status Done; an exception where there is another one."""
+        """What docs/ANSWERS.md says of the status Done; an exception where there is another one."""
         code, output = library().run_json(self.words, self.data)
         reply: dict[str, Any] = json.loads(output)
         if code:

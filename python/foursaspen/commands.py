@@ -24,7 +24,7 @@ def run(words: Iterable[str], data: bytes = b"") -> Outcome:
 
 
 def found(name: str, *words: object) -> Any:
-    """What a command finds, as docs/answers.schema.json names it; an exception where the status isn't Done."""
+    """What a command finds, as docs/ANSWERS.md names it; an exception where the status isn't Done."""
     return Call(*words).finding()[name]
 
 

@@ -32,7 +32,7 @@ class FoursaspenError(Exception):
 
     @classmethod
     def of(cls, reply: dict[str, Any]) -> FoursaspenError:
-        """Of what docs/answers.schema.json says of the status."""
+        """Of what docs/ANSWERS.md says of the status."""
         return cls()
 
 

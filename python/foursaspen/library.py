@@ -100,7 +100,7 @@ class Library:
         return self._called(self._run, words, data)
 
     def run_json(self, words: Iterable[str], data: bytes = b"") -> Outcome:
-        """The same, with the JSON form of the output: docs/answers.schema.json."""
+        """The same, with the JSON form of the output: docs/ANSWERS.md."""
         return self._called(self._run_json, words, data)
 
     def _called(self, run: Callable[..., int], words: Iterable[str], data: bytes) -> Outcome:

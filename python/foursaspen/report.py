@@ -1,5 +1,5 @@
-"""What the commands answer, as frozen dataclasses, which are made of the values of docs/answers.schema.json. The text of
-each, `str(answer)`, is what the program prints, to the byte.
+"""What the commands answer, as frozen dataclasses, which are made of the values of docs/ANSWERS.md. The text of each,
+`str(answer)`, is what the program prints, to the byte.
 
 Words are texts of hexadecimal digits, one for a letter, as the program prints them.
 """
