@@ -103,7 +103,7 @@ class Builds:
 
     def ready(self):
         """The crates that can be begun, those with the longest way up first."""
-        begun = self.built | {name for name, _ in self.running.values()}
+        begun = self.built | {name for name, _, _ in self.running.values()}
         ready = [name for name in self.below if name not in begun and self.built.issuperset(self.below[name])]
         return sorted(ready, key=self.ways.get, reverse=True)
 
@@ -116,12 +116,12 @@ class Builds:
         with open(folder / f"{name}.log", "wb") as log:
             process = subprocess.Popen(words, cwd=folder / "crates" / name, stdin=subprocess.DEVNULL, stdout=log,
                                        stderr=log, start_new_session=True)
-        self.running[process.pid] = name, folder
+        self.running[process.pid] = name, folder, process   # which subprocess would wait for if it weren't kept
 
     def end_one(self):
         """Waits for one of them, and gives whether it was built."""
         pid, status = os.wait()
-        name, folder = self.running.pop(pid)
+        name, folder, _ = self.running.pop(pid)
         move(name, folder, top)
         self.free.append(folder)
         if status:
@@ -143,13 +143,13 @@ class Builds:
 
     def tell(self):
         minutes = int(time.monotonic() - self.begun) // 60
-        names = " ".join(name for name, _ in self.running.values())
+        names = " ".join(name for name, _, _ in self.running.values())
         print(f"{len(self.built)} of {len(self.below)} crates, {minutes} minutes: {names}", file=sys.stderr, flush=True)
 
     def stop(self):
         for pid in self.running:
             os.killpg(pid, signal.SIGTERM)
-        for pid, (name, folder) in self.running.items():
+        for pid, (name, folder, _) in self.running.items():
             os.waitpid(pid, 0)
             move(name, folder, top)
 

@@ -8,7 +8,7 @@ Each command of the program is a function of its name, in foursaspen.commands; d
 shows them, `verdict_bytes` (foursaspen.bits) decides many rules with consecutive numbers, a byte for each, and `kept_sums`
 (foursaspen.sums) finds all sums that a rule keeps. Answers
 are frozen dataclasses (foursaspen.report), everything else is an exception (foursaspen.faults). The work is done by a
-library that is proved; this package is not, and only hands over words and reads lines.
+library that is proved; this package is not, and only hands over words and reads the JSON form of answers.
 """
 from .bits import Bit, verdict_bytes, verdicts
 from .commands import (brief, certify, check, classes, compose, decide, erase, inverse, language, least, lift, number,

@@ -34,7 +34,7 @@ def verdicts(states: SupportsIndex, width: SupportsIndex, table: Iterable[Suppor
     letters = bytes(whole("a letter is", letter, 0, states - 1) for letter in table)
     found = library().verdicts(states, width, letters)
     if found.fault:
-        raise RuleError(f"rule fault 1 {FAULTS[found.fault]}\n")
+        raise RuleError(1, FAULTS[found.fault])
     held = (found.surjective, found.injective, found.right, found.left, found.is_open, found.conserving)
     return Bit(sum(1 << place for place, holds in enumerate(held) if holds))
 
@@ -64,4 +64,4 @@ def look_at(states: int, width: int, last: int) -> None:
     room = ctypes.create_string_buffer(1 if last < MOST_NUMBERS else 2)
     fault = library().verdict_bytes(states, width, min(last, MOST_NUMBERS - 1), room)
     if fault:
-        raise RuleError(f"rule fault 1 {FAULTS[fault]}\n")
+        raise RuleError(1, FAULTS[fault])

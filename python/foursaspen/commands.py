@@ -6,15 +6,14 @@ program answers with a status other than Done is an exception of foursaspen.faul
 from __future__ import annotations
 
 from collections.abc import Iterable
-from typing import SupportsIndex
+from typing import Any, SupportsIndex
 
-from . import report
-from .faults import KINDS
+from .calls import Call
 from .library import Outcome, library
 from .operands import (MOST, Rule, Text, Weights, certificate_bytes, digits_text, refuse, rule_text, shape, tail_text,
                        weights_text, whole)
 from .report import (Certificate, ClassSummary, Gap, Inverse, Language, Pair, Preimage, Report, Same, Summary, Tail,
-                     Verdicts)
+                     Verdicts, preimage_of)
 
 
 def run(words: Iterable[str], data: bytes = b"") -> Outcome:
@@ -24,18 +23,9 @@ def run(words: Iterable[str], data: bytes = b"") -> Outcome:
     return library().run(words, data)
 
 
-def said(*words: object, data: bytes = b"") -> str:
-    """What the program prints; an exception where the status isn't Done."""
-    code, output = library().run(map(str, words), data)
-    text = output.decode()
-    if code:
-        raise KINDS[code](text)
-    return text
-
-
-def evidence(words: list[str]) -> str | None:
-    """What stands behind `no WORD`, or nothing."""
-    return words[2] if words[0] == "no" else None
+def found(name: str, *words: object) -> Any:
+    """What a command finds, as docs/ANSWERS.md names it; an exception where the status isn't Done."""
+    return Call(*words).finding()[name]
 
 
 # One rule
@@ -43,69 +33,76 @@ def evidence(words: list[str]) -> str | None:
 def decide(rule: Rule, weights: Weights | None = None) -> Report:
     """The report of a rule: each verdict with its least evidence. Where weights are given, one for each letter,
     the sum of a ring is that of its letters' weights."""
-    return Report.of(said("decide", rule_text(rule), *weights_text(weights)))
+    call = Call("decide", rule_text(rule), *weights_text(weights))
+    return Report.of(call.finding()["report"]).of_call(call)
 
 
 def orphan(rule: Rule) -> str | None:
     """The least word that is the image of none, or None where the rule is surjective."""
-    return evidence(said("orphan", rule_text(rule)).split()[1:])
+    word: str | None = found("orphan", "orphan", rule_text(rule))
+    return word
 
 
 def number(rule: Rule) -> int | None:
     """The Wolfram number of a rule, or None from seven states on."""
-    text = said("number", rule_text(rule)).split()[1]
-    return None if text == "none" else int(text)
+    digits = found("number", "number", rule_text(rule))
+    return None if digits is None else int(digits)
 
 
 def certify(rule: Rule, weights: Weights | None = None) -> Certificate:
     """The certificate of a rule, of version 2."""
-    return Certificate(said("certify", rule_text(rule), *weights_text(weights)))
+    return Certificate.of(found("certificate", "certify", rule_text(rule), *weights_text(weights)))
 
 
 def brief(rule: Rule, weights: Weights | None = None) -> Certificate:
     """The short certificate of a rule, of version 3."""
-    return Certificate(said("brief", rule_text(rule), *weights_text(weights)))
+    return Certificate.of(found("certificate", "brief", rule_text(rule), *weights_text(weights)))
 
 
 def check(certificate: Text) -> Verdicts:
     """The verdicts of a certificate that is accepted; else RefusedError or TooLongError is raised. It may be a
     Certificate, a text, bytes, or a file that is open for reading."""
-    return Verdicts.of(said("check", data=certificate_bytes(certificate)))
+    call = Call("check", data=certificate_bytes(certificate))
+    return Verdicts.of(call.reply()["verdicts"]).of_call(call)
 
 
 # Images
 
 def language(rule: Rule) -> Language:
     """The least automaton of the words that have a preimage."""
-    return Language.of(said("language", rule_text(rule)))
+    call = Call("language", rule_text(rule))
+    return Language.of(call.finding()["automaton"]).of_call(call)
 
 
 def same(rule: Rule, other: Rule) -> Same:
     """Whether the same words have a preimage under two rules."""
-    return Same.of(said("same", rule_text(rule), rule_text(other, "other", 2)))
+    call = Call("same", rule_text(rule), rule_text(other, "other", 2))
+    return Same(call.finding()["same"]).of_call(call)
 
 
 def preimage(rule: Rule, tail: Tail | str) -> Preimage | Gap:
     """The first configuration that the rule maps to this one, or the orphan in it."""
-    return report.preimage_of(said("preimage", rule_text(rule), tail_text(tail)))
+    call = Call("preimage", rule_text(rule), tail_text(tail))
+    return preimage_of(call.finding()).of_call(call)
 
 
 def erase(rule: Rule) -> Pair | None:
     """The least erasable pair, or None where the rule is surjective."""
-    words = said("erase", rule_text(rule)).split()[1:]
-    return None if words == ["none"] else Pair(*words)
+    pair = found("erased", "erase", rule_text(rule))
+    return None if pair is None else Pair(*pair)
 
 
 # Rules made of rules
 
 def inverse(rule: Rule) -> Inverse:
     """The map that gives every cell back from the image; NotFitError where the rule isn't injective."""
-    return Inverse.of(said("inverse", rule_text(rule)))
+    call = Call("inverse", rule_text(rule))
+    return Inverse.of(call.finding()["inverse"]).of_call(call)
 
 
 def compose(rule: Rule, then: Rule) -> str:
     """The rule that does what the first does, and then what the second does."""
-    return said("compose", rule_text(rule), rule_text(then, "then", 2)).rstrip("\n")
+    return made("compose", rule, rule_text(then, "then", 2))
 
 
 def trim(rule: Rule) -> str:
@@ -150,7 +147,8 @@ def unlift(rule: Rule) -> str:
 
 def made(command: str, rule: Rule, *words: object) -> str:
     """The text of a rule that a command makes."""
-    return said(command, rule_text(rule), *words).rstrip("\n")
+    text: str = found("rule", command, rule_text(rule), *words)
+    return text
 
 
 # Many rules
@@ -162,17 +160,18 @@ SEED = 2 ** 64 - 1
 def survey(states: SupportsIndex, width: SupportsIndex, start: SupportsIndex, count: SupportsIndex) -> Summary:
     """How many of `count` rules, from 1 to 4,096, have each property, by their numbers from `start` on, from 0 to
     K^(K^M) - count where K states have the width M."""
-    return Summary.of(said("survey", *shape(states, width), whole("start is", start, 0, START),
+    return Summary(**found("summary", "survey", *shape(states, width), whole("start is", start, 0, START),
                            whole("count is", count, 1, MOST)))
 
 
 def sample(states: SupportsIndex, width: SupportsIndex, seed: SupportsIndex, count: SupportsIndex) -> Summary:
     """The same of `count` rules, from 1 to 4,096, that are drawn from a seed, from 0 to 2^64 - 1."""
-    return Summary.of(said("sample", *shape(states, width), whole("seed is", seed, 0, SEED),
+    return Summary(**found("summary", "sample", *shape(states, width), whole("seed is", seed, 0, SEED),
                            whole("count is", count, 1, MOST)))
 
 
 def classes(states: SupportsIndex, width: SupportsIndex, start: SupportsIndex, count: SupportsIndex) -> ClassSummary:
     """The same as `survey`, and in how many classes the rules lie."""
-    return ClassSummary.of(said("classes", *shape(states, width), whole("start is", start, 0, START),
-                                whole("count is", count, 1, MOST)))
+    call = Call("classes", *shape(states, width), whole("start is", start, 0, START), whole("count is", count, 1, MOST))
+    finding = call.finding()
+    return ClassSummary(Summary(**finding["summary"]), finding["classes"]).of_call(call)

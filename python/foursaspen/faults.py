@@ -4,6 +4,8 @@ The names of version 1, at the end, stay up to version 3.
 """
 from __future__ import annotations
 
+from typing import Any
+
 # What a kind of RuleError says of the operand.
 MEANINGS = {
     "form": "from that place on it is no text of a rule, which is a number or STATES:WIDTH:OFFSET:tTABLE",
@@ -23,28 +25,49 @@ class FoursaspenError(Exception):
     docs/COMMANDS.md has them."""
 
     code: int | None = None
-    output: str = ""
 
-    def __init__(self, text: str) -> None:
-        super().__init__(text.rstrip("\n"))
-        if text.endswith("\n"):                 # a line of the program
-            self.output = text
+    @property
+    def output(self) -> str:
+        return ""
+
+    @classmethod
+    def of(cls, reply: dict[str, Any]) -> FoursaspenError:
+        """Of what docs/ANSWERS.md says of the status."""
+        return cls()
 
 
 class RefusedError(FoursaspenError):
     """`check` has read a text that is no accepted certificate. `reason` is the first condition that it fails."""
     code = 1
 
-    def __init__(self, text: str) -> None:
-        super().__init__(text)
-        self.reason = str(self).removeprefix("refused ")
+    def __init__(self, reason: str) -> None:
+        super().__init__(reason)
+        self.reason = reason
+
+    @classmethod
+    def of(cls, reply: dict[str, Any]) -> RefusedError:
+        words = [reply[name] for name in ("cause", "side", "because", "key", "fault") if name in reply]
+        return cls(" ".join(map(str, words + reply["at"])))
+
+    @property
+    def output(self) -> str:
+        return f"refused {self.reason}\n"
+
+    def __str__(self) -> str:
+        return self.output.rstrip()
 
 
 class UsageError(FoursaspenError, ValueError):
     """An operand hasn't its form, or is out of its range. The program, where it is asked, says no more than its
     output."""
     code = 2
-    output = "usage error\n"
+
+    def __init__(self, text: str = "usage error") -> None:
+        super().__init__(text)
+
+    @property
+    def output(self) -> str:
+        return "usage error\n"
 
 
 class RuleError(FoursaspenError):
@@ -52,14 +75,21 @@ class RuleError(FoursaspenError):
     where it is, for the kinds `form` and `letter`."""
     code = 3
 
-    def __init__(self, text: str) -> None:
-        super().__init__(text)
-        operand, self.kind, *place = text.split()[2:]
-        self.operand = int(operand)
-        self.place = int(place[0]) if place else None
+    def __init__(self, operand: int, kind: str, place: int | None = None) -> None:
+        super().__init__(operand, kind, place)
+        self.operand, self.kind, self.place = operand, kind, place
+
+    @classmethod
+    def of(cls, reply: dict[str, Any]) -> RuleError:
+        return cls(reply["operand"], reply["fault"], reply.get("place"))
+
+    @property
+    def output(self) -> str:
+        place = [] if self.place is None else [str(self.place)]
+        return " ".join(["rule fault", str(self.operand), self.kind, *place]) + "\n"
 
     def __str__(self) -> str:
-        return f"{self.args[0]}: {MEANINGS[self.kind]}"
+        return f"{self.output.rstrip()}: {MEANINGS[self.kind]}"
 
 
 class NotFitError(FoursaspenError):
@@ -68,15 +98,35 @@ class NotFitError(FoursaspenError):
     configuration."""
     code = 4
 
-    def __init__(self, text: str) -> None:
-        super().__init__(text)
-        self.cause, *parts = text.split()[1:]
-        self.parts = tuple(parts)
+    def __init__(self, cause: str, *parts: str) -> None:
+        super().__init__(cause, *parts)
+        self.cause, self.parts = cause, parts
+
+    @classmethod
+    def of(cls, reply: dict[str, Any]) -> NotFitError:
+        [(cause, value)] = reply["cause"].items()
+        if cause in ("algebra", "lift"):        # whose value is the cause
+            return cls(value)
+        return cls(cause, *{"twins": value, "wide": [str(value)], "tail": [value]}.get(cause, []))
+
+    @property
+    def output(self) -> str:
+        return " ".join(["notfit", self.cause, *self.parts]) + "\n"
+
+    def __str__(self) -> str:
+        return self.output.rstrip()
 
 
 class TooLongError(FoursaspenError):
     """The text for `check` has more than 4,194,304 bytes."""
     code = 5
+
+    def __init__(self, text: str = "too long") -> None:
+        super().__init__(text)
+
+    @property
+    def output(self) -> str:
+        return "too long\n"
 
 
 class OutOfMemoryError(FoursaspenError):

@@ -9,13 +9,13 @@ import ctypes
 import functools
 import os
 import threading
-from collections.abc import Iterable, Sequence
+from collections.abc import Callable, Iterable, Sequence
 from pathlib import Path
 from typing import NamedTuple
 
 from .faults import LibraryMissingError, OutOfMemoryError, WordsError
 
-VERSION = 1                                     # of the C interface
+VERSION = 2                                     # of the C interface
 NAME = "libca_c.so"
 HERE = Path(__file__).resolve().parent
 TOP = HERE.parents[1]                           # of the repository, where the package lies in it
@@ -52,7 +52,7 @@ Flux = ctypes.c_int64 * 128                     # a number for each word, by its
 
 
 class Outcome(NamedTuple):
-    """What the program comes to: the code of its status, and what it prints."""
+    """What the program comes to: the code of its status, and what it prints, or the JSON form of that."""
     code: int
     output: bytes
 
@@ -63,7 +63,7 @@ class Library:
     def __init__(self, path: Path) -> None:
         try:
             loaded = ctypes.CDLL(str(path))
-            self._run = loaded.ca_run
+            self._run, self._run_json = loaded.ca_run, loaded.ca_run_json
             self._verdicts = loaded.ca_verdicts
             self._verdict_bytes = loaded.ca_verdict_bytes
             self._window_order = loaded.ca_window_order
@@ -76,8 +76,9 @@ class Library:
         if version != VERSION:
             raise LibraryMissingError(f"the library {path} has version {version}, and not {VERSION}; {ADVICE}")
         text, size = ctypes.c_char_p, ctypes.c_size_t
-        self._run.argtypes = [text, size, text, size, text, size, ctypes.POINTER(size)]
-        self._run.restype = ctypes.c_uint8
+        for run in (self._run, self._run_json):
+            run.argtypes = [text, size, text, size, text, size, ctypes.POINTER(size)]
+            run.restype = ctypes.c_uint8
         byte, word = ctypes.c_uint8, ctypes.c_uint64
         self._verdicts.argtypes = [byte, byte, text, size]
         self._verdicts.restype = RuleVerdicts
@@ -96,13 +97,21 @@ class Library:
 
     def run(self, words: Iterable[str], data: bytes = b"") -> Outcome:
         """What the program comes to on these words and this input."""
+        return self._called(self._run, words, data)
+
+    def run_json(self, words: Iterable[str], data: bytes = b"") -> Outcome:
+        """The same, with the JSON form of the output: docs/ANSWERS.md."""
+        return self._called(self._run_json, words, data)
+
+    def _called(self, run: Callable[..., int], words: Iterable[str], data: bytes) -> Outcome:
+        """What one of both gives, in a buffer that has room for it."""
         block = encoded(words)
         length = ctypes.c_size_t()
         room: ctypes.Array[ctypes.c_char] | None = getattr(self._rooms, "room", None)
         if room is None:
             room = self._rooms.room = ctypes.create_string_buffer(ROOM)
         while True:
-            code = self._run(block, len(block), data, len(data), room, len(room), ctypes.byref(length))
+            code = run(block, len(block), data, len(data), room, len(room), ctypes.byref(length))
             if code != NO_ROOM:
                 break
             room = self._rooms.room = ctypes.create_string_buffer(length.value)

@@ -58,10 +58,10 @@ def rules(property: str, states: SupportsIndex, width: SupportsIndex, offset: Su
         raise UsageError(f"property is one of {', '.join(PROPERTIES)}, and not {property!r}")
     states, width = shape(states, width)
     if states ** (width - 1) > 16:
-        raise RuleError("rule fault 1 nodes\n")
+        raise RuleError(1, "nodes")
     offset = index("offset is", "a whole number", offset)
     if not -16 <= offset <= 17 - width:
-        raise RuleError("rule fault 1 offset\n")
+        raise RuleError(1, "offset")
     if not isinstance(begin, str):
         raise refuse("begin is", "a text of digits", begin)
     size = states ** width

@@ -57,7 +57,7 @@ def rule_text(rule: Rule, name: str = "rule", place: int = 1) -> str:
         raise UsageError(f"{name} is of type {type(rule).__name__} and has no rule: it would break a limit of rules")
     number = index(f"{name} is", "a text, the number of an elementary rule, or an answer that has a rule", own)
     if not 0 <= number < ELEMENTARY:
-        raise RuleError(f"rule fault {place} number\n")
+        raise RuleError(place, "number")
     return str(number)
 
 

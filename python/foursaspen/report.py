@@ -1,5 +1,5 @@
-"""What the commands answer, as frozen dataclasses. The text of each, `str(answer)`, is what the program prints,
-to the byte; the parts are read from it.
+"""What the commands answer, as frozen dataclasses, which are made of the values of docs/ANSWERS.md. The text of each,
+`str(answer)`, is what the program prints, to the byte.
 
 Words are texts of hexadecimal digits, one for a letter, as the program prints them.
 """
@@ -9,24 +9,40 @@ import html
 import json
 from collections.abc import Iterable
 from dataclasses import dataclass, field, fields
-from typing import Any, Literal
+from typing import Any, Literal, TypeVar
 
+from .calls import Call
 from .faults import UsageError
 
 DIGITS = "0123456789abcdef"
 LISTED = 64                                     # rows of a table, and letters in cells of their own
+Kind = TypeVar("Kind", bound="Found")
 
 
-@dataclass(frozen=True)
 class Answer:
-    """What is common: the text, and a table of its lines for a notebook."""
-    text: str = field(repr=False)
-
-    def __str__(self) -> str:
-        return self.text
+    """What is common: a text, which is `text` too, and a table of its lines for a notebook."""
 
     def _repr_html_(self) -> str:
-        return table(line.split(" ", 1) for line in self.text.splitlines())
+        return table(line.split(" ", 1) for line in str(self).splitlines())
+
+
+class Found(Answer):
+    """An answer of the library: values, and beside them the call that they came of, which is asked for the text when that
+    is wanted. One that is made in another way has no text."""
+    _call: Call | None = None
+
+    def of_call(self: Kind, call: Call) -> Kind:
+        object.__setattr__(self, "_call", call)
+        return self
+
+    @property
+    def text(self) -> str:
+        if self._call is None:
+            raise ValueError("what no call has found has no text")
+        return self._call.text()
+
+    def __str__(self) -> str:
+        return repr(self) if self._call is None else self.text
 
 
 def table(rows: Iterable[Iterable[str]]) -> str:
@@ -40,11 +56,6 @@ def table(rows: Iterable[Iterable[str]]) -> str:
 def letters(word: str) -> Iterable[str]:
     """The cells of a word in a table: one for each letter, where there aren't too many."""
     return word if len(word) <= LISTED else [word]
-
-
-def lines_of(text: str) -> dict[str, list[str]]:
-    """The words of each line by its first one."""
-    return {head: words for head, *words in map(str.split, text.splitlines())}
 
 
 # The parts of reports
@@ -121,16 +132,16 @@ class Closing:
                      [["closes", "no"], ["split", str(self.split.first), str(self.split.second)]])
 
     @staticmethod
-    def of(words: list[str]) -> Closing:
-        if words[0] == "yes":
-            return Closing(int(words[2]), None)
-        return Closing(None, Split(Tail.of(words[2]), Tail.of(words[3])))
+    def of(value: dict[str, Any]) -> Closing:
+        if value["holds"]:
+            return Closing(value["ahead"], None)
+        return Closing(None, Split(*(Tail(**tail) for tail in value["split"])))
 
 
 # Answers about one rule
 
 @dataclass(frozen=True)
-class Report(Answer):
+class Report(Found):
     """The report of `decide`: five verdicts and whether the rule is open, each with its least evidence."""
     rule: str
     number: int | None
@@ -147,22 +158,27 @@ class Report(Answer):
     ring: str | None
 
     @staticmethod
-    def of(text: str) -> Report:
-        line = lines_of(text)
-        onto, one, kept, number = line["surjective"], line["injective"], line["conserving"], line["number"][0]
-        surjective, injective, conserving = (words[0] == "yes" for words in (onto, one, kept))
+    def of(value: dict[str, Any]) -> Report:
+        number, onto, one, kept = (value[name] for name in ("number", "surjective", "injective", "conserving"))
         return Report(
-            text, line["rule"][0], None if number == "none" else int(number),
-            surjective, None if surjective else onto[2],
-            injective, Window(int(one[2]), int(one[3])) if injective else None,
-            None if injective else Pair(one[2], one[3]),
-            Closing.of(line["right"]), Closing.of(line["left"]), line["open"][0] == "yes",
-            conserving, tuple(map(int, kept[2:])) if conserving else None, None if conserving else kept[2])
+            value["rule"], None if number is None else int(number),
+            onto["holds"], onto.get("orphan"),
+            one["holds"], Window(*one["window"]) if one["holds"] else None, None if one["holds"] else Pair(*one["twins"]),
+            Closing.of(value["right"]), Closing.of(value["left"]), value["open"],
+            kept["holds"], tuple(kept["flux"]) if kept["holds"] else None, kept.get("ring"))
 
 
 @dataclass(frozen=True)
 class Certificate(Answer):
     """A certificate, as one JSON text without a line end."""
+    text: str = field(repr=False)
+
+    def __str__(self) -> str:
+        return self.text
+
+    @staticmethod
+    def of(value: dict[str, Any]) -> Certificate:
+        return Certificate(json.dumps(value, separators=(",", ":")))
 
     @property
     def data(self) -> dict[str, Any]:
@@ -179,7 +195,7 @@ class Certificate(Answer):
 
 
 @dataclass(frozen=True)
-class Verdicts(Answer):
+class Verdicts(Found):
     """What `check` says of an accepted certificate; `weights` exactly where a letter doesn't weigh its value."""
     rule: str
     surjective: bool
@@ -191,16 +207,14 @@ class Verdicts(Answer):
     weights: tuple[int, ...] | None
 
     @staticmethod
-    def of(text: str) -> Verdicts:
-        line = lines_of(text)
-        said = {name: words[0] == "yes" for name, words in line.items()}
-        weights = tuple(map(int, line["weights"][0].split(","))) if "weights" in line else None
-        return Verdicts(text, line["accepted"][0], said["surjective"], said["injective"], said["right"], said["left"],
-                        said["open"], said["conserving"], weights)
+    def of(value: dict[str, Any]) -> Verdicts:
+        weights = tuple(value["weights"])
+        parts: dict[str, Any] = {**value, "weights": None if weights == tuple(range(len(weights))) else weights}
+        return Verdicts(**parts)
 
 
 @dataclass(frozen=True)
-class Language(Answer):
+class Language(Found):
     """The least automaton of the words that have a preimage: how many classes there are, the class of the
     orphans, and for each class the class after it on each letter. It begins in class 0."""
     classes: int
@@ -208,11 +222,8 @@ class Language(Answer):
     after: tuple[tuple[int, ...], ...] = field(repr=False)
 
     @staticmethod
-    def of(text: str) -> Language:
-        classes, dead, *rows = text.splitlines()
-        last = dead.split()[1]
-        return Language(text, int(classes.split()[1]), None if last == "none" else int(last),
-                        tuple(tuple(map(int, row.split())) for row in rows))
+    def of(value: dict[str, Any]) -> Language:
+        return Language(value["classes"], value["dead"], tuple(map(tuple, value["next"])))
 
     def class_of(self, word: object) -> int:
         """The class of a word, which is a text."""
@@ -237,7 +248,7 @@ class Language(Answer):
 
 
 @dataclass(frozen=True)
-class Inverse(Answer):
+class Inverse(Found):
     """The map that gives every cell back from the image: the least window, the offset from which on it reads
     the image, its letter for each word, and the map as a rule where that is within the limits."""
     window: Window
@@ -246,15 +257,12 @@ class Inverse(Answer):
     rule: str | None
 
     @staticmethod
-    def of(text: str) -> Inverse:
-        line = lines_of(text)
-        rule = line["rule"][0]
-        return Inverse(text, Window(*map(int, line["window"])), int(line["offset"][0]), line["map"][0],
-                       None if rule == "none" else rule)
+    def of(value: dict[str, Any]) -> Inverse:
+        return Inverse(Window(*value["window"]), value["offset"], value["map"], value["rule"])
 
 
 @dataclass(frozen=True)
-class Same(Answer):
+class Same(Found):
     """Whether two rules have the same orphans, or the first word that is one of exactly one of them. It is true
     exactly where they have."""
     word: str | None
@@ -262,13 +270,9 @@ class Same(Answer):
     def __bool__(self) -> bool:
         return self.word is None
 
-    @staticmethod
-    def of(text: str) -> Same:
-        return Same(text, text.split()[2] if text.split()[1] == "no" else None)
-
 
 @dataclass(frozen=True)
-class Preimage(Answer):
+class Preimage(Found):
     """The first configuration that maps to the given one, whose middle begins at the cell `start`. It is
     true."""
     start: int
@@ -282,7 +286,7 @@ class Preimage(Answer):
 
 
 @dataclass(frozen=True)
-class Gap(Answer):
+class Gap(Found):
     """That nothing maps to the given configuration: `left` of its left periods, its middle and `right` of its
     right ones are an orphan, `word`. It is false."""
     left: int
@@ -297,11 +301,12 @@ class Gap(Answer):
                       ["right periods in it", str(self.right)]])
 
 
-def preimage_of(text: str) -> Preimage | Gap:
-    words = text.split()
-    if words[0] == "no":
-        return Gap(text, int(words[2]), int(words[3]), words[4])
-    return Preimage(text, int(words[1]), Tail.of(words[2]))
+def preimage_of(finding: dict[str, Any]) -> Preimage | Gap:
+    """What is found of a configuration."""
+    if "gap" in finding:
+        gap = finding["gap"]
+        return Gap(gap["before"], gap["after"], gap["word"])
+    return Preimage(finding["preimage"]["at"], Tail(**finding["preimage"]["tail"]))
 
 
 # Answers about many rules
@@ -318,10 +323,6 @@ class Summary:
     open: int = 0
     conserving: int = 0
 
-    @staticmethod
-    def of(text: str) -> Summary:
-        return Summary(*(int(line.split()[1]) for line in text.splitlines()[:7]))
-
     def __add__(self, other: Summary) -> Summary:
         if not isinstance(other, Summary):
             return NotImplemented
@@ -335,11 +336,7 @@ class Summary:
 
 
 @dataclass(frozen=True)
-class ClassSummary(Answer):
+class ClassSummary(Found):
     """A summary, and in how many classes the rules lie. Two of these can't be added: they may share a class."""
     counts: Summary
     classes: int
-
-    @staticmethod
-    def of(text: str) -> ClassSummary:
-        return ClassSummary(text, Summary.of(text), int(text.split()[-1]))

@@ -6,7 +6,7 @@ rational combination of the rows and of a trivial one; docs/SUMS.md of the repos
 """
 from __future__ import annotations
 
-from dataclasses import dataclass
+from dataclasses import dataclass, field
 from typing import SupportsIndex
 
 from .commands import shift
@@ -26,10 +26,14 @@ class KeptSums(Answer):
     `rows` has the weights of each, by the words that don't weigh 0; the words that begin with the letter 0 weigh 0.
     `rings` has, for each other word by which no row begins, a ring. These rings alone show that no more sums are kept:
     whatever keeps their sums is a combination of the rows and of a trivial one."""
+    text: str = field(repr=False)
     rule: str
     range: int
     rows: tuple[dict[str, int], ...]
     rings: dict[str, str]
+
+    def __str__(self) -> str:
+        return self.text
 
     @property
     def fluxes(self) -> tuple[dict[str, int], ...]:

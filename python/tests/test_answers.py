@@ -1,7 +1,9 @@
 """The parts of answers, by what docs/COMMANDS.md and docs/CERTIFICATES.md show, and the exceptions."""
 from __future__ import annotations
 
+import copy
 import dataclasses
+import json
 import os
 import pickle
 import re
@@ -11,13 +13,14 @@ import sys
 import tempfile
 import unittest
 import unittest.mock
+from collections.abc import Callable
 from ctypes import CDLL as cdll
 from pathlib import Path
 from unittest import mock
 
 import foursaspen as ca
 from foursaspen import faults, library
-from foursaspen.commands import said
+from foursaspen.calls import Call
 
 from .support import TOP
 
@@ -98,6 +101,41 @@ class Reports(unittest.TestCase):
         self.assertEqual((gap.left, gap.right, gap.word, bool(gap)), (1, 1, "01010", False))
 
 
+class Texts(unittest.TestCase):
+    """The text of an answer, which is asked for apart from its values."""
+
+    ANSWERS: tuple[Callable[[], ca.Answer], ...] = (
+        lambda: ca.decide(110), lambda: ca.language(54), lambda: ca.same(110, 124), lambda: ca.preimage(90, "0|1|0"),
+        lambda: ca.inverse(170), lambda: ca.classes(2, 3, 7, 100), lambda: ca.check(ca.brief(30)))
+
+    def test_it_is_asked_for_once_and_when_it_is_wanted(self) -> None:
+        for asked in self.ANSWERS:
+            with mock.patch.object(library.Library, "run", autospec=True, side_effect=library.Library.run) as run:
+                answer = asked()
+                run.assert_not_called()
+                self.assertEqual(str(answer), str(answer))
+                self.assertEqual((str(answer)[-1], run.call_count), ("\n", 1))
+
+    def test_answers_go_between_processes(self) -> None:
+        for asked in self.ANSWERS:
+            answer, same = asked(), asked()
+            again = pickle.loads(pickle.dumps(answer))
+            self.assertEqual((again, hash(again)), (answer, hash(answer)))
+            self.assertEqual((str(again), copy.deepcopy(answer)), (str(answer), answer))
+            self.assertEqual((same, len({same, again, answer})), (answer, 1))
+        certificate = ca.certify(110)
+        self.assertEqual((pickle.loads(pickle.dumps(certificate)), len({certificate, ca.certify(110)})), (certificate, 1))
+
+    def test_answers_are_values_alone(self) -> None:
+        made = ca.Preimage(-1, ca.Tail("0", "0", "01"))
+        self.assertEqual((ca.preimage(90, "0|1|0"), str(made)), (made, repr(made)))
+        with self.assertRaises(ValueError):
+            made.text
+        values = json.loads(json.dumps(dataclasses.asdict(ca.decide(170))))
+        self.assertEqual((values["window"], values["flux"]), ({"letters": 1, "place": 2}, [0, -1, -1, -2]))
+        self.assertEqual(set(values), {field.name for field in dataclasses.fields(ca.Report)})
+
+
 class Bytes(unittest.TestCase):
     def test_counts_of_whole_shapes(self) -> None:
         """By docs/COMMANDS.md."""
@@ -137,7 +175,7 @@ class Bytes(unittest.TestCase):
 class Faults(unittest.TestCase):
     def test_each_status_has_its_exception(self) -> None:
         with self.assertRaises(ca.UsageError) as usage:
-            said("preimage", 110, "0|1")
+            Call("preimage", 110, "0|1").reply()
         self.assertEqual((str(usage.exception), usage.exception.output), ("usage error", "usage error\n"))
         with self.assertRaises(ca.RuleError) as rule:
             ca.same("3:2:0:w0", "2:3")
@@ -172,12 +210,15 @@ class Faults(unittest.TestCase):
                 ca.decide(word)
 
     def test_faults_go_between_processes(self) -> None:
-        for text in ("refused orphan\n", "usage error\n", "rule fault 1 form 3\n", "notfit wide 17\n", "too long\n"):
-            for kind in faults.KINDS.values():
-                if text.startswith({1: "ref", 2: "us", 3: "ru", 4: "no", 5: "too"}.get(kind.code or 0, "-")):
-                    fault = kind(text)
-                    again = pickle.loads(pickle.dumps(fault))
-                    self.assertEqual((type(again), vars(again), str(again)), (kind, vars(fault), str(fault)))
+        lines = {ca.RefusedError("orphan"): "refused orphan", ca.UsageError(): "usage error",
+                 ca.RuleError(1, "form", 3): "rule fault 1 form 3", ca.RuleError(2, "number"): "rule fault 2 number",
+                 ca.NotFitError("wide", "17"): "notfit wide 17", ca.NotFitError("twins", "0", "1"): "notfit twins 0 1",
+                 ca.NotFitError("states"): "notfit states", ca.TooLongError(): "too long",
+                 ca.OutOfMemoryError("there was no memory"): ""}
+        for fault, line in lines.items():
+            again = pickle.loads(pickle.dumps(fault))
+            self.assertEqual((type(again), vars(again), str(again)), (type(fault), vars(fault), str(fault)))
+            self.assertEqual((again.output, str(again)[:len(line)]), (line and line + "\n", line))
 
     def test_no_library(self) -> None:
         """In the repository, and where the package is installed without a library."""

@@ -7,8 +7,10 @@ import unittest
 from collections.abc import Callable
 from pathlib import Path
 from typing import Any
+from unittest import mock
 
 import foursaspen as ca
+from foursaspen.library import Library
 from foursaspen.operands import Text
 
 # Any: these operands are wrong on purpose.
@@ -75,6 +77,13 @@ class Operands(unittest.TestCase):
                     asked()
                 self.assertIn(said, str(raised.exception))
                 self.assertNotIsInstance(raised.exception, ca.RefusedError)
+
+    def test_what_is_wrong_by_its_type_or_range_is_not_handed_over(self) -> None:
+        called = AssertionError("the library is called")
+        with mock.patch.object(Library, "run", side_effect=called), mock.patch.object(Library, "run_json", side_effect=called):
+            for asked, kind, said in MISTAKES:
+                if kind is not ca.RuleError and not said.startswith("word "):     # what the library says, and of its answer
+                    self.assertRaises(kind, asked)
 
     def test_what_has_a_rule_is_a_rule(self) -> None:
         shift = "2:2:0:t0101"

@@ -157,6 +157,14 @@ class Cells(unittest.TestCase):
         fills = [part.get("fill") for part in tree.fromstring(ca.picture(184, "twins")).iter(f"{SVG}rect")]
         self.assertEqual(fills.count(MARK), 2)
 
+    def test_the_second_walk_is_broken(self) -> None:
+        shown: list[tuple[ca.Rule, str]] = [(184, "twins"), (110, "right"), ("16:2:0:t" + "0" * 256, "left")]
+        for rule, show in shown:
+            lines = list(tree.fromstring(ca.picture(rule, show)).iter(f"{SVG}polyline"))
+            for color, broken in ((FIRST, False), (SECOND, True)):
+                walk = [line.get("stroke-dasharray") for line in lines if line.get("stroke") == color]
+                self.assertEqual({dashes is not None for dashes in walk}, {broken}, (rule, show))
+
     def test_a_preimage_stands_above_its_configuration(self) -> None:
         dice = random.Random(9)
         seen = 0

@@ -6,13 +6,14 @@ from collections.abc import Callable
 from concurrent.futures import ThreadPoolExecutor
 
 import foursaspen as ca
-from foursaspen.commands import said
 
-from .support import drawn, program
+from .support import TOP, drawn, program
 
 Asked = list[tuple[Callable[[], object], str]]
 
 LONG = "0" * 1025
+# A rule whose inverse reads 15 cells.
+WIDE = next(row.split()[2] for row in (TOP / ".ci" / "calls.txt").read_text().splitlines() if row.startswith("4 inverse 16:"))
 # One command line a line; the words of a line stand between blanks.
 LINES = f"""
 decide 110
@@ -184,6 +185,27 @@ class Functions(unittest.TestCase):
         (lambda: ca.unlift("2:2:0:t0110"), "unlift 2:2:0:t0110"),
     ]
 
+    FAULTS: Asked = [
+        (lambda: ca.orphan(256), "orphan 256"),
+        (lambda: ca.orphan("2:3"), "orphan 2:3"),
+        (lambda: ca.decide("2:3:-1:t01110112"), "decide 2:3:-1:t01110112"),
+        (lambda: ca.same("3:2:0:w0", "256"), "same 3:2:0:w0 256"),
+        (lambda: ca.survey(2, 2, 10, 7), "survey 2 2 10 7"),
+        (lambda: ca.survey(7, 2, 0, 1), "survey 7 2 0 1"),
+        (lambda: ca.inverse(90), "inverse 90"),
+        (lambda: ca.decide(110, [1]), "decide 110 1"),
+        (lambda: ca.same(110, "3:2:0:w0"), "same 110 3:2:0:w0"),
+        (lambda: ca.preimage(110, "|1|0"), "preimage 110 |1|0"),
+        (lambda: ca.preimage(110, f"0|{LONG}|0"), f"preimage 110 0|{LONG}|0"),
+        (lambda: ca.preimage(110, "0|1|2"), "preimage 110 0|1|2"),
+        (lambda: ca.compose("2:5:0:w0", 110), "compose 2:5:0:w0 110"),
+        (lambda: ca.permute(110, "11"), "permute 110 11"),
+        (lambda: ca.least("7:2:0:t" + "0" * 49), "least 7:2:0:t" + "0" * 49),
+        (lambda: ca.lift("2:2:1:t0110"), "lift 2:2:1:t0110"),
+        (lambda: ca.check(""), "check"),
+        (lambda: ca.inverse(WIDE), f"inverse {WIDE}"),
+    ]
+
     def test_texts_are_what_the_program_prints(self) -> None:
         for asked, line in self.TEXTS:
             with self.subTest(line=line):
@@ -199,13 +221,28 @@ class Functions(unittest.TestCase):
         for rule in rules:
             with self.subTest(rule=rule):
                 orphan = ca.orphan(rule)
-                self.assertEqual(said("orphan", rule), f"surjective no orphan {orphan}\n" if orphan
-                                 else "surjective yes\n")
+                self.prints(["orphan", str(rule)], f"surjective no orphan {orphan}" if orphan else "surjective yes")
                 number = ca.number(rule)
-                self.assertEqual(said("number", rule), f"number {'none' if number is None else number}\n")
+                self.prints(["number", str(rule)], f"number {'none' if number is None else number}")
                 pair = ca.erase(rule)
-                self.assertEqual(said("erase", rule), f"erase {pair.first} {pair.second}\n" if pair
-                                 else "erase none\n")
+                self.prints(["erase", str(rule)], f"erase {pair.first} {pair.second}" if pair else "erase none")
+
+    def prints(self, words: list[str], line: str) -> None:
+        self.assertEqual(program(words), (0, f"{line}\n".encode()))
+
+    def test_counts(self) -> None:
+        """The lines of a summary, which are its own."""
+        for words, summary in ((["survey", "2", "3", "7", "100"], ca.survey(2, 3, 7, 100)),
+                               (["sample", "4", "3", "5", "20"], ca.sample(4, 3, 5, 20))):
+            self.assertEqual(program(words), (0, str(summary).encode()))
+
+    def test_exceptions_say_what_the_program_prints(self) -> None:
+        for asked, line in self.FAULTS:
+            with self.subTest(line=line), self.assertRaises(ca.FoursaspenError) as caught:
+                asked()
+            fault = caught.exception
+            self.assertEqual((fault.code, fault.output.encode()), program(line.split()))
+            self.assertEqual(str(fault).split(":")[0], fault.output.rstrip())
 
 
 if __name__ == "__main__":

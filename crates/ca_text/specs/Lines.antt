@@ -1,30 +1,16 @@
--- The lines of what is found but of a report, and the kind of a fault.
+-- The lines of what is found but of a report.
 use Rattle.std.specs.Prelude.{ℕ, ◌+◌, ◌-◌, ◌*◌, List, ◌++◌, codes, slice_index, Option, None, Some}
 use Rattle.std.specs.List.{flat_map, range_with_len}
 use Rattle.std.specs.Fmt.{decimal}
 use Rattle.word_image.specs.Digits.{word_text}
 use Rattle.word_image.specs.LocalRules.{LocalRule}
 use Rattle.rule_text.specs.PrintedRules.{printed_rule, offset_text}
-use Rattle.rule_text.specs.declared.text_fault.TextFault.{TextFault}
-use Rattle.rule_text.specs.declared.text_fault.TextFault.TheVariants as fault
 use Rattle.tail_config.specs.TailTexts as tail
 use Rattle.tail_config.specs.InverseMaps.{WindowMap}
 use Rattle.image_minimal.specs.ImageLanguages.{Automaton}
 use Rattle.tail_preimage.specs.Preimages.{PlacedConfig}
 use Rattle.ca_findings.specs.Counts.{Counts}
 use Rattle.ca_text.specs.Reports.{line}
-
--- the kind of a fault in lower case, and its place where it has one
-abbrev pub fault_text : TextFault → List ℕ
-fault_text (fault.Form place) = codes "form " ++ decimal place
-fault_text fault.States = codes "states"
-fault_text fault.Width = codes "width"
-fault_text fault.Nodes = codes "nodes"
-fault_text fault.Offset = codes "offset"
-fault_text fault.Kind = codes "kind"
-fault_text fault.Length = codes "length"
-fault_text (fault.Letter place) = codes "letter " ++ decimal place
-fault_text fault.Number = codes "number"
 
 -- a rule, or that there is none
 abbrev pub rule_text : Option LocalRule → List ℕ

@@ -1,7 +1,7 @@
 //! What is said of a fault, and why nothing fits.
 ghost use Rattle.std.specs.Prelude.{◌≡◌, IfOk, string_bytes};
 ghost use Rattle.ca_findings.specs.Values.{unfit_of};
-ghost use Rattle.ca_text.specs.Lines.{fault_text};
+ghost use Rattle.ca_text.specs.StatusLines.{fault_text};
 ghost use Rattle.ca_text.specs.StatusLines.{operand_fault_line, unfit_line};
 ghost use Rattle.ca_text.specs.Texts.{algebra_text, lift_text, tail_text, unfit_text};
 ghost use Rattle.ca_findings.specs.Writable.{IsWritableUnfit};

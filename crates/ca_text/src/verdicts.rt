@@ -4,7 +4,7 @@ ghost use Rattle.std.specs.List.{flat_map, join_by};
 ghost use Rattle.std.specs.Fmt.{decimal};
 ghost use Rattle.rule_text.specs.PrintedRules.{printed_rule};
 ghost use Rattle.ca_text.specs.Reports.{line};
-ghost use Rattle.ca_text.specs.Lines.{fault_text};
+ghost use Rattle.ca_text.specs.StatusLines.{fault_text};
 ghost use Rattle.ca_text.specs.StatusLines.{accepted_lines, weights_lines, verdict_line, refused_line, refusal_text, shape_text, key_text, side_text, twin_text, split_text};
 
 use crate::faults::fault_kind;
