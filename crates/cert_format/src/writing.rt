@@ -2,7 +2,7 @@
 ghost use Rattle.std.specs.Prelude.{◌≡◌, ℕ, List, map, IfOk, OnOk, IsUtf8};
 ghost use Rattle.serde_json.specs.Data.{string, no_members};
 ghost use Rattle.serde_json.specs.View.{view, members_view};
-ghost use Rattle.word_image.specs.LocalRules.{IsWord};
+ghost use Rattle.word_image.specs.LocalRules.{IsWord, most_states};
 ghost use Rattle.rule_text.specs.PrintedRules.{printed_rule};
 ghost use Rattle.cert_format.specs.Certificates.{Certificate};
 ghost use Rattle.cert_format.specs.Parts.{IsShaped};
@@ -183,7 +183,7 @@ fn weights_value(alloc: Global, weights: &Weights) -> Result<Value, AllocError>
 
 /// A word's text.
 fn word_value(alloc: Global, word: &Word) -> Result<Value, AllocError>
-    requires { IsWord 16 word.now }
+    requires { IsWord most_states word.now }
     ensures { IfOk result (λ v. view v ≡ written.word_value word.now) }
 {
     Ok(text_value(word_text(alloc, word.as_slice())?))
