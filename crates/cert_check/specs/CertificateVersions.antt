@@ -2,7 +2,7 @@
 use Rattle.cert_format.specs.declared.cert_version.CertVersion.{CertVersion}
 use Rattle.cert_format.specs.Certificates.{Certificate}
 
--- the same certificate as one of this version
+-- a certificate, as one of this version
 abbrev pub in_version : CertVersion → Certificate → Certificate
 in_version version c = record {
   version = version;

@@ -67,7 +67,7 @@ pub fn is_first(rule: &Rule, side: Side, pair: u16) -> bool
     if u == v || rest_of(rule, side, u) != rest_of(rule, side, v) {
         return false;
     }
-    some_label(rule, side.other(), pair)
+    share_a_label(rule, side.other(), pair)
 }
 
 /// A node without the letter at its end on this side.
@@ -82,7 +82,7 @@ fn rest_of(rule: &Rule, side: Side, node: u8) -> u8
 }
 
 /// Whether some letter on this side of the nodes of a pair makes windows with one label of them.
-fn some_label(rule: &Rule, side: Side, pair: u16) -> bool
+fn share_a_label(rule: &Rule, side: Side, pair: u16) -> bool
     requires { pair < pair_count rule.now }
     ensures { IsTrue result ↔ ((a : ℕ) × (a < rule.now.states)
         × (label_at side rule.now (first_of rule.now pair) a ≡ label_at side rule.now (second_of rule.now pair) a)) }

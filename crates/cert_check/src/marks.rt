@@ -1,6 +1,7 @@
 //! Marks on sets of nodes.
 
 ghost use Rattle.std.specs.Prelude.{◌≡◌, ◌+◌, ◌<◌, ◌↔◌, ◌⊎◌, ℕ, IsTrue};
+ghost use Rattle.word_image.specs.LocalRules.{most_nodes};
 ghost use Rattle.cert_check.specs.Sets.{HasPart};
 ghost use Rattle.cert_check.specs.Rows.{IsMarked, AreMarked, AreKept, without};
 
@@ -64,7 +65,7 @@ impl Marks {
 
     /// Whether a set is marked without one of its nodes.
     fn has_without_one(&self, set: u16) -> bool
-        ensures { IsTrue result ↔ ((n : ℕ) × (n < 16) × IsMarked self.now.rows (without set n)) }
+        ensures { IsTrue result ↔ ((n : ℕ) × (n < most_nodes) × IsMarked self.now.rows (without set n)) }
     {
         for node in 0..MOST_NODES as u16 {
             if self.has(set & !(1u16 << node)) {
@@ -91,7 +92,7 @@ impl Marks {
 
 /// Whether a set is listed, or marked without one of its nodes.
 fn is_above(listed: &Marks, above: &Marks, set: u16) -> bool
-    ensures { IsTrue result ↔ (IsMarked listed.now.rows set ⊎ ((n : ℕ) × (n < 16) × IsMarked above.now.rows (without set n))) }
+    ensures { IsTrue result ↔ (IsMarked listed.now.rows set ⊎ ((n : ℕ) × (n < most_nodes) × IsMarked above.now.rows (without set n))) }
 {
     if listed.has(set) {
         return true;

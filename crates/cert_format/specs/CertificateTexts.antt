@@ -105,7 +105,7 @@ HasRuleText ms text = HasMember ms (codes "rule") (λ d. as_str d ≡ Some text)
 abbrev pub keys : List (List ℕ)
 keys = codes "conserving" ∷ codes "injective" ∷ codes "left" ∷ codes "ranks" ∷ codes "right" ∷ codes "rule" ∷ codes "surjective" ∷ codes "version" ∷ []
 
--- those that may stand, the weights where the version names them
+-- the keys that may stand, the weights where the version names them
 abbrev pub keys_of : CertVersion → List (List ℕ)
 keys_of version = keys ++ (if names_weights version then codes "weights" ∷ [] else [])
 

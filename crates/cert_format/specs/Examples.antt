@@ -88,7 +88,7 @@ certificate_text-sum : certificate_text sum ≡ codes "{\"conserving\":{\"ring\"
 unfolding digits serde_json_on_literals
 certificate_text-sum = refl
 
--- the same in version 2
+-- the certificate of that rule in version 2
 
 abbrev second : Certificate
 second = sum_with Two (Sets (3 ∷ []))

@@ -28,7 +28,7 @@ Passes version r ms key.Weights = (weights : List ℕ) × HasWeights version r m
 Passes version r ms key.Ranks = (forward backward : List (Option ℕ)) × HasRanks r ms forward backward
 Passes version r ms key.Unknown = HasNoOther version ms
 
--- these steps in their order
+-- the steps of the parts of a certificate, in their order
 abbrev pub part_steps : List Key
 part_steps = key.Surjective ∷ key.Injective ∷ key.Right ∷ key.Left ∷ key.Conserving ∷ key.Weights ∷ key.Ranks ∷ key.Unknown ∷ []
 

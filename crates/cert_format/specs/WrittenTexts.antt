@@ -22,7 +22,7 @@ array_from ds = array (items_of ds)
 abbrev pub whole_value : ℕ → Data
 whole_value n = number (unsigned n)
 
--- the same with a minus sign where it is negative
+-- a whole number in decimal, with a minus sign where it is negative
 abbrev pub signed_value : ℤ → Data
 signed_value z = number (of_integer z)
 

@@ -1,6 +1,7 @@
 //! Words and Tails, which are strings.
 ghost use Rattle.std.specs.Prelude.{◌≡◌, ℕ, ◌<◌, ◌≤◌, List, Some, IfOk, IfErr, IfSome, IfNone};
 ghost use Rattle.serde_json.specs.View.{view};
+ghost use Rattle.word_image.specs.LocalRules.{most_states};
 ghost use Rattle.word_image.specs.Digits.{hex_value};
 ghost use Rattle.tail_config.specs.Tails.{TailConfig};
 ghost use Rattle.cert_format.specs.Readings.{IsLetters, IsWordValue, IsWordsValue, IsTailValue, IsTailsValue};
@@ -68,7 +69,7 @@ pub fn words(alloc: Global, k: u8, value: &Value) -> Result<(Word, Word), Misrea
 /// The Tail over the letters below k, from 2 to 16, that a string is the text of.
 pub fn tail(alloc: Global, k: u8, value: &Value) -> Result<Tail, Misread>
     requires least { 2 ≤ k }
-    requires most { k ≤ 16 }
+    requires most { k ≤ most_states }
     ensures states { IfOk result (λ t. t.states ≡ k) }
     ensures tail { IfOk result (λ t. IsTailValue k (view value.now) t.config) }
     ensures none { IfErr result (λ e. e ≡ Misread.Shape
@@ -87,7 +88,7 @@ pub fn tail(alloc: Global, k: u8, value: &Value) -> Result<Tail, Misread>
 /// The two Tails of an array of two strings.
 pub fn tails(alloc: Global, k: u8, value: &Value) -> Result<(Tail, Tail), Misread>
     requires least { 2 ≤ k }
-    requires most { k ≤ 16 }
+    requires most { k ≤ most_states }
     ensures states { IfOk result (λ p. (p.0.states ≡ k) × (p.1.states ≡ k)) }
     ensures tails { IfOk result (λ p. IsTailsValue k (view value.now) p.0.config p.1.config) }
     ensures none { IfErr result (λ e. e ≡ Misread.Shape

@@ -2,7 +2,7 @@
 ghost use Rattle.std.specs.Prelude.{◌≡◌, ℕ, List, map, IfOk, OnOk, IsUtf8};
 ghost use Rattle.serde_json.specs.Data.{string, no_members};
 ghost use Rattle.serde_json.specs.View.{view, members_view};
-ghost use Rattle.word_image.specs.LocalRules.{IsWord};
+ghost use Rattle.word_image.specs.LocalRules.{IsWord, most_states};
 ghost use Rattle.rule_text.specs.PrintedRules.{printed_rule};
 ghost use Rattle.cert_format.specs.Certificates.{Certificate};
 ghost use Rattle.cert_format.specs.Parts.{IsShaped};
@@ -183,7 +183,7 @@ pub fn weights_value(alloc: Global, weights: &Weights) -> Result<Value, AllocErr
 
 /// The digits of letters below 16 as a string.
 pub fn word_value(alloc: Global, letters: &[u8]) -> Result<Value, AllocError>
-    requires { IsWord 16 letters.now }
+    requires { IsWord most_states letters.now }
     ensures { IfOk result (λ v. view v ≡ written.word_value letters.now) }
 {
     Ok(text_value(word_text(alloc, letters)?))

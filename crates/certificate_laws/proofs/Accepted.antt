@@ -29,7 +29,7 @@ IsWritten-read_back {c = c} names rule are parts written text =
       short = short-written names rule are parts;
     }
 
--- and so is what has the parts, of an accepted rule and weights of its letters: its text is read back
+-- what has the parts, of an accepted rule and weights of its letters, is the certificate that is written: its text is read back
 pub IsWritten-parts : {version : CertVersion} {r : LocalRule} {weights : List ℕ} {c : Certificate} → names_weights version ≡ true → IsRule r → AreWeights r.states weights
     → HasWrittenParts version r weights c → IsWritten version r weights c
 IsWritten-parts names rule are parts = IsWritten-read_back names rule are parts refl (IsCertificateText-own (IsShaped-written names rule are parts))

@@ -25,7 +25,7 @@ word_number-next {k} ws ascending words i l =
     word_number-less k (get_or ws i []) (get_or ws (i + 1) []) (words i (omega arith)) (words (i + 1) l)
     (ascending i (get_or ws i []) (get_or ws (i + 1) []) (slice_get-get_or ws i [] (omega arith)) (slice_get-get_or ws (i + 1) [] l))
 
--- and so has each later one
+-- of ascending words each later one has a greater number
 word_number-later : {k : ℕ} (ws : List (List ℕ)) → IsAscending ws → AllWords k ws → (i g j : ℕ) → i + g + 1 ≡ j → j < length ws → word_number k (get_or ws i []) < word_number k (get_or ws j [])
 word_number-later {k} ws ascending words i zero j e l =
     let place : i + 1 ≡ j = omega arith in
@@ -57,6 +57,6 @@ length-family {r} {sets} rule family =
     let most : 2 ^ node_count r ≤ 2 ^ 16 = pow-le-pow_right (omega arith) rule.shape.most_nodes in
     omega (arith, few, most)
 
--- and at most one more in the cover list
+-- a cover list has at most 65,537 sets
 pub length-IsCoverList : {r : LocalRule} {sets : List ℕ} → IsRule r → IsCoverList r sets → length sets ≤ 65537
 length-IsCoverList {r} rule (family, is, same) = omega (arith, ap length same, length-covers (full_set r) family, length-family rule is)

@@ -111,7 +111,7 @@ right-met : {r : LocalRule} → IsRule r → (e : SideEvidence) (forward : List 
 right-met rule (Ahead n) forward ranks part = (IsAheadPair-ranks side.Right rule forward ranks.ranks n part.1.ahead, tt)
 right-met rule (Split x y) forward ranks part = (tt, AreSplit-right part.1.split.split)
 
--- the same on the left
+-- the left look-ahead is claimed of each first pair of the left; the left split is one
 left-met : {r : LocalRule} → IsRule r → (e : SideEvidence) (backward : List (Option ℕ)) → IsRankRow r (EndTogether r) backward → IsLeftPart r e
     → OfAhead e (λ n. EachBelow (pair_count r) (IsAheadPair (IsFirstOfLeft r) backward n)) × OfSplit e (AreSplit AgreeRight r)
 left-met rule (Ahead n) backward back part = (IsAheadPair-ranks side.Left rule backward back.ranks n part.1.ahead, tt)

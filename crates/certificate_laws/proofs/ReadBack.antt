@@ -1,6 +1,5 @@
 -- The text that is written for a value is read as that value, where its numbers have at most 64 bits and its keys ascend.
-use Rattle.std.proofs.Common.{◌≡◌, ℕ, suc, ◌+◌, ◌^◌, ◌<◌, ◌≤◌, negsuc, pos, Bool, true, false, List, [], ◌∷◌, ◌++◌, length, map, All, IsAscii, IsUtf8, Some, option_map, option_and_then, decimal, append-nil, refl, sym, ap, ◌∙◌, subst, arith}
-use Rattle.std.specs.Prelude.{ℤ}
+use Rattle.std.proofs.Common.{◌≡◌, ℕ, suc, ◌+◌, ◌^◌, ◌<◌, ◌≤◌, negsuc, pos, Bool, true, false, List, [], ◌∷◌, map, All, IsUtf8, Some, option_map, option_and_then, decimal, append-nil, refl, sym, ap, ◌∙◌, arith, ℤ}
 use lib.Signed.{mag}
 use Rattle.std.specs.Fmt.{signed_decimal}
 use Rattle.std.proofs.Math.Nat.{max-le}
@@ -14,7 +13,7 @@ use Rattle.json.proofs.Printed.Decimals.{IsNumber-decimal, IsNumber-signed_decim
 use Rattle.json.proofs.Printed.Tokens.{tokens-print}
 use Rattle.json.proofs.Printed.Trees.{ArePrintable-json_tokens, value-json_tokens}
 use Rattle.json.proofs.Printed.Utf8.{are_ascii, IsUtf8-quoted, IsUtf8-are_ascii}
-use Rattle.serde_json.specs.Data.{Data, null, number, string, array, object, unsigned, negative, Items, no_items, item, Members, no_members, member, put}
+use Rattle.serde_json.specs.Data.{Data, null, number, string, array, object, negative, Items, no_items, item, Members, no_members, member, put}
 use Rattle.serde_json.specs.Read.{of_json, of_items, of_members, read, max_depth}
 use Rattle.serde_json.specs.View.{items_of}
 use Rattle.serde_json.specs.Written.{outline, items_outline, members_outline, compact_text, items_text, members_text, comma_if}

@@ -115,7 +115,7 @@ length-row {r} {row} rule shape =
     let small = All-weaker IsClaim (λ o. length (compact_text (claim_value o)) ≤ 5) length-claim_value row shape.claims in
     omega (arith, length-values claim_value 5 row small, shape.each_pair, pair_count-le rule)
 
--- and of both
+-- the text of the ranks of both directions has at most 3,200 bytes
 length-ranks_value : {r : LocalRule} {forward backward : List (Option ℕ)} → IsRule r → IsRankShape r forward → IsRankShape r backward → length (compact_text (ranks_value forward backward)) ≤ 3200
 length-ranks_value {r} {forward} {backward} rule ahead back =
     let front : Data = array_from (map claim_value forward) in

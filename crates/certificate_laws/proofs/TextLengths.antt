@@ -53,7 +53,7 @@ escape_byte-plain x (low, other) =
       le-ltb x 32 (omega arith),
     )
 
--- and so does a text of them
+-- a text of plain bytes stands for itself
 escape-plain : (s : List ℕ) → All IsPlainByte s → escape s ≡ s
 escape-plain [] all = refl
 escape-plain (x ∷ s) all = ap₂ (λ (a b : List ℕ). a ++ b) (escape_byte-plain x (All-head IsPlainByte x s all)) (escape-plain s (All-tail IsPlainByte x s all))

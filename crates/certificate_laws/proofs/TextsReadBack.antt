@@ -1,17 +1,15 @@
 -- The text of a certificate within its limits is a text of it.
-use Rattle.std.proofs.Common.{◌≡◌, ℕ, suc, ◌+◌, ◌-◌, ◌^◌, ◌<◌, ◌≤◌, Bool, true, false, cond, negsuc, pos, List, [], ◌∷◌, ◌++◌, map, All, IsUtf8, Option, Some, None, codes, decimal, refl, sym, ap, subst, ⊎_elim, arith, lt-ltb}
-use Rattle.std.specs.Prelude.{ℤ, nat_lt}
+use Rattle.std.proofs.Common.{ℕ, suc, ◌+◌, ◌-◌, ◌^◌, ◌<◌, ◌≤◌, negsuc, pos, List, [], ◌∷◌, map, All, IsUtf8, Option, Some, None, codes, decimal, refl, sym, subst, ⊎_elim, arith, lt-ltb, ℤ, nat_lt}
 use Rattle.std.proofs.Math.Nat.{pow-le-pow_right}
-use Rattle.std.proofs.lemmas.Bool.{cond_both, ltb-true}
+use Rattle.std.proofs.lemmas.Bool.{cond_both}
 use Rattle.std.proofs.lemmas.Fmt.{IsAscii-decimal}
 use Rattle.std.proofs.lemmas.Int.{ints}
 use Rattle.std.proofs.lemmas.List.Elements.{All-head, All-tail, All-weaker, All-nil, All-cons}
 use Rattle.std.proofs.lemmas.Str.{IsUtf8-append, IsUtf8-from_ascii}
 use Rattle.json.proofs.Printed.Utf8.{IsUtf8-are_ascii}
-use Rattle.serde_json.specs.Data.{Data, string, object, Members, no_members, member}
+use Rattle.serde_json.specs.Data.{object, Members}
 use Rattle.word_image.specs.LocalRules.{LocalRule, IsRule, IsWord, node_count}
 use Rattle.word_image.specs.Digits.{lower_digit, word_text}
-use Rattle.word_image.specs.Weights.{AreWeights}
 use Rattle.word_image.proofs.laws.Graphs.{pair_count-le}
 use Rattle.tail_config.specs.Tails.{TailConfig}
 use Rattle.tail_config.specs.TailTexts as tail
@@ -28,10 +26,10 @@ use Rattle.cert_format.specs.Evidence.SumEvidence.{Flux, Ring}
 use Rattle.cert_format.specs.Certificates.{Certificate, IsSurjectiveShape, IsInjectiveShape, IsSideShape, IsSumShape, IsClaim, IsNear}
 use Rattle.cert_format.specs.CertificateTexts.{IsCertificateText}
 use Rattle.cert_format.specs.Parts.{IsShaped}
-use Rattle.cert_format.specs.WrittenTexts.{array_from, whole_value, signed_value, word_value, tail_value, claim_value, surjective_value, injective_value, side_value, sum_value, ranks_value, weights_members, members_before, certificate_members, certificate_value, certificate_text}
+use Rattle.cert_format.specs.WrittenTexts.{array_from, whole_value, signed_value, word_value, tail_value, claim_value, surjective_value, injective_value, side_value, sum_value, ranks_value, members_before, certificate_value, certificate_text}
 use Rattle.cert_format.proofs.laws.WeightMembers.{weights_members-cases}
 use Rattle.cert_format.proofs.laws.Written.{IsCertificateText-written}
-use Rattle.certificate_laws.proofs.ReadBack.{IsReadBack, HaveReadBack, put_all, IsReadBack-null, IsReadBack-string, IsReadBack-whole, IsReadBack-signed, IsReadBack-array, IsReadBack-object, IsReadBack-only, HaveReadBack-none, HaveReadBack-member, read-compact_text}
+use Rattle.certificate_laws.proofs.ReadBack.{IsReadBack, HaveReadBack, IsReadBack-null, IsReadBack-string, IsReadBack-whole, IsReadBack-signed, IsReadBack-array, IsReadBack-object, IsReadBack-only, HaveReadBack-none, HaveReadBack-member, read-compact_text}
 
 -- a byte below 128
 IsUtf8-byte : (x : ℕ) → x < 128 → IsUtf8 (x ∷ [])

@@ -51,7 +51,7 @@ IsSideShape-right : {r : LocalRule} → IsRule r → (e : SideEvidence) → IsRi
 IsSideShape-right rule (Ahead n) part = IsSideShape-ahead rule part.1
 IsSideShape-right rule (Split x y) part = IsSideShape-split rule part.1
 
--- and that of the left
+-- the part of the left is within its limits
 IsSideShape-left : {r : LocalRule} → IsRule r → (e : SideEvidence) → IsLeftPart r e → IsSideShape r e
 IsSideShape-left rule (Ahead n) part = IsSideShape-ahead (IsRule-mirrored rule) part.1
 IsSideShape-left {r} rule (Split x y) part =

@@ -39,7 +39,7 @@ abbrev pub IsRightPart : LocalRule → SideEvidence → Type 0
 IsRightPart r (Ahead n) = IsRightClosing r × IsLeastRightAhead r n
 IsRightPart r (Split x y) = ¬ IsRightClosing r × IsLeastRightSplit r x y
 
--- the same on the left
+-- the rule is left-closing, and this is the least look-ahead; or it isn't, and this is the least normal left split
 abbrev pub IsLeftPart : LocalRule → SideEvidence → Type 0
 IsLeftPart r (Ahead n) = IsLeftClosing r × IsLeastRightAhead (mirrored r) n
 IsLeftPart r (Split x y) = ¬ IsLeftClosing r × IsLeastLeftSplit r x y

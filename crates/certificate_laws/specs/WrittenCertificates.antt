@@ -42,7 +42,7 @@ pub record HasWrittenParts (version : CertVersion) (r : LocalRule) (weights : Li
   pub forward : IsRankRow r (BeginTogether r) c.forward
   pub backward : IsRankRow r (EndTogether r) c.backward
 
--- this certificate is written for them: its evidence is the least, its text is accepted, and has fewer than 450,000 bytes
+-- a certificate is written for a rule and weights: its evidence is the least, its text is accepted, and has fewer than 450,000 bytes
 pub record IsWritten (version : CertVersion) (r : LocalRule) (weights : List ℕ) (c : Certificate) : Type 0 where
   pub parts : HasWrittenParts version r weights c
   pub accepted : IsAccepted (certificate_text c) (verdicts_of c)

@@ -26,7 +26,7 @@ closes_exactly side rule =
 pub not_closing_with : (side : Side) {r : LocalRule} → IsRule r → (w a : ℕ) → IsEndlessWith side r w a → ¬ IsClosing side r
 not_closing_with side {r} rule w a h closing = (closes_exactly side rule).0 closing (end_pair side r w a) (IsFirst-ends side rule w a h.first) h.endless
 
--- and where no window has one, the rule closes
+-- where no window has an endless first pair, the rule closes
 pub closing_without : (side : Side) {r : LocalRule} → IsRule r → ((w a : ℕ) → ¬ IsEndlessWith side r w a) → IsClosing side r
 closing_without side {r} rule none = (closes_exactly side rule).1 (λ p first endless.
     let (w, a, here, pair) = first_ends side rule first in

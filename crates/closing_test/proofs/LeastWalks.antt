@@ -32,7 +32,7 @@ pair_cmp-uncode c d =
     (λ was l. was ∙ nat_cmp_is c d Greater (omega arith)))
     (λ is l. ap after is ∙ nat_cmp_is c d Greater (omega arith))
 
--- and lists of them in dictionary order
+-- lists of letter pairs are in dictionary order as their numbers are
 slice_cmp-uncode : (x y : List ℕ) → slice_cmp pair_cmp (map (uncode 16) x) (map (uncode 16) y) ≡ slice_cmp nat_cmp x y
 slice_cmp-uncode [] [] = refl
 slice_cmp-uncode [] (d ∷ y) = refl
@@ -94,7 +94,7 @@ splits_cmp-more best w v more greater =
     ∙ ap (λ o. ordering_then o (ordering_then (nat_cmp (length m) (length w)) (ordering_then (slice_cmp pair_cmp m w) (slice_cmp pair_cmp p v)))) letters in
     true≢false (sym (ap is_gt greater) ∙ ap is_gt less)
 
--- and so does one of as many with a longer middle
+-- a split of as many letters with a longer middle comes later
 splits_cmp-middle : (best : Walks) (w v : List (ℕ × ℕ)) → length best.middle.items + length best.period.items ≡ length w + length v → length best.middle.items < length w → splits_cmp (split_by best) (split_of w v) ≢ Greater
 splits_cmp-middle best w v same longer greater =
     let m : List (ℕ × ℕ) = middle_pairs best in

@@ -48,7 +48,7 @@ ord_max-max m n =
     (λ is l. ap (λ o. if is_lt o then m else n) is ∙ omega arith)
     (λ is l. ap (λ o. if is_lt o then m else n) is ∙ omega arith)
 
--- and it is at most what both are
+-- the greater of two numbers is at most what both are
 pub ord_max-le : {m n k : ℕ} (bound : ℕ) → k ≡ ord_max nat_cmp m n → m ≤ bound → n ≤ bound → k ≤ bound
 ord_max-le {m} {n} bound e l h = omega (arith, e, ord_max-max m n)
 
@@ -96,7 +96,7 @@ IsLeastFor-with side r w a u v n found rank =
     IsLeastFor-same (λ p. (λ e. (found.first, e), λ here. here.1))
     (IsLeastFor-rank (PairGoes side r) (end_pair side r w a) n (record { holds = (goes n).1 rank.holds; no_more = λ h. rank.no_more ((goes (n + 1)).0 h) }))
 
--- and where it is endless, an endless first pair has been found
+-- where the rank of the nodes is endless, an endless first pair has been found
 pub HasEndlessFirst-with : (side : Side) (r : LocalRule) (w a u v : ℕ) → IsRule r → IsFound side r w a u v → IsEndless (Together side r u v) → HasEndlessFirst side r
 HasEndlessFirst-with side r w a u v rule found endless =
     (end_pair side r w a, IsFirst-ends side rule w a found.first, λ n. (end_pair-goes side r w a u v n found.ends).1 (endless n))

@@ -33,7 +33,7 @@ IsLeastSeen r states n (Some best) = IsLeastIn r states n best
 abbrev pub IsSomeSplit : LocalRule → Option Walks → Type 0
 IsSomeSplit r found = IfSome found (λ walks. IsNormalRightSplit r (first_tail (middle_pairs walks) (period_pairs walks)) (second_tail (middle_pairs walks) (period_pairs walks)))
 
--- and so do those that come before them
+-- the walks so far, or those of one more state that come before them, make a normal split, if there are any
 pub IsSomeSplit-next : (r : LocalRule) (t : ℕ) (best found : Option Walks) → IsRule r → IsSomeSplit r best → MatchOption found (IsNoneBefore r t best) (AreEarlier r t best) → IsSomeSplit r (option_or found best)
 IsSomeSplit-next r t best None rule h none = h
 IsSomeSplit-next r t best (Some found) rule h new = IsNormalRightSplit-walks rule new.least.split

@@ -1,5 +1,7 @@
 -- What the answers of `right` and `left` say.
-use Rattle.std.specs.Prelude.{◌≡◌, ◌≤◌, length}
+use Rattle.std.specs.Prelude.{◌≡◌, ℕ, ◌+◌, ◌≤◌, length}
+use Rattle.least_walk.specs.Queues.{most_steps}
+use Rattle.pair_rank.specs.Sides.{most_rank}
 use Rattle.word_image.specs.LocalRules.{LocalRule, mirrored}
 use Rattle.word_image.specs.Windows.{IsLeastRightAhead}
 use Rattle.tail_config.specs.Tails.{IsRightClosing, IsLeftClosing}
@@ -8,20 +10,24 @@ use Rattle.tail_config.specs.TailValues.{TailOver}
 use Rattle.closing_test.specs.declared.closing.Closing.{Closing}
 use Rattle.closing_test.specs.declared.closing.Closing.TheVariants.{Ahead, Split}
 
+-- the most letters of a least look-ahead: two more than the greatest rank
+abbrev pub most_ahead : ℕ
+most_ahead = most_rank + 2
+
 -- a configuration over the rule's letters whose parts have at most 512 letters each
 pub record IsShortOver (r : LocalRule) (t : TailOver) : Type 0 where
   pub states : t.states ≡ r.states
-  pub left : length t.config.left ≤ 512
-  pub middle : length t.config.middle ≤ 512
-  pub right : length t.config.right ≤ 512
+  pub left : length t.config.left ≤ most_steps
+  pub middle : length t.config.middle ≤ most_steps
+  pub right : length t.config.right ≤ most_steps
 
--- the least normal right split, in such configurations
+-- the least normal right split, in configurations over the rule's letters whose parts have at most 512 letters each
 pub record IsLeastSplitOf (r : LocalRule) (x y : TailOver) : Type 0 where
   pub least : IsLeastRightSplit r x.config y.config
   pub first : IsShortOver r x
   pub second : IsShortOver r y
 
--- the least normal left split, in such configurations
+-- the least normal left split, in configurations over the rule's letters whose parts have at most 512 letters each
 pub record IsLeastLeftSplitOf (r : LocalRule) (x y : TailOver) : Type 0 where
   pub least : IsLeastLeftSplit r x.config y.config
   pub first : IsShortOver r x
@@ -29,10 +35,10 @@ pub record IsLeastLeftSplitOf (r : LocalRule) (x y : TailOver) : Type 0 where
 
 -- the least right look-ahead of a right-closing rule, or the least normal right split of one that isn't
 abbrev pub IsRightAnswer : LocalRule → Closing → Type 0
-IsRightAnswer r (Ahead n) = IsRightClosing r × IsLeastRightAhead r n × (n ≤ 241)
+IsRightAnswer r (Ahead n) = IsRightClosing r × IsLeastRightAhead r n × (n ≤ most_ahead)
 IsRightAnswer r (Split x y) = ¬ IsRightClosing r × IsLeastSplitOf r x y
 
--- the same of the left side
+-- the least left look-ahead of a left-closing rule, or the least normal left split of one that isn't
 abbrev pub IsLeftAnswer : LocalRule → Closing → Type 0
-IsLeftAnswer r (Ahead n) = IsLeftClosing r × IsLeastRightAhead (mirrored r) n × (n ≤ 241)
+IsLeftAnswer r (Ahead n) = IsLeftClosing r × IsLeastRightAhead (mirrored r) n × (n ≤ most_ahead)
 IsLeftAnswer r (Split x y) = ¬ IsLeftClosing r × IsLeastLeftSplitOf r x y

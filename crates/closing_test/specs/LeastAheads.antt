@@ -14,6 +14,6 @@ pub record IsLeastFor (Among : ℕ → Type 0) (Goes : ℕ → ℕ → Type 0) (
 abbrev pub IsFirstWith : Side → LocalRule → ℕ → ℕ → ℕ → Type 0
 IsFirstWith side r w a p = AreFirst side r w a × (p ≡ end_pair side r w a)
 
--- one of these pairs, for some letter
+-- a first pair at the ends of this window and of one with another letter at its end
 abbrev pub IsFirstAt : Side → LocalRule → ℕ → ℕ → Type 0
 IsFirstAt side r w p = (a : ℕ) × IsFirstWith side r w a p

@@ -1,7 +1,7 @@
 -- Two walks of pairs that make a normal split, each letter pair (a, b) written as a * 16 + b.
 use Rattle.std.specs.Prelude.{◌≡◌, ℕ, ◌+◌, ◌/◌, ◌%◌, ◌<◌, ◌≤◌, ◌⊎◌, length, List, [], ◌∷◌, map, Option, Some, None}
 use Rattle.std.specs.declared.cmp.Ordering.TheVariants.{Greater}
-use Rattle.word_image.specs.LocalRules.{LocalRule}
+use Rattle.word_image.specs.LocalRules.{LocalRule, most_states}
 use Rattle.search_laws.specs.PairWalks.{uncode}
 use Rattle.tail_config.specs.Tails.{TailConfig}
 use Rattle.tail_config.specs.Splits.{splits_cmp}
@@ -12,16 +12,16 @@ use Rattle.closing_test.specs.declared.walks.Walks.{Walks}
 
 -- the letter pairs of the middles
 abbrev pub middle_pairs : Walks → List (ℕ × ℕ)
-middle_pairs w = map (uncode 16) w.middle.items
+middle_pairs w = map (uncode most_states) w.middle.items
 
--- and those of the right periods
+-- the letter pairs of the right periods
 abbrev pub period_pairs : Walks → List (ℕ × ℕ)
-period_pairs w = map (uncode 16) w.period.items
+period_pairs w = map (uncode most_states) w.period.items
 
 -- one letter of a letter pair
 abbrev pub letter_of : Letter → ℕ → ℕ
-letter_of First step = step / 16
-letter_of Second step = step % 16
+letter_of First step = step / most_states
+letter_of Second step = step % most_states
 
 -- the configuration of one letter of each letter pair, with the letter 0 for ever on its left
 abbrev pub tail_by : Letter → Walks → TailConfig
@@ -45,7 +45,7 @@ IsMostAfter best n most = (w v : ℕ) → n ≤ w → most < v
 abbrev pub IsNoneBefore : LocalRule → ℕ → Option Walks → Type 0
 IsNoneBefore r t best = (w v : List (ℕ × ℕ)) → IsSplitAt r t w v → ¬ ComesBefore (split_of w v) best
 
--- these walks make the least normal split at state t, which comes before that one
+-- two walks make the least normal split at state t, which comes before the best of others
 pub record AreEarlier (r : LocalRule) (t : ℕ) (best : Option Walks) (found : Walks) : Type 0 where
   pub least : IsLeastSplitAt r t (middle_pairs found) (period_pairs found)
   pub before : ComesBefore (split_by found) best

@@ -1,7 +1,7 @@
 //! Whether a rule closes on a side, without the look-ahead or the split that shows it.
 
 ghost use Rattle.std.specs.Prelude.{◌^◌, ◌<◌, ◌↔◌, ℕ, IsBitSet, IsTrue};
-ghost use Rattle.word_image.specs.LocalRules.{node_count};
+ghost use Rattle.word_image.specs.LocalRules.{node_count, most_nodes};
 ghost use Rattle.word_image.specs.Ranks.{IsEndless};
 ghost use Rattle.tail_config.specs.Tails.{IsRightClosing, IsLeftClosing};
 ghost use Rattle.word_image.specs.Sides.{Together};
@@ -68,7 +68,7 @@ fn is_endless_with(side: Side, endless: &Endless, window: u16, letter: u8) -> bo
 /// The nodes with which u goes on together towards this side for ever; node v is bit v.
 fn endless_nodes(side: Side, endless: &Endless, u: u8) -> u16
     requires { u < node_count endless.now }
-    ensures { (v : ℕ) → v < 16 → (IsBitSet result v ↔ IsEndless (Together side endless.now u v)) }
+    ensures { (v : ℕ) → v < most_nodes → (IsBitSet result v ↔ IsEndless (Together side endless.now u v)) }
 {
     match side {
         Side::Right => endless.forward(u),

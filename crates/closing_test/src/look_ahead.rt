@@ -8,6 +8,7 @@ ghost use Rattle.tail_config.specs.Tails.{IsRightClosing, IsLeftClosing};
 ghost use Rattle.word_image.specs.Sides.{PairGoes, seen_from, IsLeftAhead};
 ghost use Rattle.pair_laws.specs.FirstWindows.{HasEndlessFirst};
 ghost use Rattle.tail_laws.specs.Closing.{IsClosing};
+ghost use Rattle.closing_test.specs.Closing.{most_ahead};
 ghost use Rattle.closing_test.specs.LeastAheads.{IsLeastFor, IsFirstAt, IsFirstWith};
 
 use crate::ends::first_nodes;
@@ -22,7 +23,7 @@ pub fn ahead_right(rule: &Rule, ranks: &Ranks) -> Option<u16>
     ensures surjective { IsSome result → IsSurjective rule.now }
     ensures least { IfSome result (IsLeastRightAhead rule.now) }
     ensures none { IfNone result ((n : ℕ) → ¬ IsRightAhead rule.now n) }
-    ensures most { IfSome result (λ n. n ≤ 241) }
+    ensures most { IfSome result (λ n. n ≤ most_ahead) }
     ensures rule { IsRule rule.now }
 {
     least_ahead(Side::Right, rule, ranks)
@@ -37,7 +38,7 @@ pub fn ahead_left(rule: &Rule, ranks: &Ranks) -> Option<u16>
     ensures surjective { IsSome result → IsSurjective rule.now }
     ensures least { IfSome result (IsLeastRightAhead (mirrored rule.now)) }
     ensures none { IfNone result ((n : ℕ) → ¬ IsLeftAhead rule.now n) }
-    ensures most { IfSome result (λ n. n ≤ 241) }
+    ensures most { IfSome result (λ n. n ≤ most_ahead) }
     ensures rule { IsRule rule.now }
 {
     least_ahead(Side::Left, rule, ranks)
@@ -50,7 +51,7 @@ fn least_ahead(side: Side, rule: &Rule, ranks: &Ranks) -> Option<u16>
     ensures closing { IsSome result ↔ IsClosing side rule.now }
     ensures least { IfSome result (IsLeastRightAhead (seen_from side rule.now)) }
     ensures none { IfNone result ((n : ℕ) → ¬ IsRightAhead (seen_from side rule.now) n) }
-    ensures most { IfSome result (λ n. n ≤ 241) }
+    ensures most { IfSome result (λ n. n ≤ most_ahead) }
     ensures rule { IsRule rule.now }
 {
     let mut ahead = 1;
@@ -66,7 +67,7 @@ fn ahead_at(side: Side, rule: &Rule, ranks: &Ranks, window: u16) -> Option<u16>
     requires ranks { ranks.now ≡ rule.now }
     requires window { window < rule.now.states ^ rule.now.width }
     ensures least { MatchOption result (HasEndlessFirst side rule.now) (IsLeastFor (IsFirstAt side rule.now window) (PairGoes side rule.now)) }
-    ensures most { IfSome result (λ n. n ≤ 241) }
+    ensures most { IfSome result (λ n. n ≤ most_ahead) }
 {
     let mut ahead = 1;
     for letter in 0..rule.k() {
@@ -82,7 +83,7 @@ fn ahead_with(side: Side, rule: &Rule, ranks: &Ranks, window: u16, letter: u8) -
     requires window { window < rule.now.states ^ rule.now.width }
     requires letter { letter < rule.now.states }
     ensures least { MatchOption result (HasEndlessFirst side rule.now) (IsLeastFor (IsFirstWith side rule.now window letter) (PairGoes side rule.now)) }
-    ensures most { IfSome result (λ n. n ≤ 241) }
+    ensures most { IfSome result (λ n. n ≤ most_ahead) }
 {
     let Some((u, v)) = first_nodes(side, rule, window, letter) else {
         return Some(1);

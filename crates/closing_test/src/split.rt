@@ -1,6 +1,8 @@
 //! The least normal right split.
 
 ghost use Rattle.std.specs.Prelude.{◌≡◌, ◌+◌, ◌*◌, ◌<◌, ◌≤◌, All, IfOk, IfSome, map};
+ghost use Rattle.least_walk.specs.Queues.{most_steps};
+ghost use Rattle.word_image.specs.LocalRules.{most_states};
 ghost use Rattle.word_image.specs.Graphs.{pair_count};
 ghost use Rattle.tail_config.specs.Tails.{IsTail, IsRightClosing};
 ghost use Rattle.tail_config.specs.Splits.{IsNormalRightSplit};
@@ -48,8 +50,7 @@ fn least_walks(
 ) -> Result<Option<Walks>, AllocError>
     ensures { IfOk result (IsLeastSoFar pairs.now (pair_count pairs.now + pair_count pairs.now)) }
 {
-    // That the pairs are of a rule is what this call says.
-    let _count = pairs.count();
+    pairs.rule().keeps_limits();
     let middles = WalkTree::of(alloc, pairs, 0)?;
     let states = middles.pairs(alloc)?;
     let mut best = short_walks(alloc, pairs, walker, &middles, &states)?;
@@ -68,7 +69,7 @@ fn short_walks(
     middles: &WalkTree,
     states: &[u16],
 ) -> Result<Option<Walks>, AllocError>
-    requires middles { middles.now ≡ record { rule = pairs.now; start = 0; most = 512 } }
+    requires middles { middles.now ≡ record { rule = pairs.now; start = 0; most = most_steps } }
     requires states { All (λ t. t < 2 * pair_count pairs.now) states.now }
     ensures { IfOk result (λ found. IfSome found (λ walks. IsNormalRightSplit pairs.now (first_tail (middle_pairs walks) (period_pairs walks)) (second_tail (middle_pairs walks) (period_pairs walks)))) }
 {
@@ -88,7 +89,7 @@ fn short_walks(
 /// The Tail of one letter of each letter pair of two walks, with the letter 0 for ever on its left.
 fn tail_of(alloc: Global, k: u8, walks: &Walks, letter: Letter) -> Result<Tail, AllocError>
     requires least { 2 ≤ k }
-    requires most { k ≤ 16 }
+    requires most { k ≤ most_states }
     requires tail { IsTail k (tail_by letter walks.now) }
     ensures { IfOk result (λ tail. tail ≡ record { states = k; config = tail_by letter walks.now }) }
 {

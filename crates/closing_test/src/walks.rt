@@ -3,6 +3,7 @@
 ghost use Rattle.std.specs.Prelude.{◌≡◌, ◌*◌, ◌+◌, ◌<◌, ◌≤◌, ◌↔◌, IfOk, IsTrue, MatchOption, length};
 ghost use Rattle.std.specs.Option.{SomeIff};
 ghost use Rattle.std.specs.declared.cmp.Ordering.TheVariants.{Greater};
+ghost use Rattle.least_walk.specs.Queues.{most_steps};
 ghost use Rattle.word_image.specs.Graphs.{pair_count};
 ghost use Rattle.tail_config.specs.Splits.{splits_cmp};
 
@@ -18,8 +19,8 @@ pub struct Walks {
     pub middle: Vec<u8>,
     /// From that state round to its pair with the mark.
     pub period: Vec<u8>,
-    ghost short_middle: { length middle.items ≤ 512 },
-    ghost short_period: { length period.items ≤ 512 },
+    ghost short_middle: { length middle.items ≤ most_steps },
+    ghost short_period: { length period.items ≤ most_steps },
 }
 
 impl Walks {
@@ -55,7 +56,7 @@ impl Walks {
         state: u16,
         best: &Option<Walks>,
     ) -> Result<Option<Walks>, AllocError>
-        requires middles { middles.now ≡ record { rule = pairs.now; start = 0; most = 512 } }
+        requires middles { middles.now ≡ record { rule = pairs.now; start = 0; most = most_steps } }
         requires state { state < 2 * pair_count pairs.now }
         ensures { IfOk result (λ found. MatchOption found (IsNoneBefore pairs.now state best.now) (AreEarlier pairs.now state best.now)) }
     {
@@ -93,7 +94,7 @@ impl Walks {
     /// How many steps a period after a middle of so many may have, for the split to come before the best
     /// one so far. Of two splits with as many letters the one with the longer middle comes later.
     fn most_steps(best: &Option<Walks>, middle: usize) -> usize
-        ensures { MatchOption best.now (result ≡ 512) (λ walks. IsMostAfter walks middle result) }
+        ensures { MatchOption best.now (result ≡ most_steps) (λ walks. IsMostAfter walks middle result) }
     {
         let Some(best) = best else {
             return MOST_STEPS;

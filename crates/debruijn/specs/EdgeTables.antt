@@ -5,7 +5,7 @@ use Rattle.std.proofs.lemmas.Grind.{same_number_lists}
 use Rattle.std.proofs.lemmas.List.{same_lists, get_or_default}
 use Rattle.std.proofs.lemmas.List.Elements.{All-get_or}
 use Rattle.std.proofs.lemmas.Nat.{div_below, div-add-mod'}
-use Rattle.word_image.specs.LocalRules.{LocalRule, IsRule, node_count}
+use Rattle.word_image.specs.LocalRules.{LocalRule, IsRule, node_count, most_nodes, most_states}
 use Rattle.word_image.specs.Ends.{window_with, label_at, end_at}
 use Rattle.word_image.specs.Edges.{AreEdgeRows}
 use Rattle.word_image.specs.declared.side.Side.{Side}
@@ -15,12 +15,12 @@ use Rattle.search_laws.proofs.StepSets.{IsSetOf-unique}
 
 -- there are 16 rows of 16 sets
 pub record AreRowsOf16 (rows : List (List ℕ)) : Type 0 where
-  pub tall : length rows ≡ 16
-  pub wide : (label : ℕ) → label < 16 → length (slice_index_or rows label []) ≡ 16
+  pub tall : length rows ≡ most_states
+  pub wide : (label : ℕ) → label < most_states → length (slice_index_or rows label []) ≡ most_nodes
 
 -- the table of the first n edges, node by node and letter by letter
 abbrev first_edges : Side → LocalRule → ℕ → List (List ℕ)
-first_edges side r zero = replicate 16 (replicate 16 0)
+first_edges side r zero = replicate most_states (replicate most_nodes 0)
 first_edges side r (suc n) = with_ends (first_edges side r n) (label_at side r (n / r.states) (n % r.states)) (n / r.states) (2 ^ end_at side r (n / r.states) (n % r.states))
 
 -- the table of all edges
@@ -30,12 +30,12 @@ edge_table side r = first_edges side r (node_count r * r.states)
 -- there is one table of the edges
 pub AreEdgeRows-one : {side : Side} {r : LocalRule} {rows others : List (List ℕ)} → AreEdgeRows side r rows → AreRowsOf16 rows → AreEdgeRows side r others → AreRowsOf16 others → rows ≡ others
 AreEdgeRows-one {side} {r} {rows} {others} edges size also as_many = same_lists rows others (size.tall ∙ sym as_many.tall) (λ label d inside.
-    let below : label < 16 = omega (arith, size.tall, inside) in
+    let below : label < most_states = omega (arith, size.tall, inside) in
     let row = slice_index_or rows label [] in
     let other = slice_index_or others label [] in
     get_or_default rows label d [] inside
     ∙ same_number_lists row other (size.wide label below ∙ sym (as_many.wide label below)) (λ u within.
-    let small : u < 16 = omega (arith, size.wide label below, within) in
+    let small : u < most_nodes = omega (arith, size.wide label below, within) in
     ⊎_elim
     (λ node. IsSetOf-unique (edges.ends label u below node) (also.ends label u below node))
     (λ more. edges.past label u below small more ∙ sym (also.past label u below small more))
@@ -43,7 +43,7 @@ AreEdgeRows-one {side} {r} {rows} {others} edges size also as_many = same_lists 
     ∙ get_or_default others label [] d (omega (arith, size.tall, as_many.tall, inside)))
 
 -- a label is one of 16
-label_at-below : (side : Side) {r : LocalRule} → IsRule r → (u a : ℕ) → u < node_count r → a < r.states → label_at side r u a < 16
+label_at-below : (side : Side) {r : LocalRule} → IsRule r → (u a : ℕ) → u < node_count r → a < r.states → label_at side r u a < most_states
 label_at-below side {r} rule u a node letter =
     let window = window_with side r u a in
     let within : window < length r.table = omega (arith, rule.entries, window_with-within side rule u a node letter) in

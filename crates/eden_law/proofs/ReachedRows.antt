@@ -208,7 +208,7 @@ not_surjective-beside {r} {node} rule inside h (a, ha, leads) every =
 abbrev pub HasFirsts : LocalRule → ℕ → List ℕ → Type 0
 HasFirsts r n rows = (u a b : ℕ) → u < n → a < r.states → b < r.states → a ≢ b → label r u a ≡ label r u b → HasBit rows (next r u a) (next r u b)
 
--- and those of one node more
+-- the first pairs of one node more are in the rows, once they are added
 pub HasFirsts-added : {r : LocalRule} {node : ℕ} {found new : List ℕ} → IsRule r → HasFirsts r node found → AreAdded r node (LeadsApart r node) r.states found new → HasFirsts r (node + 1) new
 HasFirsts-added {r} {node} {found} {new} rule firsts added u a b hu ha hb other e =
     let v : ℕ = next r u a in

@@ -1,10 +1,10 @@
 -- Sets of pairs of nodes as rows: for each node u the set of the nodes v whose pair with u is in it, as a number in which node v is bit v.
 use Rattle.std.specs.Prelude.{◌≡◌, ◌≢◌, ℕ, ◌<◌, ◌≤◌, ◌⊎◌, ◌↔◌, List, length, slice_index, IsBitSet}
-use Rattle.word_image.specs.LocalRules.{LocalRule, node_count}
+use Rattle.word_image.specs.LocalRules.{LocalRule, node_count, most_nodes}
 use Rattle.word_image.specs.Graphs.{next, label, pair_of, HasBit, AreSets}
 use Rattle.eden_laws.specs.ReachedPairs.{IsReached}
 
--- another letter leads from the node to v, with the label of a
+-- a letter other than a leads from the node to v, with the label of a
 pub record LeadsApart (r : LocalRule) (node a v : ℕ) : Type 0 where
   pub b : ℕ
   pub letter : b < r.states
@@ -24,7 +24,7 @@ pub record LeadsBeside (r : LocalRule) (node set a v : ℕ) : Type 0 where
 
 -- rows of sets of nodes
 pub record AreNodeRows (r : LocalRule) (rows : List ℕ) : Type 0 where
-  pub long : length rows ≡ 16
+  pub long : length rows ≡ most_nodes
   pub within : AreSets r rows
 
 -- the pairs of where the first n letters lead from the node, each with what it has, were added
@@ -36,7 +36,7 @@ pub record AreAdded (r : LocalRule) (node : ℕ) (Has : ℕ → ℕ → Type 0) 
 -- all that was found is reached and has two different nodes, and the steps from what was followed lead to what was found
 pub record IsRowSearch (r : LocalRule) (found followed : List ℕ) : Type 0 where
   pub rows : AreNodeRows r found
-  pub long : length followed ≡ 16
+  pub long : length followed ≡ most_nodes
   pub behind : (u : ℕ) → u < node_count r → slice_index followed u ≤ slice_index found u
   pub reached : (u v : ℕ) → u < node_count r → v < node_count r → HasBit found u v → IsReached r (pair_of r u v)
   pub apart : (u : ℕ) → u < node_count r → ¬ HasBit found u u

@@ -1,14 +1,14 @@
 //! Whether each letter stands in a table equally often, as under every surjective rule.
 ghost use Rattle.std.specs.Prelude.{◌≡◌, ◌==◌, ◌≤◌, ◌↔◌, length, count_by, IsTrue};
-ghost use Rattle.word_image.specs.LocalRules.{LocalRule, IsRule};
+ghost use Rattle.word_image.specs.LocalRules.{LocalRule, IsRule, most_states, most_windows};
 ghost use Rattle.word_image.specs.Words.{IsSurjective};
 ghost use Rattle.table_laws.specs.Tables.{IsEven};
 
 /// Whether each of k letters stands in a table equally often. A rule whose table isn't so is not
 /// surjective.
 pub fn is_even(k: u8, table: &[u8]) -> bool
-    requires states { k ≤ 16 }
-    requires few { length table.now ≤ 256 }
+    requires states { k ≤ most_states }
+    requires few { length table.now ≤ most_windows }
     ensures even { IsTrue result ↔ IsEven k table.now }
     ensures surjective { (r : LocalRule) → IsRule r → r.states ≡ k → r.table ≡ table.now → IsSurjective r → IsTrue result }
 {
@@ -22,9 +22,9 @@ pub fn is_even(k: u8, table: &[u8]) -> bool
 
 /// How often a letter stands in a table.
 fn how_often(letter: u8, table: &[u8]) -> u16
-    requires { length table.now ≤ 256 }
+    requires { length table.now ≤ most_windows }
     ensures count { result ≡ count_by (λ a. a == letter) table.now }
-    ensures most { result ≤ 256 }
+    ensures most { result ≤ most_windows }
 {
     let mut count = 0;
     for a in table {

@@ -1,6 +1,6 @@
 //! Whether a rule is surjective, by the pairs that are reached, as rows of sets of nodes.
 ghost use Rattle.std.specs.Prelude.{◌≡◌, ◌≢◌, ◌^◌, ◌<◌, ◌≤◌, ◌↔◌, ℕ, IsTrue, IsFalse, MatchOption, slice_index};
-ghost use Rattle.word_image.specs.LocalRules.{node_count};
+ghost use Rattle.word_image.specs.LocalRules.{node_count, most_nodes};
 ghost use Rattle.word_image.specs.Graphs.{next, HasBit};
 ghost use Rattle.word_image.specs.Words.{IsSurjective};
 ghost use Rattle.tail_config.specs.Tails.{IsInjective, IsRightClosing, IsLeftClosing};
@@ -65,7 +65,7 @@ fn follow_all(graph: &Graph, found: &mut Rows, followed: &mut Rows) -> bool
 
 /// The first node of which something was found that wasn't followed yet.
 fn open_row(nodes: u8, found: &Rows, followed: &Rows) -> Option<u8>
-    requires { nodes ≤ 16 }
+    requires { nodes ≤ most_nodes }
     ensures { MatchOption result ((u : ℕ) → u < nodes → slice_index followed.now u ≡ slice_index found.now u) (λ u. (u < nodes) × (slice_index followed.now u ≢ slice_index found.now u)) }
 {
     for node in 0..nodes {

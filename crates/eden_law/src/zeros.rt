@@ -1,6 +1,6 @@
 //! How many words have the image 0 0: under a surjective rule as many as there are nodes.
 ghost use Rattle.std.specs.Prelude.{◌≡◌, ◌==◌, ℕ, ◌+◌, ◌*◌, ◌<◌, ◌≤◌, ◌↔◌, length, slice_index, IsTrue};
-ghost use Rattle.word_image.specs.LocalRules.{LocalRule, IsRule};
+ghost use Rattle.word_image.specs.LocalRules.{LocalRule, IsRule, most_nodes, most_states, most_windows};
 ghost use Rattle.word_image.specs.Words.{IsSurjective};
 ghost use Rattle.table_laws.specs.ZeroPairs.{count_below, gives_zeros, zero_pairs};
 ghost use Rattle.eden_law.specs.ZeroEdges.{AreZeroEdges};
@@ -10,8 +10,8 @@ use word_image::MOST_NODES;
 /// Whether as many words of m + 1 letters have the image 0 0 as there are nodes, for k states, so many nodes
 /// and this table. If not, a rule with this table is not surjective.
 pub fn is_even_at_zeros(k: u8, nodes: u8, table: &[u8]) -> bool
-    requires states { k ≤ 16 }
-    requires nodes { nodes ≤ 16 }
+    requires states { k ≤ most_states }
+    requires nodes { nodes ≤ most_nodes }
     requires long { length table.now ≡ nodes * k }
     ensures zeros { IsTrue result ↔ (zero_pairs k table.now ≡ nodes) }
     ensures surjective { (r : LocalRule) → IsRule r → r.states ≡ k → r.table ≡ table.now → IsSurjective r → IsTrue result }
@@ -26,8 +26,8 @@ pub fn is_even_at_zeros(k: u8, nodes: u8, table: &[u8]) -> bool
 
 /// How many edges from each node have the label 0.
 fn zero_edges(k: u8, nodes: u8, table: &[u8]) -> [u8; MOST_NODES]
-    requires states { k ≤ 16 }
-    requires nodes { nodes ≤ 16 }
+    requires states { k ≤ most_states }
+    requires nodes { nodes ≤ most_nodes }
     requires long { length table.now ≡ nodes * k }
     ensures { AreZeroEdges k table.now nodes result }
 {
@@ -41,10 +41,10 @@ fn zero_edges(k: u8, nodes: u8, table: &[u8]) -> [u8; MOST_NODES]
 
 /// How many of k letters of the table, from a place on, are 0.
 fn zeros_from(k: u8, table: &[u8], first: usize) -> u8
-    requires states { k ≤ 16 }
+    requires states { k ≤ most_states }
     requires within { first + k ≤ length table.now }
     ensures count { result ≡ count_below (λ a. slice_index table.now (first + a) == 0) k }
-    ensures few { result ≤ 16 }
+    ensures few { result ≤ most_nodes }
 {
     let mut count = 0;
     for letter in 0..k {
@@ -55,13 +55,13 @@ fn zeros_from(k: u8, table: &[u8], first: usize) -> u8
 
 /// How many words of m + 1 letters that begin with a letter have the image 0 0.
 fn zeros_behind(k: u8, nodes: u8, table: &[u8], letter: u8, edges: &[u8; MOST_NODES]) -> u16
-    requires states { k ≤ 16 }
-    requires nodes { nodes ≤ 16 }
+    requires states { k ≤ most_states }
+    requires nodes { nodes ≤ most_nodes }
     requires long { length table.now ≡ nodes * k }
     requires letter { letter < k }
     requires edges { AreZeroEdges k table.now nodes edges.now }
     ensures count { result ≡ count_below (λ v. gives_zeros k table.now (letter * nodes * k + v)) (nodes * k) }
-    ensures few { result ≤ 256 }
+    ensures few { result ≤ most_windows }
 {
     let first = usize::from(letter) * usize::from(nodes);
     let mut total = 0;

@@ -94,7 +94,7 @@ blocks-woven {r} rule w (c ∷ cs) z hw p =
 IsWord-places : {P : ℕ → Type 0} {n : ℕ} (h : Numbered P n) (q : ℕ) → h.count ≤ q → (ds : List ℕ) → All (λ a. (a < n) × P a) ds → IsWord q (map h.place ds)
 IsWord-places h q few ds all = All-map (λ a. a < q) h.place ds (λ i d l. let is = all i d l in omega (arith, (h.back _ is.0 is.1).0))
 
--- and from them the list comes back
+-- from the places of a list of numbers, of which all can be numbered, the list comes back
 map-places : {P : ℕ → Type 0} {n : ℕ} (h : Numbered P n) (ds : List ℕ) → All (λ a. (a < n) × P a) ds → map h.at (map h.place ds) ≡ ds
 map-places h [] all = refl
 map-places {P} {n} h (a ∷ ds) all =
@@ -282,7 +282,7 @@ IsBalanced-surjective {r} rule every w hw =
     let count : (preimages r l (value k w)).count ≡ node_count r = omega (arith, least (value k w) below, no_more rule l least (value k w) below) in
     subst (HasPreimages r w) count (HasPreimages-count rule w hw)
 
--- and a balanced rule is surjective
+-- a balanced rule is surjective
 pub IsSurjective-balanced : {r : LocalRule} → IsRule r → IsBalanced r → IsSurjective r
 IsSurjective-balanced rule balanced w hw = let has = balanced w hw in (has.at 0, has.preimage 0 (node_count_pos rule))
 

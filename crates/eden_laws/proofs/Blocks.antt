@@ -82,7 +82,7 @@ moved-back q v d other =
     (λ at. ap (moved v q) at.1 ∙ ⊎_elim (λ b. absurd (other b.0)) (λ b. b.1) (but_cases (λ x. x) v q d))
     (but_cases (λ x. x) q v d)
 
--- and so does a list
+-- a list that is moved comes back
 map-moved_back : (q v : ℕ) (ds : List ℕ) → All (λ d. d ≢ v) ds → map (moved v q) (map (moved q v) ds) ≡ ds
 map-moved_back q v [] none = refl
 map-moved_back q v (d ∷ ds) none =

@@ -71,7 +71,7 @@ IsWithout-kept {r} {x} {y} h j z word long =
     (subst (λ n. IsWord n (blocks k l j z)) next
     (IsWord-blocks k l j z word long))
 
--- and they have the image of the word, with the letters behind them
+-- the kept words have the image of the word, with the letters behind them
 image-kept : {r : LocalRule} {x y : List ℕ} → IsRule r → IsErasable r x y → (j : ℕ) (z : List ℕ) → IsWord r.states z → j * length x ≤ length z
     → image r z ≡ image r (spread r.states (length x) (kept r x y j z) ++ drop (j * length x) z)
 image-kept {r} {x} {y} rule h j z word long =

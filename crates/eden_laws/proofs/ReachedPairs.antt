@@ -123,7 +123,7 @@ pub HaveOneImage-erasable : {r : LocalRule} {x y : List ℕ} → IsErasable r x 
 HaveOneImage-erasable h =
     record { first = h.first; second = h.second; first_long = omega (arith, IsErasable-long h); second_long = omega (arith, IsErasable-long h, h.one_length); one_image = h.one_image }
 
--- and they end with one node
+-- the words of an erasable pair end with one node
 pub last-erasable : {r : LocalRule} {x y : List ℕ} → IsErasable r x y → drop (length x - (r.width - 1)) x ≡ drop (length x - (r.width - 1)) y
 last-erasable {r} {y = y} h = h.same_back ∙ ap (λ j. drop (j - (r.width - 1)) y) (sym h.one_length)
 
@@ -158,7 +158,7 @@ holds-reached Holds firsts closed (On p a b q reached ha hb f) = closed p a b q 
 pub IsSurjective-pair_list : {r : LocalRule} {pairs : List ℕ} → IsRule r → IsPairList r pairs → IsSurjective r
 IsSurjective-pair_list rule list = (IsSurjective-reached rule).1 (λ p reached. list.off_diagonal p (holds-reached (Contains _) list.firsts list.closed reached))
 
--- and where a rule is surjective, the list of the reached pairs is a pair list
+-- where a rule is surjective, the list of the reached pairs is a pair list
 pub IsPairList-reached : {r : LocalRule} {pairs : List ℕ} → IsRule r → IsSurjective r → ((p : ℕ) → Contains pairs p ↔ IsReached r p) → IsPairList r pairs
 IsPairList-reached rule every are = record {
   below = λ p listed. IsReached-below rule ((are p).0 listed);

@@ -19,7 +19,7 @@ take-gains_row weight r =
     let long : length (walk_gains weight r) ≡ node_count r = length-map-range_with_len (walk_gain weight r) 0 (node_count r) in
     ap (λ n. take n (gains_row weight r)) (sym long) ∙ take-append_seam (walk_gains weight r) (replicate (16 - node_count r) (pos 0))
 
--- and the zeros after them
+-- behind the gains stand zeros
 drop-gains_row : (weight : ℕ → ℕ) (r : LocalRule) → drop (node_count r) (gains_row weight r) ≡ replicate (16 - node_count r) (pos 0)
 drop-gains_row weight r =
     let long : length (walk_gains weight r) ≡ node_count r = length-map-range_with_len (walk_gain weight r) 0 (node_count r) in
@@ -29,7 +29,7 @@ drop-gains_row weight r =
 pub IsConserving-gains_row : {r : LocalRule} → IsRule r → (weight : ℕ → ℕ) → IsConserving weight r ↔ IsFlux weight r (take (node_count r) (gains_row weight r))
 IsConserving-gains_row {r} rule weight = let P : List ℤ → Type 0 = λ phi. IsConserving weight r ↔ IsFlux weight r phi in subst P (sym (take-gains_row weight r)) (IsConserving-walk_gains rule weight)
 
--- and the row is then what is answered
+-- where the first numbers of the row are a flux, the row is what is answered
 pub IsFluxRow-gains_row : {r : LocalRule} → IsRule r → (weight : ℕ → ℕ) → IsFlux weight r (take (node_count r) (gains_row weight r)) → IsFluxRow weight r (gains_row weight r)
 IsFluxRow-gains_row {r} rule weight flux =
     let gains : IsFlux weight r (walk_gains weight r) = subst (IsFlux weight r) (take-gains_row weight r) flux in

@@ -1,6 +1,6 @@
 -- What shows that a rule keeps the sum of every ring, each letter taken by its weight, or that it doesn't.
 use Rattle.std.specs.Prelude.{◌≡◌, ⊤, ℕ, ◌-◌, ◌*◌, ◌≤◌, List, length, take, drop, replicate, slice_get, Some, Bool, true, false, ℤ, pos}
-use Rattle.word_image.specs.LocalRules.{LocalRule, node_count}
+use Rattle.word_image.specs.LocalRules.{LocalRule, node_count, most_nodes}
 use Rattle.word_image.specs.Rings.{IsFlux, IsLeastLossyRing}
 use Rattle.flux_conserve.specs.declared.verdict.Keeping.{Keeping}
 use Rattle.flux_conserve.specs.declared.verdict.Keeping.TheVariants.{Flux, Ring}
@@ -9,7 +9,7 @@ use Rattle.flux_conserve.specs.declared.verdict.Keeping.TheVariants.{Flux, Ring}
 pub record IsFluxRow (weight : ℕ → ℕ) (r : LocalRule) (row : List ℤ) : Type 0 where
   pub flux : IsFlux weight r (take (node_count r) row)
   pub starts : slice_get row 0 ≡ Some (pos 0)
-  pub zeros : drop (node_count r) row ≡ replicate (16 - node_count r) (pos 0)
+  pub zeros : drop (node_count r) row ≡ replicate (most_nodes - node_count r) (pos 0)
   pub only : (phi : List ℤ) → IsFlux weight r phi → slice_get phi 0 ≡ Some (pos 0) → phi ≡ take (node_count r) row
 
 -- a flux is answered

@@ -1,6 +1,6 @@
 //! What the windows gain along the walks to node 0, and whether that is a flux.
 ghost use Rattle.std.specs.Prelude.{◌≡◌, ◌-◌, ◌^◌, ◌<◌, ◌↔◌, ◌≤ℤ◌, length, slice_index, IsTrue, pos, negsuc, ◌++◌, replicate};
-ghost use Rattle.word_image.specs.LocalRules.{node_count};
+ghost use Rattle.word_image.specs.LocalRules.{node_count, most_nodes};
 ghost use Rattle.word_image.specs.Rings.{IsFlux};
 ghost use Rattle.ring_laws.proofs.FluxWalks.{walk_gain, walk_gains};
 ghost use Rattle.ring_laws.proofs.FluxWindows.{window_gain, FlowsAt};
@@ -10,7 +10,7 @@ use word_image::{MOST_NODES, Rule, Side, Weights};
 /// What the walk from each node gains that reads m - 1 letters 0, and zeros after the last node.
 pub(crate) fn walk_flows(rule: &Rule, weights: &Weights) -> [i32; MOST_NODES]
     requires { length weights.now ≡ rule.now.states }
-    ensures { result ≡ walk_gains (slice_index weights.now) rule.now ++ replicate (16 - node_count rule.now) (pos 0) }
+    ensures { result ≡ walk_gains (slice_index weights.now) rule.now ++ replicate (most_nodes - node_count rule.now) (pos 0) }
 {
     let mut flows = [0; MOST_NODES];
     for node in 0..rule.nodes() {

@@ -1,13 +1,13 @@
 //! What the table of every conserving rule shows: its sum, and its first and its last letter.
 ghost use Rattle.std.specs.Prelude.{◌≡◌, ◌+◌, ◌*◌, ◌<◌, ◌≤◌, ◌↔◌, length, sum, IsTrue};
-ghost use Rattle.word_image.specs.LocalRules.{LocalRule, IsRule};
+ghost use Rattle.word_image.specs.LocalRules.{LocalRule, IsRule, most_windows};
 ghost use Rattle.word_image.specs.Rings.{IsConserving};
 ghost use Rattle.table_laws.specs.Tables.{HasMean};
 
 /// Whether the letters of a table have the mean of k letters, (k - 1) / 2. A rule whose table hasn't
 /// changes the sum of a ring, if each letter weighs its own value.
 pub fn has_mean(k: u8, table: &[u8]) -> bool
-    requires { length table.now ≤ 256 }
+    requires { length table.now ≤ most_windows }
     ensures mean { IsTrue result ↔ HasMean k table.now }
     ensures conserving { (r : LocalRule) → IsRule r → r.states ≡ k → r.table ≡ table.now → IsConserving (λ a. a) r → IsTrue result }
 {
@@ -23,7 +23,7 @@ pub fn is_mean(k: u8, count: u16, sum: u16) -> bool
 
 /// The sum of some letters.
 pub fn letter_sum(letters: &[u8]) -> u16
-    requires { length letters.now ≤ 256 }
+    requires { length letters.now ≤ most_windows }
     ensures { result ≡ sum letters.now }
 {
     let mut sum = 0;

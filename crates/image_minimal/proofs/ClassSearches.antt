@@ -24,7 +24,7 @@ use Rattle.image_minimal.proofs.laws.ClassLists.{IsClassList-long, IsNextClass-u
 pub length-classes-le : {r : LocalRule} {classes : List ℕ} {e : ℕ} → IsClassSearch r classes e → length classes ≤ 2 ^ node_count r
 length-classes-le {r} x = length-search-le x (2 ^ node_count r) (omega (arith, pow_pos (node_count r))) (λ s a t step. step.closure.of.within)
 
--- and each is one
+-- each class is a set of nodes
 pub class-below : {r : LocalRule} {classes : List ℕ} {e : ℕ} → IsClassSearch r classes e → (i : ℕ) → i < length classes → slice_index classes i < 2 ^ node_count r
 class-below {r} {classes} x i l = search-below x (2 ^ node_count r) (omega (arith, pow_pos (node_count r))) (λ s a t step. step.closure.of.within) i (slice_index classes i) (slice_get-get_or classes i 0 l)
 

@@ -26,7 +26,7 @@ StepsInto r set a rest = (a < r.states) × IsBack r rest a set
 abbrev pub IsUnread : LocalRule → List ℕ → ℕ → Type 0
 IsUnread r z set = Walk (StepsInto r) set z 0
 
--- they are the nodes from which some word isn't read
+-- a set has the nodes from which some word isn't read
 abbrev pub IsUnreadSet : LocalRule → ℕ → Type 0
 IsUnreadSet r set = (z : List ℕ) × IsUnread r z set
 

@@ -9,7 +9,6 @@ ghost use Rattle.image_minimal.specs.Searches.{IsClassSearch, HasClasses};
 use crate::closures::closures;
 use crate::listed::Listed;
 use crate::subsets::Subsets;
-use debruijn::Graph;
 use std::alloc::{AllocError, Global};
 use std::marker::Model;
 use word_image::{MOST_STATES, Rule};
@@ -44,7 +43,7 @@ pub fn least(alloc: Global, rule: &Rule) -> Result<Minimal, AllocError>
     ensures some { IfOk result (λ _. (a : Automaton) × IsLeastAutomaton rule.now a) }
 {
     let subsets = Subsets::of(alloc, rule)?;
-    let closures = closures(alloc, &Graph::of(rule))?;
+    let closures = closures(alloc, subsets.graph())?;
     let classes = search(alloc, &subsets, &closures)?;
     Ok(Minimal {
         subsets,
@@ -91,8 +90,7 @@ impl Minimal {
         requires letter { a < self.now.states }
         ensures { (m : Automaton) → IsLeastAutomaton self.now m → result ≡ slice_index m.next (i * m.states + a) }
     {
-        // That there are at most 16 letters is what this call says.
-        let _states = self.k();
+        self.subsets.graph().rule().keeps_limits();
         let row = self.row(i);
         u32::from(row[a as usize])
     }

@@ -28,7 +28,7 @@ impl Model for Listed {
 }
 
 impl Listed {
-    /// An empty list.
+    /// An empty list. Its index takes 256 KB.
     pub fn new(alloc: Global) -> Result<Listed, AllocError>
         ensures { IfOk result (λ listed. listed ≡ []) }
     {

@@ -49,6 +49,13 @@ impl Subsets {
         self.graph.k()
     }
 
+    /// The graph of the rule.
+    pub fn graph(&self) -> &Graph
+        ensures { result.now ≡ self.now }
+    {
+        &self.graph
+    }
+
     /// The number of nodes N, from 2 to 16.
     pub fn nodes(&self) -> u8
         ensures nodes { result ≡ node_count self.now }

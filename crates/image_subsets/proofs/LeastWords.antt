@@ -1,6 +1,5 @@
 -- The least word of each set of a family: the empty word for the full set, and that of the parent followed by its letter.
-use Rattle.std.proofs.Common.{◌≡◌, ℕ, zero, suc, ◌+◌, ◌-◌, ◌*◌, ◌<◌, ◌≤◌, List, [], ◌∷◌, ◌++◌, length, get_or, slice_index, refl, sym, ap, ◌∙◌, subst, arith, ⊎_elim}
-use Rattle.std.proofs.Math.Nat.{mul-le-mul_left, mul-le-mul_right, suc-mul, mul-one}
+use Rattle.std.proofs.Common.{◌≡◌, ℕ, zero, suc, ◌+◌, ◌-◌, ◌*◌, ◌<◌, ◌≤◌, List, [], ◌∷◌, ◌++◌, length, get_or, slice_index, refl, sym, ap, ◌∙◌, subst, arith, ⊎_elim, mul-le-mul_left, mul-le-mul_right, suc-mul, mul-one}
 use Rattle.std.proofs.lemmas.Bool.{cases_eq, cases_lt}
 use Rattle.std.proofs.lemmas.List.{get_or_default}
 use Rattle.std.proofs.lemmas.Option.{slice_get-get_or}
@@ -32,7 +31,7 @@ family_word-next {r} {sets} family i below =
     word_number-less r.states (family_word family i) (family_word family (i + 1)) (family_word-least family i (omega arith)).set_of.word (family_word-least family (i + 1) below).set_of.word
     (family.ascending i (family_word family i) (family_word family (i + 1)) (slice_get-get_or family.words i [] (omega arith)) (slice_get-get_or family.words (i + 1) [] (omega arith)))
 
--- and so has each later one
+-- each later place of a family has a greater word
 family_word-ascending : {r : LocalRule} {sets : List ℕ} → (family : IsFamily r sets) (i n : ℕ) → i + 1 + n < length sets
     → word_number r.states (family_word family i) < word_number r.states (family_word family (i + 1 + n))
 family_word-ascending {r} family i zero below = subst (λ j. word_number r.states (family_word family i) < word_number r.states (family_word family j)) (omega arith) (family_word-next family i (omega arith))

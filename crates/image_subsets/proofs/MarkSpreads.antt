@@ -19,13 +19,6 @@ set_without-bit x u i node inside =
       (λ (first, other). minus.1 (first, λ some. other ((IsBitSet-pow u i).0 some))),
     )
 
--- fewer, where it was there
-set_without-less : (x u : ℕ) → u < 16 → IsBitSet x u → set_without x u < x
-set_without-less x u node some = ⊎_elim
-    (λ same. absurd (((set_without-bit x u u node node).0 (subst (λ y. IsBitSet y u) (sym same) some)).1 refl))
-    (λ other. omega (arith, and_le_l x (65535 - 2 ^ u), other))
-    (cases_eq (set_without x u) x)
-
 -- nothing is done
 pub IsSpreadTo-start : (u : ℕ) (others rows : List ℕ) → IsSpreadTo u 0 others rows rows
 IsSpreadTo-start u others rows = record {

@@ -68,19 +68,6 @@ AreMembers-push {sets} {rows} h set i v row bit small new = record {
       );
 }
 
--- the marks of all sets are taken
-pub AreMembers-cleared : {sets rows left : List ℕ} → AreMembers sets rows → length left ≡ length rows
-    → ((x : ℕ) → IsSetMarked left x → IsSetMarked rows x × ¬ Contains sets x) → AreMembers [] left
-AreMembers-cleared {sets} {rows} {left} h long kept = record {
-  long = long ∙ h.long;
-  below = λ i less. absurd (omega (arith, less));
-  apart = λ i j d less within. absurd (omega (arith, within));
-  marked = λ x small. (
-    (λ some. let (old, none) = kept x some in absurd (none ((h.marked x small).0 old))),
-    (λ has. absurd (let within = has.1 in omega (arith, within))),
-  );
-}
-
 -- so there are at most as many as masks
 length-masks-le : {sets rows : List ℕ} → AreMembers sets rows → length sets ≤ 65536
 length-masks-le {sets} h =
@@ -88,6 +75,6 @@ length-masks-le {sets} h =
     let (i, within, same) = Contains-from_any (λ x y same. (Decides-eqb x y).0 same) s sets any in
     subst (λ z. z < 65536) (get_or_default sets i 0 s within ∙ same) (h.below i within))
 
--- and fewer before a new one is put in
+-- before a new set is put in, there are fewer than all
 pub few_before_new : {sets rows : List ℕ} → AreMembers sets rows → (set : ℕ) → set < 65536 → ¬ Contains sets set → length sets < 65536
 few_before_new {sets} h set small new = omega (arith, length-masks-le (AreMembers-push h set (set / 64) (set % 64) refl refl small new), length_push sets set)

@@ -1,6 +1,5 @@
 -- No other set of a family is part of one exactly where the test of its cover list says so.
-use Rattle.std.proofs.Common.{◌≡◌, ◌≢◌, ℕ, ◌^◌, ◌<◌, ◌↔◌, List, Bool, true, false, IsTrue, AllPairs, length, slice_index, IsBitSet, bit_and, refl, sym, ap, ◌∙◌, subst, arith, ⊎_elim}
-use Rattle.std.specs.Prelude.{◌==◌, ◌&&◌, not}
+use Rattle.std.proofs.Common.{◌≡◌, ◌≢◌, ℕ, ◌^◌, ◌<◌, ◌↔◌, List, Bool, true, false, IsTrue, AllPairs, length, slice_index, IsBitSet, bit_and, refl, sym, ap, ◌∙◌, subst, arith, ⊎_elim, ◌==◌, ◌&&◌, not}
 use Rattle.std.specs.List.{list_any}
 use Rattle.std.proofs.lemmas.Bool.{cases_lt, eqb-true, eqb-false, ne_eqb, eq-eqb, false≢true, and_parts, not-true}
 use Rattle.std.proofs.lemmas.List.Folds.{Any-from_list_any, list_any_at}
@@ -16,7 +15,7 @@ is_subset-part : (s x : ℕ) → s < 2 ^ 16 → IsPart s x → bit_and s x ≡ s
 is_subset-part s x small part = same_set 16 (bit_and s x) s (omega (arith, and_le_l s x, small)) small (λ i l.
     let both = IsBitSet-and s x i in ((λ some. (both.0 some).0), (λ some. both.1 (some, part i some))))
 
--- and the other way round
+-- a part by the test is a part by its bits
 part-is_subset : (s x : ℕ) → bit_and s x ≡ s → IsPart s x
 part-is_subset s x same i some = ((IsBitSet-and s x i).0 (subst (λ n. IsBitSet n i) (sym same) some)).1
 

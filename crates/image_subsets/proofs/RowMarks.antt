@@ -1,6 +1,5 @@
 -- Marks in rows of 64 bits: the nodes of a set by its row and its bit, and rows with one row written.
-use Rattle.std.proofs.Common.{◌≡◌, ℕ, suc, ◌+◌, ◌-◌, ◌*◌, ◌/◌, ◌%◌, ◌^◌, ◌<◌, ◌≤◌, ◌↔◌, List, Bool, true, slice_index, IsBitSet, bit_and, zero, refl, sym, ap, ◌∙◌, subst, subst₂, arith, ⊎_elim}
-use Rattle.std.specs.Prelude.{◌==◌, ◌&&◌}
+use Rattle.std.proofs.Common.{◌≡◌, ℕ, suc, ◌+◌, ◌-◌, ◌*◌, ◌/◌, ◌%◌, ◌^◌, ◌<◌, ◌≤◌, ◌↔◌, List, Bool, true, slice_index, IsBitSet, bit_and, zero, refl, sym, ap, ◌∙◌, subst, subst₂, arith, ⊎_elim, ◌==◌, ◌&&◌}
 use Rattle.std.specs.Int.{bit_at}
 use Rattle.std.proofs.lemmas.Bool.{cases_lt, cases_eq, eqb-true, and_parts}
 use Rattle.std.proofs.lemmas.Nat.{and_mask, and_comm, and-not, shl-shr, pow-add}

@@ -1,11 +1,9 @@
 -- A search through the sets, one edge more at a time, and the family that it lists in the end.
-use Rattle.std.proofs.Common.{◌≡◌, ◌≢◌, ℕ, ◌+◌, ◌-◌, ◌*◌, ◌^◌, ◌<◌, ◌≤◌, List, [], ◌∷◌, ◌++◌, length, slice_index, Option, Some, None, MatchOption, Contains, false, refl, sym, ap, ◌∙◌, subst, subst₂, arith, ⊎_elim}
-use Rattle.std.specs.List.{slice_get}
+use Rattle.std.proofs.Common.{◌≡◌, ◌≢◌, ℕ, ◌+◌, ◌-◌, ◌*◌, ◌^◌, ◌<◌, ◌≤◌, List, [], ◌∷◌, ◌++◌, length, slice_index, Option, Some, None, MatchOption, Contains, false, refl, sym, ap, ◌∙◌, subst, subst₂, arith, ⊎_elim, slice_get, pow_mono}
 use Rattle.std.proofs.lemmas.Option.{slice_get_within, slice_get-get_or, get_or_from_slice_get}
 use Rattle.std.proofs.lemmas.List.{get_or_append_left, length_push}
 use Rattle.std.proofs.lemmas.List.Elements.{Contains-push_cases}
 use Rattle.std.proofs.lemmas.Nat.{pow_pos}
-use Rattle.std.proofs.Math.Pow.{pow_mono}
 use Rattle.word_image.specs.LocalRules.{LocalRule, IsRule, node_count}
 use Rattle.word_image.specs.Graphs.{full_set}
 use Rattle.word_image.specs.Edges.{IsStep}
@@ -44,7 +42,7 @@ IsWay-more : (tree more : List (Place ℕ)) (i : ℕ) (way : Option (ℕ × ℕ)
 IsWay-more tree more i None none = none
 IsWay-more tree more i (Some (p, a)) (x, later, at, from, by) = (x, later, slice_get-append tree more i x at, from, by)
 
--- and it isn't empty
+-- the full set alone is a search that has just begun, and it isn't empty
 pub IsExpanded-start : {r : LocalRule} → IsRule r → IsExpanded r (full_set r ∷ []) (None ∷ []) (0 * r.states) false
 IsExpanded-start {r} rule =
     let none : 0 * r.states ≡ 0 = omega arith in (
@@ -188,7 +186,7 @@ IsTreeSearch-expanding {r} {sets} {parents} {h} {set} {n} x after letter step ne
           (slice_get-push_cases parents (Some (h, n)) i way at);
     })
 
--- and isn't empty
+-- the next step leads to a set that is new and isn't empty
 pub IsExpanding-new : {r : LocalRule} {sets : List ℕ} {parents : List (Option (ℕ × ℕ))} {h set n : ℕ} → IsExpanding r sets parents h set n
     → (after : ℕ) → n < r.states → IsStep r set n after → ¬ Contains sets after → after ≢ 0
     → IsExpanding r (sets ++ after ∷ []) (parents ++ Some (h, n) ∷ []) h set (n + 1)

@@ -1,8 +1,7 @@
 -- Steps of sets, part by part, and the tables that are made of them.
-use Rattle.std.proofs.Common.{◌≡◌, ℕ, ◌+◌, ◌-◌, ◌*◌, ◌/◌, ◌%◌, ◌^◌, ◌<◌, List, [], ◌++◌, length, map, get_or, slice_index, min, inl, inr, bit_or, refl, sym, ap, ap₂, ◌∙◌, subst, subst₂, arith, ⊎_elim}
+use Rattle.std.proofs.Common.{◌≡◌, ℕ, ◌+◌, ◌-◌, ◌*◌, ◌/◌, ◌%◌, ◌^◌, ◌<◌, List, [], ◌++◌, length, map, get_or, slice_index, min, inl, inr, bit_or, refl, sym, ap, ap₂, ◌∙◌, subst, subst₂, arith, ⊎_elim, pow_mono}
 use Rattle.std.specs.Simd.Lanes.{zip2}
 use Rattle.std.specs.Int.Bits.{or_shifted_r}
-use Rattle.std.proofs.Math.Pow.{pow_mono}
 use Rattle.std.proofs.Math.Nat.{mul-lt-mul_of_pos_right, one-mul, mul-one, mul_comm, add-mul, mod-add-div}
 use Rattle.std.proofs.lemmas.Bool.{cases_lt}
 use Rattle.std.proofs.lemmas.List.{get_or_append_left, get_or_default, get_or-append-add, length-append, length-map, get_or-map}

@@ -1,6 +1,6 @@
 -- The family of a rule, and from where each set is reached first.
 use Rattle.std.specs.Prelude.{◌≡◌, ℕ, ◌<◌, ◌≤◌, List, length, slice_index, slice_get, Option, Some, MatchOption}
-use Rattle.word_image.specs.LocalRules.{LocalRule, IsRule}
+use Rattle.word_image.specs.LocalRules.{LocalRule, IsRule, most_sets}
 use Rattle.word_image.specs.Graphs.{full_set}
 use Rattle.word_image.specs.Edges.{IsStep}
 use Rattle.word_image.specs.Families.{IsFamily}
@@ -12,7 +12,7 @@ pub record FamilyTree : Type 0 where
 
 -- there are at most 65,536 sets; the first alone has no parent, and each parent stands before its set
 pub record IsTree (tree : FamilyTree) : Type 0 where
-  pub most : length tree.sets ≤ 65536
+  pub most : length tree.sets ≤ most_sets
   pub one_each : length tree.parents ≡ length tree.sets
   pub earlier : (i : ℕ) (way : Option (ℕ × ℕ)) → slice_get tree.parents i ≡ Some way → MatchOption way (i ≡ 0) (λ (p, a). p < i)
 

@@ -1,5 +1,6 @@
 -- Marks on sets of nodes, in rows of 64 bits, and those of the sets that contain one of a family.
 use Rattle.std.specs.Prelude.{◌≢◌, AllPairs, ℕ, ◌-◌, ◌*◌, ◌/◌, ◌%◌, ◌^◌, ◌<◌, ◌≤◌, ◌↔◌, ◌⊎◌, List, length, slice_index, Contains, IsBitSet, bit_and}
+use Rattle.word_image.specs.LocalRules.{most_nodes}
 use Rattle.word_image.specs.Graphs.{HasBit}
 
 -- set x is marked
@@ -40,7 +41,7 @@ AreBeyond sets n rows = (x : ℕ) → x < 2 ^ n → (IsSetMarked rows x ↔ ((i 
 abbrev pub HoldsSmaller : List ℕ → ℕ → ℕ → Type 0
 HoldsSmaller rows n set = (u : ℕ) × (u < n) × HoldsWithout rows u set
 
--- one of the sets is part of x, and has each node of x from u on
+-- one of the sets of a list is part of x, and has each node of x from u on
 pub record ContainsBy (sets : List ℕ) (u x : ℕ) : Type 0 where
   pub place : ℕ
   pub below : place < length sets
@@ -58,7 +59,7 @@ IsMinimal sets i = (j : ℕ) → j < length sets → j ≢ i → ¬ IsPart (slic
 -- the marks are those of the sets that contain another one of these, which are different
 pub record AreCovers (sets rows : List ℕ) : Type 0 where
   pub nodes : ℕ
-  pub few : nodes ≤ 16
+  pub few : nodes ≤ most_nodes
   pub room : 2 ^ nodes ≤ 64 * length rows
   pub within : (i : ℕ) → i < length sets → slice_index sets i < 2 ^ nodes
   pub apart : AllPairs (λ s t. s ≢ t) sets

@@ -1,5 +1,6 @@
 -- A list of different sets of at most 16 nodes, with a mark on each.
 use Rattle.std.specs.Prelude.{◌≡◌, ◌≢◌, ◌↔◌, AllPairs, ℕ, ◌<◌, List, [], ◌∷◌, ◌++◌, length, slice_index, Contains, Bool, true, false}
+use Rattle.word_image.specs.LocalRules.{most_sets}
 use Rattle.image_subsets.specs.Marks.{IsSetMarked}
 
 -- a set was new and stands last, or it was there and nothing changed
@@ -10,6 +11,6 @@ IsInserted old new set false = Contains old set × (new ≡ old)
 -- different sets, and a mark on each of them and no other set
 pub record AreMembers (sets rows : List ℕ) : Type 0 where
   pub long : length rows ≡ 1024
-  pub below : (i : ℕ) → i < length sets → slice_index sets i < 65536
+  pub below : (i : ℕ) → i < length sets → slice_index sets i < most_sets
   pub apart : AllPairs (λ s t. s ≢ t) sets
-  pub marked : (x : ℕ) → x < 65536 → (IsSetMarked rows x ↔ Contains sets x)
+  pub marked : (x : ℕ) → x < most_sets → (IsSetMarked rows x ↔ Contains sets x)

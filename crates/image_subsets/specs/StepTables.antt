@@ -1,12 +1,12 @@
 -- Tables of the steps of sets: one by the lower eight bits of a set, and one by the upper eight.
 use Rattle.std.specs.Prelude.{◌≡◌, ℕ, ◌-◌, ◌*◌, ◌/◌, ◌%◌, ◌^◌, ◌<◌, List, [], length, get_or, slice_index, min}
-use Rattle.word_image.specs.LocalRules.{LocalRule, IsRule, node_count}
+use Rattle.word_image.specs.LocalRules.{LocalRule, IsRule, node_count, most_states}
 use Rattle.word_image.specs.Edges.{IsStep}
 
 -- row x has, label by label, the steps of the set with the bits of x, of which the lowest stands for the node `first`
 pub record AreSteps (r : LocalRule) (first count : ℕ) (rows : List (List ℕ)) : Type 0 where
   pub long : length rows ≡ 2 ^ count
-  pub wide : (x : ℕ) → x < 2 ^ count → length (get_or rows x []) ≡ 16
+  pub wide : (x : ℕ) → x < 2 ^ count → length (get_or rows x []) ≡ most_states
   pub steps : (x a : ℕ) → x < 2 ^ count → a < r.states → IsStep r (x * 2 ^ first) a (slice_index (get_or rows x []) a)
 
 -- the rows of both tables
@@ -14,7 +14,7 @@ pub record Rows : Type 0 where
   pub low : List (List ℕ)
   pub high : List (List ℕ)
 
--- they are the steps of a rule
+-- the rows of both tables are the steps of a rule
 pub record AreTables (r : LocalRule) (rows : Rows) : Type 0 where
   pub rule : IsRule r
   pub low : AreSteps r 0 (min 8 (node_count r)) rows.low

@@ -1,6 +1,7 @@
 //! The sets that are reached from the full one, in the order in which they are found.
 
 ghost use Rattle.std.specs.Prelude.{◌≡◌, ◌≢◌, ◌+◌, ◌*◌, ◌≤◌, ◌<◌, AllPairs, Contains, [], length, slice_index, slice_get, vec_capacity, Some, MatchOption, false, IfOk};
+ghost use Rattle.word_image.specs.LocalRules.{most_sets};
 ghost use Rattle.image_subsets.specs.FamilyTrees.{IsFamilyTree};
 ghost use Rattle.image_subsets.specs.Searches.{IsExpanded};
 ghost use Rattle.image_subsets.specs.StepTables.{AreTables};
@@ -87,7 +88,7 @@ impl Family {
     /// ones.
     pub fn len(&self) -> u32
         ensures len { result ≡ length self.now.sets }
-        ensures most { result ≤ 65536 }
+        ensures most { result ≤ most_sets }
         ensures apart { AllPairs (λ s t. s ≢ t) self.now.sets }
     {
         self.sets.len() as u32

@@ -1,6 +1,7 @@
 //! Marks of the sets that contain another one of a family.
 
 ghost use Rattle.std.specs.Prelude.{◌≡◌, ◌*◌, ◌^◌, ◌<◌, ◌≤◌, ◌↔◌, ◌⊎◌, ℕ, List, length, slice_index, vec_capacity, replicate, IsTrue};
+ghost use Rattle.word_image.specs.LocalRules.{most_nodes};
 ghost use Rattle.image_subsets.specs.Marks.{IsSetMarked, HoldsSmaller, AreListed, AreAbove, AreBeyond};
 
 use crate::masks::Masks;
@@ -40,7 +41,7 @@ impl Marks {
 
     /// Marks the sets of n nodes that contain another one of these, in O(n 2^n) time.
     pub fn mark(&mut self, sets: &Masks, n: u8)
-        requires nodes { n ≤ 16 }
+        requires nodes { n ≤ most_nodes }
         requires sets { (i : ℕ) → i < length sets.now → slice_index sets.now i < 2 ^ n }
         ensures room { 2 ^ n ≤ 64 * length self.new }
         ensures marks { AreBeyond sets.now n self.new }
@@ -91,7 +92,7 @@ fn blank(rows: &mut Vec<u64>, count: usize)
 
 /// Marks the sets of n nodes that contain a marked one.
 fn mark_above(rows: &mut [u64], n: u8)
-    requires nodes { n ≤ 16 }
+    requires nodes { n ≤ most_nodes }
     requires most { length rows.old ≤ 1024 }
     requires room { 2 ^ n ≤ 64 * length rows.old }
     ensures { (sets : List ℕ) → AreListed sets n rows.old → AreAbove sets n rows.new }
@@ -103,7 +104,7 @@ fn mark_above(rows: &mut [u64], n: u8)
 
 /// Marks the sets that without one of the first n nodes are marked in other rows.
 fn mark_beyond(rows: &mut [u64], others: &[u64], n: u8)
-    requires nodes { n ≤ 16 }
+    requires nodes { n ≤ most_nodes }
     requires most { length others.now ≤ 1024 }
     requires same { length rows.old ≡ length others.now }
     ensures { (x : ℕ) → x < 64 * length others.now → (IsSetMarked rows.new x ↔ (IsSetMarked rows.old x ⊎ HoldsSmaller others.now n x)) }

@@ -1,6 +1,7 @@
 //! Different sets of nodes in the order in which they were put in, with a mark on each.
 
 ghost use Rattle.std.specs.Prelude.{◌≡◌, ◌≢◌, ◌<◌, ◌↔◌, AllPairs, List, ℕ, [], length, slice_index, Contains, IsTrue, IfOk};
+ghost use Rattle.word_image.specs.LocalRules.{most_sets};
 ghost use Rattle.image_subsets.specs.Masks.{IsInserted};
 ghost use Rattle.image_subsets.specs.Marks.{IsSetMarked};
 
@@ -72,7 +73,7 @@ impl Masks {
     /// A mark on each of the sets, for all sets of sixteen nodes.
     pub fn rows(&self) -> &[u64]
         ensures rows { length result.now ≡ 1024 }
-        ensures marked { (x : ℕ) → x < 65536 → (IsSetMarked result.now x ↔ Contains self.now x) }
+        ensures marked { (x : ℕ) → x < most_sets → (IsSetMarked result.now x ↔ Contains self.now x) }
     {
         &self.members
     }

@@ -1,6 +1,7 @@
 //! Rows of marks on sets of nodes, 64 sets a row: set s is bit s % 64 of row s / 64.
 
 ghost use Rattle.std.specs.Prelude.{◌≡◌, ◌+◌, ◌*◌, ◌/◌, ◌<◌, ◌≤◌, ◌↔◌, ◌⊎◌, ℕ, length, Contains, IsTrue, IsBitSet};
+ghost use Rattle.word_image.specs.LocalRules.{most_nodes};
 ghost use Rattle.image_subsets.specs.Marks.{IsSetMarked, IsSpreadTo, HoldsWithout};
 
 use word_image::MOST_NODES;
@@ -44,7 +45,7 @@ pub fn unmark(rows: &mut [u64], sets: &[u16])
 
 /// Marks those sets that have node u and without it are marked.
 pub fn spread(rows: &mut [u64], u: u8)
-    requires node { u < 16 }
+    requires node { u < most_nodes }
     requires rows { length rows.old ≤ 1024 }
     ensures { IsSpreadTo u (64 * length rows.old) rows.old rows.old rows.new }
 {
@@ -56,7 +57,7 @@ pub fn spread(rows: &mut [u64], u: u8)
 
 /// Marks those sets that have node u and without it are marked in other rows.
 pub fn spread_from(rows: &mut [u64], others: &[u64], u: u8)
-    requires node { u < 16 }
+    requires node { u < most_nodes }
     requires most { length others.now ≤ 1024 }
     requires same { length rows.old ≡ length others.now }
     ensures { (x : ℕ) → x < 64 * length others.now → (IsSetMarked rows.new x ↔ (IsSetMarked rows.old x ⊎ HoldsWithout others.now u x)) }
@@ -68,7 +69,7 @@ pub fn spread_from(rows: &mut [u64], others: &[u64], u: u8)
 
 /// Those sets of row i that have node u and without it are marked.
 fn with_node(rows: &[u64], i: usize, u: u8) -> u64
-    requires node { u < 16 }
+    requires node { u < most_nodes }
     requires row { i < length rows.now }
     requires most { i < 1024 }
     ensures { (b : ℕ) → b < 64 → (IsBitSet result b ↔ HoldsWithout rows.now u (64 * i + b)) }

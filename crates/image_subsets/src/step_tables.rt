@@ -3,7 +3,7 @@
 ghost use Rattle.std.specs.Prelude.{◌≡◌, ◌+◌, ◌-◌, ◌*◌, ◌^◌, ◌<◌, ◌≤◌, ℕ, ◌++◌, map, length, slice_index, vec_len, vec_capacity};
 ghost use Rattle.std.specs.Int.Bits.{bit_or};
 ghost use Rattle.std.specs.Simd.Lanes.{zip2};
-ghost use Rattle.word_image.specs.LocalRules.{LocalRule, IsRule, node_count};
+ghost use Rattle.word_image.specs.LocalRules.{LocalRule, IsRule, node_count, most_states};
 ghost use Rattle.word_image.specs.Edges.{IsEnds, IsStep};
 ghost use Rattle.word_image.specs.declared.side.Side.TheVariants.{Right};
 ghost use Rattle.image_subsets.specs.StepTables.{AreSteps, AreTables, HasRows};
@@ -100,7 +100,7 @@ fn double(rows: &mut Vec<u16x16>, ends: u16x16)
 fn ends_of(graph: &Graph, u: u8) -> u16x16
     requires { u < node_count graph.now }
     ensures rule { IsRule graph.now }
-    ensures wide { length result ≡ 16 }
+    ensures wide { length result ≡ most_states }
     ensures ends { (a : ℕ) → a < graph.now.states → IsEnds Right graph.now u a (slice_index result a) }
 {
     let mut row = [0; MOST_STATES];

@@ -25,7 +25,7 @@ entry-below {g} h v =
 table_one : (g : WindowMap) → g.width ≡ 1 → (map_rule g).table ≡ map (λ v. slice_index g.table (v / g.states)) (range_with_len 0 (g.states * g.states))
 table_one g one = cond-true (g.width == 1) _ g.table (eq-eqb g.width 1 one)
 
--- and how many windows it has
+-- how many windows the rule of a map has that reads one letter
 windows_one : (g : WindowMap) → g.width ≡ 1 → g.states ^ (map_rule g).width ≡ g.states * g.states
 windows_one g one =
     let k : ℕ = g.states in

@@ -22,7 +22,7 @@ IsLetterBack letter images count e a =
     ((word : ℕ) × (word < count) × (slice_index images word ≡ e) × (a ≡ letter word))
     ⊎ (((word : ℕ) → word < count → slice_index images word ≢ e) × (a ≡ 16))
 
--- such a letter for each image
+-- for each image the letter of one of the first words with it, and 16 where none of them has it
 abbrev pub AreLettersBack : (ℕ → ℕ) → List ℕ → ℕ → List ℕ → Type 0
 AreLettersBack letter images count letters = (e : ℕ) → e < length letters → IsLetterBack letter images count e (slice_index letters e)
 

@@ -1,5 +1,6 @@
 -- When a window of a rule has no inverse map.
 use Rattle.std.specs.Prelude.{◌≢◌, ℕ, ◌^◌, ◌<◌, ◌≤◌, List, slice_index}
+use Rattle.inverse_table.specs.MapLimits.{most_map_entries}
 use Rattle.word_image.specs.LocalRules.{LocalRule}
 use Rattle.word_image.specs.Windows.{HaveOneImage}
 use Rattle.inverse_table.specs.declared.tables.InvFault.{InvFault}
@@ -12,6 +13,6 @@ pub record IsApartAt (r : LocalRule) (n c : ℕ) (x y : List ℕ) : Type 0 where
 
 -- when each fault comes: a map of more than 65,536 letters is refused first
 abbrev pub IsInvFault : LocalRule → ℕ → ℕ → InvFault → Type 0
-IsInvFault r n c Wide = 65536 < r.states ^ n
-IsInvFault r n c (NotDetermined x y) = (r.states ^ n ≤ 65536) × IsApartAt r n c x y
-IsInvFault r n c (Memory e) = r.states ^ n ≤ 65536
+IsInvFault r n c Wide = most_map_entries < r.states ^ n
+IsInvFault r n c (NotDetermined x y) = (r.states ^ n ≤ most_map_entries) × IsApartAt r n c x y
+IsInvFault r n c (Memory e) = r.states ^ n ≤ most_map_entries

@@ -1,26 +1,30 @@
 -- The maps that there are, and the limits of a map as a rule.
-use Rattle.std.specs.Prelude.{◌≡◌, ◌^◌, ◌≤◌, length, pos, negsuc, ◌≤ℤ◌, ◌-◌, Option, Some, None, nat_lt, ◌||◌, if◌then◌else◌, ◌+ℤ◌, int_lt}
-use Rattle.word_image.specs.LocalRules.{IsWord, LocalRule}
+use Rattle.std.specs.Prelude.{◌≡◌, ℕ, ◌^◌, ◌≤◌, length, pos, negsuc, ◌≤ℤ◌, ◌-◌, Option, Some, None, nat_lt, ◌||◌, if◌then◌else◌, ◌+ℤ◌, int_lt}
+use Rattle.word_image.specs.LocalRules.{IsWord, LocalRule, most_nodes, most_states, most_width}
 use Rattle.tail_config.specs.InverseMaps.{WindowMap}
 use Rattle.word_image.specs.declared.local_rule.RuleFault.{RuleFault}
 use Rattle.word_image.specs.declared.local_rule.RuleFault.TheVariants.{Width, Nodes, Offset}
 
+-- the most words for which a map has a letter
+abbrev pub most_map_entries : ℕ
+most_map_entries = 65536
+
 -- the maps that there are: a letter for each of at most 65,536 words
 pub record IsWindowMap (g : WindowMap) : Type 0 where
   pub least_states : 2 ≤ g.states
-  pub most_states : g.states ≤ 16
+  pub most_states : g.states ≤ most_states
   pub least_width : 1 ≤ g.width
   pub most_width : g.width ≤ 16
   pub least_offset : negsuc 30 ≤ℤ g.offset
   pub most_offset : g.offset ≤ℤ pos 16
   pub entries : length g.table ≡ g.states ^ g.width
-  pub most_entries : g.states ^ g.width ≤ 65536
+  pub most_entries : g.states ^ g.width ≤ most_map_entries
   pub letters : IsWord g.states g.table
 
 -- the first limit of a rule that it breaks
 abbrev pub rule_limit_fault : LocalRule → Option RuleFault
 rule_limit_fault r =
-    if nat_lt 5 r.width then Some Width
-    else (if nat_lt 16 (r.states ^ (r.width - 1)) then Some Nodes
+    if nat_lt most_width r.width then Some Width
+    else (if nat_lt most_nodes (r.states ^ (r.width - 1)) then Some Nodes
     else (if int_lt r.offset (negsuc 15) || int_lt (pos 16) (r.offset +ℤ pos (r.width - 1)) then Some Offset
     else None))

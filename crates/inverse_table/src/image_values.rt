@@ -1,5 +1,6 @@
 //! The images of all words of one length.
 ghost use Rattle.std.specs.Prelude.{◌≡◌, ℕ, ◌+◌, ◌*◌, ◌^◌, ◌<◌, ◌≤◌, ◌++◌, All, length, map, slice_range, vec_len, vec_capacity, IfOk};
+ghost use Rattle.inverse_table.specs.MapLimits.{most_map_entries};
 ghost use Rattle.inverse_table.specs.ImageValues.{AreImageValues};
 
 use crate::cycles::after_row;
@@ -8,7 +9,7 @@ use word_image::Rule;
 
 /// The values of the images of all words of n + m - 1 letters, in the order of the words.
 pub(crate) fn image_values(alloc: Global, rule: &Rule, n: u16) -> Result<Vec<u16>, AllocError>
-    requires fits { rule.now.states ^ n ≤ 65536 }
+    requires fits { rule.now.states ^ n ≤ most_map_entries }
     ensures { IfOk result (λ v. AreImageValues rule.now n v.items) }
 {
     let mut images = vec![in alloc; 0; usize::from(rule.nodes())]?;
@@ -23,7 +24,7 @@ pub(crate) fn image_values(alloc: Global, rule: &Rule, n: u16) -> Result<Vec<u16
 /// where it stands in line with its callers.
 #[inline(never)]
 fn longer(alloc: Global, rule: &Rule, images: &[u16]) -> Result<Vec<u16>, AllocError>
-    requires fits { All (λ image. image * rule.now.states + rule.now.states ≤ 65536) images.now }
+    requires fits { All (λ image. image * rule.now.states + rule.now.states ≤ most_map_entries) images.now }
     requires few { length images.now ≤ 1048576 }
     ensures { (n : ℕ) → AreImageValues rule.now n images.now → IfOk result (λ v. AreImageValues rule.now (n + 1) v.items) }
 {
@@ -50,7 +51,7 @@ fn row_at(table: &[u8], place: usize, row: usize) -> &[u8]
 
 /// Adds the values of the images that are one letter longer, from the first that there may be.
 fn push_all(values: &mut Vec<u16>, first: u16, labels: &[u8])
-    requires fits { All (λ label. first + label < 65536) labels.now }
+    requires fits { All (λ label. first + label < most_map_entries) labels.now }
     requires room { vec_len values.old + length labels.now ≤ vec_capacity values.old }
     ensures items { values.new.items ≡ values.old.items ++ map (λ label. first + label) labels.now }
     ensures room { vec_capacity values.new ≡ vec_capacity values.old }

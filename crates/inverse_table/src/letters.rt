@@ -1,5 +1,6 @@
 //! The letters at one place of all words of one length, read back from the images of the words.
 ghost use Rattle.std.specs.Prelude.{◌≡◌, ℕ, ◌+◌, ◌*◌, ◌%◌, ◌<◌, ◌≤◌, All, length, replicate, slice_index, MatchOption};
+ghost use Rattle.word_image.specs.LocalRules.{most_states};
 ghost use Rattle.inverse_table.specs.ImageValues.{AreUndetermined, AreReadBack, HasApart, IsRead, letter_by_unit};
 
 use crate::cycles::after;
@@ -16,7 +17,7 @@ pub(crate) struct Place {
     /// stand behind it.
     pub unit: usize,
     ghost some: { 0 < k },
-    ghost most: { k ≤ 16 },
+    ghost most: { k ≤ most_states },
     ghost behind: { 0 < unit },
 }
 

@@ -1,5 +1,7 @@
 //! The inverse map of a rule over a window.
 ghost use Rattle.std.specs.Prelude.{◌≡◌, ◌+◌, ◌-◌, ◌^◌, ◌<◌, ◌≤◌, neg_ℤ, ◌-ℤ◌, pos, IfOk, IsOk, MatchResult, SomeIff};
+ghost use Rattle.inverse_table.specs.MapLimits.{most_map_entries};
+ghost use Rattle.inverse_window.specs.FirstWindows.{longest_window};
 ghost use Rattle.word_image.specs.LocalRules.{IsRule, word_of};
 ghost use Rattle.word_image.specs.Windows.{IsDetermined};
 ghost use Rattle.tail_config.specs.InverseMaps.{IsInverseMap};
@@ -45,12 +47,12 @@ impl From<AllocError> for InvFault {
 /// where there is a map, it is not where `NotDetermined` comes, and `Memory` says nothing of it.
 pub fn table(alloc: Global, rule: &Rule, at: WindowAt) -> Result<InverseMap, InvFault>
     requires some { 1 ≤ at.n }
-    requires most { at.n ≤ 480 }
+    requires most { at.n ≤ longest_window }
     requires inside { at.c ≤ at.n + rule.now.width - 2 }
     ensures map { IfOk result (IsInverseMap rule.now at.n at.c) }
     ensures gives_back { IfOk result (GivesBack rule.now at.n at.c) }
     ensures determined { IsOk result → IsDetermined rule.now at.n at.c }
-    ensures fault { MatchResult result (λ _. rule.now.states ^ at.n ≤ 65536) (IsInvFault rule.now at.n at.c) }
+    ensures fault { MatchResult result (λ _. rule.now.states ^ at.n ≤ most_map_entries) (IsInvFault rule.now at.n at.c) }
 {
     let Some(count) = letter_count(rule, at.n) else {
         return Err(InvFault::Wide);
@@ -69,13 +71,13 @@ fn read_back(
 ) -> Result<InverseMap, InvFault>
     requires some { 1 ≤ at.n }
     requires inside { at.c ≤ at.n + rule.now.width - 2 }
-    requires few { rule.now.states ^ at.n ≤ 65536 }
+    requires few { rule.now.states ^ at.n ≤ most_map_entries }
     requires count { count ≡ rule.now.states ^ at.n }
     requires images { AreImageValues rule.now at.n images.now }
     ensures map { IfOk result (IsInverseMap rule.now at.n at.c) }
     ensures gives_back { IfOk result (GivesBack rule.now at.n at.c) }
     ensures determined { IsOk result → IsDetermined rule.now at.n at.c }
-    ensures fault { MatchResult result (λ _. rule.now.states ^ at.n ≤ 65536) (IsInvFault rule.now at.n at.c) }
+    ensures fault { MatchResult result (λ _. rule.now.states ^ at.n ≤ most_map_entries) (IsInvFault rule.now at.n at.c) }
 {
     let place = place_of(rule, at);
     let mut letters = vec![in alloc; UNREAD; count]?;
@@ -98,7 +100,7 @@ fn map_offset(rule: &Rule, c: u16) -> i32
 
 /// How many words of n letters there are, where there are at most 65,536.
 fn letter_count(rule: &Rule, n: u16) -> Option<usize>
-    ensures { SomeIff result (rule.now.states ^ n ≤ 65536) (rule.now.states ^ n) }
+    ensures { SomeIff result (rule.now.states ^ n ≤ most_map_entries) (rule.now.states ^ n) }
 {
     match u64::from(rule.k()).checked_pow(u32::from(n)) {
         Some(count) if count <= MOST_WORDS => Some(count as usize),
@@ -109,7 +111,7 @@ fn letter_count(rule: &Rule, n: u16) -> Option<usize>
 /// The place of letter c in words of n + m - 1 letters.
 fn place_of(rule: &Rule, at: WindowAt) -> Place
     requires inside { at.c ≤ at.n + rule.now.width - 2 }
-    requires fits { rule.now.states ^ at.n ≤ 65536 }
+    requires fits { rule.now.states ^ at.n ≤ most_map_entries }
     ensures rule { IsRule rule.now }
     ensures states { result.k ≡ rule.now.states }
     ensures unit { result.unit ≡ rule.now.states ^ (at.n + (rule.now.width - 1) - 1 - at.c) }
@@ -125,7 +127,7 @@ fn place_of(rule: &Rule, at: WindowAt) -> Place
 /// The word of n + m - 1 letters that has this value.
 fn word_at(alloc: Global, rule: &Rule, n: u16, value: usize) -> Result<Word, AllocError>
     requires some { 1 ≤ n }
-    requires fits { rule.now.states ^ n ≤ 65536 }
+    requires fits { rule.now.states ^ n ≤ most_map_entries }
     requires value { value < rule.now.states ^ (n + (rule.now.width - 1)) }
     ensures { IfOk result (λ w. w ≡ word_of rule.now.states (n + (rule.now.width - 1)) value) }
 {

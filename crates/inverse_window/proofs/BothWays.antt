@@ -27,7 +27,7 @@ not_injective {r} rule u v different goes injective =
       ends = λ j. (PairGoes-pair_of Left r u v j node).1 (goes.ends j);
     })
 
--- and where none do, it is
+-- where no two different nodes go on both ways, the rule is injective
 pub injective_where_none : {r : LocalRule} → IsRule r → ((u v : ℕ) → u < node_count r → v < node_count r → u ≢ v → ¬ GoOnBothWays r u v) → IsInjective r
 injective_where_none {r} rule none =
     IsInjective-determined rule (IsDetermined-none_both_ways rule (λ p inside different both.

@@ -46,7 +46,7 @@ HoldsFrom-next a b p Of P of before here =
     ))
     before here
 
--- and one that is none of them
+-- one more pair that is none of these changes nothing
 pub HoldsFrom-other : (a : Option ℕ) (p : ℕ) (Of : ℕ → Type 0) (P : ℕ → ℕ → Type 0) → ¬ Of p → HoldsFrom a (NoneHolds p Of P) → HoldsFrom a (NoneHolds (p + 1) Of P)
 HoldsFrom-other a p Of P not_of before =
     HoldsFrom-same a (NoneHolds p Of P) (NoneHolds (p + 1) Of P)

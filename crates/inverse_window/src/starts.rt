@@ -1,12 +1,12 @@
 //! From how many letters of the image on pairs of nodes are told apart, by their ranks.
-ghost use Rattle.std.specs.Prelude.{◌≡◌, ◌+◌, ◌-◌, ◌<◌, ◌≤◌, Option, IfSome};
+ghost use Rattle.std.specs.Prelude.{◌≡◌, ℕ, ◌+◌, ◌-◌, ◌<◌, ◌≤◌, ◌↔◌, Option, IfSome};
 ghost use Rattle.word_image.specs.LocalRules.{IsRule, node_count};
 ghost use Rattle.word_image.specs.Graphs.{pair_of, pair_count};
 ghost use Rattle.word_image.specs.Ranks.{EndTogether, IsRank};
 ghost use Rattle.word_image.specs.Sides.{Together};
 ghost use Rattle.word_image.specs.Windows.{IsDetermined};
-ghost use Rattle.inverse_window.specs.Starts.{HoldsFrom, later};
-ghost use Rattle.inverse_window.specs.FirstWindows.{PairDiffersAt, PairEnds, IsPast, IsPastOf, NoneHolds, AreStarts};
+ghost use Rattle.inverse_window.specs.Starts.{HoldsFrom, HasBegun, later};
+ghost use Rattle.inverse_window.specs.FirstWindows.{PairDiffersAt, PairEnds, IsPast, IsPastOf, NoneHolds, AreStarts, most_start};
 
 use pair_rank::Ranks;
 use word_image::{Rule, Side};
@@ -20,7 +20,7 @@ pub(crate) fn start_past(rule: &Rule, ranks: &Ranks, place: u8) -> Option<u16>
     requires of_rule { ranks.now ≡ rule.now }
     requires place { place < rule.now.width - 1 }
     ensures start { HoldsFrom result (λ n. IsDetermined rule.now n (n + place)) }
-    ensures most { IfSome result (λ n. n ≤ 240) }
+    ensures most { IfSome result (λ n. n ≤ most_start) }
 {
     let mut start = Some(0);
     for u in 0..rule.nodes() {
@@ -36,9 +36,9 @@ fn start_of(rule: &Rule, ranks: &Ranks, u: u8, place: u8, start: Option<u16>) ->
     requires place { place < rule.now.width - 1 }
     requires node { u < node_count rule.now }
     requires start { HoldsFrom start (NoneHolds (pair_of rule.now u 0) (PairDiffersAt rule.now place) (PairEnds rule.now)) }
-    requires most { IfSome start (λ n. n ≤ 240) }
+    requires most { IfSome start (λ n. n ≤ most_start) }
     ensures start { HoldsFrom result (NoneHolds (pair_of rule.now (u + 1) 0) (PairDiffersAt rule.now place) (PairEnds rule.now)) }
-    ensures most { IfSome result (λ n. n ≤ 240) }
+    ensures most { IfSome result (λ n. n ≤ most_start) }
 {
     let letter = rule.node_letter(u, place);
     let mut start = start;
@@ -54,7 +54,7 @@ fn start_of(rule: &Rule, ranks: &Ranks, u: u8, place: u8, start: Option<u16>) ->
 /// all.
 pub(crate) fn past_ranks(ranks: &Ranks) -> u16
     ensures past { IsPast ranks.now (node_count ranks.now) result }
-    ensures most { result ≤ 240 }
+    ensures most { result ≤ most_start }
 {
     let mut past = 0;
     for u in 0..ranks.rule().nodes() {
@@ -66,10 +66,10 @@ pub(crate) fn past_ranks(ranks: &Ranks) -> u16
 /// The least number from `least` on that is above the backward ranks of u with any node.
 fn past_ranks_of(ranks: &Ranks, u: u8, least: u16) -> u16
     requires node { u < node_count ranks.now }
-    requires least { least ≤ 240 }
+    requires least { least ≤ most_start }
     ensures past { IsPastOf ranks.now u (node_count ranks.now) result }
     ensures least { least ≤ result }
-    ensures most { result ≤ 240 }
+    ensures most { result ≤ most_start }
 {
     let mut past = least;
     for v in 0..ranks.rule().nodes() {
@@ -88,7 +88,7 @@ fn past_ranks_of(ranks: &Ranks, u: u8, least: u16) -> u16
 pub(crate) fn starts_by_rank(rule: &Rule, ranks: &Ranks, past: u16) -> [Option<u16>; ROWS]
     requires of_rule { ranks.now ≡ rule.now }
     requires past { IsPast rule.now (node_count rule.now) past }
-    requires most { past ≤ 240 }
+    requires most { past ≤ most_start }
     ensures starts { AreStarts rule.now past (pair_count rule.now) result }
     ensures rule { IsRule rule.now }
 {
@@ -120,7 +120,8 @@ fn add_starts(rule: &Rule, ranks: &Ranks, u: u8, past: u16, starts: &mut [Option
 /// From which number on two facts hold, the one from a on and the other from b on. `None` says that
 /// a fact holds of no number.
 pub(crate) fn later(a: Option<u16>, b: Option<u16>) -> Option<u16>
-    ensures { result ≡ later a b }
+    ensures both { (n : ℕ) → HasBegun result n ↔ (HasBegun a n × HasBegun b n) }
+    ensures later { result ≡ later a b }
 {
     Some(a?.max(b?))
 }
@@ -131,7 +132,7 @@ fn apart(ranks: &Ranks, side: Side, u: u8, v: u8) -> Option<u16>
     requires first { u < node_count ranks.now }
     requires second { v < node_count ranks.now }
     ensures start { HoldsFrom result (λ n. ¬ Together side ranks.now u v n) }
-    ensures most { IfSome result (λ n. n ≤ 240) }
+    ensures most { IfSome result (λ n. n ≤ most_start) }
 {
     Some(ranks.rank(side, u, v)? + 1)
 }

@@ -1,5 +1,6 @@
 //! The least twins.
 ghost use Rattle.std.specs.Prelude.{◌≡◌, ◌≤◌, ◌↔◌, ℕ, List, length, IfOk, IfSome, IsNone, MatchOption};
+ghost use Rattle.least_walk.specs.Queues.{most_steps};
 ghost use Rattle.word_image.specs.LocalRules.{IsRule};
 ghost use Rattle.word_image.specs.Graphs.{pair_count};
 ghost use Rattle.word_image.specs.Rings.{IsTwins, IsLeastTwins};
@@ -30,7 +31,7 @@ pub fn twins(
 ) -> Result<Option<TwinPair>, AllocError>
     ensures injective { IfOk result (λ found. IsNone found ↔ IsInjective rule.now) }
     ensures least { IfOk result (λ found. MatchOption found ((x y : List ℕ) → ¬ IsTwins rule.now x y) (λ pair. IsLeastTwins rule.now pair.x pair.y)) }
-    ensures most { IfOk result (λ found. IfSome found (λ pair. (length pair.x ≤ 512) × (length pair.y ≤ 512))) }
+    ensures most { IfOk result (λ found. IfSome found (λ pair. (length pair.x ≤ most_steps) × (length pair.y ≤ most_steps))) }
 {
     twins_over(alloc, &Pairs::of(rule), walker)
 }
@@ -43,7 +44,7 @@ pub fn twins_over(
 ) -> Result<Option<TwinPair>, AllocError>
     ensures injective { IfOk result (λ found. IsNone found ↔ IsInjective pairs.now) }
     ensures least { IfOk result (λ found. MatchOption found ((x y : List ℕ) → ¬ IsTwins pairs.now x y) (λ pair. IsLeastTwins pairs.now pair.x pair.y)) }
-    ensures most { IfOk result (λ found. IfSome found (λ pair. (length pair.x ≤ 512) × (length pair.y ≤ 512))) }
+    ensures most { IfOk result (λ found. IfSome found (λ pair. (length pair.x ≤ most_steps) × (length pair.y ≤ most_steps))) }
 {
     match first_turn(alloc, pairs, walker)? {
         Some(steps) => {
@@ -77,7 +78,7 @@ fn first_turn(
 
 /// How many steps a walk that comes before the first one so far may have.
 fn most_steps(first: &Option<Vec<u8>>) -> usize
-    ensures { MatchOption first.now (result ≡ 512) (λ steps. result ≡ length steps.items) }
+    ensures { MatchOption first.now (result ≡ most_steps) (λ steps. result ≡ length steps.items) }
 {
     match first {
         Some(steps) => steps.len(),

@@ -4,7 +4,7 @@ ghost use Rattle.std.specs.Option.{option_map};
 ghost use Rattle.word_image.specs.Windows.{IsDetermined, IsLeastDetermined};
 ghost use Rattle.word_image.specs.Words.{IsSurjective};
 ghost use Rattle.tail_config.specs.Tails.{IsInjective};
-ghost use Rattle.inverse_window.specs.FirstWindows.{IsEarlier, IsFirstWindowOf};
+ghost use Rattle.inverse_window.specs.FirstWindows.{IsEarlier, IsFirstWindowOf, longest_window, most_start};
 
 use crate::starts::{later, past_ranks, start_past, starts_by_rank};
 use crate::verdicts::is_injective;
@@ -29,7 +29,7 @@ pub fn window(rule: &Rule, ranks: &Ranks) -> Option<WindowAt>
     ensures injective { IsSome result ↔ IsInjective rule.now }
     ensures surjective { IsSome result → IsSurjective rule.now }
     ensures least { MatchOption result ((n c : ℕ) → ¬ IsDetermined rule.now n c) (λ w. IsLeastDetermined rule.now w.n w.c) }
-    ensures most { IfSome result (λ w. w.n ≤ 480) }
+    ensures most { IfSome result (λ w. w.n ≤ longest_window) }
 {
     if !is_injective(ranks.endless()) {
         return None;
@@ -46,7 +46,7 @@ pub fn window(rule: &Rule, ranks: &Ranks) -> Option<WindowAt>
 fn first_within(rule: &Rule, ranks: &Ranks) -> Option<WindowAt>
     requires of_rule { ranks.now ≡ rule.now }
     ensures first { IsFirstWindowOf rule.now (λ n c. c < n + 1) result }
-    ensures most { IfSome result (λ w. w.n ≤ 480) }
+    ensures most { IfSome result (λ w. w.n ≤ longest_window) }
 {
     let past = past_ranks(ranks);
     let starts = starts_by_rank(rule, ranks, past);
@@ -62,19 +62,19 @@ fn first_within(rule: &Rule, ranks: &Ranks) -> Option<WindowAt>
 /// The window with c letters of the image before the letter of the word, and `start` of them from it
 /// on.
 fn window_within(c: u16, start: Option<u16>) -> Option<WindowAt>
-    requires place { c ≤ 240 }
-    requires most { IfSome start (λ n. n ≤ 240) }
+    requires place { c ≤ most_start }
+    requires most { IfSome start (λ n. n ≤ most_start) }
     ensures window { result ≡ option_map (λ n. record { n = c + n; c = c }) start }
-    ensures most { IfSome result (λ w. w.n ≤ 480) }
+    ensures most { IfSome result (λ w. w.n ≤ longest_window) }
 {
     Some(WindowAt { n: c + start?, c })
 }
 
 /// The window with `start` letters of the image, all before the letter at this place of the last node.
 fn window_past(place: u8, start: Option<u16>) -> Option<WindowAt>
-    requires most { IfSome start (λ n. n ≤ 240) }
+    requires most { IfSome start (λ n. n ≤ most_start) }
     ensures window { result ≡ option_map (λ n. record { n = n; c = n + place }) start }
-    ensures most { IfSome result (λ w. w.n ≤ 480) }
+    ensures most { IfSome result (λ w. w.n ≤ longest_window) }
 {
     let n = start?;
     Some(WindowAt {

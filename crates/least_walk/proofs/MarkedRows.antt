@@ -93,7 +93,7 @@ mark-stays r t a b mark within some is same =
     ap (λ x. cond (x || not (a == b)) c 0) test ∙ ap (λ x. cond (not x) c 0) (eq-eqb a b same) ∙ let times : mark * c ≡ 0 * c = ap (λ h. h * c) (is ∙ none) in omega arith)
     (leb_tells c t)
 
--- and comes where they differ
+-- the mark comes where the letters differ
 pub mark-comes : (r : LocalRule) (t a b : ℕ) → a ≢ b → cond (nat_le (pair_count r) t || not (a == b)) (pair_count r) 0 ≡ 1 * pair_count r
 mark-comes r t a b other =
     let c : ℕ = pair_count r in

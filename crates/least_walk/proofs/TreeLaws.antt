@@ -76,7 +76,7 @@ IsLeastWalkTo-spelled {r} {queue = queue} {i = i} {w} walking spells x at =
           first.least (map (code 16) v) (Leads-walk 16 le other) (sym order ∙ greater);
     }
 
--- and no walk of at most so many steps leads to what stands at no place
+-- no walk of at most so many steps leads to what stands at no place
 pub no_walk-absent : {r : LocalRule} {start most t : ℕ} {queue : List Reached} {places : List ℕ} → IsWalkTree r start most queue places → ((i : ℕ) (x : Reached) → slice_get queue i ≡ Some x → x.pair ≢ t)
     → (w : List (ℕ × ℕ)) → length w ≤ most → ¬ PairWalk (marked r) r.states start w t
 no_walk-absent {queue = queue} tree absent [] short walk =

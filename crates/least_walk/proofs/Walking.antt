@@ -35,7 +35,7 @@ places_of-push queue x = map-append place_of queue (x ∷ [])
 pub place_at : (queue : List Reached) (i : ℕ) (x : Reached) → slice_get queue i ≡ Some x → slice_get (places_of queue) i ≡ Some (place_of x)
 place_at = mapped_at place_of
 
--- and back
+-- what stands at a place of the tree stands there as it was reached
 pub reached_at : (queue : List Reached) (i : ℕ) (z : Place ℕ) → slice_get (places_of queue) i ≡ Some z → (x : Reached) × (slice_get queue i ≡ Some x) × (place_of x ≡ z)
 reached_at = unmapped_at place_of
 
@@ -88,7 +88,7 @@ IsWalking-old {r} {ends} {queue} h n w x at letter old =
           (λ u step same. (old u step).0 (sought ∙ ap Some (sym same))));
     }
 
--- and so do some more
+-- some more edges lead nowhere, or to what has been reached and isn't the goal
 pub IsWalking-skip : {r : LocalRule} {ends : Ends} {queue : List Reached} → (h n d : ℕ) → IsWalking r ends queue (h * step_count r + n) → (x : Reached) → slice_get queue h ≡ Some x → n + d ≤ step_count r
     → ((c t : ℕ) → n ≤ c → c < n + d → MarkedStep r x.pair c t → (ends.goal ≢ Some t) × IsListed queue t) → IsWalking r ends queue (h * step_count r + (n + d))
 IsWalking-skip {r} {ends} {queue} h n zero w x at within old =

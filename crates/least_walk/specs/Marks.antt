@@ -1,6 +1,6 @@
 -- Sets of marked pairs as rows of bits.
 use Rattle.std.specs.Prelude.{◌≡◌, ℕ, ◌+◌, ◌*◌, ◌/◌, ◌%◌, ◌<◌, ◌↔◌, ◌⊎◌, List, slice_index, IsBitSet}
-use Rattle.word_image.specs.LocalRules.{LocalRule, node_count}
+use Rattle.word_image.specs.LocalRules.{LocalRule, node_count, most_nodes}
 use Rattle.least_walk.specs.declared.marks.Parts.{Parts}
 use Rattle.word_image.specs.Graphs.{first_of, second_of, pair_count}
 
@@ -10,7 +10,7 @@ pair_part r t = t % pair_count r
 
 -- the row of a marked pair: that of its first node, in the second half if it has the mark
 abbrev pub row_of : LocalRule → ℕ → ℕ
-row_of r t = 16 * (t / pair_count r) + first_of r (pair_part r t)
+row_of r t = most_nodes * (t / pair_count r) + first_of r (pair_part r t)
 
 -- the rows have this marked pair
 abbrev pub HasPair : LocalRule → List ℕ → ℕ → Type 0
@@ -32,5 +32,5 @@ pub record IsMarkedPair (r : LocalRule) (at : Parts) : Type 0 where
   pub below : at.pair < 2 * pair_count r
   pub first : at.first < node_count r
   pub second : at.second < node_count r
-  pub row : 16 * at.mark + at.first < 32
-  pub place : at.second < 16
+  pub row : most_nodes * at.mark + at.first < 2 * most_nodes
+  pub place : at.second < most_nodes

@@ -1,8 +1,8 @@
 -- The marked pairs that a search has reached, as a breadth first queue.
 use Rattle.std.specs.Prelude.{◌≡◌, ◌≢◌, ℕ, ◌+◌, ◌*◌, ◌<◌, ◌≤◌, List, ◌++◌, map, reverse, slice_get, Some, IsBitSet}
-use Rattle.word_image.specs.LocalRules.{LocalRule, IsRule}
+use Rattle.word_image.specs.LocalRules.{LocalRule, IsRule, most_states}
 use Rattle.word_image.specs.Graphs.{pair_count}
-use Rattle.word_image.specs.MarkedPairs.{marked}
+use Rattle.word_image.specs.MarkedPairs.{marked, most_marked_pairs}
 use Rattle.search_laws.specs.SearchQueues.{Place, TreeSpells, IsQueue, NoEdgeBefore}
 use Rattle.search_laws.specs.PairWalks.{CodeStep}
 use Rattle.least_walk.specs.declared.queue.Reached.{Reached}
@@ -11,11 +11,15 @@ use Rattle.least_walk.specs.Marks.{HasPair}
 
 -- a step on the number a * 16 + b of a letter pair
 abbrev pub MarkedStep : LocalRule → ℕ → ℕ → ℕ → Type 0
-MarkedStep r = CodeStep (marked r) r.states 16
+MarkedStep r = CodeStep (marked r) r.states most_states
 
 -- how many numbers of letter pairs there are
 abbrev pub step_count : LocalRule → ℕ
-step_count r = r.states * 16
+step_count r = r.states * most_states
+
+-- the most steps of a least walk, which visits no marked pair twice
+abbrev pub most_steps : ℕ
+most_steps = most_marked_pairs
 
 -- what has been reached, as a place of a queue
 abbrev pub place_of : Reached → Place ℕ
@@ -24,7 +28,7 @@ place_of x = record { state = x.pair; parent = x.parent; letter = x.step }
 abbrev pub places_of : List Reached → List (Place ℕ)
 places_of = map place_of
 
--- so many steps lead to each place: none to the first one, and one more than to its parent to each other
+-- each place knows how many steps lead to it: none to the first one, and one more than to its parent to each other
 pub record HasDepths (queue : List Reached) : Type 0 where
   pub root : (x : Reached) → slice_get queue 0 ≡ Some x → x.depth ≡ 0
   pub more : (i : ℕ) (x : Reached) → 0 < i → slice_get queue i ≡ Some x → (p : Reached) × (slice_get queue x.parent ≡ Some p) × (x.depth ≡ p.depth + 1)
@@ -37,7 +41,7 @@ pub record IsWalking (r : LocalRule) (ends : Ends) (queue : List Reached) (e : �
   pub depths : HasDepths queue
   pub none : (t : ℕ) → ends.goal ≡ Some t → NoEdgeBefore (MarkedStep r) (step_count r) (places_of queue) e t
 
--- and the rows have what has been reached, but for the goal
+-- the first e edges from the start have been followed, and the rows have what has been reached, but for the goal
 pub record IsWalkSearch (r : LocalRule) (ends : Ends) (queue : List Reached) (rows : List ℕ) (e : ℕ) : Type 0 where
   pub walking : IsWalking r ends queue e
   pub listed : (t : ℕ) → t < 2 * pair_count r → HasPair r rows t → (ends.goal ≢ Some t) × ((i : ℕ) × (x : Reached) × (slice_get queue i ≡ Some x) × (x.pair ≡ t))

@@ -1,5 +1,6 @@
 -- The least walks from one marked pair to all others.
 use Rattle.std.specs.Prelude.{◌≡◌, ℕ, ◌<◌, ◌≤◌, List, length, slice_get, slice_index, Some, None}
+use Rattle.word_image.specs.MarkedPairs.{most_marked_pairs}
 use Rattle.word_image.specs.LocalRules.{LocalRule}
 use Rattle.least_walk.specs.declared.queue.Reached.{Reached}
 use Rattle.least_walk.specs.Queues.{IsEnded}
@@ -10,10 +11,10 @@ pub record WalkSource : Type 0 where
   pub start : ℕ
   pub most : ℕ
 
--- at most 512 numbers below 512 stand in the queue, each once
+-- the queue has at most all marked pairs, each once
 pub record AreApart (queue : List Reached) : Type 0 where
-  pub few : length queue ≤ 512
-  pub below : (i : ℕ) (x : Reached) → slice_get queue i ≡ Some x → x.pair < 512
+  pub few : length queue ≤ most_marked_pairs
+  pub below : (i : ℕ) (x : Reached) → slice_get queue i ≡ Some x → x.pair < most_marked_pairs
   pub apart : (i j : ℕ) (x y : Reached) → slice_get queue i ≡ Some x → slice_get queue j ≡ Some y → x.pair ≡ y.pair → i ≡ j
 
 -- each marked pair of the queue has its place

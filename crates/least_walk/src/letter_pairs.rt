@@ -2,6 +2,7 @@
 
 ghost use Rattle.std.specs.Prelude.{◌≡◌, ◌/◌, ◌%◌, map, IfOk, MatchOption, if◌then◌else◌};
 ghost use Rattle.std.specs.Ordering.{is_lt};
+ghost use Rattle.word_image.specs.LocalRules.{most_states};
 ghost use Rattle.word_image.specs.Words.{word_cmp};
 
 use std::alloc::{AllocError, Global};
@@ -9,8 +10,8 @@ use word_image::Word;
 
 /// The two words that letter pairs spell: the first letters, and the second ones.
 pub fn spelled(alloc: Global, steps: &[u8]) -> Result<(Word, Word), AllocError>
-    ensures first { IfOk result (λ words. words.0 ≡ map (λ step. step / 16) steps.now) }
-    ensures second { IfOk result (λ words. words.1 ≡ map (λ step. step % 16) steps.now) }
+    ensures first { IfOk result (λ words. words.0 ≡ map (λ step. step / most_states) steps.now) }
+    ensures second { IfOk result (λ words. words.1 ≡ map (λ step. step % most_states) steps.now) }
 {
     Ok((
         Word::of(steps.iter().map(|step| *step / 16).collect(alloc)?),

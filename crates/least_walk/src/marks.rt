@@ -2,16 +2,82 @@
 
 ghost use Rattle.std.specs.Prelude.{◌≡◌, ℕ, ◌+◌, ◌*◌, ◌<◌, ◌↔◌, IsTrue, IsBitSet, IfSome, Some};
 ghost use Rattle.std.specs.Option.{option_map};
-ghost use Rattle.word_image.specs.LocalRules.{LocalRule, IsRule, node_count};
+ghost use Rattle.word_image.specs.LocalRules.{LocalRule, IsRule, node_count, most_nodes};
 ghost use Rattle.word_image.specs.Graphs.{pair_count, pair_of};
 ghost use Rattle.word_image.specs.MarkedPairs.{marked};
 ghost use Rattle.least_walk.specs.Marks.{ArePartsOf, HasPair, IsAdded, IsMarkedPair};
 
 use pair_graph::Pairs;
+use std::marker::Model;
 use word_image::MOST_NODES;
 
-/// For each first node, without the mark and then with it, the set of the second nodes.
-pub type Rows = [u16; 2 * MOST_NODES];
+/// A set of marked pairs. It is seen as its rows: for each first node, without the mark and then with it, the
+/// set of the second nodes.
+#[derive(Drop)]
+pub struct Rows {
+    rows: [u16; 2 * MOST_NODES],
+}
+
+impl Model for Rows {
+    ghost use Rattle.std.specs.Prelude.{ℕ, List};
+
+    ghost Value = { List ℕ };
+
+    ghost view = { λ r. r.rows };
+}
+
+impl Rows {
+    /// No marked pairs.
+    pub fn new() -> Rows
+        ensures { (r : LocalRule) (t : ℕ) → ¬ HasPair r result t }
+    {
+        Rows {
+            rows: [0; 2 * MOST_NODES],
+        }
+    }
+
+    /// Whether this marked pair is one of them.
+    pub fn has(&self, at: Parts) -> bool
+        requires row { most_nodes * at.mark + at.first < 2 * most_nodes }
+        requires place { at.second < most_nodes }
+        ensures { (r : LocalRule) → IsMarkedPair r at → (IsTrue result ↔ HasPair r self.now at.pair) }
+    {
+        self.rows[MOST_NODES * usize::from(at.mark) + usize::from(at.first)] >> at.second & 1 == 1
+    }
+
+    /// Adds this marked pair.
+    pub fn add(&mut self, at: Parts)
+        requires row { most_nodes * at.mark + at.first < 2 * most_nodes }
+        requires place { at.second < most_nodes }
+        ensures { (r : LocalRule) → IsRule r → IsMarkedPair r at → IsAdded r self.old at.pair self.new }
+    {
+        self.rows[MOST_NODES * usize::from(at.mark) + usize::from(at.first)] |= 1u16 << at.second;
+    }
+
+    /// The second letters by which, with first letter a, a step may lead to a marked pair that isn't one
+    /// of them: letter b is bit b.
+    pub fn fresh(&self, pairs: &Pairs, from: Parts, a: u8) -> u16
+        requires mark { from.mark < 2 }
+        requires first { from.first < node_count pairs.now }
+        requires second { from.second < node_count pairs.now }
+        requires letter { a < pairs.now.states }
+        requires rule { IsRule pairs.now }
+        ensures { (t b q : ℕ) → ArePartsOf pairs.now from t → b < pairs.now.states → ¬ IsBitSet result b
+            → marked pairs.now t a b ≡ Some q → HasPair pairs.now self.now q }
+    {
+        let graph = pairs.graph();
+        let node = usize::from(graph.next(from.first, a));
+        let ends = graph.ends(from.second, graph.label(from.first, a));
+        let end = graph.next(from.second, 0);
+        let with_mark = (ends & !self.rows[MOST_NODES + node]) >> end;
+        if from.mark == 1 {
+            return with_mark;
+        }
+        let without = (ends & !self.rows[node]) >> end;
+        let same = 1u16 << a;
+        with_mark & !same | without & same
+    }
+}
 
 /// A marked pair, with its parts.
 #[derive(Clone, Copy)]
@@ -81,46 +147,4 @@ pub fn step_from(pairs: &Pairs, from: Parts, a: u8, b: u8) -> Option<Parts>
         graph.next(from.first, a),
         graph.next(from.second, b),
     ))
-}
-
-/// Whether the rows have this marked pair.
-pub fn has(rows: &Rows, at: Parts) -> bool
-    requires row { 16 * at.mark + at.first < 32 }
-    requires place { at.second < 16 }
-    ensures { (r : LocalRule) → IsMarkedPair r at → (IsTrue result ↔ HasPair r rows.now at.pair) }
-{
-    rows[MOST_NODES * usize::from(at.mark) + usize::from(at.first)] >> at.second & 1 == 1
-}
-
-/// Adds this marked pair to the rows.
-pub fn add(rows: &mut Rows, at: Parts)
-    requires row { 16 * at.mark + at.first < 32 }
-    requires place { at.second < 16 }
-    ensures { (r : LocalRule) → IsRule r → IsMarkedPair r at → IsAdded r rows.old at.pair rows.new }
-{
-    rows[MOST_NODES * usize::from(at.mark) + usize::from(at.first)] |= 1u16 << at.second;
-}
-
-/// The second letters by which, with first letter a, a step may lead to a marked pair that the rows
-/// don't have: letter b is bit b.
-pub fn fresh(pairs: &Pairs, rows: &Rows, from: Parts, a: u8) -> u16
-    requires mark { from.mark < 2 }
-    requires first { from.first < node_count pairs.now }
-    requires second { from.second < node_count pairs.now }
-    requires letter { a < pairs.now.states }
-    requires rule { IsRule pairs.now }
-    ensures { (t b q : ℕ) → ArePartsOf pairs.now from t → b < pairs.now.states → ¬ IsBitSet result b
-        → marked pairs.now t a b ≡ Some q → HasPair pairs.now rows.now q }
-{
-    let graph = pairs.graph();
-    let node = usize::from(graph.next(from.first, a));
-    let ends = graph.ends(from.second, graph.label(from.first, a));
-    let end = graph.next(from.second, 0);
-    let with_mark = (ends & !rows[MOST_NODES + node]) >> end;
-    if from.mark == 1 {
-        return with_mark;
-    }
-    let without = (ends & !rows[node]) >> end;
-    let same = 1u16 << a;
-    with_mark & !same | without & same
 }

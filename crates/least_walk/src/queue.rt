@@ -1,16 +1,16 @@
 //! A breadth first search through the marked pairs.
 
 ghost use Rattle.std.specs.Prelude.{◌≡◌, ℕ, ◌+◌, ◌*◌, ◌<◌, ◌≤◌, [], ◌∷◌, ◌++◌, vec_len, vec_capacity, IfSome, IfNone, IsBitSet, Some, slice_get};
-ghost use Rattle.word_image.specs.LocalRules.{IsRule};
+ghost use Rattle.word_image.specs.LocalRules.{IsRule, most_states};
 ghost use Rattle.word_image.specs.Graphs.{pair_count};
-ghost use Rattle.word_image.specs.MarkedPairs.{marked};
+ghost use Rattle.word_image.specs.MarkedPairs.{marked, most_marked_pairs};
 ghost use Rattle.least_walk.specs.Marks.{HasPair, IsMarkedPair};
 ghost use Rattle.least_walk.specs.declared.queue.Reached.{Reached};
-ghost use Rattle.least_walk.specs.Queues.{IsWalkSearch, IsArrival, IsNearStart, IsEnded, IsOldBut};
+ghost use Rattle.least_walk.specs.Queues.{IsWalkSearch, IsArrival, IsNearStart, IsEnded, IsOldBut, step_count};
 
-use crate::marks::{Parts, Rows, add, fresh, has, parts_of, step_from};
+use crate::marks::{Parts, Rows, parts_of, step_from};
 use pair_graph::Pairs;
-use word_image::{MOST_NODES, MOST_PAIRS};
+use word_image::MOST_PAIRS;
 
 /// The most marked pairs.
 pub const MOST_MARKED_PAIRS: usize = 2 * MOST_PAIRS;
@@ -60,9 +60,9 @@ pub struct Arrival {
 /// Stops where a step leads to the goal, and answers with that step, or before the first place that is
 /// `most` steps away.
 pub fn search(queue: &mut Vec<Reached>, pairs: &Pairs, ends: Ends, most: usize) -> Option<Arrival>
-    requires room { 512 ≤ vec_capacity queue.old }
+    requires room { most_marked_pairs ≤ vec_capacity queue.old }
     requires start { ends.start < 2 * pair_count pairs.now }
-    ensures room { 512 ≤ vec_capacity queue.new }
+    ensures room { most_marked_pairs ≤ vec_capacity queue.new }
     ensures found { IfSome result (λ a. IsArrival pairs.now ends queue.new.items a.place a.step) }
     ensures near { IfSome result (λ a. IsNearStart queue.new.items a.place most) }
     ensures none { IfNone result (IsEnded pairs.now ends queue.new.items most) }
@@ -75,17 +75,17 @@ pub fn search(queue: &mut Vec<Reached>, pairs: &Pairs, ends: Ends, most: usize) 
         depth: 0,
     };
     put(queue, start);
-    let mut rows = [0; 2 * MOST_NODES];
-    add(&mut rows, parts_of(pairs, ends.start));
-    if ends.goal == Some(ends.start) {
-        rows = [0; 2 * MOST_NODES];
+    let parts = parts_of(pairs, ends.start);
+    let mut rows = Rows::new();
+    if ends.goal != Some(ends.start) {
+        rows.add(parts);
     }
     let mut head = 0;
     while head < queue.len() {
         if usize::from(queue[head].depth) >= most {
             return None;
         }
-        if let Some(step) = follow(queue, &mut rows, pairs, ends, head) {
+        if let Some(step) = follow_steps(queue, &mut rows, pairs, ends, head) {
             return Some(Arrival {
                 place: head as u16,
                 step,
@@ -98,19 +98,19 @@ pub fn search(queue: &mut Vec<Reached>, pairs: &Pairs, ends: Ends, most: usize) 
 
 /// Follows the steps from the marked pair at `head`. Stops where one leads to the goal, and answers with
 /// it.
-fn follow(
+fn follow_steps(
     queue: &mut Vec<Reached>,
     rows: &mut Rows,
     pairs: &Pairs,
     ends: Ends,
     head: usize,
 ) -> Option<u8>
-    requires room { 512 ≤ vec_capacity queue.old }
+    requires room { most_marked_pairs ≤ vec_capacity queue.old }
     requires head { head < vec_len queue.old }
-    requires search { IsWalkSearch pairs.now ends queue.old.items rows.old (head * (pairs.now.states * 16)) }
-    ensures room { 512 ≤ vec_capacity queue.new }
+    requires search { IsWalkSearch pairs.now ends queue.old.items rows.old (head * step_count pairs.now) }
+    ensures room { most_marked_pairs ≤ vec_capacity queue.new }
     ensures found { IfSome result (IsArrival pairs.now ends queue.new.items head) }
-    ensures none { IfNone result (IsWalkSearch pairs.now ends queue.new.items rows.new ((head + 1) * (pairs.now.states * 16))) }
+    ensures none { IfNone result (IsWalkSearch pairs.now ends queue.new.items rows.new ((head + 1) * step_count pairs.now)) }
     ensures same { slice_get queue.new.items head ≡ slice_get queue.old.items head }
 {
     let t = queue[head].pair;
@@ -120,7 +120,7 @@ fn follow(
         parts: from,
     };
     for a in 0..pairs.rule().k() {
-        let letters = fresh(pairs, rows, from, a);
+        let letters = rows.fresh(pairs, from, a);
         if letters != 0 {
             if let Some(step) = follow_letter(queue, rows, pairs, ends, at, a, letters) {
                 return Some(step);
@@ -141,16 +141,16 @@ fn follow_letter(
     a: u8,
     letters: u16,
 ) -> Option<u8>
-    requires room { 512 ≤ vec_capacity queue.old }
+    requires room { most_marked_pairs ≤ vec_capacity queue.old }
     requires head { head.place < vec_len queue.old }
     requires marked { IsMarkedPair pairs.now head.parts }
     requires at { (x : Reached) → slice_get queue.old.items head.place ≡ Some x → x.pair ≡ head.parts.pair }
     requires letter { a < pairs.now.states }
-    requires search { IsWalkSearch pairs.now ends queue.old.items rows.old (head.place * (pairs.now.states * 16) + a * 16) }
+    requires search { IsWalkSearch pairs.now ends queue.old.items rows.old (head.place * step_count pairs.now + a * most_states) }
     requires old { IsOldBut pairs.now queue.old.items rows.old head.place a letters }
-    ensures room { 512 ≤ vec_capacity queue.new }
+    ensures room { most_marked_pairs ≤ vec_capacity queue.new }
     ensures found { IfSome result (IsArrival pairs.now ends queue.new.items head.place) }
-    ensures none { IfNone result (IsWalkSearch pairs.now ends queue.new.items rows.new (head.place * (pairs.now.states * 16) + (a + 1) * 16)) }
+    ensures none { IfNone result (IsWalkSearch pairs.now ends queue.new.items rows.new (head.place * step_count pairs.now + (a + 1) * most_states)) }
     ensures same { slice_get queue.new.items head.place ≡ slice_get queue.old.items head.place }
 {
     let from = queue[head.place];
@@ -160,7 +160,7 @@ fn follow_letter(
             if ends.goal == Some(q.pair) {
                 return Some(step);
             }
-            add(rows, q);
+            rows.add(q);
             let reached = Reached {
                 pair: q.pair,
                 parent: head.place as u16,
@@ -189,7 +189,7 @@ fn new_step(pairs: &Pairs, rows: &Rows, from: Parts, a: u8, b: u8, letters: u16)
         return None;
     }
     let q = step_from(pairs, from, a, b)?;
-    if has(rows, q) { None } else { Some(q) }
+    if rows.has(q) { None } else { Some(q) }
 }
 
 /// Adds to a list with room for it.

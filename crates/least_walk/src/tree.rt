@@ -1,8 +1,10 @@
 //! The least walks from one marked pair to all others.
 
 ghost use Rattle.std.specs.Prelude.{All, Contains, ◌≡◌, ℕ, ◌*◌, ◌<◌, ◌≤◌, List, length, map, Some, slice_get, IfOk, IfSome, IfNone, MatchOption};
+ghost use Rattle.least_walk.specs.Queues.{most_steps};
+ghost use Rattle.word_image.specs.LocalRules.{most_states};
 ghost use Rattle.word_image.specs.Graphs.{pair_count};
-ghost use Rattle.word_image.specs.MarkedPairs.{marked};
+ghost use Rattle.word_image.specs.MarkedPairs.{marked, most_marked_pairs};
 ghost use Rattle.search_laws.specs.PairWalks.{PairWalk, IsLeastWalkTo, uncode};
 ghost use Rattle.least_walk.specs.declared.queue.Reached.{Reached};
 ghost use Rattle.least_walk.specs.Trees.{AreApart, IsPairIndex};
@@ -44,7 +46,7 @@ impl WalkTree {
     /// The least walks from this marked pair.
     pub fn of(alloc: Global, pairs: &Pairs, start: u16) -> Result<WalkTree, AllocError>
         requires { start < 2 * pair_count pairs.now }
-        ensures { IfOk result (λ tree. tree ≡ record { rule = pairs.now; start = start; most = 512 }) }
+        ensures { IfOk result (λ tree. tree ≡ record { rule = pairs.now; start = start; most = most_steps }) }
     {
         WalkTree::within(alloc, pairs, start, MOST_STEPS)
     }
@@ -75,7 +77,7 @@ impl WalkTree {
     /// The marked pairs to which these walks lead, those of shorter walks first.
     pub fn pairs(&self, alloc: Global) -> Result<Vec<u16>, AllocError>
         ensures below { IfOk result (λ pairs. All (λ t. t < 2 * pair_count self.now.rule) pairs.items) }
-        ensures all { IfOk result (λ pairs. 512 ≤ self.now.most → (w : List (ℕ × ℕ)) (t : ℕ) → PairWalk (marked self.now.rule) self.now.rule.states self.now.start w t → Contains pairs.items t) }
+        ensures all { IfOk result (λ pairs. most_steps ≤ self.now.most → (w : List (ℕ × ℕ)) (t : ℕ) → PairWalk (marked self.now.rule) self.now.rule.states self.now.start w t → Contains pairs.items t) }
     {
         pairs_of(alloc, &self.queue)
     }
@@ -86,7 +88,7 @@ impl WalkTree {
         ensures steps { IfSome result (λ n. (w : List (ℕ × ℕ)) × IsLeastWalkTo (marked self.now.rule) self.now.rule.states self.now.start to w × (length w ≡ n)) }
         ensures within { IfSome result (λ n. n ≤ self.now.most) }
         ensures none { IfNone result ((w : List (ℕ × ℕ)) → length w ≤ self.now.most → ¬ PairWalk (marked self.now.rule) self.now.rule.states self.now.start w to) }
-        ensures all { IfNone result (512 ≤ self.now.most → (w : List (ℕ × ℕ)) → ¬ PairWalk (marked self.now.rule) self.now.rule.states self.now.start w to) }
+        ensures all { IfNone result (most_steps ≤ self.now.most → (w : List (ℕ × ℕ)) → ¬ PairWalk (marked self.now.rule) self.now.rule.states self.now.start w to) }
     {
         match place_of(&self.queue, &self.places, to) {
             Some(place) => Some(usize::from(self.queue[usize::from(place)].depth)),
@@ -99,10 +101,10 @@ impl WalkTree {
     /// than these may have. A bound of [`MOST_STEPS`] or more excludes no walk.
     pub fn walk_to(&self, alloc: Global, to: u16) -> Result<Option<Vec<u8>>, AllocError>
         requires { to < 2 * pair_count self.now.rule }
-        ensures walk { IfOk result (λ found. MatchOption found ((w : List (ℕ × ℕ)) → length w ≤ self.now.most → ¬ PairWalk (marked self.now.rule) self.now.rule.states self.now.start w to) (λ steps. IsLeastWalkTo (marked self.now.rule) self.now.rule.states self.now.start to (map (uncode 16) steps.items))) }
+        ensures walk { IfOk result (λ found. MatchOption found ((w : List (ℕ × ℕ)) → length w ≤ self.now.most → ¬ PairWalk (marked self.now.rule) self.now.rule.states self.now.start w to) (λ steps. IsLeastWalkTo (marked self.now.rule) self.now.rule.states self.now.start to (map (uncode most_states) steps.items))) }
         ensures within { IfOk result (λ found. IfSome found (λ steps. length steps.items ≤ self.now.most)) }
-        ensures most { IfOk result (λ found. IfSome found (λ steps. length steps.items ≤ 512)) }
-        ensures all { IfOk result (λ found. IfNone found (512 ≤ self.now.most → (w : List (ℕ × ℕ)) → ¬ PairWalk (marked self.now.rule) self.now.rule.states self.now.start w to)) }
+        ensures most { IfOk result (λ found. IfSome found (λ steps. length steps.items ≤ most_steps)) }
+        ensures all { IfOk result (λ found. IfNone found (most_steps ≤ self.now.most → (w : List (ℕ × ℕ)) → ¬ PairWalk (marked self.now.rule) self.now.rule.states self.now.start w to)) }
     {
         let Some(place) = place_of(&self.queue, &self.places, to) else {
             return Ok(None);
@@ -134,7 +136,7 @@ fn index(queue: &[Reached]) -> [u16; MOST_MARKED_PAIRS]
 
 /// Where a marked pair stands in the queue, if it does.
 fn place_of(queue: &[Reached], places: &[u16; MOST_MARKED_PAIRS], to: u16) -> Option<u16>
-    requires pair { to < 512 }
+    requires pair { to < most_marked_pairs }
     requires index { IsPairIndex queue.now places.now }
     ensures found { IfSome result (λ i. (x : Reached) × (slice_get queue.now i ≡ Some x) × (x.pair ≡ to)) }
     ensures none { IfNone result ((i : ℕ) (x : Reached) → slice_get queue.now i ≡ Some x → ¬ (x.pair ≡ to)) }

@@ -1,7 +1,8 @@
 //! The searches for walks, and their room.
 
 ghost use Rattle.std.specs.Prelude.{ℕ, ◌+◌, ◌*◌, ◌<◌, ◌≤◌, List, length, map, vec_capacity, IfSome, IfNone, Some};
-ghost use Rattle.least_walk.specs.Queues.{IsBackward, SpellsBefore};
+ghost use Rattle.word_image.specs.LocalRules.{most_states};
+ghost use Rattle.least_walk.specs.Queues.{IsBackward, SpellsBefore, most_steps};
 
 use crate::queue::{Ends, MOST_MARKED_PAIRS, Reached, put, search};
 use pair_graph::Pairs;
@@ -23,12 +24,13 @@ pub struct Walker {
 
 impl Model for Walker {
     ghost use Rattle.std.specs.Prelude.{⊤, ◌≤◌, vec_capacity};
+    ghost use Rattle.least_walk.specs.Queues.{most_steps};
 
     ghost Value = { ⊤ };
 
     ghost view = { λ w. tt };
 
-    ghost invariant = { λ w. (512 ≤ vec_capacity w.queue) × (512 ≤ vec_capacity w.steps) };
+    ghost invariant = { λ w. (most_steps ≤ vec_capacity w.queue) × (most_steps ≤ vec_capacity w.steps) };
 }
 
 impl Walker {
@@ -50,8 +52,8 @@ impl Walker {
     pub fn walk(&mut self, pairs: &Pairs, from: u16, to: u16) -> Option<&[u8]>
         requires from { from < 2 * pair_count pairs.now }
         requires to { to < 2 * pair_count pairs.now }
-        ensures least { IfSome result (λ steps. IsLeastWalk (marked pairs.now) pairs.now.states from to (map (uncode 16) steps.now)) }
-        ensures most { IfSome result (λ steps. length steps.now ≤ 512) }
+        ensures least { IfSome result (λ steps. IsLeastWalk (marked pairs.now) pairs.now.states from to (map (uncode most_states) steps.now)) }
+        ensures most { IfSome result (λ steps. length steps.now ≤ most_steps) }
         ensures none { IfNone result ((w : List (ℕ × ℕ)) → 0 < length w → ¬ PairWalk (marked pairs.now) pairs.now.states from w to) }
     {
         self.walk_within(pairs, from, to, MOST_STEPS)
@@ -62,11 +64,11 @@ impl Walker {
     pub fn walk_within(&mut self, pairs: &Pairs, from: u16, to: u16, most: usize) -> Option<&[u8]>
         requires from { from < 2 * pair_count pairs.now }
         requires to { to < 2 * pair_count pairs.now }
-        ensures least { IfSome result (λ steps. IsLeastWalk (marked pairs.now) pairs.now.states from to (map (uncode 16) steps.now)) }
+        ensures least { IfSome result (λ steps. IsLeastWalk (marked pairs.now) pairs.now.states from to (map (uncode most_states) steps.now)) }
         ensures within { IfSome result (λ steps. length steps.now ≤ most) }
-        ensures most { IfSome result (λ steps. length steps.now ≤ 512) }
+        ensures most { IfSome result (λ steps. length steps.now ≤ most_steps) }
         ensures none { IfNone result ((w : List (ℕ × ℕ)) → 0 < length w → length w ≤ most → ¬ PairWalk (marked pairs.now) pairs.now.states from w to) }
-        ensures all { IfNone result (512 ≤ most → (w : List (ℕ × ℕ)) → 0 < length w → ¬ PairWalk (marked pairs.now) pairs.now.states from w to) }
+        ensures all { IfNone result (most_steps ≤ most → (w : List (ℕ × ℕ)) → 0 < length w → ¬ PairWalk (marked pairs.now) pairs.now.states from w to) }
     {
         let ends = Ends {
             start: from,
@@ -87,13 +89,13 @@ impl Walker {
 /// Writes the steps by which a place and those on the way to it were reached before the steps that
 /// stand there in reverse.
 pub fn spell(queue: &[Reached], place: u16, steps: &mut Vec<u8>)
-    requires room { 512 ≤ vec_capacity steps.old }
+    requires room { most_steps ≤ vec_capacity steps.old }
     requires place { place < length queue.now }
-    requires most { length steps.old.items + place ≤ 512 }
+    requires most { length steps.old.items + place ≤ most_steps }
     requires backward { IsBackward queue.now }
-    ensures room { 512 ≤ vec_capacity steps.new }
+    ensures room { most_steps ≤ vec_capacity steps.new }
     ensures spelled { SpellsBefore queue.now place steps.old.items steps.new.items }
-    ensures most { length steps.new.items ≤ 512 }
+    ensures most { length steps.new.items ≤ most_steps }
 {
     let mut place = usize::from(place);
     while place > 0 {

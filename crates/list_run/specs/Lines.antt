@@ -43,7 +43,7 @@ abbrev pub rule_lines : LocalRule → List LocalRule → List ℕ
 rule_lines shape [] = []
 rule_lines shape (r ∷ rs) = rule_line shape r ++ rule_lines shape rs
 
--- so many rules are listed
+-- the line that says how many rules are listed
 abbrev pub count_line : ℕ → List ℕ
 count_line count = line (codes "rules " ++ decimal count)
 

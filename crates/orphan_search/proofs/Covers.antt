@@ -12,7 +12,7 @@ no_cover-first (s ∷ sets) some = ap (λ (b : Bool). cond (not b && is_minimal 
 is_cover-minimal : (full : ℕ) (sets : List ℕ) (s : ℕ) → s ≢ full → is_cover full sets s ≡ is_minimal sets s
 is_cover-minimal full sets s other = ap (λ b. not b && is_minimal sets s) (ne_eqb s full other)
 
--- and it comes behind those of the sets before it
+-- another set comes into the cover list behind those of the sets before it, where it is minimal
 pub covers_more : (sets : List ℕ) → AllPairs (λ s t. s ≢ t) sets → (i : ℕ) → 0 < i → i < length sets → (minimal : Bool) → minimal ≡ is_minimal sets (slice_index sets i)
     → filter (is_cover (slice_index sets 0) sets) (take (i + 1) sets)
     ≡ filter (is_cover (slice_index sets 0) sets) (take i sets) ++ cond minimal (slice_index sets i ∷ []) []

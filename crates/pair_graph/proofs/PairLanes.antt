@@ -77,7 +77,7 @@ lane_bit x = cond (differs x 0) 1 0
 differs-some : (x : ℕ) → x ≢ 0 → lane_bit x ≡ 1
 differs-some x some = ap (λ b. cond (not b) 1 0) (ne_eqb x 0 some)
 
--- and bit v says whether lane v isn't 0
+-- bit v of the mask says whether lane v isn't 0
 mask-bit : (hits : List ℕ) (v : ℕ) → length hits ≡ 16 → v < 16 → IsBitSet (mask_of hits) v ↔ (slice_index hits v ≢ 0)
 mask-bit hits v long inside =
     let lane = slice_index hits v in

@@ -33,7 +33,7 @@ holds-truths n rows p inside =
       (λ some. subst (λ (b : Bool). IsTrue b) (sym at) (test.1 some)),
     )
 
--- and so is the pair of two nodes, by the row of the first
+-- the pair of two nodes is in the list exactly where the row of the first has the bit of the second
 pub holds-place : (n : ℕ) (rows : List ℕ) (u v : ℕ) → u < n → v < n → IsTrue (holds (truths n rows) (u * n + v)) ↔ IsBitSet (slice_index rows u) v
 holds-place n rows u v first second =
     let exact = holds-truths n rows (u * n + v) (mul-add-lt u n v n first second) in

@@ -10,6 +10,7 @@ use Rattle.std.proofs.lemmas.Nat.{mul-lt, div-mul-add, mod-mul-add, div_below, m
 use Rattle.std.proofs.lemmas.Nat.Bits.{bit_at_ones, bit_at-lt, same_from_bits_below}
 use Rattle.std.proofs.lemmas.Simd.{length-chunk, get_or-chunk, mask_l-lt, bit_mask_l}
 use Rattle.std.proofs.Math.Nat.{mul-le-mul_right, suc-mul}
+use Rattle.word_image.specs.LocalRules.{most_nodes}
 use Rattle.pair_graph.specs.PairSets.{holds, truths, nodes_of, rows_of, AreRows}
 
 -- whether a pair is in the list is a test of its bit
@@ -20,7 +21,7 @@ holds_bit n rows p inside = get_or-map-range_with_len (λ q. bit_at (slice_index
 pub length-truths : (n : ℕ) (rows : List ℕ) → length (truths n rows) ≡ n * n
 length-truths n rows = length-map-range_with_len (λ p. bit_at (slice_index rows (p / n)) (p % n) == 1) 0 (n * n)
 
--- as many nodes where there are as many pairs
+-- two numbers with one square are one
 pub same_roots : (n m : ℕ) → n * n ≡ m * m → n ≡ m
 same_roots n m same = ⊎_elim
     (λ less. absurd (omega (arith, same, mul-lt n n m m less less)))
@@ -67,13 +68,13 @@ no_row n rows h u more =
     let none : drop (u * n) (truths n rows) ≡ [] = drop_all (u * n) (truths n rows) (omega (arith, length-truths n rows, past)) in
     ap (λ l. mask_l (take n l)) none ∙ ap mask_l (take_all n [] (omega arith)) ∙ sym (h.past u more)
 
--- so the rows come back
+-- the rows come back from the truth values of the pairs
 pub rows_of-truths : (n : ℕ) (rows : List ℕ) → AreRows n rows → rows_of n (truths n rows) ≡ rows
 rows_of-truths n rows h = sym (fill_by_all (λ u. mask_l (chunk (u * n) n (truths n rows))) rows 16 0 h.long
     (λ u inside. ⊎_elim (λ less. sym (row_of_truths n rows h u less)) (λ more. sym (no_row n rows h u more)) (cases_lt u n)))
 
--- and the number of nodes
-pub nodes_of-square : (n : ℕ) → n ≤ 16 → nodes_of (n * n) ≡ n
+-- how many nodes there are comes back from the number of pairs
+pub nodes_of-square : (n : ℕ) → n ≤ most_nodes → nodes_of (n * n) ≡ n
 nodes_of-square n few =
     let all : map (λ m. nodes_of (m * m)) (range_with_len 0 17) ≡ range_with_len 0 17 = refl in
     sym (get_or-map-range_with_len (λ m. nodes_of (m * m)) 0 17 n n 0 (omega arith) (omega arith)) ∙ ap (λ l. get_or l n 0) all ∙ get_or-range_with_len 0 17 n 0 (omega arith) ∙ omega arith

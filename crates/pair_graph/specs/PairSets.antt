@@ -3,7 +3,7 @@ use Rattle.std.specs.Prelude.{◌≡◌, ◌==◌, ℕ, ◌*◌, ◌/◌, ◌%�
 use Rattle.std.specs.Simd.Lanes.{mask_l, chunk}
 use Rattle.std.specs.Int.{bit_at}
 use Rattle.std.specs.List.{range_with_len}
-use Rattle.word_image.specs.LocalRules.{LocalRule}
+use Rattle.word_image.specs.LocalRules.{LocalRule, most_nodes}
 use Rattle.word_image.specs.Graphs.{follow_on, pair_count}
 use Rattle.word_image.specs.declared.side.Side.{Side}
 use Rattle.word_image.specs.Edges.{ends_at}
@@ -19,17 +19,17 @@ truths n rows = map (λ p. bit_at (slice_index rows (p / n)) (p % n) == 1) (rang
 
 -- how many nodes have so many pairs
 abbrev pub nodes_of : ℕ → ℕ
-nodes_of count = count_by (λ i. nat_lt (i * i) count) (range_with_len 0 16)
+nodes_of count = count_by (λ i. nat_lt (i * i) count) (range_with_len 0 most_nodes)
 
 -- the rows of truth values of the pairs of n nodes
 abbrev pub rows_of : ℕ → List Bool → List ℕ
-rows_of n set = map (λ u. mask_l (chunk (u * n) n set)) (range_with_len 0 16)
+rows_of n set = map (λ u. mask_l (chunk (u * n) n set)) (range_with_len 0 most_nodes)
 
 -- 16 rows: those of n nodes, and zeros
 pub record AreRows (n : ℕ) (rows : List ℕ) : Type 0 where
   pub least : 1 ≤ n
-  pub most : n ≤ 16
-  pub long : length rows ≡ 16
+  pub most : n ≤ most_nodes
+  pub long : length rows ≡ most_nodes
   pub within : (u : ℕ) → u < n → slice_index rows u < 2 ^ n
   pub past : (u : ℕ) → n ≤ u → slice_index rows u ≡ 0
 
@@ -52,7 +52,7 @@ pub record IsTrimmedSet (side : Side) (r : LocalRule) (set kept : List Bool) : T
 
 -- the edge of letter a at node u, and one with its label at node v, lead to two nodes whose pair is in the rows
 pub record GoesOnBy (side : Side) (r : LocalRule) (ends : List (List ℕ)) (rows : List ℕ) (u v a t : ℕ) : Type 0 where
-  pub node : t < 16
+  pub node : t < most_nodes
   pub second : IsBitSet (ends_at ends (label_at side r u a) v) t
   pub pair : IsBitSet (slice_index rows (end_at side r u a)) t
 
@@ -62,7 +62,7 @@ GoesOn side r ends rows u v = (a : ℕ) × (t : ℕ) × (a < r.states) × GoesOn
 
 -- of the first n rows the nodes that go on are kept
 pub record AreNodesKept (Goes : ℕ → ℕ → Type 0) (rows : List ℕ) (n : ℕ) (kept : List ℕ) : Type 0 where
-  pub long : length kept ≡ 16
-  pub done : (u v : ℕ) → u < n → v < 16 → (IsBitSet (slice_index kept u) v ↔ (IsBitSet (slice_index rows u) v × Goes u v))
+  pub long : length kept ≡ most_nodes
+  pub done : (u v : ℕ) → u < n → v < most_nodes → (IsBitSet (slice_index kept u) v ↔ (IsBitSet (slice_index rows u) v × Goes u v))
   pub smaller : (u : ℕ) → slice_index kept u ≤ slice_index rows u
   pub past : (u : ℕ) → n ≤ u → slice_index kept u ≡ 0

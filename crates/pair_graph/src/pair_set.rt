@@ -3,7 +3,7 @@
 ghost use Rattle.std.specs.Prelude.{◌≡◌, ◌≢◌, ℕ, ◌+◌, ◌*◌, ◌<◌, ◌↔◌, true, length, replicate, IsBitSet, IsTrue};
 ghost use Rattle.std.specs.Int.Bits.{bit_and};
 ghost use Rattle.std.specs.Simd.Lanes.{zip2};
-ghost use Rattle.word_image.specs.LocalRules.{IsRule, node_count};
+ghost use Rattle.word_image.specs.LocalRules.{IsRule, node_count, most_nodes, most_states};
 ghost use Rattle.word_image.specs.Graphs.{pair_count};
 ghost use Rattle.pair_graph.specs.PairSets.{holds, AreNodesKept, AreRows, GoesOn, IsTrimmedSet};
 
@@ -72,8 +72,8 @@ impl PairSet {
 
     /// Of n nodes those whose pair with the node u is in the set; node v is bit v.
     pub fn row(&self, u: u8) -> u16
-        requires { u < 16 }
-        ensures { (n v : ℕ) → length self.now ≡ n * n → u < n → v < 16 → (IsBitSet result v ↔ ((v < n) × IsTrue (holds self.now (u * n + v)))) }
+        requires { u < most_nodes }
+        ensures { (n v : ℕ) → length self.now ≡ n * n → u < n → v < most_nodes → (IsBitSet result v ↔ ((v < n) × IsTrue (holds self.now (u * n + v)))) }
     {
         self.rows[usize::from(u)]
     }
@@ -140,7 +140,7 @@ fn trimmed(rule: &Rule, side: Side, ends: &EdgeRows, rows: &Rows) -> Rows
 /// tried at once, one lane each.
 fn going_on(rule: &Rule, side: Side, ends: &EdgeRows, rows: &Rows, u: u8) -> u16
     requires { u < node_count rule.now }
-    ensures { (v : ℕ) → v < 16 → (IsBitSet result v ↔ GoesOn side rule.now ends.now rows.now u v) }
+    ensures { (v : ℕ) → v < most_nodes → (IsBitSet result v ↔ GoesOn side rule.now ends.now rows.now u v) }
 {
     let mut hits = u16x16::splat(0);
     for a in 0..rule.k() {
@@ -153,8 +153,8 @@ fn going_on(rule: &Rule, side: Side, ends: &EdgeRows, rows: &Rows, u: u8) -> u16
 
 /// For each node the nodes of its ends that are in the set, one lane a node.
 fn among(ends: &[u16; MOST_NODES], set: u16) -> u16x16
-    ensures lanes { result ≡ zip2 bit_and ends.now (replicate 16 set) }
-    ensures wide { length ends.now ≡ 16 }
+    ensures lanes { result ≡ zip2 bit_and ends.now (replicate most_states set) }
+    ensures wide { length ends.now ≡ most_states }
 {
     u16x16::from_array(*ends) & u16x16::splat(set)
 }

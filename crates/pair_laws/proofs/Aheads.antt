@@ -21,7 +21,7 @@ use Rattle.pair_laws.proofs.Windows.{HaveOneImage-begin}
 take-letter : (d : ℕ) (z : List ℕ) (a : ℕ) (rest : List ℕ) → length z ≡ d → take d ((z ++ a ∷ []) ++ rest) ≡ z
 take-letter d z a rest e = ap (take d) (append_assoc z (a ∷ []) rest) ∙ take_at z (a ∷ rest) d e
 
--- and the letter
+-- the letters of a node, one letter, and more: the letter behind the node's
 get_or-letter : (d : ℕ) (z : List ℕ) (a : ℕ) (rest : List ℕ) → length z ≡ d → get_or ((z ++ a ∷ []) ++ rest) d 0 ≡ a
 get_or-letter d z a rest e = ap (λ y. get_or y d 0) (append_assoc z (a ∷ []) rest) ∙ get_or_at z a rest 0 d e
 

@@ -63,7 +63,7 @@ leads_back {r} rule q a b pair ha hb one_label =
       );
     }
 
--- and no other pair does
+-- where a pair leads back, the two windows have one label, and it leads to the pair of their nodes
 pub led_back : {r : LocalRule} → IsRule r → (q a b p : ℕ) → LeadsBack r q a b p
     → (label_at Left r (first_of r q) a ≡ label_at Left r (second_of r q) b) × (pair_of r (end_at Left r (first_of r q) a) (end_at Left r (second_of r q) b) ≡ p)
 led_back {r} rule q a b p back =

@@ -82,7 +82,7 @@ differ_before {r} rule i l d =
       different = λ e. d.different (sym letters.0 ∙ e ∙ letters.1);
     }
 
--- and one step before, at the letter behind
+-- one step before, the pair differs at the letter behind
 differ_behind : {r : LocalRule} → IsRule r → (i : ℕ) → i + 1 < r.width - 1 → DifferBothWays r i → DifferBothWays r (i + 1)
 differ_behind {r} rule i l d =
     let (q, step, ends) = PairGoes-endless_step Left rule d.pair d.endless.ends in
@@ -98,7 +98,7 @@ differ_first : {r : LocalRule} → IsRule r → (i : ℕ) → i < r.width - 1 �
 differ_first rule zero l d = d
 differ_first {r} rule (suc i) l d = let e : suc i ≡ i + 1 = omega arith in differ_first rule i (omega arith) (differ_before rule i (omega arith) (subst (DifferBothWays r) e d))
 
--- and at each
+-- where pairs differ at the first letter, they differ at each
 differ_each : {r : LocalRule} → IsRule r → (i : ℕ) → i < r.width - 1 → DifferBothWays r 0 → DifferBothWays r i
 differ_each rule zero l d = d
 differ_each {r} rule (suc i) l d = let e : i + 1 ≡ suc i = omega arith in subst (DifferBothWays r) e (differ_behind rule i (omega arith) (differ_each rule i (omega arith) d))
@@ -129,7 +129,7 @@ pub ahead_pairs : (side : Side) {r : LocalRule} → IsRule r → (n : ℕ) → I
 ahead_pairs Right rule n = IsRightAhead-pairs rule n
 ahead_pairs Left rule n = IsLeftAhead-pairs rule n
 
--- and for some n exactly where none is endless
+-- a rule looks ahead to a side for some n exactly where no first pair of this side is endless
 pub some_ahead : (side : Side) {r : LocalRule} → IsRule r → ((n : ℕ) × IsRightAhead (seen_from side r) n) ↔ ((p : ℕ) → IsFirstOf side r p → ¬ IsEndless (PairGoes side r p))
 some_ahead side {r} rule = (
   (λ h p f endless. ((ahead_pairs side rule h.0).0 h.1).1 p f (endless (h.0 - 1))),

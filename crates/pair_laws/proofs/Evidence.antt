@@ -30,7 +30,7 @@ IsDetermined-claims rule falls back n c some inside claimed =
           ⊎_elim different (⊎_elim (λ below. PairGoes-claims_below Left rule back p (min c n) below ends) (λ below. PairGoes-claims_below Right rule falls p (n - min c n) below begins)) (claimed p l)),
     )
 
--- and the exact ranks say it of each pair where a window is determined
+-- where a window is determined, the exact ranks say of each pair that it doesn't forbid it
 pub IsClaimedApart-ranks : {r : LocalRule} → IsRule r → (forward backward : ℕ → Option ℕ) → ClaimsRanks Right r forward → ClaimsRanks Left r backward
     → (n c : ℕ) → IsDetermined r n c → (p : ℕ) → p < pair_count r → IsClaimedApart r forward backward n c p
 IsClaimedApart-ranks {r} rule forward backward ranks back n c h p l =
@@ -46,7 +46,7 @@ pub IsFirstOfRight-below : {r : LocalRule} {p : ℕ} → IsRule r → IsFirstOfR
 IsFirstOfRight-below {r} rule f =
     subst (λ q. q < pair_count r) (sym f.pair) (pair_of-below r _ _ (next-below rule f.node f.a) (next-below rule f.node f.b))
 
--- and so is one of the left
+-- a first pair of a side is a pair
 pub IsFirstOf-below : (side : Side) {r : LocalRule} {p : ℕ} → IsRule r → IsFirstOf side r p → p < pair_count r
 IsFirstOf-below Right rule f = IsFirstOfRight-below rule f
 IsFirstOf-below Left rule f = f.in_pairs
@@ -57,7 +57,7 @@ pub ahead-claims : (side : Side) {r : LocalRule} {claim : ℕ → Option ℕ} �
 ahead-claims side rule falls n some claimed =
     (ahead_pairs side rule n).1 (some, (λ p f. PairGoes-claims_below side rule falls p (n - 1) (claimed p (IsFirstOf-below side rule f) f)))
 
--- and the exact ranks of these pairs are less where it does
+-- where a rule looks ahead to a side for n, the exact ranks of the first pairs of this side are less than n
 pub ahead-ranks : (side : Side) {r : LocalRule} → IsRule r → (claim : ℕ → Option ℕ) → ClaimsRanks side r claim → (n : ℕ) → IsRightAhead (seen_from side r) n
     → (p : ℕ) → IsFirstOf side r p → ClaimsBelow claim p (n - 1)
 ahead-ranks side rule claim ranks n h p f =

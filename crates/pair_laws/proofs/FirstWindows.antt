@@ -32,7 +32,7 @@ right-first {r} rule w a h =
       pair = ap (λ v. pair_of r (v % node_count r) (next r (w / k) a)) (sym split);
     }
 
--- and each of them is led to so
+-- each first pair of the right is led to by two windows that differ in their last letter alone
 first-right : {r : LocalRule} {p : ℕ} → IsRule r → IsFirstOfRight r p → (w : ℕ) × (a : ℕ) × AreFirst Right r w a × (p ≡ end_pair Right r w a)
 first-right {r} {p} rule f =
     let k : ℕ = r.states in
@@ -111,7 +111,7 @@ left-first {r} rule w a h =
     } in
     at (end_pair Left r w a) (ap₂ (pair_of r) first second)
 
--- and each of them is such a pair
+-- each first pair of the left has the nodes of two windows that differ in their first letter alone
 first-left : {r : LocalRule} {p : ℕ} → IsRule r → IsFirstOfLeft r p → (w : ℕ) × (a : ℕ) × AreFirst Left r w a × (p ≡ end_pair Left r w a)
 first-left {r} {p} rule f =
     let k : ℕ = r.states in
@@ -154,7 +154,7 @@ pub IsFirst-ends : (side : Side) {r : LocalRule} → IsRule r → (w a : ℕ) �
 IsFirst-ends Right rule w a h = right-first rule w a h
 IsFirst-ends Left rule w a h = left-first rule w a h
 
--- and each first pair is one of these
+-- each first pair of a side has the ends of two windows that differ in one letter at the other side
 pub first_ends : (side : Side) {r : LocalRule} {p : ℕ} → IsRule r → IsFirstOf side r p → (w : ℕ) × (a : ℕ) × AreFirst side r w a × (p ≡ end_pair side r w a)
 first_ends Right rule f = first-right rule f
 first_ends Left rule f = first-left rule f

@@ -54,7 +54,7 @@ value-take_reverse : (r : LocalRule) (n : ℕ) (x : List ℕ) → IsWord r.state
 value-take_reverse r n x h e =
     ap (value r.states) (reverse-cut n (r.width - 1) x e).0 ∙ value-reverse r (drop n x) (All-drop (λ a. a < r.states) n x h) (omega (arith, length-drop n x))
 
--- and its last
+-- the last m - 1 letters of a word that is read backwards
 value-drop_reverse : (r : LocalRule) (n : ℕ) (x : List ℕ) → IsWord r.states x → length x ≡ n + (r.width - 1)
     → value r.states (drop n (reverse x)) ≡ mirror_node r (value r.states (take (r.width - 1) x))
 value-drop_reverse r n x h e =

@@ -16,7 +16,7 @@ use Rattle.pair_laws.proofs.Ranks.{Together-below, Together-less, BeginTogether-
 pub first_of-pair_of : (r : LocalRule) (u v : ℕ) → v < node_count r → first_of r (pair_of r u v) ≡ u
 first_of-pair_of r u v h = div-mul-add u (node_count r) v h
 
--- and the second
+-- the second node of the pair of two nodes
 pub second_of-pair_of : (r : LocalRule) (u v : ℕ) → v < node_count r → second_of r (pair_of r u v) ≡ v
 second_of-pair_of r u v h = mod-mul-add u (node_count r) v h
 
@@ -36,7 +36,7 @@ pair-below {r} rule p h = subst (λ q. q < pair_count r) (pair_of-first_of r p) 
 pub first_of-below : {r : LocalRule} → IsRule r → (p : ℕ) → p < pair_count r → first_of r p < node_count r
 first_of-below {r} rule p h = div_below p (node_count r) (node_count r) (node_count_pos rule) h
 
--- and the second
+-- the second node of a pair is a node
 pub second_of-below : {r : LocalRule} → IsRule r → (p : ℕ) → second_of r p < node_count r
 second_of-below {r} rule p = mod-lt p (node_count_pos rule)
 
@@ -52,7 +52,7 @@ pub follow-edges : (r : LocalRule) (p a b : ℕ) → label r (first_of r p) a �
     → follow r p a b ≡ Some (pair_of r (next r (first_of r p) a) (next r (second_of r p) b))
 follow-edges r p a b e = cond-true (label r (first_of r p) a == label r (second_of r p) b) (Some (pair_of r (next r (first_of r p) a) (next r (second_of r p) b))) None (eq-eqb _ _ e)
 
--- and along no others
+-- where a pair leads on, it is along two edges with one label
 pub follow-some : (r : LocalRule) (p a b q : ℕ) → follow r p a b ≡ Some q
     → (label r (first_of r p) a ≡ label r (second_of r p) b) × (pair_of r (next r (first_of r p) a) (next r (second_of r p) b) ≡ q)
 follow-some r p a b q e = some_if_equal (label r (first_of r p) a) (label r (second_of r p) b) _ q e
@@ -87,7 +87,7 @@ pub LeadsOn-from : (side : Side) {r : LocalRule} → IsRule r → (p q : ℕ) �
 LeadsOn-from Right rule p q s = s.in_pairs
 LeadsOn-from Left rule p q s = follow-below rule q s.a s.b p s.follows
 
--- and so is that to which it does
+-- a pair to which one leads is a pair
 pub LeadsOn-below : (side : Side) {r : LocalRule} → IsRule r → (p q : ℕ) → LeadsOn side r p q → q < pair_count r
 LeadsOn-below Right rule p q s = follow-below rule p s.a s.b q s.follows
 LeadsOn-below Left rule p q s = s.in_pairs

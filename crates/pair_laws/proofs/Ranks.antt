@@ -13,7 +13,7 @@ use Rattle.pair_laws.proofs.Walks.{LeadTogether, LeadTogether-join, LeadTogether
 pub LeadTogether-begin : {r : LocalRule} {u v s t n : ℕ} → LeadTogether r u v n s t → BeginTogether r u v n
 LeadTogether-begin h = record { x = h.x; y = h.y; one_image = h.one_image; first = h.first; second = h.second }
 
--- and those to which it leads end together
+-- two nodes to which a walk of n steps leads end together for n
 pub LeadTogether-end : {r : LocalRule} {u v s t n : ℕ} → LeadTogether r u v n s t → EndTogether r s t n
 LeadTogether-end h = record { x = h.x; y = h.y; one_image = h.one_image; first = h.first_last; second = h.second_last }
 

@@ -30,7 +30,7 @@ HasBit-or rows i set inside j w = ⊎_elim
     ))
     (row_cases rows i (bit_or (slice_index rows i) set) j inside)
 
--- and with one bit more, as a shift makes it
+-- rows with one bit more in one row, as a shift makes it
 pub HasBit-more : (rows : List ℕ) (i v : ℕ) → i < length rows → v < 16 → (j w : ℕ)
     → HasBit (slice_set rows i (bit_or (slice_index rows i) (1 * 2 ^ v % 2 ^ 16))) j w ↔ (((j ≡ i) × (w ≡ v)) ⊎ HasBit rows j w)
 HasBit-more rows i v inside small j w =

@@ -41,7 +41,7 @@ IsBitSet-meet n a b small some =
     let both = (IsBitSet-and a b found.0).0 found.2 in
     (found.0, both.0, both.1)
 
--- and two that don't have none
+-- two sets that don't meet have no node both
 pub IsBitSet-apart : (a b i : ℕ) → bit_and a b ≡ 0 → IsBitSet a i → ¬ IsBitSet b i
 IsBitSet-apart a b i none first second = IsBitSet-zero i (subst (λ c. IsBitSet c i) none ((IsBitSet-and a b i).1 (first, second)))
 

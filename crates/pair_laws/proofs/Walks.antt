@@ -63,7 +63,7 @@ pub LeadTogether-front : {r : LocalRule} {u v s t n : ℕ} → IsRule r → (i j
 LeadTogether-front {r} {n = n} rule i j e h =
     subst₂ (λ (a b : ℕ). LeadTogether r a b i (place_node r h.x i) (place_node r h.y i)) h.first h.second (HaveOneImage-between rule 0 i i j n (omega arith) e h.one_image)
 
--- and goes on from them for j
+-- a walk of i + j steps goes on for j from the nodes at place i
 pub LeadTogether-rest : {r : LocalRule} {u v s t n : ℕ} → IsRule r → (i j : ℕ) → i + j ≡ n → (h : LeadTogether r u v n s t) → LeadTogether r (place_node r h.x i) (place_node r h.y i) j s t
 LeadTogether-rest {r} {n = n} rule i j e h =
     let last : (z : List ℕ) → length z ≡ n + (r.width - 1) → place_node r z n ≡ value r.states (drop n z) = λ z long.
@@ -83,7 +83,7 @@ LeadTogether-first {r} h = (
   rw (← h.second) (value-node r (take (r.width - 1) h.y) (All-take (λ a. a < r.states) (r.width - 1) h.y h.one_image.second) (length-take-le (r.width - 1) h.y (omega arith))),
 )
 
--- and to two nodes
+-- a walk leads to two nodes
 pub LeadTogether-last : {r : LocalRule} {u v s t n : ℕ} → LeadTogether r u v n s t → (s < node_count r) × (t < node_count r)
 LeadTogether-last {r} {n = n} h = (
   rw (← h.first_last) (value-node r (drop n h.x) (All-drop (λ a. a < r.states) n h.x h.one_image.first) (omega (arith, length-drop n h.x))),

@@ -28,7 +28,7 @@ pub HaveOneImage-end : {r : LocalRule} {x y : List ℕ} → IsRule r → (i j n 
     → EndTogether r (value r.states (take (r.width - 1) (drop i x))) (value r.states (take (r.width - 1) (drop i y))) i
 HaveOneImage-end rule i j n e h = LeadTogether-end (HaveOneImage-between rule 0 i i j n (omega arith) e h)
 
--- and begin together for the rest
+-- of two words with one image, cut at i, the nodes there begin together for the rest
 pub HaveOneImage-begin : {r : LocalRule} {x y : List ℕ} → (i j n : ℕ) → i + j ≡ n → HaveOneImage r n x y
     → BeginTogether r (value r.states (take (r.width - 1) (drop i x))) (value r.states (take (r.width - 1) (drop i y))) j
 HaveOneImage-begin {r} {x} {y} i j n e h = record { x = drop i x; y = drop i y; one_image = HaveOneImage-drop i j n e h; first = refl; second = refl }

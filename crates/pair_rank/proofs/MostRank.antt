@@ -48,7 +48,7 @@ listed-below : (side : Side) {r : LocalRule} {n i : ℕ} → i ≤ n + node_coun
 listed-below side {r} {n} {i} within l =
     ⊎_elim (λ k. Together-below side r l.u l.v i k.1.holds) (λ k. (omega (arith, k.0, k.1), omega (arith, k.0, k.1, k.2))) l.kind
 
--- and no two are listed twice
+-- no two of the listed nodes are listed twice
 listed-apart : (side : Side) {r : LocalRule} {n i j : ℕ} → IsRule r → i < j → j ≤ n + node_count r
     → (l : Listed side r n i) → (m : Listed side r n j) → l.u ≡ m.u → l.v ≡ m.v → ⊥
 listed-apart side {r} {n} {i} {j} rule less within l m first second =
@@ -87,13 +87,13 @@ IsRank-most side {r} rule u v n rank =
     let most : node_count r * node_count r ≤ 16 * node_count r = mul-le-mul_right (node_count r) few in
     omega (arith, IsRank-apart side rule u v n rank)
 
--- and so is each rank that is given
+-- each rank that is given is at most 239
 rank-most : (side : Side) {r : LocalRule} → IsRule r → (u v : ℕ) (rank : Option ℕ)
     → MatchOption rank (IsEndless (Together side r u v)) (IsRank (Together side r u v)) → IfSome rank (λ n. n ≤ 239)
 rank-most side rule u v None endless = tt
 rank-most side rule u v (Some n) exact = IsRank-most side rule u v n exact
 
--- and each rank of a table
+-- each rank of a table is at most 239
 pub AreRanks-most : (side : Side) {q r : LocalRule} (ranks : List (Option ℕ)) → IsRule q → q ≡ r → AreRanks side q ranks → (u v : ℕ) → u < node_count r → v < node_count r → IfSome (rank_at ranks u v) (λ n. n ≤ 239)
 AreRanks-most side ranks rule same exact u v first second =
     let nodes = ap node_count same in rank-most side rule u v (rank_at ranks u v) (exact u v (omega arith) (omega arith))

@@ -20,7 +20,7 @@ use Rattle.pair_rank.proofs.MostRank.{IsRank-most}
 holds-below : (set : List Bool) (q : ℕ) → IsTrue (holds set q) → q < length set
 holds-below set q there = ⊎_elim (λ less. less) (λ past. absurd (false≢true (sym (get_or_past set q false past) ∙ there))) (cases_lt q (length set))
 
--- and so is a pair that goes on
+-- a pair that goes on is a pair of nodes
 goes-below : (side : Side) {r : LocalRule} → IsRule r → (q n : ℕ) → PairGoes side r q n → q < pair_count r
 goes-below side {r} rule q n goes = pair-below rule q (Together-below side r (first_of r q) (second_of r q) n goes).0
 
@@ -70,7 +70,7 @@ AreEndless-stable {side} {r} rule {n} {set} h trimmed =
       );
     }
 
--- and after 240 rounds it is
+-- after 240 rounds what is left is endless
 pub AreEndless-all : {side : Side} {r : LocalRule} → IsRule r → {n : ℕ} {set : List Bool} → 240 ≤ n → AreTogether side r n set → AreEndless side r set
 AreEndless-all {side} {r} rule {n} {set} many h = record {
   count = h.count;

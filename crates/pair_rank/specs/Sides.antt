@@ -1,13 +1,13 @@
 -- What ranks and endless pairs are, forward and backward.
-use Rattle.std.specs.Prelude.{◌≡◌, ℕ, ◌+◌, ◌*◌, ◌<◌, ◌↔◌, List, Bool, Option, None, IsTrue, MatchOption, length, slice_index_or}
-use Rattle.word_image.specs.LocalRules.{LocalRule, node_count}
-use Rattle.word_image.specs.Graphs.{pair_count}
+use Rattle.std.specs.Prelude.{◌≡◌, ℕ, ◌+◌, ◌-◌, ◌*◌, ◌<◌, ◌↔◌, List, Bool, Option, None, IsTrue, MatchOption, length, slice_index_or}
+use Rattle.word_image.specs.LocalRules.{LocalRule, node_count, most_nodes}
+use Rattle.word_image.specs.Graphs.{pair_count, most_pairs}
 use Rattle.word_image.specs.Ranks.{IsRank, IsEndless}
 use Rattle.word_image.specs.declared.side.Side.{Side}
 use Rattle.word_image.specs.Sides.{Together, PairGoes}
 use Rattle.pair_graph.specs.PairSets.{holds}
 
--- this is the rank of the pair, and nothing where it is endless
+-- the rank of the pair, and nothing where the pair is endless
 abbrev pub IsRankOf : Side → LocalRule → ℕ → Option ℕ → Type 0
 IsRankOf side r p rank = MatchOption rank (IsEndless (PairGoes side r p)) (IsRank (PairGoes side r p))
 
@@ -16,9 +16,13 @@ pub record AreEndless (side : Side) (r : LocalRule) (set : List Bool) : Type 0 w
   pub count : length set ≡ pair_count r
   pub pairs : (p : ℕ) → p < pair_count r → (IsTrue (holds set p) ↔ IsEndless (PairGoes side r p))
 
+-- the greatest rank that two nodes may have: below N * (N - 1) for N nodes
+abbrev pub most_rank : ℕ
+most_rank = most_pairs - most_nodes - 1
+
 -- the rank of u and v in a table that has it at 16 * u + v
 abbrev pub rank_at : List (Option ℕ) → ℕ → ℕ → Option ℕ
-rank_at ranks u v = slice_index_or ranks (16 * u + v) None
+rank_at ranks u v = slice_index_or ranks (most_nodes * u + v) None
 
 -- each rank is exact, and none stands where the two nodes are endless
 abbrev pub AreRanks : Side → LocalRule → List (Option ℕ) → Type 0

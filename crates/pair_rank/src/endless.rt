@@ -1,7 +1,7 @@
 //! The endless pairs of a rule.
 
 ghost use Rattle.std.specs.Prelude.{◌≡◌, ◌<◌, ◌↔◌, ℕ, IsBitSet};
-ghost use Rattle.word_image.specs.LocalRules.{IsRule, node_count};
+ghost use Rattle.word_image.specs.LocalRules.{IsRule, node_count, most_nodes};
 ghost use Rattle.word_image.specs.Ranks.{BeginTogether, EndTogether, IsEndless};
 
 use crate::rounds::endless_pairs;
@@ -55,7 +55,7 @@ impl Endless {
     /// The nodes with which u begins together for every n; node v is bit v.
     pub fn forward(&self, u: u8) -> u16
         requires { u < node_count self.now }
-        ensures { (v : ℕ) → v < 16 → (IsBitSet result v ↔ IsEndless (BeginTogether self.now u v)) }
+        ensures { (v : ℕ) → v < most_nodes → (IsBitSet result v ↔ IsEndless (BeginTogether self.now u v)) }
     {
         self.forward.row(u)
     }
@@ -63,7 +63,7 @@ impl Endless {
     /// The nodes with which u ends together for every n; node v is bit v.
     pub fn backward(&self, u: u8) -> u16
         requires { u < node_count self.now }
-        ensures { (v : ℕ) → v < 16 → (IsBitSet result v ↔ IsEndless (EndTogether self.now u v)) }
+        ensures { (v : ℕ) → v < most_nodes → (IsBitSet result v ↔ IsEndless (EndTogether self.now u v)) }
     {
         self.backward.row(u)
     }

@@ -1,6 +1,7 @@
 //! The exact ranks of a rule.
 
 ghost use Rattle.std.specs.Prelude.{◌≡◌, ℕ, ◌+◌, ◌<◌, ◌≤◌, IfSome, MatchOption};
+ghost use Rattle.pair_rank.specs.Sides.{most_rank};
 ghost use Rattle.word_image.specs.LocalRules.{LocalRule, IsRule, node_count};
 ghost use Rattle.word_image.specs.Graphs.{pair_count};
 ghost use Rattle.word_image.specs.Ranks.{BeginTogether, EndTogether, IsRank, IsEndless};
@@ -80,7 +81,7 @@ impl Ranks {
         requires first { u < node_count self.now }
         requires second { v < node_count self.now }
         ensures rank { MatchOption result (IsEndless (Together side self.now u v)) (IsRank (Together side self.now u v)) }
-        ensures most { IfSome result (λ n. n ≤ 239) }
+        ensures most { IfSome result (λ n. n ≤ most_rank) }
     {
         match side {
             Side::Right => self.forward(u, v),
@@ -94,7 +95,7 @@ impl Ranks {
         requires first { u < node_count self.now }
         requires second { v < node_count self.now }
         ensures rank { MatchOption result (IsEndless (BeginTogether self.now u v)) (IsRank (BeginTogether self.now u v)) }
-        ensures most { IfSome result (λ n. n ≤ 239) }
+        ensures most { IfSome result (λ n. n ≤ most_rank) }
     {
         self.forward[MOST_NODES * usize::from(u) + usize::from(v)]
     }
@@ -105,7 +106,7 @@ impl Ranks {
         requires first { u < node_count self.now }
         requires second { v < node_count self.now }
         ensures rank { MatchOption result (IsEndless (EndTogether self.now u v)) (IsRank (EndTogether self.now u v)) }
-        ensures most { IfSome result (λ n. n ≤ 239) }
+        ensures most { IfSome result (λ n. n ≤ most_rank) }
     {
         self.backward[MOST_NODES * usize::from(u) + usize::from(v)]
     }
@@ -115,5 +116,5 @@ impl Ranks {
 /// ranks are of one pair, and none is of a node with itself.
 pub fn ranks_are_few()
     ensures few { (side : Side) (r : LocalRule) (u v n : ℕ) → IsRule r → IsRank (Together side r u v) n → n + node_count r < pair_count r }
-    ensures most { (side : Side) (r : LocalRule) (u v n : ℕ) → IsRule r → IsRank (Together side r u v) n → n ≤ 239 }
+    ensures most { (side : Side) (r : LocalRule) (u v n : ℕ) → IsRule r → IsRank (Together side r u v) n → n ≤ most_rank }
 {}

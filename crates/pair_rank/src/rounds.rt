@@ -1,7 +1,7 @@
 //! Rounds that trim the set of all pairs, until one leaves all.
 
 ghost use Rattle.std.specs.Prelude.{◌≡◌, ℕ, ◌*◌, ◌<◌, ◌≤◌, IsBitSet, Some, length};
-ghost use Rattle.word_image.specs.LocalRules.{IsRule};
+ghost use Rattle.word_image.specs.LocalRules.{IsRule, most_nodes};
 ghost use Rattle.pair_rank.specs.Sides.{AreEndless, AreRanks, HasFallen, rank_at};
 
 use pair_graph::{PairSet, Pairs};
@@ -51,11 +51,11 @@ pub fn exact_ranks(pairs: &Pairs, side: Side) -> (RankTable, PairSet)
 
 /// Gives the rank n to the pairs that have fallen.
 fn note_fallen(ranks: &mut RankTable, nodes: u8, set: &PairSet, after: &PairSet, n: u16)
-    requires nodes { nodes ≤ 16 }
+    requires nodes { nodes ≤ most_nodes }
     requires before { length set.now ≡ nodes * nodes }
     requires after { length after.now ≡ nodes * nodes }
-    ensures fallen { (u v : ℕ) → u < nodes → v < 16 → HasFallen nodes set.now after.now u v → rank_at ranks.new u v ≡ Some n }
-    ensures kept { (u v : ℕ) → u < nodes → v < 16 → ¬ HasFallen nodes set.now after.now u v → rank_at ranks.new u v ≡ rank_at ranks.old u v }
+    ensures fallen { (u v : ℕ) → u < nodes → v < most_nodes → HasFallen nodes set.now after.now u v → rank_at ranks.new u v ≡ Some n }
+    ensures kept { (u v : ℕ) → u < nodes → v < most_nodes → ¬ HasFallen nodes set.now after.now u v → rank_at ranks.new u v ≡ rank_at ranks.old u v }
 {
     for u in 0..nodes {
         give_rank(ranks, u, set.row(u) & !after.row(u), n);
@@ -64,9 +64,9 @@ fn note_fallen(ranks: &mut RankTable, nodes: u8, set: &PairSet, after: &PairSet,
 
 /// Gives the rank n to the pairs of u with the nodes of the set.
 fn give_rank(ranks: &mut RankTable, u: u8, set: u16, n: u16)
-    requires { u < 16 }
-    ensures given { (v : ℕ) → v < 16 → IsBitSet set v → rank_at ranks.new u v ≡ Some n }
-    ensures kept { (s v : ℕ) → v < 16 → (s ≡ u → ¬ IsBitSet set v) → rank_at ranks.new s v ≡ rank_at ranks.old s v }
+    requires { u < most_nodes }
+    ensures given { (v : ℕ) → v < most_nodes → IsBitSet set v → rank_at ranks.new u v ≡ Some n }
+    ensures kept { (s v : ℕ) → v < most_nodes → (s ≡ u → ¬ IsBitSet set v) → rank_at ranks.new s v ≡ rank_at ranks.old s v }
 {
     let row = MOST_NODES * usize::from(u);
     for v in 0..MOST_NODES {

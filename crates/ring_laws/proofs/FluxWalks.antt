@@ -38,7 +38,7 @@ IsWord-zeros {r} rule = let some = rule.shape.least_states in All-replicate (λ 
 abbrev pub window_ring : LocalRule → List ℕ → List ℕ
 window_ring r w = zeros r ++ w
 
--- and that of its first node: without its last letter
+-- the ring of a window's first node: m - 1 letters 0, then the window without its last letter
 abbrev pub node_ring : LocalRule → List ℕ → List ℕ
 node_ring r w = zeros r ++ take (r.width - 1) w
 
@@ -125,7 +125,7 @@ walk_gains-zero {weight} {r} {phi} rule flux =
     slice_get-get_or (walk_gains weight r) 0 (pos 0) (omega (arith, length-map-range_with_len (walk_gain weight r) 0 (node_count r)))
     ∙ ap Some (get_or-map-range_with_len (walk_gain weight r) 0 (node_count r) 0 0 (pos 0) some (omega arith) ∙ none)
 
--- and they are the only flux that has
+-- the walks' gains are the only flux with 0 at node 0
 pub IsFlux-unique : {weight : ℕ → ℕ} {r : LocalRule} {phi : List ℤ} → IsRule r → IsFlux weight r phi → slice_get phi 0 ≡ Some (pos 0) → phi ≡ walk_gains weight r
 IsFlux-unique {weight} {r} {phi} rule flux zeroth =
     let none : get_or phi 0 (pos 0) ≡ pos 0 = get_or_from_slice_get phi 0 (pos 0) (pos 0) zeroth in

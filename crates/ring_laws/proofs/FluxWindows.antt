@@ -45,7 +45,7 @@ value-first_node {r} rule w word e =
     let letters : r.states ^ 1 ≡ r.states = omega (arith, pow-suc r.states 0, ap (λ n. n * r.states) (pow-zero r.states)) in
     value-take r.states (r.width - 1) w word (omega arith) ∙ ap (λ n. value r.states w / r.states ^ n) one ∙ ap (λ n. value r.states w / n) letters
 
--- and its last one
+-- a window's last node, by its value
 pub value-last : {r : LocalRule} → IsRule r → (w : List ℕ) → IsWord r.states w → length w ≡ r.width → value r.states (drop 1 w) ≡ value r.states w % node_count r
 value-last {r} rule w word e = let wide = rule.shape.least_width in value-tail r.states (r.width - 1) w word (omega arith)
 
@@ -99,7 +99,7 @@ IsFlux-windows {weight} {r} {phi} rule entries each = record {
       window_gain-value rule weight w word e ∙ each v below ∙ ap₂ (λ (i j : ℤ). i -ℤ j) begins ends;
 }
 
--- and under a flux each window does
+-- under a flux the flow of each window is right
 pub FlowsAt-flux : {weight : ℕ → ℕ} {r : LocalRule} {phi : List ℤ} → IsRule r → IsFlux weight r phi → (v : ℕ) → v < r.states ^ r.width → FlowsAt weight r phi v
 FlowsAt-flux {weight} {r} {phi} rule flux v l =
     let w : List ℕ = word_of r.states r.width v in

@@ -20,7 +20,7 @@ keeps_after_zeros {r} rule weight keep w word short =
     } in
     keep (zeros r ++ w) ring (omega (arith, length-append (zeros r) w, length-zeros r))
 
--- and the walks' gains are a flux
+-- where the short rings keep their sum, the walks' gains are a flux
 pub IsFlux-short_rings : {r : LocalRule} → IsRule r → (weight : ℕ → ℕ) → ShortRingsKeepSum weight r → IsFlux weight r (walk_gains weight r)
 IsFlux-short_rings {r} rule weight keep = IsFlux-rings rule weight (λ w word e.
     let node : IsWord r.states (take (r.width - 1) w) = All-take (λ a. a < r.states) (r.width - 1) w word in (

@@ -49,7 +49,7 @@ IsFlux-agree {r = r} rule agree flux = record {
 pub IsLossyRing-agree : {weight other : ℕ → ℕ} {r : LocalRule} {p : List ℕ} → IsRule r → AgreeOn r.states weight other → IsLossyRing weight r p → IsLossyRing other r p
 IsLossyRing-agree {p = p} rule agree lossy = record { ring = lossy.ring; loses = λ keeps. lossy.loses (KeepsSum-agree rule (AgreeOn-sym agree) p lossy.ring.word keeps) }
 
--- and the first one is the first
+-- the first lossy ring by some weights is the first by others that agree on the letters
 pub IsLeastLossyRing-agree : {weight other : ℕ → ℕ} {r : LocalRule} {p : List ℕ} → IsRule r → AgreeOn r.states weight other → IsLeastLossyRing weight r p → IsLeastLossyRing other r p
 IsLeastLossyRing-agree rule agree least = record {
   lossy = IsLossyRing-agree rule agree least.lossy;

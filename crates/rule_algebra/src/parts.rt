@@ -5,7 +5,7 @@ ghost use Rattle.word_image.specs.LocalRules.{IsRule};
 use word_image::Rule;
 
 /// The rule of these parts, which are those of an accepted rule.
-pub(crate) fn accepted(k: u8, m: u8, o: i8, table: &[u8]) -> Rule
+pub(crate) fn rule_of_parts(k: u8, m: u8, o: i8, table: &[u8]) -> Rule
     requires { IsRule (record { states = k; width = m; offset = o; table = table.now }) }
     ensures { result ≡ record { states = k; width = m; offset = o; table = table.now } }
 {

@@ -6,7 +6,7 @@ ghost use Rattle.rule_algebra.specs.MadeImages.{ShiftsImages};
 ghost use Rattle.rule_algebra.specs.AlgebraFaults.{shift_fault};
 
 use crate::fault::{AlgebraFault, check_offset};
-use crate::parts::accepted;
+use crate::parts::rule_of_parts;
 use word_image::Rule;
 
 /// The rule with the same table at the offset o + by, so that image cell i is the old image cell
@@ -17,5 +17,5 @@ pub fn shift(rule: &Rule, by: i8) -> Result<Rule, AlgebraFault>
     ensures images { IfOk result (ShiftsImages rule.now by) }
 {
     let o = check_offset(rule.m(), i16::from(rule.o()) + i16::from(by))?;
-    Ok(accepted(rule.k(), rule.m(), o, rule.table()))
+    Ok(rule_of_parts(rule.k(), rule.m(), o, rule.table()))
 }

@@ -4,7 +4,7 @@ ghost use Rattle.word_image.specs.LocalRules.{IsRule};
 ghost use Rattle.rule_algebra.specs.Algebra.{Ignores, IsTrimmed};
 ghost use Rattle.rule_algebra.specs.Tables.{without_first, DropsFirsts};
 
-use crate::parts::accepted;
+use crate::parts::rule_of_parts;
 use word_image::{Rule, Side};
 
 /// The rule without the cells that it ignores: as long as the width is above 2, the first cell is
@@ -51,5 +51,5 @@ fn without_first(rule: &Rule) -> Rule
     ensures { result ≡ without_first rule.now }
 {
     let rows = &rule.table()[..usize::from(rule.nodes())];
-    accepted(rule.k(), rule.m() - 1, rule.o() + 1, rows)
+    rule_of_parts(rule.k(), rule.m() - 1, rule.o() + 1, rows)
 }

@@ -33,7 +33,7 @@ old_word r c v = recoloured c.letters (word_of r.states r.width v)
 abbrev pub read_as : Bool → List ℕ → List ℕ
 read_as mirror w = if mirror then reverse w else w
 
--- and its value
+-- the value of the window that the rule reads in the place of this one
 abbrev pub old_value : LocalRule → Colouring → ℕ → ℕ
 old_value r c v = value r.states (read_as c.mirrored (old_word r c v))
 
@@ -41,7 +41,7 @@ old_value r c v = value r.states (read_as c.mirrored (old_word r c v))
 abbrev pub new_letter : LocalRule → Colouring → List ℕ → ℕ
 new_letter r c w = slice_index c.colours (local_map (turned r c.mirrored) (recoloured c.letters w))
 
--- and on the window of a value
+-- the colour that the recoloured rule, mirrored or not, gives on the window of a value
 abbrev pub entry : LocalRule → Colouring → ℕ → ℕ
 entry r c v = new_letter r c (word_of r.states r.width v)
 
@@ -49,7 +49,7 @@ entry r c v = new_letter r c (word_of r.states r.width v)
 abbrev pub in_colours : LocalRule → Colouring → LocalRule
 in_colours r c = record { states = r.states; width = r.width; offset = pos 0; table = table_by r.states r.width (new_letter r c) }
 
--- and its Wolfram number
+-- the Wolfram number of the rule that gives these colours
 abbrev pub recoloured_number : LocalRule → Colouring → ℕ
 recoloured_number r c = wolfram_number (in_colours r c)
 

@@ -1,6 +1,6 @@
 //! Rules with other names for their letters, mirrored or not.
 ghost use Rattle.std.specs.Prelude.{◌≡◌, ◌≢◌, ◌+◌, ◌*◌, ◌^◌, ◌<◌, ◌≤◌, ℕ, slice_index, if◌then◌else◌};
-ghost use Rattle.word_image.specs.LocalRules.{IsRule, node_count};
+ghost use Rattle.word_image.specs.LocalRules.{IsRule, node_count, most_windows};
 ghost use Rattle.word_image.specs.Ends.{end_node, window_with};
 ghost use Rattle.word_image.specs.Storage.{padded};
 ghost use Rattle.rule_classes.specs.Colourings.{IsColouring, entry, in_colours, old_value, last_side};
@@ -21,7 +21,7 @@ pub struct Row {
 impl Row {
     /// The value where this is the letter.
     pub fn window(self, letter: u8) -> u8
-        requires { self.start + letter * self.step < 256 }
+        requires { self.start + letter * self.step < most_windows }
         ensures { result ≡ self.start + letter * self.step }
     {
         self.start + letter * self.step
@@ -176,8 +176,8 @@ impl Colouring {
     /// The value of some letters and of one more before them, after them where the rule is mirrored.
     fn with_letter(&self, k: u16, old: u16, power: u16, letter: u8) -> u16
         requires k { k ≤ 6 }
-        requires old { old < 256 }
-        requires power { power ≤ 256 }
+        requires old { old < most_windows }
+        requires power { power ≤ most_windows }
         requires letter { letter < 6 }
         ensures { result ≡ (if self.now.mirrored then old * k + letter else letter * power + old) }
     {

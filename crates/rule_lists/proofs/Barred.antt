@@ -1,14 +1,11 @@
 -- What fixed letters bar.
-use Rattle.std.proofs.Common.{◌≡◌, ℕ, ◌+◌, ◌*◌, ◌/◌, ◌%◌, ◌^◌, ◌<◌, List, slice_index, refl, sym, ap, ap₂, ◌∙◌, subst, arith, mod-lt}
-use Rattle.std.proofs.lemmas.Nat.{div-add-mod', mod-mul-add}
-use Rattle.word_image.specs.LocalRules.{LocalRule, IsRule, node_count}
-use Rattle.word_image.specs.Ends.{window_with, end_node}
-use Rattle.word_image.specs.Graphs.{pair_of, first_of, second_of, pair_count}
+use Rattle.std.proofs.Common.{◌≡◌, ℕ, ◌+◌, ◌*◌, ◌/◌, ◌%◌, ◌^◌, ◌<◌, List, slice_index, sym, ap, ap₂, ◌∙◌, subst, arith}
+use Rattle.word_image.specs.LocalRules.{LocalRule, IsRule}
+use Rattle.word_image.specs.Ends.{end_node}
+use Rattle.word_image.specs.Graphs.{pair_of}
 use Rattle.word_image.specs.Sides.{PairGoes}
 use Rattle.word_image.specs.declared.side.Side.{Side}
 use Rattle.word_image.specs.declared.side.Side.TheVariants.{Right, Left}
-use Rattle.word_image.proofs.laws.WindowParts.{window_with-within, end_node-below, some_letter}
-use Rattle.pair_laws.proofs.Pairs.{first_of-below, second_of-below, first_of-pair_of, second_of-pair_of, pair_of-first_of, pair_of-below}
 use Rattle.pair_laws.specs.FirstWindows.{with_end, end_pair}
 use Rattle.tail_laws.specs.Closing.{IsClosing}
 use Rattle.pair_laws.proofs.FirstWindows.{IsFirst-ends}
@@ -18,52 +15,9 @@ use Rattle.std.proofs.lemmas.Bool.{cases_eq}
 use Rattle.std.proofs.lemmas.List.{get_or-set_same, get_or-set_other}
 use Rattle.rule_lists.specs.Listed.{IsStanding}
 use Rattle.rule_lists.specs.Completions.{IsCompletion}
-use Rattle.rule_lists.specs.EndlessPairs.{FixedLeadsOn, AreEndlessOn, IsFixedEndless}
+use Rattle.rule_lists.specs.EndlessPairs.{AreEndlessOn, IsFixedEndless}
 use Rattle.rule_lists.proofs.Sure.{node_count-completion, pair_of-completion}
 use Rattle.rule_lists.proofs.NoInjective.{PairGoes-fixed}
-
--- along two windows with one fixed letter a pair leads on to the pair of their ends
-pub FixedLeadsOn-windows : (side : Side) (r : LocalRule) (letters : List ℕ) (p a b : ℕ) → IsRule r → p < pair_count r → a < r.states → b < r.states
-    → slice_index letters (window_with side r (first_of r p) a) < r.states
-    → slice_index letters (window_with side r (first_of r p) a) ≡ slice_index letters (window_with side r (second_of r p) b)
-    → FixedLeadsOn side r letters p (pair_of r (end_node side r (window_with side r (first_of r p) a)) (end_node side r (window_with side r (second_of r p) b)))
-FixedLeadsOn-windows Right r letters p a b rule inside ha hb fixed one = record {
-  a = a;
-  b = b;
-  in_pairs = inside;
-  a_letter = ha;
-  b_letter = hb;
-  fixed = fixed;
-  one = one;
-  to = refl;
-}
-FixedLeadsOn-windows Left r letters p a b rule inside ha hb fixed one =
-    let k : ℕ = r.states in
-    let u : ℕ = first_of r p in
-    let v : ℕ = second_of r p in
-    let hu : u < node_count r = first_of-below rule p inside in
-    let hv : v < node_count r = second_of-below rule p in
-    let w : ℕ = window_with Left r u a in
-    let z : ℕ = window_with Left r v b in
-    let hw : w / k < node_count r = end_node-below Left rule w (window_with-within Left rule u a hu ha) in
-    let hz : z / k < node_count r = end_node-below Left rule z (window_with-within Left rule v b hv hb) in
-    let q : ℕ = pair_of r (w / k) (z / k) in
-    let first : first_of r q ≡ w / k = first_of-pair_of r (w / k) (z / k) hz in
-    let second : second_of r q ≡ z / k = second_of-pair_of r (w / k) (z / k) hz in
-    let some : 0 < k = some_letter rule in
-    let first_window : window_with Right r (first_of r q) (w % k) ≡ w = ap (λ x. x * k + w % k) first ∙ div-add-mod' w k in
-    let second_window : window_with Right r (second_of r q) (z % k) ≡ z = ap (λ x. x * k + z % k) second ∙ div-add-mod' z k in
-    record {
-      a = w % k;
-      b = z % k;
-      in_pairs = pair_of-below r (w / k) (z / k) hw hz;
-      a_letter = mod-lt w some;
-      b_letter = mod-lt z some;
-      fixed = subst (λ x. slice_index letters x < k) (sym first_window) fixed;
-      one = ap (slice_index letters) first_window ∙ one ∙ ap (slice_index letters) (sym second_window);
-      to = ap₂ (λ (x y : ℕ). pair_of r (x % node_count r) (y % node_count r)) first_window second_window
-          ∙ ap₂ (pair_of r) (mod-mul-add a (node_count r) u hu) (mod-mul-add b (node_count r) v hv) ∙ pair_of-first_of r p;
-    }
 
 -- the window with another letter at its end, and the ends of both, are those that the shape gives
 with_end-completion : (side : Side) (r s : LocalRule) (letters : List ℕ) → IsCompletion r.states r.width letters s → (w a : ℕ) → with_end side s w a ≡ with_end side r w a

@@ -16,6 +16,6 @@ IsReached-fixed r s letters rule h (On p q before step) =
     let on = PairStep-fixed r s letters rule h p q step in
     IsReached.On p on.a on.b q (IsReached-fixed r s letters rule h before) on.a_letter on.b_letter on.follows
 
--- and where that pair has two equal nodes, no rule that has them is surjective
+-- where fixed letters lead to a pair of two equal nodes, no rule that has them is surjective
 pub IsLost-fixed : (r : LocalRule) (letters : List ℕ) (p : ℕ) → IsRule r → IsFixedReached r letters p → first_of r p ≡ second_of r p → IsLost r.states r.width letters
 IsLost-fixed r letters p rule is equal = IsLost-equal r letters p (λ s h. IsReached-fixed r s letters rule h is) equal

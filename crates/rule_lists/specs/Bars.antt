@@ -11,6 +11,6 @@ use Rattle.rule_lists.specs.declared.properties.Property.{Property}
 abbrev pub Bars : Property → ℕ → ℕ → List ℕ → Type 0
 Bars property k m letters = (s : LocalRule) → IsCompletion k m letters s → ¬ Has property s
 
--- or closes on this side
+-- no rule that has the fixed letters closes on this side
 abbrev pub BarsClosing : Side → ℕ → ℕ → List ℕ → Type 0
 BarsClosing side k m letters = (s : LocalRule) → IsCompletion k m letters s → ¬ IsClosing side s

@@ -10,14 +10,14 @@ pub data IsFixedWalk (side : Side) (r : LocalRule) (letters : List ℕ) : ℕ �
   Here : (p : ℕ) → p < pair_count r → IsFixedWalk side r letters p p
   Step : (p q z : ℕ) → p < pair_count r → FixedLeadsOn side r letters p q → IsFixedWalk side r letters q z → IsFixedWalk side r letters p z
 
--- they lead on from a pair and back to it
+-- fixed letters lead on from a pair and back to it
 pub record IsFixedRound (side : Side) (r : LocalRule) (letters : List ℕ) (p : ℕ) : Type 0 where
   pub next : ℕ
   pub inside : p < pair_count r
   pub on : FixedLeadsOn side r letters p next
   pub back : IsFixedWalk side r letters next p
 
--- they lead on to a pair from a node with itself, first to two different nodes
+-- fixed letters lead on to a pair from a node with itself, first to two different nodes
 pub record IsFixedTail (side : Side) (r : LocalRule) (letters : List ℕ) (p : ℕ) : Type 0 where
   pub from : ℕ
   pub first : ℕ

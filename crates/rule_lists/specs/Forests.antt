@@ -1,6 +1,6 @@
 -- What fixed letters tell of the flux of a conserving rule.
 use Rattle.std.specs.Prelude.{◌≡◌, ◌≢◌, ◌≤◌, ℕ, ◌+◌, ◌/◌, ◌%◌, ◌<◌, List, slice_index, slice_index_or, ℤ, pos, ◌-ℤ◌}
-use Rattle.word_image.specs.LocalRules.{LocalRule, node_count}
+use Rattle.word_image.specs.LocalRules.{LocalRule, node_count, most_nodes}
 use Rattle.word_image.specs.Rings.{IsFlux}
 use Rattle.rule_lists.specs.Completions.{IsCompletion}
 
@@ -9,13 +9,13 @@ abbrev pub AreLevels : ℕ → List ℕ → List ℕ → List ℤ → Type 0
 AreLevels n trees levels phi = (u v : ℕ) → u < n → v < n → slice_index trees u ≡ slice_index trees v
     → (slice_index_or phi u (pos 0) -ℤ slice_index_or phi v (pos 0)) ≡ pos (slice_index levels u) -ℤ pos (slice_index levels v)
 
--- they differ so under each flux of a rule that has the fixed letters
+-- the levels of two nodes of one tree differ as the numbers of each flux of a rule do that has the fixed letters
 abbrev pub AreKnown : LocalRule → List ℕ → List ℕ → List ℕ → Type 0
 AreKnown r letters trees levels = (s : LocalRule) (phi : List ℤ) → IsCompletion r.states r.width letters s → IsFlux (λ a. a) s phi → AreLevels (node_count r) trees levels phi
 
 -- no level is greater
 abbrev pub AreUpTo : ℕ → List ℕ → Type 0
-AreUpTo most levels = (v : ℕ) → v < 16 → slice_index levels v ≤ most
+AreUpTo most levels = (v : ℕ) → v < most_nodes → slice_index levels v ≤ most
 
 -- with this letter the window gains the difference of a list at its two nodes
 abbrev pub GainsWith : LocalRule → ℕ → ℕ → List ℤ → Type 0

@@ -1,6 +1,6 @@
 //! The classes of windows, by which they are put in order.
 ghost use Rattle.std.specs.Prelude.{◌≡◌, ◌≤◌, ◌<◌, ◌+◌, ◌*◌, ◌-◌, ◌/◌, ◌%◌, ◌^◌, ◌==◌, ◌↔◌, ℕ, IsTrue, slice_index};
-ghost use Rattle.word_image.specs.LocalRules.{IsRule};
+ghost use Rattle.word_image.specs.LocalRules.{IsRule, most_windows};
 ghost use Rattle.rule_lists.specs.Orders.{class_of, ring_class, ring_number, turned, has_period, weight_class};
 
 use crate::properties::Property;
@@ -92,7 +92,7 @@ fn power(shape: &Rule, length: u8) -> u32
     requires { length ≤ shape.now.width }
     ensures power { result ≡ shape.now.states ^ length }
     ensures some { 0 < result }
-    ensures few { result ≤ 256 }
+    ensures few { result ≤ most_windows }
     ensures rule { IsRule shape.now }
 {
     u32::from(shape.k()).pow(u32::from(length))

@@ -1,5 +1,6 @@
 //! Whether letters that stand forbid a property, whatever the others are.
 ghost use Rattle.std.specs.Prelude.{◌≡◌, ◌≢◌, ◌^◌, ◌<◌, ◌≤◌, ℕ, IsTrue, ◌-◌, length, slice_index};
+ghost use Rattle.word_image.specs.LocalRules.{most_windows};
 ghost use Rattle.rule_lists.specs.Ranks.{IsOrder};
 ghost use Rattle.rule_lists.specs.Tables.{IsTable};
 ghost use Rattle.rule_lists.specs.Listed.{Forbids, IsStanding};
@@ -58,7 +59,7 @@ fn has_other(k: u8, begin: &Letters, order: &[u8], entries: &Entries, n: u16) ->
 /// The letters at the first n windows, and those that are fixed from the beginning elsewhere.
 fn standing(begin: &Letters, order: &[u8], entries: &Entries, n: u16) -> Letters
     requires { n ≤ length order.now }
-    ensures { (v : ℕ) → v < 256 → IsStanding begin.now order.now entries.now n v (slice_index result v) }
+    ensures { (v : ℕ) → v < most_windows → IsStanding begin.now order.now entries.now n v (slice_index result v) }
 {
     let mut letters = *begin;
     for place in 0..n {

@@ -1,6 +1,6 @@
 //! What fixed letters tell of the flux of a conserving rule.
 ghost use Rattle.std.specs.Prelude.{◌≡◌, ◌+◌, ◌*◌, ◌^◌, ◌<◌, ◌≤◌, ℕ, ℤ, List, slice_index};
-ghost use Rattle.word_image.specs.LocalRules.{node_count};
+ghost use Rattle.word_image.specs.LocalRules.{node_count, most_nodes, most_windows};
 ghost use Rattle.rule_lists.specs.Forests.{AreKnown, AreLevels, AreUpTo, GainsWith, IsMoved};
 
 use crate::letters::Letters;
@@ -23,7 +23,7 @@ const MOST_RISE: u32 = 1 << 20;
 /// The trees of the nodes that windows with fixed letters join.
 pub(crate) fn forest_of(shape: &Rule, letters: &Letters) -> Forest
     ensures known { AreKnown shape.now letters.now result.trees result.levels }
-    ensures small { AreUpTo (256 * 1048576) result.levels }
+    ensures small { AreUpTo (most_windows * 1048576) result.levels }
 {
     let mut forest = single_nodes();
     for window in 0..shape.size() {
@@ -34,7 +34,7 @@ pub(crate) fn forest_of(shape: &Rule, letters: &Letters) -> Forest
 
 /// Each node is a tree.
 fn single_nodes() -> Forest
-    ensures trees { (v : ℕ) → v < 16 → slice_index result.trees v ≡ v }
+    ensures trees { (v : ℕ) → v < most_nodes → slice_index result.trees v ≡ v }
     ensures levels { AreUpTo 0 result.levels }
 {
     let mut trees = [0; MOST_NODES];
@@ -91,10 +91,10 @@ fn with_window(shape: &Rule, window: u16, letter: u8, forest: &Forest) -> Forest
 
 /// The trees after one goes into another, and each of the two rises.
 fn joined(forest: &Forest, kept: u8, rise: u32, gone: u8, other: u32) -> Forest
-    requires levels { (v : ℕ) → v < 16 → slice_index forest.now.levels v < 2 ^ 31 }
+    requires levels { (v : ℕ) → v < most_nodes → slice_index forest.now.levels v < 2 ^ 31 }
     requires first { rise < 2 ^ 31 }
     requires second { other < 2 ^ 31 }
-    ensures { (v : ℕ) → v < 16 → IsMoved kept rise gone other (slice_index forest.now.trees v) (slice_index forest.now.levels v) (slice_index result.trees v) (slice_index result.levels v) }
+    ensures { (v : ℕ) → v < most_nodes → IsMoved kept rise gone other (slice_index forest.now.trees v) (slice_index forest.now.levels v) (slice_index result.trees v) (slice_index result.levels v) }
 {
     let mut trees = [0; MOST_NODES];
     let mut levels = [0; MOST_NODES];

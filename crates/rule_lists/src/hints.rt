@@ -1,5 +1,6 @@
 //! What the letters that stand may forbid, found letter by letter.
 ghost use Rattle.std.specs.Prelude.{◌≤◌, length};
+ghost use Rattle.word_image.specs.LocalRules.{most_windows};
 
 use crate::letters::Letters;
 use crate::properties::Property;
@@ -80,7 +81,7 @@ impl Hint {
         looking: bool,
     ) -> bool
         requires within { n ≤ length order.now }
-        requires few { length order.now ≤ 256 }
+        requires few { length order.now ≤ most_windows }
     {
         if n == 0 {
             return self.begun;
@@ -173,7 +174,7 @@ impl Hints {
     /// weren't seen.
     pub(crate) fn catch_up(&mut self, begin: &Letters, order: &[u8], entries: &Entries, n: u16)
         requires within { n ≤ length order.now }
-        requires few { length order.now ≤ 256 }
+        requires few { length order.now ≤ most_windows }
     {
         for place in self.first.placed.saturating_add(1).max(1)..n {
             let _ = self.see(begin, order, entries, place, false);
@@ -192,7 +193,7 @@ impl Hints {
         looking: bool,
     ) -> bool
         requires within { n ≤ length order.now }
-        requires few { length order.now ≤ 256 }
+        requires few { length order.now ≤ most_windows }
     {
         if let Property::Conserving = self.first.property {
             return true;

@@ -1,5 +1,6 @@
 //! Letters that are fixed of a table.
 ghost use Rattle.std.specs.Prelude.{◌≡◌, ◌<◌, IsTrue, slice_index};
+ghost use Rattle.word_image.specs.LocalRules.{most_windows};
 
 use word_image::MOST_ENTRIES;
 
@@ -8,8 +9,8 @@ pub type Letters = [u8; MOST_ENTRIES];
 
 /// Whether two windows are fixed, with one letter.
 pub(crate) fn are_one(k: u8, letters: &Letters, first: u16, second: u16) -> bool
-    requires first { first < 256 }
-    requires second { second < 256 }
+    requires first { first < most_windows }
+    requires second { second < most_windows }
     ensures fixed { IsTrue result → slice_index letters.now first < k }
     ensures one { IsTrue result → slice_index letters.now first ≡ slice_index letters.now second }
 {

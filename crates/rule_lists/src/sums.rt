@@ -1,5 +1,6 @@
 //! Whether fixed letters bar that a rule conserves the sum of every ring.
 ghost use Rattle.std.specs.Prelude.{◌≡◌, ◌*◌, ◌^◌, ◌<◌, IsTrue};
+ghost use Rattle.word_image.specs.LocalRules.{most_windows};
 ghost use Rattle.rule_lists.specs.Bars.{Bars};
 ghost use Rattle.rule_lists.specs.Forests.{AreKnown, AreUpTo};
 ghost use Rattle.rule_lists.specs.declared.properties.Property.TheVariants.{Conserving};
@@ -26,7 +27,7 @@ pub(crate) fn bars_conserving(shape: &Rule, letters: &Letters) -> bool
 fn has_no_letter(shape: &Rule, letters: &Letters, forest: &Forest, window: u16) -> bool
     requires window { window < shape.now.states ^ shape.now.width }
     requires known { AreKnown shape.now letters.now forest.now.trees forest.now.levels }
-    requires small { AreUpTo (256 * 1048576) forest.now.levels }
+    requires small { AreUpTo (most_windows * 1048576) forest.now.levels }
     ensures { IsTrue result → Bars Conserving shape.now.states shape.now.width letters.now }
 {
     let first = usize::from(Side::Left.end_node(shape, window));

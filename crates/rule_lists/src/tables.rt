@@ -1,5 +1,6 @@
 //! Tables that are filled window by window.
 ghost use Rattle.std.specs.Prelude.{◌≡◌, ◌+◌, ◌-◌, ◌*◌, ◌^◌, ◌<◌, ◌≤◌, ◌↔◌, ℕ, List, IfSome, IsTrue, length, slice_index};
+ghost use Rattle.word_image.specs.LocalRules.{most_windows};
 ghost use Rattle.rule_lists.specs.Ranks.{IsOrder, rank_of_first};
 ghost use Rattle.rule_lists.specs.Tables.{IsTable, HasLetters, IsPast};
 
@@ -11,7 +12,7 @@ pub(crate) type Entries = [u8; MOST_ENTRIES];
 
 /// Whether a table has each letter that is fixed from the beginning.
 pub(crate) fn has_letters(k: u8, begin: &Letters, entries: &Entries, size: u16) -> bool
-    requires { size ≤ 256 }
+    requires { size ≤ most_windows }
     ensures { IsTrue result ↔ HasLetters k size begin.now entries.now }
 {
     for window in 0..usize::from(size) {
@@ -26,7 +27,7 @@ pub(crate) fn has_letters(k: u8, begin: &Letters, entries: &Entries, size: u16) 
 /// where there are no next ones.
 pub(crate) fn advance(k: u8, order: &[u8], entries: &mut Entries, n: u16) -> Option<u16>
     requires states { 2 ≤ k }
-    requires order { (size : ℕ) × (size ≤ 256) × IsOrder size order.now }
+    requires order { (size : ℕ) × (size ≤ most_windows) × IsOrder size order.now }
     requires table { IsTable k (length order.now) entries.old }
     requires within { n ≤ length order.now }
     ensures table { IsTable k (length order.now) entries.new }

@@ -9,7 +9,7 @@ use Rattle.rule_text.specs.declared.text_fault.TextFault.{TextFault}
 use Rattle.rule_text.specs.declared.text_fault.TextFault.TheVariants as fault
 use Rattle.rule_text.specs.declared.beginnings.Beginning.{Beginning}
 
--- these letters, and 0 for each window behind them
+-- the letters of a beginning, and 0 for each window behind them
 abbrev pub filled : ℕ → List ℕ → List ℕ
 filled size letters = letters ++ replicate (size - length letters) 0
 

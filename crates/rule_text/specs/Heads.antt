@@ -84,7 +84,7 @@ IsNoKind b = (b ≢ 116) × (b ≢ 119)
 abbrev pub IsRuleFormAt : List ℕ → TextFault → (ℕ → Type 0) → Type 0
 IsRuleFormAt text f P = (place : ℕ) × (f ≡ fault.Form place) × (place ≤ length text) × P place
 
--- it is one of form
+-- a fault is one of form
 abbrev pub IsForm : TextFault → Type 0
 IsForm f = (place : ℕ) × (f ≡ fault.Form place)
 
@@ -102,7 +102,7 @@ IsEntries kind.Number digits = IsDecimal 1 39 digits
 abbrev pub said_with : Head → Entries → Said
 said_with f entries = record { states = f.k; width = f.m; offset = f.o; entries = entries; place = f.place }
 
--- and with digits of its kind
+-- what a head says with digits of its kind
 abbrev pub said_of : Head → List ℕ → Said
 said_of f digits = said_with f (entries_of f.kind digits)
 

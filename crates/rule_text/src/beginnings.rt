@@ -1,6 +1,6 @@
 //! The beginning of a rule's table text.
 ghost use Rattle.std.specs.Prelude.{◌≡◌, ◌+◌, ◌-◌, ◌^◌, ◌<◌, ◌≤◌, ◌++◌, IfOk, IfErr, All, map, length, take, replicate};
-ghost use Rattle.word_image.specs.LocalRules.{IsShape};
+ghost use Rattle.word_image.specs.LocalRules.{IsShape, most_windows};
 ghost use Rattle.word_image.specs.Digits.{IsHexDigit, letter_at};
 ghost use Rattle.rule_text.specs.RuleTexts.{Table};
 ghost use Rattle.rule_text.specs.Heads.{IsEntries, said_of, said_with};
@@ -74,8 +74,8 @@ fn begin_table(head: &Head, digits: &[u8]) -> Result<Beginning, TextFault>
 
 /// The letters that digits stand for, and 0 behind them.
 fn filled(digits: &[u8]) -> [u8; MOST_ENTRIES]
-    requires { length digits.now ≤ 256 }
-    ensures { result ≡ map letter_at digits.now ++ replicate (256 - length digits.now) 0 }
+    requires { length digits.now ≤ most_windows }
+    ensures { result ≡ map letter_at digits.now ++ replicate (most_windows - length digits.now) 0 }
 {
     let mut table = [0; MOST_ENTRIES];
     write_letters(&mut table[..digits.len()], digits);

@@ -1,5 +1,6 @@
 -- The evidence of a rule in the parts of a certificate.
 use Rattle.std.specs.Prelude.{ℕ, ◌≤◌, List, Option, ⊤}
+use Rattle.inverse_window.specs.FirstWindows.{longest_window}
 use Rattle.word_image.specs.LocalRules.{LocalRule}
 use Rattle.cert_format.specs.declared.parts.InjectivePart.{InjectivePart}
 use Rattle.cert_format.specs.declared.parts.SidePart.{SidePart}
@@ -23,5 +24,5 @@ evidence_in r weights orphan injective right left conserving = record {
 
 -- a window has at most 480 letters of the image
 abbrev pub HasShortWindow : InjectiveEvidence → Type 0
-HasShortWindow (Window n c) = n ≤ 480
+HasShortWindow (Window n c) = n ≤ longest_window
 HasShortWindow (Twins x y) = ⊤

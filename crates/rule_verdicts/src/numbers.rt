@@ -1,6 +1,6 @@
 //! What holds of rules with consecutive numbers, a byte for each.
 ghost use Rattle.std.specs.Prelude.{◌≡◌, ℕ, ◌+◌, ◌-◌, ◌^◌, ◌<◌, ◌≤◌, None, Some, length, reverse, slice_index, sum, MatchResult};
-ghost use Rattle.word_image.specs.LocalRules.{IsRule, IsWord, value};
+ghost use Rattle.word_image.specs.LocalRules.{IsRule, IsWord, value, most_windows};
 ghost use Rattle.rule_verdicts.specs.Truths.{table_rule};
 ghost use Rattle.rule_verdicts.specs.Numbers.{numbers_fault, IsVerdictByte, AreVerdictBytes};
 
@@ -72,7 +72,7 @@ fn verdict_byte(k: u8, m: u8, table: &[u8], total: u16) -> u8
 /// the first. Gives the sum of its letters, from that of the old ones.
 pub fn next_table(k: u8, table: &mut [u8], total: u16) -> u16
     requires word { IsWord k table.old }
-    requires few { length table.old ≤ 256 }
+    requires few { length table.old ≤ most_windows }
     requires total { total ≡ sum table.old }
     ensures word { IsWord k table.new }
     ensures total { result ≡ sum table.new }

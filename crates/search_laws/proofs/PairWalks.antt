@@ -44,7 +44,7 @@ pair_cmp-code n p q small_p small_q =
     ∙ slice_cmp-value n (p.0 ∷ p.1 ∷ []) (q.0 ∷ q.1 ∷ []) (below p small_p) (below q small_q) refl
     ∙ ap₂ nat_cmp (value-pair n p.0 p.1) (value-pair n q.0 q.1)
 
--- and lists of letter pairs in dictionary order as those of their numbers
+-- lists of letter pairs are in dictionary order as those of their numbers are
 pub slice_cmp-codes : (n : ℕ) (p q : List (ℕ × ℕ)) → ArePairs n p → ArePairs n q → slice_cmp pair_cmp p q ≡ slice_cmp nat_cmp (map (code n) p) (map (code n) q)
 slice_cmp-codes n [] [] small_p small_q = refl
 slice_cmp-codes n [] (b ∷ q) small_p small_q = refl
@@ -93,7 +93,7 @@ Leads-walk {follow} {k} {start} {t} {w} n le walk = record {
       omega (arith, mul-add-lt p.0 n p.1 k here.0 (omega (arith, here.1)), mul_comm n k));
 }
 
--- and back
+-- a walk by the numbers of letter pairs is a walk by these
 pub PairWalk-leads : {follow : ℕ → ℕ → ℕ → Option ℕ} {k n start t : ℕ} {w : List ℕ} → Leads (CodeStep follow k n) (k * n) start w t
     → PairWalk follow k start (map (uncode n) w) t
 PairWalk-leads {follow} {k} {n} {start} {t} {w} leads = record {

@@ -17,7 +17,7 @@ states_of = map (λ x. x.state)
 pub mapped_at : {X Y : Type 0} (f : X → Y) (xs : List X) (i : ℕ) (x : X) → slice_get xs i ≡ Some x → slice_get (map f xs) i ≡ Some (f x)
 mapped_at f xs i x at = slice_get-map f xs i ∙ ap (option_map f) at
 
--- and back
+-- what stands in a list that was mapped comes from what stood there
 pub unmapped_at : {X Y : Type 0} (f : X → Y) (xs : List X) (i : ℕ) (y : Y) → slice_get (map f xs) i ≡ Some y → (x : X) × (slice_get xs i ≡ Some x) × (f x ≡ y)
 unmapped_at f [] i y at = absurd (none-some y at)
 unmapped_at f (x ∷ xs) zero y at = (x, refl, cc)

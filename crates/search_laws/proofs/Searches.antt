@@ -51,6 +51,6 @@ search-below x n first steps i s at =
     let (y, stands, state) = search_place x i s at in
     subst (λ u. u < n) state (state-below x.queue n first steps i y stands)
 
--- and there are at most n
+-- where the start is below n and steps lead below n, there are at most n states
 pub length-search-le : {Step : ℕ → ℕ → ℕ → Type 0} {k start : ℕ} {states : List ℕ} {e : ℕ} → IsSearch Step k start states e → (n : ℕ) → start < n → ((s a t : ℕ) → Step s a t → t < n) → length states ≤ n
 length-search-le x n first steps = omega (arith, length-search x, length-queue-le x.queue n first steps)

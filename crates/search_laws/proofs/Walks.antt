@@ -11,7 +11,7 @@ pub Walk-join : {S L : Type 0} (Step : S → L → S → Type 0) (v w : List L) 
 Walk-join Step [] w s u t first second = subst (λ x. Walk Step x w t) (sym first) second
 Walk-join Step (a ∷ v) w s u t (next, step, rest) second = (next, step, Walk-join Step v w next u t rest second)
 
--- and a walk that is cut in two
+-- a walk by two words is cut in two
 pub Walk-cut : {S L : Type 0} (Step : S → L → S → Type 0) (v w : List L) (s t : S) → Walk Step s (v ++ w) t → (u : S) × Walk Step s v u × Walk Step u w t
 Walk-cut Step [] w s t walk = (s, refl, walk)
 Walk-cut Step (a ∷ v) w s t (next, step, rest) = let (u, first, second) = Walk-cut Step v w next t rest in (u, (next, step, first), second)
@@ -57,7 +57,7 @@ induct_on {k = k} P next v s leads here (a ∷ w) t word (u, step, rest) =
     subst (λ x. P x t) (append_assoc v (a ∷ []) w)
     (induct_on P next (v ++ a ∷ []) u (Leads-push leads letter step) (next v a s u leads letter step here) w t (All-tail (λ b. b < k) a w word) rest)
 
--- and from the first letter on
+-- what holds of the start, and stays where a step is added, holds where a word leads
 pub Leads-induct : {S : Type 0} {Step : S → ℕ → S → Type 0} {k : ℕ} {start : S} (P : List ℕ → S → Type 0) → P [] start
     → ((w : List ℕ) (a : ℕ) (s t : S) → Leads Step k start w s → a < k → Step s a t → P w s → P (w ++ a ∷ []) t) → (w : List ℕ) (t : S) → Leads Step k start w t → P w t
 Leads-induct {start = start} P here next w t leads = induct_on P next [] start Leads-none here w t leads.word leads.walk

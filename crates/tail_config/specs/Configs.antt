@@ -27,10 +27,10 @@ image_of r x i = local_map r (run x (i +ℤ r.offset) r.width)
 abbrev pub AgreeWithin : ℕ → Config → Config → Type 0
 AgreeWithin n x y = (i : ℤ) → neg_ℤ (pos n) ≤ℤ i → i ≤ℤ pos n → x i ≡ y i
 
--- they are equal at each place left of some place
+-- two configurations are equal at each place left of some place
 abbrev pub AgreeFarLeft : Config → Config → Type 0
 AgreeFarLeft x y = (p : ℤ) × ((i : ℤ) → i <ℤ p → x i ≡ y i)
 
--- they are equal at each place right of some place
+-- two configurations are equal at each place right of some place
 abbrev pub AgreeFarRight : Config → Config → Type 0
 AgreeFarRight x y = (p : ℤ) × ((i : ℤ) → p <ℤ i → x i ≡ y i)

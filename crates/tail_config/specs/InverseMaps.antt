@@ -19,7 +19,7 @@ map_letter g w = slice_index g.table (value g.states w)
 abbrev pub mapped : WindowMap → Config → Config
 mapped g y i = map_letter g (run y (i +ℤ g.offset) g.width)
 
--- it gives letter c of every preimage of a word of n letters, and 0 where the word has none
+-- the map gives letter c of every preimage of a word of n letters, and 0 where the word has none
 pub record IsInverseMap (r : LocalRule) (n c : ℕ) (g : WindowMap) : Type 0 where
   pub states : g.states ≡ r.states
   pub width : g.width ≡ n

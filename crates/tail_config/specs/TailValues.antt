@@ -1,5 +1,6 @@
 -- What a Tail is seen as: a configuration, and how many letters it is over.
 use Rattle.std.specs.Prelude.{ℕ, ◌≤◌, List}
+use Rattle.word_image.specs.LocalRules.{most_states}
 use Rattle.tail_config.specs.Tails.{TailConfig}
 use Rattle.tail_config.specs.TailTexts.{IsShortTail}
 
@@ -11,7 +12,7 @@ pub record TailOver : Type 0 where
 -- there are 2 to 16 letters, and each part has at most 1,024
 pub record IsAcceptedTail (t : TailOver) : Type 0 where
   pub least_states : 2 ≤ t.states
-  pub most_states : t.states ≤ 16
+  pub most_states : t.states ≤ most_states
   pub short : IsShortTail t.states t.config
 
 -- the configuration of these three parts

@@ -2,7 +2,7 @@
 ghost use Rattle.std.specs.Prelude.{◌≡◌, ◌^◌, ◌<◌, ◌≤◌, ◌↔◌, IfOk, IfErr, IsOk, length, unsigned_abs, ℤ, pos, ◌+ℤ◌, ◌-ℤ◌, ◌<ℤ◌};
 ghost use Rattle.std.specs.Option.{option_map};
 ghost use Rattle.std.specs.Result.{result_err};
-ghost use Rattle.word_image.specs.LocalRules.{LocalRule, IsRule, mirrored};
+ghost use Rattle.word_image.specs.LocalRules.{LocalRule, IsRule, mirrored, most_states};
 ghost use Rattle.tail_config.specs.Tails.{TailConfig, IsTail, cell, cells, image_cell, mirror_of};
 ghost use Rattle.tail_config.specs.TailTexts.{IsShortTail};
 ghost use Rattle.tail_config.specs.TailValues.{IsAcceptedTail, config_of};
@@ -43,7 +43,7 @@ impl Tail {
     /// fault, in the order of `TailFault`, with the parts as they were.
     pub fn new(k: u8, left: Vec<u8>, middle: Vec<u8>, right: Vec<u8>) -> Result<Tail, TailRefusal>
         requires least { 2 ≤ k }
-        requires most { k ≤ 16 }
+        requires most { k ≤ most_states }
         ensures tail { IfOk result (λ t.
             t ≡ record { states = k; config = config_of left.items middle.items right.items }) }
         ensures accepted { IsOk result

@@ -1,6 +1,7 @@
 //! The texts of Tails: `L|M|R`, each part a row of hexadecimal digits.
 ghost use Rattle.std.specs.Prelude.{◌≡◌, ◌≤◌, ◌⊎◌, ◌↔◌, IsTrue, length, map, nat_le, position, alloc_error, IfOk, IfErr};
 ghost use Rattle.std.specs.Result.{result_err};
+ghost use Rattle.word_image.specs.LocalRules.{most_states};
 ghost use Rattle.word_image.specs.Digits.{letter_at};
 ghost use Rattle.word_image.specs.Grammars.{IsFormFault};
 ghost use Rattle.tail_config.specs.Tails.{TailConfig};
@@ -51,7 +52,7 @@ pub fn has_form(text: &[u8]) -> bool
 /// in the order of `TailTextFault`.
 pub fn parse(alloc: Global, k: u8, text: &[u8]) -> Result<Tail, TailTextFault>
     requires least { 2 ≤ k }
-    requires most { k ≤ 16 }
+    requires most { k ≤ most_states }
     ensures tail { IfOk result (λ t. (t.states ≡ k) × IsTailText k text.now t.config) }
     ensures fault { IfErr result (λ f.
         (f ≡ TailTextFault.Memory alloc_error) ⊎ IsTailTextFault k text.now f) }
@@ -162,7 +163,7 @@ fn first_foreign(k: u8, digits: &[u8]) -> Option<usize>
 /// The Tail that rows of digits stand for.
 fn tail_of(alloc: Global, k: u8, parts: &Parts) -> Result<Tail, AllocError>
     requires least { 2 ≤ k }
-    requires most { k ≤ 16 }
+    requires most { k ≤ most_states }
     requires parts { let p = parts.now in
         IsShortTail k (letters_of p.left.now p.middle.now p.right.now) }
     ensures { let p = parts.now in IfOk result (λ t.

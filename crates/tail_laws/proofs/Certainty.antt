@@ -103,7 +103,7 @@ IsRightClosing-window {r} rule = (
   λ a. IsRightClosing-ahead rule a.1,
 )
 
--- and left-closing exactly where it looks ahead to the left
+-- a rule is left-closing exactly where it looks ahead to the left
 pub IsLeftClosing-window : {r : LocalRule} → IsRule r → IsLeftClosing r ↔ ((n : ℕ) × IsLeftAhead r n)
 IsLeftClosing-window {r} rule = (
   λ closing. (IsRightClosing-window (IsRule-mirrored rule)).0 ((IsLeftClosing-mirrored rule).0 closing),

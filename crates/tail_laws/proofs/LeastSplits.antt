@@ -3,7 +3,7 @@ use Rattle.std.proofs.Common.{◌≡◌, ◌≢◌, ℕ, ◌+◌, ◌≤◌, Lis
 use Rattle.std.specs.Ordering.{ordering_then}
 use Rattle.std.specs.Cmp.{IsTotalOrder, nat_cmp_is}
 use Rattle.std.specs.Cmp.Lexicographic.{slice_cmp}
-use Rattle.std.proofs.lemmas.Bool.{cases_lt, cases_eq}
+use Rattle.std.proofs.lemmas.Bool.{cases_lt}
 use Rattle.std.proofs.lemmas.Cmp.{then_total, on_total, lists_total, nat_cmp_total}
 use Rattle.std.proofs.lemmas.List.{length-map}
 use Rattle.std.proofs.lemmas.Slice.Zip.{firsts-zip, seconds-zip}
@@ -11,12 +11,12 @@ use Rattle.word_image.specs.LocalRules.{LocalRule, IsRule}
 use Rattle.word_image.specs.Graphs.{pair_count}
 use Rattle.word_image.specs.MarkedPairs.{marked}
 use Rattle.word_image.specs.Rings.{pair_cmp, pairs_cmp}
-use Rattle.word_image.proofs.laws.Comparisons.{then_not_greater, nat_cmp-le, nat_cmp-equal, no_later, pair_cmp_total, not_before}
+use Rattle.word_image.proofs.laws.Comparisons.{then_not_greater, nat_cmp-le, nat_cmp-equal, no_later, pair_cmp_total}
 use Rattle.search_laws.specs.PairWalks.{IsLeastWalk, IsLeastWalkTo}
 use Rattle.tail_config.specs.Tails.{TailConfig}
 use Rattle.tail_config.specs.Splits.{IsNormalRightSplit, IsLeastRightSplit, splits_cmp}
-use Rattle.tail_laws.specs.SplitWalks.{IsSplitAt, IsNoSplitAt, IsNoSplitBelow, IsLeastSplitAt, IsLeastBelow, with_mark, first_tail, second_tail, split_of}
-use Rattle.tail_laws.proofs.SplitWalks.{zip-sides, IsNormalRightSplit-walks, normal_split-at}
+use Rattle.tail_laws.specs.SplitWalks.{IsSplitAt, IsNoSplitBelow, IsLeastSplitAt, IsLeastBelow, with_mark, first_tail, second_tail, split_of}
+use Rattle.tail_laws.proofs.SplitWalks.{zip-sides, normal_split-at}
 
 -- splits are in a total order
 pub splits_cmp_total : IsTotalOrder splits_cmp
@@ -78,35 +78,6 @@ pub no_earlier-least : {r : LocalRule} {t : ℕ} {a b w' v' : List (ℕ × ℕ)}
     → splits_cmp (split_of w v) (split_of w' v') ≢ Greater
 no_earlier-least {a = a} {b} {w'} {v'} here w v first at = no_later splits_cmp_total (split_of w v) (split_of a b) (split_of w' v') first (here.least w' v' at)
 
--- then it stays the least with one state more
-pub IsLeastBelow-next : {r : LocalRule} {t : ℕ} {w v : List (ℕ × ℕ)} → IsLeastBelow r t w v
-    → ((w' v' : List (ℕ × ℕ)) → IsSplitAt r t w' v' → splits_cmp (split_of w v) (split_of w' v') ≢ Greater) → IsLeastBelow r (t + 1) w v
-IsLeastBelow-next {r} {t} {w} {v} h here =
-    record {
-      split = h.split;
-      least = λ s w' v' l at. ⊎_elim (λ e. here w' v' (subst (λ u. IsSplitAt r u w' v') e at)) (λ other. h.least s w' v' (omega arith) at) (cases_eq s t);
-    }
-
--- where the least one there comes before it, that takes its place
-pub IsLeastBelow-taken : {r : LocalRule} {t : ℕ} {w v w' v' : List (ℕ × ℕ)} → IsRule r → IsLeastBelow r t w v → IsLeastSplitAt r t w' v' → splits_cmp (split_of w v) (split_of w' v') ≡ Greater
-    → IsLeastBelow r (t + 1) w' v'
-IsLeastBelow-taken {r} {t} {w} {v} {w'} {v'} rule h here after =
-    IsLeastBelow-next
-    (record {
-      split = IsNormalRightSplit-walks rule here.split;
-      least = λ s a b l at. no_later splits_cmp_total (split_of w' v') (split_of w v) (split_of a b) (not_before splits_cmp_total (split_of w v) (split_of w' v') (λ less. cc)) (h.least s a b l at);
-    })
-    here.least
-
--- where none is at a state below t, nor at t, none is below t + 1
-pub IsNoSplitBelow-next : {r : LocalRule} {t : ℕ} → IsNoSplitBelow r t → IsNoSplitAt r t → IsNoSplitBelow r (t + 1)
-IsNoSplitBelow-next {r} {t} h here s l = ⊎_elim (λ e. subst (IsNoSplitAt r) (sym e) here) (λ other. h s (omega arith)) (cases_eq s t)
-
--- the first one that is found is the least so far
-pub IsLeastBelow-first : {r : LocalRule} {t : ℕ} {w v : List (ℕ × ℕ)} → IsRule r → IsNoSplitBelow r t → IsLeastSplitAt r t w v → IsLeastBelow r (t + 1) w v
-IsLeastBelow-first rule none here =
-    IsLeastBelow-next (record { split = IsNormalRightSplit-walks rule here.split; least = λ s a b l at. absurd (none s l a b at) }) here.least
-
 -- a configuration with zeros on its left is made of its middle and its right period
 tail_of-parts : (t : TailConfig) (middle right : List ℕ) → t.left ≡ 0 ∷ [] → middle ≡ t.middle → right ≡ t.right → record { left = 0 ∷ []; middle = middle; right = right } ≡ t
 tail_of-parts t middle right left same_middle same_right =
@@ -127,6 +98,6 @@ IsLeastRightSplit-below {r} {w} {v} rule h =
           subst (λ p. splits_cmp (split_of w v) p ≢ Greater) same (h.least found.0 (zip x.middle y.middle) (zip x.right y.right) found.1 found.2);
     }
 
--- and where there is none, there is no normal right split
+-- where no state has a split, there is no normal right split
 pub no_normal_split : {r : LocalRule} → IsRule r → IsNoSplitBelow r (pair_count r + pair_count r) → (x y : TailConfig) → ¬ IsNormalRightSplit r x y
 no_normal_split rule none x y n = let found = normal_split-at rule n in none found.0 found.1 _ _ found.2

@@ -48,7 +48,7 @@ twins-turn {r} {x} {y} rule twins =
       record { steps = subst (MarkedLeads r p (zip x y)) end walk.1; letters = ArePairs-zip r.states x y t.first.word t.second.word },
     )
 
--- and each such walk is made of twins
+-- each walk of a turn with the mark is made of twins
 pub turn-twins : {r : LocalRule} → IsRule r → (x y : List ℕ) (p : ℕ) → length x ≡ length y → p < pair_count r → IsTurn r p (zip x y) → IsTwins r x y
 turn-twins {r} rule x y p long below turn =
     let n : ℕ = pair_count r in

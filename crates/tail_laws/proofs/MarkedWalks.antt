@@ -30,7 +30,7 @@ HasOther-zip (a ∷ x) [] e n = absurd (omega arith)
 HasOther-zip (a ∷ x) (b ∷ y) e n =
     ⊎_elim (λ same. inr (HasOther-zip x y (omega arith) (λ rest. n (ap₂ (λ (c : ℕ) (z : List ℕ). c ∷ z) same rest)))) (λ other. inl other) (cases_eq a b)
 
--- and only then
+-- two words of one length with a pair of different letters differ
 pub HasOther-different : (x y : List ℕ) → HasOther (zip x y) → x ≢ y
 HasOther-different [] y h e = h
 HasOther-different (a ∷ x) [] h e = h
@@ -45,7 +45,7 @@ mark r t a b = if nat_le (pair_count r) t || not (a == b) then pair_count r else
 marked_value : (c d s k : ℕ) (q : ℕ) → (if c == d then Some s else None) ≡ Some q → (if c == d then Some (s + k) else None) ≡ Some (q + k)
 marked_value c d s k q e = grind (arith, nat_tests)
 
--- and back
+-- a value under a test, without the mark that is added to it
 value_marked : (c d s k : ℕ) (q : ℕ) → (if c == d then Some (s + k) else None) ≡ Some q → ((if c == d then Some s else None) ≡ Some s) × (q ≡ s + k)
 value_marked c d s k q e = (grind (arith, nat_tests), grind (arith, nat_tests))
 
@@ -53,7 +53,7 @@ value_marked c d s k q e = (grind (arith, nat_tests), grind (arith, nat_tests))
 marked-follow : (r : LocalRule) (t a b q : ℕ) → follow r (t % pair_count r) a b ≡ Some q → marked r t a b ≡ Some (q + mark r t a b)
 marked-follow r t a b q e = marked_value _ _ _ (mark r t a b) q e
 
--- and nothing else is one
+-- each step of the marked graph is one of the pair, and adds the mark
 pub follow-marked : {r : LocalRule} → IsRule r → (t a b s : ℕ) → marked r t a b ≡ Some s → (q : ℕ) × (follow r (t % pair_count r) a b ≡ Some q) × (q < pair_count r) × (s ≡ q + mark r t a b)
 follow-marked {r} rule t a b s e =
     let p : ℕ = t % pair_count r in
@@ -117,7 +117,7 @@ IsMarkedWalk-leads {r} rule (ab ∷ rest) t s h =
       );
     }
 
--- and each walk of pairs is one of the marked graph
+-- each walk of pairs is one of the marked graph
 pub leads-marked : {r : LocalRule} → IsRule r → (abs : List (ℕ × ℕ)) (t q : ℕ) → PairLeads r (t % pair_count r) abs q → (s : ℕ) × MarkedLeads r t abs s × (s % pair_count r ≡ q)
 leads-marked {r} rule [] t q h = (t, refl, h)
 leads-marked {r} rule (ab ∷ rest) t q h =

@@ -53,7 +53,7 @@ cell-run_right t i n some repeats (pos j) l =
     cell-round (cells t i n) (pos j) ∙ ap (λ m. slice_index (cells t i n) (j % m)) (length-run (cell t) i n)
     ∙ get_or-run (cell t) i (i +ℤ pos (j % n)) n (j % n) (mod-lt j some) refl ∙ repeats-mod (λ d. cell t (i +ℤ pos d)) n some (right_from n (cell t) i repeats) j
 
--- and a ring that is cut left of place 0 has all of them there
+-- a ring that is cut left of place 0, where the cells repeat, has all of them there
 cell-run_left : (t : TailConfig) (n : ℕ) → 1 ≤ n → RepeatsLeft n (cell t) (pos 0) → (j : ℤ) → j <ℤ pos 0 → cell (round (cells t (neg_ℤ (pos n)) n)) j ≡ cell t j
 cell-run_left t n some repeats (pos j) l = absurd (omega (arith, ints))
 cell-run_left t n some repeats (negsuc j) l =

@@ -33,7 +33,7 @@ step_over {r} {x} {y} rule hx hy i e =
     follow-pair_of r (node_at r x i) (node_at r y i) (cell x i) (cell y i) (node_at-below rule hy i) (label-node_at rule x i ∙ e ∙ sym (label-node_at rule y i))
     ∙ ap₂ (λ u v. Some (pair_of r u v)) (next-node_at rule hx i) (next-node_at rule hy i)
 
--- and a step over a place has equal labels, and leads there
+-- where a step leads over a place, it has equal labels, and leads to the pair before the next place
 over_step : {r : LocalRule} {x y : TailConfig} → IsRule r → IsTail r.states x → IsTail r.states y → (i : ℤ) (s : ℕ) → follow r (pair_at r x y i) (cell x i) (cell y i) ≡ Some s
     → (label_over r x i ≡ label_over r y i) × (pair_at r x y (i +ℤ pos 1) ≡ s)
 over_step {r} {x} {y} rule hx hy i s e =
@@ -62,7 +62,7 @@ at_places : (P : ℤ → Type 0) (i : ℤ) (n : ℕ) → P i → ((d : ℕ) → 
 at_places P i n here after zero l = subst P (let place : i ≡ i +ℤ pos 0 = omega (arith, ints) in place) here
 at_places P i n here after (suc d) l = subst P (let place : i +ℤ pos 1 +ℤ pos d ≡ i +ℤ pos (suc d) = omega (arith, ints) in place) (after d (omega arith))
 
--- and where two runs lead, their labels are equal, and it is to the pair after them
+-- where two runs lead, their labels are equal, and it is to the pair after them
 pub cells-PairLeads : {r : LocalRule} {x y : TailConfig} → IsRule r → IsTail r.states x → IsTail r.states y → (n : ℕ) (i j : ℤ) (q : ℕ) → i +ℤ pos n ≡ j
     → PairLeads r (pair_at r x y i) (zip (cells x i n) (cells y i n)) q → ((d : ℕ) → d < n → label_over r x (i +ℤ pos d) ≡ label_over r y (i +ℤ pos d)) × (pair_at r x y j ≡ q)
 cells-PairLeads {r} {x} {y} rule hx hy zero i j q e h = (λ d l. absurd (omega arith), ap (pair_at r x y) (let place : j ≡ i = omega (arith, ints) in place) ∙ h)
@@ -104,7 +104,7 @@ pub ShareImage-walk : {r : LocalRule} {x y : TailConfig} → IsRule r → IsTail
 ShareImage-walk {r} {x} {y} rule hx hy left middles rights q reach loop =
     ShareImage-in_step rule hx hy (labels-left r x y (same_left_part x y left)) middles rights (IsInStep-walk rule hx hy middles rights q reach loop)
 
--- and configurations that share an image, with periods that lead back to their nodes, are such walks
+-- configurations that share an image, with periods that lead back to their nodes, are two walks with equal labels
 pub walk-ShareImage : {r : LocalRule} {x y : TailConfig} → IsRule r → IsTail r.states x → IsTail r.states y → length x.middle ≡ length y.middle → length x.right ≡ length y.right
     → IsLooped r x → IsLooped r y → ShareImage r x y → (q : ℕ) × PairLeads r (pair_at r x y (pos 0)) (zip x.middle y.middle) q × PairLeads r q (zip x.right y.right) q
 walk-ShareImage {r} {x} {y} rule hx hy middles rights loop_x loop_y share =

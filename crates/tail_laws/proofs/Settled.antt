@@ -20,7 +20,7 @@ cell-zero t e i =
     let at : 1 - 1 - i % 1 ≡ 0 = omega arith in
     ap (λ w. slice_index w (length w - 1 - i % length w)) e ∙ ap (slice_index (0 ∷ [])) at
 
--- and so are runs of them
+-- where the left period is the letter 0, runs of cells left of place 0 are zeros
 pub cells-zeros : (t : TailConfig) (n : ℕ) → t.left ≡ 0 ∷ [] → cells t (neg_ℤ (pos n)) n ≡ replicate n 0
 cells-zeros t n e =
     sym (run-by_letters (cell t) (neg_ℤ (pos n)) n (replicate n 0) (length-replicate n 0) (λ a l.
@@ -33,7 +33,7 @@ zeros-middle : (t : TailConfig) (n : ℕ) → t.left ≡ 0 ∷ [] → replicate 
 zeros-middle t n e =
     sym (run-append (cell t) (neg_ℤ (pos n)) (pos 0) n (length t.middle) (omega (arith, ints)) ∙ ap₂ (λ (u v : List ℕ). u ++ v) (cells-zeros t n e) (cells-middle t))
 
--- and so is that word with the right period
+-- the word of n zeros, the middle and the right period is a run
 zeros-right : (t : TailConfig) (n : ℕ) → t.left ≡ 0 ∷ [] → replicate n 0 ++ t.middle ++ t.right ≡ cells t (neg_ℤ (pos n)) (n + length t.middle + length t.right)
 zeros-right t n e =
     sym (run-append (cell t) (neg_ℤ (pos n)) (pos (length t.middle)) (n + length t.middle) (length t.right) (omega (arith, ints)) ∙ ap₂ (λ (u v : List ℕ). u ++ v) (sym (zeros-middle t n e)) (cells-right t))
@@ -45,7 +45,7 @@ last-middle t n e =
     ap (last_letters n) (zeros-middle t n e ∙ ap (cells t (neg_ℤ (pos n))) order)
     ∙ last-run (cell t) (neg_ℤ (pos n)) (pos (length t.middle) -ℤ pos n) (length t.middle) n (omega (arith, ints))
 
--- and those of the other the cells left of its second turn
+-- the last n letters of the word with the right period are the cells left of the second turn of that period
 last-right : {k : ℕ} {t : TailConfig} → IsTail k t → (n : ℕ) → t.left ≡ 0 ∷ [] → last_letters n (replicate n 0 ++ t.middle ++ t.right) ≡ cells t (pos (length t.middle + length t.right) -ℤ pos n) n
 last-right {k} {t} h n e =
     let order : n + length t.middle + length t.right ≡ length t.middle + length t.right + n = omega arith in
@@ -57,7 +57,7 @@ pub IsLooped-settled : {r : LocalRule} {t : TailConfig} → IsTail r.states t �
 IsLooped-settled {r} {t} h s =
     ap (value r.states) (sym (last-middle t (r.width - 1) s.left) ∙ s.back ∙ last-right h (r.width - 1) s.left)
 
--- and where it does, and the left period is the letter 0, the configuration is settled
+-- a configuration is settled where its left period is the letter 0 and its right one leads back to the node at which it begins
 pub IsSettled-looped : {r : LocalRule} {t : TailConfig} → IsTail r.states t → t.left ≡ 0 ∷ [] → IsLooped r t → IsSettled r t
 IsSettled-looped {r} {t} h left loop =
     record {
@@ -71,7 +71,7 @@ node_at-zeros r t e =
     let place : pos 0 -ℤ pos (r.width - 1) ≡ neg_ℤ (pos (r.width - 1)) = omega (arith, ints) in
     ap (λ i. value r.states (cells t i (r.width - 1))) place ∙ ap (value r.states) (cells-zeros t (r.width - 1) e) ∙ value-zeros r.states (r.width - 1)
 
--- and so is the pair of two such nodes
+-- where both left periods are the letter 0, the pair of the nodes before place 0 is that of zeros
 pair_at-zeros : (r : LocalRule) (x y : TailConfig) → x.left ≡ 0 ∷ [] → y.left ≡ 0 ∷ [] → pair_at r x y (pos 0) ≡ 0
 pair_at-zeros r x y e f = ap₂ (pair_of r) (node_at-zeros r x e) (node_at-zeros r y f) ∙ omega arith
 
@@ -122,7 +122,7 @@ IsNormalRightSplit-walk {r} {x} {y} rule w =
       rights = w.rights;
     }
 
--- and a normal right split is such a walk
+-- a normal right split is two walks of its parts
 pub IsSplitWalk-normal : {r : LocalRule} {x y : TailConfig} → IsRule r → IsNormalRightSplit r x y → IsSplitWalk r x y
 IsSplitWalk-normal {r} {x} {y} rule n =
     let walk = walk-ShareImage rule n.split.first n.split.second n.middles n.rights (IsLooped-settled n.split.first n.first) (IsLooped-settled n.split.second n.second) n.split.share in

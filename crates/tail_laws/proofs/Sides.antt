@@ -22,7 +22,7 @@ same_across : {k : ℕ} {x y : TailConfig} → IsTail k x → IsTail k y → len
 same_across {k} {x} {y} hx hy long i e =
     cell-mirror hx i (across (length x.middle) i) (omega (arith, ints)) ∙ e ∙ sym (cell-mirror hy i (across (length x.middle) i) (omega (arith, ints)))
 
--- and back
+-- cells that are equal at the mirrored place are equal
 across_same : {k : ℕ} {x y : TailConfig} → IsTail k x → IsTail k y → length x.middle ≡ length y.middle → (i : ℤ)
     → cell (mirror_of x) (across (length x.middle) i) ≡ cell (mirror_of y) (across (length x.middle) i) → cell x i ≡ cell y i
 across_same {k} {x} {y} hx hy long i e =
@@ -41,7 +41,7 @@ pub AgreeLeft-mirror : {k : ℕ} {x y : TailConfig} → IsTail k x → IsTail k 
 AgreeLeft-mirror {k} {x} {y} hx hy long (p, right) =
     (across (length x.middle) p, λ i l. same_across hx hy long i (right (across (length x.middle) i) (omega (arith, ints))))
 
--- and those that agree on the left agree on the right
+-- configurations that agree on the left agree on the right read backwards
 pub AgreeRight-mirror : {k : ℕ} {x y : TailConfig} → IsTail k x → IsTail k y → length x.middle ≡ length y.middle → AgreeLeft x y → AgreeRight (mirror_of x) (mirror_of y)
 AgreeRight-mirror {k} {x} {y} hx hy long (p, left) =
     (across (length x.middle) p, λ i l. same_across hx hy long i (left (across (length x.middle) i) (omega (arith, ints))))
@@ -54,7 +54,7 @@ ShareImage-mirror {r} {x} {y} rule hx hy long share i =
     ∙ share (across (length x.middle) i)
     ∙ sym (image_of-backwards rule (cell-below hy) (cell-mirror hy) i (across (length x.middle) i) (omega (arith, ints)))
 
--- and those that share one under the mirrored rule share it read backwards
+-- configurations that share an image under the mirrored rule share it read backwards
 pub ShareImage-from_mirrored : {r : LocalRule} {x y : TailConfig} → IsRule r → IsTail r.states x → IsTail r.states y → length x.middle ≡ length y.middle
     → ShareImage (mirrored r) x y → ShareImage r (mirror_of x) (mirror_of y)
 ShareImage-from_mirrored {r} {x} {y} rule hx hy long share =
@@ -98,7 +98,7 @@ pub IsLeftClosing-from_mirrored : {r : LocalRule} → IsRule r → IsRightClosin
 IsLeftClosing-from_mirrored rule closing x y hx hy share (p, right) = same_mirrored rule hx hy share (λ u v hu hv long at_u at_v shared.
     closing (mirror_of u) (mirror_of v) (IsTail-mirror hu) (IsTail-mirror hv) shared (AgreeLeft-mirror hu hv long (p, λ i l. at_u i ∙ right i l ∙ sym (at_v i))))
 
--- and the mirrored rule of a left-closing rule is right-closing
+-- the mirrored rule of a left-closing rule is right-closing
 pub IsRightClosing-mirrored : {r : LocalRule} → IsRule r → IsLeftClosing r → IsRightClosing (mirrored r)
 IsRightClosing-mirrored {r} rule closing x y hx hy share (p, left) = same_mirrored (IsRule-mirrored rule) hx hy share (λ u v hu hv long at_u at_v shared.
     closing (mirror_of u) (mirror_of v) (IsTail-mirror hu) (IsTail-mirror hv) (subst (λ q. ShareImage q (mirror_of u) (mirror_of v)) (mirrored-mirrored rule) shared)

@@ -91,7 +91,7 @@ IsNormalRightSplit-walks {r} {t} {w} {v} rule h =
           (round.mark.0 (omega arith));
     })
 
--- and a normal right split is two such walks, at some state
+-- a normal right split is two walks, at some state
 pub normal_split-at : {r : LocalRule} {x y : TailConfig} → IsRule r → IsNormalRightSplit r x y
     → (t : ℕ) × (t < pair_count r + pair_count r) × IsSplitAt r t (zip x.middle y.middle) (zip x.right y.right)
 normal_split-at {r} {x} {y} rule n =

@@ -30,7 +30,7 @@ IsTail-from_node {r} {p} rule u h ring =
       right_word = ring.word;
     }
 
--- and that is its node there
+-- the node of such a configuration at place 0 is the one from which it was made
 node_at-from_node : (r : LocalRule) (u : ℕ) (p : List ℕ) → u < node_count r → node_at r (from_node r u p) (pos 0) ≡ u
 node_at-from_node r u p h =
     let m : ℕ = r.width - 1 in
@@ -107,7 +107,7 @@ node_at-round r p some =
     let place : pos (length p) -ℤ pos m +ℤ pos a ≡ pos 0 -ℤ pos m +ℤ pos a +ℤ pos (length p) = omega (arith, ints) in
     ap (cell (round p)) place ∙ cell-round_period p some (pos 0 -ℤ pos m +ℤ pos a)))
 
--- and two rings whose configurations share an image are a closed walk of pairs
+-- two rings whose configurations share an image are a closed walk of pairs
 loop-ShareImage : {r : LocalRule} {x y : List ℕ} → IsRule r → IsRing r.states x → IsRing r.states y → length x ≡ length y → ShareImage r (round x) (round y)
     → PairLeads r (pair_at r (round x) (round y) (pos 0)) (zip x y) (pair_at r (round x) (round y) (pos 0))
 loop-ShareImage {r} {x} {y} rule hx hy long share =

@@ -25,7 +25,7 @@ IsRightClosing-none r = (
   λ none x y hx hy share agree. same_from_none hx hy (λ d. none x y (record { first = hx; second = hy; different = d; share = share; agree = agree })),
 )
 
--- and left-closing exactly where it has no left split
+-- a rule is left-closing exactly where it has no left split
 pub IsLeftClosing-none : (r : LocalRule) → IsLeftClosing r ↔ ((x y : TailConfig) → ¬ IsLeftSplit r x y)
 IsLeftClosing-none r = (
   λ closing x y s. s.different.1 (closing x y s.first s.second s.share s.agree s.different.0),

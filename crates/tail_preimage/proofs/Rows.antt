@@ -36,6 +36,6 @@ AreRowsFilled-more {r} {Related} {u} {row} {rows} place rule l e h here = record
 pub AreRowsFilled-all : {r : LocalRule} {Related : ℕ → ℕ → Type 0} {n : ℕ} {rows : List ℕ} → n ≡ node_count r → AreRowsFilled r Related n rows → IsRelation r Related rows
 AreRowsFilled-all e h = record { rows = λ u l. h.each u (omega arith) }
 
--- the same pairs of nodes are the same relation
+-- relations that have the same pairs of nodes have the same table
 pub IsRelation-same : {r : LocalRule} {P Q : ℕ → ℕ → Type 0} {table : List ℕ} → ((u v : ℕ) → u < node_count r → v < node_count r → (P u v ↔ Q u v)) → IsRelation r P table → IsRelation r Q table
 IsRelation-same same h = record { rows = λ u l. IsSetOf-same (λ v below. same u v l below) (h.rows u l) }

@@ -4,3 +4,4 @@ pub mod Walks
 pub mod Relations
 pub mod Parts
 pub mod FirstWalks
+pub mod Examples

@@ -14,11 +14,11 @@ pub record PlacedConfig : Type 0 where
   pub at : ℤ
   pub config : TailConfig
 
--- its letter at place i is that of the configuration at i - at
+-- the letter of a placed configuration at place i is that of the configuration at i - at
 abbrev pub placed_cell : PlacedConfig → ℤ → ℕ
 placed_cell p i = cell p.config (i -ℤ p.at)
 
--- its n cells from place i on
+-- the n cells of a placed configuration from place i on
 abbrev pub placed_cells : PlacedConfig → ℤ → ℕ → List ℕ
 placed_cells p i n = map (λ j. placed_cell p (i +ℤ pos j)) (range_with_len 0 n)
 
@@ -67,7 +67,7 @@ pub record IsLeastPreimage (r : LocalRule) (t : TailConfig) (p : PlacedConfig) :
   pub preimage : IsShapedPreimage r t shape p
   pub least : (s : Shape) (q : PlacedConfig) → IsShapedPreimage r t s q → ordering_then (shape_cmp shape s) (slice_cmp nat_cmp (letters p) (letters q)) ≢ Greater
 
--- so many left periods, the middle, and so many right periods
+-- the word of so many left periods, the middle, and so many right periods
 abbrev pub stretch : TailConfig → ℕ → ℕ → List ℕ
 stretch t before after = repeat before t.left ++ t.middle ++ repeat after t.right
 

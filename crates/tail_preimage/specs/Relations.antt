@@ -24,11 +24,11 @@ Open E n u = (v : ℕ) × Steps E n u v
 abbrev pub Rounds : (ℕ → ℕ → Type 0) → ℕ → ℕ → ℕ → Type 0
 Rounds E n on u = (v : ℕ) × Steps E n u v × Steps E on v v
 
--- the same for some two numbers with this sum, of which the second isn't 0
+-- n steps lead from u to a node to which others lead back, for some two numbers with this sum of which the second isn't 0
 abbrev pub SomeRounds : (ℕ → ℕ → Type 0) → ℕ → ℕ → Type 0
 SomeRounds E sum u = (n : ℕ) × (on : ℕ) × (n + on ≡ sum) × (1 ≤ on) × Rounds E n on u
 
--- it holds of a node of the set
+-- a fact holds of a node of the set
 abbrev pub Meets : LocalRule → (ℕ → Type 0) → ℕ → Type 0
 Meets r Holds set = (u : ℕ) × (u < node_count r) × Holds u × IsBitSet set u
 

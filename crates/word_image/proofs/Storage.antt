@@ -10,7 +10,7 @@ use Rattle.word_image.proofs.laws.Lists.{filled_more}
 pub take-in_row : (size n : ℕ) (numbers : List ℕ) → length numbers ≡ n → take n (in_row size numbers) ≡ numbers
 take-in_row size n numbers long = ap (λ j. take j (in_row size numbers)) (sym long) ∙ take-append_seam numbers (replicate (size - length numbers) 0)
 
--- and zeros stand behind them
+-- behind the numbers stand zeros
 pub drop-in_row : (size n : ℕ) (numbers : List ℕ) → length numbers ≡ n → drop n (in_row size numbers) ≡ replicate (size - n) 0
 drop-in_row size n numbers long =
     ap (λ j. drop j (in_row size numbers)) (sym long) ∙ drop-append_seam numbers (replicate (size - length numbers) 0) ∙ ap (λ j. replicate (size - j) 0) long

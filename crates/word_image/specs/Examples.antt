@@ -48,7 +48,7 @@ zero_rule = record { states = 2; width = 2; offset = pos 0; table = 0 ∷ 0 ∷ 
 abbrev pub rule184 : LocalRule
 rule184 = record { states = 2; width = 3; offset = negsuc 0; table = 0 ∷ 0 ∷ 0 ∷ 1 ∷ 1 ∷ 1 ∷ 0 ∷ 1 ∷ [] }
 
--- its rings of one and two letters keep their sum, and the ring 012 does not: the text 3:2:0:t002111022
+-- the rings of one and two letters of this rule keep their sum, and the ring 012 does not: the text 3:2:0:t002111022
 abbrev pub lossy_at_three : LocalRule
 lossy_at_three = record { states = 3; width = 2; offset = pos 0; table = 0 ∷ 0 ∷ 2 ∷ 1 ∷ 1 ∷ 1 ∷ 0 ∷ 2 ∷ 2 ∷ [] }
 

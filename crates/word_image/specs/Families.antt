@@ -35,7 +35,7 @@ is_subset s t = bit_and s t == s
 abbrev pub is_minimal : List ℕ → ℕ → Bool
 is_minimal sets s = not (list_any (λ t. not (t == s) && is_subset t s) sets)
 
--- and that isn't the full one
+-- a set that contains no other set of the list, and that isn't the full one
 abbrev pub is_cover : ℕ → List ℕ → ℕ → Bool
 is_cover full sets s = not (s == full) && is_minimal sets s
 

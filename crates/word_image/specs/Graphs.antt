@@ -1,6 +1,6 @@
 -- The de Bruijn graph of a rule (Sutner 1991): a node is a word of m - 1 letters by its value, an edge a window. Its pairs of nodes, and the steps between these.
 use Rattle.std.specs.Prelude.{◌≡◌, ℕ, List, ◌+◌, ◌-◌, ◌*◌, ◌/◌, ◌%◌, ◌^◌, ◌<◌, Option, Some, None, ◌==◌, if◌then◌else◌, slice_index, ◌↔◌, IsBitSet}
-use Rattle.word_image.specs.LocalRules.{LocalRule, node_count, word_of}
+use Rattle.word_image.specs.LocalRules.{LocalRule, node_count, most_nodes, word_of}
 use Rattle.word_image.specs.Ends.{label_at, end_at}
 use Rattle.word_image.specs.declared.side.Side.{Side}
 use Rattle.word_image.specs.declared.side.Side.TheVariants.{Right, Left}
@@ -64,6 +64,10 @@ follow = follow_on Right
 -- how many pairs of nodes there are
 abbrev pub pair_count : LocalRule → ℕ
 pair_count r = node_count r * node_count r
+
+-- the most pairs of nodes of an accepted rule
+abbrev pub most_pairs : ℕ
+most_pairs = most_nodes * most_nodes
 
 -- some letters lead from one pair to another, along two edges with one label
 pub record PairStep (r : LocalRule) (p q : ℕ) : Type 0 where

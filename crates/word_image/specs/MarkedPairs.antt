@@ -1,7 +1,7 @@
 -- The marked graph, in which a walk of pairs remembers that its letters have differed.
-use Rattle.std.specs.Prelude.{ℕ, ◌+◌, ◌%◌, Option, Some, None, ◌==◌, ◌||◌, not, if◌then◌else◌, nat_le}
+use Rattle.std.specs.Prelude.{ℕ, ◌+◌, ◌*◌, ◌%◌, Option, Some, None, ◌==◌, ◌||◌, not, if◌then◌else◌, nat_le}
 use Rattle.word_image.specs.LocalRules.{LocalRule}
-use Rattle.word_image.specs.Graphs.{next, label, pair_of, first_of, second_of, pair_count}
+use Rattle.word_image.specs.Graphs.{next, label, pair_of, first_of, second_of, pair_count, most_pairs}
 
 -- the marked graph: a pair p with mark 0 is p, and with mark 1 it is p plus the number of pairs.
 -- The mark becomes 1 where the two letters differ, and stays 1.
@@ -11,3 +11,7 @@ marked r t a b =
     then Some (pair_of r (next r (first_of r (t % pair_count r)) a) (next r (second_of r (t % pair_count r)) b)
     + (if nat_le (pair_count r) t || not (a == b) then pair_count r else 0))
     else None
+
+-- the most marked pairs of an accepted rule
+abbrev pub most_marked_pairs : ℕ
+most_marked_pairs = 2 * most_pairs

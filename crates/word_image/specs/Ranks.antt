@@ -13,7 +13,7 @@ pub record BeginTogether (r : LocalRule) (u v n : ℕ) : Type 0 where
   pub first : value r.states (take (r.width - 1) x) ≡ u
   pub second : value r.states (take (r.width - 1) y) ≡ v
 
--- and end with them
+-- two words of n + m - 1 letters with one image end with the nodes u and v
 pub record EndTogether (r : LocalRule) (u v n : ℕ) : Type 0 where
   pub x : List ℕ
   pub y : List ℕ

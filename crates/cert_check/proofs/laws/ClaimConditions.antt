@@ -64,7 +64,7 @@ IsTwins-alike hx hy alike =
 pub IsRightSplit-apart : {r : LocalRule} {x y : TailConfig} → IsShortTail r.states x → IsShortTail r.states y → AreSplit AgreeLeft r x y → IsRightSplit r x y
 IsRightSplit-apart hx hy apart = record { first = hx.tail; second = hy.tail; different = apart.0; share = apart.2; agree = apart.1 }
 
--- and those that agree on the right are a left split
+-- short configurations that split a rule and agree on the right are a left split
 pub IsLeftSplit-apart : {r : LocalRule} {x y : TailConfig} → IsShortTail r.states x → IsShortTail r.states y → AreSplit AgreeRight r x y → IsLeftSplit r x y
 IsLeftSplit-apart hx hy apart = record { first = hx.tail; second = hy.tail; different = apart.0; share = apart.2; agree = apart.1 }
 

@@ -74,7 +74,7 @@ AreAlike-twins twins = ((twins.one_length, twins.first.some), twins.different, t
 pub AreSplit-right : {r : LocalRule} {x y : TailConfig} → IsRightSplit r x y → AreSplit AgreeLeft r x y
 AreSplit-right split = (split.different, split.agree, split.share)
 
--- and a left split on the right
+-- a left split agrees on the right
 pub AreSplit-left : {r : LocalRule} {x y : TailConfig} → IsLeftSplit r x y → AreSplit AgreeRight r x y
 AreSplit-left split = (split.different, split.agree, split.share)
 

@@ -56,7 +56,7 @@ DifferAtEnd-right {r} {p} rule f =
       ),
     )
 
--- and two nodes that do are one
+-- two nodes that differ in their last letter alone are a first pair of the right
 IsFirstOfRight-differ : {r : LocalRule} {p : ℕ} → IsRule r → p < pair_count r → DifferAtEnd Right r (first_of r p) (second_of r p) → IsFirstOfRight r p
 IsFirstOfRight-differ {r} {p} rule in_pairs (apart, rest, (c, letter, one_label)) =
     let k : ℕ = r.states in
@@ -92,7 +92,7 @@ DifferAtEnd-left {r} {p} rule f =
       (f.letter, f.in_letters, f.one_label),
     )
 
--- and two nodes that do are one
+-- two nodes that differ in their first letter alone are a first pair of the left
 IsFirstOfLeft-differ : {r : LocalRule} {p : ℕ} → IsRule r → p < pair_count r → DifferAtEnd Left r (first_of r p) (second_of r p) → IsFirstOfLeft r p
 IsFirstOfLeft-differ {r} {p} rule in_pairs (apart, rest, (c, letter, one_label)) =
     let u : ℕ = first_of r p in
@@ -113,7 +113,7 @@ pub IsFirstOf-differ : (side : Side) {r : LocalRule} (p : ℕ) → IsRule r → 
 IsFirstOf-differ Right p rule in_pairs h = IsFirstOfRight-differ rule in_pairs h
 IsFirstOf-differ Left p rule in_pairs h = IsFirstOfLeft-differ rule in_pairs h
 
--- and its nodes do
+-- the nodes of a first pair of a side differ in their letter on that side alone
 pub DifferAtEnd-first : (side : Side) {r : LocalRule} (p : ℕ) → IsRule r → IsFirstOf side r p → DifferAtEnd side r (first_of r p) (second_of r p)
 DifferAtEnd-first Right p rule f = DifferAtEnd-right rule f
 DifferAtEnd-first Left p rule f = DifferAtEnd-left rule f

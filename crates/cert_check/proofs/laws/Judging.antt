@@ -18,7 +18,7 @@ use Rattle.cert_check.specs.Refusals.IsRefusal.{NoShape, Unmet}
 abbrev pub ReadsEach : List ℕ → Result Certificate CertFault → Type 0
 ReadsEach bytes read = (c : Certificate) → IsCertificateText bytes c → (read ≡ Ok c) ⊎ (read ≡ Err (cert_fault.Memory alloc_error))
 
--- and each fault of their shape was named
+-- each fault of the shape of the bytes was named, unless memory was refused
 abbrev pub NamesEach : List ℕ → Result Certificate CertFault → Type 0
 NamesEach bytes read = (s : ShapeFault) → IsShapeFault bytes s → (read ≡ Err (cert_fault.Format s)) ⊎ (read ≡ Err (cert_fault.Memory alloc_error))
 
@@ -39,7 +39,7 @@ refusal-read each names is (Unmet d f text h) = subst (λ c. IsFirstUnmet c f) (
 pub accepted-named : {bytes : List ℕ} {read : Result Certificate CertFault} {s : ShapeFault} {v : Verdicts} → ReadsEach bytes read → read ≡ Err (cert_fault.Format s) → IsAccepted bytes v → ⊥
 accepted-named each is h = ⊎_elim (λ same. absurd (cc)) (λ none. absurd (cc)) (each h.certificate h.text)
 
--- and the fault alone is refused
+-- where a fault was named, that fault alone is refused
 pub refusal-named : {bytes : List ℕ} {read : Result Certificate CertFault} {s : ShapeFault} {f : Refusal} → ReadsEach bytes read → NamesEach bytes read → read ≡ Err (cert_fault.Format s) → IsRefusal bytes f
     → refusal.Format s ≡ f
 refusal-named each names is (NoShape t fault) = ap refusal.Format (⊎_elim (λ named. cc) (λ none. absurd (cc)) (names t fault))

@@ -23,7 +23,7 @@ without-part s n =
 part-bit : (t s i : ℕ) → bit_and t s ≡ t → bit_at t i ≤ bit_at s i
 part-bit t s i part = let e : bit_at (bit_and t s) i ≡ bit_at t i = ap (λ n. bit_at n i) part in omega (arith, bit_at_and t s i)
 
--- and what has no other is a part
+-- a set each of whose bits is one of another's is a part of it
 bits-part : (t s : ℕ) → t < 2 ^ 16 → ((i : ℕ) → i < 16 → bit_at t i ≤ bit_at s i) → bit_and t s ≡ t
 bits-part t s small bits = same_from_bits_below 16 (bit_and t s) t (omega (arith, and_le_l t s)) small (λ i l. omega (arith, bit_at_and t s i, bits i l))
 
@@ -65,7 +65,7 @@ HasPart-split sets s small (t, listed, part) =
 HasPart-listed : (sets : List ℕ) (s : ℕ) → Contains sets s → HasPart sets s
 HasPart-listed sets s listed = (s, listed, and_self s)
 
--- and so does a set that does without a node
+-- a set contains a listed one where it does without a node
 HasPart-without : (sets : List ℕ) (s n : ℕ) → HasPart sets (without s n) → HasPart sets s
 HasPart-without sets s n (t, listed, part) = (t, listed, part-of_part t (without s n) s part (without-part s n))
 
@@ -102,7 +102,7 @@ above_more sets listed above after i small marked before test more s =
       (λ (l, is). (more s).1 (⊎_elim (λ same. inl same) (λ other. inr ((before s).1 (omega arith, is))) (cases_eq s i))),
     )
 
--- and none where it doesn't
+-- a set more stays unmarked where the test fails
 pub above_skip : (sets listed above : List ℕ) (i : ℕ) → i < 2 ^ 16 → AreMarked listed sets → AreAbove sets above i → ¬ IsAbove listed above i → AreAbove sets above (i + 1)
 above_skip sets listed above i small marked before none s = (
   (λ some. let (l, is) = (before s).0 some in (omega arith, is)),

@@ -61,7 +61,7 @@ IsCovered-push {r} {sets} rule closed h a letter =
           IsLastNode-push rule (h.last v node present) edge;
     }
 
--- and with more letters
+-- a covered word with more letters behind it is covered
 IsCovered-append : {r : LocalRule} {sets : List ℕ} → IsRule r → StepsAreKept r sets → (v w : List ℕ) → IsCovered r sets v → IsWord r.states w → IsCovered r sets (v ++ w)
 IsCovered-append {r} {sets} rule closed v [] h word = subst (IsCovered r sets) (sym (append-nil v)) h
 IsCovered-append {r} {sets} rule closed v (a ∷ w) h word =

@@ -26,7 +26,7 @@ list_of-items_view (v ∷ vs) = ap (λ ds. view v ∷ ds) (list_of-items_view vs
 pub IsArrayOf-values : {A : Type 0} (R : Data → A → Type 0) (d : Data) (vs : List Value) (xs : List A) → Some (items_view vs) ≡ as_array d → AllZip R (map view vs) xs → IsArrayOf R d xs
 IsArrayOf-values R d vs xs is all = (items_view vs, array_from-as_array d (items_view vs) is, subst (λ ds. AllZip R ds xs) (sym (list_of-items_view vs)) all)
 
--- and back
+-- an array whose values are read gives these one by one
 values-IsArrayOf : {A : Type 0} (R : Data → A → Type 0) (d : Data) (vs : List Value) (xs : List A) → Some (items_view vs) ≡ as_array d → IsArrayOf R d xs → AllZip R (map view vs) xs
 values-IsArrayOf R d vs xs is all =
     let same : all.0 ≡ items_view vs = same_Some _ _ (sym (ap as_array all.1) ∙ sym is) in

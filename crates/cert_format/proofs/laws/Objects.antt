@@ -1,5 +1,5 @@
 -- The members of an object, beside the entries of the map that holds them.
-use Rattle.std.proofs.Common.{◌≡◌, ℕ, zero, suc, List, [], ◌∷◌, length, map, Option, Some, Ordering, Less, Equal, Greater, String, Global, string_bytes, nat_cmp, is_eq, All, Contains, slice_get, Bool, true, false, ◌||◌, bytes_eq, IsTrue, ◌↔◌, refl, sym, ap, ◌∙◌, subst, arith}
+use Rattle.std.proofs.Common.{◌≡◌, ℕ, zero, suc, List, [], ◌∷◌, length, map, Option, Some, Ordering, Less, Equal, Greater, String, Global, string_bytes, nat_cmp, is_eq, All, Contains, slice_get, Bool, true, bytes_eq, IsTrue, ◌↔◌, refl, sym, ap, ◌∙◌, subst, arith}
 use Rattle.std.specs.List.{list_any}
 use Rattle.std.specs.Map.{keys_of as names_of}
 use Rattle.std.specs.Ordering.{match_ordering}

@@ -122,7 +122,7 @@ stage_passed (NoRule ms v json version none) = (ms, v, json, version)
 stage_passed (BadRule ms v text json version rule_text g wrong) = (ms, v, text, json, version, rule_text)
 stage_passed (BadPart ms v text r k json version rule_text rule first) = (ms, v, text, r, json, version, rule_text, rule)
 
--- and its own doesn't
+-- at a fault's stage its own step fails
 stage_fails : {bytes : List ℕ} {f : ShapeFault} (a : IsShapeFault bytes f) → ¬ Passed bytes (suc (stage a))
 stage_fails (NoJson none) h = none h.0 h.1
 stage_fails (NoObject d json none) h = none-some h.0 (sym none ∙ ap as_object (one_some json.1 h.1.1))
@@ -137,7 +137,7 @@ stage_fails (BadPart ms v text r k json version rule_text rule first) h = h
 not_before : {bytes : List ℕ} {f g : ShapeFault} (a : IsShapeFault bytes f) (b : IsShapeFault bytes g) → ¬ (stage a < stage b)
 not_before {bytes} a b less = stage_fails a (steps_before bytes (stage b) (suc (stage a)) (omega (arith, less)) (stage_passed b))
 
--- and are one
+-- two faults that come at one step are one
 same_stage : {bytes : List ℕ} {f g : ShapeFault} (a : IsShapeFault bytes f) (b : IsShapeFault bytes g) → stage a ≡ stage b → f ≡ g
 same_stage {bytes} (NoJson _) (NoJson _) same = refl
 same_stage {bytes} (NoObject _ _ _) (NoObject _ _ _) same = refl
@@ -164,7 +164,7 @@ every_cert bytes (Ok d) cert wrong c text = inl (ap Ok (IsCertificateText-unique
 every_cert bytes (Err f) cert (inl memory) c text = inr (ap Err memory)
 every_cert bytes (Err f) cert (inr wrong) c text = absurd (IsCertificateText-no_fault text wrong.2)
 
--- and so is a first fault
+-- a first fault is the only answer to its text, where there is memory
 pub every_cert_fault : (bytes : List ℕ) (answer : Result Certificate CertFault) → IfOk answer (IsCertificateText bytes) → IfErr answer (IsCertFault bytes) → (s : ShapeFault) → IsShapeFault bytes s
     → (answer ≡ Err (fault.Format s)) ⊎ (answer ≡ Err (fault.Memory alloc_error))
 every_cert_fault bytes (Ok c) cert wrong s first = absurd (IsCertificateText-no_fault cert first)

@@ -62,7 +62,7 @@ IsCertificateText-parts bytes ms v r (Ok c) json version head kept same parts = 
 }
 IsCertificateText-parts bytes ms v r (Err f) json version head kept same parts = tt
 
--- and the fault of the parts is that of the bytes
+-- with the head of a certificate, the fault of its parts is that of the bytes
 pub IsCertFault-parts : (bytes : List ℕ) (ms : Members) (v : CertVersion) (r : LocalRule) (answer : Result Certificate CertFault) → IsObject bytes ms → HasVersion ms (number_of v) → (text : List ℕ) × HasRuleText ms text × IsRuleText text r
     → IfErr answer (IsPartFault v r ms) → IfErr answer (IsCertFault bytes)
 IsCertFault-parts bytes ms v r (Ok c) json version head wrong = tt

@@ -72,7 +72,7 @@ pub IsArrayOf-unique : {A : Type 0} (R : Data → A → Type 0) → ((d : Data) 
 IsArrayOf-unique R one d xs ys h k =
     one_zip R one (list_of k.0) xs ys (subst (λ ds. AllZip R (list_of ds) xs) (same_Some h.0 k.0 (ap as_array (sym h.1 ∙ k.1))) h.2) k.2
 
--- and lists of the items of one array are of one length
+-- two lists of the items of one array are of one length
 pub IsArrayOf-length : {A : Type 0} (R : Data → A → Type 0) (d : Data) (xs ys : List A) → IsArrayOf R d xs → IsArrayOf R d ys → length xs ≡ length ys
 IsArrayOf-length R d xs ys h k =
     sym (length-zip R (list_of h.0) xs h.2) ∙ ap (λ ds. length (list_of ds)) (same_Some h.0 k.0 (ap as_array (sym h.1 ∙ k.1))) ∙ length-zip R (list_of k.0) ys k.2
@@ -87,7 +87,7 @@ IsArrayOf-length R d xs ys h k =
 pub HasOnly-unique : (d : Data) {v u : Data} {k l : List ℕ} → HasOnly k v d → HasOnly l u d → (k ≡ l) × (v ≡ u)
 HasOnly-unique d {v} {u} {k} {l} p q = let same : member k v no_members ≡ member l u no_members = one_some p q in (cc, cc)
 
--- and two values of two keys
+-- the two values of an object with two keys are one each
 pub HasOnlyBoth-unique : (d : Data) {v u w x : Data} {k l : List ℕ} → HasOnlyBoth k v l u d → HasOnlyBoth k w l x d → (v ≡ w) × (u ≡ x)
 HasOnlyBoth-unique d {v} {u} {w} {x} {k} {l} p q =
     let same : member k v (member l u no_members) ≡ member k w (member l x no_members) = one_some p q in (cc, cc)

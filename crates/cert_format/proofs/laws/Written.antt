@@ -40,7 +40,7 @@ abbrev names_of : Members → List (List ℕ)
 names_of no_members = []
 names_of (member k d ms) = k ∷ names_of ms
 
--- and so it is in an object
+-- a key that is found in an object is one of its names
 Contains-found : (ms : Members) (k : List ℕ) (d : Data) → get_member k ms ≡ Some d → Contains (names_of ms) k
 Contains-found no_members k d found = absurd (none-some d found)
 Contains-found (member l e ms) k d found = found_at (slice_cmp nat_cmp k l) k l e d _ _ refl (Contains-found ms k d) found
@@ -139,7 +139,7 @@ HasWeights-written c shape =
     shape.each)
     (weights_members-cases c.rule c.weights)
 
--- and there is no key besides
+-- what is written has no key besides those of its version
 HasNoOther-written : (c : Certificate) → IsWeightShape c.version c.rule c.weights → HasNoOther c.version (certificate_members c)
 HasNoOther-written c shape =
     ⊎_elim

@@ -11,7 +11,7 @@ use Rattle.image_minimal.specs.ImageLanguages.{Alike}
 use Rattle.image_minimal.specs.Closures.{IsWithin, IsUnreadSet, IsClosure}
 use Rattle.image_minimal.proofs.laws.Unread.{IsBack-some, IsUnread-some, IsWord-unread, IsWithin-back, IsWithin-zero, IsOrphan-unread}
 
--- the same words are read from the two sets
+-- one list of words is read from both sets
 pub record AreReadAlike (r : LocalRule) (s t : ℕ) : Type 0 where
   pub within : (unread : ℕ) → IsUnreadSet r unread → (IsWithin r s unread ↔ IsWithin r t unread)
 
@@ -103,7 +103,7 @@ IsClosure-full r = record {
   };
 }
 
--- and so is the empty set, which is the closure of no other
+-- the empty set is its own closure, and that of no other
 pub IsClosure-empty : {r : LocalRule} {s closure : ℕ} → s < 2 ^ node_count r → IsClosure r s closure → (s ≡ 0 ↔ (closure ≡ 0))
 IsClosure-empty {r} {s} {closure} small c =
     let none = IsWithin-zero r s small in

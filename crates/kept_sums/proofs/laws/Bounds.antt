@@ -1,6 +1,5 @@
 -- How great the numbers of a crossed row may be, divided by their greatest common divisor: no greater than those of a small solution of the conditions so far.
-use Rattle.std.proofs.Common.{◌≡◌, ◌≢◌, ℕ, zero, suc, ◌+◌, ◌-◌, ◌*◌, ◌^◌, ◌<◌, ◌≤◌, List, [], ◌∷◌, length, map, slice_index, slice_index_or, ℤ, pos, negsuc, ◌+ℤ◌, ◌-ℤ◌, ◌*ℤ◌, refl, sym, ap, ap₂, subst, ◌∙◌, ⊎_elim, ◌⊎◌, inl, inr, arith}
-use Rattle.std.specs.Int.RustNames.{unsigned_abs}
+use Rattle.std.proofs.Common.{◌≡◌, ◌≢◌, ℕ, zero, suc, ◌+◌, ◌-◌, ◌*◌, ◌^◌, ◌<◌, ◌≤◌, List, [], ◌∷◌, length, map, slice_index, slice_index_or, ℤ, pos, negsuc, ◌+ℤ◌, ◌-ℤ◌, ◌*ℤ◌, refl, sym, ap, ap₂, subst, ◌∙◌, ⊎_elim, ◌⊎◌, inl, inr, arith, unsigned_abs}
 use Prim.Native.Nat.{◌∣◌}
 use Rattle.std.proofs.Math.Nat.{eq-zero_of_zero-dvd, eq_of_mul-eq-mul_left, mul_left_comm, mul_assoc, mul-le-mul, mul-le-mul_left, mul-le-mul_right}
 use Rattle.std.proofs.Math.IntN.{pos-*ℤ-pos}

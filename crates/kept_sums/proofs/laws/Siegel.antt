@@ -1,6 +1,5 @@
 -- Fewer conditions on integers than there are integers have a small solution that isn't 0 (Siegel 1929, after Thue).
-use Rattle.std.proofs.Common.{◌≡◌, ◌≢◌, ℕ, suc, ◌+◌, ◌-◌, ◌*◌, ◌^◌, ◌<◌, ◌≤◌, List, [], ◌∷◌, length, map, sum_by, ℤ, pos, ◌-ℤ◌, refl, sym, ap, ap₂, subst, ◌∙◌, ⊎_elim, ◌⊎◌, inl, inr, arith}
-use Rattle.std.specs.Int.RustNames.{unsigned_abs}
+use Rattle.std.proofs.Common.{◌≡◌, ◌≢◌, ℕ, suc, ◌+◌, ◌-◌, ◌*◌, ◌^◌, ◌<◌, ◌≤◌, List, [], ◌∷◌, length, map, sum_by, ℤ, pos, ◌-ℤ◌, refl, sym, ap, ap₂, subst, ◌∙◌, ⊎_elim, ◌⊎◌, inl, inr, arith, unsigned_abs}
 use Rattle.std.proofs.Math.Nat.{pow-suc, pow-le-pow_left, mul-le-mul_right}
 use Rattle.std.proofs.lemmas.Bool.{cases_eq}
 use Rattle.std.proofs.lemmas.Nat.{mul-pow}

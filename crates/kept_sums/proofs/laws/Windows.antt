@@ -1,6 +1,5 @@
 -- Windows of m + range - 1 letters by their values, and the fluxes of what they add.
-use Rattle.std.proofs.Common.{◌≡◌, ℕ, zero, suc, ◌+◌, ◌-◌, ◌*◌, ◌/◌, ◌%◌, ◌^◌, ◌<◌, ◌≤◌, ◌≢◌, List, length, take, drop, get_or, get_or-set_other, set, replicate, slice_index, ℤ, pos, ◌-ℤ◌, sym, ap, ap₂, subst, ◌∙◌, arith, mod-lt, length-drop}
-use Rattle.std.specs.Int.RustNames.{unsigned_abs}
+use Rattle.std.proofs.Common.{◌≡◌, ℕ, zero, suc, ◌+◌, ◌-◌, ◌*◌, ◌/◌, ◌%◌, ◌^◌, ◌<◌, ◌≤◌, ◌≢◌, List, length, take, drop, get_or, get_or-set_other, set, replicate, slice_index, ℤ, pos, ◌-ℤ◌, sym, ap, ap₂, subst, ◌∙◌, arith, mod-lt, length-drop, unsigned_abs}
 use Rattle.std.proofs.Math.Nat.{pow-zero, pow-suc, mul-le-mul, mul-le-mul_left, div-lt_iff_lt-mul, div-lt_self, mod-eq_of_lt}
 use Rattle.std.proofs.lemmas.Nat.{pow-add}
 use Rattle.std.proofs.lemmas.Int.{ints}
@@ -96,7 +95,7 @@ image-below r rule range i v l few =
     let long : length w ≡ range = length-image_of r range v (omega arith) in
     value-take-below r.states w i 16 (IsWord-image rule (word_of r.states (r.width + range - 1) v)) (omega arith) (subst (λ n. r.states ^ n ≤ 16) (sym long) few)
 
--- and with the next letter it is that of one letter more
+-- the value of the image's first letters, with the next letter, is that of one letter more
 pub image-more : (r : LocalRule) → IsRule r → (range i v : ℕ) → i < range
     → value r.states (take (i + 1) (image r (word_of r.states (r.width + range - 1) v)))
     ≡ value r.states (take i (image r (word_of r.states (r.width + range - 1) v))) * r.states + get_or (image r (word_of r.states (r.width + range - 1) v)) i 0
@@ -137,7 +136,7 @@ IsFlowBy-flux {r} {range} {weight} {phi} {gains} rule some are flux = record {
       ∙ ap₂ (λ (x y : ℕ). phi x -ℤ phi y) (ap (λ j. value k (take j w)) cut ∙ ends.0 ∙ ap (λ x. x / k) is) (ends.1 ∙ ap₂ (λ (x j : ℕ). x % k ^ j) is shorter);
 }
 
--- and the other way round
+-- a flux of words is one by the values of the windows
 pub IsFluxOf-IsFlowBy : {r : LocalRule} {range : ℕ} {weight phi : ℕ → ℤ} {gains : List ℤ} → IsRule r → 1 ≤ range → AreGains r range weight gains → IsFlowBy r.states (r.width + range - 2) gains phi
     → IsFluxOf range weight r phi
 IsFluxOf-IsFlowBy {r} {range} {weight} {phi} {gains} rule some are by = record {

@@ -1,10 +1,9 @@
 -- From one rule of the list to the next.
-use Rattle.std.proofs.Common.{◌≡◌, ℕ, ◌+◌, ◌-◌, ◌^◌, ◌<◌, ◌↔◌, List, [], ◌∷◌, Option, Some, None, refl, sym, subst, arith}
-use Rattle.std.specs.Prelude.{MatchOption}
+use Rattle.std.proofs.Common.{◌≡◌, ℕ, ◌+◌, ◌-◌, ◌^◌, ◌<◌, ◌↔◌, List, Option, Some, None, refl, sym, subst, arith, MatchOption}
 use Rattle.word_image.specs.LocalRules.{LocalRule}
 use Rattle.rule_lists.specs.Ranks.{IsOrder, rank, rank_of_first}
 use Rattle.rule_lists.specs.Listed.{IsListed, IsFirst, NoneIs}
-use Rattle.rule_lists.specs.Calls.{IsAfter, AreAll, AreSoFar}
+use Rattle.rule_lists.specs.Calls.{IsAfter}
 use Rattle.rule_lists.specs.declared.properties.Property.{Property}
 use Rattle.rule_lists.proofs.laws.Ranks.{rank-below}
 use Rattle.rule_lists.proofs.laws.Going.{IsTable-shape, first_of_same}
@@ -43,8 +42,3 @@ left_over-less property k m begin order r before next is h listed first =
 pub ended : {N : Type 0} (F : LocalRule → Type 0) (o : Option LocalRule) → ((r : LocalRule) → o ≡ Some r → ⊥) → MatchOption o N F → N
 ended F None not h = h
 ended F (Some r) not h = absurd (not r refl)
-
--- all rules are the rules so far, and the last of them is the last one
-pub AreSoFar-all : (property : Property) (k m : ℕ) (begin order : List ℕ) (first : Option LocalRule) (rs : List LocalRule) → AreAll property k m begin order first rs → (last : Option LocalRule) × AreSoFar property k m begin order first rs last
-AreSoFar-all property k m begin order first [] all = (first, refl)
-AreSoFar-all property k m begin order first (r ∷ rs) all = let (last, far) = AreSoFar-all property k m begin order (Some r) rs all.1 in (last, (all.0, far))

@@ -74,7 +74,7 @@ compose_fault-same first second same =
 pub compose_fault-states : (first second : LocalRule) → compose_fault first second ≡ None → first.states ≡ second.states
 compose_fault-states first second none = grind (arith, nat_tests)
 
--- and the second after the first is an accepted rule
+-- where there is no fault, the second rule after the first is an accepted rule
 pub IsRule-composed_fault : {first second : LocalRule} → IsRule first → IsRule second → compose_fault first second ≡ None → IsRule (composed first second)
 IsRule-composed_fault {first} {second} before after none =
     let same = compose_fault-states first second none in

@@ -67,7 +67,7 @@ IsRule-recoloured {r} colours letters rule word = record {
   letters = IsWord-table_by r.states r.width (new_colour r colours letters) (λ w. colour-below r.states colours word (omega (arith, rule.shape.least_states)) _);
 }
 
--- and gives the new colours
+-- the recoloured rule gives the new colours
 pub IsRecoloured-rule : {r : LocalRule} {colours letters : List ℕ} → IsRule r → IsRecolouring r.states colours → AreOldLetters r.states colours r.states letters
     → IsRecoloured colours r (recoloured_rule r colours letters)
 IsRecoloured-rule {r} {colours} {letters} rule h old = record {

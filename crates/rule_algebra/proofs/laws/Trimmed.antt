@@ -42,7 +42,7 @@ Ignores-mirrored r e h ignored = Ignores-firsts (mirrored r) e (λ v w hv hw lv 
     ∙ ignored (reverse v) (reverse w) (IsWord-reverse r.states v hv) (IsWord-reverse r.states w hw) (length-reverse v ∙ lv) (length-reverse w ∙ lw) kept
     ∙ sym (local_map-mirrored r w hw lw))
 
--- and the other way round
+-- ignored first cells of the mirrored rule are ignored last cells of the rule
 mirrored-Ignores : (r : LocalRule) (e : ℕ) → e ≤ r.width → Ignores (mirrored r) e 0 → Ignores r 0 e
 mirrored-Ignores r e h ignored = λ v w hv hw lv lw same.
     let turn : (x : List ℕ) → IsWord r.states x → length x ≡ r.width → local_map r x ≡ local_map (mirrored r) (reverse x) = λ x word long.
@@ -63,7 +63,7 @@ lasts-rest {r} {g} {n} rest e h ignored = λ v w hv hw lv lw same.
     ∙ ignored (drop n v) (drop n w) (letters v hv) (letters w hw) (there v lv) (there w lw) (kept v ∙ ap (drop n) same ∙ sym (kept w))
     ∙ rest.letters w hw lw
 
--- and the other way round
+-- last cells that a rule ignores are ignored by the rest
 rest-lasts : {r g : LocalRule} {n : ℕ} → IsRule r → IsRest r n g → (e : ℕ) → e ≤ g.width → Ignores r 0 e → Ignores g 0 e
 rest-lasts {r} {g} {n} rule rest e h ignored = λ v w hv hw lv lw same.
     let zeros : List ℕ = replicate n 0 in

@@ -25,7 +25,7 @@ pub Ignores-firsts : (r : LocalRule) (d : ℕ)
     → ((v w : List ℕ) → IsWord r.states v → IsWord r.states w → length v ≡ r.width → length w ≡ r.width → drop d v ≡ drop d w → local_map r v ≡ local_map r w) → Ignores r d 0
 Ignores-firsts r d same = λ v w hv hw lv lw e. same v w hv hw lv lw (sym (whole d r.width v lv) ∙ e ∙ whole d r.width w lw)
 
--- and the other way round
+-- where first cells are ignored, the rule gives the same on words that differ in them alone
 pub firsts_ignored : (r : LocalRule) (d : ℕ) → Ignores r d 0
     → (v w : List ℕ) → IsWord r.states v → IsWord r.states w → length v ≡ r.width → length w ≡ r.width → drop d v ≡ drop d w → local_map r v ≡ local_map r w
 firsts_ignored r d h v w hv hw lv lw e = h v w hv hw lv lw (whole d r.width v lv ∙ e ∙ sym (whole d r.width w lw))
@@ -61,7 +61,7 @@ first_row {r} rule ignored w word long =
     ap (slice_index r.table) (sym (value-zero r.states (drop 1 w)))
     ∙ firsts_ignored r 1 ignored z w letters word (omega (arith, length-drop 1 w)) long refl
 
--- and the rows are equal
+-- a rule whose rows are equal ignores its first cell
 pub same_rows-Ignores : {r : LocalRule} → IsRule r → Ignores r 1 0 → SameRows r (r.states ^ r.width)
 same_rows-Ignores {r} rule ignored = λ v l.
     let w : List ℕ = word_of r.states r.width v in

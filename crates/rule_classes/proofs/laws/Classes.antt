@@ -25,7 +25,7 @@ IsRule-class {r} {g} rule mirror h =
     let found = colouring_of r mirror h in
     subst IsRule (sym found.3) (IsRule-in_colours found.0 rule found.1)
 
--- and has the shape of the rule
+-- every rule of the class has the shape of the rule
 class-shape : (r : LocalRule) {g : LocalRule} → (mirror : Bool) → IsInClass r mirror g → (g.states ≡ r.states) × (g.width ≡ r.width)
 class-shape r {g} true h = (h.recoloured.states, h.recoloured.width)
 class-shape r {g} false h = (h.recoloured.states, h.recoloured.width)

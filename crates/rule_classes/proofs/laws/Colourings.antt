@@ -41,7 +41,7 @@ IsRule-in_colours {r} c rule colouring = record {
 pub get_or-in_colours : (r : LocalRule) (c : Colouring) (v : ℕ) → v < r.states ^ r.width → get_or (in_colours r c).table v 0 ≡ entry r c v
 get_or-in_colours r c v l = get_or-map-range_with_len (λ u. entry r c u) 0 (r.states ^ r.width) v v 0 l (omega arith)
 
--- and so have the entries of the best rule
+-- the best rule's table has the entries of its colouring
 pub slice_index-best : {r : LocalRule} (b : Best) (v : ℕ) → IsBest r b → v < r.states ^ r.width → slice_index b.entries v ≡ entry r b.colouring v
 slice_index-best {r} b v best l =
     let c : Colouring = b.colouring in
@@ -116,7 +116,7 @@ pub IsInClass-colours : {r : LocalRule} {colours letters : List ℕ} → (mirror
 IsInClass-colours {r} {colours} {letters} true rule inverse = of_colours-recoloured (IsRule-mirrored rule) inverse
 IsInClass-colours {r} {colours} {letters} false rule inverse = of_colours-recoloured rule inverse
 
--- and each rule of the class is one
+-- each rule of the class is a recoloured one
 pub colouring_of : (r : LocalRule) {h : LocalRule} → (mirror : Bool) → IsInClass r mirror h → (c : Colouring) × IsColouring r.states c × (c.mirrored ≡ mirror) × (h ≡ in_colours r c)
 colouring_of r {h} true inside =
     let found = recoloured-of_colours inside in

@@ -9,7 +9,7 @@ use Rattle.rule_algebra.specs.Algebra.{IsRecolouring, recoloured}
 use Rattle.rule_algebra.proofs.laws.Recolouring.{recoloured_back}
 use Rattle.rule_classes.specs.Colourings.{AreInverse}
 
--- the same, the other way round
+-- letters and colours that undo each other do so the other way round
 pub AreInverse-swap : {k : ℕ} {colours letters : List ℕ} → AreInverse k colours letters → AreInverse k letters colours
 AreInverse-swap {k} {colours} {letters} h = record { colours_long = h.letters_long; letters_long = h.colours_long; colour = h.letter; letter = h.colour; back = h.there; there = h.back }
 
@@ -80,7 +80,7 @@ IsRecolouring-take {k} {colours} {letters} h =
       different = λ a b la lb e. sym (h.back a la) ∙ ap (slice_index letters) (sym (at a la) ∙ e ∙ at b lb) ∙ h.back b lb;
     }
 
--- and say the same of words
+-- the first k colours say the same of words as all do
 pub recoloured-take : {k : ℕ} (colours w : List ℕ) → IsWord k w → recoloured (take k colours) w ≡ recoloured colours w
 recoloured-take {k} colours [] word = refl
 recoloured-take {k} colours (a ∷ w) word =
@@ -90,6 +90,6 @@ recoloured-take {k} colours (a ∷ w) word =
 pub IsWord-colours : {k : ℕ} {colours letters : List ℕ} → AreInverse k colours letters → (w : List ℕ) → IsWord k w → IsWord k (recoloured colours w)
 IsWord-colours {k} {colours} {letters} h w word = All-map (λ a. a < k) (slice_index colours) w (λ i d l. h.colour _ (word i d l))
 
--- and comes back
+-- a recoloured word comes back
 pub recoloured-back : {k : ℕ} {colours letters : List ℕ} → AreInverse k colours letters → (w : List ℕ) → IsWord k w → recoloured colours (recoloured letters w) ≡ w
 recoloured-back {colours = colours} {letters = letters} h w word = recoloured_back colours letters h.there w word

@@ -38,7 +38,7 @@ pub lesser_number : {r : LocalRule} {c best : Colouring} {low high v : ℕ} → 
 lesser_number {r} {c} {best} {low} {high} {v} rule first second below rest less =
     recoloured_number-less c best v rule first second below (λ u past within. rest.same c (Completes-itself first) u (omega arith) within) less
 
--- and equal tables one number
+-- equal tables are of one number
 pub one_number : {r : LocalRule} {c best d : Colouring} {low high : ℕ} → AgreeFrom r c low high best 0 → Completes r.states c low high d → recoloured_number r best ≡ recoloured_number r d
 one_number {r} {c} {best} {d} {low} {high} all completes = sym (recoloured_number-same r d best (λ u l. all.same d completes u (omega arith) l))
 
@@ -165,7 +165,7 @@ Completes-next {k} {c} {d} {e} {low} {high} {next} {colour} {from} {to} h least 
       (h.chosen a chosen);
 }
 
--- and what completes it completes the first
+-- what completes the colouring with one more letter chosen completes it without
 Completes-before : {k : ℕ} {c d e : Colouring} {low high next colour from to : ℕ} → IsNext k c low high next colour e from to → low ≤ colour → colour < high → Completes k e from to d → Completes k c low high d
 Completes-before {k} {c} {d} {e} {low} {high} {next} {colour} {from} {to} h least most completes = record {
   colouring = completes.colouring;

@@ -20,7 +20,7 @@ last_digit k (suc q) t v some l e =
     let split : v ≡ q * k + (k - t) = omega (arith, suc-mul q k) in
     ap (λ x. x % k) split ∙ mod-mul-add q k (k - t) (omega arith)
 
--- and the number without it
+-- a number that lacks t of a multiple of n: what it is without its last digit
 other_digits : (n q t v : ℕ) → 0 < t → t ≤ n → v + t ≡ q * n → v / n + 1 ≡ q
 other_digits n zero t v some l e = absurd (omega arith)
 other_digits n (suc q) t v some l e =
@@ -89,7 +89,7 @@ old_word-completes {r} {c} {d} {low} {high} {v} rule most completes known =
     ∙ completes.letters (get_or w i 0) (IsWord-word_of r.states r.width v known.below i 0 within) (letters-chosen rule most known i (omega arith))
     ∙ sym (get_or-map (slice_index c.letters) w i 0 0 within))
 
--- and is given the same letter
+-- a colouring that completes another is given the same letter there
 given-completes : {r : LocalRule} {c d : Colouring} {low high v : ℕ} → IsRule r → high ≤ r.states → Completes r.states c low high d → IsKnown r low high v
     → local_map (turned r d.mirrored) (old_word r d v) ≡ local_map (turned r c.mirrored) (old_word r c v)
 given-completes {r} {c} {d} {low} {high} {v} rule most completes known =
@@ -104,7 +104,7 @@ entry-chosen {r} {c} {d} {low} {high} {v} rule most colouring completes known ch
     ap (slice_index d.colours) (given-completes rule most completes known ∙ sym (completes.letters (entry r c v) colour chosen ∙ colouring.back _ below))
     ∙ completes.colouring.there (entry r c v) colour
 
--- and else the least free colour at least
+-- where no colour is chosen, the window has at least the least free colour
 pub entry-free : {r : LocalRule} {c d : Colouring} {low high v : ℕ} → IsRule r → high ≤ r.states → IsColouring r.states c → Completes r.states c low high d → IsKnown r low high v
     → low ≤ entry r c v → low ≤ entry r d v
 entry-free {r} {c} {d} {low} {high} {v} rule most colouring completes known free =

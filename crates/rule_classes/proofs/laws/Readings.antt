@@ -34,7 +34,7 @@ value-read_as : (mirror : Bool) (k a : ℕ) (w : List ℕ) → value k (read_as 
 value-read_as true k a w = ap (value k) (reverse-append (a ∷ []) w) ∙ value-snoc k (reverse w) a
 value-read_as false k a w = refl
 
--- and none
+-- the value of no letters, read in either direction
 empty : (mirror : Bool) (k : ℕ) → value k (read_as mirror []) ≡ 0
 empty true k = refl
 empty false k = refl

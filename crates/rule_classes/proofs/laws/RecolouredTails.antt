@@ -1,5 +1,5 @@
 -- Configurations in new colours, and what recolouring keeps of a rule, at any offset.
-use Rattle.std.proofs.Common.{◌≡◌, ℕ, ◌+◌, ◌-◌, ◌%◌, ◌≤◌, List, length, slice_index, ℤ, pos, negsuc, ◌+ℤ◌, ◌-ℤ◌, refl, sym, ap, ap₂, ◌∙◌, subst, ⊎_elim, arith, mod-lt}
+use Rattle.std.proofs.Common.{◌≡◌, ℕ, ◌+◌, ◌-◌, ◌%◌, List, length, slice_index, ℤ, pos, negsuc, ◌+ℤ◌, ◌-ℤ◌, refl, sym, ap, ap₂, ◌∙◌, subst, ⊎_elim, arith, mod-lt}
 use Rattle.std.proofs.lemmas.Bool.{cases_lt}
 use Rattle.std.proofs.lemmas.Int.{ints}
 use Rattle.std.proofs.lemmas.List.{length-map, get_or-map}
@@ -102,7 +102,7 @@ IsRightClosing-recoloured {r} {g} {colours} {letters} rule inverse new closing x
     Same-recoloured rule inverse new hx hy share
     (λ tx ty s. closing (recoloured_tail letters x) (recoloured_tail letters y) tx ty s (agree.0, λ i l. cell-recoloured letters hx i ∙ ap (slice_index letters) (agree.1 i l) ∙ sym (cell-recoloured letters hy i)))
 
--- and left-closing if the rule is
+-- a recoloured rule is left-closing if the rule is
 pub IsLeftClosing-recoloured : {r g : LocalRule} {colours letters : List ℕ} → IsRule r → AreInverse r.states colours letters → IsRecoloured colours r g → IsLeftClosing r → IsLeftClosing g
 IsLeftClosing-recoloured {r} {g} {colours} {letters} rule inverse new closing x y hx hy share agree =
     Same-recoloured rule inverse new hx hy share

@@ -83,7 +83,7 @@ recoloured-own {k} letters w own word =
     let within : i < length w = omega (arith, length-map w (slice_index letters)) in
     get_or-map (slice_index letters) w i 0 0 within ∙ own (get_or w i 0) (word i 0 within))
 
--- and the rule
+-- where each letter is its own colour, the table is the rule's
 pub table-own : {r : LocalRule} (c : Colouring) → IsRule r → IsColouring r.states c → c.mirrored ≡ false → ((a : ℕ) → a < r.states → slice_index c.letters a ≡ a) → (in_colours r c).table ≡ r.table
 table-own {r} c rule colouring straight own =
     let long : length (in_colours r c).table ≡ r.states ^ r.width = length-table_by r.states r.width (new_letter r c) in

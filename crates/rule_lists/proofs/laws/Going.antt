@@ -1,6 +1,5 @@
 -- The search goes on: which rules are still to come.
-use Rattle.std.proofs.Common.{◌≡◌, ◌≢◌, ℕ, ◌+◌, ◌-◌, ◌*◌, ◌^◌, ◌<◌, ◌≤◌, ◌↔◌, inl, inr, List, length, slice_index, set, Option, Some, None, IfSome, sym, ap, ap₂, ◌∙◌, subst, arith, ⊎_elim, add-mul, one-mul, mul_assoc, mul_comm, pow-suc}
-use Rattle.std.specs.Prelude.{MatchOption}
+use Rattle.std.proofs.Common.{◌≡◌, ◌≢◌, ℕ, ◌+◌, ◌-◌, ◌*◌, ◌^◌, ◌<◌, ◌≤◌, ◌↔◌, inl, inr, List, length, slice_index, set, Option, Some, None, IfSome, sym, ap, ap₂, ◌∙◌, subst, arith, ⊎_elim, add-mul, one-mul, mul_assoc, mul_comm, pow-suc, MatchOption}
 use Rattle.std.proofs.Common.{subst₂}
 use Rattle.std.proofs.Math.Nat.{one-le-pow}
 use Rattle.std.proofs.lemmas.Nat.{mul-le, pow-add}

@@ -1,5 +1,5 @@
 -- The beginning of a table text: its form, its letters and its faults.
-use Rattle.std.proofs.Common.{◌≡◌, ℕ, Bool, true, false, List, ◌++◌, ◌+◌, ◌-◌, ◌≤◌, Ok, Err, Result, Option, Some, None, take, length, replicate, refl, sym, ap, ◌∙◌, subst, arith, IfOk, IfErr, nat_lt, nat_le, ◌^◌, if◌then◌else◌, option_map}
+use Rattle.std.proofs.Common.{◌≡◌, ℕ, Bool, true, false, List, ◌++◌, ◌+◌, ◌-◌, ◌≤◌, Ok, Err, Result, Option, Some, None, take, length, replicate, refl, sym, ap, ◌∙◌, arith, IfOk, IfErr, nat_lt, nat_le, ◌^◌, if◌then◌else◌, option_map}
 use Rattle.std.specs.Option.{option_or}
 use Rattle.std.proofs.lemmas.Bool.{false≢true}
 use Rattle.std.proofs.lemmas.List.{take-replicate}
@@ -10,7 +10,7 @@ use Rattle.word_image.specs.declared.local_rule.RuleFault.TheVariants as limit
 use Rattle.rule_text.specs.declared.text_fault.TextFault.{TextFault}
 use Rattle.rule_text.specs.declared.text_fault.TextFault.TheVariants as fault
 use Rattle.rule_text.specs.declared.beginnings.Beginning.{Beginning}
-use Rattle.rule_text.specs.RuleTexts.{Said, Says, Entries, IsTextFault, NoForm, Refused, in_text, number_fault, entries_fault, fault_of}
+use Rattle.rule_text.specs.RuleTexts.{Said, Says, Entries, IsTextFault, NoForm, Refused, in_text, entries_fault, fault_of}
 use Rattle.rule_text.specs.Heads.{IsForm}
 use Rattle.rule_text.specs.Beginnings.{IsBeginning, IsBeginningFault, IsBeginningOf, filled}
 

@@ -10,7 +10,7 @@ use Rattle.rule_text.specs.PrintedRules.{head}
 use Rattle.rule_text.specs.Heads.{IsEntries, colon, entries_of, kind_text, sign, signed}
 use Rattle.rule_text.proofs.laws.Parts.{Field, AfterStates, saying, same_signed, Field-unique, Signed-unique, Kinds-unique}
 
--- the same said with parts that are known by other names
+-- what a text says, said with parts that are known by other names
 pub Says-same : {x text : List ℕ} {a b p states width place : ℕ} {z : ℤ} {entries : Entries} → Says x (saying a b z entries p)
     → x ≡ text → states ≡ a → width ≡ b → p ≡ place → Says text (saying states width z entries place)
 Says-same {x = x} {text = text} {a = a} {b = b} {p = p} {states = states} {width = width} {place = place} {z = z} {entries = entries} says whole states_is width_is long =
@@ -32,7 +32,7 @@ IsOffsetText-IsOffset : {o : List ℕ} {z : ℤ} → IsOffset o z → IsOffsetTe
 IsOffsetText-IsOffset (Plain digits d) = record { minus = false; digits = digits; decimal = d; text = refl; value = refl }
 IsOffsetText-IsOffset (Minus digits d) = record { minus = true; digits = digits; decimal = d; text = refl; value = refl }
 
--- and each such form is an offset
+-- each sign and row of digits, as the grammar has them, is an offset
 IsOffset-signed : (minus : Bool) (digits : List ℕ) → IsDecimal 1 2 digits → IsOffset (sign minus ++ digits) (signed minus (decimal_value digits))
 IsOffset-signed true digits d = Minus digits d
 IsOffset-signed false digits d = Plain digits d
@@ -60,7 +60,7 @@ pub IsOffset-at : (text : List ℕ) (start : ℕ) (minus : Bool) → take start 
 IsOffset-at text start minus over decimal =
     subst (λ x. IsOffset x (signed minus (decimal_value (drop start text)))) (sym (by_sign text start minus over)) (IsOffset-signed minus (drop start text) decimal)
 
--- and an offset is nothing else
+-- an offset is digits after a sign or none, and nothing else
 pub IsOffset-only : (text : List ℕ) (start : ℕ) (minus : Bool) (z : ℤ) → take start text ≡ sign minus → (minus ≡ false → get_or text start 0 ≢ 45) → IsOffset text z
     → IsDecimal 1 2 (drop start text) × (signed minus (decimal_value (drop start text)) ≡ z)
 IsOffset-only text start minus z over plain offset =

@@ -72,7 +72,7 @@ IsOffset-offset_text k m (negsuc n) shape =
 hex_value-lower_digit : (a : ℕ) → a < 16 → hex_value (lower_digit a) ≡ Some a
 hex_value-lower_digit a h = grind (arith, nat_tests)
 
--- and is a hexadecimal digit
+-- the digit of a letter below 16 is a hexadecimal digit
 IsHexDigit-lower_digit : (a : ℕ) → a < 16 → IsHexDigit (lower_digit a)
 IsHexDigit-lower_digit a h none = none-some a (sym none ∙ hex_value-lower_digit a h)
 

@@ -29,7 +29,7 @@ pub IsReading-rule : {text : List ℕ} {s : Said} → Says text s → (a : Resul
 IsReading-rule {s = s} says (Ok r) answer = record { said = s; says = says; accepted = answer.0; rule = answer.1 }
 IsReading-rule says (Err f) answer = tt
 
--- and its fault
+-- an answer to what the text says has the fault of the text
 pub IsReading-fault : {text : List ℕ} {s : Said} → Says text s → (a : Result LocalRule TextFault) → IsReading s a → IfErr a (λ f. IsTextFault text f)
 IsReading-fault says (Ok r) answer = tt
 IsReading-fault {s = s} says (Err f) answer = Refused s f says answer

@@ -1,8 +1,7 @@
 -- Tables of consecutive numbers: a table has the digits of its number, the first letter the least significant.
-use Rattle.std.proofs.Common.{◌≡◌, ℕ, zero, suc, ◌+◌, ◌*◌, ◌^◌, ◌<◌, ◌≤◌, List, [], ◌∷◌, ◌++◌, length, reverse, get_or, set, sum, refl, sym, ap, ap₂, ◌∙◌, subst, arith, pow-suc, pos, mul-add, mul_assoc, mul_comm, mul-one, one-mul, length-set}
+use Rattle.std.proofs.Common.{◌≡◌, ℕ, zero, suc, ◌+◌, ◌*◌, ◌^◌, ◌<◌, List, [], ◌∷◌, length, reverse, get_or, set, refl, sym, ap, ◌∙◌, subst, arith, pow-suc, pos, mul-add, mul_assoc, mul_comm, mul-one, one-mul}
 use Rattle.std.proofs.Math.Nat.{pow-zero}
 use Rattle.std.proofs.lemmas.List.{reverse-append, reverse-reverse, length-reverse}
-use Rattle.std.proofs.lemmas.List.Sums.{sum_by-set, sum_by-le, get_or-le-sum_by}
 use Rattle.word_image.specs.LocalRules.{LocalRule, IsRule, IsWord, value, word_of, wolfram_number}
 use Rattle.word_image.proofs.laws.Values.{value-snoc, word_of-value, value-word_of, length-word_of}
 use Rattle.word_image.proofs.laws.Images.{IsWord-reverse}

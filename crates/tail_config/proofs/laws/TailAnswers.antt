@@ -23,7 +23,7 @@ IsTailText-no_fault {k} {text} {t} good (Refused u f parts some) =
     let same : u ≡ t = HasParts-unique parts good.parts in
     none-some f (sym ((tail_fault-none k t).1 good.accepted) ∙ ap (tail_fault k) (sym same) ∙ some)
 
--- and a text has one first fault
+-- a text has one first fault
 one_fault : {k : ℕ} {text : List ℕ} {f g : TailTextFault} → IsTailTextFault k text f → IsTailTextFault k text g → f ≡ g
 one_fault (NoForm p a) (NoForm q b) = ap fault.Form (IsFormFault-unique a b)
 one_fault (NoForm p a) (Refused u g parts some) = absurd (a.outside (u, parts))
@@ -38,7 +38,7 @@ every_tail k text (Ok r) right t good =
 every_tail k text (Err f) (inl first) t good = absurd (IsTailText-no_fault good first)
 every_tail k text (Err f) (inr memory) t good = inr (ap Err memory.0)
 
--- and so is its first fault
+-- the first fault of a text is answered, unless memory is wanting
 pub every_tail_fault : (k : ℕ) (text : List ℕ) (answer : Result TailOver TailTextFault) → IsTailTextAnswer k text answer → (f : TailTextFault) → IsTailTextFault k text f
     → answer ≡ Err f
 every_tail_fault k text (Ok r) right f first = absurd (IsTailText-no_fault right.1 first)

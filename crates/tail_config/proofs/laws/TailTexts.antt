@@ -23,7 +23,7 @@ Spells-letters [] all = refl
 Spells-letters (b ∷ d) all =
     ap₂ (λ (o : Option ℕ) (w : List (Option ℕ)). o ∷ w) (some_value (hex_value b) (All-head IsHexDigit b d all)) (Spells-letters d (All-tail IsHexDigit b d all))
 
--- and for nothing else
+-- what stands for letters is their digits
 letters-Spells : (d w : List ℕ) → Spells d w → All IsHexDigit d × (map letter_at d ≡ w)
 letters-Spells [] [] e = (All-nil IsHexDigit, refl)
 letters-Spells [] (a ∷ w) e = absurd (cc)
@@ -47,7 +47,7 @@ HasParts-cut {left = left} {middle = middle} {right = right} cut = record {
   right_spells = Spells-letters right cut.right_digits;
 }
 
--- and is cut so by what it stands for
+-- a text that stands for a configuration is cut into the rows of its letters' digits
 cut-HasParts : {text : List ℕ} {t : TailConfig} → (p : HasParts text t) → IsCut text p.left p.middle p.right × (t ≡ letters_of p.left p.middle p.right)
 cut-HasParts {t = t} p =
     let l = letters-Spells p.left t.left p.left_spells in
@@ -85,7 +85,7 @@ HasParts-unique {t = t} {u = u} p q =
 abbrev bars_after : ℕ → ℕ → Option ℕ
 bars_after n b = if is_some (hex_value b) then Some n else (if (b == bar) && nat_lt n 2 then Some (n + 1) else None)
 
--- and after more bytes
+-- how many bars there are after more bytes, unless no text of the grammar goes on so
 abbrev bars : ℕ → List ℕ → Option ℕ
 bars n [] = Some n
 bars n (b ∷ x) = option_and_then (λ m. bars m x) (bars_after n b)
@@ -189,7 +189,7 @@ Begins-two l m hl hm =
     let x : List ℕ = l ++ codes "|" ++ m in
     Begins-prefix x (codes "|" ++ []) (subst (Begins HasForm) (append_assoc x (codes "|") []) (Begins-three l m [] hl hm (All-nil IsHexDigit)))
 
--- and so does one
+-- one row of digits begins a text
 Begins-one : (l : List ℕ) → All IsHexDigit l → Begins HasForm l
 Begins-one l hl = Begins-prefix l (codes "|" ++ []) (subst (Begins HasForm) (append_assoc l (codes "|") []) (Begins-two l [] hl (All-nil IsHexDigit)))
 

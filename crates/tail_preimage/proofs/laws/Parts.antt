@@ -45,7 +45,7 @@ Steps-repeat {r} {p} rule h (suc n) u v l = (
       Steps-cons (((h.rows u l).nodes w (IsWalk-last first.1)).1 first) ((Steps-repeat rule h n w v (IsWalk-last first.1)).1 second)),
 )
 
--- and read backwards they are such walks backwards
+-- steps of the relation of a word that is read backwards are walks along copies of it, from their ends
 pub Steps-reversed : {r : LocalRule} {p table : List ℕ} → IsRule r → IsRelation r (λ u v. HasWalk r p v u) table → (n u v : ℕ) → u < node_count r → Steps (HasBit table) n u v ↔ HasWalk r (repeat n p) v u
 Steps-reversed {r} rule h zero u v l = ((λ steps. subst (λ n. HasWalk r [] n u) (Steps-stay steps) (_, IsWalk-none r u l)), (λ walk. Steps-none (sym (IsWalk-stays walk.1))))
 Steps-reversed {r} {p} rule h (suc n) u v l =

@@ -37,7 +37,7 @@ Through-before {set = set} r parts P Q h g = (
   (λ (v, w, v_node, w_node, before, row, behind). (v, v_node, before, (g.nodes v v_node).1 (w, row, (h.nodes w w_node).1 behind))),
 )
 
--- and those to which it leads from a set
+-- a set meets the nodes to which the middle leads from a set exactly where something leads through
 pub Through-behind : {set fronts : ℕ} → (r : LocalRule) (parts : Parts) (P Q : ℕ → Type 0) → IsNodeSet r P set
     → IsNodeSet r (λ w. (v : ℕ) × (v < node_count r) × (IsBitSet set v × HasBit parts.middle v w)) fronts → Meets r Q fronts ↔ Through r parts P Q
 Through-behind r parts P Q h g = (
@@ -121,18 +121,18 @@ left_key h (v, w, v_node, w_node, before, row, behind) =
     let (sum, few, rounds) = SomeRounds-periods h.rule h.left v_node before in
     (sum, few, (v, w, v_node, w_node, rounds, row, behind))
 
--- and for it a second
+-- for the first key there is a second
 pub right_key : {r : LocalRule} {t : TailConfig} {parts : Parts} (P : ℕ → Type 0) → AreTailParts r t parts → Through r parts P (Open (HasBit parts.right.period) 16) → (n : ℕ) × (n ≤ 16) × Through r parts P (SomeRounds (HasBit parts.right.period) n)
 right_key P h (v, w, v_node, w_node, before, row, behind) =
     let (sum, few, rounds) = SomeRounds-periods h.rule h.right w_node behind in
     (sum, few, (v, w, v_node, w_node, before, row, rounds))
 
--- and a third
+-- for the second key there is a third
 pub before_key : (r : LocalRule) (parts : Parts) (Q : ℕ → Type 0) (left : ℕ) → Through r parts (SomeRounds (HasBit parts.left.period) left) Q → (n : ℕ) × (n < left) × Through r parts (Rounds (HasBit parts.left.period) n (left - n)) Q
 before_key r parts Q left (v, w, v_node, w_node, (n, on, both, some, rounds), row, behind) =
     (n, omega (arith, both, some), (v, w, v_node, w_node, exact_rounds (HasBit parts.left.period) n n on left v refl both rounds, row, behind))
 
--- and a fourth
+-- for the third key there is a fourth
 pub after_key : (r : LocalRule) (parts : Parts) (P : ℕ → Type 0) (right : ℕ) → Through r parts P (SomeRounds (HasBit parts.right.period) right) → (n : ℕ) × (n < right) × Through r parts P (Rounds (HasBit parts.right.period) n (right - n))
 after_key r parts P right (v, w, v_node, w_node, before, row, (n, on, both, some, rounds)) =
     (n, omega (arith, both, some), (v, w, v_node, w_node, before, row, exact_rounds (HasBit parts.right.period) n n on right w refl both rounds))

@@ -20,7 +20,7 @@ pub IsWalk-first : {r : LocalRule} {w x : List ℕ} {u v : ℕ} → IsWalk r w u
 IsWalk-first {r} {x = x} h =
     rw (← h.first) (value-node r (take (r.width - 1) x) (All-take (λ a. a < r.states) (r.width - 1) x h.preimage.word) (length-take-le (r.width - 1) x (omega arith)))
 
--- and ends with one
+-- a walk ends with a node
 pub IsWalk-last : {r : LocalRule} {w x : List ℕ} {u v : ℕ} → IsWalk r w u v x → v < node_count r
 IsWalk-last {x = x} h = IsLastNode-below (record { x = x; preimage = h.preimage; last = h.last })
 

@@ -32,7 +32,7 @@ no_later {R = R} order x y z first second greater =
     let not : is_gt (R x z) ≡ false = upto order x y z (not_greater (R x y) first) (not_greater (R y z) second) in
     cc
 
--- and where x doesn't come before y, y comes no later than x
+-- in a total order y comes no later than x, where x doesn't come before y
 pub not_before : {K : Type 0} {R : K → K → Ordering} → IsTotalOrder R → (x y : K) → R x y ≢ Less → R y x ≢ Greater
 not_before {R = R} order x y other greater = other (order.antisymm x y ∙ ap ordering_reverse greater)
 
@@ -40,7 +40,7 @@ not_before {R = R} order x y other greater = other (order.antisymm x y ∙ ap or
 pub pair_cmp_total : IsTotalOrder pair_cmp
 pair_cmp_total = then_total (on_total (λ (p : ℕ × ℕ). p.0) nat_cmp_total) (on_total (λ (p : ℕ × ℕ). p.1) nat_cmp_total)
 
--- and lists of them
+-- lists of letter pairs are in a total order
 pub pairs_cmp_total : IsTotalOrder pairs_cmp
 pairs_cmp_total = then_total (on_total (λ (w : List (ℕ × ℕ)). length w) nat_cmp_total) (lists_total pair_cmp_total)
 

@@ -11,7 +11,7 @@ use Rattle.word_image.proofs.laws.Values.{value-below, value-snoc, value-drop}
 pub node_count_pos : {r : LocalRule} → IsRule r → 0 < node_count r
 node_count_pos {r} rule = one-le-pow (r.width - 1) r.states (omega arith)
 
--- and pairs of them
+-- there are pairs of nodes
 pub pair_count_pos : {r : LocalRule} → IsRule r → 0 < pair_count r
 pair_count_pos rule = mul-pos (node_count_pos rule) (node_count_pos rule)
 

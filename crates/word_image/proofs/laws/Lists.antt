@@ -40,7 +40,7 @@ paired_at R (x ∷ xs) [] i d e all below = absurd all
 paired_at R (x ∷ xs) (y ∷ ys) zero d e all below = all.0
 paired_at R (x ∷ xs) (y ∷ ys) (suc i) d e all below = paired_at R xs ys i d e all.1 (omega arith)
 
--- and they are of one length
+-- two lists that are paired are of one length
 pub paired_length : {X Y : Type 0} (R : X → Y → Type 0) (xs : List X) (ys : List Y) → AllZip R xs ys → length xs ≡ length ys
 paired_length R [] [] all = refl
 paired_length R [] (y ∷ ys) all = absurd all

@@ -43,7 +43,7 @@ slice_get-Contains xs x (i, below, same) = (i, slice_get-get_or xs i x below ∙
 pub slice_get-set_same : {X : Type 0} (xs : List X) (i : ℕ) (x : X) → i < length xs → slice_get (set xs i x) i ≡ Some x
 slice_get-set_same xs i x l = slice_get-get_or (set xs i x) i x (omega (arith, length-set xs i x)) ∙ ap Some (get_or-set_same xs i x x l)
 
--- and nothing changes at another
+-- what is stored at a place changes nothing at another
 pub slice_get-set_other : {X : Type 0} (xs : List X) (i j : ℕ) (x y : X) → j ≢ i → slice_get xs j ≡ Some y → slice_get (set xs i x) j ≡ Some y
 slice_get-set_other xs i j x y other at =
     slice_get-get_or (set xs i x) j y (omega (arith, length-set xs i x, slice_get_within xs j y at)) ∙ ap Some (get_or-set_other xs i j x y other ∙ get_or_from_slice_get xs j y y at)

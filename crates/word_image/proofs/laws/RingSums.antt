@@ -38,7 +38,7 @@ turn-next f g n again o =
     let last : f (g (pos n +ℤ o)) ≡ f (g (pos 0 +ℤ o)) = ap f (ap g e ∙ again o ∙ ap g e') in
     omega (arith, ends, shifted, last)
 
--- and so from any place on
+-- of terms that come again after n, n have the same sum from any place on
 turn-all : (f : ℕ → ℕ) (g : ℤ → ℕ) (n : ℕ) → ((i : ℤ) → g (i +ℤ pos n) ≡ g i) → (o : ℤ) → turn f g n o ≡ turn f g n (pos 0)
 turn-all f g n again (pos zero) = refl
 turn-all f g n again (pos (suc i)) =
@@ -77,7 +77,7 @@ sum_by-ring_image-from r weight p o some =
     let again : (i : ℤ) → gives (i +ℤ pos (length p)) ≡ gives i = λ i. ap (local_map r) (ring_letters-turn p i r.width some) in
     turn-all weight gives (length p) again r.offset ∙ sym (turn-all weight gives (length p) again o)
 
--- and so from the first one on
+-- the image of a ring weighs what the rule gives on the windows of a full turn from the first place on
 pub sum_by-ring_image-start : (r : LocalRule) (weight : ℕ → ℕ) (p : List ℕ) → 0 < length p
     → sum_by weight (ring_image r p) ≡ sum_by weight (map (λ i. local_map r (ring_letters p (pos i) r.width)) (range_with_len 0 (length p)))
 sum_by-ring_image-start r weight p some =

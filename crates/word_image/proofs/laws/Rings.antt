@@ -22,7 +22,7 @@ ring_letter-turn p (negsuc i) some = ⊎_elim
     ap (ring_letter p) place ∙ ap (λ j. slice_index p (length p - 1 - j)) (sym (mod-eq-sub-mod l)))
     (cases_lt i (length p))
 
--- and after some turns
+-- the letters of a ring come again after some turns
 ring_letter-turns : (p : List ℕ) (i : ℤ) (n : ℕ) → 0 < length p → ring_letter p (i +ℤ pos (n * length p)) ≡ ring_letter p i
 ring_letter-turns p i zero some =
     let e : i +ℤ pos (zero * length p) ≡ i = omega (arith, ints, zero-mul (length p)) in ap (ring_letter p) e

@@ -24,7 +24,7 @@ IsRuleBy-entries {r} {k} {m} {o} {gives} rule states width offset entries = reco
   entries = λ v a l h. entries v a (subst (λ n. v < n) (ap₂ (λ (b e : ℕ). b ^ e) states width) l) h;
 }
 
--- and by the function that fills its table
+-- a rule whose table a function fills is given by that function
 pub IsRuleBy-map : {r : LocalRule} {k m : ℕ} {o : ℤ} {gives : ℕ → ℕ → Type 0} (f : ℕ → ℕ) → IsRule r → k ≡ r.states → m ≡ r.width → o ≡ r.offset
     → r.table ≡ map f (range_with_len 0 (r.states ^ r.width)) → ((v a : ℕ) → v < r.states ^ r.width → gives v a → a ≡ f v)
     → IsRuleBy k m (to_z w8 (of_z w8 o)) gives r

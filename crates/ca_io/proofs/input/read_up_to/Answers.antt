@@ -1,5 +1,4 @@
-use Rattle.std.proofs.Common.{◌≤◌, ◌++◌, length, take, length-append, length-take, Ok, Err, Result, arith}
-use Rattle.std.specs.Prelude.{OnErr}
+use Rattle.std.proofs.Common.{◌≤◌, ◌++◌, length, take, length-append, length-take, Ok, Err, Result, arith, OnErr}
 use Rattle.std.proofs.KnownBytes.{Consumes-trans}
 use Rattle.ca_io.proofs.input.read_up_to.Goals as goal
 

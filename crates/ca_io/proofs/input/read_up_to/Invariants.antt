@@ -1,5 +1,4 @@
-use Rattle.std.proofs.Common.{◌≡◌, ◌≤◌, ◌-◌, vec_len}
-use Rattle.std.specs.Option.{is_some}
+use Rattle.std.proofs.Common.{◌≡◌, ◌≤◌, ◌-◌, vec_len, is_some}
 use Rattle.std.specs.Io.KnownBytes.{Consumes}
 use Rattle.ca_io.proofs.input.read_up_to.Given as goal
 

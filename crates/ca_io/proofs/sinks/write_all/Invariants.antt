@@ -1,5 +1,4 @@
-use Rattle.std.proofs.Common.{◌≡◌, ◌≤◌, ◌-◌, length, take}
-use Rattle.std.specs.Option.{is_some}
+use Rattle.std.proofs.Common.{◌≡◌, ◌≤◌, ◌-◌, length, take, is_some}
 use Rattle.std.specs.Io.KnownBytes.{Appends}
 use Rattle.ca_io.proofs.sinks.write_all.Given as goal
 

@@ -30,6 +30,6 @@ returns c =
     let rest : rest_of c.args.side r (first_of r p) ≡ rest_of c.args.side r (second_of r p) =
     ap (rest_of c.args.side r) (sym nodes.first) ∙ sym c.rest_of.ensures ∙ c.if-rest_of.false ∙ c.rest_of-else-u-v.ensures ∙ ap (rest_of c.args.side r) nodes.second in (
       λ yes. IsFirstOf-differ c.args.side p nodes.rule c.requires
-          (λ e. c.if-u-v.false (nodes.first ∙ e ∙ sym nodes.second), rest, subst (λ (s : Side). HaveOneLabel s r (first_of r p) (second_of r p)) c.other.ensures (c.some_label.ensures.0 yes)),
-      λ f. c.some_label.ensures.1 (subst (λ (s : Side). HaveOneLabel s r (first_of r p) (second_of r p)) (sym c.other.ensures) (DifferAtEnd-first c.args.side p nodes.rule f).2),
+          (λ e. c.if-u-v.false (nodes.first ∙ e ∙ sym nodes.second), rest, subst (λ (s : Side). HaveOneLabel s r (first_of r p) (second_of r p)) c.other.ensures (c.share_a_label.ensures.0 yes)),
+      λ f. c.share_a_label.ensures.1 (subst (λ (s : Side). HaveOneLabel s r (first_of r p) (second_of r p)) (sym c.other.ensures) (DifferAtEnd-first c.args.side p nodes.rule f).2),
     )

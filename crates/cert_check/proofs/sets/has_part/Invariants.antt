@@ -1,4 +1,4 @@
-use Rattle.std.proofs.Common.{◌≡◌, ◌≢◌, ◌<◌, ℕ, slice_index, bit_and}
+use Rattle.std.proofs.Common.{◌≢◌, ◌<◌, ℕ, slice_index, bit_and}
 use Rattle.cert_check.proofs.sets.has_part.Given as goal
 
 -- none so far is part of the set

@@ -15,7 +15,7 @@ returns-then-is_own-clause-value c =
     let own : cert.weights ≡ own_weights (length cert.weights) = subst (λ (ws : List ℕ). ws ≡ own_weights (length ws)) weights (c.is_own.ensures.0 c.if-is_own.true) in
     c.from.ensures ∙ ap object c.in_ok-members.ensures ∙ ap (λ (ms : Members). object (members_before ms cert)) (sym (weights_members-own shaped.weights own))
 
--- and with other ones
+-- where weights are named, the value is that of the certificate with them
 pub returns-clause-value : goal.returns-clause-value
 returns-clause-value c =
     let cert = c.args.cert.now in

@@ -2,7 +2,7 @@ use Rattle.std.proofs.Common.{◌≡◌, ℕ, ◌+◌, ◌*◌, ◌<◌, ◌≤�
 use Rattle.std.specs.List.{slice_get}
 use Rattle.std.specs.Prelude.{All, Contains}
 use Rattle.std.proofs.lemmas.Option.{slice_get-get_or}
-use Rattle.word_image.specs.LocalRules.{LocalRule}
+use Rattle.word_image.specs.LocalRules.{LocalRule, IsRule}
 use Rattle.word_image.specs.Graphs.{pair_count}
 use Rattle.word_image.specs.MarkedPairs.{marked}
 use Rattle.word_image.proofs.laws.Graphs.{pair_count_pos}
@@ -12,7 +12,7 @@ use Rattle.closing_test.proofs.SeenSplits.{IsLeastSeen, IsLeastSeen-start, IsLea
 use Rattle.closing_test.proofs.split.least_walks.Goals as goal
 
 pub of-requires : goal.of-requires
-of-requires c = let some = pair_count_pos c.count-count.ensures.rule in omega arith
+of-requires c = let some = pair_count_pos (subst IsRule c.rule.ensures c.keeps_limits.ensures) in omega arith
 
 pub earlier-requires-clause-state : goal.earlier-requires-clause-state
 earlier-requires-clause-state c =
@@ -31,7 +31,7 @@ loop-i-preserved c =
     let t : ℕ = c.index.result.now in
     let here : slice_get states c.loop-i.i ≡ Some t = slice_get-get_or states c.loop-i.i t (omega (arith, c.in_ok-states.states.ok)) ∙ ap Some (sym c.index.ensures) in
     subst (IsLeastSeen r states (c.loop-i.i + 1)) (sym c.or-best.ensures)
-    (IsLeastSeen-next r states c.loop-i.i t c.loop-i.best c.in_ok-earlier.field-0 c.count-count.ensures.rule here c.loop-i.invariant c.in_ok-earlier.ensures)
+    (IsLeastSeen-next r states c.loop-i.i t c.loop-i.best c.in_ok-earlier.field-0 (subst IsRule c.rule.ensures c.keeps_limits.ensures) here c.loop-i.invariant c.in_ok-earlier.ensures)
 
 pub returns : goal.returns
 returns c =

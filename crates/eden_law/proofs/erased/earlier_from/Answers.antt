@@ -1,5 +1,4 @@
-use Rattle.std.proofs.Common.{◌≡◌, ℕ, ◌+◌, ◌-◌, ◌*◌, ◌<◌, ◌≤◌, List, ◌++◌, length, map, sym, ap, ap₂, ◌∙◌, subst, subst₂, arith}
-use Rattle.std.specs.Prelude.{MatchOption}
+use Rattle.std.proofs.Common.{◌≡◌, ℕ, ◌+◌, ◌-◌, ◌*◌, ◌<◌, ◌≤◌, List, ◌++◌, length, map, sym, ap, ap₂, ◌∙◌, subst, subst₂, arith, MatchOption}
 use Rattle.std.proofs.lemmas.Nat.{div_below}
 use Rattle.word_image.specs.LocalRules.{LocalRule, IsRule, word_of, node_count}
 use Rattle.word_image.specs.Graphs.{first_of, second_of, pair_of, pair_count}

@@ -38,4 +38,4 @@ returns-in-None-clause-surjective c = ((λ none. IsSurjective-none_erasable (c.i
 
 pub returns-then-is_surjective-clause-least : goal.returns-then-is_surjective-clause-least
 returns-then-is_surjective-clause-least c =
-    none_erasable-surjective c.count-count.ensures.rule (subst IsSurjective c.graph.ensures (c.is_surjective.ensures.surjective.0 c.if-is_surjective.true))
+    none_erasable-surjective (subst IsRule c.rule.ensures c.keeps_limits.ensures) (subst IsSurjective c.graph.ensures (c.is_surjective.ensures.surjective.0 c.if-is_surjective.true))

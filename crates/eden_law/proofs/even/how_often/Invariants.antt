@@ -1,5 +1,4 @@
-use Rattle.std.proofs.Common.{◌≡◌, count_by, take}
-use Rattle.std.specs.Prelude.{◌==◌}
+use Rattle.std.proofs.Common.{◌≡◌, count_by, take, ◌==◌}
 use Rattle.eden_law.proofs.even.how_often.Given as goal
 
 -- how often it stands among the letters so far

@@ -1,5 +1,4 @@
-use Rattle.std.proofs.Common.{◌≡◌, ℕ, ◌+◌, ◌*◌, ◌<◌, List, length, count_by, refl, sym, ap₂, subst, ⊎_elim, arith}
-use Rattle.std.specs.Prelude.{◌==◌}
+use Rattle.std.proofs.Common.{◌≡◌, ℕ, ◌+◌, ◌*◌, ◌<◌, List, length, count_by, refl, sym, ap₂, subst, ⊎_elim, arith, ◌==◌}
 use Rattle.std.proofs.lemmas.Bool.{cases_eq}
 use Rattle.table_laws.specs.Tables.{IsEven}
 use Rattle.table_laws.proofs.EvenTables.{IsEven-surjective}

@@ -1,5 +1,4 @@
-use Rattle.std.proofs.Common.{◌≡◌, ℕ, ◌*◌, ◌<◌, length, count_by}
-use Rattle.std.specs.Prelude.{◌==◌}
+use Rattle.std.proofs.Common.{◌≡◌, ℕ, ◌*◌, ◌<◌, length, count_by, ◌==◌}
 use Rattle.eden_law.proofs.even.is_even.Given as goal
 
 -- the letters so far stand equally often

@@ -1,5 +1,4 @@
-use Rattle.std.proofs.Common.{ℕ, ◌-◌, ◌<◌}
-use Rattle.std.specs.List.{sum_by}
+use Rattle.std.proofs.Common.{ℕ, ◌-◌, ◌<◌, sum_by}
 use Rattle.word_image.specs.LocalRules.{node_count}
 use Rattle.eden_law.specs.ReachedRows.{IsRowSearch}
 use Rattle.word_image.specs.Graphs.{HasBit}

@@ -1,6 +1,4 @@
-use Rattle.std.proofs.Common.{◌≡◌, ℕ, ◌+◌, ◌*◌, ◌<◌, ◌≤◌, Bool, true, false, List, length, slice_index, sym, ap, ap₂, ◌∙◌, arith}
-use Rattle.std.specs.Prelude.{◌==◌, ◌&&◌}
-use Rattle.std.proofs.Math.Nat.{add-mul, one-mul, zero-mul}
+use Rattle.std.proofs.Common.{◌≡◌, ℕ, ◌+◌, ◌*◌, ◌<◌, ◌≤◌, Bool, true, false, List, length, slice_index, sym, ap, ap₂, ◌∙◌, arith, ◌==◌, ◌&&◌, add-mul, one-mul, zero-mul}
 use Rattle.std.proofs.lemmas.Bool.{eq-eqb, ne_eqb}
 use Rattle.table_laws.specs.ZeroPairs.{count_below, gives_zeros}
 use Rattle.table_laws.proofs.Counts.{count_below-none, count_below-add, count_below-agree, count_below-never}

@@ -1,5 +1,4 @@
-use Rattle.std.proofs.Common.{◌≡◌, ℕ, ◌+◌, ◌≤◌, Bool, true, false, slice_index, sym, ap, ◌∙◌, arith}
-use Rattle.std.specs.Prelude.{◌==◌}
+use Rattle.std.proofs.Common.{◌≡◌, ℕ, ◌+◌, ◌≤◌, Bool, true, false, slice_index, sym, ap, ◌∙◌, arith, ◌==◌}
 use Rattle.std.specs.Int.{from_bool}
 use Rattle.table_laws.proofs.Counts.{count_below-none, count_below-more}
 use Rattle.eden_law.proofs.zeros.zeros_from.Goals as goal

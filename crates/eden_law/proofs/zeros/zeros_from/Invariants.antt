@@ -1,5 +1,4 @@
-use Rattle.std.proofs.Common.{◌≡◌, ◌+◌, ◌≤◌, slice_index}
-use Rattle.std.specs.Prelude.{◌==◌}
+use Rattle.std.proofs.Common.{◌≡◌, ◌+◌, ◌≤◌, slice_index, ◌==◌}
 use Rattle.table_laws.specs.ZeroPairs.{count_below}
 use Rattle.eden_law.proofs.zeros.zeros_from.Given as goal
 

@@ -1,6 +1,5 @@
-use Rattle.std.proofs.Common.{◌≡◌, ℕ, ◌+◌, ◌*◌, ◌^◌, ◌<◌, List, slice_index, refl, sym, ap, ◌∙◌, subst, subst₂, arith, vec_capacity}
+use Rattle.std.proofs.Common.{◌≡◌, ℕ, ◌+◌, ◌*◌, ◌^◌, ◌<◌, List, slice_index, refl, sym, ap, ◌∙◌, subst, subst₂, arith, vec_capacity, suc-mul}
 use Rattle.std.proofs.lemmas.List.{length_push}
-use Rattle.std.proofs.Math.Nat.{suc-mul}
 use Rattle.word_image.specs.LocalRules.{LocalRule, node_count}
 use Rattle.word_image.specs.Edges.{IsStep}
 use Rattle.image_subsets.specs.Masks.{IsInserted}

@@ -1,5 +1,4 @@
-use Rattle.std.proofs.Common.{◌/◌, ◌%◌, ◌^◌, ◌↔◌, slice_index, bit_and, IsTrue, subst}
-use Rattle.std.specs.Prelude.{◌==◌}
+use Rattle.std.proofs.Common.{◌/◌, ◌%◌, ◌^◌, ◌↔◌, slice_index, bit_and, IsTrue, subst, ◌==◌}
 use Rattle.pair_laws.proofs.Rows.{IsBitSet-test}
 use Rattle.word_image.specs.Graphs.{HasBit}
 use Rattle.image_subsets.proofs.rows.is_marked.Goals as goal

@@ -1,5 +1,4 @@
-use Rattle.std.proofs.Common.{◌≡◌, ◌++◌, map, take, vec_capacity}
-use Rattle.std.specs.Int.Bits.{bit_or}
+use Rattle.std.proofs.Common.{◌≡◌, ◌++◌, map, take, vec_capacity, bit_or}
 use Rattle.std.specs.Simd.Lanes.{zip2}
 use Rattle.image_subsets.proofs.step_tables.double.Given as goal
 

@@ -30,7 +30,7 @@ loop-v-preserved c =
           let rank : IsRank (EndsFor r e p) w.from-b.result = of_nodes r (λ s t. IsRank (λ n. (n ≤ e) × EndTogether r s t n) w.from-b.result) u v below
           (subst (λ (z : LocalRule). IsRank (λ n. (n ≤ e) × EndTogether z u v n) w.from-b.result) c.requires.of_rule (rw (← w.from-b.ensures) at w.ends_for.ensures.rank)) in
           let starts = AreStarts-next c.requires.rule w.apart.result c.loop-v.invariant differ (omega (arith, w.ends_for.ensures.most)) rank from w.apart.ensures.most in
-          rw (w.starts-is, w.later.ensures) (subst (λ q. AreStarts r e q (set c.loop-v.starts w.from-b.result (later (get_or c.loop-v.starts w.from-b.result None) w.apart.result))) more starts)
+          rw (w.starts-is, w.later.ensures.later) (subst (λ q. AreStarts r e q (set c.loop-v.starts w.from-b.result (later (get_or c.loop-v.starts w.from-b.result None) w.apart.result))) more starts)
       | else-node_letter-letter w ↦
           let same : ¬ PairDiffersAt r 0 p = λ differ. nodes_differ r 0 u v below differ (sym c.node_letter-letter.ensures.letter ∙ sym w.if-node_letter-letter.false ∙ c.node_letter.ensures.letter) in
           subst (AreStarts r e (pair_of r u (v + 1))) (sym w.starts-is) (subst (λ q. AreStarts r e q c.loop-v.starts) more (AreStarts-other c.loop-v.invariant same))

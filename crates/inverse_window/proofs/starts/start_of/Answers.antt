@@ -26,7 +26,7 @@ loop-v-preserved c =
           (λ same. w.if-node_letter-letter.true (c.node_letter.ensures.letter ∙ sym same ∙ sym c.node_letter-letter.ensures.letter)) in
           let here : HoldsFrom w.apart.result (λ n. ¬ PairEnds r p n) = of_nodes r (λ s t. HoldsFrom w.apart.result (λ n. ¬ EndTogether r s t n)) u v below
           (subst (λ (z : LocalRule). HoldsFrom w.apart.result (λ n. ¬ EndTogether z u v n)) c.requires.of_rule w.apart.ensures.start) in
-          subst Kept (sym (w.start-is ∙ w.later-start.ensures)) (
+          subst Kept (sym (w.start-is ∙ w.later-start.ensures.later)) (
             subst (λ q. HoldsFrom (later start w.apart.result) (NoneHolds q (PairDiffersAt r i) (PairEnds r))) more (HoldsFrom-next start w.apart.result p (PairDiffersAt r i) (PairEnds r) differ c.loop-v.invariant.0 here),
             later-most start w.apart.result 240 c.loop-v.invariant.1 w.apart.ensures.most,
           )

@@ -1,5 +1,4 @@
-use Rattle.std.proofs.Common.{◌≡◌, ℕ, suc, ◌+◌, ◌*◌, ◌/◌, ◌%◌, ◌^◌, ◌<◌, ◌-ℤ◌, to_z, w64, below_more, sym, ap, ap₂, ◌∙◌, arith}
-use Rattle.std.proofs.Math.Nat.{pow-suc}
+use Rattle.std.proofs.Common.{◌≡◌, ℕ, suc, ◌+◌, ◌*◌, ◌/◌, ◌%◌, ◌^◌, ◌<◌, ◌-ℤ◌, to_z, w64, below_more, sym, ap, ap₂, ◌∙◌, arith, pow-suc}
 use Rattle.kept_sums.specs.Rows.{at}
 use Rattle.kept_sums.proofs.Casts.{back, back-sub}
 use Rattle.kept_sums.proofs.laws.Windows.{words-half, window_ends}

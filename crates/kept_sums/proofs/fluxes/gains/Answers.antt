@@ -1,5 +1,4 @@
-use Rattle.std.proofs.Common.{◌≡◌, ◌≢◌, ℕ, ◌+◌, ◌-◌, ◌^◌, ◌≤◌, get_or-set_other, slice_index_or, ℤ, pos, to_z, of_z, w64, refl, sym, ap, ap₂, subst, ◌∙◌, arith}
-use Rattle.std.specs.Int.RustNames.{unsigned_abs}
+use Rattle.std.proofs.Common.{◌≡◌, ◌≢◌, ℕ, ◌+◌, ◌-◌, ◌^◌, ◌≤◌, get_or-set_other, slice_index_or, ℤ, pos, to_z, of_z, w64, refl, sym, ap, ap₂, subst, ◌∙◌, arith, unsigned_abs}
 use Rattle.std.proofs.lemmas.List.{length-set}
 use Rattle.word_image.specs.LocalRules.{word_of}
 use Rattle.kept_sums.specs.Fluxes.{window_gain}
@@ -25,7 +24,7 @@ pow-window-end-requires c =
 pub loop-window-init : goal.loop-window-init
 loop-window-init c = record { many = refl; done = λ v l. absurd (omega arith); rest = λ v l. at-replicate 256 v }
 
--- and there are at most 256
+-- there are at most 256 windows
 few_windows : (c : After-pow-window-end) → c.pow-window-end.result ≤ 256
 few_windows c =
     let most = windows-most c.m.ensures.rule c.args.range c.requires.some c.requires.few in

@@ -1,5 +1,4 @@
-use Rattle.std.proofs.Common.{◌≡◌, ℕ, ◌^◌, ◌≤◌, ℤ, ◌-ℤ◌, ◌*ℤ◌, sym, ap₂, subst, ◌∙◌, w64, to_z, of_z, arith}
-use Rattle.std.specs.Int.RustNames.{unsigned_abs}
+use Rattle.std.proofs.Common.{◌≡◌, ℕ, ◌^◌, ◌≤◌, ℤ, ◌-ℤ◌, ◌*ℤ◌, sym, ap₂, subst, ◌∙◌, w64, to_z, of_z, arith, unsigned_abs}
 use Rattle.std.proofs.lemmas.List.{length-set}
 use mir.Syntax.{w128}
 use Rattle.kept_sums.specs.Rows.{at}

@@ -1,5 +1,4 @@
-use Rattle.std.proofs.Common.{◌≡◌, ◌^◌, below_more, ap, subst, sym, ◌∙◌, arith}
-use Rattle.std.specs.Int.RustNames.{unsigned_abs}
+use Rattle.std.proofs.Common.{◌≡◌, ◌^◌, below_more, ap, subst, sym, ◌∙◌, arith, unsigned_abs}
 use Rattle.std.proofs.lemmas.Nat.Gcd.{dvd_trans, dvd-zero}
 use Prim.Native.Nat.{◌∣◌}
 use mir.Syntax.{w128}

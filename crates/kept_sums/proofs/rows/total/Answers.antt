@@ -1,5 +1,4 @@
-use Rattle.std.proofs.Common.{◌≡◌, ℕ, ◌+◌, ◌*◌, ◌^◌, ◌<◌, ◌≤◌, get_or, ℤ, ◌+ℤ◌, to_z, of_z, w64, sym, ap, ap₂, subst, ◌∙◌, arith}
-use Rattle.std.specs.Int.RustNames.{unsigned_abs}
+use Rattle.std.proofs.Common.{◌≡◌, ℕ, ◌+◌, ◌*◌, ◌^◌, ◌<◌, ◌≤◌, get_or, ℤ, ◌+ℤ◌, to_z, of_z, w64, sym, ap, ap₂, subst, ◌∙◌, arith, unsigned_abs}
 use Rattle.kept_sums.specs.Rows.{at}
 use Rattle.kept_sums.proofs.Casts.{back, abs-add}
 use Rattle.kept_sums.proofs.laws.Sums.{sum_at-take_more}

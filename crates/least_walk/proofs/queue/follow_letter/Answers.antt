@@ -54,7 +54,7 @@ returns-then-eq-clause-found c =
 pub overflow_cast-reached : goal.overflow_cast-reached
 overflow_cast-reached c = omega (arith, length-walking-le c.requires.search.walking, c.args.queue.now.ok)
 
--- and so does one step more
+-- the depth of one step more fits
 pub overflow_add-reached : goal.overflow_add-reached
 overflow_add-reached c =
     let search = c.loop-b.invariant.search in
@@ -66,7 +66,7 @@ put-requires c =
     let y : Reached = record { pair = c.in-Some.q.pair; parent = c.args.head.place; step = 16 * c.args.a + c.loop-b.b; depth = c.index-from.result.now.depth + 1 } in
     let longer = IsWalkSearch-new c.args.head.place c.args.a c.loop-b.b c.loop-b.invariant.search c.index-from.result.now y
     (stands c.args.queue.now.items c.args.head.place c.index-from.result.now c.loop-b.queue.items (omega (arith, c.args.queue.now.ok)) c.index-from.ensures c.loop-b.invariant.same)
-    c.requires.letter (omega (arith, ap (λ (z : LocalRule). z.states) c.rule.ensures)) refl (omega arith) refl (ap (λ t. marked c.args.pairs.now t c.args.a c.loop-b.b) (c.requires.at c.index-from.result.now (stands c.args.queue.now.items c.args.head.place c.index-from.result.now c.args.queue.now.items (omega (arith, c.args.queue.now.ok)) c.index-from.ensures refl)) ∙ c.in-Some.ensures.step) ((goal-tells c.args.ends.goal c.in-Some.q.pair c.eq.result c.eq.ensures).1 c.if-eq.false) c.in-Some.ensures.new c.add.new.rows (c.add.ensures c.args.pairs.now c.loop-b.invariant.search.walking.rule c.in-Some.ensures.marked) in
+    c.requires.letter (omega (arith, ap (λ (z : LocalRule). z.states) c.rule.ensures)) refl (omega arith) refl (ap (λ t. marked c.args.pairs.now t c.args.a c.loop-b.b) (c.requires.at c.index-from.result.now (stands c.args.queue.now.items c.args.head.place c.index-from.result.now c.args.queue.now.items (omega (arith, c.args.queue.now.ok)) c.index-from.ensures refl)) ∙ c.in-Some.ensures.step) ((goal-tells c.args.ends.goal c.in-Some.q.pair c.eq.result c.eq.ensures).1 c.if-eq.false) c.in-Some.ensures.new c.add.new.self (c.add.ensures c.args.pairs.now c.loop-b.invariant.search.walking.rule c.in-Some.ensures.marked) in
     omega (arith, length-walking-le longer.walking, length_push c.loop-b.queue.items y, c.loop-b.queue.ok, c.loop-b.invariant.room)
 
 pub loop-b-preserved : goal.loop-b-preserved
@@ -85,9 +85,9 @@ loop-b-preserved c =
           record {
             room = omega (arith, inv.room, w.put.ensures.room, ap (λ v. vec_capacity v) w.queue-is);
             search = subst₂ (λ (q : List Reached) (rows : List ℕ). IsWalkSearch r c.args.ends q rows (c.args.head.place * step_count r + (c.args.a * 16 + (c.loop-b.b + 1)))) (sym longer) (sym w.rows-is)
-                (IsWalkSearch-new c.args.head.place c.args.a c.loop-b.b inv.search x y at c.requires.letter letter refl (omega arith) refl (ap (λ t. marked r t c.args.a c.loop-b.b) (c.requires.at c.index-from.result.now (stands c.args.queue.now.items c.args.head.place c.index-from.result.now c.args.queue.now.items (omega (arith, c.args.queue.now.ok)) c.index-from.ensures refl)) ∙ w.in-Some.ensures.step) ((goal-tells c.args.ends.goal w.in-Some.q.pair w.eq.result w.eq.ensures).1 w.if-eq.false) w.in-Some.ensures.new w.add.new.rows (w.add.ensures r inv.search.walking.rule w.in-Some.ensures.marked));
+                (IsWalkSearch-new c.args.head.place c.args.a c.loop-b.b inv.search x y at c.requires.letter letter refl (omega arith) refl (ap (λ t. marked r t c.args.a c.loop-b.b) (c.requires.at c.index-from.result.now (stands c.args.queue.now.items c.args.head.place c.index-from.result.now c.args.queue.now.items (omega (arith, c.args.queue.now.ok)) c.index-from.ensures refl)) ∙ w.in-Some.ensures.step) ((goal-tells c.args.ends.goal w.in-Some.q.pair w.eq.result w.eq.ensures).1 w.if-eq.false) w.in-Some.ensures.new w.add.new.self (w.add.ensures r inv.search.walking.rule w.in-Some.ensures.marked));
             old = subst₂ (λ (q : List Reached) (rows : List ℕ). IsOldBut r q rows c.args.head.place c.args.a c.args.letters) (sym longer) (sym w.rows-is)
-                (IsOldBut-more inv.search.walking.rule old (old ++ y ∷ []) c.loop-b.rows w.add.new.rows c.args.head.place c.args.a c.args.letters inv.old same (λ t inside has. ((w.add.ensures r inv.search.walking.rule w.in-Some.ensures.marked) t inside).1 (inr has)));
+                (IsOldBut-more inv.search.walking.rule old (old ++ y ∷ []) c.loop-b.rows w.add.new.self c.args.head.place c.args.a c.args.letters inv.old same (λ t inside has. ((w.add.ensures r inv.search.walking.rule w.in-Some.ensures.marked) t inside).1 (inr has)));
             same = ap (λ q. slice_get q c.args.head.place) longer ∙ same ∙ inv.same;
           }
       | in_default w ↦

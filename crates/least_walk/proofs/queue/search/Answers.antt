@@ -1,14 +1,15 @@
-use Rattle.std.proofs.Common.{◌≡◌, ◌≢◌, ℕ, ◌+◌, ◌*◌, ◌<◌, ◌↔◌, inl, List, [], ◌∷◌, ◌++◌, replicate, get_or, Some, refl, sym, ap, ◌∙◌, subst, arith, ⊎_elim}
+use Rattle.std.proofs.Common.{◌≡◌, ◌≢◌, ℕ, ◌+◌, ◌*◌, ◌<◌, ◌↔◌, inl, List, [], ◌∷◌, ◌++◌, get_or, Some, refl, sym, ap, ◌∙◌, subst, arith, ⊎_elim}
 use Rattle.std.specs.List.{slice_get}
+use Rattle.std.specs.Prelude.{not}
+use Rattle.std.proofs.Math.Bool.{not-not}
 use Rattle.std.proofs.lemmas.Option.{slice_get_within, slice_get-get_or, get_or_from_slice_get}
-use Rattle.word_image.specs.Graphs.{pair_count, second_of}
-use Rattle.pair_laws.proofs.Rows.{HasBit-none}
-use Rattle.least_walk.specs.Marks.{HasPair, IsAdded, row_of, pair_part}
+use Rattle.word_image.specs.Graphs.{pair_count}
+use Rattle.least_walk.specs.Marks.{HasPair, IsAdded}
 use Rattle.least_walk.specs.declared.queue.Reached.{Reached}
 use Rattle.least_walk.specs.Queues.{IsWalkSearch, step_count}
 use Rattle.least_walk.proofs.Walking.{IsWalkSearch-start, length-walking-le, deeper, goal-tells, near-all}
 use Rattle.least_walk.proofs.queue.search.Goals as goal
-use Rattle.least_walk.proofs.queue.search.Goals.{then-eq, else-eq}
+use Rattle.least_walk.proofs.queue.search.Goals.{then-ne, else-ne}
 
 pub loop-head-init : goal.loop-head-init
 loop-head-init c =
@@ -17,20 +18,20 @@ loop-head-init c =
     let alone : c.put.new.list.items ≡ x ∷ [] = c.put.ensures.items ∙ ap (λ q. q ++ x ∷ []) c.clear.ensures.items in
     let first : (rows : List ℕ) → ((t : ℕ) → t < 2 * pair_count r → (HasPair r rows t ↔ ((t ≡ c.args.ends.start) × (c.args.ends.goal ≢ Some c.args.ends.start))))
     → IsWalkSearch r c.args.ends c.put.new.list.items rows (0 * step_count r) = λ rows exact.
-    subst (λ q. IsWalkSearch r c.args.ends q rows (0 * step_count r)) (sym alone) (IsWalkSearch-start c.parts_of.ensures.rule c.requires.start x refl refl rows exact) in
-    let added : IsAdded r (replicate 32 0) c.args.ends.start c.add.new.rows = subst (λ t. IsAdded r (replicate 32 0) t c.add.new.rows) c.parts_of.ensures.pair (c.add.ensures r c.parts_of.ensures.rule c.parts_of.ensures.marked) in
-    let none : (t : ℕ) → ¬ HasPair r (replicate 32 0) t = λ t. HasBit-none 32 (row_of r t) (second_of r (pair_part r t)) in
-    let told = goal-tells c.args.ends.goal c.args.ends.start c.eq.result c.eq.ensures in
+    subst (λ q. IsWalkSearch r c.args.ends q rows (0 * step_count r)) (sym alone) (IsWalkSearch-start c.parts_of-parts.ensures.rule c.requires.start x refl refl rows exact) in
+    let none = c.new-rows.ensures r in
+    let told = goal-tells c.args.ends.goal c.args.ends.start (not c.ne.result) (ap not c.ne.ensures ∙ not-not _) in
     record {
       room = omega (arith, c.requires.room, c.clear.ensures.capacity, c.put.ensures.room);
-      search = elim c.if-eq.branch [
-        | then-eq w ↦ subst (λ rows. IsWalkSearch r c.args.ends c.put.new.list.items rows (0 * step_count r)) (sym w.rows-is)
-            (first (replicate 32 0) (λ t inside. ((λ some. absurd (none t some)), (λ both. absurd (both.1 (told.0 w.if-eq.true))))))
-        | else-eq w ↦ subst (λ rows. IsWalkSearch r c.args.ends c.put.new.list.items rows (0 * step_count r)) (sym w.rows-is)
-            (first c.add.new.rows (λ t inside. (
-              (λ some. ⊎_elim (λ same. (same, told.1 w.if-eq.false)) (λ old. absurd (none t old)) ((added t inside).0 some)),
+      search = elim c.if-ne.branch [
+        | then-ne w ↦ subst (λ rows. IsWalkSearch r c.args.ends c.put.new.list.items rows (0 * step_count r)) (sym w.rows-is)
+            (first w.add.new.self (λ t inside.
+            let added : IsAdded r c.new-rows.result c.args.ends.start w.add.new.self = subst (λ t. IsAdded r c.new-rows.result t w.add.new.self) c.parts_of-parts.ensures.pair (w.add.ensures r c.parts_of-parts.ensures.rule c.parts_of-parts.ensures.marked) in (
+              (λ some. ⊎_elim (λ same. (same, told.1 (ap not w.if-ne.true))) (λ old. absurd (none t old)) ((added t inside).0 some)),
               (λ both. (added t inside).1 (inl both.0)),
             )))
+        | else-ne w ↦ subst (λ rows. IsWalkSearch r c.args.ends c.put.new.list.items rows (0 * step_count r)) (sym w.rows-is)
+            (first c.new-rows.result (λ t inside. ((λ some. absurd (none t some)), (λ both. absurd (both.1 (told.0 (ap not w.if-ne.false)))))))
       ];
       near = λ i y less at. absurd (omega (arith, less));
     }
@@ -43,9 +44,9 @@ pub loop-head-preserved : goal.loop-head-preserved
 loop-head-preserved c =
     let h : ℕ = c.loop-head.head in
     let x : Reached = c.index.result.now in
-    let search : IsWalkSearch c.args.pairs.now c.args.ends c.follow.new.queue.items c.follow.new.rows ((h + 1) * step_count c.args.pairs.now) = c.in_default.ensures.none in
+    let search : IsWalkSearch c.args.pairs.now c.args.ends c.follow_steps.new.queue.items c.follow_steps.new.rows ((h + 1) * step_count c.args.pairs.now) = c.in_default.ensures.none in
     let here : slice_get c.loop-head.queue.items h ≡ Some x = slice_get-get_or c.loop-head.queue.items h x (omega (arith, c.loop-head.queue.ok)) ∙ ap Some (sym c.index.ensures) in
-    let stands : slice_get c.follow.new.queue.items h ≡ Some x = c.in_default.ensures.same ∙ here in
+    let stands : slice_get c.follow_steps.new.queue.items h ≡ Some x = c.in_default.ensures.same ∙ here in
     record {
       room = c.in_default.ensures.room;
       search = search;

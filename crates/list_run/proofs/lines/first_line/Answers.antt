@@ -1,5 +1,4 @@
 use Rattle.std.proofs.Common.{ℕ, List, ◌++◌, ◌∷◌, [], ap, ◌∙◌}
-use Rattle.rule_text.specs.PrintedRules.{printed_rule}
 use Rattle.list_run.proofs.lines.first_line.Goals as goal
 
 pub returns : goal.returns

@@ -1,6 +1,4 @@
-use Rattle.std.proofs.Common.{◌≡◌, ◌-◌, ◌^◌, List, length, min, Option, None}
-use Rattle.std.specs.Prelude.{MatchOption}
-use Rattle.std.specs.Option.{is_some}
+use Rattle.std.proofs.Common.{◌≡◌, ◌-◌, ◌^◌, List, length, min, Option, None, MatchOption, is_some}
 use Rattle.std.specs.Io.KnownBytes.{Appends}
 use Rattle.word_image.specs.LocalRules.{LocalRule}
 use Rattle.rule_lists.specs.Listed.{IsFirst, NoneIs}

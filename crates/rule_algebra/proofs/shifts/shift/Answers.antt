@@ -21,8 +21,8 @@ returns-clause-fault c =
     let place = sum-in_w16 c.args.rule.now.offset c.args.by _ _ (FitsSigned-offset c.k.ensures.rule) c.ranges.by (c.from.ensures ∙ ap (λ o. to_z w8 (of_z w8 o)) c.o.ensures.offset) c.from-2.ensures in
     c.in_ok-o.ensures.fault ∙ ap₂ offset_fault c.m.ensures.width place
 
-pub accepted-requires : goal.accepted-requires
-accepted-requires c =
+pub rule_of_parts-requires : goal.rule_of_parts-requires
+rule_of_parts-requires c =
     let place = sum-in_w16 c.args.rule.now.offset c.args.by _ _ (FitsSigned-offset c.k.ensures.rule) c.ranges.by (c.from.ensures ∙ ap (λ o. to_z w8 (of_z w8 o)) c.o.ensures.offset) c.from-2.ensures in
     let parts = shifted_parts c.k.ensures.rule c.args.by _ _ _ _ (c.in_ok-o.ensures.fault ∙ ap₂ offset_fault (c.m.ensures.width ∙ sym c.m-2.ensures.width) place) c.k.ensures.states c.m-2.ensures.width (c.in_ok-o.ensures.offset ∙ place) c.table.ensures.table in
     subst IsRule (sym parts.1) parts.0
@@ -31,4 +31,4 @@ pub returns-clause-images : goal.returns-clause-images
 returns-clause-images c =
     let place = sum-in_w16 c.args.rule.now.offset c.args.by _ _ (FitsSigned-offset c.k.ensures.rule) c.ranges.by (c.from.ensures ∙ ap (λ o. to_z w8 (of_z w8 o)) c.o.ensures.offset) c.from-2.ensures in
     let parts = shifted_parts c.k.ensures.rule c.args.by _ _ _ _ (c.in_ok-o.ensures.fault ∙ ap₂ offset_fault (c.m.ensures.width ∙ sym c.m-2.ensures.width) place) c.k.ensures.states c.m-2.ensures.width (c.in_ok-o.ensures.offset ∙ place) c.table.ensures.table in
-    subst (ShiftsImages c.args.rule.now c.args.by) (sym (c.accepted.ensures ∙ parts.1)) (ShiftsImages-shifted c.args.rule.now c.args.by)
+    subst (ShiftsImages c.args.rule.now c.args.by) (sym (c.rule_of_parts.ensures ∙ parts.1)) (ShiftsImages-shifted c.args.rule.now c.args.by)

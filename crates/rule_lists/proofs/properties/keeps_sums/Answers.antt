@@ -1,5 +1,4 @@
-use Rattle.std.proofs.Common.{slice_index, ap, ◌∙◌, subst}
-use Rattle.std.specs.Prelude.{◌↔◌, IsTrue}
+use Rattle.std.proofs.Common.{slice_index, ap, ◌∙◌, subst, ◌↔◌, IsTrue}
 use Rattle.word_image.specs.Rings.{IsConserving}
 use Rattle.word_image.specs.Weights.{own_weights}
 use Rattle.ring_laws.proofs.SameWeights.{IsConserving-own}

@@ -2,7 +2,6 @@ use Rattle.std.proofs.Common.{◌≡◌, ℕ, ◌^◌, List, Some, take, map, le
 use Rattle.std.proofs.lemmas.Int.{to_z-of_z}
 use Rattle.std.proofs.lemmas.List.{length-map}
 use Rattle.word_image.specs.Digits.{letter_at}
-use Rattle.word_image.specs.LocalRules.{LocalRule}
 use Rattle.word_image.specs.RuleFaults.{shape_fault, table_fault, rule_fault}
 use Rattle.word_image.proofs.laws.RuleFaults.{window_count-le}
 use Rattle.rule_text.specs.RuleTexts.{in_text}

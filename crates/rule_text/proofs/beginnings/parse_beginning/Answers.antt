@@ -1,4 +1,4 @@
-use Rattle.std.proofs.Common.{ℕ, ◌+◌, ◌-◌, List, take, drop, length, subst, Err, Result, rules, IfOk, IfErr}
+use Rattle.std.proofs.Common.{ℕ, ◌+◌, ◌-◌, List, take, drop, length, subst, Result, rules, IfOk, IfErr}
 use Rattle.std.proofs.lemmas.List.{take_rest}
 use Rattle.word_image.specs.Grammars.{IsFormFault}
 use Rattle.rule_text.specs.declared.head.Head.{Head}

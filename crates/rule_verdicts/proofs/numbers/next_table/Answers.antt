@@ -1,8 +1,7 @@
-use Rattle.std.proofs.Common.{◌≡◌, ℕ, ◌+◌, ◌*◌, ◌^◌, ◌<◌, ◌≤◌, List, length, get_or, set, reverse, sum, refl, sym, ap, ◌∙◌, subst, arith, length-set}
+use Rattle.std.proofs.Common.{◌≡◌, ◌+◌, ◌*◌, ◌<◌, ◌≤◌, length, get_or, set, sum, refl, ◌∙◌, arith, length-set}
 use Rattle.std.proofs.Math.Nat.{pow-zero}
 use Rattle.std.proofs.lemmas.List.Elements.{All-set}
 use Rattle.std.proofs.lemmas.List.Sums.{sum_by-set, sum_by-le}
-use Rattle.word_image.specs.LocalRules.{IsWord, value}
 use Rattle.rule_verdicts.proofs.laws.Tables.{value-set_more, value-set_carry}
 use Rattle.rule_verdicts.proofs.numbers.next_table.Goals as goal
 

@@ -1,5 +1,5 @@
-use Rattle.std.proofs.Common.{◌≡◌, ℕ, ◌+◌, ◌-◌, ◌^◌, ◌<◌, ◌≤◌, None, List, length, reverse, refl, sym, ap, ◌∙◌, subst, arith, pos, option_map}
-use Rattle.word_image.specs.LocalRules.{LocalRule, value}
+use Rattle.std.proofs.Common.{◌≡◌, ◌+◌, ◌-◌, ◌^◌, ◌≤◌, None, length, reverse, ap, ◌∙◌, subst, arith, pos, option_map}
+use Rattle.word_image.specs.LocalRules.{value}
 use Rattle.std.specs.Option.{option_or}
 use Rattle.word_image.specs.RuleFaults.{shape_fault}
 use Rattle.rule_text.specs.RuleTexts.{by_number, in_text, number_fault}
@@ -25,7 +25,7 @@ room c = numbers_fault-room c.args.k c.args.m c.args.first (length c.args.bytes.
 first_rule : (c : After-copy_from_slice) → c.in_ok-rule.rule ≡ numbered_rule c.args.k c.args.m c.args.first
 first_rule c = let reading = subst (IsReading (by_number c.args.k c.args.m (pos 0) c.args.first)) c.in_ok-rule.was c.numbered-2.ensures in reading.1
 
--- and its number
+-- the number of the first rule
 number : (c : After-copy_from_slice) → value c.args.k (reverse c.copy_from_slice.new.self) ≡ c.args.first
 number c =
     value-numbered c.args.k c.args.m c.args.first c.in_ok-rule.rule c.copy_from_slice.new.self (omega (arith, room c, c.requires)) (first_rule c) (c.copy_from_slice.ensures.after ∙ c.table-2.ensures.table)

@@ -1,6 +1,5 @@
-use Rattle.std.proofs.Common.{◌≡◌, ◌+◌, ◌*◌, ◌^◌, ◌<◌, ◌≤◌, length, slice_index, sym, ap, ◌∙◌, subst, arith, ◌↔◌, IsTrue, false}
+use Rattle.std.proofs.Common.{length, slice_index, sym, ap, ◌∙◌, subst, arith, ◌↔◌, IsTrue, false}
 use Rattle.std.proofs.lemmas.Bool.{false≢true}
-use Rattle.word_image.specs.LocalRules.{LocalRule, IsRule}
 use Rattle.word_image.specs.Rings.{IsConserving}
 use Rattle.word_image.specs.Weights.{own_weights}
 use Rattle.ring_laws.proofs.SameWeights.{IsConserving-own}

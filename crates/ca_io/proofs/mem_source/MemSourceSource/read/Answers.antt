@@ -1,5 +1,4 @@
-use Rattle.std.proofs.Common.{◌≡◌, take, drop, ◌++◌, ap, sym, ◌∙◌, arith, length, length-take-le, min}
-use Rattle.std.specs.Prelude.{ℕ}
+use Rattle.std.proofs.Common.{◌≡◌, take, drop, ◌++◌, ap, sym, ◌∙◌, arith, length, length-take-le, min, ℕ}
 use Rattle.ca_io.proofs.laws.Pieces.{drop-cut}
 use Rattle.ca_io.proofs.mem_source.MemSourceSource.read.Goals as goal
 

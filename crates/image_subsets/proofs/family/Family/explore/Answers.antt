@@ -1,5 +1,4 @@
-use Rattle.std.proofs.Common.{length, sym, slice_index, ◌-◌, ◌^◌, ◌<◌, ◌≡◌, [], ◌∷◌, ◌++◌, None, true, false, Bool, List, ℕ, ap, ◌∙◌, subst, arith, Contains}
-use Rattle.std.proofs.Math.Nat.{mul-le-mul_right}
+use Rattle.std.proofs.Common.{length, sym, slice_index, ◌-◌, ◌^◌, ◌<◌, ◌≡◌, [], ◌∷◌, ◌++◌, None, true, false, Bool, List, ℕ, ap, ◌∙◌, subst, arith, Contains, mul-le-mul_right}
 use Rattle.std.proofs.lemmas.Option.{slice_get_within, get_or_from_slice_get}
 use Rattle.image_subsets.specs.Masks.{IsInserted}
 use Rattle.image_subsets.specs.Searches.{IsExpanded, EndsEmpty}

@@ -1,6 +1,5 @@
-use Rattle.std.proofs.Common.{◌≡◌, ◌^◌, ◌<◌, ◌≤◌, refl, ℕ, List, length, slice_index, Contains, IsTrue, Bool, true, false, not, sym, ap, ◌∙◌, subst, arith}
+use Rattle.std.proofs.Common.{◌≡◌, ◌^◌, ◌<◌, ◌≤◌, refl, ℕ, List, length, slice_index, Contains, IsTrue, Bool, true, false, not, sym, ap, ◌∙◌, subst, arith, pow_mono}
 use Rattle.std.proofs.lemmas.Bool.{false≢true}
-use Rattle.std.proofs.Math.Pow.{pow_mono}
 use Rattle.word_image.specs.Families.{is_minimal}
 use Rattle.image_subsets.specs.Marks.{IsSetMarked}
 use Rattle.image_subsets.proofs.MarkSpreads.{IsMinimal-marks}

@@ -10,7 +10,7 @@ holds_if : (b : Bool) (P : Type 0) → MatchBool b P (¬ P) → P → IsTrue b
 holds_if true P told p = refl
 holds_if false P told p = absurd (told p)
 
--- and only there
+-- a told test holds only where what it tests does
 only_if : (b : Bool) (P : Type 0) → MatchBool b P (¬ P) → IsTrue b → P
 only_if true P told t = told
 only_if false P told t = absurd (false≢true t)

@@ -1,4 +1,4 @@
-use Rattle.std.proofs.Common.{◌≡◌, Bool, false, sym, ◌∙◌, ◌↔◌, IsTrue}
+use Rattle.std.proofs.Common.{false, ◌↔◌, IsTrue}
 use Rattle.std.proofs.lemmas.Bool.{false≢true}
 use Rattle.eden_laws.proofs.Preinjective.{IsSurjective-injective, IsSurjective-right_closing, IsSurjective-left_closing}
 use Rattle.cert_check.proofs.laws.Soundness.{both_true}

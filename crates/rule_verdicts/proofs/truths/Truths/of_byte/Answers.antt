@@ -1,7 +1,6 @@
-use Rattle.std.proofs.Common.{◌≡◌, ◌≤◌, ℕ, ◌+◌, ◌*◌, ◌/◌, ◌%◌, Bool, true, false, refl, sym, ap, ◌∙◌, arith, ◌==◌, ◌&&◌}
+use Rattle.std.proofs.Common.{◌≡◌, ◌≤◌, ℕ, ◌+◌, ◌*◌, ◌/◌, ◌%◌, Bool, true, false, ap, ◌∙◌, arith, ◌==◌, ◌&&◌}
 use Rattle.std.specs.Int.{from_bool}
 use Rattle.rule_verdicts.specs.declared.truths.Truths.{Truths}
-use Rattle.rule_verdicts.specs.Truths.{byte_of}
 use Rattle.rule_verdicts.proofs.truths.Truths.of_byte.Goals as goal
 
 -- a bit of a number

@@ -1,4 +1,4 @@
-use Rattle.std.proofs.Common.{◌≡◌, sym, ◌∙◌}
+use Rattle.std.proofs.Common.{sym, ◌∙◌}
 use Rattle.std.proofs.lemmas.Bool.{false≢true}
 use Rattle.ring_laws.proofs.SameWeights.{IsConserving-own}
 use Rattle.table_laws.proofs.MeanTables.{HasMean-conserving}

@@ -1,7 +1,7 @@
 use Rattle.std.proofs.Common.{◌≡◌, ◌≤◌, ◌+◌, ◌*◌, vec_capacity}
 use Rattle.std.specs.List.{slice_get}
 use Rattle.least_walk.specs.Queues.{IsWalkSearch, step_count}
-use Rattle.least_walk.proofs.queue.follow.Given as goal
+use Rattle.least_walk.proofs.queue.follow_steps.Given as goal
 
 -- the first letters are done
 abbrev pub invariant-loop-a : goal.invariant-loop-a

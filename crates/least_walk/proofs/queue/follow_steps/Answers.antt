@@ -8,8 +8,8 @@ use Rattle.least_walk.specs.Marks.{ArePartsOf}
 use Rattle.least_walk.specs.declared.queue.Reached.{Reached}
 use Rattle.least_walk.specs.Queues.{IsWalkSearch, step_count}
 use Rattle.least_walk.proofs.Walking.{queued-below, IsWalkSearch-rest, IsWalkSearch-next}
-use Rattle.least_walk.proofs.queue.follow.Goals as goal
-use Rattle.least_walk.proofs.queue.follow.Goals.{then-letters-ne0+in_default, else-letters-ne0}
+use Rattle.least_walk.proofs.queue.follow_steps.Goals as goal
+use Rattle.least_walk.proofs.queue.follow_steps.Goals.{then-letters-ne0+in_default, else-letters-ne0}
 
 pub parts_of-from-requires : goal.parts_of-from-requires
 parts_of-from-requires c =

@@ -1,7 +1,7 @@
 use Rattle.std.proofs.Common.{◌≢◌, ℕ, ◌<◌}
 use Rattle.word_image.specs.Graphs.{first_of, second_of}
 use Rattle.word_image.specs.Ends.{label_at}
-use Rattle.cert_check.proofs.aheads.some_label.Given as goal
+use Rattle.cert_check.proofs.aheads.share_a_label.Given as goal
 
 -- no letter so far makes windows with one label
 abbrev pub invariant-loop-letter : goal.invariant-loop-letter

@@ -1,16 +1,17 @@
-use Rattle.std.proofs.Common.{◌≡◌, ℕ, ◌+◌, slice_index, refl, ap, ◌∙◌, subst, arith}
+use Rattle.std.proofs.Common.{◌≡◌, ℕ, ◌+◌, List, slice_index, refl, ap, ◌∙◌, subst, arith}
 use Rattle.word_image.specs.LocalRules.{LocalRule, node_count}
 use Rattle.word_image.specs.Graphs.{next, label}
 use Rattle.word_image.specs.Edges.{IsEnds}
 use Rattle.word_image.specs.declared.side.Side.TheVariants.{Right}
+use Rattle.least_walk.specs.Marks.{HasPair}
 use Rattle.least_walk.proofs.MarkedRows.{fresh-with_mark, fresh-without}
-use Rattle.least_walk.proofs.marks.fresh.Goals as goal
+use Rattle.least_walk.proofs.marks.Rows.fresh.Goals as goal
 
-pub bounds-rows-node : goal.bounds-rows-node
-bounds-rows-node c = omega (arith, c.requires.rule.shape.most_nodes, ap node_count c.graph-graph.ensures)
+pub bounds-self-inside-node : goal.bounds-self-inside-node
+bounds-self-inside-node c = omega (arith, c.requires.rule.shape.most_nodes, ap node_count c.graph-graph.ensures)
 
-pub bounds-rows-node-2 : goal.bounds-rows-node-2
-bounds-rows-node-2 c = omega (arith, c.requires.rule.shape.most_nodes, ap node_count c.graph-graph.ensures)
+pub bounds-self-inside-node-2 : goal.bounds-self-inside-node-2
+bounds-self-inside-node-2 c = omega (arith, c.requires.rule.shape.most_nodes, ap node_count c.graph-graph.ensures)
 
 pub overflow_shr-with_mark : goal.overflow_shr-with_mark
 overflow_shr-with_mark c = omega (arith, c.requires.rule.shape.most_nodes, ap node_count c.graph-graph.ensures)
@@ -31,10 +32,11 @@ returns-then-from-eq1 c t b q of letter old step =
     let from = c.args.from in
     let same = c.graph-graph.ensures in
     let node : c.from-node.result ≡ next r from.first c.args.a = c.from-node.ensures ∙ c.next.ensures.node ∙ ap (λ (z : LocalRule). next z from.first c.args.a) same in
-    fresh-with_mark c.requires.rule c.args.rows.now from t c.args.a b q c.ends-ends.result _ c.next-end.result of c.if-from-eq1.true letter
+    subst (λ (rows : List ℕ). HasPair r rows q) c.self.view_is (
+    fresh-with_mark c.requires.rule c.self.inside.rows from t c.args.a b q c.ends-ends.result _ c.next-end.result of c.if-from-eq1.true letter
     (ends_of r c.graph-graph.result.now from.first from.second c.args.a c.label.result c.ends-ends.result same c.label.ensures.label c.ends-ends.ensures)
     (c.next-end.ensures.node ∙ ap (λ (z : LocalRule). next z from.second 0) same)
-    (ap (λ n. slice_index c.args.rows.now (16 + n)) node) (omega arith) old step
+    (ap (λ n. slice_index c.self.inside.rows (16 + n)) node) (omega arith) old step)
 
 pub returns : goal.returns
 returns c t b q of letter old step =
@@ -42,7 +44,8 @@ returns c t b q of letter old step =
     let from = c.args.from in
     let same = c.graph-graph.ensures in
     let node : c.from-node.result ≡ next r from.first c.args.a = c.from-node.ensures ∙ c.next.ensures.node ∙ ap (λ (z : LocalRule). next z from.first c.args.a) same in
-    fresh-without c.requires.rule c.args.rows.now from t c.args.a b q c.ends-ends.result _ _ c.next-end.result _ of (omega arith) letter (overflow_shl-same c)
+    subst (λ (rows : List ℕ). HasPair r rows q) c.self.view_is (
+    fresh-without c.requires.rule c.self.inside.rows from t c.args.a b q c.ends-ends.result _ _ c.next-end.result _ of (omega arith) letter (overflow_shl-same c)
     (ends_of r c.graph-graph.result.now from.first from.second c.args.a c.label.result c.ends-ends.result same c.label.ensures.label c.ends-ends.ensures)
     (c.next-end.ensures.node ∙ ap (λ (z : LocalRule). next z from.second 0) same)
-    (ap (λ n. slice_index c.args.rows.now (16 + n)) node) (omega arith) (ap (slice_index c.args.rows.now) node) (omega arith) refl old step
+    (ap (λ n. slice_index c.self.inside.rows (16 + n)) node) (omega arith) (ap (slice_index c.self.inside.rows) node) (omega arith) refl old step)

@@ -1,0 +1,33 @@
+-- Worked examples: cells of placed configurations, words of periods and shapes done by hand, which the check computes.
+use Rattle.std.specs.Prelude.{◌≡◌, ℕ, List, [], ◌∷◌, refl, pos, negsuc}
+use Rattle.std.specs.declared.cmp.Ordering.TheVariants.{Less, Greater}
+use Rattle.tail_config.specs.Tails.{TailConfig}
+use Rattle.tail_preimage.specs.Preimages.{PlacedConfig, placed_cells, letters, Shape, shape_cmp, stretch}
+
+-- the configuration 0|001|0, whose middle begins at cell -2
+abbrev placed : PlacedConfig
+placed = record { at = negsuc 1; config = record { left = 0 ∷ []; middle = 0 ∷ 0 ∷ 1 ∷ []; right = 0 ∷ [] } }
+
+-- its cells from -3 to 1: the 1 stands at cell 0
+placed_cells-placed : placed_cells placed (negsuc 2) 5 ≡ 0 ∷ 0 ∷ 0 ∷ 1 ∷ 0 ∷ []
+placed_cells-placed = refl
+
+-- the letters of its left period, its middle and its right period
+letters-placed : letters placed ≡ 0 ∷ 0 ∷ 0 ∷ 1 ∷ 0 ∷ []
+letters-placed = refl
+
+-- the configuration 01|1|100
+abbrev mixed : TailConfig
+mixed = record { left = 0 ∷ 1 ∷ []; middle = 1 ∷ []; right = 1 ∷ 0 ∷ 0 ∷ [] }
+
+-- two left periods, the middle and one right period
+stretch-mixed : stretch mixed 2 1 ≡ 0 ∷ 1 ∷ 0 ∷ 1 ∷ 1 ∷ 1 ∷ 0 ∷ 0 ∷ []
+stretch-mixed = refl
+
+-- a shape that spans one left period comes before one that spans two
+shape_cmp-spans : shape_cmp (record { before = 0; back = 1; after = 0; on = 3 }) (record { before = 1; back = 1; after = 0; on = 1 }) ≡ Less
+shape_cmp-spans = refl
+
+-- of two shapes that span as many periods on both sides the one with fewer left periods in its middle comes first
+shape_cmp-middles : shape_cmp (record { before = 1; back = 1; after = 0; on = 1 }) (record { before = 0; back = 2; after = 0; on = 1 }) ≡ Greater
+shape_cmp-middles = refl
