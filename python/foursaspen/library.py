@@ -15,7 +15,7 @@ from typing import NamedTuple
 
 from .faults import LibraryMissingError, OutOfMemoryError, WordsError
 
-VERSION = 1                                     # of the C interface
+VERSION = 2                                     # of the C interface
 NAME = "libca_c.so"
 HERE = Path(__file__).resolve().parent
 TOP = HERE.parents[1]                           # of the repository, where the package lies in it
