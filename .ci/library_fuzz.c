@@ -19,7 +19,7 @@
 
 #define COUNT(list) (sizeof(list) / sizeof(list)[0])
 
-enum { MOST_TEXT = 4096, MOST_OUTPUT = 1 << 19, MOST_TABLE = 300, FILLING = 0xa5 };
+enum { MOST_TEXT = 4096, MOST_OUTPUT = 1 << 19, MOST_TABLE = 300, MOST_LETTERS = 72712, FILLING = 0xa5 };
 
 static unsigned long passed;
 static unsigned long failed;
@@ -184,7 +184,7 @@ static bool is_kept(const uint8_t *end, size_t length)
 }
 
 /* Where buffers end. */
-static uint8_t *words_end, *input_end, *output_end, *table_end;
+static uint8_t *words_end, *input_end, *output_end, *table_end, *report_end;
 
 /* Calls ca_run, and looks at the code and at all bytes that it was passed. */
 static uint8_t run(const struct text *words, const struct text *input, size_t room, size_t *length)
@@ -249,20 +249,28 @@ static int fault_of(uint8_t states, uint8_t width, const uint8_t *table, size_t 
     return CA_FAULT_NONE;
 }
 
+/* Draws states, a width and a table, which seldom has a letter that is too great; gives the length of the table. */
+static size_t draw_table(uint8_t *states, uint8_t *width)
+{
+    bool any = below(8) == 0;
+    *states = (uint8_t)below(any ? 256 : 18);
+    *width = (uint8_t)below(any ? 256 : 7);
+    size_t length = 1;
+    for (int place = 0; place < *width && length <= MOST_TABLE; place++)
+        length *= *states;
+    if (length > MOST_TABLE || below(8) == 0)
+        length = below(MOST_TABLE);
+    for (uint8_t *letter = table_end - length; letter < table_end; letter++)
+        *letter = (uint8_t)(*states == 0 || below(400) == 0 ? *states + below(2) * below(256) : below(*states));
+    return length;
+}
+
 /* A call of ca_verdicts: its fault is the first one, and its verdicts are such as a rule can have. */
 static void call_verdicts(void)
 {
-    bool any = below(8) == 0;
-    uint8_t states = (uint8_t)below(any ? 256 : 18);
-    uint8_t width = (uint8_t)below(any ? 256 : 7);
-    size_t length = 1;
-    for (int place = 0; place < width && length <= MOST_TABLE; place++)
-        length *= states;
-    if (length > MOST_TABLE || below(8) == 0)
-        length = below(MOST_TABLE);
+    uint8_t states, width;
+    size_t length = draw_table(&states, &width);
     uint8_t *table = table_end - length;
-    for (size_t at = 0; at < length; at++)
-        table[at] = (uint8_t)(states == 0 || below(400) == 0 ? states + below(2) * below(256) : below(states));
     struct ca_rule_verdicts found = ca_verdicts(states, width, table, length);
     is("the first fault", found.fault == fault_of(states, width, table, length));
     if (found.fault != CA_FAULT_NONE)
@@ -271,6 +279,109 @@ static void call_verdicts(void)
     is("open is both sides", found.is_open == (found.right && found.left));
     is("an injective rule is open", !found.injective || found.is_open);
     is("a closing rule is surjective", !(found.right || found.left) || found.surjective);
+}
+
+/* What is asked of ca_report. */
+struct asked {
+    uint8_t states, width;
+    int8_t offset;
+    size_t length, weights_length;
+};
+
+/* Asks for a report in so much room, and looks at the code and at what must be kept. */
+static uint8_t report_in(const struct asked *a, size_t room, size_t *length)
+{
+    struct ca_report *report = (struct ca_report *)(void *)report_end - 1;
+    memset(report, FILLING, sizeof *report);
+    memset(output_end - room, FILLING, room);
+    *length = 12345;
+    uint8_t code = ca_report(a->states, a->width, a->offset, table_end - a->length, a->length,
+                             words_end - a->weights_length, a->weights_length, report, output_end - room, room, length);
+    if (code == CA_CODE_DONE)
+        is("the letters fit, and the rest is kept", *length <= room && is_kept(output_end, room - *length));
+    else
+        is("a report that isn't written is kept, and so is the buffer",
+           (code == CA_CODE_SHORT ? *length > room : code == CA_CODE_MEMORY && *length == 0)
+               && is_kept(output_end, room) && is_kept(report_end, sizeof *report));
+    return code;
+}
+
+/* Whether a row lies in the letters and has as many as it must: some where there is a word, else none. */
+static bool is_row(struct ca_row row, size_t length, bool some)
+{
+    return row.begin <= length && row.length <= length - row.begin && (row.length != 0) == some;
+}
+
+/* Whether the rows of two configurations lie in the letters; a middle may be empty. */
+static bool are_tails(const struct ca_split *split, size_t length, bool some)
+{
+    const struct ca_tail *tails[2] = {&split->x, &split->y};
+    for (int at = 0; at < 2; at++)
+        if (!is_row(tails[at]->left, length, some) || !is_row(tails[at]->right, length, some)
+            || !is_row(tails[at]->middle, length, some && tails[at]->middle.length != 0))
+            return false;
+    return true;
+}
+
+/* Looks at a report with so many letters, which begin here: it agrees with ca_verdicts, and has a word where it must. */
+static void look_at(const struct asked *a, const uint8_t *letters, size_t length)
+{
+    const struct ca_report *v = (const struct ca_report *)(const void *)report_end - 1;
+    struct ca_rule_verdicts found = ca_verdicts(a->states, a->width, table_end - a->length, a->length);
+    bool below_states = true;
+    for (size_t at = 0; at < length; at++)
+        below_states = below_states && letters[at] < a->states;
+    is("letters are below the states", below_states);
+    is("the verdicts are those of ca_verdicts", v->surjective == found.surjective && v->injective == found.injective
+                                                    && v->right == found.right && v->left == found.left
+                                                    && v->is_open == found.is_open);
+    is("with own weights so is conserving", a->weights_length != 0 || v->conserving == found.conserving);
+    is("each word is there, or none", is_row(v->orphan, length, !v->surjective) && is_row(v->ring, length, !v->conserving)
+                                          && is_row(v->twins.x, length, !v->injective)
+                                          && is_row(v->twins.y, length, !v->injective)
+                                          && are_tails(&v->right_split, length, !v->right)
+                                          && are_tails(&v->left_split, length, !v->left));
+    is("each number is there, or none", (v->window != 0) == v->injective && (v->right_ahead != 0) == v->right
+                                            && (v->left_ahead != 0) == v->left && (v->nodes != 0) == v->conserving
+                                            && v->nodes <= 16 && v->flux[0] == 0);
+}
+
+/* The first fault of a report, as the header lists them. */
+static int report_fault(const struct asked *a)
+{
+    int fault = fault_of(a->states, a->width, table_end - a->length, a->length);
+    bool shaped = fault != CA_FAULT_STATES && fault != CA_FAULT_WIDTH && fault != CA_FAULT_NODES;
+    if (shaped && (a->offset < -16 || a->offset + a->width - 1 > 16))
+        return CA_FAULT_OFFSET;
+    if (fault == CA_FAULT_NONE && a->weights_length != 0 && a->weights_length != a->states)
+        return CA_FAULT_WEIGHTS;
+    return fault;
+}
+
+/* A call of ca_report, and where the buffer is too short one with a byte too few and one with just room enough. */
+static void call_report(void)
+{
+    struct asked a;
+    size_t length, again, room = below(3) != 0 ? below(64) : below(MOST_LETTERS);
+    a.length = draw_table(&a.states, &a.width);
+    a.offset = (int8_t)(below(8) == 0 ? (int)below(256) - 128 : (int)below(29) - 16);
+    a.weights_length = below(2) == 0 ? 0 : below(8) == 0 ? below(300) : a.states;
+    for (size_t at = 1; at <= a.weights_length; at++)
+        words_end[-(ptrdiff_t)at] = (uint8_t)below(256);
+    uint8_t code = report_in(&a, room, &length);
+    if (code == CA_CODE_SHORT) {
+        is("the letters of any rule fit", length <= MOST_LETTERS);
+        room = length <= MOST_LETTERS ? length : MOST_LETTERS;
+        is("a letter too few is too few", report_in(&a, room - 1, &again) == CA_CODE_SHORT && again == length);
+        code = report_in(&a, room, &again);
+        is("just room enough is enough", code == CA_CODE_DONE && again == length);
+    }
+    const struct ca_report *v = (const struct ca_report *)(const void *)report_end - 1;
+    if (code != CA_CODE_DONE)
+        return;
+    is("the first fault of a report", v->fault == report_fault(&a));
+    if (v->fault == CA_FAULT_NONE)
+        look_at(&a, output_end - room, length);
 }
 
 /* Whether a list has each window once. */
@@ -416,8 +527,10 @@ int main(int argc, char **argv)
     input_end = fence(MOST_TEXT);
     output_end = fence(MOST_OUTPUT);
     table_end = fence(MOST_TABLE);
+    report_end = fence(sizeof(struct ca_report));
     while (now() < end) {
         call_run();
+        call_report();
         for (int call = 0; call < 8; call++) {
             call_verdicts();
             call_next_rule();

@@ -25,6 +25,9 @@
 
 enum { ROOM = 4096, FILLING = 0xa5, THREADS = 4, CALLS = 50 };
 
+/* No weights, so that letters weigh their own values. */
+#define OWN NOTHING
+
 static int passed;
 static int failed;
 
@@ -173,6 +176,133 @@ static void test_verdicts(void)
     is("a table of seven letters", lacks(2, 3, zeros, 7, CA_FAULT_LENGTH));
     is("a table of no letters", lacks(2, 2, zeros, 0, CA_FAULT_LENGTH));
     is("a letter that is too great", lacks(2, 2, two, 4, CA_FAULT_LETTER));
+}
+
+/* What a report says: the verdicts in the order of the struct, and of each the evidence; NULL where there is none. */
+struct said {
+    const char *verdicts;
+    uint32_t window, place, right_ahead, left_ahead;
+    int32_t flux[4];
+    const char *orphan, *twins[2], *right_split[2], *left_split[2], *ring;
+};
+
+/* Whether the letters of a row are this word, or the row is none. */
+static bool is_word(const uint8_t *letters, struct ca_row row, const char *word)
+{
+    if (word == NULL)
+        return row.begin == 0 && row.length == 0;
+    for (size_t at = 0; at < row.length; at++)
+        if (letters[row.begin + at] + '0' != *word++)
+            return false;
+    return *word == 0;
+}
+
+/* Whether the parts of a configuration are these, with a bar between two, or the rows are none. */
+static bool is_tail(const uint8_t *letters, struct ca_tail tail, const char *text)
+{
+    char left[ROOM], middle[ROOM] = "", right[ROOM] = "";
+    if (text == NULL)
+        return is_word(letters, tail.left, NULL) && is_word(letters, tail.middle, NULL)
+            && is_word(letters, tail.right, NULL);
+    const char *first = strchr(text, '|'), *second = strrchr(text, '|');
+    snprintf(left, sizeof left, "%.*s", (int)(first - text), text);
+    snprintf(middle, sizeof middle, "%.*s", (int)(second - first - 1), first + 1);
+    snprintf(right, sizeof right, "%s", second + 1);
+    return is_word(letters, tail.left, left) && is_word(letters, tail.middle, middle)
+        && is_word(letters, tail.right, right);
+}
+
+/* Whether the report and the letters are what is said. */
+static bool is_said(const struct ca_report *v, const uint8_t *letters, const struct said *said)
+{
+    const uint8_t verdicts[6] = {v->surjective, v->injective, v->right, v->left, v->is_open, v->conserving};
+    static const uint32_t zeros[8];
+    for (int at = 0; at < 6; at++)
+        if (verdicts[at] != (said->verdicts[at] == 'y'))
+            return false;
+    for (int at = 0; at < 16; at++)
+        if (v->flux[at] != (at < 4 ? said->flux[at] : 0))
+            return false;
+    return v->fault == CA_FAULT_NONE && v->nodes == (v->conserving ? 4 : 0) && v->window == said->window
+        && v->place == said->place && v->right_ahead == said->right_ahead && v->left_ahead == said->left_ahead
+        && is_word(letters, v->orphan, said->orphan) && is_word(letters, v->twins.x, said->twins[0])
+        && is_word(letters, v->twins.y, said->twins[1]) && is_word(letters, v->ring, said->ring)
+        && is_tail(letters, v->right_split.x, said->right_split[0])
+        && is_tail(letters, v->right_split.y, said->right_split[1])
+        && is_tail(letters, v->left_split.x, said->left_split[0])
+        && is_tail(letters, v->left_split.y, said->left_split[1])
+        && memcmp(v->reserved, zeros, sizeof v->reserved) == 0;
+}
+
+/* Whether an elementary rule, whose words have so many letters, has this report: in more room than it wants and in just
+ * enough. In less by one letter nothing may be written. */
+static bool reports(int number, const uint8_t *weights, size_t weights_length, size_t wanted, const struct said *said)
+{
+    uint8_t table[8];
+    for (int window = 0; window < 8; window++)
+        table[window] = number >> window & 1;
+    for (size_t room = wanted == 0 ? 0 : wanted - 1; room <= wanted + 1; room++) {
+        struct ca_report report;
+        uint8_t letters[ROOM];
+        size_t length = 12345;
+        memset(&report, FILLING, sizeof report);
+        memset(letters, FILLING, sizeof letters);
+        int code = ca_report(2, 3, -1, table, sizeof table, weights, weights_length, &report, letters, room, &length);
+        if (length != wanted || !is_kept(letters, room < wanted ? 0 : wanted, sizeof letters))
+            return false;
+        if (room < wanted ? code != CA_CODE_SHORT || !is_kept((const uint8_t *)&report, 0, sizeof report)
+                          : code != CA_CODE_DONE || !is_said(&report, letters, said))
+            return false;
+    }
+    return true;
+}
+
+/* Whether there is no report, for this fault. */
+static bool reports_none(uint8_t states, uint8_t width, int8_t offset, const uint8_t *table, size_t length,
+                         size_t weights_length, int fault)
+{
+    struct ca_report report, none = {0};
+    uint8_t letters[ROOM];
+    size_t count = 12345;
+    none.fault = (uint8_t)fault;
+    memset(&report, FILLING, sizeof report);
+    memset(letters, FILLING, sizeof letters);
+    int code = ca_report(states, width, offset, table, length, (const uint8_t *)"\0\1\2\3", weights_length, &report,
+                         letters, sizeof letters, &count);
+    return code == CA_CODE_DONE && count == 0 && memcmp(&report, &none, sizeof report) == 0
+        && is_kept(letters, 0, sizeof letters);
+}
+
+static void test_report(void)
+{
+    static const struct said rule_110 = {
+        .verdicts = "nnnnnn", .orphan = "01010", .twins = {"0", "1"}, .right_split = {"0|100|0", "0|111|1"},
+        .left_split = {"011|01|0", "110|11|0"}, .ring = "1"};
+    static const struct said rule_170 = {
+        .verdicts = "yyyyyy", .window = 1, .place = 2, .right_ahead = 1, .left_ahead = 3, .flux = {0, -1, -1, -2}};
+    static const struct said rule_30 = {
+        .verdicts = "ynnynn", .twins = {"0", "1"}, .right_split = {"0|1011|1", "0|1100|0"}, .left_ahead = 1, .ring = "1"};
+    static const struct said rule_184 = {
+        .verdicts = "nnnnny", .orphan = "1100", .twins = {"0011", "0101"}, .right_split = {"0||01100", "0||10100"},
+        .left_split = {"00101||0", "00011||0"}, .flux = {0, 0, 0, -1}};
+    static const struct said weighed = {
+        .verdicts = "nnnnny", .orphan = "1100", .twins = {"0011", "0101"}, .right_split = {"0||01100", "0||10100"},
+        .left_split = {"00101||0", "00011||0"}, .flux = {0, 0, 0, 255}};
+    static const uint8_t zeros[81], two[4] = {0, 1, 1, 2}, weights[2] = {255, 0};
+    is("report of rule 110", reports(110, OWN, 5 + 2 + 5 + 5 + 6 + 6 + 1, &rule_110));
+    is("report of rule 170", reports(170, OWN, 0, &rule_170));
+    is("report of rule 30", reports(30, OWN, 2 + 6 + 6 + 1, &rule_30));
+    is("report of rule 184", reports(184, OWN, 4 + 8 + 6 + 6 + 6 + 6, &rule_184));
+    is("report of rule 184 with weights", reports(184, weights, 2, 4 + 8 + 6 + 6 + 6 + 6, &weighed));
+    is("report of one state", reports_none(1, 2, 0, zeros, 1, 0, CA_FAULT_STATES));
+    is("report of width 6", reports_none(2, 6, 0, zeros, 64, 0, CA_FAULT_WIDTH));
+    is("report of 27 nodes", reports_none(3, 4, 0, zeros, 81, 0, CA_FAULT_NODES));
+    is("report of offset -17", reports_none(2, 3, -17, zeros, 7, 0, CA_FAULT_OFFSET));
+    is("report of offset 15", reports_none(2, 3, 15, zeros, 7, 0, CA_FAULT_OFFSET));
+    is("report of a table of seven letters", reports_none(2, 3, 14, zeros, 7, 3, CA_FAULT_LENGTH));
+    is("report of a letter that is too great", reports_none(2, 2, 15, two, 4, 3, CA_FAULT_LETTER));
+    is("report with one weight", reports_none(2, 3, -16, zeros, 8, 1, CA_FAULT_WEIGHTS));
+    is("report with three weights", reports_none(2, 3, 0, zeros, 8, 3, CA_FAULT_WEIGHTS));
 }
 
 /* Whether as many of the first rules of a shape have these bits as are said, over calls of so many rules. */
@@ -460,12 +590,14 @@ int main(void)
 {
     is("the version", ca_version() == CA_VERSION);
     is("the size of the verdicts", sizeof(struct ca_rule_verdicts) == 7);
+    is("the size of a report", sizeof(struct ca_report) == 8 + 4 * 4 + 16 * 4 + (1 + 2 + 1 + 2 * 6) * 16 + 8 * 4);
     is("the size of the sums", sizeof(struct ca_kept_sums) == 16 * 16 * 8 + 16 + 16 * 15);
     test_commands();
     test_words();
     test_room();
     test_input();
     test_verdicts();
+    test_report();
     test_verdict_bytes();
     test_next_rule();
     test_kept_sums();

@@ -4,7 +4,8 @@
  * ./library builds libca_c.a and libca_c.so in crates/ca_c/out/library, and prints where they are; ./install
  * PREFIX puts them below a folder as libca.a and libca.so, with this header and ca.pc for pkg-config. The functions
  * here are those of crates/ca_c/src/exports.rt, whose contracts say what is proved of them; the structs are RuleVerdicts of
- * crates/ca_c/src/table_verdicts.rt and KeptSums of crates/kept_sums/src/kept.rt. That this header agrees with them is tested and not proved.
+ * crates/ca_c/src/table_verdicts.rt, RuleReport of rule_reports.rt and those of letter_rows.rt beside it, and KeptSums of
+ * crates/kept_sums/src/kept.rt. That this header agrees with them is tested and not proved.
  *
  * Pointers. Each must point to as many bytes as the length beside it says, or where there is none to all of its type, and must not be NULL, not even
  * where that length is 0: then any address of an object will do. Nothing is kept of a pointer after a
@@ -29,9 +30,10 @@ extern "C" {
 #endif
 
 /* The version of this interface, which ca_version gives. */
-#define CA_VERSION 1
+#define CA_VERSION 2
 
-/* What ca_run gives. With codes up to CA_CODE_TOO_LONG there is an output. */
+/* What ca_run gives. With codes up to CA_CODE_TOO_LONG there is an output. ca_report gives CA_CODE_DONE, CA_CODE_MEMORY or
+ * CA_CODE_SHORT. */
 enum ca_code {
     CA_CODE_DONE = 0,       /* the command was carried out */
     CA_CODE_REFUSED = 1,    /* check judged the input, and it is no certificate that is accepted */
@@ -55,12 +57,13 @@ enum ca_code {
     CA_SHORT = CA_CODE_SHORT
 };
 
-/* Why a call gives no verdicts, no order, no rule, no sums or no flux: the first that holds. */
+/* Why a call gives no verdicts, no report, no order, no rule, no sums or no flux: the first that holds. */
 enum ca_fault {
     CA_FAULT_NONE = 0,   /* it gives them */
     CA_FAULT_STATES = 1, /* there are not 2 to 16 states */
     CA_FAULT_WIDTH = 2,  /* the width is not 2 to 5 */
     CA_FAULT_NODES = 3,  /* there are more than 16 words of width - 1 letters */
+    CA_FAULT_OFFSET = 4, /* the offset is less than -16, or the last cell of the window beyond the 16th on the right */
     CA_FAULT_LENGTH = 5, /* the table, or the order to be written, has not one byte for each window */
     CA_FAULT_LETTER = 6, /* a letter of the table is not below states */
     CA_FAULT_KIND = 7,   /* there are more than six states, so rules have no numbers */
@@ -74,7 +77,9 @@ enum ca_fault {
     CA_FAULT_RANGE = 14,  /* words of no letter */
     CA_FAULT_WORDS = 15,  /* there are more than 16 words of so many letters */
     CA_FAULT_WEIGHT = 16, /* a weight is greater than 2^56, or less than its negative */
-    CA_FAULT_LOST = 17    /* the sum isn't kept */
+    CA_FAULT_LOST = 17,   /* the sum isn't kept */
+
+    CA_FAULT_WEIGHTS = 18 /* there isn't one weight for each letter */
 };
 
 /* What the byte of a rule is the sum of: those that hold, in the words of struct ca_rule_verdicts. For ca_window_order and
@@ -97,6 +102,61 @@ struct ca_rule_verdicts {
     bool left;       /* no two that agree on the right do: the rule is left-closing */
     bool is_open;    /* both of these: the rule is open */
     bool conserving; /* every ring keeps the sum of its letters */
+};
+
+/* A word: so many letters of the buffer, from this one on. Where there is none, both numbers are 0. */
+struct ca_row {
+    size_t begin;
+    size_t length;
+};
+
+/* A configuration: its period on the left, its middle, which begins at cell 0, and its period on the right. */
+struct ca_tail {
+    struct ca_row left;
+    struct ca_row middle;
+    struct ca_row right;
+};
+
+/* Two words, closed to rings. */
+struct ca_twins {
+    struct ca_row x;
+    struct ca_row y;
+};
+
+/* Two configurations. */
+struct ca_split {
+    struct ca_tail x;
+    struct ca_tail y;
+};
+
+/*
+ * What holds of a rule, each with the least that shows it. A verdict is 1 where it holds, and else 0. What belongs to a
+ * verdict that came out the other way is 0 throughout.
+ */
+struct ca_report {
+    uint8_t fault;      /* an enum ca_fault; where it isn't CA_FAULT_NONE, all below are 0 */
+    uint8_t surjective; /* every word has a preimage; else orphan is the first word that has none */
+    uint8_t injective;  /* no two different configurations share an image, and any window letters of an image tell the
+                           letter place, from 0 on, of the window + width - 1 letters behind them; else the rings of
+                           twins share one */
+    uint8_t right;      /* no two that agree on the left do, and any width - 1 letters and right_ahead letters of the
+                           image tell the next letter; else those of right_split do */
+    uint8_t left;       /* no two that agree on the right do, and left_ahead is this number of the mirrored rule; else
+                           those of left_split do */
+    uint8_t is_open;    /* both of these: the rule is open */
+    uint8_t conserving; /* every ring keeps the sum of the weights of its letters, as flux shows; else ring doesn't */
+    uint8_t nodes;      /* how many numbers flux has: one for each word of width - 1 letters, by its value */
+    uint32_t window;
+    uint32_t place;
+    uint32_t right_ahead;
+    uint32_t left_ahead;
+    int32_t flux[16];   /* zeros after its numbers */
+    struct ca_row orphan;
+    struct ca_twins twins;
+    struct ca_row ring;
+    struct ca_split right_split;
+    struct ca_split left_split;
+    uint32_t reserved[8]; /* zeros */
 };
 
 /*
@@ -145,6 +205,27 @@ uint8_t ca_run(const uint8_t *words, size_t words_length, const uint8_t *input, 
  */
 struct ca_rule_verdicts ca_verdicts(uint8_t states, uint8_t width, const uint8_t *table,
                                     size_t table_length);
+
+/*
+ * Reports on a rule: what `decide` of docs/COMMANDS.md prints of it, as numbers and letters.
+ *
+ * The rule is that of ca_verdicts, but the window of cell i begins at cell i + offset, where offset is at least -16 and
+ * offset + width - 1 at most 16. weights has what each letter weighs, letter 0 first. With weights_length 0 each weighs its
+ * own value.
+ *
+ * It gives CA_CODE_DONE, CA_CODE_SHORT or CA_CODE_MEMORY, and sets *length in every case:
+ *
+ *   CA_CODE_DONE    *report is filled, and the letters of its words stand in the first *length bytes of letters, one a
+ *                   byte; the other bytes of the buffer are as they were. Where there is no report, its fault is
+ *                   CA_FAULT_STATES to CA_FAULT_LETTER or CA_FAULT_WEIGHTS, the first that holds, and *length is 0.
+ *   CA_CODE_SHORT   There are *length letters, which is more than room. *report and the buffer are as they were. A
+ *                   second call, with room enough, works the report out again. docs/COMMANDS.md says how long each
+ *                   word can be: 72,712 letters hold the words of any rule.
+ *   CA_CODE_MEMORY  *length is 0, and *report and the buffer are as they were.
+ */
+uint8_t ca_report(uint8_t states, uint8_t width, int8_t offset, const uint8_t *table, size_t table_length,
+                  const uint8_t *weights, size_t weights_length, struct ca_report *report, uint8_t *letters,
+                  size_t room, size_t *length);
 
 /*
  * Decides the questions of many rules with consecutive numbers, and takes no memory.

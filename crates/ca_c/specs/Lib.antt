@@ -5,3 +5,6 @@ pub mod Examples
 pub mod NumberedVerdicts
 pub mod NextRules
 pub mod RuleSums
+pub mod LetterRows
+pub mod ReportParts
+pub mod Reports

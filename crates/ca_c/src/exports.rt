@@ -9,10 +9,12 @@ ghost use Rattle.kept_sums.specs.Stages.{AreKeptSums};
 ghost use Rattle.ca_c.specs.RuleSums.{sums_code, IsFluxCall};
 ghost use Rattle.ca_c.specs.Verdicts.{AreNone, fault_code, rule_of_table, verdicts_about};
 ghost use Rattle.ca_c.specs.NextRules.{IsNext, IsWindowOrder};
+ghost use Rattle.ca_c.specs.Reports.{IsReportCall, named_weights, rule_with};
 
 use crate::calls::{CallFault, call, put};
 use crate::next_rules::{letters_of, next_rule, property_of, shape_rule, write_table};
 use crate::numbered_verdicts::{joined, number_of};
+use crate::rule_reports::{RuleReport, report_of_table};
 use crate::rule_sums::range_number;
 use crate::table_verdicts::{RuleVerdicts, fault_number};
 use ca_cli::Status;
@@ -23,7 +25,10 @@ use std::alloc::Global;
 use word_image::{Rule, RuleFault, check_shape};
 
 /// The version of the interface.
-const VERSION: u32 = 1;
+const VERSION: u32 = 2;
+
+/// The code where there was no memory.
+const MEMORY: u8 = 8;
 
 /// The code where the block has no words.
 const NO_WORDS: u8 = 9;
@@ -31,7 +36,7 @@ const NO_WORDS: u8 = 9;
 /// The code where the buffer is too short.
 const SHORT: u8 = 10;
 
-/// The code where a rule or an order is handed back.
+/// The code where a report, a rule or an order is handed back.
 const FOUND: u8 = 0;
 
 /// The code where a number stands for no property.
@@ -55,7 +60,7 @@ const NOT_KEPT: u8 = 17;
 /// The version of the interface: which functions there are, and what they take and give.
 #[unsafe(no_mangle)]
 pub extern "C" fn ca_version() -> u32
-    ensures { result ≡ 1 }
+    ensures { result ≡ 2 }
 {
     VERSION
 }
@@ -111,6 +116,44 @@ pub extern "C" fn ca_verdicts(states: u8, width: u8, table: &[u8]) -> RuleVerdic
     match Rule::new(states, width, 0, table) {
         Ok(rule) => RuleVerdicts::of(&rule),
         Err(fault) => RuleVerdicts::none(fault),
+    }
+}
+
+/// Reports on the rule with these states, this width, this offset and this table: what holds of it, each with the
+/// least evidence, where its letters have these weights. Without any, each letter weighs its own value. It gives 0 and
+/// writes the report, and the letters of its words to the beginning of the buffer, or a report of the first fault and no
+/// letters: of the rule, or 18 where there isn't one weight for each letter.
+///
+/// 10 is that the buffer is too short, and 8 that there was no memory; the report and the buffer are then as they were. The
+/// length is how many letters there are, with 8 it is 0.
+#[unsafe(no_mangle)]
+pub extern "C" fn ca_report(
+    alloc: Global,
+    states: u8,
+    width: u8,
+    offset: i8,
+    table: &[u8],
+    weights: &[u8],
+    report: &mut RuleReport,
+    letters: &mut [u8],
+    length: &mut usize,
+) -> u8
+    ensures { IsReportCall (rule_with states width offset table.now) (named_weights weights.now) report.old letters.old result length.new report.new letters.new }
+{
+    match report_of_table(alloc, states, width, offset, table, weights) {
+        Ok(made) => {
+            *length = made.letters.len();
+            if put(&made.letters, letters) {
+                *report = made.report;
+                FOUND
+            } else {
+                SHORT
+            }
+        }
+        Err(_) => {
+            *length = 0;
+            MEMORY
+        }
     }
 }
 

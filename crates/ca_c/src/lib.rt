@@ -1,10 +1,11 @@
-//! The interface for C: eight functions with C's calling convention, in a static library.
+//! The interface for C: nine functions with C's calling convention, in a static library.
 //!
 //! [`ca_run`] carries out a command as the program does, over bytes in memory. [`ca_verdicts`] decides the
-//! questions of a rule without a text, and [`ca_verdict_bytes`] those of many rules with consecutive numbers, a
-//! byte for each. [`ca_next_rule`] finds the rules of a shape that have a property, one a call, in an order of the
-//! windows, which [`ca_window_order`] writes. [`ca_kept_sums`] finds all sums that a rule keeps, and [`ca_flux`] the flux
-//! of one. [`ca_version`] gives the version of the interface. include/ca.h declares them for C.
+//! questions of a rule without a text, [`ca_report`] answers them with the least evidence, and [`ca_verdict_bytes`]
+//! decides those of many rules with consecutive numbers, a byte for each. [`ca_next_rule`] finds the rules of a shape
+//! that have a property, one a call, in an order of the windows, which [`ca_window_order`] writes. [`ca_kept_sums`] finds
+//! all sums that a rule keeps, and [`ca_flux`] the flux of one. [`ca_version`] gives the version of the interface.
+//! include/ca.h declares them for C.
 //!
 //! The words of a command line come in one *block*, each with a 0 byte after it: `orphan` and `110` are
 //! the eleven bytes `orphan`, 0, `110`, 0. The output goes into a buffer of the caller's:
@@ -18,21 +19,26 @@
 //!
 //! No function keeps a pointer or has a state: what one call gives depends on its arguments and on
 //! whether there is memory, and on nothing else. A call takes the time and the memory of
-//! `ca_cli::run`, and besides **O(n)** of both for n bytes of words and output; all other calls take no memory.
+//! `ca_cli::run`, and besides **O(n)** of both for n bytes of words and output; one of [`ca_report`] those of
+//! `ca_answers::report`, and **O(n)** for n letters. All other calls take no memory.
 #![tactic(auto)]
 
 mod blocks;
 mod calls;
 mod exports;
+mod letter_rows;
 mod next_rules;
 mod numbered_verdicts;
+mod report_parts;
+mod rule_reports;
 mod rule_sums;
 mod sinks;
 mod sources;
 mod table_verdicts;
 
 pub use exports::{
-    ca_flux, ca_kept_sums, ca_next_rule, ca_run, ca_verdict_bytes, ca_verdicts, ca_version,
-    ca_window_order,
+    ca_flux, ca_kept_sums, ca_next_rule, ca_report, ca_run, ca_verdict_bytes, ca_verdicts,
+    ca_version, ca_window_order,
 };
+pub use rule_reports::RuleReport;
 pub use table_verdicts::RuleVerdicts;
