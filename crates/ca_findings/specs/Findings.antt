@@ -25,7 +25,7 @@ use Rattle.cert_format.specs.Certificates.{Certificate}
 use Rattle.certificate_laws.specs.LeastEvidence.{Evidence, IsOrphanPart, IsLeastEvidence}
 use Rattle.certificate_laws.specs.WrittenCertificates.{IsWritten}
 use Rattle.ca_findings.specs.Questions.{Question}
-pub use Rattle.ca_findings.specs.Numbers.{number_found}
+use Rattle.rule_text.specs.PrintedRules.{number_found}
 use Rattle.ca_findings.specs.Counts.{Counts, AreCounts, AreLeastRules}
 
 -- what is found

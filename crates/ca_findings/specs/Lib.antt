@@ -1,5 +1,4 @@
 pub mod Questions
-pub mod Numbers
 pub mod Counts
 pub mod Findings
 pub mod Replies

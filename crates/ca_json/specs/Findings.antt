@@ -3,13 +3,12 @@ use Rattle.std.specs.Prelude.{ℕ, ◌*◌, List, [], ◌∷◌, map, drop, take
 use Rattle.std.specs.List.{range_with_len}
 use Rattle.serde_json.specs.Data.{Data, null, boolean, string}
 use Rattle.word_image.specs.LocalRules.{LocalRule}
-use Rattle.rule_text.specs.PrintedRules.{printed_rule}
+use Rattle.rule_text.specs.PrintedRules.{printed_rule, number_found}
 use Rattle.tail_config.specs.InverseMaps.{WindowMap}
 use Rattle.image_minimal.specs.ImageLanguages.{Automaton}
 use Rattle.tail_preimage.specs.Preimages.{PlacedConfig}
 use Rattle.cert_format.specs.WrittenTexts.{array_from, whole_value, signed_value, word_value, claim_value, certificate_value}
 use Rattle.certificate_laws.specs.LeastEvidence.{Evidence, close_both}
-use Rattle.ca_findings.specs.Numbers.{number_found}
 use Rattle.ca_findings.specs.Counts.{Counts}
 use Rattle.ca_findings.specs.Findings.{Finding}
 use Rattle.ca_json.specs.Values.{object_of, tagged, two, numbers_json, word_or_null, number_or_null, tail_json, surjective_json, injective_json, side_json, conserving_json}

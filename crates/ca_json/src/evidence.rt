@@ -4,7 +4,7 @@ ghost use Rattle.serde_json.specs.View.{view};
 ghost use Rattle.cert_format.specs.Parts.{injective_of, side_of, sum_of};
 ghost use Rattle.certificate_laws.specs.LeastEvidence.{close_both};
 ghost use Rattle.ca_findings.specs.Findings.{Finding};
-ghost use Rattle.ca_findings.specs.Numbers.{number_found};
+ghost use Rattle.rule_text.specs.PrintedRules.{number_found};
 ghost use Rattle.ca_findings.specs.Values.{evidence_of};
 ghost use Rattle.ca_findings.specs.Writable.{HasDigits, HasRingDigits, HasTwinDigits, IsWritable};
 ghost use Rattle.ca_json.specs.Findings.{report_json};

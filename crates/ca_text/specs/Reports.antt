@@ -4,10 +4,9 @@ use Rattle.std.specs.List.{flat_map}
 use Rattle.std.specs.Fmt.{decimal}
 use Rattle.word_image.specs.Digits.{word_text}
 use Rattle.tail_config.specs.TailTexts as tail
-use Rattle.rule_text.specs.PrintedRules.{printed_rule, offset_text}
+use Rattle.rule_text.specs.PrintedRules.{printed_rule, offset_text, number_found}
 use Rattle.cert_format.specs.Evidence.{InjectiveEvidence, SideEvidence, SumEvidence, Window, Twins, Ahead, Split, Flux, Ring}
 use Rattle.certificate_laws.specs.LeastEvidence.{Evidence, close_both}
-use Rattle.ca_findings.specs.Numbers.{number_found}
 
 -- a text, and the byte that ends a line
 abbrev pub line : List ℕ → List ℕ

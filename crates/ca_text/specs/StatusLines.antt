@@ -4,8 +4,8 @@ use Rattle.std.specs.List.{join_by}
 use Rattle.std.specs.Fmt.{decimal}
 use Rattle.word_image.specs.Weights.{own_weights}
 use Rattle.rule_text.specs.PrintedRules.{printed_rule}
+use Rattle.rule_text.specs.FaultTexts.{fault_text}
 use Rattle.rule_text.specs.declared.text_fault.TextFault.{TextFault}
-use Rattle.rule_text.specs.declared.text_fault.TextFault.TheVariants as fault
 use Rattle.cert_format.specs.declared.shape_fault.Key.{Key}
 use Rattle.cert_format.specs.declared.shape_fault.Key.TheVariants as key
 use Rattle.cert_format.specs.declared.shape_fault.ShapeFault.{ShapeFault}
@@ -25,18 +25,6 @@ use Rattle.ca_text.specs.Reports.{line}
 -- the words are no command
 abbrev pub usage_line : List ℕ
 usage_line = line (codes "usage error")
-
--- the kind of a fault in lower case, and its place where it has one
-abbrev pub fault_text : TextFault → List ℕ
-fault_text (fault.Form place) = codes "form " ++ decimal place
-fault_text fault.States = codes "states"
-fault_text fault.Width = codes "width"
-fault_text fault.Nodes = codes "nodes"
-fault_text fault.Offset = codes "offset"
-fault_text fault.Kind = codes "kind"
-fault_text fault.Length = codes "length"
-fault_text (fault.Letter place) = codes "letter " ++ decimal place
-fault_text fault.Number = codes "number"
 
 -- the operand with this number has this fault
 abbrev pub operand_fault_line : ℕ → TextFault → List ℕ

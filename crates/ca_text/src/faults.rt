@@ -1,7 +1,6 @@
 //! What is said of a fault, and why nothing fits.
-ghost use Rattle.std.specs.Prelude.{◌≡◌, IfOk, string_bytes};
+ghost use Rattle.std.specs.Prelude.{◌≡◌, IfOk};
 ghost use Rattle.ca_findings.specs.Values.{unfit_of};
-ghost use Rattle.ca_text.specs.StatusLines.{fault_text};
 ghost use Rattle.ca_text.specs.StatusLines.{operand_fault_line, unfit_line};
 ghost use Rattle.ca_text.specs.Texts.{algebra_text, lift_text, tail_text, unfit_text};
 ghost use Rattle.ca_findings.specs.Writable.{IsWritableUnfit};
@@ -10,7 +9,7 @@ use crate::output::Output;
 use ca_findings::Cause;
 use rule_algebra::AlgebraFault;
 use rule_classes::LiftFault;
-use rule_text::TextFault;
+use rule_text::{TextFault, fault_kind};
 use std::alloc::{AllocError, Global};
 use tail_config::TailFault;
 
@@ -43,23 +42,6 @@ pub fn operand_fault_output(
 {
     let kind = fault_kind(alloc, fault)?;
     Output::line(alloc, &format!(in alloc; "rule fault {operand} {kind}")?)
-}
-
-/// The kind of a fault, and its place where it has one.
-pub fn fault_kind(alloc: Global, fault: TextFault) -> Result<String, AllocError>
-    ensures { IfOk result (λ text. string_bytes text ≡ fault_text fault) }
-{
-    match fault {
-        TextFault::Form(place) => format!(in alloc; "form {place}"),
-        TextFault::States => String::from_str(alloc, "states"),
-        TextFault::Width => String::from_str(alloc, "width"),
-        TextFault::Nodes => String::from_str(alloc, "nodes"),
-        TextFault::Offset => String::from_str(alloc, "offset"),
-        TextFault::Kind => String::from_str(alloc, "kind"),
-        TextFault::Length => String::from_str(alloc, "length"),
-        TextFault::Letter(place) => format!(in alloc; "letter {place}"),
-        TextFault::Number => String::from_str(alloc, "number"),
-    }
 }
 
 /// The name of why rules make no rule.

@@ -4,14 +4,13 @@ ghost use Rattle.std.specs.List.{flat_map, join_by};
 ghost use Rattle.std.specs.Fmt.{decimal};
 ghost use Rattle.rule_text.specs.PrintedRules.{printed_rule};
 ghost use Rattle.ca_text.specs.Reports.{line};
-ghost use Rattle.ca_text.specs.StatusLines.{fault_text};
+ghost use Rattle.rule_text.specs.FaultTexts.{fault_text};
 ghost use Rattle.ca_text.specs.StatusLines.{accepted_lines, weights_lines, verdict_line, refused_line, refusal_text, shape_text, key_text, side_text, twin_text, split_text};
 
-use crate::faults::fault_kind;
 use crate::output::Output;
 use cert_check::{Refusal, SplitCause, TwinCause, Verdicts};
 use cert_format::{Key, ShapeFault};
-use rule_text::{TextFault, print};
+use rule_text::{TextFault, fault_kind, print};
 use std::alloc::{AllocError, Global};
 use word_image::{Rule, Side, Weights};
 

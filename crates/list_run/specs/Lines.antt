@@ -4,7 +4,7 @@ use Rattle.std.specs.Fmt.{decimal}
 use Rattle.word_image.specs.LocalRules.{LocalRule}
 use Rattle.rule_text.specs.PrintedRules.{printed_rule}
 use Rattle.rule_text.specs.declared.text_fault.TextFault.{TextFault}
-use Rattle.rule_text.specs.declared.text_fault.TextFault.TheVariants.{Form, States, Width, Nodes, Offset, Kind, Length, Letter, Number}
+use Rattle.rule_text.specs.FaultTexts.{fault_text}
 
 -- a text, and the byte that ends a line
 abbrev pub line : List ℕ → List ℕ
@@ -13,18 +13,6 @@ line text = text ++ 10 ∷ []
 -- the words are no listing
 abbrev pub usage_line : List ℕ
 usage_line = line (codes "usage error")
-
--- the kind of a fault in lower case, and its place where it has one
-abbrev pub fault_text : TextFault → List ℕ
-fault_text (Form place) = codes "form " ++ decimal place
-fault_text States = codes "states"
-fault_text Width = codes "width"
-fault_text Nodes = codes "nodes"
-fault_text Offset = codes "offset"
-fault_text Kind = codes "kind"
-fault_text Length = codes "length"
-fault_text (Letter place) = codes "letter " ++ decimal place
-fault_text Number = codes "number"
 
 -- the beginning, the one operand that is a text of a rule, has this fault
 abbrev pub fault_line : TextFault → List ℕ

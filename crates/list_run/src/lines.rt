@@ -5,7 +5,7 @@ ghost use Rattle.word_image.specs.LocalRules.{IsRule};
 ghost use Rattle.word_image.specs.Digits.{lower_digit};
 ghost use Rattle.list_run.specs.Lines.{IsLineOf, count_line, fault_line, rule_line};
 
-use rule_text::{TextFault, print};
+use rule_text::{TextFault, fault_kind, print};
 use std::alloc::{AllocError, Global};
 use word_image::{Rule, digit};
 
@@ -13,17 +13,8 @@ use word_image::{Rule, digit};
 pub fn fault_line(alloc: Global, fault: TextFault) -> Result<String, AllocError>
     ensures { IfOk result (λ text. string_bytes text ≡ fault_line fault) }
 {
-    match fault {
-        TextFault::Form(place) => format!(in alloc; "rule fault 1 form {place}\n"),
-        TextFault::States => String::from_str(alloc, "rule fault 1 states\n"),
-        TextFault::Width => String::from_str(alloc, "rule fault 1 width\n"),
-        TextFault::Nodes => String::from_str(alloc, "rule fault 1 nodes\n"),
-        TextFault::Offset => String::from_str(alloc, "rule fault 1 offset\n"),
-        TextFault::Kind => String::from_str(alloc, "rule fault 1 kind\n"),
-        TextFault::Length => String::from_str(alloc, "rule fault 1 length\n"),
-        TextFault::Letter(place) => format!(in alloc; "rule fault 1 letter {place}\n"),
-        TextFault::Number => String::from_str(alloc, "rule fault 1 number\n"),
-    }
+    let kind = fault_kind(alloc, fault)?;
+    format!(in alloc; "rule fault 1 {kind}\n")
 }
 
 /// The line of a rule.

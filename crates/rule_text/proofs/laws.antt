@@ -8,3 +8,4 @@ pub mod Numbers
 pub mod Printed
 pub mod AcceptedRules
 pub mod Beginnings
+pub mod NumbersFound

@@ -4,3 +4,4 @@ pub mod TextReadings
 pub mod Heads
 pub mod Beginnings
 pub mod Examples
+pub mod FaultTexts

@@ -1,7 +1,7 @@
--- The printed form of a rule.
-use Rattle.std.specs.Prelude.{ℕ, ◌+◌, List, ◌++◌, map, codes, ℤ, pos, negsuc}
+-- The printed form of a rule, and its number.
+use Rattle.std.specs.Prelude.{ℕ, ◌+◌, nat_lt, if◌then◌else◌, List, ◌++◌, map, codes, Option, Some, None, ℤ, pos, negsuc}
 use Rattle.std.specs.Fmt.{decimal}
-use Rattle.word_image.specs.LocalRules.{LocalRule}
+use Rattle.word_image.specs.LocalRules.{LocalRule, wolfram_number}
 use Rattle.word_image.specs.Digits.{lower_digit}
 
 -- the head of a text, what stands before its entries: K:M:O: and their kind
@@ -16,3 +16,7 @@ offset_text (negsuc n) = codes "-" ++ decimal (n + 1)
 -- the printed form: the table form in lower case
 abbrev pub printed_rule : LocalRule → List ℕ
 printed_rule r = head (decimal r.states) (decimal r.width) (offset_text r.offset) (codes "t") ++ map lower_digit r.table
+
+-- the Wolfram number of a rule, where it has at most six states
+abbrev pub number_found : LocalRule → Option ℕ
+number_found r = if nat_lt r.states 7 then Some (wolfram_number r) else None

@@ -27,6 +27,7 @@
 mod beginnings;
 mod decimals;
 mod digits;
+mod fault_kinds;
 mod head;
 mod parsing;
 mod parts;
@@ -36,6 +37,7 @@ mod wolfram_numbers;
 
 pub use beginnings::{Beginning, parse_beginning};
 pub use decimals::{decimal_number, decimal_offset, is_decimal};
+pub use fault_kinds::fault_kind;
 pub use parsing::parse;
 pub use printing::{number, print, printed_text_is_read};
 pub use text_fault::TextFault;

@@ -19,7 +19,7 @@ use Rattle.cert_format.specs.Evidence.SumEvidence.{Flux, Ring}
 use Rattle.cert_format.specs.WrittenTexts.{array_from, whole_value, signed_value, claim_value}
 use Rattle.cert_format.proofs.laws.PlainValues.{IsPlain-certificate}
 use Rattle.certificate_laws.specs.LeastEvidence.{Evidence}
-use Rattle.ca_findings.specs.Numbers.{number_found}
+use Rattle.rule_text.specs.PrintedRules.{number_found}
 use Rattle.ca_findings.specs.Findings.{Finding, Unfit}
 use Rattle.ca_findings.specs.Replies.{Reply}
 use Rattle.ca_json.specs.Values.{numbers_json, number_or_null, word_or_null, surjective_json, injective_json, side_json, conserving_json}

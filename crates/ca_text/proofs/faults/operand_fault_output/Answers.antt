@@ -2,7 +2,7 @@ use Rattle.std.proofs.Common.{◌≡◌, ◌++◌, append_assoc, sym, ap, ◌∙
 use Rattle.std.specs.Prelude.{codes, IfOk}
 use Rattle.std.specs.Fmt.{decimal}
 use Rattle.ca_text.specs.Reports.{line}
-use Rattle.ca_text.specs.StatusLines.{fault_text}
+use Rattle.rule_text.specs.FaultTexts.{fault_text}
 use Rattle.ca_text.proofs.faults.operand_fault_output.Goals as goal
 
 pub returns : goal.returns

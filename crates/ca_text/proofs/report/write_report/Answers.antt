@@ -1,10 +1,9 @@
 use Rattle.std.proofs.Common.{◌++◌, ap, ◌∙◌, cond}
 use Rattle.std.specs.Prelude.{codes}
 use Rattle.std.proofs.lemmas.Result.{on_ok_weaker}
-use Rattle.rule_text.specs.PrintedRules.{printed_rule}
+use Rattle.rule_text.specs.PrintedRules.{printed_rule, number_found}
 use Rattle.cert_format.specs.Parts.{injective_of, side_of, sum_of}
-use Rattle.ca_findings.specs.Findings.{number_found}
-use Rattle.ca_findings.proofs.Numbers.{number_found-is}
+use Rattle.rule_text.proofs.laws.NumbersFound.{number_found-is}
 use Rattle.ca_text.specs.Reports.{line, number_line, surjective_line, injective_line, side_line, conserving_line}
 use Rattle.ca_text.proofs.laws.Appended.{appended_twice}
 use Rattle.ca_text.proofs.report.write_report.Goals as goal

@@ -4,7 +4,7 @@ use Rattle.std.specs.Prelude.{Option}
 use Rattle.std.specs.Option.{SomeIff}
 use Rattle.std.proofs.lemmas.Bool.Decides.{nat_tests}
 use Rattle.word_image.specs.LocalRules.{LocalRule, wolfram_number}
-use Rattle.ca_findings.specs.Numbers.{number_found}
+use Rattle.rule_text.specs.PrintedRules.{number_found}
 
 -- a number that is there exactly for a rule of at most six states, and is its Wolfram number
 pub number_found-is : (r : LocalRule) (number : Option ℕ) → SomeIff number (r.states < 7) (wolfram_number r) → number ≡ number_found r
