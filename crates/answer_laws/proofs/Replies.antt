@@ -1,9 +1,9 @@
 -- Words have one right reply.
 use Rattle.std.proofs.Common.{◌≡◌, ℕ, List, refl, sym, ap, ap₂, ◌∙◌, subst}
 use Rattle.std.specs.Prelude.{Option, Some}
-use Rattle.cert_check.specs.Accepted.{IsAccepted}
-use Rattle.cert_check.specs.Refusals.{IsRefusal}
-use Rattle.cert_check.proofs.laws.OneAnswer.{IsAccepted-unique, IsRefusal-unique}
+use Rattle.cert_conditions.specs.Accepted.{IsAccepted}
+use Rattle.cert_conditions.specs.Refusals.{IsRefusal}
+use Rattle.cert_conditions.proofs.laws.OneAnswer.{IsAccepted-unique, IsRefusal-unique}
 use Rattle.ca_words.specs.declared.names.Name.TheVariants as name
 use Rattle.ca_words.specs.Commands.{Command, IsCommand}
 use Rattle.ca_findings.specs.Findings.{IsFinding, IsUnfitFor}

@@ -4,7 +4,7 @@ use Rattle.word_image.specs.LocalRules.{LocalRule}
 use Rattle.word_image.specs.Weights.{own_weights}
 use Rattle.word_image.specs.declared.local_rule.RuleFault.{RuleFault}
 use Rattle.word_image.specs.declared.local_rule.RuleFault.TheVariants.{States, Width, Nodes, Offset, Length, Letter}
-use Rattle.cert_check.specs.declared.verdicts.Verdicts.{Verdicts}
+use Rattle.cert_conditions.specs.declared.verdicts.Verdicts.{Verdicts}
 use Rattle.ca_c.specs.declared.table_verdicts.RuleVerdicts.{RuleVerdicts}
 
 -- the rule with this table, whose window begins at its cell

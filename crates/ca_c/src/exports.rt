@@ -1,7 +1,7 @@
 //! The functions that C calls.
 ghost use Rattle.std.specs.Prelude.{◌≡◌, ◌≢◌, ◌+◌, ◌*◌, ◌^◌, ◌<◌, ◌≤◌, ◌==◌, not, length, pos};
 ghost use Rattle.word_image.specs.RuleFaults.{rule_fault};
-ghost use Rattle.cert_check.specs.Accepted.{AreTrue, is_open};
+ghost use Rattle.cert_conditions.specs.Accepted.{AreTrue, is_open};
 ghost use Rattle.ca_c.specs.Calls.{IsHandedBack};
 ghost use Rattle.rule_verdicts.specs.Numbers.{numbers_fault, AreVerdictBytes};
 ghost use Rattle.ca_c.specs.NumberedVerdicts.{number_code};

@@ -1,6 +1,6 @@
 //! What is handed back of a rule.
 ghost use Rattle.std.specs.Prelude.{◌≡◌, Some};
-ghost use Rattle.cert_check.specs.Accepted.{AreTrue, is_open};
+ghost use Rattle.cert_conditions.specs.Accepted.{AreTrue, is_open};
 ghost use Rattle.ca_c.specs.Verdicts.{AreNone, fault_code, verdicts_about};
 
 use rule_verdicts::Truths;

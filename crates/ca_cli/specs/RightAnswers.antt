@@ -1,10 +1,10 @@
 -- Which status and which output are right for the words of the command line, and for what the source had left.
 use Rattle.std.specs.Prelude.{◌≡◌, ℕ, List, Option}
 use Rattle.rule_text.specs.declared.text_fault.TextFault.{TextFault}
-use Rattle.cert_check.specs.Accepted.{IsAccepted, AreTrue}
-use Rattle.cert_check.specs.Refusals.{IsRefusal}
-use Rattle.cert_check.specs.declared.refusal.Refusal.{Refusal}
-use Rattle.cert_check.specs.declared.verdicts.Verdicts.{Verdicts}
+use Rattle.cert_conditions.specs.Accepted.{IsAccepted, AreTrue}
+use Rattle.cert_conditions.specs.Refusals.{IsRefusal}
+use Rattle.cert_conditions.specs.declared.refusal.Refusal.{Refusal}
+use Rattle.cert_conditions.specs.declared.verdicts.Verdicts.{Verdicts}
 use Rattle.ca_words.specs.declared.names.Name.TheVariants as name
 use Rattle.ca_words.specs.Commands.{Command, IsCommand}
 use Rattle.ca_findings.specs.Questions.{Question}

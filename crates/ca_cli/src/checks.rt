@@ -10,7 +10,8 @@ ghost use Rattle.ca_cli.specs.Statuses.{reply_status};
 
 use ca_findings::Reply;
 use ca_io::{InputFault, Source, read_up_to};
-use cert_check::{Refusal, judge};
+use cert_check::judge;
+use cert_conditions::Refusal;
 use std::alloc::Global;
 
 /// The longest input that is judged.

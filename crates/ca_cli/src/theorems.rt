@@ -2,10 +2,10 @@
 //! is the contract of a function with nothing to run.
 ghost use Rattle.std.specs.Prelude.{◌≡◌, ◌↔◌, ◌+◌, ◌≤◌, ℕ, List, Option, Some, length};
 ghost use Rattle.word_image.specs.LocalRules.{LocalRule};
-ghost use Rattle.cert_check.specs.Accepted.{AreTrue, IsAccepted};
-ghost use Rattle.cert_check.specs.Refusals.{IsRefusal};
-ghost use Rattle.cert_check.specs.declared.refusal.Refusal.{Refusal};
-ghost use Rattle.cert_check.specs.declared.verdicts.Verdicts.{Verdicts};
+ghost use Rattle.cert_conditions.specs.Accepted.{AreTrue, IsAccepted};
+ghost use Rattle.cert_conditions.specs.Refusals.{IsRefusal};
+ghost use Rattle.cert_conditions.specs.declared.refusal.Refusal.{Refusal};
+ghost use Rattle.cert_conditions.specs.declared.verdicts.Verdicts.{Verdicts};
 ghost use Rattle.cert_format.specs.declared.cert_version.CertVersion.{CertVersion};
 ghost use Rattle.rule_text.specs.declared.text_fault.TextFault.{TextFault};
 ghost use Rattle.ca_words.specs.Commands.{Command, IsCommand, check_command};

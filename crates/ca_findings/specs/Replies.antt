@@ -1,8 +1,8 @@
 -- All that can be said to the words of a command line, in values.
 use Rattle.std.specs.Prelude.{ℕ}
 use Rattle.rule_text.specs.declared.text_fault.TextFault.{TextFault}
-use Rattle.cert_check.specs.declared.refusal.Refusal.{Refusal}
-use Rattle.cert_check.specs.declared.verdicts.Verdicts.{Verdicts}
+use Rattle.cert_conditions.specs.declared.refusal.Refusal.{Refusal}
+use Rattle.cert_conditions.specs.declared.verdicts.Verdicts.{Verdicts}
 use Rattle.ca_findings.specs.Findings.{Finding, Unfit}
 
 -- a finding, why nothing fits, the fault of an operand, what is said of a judged input, or that the words are no command

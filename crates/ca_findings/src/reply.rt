@@ -1,6 +1,6 @@
 //! All that can be said to words.
 use crate::found::{Cause, Found};
-use cert_check::{Refusal, Verdicts};
+use cert_conditions::{Refusal, Verdicts};
 use rule_text::TextFault;
 
 /// What is said to the words of a command line.

@@ -10,12 +10,13 @@ use Rattle.cert_format.specs.declared.shape_fault.Key.{Key}
 use Rattle.cert_format.specs.declared.shape_fault.ShapeFault.{ShapeFault}
 use Rattle.cert_format.specs.declared.shape_fault.ShapeFault.TheVariants as shape
 use Rattle.cert_format.specs.WrittenTexts.{whole_value, word_value}
-use Rattle.cert_check.specs.declared.refusal.SplitCause.{SplitCause}
-use Rattle.cert_check.specs.declared.refusal.Refusal.{Refusal}
-use Rattle.cert_check.specs.declared.refusal.Refusal.TheVariants as refusal
+use Rattle.cert_conditions.specs.declared.refusal.SplitCause.{SplitCause}
+use Rattle.cert_conditions.specs.declared.refusal.Refusal.{Refusal}
+use Rattle.cert_conditions.specs.declared.refusal.Refusal.TheVariants as refusal
 use Rattle.ca_findings.specs.Findings.{Unfit}
-use Rattle.ca_text.specs.Texts.{algebra_text, lift_text}
-use Rattle.ca_text.specs.StatusLines.{key_text, side_text, twin_text, split_text}
+use Rattle.rule_algebra.specs.FaultTexts.{algebra_text}
+use Rattle.rule_classes.specs.FaultTexts.{lift_text}
+use Rattle.cert_conditions.specs.RefusalTexts.{key_text, side_text, twin_text, split_text}
 use Rattle.ca_json.specs.Values.{object_of, tagged, status, numbers_json, two}
 
 -- why three parts make no configuration

@@ -3,8 +3,8 @@ use Rattle.std.specs.Prelude.{ℕ, List, [], ◌∷◌, codes}
 use Rattle.serde_json.specs.Data.{Data, boolean, string}
 use Rattle.serde_json.specs.Written.{compact_text}
 use Rattle.rule_text.specs.PrintedRules.{printed_rule}
-use Rattle.cert_check.specs.declared.verdicts.Verdicts.{Verdicts}
-use Rattle.cert_check.specs.Accepted.{is_open}
+use Rattle.cert_conditions.specs.declared.verdicts.Verdicts.{Verdicts}
+use Rattle.cert_conditions.specs.Accepted.{is_open}
 use Rattle.ca_findings.specs.Replies.{Reply}
 use Rattle.ca_json.specs.Values.{object_of, status, numbers_json}
 use Rattle.ca_json.specs.Findings.{finding_json}

@@ -5,8 +5,7 @@ ghost use Rattle.ca_json.specs.Causes as causes;
 ghost use Rattle.ca_json.specs.Values.{numbers_json};
 
 use crate::causes::{fault_name, fault_place};
-use ca_text::{key_name, side_name, split_name, twin_name};
-use cert_check::{Refusal, SplitCause};
+use cert_conditions::{Refusal, SplitCause, key_name, side_name, split_name, twin_name};
 use cert_format::{Key, ShapeFault};
 use rule_text::TextFault;
 use serde_json::{Value, json};

@@ -9,7 +9,7 @@ use crate::causes::{operand_value, unfit_value};
 use crate::findings::finding_value;
 use crate::refusals::refusal_value;
 use ca_findings::Reply;
-use cert_check::Verdicts;
+use cert_conditions::Verdicts;
 use cert_format::{rule_value, weights_value};
 use serde_json::{Value, json};
 use std::alloc::{AllocError, Global};

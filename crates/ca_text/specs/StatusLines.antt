@@ -6,20 +6,13 @@ use Rattle.word_image.specs.Weights.{own_weights}
 use Rattle.rule_text.specs.PrintedRules.{printed_rule}
 use Rattle.rule_text.specs.FaultTexts.{fault_text}
 use Rattle.rule_text.specs.declared.text_fault.TextFault.{TextFault}
-use Rattle.cert_format.specs.declared.shape_fault.Key.{Key}
-use Rattle.cert_format.specs.declared.shape_fault.Key.TheVariants as key
 use Rattle.cert_format.specs.declared.shape_fault.ShapeFault.{ShapeFault}
 use Rattle.cert_format.specs.declared.shape_fault.ShapeFault.TheVariants as shape
-use Rattle.word_image.specs.declared.side.Side.{Side}
-use Rattle.word_image.specs.declared.side.Side.TheVariants as side
-use Rattle.cert_check.specs.declared.refusal.TwinCause.{TwinCause}
-use Rattle.cert_check.specs.declared.refusal.TwinCause.TheVariants as twin
-use Rattle.cert_check.specs.declared.refusal.SplitCause.{SplitCause}
-use Rattle.cert_check.specs.declared.refusal.SplitCause.TheVariants as split
-use Rattle.cert_check.specs.declared.refusal.Refusal.{Refusal}
-use Rattle.cert_check.specs.declared.refusal.Refusal.TheVariants as refusal
-use Rattle.cert_check.specs.declared.verdicts.Verdicts.{Verdicts}
-use Rattle.cert_check.specs.Accepted.{is_open}
+use Rattle.cert_conditions.specs.declared.refusal.Refusal.{Refusal}
+use Rattle.cert_conditions.specs.declared.refusal.Refusal.TheVariants as refusal
+use Rattle.cert_conditions.specs.declared.verdicts.Verdicts.{Verdicts}
+use Rattle.cert_conditions.specs.RefusalTexts.{key_text, side_text, twin_text, split_text}
+use Rattle.cert_conditions.specs.Accepted.{is_open}
 use Rattle.ca_text.specs.Reports.{line}
 
 -- the words are no command
@@ -57,43 +50,12 @@ accepted_lines v =
 
 -- Of a refused one
 
--- the part that has no right shape
-abbrev pub key_text : Key → List ℕ
-key_text key.Top = codes "top"
-key_text key.Version = codes "version"
-key_text key.Rule = codes "rule"
-key_text key.Surjective = codes "surjective"
-key_text key.Injective = codes "injective"
-key_text key.Right = codes "right"
-key_text key.Left = codes "left"
-key_text key.Conserving = codes "conserving"
-key_text key.Weights = codes "weights"
-key_text key.Ranks = codes "ranks"
-key_text key.Unknown = codes "unknown"
-
 -- the first fault of its shape
 abbrev pub shape_text : ShapeFault → List ℕ
 shape_text shape.NotJson = codes "notjson"
 shape_text (shape.Version v) = codes "version " ++ decimal v
 shape_text (shape.Shape k) = codes "shape " ++ key_text k
 shape_text (shape.Rule f) = codes "rule " ++ fault_text f
-
--- a side
-abbrev pub side_text : Side → List ℕ
-side_text side.Right = codes "right"
-side_text side.Left = codes "left"
-
--- why two words are no twins
-abbrev pub twin_text : TwinCause → List ℕ
-twin_text twin.Length = codes "length"
-twin_text twin.Same = codes "same"
-twin_text twin.Image = codes "image"
-
--- why two configurations are no split
-abbrev pub split_text : SplitCause → List ℕ
-split_text split.Same = codes "same"
-split_text split.Apart = codes "apart"
-split_text split.Image = codes "image"
 
 -- the first condition that isn't met, and what is said of it; want of memory isn't one
 abbrev pub refusal_text : Refusal → List ℕ

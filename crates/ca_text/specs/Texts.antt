@@ -3,10 +3,8 @@ use Rattle.std.specs.Prelude.{ℕ, List, ◌++◌, codes, Option, None, Some}
 use Rattle.std.specs.Fmt.{decimal}
 use Rattle.word_image.specs.Digits.{word_text}
 use Rattle.rule_text.specs.PrintedRules.{printed_rule}
-use Rattle.rule_algebra.specs.declared.fault.AlgebraFault.{AlgebraFault}
-use Rattle.rule_algebra.specs.declared.fault.AlgebraFault.TheVariants as algebra
-use Rattle.rule_classes.specs.declared.lifts.LiftFault.{LiftFault}
-use Rattle.rule_classes.specs.declared.lifts.LiftFault.TheVariants as lift
+use Rattle.rule_algebra.specs.FaultTexts.{algebra_text}
+use Rattle.rule_classes.specs.FaultTexts.{lift_text}
 use Rattle.tail_config.specs.declared.faults.TailFault.{TailFault}
 use Rattle.tail_config.specs.declared.faults.TailFault.TheVariants as tail
 use Rattle.cert_format.specs.WrittenTexts.{certificate_text}
@@ -38,20 +36,6 @@ text_of (Finding.Preimage p) = line (placed_text p)
 text_of (Finding.Gap before after w) = line (gap_text before after w)
 text_of (Finding.Summary t) = counts_lines t
 text_of (Finding.Classes t n) = counts_lines t ++ count_line (codes "classes") n
-
--- why rules make no rule
-abbrev pub algebra_text : AlgebraFault → List ℕ
-algebra_text algebra.States = codes "states"
-algebra_text algebra.NotPermutation = codes "permutation"
-algebra_text algebra.Width = codes "width"
-algebra_text algebra.Nodes = codes "nodes"
-algebra_text algebra.Offset = codes "offset"
-
--- why a rule has no lift
-abbrev pub lift_text : LiftFault → List ℕ
-lift_text lift.States = codes "states"
-lift_text lift.Nodes = codes "nodes"
-lift_text lift.Centre = codes "centre"
 
 -- why three parts make no configuration
 abbrev pub tail_text : TailFault → List ℕ

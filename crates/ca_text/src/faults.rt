@@ -2,13 +2,15 @@
 ghost use Rattle.std.specs.Prelude.{◌≡◌, IfOk};
 ghost use Rattle.ca_findings.specs.Values.{unfit_of};
 ghost use Rattle.ca_text.specs.StatusLines.{operand_fault_line, unfit_line};
-ghost use Rattle.ca_text.specs.Texts.{algebra_text, lift_text, tail_text, unfit_text};
+ghost use Rattle.ca_text.specs.Texts.{tail_text, unfit_text};
+ghost use Rattle.rule_algebra.specs.FaultTexts.{algebra_text};
+ghost use Rattle.rule_classes.specs.FaultTexts.{lift_text};
 ghost use Rattle.ca_findings.specs.Writable.{IsWritableUnfit};
 
 use crate::output::Output;
 use ca_findings::Cause;
-use rule_algebra::AlgebraFault;
-use rule_classes::LiftFault;
+use rule_algebra::algebra_name;
+use rule_classes::lift_name;
 use rule_text::{TextFault, fault_kind};
 use std::alloc::{AllocError, Global};
 use tail_config::TailFault;
@@ -42,30 +44,6 @@ pub fn operand_fault_output(
 {
     let kind = fault_kind(alloc, fault)?;
     Output::line(alloc, &format!(in alloc; "rule fault {operand} {kind}")?)
-}
-
-/// The name of why rules make no rule.
-pub fn algebra_name(fault: AlgebraFault) -> &'static str
-    ensures { result.now ≡ algebra_text fault }
-{
-    match fault {
-        AlgebraFault::States => "states",
-        AlgebraFault::NotPermutation => "permutation",
-        AlgebraFault::Width => "width",
-        AlgebraFault::Nodes => "nodes",
-        AlgebraFault::Offset => "offset",
-    }
-}
-
-/// The name of why a rule has no lift.
-pub fn lift_name(fault: LiftFault) -> &'static str
-    ensures { result.now ≡ lift_text fault }
-{
-    match fault {
-        LiftFault::States => "states",
-        LiftFault::Nodes => "nodes",
-        LiftFault::Centre => "centre",
-    }
 }
 
 /// Why three parts make no configuration.

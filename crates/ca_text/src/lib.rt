@@ -5,8 +5,7 @@
 //! the eight lines of a report, the four of an inverse map, the seven of counts, and an eighth where classes are counted,
 //! an automaton's two and one for each class, a certificate as it is, and otherwise one line. Of a cause for which nothing
 //! fits, an operand with a fault, a refused certificate, an input that is too long, and words that are no command it is
-//! one line, and of an accepted certificate seven, and an eighth where a letter doesn't weigh its own value. Other forms
-//! of a reply name a cause as its line does, by [`algebra_name`] and its neighbours.
+//! one line, and of an accepted certificate seven, and an eighth where a letter doesn't weigh its own value.
 //!
 //! A word is written with a hexadecimal digit for each letter, so only what has letters below 16 can be written. Each
 //! right finding about accepted rules has, which is the law `right_findings_are_writable` of ca_findings.
@@ -26,7 +25,5 @@ mod report;
 mod texts;
 mod verdicts;
 
-pub use faults::{algebra_name, lift_name};
 pub use output::Output;
 pub use replies::reply_text;
-pub use verdicts::{key_name, side_name, split_name, twin_name};

@@ -10,7 +10,7 @@ use crate::output::Output;
 use crate::texts::text;
 use crate::verdicts::{refused_output, write_accepted};
 use ca_findings::Reply;
-use cert_check::Verdicts;
+use cert_conditions::Verdicts;
 use std::alloc::{AllocError, Global};
 
 /// What is written of a reply: of a finding its text, and otherwise a line, or the seven or eight of a certificate that

@@ -5,10 +5,11 @@ ghost use Rattle.std.specs.Fmt.{decimal};
 ghost use Rattle.rule_text.specs.PrintedRules.{printed_rule};
 ghost use Rattle.ca_text.specs.Reports.{line};
 ghost use Rattle.rule_text.specs.FaultTexts.{fault_text};
-ghost use Rattle.ca_text.specs.StatusLines.{accepted_lines, weights_lines, verdict_line, refused_line, refusal_text, shape_text, key_text, side_text, twin_text, split_text};
+ghost use Rattle.ca_text.specs.StatusLines.{accepted_lines, weights_lines, verdict_line, refused_line, refusal_text, shape_text};
+ghost use Rattle.cert_conditions.specs.RefusalTexts.{key_text, side_text, twin_text, split_text};
 
 use crate::output::Output;
-use cert_check::{Refusal, SplitCause, TwinCause, Verdicts};
+use cert_conditions::{Refusal, SplitCause, TwinCause, Verdicts, key_name, side_name, split_name, twin_name};
 use cert_format::{Key, ShapeFault};
 use rule_text::{TextFault, fault_kind, print};
 use std::alloc::{AllocError, Global};
@@ -185,55 +186,4 @@ fn split_words(alloc: Global, side: Side, cause: SplitCause) -> Result<String, A
     let side = side_name(side);
     let cause = split_name(cause);
     format!(in alloc; "split {side} {cause}")
-}
-
-/// The name of the part that has no right shape.
-pub fn key_name(key: Key) -> &'static str
-    ensures { result.now ≡ key_text key }
-{
-    match key {
-        Key::Top => "top",
-        Key::Version => "version",
-        Key::Rule => "rule",
-        Key::Surjective => "surjective",
-        Key::Injective => "injective",
-        Key::Right => "right",
-        Key::Left => "left",
-        Key::Conserving => "conserving",
-        Key::Weights => "weights",
-        Key::Ranks => "ranks",
-        Key::Unknown => "unknown",
-    }
-}
-
-/// The name of a side.
-pub fn side_name(side: Side) -> &'static str
-    ensures { result.now ≡ side_text side }
-{
-    match side {
-        Side::Right => "right",
-        Side::Left => "left",
-    }
-}
-
-/// The name of why two words are no twins.
-pub fn twin_name(cause: TwinCause) -> &'static str
-    ensures { result.now ≡ twin_text cause }
-{
-    match cause {
-        TwinCause::Length => "length",
-        TwinCause::Same => "same",
-        TwinCause::Image => "image",
-    }
-}
-
-/// The name of why two configurations are no split.
-pub fn split_name(cause: SplitCause) -> &'static str
-    ensures { result.now ≡ split_text cause }
-{
-    match cause {
-        SplitCause::Same => "same",
-        SplitCause::Apart => "apart",
-        SplitCause::Image => "image",
-    }
 }

@@ -1,11 +1,11 @@
 -- What a check answers: of one condition, and of something that is asked of each number.
 use Rattle.std.specs.Prelude.{Result, MatchResult, ℕ, Option, MatchOption}
 use Rattle.cert_format.specs.Certificates.{Certificate}
-use Rattle.cert_check.specs.declared.conditions.Condition.{Condition}
-use Rattle.cert_check.specs.declared.refusal.Refusal.{Refusal}
-use Rattle.cert_check.specs.Conditions.{Holds}
-use Rattle.cert_check.specs.Refusals.{IsBreach}
-use Rattle.cert_check.specs.Breaches.{EachBelow, IsFirstBreach}
+use Rattle.cert_conditions.specs.declared.condition.Condition.{Condition}
+use Rattle.cert_conditions.specs.declared.refusal.Refusal.{Refusal}
+use Rattle.cert_conditions.specs.Conditions.{Holds}
+use Rattle.cert_conditions.specs.Refusals.{IsBreach}
+use Rattle.cert_conditions.specs.Breaches.{EachBelow, IsFirstBreach}
 
 -- what the check of one condition answers: it is met, or this is said of it
 abbrev pub IsChecked : Certificate → Condition → Result Unit Refusal → Type 0

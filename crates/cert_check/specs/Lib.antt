@@ -1,13 +1,3 @@
-pub mod Breaches
-pub mod Claims
 pub mod SideWindows
-pub mod Sets
 pub mod Rows
-pub mod Pairs
-pub mod Sides
-pub mod Sums
-pub mod Conditions
-pub mod CertificateVersions
-pub mod Refusals
 pub mod Checks
-pub mod Accepted

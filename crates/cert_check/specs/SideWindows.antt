@@ -3,7 +3,7 @@ use Rattle.std.specs.Prelude.{◌≡◌, ℕ, List, Option, Some, ◌-◌, ◌/�
 use Rattle.word_image.specs.LocalRules.{LocalRule}
 use Rattle.word_image.specs.Graphs.{follow_on}
 use Rattle.word_image.specs.declared.side.Side.{Side}
-use Rattle.cert_check.specs.Claims.{IsBelow}
+use Rattle.cert_conditions.specs.Claims.{IsBelow}
 use Rattle.word_image.specs.declared.side.Side.TheVariants.{Right, Left}
 
 -- where a pair leads to a pair on two letters, less than n is claimed of that one

@@ -7,13 +7,12 @@ ghost use Rattle.word_image.specs.Ends.{label_at};
 ghost use Rattle.word_image.specs.FirstPairs.{IsFirstOf};
 ghost use Rattle.cert_format.specs.Certificates.{IsSideShape};
 ghost use Rattle.cert_format.specs.Parts.{side_of, IsOver};
-ghost use Rattle.cert_check.specs.Sides.{evidence_on};
+ghost use Rattle.cert_conditions.specs.Sides.{evidence_on};
 ghost use Rattle.cert_check.specs.SideWindows.{rest_of};
-ghost use Rattle.cert_check.specs.Claims.{IsAheadPair};
+ghost use Rattle.cert_conditions.specs.Claims.{IsAheadPair};
 
 use crate::claims::{claims_below, claims_on};
-use crate::conditions::Condition;
-use crate::refusal::Refusal;
+use cert_conditions::{Condition, Refusal};
 use cert_format::{Cert, SidePart};
 use word_image::{Rule, Side};
 

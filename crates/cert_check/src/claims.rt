@@ -2,14 +2,13 @@
 
 ghost use Rattle.std.specs.Prelude.{◌≡◌, ◌↔◌, ◌<◌, length, IsTrue};
 ghost use Rattle.word_image.specs.Graphs.{pair_count};
-ghost use Rattle.cert_check.specs.Sides.{claims_on};
-ghost use Rattle.cert_check.specs.Breaches.{EachBelow};
+ghost use Rattle.cert_conditions.specs.Sides.{claims_on};
+ghost use Rattle.cert_conditions.specs.Breaches.{EachBelow};
 ghost use Rattle.cert_check.specs.Checks.{IsChecked, FirstBreach};
-ghost use Rattle.cert_check.specs.Claims.{claim, IsBelow, Falls};
+ghost use Rattle.cert_conditions.specs.Claims.{claim, IsBelow, Falls};
 ghost use Rattle.cert_check.specs.SideWindows.{FallsBy};
 
-use crate::conditions::Condition;
-use crate::refusal::Refusal;
+use cert_conditions::{Condition, Refusal};
 use cert_format::Cert;
 use word_image::{Rule, Side};
 

@@ -1,56 +1,22 @@
 //! The conditions on a certificate, in their order.
 
 ghost use Rattle.std.specs.Prelude.{MatchResult};
-ghost use Rattle.cert_check.specs.Conditions.{MeetsConditions};
-ghost use Rattle.cert_check.specs.Refusals.{IsFirstUnmet};
+ghost use Rattle.cert_conditions.specs.Conditions.{MeetsConditions};
+ghost use Rattle.cert_conditions.specs.Refusals.{IsFirstUnmet};
 ghost use Rattle.cert_check.specs.Checks.{IsChecked};
 
 use crate::aheads::side_ahead;
 use crate::claims::side_claims;
 use crate::orphans::orphan_read;
 use crate::pairs::{firsts_listed, off_diagonal, pairs_closed};
-use crate::refusal::Refusal;
 use crate::sets::{closed, full_listed, none_empty};
 use crate::splits::side_split;
 use crate::sums::{flux_flows, ring_lossy};
 use crate::twins::twins_alike;
 use crate::windows::window_claims;
+use cert_conditions::{Condition, Refusal};
 use cert_format::Cert;
 use word_image::Side;
-
-/// What is asked of a certificate, most of it of evidence of one kind alone.
-#[derive(Clone, Copy, Debug)]
-pub enum Condition {
-    /// What is claimed of a pair is more than what is claimed of each pair to which it leads on, on this
-    /// side.
-    SideClaims(Side),
-    /// The full set is listed.
-    FullListed,
-    /// No listed set is empty.
-    NoneEmpty,
-    /// Each step of a listed set is listed, or from version 2 on contains a listed set.
-    Closed,
-    /// Each first pair of the right is listed.
-    FirstsListed,
-    /// No listed pair has two equal nodes.
-    OffDiagonal,
-    /// Each pair to which a listed pair leads is listed.
-    PairsClosed,
-    /// The orphan leads from the full set to the empty one.
-    OrphanRead,
-    /// The claims determine the letter of the window.
-    WindowClaims,
-    /// The twins have one length and differ, and their rings have one image.
-    TwinsAlike,
-    /// The claims of the first pairs of this side are less than the look-ahead allows.
-    SideAhead(Side),
-    /// The configurations differ, agree on the other side and share an image.
-    SideSplit(Side),
-    /// The flux balances what each window gains.
-    FluxFlows,
-    /// The ring has letters, and its image has another sum.
-    RingLossy,
-}
 
 /// All of them, the one that is checked first at the front.
 const CONDITIONS: [Condition; 17] = [

@@ -1,12 +1,11 @@
 //! From bytes to verdicts.
 
 ghost use Rattle.std.specs.Prelude.{◌≡◌, ◌⊎◌, Ok, Err, alloc_error, IfOk, IfErr};
-ghost use Rattle.cert_check.specs.Accepted.{IsAccepted, AreTrue};
-ghost use Rattle.cert_check.specs.Refusals.{IsRefusal};
+ghost use Rattle.cert_conditions.specs.Accepted.{IsAccepted, AreTrue};
+ghost use Rattle.cert_conditions.specs.Refusals.{IsRefusal};
 
 use crate::conditions::check_all;
-use crate::refusal::Refusal;
-use crate::verdicts::Verdicts;
+use cert_conditions::{Refusal, Verdicts};
 use cert_format::{CertFault, from_bytes};
 use std::alloc::Global;
 

@@ -2,7 +2,7 @@
 
 ghost use Rattle.std.specs.Prelude.{◌≡◌, ◌+◌, ◌<◌, ◌↔◌, ◌⊎◌, ℕ, IsTrue};
 ghost use Rattle.word_image.specs.LocalRules.{most_nodes};
-ghost use Rattle.cert_check.specs.Sets.{HasPart};
+ghost use Rattle.cert_conditions.specs.Sets.{HasPart};
 ghost use Rattle.cert_check.specs.Rows.{IsMarked, AreMarked, AreKept, without};
 
 use cert_format::CertVersion;

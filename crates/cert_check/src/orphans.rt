@@ -2,11 +2,10 @@
 
 ghost use Rattle.word_image.specs.LocalRules.{IsWord};
 ghost use Rattle.word_image.specs.Graphs.{full_set};
-ghost use Rattle.cert_check.specs.Sets.{LeadsTo};
+ghost use Rattle.cert_conditions.specs.Sets.{LeadsTo};
 ghost use Rattle.cert_check.specs.Checks.{IsChecked};
 
-use crate::conditions::Condition;
-use crate::refusal::Refusal;
+use cert_conditions::{Condition, Refusal};
 use cert_format::{Cert, SurjectivePart};
 use word_image::{Rule, Side, edge_rows, step};
 

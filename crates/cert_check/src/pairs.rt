@@ -2,15 +2,14 @@
 
 ghost use Rattle.std.specs.Prelude.{◌≢◌, ◌<◌, ℕ, List, length, slice_index, All, IsTrue, ◌↔◌, MatchOption};
 ghost use Rattle.word_image.specs.Graphs.{first_of, second_of, follow, pair_count};
-ghost use Rattle.cert_check.specs.Breaches.{EachBelow, IsFirstBreach};
-ghost use Rattle.cert_check.specs.Pairs.{FirstIsListed, StepIsListed, StepsAreListed, IsFirstLeaving};
+ghost use Rattle.cert_conditions.specs.Breaches.{EachBelow, IsFirstBreach};
+ghost use Rattle.cert_conditions.specs.Pairs.{FirstIsListed, StepIsListed, StepsAreListed, IsFirstLeaving};
 ghost use Rattle.cert_check.specs.Rows.{AreMarked};
 ghost use Rattle.cert_check.specs.Checks.{IsChecked, FirstBreach};
 
 use crate::aheads::is_first;
-use crate::conditions::Condition;
 use crate::marks::Marks;
-use crate::refusal::Refusal;
+use cert_conditions::{Condition, Refusal};
 use cert_format::{Cert, SurjectivePart};
 use word_image::{Rule, Side};
 

@@ -3,14 +3,13 @@
 ghost use Rattle.std.specs.Prelude.{◌≢◌, ◌<◌, ℕ, List, length, slice_index, MatchOption, ◌↔◌, IsTrue};
 ghost use Rattle.word_image.specs.Graphs.{full_set};
 ghost use Rattle.word_image.specs.Edges.{AreEdgeRows};
-ghost use Rattle.cert_check.specs.Breaches.{EachBelow, IsFirstBreach};
-ghost use Rattle.cert_check.specs.Sets.{HasPart, IsKept, StepIsKept};
+ghost use Rattle.cert_conditions.specs.Breaches.{EachBelow, IsFirstBreach};
+ghost use Rattle.cert_conditions.specs.Sets.{HasPart, IsKept, StepIsKept};
 ghost use Rattle.cert_check.specs.Rows.{AreKept};
 ghost use Rattle.cert_check.specs.Checks.{IsChecked, FirstBreach};
 
-use crate::conditions::Condition;
 use crate::marks::Marks;
-use crate::refusal::Refusal;
+use cert_conditions::{Condition, Refusal};
 use cert_format::{Cert, CertVersion, SurjectivePart};
 use word_image::{EdgeRows, Rule, Side, edge_rows, step};
 

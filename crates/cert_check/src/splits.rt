@@ -2,13 +2,12 @@
 
 ghost use Rattle.std.specs.Prelude.{◌≡◌, ◌↔◌, IsTrue, MatchOption};
 ghost use Rattle.tail_config.specs.Tails.{Different, ShareImage};
-ghost use Rattle.cert_check.specs.Refusals.{IsSplitBreach};
+ghost use Rattle.cert_conditions.specs.Refusals.{IsSplitBreach};
 ghost use Rattle.cert_check.specs.Checks.{IsChecked};
-ghost use Rattle.cert_check.specs.Sides.{AgreeBehind};
+ghost use Rattle.cert_conditions.specs.Sides.{AgreeBehind};
 
 use crate::aheads::part_on;
-use crate::conditions::Condition;
-use crate::refusal::{Refusal, SplitCause};
+use cert_conditions::{Condition, Refusal, SplitCause};
 use cert_format::{Cert, SidePart};
 use tail_config::{Tail, agree_left, agree_right, differ, share};
 use word_image::{Rule, Side};

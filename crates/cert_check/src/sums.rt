@@ -3,10 +3,9 @@
 ghost use Rattle.std.specs.Prelude.{◌≡◌, ◌↔◌, ◌^◌, ◌<◌, length, slice_index, IsTrue};
 ghost use Rattle.word_image.specs.LocalRules.{node_count, word_of};
 ghost use Rattle.cert_check.specs.Checks.{IsChecked, FirstBreach};
-ghost use Rattle.cert_check.specs.Sums.{Flows};
+ghost use Rattle.cert_conditions.specs.Sums.{Flows};
 
-use crate::conditions::Condition;
-use crate::refusal::Refusal;
+use cert_conditions::{Condition, Refusal};
 use cert_format::{Cert, SumPart};
 use word_image::{Rule, Side, Weights, keeps_sum};
 

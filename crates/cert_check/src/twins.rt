@@ -3,11 +3,10 @@
 ghost use Rattle.std.specs.Prelude.{◌≡◌, ◌≢◌, ◌↔◌, ◌≤◌, length, IsTrue, MatchOption};
 ghost use Rattle.word_image.specs.LocalRules.{IsWord};
 ghost use Rattle.word_image.specs.Rings.{IsRing, ring_image};
-ghost use Rattle.cert_check.specs.Refusals.{IsTwinsBreach};
+ghost use Rattle.cert_conditions.specs.Refusals.{IsTwinsBreach};
 ghost use Rattle.cert_check.specs.Checks.{IsChecked};
 
-use crate::conditions::Condition;
-use crate::refusal::{Refusal, TwinCause};
+use cert_conditions::{Condition, Refusal, TwinCause};
 use cert_format::{Cert, InjectivePart};
 use word_image::{Rule, ring_apply};
 

@@ -3,11 +3,10 @@
 ghost use Rattle.std.specs.Prelude.{◌≡◌, ◌↔◌, ◌+◌, ◌-◌, ◌<◌, ◌≤◌, length, IsTrue};
 ghost use Rattle.word_image.specs.Graphs.{pair_count};
 ghost use Rattle.cert_check.specs.Checks.{IsChecked, FirstBreach};
-ghost use Rattle.cert_check.specs.Claims.{IsWindowPair};
+ghost use Rattle.cert_conditions.specs.Claims.{IsWindowPair};
 
 use crate::claims::{claims_below, claims_on};
-use crate::conditions::Condition;
-use crate::refusal::Refusal;
+use cert_conditions::{Condition, Refusal};
 use cert_format::{Cert, InjectivePart};
 use word_image::{Rule, Side};
 

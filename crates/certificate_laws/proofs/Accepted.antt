@@ -7,7 +7,7 @@ use Rattle.cert_format.specs.Versions.{names_weights}
 use Rattle.cert_format.specs.Certificates.{Certificate}
 use Rattle.cert_format.specs.CertificateTexts.{IsCertificateText}
 use Rattle.cert_format.specs.WrittenTexts.{certificate_text}
-use Rattle.cert_check.specs.Accepted.{IsAccepted, verdicts_of}
+use Rattle.cert_conditions.specs.Accepted.{IsAccepted, verdicts_of}
 use Rattle.certificate_laws.specs.WrittenCertificates.{HasWrittenParts, IsWritten}
 use Rattle.certificate_laws.proofs.MetConditions.{MeetsConditions-written}
 use Rattle.certificate_laws.proofs.ShortTexts.{short-written}

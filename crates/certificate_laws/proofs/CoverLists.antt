@@ -7,7 +7,7 @@ use Rattle.std.proofs.lemmas.Nat.{and_le_r}
 use Rattle.std.proofs.lemmas.List.Elements.{All-filter, All-contains_itself}
 use Rattle.cert_format.proofs.laws.Objects.{some_passes}
 use Rattle.word_image.specs.Families.{is_subset, is_cover, covers_of}
-use Rattle.cert_check.proofs.laws.Parts.{part-of_part}
+use Rattle.cert_conditions.proofs.laws.Parts.{part-of_part}
 
 -- what is contained is contained where something may stand before
 Contains-cond : {X : Type 0} (b : Bool) (y : X) (zs : List X) (x : X) → Contains zs x → Contains (cond b (y ∷ zs) zs) x

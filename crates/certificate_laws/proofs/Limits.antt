@@ -29,7 +29,7 @@ use Rattle.cert_format.specs.Evidence.InjectiveEvidence.{Window, Twins}
 use Rattle.cert_format.specs.Evidence.SideEvidence.{Ahead}
 use Rattle.cert_format.specs.Evidence.SumEvidence.{Flux, Ring}
 use Rattle.cert_format.specs.Versions.{lists_pairs}
-use Rattle.cert_check.proofs.laws.ExactEvidence.{Contains-full}
+use Rattle.cert_conditions.proofs.laws.ExactEvidence.{Contains-full}
 use Rattle.certificate_laws.specs.LeastEvidence.{IsOrphanPart, IsInjectivePart, IsConservingPart}
 use Rattle.certificate_laws.specs.WrittenCertificates.{orphan_of, IsListPart, IsRankRow}
 use Rattle.certificate_laws.proofs.MetConditions.{AreLastSets-family}

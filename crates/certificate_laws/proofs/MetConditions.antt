@@ -21,16 +21,16 @@ use Rattle.cert_format.specs.Evidence.SurjectiveEvidence.{Sets, Pairs, Orphan}
 use Rattle.cert_format.specs.Evidence.InjectiveEvidence.{Window, Twins}
 use Rattle.cert_format.specs.Evidence.SideEvidence.{Ahead, Split}
 use Rattle.cert_format.specs.Evidence.SumEvidence.{Flux, Ring}
-use Rattle.cert_check.specs.declared.conditions.Condition.TheVariants.{SideClaims, FullListed, NoneEmpty, Closed, FirstsListed, OffDiagonal, PairsClosed, OrphanRead, WindowClaims, TwinsAlike, SideAhead, SideSplit, FluxFlows, RingLossy}
-use Rattle.cert_check.specs.Breaches.{EachBelow}
-use Rattle.cert_check.specs.Sets.{StepIsKept, LeadsTo}
-use Rattle.cert_check.specs.Pairs.{FirstIsListed, StepsAreListed}
-use Rattle.cert_check.specs.Claims.{IsWindowPair, IsAheadPair}
-use Rattle.cert_check.specs.Sums.{Flows, IsLossy}
-use Rattle.cert_check.specs.Conditions.{MeetsConditions, OfSets, OfPairs, OfOrphan, OfWindow, OfTwins, OfAhead, OfSplit, OfFlux, OfRing}
-use Rattle.cert_check.proofs.laws.StepConditions.{at_listed}
-use Rattle.cert_check.proofs.laws.ClaimConditions.{AreSplit, AreAlike}
-use Rattle.cert_check.proofs.laws.ExactEvidence.{AreLastSets, Contains-full, nonempty-last_sets, StepIsKept-last_sets, LeadsTo-orphan, AllFall-ranks, IsWindowPair-determined, IsAheadPair-ranks, AreAlike-twins, AreSplit-right, AreSplit-left, Flows-exact, IsLossy-ring}
+use Rattle.cert_conditions.specs.declared.condition.Condition.TheVariants.{SideClaims, FullListed, NoneEmpty, Closed, FirstsListed, OffDiagonal, PairsClosed, OrphanRead, WindowClaims, TwinsAlike, SideAhead, SideSplit, FluxFlows, RingLossy}
+use Rattle.cert_conditions.specs.Breaches.{EachBelow}
+use Rattle.cert_conditions.specs.Sets.{StepIsKept, LeadsTo}
+use Rattle.cert_conditions.specs.Pairs.{FirstIsListed, StepsAreListed}
+use Rattle.cert_conditions.specs.Claims.{IsWindowPair, IsAheadPair}
+use Rattle.cert_conditions.specs.Sums.{Flows, IsLossy}
+use Rattle.cert_conditions.specs.Conditions.{MeetsConditions, OfSets, OfPairs, OfOrphan, OfWindow, OfTwins, OfAhead, OfSplit, OfFlux, OfRing}
+use Rattle.cert_conditions.proofs.laws.StepConditions.{at_listed}
+use Rattle.cert_conditions.proofs.laws.ClaimConditions.{AreSplit, AreAlike}
+use Rattle.cert_conditions.proofs.laws.ExactEvidence.{AreLastSets, Contains-full, nonempty-last_sets, StepIsKept-last_sets, LeadsTo-orphan, AllFall-ranks, IsWindowPair-determined, IsAheadPair-ranks, AreAlike-twins, AreSplit-right, AreSplit-left, Flows-exact, IsLossy-ring}
 use Rattle.certificate_laws.proofs.CoverLists.{Contains-covers, HasCover-listed}
 use Rattle.certificate_laws.proofs.PairLists.{pair_list-met}
 use Rattle.certificate_laws.specs.LeastEvidence.{IsOrphanPart, IsInjectivePart, IsRightPart, IsLeftPart, IsConservingPart}

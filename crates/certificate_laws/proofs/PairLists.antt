@@ -10,8 +10,8 @@ use Rattle.word_image.specs.LocalRules.{LocalRule, IsRule}
 use Rattle.word_image.specs.Graphs.{first_of, second_of, pair_count}
 use Rattle.word_image.specs.PairLists.{IsPairList}
 use Rattle.eden_laws.proofs.ReachedPairs.{IsReached-below}
-use Rattle.cert_check.specs.Breaches.{EachBelow}
-use Rattle.cert_check.specs.Pairs.{FirstIsListed, StepsAreListed}
+use Rattle.cert_conditions.specs.Breaches.{EachBelow}
+use Rattle.cert_conditions.specs.Pairs.{FirstIsListed, StepsAreListed}
 use Rattle.eden_laws.specs.ReachedPairs.{AreReached}
 
 -- a pair list meets the conditions

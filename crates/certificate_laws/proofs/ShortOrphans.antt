@@ -6,8 +6,8 @@ use Rattle.word_image.specs.Words.{IsLeastOrphan}
 use Rattle.word_image.specs.Graphs.{full_set}
 use Rattle.word_image.specs.Edges.{IsStep}
 use Rattle.search_laws.proofs.Walks.{Walk-shortened}
-use Rattle.cert_check.proofs.laws.StepConditions.{IsOrphan-read}
-use Rattle.cert_check.proofs.laws.ExactEvidence.{LeadsTo-orphan}
+use Rattle.cert_conditions.proofs.laws.StepConditions.{IsOrphan-read}
+use Rattle.cert_conditions.proofs.laws.ExactEvidence.{LeadsTo-orphan}
 use Rattle.certificate_laws.proofs.LongerWords.{word_cmp-longer}
 
 -- so it has at most 65,536 letters

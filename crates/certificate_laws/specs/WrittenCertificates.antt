@@ -10,7 +10,7 @@ use Rattle.cert_format.specs.declared.cert_version.CertVersion.TheVariants.{Two,
 use Rattle.cert_format.specs.Evidence.{SurjectiveEvidence, Sets, Pairs, Orphan}
 use Rattle.cert_format.specs.Certificates.{Certificate}
 use Rattle.cert_format.specs.WrittenTexts.{certificate_text}
-use Rattle.cert_check.specs.Accepted.{IsAccepted, verdicts_of}
+use Rattle.cert_conditions.specs.Accepted.{IsAccepted, verdicts_of}
 use Rattle.certificate_laws.specs.LeastEvidence.{IsLeastEvidence}
 use Rattle.eden_laws.specs.ReachedPairs.{AreReached}
 

@@ -4,3 +4,4 @@ pub mod AlgebraFaults
 pub mod Tabulated
 pub mod Tables
 pub mod Examples
+pub mod FaultTexts

@@ -3,6 +3,7 @@ ghost use Rattle.std.specs.Prelude.{◌≡◌, ◌≤◌, IfOk};
 ghost use Rattle.std.specs.Result.{result_err};
 ghost use Rattle.word_image.specs.LocalRules.{most_states};
 ghost use Rattle.rule_algebra.specs.AlgebraFaults.{offset_fault, limit_fault};
+ghost use Rattle.rule_algebra.specs.FaultTexts.{algebra_text};
 
 use word_image::{MOST_NODES, MOST_WIDTH};
 
@@ -48,4 +49,17 @@ pub(crate) fn check_limits(k: u8, m: u8, o: i16) -> Result<i8, AlgebraFault>
         return Err(AlgebraFault::Nodes);
     }
     check_offset(m, o)
+}
+
+/// The word for a fault.
+pub fn algebra_name(fault: AlgebraFault) -> &'static str
+    ensures { result.now ≡ algebra_text fault }
+{
+    match fault {
+        AlgebraFault::States => "states",
+        AlgebraFault::NotPermutation => "permutation",
+        AlgebraFault::Width => "width",
+        AlgebraFault::Nodes => "nodes",
+        AlgebraFault::Offset => "offset",
+    }
 }

@@ -27,7 +27,7 @@ mod trimming;
 mod widening;
 
 pub use compositions::compose;
-pub use fault::AlgebraFault;
+pub use fault::{AlgebraFault, algebra_name};
 pub use recolouring::permute;
 pub use shifts::shift;
 pub use trimming::trim;

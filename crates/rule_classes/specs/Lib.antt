@@ -6,3 +6,4 @@ pub mod Best
 pub mod Lifts
 pub mod UndoneRules
 pub mod Examples
+pub mod FaultTexts

@@ -32,4 +32,4 @@ mod members;
 mod search;
 
 pub use classes::{ClassFault, ClassPlace, class_of, one_least_of_class};
-pub use lifts::{LiftFault, lift, unlift};
+pub use lifts::{LiftFault, lift, lift_name, unlift};

@@ -3,8 +3,8 @@ use Rattle.std.specs.Prelude.{ℕ, ◌+◌, ◌*◌, ◌&&◌, List, pos}
 use Rattle.std.specs.Int.{from_bool}
 use Rattle.word_image.specs.LocalRules.{LocalRule}
 use Rattle.word_image.specs.Weights.{own_weights}
-use Rattle.cert_check.specs.declared.verdicts.Verdicts.{Verdicts}
-use Rattle.cert_check.specs.Accepted.{AreTrue}
+use Rattle.cert_conditions.specs.declared.verdicts.Verdicts.{Verdicts}
+use Rattle.cert_conditions.specs.Accepted.{AreTrue}
 use Rattle.rule_verdicts.specs.declared.truths.Truths.{Truths}
 
 -- the rule of k states, width m and offset 0 with this table

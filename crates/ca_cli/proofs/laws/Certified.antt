@@ -5,9 +5,9 @@ use Rattle.word_image.specs.LocalRules.{LocalRule}
 use Rattle.cert_format.specs.declared.cert_version.CertVersion.{CertVersion}
 use Rattle.cert_format.specs.Certificates.{Certificate}
 use Rattle.cert_format.specs.WrittenTexts.{certificate_text}
-use Rattle.cert_check.specs.Accepted.{IsAccepted, AreTrue, verdicts_of}
-use Rattle.cert_check.specs.declared.verdicts.Verdicts.{Verdicts}
-use Rattle.cert_check.proofs.laws.Soundness.{AreTrue-accepted}
+use Rattle.cert_conditions.specs.Accepted.{IsAccepted, AreTrue, verdicts_of}
+use Rattle.cert_conditions.specs.declared.verdicts.Verdicts.{Verdicts}
+use Rattle.cert_conditions.proofs.laws.Soundness.{AreTrue-accepted}
 use Rattle.certificate_laws.specs.WrittenCertificates.{IsWritten}
 use Rattle.ca_words.specs.Commands.{Command, IsCommand, check_command, words_of}
 use Rattle.ca_findings.specs.Questions.{Question}

@@ -2,8 +2,8 @@
 use Rattle.std.proofs.Common.{◌≡◌, ◌≢◌, ℕ, ◌≤◌, List, [], length, refl, sym, ap, ◌∙◌, subst, arith}
 use Rattle.std.specs.Prelude.{Option, Some}
 use Rattle.rule_text.specs.declared.text_fault.TextFault.{TextFault}
-use Rattle.cert_check.specs.Accepted.{IsAccepted}
-use Rattle.cert_check.specs.Refusals.{IsRefusal}
+use Rattle.cert_conditions.specs.Accepted.{IsAccepted}
+use Rattle.cert_conditions.specs.Refusals.{IsRefusal}
 use Rattle.ca_words.specs.Commands.{Command, IsCommand}
 use Rattle.ca_findings.specs.Replies.{Reply}
 use Rattle.ca_cli.specs.declared.status.Status.{Status}

@@ -9,9 +9,9 @@ use Rattle.tail_config.specs.InverseMaps.{WindowMap}
 use Rattle.image_minimal.specs.ImageLanguages.{Automaton}
 use Rattle.cert_format.specs.declared.shape_fault.ShapeFault.{ShapeFault}
 use Rattle.cert_format.specs.declared.shape_fault.ShapeFault.TheVariants as shape
-use Rattle.cert_check.specs.declared.refusal.Refusal.{Refusal}
-use Rattle.cert_check.specs.declared.refusal.Refusal.TheVariants as refusal
-use Rattle.cert_check.specs.declared.verdicts.Verdicts.{Verdicts}
+use Rattle.cert_conditions.specs.declared.refusal.Refusal.{Refusal}
+use Rattle.cert_conditions.specs.declared.refusal.Refusal.TheVariants as refusal
+use Rattle.cert_conditions.specs.declared.verdicts.Verdicts.{Verdicts}
 use Rattle.cert_format.specs.Evidence.{InjectiveEvidence, SideEvidence, SumEvidence}
 use Rattle.cert_format.specs.Evidence.InjectiveEvidence.{Window, Twins}
 use Rattle.cert_format.specs.Evidence.SideEvidence.{Ahead, Split}

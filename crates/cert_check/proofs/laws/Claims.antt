@@ -5,8 +5,8 @@ use Rattle.word_image.specs.LocalRules.{LocalRule, IsRule}
 use Rattle.word_image.specs.Graphs.{pair_count}
 use Rattle.word_image.specs.declared.side.Side.{Side}
 use Rattle.pair_laws.proofs.BackSteps.{LeadsOn-follows}
-use Rattle.cert_check.specs.Breaches.{EachBelow}
-use Rattle.cert_check.specs.Claims.{claim, IsBelow, Falls}
+use Rattle.cert_conditions.specs.Breaches.{EachBelow}
+use Rattle.cert_conditions.specs.Claims.{claim, IsBelow, Falls}
 use Rattle.cert_check.specs.SideWindows.{FallsBy}
 
 -- the claim of a pair falls exactly where it falls on all letters

@@ -6,13 +6,13 @@ use Rattle.cert_format.specs.ShapeFaults.{IsShapeFault}
 use Rattle.cert_format.specs.declared.shape_fault.ShapeFault.{ShapeFault}
 use Rattle.cert_format.specs.declared.shape_fault.CertFault.{CertFault}
 use Rattle.cert_format.specs.declared.shape_fault.CertFault.TheVariants as cert_fault
-use Rattle.cert_check.specs.declared.verdicts.Verdicts.{Verdicts}
-use Rattle.cert_check.specs.declared.refusal.Refusal.{Refusal}
-use Rattle.cert_check.specs.declared.refusal.Refusal.TheVariants as refusal
-use Rattle.cert_check.specs.Accepted.{IsAccepted, verdicts_of}
-use Rattle.cert_check.specs.Conditions.{MeetsConditions}
-use Rattle.cert_check.specs.Refusals.{IsRefusal, IsFirstUnmet}
-use Rattle.cert_check.specs.Refusals.IsRefusal.{NoShape, Unmet}
+use Rattle.cert_conditions.specs.declared.verdicts.Verdicts.{Verdicts}
+use Rattle.cert_conditions.specs.declared.refusal.Refusal.{Refusal}
+use Rattle.cert_conditions.specs.declared.refusal.Refusal.TheVariants as refusal
+use Rattle.cert_conditions.specs.Accepted.{IsAccepted, verdicts_of}
+use Rattle.cert_conditions.specs.Conditions.{MeetsConditions}
+use Rattle.cert_conditions.specs.Refusals.{IsRefusal, IsFirstUnmet}
+use Rattle.cert_conditions.specs.Refusals.IsRefusal.{NoShape, Unmet}
 
 -- each certificate of the bytes was read, unless memory was refused
 abbrev pub ReadsEach : List ℕ → Result Certificate CertFault → Type 0

@@ -3,15 +3,12 @@ use Rattle.std.proofs.Common.{◌≡◌, ℕ, ◌+◌, ◌*◌, ◌%◌, ◌^◌
 use Rattle.std.specs.Int.{bit_at, bit_not}
 use Rattle.std.specs.Int.Bits.{and_self}
 use Rattle.std.proofs.lemmas.Bool.{cases_eq}
-use Rattle.std.proofs.lemmas.Nat.{and_le_l, and_le_r, and_assoc}
+use Rattle.std.proofs.lemmas.Nat.{and_le_l, and_le_r}
 use Rattle.std.proofs.lemmas.Nat.Bits.{bit_at_and, bit_at-lt, bit_at_clear_same, bit_at_clear_other, same_from_bits, same_from_bits_below}
 use Rattle.pair_laws.proofs.Decisions.{differ_below}
-use Rattle.cert_check.specs.Sets.{HasPart}
+use Rattle.cert_conditions.specs.Sets.{HasPart}
+use Rattle.cert_conditions.proofs.laws.Parts.{part-of_part}
 use Rattle.cert_check.specs.Rows.{IsMarked, AreMarked, without}
-
--- a part of a part is a part
-pub part-of_part : (s t u : ℕ) → bit_and s t ≡ s → bit_and t u ≡ t → bit_and s u ≡ s
-part-of_part s t u first second = ap (λ n. bit_and n u) (sym first) ∙ and_assoc u s t ∙ ap (bit_and s) second ∙ first
 
 -- a set without a node is a part of it
 without-part : (s n : ℕ) → bit_and (without s n) s ≡ without s n

@@ -1,8 +1,8 @@
 use Rattle.std.proofs.Common.{◌≡◌, ◌+◌, ◌<◌, ◌≤◌, ℕ, List, length, inl, inr, sym, subst, arith}
 use Rattle.std.specs.Prelude.{◌≢◌, ◌⊎◌, alloc_error, Option, Result, Ok, Err, IfOk, MatchResult}
-use Rattle.cert_check.specs.Refusals.{IsRefusal}
-use Rattle.cert_check.specs.declared.refusal.Refusal.{Refusal}
-use Rattle.cert_check.specs.declared.refusal.Refusal.TheVariants as refusal
+use Rattle.cert_conditions.specs.Refusals.{IsRefusal}
+use Rattle.cert_conditions.specs.declared.refusal.Refusal.{Refusal}
+use Rattle.cert_conditions.specs.declared.refusal.Refusal.TheVariants as refusal
 use Rattle.ca_io.specs.declared.input.InputFault.{InputFault}
 use Rattle.ca_io.specs.declared.input.InputFault.TheVariants as fault
 use Rattle.ca_words.specs.declared.names.Name.TheVariants as name

@@ -5,11 +5,11 @@ use Rattle.word_image.specs.FirstPairs.{IsFirstOf}
 use Rattle.cert_format.specs.Certificates.{Certificate, IsSideShape}
 use Rattle.cert_format.specs.Parts.{side_of}
 use Rattle.cert_format.specs.declared.parts.SidePart.{SidePart}
-use Rattle.cert_check.specs.Breaches.{EachBelow, IsFirstBreach}
-use Rattle.cert_check.specs.Claims.{IsAheadPair}
-use Rattle.cert_check.specs.Sides.{claims_on}
-use Rattle.cert_check.specs.Conditions.{OfAhead}
-use Rattle.cert_check.specs.Refusals.IsBreach.{NoAhead}
+use Rattle.cert_conditions.specs.Breaches.{EachBelow, IsFirstBreach}
+use Rattle.cert_conditions.specs.Claims.{IsAheadPair}
+use Rattle.cert_conditions.specs.Sides.{claims_on}
+use Rattle.cert_conditions.specs.Conditions.{OfAhead}
+use Rattle.cert_conditions.specs.Refusals.IsBreach.{NoAhead}
 use Rattle.cert_check.proofs.aheads.side_ahead.Goals as goal
 
 pub first_too_far-requires-clause-row : goal.first_too_far-requires-clause-row

@@ -1,5 +1,5 @@
-use Rattle.cert_check.specs.Breaches.{EachBelow}
-use Rattle.cert_check.specs.Claims.{Falls}
+use Rattle.cert_conditions.specs.Breaches.{EachBelow}
+use Rattle.cert_conditions.specs.Claims.{Falls}
 use Rattle.cert_check.proofs.claims.first_rise.Given as goal
 
 -- the claims of the pairs so far fall

@@ -1,7 +1,7 @@
 use Rattle.std.proofs.Common.{subst, All, take_all}
 use Rattle.std.proofs.lemmas.Result.{err_from_is_err_and}
-use Rattle.cert_check.specs.Conditions.{conditions, Holds}
-use Rattle.cert_check.proofs.laws.Breaches.{IsFirstUnmet-at, All-more, MeetsConditions-all}
+use Rattle.cert_conditions.specs.Conditions.{conditions, Holds}
+use Rattle.cert_conditions.proofs.laws.Breaches.{IsFirstUnmet-at, All-more, MeetsConditions-all}
 use Rattle.cert_check.proofs.conditions.check_all.Goals as goal
 
 pub returns-in_err-check : goal.returns-in_err-check

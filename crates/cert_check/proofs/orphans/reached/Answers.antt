@@ -2,7 +2,7 @@ use Rattle.std.proofs.Common.{sym, subst, take}
 use Rattle.std.proofs.lemmas.List.{take_more}
 use Rattle.word_image.specs.Graphs.{full_set}
 use Rattle.word_image.specs.Edges.{IsStep}
-use Rattle.cert_check.specs.Sets.{LeadsTo}
+use Rattle.cert_conditions.specs.Sets.{LeadsTo}
 use Rattle.search_laws.proofs.Walks.{Walk-push}
 use Rattle.cert_check.proofs.orphans.reached.Goals as goal
 

@@ -1,5 +1,5 @@
-use Rattle.cert_check.specs.Breaches.{EachBelow}
-use Rattle.cert_check.specs.Sets.{StepIsKept}
+use Rattle.cert_conditions.specs.Breaches.{EachBelow}
+use Rattle.cert_conditions.specs.Sets.{StepIsKept}
 use Rattle.cert_check.proofs.sets.first_outside.Given as goal
 
 -- the steps so far are as they should be

@@ -2,7 +2,7 @@ use Rattle.std.proofs.Common.{◌≡◌, Option, None, Some, true, not, is_some,
 use Rattle.std.proofs.lemmas.Bool.{false≢true}
 use Rattle.tail_config.specs.Tails.{TailConfig, Different}
 use Rattle.tail_config.specs.Differences.{IsNearestDifference}
-use Rattle.cert_check.specs.Refusals.IsSplitBreach.{Same, Apart, Image}
+use Rattle.cert_conditions.specs.Refusals.IsSplitBreach.{Same, Apart, Image}
 use Rattle.cert_check.proofs.splits.lacks.Goals as goal
 
 -- configurations with a nearest difference are different

@@ -2,7 +2,7 @@ use Rattle.std.proofs.Common.{◌≡◌, ℕ, ◌/◌, ◌%◌, ◌-ℤ◌, ◌�
 use Rattle.std.proofs.lemmas.Int.{to_z-of_z}
 use Rattle.std.proofs.lemmas.Bool.Decides.{Decides-eqb}
 use Rattle.word_image.specs.LocalRules.{node_count}
-use Rattle.cert_check.proofs.laws.WindowFlows.{Flows-value}
+use Rattle.cert_conditions.proofs.laws.WindowFlows.{Flows-value}
 use Rattle.cert_check.proofs.sums.flows.Goals as goal
 
 -- the test of two numbers of 64 bits

@@ -3,10 +3,10 @@ use Rattle.std.proofs.lemmas.Bool.Decides.{Decides-eqb}
 use Rattle.cert_format.specs.Certificates.{Certificate}
 use Rattle.cert_format.specs.Evidence.SumEvidence.{Ring}
 use Rattle.cert_format.specs.Parts.{sum_of}
-use Rattle.cert_check.specs.declared.conditions.Condition.TheVariants.{RingLossy}
-use Rattle.cert_check.specs.declared.refusal.Refusal.TheVariants as refusal
-use Rattle.cert_check.specs.Refusals.{IsBreach}
-use Rattle.cert_check.specs.Refusals.IsBreach.{NoRing}
+use Rattle.cert_conditions.specs.declared.condition.Condition.TheVariants.{RingLossy}
+use Rattle.cert_conditions.specs.declared.refusal.Refusal.TheVariants as refusal
+use Rattle.cert_conditions.specs.Refusals.{IsBreach}
+use Rattle.cert_conditions.specs.Refusals.IsBreach.{NoRing}
 use Rattle.cert_check.proofs.sums.ring_lossy.Goals as goal
 use Rattle.cert_check.proofs.sums.ring_lossy.Goals.{then-is_empty-via-then-is_empty, then-is_empty-via-else-is_empty+then-keeps_sum}
 

@@ -1,5 +1,0 @@
-use Rattle.cert_check.proofs.laws.Soundness.{AreTrue-accepted}
-use Rattle.cert_check.proofs.theorems.accepted_is_true.Goals as goal
-
-pub returns : goal.returns
-returns c bytes v = AreTrue-accepted

@@ -1,0 +1,14 @@
+pub mod Steps
+pub mod Breaches
+pub mod OneBreach
+pub mod OneAnswer
+pub mod WindowFlows
+pub mod StepConditions
+pub mod PairConditions
+pub mod SurjectiveConditions
+pub mod ClaimConditions
+pub mod SumConditions
+pub mod Soundness
+pub mod Versions
+pub mod ExactEvidence
+pub mod Parts

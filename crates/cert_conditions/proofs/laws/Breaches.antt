@@ -1,0 +1,105 @@
+-- A breach of a condition says that the condition isn't met, and a certificate has at most one first breach.
+use Rattle.std.proofs.Common.{◌≡◌, ◌≢◌, sym, subst, List, length, take, drop, get_or, slice_index, ℕ, suc, ◌+◌, ◌<◌, ◌^◌, ◌≤◌, Contains, arith, All}
+use Rattle.std.proofs.lemmas.Option.{slice_get-get_or}
+use Rattle.std.proofs.lemmas.List.{take_more}
+use Rattle.std.proofs.lemmas.List.Elements.{All-push}
+use Rattle.word_image.specs.LocalRules.{LocalRule, word_of}
+use Rattle.word_image.specs.Rings.{ring_image}
+use Rattle.word_image.specs.Graphs.{full_set, first_of, second_of, pair_count}
+use Rattle.word_image.specs.declared.side.Side.TheVariants as side
+use Rattle.word_image.specs.FirstPairs.{IsFirstOf}
+use Rattle.word_image.proofs.laws.Places.{slice_get-cut}
+use Rattle.tail_config.specs.Tails.{TailConfig, Different, ShareImage}
+use Rattle.cert_format.specs.Certificates.{Certificate}
+use Rattle.cert_conditions.specs.declared.condition.Condition.{Condition}
+use Rattle.cert_conditions.specs.declared.condition.Condition.TheVariants as condition
+use Rattle.cert_conditions.specs.declared.refusal.TwinCause.{TwinCause}
+use Rattle.cert_conditions.specs.declared.refusal.SplitCause.{SplitCause}
+use Rattle.cert_conditions.specs.declared.refusal.Refusal.{Refusal}
+use Rattle.cert_conditions.specs.Breaches.{EachBelow, IsFirstBreach}
+use Rattle.cert_conditions.specs.Sets.{StepIsKept, LeadsTo}
+use Rattle.cert_conditions.specs.Pairs.{FirstIsListed, StepsAreListed}
+use Rattle.cert_conditions.specs.Claims.{IsWindowPair, IsAheadPair}
+use Rattle.cert_conditions.specs.Sides.{AgreeBehind, claims_on}
+use Rattle.cert_conditions.specs.Sums.{Flows, IsLossy}
+use Rattle.cert_conditions.specs.Conditions.{conditions, Holds, MeetsConditions, OfSets, OfPairs, OfOrphan, OfWindow, OfTwins, OfAhead, OfSplit, OfFlux, OfRing}
+use Rattle.cert_conditions.specs.Refusals.{IsBreach, IsTwinsBreach, IsSplitBreach, IsFirstUnmet}
+use Rattle.cert_conditions.specs.Refusals.IsBreach.{Rising, NoFull, Empty, NotClosed, NoFirst, Diagonal, Leaves, NoOrphan, NoWindow, NoTwins, NoAhead, NoSplit, NoFlux, NoRing}
+use Rattle.cert_conditions.specs.Refusals.IsTwinsBreach.{Length, Same as SameWords, Image as OtherRings}
+use Rattle.cert_conditions.specs.Refusals.IsSplitBreach.{Same as SameCells, Apart, Image as OtherImages}
+
+first_fails : {n i : ℕ} {P : ℕ → Type 0} → IsFirstBreach n P i → ¬ EachBelow n P
+first_fails {i} first each = first.fails (each i first.within)
+
+twins_fail : {r : LocalRule} {x y : List ℕ} {cause : TwinCause} → IsTwinsBreach r x y cause → ¬ (((length x ≡ length y) × (1 ≤ length x)) × (x ≢ y) × (ring_image r x ≡ ring_image r y))
+twins_fail (Length other) h = other h.0
+twins_fail (SameWords _ _ equal) h = h.1 equal
+twins_fail (OtherRings _ _ _ other) h = other h.2
+
+split_fails : {r : LocalRule} {Agree : TailConfig → TailConfig → Type 0} {x y : TailConfig} {cause : SplitCause} → IsSplitBreach r Agree x y cause
+    → ¬ (Different x y × Agree x y × ShareImage r x y)
+split_fails (SameCells none) h = none h.0
+split_fails (Apart _ none) h = none h.1
+split_fails (OtherImages _ _ none) h = none h.2
+
+-- a condition with a breach isn't met
+pub breach_fails : {c : Certificate} {one : Condition} {f : Refusal} → IsBreach c one f → ¬ Holds c one
+breach_fails (Rising side p first) h = first_fails first h
+breach_fails {c} (NoFull sets same other) h = other (subst (λ e. OfSets e (λ sets. Contains sets (full_set c.rule))) same h)
+breach_fails {c} (Empty sets i same first) h = first_fails first (subst (λ e. OfSets e (λ sets. EachBelow (length sets) (λ i. slice_index sets i ≢ 0))) same h)
+breach_fails {c} (NotClosed sets i a same first_set first_letter) h =
+    first_fails first_set (subst (λ e. OfSets e (λ sets. EachBelow (length sets) (λ i. EachBelow c.rule.states (StepIsKept c.version c.rule sets (slice_index sets i))))) same h)
+breach_fails {c} (NoFirst pairs p same first) h = first_fails first (subst (λ e. OfPairs e (λ pairs. EachBelow (pair_count c.rule) (FirstIsListed c.rule pairs))) same h)
+breach_fails {c} (Diagonal pairs i same first) h =
+    first_fails first (subst (λ e. OfPairs e (λ pairs. EachBelow (length pairs) (λ i. first_of c.rule (slice_index pairs i) ≢ second_of c.rule (slice_index pairs i)))) same h)
+breach_fails {c} (Leaves pairs i a b same first letters) h =
+    first_fails first (subst (λ e. OfPairs e (λ pairs. EachBelow (length pairs) (λ i. StepsAreListed c.rule pairs (slice_index pairs i)))) same h)
+breach_fails {c} (NoOrphan w same other) h = other (subst (λ e. OfOrphan e (λ w. LeadsTo c.rule (full_set c.rule) w 0)) same h)
+breach_fails {c} (NoWindow n at p same first) h =
+    first_fails first (subst (λ e. OfWindow e (λ n at. EachBelow (pair_count c.rule) (IsWindowPair c.rule c.forward c.backward n at))) same h)
+breach_fails {c} (NoTwins x y cause same fails) h =
+    twins_fail fails (subst (λ e. OfTwins e (λ x y. ((length x ≡ length y) × (1 ≤ length x)) × (x ≢ y) × (ring_image c.rule x ≡ ring_image c.rule y))) same h)
+breach_fails {c} (NoAhead side n p same first) h =
+    first_fails first (subst (λ e. OfAhead e (λ n. EachBelow (pair_count c.rule) (IsAheadPair (IsFirstOf side c.rule) (claims_on c side) n))) same h)
+breach_fails {c} (NoSplit side x y cause same fails) h = split_fails fails (subst (λ e. OfSplit e (λ x y. Different x y × AgreeBehind side x y × ShareImage c.rule x y)) same h)
+breach_fails {c} (NoFlux phi v same first) h =
+    first_fails first (subst (λ e. OfFlux e (λ phi. EachBelow (c.rule.states ^ c.rule.width) (λ v. Flows (slice_index c.weights) c.rule phi (word_of c.rule.states c.rule.width v)))) same h)
+breach_fails {c} (NoRing p same other) h = other (subst (λ e. OfRing e (IsLossy (slice_index c.weights) c.rule)) same h)
+
+-- what has a breach doesn't meet the conditions
+pub unmet_fails : {c : Certificate} {f : Refusal} → IsFirstUnmet c f → ¬ MeetsConditions c
+unmet_fails h meets = breach_fails h.breach (meets h.unmet)
+
+-- where the conditions before a place are met, a breach of the one there is the first
+pub IsFirstUnmet-at : {c : Certificate} {f : Refusal} (i : ℕ) (d : Condition) → i < length conditions → All (Holds c) (take i conditions) → IsBreach c (get_or conditions i d) f → IsFirstUnmet c f
+IsFirstUnmet-at i d inside before breach =
+    let one = get_or conditions i d in
+    record {
+      unmet = one;
+      first = record { before = take i conditions; after = drop (suc i) conditions; list = slice_get-cut conditions i one (slice_get-get_or conditions i d inside); earlier = before; fails = breach_fails breach };
+      breach = breach;
+    }
+
+-- what is true of the elements before a place and of the one there is true of one element more
+pub All-more : {A : Type 0} (P : A → Type 0) (xs : List A) (i : ℕ) (d : A) → i < length xs → All P (take i xs) → P (get_or xs i d) → All P (take (i + 1) xs)
+All-more P xs i d inside before here = subst (All P) (sym (take_more xs i d inside)) (All-push P (take i xs) (get_or xs i d) before here)
+
+-- where each condition of the list is met, all are
+pub MeetsConditions-all : (c : Certificate) → All (Holds c) conditions → MeetsConditions c
+MeetsConditions-all c all (condition.SideClaims side.Right) = all 0 condition.FullListed (omega arith)
+MeetsConditions-all c all (condition.SideClaims side.Left) = all 1 condition.FullListed (omega arith)
+MeetsConditions-all c all condition.FullListed = all 2 condition.FullListed (omega arith)
+MeetsConditions-all c all condition.NoneEmpty = all 3 condition.FullListed (omega arith)
+MeetsConditions-all c all condition.Closed = all 4 condition.FullListed (omega arith)
+MeetsConditions-all c all condition.FirstsListed = all 5 condition.FullListed (omega arith)
+MeetsConditions-all c all condition.OffDiagonal = all 6 condition.FullListed (omega arith)
+MeetsConditions-all c all condition.PairsClosed = all 7 condition.FullListed (omega arith)
+MeetsConditions-all c all condition.OrphanRead = all 8 condition.FullListed (omega arith)
+MeetsConditions-all c all condition.WindowClaims = all 9 condition.FullListed (omega arith)
+MeetsConditions-all c all condition.TwinsAlike = all 10 condition.FullListed (omega arith)
+MeetsConditions-all c all (condition.SideAhead side.Right) = all 11 condition.FullListed (omega arith)
+MeetsConditions-all c all (condition.SideSplit side.Right) = all 12 condition.FullListed (omega arith)
+MeetsConditions-all c all (condition.SideAhead side.Left) = all 13 condition.FullListed (omega arith)
+MeetsConditions-all c all (condition.SideSplit side.Left) = all 14 condition.FullListed (omega arith)
+MeetsConditions-all c all condition.FluxFlows = all 15 condition.FullListed (omega arith)
+MeetsConditions-all c all condition.RingLossy = all 16 condition.FullListed (omega arith)

@@ -1,0 +1,90 @@
+-- What claims of ranks say of windows and look-aheads, and so of injectivity and of closing on either side; what twins and splits say against them.
+use Rattle.std.proofs.Common.{◌≡◌, ◌≢◌, ℕ, ◌≤◌, List, length, Option, refl, arith, ◌↔◌, IsTrue}
+use Rattle.std.proofs.lemmas.Bool.{false≢true}
+use Rattle.word_image.specs.LocalRules.{LocalRule, IsRule, IsWord}
+use Rattle.word_image.specs.Rings.{ring_image, IsTwins}
+use Rattle.word_image.specs.Windows.{IsDetermined, IsRightAhead}
+use Rattle.word_image.specs.Graphs.{pair_count}
+use Rattle.word_image.specs.FirstPairs.{IsFirstOfRight, IsFirstOfLeft, IsFirstOf}
+use Rattle.word_image.specs.Sides.{seen_from}
+use Rattle.word_image.specs.declared.side.Side.{Side}
+use Rattle.word_image.specs.declared.side.Side.TheVariants.{Right, Left}
+use Rattle.pair_laws.proofs.Evidence.{IsDetermined-claims, ahead-claims}
+use Rattle.tail_config.specs.Tails.{TailConfig, Different, ShareImage, AgreeLeft, AgreeRight, IsInjective, IsRightSplit, IsRightClosing, IsLeftClosing}
+use Rattle.tail_config.specs.LeftSplits.{IsLeftSplit}
+use Rattle.tail_config.specs.TailTexts.{IsShortTail}
+use Rattle.tail_laws.proofs.Injective.{IsInjective-determined}
+use Rattle.tail_laws.proofs.Closing.{IsRightClosing-ahead}
+use Rattle.tail_laws.proofs.Sides.{IsLeftClosing-ahead}
+use Rattle.tail_laws.proofs.TwinTails.{no_twins}
+use Rattle.tail_laws.proofs.Verdicts.{IsRightClosing-none, IsLeftClosing-none}
+use Rattle.cert_format.specs.Evidence.{InjectiveEvidence, SideEvidence}
+use Rattle.cert_format.specs.Certificates.{IsInjectiveShape, IsSideShape}
+use Rattle.cert_format.specs.Evidence.InjectiveEvidence.{Window, Twins}
+use Rattle.cert_format.specs.Evidence.SideEvidence.{Ahead, Split}
+use Rattle.cert_conditions.specs.Breaches.{EachBelow}
+use Rattle.cert_conditions.specs.Claims.{claim, Falls, IsWindowPair, IsAheadPair}
+use Rattle.cert_conditions.specs.Conditions.{OfWindow, OfTwins, OfAhead, OfSplit}
+use Rattle.cert_conditions.specs.Accepted.{says_injective, says_closing}
+
+-- the claim of each pair falls
+abbrev pub AllFall : Side → LocalRule → List (Option ℕ) → Type 0
+AllFall side r row = EachBelow (pair_count r) (Falls side r row)
+
+-- two configurations that differ, agree on a side, and share an image
+abbrev pub AreSplit : (TailConfig → TailConfig → Type 0) → LocalRule → TailConfig → TailConfig → Type 0
+AreSplit Agree r x y = Different x y × Agree x y × ShareImage r x y
+
+-- two different words of one length, with letters, whose rings have one image
+abbrev pub AreAlike : LocalRule → List ℕ → List ℕ → Type 0
+AreAlike r x y = ((length x ≡ length y) × (1 ≤ length x)) × (x ≢ y) × (ring_image r x ≡ ring_image r y)
+
+-- a window that is claimed is determined
+pub IsDetermined-claimed : {r : LocalRule} → IsRule r → (forward backward : List (Option ℕ)) → AllFall Right r forward → AllFall Left r backward → (n c : ℕ)
+    → IsInjectiveShape r (Window n c) → EachBelow (pair_count r) (IsWindowPair r forward backward n c) → IsDetermined r n c
+IsDetermined-claimed rule forward backward falls back n c shape pairs = IsDetermined-claims {forward = claim forward} {backward = claim backward} rule falls back n c shape.0 shape.2 pairs
+
+-- a look-ahead that is claimed is one
+pub ahead-claimed : (side : Side) {r : LocalRule} → IsRule r → (row : List (Option ℕ)) → AllFall side r row → (n : ℕ) → IsSideShape r (Ahead n)
+    → EachBelow (pair_count r) (IsAheadPair (IsFirstOf side r) row n) → IsRightAhead (seen_from side r) n
+ahead-claimed side rule row falls n shape pairs = ahead-claims side {claim = claim row} rule falls n shape.0 pairs
+
+-- words that are alike are twins
+pub IsTwins-alike : {r : LocalRule} {x y : List ℕ} → IsWord r.states x → IsWord r.states y → AreAlike r x y → IsTwins r x y
+IsTwins-alike hx hy alike =
+    record {
+      first = record { word = hx; some = alike.0.1 };
+      second = record { word = hy; some = omega (arith, alike.0.0, alike.0.1) };
+      one_length = alike.0.0;
+      different = alike.1;
+      one_image = alike.2;
+    }
+
+-- configurations that agree on the left are a right split
+pub IsRightSplit-apart : {r : LocalRule} {x y : TailConfig} → IsShortTail r.states x → IsShortTail r.states y → AreSplit AgreeLeft r x y → IsRightSplit r x y
+IsRightSplit-apart hx hy apart = record { first = hx.tail; second = hy.tail; different = apart.0; share = apart.2; agree = apart.1 }
+
+-- short configurations that split a rule and agree on the right are a left split
+pub IsLeftSplit-apart : {r : LocalRule} {x y : TailConfig} → IsShortTail r.states x → IsShortTail r.states y → AreSplit AgreeRight r x y → IsLeftSplit r x y
+IsLeftSplit-apart hx hy apart = record { first = hx.tail; second = hy.tail; different = apart.0; share = apart.2; agree = apart.1 }
+
+-- what is said of injectivity is true where its conditions are met
+pub IsInjective-said : {r : LocalRule} → IsRule r → (forward backward : List (Option ℕ)) → AllFall Right r forward → AllFall Left r backward
+    → (e : InjectiveEvidence) → IsInjectiveShape r e → OfWindow e (λ n c. EachBelow (pair_count r) (IsWindowPair r forward backward n c)) → OfTwins e (AreAlike r)
+    → IsTrue (says_injective e) ↔ IsInjective r
+IsInjective-said rule forward backward falls back (Window n c) shape pairs alike = ((λ _. IsInjective-determined rule (IsDetermined-claimed rule forward backward falls back n c shape pairs)), (λ _. refl))
+IsInjective-said {r} rule forward backward falls back (Twins x y) shape pairs alike = ((λ no. absurd (false≢true no)), (λ injective. absurd (no_twins (IsTwins-alike {r = r} shape.0 shape.1 alike) injective)))
+
+-- of closing on the right
+pub IsRightClosing-said : {r : LocalRule} → IsRule r → (forward : List (Option ℕ)) → AllFall Right r forward → (e : SideEvidence) → IsSideShape r e
+    → OfAhead e (λ n. EachBelow (pair_count r) (IsAheadPair (IsFirstOfRight r) forward n)) → OfSplit e (AreSplit AgreeLeft r) → IsTrue (says_closing e) ↔ IsRightClosing r
+IsRightClosing-said rule forward falls (Ahead n) shape pairs apart = ((λ _. IsRightClosing-ahead rule (ahead-claimed Right rule forward falls n shape pairs)), (λ _. refl))
+IsRightClosing-said {r} rule forward falls (Split x y) shape pairs apart =
+    ((λ no. absurd (false≢true no)), (λ closing. absurd ((IsRightClosing-none r).0 closing x y (IsRightSplit-apart shape.0 shape.1 apart))))
+
+-- of closing on the left
+pub IsLeftClosing-said : {r : LocalRule} → IsRule r → (backward : List (Option ℕ)) → AllFall Left r backward → (e : SideEvidence) → IsSideShape r e
+    → OfAhead e (λ n. EachBelow (pair_count r) (IsAheadPair (IsFirstOfLeft r) backward n)) → OfSplit e (AreSplit AgreeRight r) → IsTrue (says_closing e) ↔ IsLeftClosing r
+IsLeftClosing-said rule backward back (Ahead n) shape pairs apart = ((λ _. IsLeftClosing-ahead rule (ahead-claimed Left rule backward back n shape pairs)), (λ _. refl))
+IsLeftClosing-said {r} rule backward back (Split x y) shape pairs apart =
+    ((λ no. absurd (false≢true no)), (λ closing. absurd ((IsLeftClosing-none r).0 closing x y (IsLeftSplit-apart shape.0 shape.1 apart))))

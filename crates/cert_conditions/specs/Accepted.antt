@@ -1,0 +1,63 @@
+-- Which bytes are accepted, and what their verdicts say.
+use Rattle.std.specs.Prelude.{◌≡◌, ℕ, ◌↔◌, Bool, true, false, ◌&&◌, IsTrue, List, slice_index}
+use Rattle.word_image.specs.Words.{IsSurjective}
+use Rattle.word_image.specs.Rings.{IsConserving}
+use Rattle.tail_config.specs.Tails.{IsInjective, IsRightClosing, IsLeftClosing}
+use Rattle.cert_format.specs.Evidence.{SurjectiveEvidence, InjectiveEvidence, SideEvidence, SumEvidence, Sets, Pairs, Orphan, Window, Twins, Ahead, Split, Flux, Ring}
+use Rattle.cert_format.specs.Certificates.{Certificate}
+use Rattle.cert_format.specs.CertificateTexts.{IsCertificateText}
+use Rattle.cert_conditions.specs.declared.verdicts.Verdicts.{Verdicts}
+use Rattle.cert_conditions.specs.Conditions.{MeetsConditions}
+
+-- yes where there are sets or pairs
+abbrev pub says_surjective : SurjectiveEvidence → Bool
+says_surjective (Sets sets) = true
+says_surjective (Pairs pairs) = true
+says_surjective (Orphan w) = false
+
+-- yes where there is a window
+abbrev pub says_injective : InjectiveEvidence → Bool
+says_injective (Window n c) = true
+says_injective (Twins x y) = false
+
+-- yes where there is a look-ahead
+abbrev pub says_closing : SideEvidence → Bool
+says_closing (Ahead n) = true
+says_closing (Split x y) = false
+
+-- yes where there is a flux
+abbrev pub says_conserving : SumEvidence → Bool
+says_conserving (Flux phi) = true
+says_conserving (Ring p) = false
+
+-- the verdicts of a certificate are those of its parts
+abbrev pub verdicts_of : Certificate → Verdicts
+verdicts_of c = record {
+  rule = c.rule;
+  weights = c.weights;
+  surjective = says_surjective c.surjective;
+  injective = says_injective c.injective;
+  right = says_closing c.right;
+  left = says_closing c.left;
+  conserving = says_conserving c.conserving;
+}
+
+-- a rule is open exactly where it closes on both sides
+abbrev pub is_open : Verdicts → Bool
+is_open v = v.right && v.left
+
+-- the bytes are a certificate with these verdicts that meets the conditions: what the judge accepts
+pub record IsAccepted (bytes : List ℕ) (v : Verdicts) : Type 0 where
+  pub certificate : Certificate
+  pub text : IsCertificateText bytes certificate
+  pub meets : MeetsConditions certificate
+  pub verdicts : v ≡ verdicts_of certificate
+
+-- each verdict is true of the rule, that of conserving by the weights
+pub record AreTrue (v : Verdicts) : Type 0 where
+  pub surjective : IsTrue v.surjective ↔ IsSurjective v.rule
+  pub injective : IsTrue v.injective ↔ IsInjective v.rule
+  pub right : IsTrue v.right ↔ IsRightClosing v.rule
+  pub left : IsTrue v.left ↔ IsLeftClosing v.rule
+  pub open_ : IsTrue (is_open v) ↔ (IsRightClosing v.rule × IsLeftClosing v.rule)
+  pub conserving : IsTrue v.conserving ↔ IsConserving (slice_index v.weights) v.rule

@@ -1,0 +1,11 @@
+pub mod Breaches
+pub mod Claims
+pub mod Sets
+pub mod Pairs
+pub mod Sides
+pub mod Sums
+pub mod Conditions
+pub mod CertificateVersions
+pub mod Refusals
+pub mod Accepted
+pub mod RefusalTexts

@@ -1,0 +1,23 @@
+-- Listed pairs of nodes that prove a rule surjective.
+use Rattle.std.specs.Prelude.{◌≡◌, ℕ, List, Contains, Some}
+use Rattle.word_image.specs.LocalRules.{LocalRule}
+use Rattle.word_image.specs.Graphs.{follow}
+use Rattle.word_image.specs.FirstPairs.{IsFirstOfRight}
+use Rattle.cert_conditions.specs.Breaches.{EachBelow, IsFirstBreach}
+
+-- a first pair of the right is listed
+abbrev pub FirstIsListed : LocalRule → List ℕ → ℕ → Type 0
+FirstIsListed r pairs p = IsFirstOfRight r p → Contains pairs p
+
+-- where a pair leads to a pair on two letters, that one is listed
+abbrev pub StepIsListed : LocalRule → List ℕ → ℕ → ℕ → ℕ → Type 0
+StepIsListed r pairs p a b = (q : ℕ) → follow r p a b ≡ Some q → Contains pairs q
+
+-- each pair to which a pair leads, on any two letters, is listed
+abbrev pub StepsAreListed : LocalRule → List ℕ → ℕ → Type 0
+StepsAreListed r pairs p = EachBelow r.states (λ a. EachBelow r.states (StepIsListed r pairs p a))
+
+-- the first letters, by the first and then the second, on which it isn't
+pub record IsFirstLeaving (r : LocalRule) (pairs : List ℕ) (p a b : ℕ) : Type 0 where
+  pub first : IsFirstBreach r.states (λ a. EachBelow r.states (StepIsListed r pairs p a)) a
+  pub second : IsFirstBreach r.states (StepIsListed r pairs p a) b

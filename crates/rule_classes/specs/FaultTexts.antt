@@ -1,0 +1,10 @@
+-- How it is written why a rule has no lift.
+use Rattle.std.specs.Prelude.{ℕ, List, codes}
+use Rattle.rule_classes.specs.declared.lifts.LiftFault.{LiftFault}
+use Rattle.rule_classes.specs.declared.lifts.LiftFault.TheVariants as lift
+
+-- a word for each fault
+abbrev pub lift_text : LiftFault → List ℕ
+lift_text lift.States = codes "states"
+lift_text lift.Nodes = codes "nodes"
+lift_text lift.Centre = codes "centre"
