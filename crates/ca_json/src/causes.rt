@@ -5,10 +5,10 @@ ghost use Rattle.ca_findings.specs.Values.{unfit_of};
 ghost use Rattle.ca_findings.specs.Writable.{IsWritableUnfit};
 ghost use Rattle.ca_json.specs.Causes as causes;
 
-use rule_classes::lift_name;
-use rule_algebra::algebra_name;
 use crate::values::{pair_value, tagged};
 use ca_findings::Cause;
+use rule_algebra::algebra_name;
+use rule_classes::lift_name;
 use rule_text::TextFault;
 use serde_json::{Value, json};
 use std::alloc::{AllocError, Global};

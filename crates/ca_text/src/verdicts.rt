@@ -9,7 +9,9 @@ ghost use Rattle.ca_text.specs.StatusLines.{accepted_lines, weights_lines, verdi
 ghost use Rattle.cert_conditions.specs.RefusalTexts.{key_text, side_text, twin_text, split_text};
 
 use crate::output::Output;
-use cert_conditions::{Refusal, SplitCause, TwinCause, Verdicts, key_name, side_name, split_name, twin_name};
+use cert_conditions::{
+    Refusal, SplitCause, TwinCause, Verdicts, key_name, side_name, split_name, twin_name,
+};
 use cert_format::{Key, ShapeFault};
 use rule_text::{TextFault, fault_kind, print};
 use std::alloc::{AllocError, Global};
