@@ -65,48 +65,48 @@ operand_json operand name (Some place) = object_of (
 
 -- Of a refused certificate
 
--- its cause, and its numbers
+-- a refusal by its cause and its numbers
 abbrev pub refused_at : List ℕ → Data → Data
 refused_at name at = object_of ((codes "at", at) ∷ (codes "cause", string name) ∷ status (codes "refused") ∷ [])
 
--- its cause on a side, and its number
+-- a refusal by its cause, a side and a number
 abbrev pub refused_on : List ℕ → Side → ℕ → Data
 refused_on name s number = object_of (
     (codes "at", numbers_json (number ∷ [])) ∷ (codes "cause", string name) ∷ (codes "side", string (side_text s)) ∷ status (codes "refused") ∷ [])
 
--- its cause, why it is one, and its numbers
+-- a refusal by its cause, why it is one, and its numbers
 abbrev pub refused_for : List ℕ → List ℕ → Data → Data
 refused_for name why at = object_of ((codes "at", at) ∷ (codes "because", string why) ∷ (codes "cause", string name) ∷ status (codes "refused") ∷ [])
 
--- the place of the fault of a rule, where it has one
+-- the place of a fault as a list, which is empty where it has none
 abbrev pub places_json : Option ℕ → Data
 places_json None = numbers_json []
 places_json (Some place) = numbers_json (place ∷ [])
 
--- a part that has no right shape
+-- the refusal for a part that has no right shape
 abbrev pub key_json : Key → Data
 key_json k = object_of (
     (codes "at", numbers_json []) ∷ (codes "because", string (codes "shape")) ∷ (codes "cause", string (codes "format")) ∷ (codes "key", string (key_text k)) ∷ status (codes "refused") ∷ [])
 
--- a fault of the text of its rule
+-- the refusal for a fault of the text of the rule
 abbrev pub rule_json : TextFault → Data
 rule_json f = object_of (
     (codes "at", places_json (fault_place f)) ∷ (codes "because", string (codes "rule")) ∷ (codes "cause", string (codes "format")) ∷ (codes "fault", string (fault_name f))
     ∷ status (codes "refused") ∷ [])
 
--- a fault of its shape
+-- the refusal for the first fault of the shape
 abbrev pub format_json : ShapeFault → Data
 format_json shape.NotJson = refused_for (codes "format") (codes "notjson") (numbers_json [])
 format_json (shape.Version v) = refused_for (codes "format") (codes "version") (numbers_json (v ∷ []))
 format_json (shape.Shape k) = key_json k
 format_json (shape.Rule f) = rule_json f
 
--- two configurations that are no split of a side
+-- the refusal for two configurations that are no split of a side
 abbrev pub split_json : Side → SplitCause → Data
 split_json s why = object_of (
     (codes "at", numbers_json []) ∷ (codes "because", string (split_text why)) ∷ (codes "cause", string (codes "split")) ∷ (codes "side", string (side_text s)) ∷ status (codes "refused") ∷ [])
 
--- the first condition that isn't met; want of memory isn't one
+-- the refusal for the first condition that isn't met; want of memory isn't one
 abbrev pub refusal_json : Refusal → Data
 refusal_json (refusal.Format f) = format_json f
 refusal_json (refusal.Rank s p) = refused_on (codes "rank") s p

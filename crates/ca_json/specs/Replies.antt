@@ -26,6 +26,6 @@ json_of (Reply.Refused f) = refusal_json f
 json_of Reply.TooLong = object_of (status (codes "toolong") ∷ [])
 json_of Reply.Usage = object_of (status (codes "usage") ∷ [])
 
--- its text: keys ascending, and no blanks
+-- the text of a reply: keys ascending, and no blanks
 abbrev pub json_text : Reply → List ℕ
 json_text reply = compact_text (json_of reply)

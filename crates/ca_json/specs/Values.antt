@@ -57,7 +57,7 @@ abbrev pub injective_json : InjectiveEvidence → Data
 injective_json (Window n c) = object_of ((codes "holds", boolean true) ∷ (codes "window", two (whole_value n) (whole_value c)) ∷ [])
 injective_json (Twins x y) = object_of ((codes "holds", boolean false) ∷ (codes "twins", two (word_value x) (word_value y)) ∷ [])
 
--- of a side a look-ahead, or else a split
+-- a look-ahead of a side, or else a split
 abbrev pub side_json : SideEvidence → Data
 side_json (Ahead n) = object_of ((codes "ahead", whole_value n) ∷ (codes "holds", boolean true) ∷ [])
 side_json (Split x y) = object_of ((codes "holds", boolean false) ∷ (codes "split", two (tail_json x) (tail_json y)) ∷ [])

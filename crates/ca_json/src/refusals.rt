@@ -47,7 +47,7 @@ fn refused_at(alloc: Global, cause: &str, at: Value) -> Result<Value, AllocError
     json!(in alloc; {"at": at, "cause": cause, "status": "refused"})
 }
 
-/// One that says its cause, a side and a pair.
+/// A refusal that says its cause, a side and a pair.
 fn refused_on(alloc: Global, cause: &str, side: Side, pair: u16) -> Result<Value, AllocError>
     ensures { IfOk result (λ v. view v ≡ causes.refused_on cause.now side pair) }
 {
@@ -55,14 +55,14 @@ fn refused_on(alloc: Global, cause: &str, side: Side, pair: u16) -> Result<Value
     json!(in alloc; {"at": [pair], "cause": cause, "side": side, "status": "refused"})
 }
 
-/// One that says its cause, why it is one, and its numbers.
+/// A refusal that says its cause, why it is one, and its numbers.
 fn refused_for(alloc: Global, cause: &str, why: &str, at: Value) -> Result<Value, AllocError>
     ensures { IfOk result (λ v. view v ≡ causes.refused_for cause.now why.now (view at)) }
 {
     json!(in alloc; {"at": at, "because": why, "cause": cause, "status": "refused"})
 }
 
-/// The first fault of the shape.
+/// A refusal that says the first fault of the shape.
 fn format_value(alloc: Global, fault: ShapeFault) -> Result<Value, AllocError>
     ensures { IfOk result (λ v. view v ≡ causes.format_json fault) }
 {
@@ -76,7 +76,7 @@ fn format_value(alloc: Global, fault: ShapeFault) -> Result<Value, AllocError>
     }
 }
 
-/// The part that has no right shape.
+/// A refusal that names the part that has no right shape.
 fn key_value(alloc: Global, key: Key) -> Result<Value, AllocError>
     ensures { IfOk result (λ v. view v ≡ causes.key_json key) }
 {
@@ -85,7 +85,7 @@ fn key_value(alloc: Global, key: Key) -> Result<Value, AllocError>
     })
 }
 
-/// The fault of the rule's text.
+/// A refusal that says the fault of the rule's text.
 fn rule_fault_value(alloc: Global, fault: TextFault) -> Result<Value, AllocError>
     ensures { IfOk result (λ v. view v ≡ causes.rule_json fault) }
 {
@@ -96,7 +96,7 @@ fn rule_fault_value(alloc: Global, fault: TextFault) -> Result<Value, AllocError
     })
 }
 
-/// The place of a fault, where it has one.
+/// The place of a fault as a list, which is empty where it has none.
 fn places_value(alloc: Global, place: Option<usize>) -> Result<Value, AllocError>
     ensures { IfOk result (λ v. view v ≡ causes.places_json place) }
 {
@@ -106,7 +106,7 @@ fn places_value(alloc: Global, place: Option<usize>) -> Result<Value, AllocError
     }
 }
 
-/// On which side there is no split, and why.
+/// A refusal that says on which side there is no split, and why.
 fn split_value(alloc: Global, side: Side, why: SplitCause) -> Result<Value, AllocError>
     ensures { IfOk result (λ v. view v ≡ causes.split_json side why) }
 {
