@@ -1,21 +1,22 @@
 //! The program, but for its `main`: what it answers to the words of its command line.
 //!
-//! A command is a name and its operands, each of which may be any word. An answer is a [`Status`],
+//! A command is a name, texts of rules and other operands, each of which may be any word. An answer is a [`Status`],
 //! which says how the program ended, and an output, the bytes that go to the sink. One command, `check`,
 //! reads: it takes the whole input, or one byte more than is judged. [`run`] goes from the words to the
 //! bytes in four steps:
 //!
-//! 1. the words become a `Request`, a command by the shape of its operands with the numbers that stand
-//!    in them, or are no command;
-//! 2. the operands that are rules are read, and one function a command makes the output, or a `Stop`
-//!    says why there is none; only `check` has the source;
-//! 3. either becomes an `Answer`, whole in memory;
-//! 4. its output is written; where a write fails, a sink that tells its bytes took a part of it, and not the whole.
+//! 1. the words are a command, or none;
+//! 2. the operands that are rules are read, and its question is asked by one function of ca_answers, which finds a value or
+//!    the cause for which nothing fits; `check` alone has the source, and hands the input to the judge;
+//! 3. either is a reply, all of it in values, which [`reply`] gives to whoever wants another form than the text;
+//! 4. its text is written whole in memory and goes to the sink; where a write fails, a sink that tells its bytes took a part
+//!    of it, and not the whole.
 //!
 //! The contract of [`run`] cites one relation, `IsAnswer` of specs/RightAnswers.antt: which status and
 //! which output are right for the words and for what the source had left. [`one_status`],
 //! [`usage_exactly`], [`rule_fault_exactly`], [`right_exactly`] and [`done_or_not_fit`] are its laws, for all
-//! commands together; [`check_exactly`] is that of `check`, and [`certified_is_accepted`] joins it and `certify`. By them:
+//! commands together; [`check_exactly`] is that of `check`, and [`certified_is_accepted`] joins it and `certify`. What is
+//! right can be written ([`right_replies_are_writable`]). By them:
 //!
 //! | Words | Status | Code | Output |
 //! |---|---|---|---|
