@@ -7,25 +7,25 @@ use Rattle.cert_format.specs.Evidence.{InjectiveEvidence, SumEvidence, Window, T
 use Rattle.ca_findings.specs.Findings.{Finding, Unfit}
 use Rattle.ca_findings.specs.Replies.{Reply}
 
--- the letters of a word, where there is one
+-- the letters of a word, where there is one, have digits
 abbrev pub HasDigits : Option (List ℕ) → Type 0
 HasDigits word = IfSome word (IsWord 16)
 
--- those of two words
+-- the letters of two words have digits
 abbrev pub HavePairDigits : Option (List ℕ × List ℕ) → Type 0
 HavePairDigits pair = IfSome pair (λ p. IsWord 16 p.0 × IsWord 16 p.1)
 
--- those of twins
+-- the letters of twins have digits
 abbrev pub HasTwinDigits : InjectiveEvidence → Type 0
 HasTwinDigits (Window n c) = ⊤
 HasTwinDigits (Twins x y) = IsWord 16 x × IsWord 16 y
 
--- those of a ring
+-- the letters of a ring have digits
 abbrev pub HasRingDigits : SumEvidence → Type 0
 HasRingDigits (Flux phi) = ⊤
 HasRingDigits (Ring p) = IsWord 16 p
 
--- those of a configuration
+-- the letters of a configuration have digits
 abbrev pub HasTailDigits : TailConfig → Type 0
 HasTailDigits t = IsWord 16 t.left × IsWord 16 t.middle × IsWord 16 t.right
 

@@ -36,12 +36,12 @@ IsLeastEvidence-by {r} {e} None rule least = record {
 }
 IsLeastEvidence-by (Some weights) rule least = least
 
--- a report of weights that aren't one for each letter
+-- no report fits weights that aren't one for each letter
 pub unfit-report : {r : LocalRule} (named : Option (List ℕ)) → ¬ AreFor named r → IsUnfitFor (Question.Report r named) Unfit.Weights
 unfit-report None other = absurd (other tt)
 unfit-report {r} (Some weights) other = IsUnfitFor.Report r weights other
 
--- and so a certificate
+-- no certificate fits weights that aren't one for each letter
 pub unfit-certificate : {v : CertVersion} {r : LocalRule} (named : Option (List ℕ)) → ¬ AreFor named r → IsUnfitFor (Question.Certify v r named) Unfit.Weights
 unfit-certificate None other = absurd (other tt)
 unfit-certificate {v} {r} (Some weights) other = IsUnfitFor.Written v r weights other

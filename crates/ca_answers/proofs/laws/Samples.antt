@@ -83,7 +83,7 @@ sample-step k m s count i t r done some rule state split =
     split ∙ ap (λ x. done ++ x) (sample_rules-first k m s count i some) ∙ sym (append_assoc done (drawn_rule k m s ∷ []) (sample_rules k m (state_after s (k ^ m)) (count - (i + 1))))
     ∙ ap₂ (λ (q : LocalRule) (u : ℕ). (done ++ q ∷ []) ++ sample_rules k m u (count - (i + 1))) (sym rule) (sym state)
 
--- and where all are drawn, these are all
+-- where all rules of a sample are drawn, they are the sample
 pub sample-end : (k m s count i : ℕ) (done : List LocalRule) {whole : List LocalRule} → count ≤ i → whole ≡ done ++ sample_rules k m s (count - i) → done ≡ whole
 sample-end k m s count i done all split = sym (split ∙ ap (λ x. done ++ x) (sample_rules-none k m s count i all) ∙ append-nil done)
 

@@ -60,13 +60,13 @@ pub IsAsked-unique : {c : Command} {p q : Question} → IsAsked c p → IsAsked 
 IsAsked-unique {c = c} {q = q} here there =
     Asks-unique here.asks (subst (λ rules. Asks c.name rules c.operands q) (AreRuleTexts-unique there.texts here.texts) there.asks)
 
--- none of its rules is refused
+-- texts of rules have no first fault
 texts_without_fault : {texts : List (List ℕ)} {rules : List LocalRule} {i : ℕ} {f : TextFault} → AreRuleTexts texts rules → IsFirstFault texts i f → ⊥
 texts_without_fault AreRuleTexts.NoText fault = elim fault [ ]
 texts_without_fault (AreRuleTexts.More text texts r rules says rest) (IsFirstFault.Here _ _ f is) = IsRuleText-no_fault says is
 texts_without_fault (AreRuleTexts.More text texts r rules says rest) (IsFirstFault.Later _ _ s i f also fault) = texts_without_fault rest fault
 
--- nor is their shape
+-- a shape that is asked about has no fault
 shape_without_fault : {n : Name} {rules : List LocalRule} {operands : List (List ℕ)} {q : Question} {f : TextFault} → Asks n rules operands q → IsShapeFault n operands f → ⊥
 shape_without_fault (Asks.Survey k m from count none) (IsShapeFault.Survey _ _ _ _ f is) = none-some f (sym none ∙ is)
 shape_without_fault (Asks.Sample k m seed count none) (IsShapeFault.Sample _ _ _ _ f is) = none-some f (sym none ∙ is)
@@ -81,11 +81,12 @@ IsAsked-no_fault is (IsOperandFault.OfShape c f fault) = shape_without_fault is.
 pub IsAsked-reads_nothing : {c : Command} {q : Question} → IsAsked c q → c.name ≢ name.Check
 IsAsked-reads_nothing {c = c} {q = q} asked is = elim (subst (λ n. Asks n asked.rules c.operands q) is asked.asks) [ ]
 
--- and has no operand that is refused
+-- where a text has a fault, there is a text
 fault_behind : {texts : List (List ℕ)} {i : ℕ} {f : TextFault} → IsFirstFault texts i f → 1 ≤ length texts
 fault_behind (IsFirstFault.Here text texts f is) = omega arith
 fault_behind (IsFirstFault.Later text texts r i f says fault) = omega arith
 
+-- `check` has no operand that is refused
 pub IsOperandFault-reads_nothing : {words : List (List ℕ)} {c : Command} {i : ℕ} {f : TextFault} → IsCommand words c → IsOperandFault c i f → c.name ≢ name.Check
 IsOperandFault-reads_nothing is (IsOperandFault.OfRule c i f fault) check = let none : rule_count c.name ≡ 0 = ap rule_count check in omega (arith, fault_behind fault, is.rules, none)
 IsOperandFault-reads_nothing is (IsOperandFault.OfShape c f fault) check = elim (subst (λ n. IsShapeFault n c.operands f) check fault) [ ]

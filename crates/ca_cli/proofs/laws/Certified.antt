@@ -36,7 +36,7 @@ IsAcceptedAs r weights out =
 check_is : IsCommand (words_of check_command) check_command
 check_is = record { words_are = refl; rules = refl; operands = tt }
 
--- `check` accepts it
+-- `check` accepts the text of a written certificate
 written_accepted : {version : CertVersion} {r : LocalRule} {weights out : List ℕ} (c : Certificate) → IsWritten version r weights c → out ≡ certificate_text c → IsAcceptedAs r weights out
 written_accepted {out = out} c written is =
     let accepted : IsAccepted out (verdicts_of c) = subst (λ b. IsAccepted b (verdicts_of c)) (sym is) written.accepted in
@@ -48,7 +48,7 @@ certificate_found : {version : CertVersion} {r : LocalRule} {weights : Option (L
     → (c : Certificate) × IsWritten version r (weights_by weights r) c × (text_of f ≡ certificate_text c)
 certificate_found (IsFinding.Written version r weights c each written) = (c, written, refl)
 
--- so is what is said to a command that asks for one
+-- `check` accepts what is said to a command that asks for a certificate
 said_accepted : {input : Option (List ℕ)} {c : Command} {version : CertVersion} {r : LocalRule} {weights : Option (List ℕ)} {out : List ℕ} {reply : Reply}
     → IsAsked c (Question.Certify version r weights) → IsReply input c reply → status.Done ≡ reply_status reply → out ≡ reply_text reply → IsAcceptedAs r (weights_by weights r) out
 said_accepted asked (Found c q f also right) done text =

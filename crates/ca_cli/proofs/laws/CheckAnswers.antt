@@ -35,7 +35,7 @@ accepted_alone is check accepted short _ (Accepted c others w _ whole also are_t
 accepted_alone is check accepted short _ (Refused c others f _ whole refused) = absurd (accepted_not_refused accepted (subst (λ b. IsRefusal b f) whole.all refused))
 accepted_alone is check accepted short _ (TooLong c _ long) = absurd (omega (arith, short, long))
 
--- of one that is refused it says why, and nothing else
+-- of an input that is refused `check` says why, and nothing else
 pub refused_alone : {words : List (List ℕ)} {c : Command} {left : List ℕ} {f : Refusal} → IsCommand words c → c.name ≡ name.Check → IsRefusal left f → length left ≤ most_input
     → (reply : Reply) → IsReply (Some left) c reply → IsAlike reply (Reply.Refused f)
 refused_alone is check refused short _ (Found c q f asked right) = absurd (IsAsked-reads_nothing asked check)
@@ -45,7 +45,7 @@ refused_alone is check refused short _ (Accepted c others w _ whole accepted are
 refused_alone is check refused short _ (Refused c others g _ whole also) = (refl, ap refused_line (IsRefusal-unique (subst (λ b. IsRefusal b g) whole.all also) refused))
 refused_alone is check refused short _ (TooLong c _ long) = absurd (omega (arith, short, long))
 
--- of one that is too long it says that it is, and nothing else
+-- of an input that is too long `check` says that it is, and nothing else
 pub long_alone : {words : List (List ℕ)} {c : Command} {left : List ℕ} → IsCommand words c → c.name ≡ name.Check → most_input + 1 ≤ length left
     → (reply : Reply) → IsReply (Some left) c reply → IsAlike reply Reply.TooLong
 long_alone is check long _ (Found c q f asked right) = absurd (IsAsked-reads_nothing asked check)
@@ -61,18 +61,18 @@ pub accepted_exactly : {words : List (List ℕ)} {left : List ℕ} {v : Verdicts
 accepted_exactly {left = left} {v = v} is short accepted =
     reply_alone (Reply.Accepted v) (Accepted check_command left v refl (record { all = refl; short = short }) accepted (AreTrue-accepted accepted)) (accepted_alone is refl accepted short)
 
--- that over a refused one is Refused with the reason
+-- the right answer over a refused input is Refused with the reason
 pub refused_exactly : {words : List (List ℕ)} {left : List ℕ} {f : Refusal} {s : Status} {out : List ℕ} → IsCommand words check_command → length left ≤ most_input → IsRefusal left f
     → IsReplyOf (Some left) check_command s out ↔ ((s ≡ status.Refused) × (out ≡ refused_line f))
 refused_exactly {left = left} {f = f} is short refused =
     reply_alone (Reply.Refused f) (Refused check_command left f refl (record { all = refl; short = short }) refused) (refused_alone is refl refused short)
 
--- and that over one that is too long is TooLong
+-- the right answer over an input that is too long is TooLong
 pub too_long_exactly : {words : List (List ℕ)} {left : List ℕ} {s : Status} {out : List ℕ} → IsCommand words check_command → most_input + 1 ≤ length left
     → IsReplyOf (Some left) check_command s out ↔ ((s ≡ status.TooLong) × (out ≡ too_long_line))
 too_long_exactly is long = reply_alone Reply.TooLong (TooLong check_command refl long) (long_alone is refl long)
 
--- so are the right answers to the words
+-- the right answers to the words of `check` are its right answers
 pub check_accepted : {words : List (List ℕ)} {left : List ℕ} {v : Verdicts} {s : Status} {out : List ℕ} → IsCommand words check_command → length left ≤ most_input → IsAccepted left v
     → IsAnswer words (Some left) s out ↔ ((s ≡ status.Done) × (out ≡ accepted_lines v))
 check_accepted is short accepted =

@@ -41,7 +41,7 @@ one_reply fit is (Accepted c bytes v check whole accepted are_true) there = sym 
 one_reply fit is (Refused c bytes f check whole refused) there = sym (refused_alone is check (subst (λ b. IsRefusal b f) whole.all refused) (told_short whole) _ there).0
 one_reply fit is (TooLong c check long) there = sym (long_alone is check long _ there).0
 
--- so have replies to words
+-- replies to words have one status
 one_to : {words : List (List ℕ)} {left : List ℕ} {a b : Reply} → FoundOrUnfit → IsReplyTo words (Some left) a → IsReplyTo words (Some left) b → reply_status a ≡ reply_status b
 one_to fit (IsReplyTo.Usage none) (IsReplyTo.Usage _) = refl
 one_to fit (IsReplyTo.Usage none) (IsReplyTo.Right c reply is right) = absurd (none c is)
@@ -64,11 +64,11 @@ to_none : {words : List (List ℕ)} {input : Option (List ℕ)} {reply : Reply} 
 to_none reads (IsReplyTo.Usage none) = IsReplyTo.Usage none
 to_none reads (IsReplyTo.Right c reply is right) = IsReplyTo.Right c reply is (over_none (reads c is) right)
 
--- so is what is right for words whose commands read nothing
+-- what is right for words whose commands read nothing is right over an empty input
 pub answer_over_none : {words : List (List ℕ)} {input : Option (List ℕ)} {s : Status} {out : List ℕ} → ((c : Command) → IsCommand words c → ReadsNothing c) → IsAnswer words input s out → IsAnswer words (Some []) s out
 answer_over_none reads is = record { reply = is.reply; right = to_none reads is.right; status_is = is.status_is; output_is = is.output_is }
 
--- they have one status
+-- words whose commands read nothing have one status
 pub one_status_unread : {words : List (List ℕ)} {input : Option (List ℕ)} {s t : Status} {out other : List ℕ} → FoundOrUnfit → ((c : Command) → IsCommand words c → ReadsNothing c)
     → IsAnswer words input s out → IsAnswer words input t other → s ≡ t
 one_status_unread fit reads here there = one_status_told fit (answer_over_none reads here) (answer_over_none reads there)

@@ -22,7 +22,7 @@ IsOfMany _ = ⊥
 first_rule : {texts : List (List ℕ)} {r : LocalRule} {rules : List LocalRule} → AreRuleTexts texts (r ∷ rules) → IsRule r
 first_rule (AreRuleTexts.More text texts r rules says rest) = IsRule-text says
 
--- the second is
+-- the second of some rules that are read is an accepted one
 second_rule : {texts : List (List ℕ)} {r s : LocalRule} {rules : List LocalRule} → AreRuleTexts texts (r ∷ s ∷ rules) → IsRule s
 second_rule (AreRuleTexts.More text texts r rules says rest) = first_rule rest
 

@@ -61,7 +61,7 @@ pub IsWindowPair-determined : {r : LocalRule} → IsRule r → (forward backward
     → (n c : ℕ) → IsDetermined r n c → EachBelow (pair_count r) (IsWindowPair r forward backward n c)
 IsWindowPair-determined rule forward backward ranks back n c determined = IsClaimedApart-ranks rule (claim forward) (claim backward) ranks back n c determined
 
--- so is a look-ahead
+-- with the exact ranks a look-ahead is claimed
 pub IsAheadPair-ranks : (side : Side) {r : LocalRule} → IsRule r → (row : List (Option ℕ)) → ClaimsRanks side r (claim row) → (n : ℕ) → IsRightAhead (seen_from side r) n
     → EachBelow (pair_count r) (IsAheadPair (IsFirstOf side r) row n)
 IsAheadPair-ranks side rule row ranks n ahead p l first = ahead-ranks side rule (claim row) ranks n ahead p first

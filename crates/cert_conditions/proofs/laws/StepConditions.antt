@@ -47,7 +47,7 @@ record IsCovered (r : LocalRule) (sets : List ℕ) (w : List ℕ) : Type 0 where
 abbrev StepsAreKept : LocalRule → List ℕ → Type 0
 StepsAreKept r sets = EachBelow (length sets) (λ i. EachBelow r.states (StepIsKept Two r sets (slice_index sets i)))
 
--- so for the word with one more letter
+-- where each step contains a listed set, a word with one letter more is covered
 IsCovered-push : {r : LocalRule} {sets w : List ℕ} → IsRule r → StepsAreKept r sets → IsCovered r sets w → (a : ℕ) → a < r.states → IsCovered r sets (w ++ a ∷ [])
 IsCovered-push {r} {sets} rule closed h a letter =
     let (after, step, kept) = at_listed (λ s. EachBelow r.states (StepIsKept Two r sets s)) sets closed h.set h.listed a letter in
