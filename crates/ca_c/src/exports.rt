@@ -4,19 +4,18 @@ ghost use Rattle.word_image.specs.RuleFaults.{rule_fault};
 ghost use Rattle.cert_conditions.specs.Accepted.{AreTrue, is_open};
 ghost use Rattle.ca_c.specs.Calls.{IsHandedBack};
 ghost use Rattle.rule_verdicts.specs.Numbers.{numbers_fault, AreVerdictBytes};
-ghost use Rattle.ca_c.specs.NumberedVerdicts.{number_code};
+ghost use Rattle.c_values.specs.NumberedVerdicts.{number_code};
 ghost use Rattle.kept_sums.specs.Stages.{AreKeptSums};
-ghost use Rattle.ca_c.specs.RuleSums.{sums_code, IsFluxCall};
-ghost use Rattle.ca_c.specs.Verdicts.{AreNone, fault_code, rule_of_table, verdicts_about};
-ghost use Rattle.ca_c.specs.NextRules.{IsNext, IsWindowOrder};
-ghost use Rattle.ca_c.specs.Reports.{IsReportCall, named_weights, rule_with};
+ghost use Rattle.c_values.specs.RuleSums.{sums_code, IsFluxCall};
+ghost use Rattle.c_values.specs.Verdicts.{AreNone, fault_code, rule_of_table, verdicts_about};
+ghost use Rattle.c_values.specs.NextRules.{IsNext, IsWindowOrder};
+ghost use Rattle.c_values.specs.Reports.{IsReportCall, named_weights, rule_with};
 
 use crate::calls::{CallFault, call, put};
-use crate::next_rules::{letters_of, next_rule, property_of, shape_rule, write_table};
-use crate::numbered_verdicts::{joined, number_of};
-use crate::rule_reports::{RuleReport, report_of_table};
-use crate::rule_sums::range_number;
-use crate::table_verdicts::{RuleVerdicts, fault_number};
+use c_values::{
+    RuleReport, RuleVerdicts, fault_number, joined, letters_of, next_rule, number_of, property_of,
+    range_number, report_of_table, shape_rule, write_table,
+};
 use ca_cli::Status;
 use kept_sums::{Flux, KeptSums, Row, are_small, check_range, flux, kept_sums};
 use rule_lists::{is_order, write_order};

@@ -26,19 +26,11 @@
 mod blocks;
 mod calls;
 mod exports;
-mod letter_rows;
-mod next_rules;
-mod numbered_verdicts;
-mod report_parts;
-mod rule_reports;
-mod rule_sums;
 mod sinks;
 mod sources;
-mod table_verdicts;
 
 pub use exports::{
     ca_flux, ca_kept_sums, ca_next_rule, ca_report, ca_run, ca_verdict_bytes, ca_verdicts,
     ca_version, ca_window_order,
 };
-pub use rule_reports::RuleReport;
-pub use table_verdicts::RuleVerdicts;
+pub use c_values::{RuleReport, RuleVerdicts};
