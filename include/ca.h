@@ -197,6 +197,13 @@ uint8_t ca_run(const uint8_t *words, size_t words_length, const uint8_t *input, 
                uint8_t *output, size_t room, size_t *length);
 
 /*
+ * Carries out a command as ca_run does, with JSON in the place of the output: one object that says the whole reply, whose
+ * key "status" is "done", "notfit", "rulefault", "refused", "toolong" or "usage". Codes and lengths are those of ca_run.
+ */
+uint8_t ca_run_json(const uint8_t *words, size_t words_length, const uint8_t *input, size_t input_length,
+                    uint8_t *output, size_t room, size_t *length);
+
+/*
  * Decides the questions of a rule, each letter of which weighs its own value, and takes no memory.
  *
  * The rule has the letters 0 to states - 1, and cell i of an image is the table's letter for the window of

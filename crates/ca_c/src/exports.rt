@@ -2,7 +2,7 @@
 ghost use Rattle.std.specs.Prelude.{◌≡◌, ◌≢◌, ◌+◌, ◌*◌, ◌^◌, ◌<◌, ◌≤◌, ◌==◌, not, length, pos};
 ghost use Rattle.word_image.specs.RuleFaults.{rule_fault};
 ghost use Rattle.cert_check.specs.Accepted.{AreTrue, is_open};
-ghost use Rattle.ca_c.specs.Calls.{IsHandedBack};
+ghost use Rattle.ca_c.specs.Calls.{IsAnswerTo, IsHandedBack, IsJsonAnswerTo};
 ghost use Rattle.rule_verdicts.specs.Numbers.{numbers_fault, AreVerdictBytes};
 ghost use Rattle.ca_c.specs.NumberedVerdicts.{number_code};
 ghost use Rattle.kept_sums.specs.Stages.{AreKeptSums};
@@ -11,13 +11,12 @@ ghost use Rattle.ca_c.specs.Verdicts.{AreNone, fault_code, rule_of_table, verdic
 ghost use Rattle.ca_c.specs.NextRules.{IsNext, IsWindowOrder};
 ghost use Rattle.ca_c.specs.Reports.{IsReportCall, named_weights, rule_with};
 
-use crate::calls::{CallFault, call, put};
+use crate::calls::{SHORT, call, call_json, hand_back, put};
 use crate::next_rules::{letters_of, next_rule, property_of, shape_rule, write_table};
 use crate::numbered_verdicts::{joined, number_of};
 use crate::rule_reports::{RuleReport, report_of_table};
 use crate::rule_sums::range_number;
 use crate::table_verdicts::{RuleVerdicts, fault_number};
-use ca_cli::Status;
 use kept_sums::{Flux, KeptSums, Row, are_small, check_range, flux, kept_sums};
 use rule_lists::{is_order, write_order};
 use rule_verdicts::verdict_bytes;
@@ -29,12 +28,6 @@ const VERSION: u32 = 2;
 
 /// The code where there was no memory.
 const MEMORY: u8 = 8;
-
-/// The code where the block has no words.
-const NO_WORDS: u8 = 9;
-
-/// The code where the buffer is too short.
-const SHORT: u8 = 10;
 
 /// The code where a report, a rule or an order is handed back.
 const FOUND: u8 = 0;
@@ -81,26 +74,26 @@ pub extern "C" fn ca_run(
     output: &mut [u8],
     output_length: &mut usize,
 ) -> u8
-    ensures handed_back { IsHandedBack words.now input.now output.old result output_length.new output.new }
+    ensures handed_back { IsHandedBack (IsAnswerTo words.now input.now) words.now output.old result output_length.new output.new }
     ensures no_fault { (result ≢ 6) × (result ≢ 7) }
 {
-    match call(alloc, words, input) {
-        Ok(answer) => {
-            *output_length = answer.output.len();
-            if put(&answer.output, output) {
-                answer.status.code()
-            } else {
-                SHORT
-            }
-        }
-        Err(fault) => {
-            *output_length = 0;
-            match fault {
-                CallFault::NoWords => NO_WORDS,
-                CallFault::Memory => Status::Memory.code(),
-            }
-        }
-    }
+    hand_back(call(alloc, words, input), output, output_length)
+}
+
+/// Carries out the command whose words the block has, as `ca_run` does, with JSON in the place of the output: the
+/// whole reply as one object, as ca_json writes it. Codes and lengths are those of `ca_run`.
+#[unsafe(no_mangle)]
+pub extern "C" fn ca_run_json(
+    alloc: Global,
+    words: &[u8],
+    input: &[u8],
+    output: &mut [u8],
+    output_length: &mut usize,
+) -> u8
+    ensures handed_back { IsHandedBack (IsJsonAnswerTo words.now input.now) words.now output.old result output_length.new output.new }
+    ensures no_fault { (result ≢ 6) × (result ≢ 7) }
+{
+    hand_back(call_json(alloc, words, input), output, output_length)
 }
 
 /// Decides the questions of the rule with these states, this width and this table, whose window begins

@@ -1,31 +1,24 @@
 -- What is handed back, in the words of the code.
-use Rattle.std.proofs.Common.{◌≡◌, ◌≢◌, ℕ, ◌≤◌, List, ◌++◌, length, drop, sym, ap, subst, ◌∙◌, arith}
+use Rattle.std.proofs.Common.{◌≡◌, ◌≢◌, ℕ, List, Result, Err, refl, sym, subst, arith}
+use Rattle.std.specs.Prelude.{IfOk}
+use Rattle.ca_findings.specs.Replies.{Reply}
 use Rattle.ca_cli.specs.declared.status.Status.{Status}
 use Rattle.ca_cli.specs.declared.status.Status.TheVariants.{Done, Refused, Usage, RuleFault, NotFit, TooLong, ReadFault, WriteFault, Memory}
-use Rattle.ca_cli.specs.Statuses.{code_of, IsAnswered}
+use Rattle.ca_cli.specs.Statuses.{code_of, reply_status, IsAnswered}
 use Rattle.ca_cli.proofs.laws.RightAnswers.{IsAnswered-answer}
-use Rattle.ca_c.specs.Calls.{IsAnswerTo, IsHandedBack}
+use Rattle.ca_c.specs.Blocks.{AreWords}
+use Rattle.ca_c.specs.Calls.{HandsBack, IsAnswerTo, IsHandedBack, IsJsonAnswerTo}
+use Rattle.ca_c.specs.declared.calls.Answer.{Answer}
+use Rattle.ca_c.specs.declared.calls.CallFault.{CallFault}
+use Rattle.ca_c.specs.declared.calls.CallFault.TheVariants as fault
 
--- the whole output
-pub IsHandedBack-whole : {block input before after output bytes : List ℕ} {status : Status} {code len : ℕ} → IsAnswerTo block input status output → code ≡ code_of status → len ≡ length output
-    → bytes ≡ output → length bytes ≤ length before → after ≡ bytes ++ drop (length bytes) before → IsHandedBack block input before code len after
-IsHandedBack-whole {block = block} {input = input} {before = before} {after = after} {output = output} {status = status} {code = code} {len = len} answer coded long same fits put =
-    let begins : after ≡ output ++ drop (length output) before = put ∙ ap (λ (b : List ℕ). b ++ drop (length b) before) same in
-    let whole : IsHandedBack block input before (code_of status) (length output) (output ++ drop (length output) before) =
-    IsHandedBack.Whole status output answer (subst (λ (b : List ℕ). length b ≤ length before) same fits) in
-    let with_code : IsHandedBack block input before code (length output) (output ++ drop (length output) before) =
-    subst (λ (n : ℕ). IsHandedBack block input before n (length output) (output ++ drop (length output) before)) (sym coded) whole in
-    let with_length : IsHandedBack block input before code len (output ++ drop (length output) before) =
-    subst (λ (n : ℕ). IsHandedBack block input before code n (output ++ drop (length output) before)) (sym long) with_code in
-    subst (IsHandedBack block input before code len) (sym begins) with_length
-
--- the length of an output that doesn't fit
-pub IsHandedBack-short : {block input before after output bytes : List ℕ} {status : Status} {len : ℕ} → IsAnswerTo block input status output → len ≡ length output
-    → bytes ≡ output → ¬ (length bytes ≤ length before) → after ≡ before → IsHandedBack block input before 10 len after
-IsHandedBack-short {block = block} {input = input} {before = before} {after = after} {output = output} {status = status} {len = len} answer long same over kept =
-    let short : IsHandedBack block input before 10 (length output) before = IsHandedBack.Short status output answer (omega (arith, over, ap length same)) in
-    let with_length : IsHandedBack block input before 10 len before = subst (λ (n : ℕ). IsHandedBack block input before 10 n before) (sym long) short in
-    subst (IsHandedBack block input before 10 len) (sym kept) with_length
+-- what is handed back of a right answer
+pub IsHandedBack-answer : {IsRight : Status → List ℕ → Type 0} {block before after : List ℕ} {made : Result Answer CallFault} {code len : ℕ} → IfOk made (λ a. IsRight a.status a.output.items)
+    → (made ≡ Err fault.NoWords → (words : List (List ℕ)) → ¬ AreWords block words) → HandsBack before made code len after → IsHandedBack IsRight block before code len after
+IsHandedBack-answer right none (HandsBack.Whole a fits) = IsHandedBack.Whole a.status a.output.items right fits
+IsHandedBack-answer right none (HandsBack.Short a over) = IsHandedBack.Short a.status a.output.items right over
+IsHandedBack-answer right none HandsBack.NoWords = IsHandedBack.NoWords (none refl)
+IsHandedBack-answer right none HandsBack.Memory = IsHandedBack.Memory
 
 -- what came of the words is no fault of a read or a write
 no_fault : (s : Status) → IsAnswered s → (code_of s ≢ 6) × (code_of s ≢ 7)
@@ -39,8 +32,28 @@ no_fault ReadFault answered = absurd answered
 no_fault WriteFault answered = absurd answered
 no_fault Memory answered = absurd answered
 
--- so its code is none of these
-pub no_fault-answer : {block input output : List ℕ} {status : Status} {code : ℕ} → IsAnswerTo block input status output → code ≡ code_of status → (code ≢ 6) × (code ≢ 7)
-no_fault-answer {status = status} answer coded =
-    let none = no_fault status (IsAnswered-answer answer.answer) in
-    ((λ is. none.0 (sym coded ∙ is)), (λ is. none.1 (sym coded ∙ is)))
+-- no reply is one
+IsAnswered-reply : (reply : Reply) → IsAnswered (reply_status reply)
+IsAnswered-reply (Reply.Found f) = tt
+IsAnswered-reply (Reply.NoFit u) = tt
+IsAnswered-reply (Reply.RuleFault operand f) = tt
+IsAnswered-reply (Reply.Accepted v) = tt
+IsAnswered-reply (Reply.Refused f) = tt
+IsAnswered-reply Reply.TooLong = tt
+IsAnswered-reply Reply.Usage = tt
+
+-- so the code that is handed back is none of these, where a right status is one of a reply
+pub no_fault-handed_back : {IsRight : Status → List ℕ → Type 0} {block before after : List ℕ} {code len : ℕ} → ((s : Status) (out : List ℕ) → IsRight s out → IsAnswered s)
+    → IsHandedBack IsRight block before code len after → (code ≢ 6) × (code ≢ 7)
+no_fault-handed_back answered (IsHandedBack.Whole s out right fits) = no_fault s (answered s out right)
+no_fault-handed_back answered (IsHandedBack.Short s out right over) = ((λ is. omega (arith, is)), (λ is. omega (arith, is)))
+no_fault-handed_back answered (IsHandedBack.NoWords none) = ((λ is. omega (arith, is)), (λ is. omega (arith, is)))
+no_fault-handed_back answered IsHandedBack.Memory = ((λ is. omega (arith, is)), (λ is. omega (arith, is)))
+
+-- the status of a right answer is that of a reply
+pub IsAnswered-answer_to : {block input : List ℕ} (s : Status) (out : List ℕ) → IsAnswerTo block input s out → IsAnswered s
+IsAnswered-answer_to s out right = IsAnswered-answer right.answer
+
+-- the status of a right answer in JSON is that of a reply
+pub IsAnswered-json_answer : {block input : List ℕ} (s : Status) (out : List ℕ) → IsJsonAnswerTo block input s out → IsAnswered s
+IsAnswered-json_answer s out right = subst IsAnswered (sym right.status_is) (IsAnswered-reply right.reply)
