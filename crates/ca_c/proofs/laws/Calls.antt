@@ -1,5 +1,5 @@
 -- What is handed back, in the words of the code.
-use Rattle.std.proofs.Common.{◌≡◌, ◌≢◌, ℕ, List, Result, Err, refl, sym, subst, arith}
+use Rattle.std.proofs.Common.{◌≡◌, ◌≢◌, ℕ, ◌≤◌, List, ◌++◌, length, drop, Result, Ok, Err, refl, sym, ap, subst, subst₂, ◌∙◌, arith}
 use Rattle.std.specs.Prelude.{IfOk}
 use Rattle.ca_findings.specs.Replies.{Reply}
 use Rattle.ca_cli.specs.declared.status.Status.{Status}
@@ -11,6 +11,21 @@ use Rattle.ca_c.specs.Calls.{HandsBack, IsAnswerTo, IsHandedBack, IsJsonAnswerTo
 use Rattle.ca_c.specs.declared.calls.Answer.{Answer}
 use Rattle.ca_c.specs.declared.calls.CallFault.{CallFault}
 use Rattle.ca_c.specs.declared.calls.CallFault.TheVariants as fault
+
+-- an answer is handed back whole
+pub HandsBack-whole : {before after bytes : List ℕ} {code len : ℕ} (a : Answer) → code ≡ code_of a.status → len ≡ length a.output.items → bytes ≡ a.output.items
+    → length bytes ≤ length before → after ≡ bytes ++ drop (length bytes) before → HandsBack before (Ok a) code len after
+HandsBack-whole {before} {after} {bytes} {code} {len} a coded long same fits put =
+    let begins : after ≡ a.output.items ++ drop (length a.output.items) before = put ∙ ap (λ (b : List ℕ). b ++ drop (length b) before) same in
+    let whole = HandsBack.Whole a (subst (λ (b : List ℕ). length b ≤ length before) same fits) in
+    let with_code = subst (λ (n : ℕ). HandsBack before (Ok a) n (length a.output.items) (a.output.items ++ drop (length a.output.items) before)) (sym coded) whole in
+    subst₂ (λ (n : ℕ) (xs : List ℕ). HandsBack before (Ok a) code n xs) (sym long) (sym begins) with_code
+
+-- the length of an answer that doesn't fit
+pub HandsBack-short : {before after bytes : List ℕ} {len : ℕ} (a : Answer) → len ≡ length a.output.items → bytes ≡ a.output.items → ¬ (length bytes ≤ length before) → after ≡ before
+    → HandsBack before (Ok a) 10 len after
+HandsBack-short {before} {after} {bytes} {len} a long same over kept =
+    subst₂ (λ (n : ℕ) (xs : List ℕ). HandsBack before (Ok a) 10 n xs) (sym long) (sym kept) (HandsBack.Short a (omega (arith, over, ap length same)))
 
 -- what is handed back of a right answer
 pub IsHandedBack-answer : {IsRight : Status → List ℕ → Type 0} {block before after : List ℕ} {made : Result Answer CallFault} {code len : ℕ} → IfOk made (λ a. IsRight a.status a.output.items)
