@@ -29,8 +29,8 @@ mod calls;
 mod exports;
 mod sources;
 
-pub use exports::{
-    ca_flux, ca_kept_sums, ca_next_rule, ca_report, ca_run, ca_run_json, ca_verdict_bytes, ca_verdicts,
-    ca_version, ca_window_order,
-};
 pub use c_values::{RuleReport, RuleVerdicts};
+pub use exports::{
+    ca_flux, ca_kept_sums, ca_next_rule, ca_report, ca_run, ca_run_json, ca_verdict_bytes,
+    ca_verdicts, ca_version, ca_window_order,
+};
