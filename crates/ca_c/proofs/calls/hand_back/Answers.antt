@@ -6,18 +6,18 @@ use Rattle.ca_c.proofs.calls.hand_back.Goals as goal
 
 pub returns-then-put-clause-handed_back : goal.returns-then-put-clause-handed_back
 returns-then-put-clause-handed_back c =
-    let same = c.as_slice.ensures in
+    let same = c.as_slice-bytes.ensures in
     let put = c.if-put.ensures in
-    IsHandedBack-whole c.in-Ok.ensures.answer c.code.ensures (c.len.ensures ∙ ap length same) same (put.room.0 refl) (put.whole refl)
+    IsHandedBack-whole c.in-Ok.ensures.answer c.code.ensures (ap length same) same (put.room.0 refl) (put.whole refl)
 
 pub returns-then-put-clause-no_fault : goal.returns-then-put-clause-no_fault
 returns-then-put-clause-no_fault c = no_fault-answer c.in-Ok.ensures.answer c.code.ensures
 
 pub returns-in-Ok-clause-handed_back : goal.returns-in-Ok-clause-handed_back
 returns-in-Ok-clause-handed_back c =
-    let same = c.as_slice.ensures in
+    let same = c.as_slice-bytes.ensures in
     let put = c.if-put.ensures in
-    IsHandedBack-short c.in-Ok.ensures.answer (c.len.ensures ∙ ap length same) same (λ fits. false≢true (put.room.1 fits)) (put.kept refl)
+    IsHandedBack-short c.in-Ok.ensures.answer (ap length same) same (λ fits. false≢true (put.room.1 fits)) (put.kept refl)
 
 pub returns-in-NoWords-clause-handed_back : goal.returns-in-NoWords-clause-handed_back
 returns-in-NoWords-clause-handed_back c = IsHandedBack.NoWords (c.in-Err.ensures.none (ap (λ f. Err f) c.in-NoWords.is))
