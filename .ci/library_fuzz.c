@@ -186,15 +186,18 @@ static bool is_kept(const uint8_t *end, size_t length)
 /* Where buffers end. */
 static uint8_t *words_end, *input_end, *output_end, *table_end, *report_end;
 
-/* Calls ca_run, and looks at the code and at all bytes that it was passed. */
-static uint8_t run(const struct text *words, const struct text *input, size_t room, size_t *length)
+/* ca_run or ca_run_json. */
+typedef uint8_t run_function(const uint8_t *, size_t, const uint8_t *, size_t, uint8_t *, size_t, size_t *);
+
+/* Calls one of them, and looks at the code and at all bytes that it was passed. */
+static uint8_t run_by(run_function *run, const struct text *words, const struct text *input, size_t room, size_t *length)
 {
     memcpy(words_end - words->length, words->bytes, words->length);
     memcpy(input_end - input->length, input->bytes, input->length);
     memset(output_end - room, FILLING, room);
     *length = 12345;
-    uint8_t code = ca_run(words_end - words->length, words->length, input_end - input->length, input->length,
-                          output_end - room, room, length);
+    uint8_t code = run(words_end - words->length, words->length, input_end - input->length, input->length,
+                       output_end - room, room, length);
     is("the words are kept", memcmp(words_end - words->length, words->bytes, words->length) == 0);
     is("the input is kept", memcmp(input_end - input->length, input->bytes, input->length) == 0);
     if (code <= CA_CODE_TOO_LONG)
@@ -207,11 +210,38 @@ static uint8_t run(const struct text *words, const struct text *input, size_t ro
     return code;
 }
 
-/* A call of ca_run, and where the buffer is too short one with a byte too few and one with just room enough. */
+/* The same with so much room, and where that is too short with a byte too few and with just room enough. */
+static uint8_t run_until(run_function *run, const struct text *words, const struct text *input, size_t *room, size_t *length)
+{
+    size_t again;
+    uint8_t code = run_by(run, words, input, *room, length);
+    if (code != CA_CODE_SHORT || *length > MOST_OUTPUT)
+        return code;
+    *room = *length;
+    code = run_by(run, words, input, *room - 1, &again);
+    is("a byte too few is too few", code == CA_CODE_SHORT && again == *length);
+    code = run_by(run, words, input, *room, &again);
+    is("just room enough is enough", code <= CA_CODE_TOO_LONG && again == *length);
+    return code;
+}
+
+/* Whether bytes are one object without blanks that has the status of this code. */
+static bool is_json(const uint8_t *bytes, size_t length, uint8_t code)
+{
+    static const char *const statuses[] = {"done", "refused", "usage", "rulefault", "notfit", "toolong"};
+    char status[32];
+    size_t status_length = (size_t)snprintf(status, sizeof status, "\"status\":\"%s\"", statuses[code]);
+    for (size_t at = 0; at < length; at++)
+        if (bytes[at] <= ' ' || bytes[at] > '~')
+            return false;
+    return length > 2 && bytes[0] == '{' && bytes[length - 1] == '}' && memmem(bytes, length, status, status_length) != NULL;
+}
+
+/* Calls of both with one command: the codes are the same, and the JSON says which it is. */
 static void call_run(void)
 {
     static struct text words, input;
-    size_t length, again;
+    size_t length, json_length, room = below(3) != 0 ? below(600) : below(100000), json_room = room;
     input.length = 0;
     if (below(4) == 0) {
         words.length = 0;
@@ -220,13 +250,12 @@ static void call_run(void)
     } else {
         draw_words(&words);
     }
-    uint8_t code = run(&words, &input, below(3) != 0 ? below(600) : below(100000), &length);
-    if (code == CA_CODE_SHORT && length <= MOST_OUTPUT) {
-        code = run(&words, &input, length - 1, &again);
-        is("a byte too few is too few", code == CA_CODE_SHORT && again == length);
-        code = run(&words, &input, length, &again);
-        is("just room enough is enough", code <= CA_CODE_TOO_LONG && again == length);
-    }
+    uint8_t code = run_until(ca_run, &words, &input, &room, &length);
+    uint8_t json_code = run_until(ca_run_json, &words, &input, &json_room, &json_length);
+    if (code != CA_CODE_SHORT && json_code != CA_CODE_SHORT)
+        is("JSON has the code of the output", json_code == code);
+    if (json_code <= CA_CODE_TOO_LONG)
+        is("JSON is an object with the status", is_json(output_end - json_room, json_length, json_code));
 }
 
 /* The first fault of a table of these states and this width, as the header lists them. */

@@ -20,6 +20,30 @@
     "accepted 2:3:-1:t01110110\nsurjective no\ninjective no\nright no\nleft no\nopen no\n"         \
     "conserving no\n"
 
+#define JSON_110                                                                                   \
+    "{\"finding\":{\"report\":{\"conserving\":{\"holds\":false,\"ring\":\"1\"},"                      \
+    "\"injective\":{\"holds\":false,\"twins\":[\"0\",\"1\"]},"                                       \
+    "\"left\":{\"holds\":false,\"split\":[{\"left\":\"011\",\"middle\":\"01\",\"right\":\"0\"},"         \
+    "{\"left\":\"110\",\"middle\":\"11\",\"right\":\"0\"}]},"                                        \
+    "\"number\":\"110\",\"open\":false,"                                                           \
+    "\"right\":{\"holds\":false,\"split\":[{\"left\":\"0\",\"middle\":\"100\",\"right\":\"0\"},"         \
+    "{\"left\":\"0\",\"middle\":\"111\",\"right\":\"1\"}]},"                                         \
+    "\"rule\":\"2:3:-1:t01110110\",\"surjective\":{\"holds\":false,\"orphan\":\"01010\"},"           \
+    "\"weights\":[0,1]}},\"status\":\"done\"}"
+
+#define USAGE_JSON "{\"status\":\"usage\"}"
+
+/* The first certificate of docs/CERTIFICATES.md. */
+#define SHIFT_CERTIFICATE                                                                          \
+    "{\"conserving\":{\"flux\":[0,-1]},\"injective\":{\"c\":1,\"n\":1},\"left\":{\"ahead\":2},"        \
+    "\"ranks\":{\"backward\":[null,0,0,null],\"forward\":[null,null,null,null]},"                   \
+    "\"right\":{\"ahead\":1},\"rule\":\"2:2:0:t0101\",\"surjective\":{\"sets\":[3,1,2]},"            \
+    "\"version\":2}"
+
+#define SHIFT_VERDICTS                                                                             \
+    "{\"status\":\"done\",\"verdicts\":{\"conserving\":true,\"injective\":true,\"left\":true,"        \
+    "\"open\":true,\"right\":true,\"rule\":\"2:2:0:t0101\",\"surjective\":true,\"weights\":[0,1]}}"
+
 /* The input of check that is one byte too long. */
 #define LONG_INPUT 4194305
 
@@ -50,26 +74,42 @@ static bool is_kept(const uint8_t *buffer, size_t from, size_t size)
     return true;
 }
 
+/* ca_run or ca_run_json. */
+typedef uint8_t run_function(const uint8_t *, size_t, const uint8_t *, size_t, uint8_t *, size_t, size_t *);
+
 /* Whether a call into a buffer of this room gives the code and the text, and writes nothing else. */
-static bool answers(const uint8_t *words, size_t words_length, const uint8_t *input,
-                    size_t input_length, size_t room, int code, const char *text)
+static bool gives(run_function *run, const uint8_t *words, size_t words_length, const uint8_t *input,
+                  size_t input_length, size_t room, int code, const char *text)
 {
     uint8_t buffer[ROOM];
     size_t length = 12345;
     memset(buffer, FILLING, sizeof buffer);
-    int got = ca_run(words, words_length, input, input_length, buffer, room, &length);
+    int got = run(words, words_length, input, input_length, buffer, room, &length);
     return got == code && length == strlen(text) && length <= room
         && memcmp(buffer, text, length) == 0 && is_kept(buffer, length, sizeof buffer);
 }
 
 /* Whether a call into a buffer of this room hands nothing back but the code and the length. */
-static bool leaves(const uint8_t *words, size_t words_length, size_t room, int code, size_t length)
+static bool gives_none(run_function *run, const uint8_t *words, size_t words_length, size_t room, int code,
+                       size_t length)
 {
     uint8_t buffer[ROOM];
     size_t got_length = 12345;
     memset(buffer, FILLING, sizeof buffer);
-    int got = ca_run(words, words_length, NOTHING, buffer, room, &got_length);
+    int got = run(words, words_length, NOTHING, buffer, room, &got_length);
     return got == code && got_length == length && is_kept(buffer, 0, sizeof buffer);
+}
+
+/* These two of ca_run. */
+static bool answers(const uint8_t *words, size_t words_length, const uint8_t *input,
+                    size_t input_length, size_t room, int code, const char *text)
+{
+    return gives(ca_run, words, words_length, input, input_length, room, code, text);
+}
+
+static bool leaves(const uint8_t *words, size_t words_length, size_t room, int code, size_t length)
+{
+    return gives_none(ca_run, words, words_length, room, code, length);
 }
 
 static void test_commands(void)
@@ -136,6 +176,40 @@ static void test_input(void)
                                                  CA_REFUSED, "refused format notjson\n"));
     }
     free(many);
+}
+
+/* Whether the reply in JSON is this object. */
+static bool says(const uint8_t *words, size_t words_length, const uint8_t *input, size_t input_length,
+                 int code, const char *json)
+{
+    return gives(ca_run_json, words, words_length, input, input_length, ROOM, code, json);
+}
+
+static void test_json(void)
+{
+    is("JSON of decide 110", says(WORDS("decide\0" "110\0"), NOTHING, CA_CODE_DONE, JSON_110));
+    is("JSON of orphan 90", says(WORDS("orphan\0" "90\0"), NOTHING, CA_CODE_DONE,
+                                 "{\"finding\":{\"orphan\":null},\"status\":\"done\"}"));
+    is("JSON of inverse 90", says(WORDS("inverse\0" "90\0"), NOTHING, CA_CODE_NOT_FIT,
+                                  "{\"cause\":{\"twins\":[\"0\",\"1\"]},\"status\":\"notfit\"}"));
+    is("JSON of orphan 256", says(WORDS("orphan\0" "256\0"), NOTHING, CA_CODE_RULE_FAULT,
+                                  "{\"fault\":\"number\",\"operand\":1,\"status\":\"rulefault\"}"));
+    is("JSON of no command", says(NOTHING, NOTHING, CA_CODE_USAGE, USAGE_JSON));
+    is("JSON of a certificate", says(WORDS("check\0"), (const uint8_t *)SHIFT_CERTIFICATE, strlen(SHIFT_CERTIFICATE),
+                                     CA_CODE_DONE, SHIFT_VERDICTS));
+    is("JSON of no certificate",
+       says(WORDS("check\0"), NOTHING, CA_CODE_REFUSED,
+            "{\"at\":[],\"because\":\"notjson\",\"cause\":\"format\",\"status\":\"refused\"}"));
+    const size_t length = strlen(JSON_110);
+    is("room for one byte of JSON too few",
+       gives_none(ca_run_json, WORDS("decide\0" "110\0"), length - 1, CA_CODE_SHORT, length));
+    is("no room for JSON", gives_none(ca_run_json, NOTHING, 0, CA_CODE_SHORT, strlen(USAGE_JSON)));
+    is("just room enough for JSON", gives(ca_run_json, WORDS("decide\0" "110\0"), NOTHING, length,
+                                          CA_CODE_DONE, JSON_110));
+    is("JSON of a last word without an end",
+       gives_none(ca_run_json, WORDS("decide\0" "110"), ROOM, CA_CODE_NO_WORDS, 0));
+    is("JSON of a byte that begins nothing",
+       gives_none(ca_run_json, WORDS("orphan\0" "\xff\0"), ROOM, CA_CODE_NO_WORDS, 0));
 }
 
 /* Whether the rule of this table has these verdicts, in the order of the struct. */
@@ -596,6 +670,7 @@ int main(void)
     test_words();
     test_room();
     test_input();
+    test_json();
     test_verdicts();
     test_report();
     test_verdict_bytes();

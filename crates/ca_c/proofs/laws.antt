@@ -1,5 +1,2 @@
 pub mod Blocks
 pub mod Calls
-pub mod NextRules
-pub mod LetterRows
-pub mod Reports

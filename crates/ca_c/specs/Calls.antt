@@ -1,25 +1,38 @@
 -- What a call of the interface hands back.
-use Rattle.std.specs.Prelude.{ℕ, ◌<◌, ◌≤◌, List, ◌++◌, length, drop, Some}
+use Rattle.std.specs.Prelude.{◌≡◌, ℕ, ◌<◌, ◌≤◌, List, ◌++◌, length, drop, Some}
+use Rattle.ca_findings.specs.Replies.{Reply}
+use Rattle.ca_text.specs.Replies.{reply_text}
+use Rattle.ca_json.specs.Replies.{json_text}
 use Rattle.ca_cli.specs.declared.status.Status.{Status}
-use Rattle.ca_cli.specs.Statuses.{code_of}
-use Rattle.ca_cli.specs.RightAnswers.{IsAnswer}
+use Rattle.ca_cli.specs.Statuses.{code_of, reply_status}
+use Rattle.ca_cli.specs.RightAnswers.{IsReplyTo}
 use Rattle.ca_c.specs.Blocks.{AreWords}
+use Rattle.ca_c.specs.declared.calls.Form.{Form}
+use Rattle.ca_c.specs.declared.calls.Form.TheVariants as form
 
--- the status and the output are right for the words of a block and for an input
-pub record IsAnswerTo (block input : List ℕ) (status : Status) (output : List ℕ) : Type 0 where
+-- the bytes of a reply in a form: what the program prints, or JSON
+abbrev pub bytes_in : Form → Reply → List ℕ
+bytes_in form.Text = reply_text
+bytes_in form.Json = json_text
+
+-- the status and the output are those of a right reply to the words of a block and to an input
+pub record IsAnswerIn (bytes_of : Reply → List ℕ) (block input : List ℕ) (status : Status) (output : List ℕ) : Type 0 where
   pub words : List (List ℕ)
   pub in_block : AreWords block words
-  pub answer : IsAnswer words (Some input) status output
+  pub reply : Reply
+  pub right : IsReplyTo words (Some input) reply
+  pub status_is : status ≡ reply_status reply
+  pub output_is : output ≡ bytes_of reply
 
 -- the code, the length and the buffer that are handed back, where the buffer had these bytes before
-pub data IsHandedBack (block input before : List ℕ) : ℕ → ℕ → List ℕ → Type 0 where
+pub data IsHandedBack (bytes_of : Reply → List ℕ) (block input before : List ℕ) : ℕ → ℕ → List ℕ → Type 0 where
   -- the status, and the whole output at the beginning of the buffer
-  Whole : (status : Status) (output : List ℕ) → IsAnswerTo block input status output → length output ≤ length before
-      → IsHandedBack block input before (code_of status) (length output) (output ++ drop (length output) before)
+  Whole : (status : Status) (output : List ℕ) → IsAnswerIn bytes_of block input status output → length output ≤ length before
+      → IsHandedBack bytes_of block input before (code_of status) (length output) (output ++ drop (length output) before)
   -- the length of an output for which the buffer is too short
-  Short : (status : Status) (output : List ℕ) → IsAnswerTo block input status output → length before < length output
-      → IsHandedBack block input before 10 (length output) before
+  Short : (status : Status) (output : List ℕ) → IsAnswerIn bytes_of block input status output → length before < length output
+      → IsHandedBack bytes_of block input before 10 (length output) before
   -- the block has no words
-  NoWords : ((words : List (List ℕ)) → ¬ AreWords block words) → IsHandedBack block input before 9 0 before
+  NoWords : ((words : List (List ℕ)) → ¬ AreWords block words) → IsHandedBack bytes_of block input before 9 0 before
   -- there was no memory
-  Memory : IsHandedBack block input before 8 0 before
+  Memory : IsHandedBack bytes_of block input before 8 0 before

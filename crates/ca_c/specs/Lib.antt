@@ -1,10 +1,3 @@
 pub mod Blocks
 pub mod Calls
-pub mod Verdicts
 pub mod Examples
-pub mod NumberedVerdicts
-pub mod NextRules
-pub mod RuleSums
-pub mod LetterRows
-pub mod ReportParts
-pub mod Reports

@@ -1,13 +1,32 @@
 //! A call of the program over bytes in memory.
-ghost use Rattle.std.specs.Prelude.{◌≡◌, ℕ, List, ◌++◌, ◌↔◌, ◌≤◌, length, drop, IfOk, IsTrue, IsFalse};
+ghost use Rattle.std.specs.Prelude.{◌≡◌, ◌≢◌, ℕ, List, ◌++◌, ◌↔◌, ◌≤◌, length, drop, IfOk, IsTrue, IsFalse};
+ghost use Rattle.ca_findings.specs.Values.{reply_of};
+ghost use Rattle.ca_findings.specs.Writable.{IsWritableReply};
 ghost use Rattle.ca_c.specs.Blocks.{AreWords};
-ghost use Rattle.ca_c.specs.Calls.{IsAnswerTo};
+ghost use Rattle.ca_c.specs.Calls.{IsAnswerIn, IsHandedBack, bytes_in};
 
 use crate::blocks::words;
-use crate::sinks::VecSink;
 use crate::sources::SliceSource;
-use ca_cli::{Status, run};
+use ca_cli::{Status, reply, right_replies_are_writable};
+use ca_findings::Reply;
+use ca_json::reply_json;
+use ca_text::{Output, reply_text};
 use std::alloc::{AllocError, Global};
+
+/// The code where the block has no words.
+const NO_WORDS: u8 = 9;
+
+/// The code where the buffer is too short.
+pub const SHORT: u8 = 10;
+
+/// The form in which a reply is handed back.
+#[derive(Clone, Copy, Debug, PartialEq, Eq)]
+pub enum Form {
+    /// What the program prints.
+    Text,
+    /// One JSON object.
+    Json,
+}
 
 /// Why a call has no answer.
 #[derive(Clone, Copy, Debug, PartialEq, Eq)]
@@ -29,30 +48,73 @@ impl From<AllocError> for CallFault {
     }
 }
 
-/// What the program answers.
+/// What is answered to words.
 #[derive(Drop)]
 pub struct Answer {
-    /// How it ended.
+    /// The status of the reply.
     pub status: Status,
-    /// All that it wrote.
-    pub output: Vec<u8>,
+    /// The whole reply, in a form.
+    pub output: Output,
 }
 
-/// Carries out the command whose words a block has, over an input. A read can't fail here, and a write
-/// only for want of memory, so that is the only fault but a block that has no words.
-pub fn call(alloc: Global, block: &[u8], input: &[u8]) -> Result<Answer, CallFault>
-    ensures answer { IfOk result (λ answer. IsAnswerTo block.now input.now answer.status answer.output.items) }
+/// Carries out the command whose words a block has, over an input, and gives the reply in a form. A read can't fail here,
+/// so want of memory is the only fault but a block that has no words.
+pub fn call(alloc: Global, form: Form, block: &[u8], input: &[u8]) -> Result<Answer, CallFault>
+    ensures answer { IfOk result (λ answer. IsAnswerIn (bytes_in form) block.now input.now answer.status answer.output) }
     ensures none { result ≡ Err CallFault.NoWords → (words : List (List ℕ)) → ¬ AreWords block.now words }
 {
     let words = words(alloc, block)?;
-    let mut source = SliceSource::new(input);
-    let mut sink = VecSink::new(alloc);
-    match run(alloc, &words, &mut source, &mut sink) {
-        Status::ReadFault | Status::WriteFault | Status::Memory => Err(CallFault::Memory),
-        status => Ok(Answer {
-            status,
-            output: sink.into_bytes(),
-        }),
+    let Ok(reply) = reply(alloc, &words, &mut SliceSource::new(input)) else {
+        return Err(CallFault::Memory);
+    };
+    right_replies_are_writable();
+    let output = output_in(alloc, form, &reply)?;
+    Ok(Answer {
+        status: Status::of(&reply),
+        output,
+    })
+}
+
+/// A reply in a form.
+fn output_in(alloc: Global, form: Form, reply: &Reply) -> Result<Output, AllocError>
+    requires { IsWritableReply (reply_of reply.now) }
+    ensures { IfOk result (λ output. output ≡ bytes_in form (reply_of reply.now)) }
+{
+    match form {
+        Form::Text => reply_text(alloc, reply),
+        Form::Json => Ok(Output::of(reply_json(alloc, reply)?.into_bytes())),
+    }
+}
+
+/// Hands back what is answered in a form: a code, the length, and the bytes where the buffer has room for all.
+pub fn hand_back(
+    alloc: Global,
+    form: Form,
+    words: &[u8],
+    input: &[u8],
+    output: &mut [u8],
+    output_length: &mut usize,
+) -> u8
+    ensures handed_back { IsHandedBack (bytes_in form) words.now input.now output.old result output_length.new output.new }
+    ensures no_fault { (result ≢ 6) × (result ≢ 7) }
+{
+    match call(alloc, form, words, input) {
+        Ok(answer) => {
+            let bytes = answer.output.as_slice();
+            *output_length = bytes.len();
+            if put(bytes, output) {
+                answer.status.code()
+            } else {
+                SHORT
+            }
+        }
+        Err(fault) => {
+            *output_length = 0;
+            match fault {
+                CallFault::NoWords => NO_WORDS,
+                CallFault::Memory => Status::Memory.code(),
+            }
+        }
     }
 }
 

@@ -2,22 +2,22 @@
 ghost use Rattle.std.specs.Prelude.{◌≡◌, ◌≢◌, ◌+◌, ◌*◌, ◌^◌, ◌<◌, ◌≤◌, ◌==◌, not, length, pos};
 ghost use Rattle.word_image.specs.RuleFaults.{rule_fault};
 ghost use Rattle.cert_conditions.specs.Accepted.{AreTrue, is_open};
+ghost use Rattle.ca_text.specs.Replies.{reply_text};
+ghost use Rattle.ca_json.specs.Replies.{json_text};
 ghost use Rattle.ca_c.specs.Calls.{IsHandedBack};
 ghost use Rattle.rule_verdicts.specs.Numbers.{numbers_fault, AreVerdictBytes};
-ghost use Rattle.ca_c.specs.NumberedVerdicts.{number_code};
+ghost use Rattle.c_values.specs.NumberedVerdicts.{number_code};
 ghost use Rattle.kept_sums.specs.Stages.{AreKeptSums};
-ghost use Rattle.ca_c.specs.RuleSums.{sums_code, IsFluxCall};
-ghost use Rattle.ca_c.specs.Verdicts.{AreNone, fault_code, rule_of_table, verdicts_about};
-ghost use Rattle.ca_c.specs.NextRules.{IsNext, IsWindowOrder};
-ghost use Rattle.ca_c.specs.Reports.{IsReportCall, named_weights, rule_with};
+ghost use Rattle.c_values.specs.RuleSums.{sums_code, IsFluxCall};
+ghost use Rattle.c_values.specs.Verdicts.{AreNone, fault_code, rule_of_table, verdicts_about};
+ghost use Rattle.c_values.specs.NextRules.{IsNext, IsWindowOrder};
+ghost use Rattle.c_values.specs.Reports.{IsReportCall, named_weights, rule_with};
 
-use crate::calls::{CallFault, call, put};
-use crate::next_rules::{letters_of, next_rule, property_of, shape_rule, write_table};
-use crate::numbered_verdicts::{joined, number_of};
-use crate::rule_reports::{RuleReport, report_of_table};
-use crate::rule_sums::range_number;
-use crate::table_verdicts::{RuleVerdicts, fault_number};
-use ca_cli::Status;
+use crate::calls::{Form, SHORT, hand_back, put};
+use c_values::{
+    RuleReport, RuleVerdicts, fault_number, joined, letters_of, next_rule, number_of, property_of,
+    range_number, report_of_table, shape_rule, write_table,
+};
 use kept_sums::{Flux, KeptSums, Row, are_small, check_range, flux, kept_sums};
 use rule_lists::{is_order, write_order};
 use rule_verdicts::verdict_bytes;
@@ -29,12 +29,6 @@ const VERSION: u32 = 2;
 
 /// The code where there was no memory.
 const MEMORY: u8 = 8;
-
-/// The code where the block has no words.
-const NO_WORDS: u8 = 9;
-
-/// The code where the buffer is too short.
-const SHORT: u8 = 10;
 
 /// The code where a report, a rule or an order is handed back.
 const FOUND: u8 = 0;
@@ -69,8 +63,7 @@ pub extern "C" fn ca_version() -> u32
 /// It gives a code, writes the length of the output to `output_length`, and the output to the beginning
 /// of the buffer.
 ///
-/// Codes 0 to 5 are those of `Status`, and no other status comes: a read can't fail here, and a write
-/// only for want of memory. 8 is that there was no memory, 9 that the block has no words, and both have
+/// Codes 0 to 5 are those of `Status`, and no other status comes: nothing is read or written here that can fail. 8 is that there was no memory, 9 that the block has no words, and both have
 /// the length 0. 10 is that the buffer is too short for the output; the length is then the one that is
 /// wanted. With 8, 9 and 10 the buffer is as it was.
 #[unsafe(no_mangle)]
@@ -81,26 +74,26 @@ pub extern "C" fn ca_run(
     output: &mut [u8],
     output_length: &mut usize,
 ) -> u8
-    ensures handed_back { IsHandedBack words.now input.now output.old result output_length.new output.new }
+    ensures handed_back { IsHandedBack reply_text words.now input.now output.old result output_length.new output.new }
     ensures no_fault { (result ≢ 6) × (result ≢ 7) }
 {
-    match call(alloc, words, input) {
-        Ok(answer) => {
-            *output_length = answer.output.len();
-            if put(&answer.output, output) {
-                answer.status.code()
-            } else {
-                SHORT
-            }
-        }
-        Err(fault) => {
-            *output_length = 0;
-            match fault {
-                CallFault::NoWords => NO_WORDS,
-                CallFault::Memory => Status::Memory.code(),
-            }
-        }
-    }
+    hand_back(alloc, Form::Text, words, input, output, output_length)
+}
+
+/// Carries out the command as [`ca_run`] does, and gives in place of the output the whole reply as one JSON object, as
+/// `ca_json` writes it. Each answer has one, the refused ones too. Codes and lengths are as there.
+#[unsafe(no_mangle)]
+pub extern "C" fn ca_run_json(
+    alloc: Global,
+    words: &[u8],
+    input: &[u8],
+    output: &mut [u8],
+    output_length: &mut usize,
+) -> u8
+    ensures handed_back { IsHandedBack json_text words.now input.now output.old result output_length.new output.new }
+    ensures no_fault { (result ≢ 6) × (result ≢ 7) }
+{
+    hand_back(alloc, Form::Json, words, input, output, output_length)
 }
 
 /// Decides the questions of the rule with these states, this width and this table, whose window begins

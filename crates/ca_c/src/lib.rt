@@ -1,6 +1,7 @@
-//! The interface for C: nine functions with C's calling convention, in a static library.
+//! The interface for C: ten functions with C's calling convention, in a static library.
 //!
-//! [`ca_run`] carries out a command as the program does, over bytes in memory. [`ca_verdicts`] decides the
+//! [`ca_run`] carries out a command as the program does, over bytes in memory, and [`ca_run_json`] gives the reply as JSON.
+//! [`ca_verdicts`] decides the
 //! questions of a rule without a text, [`ca_report`] answers them with the least evidence, and [`ca_verdict_bytes`]
 //! decides those of many rules with consecutive numbers, a byte for each. [`ca_next_rule`] finds the rules of a shape
 //! that have a property, one a call, in an order of the windows, which [`ca_window_order`] writes. [`ca_kept_sums`] finds
@@ -26,19 +27,10 @@
 mod blocks;
 mod calls;
 mod exports;
-mod letter_rows;
-mod next_rules;
-mod numbered_verdicts;
-mod report_parts;
-mod rule_reports;
-mod rule_sums;
-mod sinks;
 mod sources;
-mod table_verdicts;
 
+pub use c_values::{RuleReport, RuleVerdicts};
 pub use exports::{
-    ca_flux, ca_kept_sums, ca_next_rule, ca_report, ca_run, ca_verdict_bytes, ca_verdicts,
-    ca_version, ca_window_order,
+    ca_flux, ca_kept_sums, ca_next_rule, ca_report, ca_run, ca_run_json, ca_verdict_bytes,
+    ca_verdicts, ca_version, ca_window_order,
 };
-pub use rule_reports::RuleReport;
-pub use table_verdicts::RuleVerdicts;

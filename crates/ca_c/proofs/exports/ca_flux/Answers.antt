@@ -4,7 +4,7 @@ use Rattle.word_image.specs.LocalRules.{LocalRule}
 use Rattle.kept_sums.specs.Sums.{IsKept}
 use Rattle.kept_sums.specs.Rows.{at}
 use Rattle.kept_sums.specs.Fluxes.{IsFluxList}
-use Rattle.ca_c.specs.RuleSums.{IsFluxCall}
+use Rattle.c_values.specs.RuleSums.{IsFluxCall}
 use Rattle.ca_c.proofs.exports.ca_flux.Goals as goal
 
 pub returns-in-Err : goal.returns-in-Err

@@ -1,0 +1,3 @@
+pub mod NextRules
+pub mod LetterRows
+pub mod Reports

@@ -1,0 +1,73 @@
+//! The rules of a shape that have a property, as C asks for them.
+ghost use Rattle.std.specs.Prelude.{◌≡◌, ◌^◌, ◌≤◌, IsNone, IfSome, MatchOption, length, pos};
+ghost use Rattle.word_image.specs.LocalRules.{IsShape};
+ghost use Rattle.rule_lists.specs.Ranks.{IsOrder};
+ghost use Rattle.rule_lists.specs.Listed.{IsFirst, NoneIs};
+ghost use Rattle.c_values.specs.NextRules.{IsNoProperty, IsToCome, fixed_letters, property_number};
+
+use rule_lists::{Hints, Letters, Property, first_rule, rule_after};
+use word_image::{MOST_ENTRIES, Rule};
+
+/// The property that a number stands for, that of its bit in a byte of verdicts.
+pub fn property_of(number: u8) -> Option<Property>
+    ensures some { IfSome result (λ property. number ≡ property_number property) }
+    ensures none { IsNone result → IsNoProperty number }
+{
+    match number {
+        1 => Some(Property::Surjective),
+        2 => Some(Property::Injective),
+        4 => Some(Property::RightClosing),
+        8 => Some(Property::LeftClosing),
+        16 => Some(Property::Open),
+        32 => Some(Property::Conserving),
+        _ => None,
+    }
+}
+
+/// A rule of this shape, at offset 0, for the shape alone.
+pub fn shape_rule(states: u8, width: u8) -> Rule
+    requires { IsShape states width (pos 0) }
+    ensures states { result.states ≡ states }
+    ensures width { result.width ≡ width }
+{
+    Rule::by(states, width, 0, |_| 0)
+}
+
+/// The letters that tables begin with, and no letter behind them.
+pub fn letters_of(begin: &[u8]) -> Letters
+    requires { length begin.now ≤ 256 }
+    ensures { result ≡ fixed_letters begin.now }
+{
+    let mut letters = [u8::MAX; MOST_ENTRIES];
+    letters[..begin.len()].copy_from_slice(begin);
+    letters
+}
+
+/// The first rule of the shape of this one that has the property and the fixed letters, or the first one after it.
+pub fn next_rule(
+    property: Property,
+    letters: &Letters,
+    order: &[u8],
+    after: bool,
+    rule: &Rule,
+) -> Option<Rule>
+    requires { IsOrder (rule.now.states ^ rule.now.width) order.now }
+    ensures { MatchOption result
+        (NoneIs property rule.now.states rule.now.width letters.now (IsToCome after rule.now.states order.now rule.now.table))
+        (IsFirst property rule.now.states rule.now.width letters.now order.now (IsToCome after rule.now.states order.now rule.now.table)) }
+{
+    let mut hints = Hints::of(property, rule, letters);
+    if after {
+        rule_after(property, letters, order, rule, &mut hints)
+    } else {
+        first_rule(property, rule, letters, order, &mut hints)
+    }
+}
+
+/// Writes the letters of a rule.
+pub fn write_table(rule: &Rule, table: &mut [u8])
+    requires { length table.old ≡ length rule.now.table }
+    ensures { table.new ≡ rule.now.table }
+{
+    table.copy_from_slice(rule.table());
+}

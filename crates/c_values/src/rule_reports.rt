@@ -1,0 +1,201 @@
+//! What is handed back of a rule with its evidence.
+ghost use Rattle.std.specs.Prelude.{◌≡◌, [], option_copied, IfOk};
+ghost use Rattle.cert_format.specs.Parts.{sum_of};
+ghost use Rattle.word_image.specs.LocalRules.{IsRule};
+ghost use Rattle.certificate_laws.specs.LeastEvidence.{Evidence};
+ghost use Rattle.ca_findings.specs.Findings.{Finding};
+ghost use Rattle.ca_findings.specs.Values.{evidence_of, finding_of};
+ghost use Rattle.c_values.specs.ReportParts.{IsShortSum};
+ghost use Rattle.c_values.specs.Reports.{IsReported, IsReportOf, letters_in, named_weights, no_report, rule_with};
+
+use crate::letter_rows::{LetterRow, NO_ROW, NO_SPLIT, NO_TWINS, SplitRows, TwinRows};
+use crate::report_parts::{MOST_NODES, add_conserving, add_injective, add_side, add_surjective};
+use crate::table_verdicts::fault_number;
+use ca_answers::report;
+use ca_findings::{Found, Report, Stop};
+use std::alloc::{AllocError, Global};
+use word_image::Rule;
+
+/// The number of the fault that there isn't one weight for each letter.
+const NO_WEIGHTS: u8 = 18;
+
+/// The verdicts of a rule, each with the least evidence, whose words stand in a buffer. A verdict is 1 where
+/// it holds, and else 0.
+#[repr(C)]
+#[derive(Clone, Copy, Debug)]
+pub struct RuleReport {
+    /// 0 where there is a report; else the number of the first fault, and all below are 0.
+    pub fault: u8,
+    /// Whether every word has a preimage.
+    pub surjective: u8,
+    /// Whether no two different configurations share an image.
+    pub injective: u8,
+    /// Whether no two that agree on the left do.
+    pub right: u8,
+    /// Whether no two that agree on the right do.
+    pub left: u8,
+    /// Whether both of these hold: the rule is open.
+    pub is_open: u8,
+    /// Whether every ring keeps the sum of the weights of its letters.
+    pub conserving: u8,
+    /// How many numbers the flux has.
+    pub nodes: u8,
+    /// How many letters of an image determine one of the letters behind them, where the rule is injective.
+    pub window: u32,
+    /// Which of these it is.
+    pub place: u32,
+    /// The look-ahead, where the rule is right-closing.
+    pub right_ahead: u32,
+    /// The look-ahead of the mirrored rule, where the rule is left-closing.
+    pub left_ahead: u32,
+    /// The flux where the rule is conserving, and zeros after its numbers.
+    pub flux: [i32; MOST_NODES],
+    /// The least orphan, where the rule isn't surjective.
+    pub orphan: LetterRow,
+    /// The least twins, where it isn't injective.
+    pub twins: TwinRows,
+    /// The least ring that doesn't keep its sum, where there is one.
+    pub ring: LetterRow,
+    /// The least right split, where the rule isn't right-closing.
+    pub right_split: SplitRows,
+    /// The least left split, where it isn't left-closing.
+    pub left_split: SplitRows,
+    /// Zeros.
+    pub reserved: [u32; 8],
+}
+
+impl RuleReport {
+    /// None, for this fault.
+    fn none(fault: u8) -> RuleReport
+        ensures { result ≡ no_report fault }
+    {
+        RuleReport {
+            fault,
+            surjective: 0,
+            injective: 0,
+            right: 0,
+            left: 0,
+            is_open: 0,
+            conserving: 0,
+            nodes: 0,
+            window: 0,
+            place: 0,
+            right_ahead: 0,
+            left_ahead: 0,
+            flux: [0; MOST_NODES],
+            orphan: NO_ROW,
+            twins: NO_TWINS,
+            ring: NO_ROW,
+            right_split: NO_SPLIT,
+            left_split: NO_SPLIT,
+            reserved: [0; 8],
+        }
+    }
+}
+
+/// A report, and the letters of its words.
+#[derive(Drop)]
+pub struct Reported {
+    pub report: RuleReport,
+    pub letters: Vec<u8>,
+}
+
+/// Reports on the rule with these states, this width, this offset and this table, whose letters have these
+/// weights; without any, each letter weighs its own value.
+pub fn report_of_table(
+    alloc: Global,
+    states: u8,
+    width: u8,
+    offset: i8,
+    table: &[u8],
+    weights: &[u8],
+) -> Result<Reported, AllocError>
+    ensures { IfOk result (λ made. IsReported (rule_with states width offset table.now) (named_weights weights.now) made.report made.letters.items) }
+{
+    match Rule::new(states, width, offset, table) {
+        Ok(rule) => report_of_rule(alloc, &rule, weights),
+        Err(fault) => Ok(without(alloc, fault_number(fault))),
+    }
+}
+
+/// No report, for this fault.
+fn without(alloc: Global, fault: u8) -> Reported
+    ensures report { result.report ≡ no_report fault }
+    ensures letters { result.letters.items ≡ [] }
+{
+    Reported {
+        report: RuleReport::none(fault),
+        letters: Vec::new(alloc),
+    }
+}
+
+/// Reports on a rule.
+fn report_of_rule(alloc: Global, rule: &Rule, weights: &[u8]) -> Result<Reported, AllocError>
+    requires { IsRule rule.now }
+    ensures { IfOk result (λ made. IsReported rule.now (named_weights weights.now) made.report made.letters.items) }
+{
+    match report(alloc, rule, named(weights)) {
+        Ok(found) => written(alloc, &report_in(found)),
+        Err(Stop::Unfit(_)) => Ok(without(alloc, NO_WEIGHTS)),
+        Err(Stop::Memory(fault)) => Err(fault),
+    }
+}
+
+/// The report that is found.
+fn report_in(found: Found) -> Report
+    requires { (e : Evidence) × (finding_of found ≡ Finding.Report e) }
+    ensures { found ≡ Found.Report result }
+{
+    match found {
+        Found::Report(report) => report,
+        _ => unreachable!(),
+    }
+}
+
+/// The weights that are named; none where the list has none.
+fn named(weights: &[u8]) -> Option<&[u8]>
+    ensures { option_copied result ≡ named_weights weights.now }
+{
+    if weights.is_empty() {
+        None
+    } else {
+        Some(weights)
+    }
+}
+
+/// The report, and the letters of its words.
+fn written(alloc: Global, found: &Report) -> Result<Reported, AllocError>
+    requires { IsShortSum (sum_of found.now.conserving) }
+    ensures letters { IfOk result (λ made. made.letters.items ≡ letters_in (evidence_of found.now)) }
+    ensures report { IfOk result (λ made. IsReportOf made.letters.items (evidence_of found.now) made.report) }
+{
+    let mut letters = Vec::new(alloc);
+    let surjective = add_surjective(&mut letters, &found.orphan)?;
+    let injective = add_injective(&mut letters, &found.injective)?;
+    let right = add_side(&mut letters, &found.right)?;
+    let left = add_side(&mut letters, &found.left)?;
+    let conserving = add_conserving(&mut letters, &found.conserving)?;
+    let flux = conserving.flux;
+    let report = RuleReport {
+        fault: 0,
+        surjective: surjective.holds,
+        injective: injective.holds,
+        right: right.holds,
+        left: left.holds,
+        is_open: right.holds.min(left.holds),
+        conserving: conserving.holds,
+        nodes: conserving.nodes,
+        window: injective.window,
+        place: injective.place,
+        right_ahead: right.ahead,
+        left_ahead: left.ahead,
+        flux,
+        orphan: surjective.orphan,
+        twins: injective.twins,
+        ring: conserving.ring,
+        right_split: right.split,
+        left_split: left.split,
+        reserved: [0; 8],
+    };
+    Ok(Reported { report, letters })
+}

@@ -1,0 +1,15 @@
+//! What is handed back of the sums that a rule keeps.
+ghost use Rattle.std.specs.Prelude.{◌≡◌, Some};
+ghost use Rattle.c_values.specs.RuleSums.{range_code};
+
+use kept_sums::RangeFault;
+
+/// The number that stands for a fault of how many letters the words have.
+pub fn range_number(fault: RangeFault) -> u8
+    ensures { result ≡ range_code (Some fault) }
+{
+    match fault {
+        RangeFault::Zero => 14,
+        RangeFault::Words => 15,
+    }
+}

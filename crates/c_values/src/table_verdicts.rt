@@ -1,0 +1,77 @@
+//! What is handed back of a rule.
+ghost use Rattle.std.specs.Prelude.{◌≡◌, Some};
+ghost use Rattle.cert_conditions.specs.Accepted.{AreTrue, is_open};
+ghost use Rattle.c_values.specs.Verdicts.{AreNone, fault_code, verdicts_about};
+
+use rule_verdicts::Truths;
+use word_image::{Rule, RuleFault};
+
+/// The verdicts of a rule, or the number of the fault for which there are none.
+#[repr(C)]
+#[derive(Clone, Copy, Debug, PartialEq, Eq)]
+pub struct RuleVerdicts {
+    /// 0 where there is a rule; else the number of its first fault, and all below are `false`.
+    pub fault: u8,
+    /// Whether every word has a preimage.
+    pub surjective: bool,
+    /// Whether no two different configurations share an image.
+    pub injective: bool,
+    /// Whether no two that agree on the left do.
+    pub right: bool,
+    /// Whether no two that agree on the right do.
+    pub left: bool,
+    /// Whether both of these hold: the rule is open.
+    pub is_open: bool,
+    /// Whether every ring keeps the sum of its letters.
+    pub conserving: bool,
+}
+
+impl RuleVerdicts {
+    /// Those of a rule. It takes no memory.
+    pub fn of(rule: &Rule) -> RuleVerdicts
+        ensures fault { result.fault ≡ 0 }
+        ensures are_true { AreTrue (verdicts_about rule.now result) }
+        ensures both { result.is_open ≡ is_open (verdicts_about rule.now result) }
+    {
+        let truths = Truths::of(rule);
+        RuleVerdicts {
+            fault: 0,
+            surjective: truths.surjective,
+            injective: truths.injective,
+            right: truths.right,
+            left: truths.left,
+            is_open: truths.is_open(),
+            conserving: truths.conserving,
+        }
+    }
+
+    /// None, for this fault.
+    pub fn none(fault: RuleFault) -> RuleVerdicts
+        ensures fault { result.fault ≡ fault_code (Some fault) }
+        ensures none { AreNone result }
+    {
+        RuleVerdicts {
+            fault: fault_number(fault),
+            surjective: false,
+            injective: false,
+            right: false,
+            left: false,
+            is_open: false,
+            conserving: false,
+        }
+    }
+}
+
+/// The number that stands for a fault.
+pub fn fault_number(fault: RuleFault) -> u8
+    ensures { result ≡ fault_code (Some fault) }
+{
+    match fault {
+        RuleFault::States => 1,
+        RuleFault::Width => 2,
+        RuleFault::Nodes => 3,
+        RuleFault::Offset => 4,
+        RuleFault::Length => 5,
+        RuleFault::Letter(_) => 6,
+    }
+}

@@ -1,7 +1,0 @@
-use Rattle.std.proofs.Common.{ℕ, List, ◌++◌, length, ap₂}
-use Rattle.std.proofs.lemmas.List.{drop-replicate}
-use Rattle.ca_c.proofs.next_rules.letters_of.Goals as goal
-
-pub returns : goal.returns
-returns c =
-    ap₂ (λ (xs ys : List ℕ). xs ++ ys) c.copy_from_slice.ensures.after (drop-replicate (length c.args.begin.now) 256 255)
