@@ -13,9 +13,9 @@ use std::alloc::{AllocError, Global};
 use std::marker::Model;
 use word_image::Rule;
 
-/// The least automaton of a rule: the classes of alike words, numbered in the order of their
-/// least words, and the classes of a word of each class followed by each letter. It is seen as the rule,
-/// which has one least automaton.
+/// The least automaton of a rule: the classes of alike words, numbered in the order of their least words, and
+/// the classes of a word of each class followed by each letter. It is seen as the rule, which has one least
+/// automaton.
 #[derive(Debug, Drop)]
 pub struct Minimal {
     // The steps between the sets of the rule.
@@ -68,31 +68,32 @@ impl Minimal {
         self.classes.len()
     }
 
-    /// The class of a word of each class followed by each letter: classes ascending, and letters ascending for each.
+    /// The class of a word of each class followed by each letter, class by class, letters ascending: `len` times
+    /// `k` of them.
     pub fn rows(&self, alloc: Global) -> Result<Vec<u16>, AllocError>
         ensures { IfOk result (λ rows. (a : Automaton) → IsLeastAutomaton self.now a → rows.items ≡ a.next) }
     {
         let classes = self.len();
-        let entries = classes as usize * usize::from(self.k());
-        let mut rows = Vec::with_capacity(alloc, entries)?;
+        let mut rows = vec![in alloc; 0; classes as usize * usize::from(self.k())]?;
         for class in 0..classes {
-            self.push_row(&mut rows, class)?;
+            self.fill_row(&mut rows, class);
         }
         Ok(rows)
     }
 
-    /// Adds the class of a word of class i followed by each letter, letters ascending.
-    fn push_row(&self, rows: &mut Vec<u16>, i: u32) -> Result<(), AllocError>
-        requires { (a : Automaton) → IsLeastAutomaton self.now a → i < a.classes }
-        ensures { IfOk result (λ _. (a : Automaton) → IsLeastAutomaton self.now a → rows.new.items ≡ rows.old.items ++ take a.states (drop (i * a.states) a.next)) }
+    /// Fills in the row of class i: the class of a word of it followed by each letter, letters ascending.
+    fn fill_row(&self, rows: &mut [u16], i: u32)
+        requires class { (a : Automaton) → IsLeastAutomaton self.now a → i < a.classes }
+        requires room { (a : Automaton) → IsLeastAutomaton self.now a → length rows.old ≡ length a.next }
+        ensures { (a : Automaton) → IsLeastAutomaton self.now a → take ((i + 1) * a.states) rows.new ≡ take (i * a.states) rows.old ++ take a.states (drop (i * a.states) a.next) }
     {
         let set = self.classes.at(i);
         let steps = self.subsets.steps(set);
+        let first = i as usize * usize::from(self.subsets.k());
         for letter in 0..self.subsets.k() {
             let after = steps[letter as usize];
-            rows.push(class_of(&self.closures, &self.classes, after))?;
+            rows[first + letter as usize] = class_of(&self.closures, &self.classes, after);
         }
-        Ok(())
     }
 
     /// The class of a word of class i followed by letter a.
