@@ -40,17 +40,10 @@ fn one_class(alloc: Global, k: u8) -> Result<Automaton, AllocError>
 fn automaton(alloc: Global, minimal: &Minimal) -> Result<Automaton, AllocError>
     ensures { IfOk result (λ m. IsLeastAutomaton minimal.now (automaton_of m)) }
 {
-    let k = usize::from(minimal.k());
-    let classes = minimal.len();
-    let mut next = Vec::with_capacity(alloc, classes as usize * k)?;
-    for class in 0..classes {
-        let row = minimal.row(class);
-        next.extend_from_slice(&row[..k])?;
-    }
     Ok(Automaton {
         states: minimal.k(),
-        classes,
-        next,
+        classes: minimal.len(),
+        next: minimal.rows(alloc)?,
         dead: minimal.dead(),
     })
 }

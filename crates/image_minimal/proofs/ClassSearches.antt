@@ -148,3 +148,22 @@ HasClasses-least {r} {closures} {classes} h =
         dead = are.dead dead.0 dead.1;
       },
     )
+
+-- a class of the least automaton is listed
+pub class_inside : {r q : LocalRule} {closures classes : List ℕ} → HasClasses r closures classes → r ≡ q → (i : ℕ) → ((m : Automaton) → IsLeastAutomaton q m → i < m.classes) → i < length classes
+class_inside h same i inside =
+    let (m, least) = HasClasses-least h in
+    omega (arith, HasClasses-long h least, inside m (subst (λ r. IsLeastAutomaton r m) same least))
+
+-- the closure of a set to which a step leads from a class is that of a class
+pub Contains-next : {r : LocalRule} {closures classes : List ℕ} → HasClasses r closures classes → (i a from to : ℕ) → i < length classes → from ≡ slice_index classes i → a < r.states → IsStep r from a to
+    → Contains classes (slice_index closures to)
+Contains-next {closures = closures} {classes = classes} h i a from to inside is letter step =
+    let (j, there) = class_after h i a from (slice_index closures to) (slice_get-get_or classes i 0 inside ∙ ap Some (sym is)) letter (closed_step from a h.closed step) in
+    Contains-slice_get classes j (slice_index closures to) there
+
+-- the class with that closure is the one that the least automaton has next
+pub next_class : {r : LocalRule} {closures classes : List ℕ} {m : Automaton} → HasClasses r closures classes → IsLeastAutomaton r m → (i a j from to : ℕ) → i < length classes → from ≡ slice_index classes i
+    → a < r.states → IsStep r from a to → slice_get classes j ≡ Some (slice_index closures to) → j ≡ slice_index m.next (i * m.states + a)
+next_class {closures = closures} {classes = classes} h least i a j from to inside is letter step there =
+    HasClasses-next h least i a j from (slice_index closures to) (slice_get-get_or classes i 0 inside ∙ ap Some (sym is)) there letter (closed_step from a h.closed step)

@@ -1,6 +1,6 @@
 //! The classes of alike words, found breadth first by the closures of their sets.
 
-ghost use Rattle.std.specs.Prelude.{◌≡◌, ◌+◌, ◌*◌, ◌<◌, ◌≤◌, ℕ, length, slice_index, IfOk};
+ghost use Rattle.std.specs.Prelude.{◌≡◌, ◌+◌, ◌*◌, ◌<◌, ◌≤◌, ◌++◌, length, take, drop, slice_get, slice_index, Some, Contains, IfOk};
 ghost use Rattle.word_image.specs.LocalRules.{LocalRule, IsRule, most_sets};
 ghost use Rattle.image_minimal.specs.ImageLanguages.{Automaton, IsLeastAutomaton};
 ghost use Rattle.image_minimal.specs.Closures.{AreClosures};
@@ -11,11 +11,11 @@ use crate::listed::Listed;
 use crate::subsets::Subsets;
 use std::alloc::{AllocError, Global};
 use std::marker::Model;
-use word_image::{MOST_STATES, Rule};
+use word_image::Rule;
 
-/// The least automaton of a rule, row by row: the classes of alike words, numbered in the order of their
-/// least words, and the classes of a word of each class followed by each letter. It is seen as the rule,
-/// which has one least automaton.
+/// The least automaton of a rule: the classes of alike words, numbered in the order of their least words, and
+/// the classes of a word of each class followed by each letter. It is seen as the rule, which has one least
+/// automaton.
 #[derive(Debug, Drop)]
 pub struct Minimal {
     // The steps between the sets of the rule.
@@ -68,20 +68,32 @@ impl Minimal {
         self.classes.len()
     }
 
-    /// The classes of a word of class i followed by each letter, letters ascending.
-    pub fn row(&self, i: u32) -> [u16; MOST_STATES]
-        requires { (a : Automaton) → IsLeastAutomaton self.now a → i < a.classes }
-        ensures { (a : Automaton) (l : ℕ) → IsLeastAutomaton self.now a → l < a.states → slice_index result l ≡ slice_index a.next (i * a.states + l) }
+    /// The class of a word of each class followed by each letter, class by class, letters ascending: `len` times
+    /// `k` of them.
+    pub fn rows(&self, alloc: Global) -> Result<Vec<u16>, AllocError>
+        ensures { IfOk result (λ rows. (a : Automaton) → IsLeastAutomaton self.now a → rows.items ≡ a.next) }
+    {
+        let classes = self.len();
+        let mut rows = vec![in alloc; 0; classes as usize * usize::from(self.k())]?;
+        for class in 0..classes {
+            self.fill_row(&mut rows, class);
+        }
+        Ok(rows)
+    }
+
+    /// Fills in the row of class i: the class of a word of it followed by each letter, letters ascending.
+    fn fill_row(&self, rows: &mut [u16], i: u32)
+        requires class { (a : Automaton) → IsLeastAutomaton self.now a → i < a.classes }
+        requires room { (a : Automaton) → IsLeastAutomaton self.now a → length rows.old ≡ length a.next }
+        ensures { (a : Automaton) → IsLeastAutomaton self.now a → take ((i + 1) * a.states) rows.new ≡ take (i * a.states) rows.old ++ take a.states (drop (i * a.states) a.next) }
     {
         let set = self.classes.at(i);
         let steps = self.subsets.steps(set);
-        let mut row = [0; MOST_STATES];
+        let first = i as usize * usize::from(self.subsets.k());
         for letter in 0..self.subsets.k() {
             let after = steps[letter as usize];
-            let class = self.classes.place(self.closures[usize::from(after)]);
-            row[letter as usize] = class.unwrap();
+            rows[first + letter as usize] = class_of(&self.closures, &self.classes, after);
         }
-        row
     }
 
     /// The class of a word of class i followed by letter a.
@@ -91,8 +103,10 @@ impl Minimal {
         ensures { (m : Automaton) → IsLeastAutomaton self.now m → result ≡ slice_index m.next (i * m.states + a) }
     {
         self.subsets.graph().rule().keeps_limits();
-        let row = self.row(i);
-        u32::from(row[a as usize])
+        let set = self.classes.at(i);
+        let steps = self.subsets.steps(set);
+        let after = steps[a as usize];
+        u32::from(class_of(&self.closures, &self.classes, after))
     }
 
     /// The class of the orphans; `None` exactly where the rule is surjective.
@@ -112,6 +126,16 @@ impl Minimal {
     {
         self.subsets.k()
     }
+}
+
+/// The class whose closure is that of the set.
+fn class_of(closures: &[u16], classes: &Listed, set: u16) -> u16
+    requires set { set < length closures.now }
+    requires class { Contains classes.now (slice_index closures.now set) }
+    ensures { slice_get classes.now result ≡ Some (slice_index closures.now set) }
+{
+    let class = classes.place(closures[usize::from(set)]);
+    class.unwrap()
 }
 
 /// The closures of the classes, which are found breadth first from that of all nodes.

@@ -24,7 +24,7 @@
 //! words of none, 1, 10 and 101, and the last nodes 3, 2, 1 and 0 of these.
 //!
 //! For N nodes, u unread sets and c classes `least` takes **O(u k N + 2^N N + c k)** time and **O(2^N)** space. The
-//! classes after each class, c k of them, aren't kept: a row of k is made where it is asked for, in **O(k)** time.
+//! classes after each class, c k of them, aren't kept: `Minimal::rows` makes them all in **O(c k)** time.
 //! For n sets under both rules together `separate` takes **O(n k log n)** time and **O(n)** space.
 #![tactic(auto)]
 
