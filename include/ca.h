@@ -3,9 +3,9 @@
  *
  * ./library builds libca_c.a and libca_c.so in crates/ca_c/out/library, and prints where they are; ./install
  * PREFIX puts them below a folder as libca.a and libca.so, with this header and ca.pc for pkg-config. The functions
- * here are those of crates/ca_c/src/exports.rt, whose contracts say what is proved of them; the structs are RuleVerdicts of
- * crates/c_values/src/table_verdicts.rt, RuleReport of rule_reports.rt and those of letter_rows.rt beside it, and KeptSums of
- * crates/kept_sums/src/kept.rt. That this header agrees with them is tested and not proved.
+ * here are those of crates/ca_c/src/exports.rt, whose contracts say what is proved of them; the structs are
+ * RuleVerdicts of crates/c_values/src/table_verdicts.rt, RuleReport of rule_reports.rt and those of letter_rows.rt beside
+ * it, and KeptSums of crates/kept_sums/src/kept.rt. That this header agrees with them is tested and not proved.
  *
  * Pointers. Each must point to as many bytes as the length beside it says, or where there is none to all of its type, and must not be NULL, not even
  * where that length is 0: then any address of an object will do. Nothing is kept of a pointer after a
@@ -32,8 +32,8 @@ extern "C" {
 /* The version of this interface, which ca_version gives. */
 #define CA_VERSION 2
 
-/* What ca_run and ca_run_json give. With codes up to CA_CODE_TOO_LONG there is an output. ca_report gives CA_CODE_DONE, CA_CODE_MEMORY or
- * CA_CODE_SHORT. */
+/* What ca_run and ca_run_json give. With codes up to CA_CODE_TOO_LONG there is an output. ca_report gives
+ * CA_CODE_DONE, CA_CODE_MEMORY or CA_CODE_SHORT. */
 enum ca_code {
     CA_CODE_DONE = 0,       /* the command was carried out */
     CA_CODE_REFUSED = 1,    /* check judged the input, and it is no certificate that is accepted */
@@ -197,10 +197,10 @@ uint8_t ca_run(const uint8_t *words, size_t words_length, const uint8_t *input, 
                uint8_t *output, size_t room, size_t *length);
 
 /*
- * Carries out a command as ca_run does, and writes in place of the program's output the whole reply as JSON: one object, in
- * ASCII, without blanks and without a line end, which docs/ANSWERS.md describes. Its key "status" is "done", "refused",
- * "usage", "rulefault", "notfit" or "toolong", as the codes 0 to 5 say. Codes, length and buffer are as with ca_run; only the
- * length of the output is another one.
+ * Carries out a command as ca_run does, and writes in place of the program's output the whole reply as JSON: one
+ * object in ASCII, without blanks and without a line end, which docs/ANSWERS.md describes. Its key "status" is
+ * "done", "refused", "usage", "rulefault", "notfit" or "toolong", as the codes 0 to 5 say. Codes, length and buffer are
+ * as with ca_run.
  */
 uint8_t ca_run_json(const uint8_t *words, size_t words_length, const uint8_t *input, size_t input_length,
                     uint8_t *output, size_t room, size_t *length);
