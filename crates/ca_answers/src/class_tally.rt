@@ -67,7 +67,7 @@ fn decided(known: &mut IndexMap<u128, Truths>, rule: &Rule) -> Result<Truths, Al
     ensures known { OnOk result (All (IsDecided rule.now.states rule.now.width) known.new.entries) }
     ensures added { OnOk result (IsRuleAdded rule.now (rules_in rule.now.states rule.now.width known.old.entries) (rules_in rule.now.states rule.now.width known.new.entries)) }
 {
-    let _states = rule.k();
+    rule.keeps_limits();
     let number = number(rule).unwrap();
     if let Some(truths) = known.get(&number).copied() {
         return Ok(truths);

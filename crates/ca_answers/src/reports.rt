@@ -17,8 +17,7 @@ use word_image::{Rule, Weights};
 pub fn report(alloc: Global, rule: &Rule, weights: Option<&[u8]>) -> Result<Found, Stop>
     ensures { Answers (Question.Report rule.now (option_copied weights.entry)) result }
 {
-    // That the rule keeps the limits is what each of its calls says.
-    let _states = rule.k();
+    rule.keeps_limits();
     match weights_for(rule, weights) {
         Some(weights) => Ok(Found::Report(report_with(alloc, rule, &weights)?)),
         None => Err(Stop::Unfit(Cause::Weights)),

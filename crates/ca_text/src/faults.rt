@@ -22,7 +22,7 @@ pub fn unfit_output(alloc: Global, cause: &Cause) -> Result<Output, AllocError>
 {
     match cause {
         Cause::Twins(pair) => {
-            Output::named_pair(alloc, "notfit twins ", pair.x.as_slice(), pair.y.as_slice())
+            Output::line_with_words(alloc, "notfit twins ", pair.x.as_slice(), pair.y.as_slice())
         }
         Cause::Wide(n) => Output::unfit(alloc, &format!(in alloc; "wide {n}")?),
         Cause::Colours => Output::unfit(alloc, "colours"),

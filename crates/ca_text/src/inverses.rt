@@ -18,7 +18,7 @@ pub fn map_output(alloc: Global, inverse: &Inverse) -> Result<Output, AllocError
     ensures { IfOk result (λ output. output ≡ map_lines inverse.now.n inverse.now.c inverse.now.map inverse.now.rule) }
 {
     let mut output = Output::new(alloc);
-    write_window(alloc, &mut output, inverse.n, inverse.c)?;
+    write_map_window(alloc, &mut output, inverse.n, inverse.c)?;
     write_offset(alloc, &mut output, &inverse.map)?;
     write_map(alloc, &mut output, &inverse.map)?;
     write_map_rule(alloc, &mut output, &inverse.rule)?;
@@ -26,7 +26,7 @@ pub fn map_output(alloc: Global, inverse: &Inverse) -> Result<Output, AllocError
 }
 
 /// Appends the line that names the window.
-fn write_window(alloc: Global, output: &mut Output, n: u16, c: u16) -> Result<(), AllocError>
+fn write_map_window(alloc: Global, output: &mut Output, n: u16, c: u16) -> Result<(), AllocError>
     ensures { OnOk result (output.new ≡ output.old ++ line (codes "window " ++ decimal n ++ codes " " ++ decimal c)) }
 {
     output.push_line(&format!(in alloc; "window {n} {c}")?)

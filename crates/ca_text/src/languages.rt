@@ -95,7 +95,7 @@ pub fn same_output(alloc: Global, word: &Option<Word>) -> Result<Output, AllocEr
 {
     match word {
         None => Output::line(alloc, "same yes"),
-        Some(word) => Output::named(alloc, "same no ", word.as_slice()),
+        Some(word) => Output::line_with_word(alloc, "same no ", word.as_slice()),
     }
 }
 
@@ -106,6 +106,11 @@ pub fn erased_output(alloc: Global, pair: &Option<Pair>) -> Result<Output, Alloc
 {
     match pair {
         None => Output::line(alloc, "erase none"),
-        Some(pair) => Output::named_pair(alloc, "erase ", pair.x.as_slice(), pair.y.as_slice()),
+        Some(pair) => Output::line_with_words(
+            alloc,
+            "erase ",
+            pair.x.as_slice(),
+            pair.y.as_slice(),
+        ),
     }
 }

@@ -70,23 +70,28 @@ impl Output {
     }
 
     /// The text with the digits of a word behind it, as a line.
-    pub fn named(alloc: Global, text: &str, word: &[u8]) -> Result<Output, AllocError>
+    pub fn line_with_word(alloc: Global, text: &str, word: &[u8]) -> Result<Output, AllocError>
         requires { IsWord 16 word.now }
         ensures { IfOk result (λ output. output ≡ line (text.now ++ word_text word.now)) }
     {
         let mut output = Output::new(alloc);
-        output.push_named(alloc, text, word)?;
+        output.push_line_with_word(alloc, text, word)?;
         Ok(output)
     }
 
     /// The text with the digits of two words behind it and a blank between, as a line.
-    pub fn named_pair(alloc: Global, text: &str, x: &[u8], y: &[u8]) -> Result<Output, AllocError>
+    pub fn line_with_words(
+        alloc: Global,
+        text: &str,
+        x: &[u8],
+        y: &[u8],
+    ) -> Result<Output, AllocError>
         requires first { IsWord 16 x.now }
         requires second { IsWord 16 y.now }
         ensures { IfOk result (λ output. output ≡ line (text.now ++ word_text x.now ++ codes " " ++ word_text y.now)) }
     {
         let mut output = Output::new(alloc);
-        output.push_named_pair(alloc, text, x, y)?;
+        output.push_line_with_words(alloc, text, x, y)?;
         Ok(output)
     }
 
@@ -123,7 +128,12 @@ impl Output {
     }
 
     /// Appends the text with the digits of a word behind it, as a line.
-    pub fn push_named(&mut self, alloc: Global, text: &str, word: &[u8]) -> Result<(), AllocError>
+    pub fn push_line_with_word(
+        &mut self,
+        alloc: Global,
+        text: &str,
+        word: &[u8],
+    ) -> Result<(), AllocError>
         requires { IsWord 16 word.now }
         ensures { OnOk result (self.new ≡ self.old ++ line (text.now ++ word_text word.now)) }
     {
@@ -133,7 +143,7 @@ impl Output {
     }
 
     /// Appends the text with the digits of two words behind it and a blank between, as a line.
-    pub fn push_named_pair(
+    pub fn push_line_with_words(
         &mut self,
         alloc: Global,
         text: &str,

@@ -75,7 +75,7 @@ pub fn write_surjective(
 {
     match orphan {
         None => output.push_line("surjective yes"),
-        Some(word) => output.push_named(alloc, "surjective no orphan ", word.as_slice()),
+        Some(word) => output.push_line_with_word(alloc, "surjective no orphan ", word.as_slice()),
     }
 }
 
@@ -89,15 +89,15 @@ fn write_injective(
     ensures { OnOk result (output.new ≡ output.old ++ injective_line (injective_of found.now)) }
 {
     match found {
-        InjectivePart::Window { n, c } => write_window(alloc, output, *n, *c),
+        InjectivePart::Window { n, c } => write_determined(alloc, output, *n, *c),
         InjectivePart::Twins { x, y } => {
-            output.push_named_pair(alloc, "injective no twins ", x.as_slice(), y.as_slice())
+            output.push_line_with_words(alloc, "injective no twins ", x.as_slice(), y.as_slice())
         }
     }
 }
 
 /// Appends the line that names a determined window.
-fn write_window(alloc: Global, output: &mut Output, n: u16, c: u16) -> Result<(), AllocError>
+fn write_determined(alloc: Global, output: &mut Output, n: u16, c: u16) -> Result<(), AllocError>
     ensures { OnOk result (output.new ≡ output.old ++ injective_line (Window n c)) }
 {
     output.push_line(&format!(in alloc; "injective yes window {n} {c}")?)
@@ -159,7 +159,11 @@ fn write_conserving(alloc: Global, output: &mut Output, found: &SumPart) -> Resu
 {
     match found {
         SumPart::Flux(row) => write_flux(alloc, output, row.as_slice()),
-        SumPart::Ring(ring) => output.push_named(alloc, "conserving no ring ", ring.as_slice()),
+        SumPart::Ring(ring) => output.push_line_with_word(
+            alloc,
+            "conserving no ring ",
+            ring.as_slice(),
+        ),
     }
 }
 

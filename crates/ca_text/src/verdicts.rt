@@ -105,7 +105,7 @@ fn refusal_words(alloc: Global, refusal: Refusal) -> Result<String, AllocError>
 {
     match refusal {
         Refusal::Format(fault) => shape_words(alloc, fault),
-        Refusal::Rank(side, pair) => side_words(alloc, "rank", side, pair),
+        Refusal::Rank(side, pair) => pair_words(alloc, "rank", side, pair),
         Refusal::NoFull => String::from_str(alloc, "nofull"),
         Refusal::EmptySet(index) => format!(in alloc; "emptyset {index}"),
         Refusal::NotClosed(index, letter) => closing_words(alloc, index, letter),
@@ -115,7 +115,7 @@ fn refusal_words(alloc: Global, refusal: Refusal) -> Result<String, AllocError>
         Refusal::Orphan => String::from_str(alloc, "orphan"),
         Refusal::Window(pair) => format!(in alloc; "window {pair}"),
         Refusal::Twins(cause) => twin_words(alloc, cause),
-        Refusal::Ahead(side, pair) => side_words(alloc, "ahead", side, pair),
+        Refusal::Ahead(side, pair) => pair_words(alloc, "ahead", side, pair),
         Refusal::Split(side, cause) => split_words(alloc, side, cause),
         Refusal::Flux(window) => format!(in alloc; "flux {window}"),
         Refusal::Ring => String::from_str(alloc, "ring"),
@@ -152,7 +152,7 @@ fn rule_words(alloc: Global, fault: TextFault) -> Result<String, AllocError>
 }
 
 /// What isn't right of a pair, on which side, and of which pair.
-fn side_words(alloc: Global, what: &str, side: Side, pair: u16) -> Result<String, AllocError>
+fn pair_words(alloc: Global, what: &str, side: Side, pair: u16) -> Result<String, AllocError>
     ensures { IfOk result (λ text. string_bytes text ≡ what.now ++ (codes " " ++ (side_text side ++ (codes " " ++ decimal pair)))) }
 {
     let side = side_name(side);

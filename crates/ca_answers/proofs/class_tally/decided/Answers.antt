@@ -23,7 +23,7 @@ found c =
     let r : LocalRule = c.args.rule.now in
     let entries = c.args.known.now.entries in
     let key = number_is r c.number.ensures c.unwrap-number.ensures in
-    decided_found entries c.requires.known c.k-states.ensures.rule refl refl c.requires.offset c.in-Some.truths
+    decided_found entries c.requires.known c.keeps_limits.ensures refl refl c.requires.offset c.in-Some.truths
     (subst (λ n. lookup (nat_eq n) entries ≡ Some c.in-Some.truths) key (sym c.get.ensures.value ∙ sym c.copied.ensures ∙ c.in-Some.is))
 
 pub returns-in-Some-clause-truths : goal.returns-in-Some-clause-truths
@@ -38,7 +38,7 @@ returns-clause-known c =
     let t : Truths = c.of-truths.result in
     let entry : ℕ × Truths = (c.unwrap-number.result, t) in
     let key = number_is r c.number.ensures c.unwrap-number.ensures in
-    let rule : IsRule r = c.k-states.ensures.rule in
+    let rule : IsRule r = c.keeps_limits.ensures in
     let same : numbered_rule r.states r.width c.unwrap-number.result ≡ r = ap (numbered_rule r.states r.width) key ∙ numbered_rule-wolfram rule c.requires.offset in
     subst (All (IsDecided r.states r.width)) (sym c.in_ok-keep.ensures)
     (All-push (IsDecided r.states r.width) c.args.known.now.entries entry c.requires.known (record {
@@ -53,10 +53,10 @@ returns-clause-added c =
     let entries = c.args.known.now.entries in
     let rules = rules_in r.states r.width entries in
     let key = number_is r c.number.ensures c.unwrap-number.ensures in
-    let rule : IsRule r = c.k-states.ensures.rule in
+    let rule : IsRule r = c.keeps_limits.ensures in
     let same : numbered_rule r.states r.width c.unwrap-number.result ≡ r = ap (numbered_rule r.states r.width) key ∙ numbered_rule-wolfram rule c.requires.offset in
     let none = subst (λ n. lookup (nat_eq n) entries ≡ None) key (sym c.get.ensures.value ∙ sym c.copied.ensures ∙ c.in_default.is) in
-    let absent = decided_absent entries c.requires.known c.k-states.ensures.rule refl refl c.requires.offset none in
+    let absent = decided_absent entries c.requires.known c.keeps_limits.ensures refl refl c.requires.offset none in
     subst (IsRuleAdded r rules)
     (sym (ap (rules_in r.states r.width) c.in_ok-keep.ensures ∙ map_push (rule_in r.states r.width) entries (c.unwrap-number.result, c.of-truths.result) ∙ ap (λ (q : LocalRule). rules ++ q ∷ []) same))
     (New rules absent)

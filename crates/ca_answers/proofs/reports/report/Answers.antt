@@ -13,7 +13,7 @@ returns-in_ok-report_with-in-Some c =
     let e = c.in_ok-report_with-in-Some.field-0 in
     let same = c.in-Some.ensures.weights in
     IsFinding.Report r named (evidence_of e) c.in-Some.ensures.each (c.in_ok-report_with-in-Some.ensures.weights ∙ same)
-    (IsLeastEvidence-by named c.k-states.ensures.rule (subst (λ (ws : List ℕ). IsLeastEvidence (slice_index ws) r (evidence_of e)) same c.in_ok-report_with-in-Some.ensures.least))
+    (IsLeastEvidence-by named c.keeps_limits.ensures (subst (λ (ws : List ℕ). IsLeastEvidence (slice_index ws) r (evidence_of e)) same c.in_ok-report_with-in-Some.ensures.least))
 
 pub returns-in-None : goal.returns-in-None
 returns-in-None c = unfit-report (option_copied c.args.weights) c.in-None.ensures.none

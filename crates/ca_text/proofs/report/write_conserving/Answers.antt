@@ -7,4 +7,4 @@ use Rattle.ca_text.proofs.report.write_conserving.Goals as goal
 
 pub returns-in-Ring : goal.returns-in-Ring
 returns-in-Ring c =
-    rw c.in-Ring.is (on_ok_weaker c.push_named.result (λ e. e ∙ ap (λ w. c.args.output.now ++ line (codes "conserving no ring " ++ word_text w)) c.as_slice-in-Ring.ensures) c.push_named.ensures)
+    rw c.in-Ring.is (on_ok_weaker c.push_line_with_word.result (λ e. e ∙ ap (λ w. c.args.output.now ++ line (codes "conserving no ring " ++ word_text w)) c.as_slice-in-Ring.ensures) c.push_line_with_word.ensures)

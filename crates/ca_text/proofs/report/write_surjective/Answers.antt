@@ -7,4 +7,4 @@ use Rattle.ca_text.proofs.report.write_surjective.Goals as goal
 
 pub returns-in-Some : goal.returns-in-Some
 returns-in-Some c =
-    rw c.in-Some.is (on_ok_weaker c.push_named.result (λ e. e ∙ ap (λ w. c.args.output.now ++ line (codes "surjective no orphan " ++ word_text w)) c.as_slice.ensures) c.push_named.ensures)
+    rw c.in-Some.is (on_ok_weaker c.push_line_with_word.result (λ e. e ∙ ap (λ w. c.args.output.now ++ line (codes "surjective no orphan " ++ word_text w)) c.as_slice.ensures) c.push_line_with_word.ensures)

@@ -2,7 +2,7 @@ use Rattle.std.proofs.Common.{◌≡◌, ◌++◌, append_assoc, sym, ap, ◌∙
 use Rattle.std.specs.Prelude.{codes, OnOk}
 use Rattle.std.specs.Fmt.{decimal}
 use Rattle.ca_text.specs.Reports.{line}
-use Rattle.ca_text.proofs.report.write_window.Goals as goal
+use Rattle.ca_text.proofs.report.write_determined.Goals as goal
 
 pub returns : goal.returns
 returns c =
