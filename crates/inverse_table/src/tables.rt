@@ -54,7 +54,7 @@ pub fn table(alloc: Global, rule: &Rule, at: WindowAt) -> Result<InverseMap, Inv
     ensures determined { IsOk result → IsDetermined rule.now at.n at.c }
     ensures fault { MatchResult result (λ _. rule.now.states ^ at.n ≤ most_map_entries) (IsInvFault rule.now at.n at.c) }
 {
-    let Some(count) = letter_count(rule, at.n) else {
+    let Some(count) = word_count(rule, at.n) else {
         return Err(InvFault::Wide);
     };
     let images = image_values(alloc, rule, at.n)?;
@@ -99,7 +99,7 @@ fn map_offset(rule: &Rule, c: u16) -> i32
 }
 
 /// How many words of n letters there are, where there are at most 65,536.
-fn letter_count(rule: &Rule, n: u16) -> Option<usize>
+fn word_count(rule: &Rule, n: u16) -> Option<usize>
     ensures { SomeIff result (rule.now.states ^ n ≤ most_map_entries) (rule.now.states ^ n) }
 {
     match u64::from(rule.k()).checked_pow(u32::from(n)) {
