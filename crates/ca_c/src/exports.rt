@@ -63,9 +63,9 @@ pub extern "C" fn ca_version() -> u32
 /// It gives a code, writes the length of the output to `output_length`, and the output to the beginning
 /// of the buffer.
 ///
-/// Codes 0 to 5 are those of `Status`, and no other status comes: nothing is read or written here that can fail. 8 is that there was no memory, 9 that the block has no words, and both have
-/// the length 0. 10 is that the buffer is too short for the output; the length is then the one that is
-/// wanted. With 8, 9 and 10 the buffer is as it was.
+/// Codes 0 to 5 are those of `Status`, and no other status comes: nothing is read or written here that can fail. 8 is
+/// that there was no memory, 9 that the block has no words, and both have the length 0. 10 is that the buffer is too
+/// short for the output; the length is then the one that is wanted. With 8, 9 and 10 the buffer is as it was.
 #[unsafe(no_mangle)]
 pub extern "C" fn ca_run(
     alloc: Global,
