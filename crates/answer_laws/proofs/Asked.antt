@@ -1,12 +1,6 @@
 -- What a command asks is asked of accepted rules, and one of its operands is the first with a fault.
-use Rattle.std.proofs.Common.{◌≡◌, ℕ, ◌+◌, ◌^◌, ◌<◌, zero, suc, List, length, All, pos, refl, sym, ap, ◌∙◌, subst, arith}
-use Rattle.std.specs.Prelude.{None}
-use Rattle.std.specs.List.{AllByRecursion, range_with_len}
-use Rattle.std.proofs.lemmas.Option.{same_Some}
-use Rattle.std.proofs.lemmas.List.Elements.{All-nil, All-cons, All-map, All-from_get_or}
-use Rattle.std.proofs.lemmas.List.FromFn.{length-range_with_len, get_or-range_with_len}
-use Rattle.word_image.specs.LocalRules.{LocalRule, IsShape, IsRule}
-use Rattle.word_image.proofs.laws.RuleFaults.{IsShape-shape_fault}
+use Rattle.std.proofs.Common.{◌≡◌, ℕ, ◌+◌, ◌^◌, ◌<◌, zero, suc, List, length, All, pos, refl, sym, ap, ◌∙◌, subst, arith, None}
+use Rattle.word_image.proofs.Common.{AllByRecursion, range_with_len, same_Some, All-nil, All-cons, All-map, All-from_get_or, length-range_with_len, get_or-range_with_len, LocalRule, IsShape, IsRule, IsShape-shape_fault}
 use Rattle.rule_text.specs.declared.text_fault.TextFault.{TextFault}
 use Rattle.rule_text.specs.RuleTexts.{by_number, in_text}
 use Rattle.rule_text.proofs.laws.Texts.{IsRuleText-no_fault, IsTextFault-unique}
@@ -14,7 +8,7 @@ use Rattle.rule_text.proofs.laws.AcceptedRules.{IsRule-said, IsRule-text, none_m
 use Rattle.rule_verdicts.specs.Numbers.{numbered_rule, numbers_fault}
 use Rattle.ca_words.specs.declared.names.Name.{Name}
 use Rattle.ca_words.specs.Commands.{Command, IsCommand, rule_count}
-use Rattle.ca_findings.specs.Questions.{Question, AreRules}
+use Rattle.ca_findings.proofs.Common.{Question, AreRules}
 use Rattle.ca_answers.specs.Samples.{survey_rules, state_after, drawn_rule, sample_rules}
 use Rattle.ca_answers.proofs.laws.Samples.{survey-accepted, IsRule-drawn}
 use Rattle.ca_cli.specs.Asked.{AreRuleTexts, Asks, IsAsked, IsFirstFault, IsShapeFault, IsOperandFault}

@@ -1,29 +1,13 @@
 -- The certificate that is written for a rule is one: its least evidence, its cover list or reached pairs, and its ranks.
-use Rattle.std.proofs.Common.{◌≡◌, ℕ, ◌+◌, ◌<◌, ◌≤◌, ⊎_elim, List, [], length, get_or, Contains, refl, sym, ap, ◌∙◌, subst, arith}
-use Rattle.std.specs.Prelude.{Option, None, Some, MatchOption}
-use Rattle.std.specs.List.Sorted.{IsStrictlySortedBy}
-use Rattle.std.proofs.lemmas.Cmp.{nat_cmp_total}
-use Rattle.std.proofs.lemmas.Grind.{same_number_lists}
-use Rattle.std.proofs.lemmas.List.{get_or_default, same_lists}
-use Rattle.std.proofs.lemmas.Map.Keys.{sorted_from_strictly_increasing, sorted_from_all_adjacent}
-use Rattle.std.proofs.lemmas.Option.{none-some, same_Some, slice_get-get_or}
-use Rattle.word_image.specs.LocalRules.{LocalRule, IsRule}
-use Rattle.word_image.specs.Words.{IsSurjective, word_cmp}
-use Rattle.word_image.specs.Graphs.{first_of, second_of, full_set}
-use Rattle.word_image.specs.Ranks.{IsRank, IsEndless, IsLastSet}
-use Rattle.word_image.specs.Families.{IsLeastWordOf, IsFamily, covers_of, IsCoverList}
+use Rattle.std.proofs.Common.{◌≡◌, ℕ, ◌+◌, ◌<◌, ◌≤◌, ⊎_elim, List, [], length, get_or, Contains, refl, sym, ap, ◌∙◌, subst, arith, Option, None, Some, MatchOption}
+use Rattle.word_image.proofs.Common.{IsStrictlySortedBy, nat_cmp_total, same_number_lists, get_or_default, same_lists, sorted_from_strictly_increasing, sorted_from_all_adjacent, none-some, same_Some, slice_get-get_or, LocalRule, IsRule, IsSurjective, word_cmp, first_of, second_of, full_set, IsRank, IsEndless, IsLastSet, IsLeastWordOf, IsFamily, covers_of, IsCoverList, Together, IsOrphan-empty_set, IsOrphan-not_surjective, paired_at, paired_length}
 use Rattle.word_image.specs.declared.side.Side.{Side}
 use Rattle.word_image.specs.declared.side.Side.TheVariants.{Right, Left}
-use Rattle.word_image.specs.Sides.{Together}
-use Rattle.word_image.proofs.laws.LastSets.{IsOrphan-empty_set, IsOrphan-not_surjective}
-use Rattle.word_image.proofs.laws.Lists.{paired_at, paired_length}
-use Rattle.pair_laws.proofs.Ranks.{IsRank-one, Together-less}
-use Rattle.search_laws.proofs.StepSets.{IsLastSet-unique}
+use Rattle.pair_laws.proofs.Common.{IsRank-one, Together-less}
+use Rattle.search_laws.proofs.Common.{IsLastSet-unique}
 use Rattle.cert_format.specs.declared.cert_version.CertVersion.{CertVersion}
 use Rattle.cert_format.specs.declared.cert_version.CertVersion.TheVariants.{Two, Three}
-use Rattle.cert_format.specs.Evidence.{SurjectiveEvidence}
-use Rattle.cert_format.specs.Evidence.SurjectiveEvidence.{Sets, Pairs, Orphan}
-use Rattle.cert_format.specs.Certificates.{Certificate}
+use Rattle.cert_format.proofs.Common.{SurjectiveEvidence, Sets, Pairs, Orphan, Certificate}
 use Rattle.certificate_laws.specs.LeastEvidence.{Evidence, IsOrphanPart}
 use Rattle.certificate_laws.specs.WrittenCertificates.{orphan_of, IsListPart, IsRankRow, IsWritten}
 use Rattle.eden_laws.specs.ReachedPairs.{AreReached}

@@ -1,10 +1,8 @@
 -- Rules are counted in one way, and so are their classes.
 use Rattle.std.proofs.Common.{◌≡◌, ◌≤◌, ℕ, ◌+◌, List, length, All, Contains, refl, sym, ap, ◌∙◌, subst, arith}
-use Rattle.std.proofs.lemmas.List.Elements.{All-contains}
-use Rattle.word_image.specs.LocalRules.{LocalRule, IsRule}
+use Rattle.word_image.proofs.Common.{All-contains, LocalRule, IsRule}
 use Rattle.rule_classes.proofs.laws.Classes.{IsLeastOfClass-unique}
-use Rattle.ca_findings.specs.Counts.{AreMany, Counts, AreCounts, AreLeastRules, IsLeastOfItsClass}
-use Rattle.ca_findings.specs.Counts.AreMany.{None, One, Other}
+use Rattle.ca_findings.proofs.Common.{AreMany, Counts, AreCounts, AreLeastRules, IsLeastOfItsClass, None, One, Other}
 use Rattle.answer_laws.proofs.Lists.{length-le_from_contained}
 
 -- so many of the rules have a property, and no more

@@ -1,11 +1,7 @@
 -- The least evidence of a rule is one.
-use Rattle.std.proofs.Common.{◌≡◌, ℕ, List, refl, sym, ap, ap₂, ◌∙◌}
-use Rattle.std.specs.Prelude.{Option, None, Some}
-use Rattle.word_image.specs.LocalRules.{LocalRule, IsRule}
-use Rattle.cert_format.specs.Evidence.{InjectiveEvidence, SideEvidence, SumEvidence}
-use Rattle.cert_format.specs.Evidence.InjectiveEvidence.{Window, Twins}
-use Rattle.cert_format.specs.Evidence.SideEvidence.{Ahead, Split}
-use Rattle.cert_format.specs.Evidence.SumEvidence.{Flux, Ring}
+use Rattle.std.proofs.Common.{◌≡◌, ℕ, List, refl, sym, ap, ap₂, ◌∙◌, Option, None, Some}
+use Rattle.word_image.proofs.Common.{LocalRule, IsRule}
+use Rattle.cert_format.proofs.Common.{InjectiveEvidence, SideEvidence, SumEvidence, Window, Twins, Ahead, Split, Flux, Ring}
 use Rattle.certificate_laws.specs.LeastEvidence.{Evidence, IsOrphanPart, IsInjectivePart, IsRightPart, IsLeftPart, IsConservingPart, IsLeastEvidence}
 use Rattle.ring_laws.proofs.FluxWalks.{IsFlux-unique}
 use Rattle.answer_laws.proofs.Least.{IsLeastOrphan-unique, IsLeastLossyRing-unique, IsLeastTwins-unique, IsLeastDetermined-unique, IsLeastRightAhead-unique, IsLeastRightSplit-unique, IsLeastLeftSplit-unique}

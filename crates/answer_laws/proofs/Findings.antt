@@ -1,13 +1,11 @@
 -- A question has one right finding, and where nothing fits it, one cause.
-use Rattle.std.proofs.Common.{◌≡◌, refl, sym, ap, ap₂, ◌∙◌}
-use Rattle.std.specs.Prelude.{Option, Some}
-use Rattle.std.proofs.lemmas.Option.{same_Some}
-use Rattle.tail_laws.proofs.Injective.{IsInjective-determined}
+use Rattle.std.proofs.Common.{◌≡◌, refl, sym, ap, ap₂, ◌∙◌, Option, Some}
+use Rattle.word_image.proofs.Common.{same_Some}
+use Rattle.tail_laws.proofs.Common.{IsInjective-determined}
 use Rattle.tail_preimage.proofs.laws.LeastPreimages.{IsLeastPreimage-unique}
 use Rattle.image_minimal.proofs.laws.ClassLists.{IsLeastAutomaton-unique}
 use Rattle.rule_classes.proofs.laws.Classes.{IsLeastOfClass-unique}
-use Rattle.ca_findings.specs.Questions.{Question, AreRules}
-use Rattle.ca_findings.specs.Findings.{Finding, Unfit, IsFinding, IsUnfitFor}
+use Rattle.ca_findings.proofs.Common.{Question, AreRules, Finding, Unfit, IsFinding, IsUnfitFor}
 use Rattle.answer_laws.proofs.Least.{IsLeastTwins-unique, IsLeastDetermined-unique}
 use Rattle.answer_laws.proofs.Evidence.{IsOrphanPart-unique, IsLeastEvidence-unique}
 use Rattle.answer_laws.proofs.Certificates.{IsWritten-unique}

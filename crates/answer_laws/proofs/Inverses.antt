@@ -1,13 +1,9 @@
 -- The inverse map of a rule over its least determined window is one.
-use Rattle.std.proofs.Common.{◌≡◌, ℕ, ◌^◌, ◌<◌, List, get_or, slice_index, ℤ, refl, sym, ap, ap₂, ◌∙◌, subst, arith}
-use Rattle.std.specs.Prelude.{Option, None, Some}
-use Rattle.std.proofs.lemmas.Grind.{same_number_lists}
-use Rattle.word_image.specs.LocalRules.{LocalRule, value, word_of}
-use Rattle.word_image.specs.Words.{IsPreimage}
-use Rattle.word_image.proofs.laws.Values.{length-word_of, IsWord-word_of, value-word_of}
-use Rattle.tail_config.specs.InverseMaps.{WindowMap, IsInverseMap}
+use Rattle.std.proofs.Common.{◌≡◌, ℕ, ◌^◌, ◌<◌, List, get_or, slice_index, ℤ, refl, sym, ap, ap₂, ◌∙◌, subst, arith, Option, None, Some}
+use Rattle.word_image.proofs.Common.{same_number_lists, LocalRule, value, word_of, IsPreimage, length-word_of, IsWord-word_of, value-word_of}
+use Rattle.tail_config.proofs.Common.{WindowMap, IsInverseMap}
 use Rattle.inverse_table.specs.InverseMaps.{GivesBack}
-use Rattle.ca_findings.specs.Findings.{Finding, IsMapRule, IsInverseFound}
+use Rattle.ca_findings.proofs.Common.{Finding, IsMapRule, IsInverseFound}
 use Rattle.answer_laws.proofs.Least.{IsLeastDetermined-unique}
 
 -- what the map of a window says of the word of a value is a letter of each preimage of the word

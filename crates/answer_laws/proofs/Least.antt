@@ -1,13 +1,7 @@
 -- What is the least of its kind is one: orphans, twins, rings, windows, look-aheads, splits and erasable pairs.
 use Rattle.std.proofs.Common.{inr, ◌≡◌, ℕ, ◌<◌, List, sym, ap, ap₂, ◌∙◌, arith}
-use Rattle.word_image.specs.LocalRules.{LocalRule}
-use Rattle.word_image.specs.Words.{IsLeastOrphan}
-use Rattle.word_image.specs.Rings.{IsLeastTwins, IsLeastLossyRing}
-use Rattle.word_image.specs.Erasure.{IsLeastErasable}
-use Rattle.word_image.specs.Windows.{IsLeastDetermined, IsLeastRightAhead}
-use Rattle.tail_config.specs.Tails.{TailConfig, mirror_of}
-use Rattle.tail_config.specs.TailValues.{config_of}
-use Rattle.tail_config.specs.Splits.{IsLeastRightSplit, IsLeastLeftSplit}
+use Rattle.word_image.proofs.Common.{LocalRule, IsLeastOrphan, IsLeastTwins, IsLeastLossyRing, IsLeastErasable, IsLeastDetermined, IsLeastRightAhead}
+use Rattle.tail_config.proofs.Common.{TailConfig, mirror_of, config_of, IsLeastRightSplit, IsLeastLeftSplit}
 use Rattle.ca_findings.proofs.Fits.{IsLeastDetermined-length}
 use Rattle.answer_laws.proofs.Orders.{one_word, one_pair, one_split}
 

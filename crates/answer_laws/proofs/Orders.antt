@@ -1,22 +1,11 @@
 -- The orders of words, of pairs of words and of splits: of two that come no later than each other both are one.
-use Rattle.std.proofs.Common.{◌≡◌, ◌≢◌, ℕ, List, length, map, sym, ap, ◌∙◌}
-use Rattle.std.specs.List.{zip}
-use Rattle.std.specs.Ordering.{nat_cmp, ordering_reverse}
-use Rattle.std.specs.Cmp.{IsTotalOrder}
-use Rattle.std.specs.Cmp.Lexicographic.{slice_cmp}
+use Rattle.std.proofs.Common.{◌≡◌, ◌≢◌, ℕ, List, length, map, sym, ap, ◌∙◌, zip, nat_cmp, Less, Equal, Greater}
+use Rattle.word_image.proofs.Common.{ordering_reverse, IsTotalOrder, slice_cmp, on_total, then_total, nat_cmp_total, nat_list_cmp_total, firsts-zip, seconds-zip, pair_cmp, pairs_cmp, word_cmp, pairs_cmp_total, then_equal}
 use Rattle.std.specs.FinMap.{slice_cmp-IsAntisymmetric}
-use Rattle.std.specs.declared.cmp.Ordering.TheVariants.{Less, Equal, Greater}
-use Rattle.std.proofs.lemmas.Cmp.{on_total, then_total, nat_cmp_total, nat_list_cmp_total}
 use Rattle.std.proofs.lemmas.Map.Lookups.{exact_unsigned, exact_pairs}
-use Rattle.std.proofs.lemmas.Slice.Zip.{firsts-zip, seconds-zip}
-use Rattle.tail_laws.proofs.LeastSplits.{splits_cmp_total}
-use Rattle.word_image.specs.Rings.{pair_cmp, pairs_cmp}
-use Rattle.word_image.specs.Words.{word_cmp}
-use Rattle.word_image.proofs.laws.Comparisons.{pairs_cmp_total}
-use Rattle.tail_config.specs.Tails.{TailConfig}
-use Rattle.tail_config.specs.Splits.{splits_cmp}
+use Rattle.tail_laws.proofs.Common.{splits_cmp_total}
+use Rattle.tail_config.proofs.Common.{TailConfig, splits_cmp}
 use Rattle.tail_preimage.proofs.laws.Orders.{slice_cmp-equal, tied}
-use Rattle.word_image.proofs.laws.Orders.{then_equal}
 
 -- words are in a total order
 pub word_cmp_total : IsTotalOrder word_cmp

@@ -1,13 +1,10 @@
 -- Words have one right reply.
-use Rattle.std.proofs.Common.{◌≡◌, ℕ, List, refl, sym, ap, ap₂, ◌∙◌, subst}
-use Rattle.std.specs.Prelude.{Option, Some}
-use Rattle.cert_conditions.specs.Accepted.{IsAccepted}
-use Rattle.cert_conditions.specs.Refusals.{IsRefusal}
+use Rattle.std.proofs.Common.{◌≡◌, ℕ, List, refl, sym, ap, ap₂, ◌∙◌, subst, Option, Some}
+use Rattle.cert_conditions.proofs.Common.{IsAccepted, IsRefusal}
 use Rattle.cert_conditions.proofs.laws.OneAnswer.{IsAccepted-unique, IsRefusal-unique}
 use Rattle.ca_words.specs.declared.names.Name.TheVariants as name
 use Rattle.ca_words.specs.Commands.{Command, IsCommand}
-use Rattle.ca_findings.specs.Findings.{IsFinding, IsUnfitFor}
-use Rattle.ca_findings.specs.Replies.{Reply}
+use Rattle.ca_findings.proofs.Common.{IsFinding, IsUnfitFor, Reply}
 use Rattle.ca_findings.proofs.Fits.{IsFinding-fit}
 use Rattle.ca_cli.specs.declared.status.Status.{Status}
 use Rattle.ca_cli.specs.Inputs.{IsWholeInput}

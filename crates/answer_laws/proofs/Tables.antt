@@ -1,16 +1,8 @@
 -- A rule is widened, trimmed, composed and recoloured in one way.
 use Rattle.std.proofs.Common.{◌≡◌, ℕ, ◌+◌, ◌-◌, ◌^◌, ◌<◌, ◌≤◌, List, [], ◌∷◌, length, map, get_or, slice_range, ℤ, pos, ◌+ℤ◌, neg_ℤ, sym, ap, ap₂, ◌∙◌, subst, arith}
-use Rattle.std.specs.List.{range_with_len}
-use Rattle.std.proofs.lemmas.Grind.{same_number_lists}
-use Rattle.std.proofs.lemmas.Int.{ints}
+use Rattle.word_image.proofs.Common.{range_with_len, same_number_lists, ints, LocalRule, IsRule, IsWord, local_map, value, word_of, image, rule_from_parts, length-word_of, IsWord-word_of, value-word_of}
 use Rattle.std.proofs.lemmas.List.{take_all}
-use Rattle.word_image.specs.LocalRules.{LocalRule, IsRule, IsWord, local_map, value, word_of}
-use Rattle.word_image.specs.Words.{image}
-use Rattle.word_image.proofs.laws.SameRules.{rule_from_parts}
-use Rattle.word_image.proofs.laws.Values.{length-word_of, IsWord-word_of, value-word_of}
-use Rattle.tail_config.specs.Tails.{TailConfig, IsTail, cells, image_cell}
-use Rattle.tail_config.specs.TailValues.{config_of}
-use Rattle.tail_config.proofs.laws.Cells.{IsWord-zero, cells-middle}
+use Rattle.tail_config.proofs.Common.{TailConfig, IsTail, cells, image_cell, config_of, IsWord-zero, cells-middle}
 use Rattle.rule_algebra.specs.Algebra.{KeepsImages, IsTrimmed, IsWidened, IsComposed, IsRecolouring, IsRecoloured}
 use Rattle.rule_classes.proofs.laws.Colours.{inverse_letters}
 use Rattle.rule_classes.proofs.laws.Recoloured.{local_map-back}

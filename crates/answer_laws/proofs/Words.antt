@@ -1,16 +1,12 @@
 -- The word that tells the orphans of two rules apart, the erasable pair and the gap of a configuration are one.
-use Rattle.std.proofs.Common.{inl, inr, ◌≡◌, ◌≢◌, ℕ, List, refl, ap}
-use Rattle.std.specs.Prelude.{Option, None, Some}
-use Rattle.std.specs.declared.cmp.Ordering.TheVariants.{Less}
-use Rattle.word_image.specs.LocalRules.{LocalRule}
-use Rattle.word_image.specs.Words.{IsOrphan, word_cmp}
+use Rattle.std.proofs.Common.{inl, inr, ◌≡◌, ◌≢◌, ℕ, List, refl, ap, Option, None, Some, Less}
+use Rattle.word_image.proofs.Common.{LocalRule, IsOrphan, word_cmp}
 use Rattle.image_minimal.specs.ImageLanguages.{Separates}
-use Rattle.tail_config.specs.Tails.{TailConfig}
+use Rattle.tail_config.proofs.Common.{TailConfig}
 use Rattle.tail_preimage.specs.Preimages.{IsGap}
 use Rattle.tail_preimage.specs.declared.answer.Pre.TheVariants as pre
 use Rattle.tail_preimage.proofs.laws.Answers.{IsPreimageAnswer-unique}
-use Rattle.ca_findings.specs.Findings.{Finding, IsSameFound, IsErasedFound}
-use Rattle.ca_findings.specs.Values.{preimage_of}
+use Rattle.ca_findings.proofs.Common.{Finding, IsSameFound, IsErasedFound, preimage_of}
 use Rattle.answer_laws.proofs.Orders.{one_first}
 use Rattle.answer_laws.proofs.Least.{IsLeastErasable-unique}
 

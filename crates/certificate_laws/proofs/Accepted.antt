@@ -1,13 +1,9 @@
 -- What is written for a rule is accepted, so it is the certificate that is written.
 use Rattle.std.proofs.Common.{◌≡◌, List, ℕ, true, refl, subst}
-use Rattle.word_image.specs.LocalRules.{LocalRule, IsRule}
-use Rattle.word_image.specs.Weights.{AreWeights}
+use Rattle.word_image.proofs.Common.{LocalRule, IsRule, AreWeights}
 use Rattle.cert_format.specs.declared.cert_version.CertVersion.{CertVersion}
-use Rattle.cert_format.specs.Versions.{names_weights}
-use Rattle.cert_format.specs.Certificates.{Certificate}
-use Rattle.cert_format.specs.CertificateTexts.{IsCertificateText}
-use Rattle.cert_format.specs.WrittenTexts.{certificate_text}
-use Rattle.cert_conditions.specs.Accepted.{IsAccepted, verdicts_of}
+use Rattle.cert_format.proofs.Common.{names_weights, Certificate, IsCertificateText, certificate_text}
+use Rattle.cert_conditions.proofs.Common.{IsAccepted, verdicts_of}
 use Rattle.certificate_laws.specs.WrittenCertificates.{HasWrittenParts, IsWritten}
 use Rattle.certificate_laws.proofs.MetConditions.{MeetsConditions-written}
 use Rattle.certificate_laws.proofs.ShortTexts.{short-written}

@@ -1,17 +1,7 @@
 -- The sets of a family are different, so there are at most as many as sets of nodes.
 use Rattle.std.proofs.Common.{◌≡◌, ◌≢◌, ℕ, zero, suc, ◌+◌, ◌-◌, ◌^◌, ◌<◌, ◌≤◌, List, [], length, get_or, AllPairs, refl, ap, subst, arith}
-use Rattle.std.proofs.lemmas.Bool.Decides.{Decides-eqb}
-use Rattle.std.proofs.lemmas.Map.Made.{IsDistinct-from_AllPairs}
-use Rattle.std.proofs.lemmas.Map.Steps.{length-le_from_distinct_below}
-use Rattle.std.proofs.lemmas.Map.Views.{Contains-from_any}
-use Rattle.std.proofs.lemmas.Option.{slice_get-get_or}
-use Rattle.std.proofs.Math.Nat.{pow-le-pow_right}
-use Rattle.word_image.specs.LocalRules.{LocalRule, IsRule, IsWord, node_count}
-use Rattle.word_image.specs.Ranks.{IsLastSet}
-use Rattle.word_image.specs.Families.{IsFamily, IsAscending, IsLeastWordOf, IsCoverList}
-use Rattle.word_image.specs.Graphs.{full_set}
-use Rattle.word_image.proofs.laws.Lists.{paired_at, paired_length}
-use Rattle.search_laws.proofs.WordOrder.{word_number, word_number-le, word_number-less}
+use Rattle.word_image.proofs.Common.{Decides-eqb, IsDistinct-from_AllPairs, length-le_from_distinct_below, Contains-from_any, slice_get-get_or, pow-le-pow_right, LocalRule, IsRule, IsWord, node_count, IsLastSet, IsFamily, IsAscending, IsLeastWordOf, IsCoverList, full_set, paired_at, paired_length}
+use Rattle.search_laws.proofs.Common.{word_number, word_number-le, word_number-less}
 use Rattle.certificate_laws.proofs.MetConditions.{IsLastSet-each}
 use Rattle.certificate_laws.proofs.CoverLists.{length-covers}
 

@@ -1,35 +1,14 @@
 -- What is written for a rule is within the limits of a certificate, its splits apart.
 use Rattle.std.proofs.Common.{◌≡◌, ℕ, ◌+◌, ◌-◌, ◌*◌, ◌<◌, ◌≤◌, List, ◌++◌, length, take, get_or, slice_index, Contains, Option, Some, None, inl, sym, ap, subst, ◌∙◌, ⊎_elim, arith, length-append, ℤ, pos, MatchOption, sum_by, length-take-le}
-use Rattle.std.proofs.lemmas.Bool.{cases_lt}
-use Rattle.std.proofs.lemmas.Int.{ints}
-use Rattle.std.proofs.lemmas.List.{get_or_past}
-use Rattle.std.proofs.lemmas.List.Elements.{Contains-get_or, All-from_get_or}
-use Rattle.std.proofs.lemmas.List.FromFn.{get_or-map-range_with_len}
-use Rattle.std.proofs.lemmas.List.Sums.{sum_by-le}
-use Rattle.word_image.specs.LocalRules.{LocalRule, IsRule, word_of, node_count}
-use Rattle.word_image.specs.Words.{image}
-use Rattle.word_image.specs.Weights.{AreWeights}
-use Rattle.word_image.specs.Windows.{IsDetermined, IsLeastDetermined, IsRightAhead, IsLeastRightAhead}
-use Rattle.word_image.specs.Graphs.{full_set, first_of, second_of, pair_count}
-use Rattle.word_image.specs.Ranks.{IsRank, IsEndless}
-use Rattle.word_image.proofs.laws.Values.{length-word_of}
-use Rattle.word_image.proofs.laws.Words.{length-image}
-use Rattle.word_image.proofs.laws.Graphs.{pair_count-le}
+use Rattle.word_image.proofs.Common.{cases_lt, ints, get_or_past, Contains-get_or, All-from_get_or, get_or-map-range_with_len, sum_by-le, LocalRule, IsRule, word_of, node_count, image, AreWeights, IsDetermined, IsLeastDetermined, IsRightAhead, IsLeastRightAhead, full_set, first_of, second_of, pair_count, IsRank, IsEndless, length-word_of, length-image, pair_count-le}
 use Rattle.word_image.specs.declared.side.Side.TheVariants.{Right}
-use Rattle.pair_laws.proofs.Endless.{Together-endless}
-use Rattle.pair_laws.proofs.BothWays.{IsDetermined-not_both_ways, IsDetermined-none_both_ways}
+use Rattle.pair_laws.proofs.Common.{Together-endless, IsDetermined-not_both_ways, IsDetermined-none_both_ways}
 use Rattle.pair_laws.proofs.Aheads.{IsRightAhead-pairs}
 use Rattle.ring_laws.proofs.Gains.{gain}
 use Rattle.ring_laws.proofs.FluxWalks.{zeros, length-zeros, walk_gain, IsFlux-unique}
 use Rattle.cert_format.specs.declared.cert_version.CertVersion.{CertVersion}
-use Rattle.cert_format.specs.Evidence.{SurjectiveEvidence, InjectiveEvidence, SumEvidence}
-use Rattle.cert_format.specs.Certificates.{IsSurjectiveShape, IsInjectiveShape, IsSideShape, IsSumShape, IsClaim, IsRankShape, IsNear}
-use Rattle.cert_format.specs.Evidence.SurjectiveEvidence.{Sets, Pairs, Orphan}
-use Rattle.cert_format.specs.Evidence.InjectiveEvidence.{Window, Twins}
-use Rattle.cert_format.specs.Evidence.SideEvidence.{Ahead}
-use Rattle.cert_format.specs.Evidence.SumEvidence.{Flux, Ring}
-use Rattle.cert_format.specs.Versions.{lists_pairs}
-use Rattle.cert_conditions.proofs.laws.ExactEvidence.{Contains-full}
+use Rattle.cert_format.proofs.Common.{SurjectiveEvidence, InjectiveEvidence, SumEvidence, IsSurjectiveShape, IsInjectiveShape, IsSideShape, IsSumShape, IsClaim, IsRankShape, IsNear, Sets, Pairs, Orphan, Window, Twins, Ahead, Flux, Ring, lists_pairs}
+use Rattle.cert_conditions.proofs.Common.{Contains-full}
 use Rattle.certificate_laws.specs.LeastEvidence.{IsOrphanPart, IsInjectivePart, IsConservingPart}
 use Rattle.certificate_laws.specs.WrittenCertificates.{orphan_of, IsListPart, IsRankRow}
 use Rattle.certificate_laws.proofs.MetConditions.{AreLastSets-family}

@@ -1,8 +1,6 @@
 -- What has more letters comes later in the orders that put what is shorter first.
 use Rattle.std.proofs.Common.{◌≡◌, ℕ, ◌<◌, List, length, sym, ap, nat_cmp, Ordering, Greater}
-use Rattle.std.specs.Ordering.{ordering_then}
-use Rattle.std.specs.Cmp.{nat_cmp_is}
-use Rattle.word_image.specs.Words.{word_cmp}
+use Rattle.word_image.proofs.Common.{ordering_then, nat_cmp_is, word_cmp}
 
 -- what has the greater number comes later, whatever the rest of the order says
 pub later_by_number : (m n : ℕ) (rest : Ordering) → n < m → ordering_then (nat_cmp m n) rest ≡ Greater

@@ -1,36 +1,17 @@
 -- What is written for a rule and weights meets the conditions of the judge: the cover list, the reached pairs or an orphan, the exact ranks, and the least evidence of each other part.
 use Rattle.std.proofs.Common.{◌≢◌, ℕ, zero, suc, ◌^◌, List, [], ◌∷◌, length, slice_index, Contains, Option, refl, sym, subst, subst₂, ⊎_elim, arith}
-use Rattle.std.specs.List.{AllZip}
-use Rattle.std.proofs.lemmas.List.Elements.{Contains-get_or}
-use Rattle.word_image.specs.LocalRules.{LocalRule, IsRule, word_of}
-use Rattle.word_image.specs.Words.{IsSurjective}
-use Rattle.word_image.specs.Graphs.{full_set, first_of, second_of, pair_count}
-use Rattle.word_image.specs.FirstPairs.{IsFirstOfRight, IsFirstOfLeft}
+use Rattle.word_image.proofs.Common.{AllZip, Contains-get_or, LocalRule, IsRule, word_of, IsSurjective, full_set, first_of, second_of, pair_count, IsFirstOfRight, IsFirstOfLeft, IsFamily, IsLeastWordOf, covers_of, IsLastSet, BeginTogether, EndTogether, IsOrphan-empty_set, IsOrphan-not_surjective}
 use Rattle.word_image.specs.declared.side.Side.TheVariants as side
-use Rattle.word_image.specs.Families.{IsFamily, IsLeastWordOf, covers_of}
-use Rattle.word_image.specs.Ranks.{IsLastSet, BeginTogether, EndTogether}
-use Rattle.word_image.proofs.laws.LastSets.{IsOrphan-empty_set, IsOrphan-not_surjective}
 use Rattle.eden_laws.proofs.ReachedPairs.{IsPairList-reached}
-use Rattle.tail_config.specs.Tails.{AgreeLeft, AgreeRight}
-use Rattle.tail_laws.proofs.Verdicts.{IsLeftSplit-least}
+use Rattle.tail_config.proofs.Common.{AgreeLeft, AgreeRight}
+use Rattle.tail_laws.proofs.Common.{IsLeftSplit-least}
 use Rattle.cert_format.specs.declared.cert_version.CertVersion.{CertVersion}
 use Rattle.cert_format.specs.declared.cert_version.CertVersion.TheVariants.{One, Two}
-use Rattle.cert_format.specs.Evidence.{SurjectiveEvidence, InjectiveEvidence, SideEvidence, SumEvidence}
-use Rattle.cert_format.specs.Certificates.{Certificate}
-use Rattle.cert_format.specs.Evidence.SurjectiveEvidence.{Sets, Pairs, Orphan}
-use Rattle.cert_format.specs.Evidence.InjectiveEvidence.{Window, Twins}
-use Rattle.cert_format.specs.Evidence.SideEvidence.{Ahead, Split}
-use Rattle.cert_format.specs.Evidence.SumEvidence.{Flux, Ring}
+use Rattle.cert_format.proofs.Common.{SurjectiveEvidence, InjectiveEvidence, SideEvidence, SumEvidence, Certificate, Sets, Pairs, Orphan, Window, Twins, Ahead, Split, Flux, Ring}
 use Rattle.cert_conditions.specs.declared.condition.Condition.TheVariants.{SideClaims, FullListed, NoneEmpty, Closed, FirstsListed, OffDiagonal, PairsClosed, OrphanRead, WindowClaims, TwinsAlike, SideAhead, SideSplit, FluxFlows, RingLossy}
-use Rattle.cert_conditions.specs.Breaches.{EachBelow}
-use Rattle.cert_conditions.specs.Sets.{StepIsKept, LeadsTo}
-use Rattle.cert_conditions.specs.Pairs.{FirstIsListed, StepsAreListed}
-use Rattle.cert_conditions.specs.Claims.{IsWindowPair, IsAheadPair}
-use Rattle.cert_conditions.specs.Sums.{Flows, IsLossy}
-use Rattle.cert_conditions.specs.Conditions.{MeetsConditions, OfSets, OfPairs, OfOrphan, OfWindow, OfTwins, OfAhead, OfSplit, OfFlux, OfRing}
+use Rattle.cert_conditions.proofs.Common.{EachBelow, StepIsKept, LeadsTo, FirstIsListed, StepsAreListed, IsWindowPair, IsAheadPair, Flows, IsLossy, MeetsConditions, OfSets, OfPairs, OfOrphan, OfWindow, OfTwins, OfAhead, OfSplit, OfFlux, OfRing, AreLastSets, Contains-full, nonempty-last_sets, StepIsKept-last_sets, LeadsTo-orphan, AllFall-ranks, IsWindowPair-determined, IsAheadPair-ranks, AreAlike-twins, AreSplit-right, AreSplit-left, Flows-exact, IsLossy-ring}
 use Rattle.cert_conditions.proofs.laws.StepConditions.{at_listed}
 use Rattle.cert_conditions.proofs.laws.ClaimConditions.{AreSplit, AreAlike}
-use Rattle.cert_conditions.proofs.laws.ExactEvidence.{AreLastSets, Contains-full, nonempty-last_sets, StepIsKept-last_sets, LeadsTo-orphan, AllFall-ranks, IsWindowPair-determined, IsAheadPair-ranks, AreAlike-twins, AreSplit-right, AreSplit-left, Flows-exact, IsLossy-ring}
 use Rattle.certificate_laws.proofs.CoverLists.{Contains-covers, HasCover-listed}
 use Rattle.certificate_laws.proofs.PairLists.{pair_list-met}
 use Rattle.certificate_laws.specs.LeastEvidence.{IsOrphanPart, IsInjectivePart, IsRightPart, IsLeftPart, IsConservingPart}

@@ -2,10 +2,7 @@
 use Rattle.std.proofs.Common.{◌≡◌, ℕ, suc, ◌+◌, ◌^◌, ◌<◌, ◌≤◌, negsuc, pos, Bool, true, false, List, [], ◌∷◌, map, All, IsUtf8, Some, option_map, option_and_then, decimal, append-nil, refl, sym, ap, ◌∙◌, arith, ℤ}
 use lib.Signed.{mag}
 use Rattle.std.specs.Fmt.{signed_decimal}
-use Rattle.std.proofs.Math.Nat.{max-le}
-use Rattle.std.proofs.lemmas.Fmt.{IsAscii-decimal, IsAscii-signed}
-use Rattle.std.proofs.lemmas.List.Elements.{All-head, All-tail}
-use Rattle.std.proofs.lemmas.Str.{IsUtf8-append, IsUtf8-from_ascii}
+use Rattle.word_image.proofs.Common.{max-le, IsAscii-decimal, IsAscii-signed, All-head, All-tail, IsUtf8-append, IsUtf8-from_ascii}
 use Rattle.json.specs.Json as json
 use Rattle.json.specs.Print.{quoted}
 use Rattle.json.specs.Tree as tree
@@ -19,7 +16,7 @@ use Rattle.serde_json.specs.View.{items_of}
 use Rattle.serde_json.specs.Written.{outline, items_outline, members_outline, compact_text, items_text, members_text, comma_if}
 use Rattle.serde_json.proofs.Numbers.{number_of-decimal, number_of-negative}
 use Rattle.serde_json.proofs.Texts.{print-outline}
-use Rattle.cert_format.specs.WrittenTexts.{array_from, whole_value, signed_value, only}
+use Rattle.cert_format.proofs.Common.{array_from, whole_value, signed_value, only}
 
 -- a value nests no deeper than n, its numbers are texts of numbers, it is what its text says, and that is UTF-8
 pub record IsReadBack (n : ℕ) (d : Data) : Type 0 where

@@ -1,13 +1,9 @@
 -- The least orphan has no more letters than there are sets of nodes: between two visits to one set it could be cut.
 use Rattle.std.proofs.Common.{ℕ, ◌^◌, ◌<◌, ◌≤◌, List, length, ⊎_elim, arith}
-use Rattle.std.proofs.Math.Nat.{pow-le-pow_right}
-use Rattle.word_image.specs.LocalRules.{LocalRule, IsRule, node_count}
-use Rattle.word_image.specs.Words.{IsLeastOrphan}
-use Rattle.word_image.specs.Graphs.{full_set}
-use Rattle.word_image.specs.Edges.{IsStep}
-use Rattle.search_laws.proofs.Walks.{Walk-shortened}
+use Rattle.word_image.proofs.Common.{pow-le-pow_right, LocalRule, IsRule, node_count, IsLeastOrphan, full_set, IsStep}
+use Rattle.search_laws.proofs.Common.{Walk-shortened}
 use Rattle.cert_conditions.proofs.laws.StepConditions.{IsOrphan-read}
-use Rattle.cert_conditions.proofs.laws.ExactEvidence.{LeadsTo-orphan}
+use Rattle.cert_conditions.proofs.Common.{LeadsTo-orphan}
 use Rattle.certificate_laws.proofs.LongerWords.{word_cmp-longer}
 
 -- so it has at most 65,536 letters

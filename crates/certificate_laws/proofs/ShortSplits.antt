@@ -1,22 +1,13 @@
 -- The least normal right split is short: its middle and right period have together at most as many letters as there are pairs, and m more.
 use Rattle.std.proofs.Common.{◌≡◌, ℕ, ◌+◌, ◌-◌, ◌<◌, ◌≤◌, List, ◌∷◌, length, subst, ⊎_elim, arith, length-append, Greater}
-use Rattle.std.proofs.lemmas.Bool.{cases_lt}
-use Rattle.word_image.specs.LocalRules.{LocalRule, IsRule, word_of}
-use Rattle.word_image.specs.Windows.{IsRightAhead}
-use Rattle.word_image.specs.Graphs.{pair_count}
-use Rattle.word_image.specs.FirstPairs.{IsFirstOfRight}
-use Rattle.word_image.proofs.laws.Values.{length-word_of}
-use Rattle.word_image.specs.Sides.{PairGoes}
+use Rattle.word_image.proofs.Common.{cases_lt, LocalRule, IsRule, word_of, IsRightAhead, pair_count, IsFirstOfRight, length-word_of, PairGoes}
 use Rattle.word_image.specs.declared.side.Side.TheVariants.{Right}
-use Rattle.pair_laws.proofs.Pairs.{pair_of-first_of}
+use Rattle.pair_laws.proofs.Common.{pair_of-first_of, Together-endless}
 use Rattle.pair_laws.proofs.Aheads.{IsRightAhead-pairs}
-use Rattle.pair_laws.proofs.Endless.{Together-endless}
-use Rattle.tail_config.specs.Tails.{TailConfig}
-use Rattle.tail_config.specs.Splits.{IsNormalRightSplit, IsLeastRightSplit, splits_cmp}
+use Rattle.tail_config.proofs.Common.{TailConfig, IsNormalRightSplit, IsLeastRightSplit, splits_cmp}
 use Rattle.tail_laws.proofs.FirstPairs.{LeadsToLoop, looped_tail, normal_split-loop}
 use Rattle.tail_laws.proofs.EndlessPairs.{LeadsToLoop-begin}
-use Rattle.tail_laws.proofs.Closing.{IsRightClosing-ahead}
-use Rattle.tail_laws.proofs.Verdicts.{no_right_closing}
+use Rattle.tail_laws.proofs.Common.{IsRightClosing-ahead, no_right_closing}
 use Rattle.certificate_laws.proofs.LongerWords.{later_by_number}
 
 -- a normal right split with few letters

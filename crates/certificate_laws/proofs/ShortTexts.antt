@@ -1,32 +1,14 @@
 -- The text that is written for a rule has fewer than 450,000 bytes.
 use Rattle.std.proofs.Common.{◌≡◌, ℕ, ◌+◌, ◌-◌, ◌^◌, ◌<◌, ◌≤◌, true, false, ⊎_elim, List, [], ◌∷◌, length, map, slice_index, Option, Some, None, arith, length-append, ℤ, pos, negsuc, ◌≤ℤ◌, codes}
-use Rattle.std.proofs.Math.Nat.{pow-le-pow_right}
-use Rattle.std.proofs.lemmas.Fmt.{length-decimal-le, length_signed_le}
-use Rattle.std.proofs.lemmas.Int.{ints}
-use Rattle.std.proofs.lemmas.List.{length-map}
-use Rattle.std.proofs.lemmas.List.Elements.{All-weaker}
+use Rattle.word_image.proofs.Common.{pow-le-pow_right, length-decimal-le, length_signed_le, ints, length-map, All-weaker, LocalRule, IsRule, node_count, pair_count, AreWeights, window_count-le, pair_count-le}
 use Rattle.serde_json.specs.Data.{Data, Members, no_members, member, string}
 use Rattle.serde_json.specs.Written.{compact_text, members_text}
-use Rattle.word_image.specs.LocalRules.{LocalRule, IsRule, node_count}
-use Rattle.word_image.specs.Graphs.{pair_count}
-use Rattle.word_image.specs.Weights.{AreWeights}
-use Rattle.word_image.proofs.laws.RuleFaults.{window_count-le}
-use Rattle.word_image.proofs.laws.Graphs.{pair_count-le}
-use Rattle.tail_config.specs.TailTexts.{IsShortTail}
+use Rattle.tail_config.proofs.Common.{IsShortTail}
 use Rattle.rule_text.specs.PrintedRules.{offset_text, printed_rule}
-use Rattle.tail_laws.proofs.LeastTwins.{length-IsLeastTwins}
+use Rattle.tail_laws.proofs.Common.{length-IsLeastTwins}
 use Rattle.cert_format.specs.declared.cert_version.CertVersion.{CertVersion}
 use Rattle.cert_format.specs.declared.cert_version.CertVersion.TheVariants.{One}
-use Rattle.cert_format.specs.Versions.{number_of, names_weights}
-use Rattle.cert_format.specs.Evidence.{SurjectiveEvidence, InjectiveEvidence, SideEvidence, SumEvidence}
-use Rattle.cert_format.specs.Certificates.{Certificate, IsSurjectiveShape, IsInjectiveShape, IsSideShape, IsSumShape, IsClaim, IsRankShape, IsNear}
-use Rattle.cert_format.specs.Parts.{IsShaped}
-use Rattle.cert_format.specs.Evidence.SurjectiveEvidence.{Sets, Pairs, Orphan}
-use Rattle.cert_format.specs.Evidence.InjectiveEvidence.{Window, Twins}
-use Rattle.cert_format.specs.Evidence.SideEvidence.{Ahead, Split}
-use Rattle.cert_format.specs.Evidence.SumEvidence.{Flux, Ring}
-use Rattle.cert_format.specs.WrittenTexts.{array_from, whole_value, signed_value, word_value, tail_value, claim_value, surjective_value, injective_value, side_value, sum_value, ranks_value, weights_members, certificate_text}
-use Rattle.cert_format.proofs.laws.WeightMembers.{weights_members-cases}
+use Rattle.cert_format.proofs.Common.{number_of, names_weights, SurjectiveEvidence, InjectiveEvidence, SideEvidence, SumEvidence, Certificate, IsSurjectiveShape, IsInjectiveShape, IsSideShape, IsSumShape, IsClaim, IsRankShape, IsNear, IsShaped, Sets, Pairs, Orphan, Window, Twins, Ahead, Split, Flux, Ring, array_from, whole_value, signed_value, word_value, tail_value, claim_value, surjective_value, injective_value, side_value, sum_value, ranks_value, weights_members, certificate_text, weights_members-cases}
 use Rattle.certificate_laws.specs.LeastEvidence.{IsOrphanPart, IsInjectivePart, IsConservingPart}
 use Rattle.certificate_laws.specs.WrittenCertificates.{orphan_of, IsListPart, HasWrittenParts}
 use Rattle.certificate_laws.proofs.MetConditions.{own_parts}

@@ -1,8 +1,6 @@
 -- The least lossy ring has few letters.
 use Rattle.std.proofs.Common.{ℕ, ◌-◌, ◌*◌, ◌≤◌, List, length, ⊎_elim, arith, sum_by}
-use Rattle.std.proofs.lemmas.Bool.{cases_lt, cases_eq}
-use Rattle.word_image.specs.LocalRules.{LocalRule, IsRule}
-use Rattle.word_image.specs.Rings.{IsLeastLossyRing, ring_image}
+use Rattle.word_image.proofs.Common.{cases_lt, cases_eq, LocalRule, IsRule, IsLeastLossyRing, ring_image}
 use Rattle.ring_laws.proofs.Fluxes.{IsConserving-flux}
 use Rattle.ring_laws.proofs.LossyRings.{ShortRingsKeepSum, IsFlux-short_rings}
 use Rattle.certificate_laws.proofs.LongerWords.{word_cmp-longer}

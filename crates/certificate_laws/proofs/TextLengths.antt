@@ -1,17 +1,14 @@
 -- How many bytes the compact text of a value has at most.
 use Rattle.std.proofs.Common.{◌≡◌, ◌≢◌, ℕ, ◌+◌, ◌*◌, ◌/◌, ◌%◌, ◌≤◌, Bool, true, false, cond, List, [], ◌∷◌, ◌++◌, length, map, All, refl, ap, ap₂, ◌∙◌, arith, length-append, nat_lt, codes, ne_eqb, le-ltb, ltb-true, ltb-false}
 use Rattle.std.specs.Char.{digit_char}
-use Rattle.std.proofs.lemmas.Bool.{cond_both}
-use Rattle.std.proofs.lemmas.List.{length-map}
-use Rattle.std.proofs.lemmas.List.Elements.{All-nil, All-cons, All-head, All-tail, All-map, All-append}
+use Rattle.word_image.proofs.Common.{cond_both, length-map, All-nil, All-cons, All-head, All-tail, All-map, All-append, lower_digit, word_text}
 use Rattle.json.specs.Print.{escape_letter, escape_byte, escape, quoted}
 use Rattle.serde_json.specs.Data.{Data, string, Members, no_members, member}
 use Rattle.serde_json.specs.View.{items_of}
 use Rattle.serde_json.specs.Written.{compact_text, items_text, members_text, comma_if}
-use Rattle.word_image.specs.Digits.{lower_digit, word_text}
-use Rattle.tail_config.specs.Tails.{TailConfig}
+use Rattle.tail_config.proofs.Common.{TailConfig}
 use Rattle.tail_config.specs.TailTexts as tail
-use Rattle.cert_format.specs.WrittenTexts.{array_from, word_value, tail_value, only}
+use Rattle.cert_format.proofs.Common.{array_from, word_value, tail_value, only}
 
 -- one of two texts of at most six bytes has at most six
 length-either : (b : Bool) (s t : List ℕ) → length s ≤ 6 → length t ≤ 6 → length (cond b s t) ≤ 6

@@ -1,33 +1,14 @@
 -- The text of a certificate within its limits is a text of it.
 use Rattle.std.proofs.Common.{ℕ, suc, ◌+◌, ◌-◌, ◌^◌, ◌<◌, ◌≤◌, negsuc, pos, List, [], ◌∷◌, map, All, IsUtf8, Option, Some, None, codes, decimal, refl, sym, subst, ⊎_elim, arith, lt-ltb, ℤ, nat_lt}
-use Rattle.std.proofs.Math.Nat.{pow-le-pow_right}
-use Rattle.std.proofs.lemmas.Bool.{cond_both}
-use Rattle.std.proofs.lemmas.Fmt.{IsAscii-decimal}
-use Rattle.std.proofs.lemmas.Int.{ints}
-use Rattle.std.proofs.lemmas.List.Elements.{All-head, All-tail, All-weaker, All-nil, All-cons}
-use Rattle.std.proofs.lemmas.Str.{IsUtf8-append, IsUtf8-from_ascii}
+use Rattle.word_image.proofs.Common.{pow-le-pow_right, cond_both, IsAscii-decimal, ints, All-head, All-tail, All-weaker, All-nil, All-cons, IsUtf8-append, IsUtf8-from_ascii, LocalRule, IsRule, IsWord, node_count, lower_digit, word_text, pair_count-le}
 use Rattle.json.proofs.Printed.Utf8.{IsUtf8-are_ascii}
 use Rattle.serde_json.specs.Data.{object, Members}
-use Rattle.word_image.specs.LocalRules.{LocalRule, IsRule, IsWord, node_count}
-use Rattle.word_image.specs.Digits.{lower_digit, word_text}
-use Rattle.word_image.proofs.laws.Graphs.{pair_count-le}
-use Rattle.tail_config.specs.Tails.{TailConfig}
+use Rattle.tail_config.proofs.Common.{TailConfig, IsShortTail}
 use Rattle.tail_config.specs.TailTexts as tail
-use Rattle.tail_config.specs.TailTexts.{IsShortTail}
 use Rattle.rule_text.specs.PrintedRules.{offset_text, printed_rule}
 use Rattle.cert_format.specs.declared.cert_version.CertVersion.{CertVersion}
 use Rattle.cert_format.specs.declared.cert_version.CertVersion.TheVariants.{One, Two, Three}
-use Rattle.cert_format.specs.Versions.{number_of}
-use Rattle.cert_format.specs.Evidence.{SurjectiveEvidence, InjectiveEvidence, SideEvidence, SumEvidence}
-use Rattle.cert_format.specs.Evidence.SurjectiveEvidence.{Sets, Pairs, Orphan}
-use Rattle.cert_format.specs.Evidence.InjectiveEvidence.{Window, Twins}
-use Rattle.cert_format.specs.Evidence.SideEvidence.{Ahead, Split}
-use Rattle.cert_format.specs.Evidence.SumEvidence.{Flux, Ring}
-use Rattle.cert_format.specs.Certificates.{Certificate, IsSurjectiveShape, IsInjectiveShape, IsSideShape, IsSumShape, IsClaim, IsNear}
-use Rattle.cert_format.specs.CertificateTexts.{IsCertificateText}
-use Rattle.cert_format.specs.Parts.{IsShaped}
-use Rattle.cert_format.specs.WrittenTexts.{array_from, whole_value, signed_value, word_value, tail_value, claim_value, surjective_value, injective_value, side_value, sum_value, ranks_value, members_before, certificate_value, certificate_text}
-use Rattle.cert_format.proofs.laws.WeightMembers.{weights_members-cases}
+use Rattle.cert_format.proofs.Common.{number_of, SurjectiveEvidence, InjectiveEvidence, SideEvidence, SumEvidence, Sets, Pairs, Orphan, Window, Twins, Ahead, Split, Flux, Ring, Certificate, IsSurjectiveShape, IsInjectiveShape, IsSideShape, IsSumShape, IsClaim, IsNear, IsCertificateText, IsShaped, array_from, whole_value, signed_value, word_value, tail_value, claim_value, surjective_value, injective_value, side_value, sum_value, ranks_value, members_before, certificate_value, certificate_text, weights_members-cases}
 use Rattle.cert_format.proofs.laws.Written.{IsCertificateText-written}
 use Rattle.certificate_laws.proofs.ReadBack.{IsReadBack, HaveReadBack, IsReadBack-null, IsReadBack-string, IsReadBack-whole, IsReadBack-signed, IsReadBack-array, IsReadBack-object, IsReadBack-only, HaveReadBack-none, HaveReadBack-member, read-compact_text}
 

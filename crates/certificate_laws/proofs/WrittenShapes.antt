@@ -1,24 +1,11 @@
 -- What is written for a rule has the shape of a certificate.
 use Rattle.std.proofs.Common.{◌≡◌, ◌∙◌, ℕ, List, length, true, sym, ap, subst, subst₂, arith}
-use Rattle.std.proofs.lemmas.Bool.{false≢true}
-use Rattle.std.proofs.lemmas.List.{length-reverse}
-use Rattle.word_image.specs.LocalRules.{LocalRule, IsRule}
-use Rattle.word_image.specs.Weights.{AreWeights}
-use Rattle.word_image.specs.Ranks.{BeginTogether, EndTogether}
-use Rattle.word_image.proofs.laws.Images.{IsRule-mirrored}
-use Rattle.word_image.proofs.laws.Graphs.{pair_count-le}
+use Rattle.word_image.proofs.Common.{false≢true, length-reverse, LocalRule, IsRule, AreWeights, BeginTogether, EndTogether, IsRule-mirrored, pair_count-le}
 use Rattle.word_image.specs.declared.side.Side.TheVariants.{Right, Left}
-use Rattle.pair_laws.proofs.Endless.{IsRank-below}
-use Rattle.tail_config.specs.Tails.{TailConfig, mirror_of}
-use Rattle.tail_config.specs.TailTexts.{IsShortTail}
-use Rattle.tail_config.specs.Splits.{IsLeastRightSplit}
-use Rattle.tail_config.proofs.laws.Mirror.{IsTail-mirror}
+use Rattle.pair_laws.proofs.Common.{IsRank-below}
+use Rattle.tail_config.proofs.Common.{TailConfig, mirror_of, IsShortTail, IsLeastRightSplit, IsTail-mirror}
 use Rattle.cert_format.specs.declared.cert_version.CertVersion.{CertVersion}
-use Rattle.cert_format.specs.Versions.{names_weights}
-use Rattle.cert_format.specs.Evidence.{SideEvidence}
-use Rattle.cert_format.specs.Certificates.{Certificate, IsSideShape}
-use Rattle.cert_format.specs.Parts.{IsShaped}
-use Rattle.cert_format.specs.Evidence.SideEvidence.{Ahead, Split}
+use Rattle.cert_format.proofs.Common.{names_weights, SideEvidence, Certificate, IsSideShape, IsShaped, Ahead, Split}
 use Rattle.certificate_laws.specs.LeastEvidence.{IsRightPart, IsLeftPart}
 use Rattle.certificate_laws.specs.WrittenCertificates.{HasWrittenParts}
 use Rattle.certificate_laws.proofs.MetConditions.{own_parts}

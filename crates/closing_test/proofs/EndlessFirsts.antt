@@ -1,18 +1,11 @@
 -- A rule closes on a side exactly where no first pair of that side is endless.
 use Rattle.std.proofs.Common.{◌==◌, ℕ, ◌/◌, ◌^◌, ◌↔◌, IsBitSet, IsTrue, bit_and, subst}
-use Rattle.word_image.specs.LocalRules.{LocalRule, IsRule}
-use Rattle.word_image.specs.Ranks.{IsEndless}
-use Rattle.pair_laws.proofs.Rows.{IsBitSet-test}
-use Rattle.pair_laws.proofs.BothWays.{some_ahead}
+use Rattle.word_image.proofs.Common.{LocalRule, IsRule, IsEndless, Together, PairGoes, IsFirstOf}
+use Rattle.pair_laws.proofs.Common.{IsBitSet-test, some_ahead, end_pair, IsFirst-ends, first_ends}
 use Rattle.word_image.specs.declared.side.Side.{Side}
-use Rattle.word_image.specs.Sides.{Together, PairGoes}
-use Rattle.word_image.specs.FirstPairs.{IsFirstOf}
-use Rattle.pair_laws.specs.FirstWindows.{end_pair}
-use Rattle.tail_laws.specs.Closing.{IsClosing}
+use Rattle.tail_laws.proofs.Common.{IsClosing, closing_ahead}
 use Rattle.closing_test.specs.Sides.{IsFound}
 use Rattle.closing_test.specs.EndlessFirsts.{IsEndlessWith}
-use Rattle.pair_laws.proofs.FirstWindows.{IsFirst-ends, first_ends}
-use Rattle.tail_laws.proofs.Certainty.{closing_ahead}
 use Rattle.closing_test.proofs.LookAheads.{end_pair-goes}
 
 -- both say that it looks ahead

@@ -1,22 +1,9 @@
 -- The order of splits by the numbers of their letter pairs, and where no split at a state comes before the least one so far.
-use Rattle.std.proofs.Common.{◌≡◌, ◌≢◌, ℕ, ◌+◌, ◌/◌, ◌%◌, ◌<◌, ◌≤◌, List, [], ◌∷◌, length, map, Option, Some, None, Bool, true≢false, refl, sym, ap, ap₂, ◌∙◌, subst, ⊎_elim, arith}
-use Rattle.std.specs.Ordering.{ordering_then, nat_cmp, is_gt}
-use Rattle.std.specs.Prelude.{◌↔◌, IsTrue, MatchOption}
-use Rattle.std.specs.Option.{SomeIff}
-use Rattle.std.specs.Cmp.{nat_cmp_is}
-use Rattle.std.specs.Cmp.Lexicographic.{slice_cmp}
-use Rattle.std.specs.declared.cmp.Ordering.{Ordering}
-use Rattle.std.specs.declared.cmp.Ordering.TheVariants.{Less, Equal, Greater}
-use Rattle.std.proofs.lemmas.Bool.{cases_lt}
-use Rattle.std.proofs.lemmas.Cmp.{ranked, by_ranked}
-use Rattle.std.proofs.lemmas.List.{length-map}
-use Rattle.word_image.specs.LocalRules.{LocalRule}
-use Rattle.word_image.specs.MarkedPairs.{marked}
-use Rattle.word_image.specs.Rings.{pair_cmp}
-use Rattle.search_laws.specs.PairWalks.{PairWalk, IsLeastWalkTo, uncode}
-use Rattle.tail_config.specs.Splits.{splits_cmp}
-use Rattle.tail_laws.specs.SplitWalks.{IsLeastSplitAt, split_of, with_mark}
-use Rattle.tail_laws.proofs.LeastSplits.{splits_cmp-walks, no_earlier-least}
+use Rattle.std.proofs.Common.{◌≡◌, ◌≢◌, ℕ, ◌+◌, ◌/◌, ◌%◌, ◌<◌, ◌≤◌, List, [], ◌∷◌, length, map, Option, Some, None, Bool, true≢false, refl, sym, ap, ap₂, ◌∙◌, subst, ⊎_elim, arith, nat_cmp, is_gt, ◌↔◌, IsTrue, MatchOption, SomeIff, Ordering, Less, Equal, Greater}
+use Rattle.word_image.proofs.Common.{ordering_then, nat_cmp_is, slice_cmp, cases_lt, ranked, by_ranked, length-map, LocalRule, marked, pair_cmp}
+use Rattle.search_laws.proofs.Common.{PairWalk, IsLeastWalkTo, uncode}
+use Rattle.tail_config.proofs.Common.{splits_cmp}
+use Rattle.tail_laws.proofs.Common.{IsLeastSplitAt, split_of, with_mark, splits_cmp-walks, no_earlier-least}
 use Rattle.closing_test.specs.declared.walks.Walks.{Walks}
 use Rattle.closing_test.specs.Walks.{middle_pairs, period_pairs, split_by, ComesBefore, IsMostAfter, IsNoneBefore, AreEarlier}
 

@@ -1,24 +1,11 @@
 -- The least look-ahead on a side is 2 more than the greatest rank of a first pair, or 1 where there is none.
-use Rattle.std.proofs.Common.{◌≡◌, ◌⊎◌, ℕ, ◌+◌, ◌-◌, ◌<◌, ◌≤◌, ◌^◌, max, inl, inr, refl, sym, ap, ap₂, ◌∙◌, subst, ⊎_elim, arith}
-use Rattle.std.specs.Prelude.{◌↔◌, if◌then◌else◌}
-use Rattle.std.specs.Ordering.{ord_max, nat_cmp, is_lt}
-use Rattle.std.proofs.lemmas.Bool.{cases_lt, cases_eq}
-use Rattle.std.proofs.lemmas.Cmp.{ranked, by_ranked}
-use Rattle.word_image.specs.LocalRules.{LocalRule, IsRule}
-use Rattle.word_image.specs.Windows.{IsLeastRightAhead}
-use Rattle.word_image.specs.Graphs.{pair_of}
-use Rattle.word_image.specs.Ranks.{IsRank, IsEndless}
-use Rattle.pair_laws.proofs.Pairs.{PairGoes-pair_of, PairGoes-less}
-use Rattle.pair_laws.proofs.BothWays.{ahead_pairs}
-use Rattle.tail_laws.proofs.Certainty.{closing_ahead}
+use Rattle.std.proofs.Common.{◌≡◌, ◌⊎◌, ℕ, ◌+◌, ◌-◌, ◌<◌, ◌≤◌, ◌^◌, max, inl, inr, refl, sym, ap, ap₂, ◌∙◌, subst, ⊎_elim, arith, ◌↔◌, if◌then◌else◌, nat_cmp, is_lt}
+use Rattle.word_image.proofs.Common.{ord_max, cases_lt, cases_eq, ranked, by_ranked, LocalRule, IsRule, IsLeastRightAhead, pair_of, IsRank, IsEndless, seen_from, Together, PairGoes, IsFirstOf}
+use Rattle.pair_laws.proofs.Common.{PairGoes-pair_of, PairGoes-less, ahead_pairs, end_pair, HasEndlessFirst, IsFirst-ends, first_ends}
+use Rattle.tail_laws.proofs.Common.{closing_ahead, IsClosing}
 use Rattle.word_image.specs.declared.side.Side.{Side}
-use Rattle.word_image.specs.Sides.{seen_from, Together, PairGoes}
-use Rattle.word_image.specs.FirstPairs.{IsFirstOf}
-use Rattle.pair_laws.specs.FirstWindows.{end_pair, HasEndlessFirst}
-use Rattle.tail_laws.specs.Closing.{IsClosing}
 use Rattle.closing_test.specs.Sides.{AreEndNodes, IsFound}
 use Rattle.closing_test.specs.LeastAheads.{IsLeastFor, IsFirstWith, IsFirstAt}
-use Rattle.pair_laws.proofs.FirstWindows.{IsFirst-ends, first_ends}
 
 -- The least number for some pairs
 

@@ -1,21 +1,9 @@
 -- The search for the least split over the states of a list, place by place.
-use Rattle.std.proofs.Common.{◌≡◌, ◌≢◌, ℕ, ◌+◌, ◌<◌, ◌≤◌, List, length, Option, Some, None, ap, ◌∙◌, subst, ⊎_elim, arith}
-use Rattle.std.specs.List.{slice_get}
-use Rattle.std.specs.Prelude.{MatchOption, IfSome, Contains}
-use Rattle.std.specs.Option.{option_or}
-use Rattle.std.specs.declared.cmp.Ordering.TheVariants.{Greater}
-use Rattle.std.proofs.lemmas.Bool.{cases_eq}
-use Rattle.std.proofs.lemmas.Option.{slice_get-get_or}
-use Rattle.word_image.specs.LocalRules.{LocalRule, IsRule}
-use Rattle.word_image.specs.Graphs.{pair_count}
-use Rattle.word_image.specs.MarkedPairs.{marked}
-use Rattle.word_image.proofs.laws.Comparisons.{no_later, not_before}
-use Rattle.word_image.proofs.laws.Places.{slice_get-unique}
-use Rattle.search_laws.specs.PairWalks.{PairWalk}
-use Rattle.tail_config.specs.Splits.{IsNormalRightSplit, splits_cmp}
-use Rattle.tail_laws.specs.SplitWalks.{IsSplitAt, IsNoSplitAt, first_tail, second_tail, split_of}
-use Rattle.tail_laws.proofs.SplitWalks.{IsNormalRightSplit-walks}
-use Rattle.tail_laws.proofs.LeastSplits.{splits_cmp_total}
+use Rattle.std.proofs.Common.{◌≡◌, ◌≢◌, ℕ, ◌+◌, ◌<◌, ◌≤◌, List, length, Option, Some, None, ap, ◌∙◌, subst, ⊎_elim, arith, slice_get, MatchOption, IfSome, Contains, Greater}
+use Rattle.word_image.proofs.Common.{option_or, cases_eq, slice_get-get_or, LocalRule, IsRule, pair_count, marked, no_later, not_before, slice_get-unique}
+use Rattle.search_laws.proofs.Common.{PairWalk}
+use Rattle.tail_config.proofs.Common.{IsNormalRightSplit, splits_cmp}
+use Rattle.tail_laws.proofs.Common.{IsSplitAt, IsNoSplitAt, first_tail, second_tail, split_of, IsNormalRightSplit-walks, splits_cmp_total}
 use Rattle.closing_test.specs.declared.walks.Walks.{Walks}
 use Rattle.closing_test.specs.Walks.{middle_pairs, period_pairs, split_by, IsNoneBefore, AreEarlier, IsLeastSoFar}
 

@@ -1,16 +1,10 @@
 -- The configurations that two walks make: how long their parts are, and what the least walks of all states make of them.
 use Rattle.std.proofs.Common.{◌≡◌, ℕ, ◌+◌, List, [], ◌∷◌, map, Some, None, refl, ap₂, subst, arith}
-use Rattle.std.proofs.lemmas.List.{length-map}
-use Rattle.std.proofs.lemmas.Simd.{map-map}
-use Rattle.word_image.specs.LocalRules.{LocalRule, IsRule}
-use Rattle.word_image.specs.Graphs.{pair_count}
-use Rattle.search_laws.specs.PairWalks.{uncode}
-use Rattle.tail_config.specs.Tails.{TailConfig, IsTail, IsRightClosing}
-use Rattle.tail_config.specs.Splits.{IsLeastRightSplit}
-use Rattle.tail_config.specs.TailValues.{TailOver}
-use Rattle.tail_laws.specs.SplitWalks.{tail_of}
+use Rattle.word_image.proofs.Common.{length-map, map-map, LocalRule, IsRule, pair_count}
+use Rattle.search_laws.proofs.Common.{uncode}
+use Rattle.tail_config.proofs.Common.{TailConfig, IsTail, IsRightClosing, IsLeastRightSplit, TailOver}
+use Rattle.tail_laws.proofs.Common.{tail_of, IsLeastRightSplit-below, no_normal_split}
 use Rattle.tail_laws.proofs.NormalSplits.{IsRightClosing-no_normal}
-use Rattle.tail_laws.proofs.LeastSplits.{IsLeastRightSplit-below, no_normal_split}
 use Rattle.closing_test.specs.declared.split.Letter.{Letter}
 use Rattle.closing_test.specs.declared.split.Letter.TheVariants.{First, Second}
 use Rattle.closing_test.specs.declared.walks.Walks.{Walks}

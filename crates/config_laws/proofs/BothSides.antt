@@ -1,19 +1,10 @@
 -- A rule that is closing on both sides: what agrees for long enough with the image of a configuration is the image of one that agrees with that configuration.
 use Rattle.std.proofs.Common.{◌≡◌, ℕ, ◌+◌, ◌-◌, ◌<◌, ℤ, pos, ◌+ℤ◌, ◌-ℤ◌, neg_ℤ, unsigned_abs, sym, ap, ◌∙◌, subst, arith, ◌<ℤ◌, ◌≤ℤ◌}
-use Rattle.std.proofs.Math.Path.{fun_ext}
-use Rattle.std.proofs.Math.IntN.{neg_ℤ-neg_ℤ}
-use Rattle.std.proofs.lemmas.Int.{ints, by_lt_z}
-use Rattle.word_image.specs.LocalRules.{LocalRule, IsRule, mirrored}
-use Rattle.word_image.specs.Windows.{IsRightAhead}
-use Rattle.word_image.specs.Sides.{IsLeftAhead}
-use Rattle.word_image.specs.Words.{IsSurjective}
-use Rattle.word_image.proofs.laws.Images.{IsRule-mirrored, mirrored-mirrored}
-use Rattle.tail_config.specs.Tails.{IsRightClosing, IsLeftClosing, IsOpen}
-use Rattle.tail_laws.proofs.Certainty.{IsRightClosing-window, IsLeftClosing-window}
+use Rattle.word_image.proofs.Common.{fun_ext, neg_ℤ-neg_ℤ, ints, by_lt_z, LocalRule, IsRule, mirrored, IsRightAhead, IsLeftAhead, IsSurjective, IsRule-mirrored, mirrored-mirrored}
+use Rattle.tail_config.proofs.Common.{IsRightClosing, IsLeftClosing, IsOpen, Config, IsConfig, image_of, AgreeWithin, AgreeFarLeft, AgreeFarRight, image_of-window}
+use Rattle.tail_laws.proofs.Common.{IsRightClosing-window, IsLeftClosing-window}
 use Rattle.eden_laws.proofs.Preinjective.{IsSurjective-right_closing}
-use Rattle.tail_config.specs.Configs.{Config, IsConfig, image_of, AgreeWithin, AgreeFarLeft, AgreeFarRight}
 use Rattle.config_laws.specs.Maps.{IsNear, IsEvenlyOpenMap, IsOntoMap, IsRightContinuingMap, IsLeftContinuingMap}
-use Rattle.tail_config.proofs.laws.Runs.{image_of-window}
 use Rattle.config_laws.proofs.Flips.{flip, image_of-flip}
 use Rattle.config_laws.proofs.GoesOn.{enough, GoesOn, goes_on, image_of-before}
 use Rattle.config_laws.proofs.Dense.{Matches, matches}

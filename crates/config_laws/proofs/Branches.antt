@@ -1,15 +1,7 @@
 -- An open rule is closing: under a surjective one, two configurations that are equal to the left, share an image and differ would lead from one node along more and more ways that read the same.
 use Rattle.std.proofs.Common.{◌≡◌, ◌≢◌, ℕ, zero, suc, ◌+◌, ◌-◌, ◌<◌, ◌≤◌, List, [], ◌++◌, length, take, drop, get_or, refl, sym, ap, ap₂, ◌∙◌, subst, arith, length-append, length-drop, take-append-drop, take_at, drop_at, append_assoc, append-nil, get_or-append-add, length-take-le}
-use Rattle.std.proofs.lemmas.List.{take-append-le, get_or_append_left}
-use Rattle.std.proofs.lemmas.List.Elements.{All-nil, All-append, All-drop}
-use Rattle.word_image.specs.LocalRules.{LocalRule, IsRule, IsWord, value, node_count}
-use Rattle.word_image.specs.Words.{image, IsPreimage, IsSurjective}
-use Rattle.word_image.specs.Erasure.{IsErasable}
-use Rattle.word_image.proofs.laws.Values.{value-injective}
-use Rattle.word_image.proofs.laws.Words.{IsWord-image, length-image}
-use Rattle.word_image.proofs.laws.Images.{image-drop}
-use Rattle.word_image.proofs.laws.Searches.{twice_below}
-use Rattle.pair_laws.proofs.Joins.{image-cut, image-join}
+use Rattle.word_image.proofs.Common.{take-append-le, get_or_append_left, All-nil, All-append, All-drop, LocalRule, IsRule, IsWord, value, node_count, image, IsPreimage, IsSurjective, IsErasable, value-injective, IsWord-image, length-image, image-drop, twice_below}
+use Rattle.pair_laws.proofs.Common.{image-cut, image-join}
 use Rattle.eden_laws.proofs.Blocks.{last-below}
 use Rattle.eden_laws.proofs.GardenOfEden.{garden_of_eden}
 

@@ -1,12 +1,8 @@
 -- Right-closing says of configurations with periodic tails what it says of all.
 use Rattle.std.proofs.Common.{ap, ◌↔◌}
-use Rattle.std.proofs.Math.Path.{fun_ext}
-use Rattle.word_image.specs.LocalRules.{LocalRule, IsRule}
-use Rattle.tail_config.specs.Configs.{Config}
-use Rattle.tail_config.specs.Tails.{IsRightClosing, cell}
-use Rattle.tail_config.proofs.laws.Cells.{cell-below}
-use Rattle.tail_laws.proofs.Certainty.{IsRightClosing-window}
-use Rattle.tail_laws.proofs.Closing.{agree_ahead}
+use Rattle.word_image.proofs.Common.{fun_ext, LocalRule, IsRule}
+use Rattle.tail_config.proofs.Common.{Config, IsRightClosing, cell, cell-below}
+use Rattle.tail_laws.proofs.Common.{IsRightClosing-window, agree_ahead}
 use Rattle.config_laws.specs.Maps.{IsRightClosingMap}
 
 -- a right-closing rule has a look-ahead, which gives each letter right of those on which two configurations agree

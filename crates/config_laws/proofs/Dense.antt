@@ -1,12 +1,8 @@
 -- Every word has a preimage exactly where every configuration is matched by an image on every finite part.
 use Rattle.std.proofs.Common.{◌≡◌, ℕ, ◌+◌, ◌-◌, ◌<◌, List, length, get_or, ℤ, pos, ◌+ℤ◌, ◌-ℤ◌, neg_ℤ, unsigned_abs, refl, sym, ap, subst, ◌∙◌, arith, ◌↔◌}
-use Rattle.std.proofs.lemmas.Int.{ints}
-use Rattle.word_image.specs.LocalRules.{LocalRule, IsRule}
-use Rattle.word_image.specs.Words.{IsPreimage, IsSurjective}
-use Rattle.word_image.proofs.laws.WindowParts.{some_letter}
-use Rattle.tail_config.specs.Configs.{Config, IsConfig, run, image_of, zeros}
+use Rattle.word_image.proofs.Common.{ints, LocalRule, IsRule, IsPreimage, IsSurjective, some_letter}
+use Rattle.tail_config.proofs.Common.{Config, IsConfig, run, image_of, zeros, length-run, get_or-run, IsWord-run, run-same}
 use Rattle.config_laws.specs.Maps.{IsDenseMap}
-use Rattle.tail_config.proofs.laws.Runs.{length-run, get_or-run, IsWord-run, run-same}
 use Rattle.config_laws.proofs.Images.{IsPreimage-run}
 use Rattle.config_laws.proofs.Joined.{written, IsConfig-written, image_of-written, run-written, between_zeros}
 

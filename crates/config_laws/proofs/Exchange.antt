@@ -1,21 +1,10 @@
 -- Either word of an erasable pair may stand for the other in any configuration, so where there is one as many configurations as are wanted have one image.
 use Rattle.std.proofs.Common.{◌≡◌, ℕ, suc, ◌+◌, ◌*◌, ◌<◌, ◌≤◌, ⊎_elim, List, length, get_or, slice_index, ℤ, pos, ◌+ℤ◌, ◌-ℤ◌, unsigned_abs, refl, sym, ap, ◌∙◌, arith, ◌<ℤ◌, ◌≤ℤ◌}
-use Rattle.std.proofs.Math.Path.{fun_ext}
-use Rattle.std.proofs.lemmas.Bool.{cases_lt}
-use Rattle.std.proofs.lemmas.Int.{ints, by_lt_z}
-use Rattle.std.proofs.lemmas.Nat.{mul-le, mod-mul-add}
-use Rattle.std.proofs.lemmas.List.{get_or_past, get_or_default}
-use Rattle.word_image.specs.LocalRules.{LocalRule, IsRule, IsWord}
-use Rattle.word_image.specs.Words.{IsSurjective}
-use Rattle.word_image.specs.Rings.{IsRing, ring_letter}
-use Rattle.word_image.specs.Erasure.{IsErasable}
-use Rattle.word_image.proofs.laws.Rings.{ring_letter-below}
-use Rattle.tail_config.proofs.laws.Differences.{DifferAt, differ_at}
+use Rattle.word_image.proofs.Common.{fun_ext, cases_lt, ints, by_lt_z, mul-le, mod-mul-add, get_or_past, get_or_default, LocalRule, IsRule, IsWord, IsSurjective, IsRing, ring_letter, IsErasable, ring_letter-below}
+use Rattle.tail_config.proofs.Common.{DifferAt, differ_at, Config, IsConfig, run, image_of, run-by_letters}
 use Rattle.eden_laws.proofs.Exchange.{IsErasable-long, image_of-exchange}
 use Rattle.eden_laws.proofs.GardenOfEden.{garden_of_eden}
-use Rattle.tail_config.specs.Configs.{Config, IsConfig, run, image_of}
 use Rattle.config_laws.specs.Maps.{Differ, AreMany}
-use Rattle.tail_config.proofs.laws.Runs.{run-by_letters}
 use Rattle.config_laws.proofs.Joined.{joined, joined-left, joined-right, IsConfig-joined}
 
 -- a configuration in which a word stands from place s on

@@ -1,20 +1,10 @@
 -- Where finite configurations weigh as much as their images, or finitely many new letters change both alike, rings keep their sums.
 use Rattle.std.proofs.Common.{◌≡◌, ℕ, zero, suc, ◌+◌, ◌-◌, ◌<◌, ◌≤◌, ◌↔◌, ⊎_elim, List, [], ◌∷◌, ◌++◌, length, take, drop, sum_by, get_or, ℤ, pos, ◌+ℤ◌, ◌-ℤ◌, neg_ℤ, unsigned_abs, refl, sym, ap, ◌∙◌, arith, length-append, take-append-drop, ◌<ℤ◌, ◌≤ℤ◌, take_at, drop_at, append_assoc, get_or-take, get_or-drop}
-use Rattle.std.proofs.lemmas.Bool.{cases_lt}
-use Rattle.std.proofs.lemmas.Int.{ints, by_lt_z}
-use Rattle.std.proofs.lemmas.List.Elements.{All-nil, All-cons, All-append}
-use Rattle.std.proofs.lemmas.List.FromFn.{length-map-range_with_len}
-use Rattle.word_image.specs.LocalRules.{LocalRule, IsRule, IsWord, local_map}
-use Rattle.word_image.specs.Words.{image}
-use Rattle.word_image.specs.Rings.{IsRing, ring_letters, ring_image, IsConserving}
-use Rattle.word_image.proofs.laws.WindowParts.{some_letter}
-use Rattle.word_image.proofs.laws.Rings.{IsWord-ring_letters}
-use Rattle.word_image.proofs.laws.RingSums.{ring_letters-turn}
+use Rattle.word_image.proofs.Common.{cases_lt, ints, by_lt_z, All-nil, All-cons, All-append, length-map-range_with_len, LocalRule, IsRule, IsWord, local_map, image, IsRing, ring_letters, ring_image, IsConserving, some_letter, IsWord-ring_letters, ring_letters-turn}
 use Rattle.ring_laws.proofs.Gains.{gain, gain-short, gain-append, gain-ring}
 use Rattle.ring_laws.proofs.Rings.{IsWord-ring_image, length-ring_letters, take-ring_letters, drop-ring_letters}
-use Rattle.tail_config.specs.Configs.{Config, IsConfig, run, image_of, zeros}
+use Rattle.tail_config.proofs.Common.{Config, IsConfig, run, image_of, zeros, length-run, IsWord-run, run-same, run-append, take-run, image-run, image_of-window}
 use Rattle.config_laws.specs.Sums.{weight_on, weight_within, IsFinite, KeepsFiniteSums, KeepsChanges}
-use Rattle.tail_config.proofs.laws.Runs.{length-run, IsWord-run, run-same, run-append, take-run, image-run, image_of-window}
 use Rattle.config_laws.proofs.Joined.{joined-left, IsConfig-written, run-written, between_zeros, letter-right, IsFinite-between}
 use Rattle.config_laws.proofs.Sums.{AgreeOutside, weight_on-outside, weight_within-zeros, KeepsChanges-conserving}
 

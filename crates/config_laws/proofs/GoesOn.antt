@@ -1,13 +1,7 @@
 -- Under a right look-ahead a configuration whose image agrees with another one for long enough can be changed right of that, so that its image agrees with it for ever.
 use Rattle.std.proofs.Common.{◌≡◌, ℕ, zero, suc, ◌+◌, ◌-◌, ◌<◌, List, [], ◌∷◌, ◌++◌, length, take, drop, get_or, ℤ, pos, ◌+ℤ◌, ◌-ℤ◌, unsigned_abs, refl, sym, ap, subst, ◌∙◌, arith, length-drop, ◌<ℤ◌, ◌≤ℤ◌, get_or-take, get_or-drop}
-use Rattle.std.proofs.lemmas.Int.{ints, by_lt_z}
-use Rattle.std.proofs.lemmas.List.Elements.{All-drop}
-use Rattle.word_image.specs.LocalRules.{LocalRule, IsRule}
-use Rattle.word_image.specs.Words.{IsPreimage}
-use Rattle.word_image.specs.Windows.{IsRightAhead}
-use Rattle.word_image.proofs.laws.Images.{image-drop}
-use Rattle.tail_config.specs.Configs.{Config, IsConfig, run, image_of}
-use Rattle.tail_config.proofs.laws.Runs.{length-run, get_or-run, run-same, run-append, drop-run, image_of-window}
+use Rattle.word_image.proofs.Common.{ints, by_lt_z, All-drop, LocalRule, IsRule, IsPreimage, IsRightAhead, image-drop}
+use Rattle.tail_config.proofs.Common.{Config, IsConfig, run, image_of, length-run, get_or-run, run-same, run-append, drop-run, image_of-window}
 use Rattle.config_laws.proofs.Images.{IsPreimage-run, image_of-letters}
 use Rattle.config_laws.proofs.Joined.{joined, joined-left, joined-right, IsConfig-joined}
 use Rattle.config_laws.proofs.Longer.{longer_preimage}

@@ -1,11 +1,7 @@
 -- The image of a configuration, and the words inside it as preimages.
 use Rattle.std.proofs.Common.{◌≡◌, ℕ, ◌+◌, ◌-◌, ◌<◌, ◌≤◌, List, length, drop, get_or, slice_range, ℤ, pos, ◌+ℤ◌, sym, ap, ◌∙◌, arith, length-drop, length-take-le, get_or-take, get_or-drop}
-use Rattle.word_image.specs.LocalRules.{LocalRule, IsRule, local_map}
-use Rattle.word_image.specs.Words.{image, IsPreimage}
-use Rattle.word_image.proofs.laws.Words.{entry-below}
-use Rattle.word_image.proofs.laws.Images.{get_or-image}
-use Rattle.tail_config.specs.Configs.{Config, IsConfig, run, image_of}
-use Rattle.tail_config.proofs.laws.Runs.{length-run, IsWord-run, run-by_letters, image-run}
+use Rattle.word_image.proofs.Common.{LocalRule, IsRule, local_map, image, IsPreimage, entry-below, get_or-image}
+use Rattle.tail_config.proofs.Common.{Config, IsConfig, run, image_of, length-run, IsWord-run, run-by_letters, image-run}
 
 -- the image of a configuration is one over the same letters
 pub IsConfig-image : {r : LocalRule} → IsRule r → (x : Config) → IsConfig r.states (image_of r x)

@@ -1,12 +1,8 @@
 -- Injective says of configurations with periodic tails what it says of all.
 use Rattle.std.proofs.Common.{ap, ◌↔◌}
-use Rattle.std.proofs.Math.Path.{fun_ext}
-use Rattle.word_image.specs.LocalRules.{LocalRule, IsRule}
-use Rattle.tail_config.specs.Configs.{Config}
-use Rattle.tail_config.specs.Tails.{IsInjective, cell}
-use Rattle.tail_config.proofs.laws.Cells.{cell-below}
-use Rattle.tail_laws.proofs.Certainty.{IsInjective-window}
-use Rattle.tail_laws.proofs.Injective.{agree_determined}
+use Rattle.word_image.proofs.Common.{fun_ext, LocalRule, IsRule}
+use Rattle.tail_config.proofs.Common.{Config, IsInjective, cell, cell-below}
+use Rattle.tail_laws.proofs.Common.{IsInjective-window, agree_determined}
 use Rattle.config_laws.specs.Maps.{IsInjectiveMap}
 
 -- an injective rule has a determined window, which gives every letter of any configuration back from the image

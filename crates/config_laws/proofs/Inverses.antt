@@ -1,15 +1,9 @@
 -- The inverse map of a determined window undoes the rule on every configuration, and the rule undoes the map (Hedlund 1969).
 use Rattle.std.proofs.Common.{◌≡◌, ℕ, ◌+◌, ◌-◌, ◌<◌, ℤ, pos, ◌+ℤ◌, ◌-ℤ◌, sym, ap, ◌∙◌, arith}
-use Rattle.std.proofs.Math.Path.{fun_ext}
-use Rattle.std.proofs.lemmas.Int.{ints}
-use Rattle.word_image.specs.LocalRules.{LocalRule, IsRule}
-use Rattle.word_image.specs.Windows.{IsDetermined}
-use Rattle.tail_config.specs.Tails.{IsInjective, IsOpen}
-use Rattle.tail_laws.proofs.Injective.{IsInjective-determined}
-use Rattle.tail_config.specs.InverseMaps.{WindowMap, IsInverseMap, map_letter, mapped}
-use Rattle.tail_config.specs.Configs.{Config, IsConfig, run, image_of}
+use Rattle.word_image.proofs.Common.{fun_ext, ints, LocalRule, IsRule, IsDetermined}
+use Rattle.tail_config.proofs.Common.{IsInjective, IsOpen, WindowMap, IsInverseMap, map_letter, mapped, Config, IsConfig, run, image_of, length-run, get_or-run}
+use Rattle.tail_laws.proofs.Common.{IsInjective-determined}
 use Rattle.config_laws.specs.Maps.{IsOntoMap}
-use Rattle.tail_config.proofs.laws.Runs.{length-run, get_or-run}
 use Rattle.config_laws.proofs.Images.{IsPreimage-run}
 use Rattle.config_laws.proofs.BothSides.{IsOntoMap-closing}
 

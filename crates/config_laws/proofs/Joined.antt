@@ -1,13 +1,8 @@
 -- Configurations joined at a place, and words written into them.
 use Rattle.std.proofs.Common.{◌≡◌, ℕ, ◌+◌, ◌-◌, ◌<◌, List, length, get_or, ⊎_elim, ℤ, pos, negsuc, ◌+ℤ◌, ◌-ℤ◌, unsigned_abs, refl, sym, ap, ◌∙◌, arith, ◌<ℤ◌, ◌≤ℤ◌}
-use Rattle.std.proofs.lemmas.Int.{ints, by_lt_z}
-use Rattle.std.proofs.lemmas.Bool.{cases_lt}
-use Rattle.std.proofs.lemmas.List.{get_or_past}
-use Rattle.word_image.specs.LocalRules.{LocalRule, IsRule, IsWord}
-use Rattle.word_image.specs.Words.{image}
-use Rattle.tail_config.specs.Configs.{Config, IsConfig, zeros, run, image_of}
+use Rattle.word_image.proofs.Common.{ints, by_lt_z, cases_lt, get_or_past, LocalRule, IsRule, IsWord, image}
+use Rattle.tail_config.proofs.Common.{Config, IsConfig, zeros, run, image_of, run-by_letters}
 use Rattle.config_laws.specs.Sums.{IsFinite}
-use Rattle.tail_config.proofs.laws.Runs.{run-by_letters}
 use Rattle.config_laws.proofs.Images.{image_of-letters}
 
 -- a before place 0, and then what f says

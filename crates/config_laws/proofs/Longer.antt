@@ -1,15 +1,7 @@
 -- Under a right look-ahead what reads long words reads all longer ones: letters put in behind the first node of a preimage change its image so that none is lost.
 use Rattle.std.proofs.Common.{◌≡◌, ℕ, zero, suc, ◌+◌, ◌-◌, ◌^◌, ◌<◌, ◌≤◌, List, [], ◌∷◌, ◌++◌, length, take, drop, get_or, refl, sym, ap, ap₂, subst, ◌∙◌, arith, length-append, length-drop, length-take-le, take-take, take_at, drop_at, drop-drop, take_all, get_or-take, get_or-drop, take-append-drop, append_assoc}
-use Rattle.std.proofs.lemmas.List.{length_push, drop-take, take_more, get_or_at}
-use Rattle.std.proofs.lemmas.List.Elements.{All-append, All-cons, All-push, All-take, All-drop}
-use Rattle.word_image.specs.LocalRules.{LocalRule, IsRule, IsWord, value}
-use Rattle.word_image.specs.Words.{image, IsPreimage}
-use Rattle.word_image.specs.Windows.{HaveOneImage, IsRightAhead}
-use Rattle.word_image.proofs.laws.Values.{value-below, value-injective}
-use Rattle.word_image.proofs.laws.Words.{IsWord-image, length-image}
-use Rattle.word_image.proofs.laws.Images.{image-take, image-drop}
-use Rattle.word_image.proofs.laws.Searches.{twice_below}
-use Rattle.pair_laws.proofs.Joins.{image-cut, HaveOneImage-take, HaveOneImage-drop}
+use Rattle.word_image.proofs.Common.{length_push, drop-take, take_more, get_or_at, All-append, All-cons, All-push, All-take, All-drop, LocalRule, IsRule, IsWord, value, image, IsPreimage, HaveOneImage, IsRightAhead, value-below, value-injective, IsWord-image, length-image, image-take, image-drop, twice_below}
+use Rattle.pair_laws.proofs.Common.{image-cut, HaveOneImage-take, HaveOneImage-drop}
 
 -- two words with one image and the same first m - 1 letters have the same letters up to the last n - 1
 same_take : {r : LocalRule} {n l : ℕ} {x y : List ℕ} → IsRule r → IsRightAhead r n → HaveOneImage r l x y → take (r.width - 1) x ≡ take (r.width - 1) y

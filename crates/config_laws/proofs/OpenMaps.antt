@@ -1,18 +1,9 @@
 -- A rule is open exactly where it is closing on both sides (Hedlund 1969).
 use Rattle.std.proofs.Common.{◌≡◌, ℕ, ◌+◌, ◌-◌, ◌<◌, ◌≤◌, List, ◌++◌, length, get_or, ℤ, pos, ◌+ℤ◌, ◌-ℤ◌, neg_ℤ, unsigned_abs, refl, sym, ap, ap₂, ◌∙◌, subst, arith, ◌<ℤ◌, ◌≤ℤ◌, ◌↔◌}
-use Rattle.std.proofs.Math.IntN.{neg_ℤ-neg_ℤ}
-use Rattle.std.proofs.lemmas.Int.{ints}
-use Rattle.word_image.specs.LocalRules.{LocalRule, IsRule, mirrored}
-use Rattle.word_image.specs.Words.{IsPreimage, IsSurjective}
-use Rattle.word_image.proofs.laws.WindowParts.{some_letter}
-use Rattle.word_image.proofs.laws.Images.{IsRule-mirrored}
-use Rattle.tail_config.specs.Tails.{TailConfig, IsRightSplit, IsRightClosing, IsLeftClosing, IsOpen, cell}
-use Rattle.tail_config.proofs.laws.Cells.{cell-below}
-use Rattle.tail_laws.proofs.Sides.{IsLeftClosing-mirrored}
-use Rattle.tail_laws.proofs.Verdicts.{IsRightClosing-none}
-use Rattle.tail_config.specs.Configs.{Config, IsConfig, run, image_of, zeros}
+use Rattle.word_image.proofs.Common.{neg_ℤ-neg_ℤ, ints, LocalRule, IsRule, mirrored, IsPreimage, IsSurjective, some_letter, IsRule-mirrored}
+use Rattle.tail_config.proofs.Common.{TailConfig, IsRightSplit, IsRightClosing, IsLeftClosing, IsOpen, cell, cell-below, Config, IsConfig, run, image_of, zeros, length-run, get_or-run, IsWord-run, run-same, run-append, take-run}
+use Rattle.tail_laws.proofs.Common.{IsLeftClosing-mirrored, IsRightClosing-none}
 use Rattle.config_laws.specs.Maps.{IsNear, IsOpenMap, IsEvenlyOpenMap}
-use Rattle.tail_config.proofs.laws.Runs.{length-run, get_or-run, IsWord-run, run-same, run-append, take-run}
 use Rattle.config_laws.proofs.Images.{IsConfig-image, IsPreimage-run}
 use Rattle.config_laws.proofs.Joined.{written, joined-left, IsConfig-written, run-written}
 use Rattle.config_laws.proofs.Flips.{flip, flip-flip, image_of-flip}

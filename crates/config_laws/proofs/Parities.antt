@@ -1,13 +1,8 @@
 -- The principle that of two tests one passes is needed: it follows if each configuration is an image under one surjective rule, which says of its letters only far away whether they are even or odd.
 use Rattle.std.proofs.Common.{◌≡◌, ◌⊎◌, ℕ, zero, suc, ◌+◌, ◌-◌, ◌%◌, ◌<◌, inl, inr, ⊎_elim, Bool, true, false, List, [], ◌∷◌, ℤ, pos, negsuc, ◌+ℤ◌, refl, sym, ap, ap₂, ◌∙◌, arith, true≢false}
-use Rattle.std.proofs.lemmas.Bool.{cases_Bool, cases_eq}
-use Rattle.std.proofs.lemmas.List.Elements.{All-cons, All-tail}
-use Rattle.std.proofs.lemmas.Int.{ints}
-use Rattle.word_image.specs.LocalRules.{LocalRule, IsRule, IsWord, local_map}
-use Rattle.word_image.specs.Words.{IsPreimage, IsSurjective}
-use Rattle.word_image.proofs.laws.Words.{word_by_test}
-use Rattle.pair_laws.proofs.Joins.{image-cut}
-use Rattle.tail_config.specs.Configs.{Config, IsConfig}
+use Rattle.word_image.proofs.Common.{cases_Bool, cases_eq, All-cons, All-tail, ints, LocalRule, IsRule, IsWord, local_map, IsPreimage, IsSurjective, word_by_test}
+use Rattle.pair_laws.proofs.Common.{image-cut}
+use Rattle.tail_config.proofs.Common.{Config, IsConfig}
 use Rattle.config_laws.specs.Maps.{IsOntoMap}
 use Rattle.config_laws.specs.OneOfTwo.{Falls, OneOfTwo, AllOrNot}
 use Rattle.config_laws.specs.Examples.{parities}

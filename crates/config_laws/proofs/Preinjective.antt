@@ -1,11 +1,7 @@
 -- The Garden of Eden theorem over all configurations (Moore 1962, Myhill 1963).
 use Rattle.std.proofs.Common.{◌↔◌, ap}
-use Rattle.std.proofs.Math.Path.{fun_ext}
-use Rattle.word_image.specs.LocalRules.{LocalRule, IsRule}
-use Rattle.word_image.specs.Words.{IsSurjective}
-use Rattle.tail_config.specs.Configs.{Config}
-use Rattle.tail_config.specs.Tails.{cell}
-use Rattle.tail_config.proofs.laws.Cells.{cell-below}
+use Rattle.word_image.proofs.Common.{fun_ext, LocalRule, IsRule, IsSurjective}
+use Rattle.tail_config.proofs.Common.{Config, cell, cell-below}
 use Rattle.eden_laws.proofs.GardenOfEden.{garden_of_eden}
 use Rattle.eden_laws.proofs.Preinjective.{IsSurjective-preinjective, agree_between}
 use Rattle.config_laws.specs.Maps.{IsPreinjectiveMap}

@@ -1,18 +1,12 @@
 -- A rule with a flux keeps the sum over every finite part up to the flux at the two ends, so finitely many new letters change the sum of the image by as much as their own (Hattori and Takesue 1991).
 use Rattle.std.proofs.Common.{◌≡◌, ℕ, ◌+◌, ◌-◌, List, length, take, drop, sum_by, ℤ, pos, ◌+ℤ◌, ◌-ℤ◌, neg_ℤ, unsigned_abs, refl, ap, ◌∙◌, arith, ◌<ℤ◌, ◌≤ℤ◌}
-use Rattle.std.proofs.lemmas.Int.{ints}
-use Rattle.std.proofs.lemmas.List.Sums.{sum_by-append}
-use Rattle.word_image.specs.LocalRules.{LocalRule, IsRule}
-use Rattle.word_image.specs.Words.{image}
-use Rattle.word_image.specs.Rings.{IsConserving, IsFlux}
-use Rattle.word_image.proofs.laws.WindowParts.{some_letter}
+use Rattle.word_image.proofs.Common.{ints, sum_by-append, LocalRule, IsRule, image, IsConserving, IsFlux, some_letter}
 use Rattle.ring_laws.proofs.Gains.{gain}
 use Rattle.ring_laws.proofs.Fluxes.{flow_at, gain-flux}
 use Rattle.ring_laws.proofs.FluxWalks.{walk_gains}
 use Rattle.ring_laws.proofs.LossyRings.{IsConserving-walk_gains}
-use Rattle.tail_config.specs.Configs.{Config, IsConfig, run, image_of, zeros}
+use Rattle.tail_config.proofs.Common.{Config, IsConfig, run, image_of, zeros, length-run, IsWord-run, run-same, run-append, take-run, drop-run, image-run}
 use Rattle.config_laws.specs.Sums.{weight_on, weight_within, flow_under, KeepsChanges}
-use Rattle.tail_config.proofs.laws.Runs.{length-run, IsWord-run, run-same, run-append, take-run, drop-run, image-run}
 
 -- the image of a run weighs more than the run's letters by the flux at its two ends
 pub weight_on-flux : {weight : ℕ → ℕ} {r : LocalRule} {phi : List ℤ} {x : Config} → IsRule r → IsFlux weight r phi → IsConfig r.states x → (i : ℤ) (n : ℕ)

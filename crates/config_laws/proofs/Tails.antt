@@ -1,21 +1,9 @@
 -- Under a surjective rule each configuration that repeats far out is the image of one that does: a preimage of many periods passes one node twice, and goes round between for ever.
 use Rattle.std.proofs.Common.{◌≡◌, ℕ, zero, suc, ◌+◌, ◌-◌, ◌*◌, ◌%◌, ◌<◌, ◌≤◌, ◌↔◌, ⊎_elim, List, length, ℤ, pos, ◌+ℤ◌, ◌-ℤ◌, neg_ℤ, unsigned_abs, sym, ap, ◌∙◌, arith, mod-lt, mod-eq_of_lt, ◌<ℤ◌, ◌≤ℤ◌, add-mul}
-use Rattle.std.proofs.Math.Nat.{mod-add-mod, mod-eq-sub-mod, add-mod_right}
-use Rattle.std.proofs.lemmas.Bool.{cases_lt}
-use Rattle.std.proofs.lemmas.Int.{ints, by_lt_z}
-use Rattle.std.proofs.lemmas.Nat.{mul-le}
-use Rattle.word_image.specs.LocalRules.{LocalRule, IsRule, IsWord, value, node_count, mirrored}
-use Rattle.word_image.specs.Words.{IsPreimage, IsSurjective}
-use Rattle.word_image.proofs.laws.Values.{value-injective}
-use Rattle.word_image.proofs.laws.Graphs.{value-node}
-use Rattle.word_image.proofs.laws.Images.{IsRule-mirrored}
-use Rattle.word_image.proofs.laws.Searches.{twice_below}
-use Rattle.word_image.proofs.laws.WindowParts.{some_letter}
-use Rattle.tail_config.proofs.laws.Periods.{RepeatsRight, RepeatsRight-times, repeats-mod, right_from}
-use Rattle.tail_config.specs.Configs.{Config, IsConfig, run, image_of, zeros}
+use Rattle.word_image.proofs.Common.{mod-add-mod, mod-eq-sub-mod, add-mod_right, cases_lt, ints, by_lt_z, mul-le, LocalRule, IsRule, IsWord, value, node_count, mirrored, IsPreimage, IsSurjective, value-injective, value-node, IsRule-mirrored, twice_below, some_letter}
+use Rattle.tail_config.proofs.Common.{RepeatsRight, RepeatsRight-times, repeats-mod, right_from, Config, IsConfig, run, image_of, zeros, length-run, IsWord-run, same-run, image_of-window}
 use Rattle.config_laws.specs.Sums.{IsFinite}
 use Rattle.config_laws.specs.Repeating.{RepeatsFarLeft, RepeatsFarRight, HasTails, IsOntoTails}
-use Rattle.tail_config.proofs.laws.Runs.{length-run, IsWord-run, same-run, image_of-window}
 use Rattle.config_laws.proofs.Joined.{joined, joined-left, joined-right, IsConfig-joined, IsConfig-written, run-written, between_zeros, IsFinite-between}
 use Rattle.config_laws.proofs.Flips.{flip}
 use Rattle.config_laws.proofs.GoesOn.{GoesOn, image_of-before}

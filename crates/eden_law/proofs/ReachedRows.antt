@@ -1,18 +1,8 @@
 -- What a search through rows of sets of nodes has found: steps from one node at a time, and in the end whether the rule is surjective.
 use Rattle.std.proofs.Common.{◌≡◌, ◌≢◌, ℕ, ◌+◌, ◌-◌, ◌*◌, ◌%◌, ◌^◌, ◌<◌, ◌≤◌, inl, inr, ◌↔◌, List, length, Some, IsBitSet, bit_or, slice_index, slice_set, refl, sym, ap, ap₂, ◌∙◌, subst, subst₂, ⊎_elim, arith, mod-lt, lit<, bit_and}
-use Rattle.std.proofs.lemmas.Bool.{cases_eq}
+use Rattle.word_image.proofs.Common.{cases_eq, le_or_l, or_lt, LocalRule, IsRule, node_count, IsSurjective, next, label, pair_of, first_of, second_of, pair_count, HasBit, IsBitSet-zero, next-below, IsEnds, IsStep}
 use Rattle.std.proofs.lemmas.List.{length-set}
-use Rattle.std.proofs.lemmas.Nat.{le_or_l, or_lt}
-use Rattle.word_image.specs.LocalRules.{LocalRule, IsRule, node_count}
-use Rattle.word_image.specs.Words.{IsSurjective}
-use Rattle.word_image.specs.Graphs.{next, label, pair_of, first_of, second_of, pair_count, HasBit}
-use Rattle.word_image.proofs.laws.Bits.{IsBitSet-zero}
-use Rattle.word_image.proofs.laws.Graphs.{next-below}
-use Rattle.pair_laws.proofs.Edges.{next-digits}
-use Rattle.pair_laws.proofs.Rows.{row_cases, HasBit-or}
-use Rattle.pair_laws.proofs.Sets.{IsBitSet-minus, IsBitSet-shl}
-use Rattle.pair_laws.proofs.Pairs.{first_of-pair_of, second_of-pair_of, first_of-below, second_of-below, follow-pair_of, follow-some, follow-below}
-use Rattle.word_image.specs.Edges.{IsEnds, IsStep}
+use Rattle.pair_laws.proofs.Common.{next-digits, row_cases, HasBit-or, IsBitSet-minus, IsBitSet-shl, first_of-pair_of, second_of-pair_of, first_of-below, second_of-below, follow-pair_of, follow-some, follow-below}
 use Rattle.word_image.specs.declared.side.Side.TheVariants.{Right}
 use Rattle.eden_laws.specs.ReachedPairs.{IsReached}
 use Rattle.eden_laws.specs.ReachedPairs.IsReached.{First, On}

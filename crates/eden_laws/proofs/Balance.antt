@@ -1,17 +1,6 @@
 -- Under a surjective rule every word has as many preimages as there are nodes (Hedlund 1969): with fewer of one word, words that have it again and again would have too few.
 use Rattle.std.proofs.Common.{◌≡◌, ℕ, ◌+◌, ◌-◌, ◌*◌, ◌/◌, ◌%◌, ◌^◌, ◌<◌, ◌≤◌, ◌↔◌, List, [], ◌∷◌, ◌++◌, length, map, take, drop, All, refl, sym, ap, ap₂, ◌∙◌, subst, ⊎_elim, arith, mod-lt, mod-eq_of_lt, length-append, length-drop, length-take-le, pow-suc, one-mul, pow-add, div-add-mod', take_at, drop_at, drop-drop}
-use Rattle.std.proofs.Math.Nat.{pow-zero, one-le-pow, pow-le-pow_right}
-use Rattle.std.proofs.lemmas.Bool.{cases_eq, cases_lt}
-use Rattle.std.proofs.lemmas.Nat.{mul-add-lt, same_from_place, div_below}
-use Rattle.std.proofs.lemmas.List.{length-map}
-use Rattle.std.proofs.lemmas.List.Elements.{All-nil, All-cons, All-head, All-tail, All-take, All-drop, All-append, All-map}
-use Rattle.word_image.specs.LocalRules.{LocalRule, IsRule, IsWord, value, word_of, node_count}
-use Rattle.word_image.specs.Words.{image, IsPreimage, IsSurjective}
-use Rattle.word_image.proofs.laws.Values.{value-below, value-injective, value-word_of, word_of-value, length-word_of, IsWord-word_of}
-use Rattle.word_image.proofs.laws.Words.{IsWord-image, length-image}
-use Rattle.word_image.proofs.laws.Images.{image-take, image-drop}
-use Rattle.word_image.proofs.laws.Graphs.{node_count_pos}
-use Rattle.word_image.proofs.laws.Searches.{twice_below, but, but_there, but_else}
+use Rattle.word_image.proofs.Common.{pow-zero, one-le-pow, pow-le-pow_right, cases_eq, cases_lt, mul-add-lt, same_from_place, div_below, length-map, All-nil, All-cons, All-head, All-tail, All-take, All-drop, All-append, All-map, LocalRule, IsRule, IsWord, value, word_of, node_count, image, IsPreimage, IsSurjective, value-below, value-injective, value-word_of, word_of-value, length-word_of, IsWord-word_of, IsWord-image, length-image, image-take, image-drop, node_count_pos, twice_below, but, but_there, but_else}
 use Rattle.eden_laws.specs.Preimages.{HasPreimages, IsBalanced}
 use Rattle.eden_laws.proofs.Powers.{power-outgrows}
 use Rattle.eden_laws.proofs.Blocks.{blocks, length-blocks, spread, spread-blocks, last-below}

@@ -1,11 +1,6 @@
 -- Words as lists of blocks of l letters, and lists of numbers that leave out one number.
 use Rattle.std.proofs.Common.{◌≡◌, ◌≢◌, ℕ, zero, suc, ◌+◌, ◌-◌, ◌*◌, ◌^◌, ◌<◌, ◌≤◌, List, [], ◌∷◌, ◌++◌, length, map, take, drop, All, get_or, refl, sym, ap, ap₂, ◌∙◌, subst, ⊎_elim, arith, length-drop, append_assoc, length-take-le, take-append-drop, drop-drop}
-use Rattle.std.proofs.lemmas.List.{length-map}
-use Rattle.std.proofs.lemmas.List.Elements.{All-nil, All-cons, All-head, All-tail, All-take, All-drop, All-map}
-use Rattle.word_image.specs.LocalRules.{LocalRule, IsWord, value, word_of, node_count}
-use Rattle.word_image.proofs.laws.Values.{value-below, value-injective, word_of-value}
-use Rattle.word_image.proofs.laws.Graphs.{value-node}
-use Rattle.word_image.proofs.laws.Searches.{moved, but_cases}
+use Rattle.word_image.proofs.Common.{length-map, All-nil, All-cons, All-head, All-tail, All-take, All-drop, All-map, LocalRule, IsWord, value, word_of, node_count, value-below, value-injective, word_of-value, value-node, moved, but_cases}
 
 -- the values of the first j blocks of l letters
 abbrev pub blocks : ℕ → ℕ → ℕ → List ℕ → List ℕ

@@ -1,17 +1,8 @@
 -- Either word of an erasable pair may stand for the other in any word and in any configuration, and the image stays.
 use Rattle.std.proofs.Common.{◌≡◌, ℕ, ◌+◌, ◌-◌, ◌<◌, ◌≤◌, List, [], ◌∷◌, ◌++◌, length, map, take, drop, refl, sym, ap, ap₂, ◌∙◌, ⊎_elim, arith, append_assoc, ℤ, pos, ◌+ℤ◌, ◌-ℤ◌, unsigned_abs, subst, ◌<ℤ◌, ◌≤ℤ◌, take_all, take_at}
-use Rattle.std.proofs.lemmas.Int.{ints}
-use Rattle.std.proofs.lemmas.Bool.{cases_lt}
-use Rattle.std.proofs.lemmas.List.{take-append-le, drop-append-le}
-use Rattle.std.proofs.Math.Seq.{take-append-add, drop-append_seam}
-use Rattle.word_image.specs.LocalRules.{LocalRule, IsRule, value, word_of}
-use Rattle.word_image.specs.Words.{image}
-use Rattle.word_image.specs.Erasure.{IsErasable}
-use Rattle.word_image.proofs.laws.Values.{word_of-value}
-use Rattle.tail_config.specs.Configs.{Config, run, image_of}
-use Rattle.tail_config.proofs.laws.Runs.{run-same, same-run, run-append, image-run}
-use Rattle.pair_laws.proofs.Joins.{image-cut}
-use Rattle.word_image.proofs.laws.Searches.{moved, but_cases}
+use Rattle.word_image.proofs.Common.{ints, cases_lt, take-append-le, drop-append-le, take-append-add, drop-append_seam, LocalRule, IsRule, value, word_of, image, IsErasable, word_of-value, moved, but_cases}
+use Rattle.tail_config.proofs.Common.{Config, run, image_of, run-same, same-run, run-append, image-run}
+use Rattle.pair_laws.proofs.Common.{image-cut}
 use Rattle.eden_laws.proofs.Blocks.{spread}
 
 -- the image of a word between two others: windows that begin before it see its first m - 1 letters, windows that end behind it its last

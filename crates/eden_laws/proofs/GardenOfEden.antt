@@ -1,15 +1,6 @@
 -- The Garden of Eden law: a rule is surjective exactly where no two words are an erasable pair (Moore 1962, Myhill 1963).
 use Rattle.std.proofs.Common.{◌≡◌, ℕ, suc, ◌+◌, ◌-◌, ◌*◌, ◌%◌, ◌^◌, ◌<◌, ◌≤◌, ◌⊎◌, inl, inr, ◌↔◌, List, [], ◌++◌, length, map, drop, sym, ap, ap₂, ◌∙◌, subst, ⊎_elim, arith, length-drop, mod-lt, mod-eq_of_lt}
-use Rattle.std.proofs.lemmas.Bool.{cases_eq}
-use Rattle.std.proofs.lemmas.Nat.{mul-add-lt, same_from_place}
-use Rattle.std.proofs.lemmas.List.{length-map}
-use Rattle.std.proofs.lemmas.List.Elements.{All-drop}
-use Rattle.word_image.specs.LocalRules.{LocalRule, IsRule, IsWord, value, word_of, node_count}
-use Rattle.word_image.specs.Words.{image, IsPreimage, IsOrphan, IsSurjective}
-use Rattle.word_image.specs.Erasure.{IsErasable}
-use Rattle.word_image.proofs.laws.Values.{value-below, value-injective, value-word_of, word_of-value, length-word_of, IsWord-word_of}
-use Rattle.word_image.proofs.laws.Words.{IsWord-image, length-image}
-use Rattle.word_image.proofs.laws.Searches.{some_below, twice_below, moved}
+use Rattle.word_image.proofs.Common.{cases_eq, mul-add-lt, same_from_place, length-map, All-drop, LocalRule, IsRule, IsWord, value, word_of, node_count, image, IsPreimage, IsOrphan, IsSurjective, IsErasable, value-below, value-injective, value-word_of, word_of-value, length-word_of, IsWord-word_of, IsWord-image, length-image, some_below, twice_below, moved}
 use Rattle.eden_laws.proofs.Powers.{fewer_blocks}
 use Rattle.eden_laws.proofs.Blocks.{blocks, length-blocks, IsWord-blocks, spread, spread-blocks, HasBlocks, last-below, IsWithout, IsWithout-moved, block_code, block_code-below, block_code-injective}
 use Rattle.eden_laws.proofs.Exchange.{IsErasable-long, image-replaced}

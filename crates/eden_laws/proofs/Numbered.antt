@@ -1,7 +1,6 @@
 -- The numbers below a bound of which something holds that can be decided, numbered.
 use Rattle.std.proofs.Common.{◌≡◌, ℕ, zero, suc, ◌+◌, ◌<◌, ◌⊎◌, refl, sym, ap, ◌∙◌, subst, ⊎_elim, arith}
-use Rattle.std.proofs.lemmas.Bool.{cases_eq}
-use Rattle.word_image.proofs.laws.Searches.{but, but_there, but_else}
+use Rattle.word_image.proofs.Common.{cases_eq, but, but_there, but_else}
 
 -- how many there are below n, which they are, and the place of each
 pub record Numbered (P : ℕ → Type 0) (n : ℕ) : Type 0 where

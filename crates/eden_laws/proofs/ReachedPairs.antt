@@ -1,19 +1,7 @@
 -- The pairs that are reached from the first pairs of the right: none of them has two equal nodes exactly where the rule is surjective. So a pair list proves surjectivity.
 use Rattle.std.proofs.Common.{◌≡◌, ◌≢◌, ℕ, zero, suc, ◌+◌, ◌-◌, ◌<◌, ◌⊎◌, inl, inr, ◌↔◌, List, [], ◌∷◌, ◌++◌, length, take, drop, Contains, Some, refl, sym, ap, ap₂, ◌∙◌, subst, ⊎_elim, arith, length-drop, take_all}
-use Rattle.std.proofs.lemmas.Bool.{cases_eq}
-use Rattle.std.proofs.lemmas.List.{take-append-le, same_from_push}
-use Rattle.std.proofs.lemmas.List.Elements.{All-drop}
-use Rattle.word_image.specs.LocalRules.{LocalRule, IsRule, IsWord, value, word_of, node_count}
-use Rattle.word_image.specs.Words.{IsSurjective}
-use Rattle.word_image.specs.Windows.{HaveOneImage}
-use Rattle.word_image.specs.Graphs.{next, label, follow, pair_of, first_of, second_of, pair_count}
-use Rattle.word_image.specs.Erasure.{IsErasable}
-use Rattle.word_image.specs.PairLists.{IsPairList}
-use Rattle.word_image.specs.FirstPairs.{IsFirstOfRight}
-use Rattle.word_image.proofs.laws.Values.{value-injective, length-word_of, IsWord-word_of, value-word_of}
-use Rattle.pair_laws.proofs.Edges.{HaveOneImage-none}
-use Rattle.pair_laws.proofs.Pairs.{follow-pair_of, follow-below}
-use Rattle.pair_laws.proofs.Evidence.{IsFirstOfRight-below}
+use Rattle.word_image.proofs.Common.{cases_eq, take-append-le, same_from_push, All-drop, LocalRule, IsRule, IsWord, value, word_of, node_count, IsSurjective, HaveOneImage, next, label, follow, pair_of, first_of, second_of, pair_count, IsErasable, IsPairList, IsFirstOfRight, value-injective, length-word_of, IsWord-word_of, value-word_of}
+use Rattle.pair_laws.proofs.Common.{HaveOneImage-none, follow-pair_of, follow-below, IsFirstOfRight-below}
 use Rattle.eden_laws.specs.ReachedPairs.{IsReached}
 use Rattle.eden_laws.specs.ReachedPairs.IsReached.{First, On}
 use Rattle.eden_laws.proofs.Blocks.{last-below}

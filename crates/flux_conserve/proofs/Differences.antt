@@ -1,7 +1,7 @@
 -- The test of a difference of numbers of 32 bits.
 use Rattle.std.proofs.Common.{◌≡◌, ◌-ℤ◌, ◌↔◌, nat_eq, IsTrue, ℤ, w32, w64, FitsSigned, of_z, to_z, arith}
-use Rattle.std.proofs.lemmas.Int.{to_z-of_z, ints}
-use Rattle.std.proofs.lemmas.Bool.Decides.{nat_tests}
+use Rattle.std.proofs.lemmas.Int.{to_z-of_z}
+use Rattle.word_image.proofs.Common.{ints, nat_tests}
 
 -- it is made in 64 bits
 is_difference : (x a b : ℤ) → FitsSigned w32 x → FitsSigned w32 a → FitsSigned w32 b

@@ -1,10 +1,6 @@
 -- The walks' gains in a row of 16.
 use Rattle.std.proofs.Common.{◌≡◌, ℕ, ◌-◌, ◌↔◌, List, ◌++◌, length, take, drop, replicate, ℤ, pos, sym, ap, subst, ◌∙◌}
-use Rattle.std.proofs.Math.Seq.{take-append_seam, drop-append_seam}
-use Rattle.std.proofs.lemmas.List.FromFn.{length-map-range_with_len}
-use Rattle.word_image.specs.LocalRules.{LocalRule, IsRule, node_count}
-use Rattle.word_image.specs.Rings.{IsFlux, IsConserving}
-use Rattle.word_image.proofs.laws.Places.{slice_get-append}
+use Rattle.word_image.proofs.Common.{take-append_seam, drop-append_seam, length-map-range_with_len, LocalRule, IsRule, node_count, IsFlux, IsConserving, slice_get-append}
 use Rattle.ring_laws.proofs.FluxWalks.{walk_gain, walk_gains, walk_gains-zero, IsFlux-unique}
 use Rattle.ring_laws.proofs.LossyRings.{IsConserving-walk_gains}
 use Rattle.flux_conserve.specs.Keepings.{IsFluxRow}

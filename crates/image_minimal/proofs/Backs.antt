@@ -1,10 +1,7 @@
 -- Whether all edges labelled a lead into a set from a node, by the set of their ends.
 use Rattle.std.proofs.Common.{◌≡◌, ◌≢◌, ℕ, ◌-◌, ◌^◌, ◌<◌, bit_and, IsBitSet, subst, arith, ⊎_elim}
-use Rattle.std.proofs.lemmas.Nat.{and_le_l}
-use Rattle.word_image.specs.LocalRules.{LocalRule, IsRule, node_count}
-use Rattle.word_image.proofs.laws.Bits.{IsBitSet-some, IsBitSet-zero, IsBitSet-decide}
-use Rattle.pair_laws.proofs.Sets.{IsBitSet-minus}
-use Rattle.word_image.specs.Edges.{IsEnds}
+use Rattle.word_image.proofs.Common.{and_le_l, LocalRule, IsRule, node_count, IsBitSet-some, IsBitSet-zero, IsBitSet-decide, IsEnds}
+use Rattle.pair_laws.proofs.Common.{IsBitSet-minus}
 use Rattle.word_image.specs.declared.side.Side.TheVariants.{Right}
 use Rattle.image_minimal.specs.Closures.{IsLedInto}
 use Rattle.image_minimal.proofs.laws.Unread.{edge_below}

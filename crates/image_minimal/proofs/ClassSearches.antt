@@ -1,17 +1,7 @@
 -- What a search through the closures says of the least automaton in the end.
 use Rattle.std.proofs.Common.{◌≡◌, ℕ, suc, ◌+◌, ◌*◌, ◌/◌, ◌%◌, ◌^◌, ◌<◌, ◌≤◌, List, length, replicate, slice_index, Option, Some, None, Contains, IsSome, refl, sym, ap, ◌∙◌, subst, arith, ⊎_elim, slice_get, pow_pos, mul-le-mul_right, suc-mul}
-use Rattle.std.proofs.lemmas.Bool.{cases_eq}
-use Rattle.std.proofs.lemmas.Nat.{same_from_place}
-use Rattle.std.proofs.lemmas.Option.{slice_get_within, slice_get-get_or, get_or_from_slice_get}
-use Rattle.std.proofs.lemmas.List.{length-replicate}
-use Rattle.word_image.specs.LocalRules.{LocalRule, IsRule, node_count}
-use Rattle.word_image.specs.Edges.{IsStep}
-use Rattle.word_image.proofs.laws.Places.{Contains-slice_get, slice_get-Contains}
-use Rattle.word_image.proofs.laws.Searches.{some_below}
-use Rattle.search_laws.proofs.QueueStates.{Contains-state, mapped_at}
-use Rattle.search_laws.proofs.Searches.{search_place, search-below, length-search, length-search-le}
-use Rattle.search_laws.proofs.Families.{chosen}
-use Rattle.search_laws.proofs.StepSets.{IsStep-some}
+use Rattle.word_image.proofs.Common.{cases_eq, same_from_place, slice_get_within, slice_get-get_or, get_or_from_slice_get, length-replicate, LocalRule, IsRule, node_count, IsStep, Contains-slice_get, slice_get-Contains, some_below}
+use Rattle.search_laws.proofs.Common.{Contains-state, mapped_at, search_place, search-below, length-search, length-search-le, chosen, IsStep-some}
 use Rattle.image_minimal.specs.ImageLanguages.{Automaton, IsClassList, IsNextClass, IsDeadClass, IsLeastAutomaton}
 use Rattle.image_minimal.specs.Closures.{IsClosedStep, AreClosures}
 use Rattle.image_minimal.specs.Indexes.{IsPlaceOf}

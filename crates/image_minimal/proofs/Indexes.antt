@@ -1,10 +1,6 @@
 -- Lists of different sets, with an index by set.
 use Rattle.std.proofs.Common.{◌≡◌, ℕ, ◌<◌, ◌≤◌, List, [], ◌∷◌, ◌++◌, length, set, replicate, get_or, slice_index, Option, Some, None, Contains, sym, ap, ◌∙◌, subst, arith, ⊎_elim, slice_get, length-set}
-use Rattle.std.proofs.lemmas.Bool.{cases_eq, cases_lt}
-use Rattle.std.proofs.lemmas.Option.{slice_get-get_or, get_or_from_slice_get, none-some}
-use Rattle.std.proofs.lemmas.List.{get_or-replicate, length-replicate}
-use Rattle.word_image.proofs.laws.Places.{slice_get-append, slice_get-push, slice_get-push_cases, Contains-slice_get, slice_get-Contains, slice_get-set_same, slice_get-set_other, slice_get-set_before}
-use Rattle.word_image.proofs.laws.Searches.{twice_below}
+use Rattle.word_image.proofs.Common.{cases_eq, cases_lt, slice_get-get_or, get_or_from_slice_get, none-some, get_or-replicate, length-replicate, slice_get-append, slice_get-push, slice_get-push_cases, Contains-slice_get, slice_get-Contains, slice_get-set_same, slice_get-set_other, slice_get-set_before, twice_below}
 use Rattle.image_minimal.specs.Indexes.{IsExactIndex, IsPlaceOf, IsInsertedAt}
 
 -- an index of nothing

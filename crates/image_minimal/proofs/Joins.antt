@@ -1,7 +1,6 @@
 -- Ways from parent to parent: what halving them keeps, and what joining two roots does.
 use Rattle.std.proofs.Common.{◌≡◌, ◌≢◌, ℕ, ◌+◌, ◌<◌, ◌≤◌, ◌⊎◌, inl, inr, List, length, get_or, set, slice_index, refl, sym, ap, ◌∙◌, subst, arith, ⊎_elim, get_or-set_same, get_or-set_other, length-set}
-use Rattle.std.proofs.lemmas.Bool.{cases_eq}
-use Rattle.std.proofs.lemmas.List.Sums.{sum_by-set}
+use Rattle.word_image.proofs.Common.{cases_eq, sum_by-set}
 use Rattle.image_minimal.specs.Joins.{Rises, IsFalling, total, IsHalved, IsUnited}
 use Rattle.image_minimal.specs.Joins.Rises.{Rest, Rise}
 

@@ -1,20 +1,8 @@
 -- A search through linked sets of two rules, one edge more at a time.
 use Rattle.std.proofs.Common.{◌≡◌, ◌≢◌, ℕ, ◌+◌, ◌*◌, ◌^◌, ◌<◌, ◌≤◌, ◌⊎◌, ◌↔◌, inl, inr, List, [], ◌∷◌, ◌++◌, length, slice_index, Some, refl, sym, ap₂, ◌∙◌, subst, subst₂, arith, ⊎_elim, not, nat_eq, true, false, true≢false, slice_get, eq-eqb, ne_eqb}
-use Rattle.std.specs.List.{range_with_len}
-use Rattle.std.proofs.lemmas.Bool.{cases_eq}
-use Rattle.std.proofs.Math.Pow.{pow-lt}
+use Rattle.word_image.proofs.Common.{range_with_len, cases_eq, pow-lt, slice_get_within, length_push, map-append, get_or-range_with_len, length-range_with_len, LocalRule, IsRule, node_count, full_set, IsStep, node_count_pos, only_place, slice_get-push, slice_get-push_cases}
 use Rattle.std.proofs.Math.Bool.{beq}
-use Rattle.std.proofs.lemmas.Option.{slice_get_within}
-use Rattle.std.proofs.lemmas.List.{length_push, map-append}
-use Rattle.std.proofs.lemmas.List.FromFn.{get_or-range_with_len, length-range_with_len}
-use Rattle.word_image.specs.LocalRules.{LocalRule, IsRule, node_count}
-use Rattle.word_image.specs.Graphs.{full_set}
-use Rattle.word_image.specs.Edges.{IsStep}
-use Rattle.word_image.proofs.laws.Graphs.{node_count_pos}
-use Rattle.word_image.proofs.laws.Places.{only_place, slice_get-push, slice_get-push_cases}
-use Rattle.search_laws.specs.SearchQueues.{IsFilled}
-use Rattle.search_laws.proofs.QueueSteps.{filled-later, IsFilled-start, IsFilled-there, IsFilled-new}
-use Rattle.search_laws.proofs.StepSets.{IsSetOf-unique}
+use Rattle.search_laws.proofs.Common.{IsFilled, filled-later, IsFilled-start, IsFilled-there, IsFilled-new, IsSetOf-unique}
 use Rattle.image_minimal.specs.declared.links.Link.{Link}
 use Rattle.image_minimal.specs.Links.{Chain, link_place, LinkStep, HasChain, IsLinking, set_count, AreJoined, IsLinkSearch}
 use Rattle.image_minimal.specs.Links.Chain.{Stay, Forth}

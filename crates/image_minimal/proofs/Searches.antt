@@ -1,14 +1,7 @@
 -- A search through sets of nodes that are put into a list, and the unread sets that one lists.
 use Rattle.std.proofs.Common.{◌≡◌, ℕ, suc, ◌+◌, ◌*◌, ◌<◌, ◌≤◌, List, [], ◌∷◌, length, Some, Contains, refl, sym, ap, ◌∙◌, subst, arith, ⊎_elim, slice_get, mul-le-mul_right, suc-mul}
-use Rattle.std.proofs.lemmas.Option.{slice_get_within}
-use Rattle.word_image.specs.LocalRules.{LocalRule}
-use Rattle.word_image.proofs.laws.Places.{Contains-slice_get}
-use Rattle.search_laws.specs.Walks.{Leads}
-use Rattle.search_laws.specs.SearchQueues.{Place, IsQueue, IsSearch}
-use Rattle.search_laws.proofs.Walks.{Leads-induct}
-use Rattle.search_laws.proofs.QueueStates.{place_of_listed, Contains-state}
-use Rattle.search_laws.proofs.Searches.{IsSearch-there, IsSearch-new, length-search}
-use Rattle.search_laws.proofs.SpelledWords.{TreeSpells-some, Leads-spelled}
+use Rattle.word_image.proofs.Common.{slice_get_within, LocalRule, Contains-slice_get}
+use Rattle.search_laws.proofs.Common.{Leads, Place, IsQueue, IsSearch, Leads-induct, place_of_listed, Contains-state, IsSearch-there, IsSearch-new, length-search, TreeSpells-some, Leads-spelled}
 use Rattle.image_minimal.specs.Closures.{IsBack, IsUnread, IsUnreadSet}
 use Rattle.image_minimal.specs.Indexes.{IsInsertedAt}
 use Rattle.image_minimal.specs.Searches.{AreUnreadSets}

@@ -1,18 +1,7 @@
 -- The least word of each set of a family: the empty word for the full set, and that of the parent followed by its letter.
 use Rattle.std.proofs.Common.{◌≡◌, ℕ, zero, suc, ◌+◌, ◌-◌, ◌*◌, ◌<◌, ◌≤◌, List, [], ◌∷◌, ◌++◌, length, get_or, slice_index, refl, sym, ap, ◌∙◌, subst, arith, ⊎_elim, mul-le-mul_left, mul-le-mul_right, suc-mul, mul-one}
-use Rattle.std.proofs.lemmas.Bool.{cases_eq, cases_lt}
-use Rattle.std.proofs.lemmas.List.{get_or_default}
-use Rattle.std.proofs.lemmas.Option.{slice_get-get_or}
-use Rattle.word_image.specs.LocalRules.{LocalRule, IsRule}
-use Rattle.word_image.specs.Graphs.{full_set}
-use Rattle.word_image.specs.Edges.{IsStep}
-use Rattle.word_image.specs.Ranks.{IsLastSet}
-use Rattle.word_image.specs.Families.{IsLeastWordOf, IsFamily}
-use Rattle.word_image.proofs.laws.Lists.{paired_at, paired_length}
-use Rattle.word_image.proofs.laws.LastSets.{IsLastSet-full, IsLastSet-step}
-use Rattle.search_laws.proofs.WordOrder.{word_number, word_number-snoc, word_cmp-not_greater, word_number-le, word_number-less}
-use Rattle.search_laws.proofs.Walks.{Leads-induct}
-use Rattle.search_laws.proofs.StepSets.{LeadsToSet, LeadsToSet-last, IsLastSet-leads}
+use Rattle.word_image.proofs.Common.{cases_eq, cases_lt, get_or_default, slice_get-get_or, LocalRule, IsRule, full_set, IsStep, IsLastSet, IsLeastWordOf, IsFamily, paired_at, paired_length, IsLastSet-full, IsLastSet-step}
+use Rattle.search_laws.proofs.Common.{word_number, word_number-snoc, word_cmp-not_greater, word_number-le, word_number-less, Leads-induct, LeadsToSet, LeadsToSet-last, IsLastSet-leads}
 use Rattle.image_subsets.specs.FamilyTrees.{IsLeastParent}
 
 -- the word that a family has for the set at a place

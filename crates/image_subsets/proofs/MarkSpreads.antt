@@ -1,14 +1,10 @@
 -- Marks, one node more at a time.
 use Rattle.std.proofs.Common.{◌≡◌, ◌≢◌, ℕ, ◌+◌, ◌-◌, ◌*◌, ◌/◌, ◌%◌, ◌^◌, ◌<◌, ◌≤◌, ◌↔◌, ◌⊎◌, inl, inr, List, length, slice_index, slice_set, replicate, take, drop, ◌++◌, Contains, IsBitSet, bit_or, refl, sym, ap, ◌∙◌, subst, arith, ⊎_elim}
-use Rattle.std.proofs.lemmas.Bool.{cases_eq, cases_lt}
-use Rattle.std.proofs.lemmas.List.{get_or_default, take_all, take-append-le}
-use Rattle.std.proofs.lemmas.Nat.{and_le_l, one_shl}
-use Rattle.std.proofs.Math.Pow.{pow-lt, pow_mono}
-use Rattle.word_image.proofs.laws.Searches.{some_below}
-use Rattle.word_image.proofs.laws.Bits.{IsBitSet-pow, IsBitSet-decide}
-use Rattle.pair_laws.proofs.Rows.{HasBit-or, HasBit-none}
-use Rattle.pair_laws.proofs.Sets.{IsBitSet-minus, IsBitSet-below}
-use Rattle.search_laws.proofs.StepSets.{same_set}
+use Rattle.word_image.proofs.Common.{cases_eq, cases_lt, get_or_default, take-append-le, and_le_l, one_shl, pow-lt, some_below, IsBitSet-pow, IsBitSet-decide}
+use Rattle.std.proofs.lemmas.List.{take_all}
+use Rattle.std.proofs.Math.Pow.{pow_mono}
+use Rattle.pair_laws.proofs.Common.{HasBit-or, HasBit-none, IsBitSet-minus, IsBitSet-below}
+use Rattle.search_laws.proofs.Common.{same_set}
 use Rattle.image_subsets.specs.Marks.{IsSetMarked, IsPart, set_without, HoldsWithout, IsSpreadTo, AreListed, AreMarksTo, AreAbove, AreBeyond, AreCovers, HoldsSmaller, IsMinimal}
 
 -- the nodes that are left without one

@@ -1,13 +1,10 @@
 -- No other set of a family is part of one exactly where the test of its cover list says so.
 use Rattle.std.proofs.Common.{◌≡◌, ◌≢◌, ℕ, ◌^◌, ◌<◌, ◌↔◌, List, Bool, true, false, IsTrue, AllPairs, length, slice_index, IsBitSet, bit_and, refl, sym, ap, ◌∙◌, subst, arith, ⊎_elim, ◌==◌, ◌&&◌, not}
-use Rattle.std.specs.List.{list_any}
-use Rattle.std.proofs.lemmas.Bool.{cases_lt, eqb-true, eqb-false, ne_eqb, eq-eqb, false≢true, and_parts, not-true}
+use Rattle.word_image.proofs.Common.{list_any, cases_lt, eqb-false, false≢true, and_parts, not-true, get_or_default, and_le_l, is_subset, is_minimal}
+use Rattle.std.proofs.lemmas.Bool.{eqb-true, ne_eqb, eq-eqb}
 use Rattle.std.proofs.lemmas.List.Folds.{Any-from_list_any, list_any_at}
-use Rattle.std.proofs.lemmas.List.{get_or_default}
-use Rattle.std.proofs.lemmas.Nat.{and_le_l}
-use Rattle.word_image.specs.Families.{is_subset, is_minimal}
-use Rattle.pair_laws.proofs.Sets.{IsBitSet-and}
-use Rattle.search_laws.proofs.StepSets.{same_set}
+use Rattle.pair_laws.proofs.Common.{IsBitSet-and}
+use Rattle.search_laws.proofs.Common.{same_set}
 use Rattle.image_subsets.specs.Marks.{IsPart, IsMinimal}
 
 -- a part by its bits is a part by the test

@@ -1,13 +1,9 @@
 -- Marks in rows of 64 bits: the nodes of a set by its row and its bit, and rows with one row written.
 use Rattle.std.proofs.Common.{◌≡◌, ℕ, suc, ◌+◌, ◌-◌, ◌*◌, ◌/◌, ◌%◌, ◌^◌, ◌<◌, ◌≤◌, ◌↔◌, List, Bool, true, slice_index, IsBitSet, bit_and, zero, refl, sym, ap, ◌∙◌, subst, subst₂, arith, ⊎_elim, ◌==◌, ◌&&◌}
-use Rattle.std.specs.Int.{bit_at}
-use Rattle.std.proofs.lemmas.Bool.{cases_lt, cases_eq, eqb-true, and_parts}
-use Rattle.std.proofs.lemmas.Nat.{and_mask, and_comm, and-not, shl-shr, pow-add}
-use Rattle.std.proofs.lemmas.Nat.Bits.{bit_at_ones, and_pow}
-use Rattle.std.proofs.Math.Pow.{pow-lt}
-use Rattle.word_image.proofs.laws.Bits.{bit_at-IsBitSet, IsBitSet-zero}
-use Rattle.word_image.specs.Graphs.{HasBit}
-use Rattle.pair_laws.proofs.Sets.{IsBitSet-below, IsBitSet-and, IsBitSet-shr}
+use Rattle.word_image.proofs.Common.{bit_at, cases_lt, cases_eq, and_parts, and_mask, and_comm, and-not, shl-shr, bit_at_ones, and_pow, pow-lt, bit_at-IsBitSet, IsBitSet-zero, HasBit}
+use Rattle.std.proofs.lemmas.Bool.{eqb-true}
+use Rattle.std.proofs.lemmas.Nat.{pow-add}
+use Rattle.pair_laws.proofs.Common.{IsBitSet-below, IsBitSet-and, IsBitSet-shr}
 use Rattle.image_subsets.specs.declared.rows.TheConstants.{WITH_LOW_NODE}
 use Rattle.image_subsets.specs.Marks.{HoldsWithout, set_without}
 

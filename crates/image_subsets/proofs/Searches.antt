@@ -1,21 +1,10 @@
 -- A search through the sets, one edge more at a time, and the family that it lists in the end.
 use Rattle.std.proofs.Common.{◌≡◌, ◌≢◌, ℕ, ◌+◌, ◌-◌, ◌*◌, ◌^◌, ◌<◌, ◌≤◌, List, [], ◌∷◌, ◌++◌, length, slice_index, Option, Some, None, MatchOption, Contains, false, refl, sym, ap, ◌∙◌, subst, subst₂, arith, ⊎_elim, slice_get, pow_mono}
-use Rattle.std.proofs.lemmas.Option.{slice_get_within, slice_get-get_or, get_or_from_slice_get}
-use Rattle.std.proofs.lemmas.List.{get_or_append_left, length_push}
-use Rattle.std.proofs.lemmas.List.Elements.{Contains-push_cases}
+use Rattle.word_image.proofs.Common.{slice_get_within, slice_get-get_or, get_or_from_slice_get, get_or_append_left, length_push, Contains-push_cases, LocalRule, IsRule, node_count, full_set, IsStep, IsFamily, node_count_pos, slice_get-append, slice_get-push, slice_get-push_cases, only_place}
 use Rattle.std.proofs.lemmas.Nat.{pow_pos}
-use Rattle.word_image.specs.LocalRules.{LocalRule, IsRule, node_count}
-use Rattle.word_image.specs.Graphs.{full_set}
-use Rattle.word_image.specs.Edges.{IsStep}
-use Rattle.word_image.specs.Families.{IsFamily}
-use Rattle.word_image.proofs.laws.Graphs.{node_count_pos}
-use Rattle.word_image.proofs.laws.Places.{slice_get-append, slice_get-push, slice_get-push_cases, only_place}
-use Rattle.search_laws.specs.SearchQueues.{Place}
-use Rattle.search_laws.proofs.QueueStates.{states_of, mapped_at}
-use Rattle.search_laws.proofs.Searches.{IsSearch-start, IsSearch-there, IsSearch-new, search_place, search-below, length-search, length-search-le as length-listed-le}
-use Rattle.search_laws.proofs.StepSets.{IsSetOf-unique}
+use Rattle.search_laws.proofs.Common.{Place, states_of, mapped_at, IsSearch-start, IsSearch-there, IsSearch-new, search_place, search-below, length-search, IsSetOf-unique, IsFamily-closed, IsFamily-stopped}
+use Rattle.search_laws.proofs.Searches.{length-search-le as length-listed-le}
 use Rattle.search_laws.proofs.LeastSteps.{parent-least}
-use Rattle.search_laws.proofs.Families.{IsFamily-closed, IsFamily-stopped}
 use Rattle.image_subsets.specs.FamilyTrees.{IsTree, IsLeastParent, IsFamilyTree}
 use Rattle.image_subsets.specs.Searches.{IsWay, IsTreeSearch, EndsEmpty, IsExpanded}
 

@@ -1,17 +1,10 @@
 -- Steps of sets, part by part, and the tables that are made of them.
 use Rattle.std.proofs.Common.{◌≡◌, ℕ, ◌+◌, ◌-◌, ◌*◌, ◌/◌, ◌%◌, ◌^◌, ◌<◌, List, [], ◌++◌, length, map, get_or, slice_index, min, inl, inr, bit_or, refl, sym, ap, ap₂, ◌∙◌, subst, subst₂, arith, ⊎_elim, pow_mono}
-use Rattle.std.specs.Simd.Lanes.{zip2}
-use Rattle.std.specs.Int.Bits.{or_shifted_r}
-use Rattle.std.proofs.Math.Nat.{mul-lt-mul_of_pos_right, one-mul, mul-one, mul_comm, add-mul, mod-add-div}
-use Rattle.std.proofs.lemmas.Bool.{cases_lt}
-use Rattle.std.proofs.lemmas.List.{get_or_append_left, get_or_default, get_or-append-add, length-append, length-map, get_or-map}
-use Rattle.std.proofs.lemmas.Nat.{pow_pos, pow-add, or_lt, div_below}
-use Rattle.std.proofs.lemmas.Simd.{get_or-zip2, length-zip2}
-use Rattle.word_image.specs.LocalRules.{LocalRule, IsRule, node_count}
-use Rattle.word_image.proofs.laws.Bits.{IsBitSet-or, IsBitSet-pow}
-use Rattle.word_image.specs.Edges.{IsEdge, IsEnds, IsStep}
+use Rattle.word_image.proofs.Common.{zip2, or_shifted_r, mod-add-div, cases_lt, get_or_append_left, get_or_default, length-map, get_or-map, or_lt, div_below, get_or-zip2, length-zip2, LocalRule, IsRule, node_count, IsBitSet-or, IsBitSet-pow, IsEdge, IsEnds, IsStep, IsSetOf-same}
+use Rattle.std.proofs.Math.Nat.{mul-lt-mul_of_pos_right, one-mul, mul-one, mul_comm, add-mul}
+use Rattle.std.proofs.lemmas.List.{get_or-append-add, length-append}
+use Rattle.std.proofs.lemmas.Nat.{pow_pos, pow-add}
 use Rattle.word_image.specs.declared.side.Side.TheVariants.{Right}
-use Rattle.word_image.proofs.laws.Unions.{IsSetOf-same}
 use Rattle.image_subsets.specs.StepTables.{AreSteps, Rows, AreTables, HasRows}
 
 -- a step of a union is the union of the steps

@@ -1,23 +1,9 @@
 -- From the letters that are read back from images to the inverse map, and what the map does.
 use Rattle.std.proofs.Common.{◌≡◌, ℕ, ◌+◌, ◌-◌, ◌/◌, ◌%◌, ◌^◌, ◌<◌, ◌≤◌, List, length, map, take, drop, slice_index, slice_range, ℤ, pos, neg_ℤ, ◌+ℤ◌, ◌-ℤ◌, refl, sym, ap, subst, ◌∙◌, arith, length-drop, length-take-le, get_or-take, get_or-drop}
-use Rattle.std.specs.List.{range_with_len}
-use Rattle.std.proofs.lemmas.Int.{ints}
-use Rattle.std.proofs.lemmas.List.FromFn.{fill_by_all, length-map-range_with_len}
-use Rattle.std.proofs.lemmas.List.Elements.{All-from_get_or, All-take, All-drop}
-use Rattle.word_image.specs.LocalRules.{LocalRule, IsRule, IsWord, value, word_of, local_map}
-use Rattle.word_image.specs.Words.{image, IsPreimage, IsSurjective}
-use Rattle.word_image.specs.Windows.{IsDetermined}
-use Rattle.word_image.proofs.laws.Values.{value-below, value-injective, length-word_of, IsWord-word_of, value-word_of}
-use Rattle.word_image.proofs.laws.Words.{IsWord-image, length-image}
-use Rattle.word_image.proofs.laws.Images.{get_or-image, image-drop, image-take}
-use Rattle.tail_config.specs.Configs.{run, image_of}
-use Rattle.tail_config.specs.Tails.{TailConfig, IsTail, cell, cells, image_cell}
-use Rattle.tail_config.proofs.laws.Runs.{length-run, get_or-run, IsWord-run, image-run}
-use Rattle.tail_config.proofs.laws.Cells.{cell-below}
-use Rattle.tail_laws.proofs.Injective.{IsInjective-determined}
+use Rattle.word_image.proofs.Common.{range_with_len, ints, fill_by_all, length-map-range_with_len, All-from_get_or, All-take, All-drop, LocalRule, IsRule, IsWord, value, word_of, local_map, image, IsPreimage, IsSurjective, IsDetermined, value-below, value-injective, length-word_of, IsWord-word_of, value-word_of, IsWord-image, length-image, get_or-image, image-drop, image-take, letter-value}
+use Rattle.tail_config.proofs.Common.{run, image_of, TailConfig, IsTail, cell, cells, image_cell, length-run, get_or-run, IsWord-run, image-run, cell-below, WindowMap, IsInverseMap, map_letter}
+use Rattle.tail_laws.proofs.Common.{IsInjective-determined}
 use Rattle.eden_laws.proofs.Preinjective.{IsSurjective-injective}
-use Rattle.word_image.proofs.laws.WindowParts.{letter-value}
-use Rattle.tail_config.specs.InverseMaps.{WindowMap, IsInverseMap, map_letter}
 use Rattle.inverse_table.specs.InverseMaps.{GivesBack, map_image}
 use Rattle.inverse_table.specs.MapLimits.{IsWindowMap}
 use Rattle.inverse_table.specs.InverseFaults.{IsApartAt}

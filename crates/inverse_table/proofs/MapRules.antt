@@ -1,16 +1,7 @@
 -- An inverse map as a rule: its shape, its table, and the first limit that it breaks.
 use Rattle.std.proofs.Common.{◌≡◌, ℕ, subst, false, ◌*◌, ◌/◌, ◌^◌, ◌<◌, ◌≤◌, length, map, slice_index, sym, ap, ◌∙◌, ⊎_elim, arith, pow-suc, one-mul, ◌==◌, max, nat_lt, ◌||◌, eq-eqb, ne_eqb}
-use Rattle.std.specs.List.{range_with_len}
-use Rattle.std.proofs.Math.Nat.{pow-zero}
-use Rattle.std.proofs.lemmas.Bool.{cases_eq, cases_lt, cond-true, cond-false}
-use Rattle.std.proofs.lemmas.Bool.Decides.{nat_tests}
-use Rattle.std.proofs.lemmas.List.{get_or_past}
-use Rattle.std.proofs.lemmas.Nat.{div_below}
-use Rattle.std.proofs.lemmas.List.FromFn.{length-map-range_with_len, get_or-map-range_with_len}
-use Rattle.std.proofs.lemmas.List.Elements.{All-map}
-use Rattle.word_image.specs.LocalRules.{LocalRule, IsRule, IsShape, IsWord}
-use Rattle.word_image.specs.RuleFaults.{shape_fault}
-use Rattle.tail_config.specs.InverseMaps.{WindowMap}
+use Rattle.word_image.proofs.Common.{range_with_len, pow-zero, cases_eq, cases_lt, cond-true, cond-false, nat_tests, get_or_past, div_below, length-map-range_with_len, get_or-map-range_with_len, All-map, LocalRule, IsRule, IsShape, IsWord, shape_fault}
+use Rattle.tail_config.proofs.Common.{WindowMap}
 use Rattle.inverse_table.specs.InverseMaps.{map_rule}
 use Rattle.inverse_table.specs.MapLimits.{IsWindowMap, rule_limit_fault}
 

@@ -1,7 +1,6 @@
 -- Letters that are read back from the images of words, one word after the other.
 use Rattle.std.proofs.Common.{inl, inr, ◌≡◌, ◌≢◌, ℕ, ◌+◌, ◌<◌, List, length, set, slice_index, sym, ap, subst, ◌∙◌, ⊎_elim, arith, length-set, get_or-set_other}
-use Rattle.std.proofs.lemmas.Bool.{cases_eq}
-use Rattle.std.proofs.lemmas.Grind.{get_or-set_at}
+use Rattle.word_image.proofs.Common.{cases_eq, get_or-set_at}
 use Rattle.inverse_table.specs.ImageValues.{IsRead, IsLetterBack, HasApart}
 
 -- no word has an image that none of the first words has, if the next has another one

@@ -1,8 +1,6 @@
 -- How many words of one length there are, where at most 65,536 words have n letters.
 use Rattle.std.proofs.Common.{◌≡◌, ℕ, ◌+◌, ◌-◌, ◌*◌, ◌%◌, ◌^◌, ◌<◌, ◌≤◌, sym, ap, ◌∙◌, ⊎_elim, arith, mul-le-mul, pow-add}
-use Rattle.std.proofs.Math.Nat.{mul-mod_left, one-le-pow, pow-le-pow_left, pow-le-pow_right}
-use Rattle.std.proofs.lemmas.Bool.{cases_lt}
-use Rattle.word_image.specs.LocalRules.{LocalRule, IsRule}
+use Rattle.word_image.proofs.Common.{mul-mod_left, one-le-pow, pow-le-pow_left, pow-le-pow_right, cases_lt, LocalRule, IsRule}
 
 -- at most 2^20 words of n + m - 1 letters, and less where they have fewer
 pub power-most : {r : LocalRule} → IsRule r → (n j k : ℕ) → r.states ^ n ≤ 65536 → k ≡ r.states → j ≤ n + (r.width - 1) → (0 < k ^ j) × (k ^ j ≤ 1048576)

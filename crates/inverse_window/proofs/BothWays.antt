@@ -1,18 +1,10 @@
 -- A rule is injective exactly where no two different nodes go on together for ever both ways.
 use Rattle.std.proofs.Common.{◌≢◌, ℕ, ◌-◌, ◌*◌, ◌^◌, ◌%◌, ◌<◌, ◌↔◌, IsBitSet, bit_and, sym, ◌∙◌, subst, arith, mod-lt}
-use Rattle.std.proofs.lemmas.Nat.{and_le_l}
-use Rattle.word_image.specs.LocalRules.{LocalRule, IsRule, node_count}
-use Rattle.word_image.specs.Graphs.{first_of, second_of, pair_of}
-use Rattle.word_image.specs.Ranks.{BeginTogether, EndTogether, IsEndless}
-use Rattle.word_image.proofs.laws.Bits.{IsBitSet-some, IsBitSet-zero}
+use Rattle.word_image.proofs.Common.{and_le_l, LocalRule, IsRule, node_count, first_of, second_of, pair_of, BeginTogether, EndTogether, IsEndless, IsBitSet-some, IsBitSet-zero}
 use Rattle.word_image.specs.declared.side.Side.TheVariants.{Right, Left}
-use Rattle.pair_laws.proofs.Pairs.{first_of-pair_of, second_of-pair_of, first_of-below, second_of-below, PairGoes-pair_of}
-use Rattle.pair_laws.proofs.Ranks.{Together-below}
-use Rattle.pair_laws.proofs.Sets.{IsBitSet-and, IsBitSet-minus, IsBitSet-shl}
-use Rattle.pair_laws.proofs.BothWays.{IsDetermined-not_both_ways, IsDetermined-none_both_ways}
-use Rattle.tail_config.specs.Tails.{IsInjective}
-use Rattle.tail_laws.proofs.Injective.{IsInjective-determined}
-use Rattle.tail_laws.proofs.Certainty.{IsInjective-window}
+use Rattle.pair_laws.proofs.Common.{first_of-pair_of, second_of-pair_of, first_of-below, second_of-below, PairGoes-pair_of, Together-below, IsBitSet-and, IsBitSet-minus, IsBitSet-shl, IsDetermined-not_both_ways, IsDetermined-none_both_ways}
+use Rattle.tail_config.proofs.Common.{IsInjective}
+use Rattle.tail_laws.proofs.Common.{IsInjective-determined, IsInjective-window}
 use Rattle.inverse_window.specs.BothWays.{GoOnBothWays}
 
 -- two different nodes that do forbid it

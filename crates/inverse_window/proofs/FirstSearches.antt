@@ -1,10 +1,7 @@
 -- The search for the first window, from the greatest number of letters before the letter on.
 use Rattle.std.proofs.Common.{◌≡◌, ℕ, ◌+◌, ◌-◌, ◌<◌, ◌≤◌, inl, inr, List, Option, Some, None, get_or, sym, ap, subst, ◌∙◌, ⊎_elim, arith, IfSome, option_map}
-use Rattle.std.proofs.lemmas.Bool.{cases_eq, cases_lt}
-use Rattle.word_image.specs.LocalRules.{LocalRule, IsRule, node_count}
-use Rattle.word_image.specs.Graphs.{first_of, second_of, pair_count}
-use Rattle.word_image.specs.Windows.{IsDetermined}
-use Rattle.pair_laws.proofs.Pairs.{first_of-below, second_of-below}
+use Rattle.word_image.proofs.Common.{cases_eq, cases_lt, LocalRule, IsRule, node_count, first_of, second_of, pair_count, IsDetermined}
+use Rattle.pair_laws.proofs.Common.{first_of-below, second_of-below}
 use Rattle.inverse_window.specs.declared.windows.WindowAt.{WindowAt}
 use Rattle.inverse_window.specs.Starts.{HoldsFrom, later}
 use Rattle.inverse_window.specs.FirstWindows.{PairDiffersAt, PairBegins, EndsFor, NoneHolds, AreStarts, IsPast, IsFirstWindowOf, IsEarlier}

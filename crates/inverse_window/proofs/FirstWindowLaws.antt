@@ -1,8 +1,6 @@
 -- The first determined windows of two families are the first of both.
 use Rattle.std.proofs.Common.{◌≡◌, ℕ, ◌+◌, ◌-◌, ◌∙◌, ◌≤◌, ◌⊎◌, inl, inr, Option, Some, None, sym, subst, ⊎_elim, arith, IfSome, IsSomeAnd, option_map}
-use Rattle.std.proofs.lemmas.Bool.{cases_lt}
-use Rattle.word_image.specs.LocalRules.{LocalRule}
-use Rattle.word_image.specs.Windows.{IsDetermined, WindowBefore}
+use Rattle.word_image.proofs.Common.{cases_lt, LocalRule, IsDetermined, WindowBefore}
 use Rattle.inverse_window.specs.declared.windows.WindowAt.{WindowAt}
 use Rattle.inverse_window.specs.Starts.{HoldsFrom}
 use Rattle.inverse_window.specs.FirstWindows.{IsFirstWindowOf, IsNoLater, IsEarlier}

@@ -1,10 +1,8 @@
 -- The first of all windows inside their words is the least determined one.
 use Rattle.std.proofs.Common.{◌≡◌, ℕ, ◌+◌, ◌-◌, ◌<◌, ◌↔◌, inl, inr, Option, Some, None, true, false, refl, sym, subst, ⊎_elim, arith, MatchOption, IsSome, option_map}
-use Rattle.std.proofs.lemmas.Bool.{cases_eq}
-use Rattle.word_image.specs.LocalRules.{LocalRule, IsRule}
-use Rattle.word_image.specs.Windows.{IsDetermined, IsLeastDetermined}
-use Rattle.tail_config.specs.Tails.{IsInjective}
-use Rattle.tail_laws.proofs.Certainty.{IsInjective-window}
+use Rattle.word_image.proofs.Common.{cases_eq, LocalRule, IsRule, IsDetermined, IsLeastDetermined}
+use Rattle.tail_config.proofs.Common.{IsInjective}
+use Rattle.tail_laws.proofs.Common.{IsInjective-window}
 use Rattle.inverse_window.specs.declared.windows.WindowAt.{WindowAt}
 use Rattle.inverse_window.specs.Starts.{HoldsFrom}
 use Rattle.inverse_window.specs.FirstWindows.{IsFirstWindowOf, IsEarlier}

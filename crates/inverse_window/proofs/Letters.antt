@@ -1,12 +1,7 @@
 -- Some nodes differ at each letter.
 use Rattle.std.proofs.Common.{◌≡◌, ℕ, ◌-◌, ◌<◌, ◌≤◌, List, slice_index, replicate, sym, ap, ◌∙◌, arith}
-use Rattle.std.proofs.lemmas.List.{get_or-replicate, length-replicate}
-use Rattle.std.proofs.lemmas.List.Elements.{All-replicate}
-use Rattle.word_image.specs.LocalRules.{LocalRule, IsRule, value, word_of, node_count}
-use Rattle.word_image.specs.Graphs.{pair_of, pair_count, node_letter}
-use Rattle.word_image.proofs.laws.Values.{word_of-value}
-use Rattle.word_image.proofs.laws.Graphs.{value-node}
-use Rattle.pair_laws.proofs.Pairs.{first_of-pair_of, second_of-pair_of, pair_of-below}
+use Rattle.word_image.proofs.Common.{get_or-replicate, length-replicate, All-replicate, LocalRule, IsRule, value, word_of, node_count, pair_of, pair_count, node_letter, word_of-value, value-node}
+use Rattle.pair_laws.proofs.Common.{first_of-pair_of, second_of-pair_of, pair_of-below}
 use Rattle.inverse_window.specs.FirstWindows.{PairDiffersAt}
 
 -- the node of one letter, again and again

@@ -1,8 +1,7 @@
 -- Pairs of nodes, by their nodes.
 use Rattle.std.proofs.Common.{◌≢◌, ℕ, ◌<◌, sym, subst₂}
-use Rattle.word_image.specs.LocalRules.{LocalRule, node_count}
-use Rattle.word_image.specs.Graphs.{first_of, second_of, pair_of, node_letter}
-use Rattle.pair_laws.proofs.Pairs.{first_of-pair_of, second_of-pair_of}
+use Rattle.word_image.proofs.Common.{LocalRule, node_count, first_of, second_of, pair_of, node_letter}
+use Rattle.pair_laws.proofs.Common.{first_of-pair_of, second_of-pair_of}
 use Rattle.inverse_window.specs.FirstWindows.{PairDiffersAt}
 
 -- what is said of the nodes of a pair

@@ -1,10 +1,8 @@
 -- A number above the finite ranks of pairs of nodes, pair by pair.
 use Rattle.std.proofs.Common.{ℕ, ◌+◌, ◌<◌, ◌≤◌, sym, subst, ⊎_elim, arith}
-use Rattle.std.proofs.lemmas.Bool.{cases_eq}
-use Rattle.word_image.specs.LocalRules.{LocalRule, IsRule, node_count}
-use Rattle.word_image.specs.Ranks.{EndTogether, IsRank, IsEndless}
+use Rattle.word_image.proofs.Common.{cases_eq, LocalRule, IsRule, node_count, EndTogether, IsRank, IsEndless}
 use Rattle.word_image.specs.declared.side.Side.TheVariants.{Left}
-use Rattle.pair_laws.proofs.Ranks.{Together-less}
+use Rattle.pair_laws.proofs.Common.{Together-less}
 use Rattle.inverse_window.specs.FirstWindows.{IsPastOf, IsPast}
 
 -- two nodes that end together past their rank

@@ -1,11 +1,8 @@
 -- The table of starts by rank, pair by pair.
 use Rattle.std.proofs.Common.{◌≡◌, ◌≢◌, ℕ, ◌+◌, ◌<◌, ◌≤◌, List, length, Option, Some, None, get_or, replicate, sym, subst, ⊎_elim, arith, ◌∙◌, length-set, get_or-set_same, get_or-set_other, IfSome, MatchOption, unwrap_or, set}
-use Rattle.std.proofs.lemmas.Bool.{cases_eq, cases_lt}
-use Rattle.std.proofs.lemmas.List.{get_or-replicate, length-replicate}
-use Rattle.word_image.specs.LocalRules.{LocalRule, IsRule}
-use Rattle.word_image.specs.Ranks.{IsRank, IsEndless}
+use Rattle.word_image.proofs.Common.{cases_eq, cases_lt, get_or-replicate, length-replicate, LocalRule, IsRule, IsRank, IsEndless}
 use Rattle.word_image.specs.declared.side.Side.TheVariants.{Left}
-use Rattle.pair_laws.proofs.Ranks.{IsRank-one, Together-less}
+use Rattle.pair_laws.proofs.Common.{IsRank-one, Together-less}
 use Rattle.inverse_window.specs.Starts.{HoldsFrom, later}
 use Rattle.inverse_window.specs.FirstWindows.{PairDiffersAt, PairBegins, EndsFor, NoneHolds, AreStarts}
 use Rattle.inverse_window.proofs.StartLaws.{HoldsFrom-first, HoldsFrom-next, HoldsFrom-other, later-most}

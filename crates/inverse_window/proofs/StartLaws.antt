@@ -1,7 +1,6 @@
 -- From which number on facts hold.
 use Rattle.std.proofs.Common.{ℕ, ◌+◌, ◌≤◌, ◌↔◌, Option, Some, None, subst, ⊎_elim, arith, IfSome}
-use Rattle.std.proofs.lemmas.Bool.{cases_eq, cases_lt}
-use Rattle.word_image.specs.Ranks.{IsRank}
+use Rattle.word_image.proofs.Common.{cases_eq, cases_lt, IsRank}
 use Rattle.inverse_window.specs.Starts.{HoldsFrom, later}
 use Rattle.inverse_window.specs.FirstWindows.{NoneHolds}
 

@@ -1,17 +1,8 @@
 -- The search for the first walk from a pair without the mark to the same pair with it, pair by pair.
 use Rattle.std.proofs.Common.{◌≡◌, ◌≢◌, ℕ, ◌+◌, ◌<◌, ◌≤◌, List, length, map, Option, Some, None, Vec, Global, true≢false, sym, ap, ◌∙◌, ⊎_elim, arith, MatchOption, is_gt, Less, Greater}
-use Rattle.std.specs.Ordering.{ordering_then}
-use Rattle.std.specs.Cmp.{nat_cmp_is}
-use Rattle.std.specs.Cmp.Lexicographic.{slice_cmp}
-use Rattle.std.proofs.lemmas.Bool.{cases_lt}
-use Rattle.std.proofs.lemmas.List.{length-map}
-use Rattle.word_image.specs.LocalRules.{LocalRule, IsRule}
-use Rattle.word_image.specs.Rings.{pair_cmp, pairs_cmp}
-use Rattle.search_laws.specs.PairWalks.{uncode}
-use Rattle.tail_laws.proofs.LeastTwins.{turn-some}
-use Rattle.tail_laws.specs.Turns.{IsTurn}
-use Rattle.tail_laws.specs.FirstLists.{IsFirstFound}
-use Rattle.tail_laws.proofs.FirstLists.{IsFirstBelow-old, IsFirstFound-none}
+use Rattle.word_image.proofs.Common.{ordering_then, nat_cmp_is, slice_cmp, cases_lt, length-map, LocalRule, IsRule, pair_cmp, pairs_cmp}
+use Rattle.search_laws.proofs.Common.{uncode}
+use Rattle.tail_laws.proofs.Common.{turn-some, IsTurn, IsFirstFound, IsFirstBelow-old, IsFirstFound-none}
 
 -- a longer walk doesn't come before
 pairs_cmp-longer : (w v : List (ℕ × ℕ)) → length w < length v → pairs_cmp w v ≢ Greater

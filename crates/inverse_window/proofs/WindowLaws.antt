@@ -1,14 +1,8 @@
 -- Which windows are determined, by pairs of nodes: with c letters of the image before the letter c of the word, and with all of them before it.
 use Rattle.std.proofs.Common.{◌≡◌, ◌≢◌, ℕ, ◌+◌, ◌-◌, ◌<◌, ◌≤◌, ◌↔◌, min, ◌⊎◌, inl, inr, sym, subst, ⊎_elim, arith}
-use Rattle.std.proofs.lemmas.Bool.{cases_lt}
-use Rattle.word_image.specs.LocalRules.{LocalRule, IsRule}
-use Rattle.word_image.specs.Graphs.{first_of, second_of, pair_count, node_letter}
-use Rattle.word_image.specs.Ranks.{BeginTogether, EndTogether, IsRank}
-use Rattle.word_image.specs.Windows.{IsDetermined}
+use Rattle.word_image.proofs.Common.{cases_lt, LocalRule, IsRule, first_of, second_of, pair_count, node_letter, BeginTogether, EndTogether, IsRank, IsDetermined}
 use Rattle.word_image.specs.declared.side.Side.TheVariants.{Right, Left}
-use Rattle.pair_laws.proofs.Ranks.{Together-zero, Together-less}
-use Rattle.pair_laws.proofs.Pairs.{first_of-below, second_of-below}
-use Rattle.pair_laws.proofs.Decisions.{Together-decide}
+use Rattle.pair_laws.proofs.Common.{Together-zero, Together-less, first_of-below, second_of-below, Together-decide}
 use Rattle.pair_laws.proofs.Windows.{IsDetermined-pairs}
 use Rattle.inverse_window.specs.FirstWindows.{PairDiffersAt, PairBegins, PairEnds, EndsFor, NoneHolds}
 use Rattle.inverse_window.proofs.Letters.{PairDiffersAt-some}

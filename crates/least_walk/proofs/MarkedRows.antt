@@ -1,19 +1,9 @@
 -- Steps of the marked graph, and rows that have marked pairs.
-use Rattle.std.proofs.Common.{◌≡◌, ◌≢◌, ℕ, ◌+◌, ◌-◌, ◌*◌, ◌/◌, ◌%◌, ◌^◌, ◌<◌, ◌≤◌, ◌↔◌, ◌⊎◌, inl, inr, List, Some, cond, length, IsBitSet, IsTrue, bit_and, bit_or, slice_index, slice_set, refl, sym, ap, ap₂, ◌∙◌, subst, subst₂, arith, ⊎_elim, mod-lt, lit<}
-use Rattle.std.specs.Prelude.{◌==◌, ◌||◌, not, nat_le}
-use Rattle.std.proofs.lemmas.Bool.{cases_eq, eq-eqb, ne_eqb}
-use Rattle.std.proofs.lemmas.Bool.Decides.{leb_tells}
-use Rattle.std.proofs.lemmas.Nat.{div-mul-add, mod-mul-add, div-add-mod', same_from_place, div_below}
-use Rattle.word_image.specs.LocalRules.{LocalRule, IsRule, node_count}
-use Rattle.word_image.specs.Graphs.{next, label, first_of, second_of, pair_of, pair_count, HasBit}
-use Rattle.word_image.specs.MarkedPairs.{marked}
-use Rattle.word_image.proofs.laws.Bits.{IsBitSet-or, IsBitSet-decide}
-use Rattle.word_image.proofs.laws.Graphs.{next-below, pair_count_pos}
-use Rattle.pair_laws.proofs.Rows.{HasBit-more, IsBitSet-test}
-use Rattle.pair_laws.proofs.Sets.{IsBitSet-shl, IsBitSet-shr, IsBitSet-and, IsBitSet-minus}
-use Rattle.pair_laws.proofs.Edges.{next-digits}
-use Rattle.pair_laws.proofs.Pairs.{some_if_equal, first_of-pair_of, second_of-pair_of, pair_of-first_of, pair_of-below, first_of-below, second_of-below}
-use Rattle.word_image.specs.Edges.{IsEnds}
+use Rattle.std.proofs.Common.{◌≡◌, ◌≢◌, ℕ, ◌+◌, ◌-◌, ◌*◌, ◌/◌, ◌%◌, ◌^◌, ◌<◌, ◌≤◌, ◌↔◌, ◌⊎◌, inl, inr, List, Some, cond, length, IsBitSet, IsTrue, bit_and, bit_or, slice_index, slice_set, refl, sym, ap, ap₂, ◌∙◌, subst, subst₂, arith, ⊎_elim, mod-lt, lit<, ◌==◌, ◌||◌, not, nat_le}
+use Rattle.std.proofs.lemmas.Bool.{eq-eqb, ne_eqb}
+use Rattle.word_image.proofs.Common.{cases_eq, leb_tells, div-mul-add, mod-mul-add, same_from_place, div_below, LocalRule, IsRule, node_count, next, label, first_of, second_of, pair_of, pair_count, HasBit, marked, IsBitSet-or, IsBitSet-decide, next-below, pair_count_pos, IsEnds}
+use Rattle.std.proofs.lemmas.Nat.{div-add-mod'}
+use Rattle.pair_laws.proofs.Common.{HasBit-more, IsBitSet-test, IsBitSet-shl, IsBitSet-shr, IsBitSet-and, IsBitSet-minus, next-digits, some_if_equal, first_of-pair_of, second_of-pair_of, pair_of-first_of, pair_of-below, first_of-below, second_of-below}
 use Rattle.word_image.specs.declared.side.Side.TheVariants.{Right}
 use Rattle.least_walk.specs.declared.marks.Parts.{Parts}
 use Rattle.least_walk.specs.Marks.{pair_part, row_of, HasPair, ArePartsOf}

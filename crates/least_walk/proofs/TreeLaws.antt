@@ -1,25 +1,10 @@
 -- The tree of a search that has ended with all that is reached.
-use Rattle.std.proofs.Common.{append-nil, ◌≡◌, ◌≢◌, ℕ, ◌+◌, ◌*◌, ◌<◌, ◌≤◌, List, [], ◌∷◌, ◌++◌, length, map, reverse, Option, Some, None, slice_index, slice_set, sym, ap, ◌∙◌, subst, subst₂, arith, ⊎_elim}
-use Rattle.std.specs.List.{slice_get}
-use Rattle.std.specs.Prelude.{IfSome, IfNone, All, Contains, slice_index_or}
-use Rattle.std.proofs.lemmas.Bool.{cases_eq}
-use Rattle.std.proofs.lemmas.Grind.{get_or-set_at}
-use Rattle.std.proofs.lemmas.List.{get_or-set_other, length-map}
-use Rattle.std.proofs.lemmas.List.Elements.{All-map}
-use Rattle.std.proofs.lemmas.Option.{none-some, slice_get-get_or, slice_get_within, get_or_from_slice_get}
+use Rattle.std.proofs.Common.{append-nil, ◌≡◌, ◌≢◌, ℕ, ◌+◌, ◌*◌, ◌<◌, ◌≤◌, List, [], ◌∷◌, ◌++◌, length, map, reverse, Option, Some, None, slice_index, slice_set, sym, ap, ◌∙◌, subst, subst₂, arith, ⊎_elim, slice_get, IfSome, IfNone, All, Contains, slice_index_or}
+use Rattle.word_image.proofs.Common.{cases_eq, get_or-set_at, length-map, All-map, none-some, slice_get-get_or, slice_get_within, get_or_from_slice_get, LocalRule, IsRule, node_count, pair_count, marked, pairs_cmp, word_cmp, slice_get-unique}
+use Rattle.std.proofs.lemmas.List.{get_or-set_other}
 use Rattle.std.proofs.Math.Nat.{mul-le-mul_right}
-use Rattle.word_image.specs.LocalRules.{LocalRule, IsRule, node_count}
-use Rattle.word_image.specs.Graphs.{pair_count}
-use Rattle.word_image.specs.MarkedPairs.{marked}
-use Rattle.word_image.specs.Rings.{pairs_cmp}
-use Rattle.word_image.specs.Words.{word_cmp}
-use Rattle.word_image.proofs.laws.Places.{slice_get-unique}
-use Rattle.search_laws.specs.SearchQueues.{TreeSpells}
-use Rattle.search_laws.proofs.QueueStates.{mapped_at}
-use Rattle.search_laws.proofs.SpelledWords.{TreeSpells-some}
+use Rattle.search_laws.proofs.Common.{TreeSpells, mapped_at, TreeSpells-some, PairWalk-leads, ArePairs-walk, pairs_cmp-codes, codes-uncode, code, Leads-walk, PairWalk, IsLeastWalkTo, uncode}
 use Rattle.search_laws.proofs.LeastFirst.{IsLeastTo-spelled, reached_all}
-use Rattle.search_laws.proofs.PairWalks.{PairWalk-leads, ArePairs-walk, pairs_cmp-codes, codes-uncode, code, Leads-walk}
-use Rattle.search_laws.specs.PairWalks.{PairWalk, IsLeastWalkTo, uncode}
 use Rattle.least_walk.specs.declared.queue.Reached.{Reached}
 use Rattle.least_walk.specs.declared.queue.Arrival.{Arrival}
 use Rattle.least_walk.specs.declared.queue.Ends.{Ends}

@@ -1,27 +1,11 @@
 -- A breadth first search through the marked pairs, one step more at a time.
-use Rattle.std.proofs.Common.{◌≡◌, ◌≢◌, ℕ, zero, suc, ◌+◌, ◌-◌, ◌*◌, ◌/◌, ◌%◌, ◌<◌, ◌≤◌, ◌↔◌, ◌⊎◌, inl, inr, List, [], ◌∷◌, ◌++◌, length, get_or, map, reverse, zero-mul, Option, Some, None, Bool, true, false, true≢false, refl, sym, ap, ap₂, ◌∙◌, subst, subst₂, arith, ⊎_elim}
-use Rattle.std.specs.List.{slice_get}
-use Rattle.std.specs.Option.{option_eq}
-use Rattle.std.specs.Prelude.{◌==◌}
-use Rattle.std.proofs.lemmas.Bool.{cases_lt}
-use Rattle.std.proofs.lemmas.Bool.Decides.{Decides-eqb}
-use Rattle.std.proofs.lemmas.List.{map-append, length-map, length_push}
-use Rattle.std.proofs.lemmas.Option.{slice_get_within, slice_get-get_or, get_or_from_slice_get, none-some, same_Some}
+use Rattle.std.proofs.Common.{◌≡◌, ◌≢◌, ℕ, zero, suc, ◌+◌, ◌-◌, ◌*◌, ◌/◌, ◌%◌, ◌<◌, ◌≤◌, ◌↔◌, ◌⊎◌, inl, inr, List, [], ◌∷◌, ◌++◌, length, get_or, map, reverse, zero-mul, Option, Some, None, Bool, true, false, true≢false, refl, sym, ap, ap₂, ◌∙◌, subst, subst₂, arith, ⊎_elim, slice_get, ◌==◌}
+use Rattle.word_image.proofs.Common.{option_eq, cases_lt, Decides-eqb, map-append, length-map, length_push, slice_get_within, slice_get-get_or, get_or_from_slice_get, none-some, same_Some, LocalRule, IsRule, node_count, pair_count, marked, slice_get-append, slice_get-push, slice_get-push_cases, only_place}
 use Rattle.std.proofs.Math.Nat.{mul-le-mul_right, suc-mul}
-use Rattle.word_image.specs.LocalRules.{LocalRule, IsRule, node_count}
-use Rattle.word_image.specs.Graphs.{pair_count}
-use Rattle.word_image.specs.MarkedPairs.{marked}
-use Rattle.word_image.proofs.laws.Places.{slice_get-append, slice_get-push, slice_get-push_cases, only_place}
-use Rattle.search_laws.specs.SearchQueues.{Place, TreeSpells, IsQueue, NoEdgeBefore}
-use Rattle.search_laws.specs.SearchQueues.TreeSpells.{Root, Branch}
-use Rattle.search_laws.proofs.QueueSteps.{HaveMet-next, HaveMet-push, edge-within, IsQueue-start, IsQueue-there, IsQueue-new}
-use Rattle.search_laws.proofs.QueueStates.{mapped_at, unmapped_at, length-queue-le, state-below}
+use Rattle.search_laws.proofs.Common.{Place, TreeSpells, IsQueue, NoEdgeBefore, Root, Branch, HaveMet-next, HaveMet-push, edge-within, IsQueue-start, IsQueue-there, IsQueue-new, mapped_at, unmapped_at, length-queue-le, state-below, letter_before, TreeSpells-some, length-spelled-le, uncode-code, code, Leads-walk, CodeStep-some, CodeStep-follows, IsLeastWalk-steps, no_walk, PairWalk, IsLeastWalk, uncode}
 use Rattle.search_laws.proofs.LeastSteps.{IsLeastStepsTo, IsLeastStepsTo-edge, no_steps_to}
 use Rattle.search_laws.proofs.QueueDepths.{AreDepths, depths-ascending, no_word_within}
-use Rattle.search_laws.proofs.SpelledWords.{letter_before, TreeSpells-some, length-spelled-le}
-use Rattle.search_laws.proofs.PairWalks.{uncode-code, code, Leads-walk, CodeStep-some, CodeStep-follows, IsLeastWalk-steps, no_walk}
-use Rattle.search_laws.specs.PairWalks.{PairWalk, IsLeastWalk, uncode}
-use Rattle.pair_laws.proofs.Pairs.{marked-below}
+use Rattle.pair_laws.proofs.Common.{marked-below}
 use Rattle.least_walk.specs.declared.queue.Reached.{Reached}
 use Rattle.least_walk.specs.declared.queue.Ends.{Ends}
 use Rattle.least_walk.specs.Marks.{HasPair}

@@ -1,7 +1,6 @@
 -- The cover list of a family, one set more at a time.
 use Rattle.std.proofs.Common.{◌≡◌, ◌≢◌, ℕ, ◌+◌, ◌<◌, List, [], ◌∷◌, ◌++◌, Bool, cond, AllPairs, length, take, slice_index, refl, sym, ap, ◌∙◌, arith, ◌&&◌, not, filter, eq-eqb, ne_eqb}
-use Rattle.std.proofs.lemmas.List.Elements.{filter_more}
-use Rattle.word_image.specs.Families.{is_minimal, is_cover}
+use Rattle.word_image.proofs.Common.{filter_more, is_minimal, is_cover}
 
 -- among the first set alone there is none
 pub no_cover-first : (sets : List ℕ) → 0 < length sets → filter (is_cover (slice_index sets 0) sets) (take 1 sets) ≡ []

@@ -1,12 +1,7 @@
 -- What the family of a rule says of its orphans.
 use Rattle.std.proofs.Common.{◌≡◌, ◌≢◌, ℕ, ◌-◌, List, length, slice_index, Contains, sym, ap, ◌∙◌, subst, arith, ⊎_elim}
-use Rattle.std.proofs.lemmas.Bool.{cases_eq}
-use Rattle.word_image.specs.LocalRules.{LocalRule, IsRule}
-use Rattle.word_image.specs.Words.{IsSurjective, IsLeastOrphan}
-use Rattle.word_image.specs.Ranks.{IsLastSet}
-use Rattle.word_image.specs.Families.{IsLeastWordOf, IsFamily}
-use Rattle.word_image.proofs.laws.LastSets.{IsOrphan-empty_set, IsPreimage-nonempty_set}
-use Rattle.search_laws.proofs.StepSets.{LeadsToSet-some, IsLastSet-leads, IsLastSet-orphan}
+use Rattle.word_image.proofs.Common.{cases_eq, LocalRule, IsRule, IsSurjective, IsLeastOrphan, IsLastSet, IsLeastWordOf, IsFamily, IsOrphan-empty_set, IsPreimage-nonempty_set}
+use Rattle.search_laws.proofs.Common.{LeadsToSet-some, IsLastSet-leads, IsLastSet-orphan}
 
 -- the least word of the empty set is the least orphan
 pub IsLeastOrphan-empty : {r : LocalRule} {set : ℕ} {w : List ℕ} → IsRule r → IsLeastWordOf r set w → set ≡ 0 → IsLeastOrphan r w

@@ -1,16 +1,9 @@
 -- Rows of sets by lanes: one lane for each second node.
 use Rattle.std.proofs.Common.{◌≡◌, ◌≢◌, ℕ, ◌+◌, ◌%◌, ◌^◌, ◌<◌, ◌↔◌, List, [], length, map, replicate, Bool, false, not, cond, nat_eq, slice_index, slice_index_or, IsBitSet, bit_and, bit_or, sym, ap, ◌∙◌, subst, arith, w16, ne_eqb}
-use Rattle.std.specs.Simd.Lanes.{zip2, mask_l, top}
-use Rattle.std.specs.Int.{bit_at}
-use Rattle.std.proofs.lemmas.Nat.{and_le_r}
-use Rattle.std.proofs.lemmas.List.{get_or-map, get_or-replicate, length-map}
-use Rattle.std.proofs.lemmas.Simd.{get_or-zip2, length-zip2, length-replicate, mask_l-lt, bitmask_splat, bit_mask_l}
-use Rattle.word_image.specs.LocalRules.{LocalRule}
-use Rattle.word_image.proofs.laws.Bits.{bit_at-IsBitSet, IsBitSet-some, IsBitSet-zero}
-use Rattle.word_image.proofs.laws.Unions.{IsUnion, IsUnion-take}
-use Rattle.pair_laws.proofs.Sets.{IsBitSet-and}
+use Rattle.word_image.proofs.Common.{zip2, mask_l, top, bit_at, and_le_r, get_or-map, get_or-replicate, length-map, get_or-zip2, length-zip2, mask_l-lt, bitmask_splat, bit_mask_l, LocalRule, bit_at-IsBitSet, IsBitSet-some, IsBitSet-zero, IsUnion, IsUnion-take, label_at, end_at}
+use Rattle.std.proofs.lemmas.Simd.{length-replicate}
+use Rattle.pair_laws.proofs.Common.{IsBitSet-and}
 use Rattle.word_image.specs.declared.side.Side.{Side}
-use Rattle.word_image.specs.Ends.{label_at, end_at}
 use Rattle.pair_graph.specs.PairSets.{GoesOnBy, GoesOn}
 
 -- each lane has the nodes to which the first n letters lead

@@ -1,21 +1,10 @@
 -- Rows of sets and lists of truth values, and the steps of pairs that they hold.
 use Rattle.std.proofs.Common.{◌≡◌, ◌≢◌, ◌==◌, ℕ, ◌+◌, ◌-◌, ◌*◌, ◌/◌, ◌%◌, ◌^◌, ◌<◌, ◌≤◌, ◌↔◌, List, length, Bool, IsTrue, slice_index, slice_set, IsBitSet, bit_and, Some, refl, sym, ap, ap₂, ◌∙◌, subst, subst₂, arith, ⊎_elim, mod-lt, get_or-set_other, length-set, div-add-mod'}
-use Rattle.std.specs.Int.{bit_at}
-use Rattle.std.proofs.lemmas.Bool.Decides.{Decides-eqb}
-use Rattle.std.proofs.lemmas.Nat.{div-mul-add, mod-mul-add, div_below, mul-add-lt, and_le_l}
-use Rattle.word_image.specs.LocalRules.{LocalRule, IsRule, node_count}
-use Rattle.word_image.specs.Graphs.{first_of, second_of, pair_of, pair_count, follow_on}
-use Rattle.word_image.proofs.laws.Bits.{bit_at-IsBitSet}
-use Rattle.word_image.proofs.laws.WindowParts.{window_with-within}
-use Rattle.pair_laws.proofs.Pairs.{first_of-below, second_of-below, some_if_equal}
-use Rattle.pair_laws.proofs.Rows.{row_cases, HasBit-less}
-use Rattle.pair_laws.proofs.Sets.{IsBitSet-and, IsBitSet-below}
+use Rattle.word_image.proofs.Common.{bit_at, Decides-eqb, div-mul-add, mod-mul-add, div_below, mul-add-lt, and_le_l, LocalRule, IsRule, node_count, first_of, second_of, pair_of, pair_count, follow_on, bit_at-IsBitSet, window_with-within, window_with, label_at, end_at, AreEdgeRows}
+use Rattle.pair_laws.proofs.Common.{first_of-below, second_of-below, some_if_equal, row_cases, HasBit-less, IsBitSet-and, IsBitSet-below, end_at-below, follow_on-edges}
 use Rattle.word_image.specs.declared.side.Side.{Side}
-use Rattle.word_image.specs.Ends.{window_with, label_at, end_at}
-use Rattle.word_image.specs.Edges.{AreEdgeRows}
 use Rattle.pair_graph.specs.PairSets.{holds, truths, AreRows, LeadsInto, IsTrimmedSet, AreNodesKept, GoesOn}
 use Rattle.pair_graph.specs.PairRows.{holds_bit, length-truths, same_roots}
-use Rattle.pair_laws.proofs.BackSteps.{end_at-below, follow_on-edges}
 
 -- a test of a bit
 tests_bit : (a i : ℕ) → IsTrue (bit_at a i == 1) ↔ IsBitSet a i

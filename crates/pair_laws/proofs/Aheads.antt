@@ -1,17 +1,7 @@
 -- Right look-aheads by pairs of nodes: no pair to which two different letters lead from one node begins together for the rest.
 use Rattle.std.proofs.Common.{◌≡◌, ◌≢◌, ℕ, ◌-◌, ◌<◌, ◌≤◌, ◌↔◌, List, [], ◌∷◌, ◌++◌, length, take, drop, get_or, refl, sym, ap, subst, subst₂, ◌∙◌, ⊎_elim, arith, append_assoc, length-take-le, take_at}
-use Rattle.std.proofs.lemmas.Bool.{cases_eq}
-use Rattle.std.proofs.lemmas.List.{get_or_at}
-use Rattle.std.proofs.lemmas.List.Elements.{All-take}
-use Rattle.word_image.specs.LocalRules.{LocalRule, IsRule, IsWord, value, word_of, node_count}
-use Rattle.word_image.specs.Windows.{HaveOneImage, IsRightAhead}
-use Rattle.word_image.specs.Graphs.{next, label, pair_of}
-use Rattle.word_image.specs.Ranks.{BeginTogether}
-use Rattle.word_image.specs.Sides.{PairGoes}
+use Rattle.word_image.proofs.Common.{cases_eq, get_or_at, All-take, LocalRule, IsRule, IsWord, value, word_of, node_count, HaveOneImage, IsRightAhead, next, label, pair_of, BeginTogether, PairGoes, IsFirstOfRight, length-word_of, IsWord-word_of, value-word_of, value-node, value-next, next-below}
 use Rattle.word_image.specs.declared.side.Side.TheVariants.{Right}
-use Rattle.word_image.specs.FirstPairs.{IsFirstOfRight}
-use Rattle.word_image.proofs.laws.Values.{length-word_of, IsWord-word_of, value-word_of}
-use Rattle.word_image.proofs.laws.Graphs.{value-node, value-next, next-below}
 use Rattle.pair_laws.proofs.Edges.{image-first, value-first, HaveOneImage-none, HaveOneImage-push}
 use Rattle.pair_laws.proofs.Joins.{HaveOneImage-take, HaveOneImage-join}
 use Rattle.pair_laws.proofs.Pairs.{PairGoes-pair_of}

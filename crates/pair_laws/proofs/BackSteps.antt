@@ -1,14 +1,7 @@
 -- A window is a node and the letter after it, and also the letter before a node and that node: so a step leads back from a pair along the windows that its nodes end.
 use Rattle.std.proofs.Common.{◌≡◌, ℕ, ◌+◌, ◌*◌, ◌-◌, ◌/◌, ◌%◌, ◌<◌, ◌↔◌, Some, slice_index, eq-eqb, refl, sym, ap, ap₂, ◌∙◌, subst, mod-lt, mul_comm, arith, div-add-mod'}
-use Rattle.std.proofs.lemmas.Nat.{div-mul-add, mod-mul-add}
-use Rattle.std.proofs.Math.Nat.{div-div-eq-div-mul}
-use Rattle.word_image.specs.LocalRules.{LocalRule, IsRule, node_count}
-use Rattle.word_image.specs.Graphs.{next, node_letter, first_of, second_of, pair_of, pair_count, follow_on, LeadsOn}
+use Rattle.word_image.proofs.Common.{div-mul-add, mod-mul-add, div-div-eq-div-mul, LocalRule, IsRule, node_count, next, node_letter, first_of, second_of, pair_of, pair_count, follow_on, LeadsOn, IsWord-word_of, length-word_of, next-below, some_letter, rest_count, node_count-rest, node_parts, window_with-within, end_node-below, window_with, label_at, end_at}
 use Rattle.pair_laws.proofs.Pairs.{first_of-pair_of, second_of-pair_of, pair_of-first_of, pair_of-below, some_if_equal, first_of-below, second_of-below, follow-pair_of, follow-some, follow-below}
-use Rattle.word_image.proofs.laws.Values.{IsWord-word_of, length-word_of}
-use Rattle.word_image.proofs.laws.Graphs.{next-below}
-use Rattle.word_image.proofs.laws.WindowParts.{some_letter, rest_count, node_count-rest, node_parts, window_with-within, end_node-below}
-use Rattle.word_image.specs.Ends.{window_with, label_at, end_at}
 use Rattle.word_image.specs.declared.side.Side.{Side}
 use Rattle.word_image.specs.declared.side.Side.TheVariants.{Right, Left}
 use Rattle.word_image.specs.BackSteps.{LeadsBack}

@@ -1,17 +1,8 @@
 -- When there is a determined window or a look-ahead at all: no two different nodes are endless both ways, and no first pair is endless.
 use Rattle.std.proofs.Common.{◌≡◌, ◌≢◌, ℕ, zero, suc, ◌+◌, ◌-◌, ◌<◌, ◌≤◌, ◌↔◌, Some, min, List, [], ◌∷◌, ◌++◌, length, take, drop, slice_index, refl, sym, ap, subst, ◌∙◌, ⊎_elim, arith, length-drop, ext_get_or, take_all}
-use Rattle.std.proofs.lemmas.List.{length_push, get_or_append_left}
-use Rattle.std.proofs.lemmas.List.Elements.{All-push}
-use Rattle.word_image.specs.LocalRules.{LocalRule, IsRule, IsWord, value, word_of, node_count}
-use Rattle.word_image.specs.Windows.{IsDetermined, IsRightAhead}
-use Rattle.word_image.specs.Graphs.{next, follow, pair_of, first_of, second_of, pair_count, node_letter}
-use Rattle.word_image.specs.Sides.{PairGoes, seen_from}
+use Rattle.word_image.proofs.Common.{length_push, get_or_append_left, All-push, LocalRule, IsRule, IsWord, value, word_of, node_count, IsDetermined, IsRightAhead, next, follow, pair_of, first_of, second_of, pair_count, node_letter, PairGoes, seen_from, IsFirstOf, IsEndless, length-word_of, IsWord-word_of, value-word_of, value-next, next-below, pair_count_pos}
 use Rattle.word_image.specs.declared.side.Side.{Side}
 use Rattle.word_image.specs.declared.side.Side.TheVariants.{Right, Left}
-use Rattle.word_image.specs.FirstPairs.{IsFirstOf}
-use Rattle.word_image.specs.Ranks.{IsEndless}
-use Rattle.word_image.proofs.laws.Values.{length-word_of, IsWord-word_of, value-word_of}
-use Rattle.word_image.proofs.laws.Graphs.{value-next, next-below, pair_count_pos}
 use Rattle.pair_laws.specs.FirstWindows.{HasEndlessFirst}
 use Rattle.pair_laws.proofs.Ranks.{Together-below, Together-less}
 use Rattle.pair_laws.proofs.Pairs.{first_of-pair_of, second_of-pair_of, pair-below, first_of-below, second_of-below, follow-some, PairGoes-push}

@@ -1,10 +1,6 @@
 -- Numbers that are claimed of pairs: where they fall on a side along every step, they bound for how long a pair goes on together to it.
 use Rattle.std.proofs.Common.{◌≡◌, ℕ, zero, suc, ◌+◌, ◌<◌, ◌≤◌, ◌⊎◌, inl, inr, Option, Some, None, refl, subst, ⊎_elim, arith, MatchOption}
-use Rattle.std.proofs.lemmas.Bool.{cases_lt}
-use Rattle.word_image.specs.LocalRules.{LocalRule, IsRule}
-use Rattle.word_image.specs.Graphs.{pair_count, LeadsOn}
-use Rattle.word_image.specs.Ranks.{IsRank, IsEndless}
-use Rattle.word_image.specs.Sides.{PairGoes}
+use Rattle.word_image.proofs.Common.{cases_lt, LocalRule, IsRule, pair_count, LeadsOn, IsRank, IsEndless, PairGoes}
 use Rattle.word_image.specs.declared.side.Side.{Side}
 use Rattle.pair_laws.proofs.Pairs.{LeadsOn-from, LeadsOn-below, PairGoes-less, PairGoes-step, PairGoes-push}
 

@@ -1,17 +1,10 @@
 -- Whether two nodes begin or end together for n can be decided, and so whether they have a rank or are endless.
 use Rattle.std.proofs.Common.{◌≡◌, ◌≢◌, ℕ, zero, suc, ◌+◌, ◌<◌, ◌⊎◌, inl, inr, subst, ⊎_elim, arith}
-use Rattle.std.proofs.lemmas.Bool.{cases_eq}
-use Rattle.word_image.specs.LocalRules.{LocalRule, IsRule, node_count}
-use Rattle.word_image.specs.Graphs.{next, label, pair_count}
-use Rattle.word_image.specs.Ranks.{BeginTogether, IsRank, IsEndless}
-use Rattle.word_image.specs.Sides.{Together}
+use Rattle.word_image.proofs.Common.{cases_eq, LocalRule, IsRule, node_count, next, label, pair_count, BeginTogether, IsRank, IsEndless, Together, next-below, IsRule-mirrored, some_below, decide_both, exists_below}
 use Rattle.word_image.specs.declared.side.Side.{Side}
 use Rattle.word_image.specs.declared.side.Side.TheVariants.{Right, Left}
-use Rattle.word_image.proofs.laws.Graphs.{next-below}
-use Rattle.word_image.proofs.laws.Images.{IsRule-mirrored}
 use Rattle.pair_laws.proofs.Ranks.{Together-zero, BeginTogether-step, BeginTogether-push}
 use Rattle.pair_laws.proofs.Mirrors.{mirror_node, mirror_node-below, EndTogether-is_mirrored}
-use Rattle.word_image.proofs.laws.Searches.{some_below, decide_both, exists_below}
 use Rattle.pair_laws.proofs.Endless.{Together-endless}
 
 -- two nodes begin together for n or don't

@@ -1,17 +1,11 @@
 -- Endless pairs: a walk of as many steps as there are pairs goes through one pair twice, so it can be made as long as one likes.
 use Rattle.std.proofs.Common.{ℕ, zero, suc, ◌+◌, ◌-◌, ◌<◌, ◌≤◌, refl, subst₂, ⊎_elim, arith}
-use Rattle.std.proofs.lemmas.Bool.{cases_lt}
-use Rattle.std.proofs.lemmas.Nat.{same_from_place}
-use Rattle.word_image.specs.LocalRules.{LocalRule, IsRule, node_count}
-use Rattle.word_image.specs.Graphs.{first_of, second_of, pair_of, pair_count, LeadsOn}
-use Rattle.word_image.specs.Ranks.{IsRank, IsEndless}
-use Rattle.word_image.specs.Sides.{Together, PairGoes}
+use Rattle.word_image.proofs.Common.{cases_lt, same_from_place, LocalRule, IsRule, node_count, first_of, second_of, pair_of, pair_count, LeadsOn, IsRank, IsEndless, Together, PairGoes, twice_below}
 use Rattle.word_image.specs.declared.side.Side.{Side}
 use Rattle.word_image.specs.declared.side.Side.TheVariants.{Right, Left}
 use Rattle.pair_laws.proofs.Walks.{LeadTogether, place_node, HaveOneImage-between, LeadTogether-front, LeadTogether-rest, LeadTogether-join, LeadTogether-first, LeadTogether-none}
 use Rattle.pair_laws.proofs.Ranks.{LeadTogether-begin, LeadTogether-end, BeginTogether-walk, EndTogether-walk, Together-less, Together-zero}
 use Rattle.pair_laws.proofs.Pairs.{first_of-below, second_of-below, pair_of-below, LeadsOn-from, PairGoes-step, PairGoes-push}
-use Rattle.word_image.proofs.laws.Searches.{twice_below}
 
 -- a walk from u and v to p and q is at s and t after i steps, again l + 1 steps later, which is within as many steps as there are pairs, and goes on for k
 pub record Loops (r : LocalRule) (u v p q : ℕ) : Type 0 where

@@ -1,14 +1,8 @@
 -- What claims that fall say of windows and look-aheads, and that the exact ranks say it wherever it is true.
 use Rattle.std.proofs.Common.{◌≡◌, ℕ, ◌+◌, ◌-◌, ◌<◌, ◌≤◌, ◌⊎◌, inl, inr, min, Option, sym, subst, ⊎_elim}
-use Rattle.std.proofs.lemmas.Bool.{cases_eq}
-use Rattle.word_image.specs.LocalRules.{LocalRule, IsRule}
-use Rattle.word_image.specs.Windows.{IsDetermined, IsRightAhead}
-use Rattle.word_image.specs.Graphs.{first_of, second_of, pair_count, node_letter}
-use Rattle.word_image.specs.FirstPairs.{IsFirstOfRight, IsFirstOf}
-use Rattle.word_image.specs.Sides.{seen_from}
+use Rattle.word_image.proofs.Common.{cases_eq, LocalRule, IsRule, IsDetermined, IsRightAhead, first_of, second_of, pair_count, node_letter, IsFirstOfRight, IsFirstOf, seen_from, next-below}
 use Rattle.word_image.specs.declared.side.Side.{Side}
 use Rattle.word_image.specs.declared.side.Side.TheVariants.{Right, Left}
-use Rattle.word_image.proofs.laws.Graphs.{next-below}
 use Rattle.pair_laws.proofs.Pairs.{pair_of-below}
 use Rattle.pair_laws.proofs.Claims.{ClaimsBelow, FallsOn, ClaimsRanks, PairGoes-claims_below, PairGoes-ranks}
 use Rattle.pair_laws.proofs.Windows.{IsDetermined-pairs}

@@ -1,17 +1,10 @@
 -- The first pairs of a side are the ends of two windows that differ in their last letter on that side alone and have one label.
 use Rattle.std.proofs.Common.{◌≡◌, ℕ, ◌+◌, ◌-◌, ◌*◌, ◌/◌, ◌%◌, ◌^◌, ◌<◌, drop, slice_index, sym, ap, ap₂, ◌∙◌, subst, arith, mul_comm, mod-lt, div-add-mod'}
-use Rattle.std.proofs.lemmas.Nat.{mul-add-lt, div_below, div-mul-add, mod-mul-add}
-use Rattle.word_image.specs.LocalRules.{LocalRule, IsRule, node_count, value, word_of}
-use Rattle.word_image.specs.Graphs.{next, label, node_letter, pair_of, first_of, second_of, pair_count}
-use Rattle.word_image.specs.FirstPairs.{IsFirstOfRight, IsFirstOfLeft, IsFirstOf}
-use Rattle.word_image.proofs.laws.Values.{value-word_of}
-use Rattle.word_image.proofs.laws.Graphs.{node_count_pos}
-use Rattle.word_image.proofs.laws.WindowParts.{windows-nodes, rest_count, node_count-rest, window_parts, node_parts}
+use Rattle.word_image.proofs.Common.{mul-add-lt, div_below, div-mul-add, mod-mul-add, LocalRule, IsRule, node_count, value, word_of, next, label, node_letter, pair_of, first_of, second_of, pair_count, IsFirstOfRight, IsFirstOfLeft, IsFirstOf, value-word_of, node_count_pos, windows-nodes, rest_count, node_count-rest, window_parts, node_parts, end_node}
 use Rattle.pair_laws.proofs.Edges.{rest_count_pos, next-digits}
 use Rattle.pair_laws.proofs.Pairs.{first_of-pair_of, second_of-pair_of, pair_of-below, pair_of-first_of, first_of-below, second_of-below}
 use Rattle.word_image.specs.declared.side.Side.{Side}
 use Rattle.word_image.specs.declared.side.Side.TheVariants.{Right, Left}
-use Rattle.word_image.specs.Ends.{end_node}
 use Rattle.pair_laws.specs.FirstWindows.{with_end, end_pair, AreFirst}
 
 -- two windows that differ in their last letter alone lead to a first pair of the right

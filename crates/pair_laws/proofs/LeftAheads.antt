@@ -1,16 +1,7 @@
 -- Left look-aheads by pairs of nodes: no two that differ in their first letter alone, and go on with one label, end together for the rest.
 use Rattle.std.proofs.Common.{◌≡◌, ◌≢◌, ℕ, ◌+◌, ◌-◌, ◌<◌, ◌≤◌, ◌↔◌, List, [], ◌∷◌, ◌++◌, length, take, drop, get_or, slice_index, refl, sym, ap, ap₂, subst₂, ◌∙◌, ⊎_elim, arith, length-drop, length-take-le, drop-drop, get_or-drop}
-use Rattle.std.proofs.lemmas.Bool.{cases_eq}
-use Rattle.std.proofs.lemmas.List.{drop-append-le, drop-take, get_or_append_left}
-use Rattle.std.proofs.lemmas.List.Elements.{All-take, All-drop}
-use Rattle.word_image.specs.FirstPairs.{IsFirstOfLeft}
-use Rattle.word_image.specs.LocalRules.{LocalRule, IsRule, IsWord, value, word_of, node_count}
-use Rattle.word_image.specs.Windows.{HaveOneImage}
-use Rattle.word_image.specs.Graphs.{label, first_of, second_of, pair_of, node_letter}
-use Rattle.word_image.specs.Ranks.{EndTogether}
-use Rattle.word_image.specs.Sides.{PairGoes, IsLeftAhead}
+use Rattle.word_image.proofs.Common.{cases_eq, drop-append-le, drop-take, get_or_append_left, All-take, All-drop, IsFirstOfLeft, LocalRule, IsRule, IsWord, value, word_of, node_count, HaveOneImage, label, first_of, second_of, pair_of, node_letter, EndTogether, PairGoes, IsLeftAhead, length-word_of, word_of-value}
 use Rattle.word_image.specs.declared.side.Side.TheVariants.{Left}
-use Rattle.word_image.proofs.laws.Values.{length-word_of, word_of-value}
 use Rattle.pair_laws.proofs.Edges.{image-one, HaveOneImage-push}
 use Rattle.pair_laws.proofs.Joins.{HaveOneImage-drop}
 use Rattle.pair_laws.proofs.Ranks.{Together-below}

@@ -16,3 +16,4 @@ pub mod Decisions
 pub mod Evidence
 pub mod BothWays
 pub mod FirstWindows
+pub mod Common

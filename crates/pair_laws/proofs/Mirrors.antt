@@ -1,17 +1,8 @@
 -- The mirrored rule: words with one image read backwards, mirrored nodes, and left look-aheads said in words.
 use Rattle.std.proofs.Common.{◌≡◌, ℕ, ◌+◌, ◌-◌, ◌<◌, ◌≤◌, ◌↔◌, List, length, take, drop, reverse, slice_index, sym, ap, subst, subst₂, ◌∙◌, arith, length-drop, length-take-le}
-use Rattle.std.proofs.lemmas.List.{length-reverse, reverse-reverse, get_or-reverse}
-use Rattle.std.proofs.lemmas.List.Elements.{All-take, All-drop}
-use Rattle.word_image.specs.LocalRules.{LocalRule, IsRule, IsWord, value, word_of, node_count, mirrored}
-use Rattle.word_image.specs.Windows.{HaveOneImage}
-use Rattle.word_image.specs.Ranks.{BeginTogether, EndTogether}
-use Rattle.word_image.specs.Sides.{Together, IsLeftAhead}
+use Rattle.word_image.proofs.Common.{length-reverse, reverse-reverse, get_or-reverse, All-take, All-drop, LocalRule, IsRule, IsWord, value, word_of, node_count, mirrored, HaveOneImage, BeginTogether, EndTogether, Together, IsLeftAhead, length-word_of, IsWord-word_of, value-word_of, word_of-value, IsWord-reverse, image-mirrored, IsRule-mirrored, mirrored-mirrored, value-node, reverse-cut}
 use Rattle.word_image.specs.declared.side.Side.{Side}
 use Rattle.word_image.specs.declared.side.Side.TheVariants.{Right, Left}
-use Rattle.word_image.proofs.laws.Values.{length-word_of, IsWord-word_of, value-word_of, word_of-value}
-use Rattle.word_image.proofs.laws.Images.{IsWord-reverse, image-mirrored, IsRule-mirrored, mirrored-mirrored}
-use Rattle.word_image.proofs.laws.Graphs.{value-node}
-use Rattle.word_image.proofs.laws.Lists.{reverse-cut}
 use Rattle.pair_laws.proofs.Walks.{LeadTogether}
 use Rattle.pair_laws.proofs.Ranks.{LeadTogether-begin, LeadTogether-end, BeginTogether-walk, EndTogether-walk, BeginTogether-same}
 

@@ -1,15 +1,8 @@
 -- Pairs of nodes by their numbers: how walks, and so the lengths for which a pair begins and ends together, go along `follow`.
 use Rattle.std.proofs.Common.{◌≡◌, ℕ, ◌+◌, ◌<◌, ◌≤◌, ◌↔◌, Some, None, sym, ap, ap₂, subst, subst₂, ◌∙◌, ⊎_elim, arith, mod-lt, ◌*◌, ◌%◌, ◌==◌, if◌then◌else◌, ◌||◌, not, nat_le, eq-eqb, ne_eqb, div-add-mod'}
-use Rattle.std.proofs.lemmas.Bool.{cases_eq, cond-true, cond-false}
-use Rattle.std.proofs.lemmas.Bool.Decides.{nat_tests}
-use Rattle.std.proofs.lemmas.Nat.{mul-add-lt, div_below, div-mul-add, mod-mul-add}
-use Rattle.word_image.specs.LocalRules.{LocalRule, IsRule, node_count}
-use Rattle.word_image.specs.Graphs.{next, label, follow, pair_of, first_of, second_of, pair_count, LeadsOn}
-use Rattle.word_image.specs.MarkedPairs.{marked}
-use Rattle.word_image.specs.Sides.{Together, PairGoes}
+use Rattle.word_image.proofs.Common.{cases_eq, cond-true, cond-false, nat_tests, mul-add-lt, div_below, div-mul-add, mod-mul-add, LocalRule, IsRule, node_count, next, label, follow, pair_of, first_of, second_of, pair_count, LeadsOn, marked, Together, PairGoes, node_count_pos, next-below}
 use Rattle.word_image.specs.declared.side.Side.{Side}
 use Rattle.word_image.specs.declared.side.Side.TheVariants.{Right, Left}
-use Rattle.word_image.proofs.laws.Graphs.{node_count_pos, next-below}
 use Rattle.pair_laws.proofs.Ranks.{Together-below, Together-less, BeginTogether-step, BeginTogether-push, EndTogether-step, EndTogether-push}
 
 -- the first node of the pair of two nodes

@@ -1,12 +1,8 @@
 -- How far two nodes lead, or have been led, with equal labels: step by step.
 use Rattle.std.proofs.Common.{◌≡◌, ℕ, zero, suc, ◌+◌, ◌-◌, ◌<◌, ◌≤◌, refl, arith}
-use Rattle.word_image.specs.LocalRules.{LocalRule, IsRule, node_count}
-use Rattle.word_image.specs.Graphs.{next, label}
-use Rattle.word_image.specs.Ranks.{BeginTogether, EndTogether, IsRank}
-use Rattle.word_image.specs.Sides.{Together}
+use Rattle.word_image.proofs.Common.{LocalRule, IsRule, node_count, next, label, BeginTogether, EndTogether, IsRank, Together, next-below}
 use Rattle.word_image.specs.declared.side.Side.{Side}
 use Rattle.word_image.specs.declared.side.Side.TheVariants.{Right, Left}
-use Rattle.word_image.proofs.laws.Graphs.{next-below}
 use Rattle.pair_laws.proofs.Walks.{LeadTogether, LeadTogether-join, LeadTogether-cut, LeadTogether-first, LeadTogether-last, LeadTogether-none, LeadTogether-push, LeadTogether-edges, LeadTogether-one}
 
 -- two nodes from which a walk of n steps leads begin together for n

@@ -1,12 +1,6 @@
 -- Rows of bits: with one row written, with a set more in one row, with one bit more or less, and rows of none.
 use Rattle.std.proofs.Common.{◌≡◌, ◌≢◌, ℕ, ◌-◌, ◌*◌, ◌/◌, ◌%◌, ◌^◌, ◌<◌, ◌↔◌, ◌⊎◌, inl, inr, List, length, replicate, IsBitSet, IsTrue, bit_and, bit_or, slice_index, slice_set, sym, subst, subst₂, ⊎_elim, mod-lt, lit<, ◌==◌, get_or-set_other}
-use Rattle.std.proofs.lemmas.Bool.{cases_eq}
-use Rattle.std.proofs.lemmas.Bool.Decides.{Decides-eqb}
-use Rattle.std.proofs.lemmas.Grind.{get_or-set_at}
-use Rattle.word_image.proofs.laws.Bits.{IsBitSet-or, IsBitSet-zero}
-use Rattle.word_image.specs.Graphs.{HasBit}
-use Rattle.std.proofs.lemmas.Nat.{bit_set_by_shift}
-use Rattle.word_image.proofs.laws.Lists.{slice_index-zeros}
+use Rattle.word_image.proofs.Common.{cases_eq, Decides-eqb, get_or-set_at, IsBitSet-or, IsBitSet-zero, HasBit, bit_set_by_shift, slice_index-zeros}
 use Rattle.pair_laws.proofs.Sets.{IsBitSet-minus, IsBitSet-shl}
 
 -- one row is written, and the others stay

@@ -1,13 +1,6 @@
 -- Walks of pairs of nodes: two words with one image lead from the pair that they begin with to the pair that they end with.
 use Rattle.std.proofs.Common.{◌≡◌, ℕ, ◌+◌, ◌-◌, ◌<◌, List, [], ◌∷◌, ◌++◌, length, take, drop, get_or, refl, sym, ap, subst₂, ◌∙◌, arith, length-drop, length-take-le, take-take, take_all, drop-drop}
-use Rattle.std.proofs.lemmas.List.{take-append-le, drop-take}
-use Rattle.std.proofs.lemmas.List.Elements.{All-take, All-drop}
-use Rattle.word_image.specs.LocalRules.{LocalRule, IsRule, IsWord, value, word_of, node_count}
-use Rattle.word_image.specs.Words.{image}
-use Rattle.word_image.specs.Windows.{HaveOneImage}
-use Rattle.word_image.specs.Graphs.{next, label}
-use Rattle.word_image.proofs.laws.Values.{length-word_of, IsWord-word_of, value-word_of}
-use Rattle.word_image.proofs.laws.Graphs.{value-node, value-next}
+use Rattle.word_image.proofs.Common.{take-append-le, drop-take, All-take, All-drop, LocalRule, IsRule, IsWord, value, word_of, node_count, image, HaveOneImage, next, label, length-word_of, IsWord-word_of, value-word_of, value-node, value-next}
 use Rattle.pair_laws.proofs.Edges.{image-one, value-one, HaveOneImage-none, HaveOneImage-push}
 use Rattle.pair_laws.proofs.Joins.{drop-join_more, same_node, HaveOneImage-take, HaveOneImage-drop, HaveOneImage-join}
 

@@ -1,15 +1,8 @@
 -- A finite rank is less than the number of pairs of two different nodes: each lesser number is a rank too, and a node is endless with itself.
 use Rattle.std.proofs.Common.{◌≡◌, ℕ, zero, suc, ◌+◌, ◌-◌, ◌*◌, ◌<◌, ◌≤◌, ◌⊎◌, inl, inr, Option, Some, None, List, refl, sym, ap, subst, subst₂, ◌∙◌, arith, ⊎_elim, MatchOption, IfSome, mul-le-mul_right}
-use Rattle.std.proofs.lemmas.Bool.{cases_eq, cases_lt}
-use Rattle.std.proofs.lemmas.Nat.{same_from_place}
-use Rattle.word_image.specs.LocalRules.{LocalRule, IsRule, node_count}
-use Rattle.word_image.specs.Graphs.{pair_of, pair_count}
-use Rattle.word_image.specs.Ranks.{IsRank, IsEndless}
-use Rattle.word_image.proofs.laws.Searches.{twice_below}
-use Rattle.pair_laws.proofs.Pairs.{pair_of-below}
-use Rattle.word_image.specs.Sides.{Together}
+use Rattle.word_image.proofs.Common.{cases_eq, cases_lt, same_from_place, LocalRule, IsRule, node_count, pair_of, pair_count, IsRank, IsEndless, twice_below, Together}
+use Rattle.pair_laws.proofs.Common.{pair_of-below, IsRank-one, Together-below, Together-less}
 use Rattle.word_image.specs.declared.side.Side.{Side}
-use Rattle.pair_laws.proofs.Ranks.{IsRank-one, Together-below, Together-less}
 use Rattle.pair_laws.proofs.Mirrors.{Together-same}
 use Rattle.pair_rank.specs.Sides.{AreRanks, rank_at}
 use Rattle.pair_rank.proofs.Sides.{Together-step}

@@ -1,12 +1,8 @@
 -- Steps of two nodes that go on together, and steps of pairs with the letters that a trim takes.
 use Rattle.std.proofs.Common.{◌≡◌, ℕ, Some, ◌+◌, ◌<◌, ◌↔◌, refl}
-use Rattle.word_image.specs.LocalRules.{LocalRule, IsRule}
-use Rattle.word_image.specs.Graphs.{first_of, second_of, pair_of, pair_count, follow_on}
-use Rattle.word_image.specs.Sides.{Together, PairGoes}
+use Rattle.word_image.proofs.Common.{LocalRule, IsRule, first_of, second_of, pair_of, pair_count, follow_on, Together, PairGoes}
 use Rattle.word_image.specs.declared.side.Side.{Side}
-use Rattle.pair_laws.proofs.Ranks.{Together-below}
-use Rattle.pair_laws.proofs.Pairs.{PairGoes-pair_of, PairGoes-step, PairGoes-push}
-use Rattle.pair_laws.proofs.BackSteps.{LeadsOn-follows}
+use Rattle.pair_laws.proofs.Common.{Together-below, PairGoes-pair_of, PairGoes-step, PairGoes-push, LeadsOn-follows}
 
 -- two nodes lead on to two that go on together for n, and for how long these do, the first two do for one more
 pub record NextNodes (side : Side) (r : LocalRule) (u v n : ℕ) : Type 0 where

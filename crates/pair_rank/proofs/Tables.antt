@@ -1,17 +1,10 @@
 -- Tables of ranks, one pair more at a time.
 use Rattle.std.proofs.Common.{◌≡◌, ℕ, ◌+◌, ◌-◌, ◌*◌, ◌^◌, ◌<◌, ◌≤◌, ◌↔◌, ◌⊎◌, inl, inr, List, Option, Some, None, Bool, true, false, IsTrue, length, IsBitSet, bit_and, slice_set, refl, sym, ap, ◌∙◌, subst, arith, ⊎_elim, MatchOption, get_or-set_other}
-use Rattle.std.proofs.lemmas.Bool.{cases_eq, false≢true}
-use Rattle.std.proofs.lemmas.Grind.{get_or-set_at}
-use Rattle.word_image.specs.LocalRules.{LocalRule, IsRule, node_count}
-use Rattle.word_image.specs.Graphs.{pair_of}
-use Rattle.word_image.specs.Ranks.{IsRank, IsEndless}
+use Rattle.word_image.proofs.Common.{cases_eq, false≢true, get_or-set_at, LocalRule, IsRule, node_count, pair_of, IsRank, IsEndless, Together}
 use Rattle.pair_graph.specs.PairSets.{holds}
-use Rattle.word_image.specs.Sides.{Together}
 use Rattle.word_image.specs.declared.side.Side.{Side}
 use Rattle.pair_rank.specs.Sides.{AreRanks, HasFallen, AreEndless, rank_at}
-use Rattle.pair_laws.proofs.Ranks.{Together-zero}
-use Rattle.pair_laws.proofs.Pairs.{pair_of-below, PairGoes-pair_of}
-use Rattle.pair_laws.proofs.Sets.{IsBitSet-minus}
+use Rattle.pair_laws.proofs.Common.{Together-zero, pair_of-below, PairGoes-pair_of, IsBitSet-minus}
 use Rattle.pair_rank.proofs.TrimmedSets.{AreTogether, AreTogether-nodes}
 
 -- of the first w nodes those of the set have the rank n with u, and no other rank has changed

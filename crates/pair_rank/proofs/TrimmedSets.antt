@@ -1,18 +1,10 @@
 -- What a round leaves of a set of pairs.
 use Rattle.std.proofs.Common.{◌≡◌, ℕ, ◌+◌, ◌*◌, ◌<◌, ◌≤◌, ◌↔◌, List, Bool, true, false, IsTrue, IsBitSet, length, replicate, sym, subst, ◌∙◌, arith, ⊎_elim}
-use Rattle.std.proofs.lemmas.Bool.{cases_lt, false≢true}
-use Rattle.std.proofs.lemmas.List.{get_or-replicate, get_or_past, length-replicate}
-use Rattle.word_image.specs.LocalRules.{LocalRule, IsRule, node_count}
-use Rattle.word_image.specs.Graphs.{first_of, second_of, pair_of, pair_count}
-use Rattle.word_image.specs.Ranks.{IsEndless}
-use Rattle.pair_laws.proofs.Pairs.{first_of-below, second_of-below, pair_of-below, pair-below, PairGoes-pair_of}
+use Rattle.word_image.proofs.Common.{cases_lt, false≢true, get_or-replicate, get_or_past, length-replicate, LocalRule, IsRule, node_count, first_of, second_of, pair_of, pair_count, IsEndless, Together, PairGoes}
+use Rattle.pair_laws.proofs.Common.{first_of-below, second_of-below, pair_of-below, pair-below, PairGoes-pair_of, Together-zero, Together-below, Together-less, Together-rank, PairGoes-stable}
 use Rattle.pair_graph.specs.PairSets.{holds, IsTrimmedSet}
-use Rattle.word_image.specs.Sides.{Together, PairGoes}
 use Rattle.word_image.specs.declared.side.Side.{Side}
 use Rattle.pair_rank.specs.Sides.{AreEndless}
-use Rattle.pair_laws.proofs.Ranks.{Together-zero, Together-below, Together-less}
-use Rattle.pair_laws.proofs.Decisions.{Together-rank}
-use Rattle.pair_laws.proofs.Endless.{PairGoes-stable}
 use Rattle.pair_rank.proofs.Sides.{PairGoes-steps}
 use Rattle.pair_rank.proofs.MostRank.{IsRank-most}
 

@@ -1,16 +1,6 @@
 -- What the walks from each node to node 0 gain is a flux if two rings for each window keep their sums, and the only one that has 0 at node 0.
 use Rattle.std.proofs.Common.{◌≡◌, ℕ, ◌-◌, ◌<◌, List, ◌++◌, length, map, take, drop, get_or, slice_index, ℤ, pos, ◌+ℤ◌, ◌-ℤ◌, sym, ap, ◌∙◌, arith, length-drop, length-append, append_assoc, replicate, Some, slice_get, length-take-le, take-append-drop, take_all}
-use Rattle.std.specs.List.{range_with_len}
-use Rattle.std.proofs.lemmas.Int.{ints}
-use Rattle.std.proofs.Math.Seq.{drop-append_seam}
-use Rattle.std.proofs.lemmas.List.{length-replicate, take-append-le}
-use Rattle.std.proofs.lemmas.List.Elements.{All-append, All-take, All-drop, All-replicate}
-use Rattle.std.proofs.lemmas.List.FromFn.{length-map-range_with_len, get_or-map-range_with_len, fill_by_all}
-use Rattle.std.proofs.lemmas.Option.{slice_get-get_or, get_or_from_slice_get}
-use Rattle.word_image.specs.LocalRules.{LocalRule, IsRule, IsWord, local_map, value, word_of, node_count}
-use Rattle.word_image.specs.Rings.{KeepsSum, IsFlux}
-use Rattle.word_image.proofs.laws.Values.{length-word_of, IsWord-word_of, value-word_of, word_of-value, value-zeros}
-use Rattle.word_image.proofs.laws.Graphs.{value-node, node_count_pos}
+use Rattle.word_image.proofs.Common.{range_with_len, ints, drop-append_seam, length-replicate, take-append-le, All-append, All-take, All-drop, All-replicate, length-map-range_with_len, get_or-map-range_with_len, fill_by_all, slice_get-get_or, get_or_from_slice_get, LocalRule, IsRule, IsWord, local_map, value, word_of, node_count, KeepsSum, IsFlux, length-word_of, IsWord-word_of, value-word_of, word_of-value, value-zeros, value-node, node_count_pos}
 use Rattle.ring_laws.proofs.Gains.{gain, gain-window, gain-append, gain-closed}
 use Rattle.ring_laws.proofs.Fluxes.{flow_at, gain-flux}
 

@@ -1,14 +1,6 @@
 -- A flux by the values of the windows: what a decider computes and a checker tests.
 use Rattle.std.proofs.Common.{◌≡◌, ℕ, zero, suc, ◌+◌, ◌-◌, ◌*◌, ◌/◌, ◌%◌, ◌^◌, ◌<◌, List, [], ◌∷◌, ◌++◌, length, take, drop, get_or, slice_index, replicate, ℤ, pos, ◌+ℤ◌, ◌-ℤ◌, sym, ap, ap₂, subst, ◌∙◌, arith, length-drop, length-append, append_assoc, pow-suc, take-append-drop}
-use Rattle.std.proofs.Math.Nat.{pow-zero}
-use Rattle.std.proofs.lemmas.Nat.{div-mul-add}
-use Rattle.std.proofs.lemmas.List.{length_push}
-use Rattle.std.proofs.lemmas.List.Elements.{All-push, All-drop, All-tail}
-use Rattle.std.proofs.lemmas.Option.{get_or_from_slice_get}
-use Rattle.word_image.specs.LocalRules.{LocalRule, IsRule, IsWord, local_map, value, word_of, node_count}
-use Rattle.word_image.specs.Rings.{IsFlux}
-use Rattle.word_image.proofs.laws.Values.{value-below, value-snoc, value-take, length-word_of, IsWord-word_of, value-word_of}
-use Rattle.word_image.proofs.laws.Graphs.{value-tail}
+use Rattle.word_image.proofs.Common.{pow-zero, div-mul-add, length_push, All-push, All-drop, All-tail, get_or_from_slice_get, LocalRule, IsRule, IsWord, local_map, value, word_of, node_count, IsFlux, value-below, value-snoc, value-take, length-word_of, IsWord-word_of, value-word_of, value-tail}
 use Rattle.ring_laws.proofs.Gains.{gain, gain-short, gain-window, gain-append}
 use Rattle.ring_laws.proofs.Fluxes.{flow_at, window-flux}
 use Rattle.ring_laws.proofs.FluxWalks.{walk_gain}

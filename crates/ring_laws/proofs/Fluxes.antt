@@ -1,16 +1,7 @@
 -- A weight that has a flux is conserved: round a ring its terms cancel (Hattori and Takesue 1991).
 use Rattle.std.proofs.Common.{◌≡◌, ℕ, zero, suc, ◌+◌, ◌-◌, ◌<◌, List, [], ◌∷◌, ◌++◌, length, take, drop, get_or, slice_index, ℤ, pos, ◌+ℤ◌, ◌-ℤ◌, sym, ap, ◌∙◌, arith, length-drop, length-take-le, take_all, take-take, drop-drop, get_or-drop}
-use Rattle.std.proofs.lemmas.Int.{ints}
-use Rattle.std.proofs.lemmas.List.{length_push, drop-append-le, take-append-le, get_or_append_left}
-use Rattle.std.proofs.lemmas.List.Elements.{All-take, All-drop, All-push}
-use Rattle.std.proofs.lemmas.Option.{slice_get-get_or}
-use Rattle.word_image.specs.LocalRules.{LocalRule, IsRule, IsWord, local_map, value, node_count}
-use Rattle.word_image.specs.Rings.{ring_letters, IsConserving, IsFlux}
-use Rattle.word_image.proofs.laws.Words.{split_last}
-use Rattle.word_image.proofs.laws.Graphs.{value-node}
+use Rattle.word_image.proofs.Common.{ints, length_push, drop-append-le, take-append-le, get_or_append_left, All-take, All-drop, All-push, slice_get-get_or, LocalRule, IsRule, IsWord, local_map, value, node_count, ring_letters, IsConserving, IsFlux, split_last, value-node, IsWord-ring_letters, ring_letters-turn}
 use Rattle.ring_laws.proofs.Gains.{gain, gain-snoc, gain-short, gain-ring}
-use Rattle.word_image.proofs.laws.Rings.{IsWord-ring_letters}
-use Rattle.word_image.proofs.laws.RingSums.{ring_letters-turn}
 use Rattle.ring_laws.proofs.Rings.{length-ring_letters, take-ring_letters, drop-ring_letters}
 
 -- what flows over the node that a word is

@@ -1,15 +1,6 @@
 -- What the image of a word weighs more than the letters at which its windows begin: letter by letter, in two parts, and round a ring.
 use Rattle.std.proofs.Common.{◌≡◌, ℕ, ◌+◌, ◌-◌, ◌<◌, ◌≤◌, List, [], ◌∷◌, ◌++◌, length, take, drop, get_or, slice_index, sum_by, ℤ, pos, ◌+ℤ◌, ◌-ℤ◌, sym, ap, ap₂, ◌∙◌, arith, length-append, length-take-le, take_all, get_or-take}
-use Rattle.std.proofs.Math.Seq.{take-append-add, take-append_seam, drop-append_seam}
-use Rattle.std.proofs.lemmas.Int.{ints}
-use Rattle.std.proofs.lemmas.List.{length_push, take-append-le, take_more}
-use Rattle.std.proofs.lemmas.List.Sums.{sum_by-append, sum_by_push, sum_by-take-drop}
-use Rattle.word_image.specs.LocalRules.{LocalRule, IsRule, local_map}
-use Rattle.word_image.specs.Words.{image}
-use Rattle.word_image.specs.Rings.{ring_letters, ring_image, KeepsSum}
-use Rattle.word_image.proofs.laws.Words.{split_last, image-short, image-snoc}
-use Rattle.word_image.proofs.laws.Images.{image-take, image-drop}
-use Rattle.word_image.proofs.laws.RingSums.{sum_by-ring_letters}
+use Rattle.word_image.proofs.Common.{take-append-add, take-append_seam, drop-append_seam, ints, length_push, take-append-le, take_more, sum_by-append, sum_by_push, sum_by-take-drop, LocalRule, IsRule, local_map, image, ring_letters, ring_image, KeepsSum, split_last, image-short, image-snoc, image-take, image-drop, sum_by-ring_letters}
 use Rattle.ring_laws.proofs.Rings.{sum_by-ring_image, ring_letters-closed, length-ring_letters, take-ring_letters}
 
 -- how much more the image of a word weighs than the letters at which its windows begin

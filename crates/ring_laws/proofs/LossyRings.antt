@@ -1,8 +1,6 @@
 -- A weight is conserved exactly where it has a flux; else a ring of at most 2 m - 1 letters doesn't keep its sum (Hattori and Takesue 1991).
 use Rattle.std.proofs.Common.{ℕ, ◌-◌, ◌*◌, ◌↔◌, ◌<◌, ◌≤◌, List, ◌++◌, length, take, arith, length-append, length-take}
-use Rattle.std.proofs.lemmas.List.Elements.{All-append, All-take}
-use Rattle.word_image.specs.LocalRules.{LocalRule, IsRule, IsWord}
-use Rattle.word_image.specs.Rings.{IsRing, KeepsSum, IsConserving, IsFlux}
+use Rattle.word_image.proofs.Common.{All-append, All-take, LocalRule, IsRule, IsWord, IsRing, KeepsSum, IsConserving, IsFlux}
 use Rattle.ring_laws.proofs.Fluxes.{IsConserving-flux}
 use Rattle.ring_laws.proofs.FluxWalks.{zeros, length-zeros, IsWord-zeros, walk_gains, IsFlux-rings}
 

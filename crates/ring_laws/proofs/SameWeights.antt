@@ -1,11 +1,6 @@
 -- Weights that agree on the letters of a rule say the same of its rings, so own weights say what the letters themselves say.
 use Rattle.std.proofs.Common.{◌≡◌, ℕ, ◌+◌, ◌<◌, List, [], ◌∷◌, slice_index, sum_by, ℤ, pos, ◌-ℤ◌, refl, sym, ap₂, ◌∙◌, arith, ◌↔◌}
-use Rattle.std.proofs.lemmas.List.Sums.{sum_by-cons}
-use Rattle.std.proofs.lemmas.List.Elements.{All-tail}
-use Rattle.word_image.specs.LocalRules.{LocalRule, IsRule, IsWord, local_map}
-use Rattle.word_image.specs.Rings.{ring_image, KeepsSum, IsConserving, IsFlux, IsLossyRing, IsLeastLossyRing}
-use Rattle.word_image.specs.Weights.{own_weights}
-use Rattle.word_image.proofs.laws.Words.{entry-below}
+use Rattle.word_image.proofs.Common.{sum_by-cons, All-tail, LocalRule, IsRule, IsWord, local_map, ring_image, KeepsSum, IsConserving, IsFlux, IsLossyRing, IsLeastLossyRing, own_weights, entry-below}
 use Rattle.word_image.proofs.laws.Weights.{own_weights-letter}
 use Rattle.ring_laws.proofs.Rings.{IsWord-ring_image}
 

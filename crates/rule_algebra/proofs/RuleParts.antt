@@ -1,9 +1,7 @@
 -- A rule by its parts, as they are passed.
 use Rattle.std.proofs.Common.{◌≡◌, ℕ, ◌^◌, List, ℤ, ◌+ℤ◌, ap, ap₂, ◌∙◌, w8, w16, FitsSigned, to_z, of_z, arith}
-use Rattle.std.proofs.lemmas.Int.{to_z-of_z, ints}
-use Rattle.word_image.specs.LocalRules.{LocalRule, IsRule}
-use Rattle.word_image.proofs.laws.RulesBy.{FitsSigned-offset}
-use Rattle.word_image.proofs.laws.SameRules.{rule_from_parts}
+use Rattle.std.proofs.lemmas.Int.{to_z-of_z}
+use Rattle.word_image.proofs.Common.{ints, LocalRule, IsRule, FitsSigned-offset, rule_from_parts}
 
 -- parts that are those of an accepted rule make that rule
 pub rule_of_parts : (r : LocalRule) (k m : ℕ) (o : ℤ) (table : List ℕ) → IsRule r → k ≡ r.states → m ≡ r.width → o ≡ r.offset → table ≡ r.table

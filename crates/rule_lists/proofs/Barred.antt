@@ -1,17 +1,11 @@
 -- What fixed letters bar.
 use Rattle.std.proofs.Common.{◌≡◌, ℕ, ◌+◌, ◌*◌, ◌/◌, ◌%◌, ◌^◌, ◌<◌, List, slice_index, sym, ap, ap₂, ◌∙◌, subst, arith}
-use Rattle.word_image.specs.LocalRules.{LocalRule, IsRule}
-use Rattle.word_image.specs.Ends.{end_node}
-use Rattle.word_image.specs.Graphs.{pair_of}
-use Rattle.word_image.specs.Sides.{PairGoes}
+use Rattle.word_image.proofs.Common.{LocalRule, IsRule, end_node, pair_of, PairGoes, cases_eq}
 use Rattle.word_image.specs.declared.side.Side.{Side}
 use Rattle.word_image.specs.declared.side.Side.TheVariants.{Right, Left}
-use Rattle.pair_laws.specs.FirstWindows.{with_end, end_pair}
-use Rattle.tail_laws.specs.Closing.{IsClosing}
-use Rattle.pair_laws.proofs.FirstWindows.{IsFirst-ends}
-use Rattle.tail_laws.proofs.Certainty.{not_closing}
+use Rattle.pair_laws.proofs.Common.{with_end, end_pair, IsFirst-ends}
+use Rattle.tail_laws.proofs.Common.{IsClosing, not_closing}
 use Rattle.std.proofs.Common.{length, set, inl, inr, ⊎_elim}
-use Rattle.std.proofs.lemmas.Bool.{cases_eq}
 use Rattle.std.proofs.lemmas.List.{get_or-set_same, get_or-set_other}
 use Rattle.rule_lists.specs.Listed.{IsStanding}
 use Rattle.rule_lists.specs.Completions.{IsCompletion}

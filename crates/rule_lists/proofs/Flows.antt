@@ -1,10 +1,7 @@
 -- What a flux says of the levels of trees.
 use Rattle.std.proofs.Common.{◌≡◌, ◌≢◌, ℕ, ◌+◌, ◌*◌, ◌/◌, ◌%◌, ◌^◌, ◌<◌, ◌≤◌, ◌⊎◌, inl, inr, ⊎_elim, List, slice_index, slice_index_or, ℤ, pos, ◌-ℤ◌, refl, sym, ap, ap₂, ◌∙◌, subst, arith}
-use Rattle.std.proofs.lemmas.Int.{ints}
-use Rattle.word_image.specs.LocalRules.{LocalRule, IsRule, node_count}
-use Rattle.word_image.specs.Rings.{IsFlux, IsConserving}
+use Rattle.word_image.proofs.Common.{ints, LocalRule, IsRule, node_count, IsFlux, IsConserving, end_node-below}
 use Rattle.word_image.specs.declared.side.Side.TheVariants.{Right, Left}
-use Rattle.word_image.proofs.laws.WindowParts.{end_node-below}
 use Rattle.ring_laws.proofs.FluxWindows.{FlowsAt-flux}
 use Rattle.ring_laws.proofs.FluxWalks.{walk_gains}
 use Rattle.ring_laws.proofs.LossyRings.{IsConserving-walk_gains}

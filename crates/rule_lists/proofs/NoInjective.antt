@@ -1,18 +1,13 @@
 -- Two different nodes that go on and come from far by fixed letters alone: no rule that has these letters is injective.
 use Rattle.std.proofs.Common.{◌≡◌, ◌≢◌, ℕ, ◌+◌, ◌*◌, ◌/◌, ◌%◌, ◌<◌, ◌⊎◌, inl, inr, List, Some, refl, sym, ap, ap₂, ◌∙◌, subst, ⊎_elim, arith, mod-lt, mod-eq_of_lt, div-le_self}
 use Rattle.std.proofs.lemmas.Nat.{div-add-mod'}
-use Rattle.word_image.specs.LocalRules.{LocalRule, IsRule, node_count}
-use Rattle.word_image.specs.Graphs.{next, label, pair_of, first_of, second_of, pair_count, PairStep, LeadsOn}
-use Rattle.word_image.specs.Sides.{PairGoes}
+use Rattle.word_image.proofs.Common.{LocalRule, IsRule, node_count, next, label, pair_of, first_of, second_of, pair_count, PairStep, LeadsOn, PairGoes, next-below, IsFirstOfRight}
 use Rattle.word_image.specs.declared.side.Side.{Side}
 use Rattle.word_image.specs.declared.side.Side.TheVariants.{Right, Left}
-use Rattle.word_image.proofs.laws.Graphs.{next-below}
-use Rattle.pair_laws.proofs.Pairs.{first_of-below, second_of-below, first_of-pair_of, second_of-pair_of, pair_of-first_of, pair_of-below, follow-edges, follow-pair_of}
-use Rattle.pair_laws.proofs.Endless.{PairGoes-closed}
-use Rattle.tail_config.specs.Tails.{IsInjective}
-use Rattle.tail_laws.proofs.TwinTails.{no_twins}
+use Rattle.pair_laws.proofs.Common.{first_of-below, second_of-below, first_of-pair_of, second_of-pair_of, pair_of-first_of, pair_of-below, follow-edges, follow-pair_of, PairGoes-closed}
+use Rattle.tail_config.proofs.Common.{IsInjective}
+use Rattle.tail_laws.proofs.Common.{no_twins}
 use Rattle.tail_laws.proofs.EndlessPairs.{has_twins-both_ways}
-use Rattle.word_image.specs.FirstPairs.{IsFirstOfRight}
 use Rattle.rule_lists.specs.Completions.{IsCompletion}
 use Rattle.rule_lists.specs.EndlessPairs.{IsFixedStep, FixedLeadsOn, AreEndlessOn, IsFixedFirst}
 use Rattle.rule_lists.proofs.Sure.{node_count-completion, next-completion, pair_of-completion, label-completion}

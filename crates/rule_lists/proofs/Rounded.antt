@@ -1,17 +1,12 @@
 -- Walks by fixed letters alone, and what they forbid.
 use Rattle.std.proofs.Common.{◌≡◌, ◌≢◌, ℕ, ◌+◌, ◌*◌, ◌/◌, ◌%◌, ◌<◌, ◌^◌, ◌⊎◌, inl, inr, List, slice_index, sym, ap, ap₂, ◌∙◌, subst, ⊎_elim, arith, mul_comm}
-use Rattle.std.proofs.lemmas.Nat.{div-add-mod', div-mul-add, div_below}
-use Rattle.word_image.specs.LocalRules.{LocalRule, IsRule, node_count}
-use Rattle.word_image.specs.Ends.{window_with}
-use Rattle.word_image.specs.Graphs.{next, pair_of, first_of, second_of, pair_count}
+use Rattle.std.proofs.lemmas.Nat.{div-add-mod'}
+use Rattle.word_image.proofs.Common.{div-mul-add, div_below, LocalRule, IsRule, node_count, window_with, next, pair_of, first_of, second_of, pair_count, window_with-within, windows-nodes, next-below, node_count_pos}
 use Rattle.word_image.specs.declared.side.Side.{Side}
 use Rattle.word_image.specs.declared.side.Side.TheVariants.{Right, Left}
-use Rattle.word_image.proofs.laws.WindowParts.{window_with-within, windows-nodes}
-use Rattle.word_image.proofs.laws.Graphs.{next-below, node_count_pos}
-use Rattle.pair_laws.proofs.Pairs.{first_of-below, second_of-below, first_of-pair_of, second_of-pair_of, pair_of-first_of}
-use Rattle.pair_laws.specs.FirstWindows.{with_end}
-use Rattle.tail_config.specs.Tails.{IsInjective}
-use Rattle.tail_laws.specs.Closing.{IsClosing}
+use Rattle.pair_laws.proofs.Common.{first_of-below, second_of-below, first_of-pair_of, second_of-pair_of, pair_of-first_of, with_end}
+use Rattle.tail_config.proofs.Common.{IsInjective}
+use Rattle.tail_laws.proofs.Common.{IsClosing}
 use Rattle.rule_lists.specs.Completions.{IsCompletion, IsLost}
 use Rattle.rule_lists.specs.EndlessPairs.{IsFixedStep, FixedLeadsOn, AreEndlessOn, IsFixedEndless, IsFixedFirst}
 use Rattle.rule_lists.specs.Reached.{IsFixedReached}

@@ -1,14 +1,6 @@
 -- The sets that a breadth first queue lists from the full set are the family of last sets, in the order of their least words.
 use Rattle.std.proofs.Common.{◌≡◌, ◌≢◌, ℕ, zero, suc, ◌+◌, ◌*◌, ◌<◌, ◌≤◌, ◌⊎◌, inl, inr, List, [], ◌∷◌, length, get_or, Some, Contains, refl, sym, ap, ◌∙◌, subst, arith, ⊎_elim, slice_get, Less}
-use Rattle.std.proofs.lemmas.List.{length-map}
-use Rattle.std.proofs.lemmas.Option.{slice_get_within, slice_get-get_or, get_or_from_slice_get, none-some}
-use Rattle.word_image.specs.LocalRules.{LocalRule, IsRule}
-use Rattle.word_image.specs.Words.{word_cmp}
-use Rattle.word_image.specs.Graphs.{full_set}
-use Rattle.word_image.specs.Edges.{IsStep}
-use Rattle.word_image.specs.Ranks.{IsLastSet}
-use Rattle.word_image.specs.Families.{IsLeastWordOf, IsFamily}
-use Rattle.word_image.proofs.laws.Lists.{AllZip-places}
+use Rattle.word_image.proofs.Common.{length-map, slice_get_within, slice_get-get_or, get_or_from_slice_get, none-some, LocalRule, IsRule, word_cmp, full_set, IsStep, IsLastSet, IsLeastWordOf, IsFamily, AllZip-places}
 use Rattle.search_laws.specs.SearchQueues.{Place, TreeSpells, IsQueue}
 use Rattle.search_laws.proofs.QueueStates.{states_of, mapped_at, unmapped_at, Contains-state}
 use Rattle.search_laws.proofs.SpelledWords.{TreeSpells-some, TreeSpells-ascending}

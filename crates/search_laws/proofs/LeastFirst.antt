@@ -1,8 +1,6 @@
 -- Breadth first finds least words: the word that is spelled to a place is the first of all words that lead to its state.
 use Rattle.std.proofs.Common.{◌≡◌, ◌≢◌, ℕ, suc, ◌+◌, ◌*◌, ◌<◌, ◌≤◌, ◌⊎◌, inl, inr, List, [], ◌∷◌, ◌++◌, length, Some, sym, ap, subst, arith, ⊎_elim, slice_get, mul-le-mul_left, mul-le-mul_right, suc-mul, mul-one, Less, Greater}
-use Rattle.std.proofs.lemmas.Bool.{cases_lt}
-use Rattle.std.proofs.lemmas.Option.{slice_get_within}
-use Rattle.word_image.specs.Words.{word_cmp}
+use Rattle.word_image.proofs.Common.{cases_lt, slice_get_within, word_cmp}
 use Rattle.search_laws.specs.SearchQueues.{Place, TreeSpells, IsQueue}
 use Rattle.search_laws.specs.SearchQueues.TreeSpells.{Root}
 use Rattle.search_laws.specs.Walks.{Leads}

@@ -1,9 +1,6 @@
 -- The first edge of a breadth first queue that leads to a state, and the first word of at least one letter that does.
 use Rattle.std.proofs.Common.{◌≡◌, ◌≢◌, ℕ, suc, ◌+◌, ◌*◌, ◌<◌, ◌≤◌, List, [], ◌∷◌, ◌++◌, length, Some, refl, sym, ap, subst, arith, ⊎_elim, slice_get, mul-le-mul_left, mul-le-mul_right, suc-mul, mul-one, Greater}
-use Rattle.std.proofs.lemmas.Bool.{cases_lt}
-use Rattle.std.proofs.lemmas.Option.{slice_get_within}
-use Rattle.std.proofs.lemmas.List.{length_push}
-use Rattle.word_image.specs.Words.{word_cmp}
+use Rattle.word_image.proofs.Common.{cases_lt, slice_get_within, length_push, word_cmp}
 use Rattle.search_laws.specs.SearchQueues.{Place, TreeSpells, IsQueue, filled, NoEdgeBefore}
 use Rattle.search_laws.specs.Walks.{Leads}
 use Rattle.search_laws.proofs.Walks.{Leads-push, Leads-induct}

@@ -10,3 +10,4 @@ pub mod Families
 pub mod LeastSteps
 pub mod PairWalks
 pub mod QueueDepths
+pub mod Common

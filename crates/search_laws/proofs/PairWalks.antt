@@ -1,16 +1,6 @@
 -- Walks by letter pairs, the first of them found breadth first: a pair of letters is followed as one letter of a code.
 use Rattle.std.proofs.Common.{◌≡◌, ℕ, ◌+◌, ◌*◌, ◌/◌, ◌%◌, ◌^◌, ◌<◌, ◌≤◌, List, [], ◌∷◌, length, map, get_or, Option, Some, refl, sym, ap, ap₂, ◌∙◌, arith, ⊎_elim, pow-suc, one-mul, mul-one, mul_comm, nat_cmp, Ordering, Less, Equal, Greater, div-add-mod'}
-use Rattle.std.specs.Ordering.{ordering_then}
-use Rattle.std.specs.Cmp.{nat_cmp_is}
-use Rattle.std.specs.Cmp.Lexicographic.{slice_cmp}
-use Rattle.std.proofs.Math.Nat.{pow-zero}
-use Rattle.std.proofs.lemmas.Nat.{mul-add-lt, div-mul-add, mod-mul-add}
-use Rattle.std.proofs.lemmas.List.{length-map}
-use Rattle.std.proofs.lemmas.List.Elements.{All-nil, All-cons, All-head, All-tail, All-map}
-use Rattle.word_image.specs.LocalRules.{IsWord, value}
-use Rattle.word_image.specs.Words.{word_cmp}
-use Rattle.word_image.specs.Rings.{pair_cmp, pairs_cmp}
-use Rattle.word_image.proofs.laws.Orders.{slice_cmp-value}
+use Rattle.word_image.proofs.Common.{ordering_then, nat_cmp_is, slice_cmp, pow-zero, mul-add-lt, div-mul-add, mod-mul-add, length-map, All-nil, All-cons, All-head, All-tail, All-map, IsWord, value, word_cmp, pair_cmp, pairs_cmp, slice_cmp-value}
 use Rattle.search_laws.specs.Walks.{Leads}
 use Rattle.search_laws.specs.PairWalks.{LetterPairStep, ArePairs, PairWalk, IsLeastWalk, uncode, CodeStep}
 use Rattle.search_laws.proofs.Walks.{Walk-each, Walk-map, All-walk, Walk-shortened}

@@ -1,7 +1,6 @@
 -- Searches that stop at a depth: what a breadth first queue has reached is no farther than what it hasn't.
 use Rattle.std.proofs.Common.{◌≡◌, ◌≢◌, ℕ, zero, suc, ◌+◌, ◌*◌, ◌<◌, ◌≤◌, List, length, Some, refl, sym, ap, ◌∙◌, subst, arith, ⊎_elim, slice_get, mul-le-mul_right, suc-mul}
-use Rattle.std.proofs.lemmas.Bool.{cases_eq, cases_lt}
-use Rattle.std.proofs.lemmas.List.{length_push}
+use Rattle.word_image.proofs.Common.{cases_eq, cases_lt, length_push}
 use Rattle.search_laws.specs.SearchQueues.{Place, IsQueue, NoEdgeBefore}
 use Rattle.search_laws.specs.Walks.{Leads}
 use Rattle.search_laws.proofs.Walks.{Leads-induct}

@@ -1,9 +1,6 @@
 -- A breadth first queue, one edge more at a time.
 use Rattle.std.proofs.Common.{◌≡◌, ◌≢◌, ℕ, zero, suc, ◌+◌, ◌*◌, ◌<◌, ◌≤◌, List, [], ◌∷◌, ◌++◌, length, Some, refl, sym, ap, ap₂, ◌∙◌, subst, arith, ⊎_elim, slice_get, mul-le-mul_right, suc-mul}
-use Rattle.std.proofs.lemmas.Bool.{cases_eq}
-use Rattle.std.proofs.lemmas.Nat.{same_from_place}
-use Rattle.std.proofs.lemmas.Option.{slice_get_within}
-use Rattle.word_image.proofs.laws.Places.{slice_get-append, slice_get-push, slice_get-push_cases, only_place}
+use Rattle.word_image.proofs.Common.{cases_eq, same_from_place, slice_get_within, slice_get-append, slice_get-push, slice_get-push_cases, only_place}
 use Rattle.search_laws.specs.SearchQueues.{Place, IsBranch, HaveMet, IsFilled, IsQueue, filled}
 
 -- when a place that isn't the first was filled

@@ -1,6 +1,6 @@
 -- Breadth first search, said of the list of the states: one edge more at a time.
 use Rattle.std.proofs.Common.{◌≡◌, ℕ, ◌+◌, ◌*◌, ◌<◌, ◌≤◌, List, [], ◌∷◌, ◌++◌, length, Some, Contains, refl, sym, ap, ◌∙◌, subst, arith, slice_get}
-use Rattle.std.proofs.lemmas.List.{length-map, map-append}
+use Rattle.word_image.proofs.Common.{length-map, map-append}
 use Rattle.search_laws.specs.SearchQueues.{Place, IsSearch}
 use Rattle.search_laws.proofs.QueueSteps.{IsQueue-start, IsQueue-there, IsQueue-new}
 use Rattle.search_laws.proofs.QueueStates.{unmapped_at, place_of_listed, Contains-state, length-queue-le, state-below}

@@ -1,9 +1,6 @@
 -- The words that are spelled to the places of a breadth first queue: one to each, in ascending order.
 use Rattle.std.proofs.Common.{◌≡◌, ℕ, zero, suc, ◌+◌, ◌*◌, ◌<◌, ◌≤◌, ◌⊎◌, inl, inr, List, [], ◌∷◌, ◌++◌, length, reverse, Some, refl, sym, ap, ap₂, ◌∙◌, subst, arith, append_assoc, ⊎_elim, slice_get, mul-le-mul_right, suc-mul, Less}
-use Rattle.std.proofs.lemmas.Bool.{cases_eq, cases_lt}
-use Rattle.std.proofs.lemmas.Nat.{same_from_place}
-use Rattle.std.proofs.lemmas.List.{length_push, reverse-append}
-use Rattle.word_image.specs.Words.{word_cmp}
+use Rattle.word_image.proofs.Common.{cases_eq, cases_lt, same_from_place, length_push, reverse-append, word_cmp}
 use Rattle.search_laws.specs.SearchQueues.{Place, TreeSpells, IsFilled, filled}
 use Rattle.search_laws.specs.SearchQueues.TreeSpells.{Root, Branch}
 use Rattle.search_laws.specs.Walks.{Leads}

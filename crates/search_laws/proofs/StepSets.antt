@@ -1,20 +1,9 @@
 -- Each step leads to one set of nodes, each word has one set of last nodes, and steps lead along words from set to set.
 use Rattle.std.proofs.Common.{◌≡◌, ℕ, zero, suc, ◌^◌, ◌<◌, ◌≤◌, ◌⊎◌, ◌↔◌, List, [], ◌∷◌, IsBitSet, bit_or, refl, sym, ◌∙◌, subst, arith, add-one, ⊎_elim}
-use Rattle.std.specs.Int.{bit_at}
-use Rattle.std.proofs.lemmas.Bool.{cases_eq}
-use Rattle.std.proofs.lemmas.Nat.Bits.{bit_at-lt, same_from_bits_below}
-use Rattle.word_image.specs.LocalRules.{LocalRule, IsRule, IsWord, node_count}
-use Rattle.word_image.specs.Words.{IsOrphan}
-use Rattle.word_image.specs.Graphs.{IsSetOf, full_set, next, label}
-use Rattle.word_image.specs.Edges.{IsEdge, IsStep}
+use Rattle.word_image.proofs.Common.{bit_at, cases_eq, bit_at-lt, same_from_bits_below, LocalRule, IsRule, IsWord, node_count, IsOrphan, IsSetOf, full_set, next, label, IsEdge, IsStep, IsLastSet, bit_at-IsBitSet, IsBitSet-decide, IsUnion-none, IsSetTo, IsSetTo-take, IsSetTo-skip, IsSetTo-all, IsLastSet-full, IsLastSet-step, IsPreimage-nonempty_set, decide_both, exists_below}
 use Rattle.word_image.specs.declared.side.Side.TheVariants.{Right}
-use Rattle.word_image.specs.Ranks.{IsLastSet}
-use Rattle.word_image.proofs.laws.Bits.{bit_at-IsBitSet, IsBitSet-decide}
-use Rattle.word_image.proofs.laws.Unions.{IsUnion-none, IsSetTo, IsSetTo-take, IsSetTo-skip, IsSetTo-all}
-use Rattle.word_image.proofs.laws.LastSets.{IsLastSet-full, IsLastSet-step, IsPreimage-nonempty_set}
 use Rattle.search_laws.specs.Walks.{Walk, Leads}
 use Rattle.search_laws.proofs.Walks.{Leads-induct}
-use Rattle.word_image.proofs.laws.Searches.{decide_both, exists_below}
 
 -- two sets of n nodes with the same nodes are one
 pub same_set : (n a b : ℕ) → a < 2 ^ n → b < 2 ^ n → ((i : ℕ) → i < n → (IsBitSet a i ↔ IsBitSet b i)) → a ≡ b

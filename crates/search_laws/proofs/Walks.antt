@@ -1,9 +1,6 @@
 -- Walks, joined and cut, step by step and from the back.
 use Rattle.std.proofs.Common.{◌≡◌, ℕ, ◌+◌, ◌<◌, ◌≤◌, ◌⊎◌, inl, inr, List, [], ◌∷◌, ◌++◌, length, map, take, drop, All, refl, sym, subst, arith, ⊎_elim, append-nil, append_assoc, take-append-drop, length-append, length-drop, length-take-le}
-use Rattle.std.proofs.lemmas.Bool.{cases_lt}
-use Rattle.std.proofs.lemmas.List.Elements.{All-nil, All-cons, All-head, All-tail, All-push, All-append, All-take, All-drop}
-use Rattle.word_image.specs.LocalRules.{IsWord}
-use Rattle.word_image.proofs.laws.Searches.{twice_below}
+use Rattle.word_image.proofs.Common.{cases_lt, All-nil, All-cons, All-head, All-tail, All-push, All-append, All-take, All-drop, IsWord, twice_below}
 use Rattle.search_laws.specs.Walks.{Walk, Leads}
 
 -- a walk that goes on where another one ends

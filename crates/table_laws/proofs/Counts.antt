@@ -1,8 +1,6 @@
 -- How many of the numbers below a bound pass a test: as many as can be numbered.
 use Rattle.std.proofs.Common.{◌≡◌, ℕ, zero, suc, ◌+◌, ◌-◌, ◌%◌, ◌<◌, ◌≤◌, Bool, true, false, refl, sym, ap, ap₂, ◌∙◌, ⊎_elim, arith, mod-lt, mod-eq_of_lt}
-use Rattle.std.specs.Int.{from_bool}
-use Rattle.std.proofs.lemmas.Bool.{cases_lt}
-use Rattle.word_image.proofs.laws.Searches.{twice_below}
+use Rattle.word_image.proofs.Common.{from_bool, cases_lt, twice_below}
 use Rattle.table_laws.specs.ZeroPairs.{count_below}
 
 -- none below 0

@@ -1,14 +1,7 @@
 -- Under a surjective rule each letter stands in the table equally often: its places are the words of which it is the image, by their values.
 use Rattle.std.proofs.Common.{◌≡◌, ℕ, zero, suc, ◌+◌, ◌-◌, ◌*◌, ◌^◌, ◌<◌, ◌≤◌, List, [], ◌∷◌, length, take, slice_index, get_or, count_by, Bool, sym, ap, ◌∙◌, ⊎_elim, arith, mul_comm, ◌==◌, eq-eqb, take_all}
-use Rattle.std.specs.Int.{from_bool}
-use Rattle.std.proofs.lemmas.Bool.{cases_Bool}
-use Rattle.std.proofs.lemmas.Bool.Decides.{Decides-eqb}
-use Rattle.std.proofs.lemmas.List.Elements.{All-cons, All-nil}
-use Rattle.std.proofs.lemmas.List.Sums.{count_by_more_yes, count_by_more_no}
-use Rattle.word_image.specs.LocalRules.{LocalRule, IsRule, value, node_count}
-use Rattle.word_image.specs.Words.{image, IsSurjective}
-use Rattle.word_image.proofs.laws.WindowParts.{windows-nodes}
-use Rattle.pair_laws.proofs.Edges.{image-window}
+use Rattle.word_image.proofs.Common.{from_bool, cases_Bool, Decides-eqb, All-cons, All-nil, count_by_more_yes, count_by_more_no, LocalRule, IsRule, value, node_count, image, IsSurjective, windows-nodes}
+use Rattle.pair_laws.proofs.Common.{image-window}
 use Rattle.table_laws.specs.Tables.{IsEven}
 use Rattle.table_laws.specs.ZeroPairs.{count_below}
 use Rattle.table_laws.proofs.Counts.{count_below-none, count_below-more}

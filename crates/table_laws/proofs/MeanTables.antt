@@ -1,15 +1,6 @@
 -- The mean of the letters of a table. Under a conserving rule it is that of all letters: what all windows gain is what the numbers of a flux give at their first nodes, less what they give at their last ones, and these are the same numbers. It is so too where each letter stands equally often.
 use Rattle.std.proofs.Common.{◌≡◌, ℕ, zero, suc, ◌+◌, ◌-◌, ◌*◌, ◌/◌, ◌%◌, ◌^◌, ◌<◌, ◌≤◌, List, [], ◌∷◌, length, take, slice_index, get_or, sum, count_by, cond, ⊎_elim, ℤ, pos, ◌+ℤ◌, ◌-ℤ◌, refl, sym, ap, ap₂, ◌∙◌, arith, mod-eq_of_lt, ◌==◌, mul-add, add-mul, suc-mul, mul-suc, mul-zero, zero-mul, mul-one, mul_assoc, mul_comm, eq-eqb, ne_eqb, take_all}
-use Rattle.std.proofs.Math.Nat.{mul-div_cancel_left, zero-div, one-le-pow}
-use Rattle.std.proofs.lemmas.Bool.{cases_eq, cond-true, cond-false}
-use Rattle.std.proofs.lemmas.List.Elements.{All-head, All-tail}
-use Rattle.std.proofs.lemmas.Int.{ints}
-use Rattle.std.proofs.lemmas.Nat.{div-mul-add, mod-mul-add}
-use Rattle.std.proofs.lemmas.List.Sums.{sum_by_more, sum_by-cons}
-use Rattle.word_image.specs.LocalRules.{LocalRule, IsRule, IsWord, node_count}
-use Rattle.word_image.specs.Rings.{IsConserving, IsFlux}
-use Rattle.word_image.proofs.laws.Graphs.{node_count_pos}
-use Rattle.word_image.proofs.laws.WindowParts.{windows-nodes}
+use Rattle.word_image.proofs.Common.{mul-div_cancel_left, zero-div, one-le-pow, cases_eq, cond-true, cond-false, All-head, All-tail, ints, div-mul-add, mod-mul-add, sum_by_more, sum_by-cons, LocalRule, IsRule, IsWord, node_count, IsConserving, IsFlux, node_count_pos, windows-nodes}
 use Rattle.ring_laws.proofs.FluxWindows.{window_gain, FlowsAt-flux}
 use Rattle.ring_laws.proofs.FluxWalks.{walk_gains}
 use Rattle.ring_laws.proofs.LossyRings.{IsConserving-walk_gains}

@@ -1,8 +1,6 @@
 -- How many words of a length pass a test that tells whether they have some image, under a surjective rule.
 use Rattle.std.proofs.Common.{◌≡◌, ℕ, ◌+◌, ◌-◌, ◌^◌, ◌<◌, ◌↔◌, List, length, Bool, true, sym, ap, ◌∙◌, subst}
-use Rattle.word_image.specs.LocalRules.{LocalRule, IsRule, IsWord, value, word_of, node_count}
-use Rattle.word_image.specs.Words.{image, IsSurjective}
-use Rattle.word_image.proofs.laws.Values.{value-below, value-injective, value-word_of, length-word_of, IsWord-word_of}
+use Rattle.word_image.proofs.Common.{LocalRule, IsRule, IsWord, value, word_of, node_count, image, IsSurjective, value-below, value-injective, value-word_of, length-word_of, IsWord-word_of}
 use Rattle.eden_laws.specs.Preimages.{HasPreimages}
 use Rattle.eden_laws.proofs.Balance.{IsBalanced-surjective}
 use Rattle.table_laws.specs.ZeroPairs.{count_below}

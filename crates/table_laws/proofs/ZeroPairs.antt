@@ -1,15 +1,7 @@
 -- Under a surjective rule as many words have the image 0 0 as there are nodes.
 use Rattle.std.proofs.Common.{◌≡◌, ℕ, suc, ◌+◌, ◌-◌, ◌*◌, ◌/◌, ◌%◌, ◌^◌, ◌<◌, ◌≤◌, ◌↔◌, List, [], ◌∷◌, ◌++◌, length, take, drop, slice_index, get_or, Bool, true, false, sym, ap, ap₂, ◌∙◌, arith, pow-suc, length-drop, ◌==◌, ◌&&◌, add-mul, mul_assoc, mul_comm, eq-eqb, length-take-le}
-use Rattle.std.proofs.Math.Nat.{pow-zero}
-use Rattle.std.proofs.lemmas.Bool.{false≢true}
-use Rattle.std.proofs.lemmas.Bool.Decides.{Decides-eqb}
-use Rattle.std.proofs.lemmas.Nat.{mul-add-lt, div-mul-add, mod-mul-add}
-use Rattle.std.proofs.lemmas.List.Elements.{All-cons, All-nil}
-use Rattle.word_image.specs.LocalRules.{LocalRule, IsRule, IsWord, value, node_count}
-use Rattle.word_image.specs.Words.{image, IsSurjective}
-use Rattle.word_image.proofs.laws.Values.{value-take, value-drop}
-use Rattle.pair_laws.proofs.Edges.{image-window}
-use Rattle.pair_laws.proofs.Joins.{image-cut}
+use Rattle.word_image.proofs.Common.{pow-zero, false≢true, Decides-eqb, mul-add-lt, div-mul-add, mod-mul-add, All-cons, All-nil, LocalRule, IsRule, IsWord, value, node_count, image, IsSurjective, value-take, value-drop}
+use Rattle.pair_laws.proofs.Common.{image-window, image-cut}
 use Rattle.table_laws.specs.ZeroPairs.{count_below, gives_zeros, zero_pairs}
 use Rattle.table_laws.proofs.TestedWords.{count_below-image}
 

@@ -1,21 +1,10 @@
 -- Every rule has a determined window or twins, and on each side a look-ahead or a normal split (Amoroso and Patt 1972, Sutner 1991).
 use Rattle.std.proofs.Common.{◌≡◌, ◌≢◌, ◌⊎◌, ℕ, ◌<◌, inl, inr, refl, ⊎_elim, subst, arith, ◌↔◌}
-use Rattle.std.proofs.lemmas.Bool.{cases_eq, cases_lt}
-use Rattle.word_image.specs.LocalRules.{LocalRule, IsRule, node_count}
-use Rattle.word_image.specs.Windows.{IsDetermined, IsRightAhead}
-use Rattle.word_image.specs.Graphs.{next, label, first_of, second_of, pair_count}
-use Rattle.word_image.specs.Ranks.{BeginTogether}
-use Rattle.word_image.proofs.laws.Graphs.{next-below}
-use Rattle.word_image.proofs.laws.Images.{IsRule-mirrored}
-use Rattle.word_image.specs.Sides.{PairGoes, IsLeftAhead, seen_from}
+use Rattle.word_image.proofs.Common.{cases_eq, cases_lt, LocalRule, IsRule, node_count, IsDetermined, IsRightAhead, next, label, first_of, second_of, pair_count, BeginTogether, next-below, IsRule-mirrored, PairGoes, IsLeftAhead, seen_from, some_below, decide_both, exists_below}
 use Rattle.word_image.specs.declared.side.Side.{Side}
 use Rattle.word_image.specs.declared.side.Side.TheVariants.{Right, Left}
-use Rattle.pair_laws.specs.FirstWindows.{HasEndlessFirst}
-use Rattle.pair_laws.proofs.Pairs.{first_of-below, second_of-below, PairGoes-pair_of}
-use Rattle.word_image.proofs.laws.Searches.{some_below, decide_both, exists_below}
-use Rattle.pair_laws.proofs.Decisions.{Together-decide}
-use Rattle.pair_laws.proofs.BothWays.{IsDetermined-none_both_ways, some_ahead, no_ahead}
-use Rattle.tail_config.specs.Tails.{IsInjective, IsRightClosing, IsLeftClosing}
+use Rattle.pair_laws.proofs.Common.{HasEndlessFirst, first_of-below, second_of-below, PairGoes-pair_of, Together-decide, IsDetermined-none_both_ways, some_ahead, no_ahead}
+use Rattle.tail_config.proofs.Common.{IsInjective, IsRightClosing, IsLeftClosing}
 use Rattle.tail_laws.specs.Closing.{IsClosing}
 use Rattle.tail_laws.proofs.Injective.{IsInjective-determined}
 use Rattle.tail_laws.proofs.Closing.{IsRightClosing-ahead}

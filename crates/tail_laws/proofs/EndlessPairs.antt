@@ -1,26 +1,12 @@
 -- Nodes that begin or end together for as long as there are pairs give loops, and loops give splits and twins.
 use Rattle.std.proofs.Common.{◌≡◌, ◌≢◌, ℕ, ◌-◌, ◌<◌, List, ◌++◌, length, take, drop, ℤ, pos, ◌+ℤ◌, ◌-ℤ◌, refl, sym, ap, ap₂, ◌∙◌, subst, subst₂, arith, length-drop, length-append, take_at, zip}
-use Rattle.std.proofs.lemmas.Int.{ints}
-use Rattle.std.proofs.lemmas.Nat.{same_from_place}
-use Rattle.std.proofs.lemmas.List.Elements.{All-append, All-drop}
-use Rattle.word_image.specs.LocalRules.{LocalRule, IsRule, IsWord, value, node_count}
-use Rattle.word_image.specs.Graphs.{pair_of, follow, pair_count}
-use Rattle.word_image.specs.Ranks.{BeginTogether, EndTogether}
-use Rattle.word_image.specs.FirstPairs.{IsFirstOfRight}
+use Rattle.word_image.proofs.Common.{ints, same_from_place, All-append, All-drop, LocalRule, IsRule, IsWord, value, node_count, pair_of, follow, pair_count, BeginTogether, EndTogether, IsFirstOfRight, PairGoes}
 use Rattle.pair_laws.proofs.Walks.{LeadTogether, LeadTogether-first, LeadTogether-last}
-use Rattle.word_image.specs.Sides.{PairGoes}
 use Rattle.word_image.specs.declared.side.Side.TheVariants.{Right}
-use Rattle.pair_laws.proofs.Ranks.{BeginTogether-walk, EndTogether-walk}
-use Rattle.pair_laws.proofs.Pairs.{pair_of-first_of}
-use Rattle.pair_laws.proofs.Endless.{Loops-long}
-use Rattle.tail_config.specs.Tails.{TailConfig, IsTail, Different, cells, cell}
-use Rattle.tail_config.specs.Splits.{IsNormalRightSplit}
-use Rattle.tail_config.proofs.laws.Runs.{run-same, take-run}
-use Rattle.tail_config.proofs.laws.Cells.{cells-middle}
-use Rattle.tail_config.proofs.laws.Decisions.{Different-from_not_same}
+use Rattle.pair_laws.proofs.Common.{BeginTogether-walk, EndTogether-walk, pair_of-first_of, Loops-long}
+use Rattle.tail_config.proofs.Common.{TailConfig, IsTail, Different, cells, cell, IsNormalRightSplit, run-same, take-run, cells-middle, Different-from_not_same}
 use Rattle.tail_laws.proofs.Nodes.{node_at, node_at-below}
-use Rattle.search_laws.specs.PairWalks.{LetterPairStep}
-use Rattle.search_laws.proofs.Walks.{Walk-join}
+use Rattle.search_laws.proofs.Common.{LetterPairStep, Walk-join}
 use Rattle.tail_laws.proofs.PairLeads.{PairLeads, pair_at, cells-PairLeads}
 use Rattle.tail_laws.proofs.WordWalks.{PairLeads-words, zip-append}
 use Rattle.tail_laws.proofs.FirstPairs.{LeadsToLoop, normal_split-loop}

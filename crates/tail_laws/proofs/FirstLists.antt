@@ -1,12 +1,7 @@
 -- The first list of letter pairs that the numbers below n have, number by number, and in bytes: a letter pair (a, b) is the byte 16 a + b.
 use Rattle.std.proofs.Common.{◌≡◌, ◌≢◌, ℕ, ◌+◌, ◌/◌, ◌%◌, ◌<◌, ◌≤◌, List, map, Option, Some, None, Vec, Global, if◌then◌else◌, sym, ap, ap₂, ◌∙◌, subst, subst₂, ⊎_elim, arith, MatchOption, is_lt, Ordering, Less, Equal, Greater}
-use Rattle.std.proofs.lemmas.Bool.{cases_eq}
-use Rattle.std.proofs.lemmas.Simd.{map-map}
-use Rattle.word_image.specs.Words.{word_cmp}
-use Rattle.word_image.specs.Rings.{pairs_cmp}
-use Rattle.word_image.proofs.laws.Comparisons.{no_later, not_before, pairs_cmp_total}
-use Rattle.search_laws.specs.PairWalks.{ArePairs, uncode}
-use Rattle.search_laws.proofs.PairWalks.{pairs_cmp-codes, codes-uncode}
+use Rattle.word_image.proofs.Common.{cases_eq, map-map, word_cmp, pairs_cmp, no_later, not_before, pairs_cmp_total}
+use Rattle.search_laws.proofs.Common.{ArePairs, uncode, pairs_cmp-codes, codes-uncode}
 use Rattle.tail_laws.specs.FirstLists.{IsLeastOf, NoneBelow, IsFirstBelow, IsFirstFound}
 
 -- one number more has none

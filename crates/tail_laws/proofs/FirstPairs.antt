@@ -1,20 +1,9 @@
 -- A first pair from which a walk leads into a loop gives a normal right split.
 use Rattle.std.proofs.Common.{◌≡◌, ℕ, ◌+◌, ◌-◌, ◌<◌, List, [], ◌∷◌, ◌++◌, length, take, drop, get_or, Some, refl, sym, ap, ap₂, ◌∙◌, subst, subst₂, arith, length-append, take_at, drop_at, ◌≤◌, zip}
-use Rattle.std.proofs.lemmas.List.Elements.{All-append, All-push}
-use Rattle.std.proofs.lemmas.List.{get_or_at}
-use Rattle.word_image.specs.LocalRules.{LocalRule, IsRule, IsWord, value, word_of, node_count}
-use Rattle.word_image.specs.Windows.{HaveOneImage}
-use Rattle.word_image.specs.Graphs.{pair_of, follow, pair_count}
-use Rattle.word_image.specs.Rings.{IsRing}
-use Rattle.word_image.specs.FirstPairs.{IsFirstOfRight}
-use Rattle.word_image.proofs.laws.Values.{length-word_of, IsWord-word_of, value-word_of}
-use Rattle.word_image.proofs.laws.Graphs.{node_count_pos}
-use Rattle.tail_config.specs.Tails.{TailConfig, IsTail}
-use Rattle.tail_config.specs.Splits.{IsNormalRightSplit}
-use Rattle.tail_config.proofs.laws.Cells.{IsWord-zero}
-use Rattle.pair_laws.proofs.Pairs.{follow-pair_of}
-use Rattle.search_laws.specs.PairWalks.{LetterPairStep}
-use Rattle.search_laws.proofs.Walks.{Walk-join}
+use Rattle.word_image.proofs.Common.{All-append, All-push, get_or_at, LocalRule, IsRule, IsWord, value, word_of, node_count, HaveOneImage, pair_of, follow, pair_count, IsRing, IsFirstOfRight, length-word_of, IsWord-word_of, value-word_of, node_count_pos}
+use Rattle.tail_config.proofs.Common.{TailConfig, IsTail, IsNormalRightSplit, IsWord-zero}
+use Rattle.pair_laws.proofs.Common.{follow-pair_of}
+use Rattle.search_laws.proofs.Common.{LetterPairStep, Walk-join}
 use Rattle.tail_laws.proofs.PairLeads.{PairLeads}
 use Rattle.tail_laws.proofs.WordWalks.{PairLeads-words, zip-append}
 use Rattle.tail_laws.proofs.Settled.{IsNormalRightSplit-walk}

@@ -1,16 +1,9 @@
 -- The least twins are the first of the least walks in the marked graph from a pair without the mark to the same pair with it.
 use Rattle.std.proofs.Common.{◌≢◌, ℕ, ◌+◌, ◌<◌, ◌≤◌, List, [], ◌∷◌, length, map, sym, ◌∙◌, subst, arith, zip, Greater}
-use Rattle.std.proofs.lemmas.List.{length-map}
-use Rattle.std.proofs.lemmas.Slice.Zip.{length-zip}
-use Rattle.word_image.specs.LocalRules.{LocalRule, IsRule}
-use Rattle.word_image.specs.Graphs.{pair_count}
-use Rattle.word_image.specs.MarkedPairs.{marked}
-use Rattle.word_image.specs.Rings.{IsTwins, IsLeastTwins, pairs_cmp}
-use Rattle.word_image.proofs.laws.Graphs.{pair_count_pos, pair_count-le}
-use Rattle.search_laws.specs.PairWalks.{IsLeastWalk}
+use Rattle.word_image.proofs.Common.{length-map, length-zip, LocalRule, IsRule, pair_count, marked, IsTwins, IsLeastTwins, pairs_cmp, pair_count_pos, pair_count-le}
+use Rattle.search_laws.proofs.Common.{IsLeastWalk, length-IsLeastWalk}
 use Rattle.tail_laws.specs.Turns.{IsTurn}
-use Rattle.pair_laws.proofs.Pairs.{marked-below}
-use Rattle.search_laws.proofs.PairWalks.{length-IsLeastWalk}
+use Rattle.pair_laws.proofs.Common.{marked-below}
 use Rattle.tail_laws.proofs.SplitWalks.{zip-sides}
 use Rattle.tail_laws.proofs.MarkedTurns.{twins-turn, turn-twins}
 use Rattle.tail_laws.specs.FirstLists.{IsLeastOf, NoneBelow, IsFirstBelow}

@@ -22,3 +22,4 @@ pub mod LeastSplits
 pub mod MarkedTurns
 pub mod FirstLists
 pub mod LeastTwins
+pub mod Common

@@ -1,11 +1,7 @@
 -- A walk of two configurations in step: through the middles, and once through right periods that lead back to their nodes.
 use Rattle.std.proofs.Common.{◌≡◌, ℕ, ◌+◌, ◌-◌, ◌<◌, length, ℤ, pos, ◌+ℤ◌, ◌-ℤ◌, unsigned_abs, sym, ap, ◌∙◌, subst, arith, ◌<ℤ◌}
-use Rattle.std.proofs.lemmas.Int.{ints, by_lt_z}
-use Rattle.word_image.specs.LocalRules.{LocalRule, IsRule, value, local_map}
-use Rattle.tail_config.specs.Tails.{TailConfig, IsTail, ShareImage, cell}
-use Rattle.tail_config.proofs.laws.Runs.{run-same, same-run}
-use Rattle.tail_config.proofs.laws.Periods.{RepeatsRight, at_run, same_right-period}
-use Rattle.tail_config.proofs.laws.Repeats.{cell-right_period}
+use Rattle.word_image.proofs.Common.{ints, by_lt_z, LocalRule, IsRule, value, local_map}
+use Rattle.tail_config.proofs.Common.{TailConfig, IsTail, ShareImage, cell, run-same, same-run, RepeatsRight, at_run, same_right-period, cell-right_period}
 use Rattle.tail_laws.proofs.Nodes.{node_at, label_over, same_nodes, ShareImage-labels}
 
 -- the right period leads back to the node at which it begins

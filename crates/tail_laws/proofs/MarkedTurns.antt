@@ -1,12 +1,8 @@
 -- Twins are the walks in the marked graph from a pair without the mark to the same pair with it.
 use Rattle.std.proofs.Common.{◌≡◌, ℕ, ◌+◌, ◌%◌, ◌<◌, ◌≤◌, List, [], ◌∷◌, length, sym, ◌∙◌, subst, inr, ⊎_elim, arith, mod-eq_of_lt, zip}
-use Rattle.std.proofs.Math.Nat.{add-mod_right}
-use Rattle.std.proofs.lemmas.List.Elements.{All-nil, All-cons, All-head, All-tail}
-use Rattle.word_image.specs.LocalRules.{LocalRule, IsRule, IsWord}
-use Rattle.word_image.specs.Graphs.{pair_of, first_of, second_of, pair_count}
-use Rattle.word_image.specs.Rings.{IsTwins}
-use Rattle.search_laws.specs.PairWalks.{ArePairs}
-use Rattle.pair_laws.proofs.Pairs.{pair_of-below, pair_of-first_of, first_of-below, second_of-below}
+use Rattle.word_image.proofs.Common.{add-mod_right, All-nil, All-cons, All-head, All-tail, LocalRule, IsRule, IsWord, pair_of, first_of, second_of, pair_count, IsTwins}
+use Rattle.search_laws.proofs.Common.{ArePairs}
+use Rattle.pair_laws.proofs.Common.{pair_of-below, pair_of-first_of, first_of-below, second_of-below}
 use Rattle.tail_laws.specs.Turns.{IsTurn}
 use Rattle.tail_laws.proofs.PairLeads.{PairLeads}
 use Rattle.tail_laws.proofs.TwinWalks.{IsTwinWalk, IsTwins-walk}

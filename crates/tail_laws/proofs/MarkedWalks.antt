@@ -1,16 +1,8 @@
 -- Walks in the marked graph are walks of pairs, and the mark tells whether two letters have differed.
 use Rattle.std.proofs.Common.{◌≡◌, ◌≢◌, ◌⊎◌, ℕ, ◌+◌, ◌%◌, ◌<◌, ◌≤◌, List, [], ◌∷◌, length, drop, slice_index, Some, None, if◌then◌else◌, ◌==◌, ◌||◌, not, refl, sym, ap, ap₂, ◌∙◌, subst, inl, inr, ⊎_elim, arith, mod-eq_of_lt, ◌↔◌, nat_le, zip}
-use Rattle.std.proofs.Math.Nat.{add-mod_right}
-use Rattle.std.proofs.lemmas.Bool.{cases_lt, cases_eq}
-use Rattle.std.proofs.lemmas.Bool.Decides.{nat_tests}
-use Rattle.std.proofs.lemmas.Option.{same_Some}
-use Rattle.word_image.specs.LocalRules.{LocalRule, IsRule}
-use Rattle.word_image.specs.Graphs.{next, label, pair_of, first_of, second_of, follow, pair_count}
-use Rattle.word_image.specs.MarkedPairs.{marked}
-use Rattle.word_image.proofs.laws.Graphs.{next-below}
-use Rattle.search_laws.specs.Walks.{Walk}
-use Rattle.search_laws.specs.PairWalks.{LetterPairStep}
-use Rattle.pair_laws.proofs.Pairs.{pair_of-below}
+use Rattle.word_image.proofs.Common.{add-mod_right, cases_lt, cases_eq, nat_tests, same_Some, LocalRule, IsRule, next, label, pair_of, first_of, second_of, follow, pair_count, marked, next-below}
+use Rattle.search_laws.proofs.Common.{Walk, LetterPairStep}
+use Rattle.pair_laws.proofs.Common.{pair_of-below}
 use Rattle.tail_laws.proofs.PairLeads.{PairLeads}
 
 -- from state t of the marked graph along a list of letter pairs to state s

@@ -1,15 +1,7 @@
 -- A rule without twins is injective: from two different configurations that share an image two rings are cut (Amoroso and Patt 1972).
 use Rattle.std.proofs.Common.{◌≡◌, ℕ, ◌+◌, ◌-◌, ◌%◌, ◌<◌, ◌≤◌, List, length, slice_index, ℤ, pos, negsuc, ◌+ℤ◌, ◌-ℤ◌, neg_ℤ, unsigned_abs, refl, sym, ap, ◌∙◌, ⊎_elim, arith, mod-lt, mod-eq_of_lt, ◌<ℤ◌, ◌≤ℤ◌, ◌↔◌}
-use Rattle.std.proofs.lemmas.Bool.{cases_lt}
-use Rattle.std.proofs.lemmas.Int.{ints, by_lt_z}
-use Rattle.word_image.specs.LocalRules.{LocalRule, IsRule}
-use Rattle.word_image.specs.Rings.{IsRing, IsTwins}
-use Rattle.tail_config.specs.Tails.{TailConfig, IsTail, Same, Different, ShareImage, AgreeLeft, AgreeRight, IsInjective, cell, cells, image_cell}
-use Rattle.tail_config.proofs.laws.Runs.{length-run, get_or-run, IsWord-run, image_of-window}
-use Rattle.tail_config.proofs.laws.Cells.{cell-below}
-use Rattle.tail_config.proofs.laws.Decisions.{Different-from_not_same, agree_left_or_not, agree_right_or_not}
-use Rattle.tail_config.proofs.laws.Periods.{RepeatsLeft, RepeatsRight, repeats-mod, right_from, left_from}
-use Rattle.tail_config.specs.Differences.{most_middle}
+use Rattle.word_image.proofs.Common.{cases_lt, ints, by_lt_z, LocalRule, IsRule, IsRing, IsTwins}
+use Rattle.tail_config.proofs.Common.{TailConfig, IsTail, Same, Different, ShareImage, AgreeLeft, AgreeRight, IsInjective, cell, cells, image_cell, length-run, get_or-run, IsWord-run, image_of-window, cell-below, Different-from_not_same, agree_left_or_not, agree_right_or_not, RepeatsLeft, RepeatsRight, repeats-mod, right_from, left_from, most_middle}
 use Rattle.tail_config.proofs.laws.Spans.{left_turn, right_turn, left_turn-some, right_turn-some, left_turns, right_turns, agree_left_of_0, agree_right_of_middle}
 use Rattle.tail_laws.proofs.TwinTails.{round, cell-round, cell-round_period, IsTail-round, ShareImage-turn, ring_image-shared, no_twins}
 use Rattle.tail_laws.proofs.Verdicts.{IsInjective-none}

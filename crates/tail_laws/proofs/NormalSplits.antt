@@ -1,14 +1,8 @@
 -- A rule with a right split has a normal one: zeros replace what stands left of the cells that the first different window reads.
 use Rattle.std.proofs.Common.{◌≡◌, ℕ, ◌+◌, ◌-◌, ◌<◌, ◌≤◌, [], ◌∷◌, length, ℤ, pos, negsuc, ◌+ℤ◌, ◌-ℤ◌, neg_ℤ, unsigned_abs, refl, sym, ap, ◌∙◌, arith, ◌<ℤ◌, ◌≤ℤ◌, ◌↔◌}
-use Rattle.std.proofs.lemmas.Int.{ints, by_lt_z}
-use Rattle.word_image.specs.LocalRules.{LocalRule, IsRule, local_map}
-use Rattle.tail_config.specs.Tails.{TailConfig, IsTail, ShareImage, Different, IsRightSplit, IsRightClosing, cell}
-use Rattle.tail_config.specs.Splits.{IsNormalRightSplit}
-use Rattle.tail_config.proofs.laws.Runs.{length-run, run-same}
-use Rattle.tail_config.proofs.laws.Cells.{IsWord-zero, same_left_part}
+use Rattle.word_image.proofs.Common.{ints, by_lt_z, LocalRule, IsRule, local_map}
+use Rattle.tail_config.proofs.Common.{TailConfig, IsTail, ShareImage, Different, IsRightSplit, IsRightClosing, cell, IsNormalRightSplit, length-run, run-same, IsWord-zero, same_left_part, RepeatsRight, most_middle}
 use Rattle.tail_laws.proofs.Middles.{recut, IsTail-recut, cell-recut}
-use Rattle.tail_config.proofs.laws.Periods.{RepeatsRight}
-use Rattle.tail_config.specs.Differences.{most_middle}
 use Rattle.tail_config.proofs.laws.Spans.{right_turn, right_turn-some, right_turns, agree_left_of_0}
 use Rattle.tail_laws.proofs.Nodes.{label_over, ShareImage-labels, labels-ShareImage}
 use Rattle.tail_laws.proofs.Loops.{IsLooped, IsLooped-cells}

@@ -1,16 +1,9 @@
 -- Two configurations in step, as a walk in the graph of pairs of nodes.
 use Rattle.std.proofs.Common.{◌≡◌, ℕ, zero, suc, ◌+◌, ◌-◌, ◌<◌, List, ◌∷◌, length, ℤ, pos, ◌+ℤ◌, Some, sym, ap, ap₂, ◌∙◌, subst, subst₂, ⊎_elim, arith, zip}
-use Rattle.std.proofs.lemmas.Bool.{cases_lt}
-use Rattle.std.proofs.lemmas.Nat.{same_from_place}
-use Rattle.std.proofs.lemmas.Int.{ints}
-use Rattle.word_image.specs.LocalRules.{LocalRule, IsRule, node_count}
-use Rattle.word_image.specs.Graphs.{next, label, pair_of, follow}
-use Rattle.search_laws.specs.Walks.{Walk}
-use Rattle.search_laws.specs.PairWalks.{LetterPairStep}
-use Rattle.tail_config.specs.Tails.{TailConfig, IsTail, ShareImage, cell, cells}
-use Rattle.tail_config.proofs.laws.Runs.{run-cons}
-use Rattle.tail_config.proofs.laws.Cells.{cells-middle, cells-right, same_left_part}
-use Rattle.pair_laws.proofs.Pairs.{first_of-pair_of, second_of-pair_of, follow-pair_of, follow-some}
+use Rattle.word_image.proofs.Common.{cases_lt, same_from_place, ints, LocalRule, IsRule, node_count, next, label, pair_of, follow}
+use Rattle.search_laws.proofs.Common.{Walk, LetterPairStep}
+use Rattle.tail_config.proofs.Common.{TailConfig, IsTail, ShareImage, cell, cells, run-cons, cells-middle, cells-right, same_left_part}
+use Rattle.pair_laws.proofs.Common.{first_of-pair_of, second_of-pair_of, follow-pair_of, follow-some}
 use Rattle.tail_laws.proofs.Nodes.{node_at, label_over, node_at-below, label-node_at, next-node_at, labels-ShareImage}
 use Rattle.tail_laws.proofs.Loops.{IsLooped, IsInStep, labels-left, ShareImage-in_step}
 

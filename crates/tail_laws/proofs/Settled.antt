@@ -1,18 +1,10 @@
 -- Normal right splits are the walks in the graph of pairs that lead from the pair of the nodes of zeros into a loop.
 use Rattle.std.proofs.Common.{◌≡◌, ℕ, ◌+◌, ◌-◌, ◌%◌, List, [], ◌∷◌, ◌++◌, length, replicate, slice_index, pos, negsuc, ◌+ℤ◌, ◌-ℤ◌, neg_ℤ, sym, ap, ap₂, ◌∙◌, subst, arith, zip}
-use Rattle.std.proofs.lemmas.Int.{ints}
-use Rattle.std.proofs.lemmas.List.{length-replicate, get_or-replicate}
-use Rattle.word_image.specs.LocalRules.{LocalRule, IsRule, value}
-use Rattle.word_image.specs.Graphs.{pair_of}
-use Rattle.word_image.proofs.laws.Values.{value-zeros}
-use Rattle.tail_config.specs.Tails.{TailConfig, IsTail, Same, cell, cells}
-use Rattle.tail_config.specs.Splits.{last_letters, IsSettled, IsNormalRightSplit}
-use Rattle.tail_config.proofs.laws.Runs.{run-by_letters, run-same, last-run, run-append}
-use Rattle.tail_config.proofs.laws.Cells.{cells-middle, cells-right, same_left_part}
+use Rattle.word_image.proofs.Common.{ints, length-replicate, get_or-replicate, LocalRule, IsRule, value, pair_of, value-zeros}
+use Rattle.tail_config.proofs.Common.{TailConfig, IsTail, Same, cell, cells, last_letters, IsSettled, IsNormalRightSplit, run-by_letters, run-same, last-run, run-append, cells-middle, cells-right, same_left_part, Different-from_not_same}
 use Rattle.tail_laws.proofs.Nodes.{node_at, same_nodes}
 use Rattle.tail_laws.proofs.Loops.{IsLooped, IsInStep}
 use Rattle.tail_laws.proofs.PairLeads.{PairLeads, pair_at, IsInStep-walk, ShareImage-walk, walk-ShareImage}
-use Rattle.tail_config.proofs.laws.Decisions.{Different-from_not_same}
 
 -- where the left period is the letter 0 the cells left of place 0 are zeros
 cell-zero : (t : TailConfig) → t.left ≡ 0 ∷ [] → (i : ℕ) → cell t (negsuc i) ≡ 0

@@ -1,16 +1,9 @@
 -- What is said of the left side is said of the right side on the line that is read backwards.
 use Rattle.std.proofs.Common.{◌≡◌, ℕ, length, ℤ, pos, ◌-ℤ◌, sym, ◌∙◌, subst, arith, ◌↔◌}
-use Rattle.std.proofs.lemmas.Int.{ints}
-use Rattle.word_image.specs.LocalRules.{LocalRule, IsRule, mirrored}
-use Rattle.word_image.specs.Sides.{IsLeftAhead}
-use Rattle.word_image.proofs.laws.Images.{IsRule-mirrored, mirrored-mirrored}
-use Rattle.tail_config.specs.Tails.{TailConfig, IsTail, Same, Different, ShareImage, AgreeLeft, AgreeRight, IsRightSplit, IsRightClosing, IsLeftClosing, cell, mirror_of}
-use Rattle.tail_config.specs.LeftSplits.{IsLeftSplit}
+use Rattle.word_image.proofs.Common.{ints, LocalRule, IsRule, mirrored, IsLeftAhead, IsRule-mirrored, mirrored-mirrored}
+use Rattle.tail_config.proofs.Common.{TailConfig, IsTail, Same, Different, ShareImage, AgreeLeft, AgreeRight, IsRightSplit, IsRightClosing, IsLeftClosing, cell, mirror_of, IsLeftSplit, image_of-window, cell-below, cell-mirror, image_of-backwards, IsTail-mirror}
 use Rattle.tail_laws.proofs.Closing.{IsRightClosing-ahead}
 use Rattle.tail_laws.proofs.Middles.{longer, length-longer, IsTail-longer, Same-longer}
-use Rattle.tail_config.proofs.laws.Runs.{image_of-window}
-use Rattle.tail_config.proofs.laws.Cells.{cell-below}
-use Rattle.tail_config.proofs.laws.Mirror.{cell-mirror, image_of-backwards, IsTail-mirror}
 
 -- the place that is mirrored to place i, where the middle has n letters
 abbrev pub across : ℕ → ℤ → ℤ

@@ -1,19 +1,9 @@
 -- Normal right splits as two walks in the marked graph: the one spells the middles, the other the right periods.
 use Rattle.std.proofs.Common.{◌≡◌, ◌≢◌, ◌⊎◌, ℕ, ◌+◌, ◌-◌, ◌%◌, ◌<◌, ◌≤◌, List, [], ◌∷◌, length, map, inl, inr, refl, sym, ap, ◌∙◌, subst, ⊎_elim, arith, mod-eq_of_lt, zip}
-use Rattle.std.proofs.Math.Nat.{add-mod_right, zero-mod, mod-mod}
-use Rattle.std.proofs.lemmas.List.{length-map}
-use Rattle.std.proofs.lemmas.Slice.Zip.{length-zip}
-use Rattle.std.proofs.lemmas.List.Elements.{All-nil, All-cons, All-head, All-tail, All-map}
-use Rattle.word_image.specs.LocalRules.{LocalRule, IsRule, IsWord}
-use Rattle.word_image.specs.Graphs.{pair_count}
-use Rattle.word_image.specs.MarkedPairs.{marked}
-use Rattle.word_image.proofs.laws.Graphs.{pair_count_pos}
-use Rattle.pair_laws.proofs.Pairs.{mark-below}
-use Rattle.search_laws.specs.PairWalks.{ArePairs}
-use Rattle.tail_config.specs.Tails.{TailConfig, IsTail}
-use Rattle.tail_config.specs.Splits.{IsNormalRightSplit}
-use Rattle.tail_config.proofs.laws.Cells.{IsWord-zero}
-use Rattle.tail_config.proofs.laws.Differences.{same_or_differ, DifferAt-different}
+use Rattle.word_image.proofs.Common.{add-mod_right, zero-mod, mod-mod, length-map, length-zip, All-nil, All-cons, All-head, All-tail, All-map, LocalRule, IsRule, IsWord, pair_count, marked, pair_count_pos}
+use Rattle.pair_laws.proofs.Common.{mark-below}
+use Rattle.search_laws.proofs.Common.{ArePairs}
+use Rattle.tail_config.proofs.Common.{TailConfig, IsTail, IsNormalRightSplit, IsWord-zero, same_or_differ, DifferAt-different}
 use Rattle.tail_laws.specs.SplitWalks.{IsSplitAt, with_mark, tail_of, first_tail, second_tail}
 use Rattle.tail_laws.proofs.PairLeads.{PairLeads}
 use Rattle.tail_laws.proofs.MarkedWalks.{MarkedLeads, HasOther, HasOther-zip, HasOther-different, follow-marked, IsMarkedWalk-leads, leads-marked}

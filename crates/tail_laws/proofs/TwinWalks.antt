@@ -1,15 +1,7 @@
 -- Twins are the closed walks in the graph of pairs of nodes whose letters differ somewhere.
 use Rattle.std.proofs.Common.{◌≡◌, ◌≢◌, ℕ, ◌+◌, ◌-◌, ◌<◌, ◌≤◌, List, [], length, ℤ, pos, negsuc, ◌+ℤ◌, ◌-ℤ◌, neg_ℤ, refl, sym, ap, ap₂, ◌∙◌, subst, arith, ◌*◌, ◌≤ℤ◌, ◌↔◌, zip}
-use Rattle.std.proofs.lemmas.Nat.{mul-le}
-use Rattle.std.proofs.lemmas.Int.{ints}
-use Rattle.word_image.specs.LocalRules.{LocalRule, IsRule, value, word_of, local_map, node_count}
-use Rattle.word_image.specs.Rings.{IsRing, IsTwins}
-use Rattle.word_image.specs.Graphs.{pair_of}
-use Rattle.word_image.proofs.laws.Values.{length-word_of, IsWord-word_of, value-word_of}
-use Rattle.tail_config.specs.Tails.{TailConfig, IsTail, ShareImage, cell, cells, image_cell}
-use Rattle.tail_config.proofs.laws.Runs.{run-same}
-use Rattle.tail_config.proofs.laws.Cells.{cells-left, cells-right}
-use Rattle.tail_config.proofs.laws.Periods.{RepeatsRight, same_right-period, RepeatsRight-times}
+use Rattle.word_image.proofs.Common.{mul-le, ints, LocalRule, IsRule, value, word_of, local_map, node_count, IsRing, IsTwins, pair_of, length-word_of, IsWord-word_of, value-word_of}
+use Rattle.tail_config.proofs.Common.{TailConfig, IsTail, ShareImage, cell, cells, image_cell, run-same, cells-left, cells-right, RepeatsRight, same_right-period, RepeatsRight-times}
 use Rattle.tail_laws.proofs.TwinTails.{round, IsTail-round, cell-round_period, ShareImage-turn, ShareImage-rings, ring_image-shared}
 use Rattle.tail_laws.proofs.Nodes.{node_at, label_over, node_at-below, labels-ShareImage}
 use Rattle.tail_laws.proofs.Loops.{IsInStep, looped-labels, IsLooped, looped-cells}

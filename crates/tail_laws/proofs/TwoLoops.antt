@@ -1,12 +1,7 @@
 -- A walk of pairs out of a loop and into a loop is two configurations that share an image.
 use Rattle.std.proofs.Common.{◌≡◌, ℕ, ◌-◌, ◌<◌, length, ℤ, pos, ◌+ℤ◌, ◌-ℤ◌, refl, sym, ap, ap₂, ◌∙◌, subst, arith, ◌<ℤ◌, zip}
-use Rattle.std.proofs.lemmas.Int.{ints}
-use Rattle.word_image.specs.LocalRules.{LocalRule, IsRule, value, node_count}
-use Rattle.word_image.specs.Rings.{IsRing}
-use Rattle.word_image.specs.Graphs.{pair_of}
-use Rattle.tail_config.specs.Tails.{TailConfig, IsTail, ShareImage, Different, cell}
-use Rattle.tail_config.proofs.laws.Runs.{run-same}
-use Rattle.tail_config.proofs.laws.Cells.{same_left_part}
+use Rattle.word_image.proofs.Common.{ints, LocalRule, IsRule, value, node_count, IsRing, pair_of}
+use Rattle.tail_config.proofs.Common.{TailConfig, IsTail, ShareImage, Different, cell, run-same, same_left_part}
 use Rattle.tail_laws.proofs.TwinTails.{round}
 use Rattle.tail_laws.proofs.Nodes.{node_at, label_over, labels-ShareImage}
 use Rattle.tail_laws.proofs.Loops.{labels-left, ShareImage-in_step}

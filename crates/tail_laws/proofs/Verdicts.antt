@@ -1,10 +1,7 @@
 -- What pairs of configurations say of a rule: that it isn't injective, right-closing or left-closing.
 use Rattle.std.proofs.Common.{ℕ, ⊎_elim, ◌↔◌}
-use Rattle.word_image.specs.LocalRules.{LocalRule, IsRule}
-use Rattle.tail_config.specs.Tails.{TailConfig, IsTail, Same, Different, ShareImage, IsInjective, IsRightSplit, IsRightClosing, IsLeftClosing}
-use Rattle.tail_config.specs.LeftSplits.{IsLeftSplit}
-use Rattle.tail_config.specs.Splits.{IsLeastRightSplit, IsLeastLeftSplit}
-use Rattle.tail_config.proofs.laws.Decisions.{same_or_different}
+use Rattle.word_image.proofs.Common.{LocalRule, IsRule}
+use Rattle.tail_config.proofs.Common.{TailConfig, IsTail, Same, Different, ShareImage, IsInjective, IsRightSplit, IsRightClosing, IsLeftClosing, IsLeftSplit, IsLeastRightSplit, IsLeastLeftSplit, same_or_different}
 use Rattle.tail_laws.proofs.Sides.{IsLeftSplit-mirror}
 
 -- two configurations that aren't different are the same

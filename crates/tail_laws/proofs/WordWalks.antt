@@ -1,14 +1,7 @@
 -- Two words with one image are a walk in the graph of pairs, from their first nodes to their last.
 use Rattle.std.proofs.Common.{◌≡◌, ℕ, zero, suc, ◌+◌, ◌-◌, ◌<◌, ◌≤◌, List, [], ◌∷◌, ◌++◌, length, take, drop, get_or, refl, sym, ap, ap₂, ◌∙◌, subst, subst₂, arith, length-drop, zip, drop-drop, length-take-le, take_all}
-use Rattle.std.proofs.lemmas.List.{drop_more, nil_from_length}
-use Rattle.std.proofs.lemmas.List.Elements.{All-take}
-use Rattle.word_image.specs.LocalRules.{LocalRule, IsRule, value, node_count}
-use Rattle.word_image.specs.Windows.{HaveOneImage}
-use Rattle.word_image.specs.Graphs.{pair_of}
-use Rattle.word_image.proofs.laws.Graphs.{value-node}
-use Rattle.pair_laws.proofs.Edges.{image-first, value-first}
-use Rattle.pair_laws.proofs.Joins.{HaveOneImage-take, HaveOneImage-drop}
-use Rattle.pair_laws.proofs.Pairs.{follow-pair_of}
+use Rattle.word_image.proofs.Common.{drop_more, nil_from_length, All-take, LocalRule, IsRule, value, node_count, HaveOneImage, pair_of, value-node}
+use Rattle.pair_laws.proofs.Common.{image-first, value-first, HaveOneImage-take, HaveOneImage-drop, follow-pair_of}
 use Rattle.tail_laws.proofs.PairLeads.{PairLeads}
 
 -- the letter pairs of two words in a row are those of the first parts and then those of the second

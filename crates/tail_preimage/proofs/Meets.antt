@@ -1,8 +1,7 @@
 -- Sets that meet.
 use Rattle.std.proofs.Common.{◌≢◌, ◌↔◌, ℕ, ◌^◌, ◌<◌, IsBitSet, bit_and, arith}
-use Rattle.std.proofs.lemmas.Nat.{and_le_l, and_le_r}
-use Rattle.word_image.specs.Graphs.{IsSetOf}
-use Rattle.pair_laws.proofs.Sets.{IsBitSet-apart, IsBitSet-below, IsBitSet-meet}
+use Rattle.word_image.proofs.Common.{and_le_l, and_le_r, IsSetOf}
+use Rattle.pair_laws.proofs.Common.{IsBitSet-apart, IsBitSet-below, IsBitSet-meet}
 
 -- two sets meet in a node
 pub sets_meet : (a b : ℕ) → b < 2 ^ 16 → (bit_and a b ≢ 0) ↔ ((v : ℕ) × IsBitSet a v × IsBitSet b v)

@@ -1,17 +1,8 @@
 -- The sets of nodes from which the rest of a word leads into a goal, from the end of the word on, and the first walk through them.
 use Rattle.std.proofs.Common.{◌≡◌, ◌≢◌, ℕ, zero, suc, ◌+◌, ◌-◌, ◌*◌, ◌/◌, ◌%◌, ◌^◌, ◌<◌, List, [], ◌∷◌, ◌++◌, length, drop, get_or, slice_index, IsBitSet, bit_and, refl, sym, ◌∙◌, ap, subst, subst₂, arith, ⊎_elim, mod-lt, mod-eq_of_lt, pow-suc, one-mul, mul_assoc, div-one, div-add-mod'}
-use Rattle.std.proofs.Math.Nat.{pow-zero, one-le-pow, add-mul-mod_self_right}
-use Rattle.std.proofs.lemmas.Bool.{cases_lt}
-use Rattle.std.proofs.lemmas.Nat.{mod-mul-add}
-use Rattle.std.proofs.lemmas.List.{get_or_append_left, get_or_default, get_or_push, length_push, drop_all}
-use Rattle.word_image.specs.LocalRules.{LocalRule, IsRule, word_of, node_count}
-use Rattle.word_image.specs.Graphs.{next, node_letter, IsNodeSet, HasBit}
-use Rattle.word_image.proofs.laws.Graphs.{next-below}
-use Rattle.pair_laws.proofs.Edges.{next-digits}
-use Rattle.pair_laws.proofs.Sets.{IsBitSet-below, IsBitSet-and, IsBitSet-apart}
-use Rattle.word_image.specs.Edges.{IsEnds, IsEdge}
+use Rattle.word_image.proofs.Common.{pow-zero, one-le-pow, add-mul-mod_self_right, cases_lt, mod-mul-add, get_or_append_left, get_or_default, get_or_push, length_push, drop_all, LocalRule, IsRule, word_of, node_count, next, node_letter, IsNodeSet, HasBit, next-below, IsEnds, IsEdge, IsSetOf-same}
+use Rattle.pair_laws.proofs.Common.{next-digits, IsBitSet-below, IsBitSet-and, IsBitSet-apart}
 use Rattle.word_image.specs.declared.side.Side.TheVariants.{Right}
-use Rattle.word_image.proofs.laws.Unions.{IsSetOf-same}
 use Rattle.tail_preimage.specs.Walks.{Reaches}
 use Rattle.tail_preimage.specs.Relations.{IsRelation, IsFirst}
 use Rattle.tail_preimage.specs.FirstWalks.{AreOpen}

@@ -1,9 +1,6 @@
 -- Rows that a loop fills, one after the other.
 use Rattle.std.proofs.Common.{◌≡◌, ◌↔◌, ℕ, ◌+◌, ◌<◌, List, length, get_or, slice_index, set, subst, sym, ◌∙◌, ⊎_elim, arith, get_or-set_same, get_or-set_other, length-set}
-use Rattle.std.proofs.lemmas.Bool.{cases_eq}
-use Rattle.word_image.specs.LocalRules.{LocalRule, IsRule, node_count}
-use Rattle.word_image.specs.Graphs.{IsNodeSet}
-use Rattle.word_image.proofs.laws.Unions.{IsSetOf-same}
+use Rattle.word_image.proofs.Common.{cases_eq, LocalRule, IsRule, node_count, IsNodeSet, IsSetOf-same}
 use Rattle.tail_preimage.specs.Relations.{IsRelation}
 
 -- what holds of the first i rows, and of what is stored at the next place, holds of one row more

@@ -1,11 +1,6 @@
 -- Worked examples that need a proof: what some definitions hold of, and what they refuse.
 use Rattle.std.proofs.Common.{◌≡◌, ◌≢◌, ℕ, zero, suc, ◌+◌, ◌^◌, ◌<◌, List, [], ◌∷◌, inl, inr, length, take, drop, replicate, Some, refl, sym, ap, ap₂, ◌∙◌, subst, arith, ℤ, pos, negsuc, ◌-ℤ◌, slice_index, slice_get, nat_cmp, is_gt, Less, Greater, true≢false, get_or-drop}
-use Rattle.std.specs.Ordering.{ordering_then}
-use Rattle.std.specs.Cmp.{nat_cmp_is}
-use Rattle.std.specs.Cmp.Lexicographic.{slice_cmp}
-use Rattle.std.proofs.lemmas.Option.{same_Some}
-use Rattle.std.proofs.lemmas.List.{length-replicate}
-use Rattle.std.proofs.lemmas.List.Elements.{All-head, All-replicate}
+use Rattle.word_image.proofs.Common.{ordering_then, nat_cmp_is, slice_cmp, same_Some, length-replicate, All-head, All-replicate}
 use Rattle.word_image.specs.LocalRules.{IsWord, word_of, value, local_map}
 use Rattle.word_image.specs.Words.{image, IsOrphan, IsLeastOrphan, word_cmp}
 use Rattle.word_image.specs.Rings.{IsRing, IsTwins, IsLossyRing, IsFlux}

@@ -1,3 +1,4 @@
 pub mod laws
 pub mod Storage
 pub mod Examples
+pub mod Common

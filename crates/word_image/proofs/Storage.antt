@@ -1,8 +1,6 @@
 -- Numbers and the zeros after them can be told apart, and numbers grow over the zeros.
 use Rattle.std.proofs.Common.{◌≡◌, ℕ, ◌+◌, ◌-◌, ◌<◌, List, ◌++◌, length, take, drop, set, map, replicate, sym, ap, ◌∙◌}
-use Rattle.std.proofs.Math.Seq.{take-append_seam, drop-append_seam}
-use Rattle.std.specs.List.{range_with_len}
-use Rattle.std.proofs.lemmas.List.FromFn.{length-map-range_with_len}
+use Rattle.word_image.proofs.Common.{take-append_seam, drop-append_seam, range_with_len, length-map-range_with_len}
 use Rattle.word_image.specs.Storage.{in_row}
 use Rattle.word_image.proofs.laws.Lists.{filled_more}
 

@@ -1,8 +1,8 @@
 -- Rows of a buffer that grows behind them.
 use Rattle.std.proofs.Common.{◌≡◌, ℕ, ◌≤◌, List, [], ◌++◌, length, take, drop, sym, ap, ap₂, ◌∙◌, arith, append_assoc, append-nil, length-append, length-drop}
-use Rattle.std.proofs.lemmas.List.{take-append-le, drop-append-le, take_all}
-use Rattle.std.proofs.Math.Seq.{drop-append_seam}
-use Rattle.tail_config.specs.Tails.{TailConfig}
+use Rattle.std.proofs.lemmas.List.{take_all}
+use Rattle.word_image.proofs.Common.{take-append-le, drop-append-le, drop-append_seam}
+use Rattle.tail_config.proofs.Common.{TailConfig}
 use Rattle.c_values.specs.declared.letter_rows.LetterRow.{LetterRow}
 use Rattle.c_values.specs.declared.letter_rows.TwinRows.{TwinRows}
 use Rattle.c_values.specs.declared.letter_rows.TailRows.{TailRows}

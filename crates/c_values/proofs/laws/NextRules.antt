@@ -1,7 +1,6 @@
 -- What is handed back of the rules of a shape, in the words of the code.
 use Rattle.std.proofs.Common.{◌≡◌, ◌≢◌, ℕ, ◌^◌, ◌<◌, ◌≤◌, Bool, List, length, Some, None, pos, sym, ap, ap₂, subst, subst₂, ◌∙◌}
-use Rattle.word_image.specs.LocalRules.{LocalRule, IsRule}
-use Rattle.word_image.specs.RuleFaults.{rule_fault, shape_fault}
+use Rattle.word_image.proofs.Common.{LocalRule, IsRule, rule_fault, shape_fault}
 use Rattle.word_image.specs.declared.local_rule.RuleFault.{RuleFault}
 use Rattle.rule_lists.specs.Ranks.{IsOrder}
 use Rattle.rule_lists.specs.Orders.{IsOrderFor}

@@ -1,14 +1,11 @@
 -- What a report says, where letters are added behind its words, and what comes of the question for a report.
-use Rattle.std.proofs.Common.{◌≡◌, ◌≢◌, ℕ, ◌≤◌, List, ◌++◌, length, drop, Option, Some, None, Result, Ok, Err, refl, sym, ap, subst, subst₂, ◌∙◌, [], arith}
-use Rattle.std.specs.Prelude.{IfOk}
-use Rattle.word_image.specs.LocalRules.{LocalRule, IsRule}
-use Rattle.word_image.specs.RuleFaults.{rule_fault}
+use Rattle.std.proofs.Common.{◌≡◌, ◌≢◌, ℕ, ◌≤◌, List, ◌++◌, length, drop, Option, Some, None, Result, Ok, Err, refl, sym, ap, subst, subst₂, ◌∙◌, [], arith, IfOk}
+use Rattle.word_image.proofs.Common.{LocalRule, IsRule, rule_fault}
 use Rattle.word_image.specs.declared.local_rule.RuleFault.{RuleFault}
-use Rattle.cert_format.specs.Evidence.{InjectiveEvidence, SideEvidence, SumEvidence, Window, Twins, Ahead, Split, Flux, Ring}
+use Rattle.cert_format.specs.Evidence.{Window, Twins, Ahead, Split, Flux, Ring}
+use Rattle.cert_format.proofs.Common.{InjectiveEvidence, SideEvidence, SumEvidence}
 use Rattle.certificate_laws.specs.LeastEvidence.{Evidence, IsConservingPart, IsLeastEvidence}
-use Rattle.ca_findings.specs.Questions.{Question}
-use Rattle.ca_findings.specs.Findings.{Finding, Unfit, AreFor, IsFinding, IsUnfitFor, weight_by}
-use Rattle.ca_findings.specs.Values.{finding_of}
+use Rattle.ca_findings.proofs.Common.{Question, Finding, Unfit, AreFor, IsFinding, IsUnfitFor, weight_by, finding_of}
 use Rattle.ca_findings.specs.declared.found.Report.{Report}
 use Rattle.ca_findings.specs.declared.found.Found.{Found}
 use Rattle.ca_findings.specs.declared.found.Found.TheVariants as found

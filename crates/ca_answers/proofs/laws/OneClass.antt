@@ -1,13 +1,6 @@
 -- The least automaton of a surjective rule: one class, to which each letter leads.
-use Rattle.std.proofs.Common.{◌≡◌, ◌≢◌, ℕ, ◌+◌, ◌*◌, ◌<◌, List, [], ◌∷◌, length, Some, slice_get, slice_index, replicate, true≢false, refl, sym, ap, ◌∙◌, subst, arith}
-use Rattle.std.specs.Ordering.{ordering_then, nat_cmp, is_gt}
-use Rattle.std.specs.Cmp.{nat_cmp_is}
-use Rattle.std.specs.Cmp.Lexicographic.{slice_cmp}
-use Rattle.std.specs.declared.cmp.Ordering.TheVariants.{Less, Equal, Greater}
-use Rattle.std.proofs.lemmas.List.{get_or-replicate, length-replicate}
-use Rattle.std.proofs.lemmas.Option.{get_or_from_slice_get, slice_get_within}
-use Rattle.word_image.specs.LocalRules.{LocalRule}
-use Rattle.word_image.specs.Words.{IsSurjective, word_cmp}
+use Rattle.std.proofs.Common.{◌≡◌, ◌≢◌, ℕ, ◌+◌, ◌*◌, ◌<◌, List, [], ◌∷◌, length, Some, slice_get, slice_index, replicate, true≢false, refl, sym, ap, ◌∙◌, subst, arith, nat_cmp, is_gt, Less, Equal, Greater}
+use Rattle.word_image.proofs.Common.{ordering_then, nat_cmp_is, slice_cmp, get_or-replicate, length-replicate, get_or_from_slice_get, slice_get_within, LocalRule, IsSurjective, word_cmp}
 use Rattle.image_minimal.specs.ImageLanguages.{Alike, IsLeastAlike, IsLeastAutomaton}
 use Rattle.ca_answers.specs.OneClass.{one_class}
 

@@ -1,16 +1,11 @@
 -- With own weights what is found of a rule is what the values of its letters say.
-use Rattle.std.proofs.Common.{◌≡◌, ◌↔◌, List, ℕ, slice_index, Bool, IsTrue, subst}
-use Rattle.std.specs.Prelude.{Option, None, Some}
-use Rattle.word_image.specs.LocalRules.{LocalRule, IsRule}
-use Rattle.word_image.specs.Rings.{IsConserving}
-use Rattle.word_image.specs.Weights.{own_weights}
+use Rattle.std.proofs.Common.{◌≡◌, ◌↔◌, List, ℕ, slice_index, Bool, IsTrue, subst, Option, None, Some}
+use Rattle.word_image.proofs.Common.{LocalRule, IsRule, IsConserving, own_weights}
 use Rattle.ring_laws.proofs.SameWeights.{AgreeOn-own, IsConserving-own, IsFlux-agree, IsLeastLossyRing-agree}
 use Rattle.cert_format.specs.declared.cert_version.CertVersion.{CertVersion}
-use Rattle.cert_format.specs.Evidence.{SumEvidence}
-use Rattle.cert_format.specs.Evidence.SumEvidence.{Flux, Ring}
+use Rattle.cert_format.proofs.Common.{SumEvidence, Flux, Ring}
 use Rattle.certificate_laws.specs.LeastEvidence.{Evidence, IsConservingPart, IsLeastEvidence}
-use Rattle.ca_findings.specs.Questions.{Question}
-use Rattle.ca_findings.specs.Findings.{Unfit, IsUnfitFor, AreFor, weight_by, weights_by}
+use Rattle.ca_findings.proofs.Common.{Question, Unfit, IsUnfitFor, AreFor, weight_by, weights_by}
 
 -- of one verdict
 pub IsConserving-tested : {r : LocalRule} {weights : List ℕ} {keeps : Bool} → IsRule r → weights ≡ own_weights r.states → IsTrue keeps ↔ IsConserving (slice_index weights) r → IsTrue keeps ↔ IsConserving (λ a. a) r

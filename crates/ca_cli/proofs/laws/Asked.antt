@@ -1,9 +1,7 @@
 -- A command asks one question, or one of its operands is refused, and not both; `check` asks none.
-use Rattle.std.proofs.Common.{◌≡◌, ◌≢◌, ℕ, ◌≤◌, List, [], ◌∷◌, length, refl, sym, ap, ap₂, ◌∙◌, subst, arith}
-use Rattle.std.specs.Prelude.{Some, ℤ}
-use Rattle.std.proofs.lemmas.Option.{none-some}
-use Rattle.word_image.specs.LocalRules.{LocalRule}
-use Rattle.tail_config.proofs.laws.TailTexts.{HasParts-unique}
+use Rattle.std.proofs.Common.{◌≡◌, ◌≢◌, ℕ, ◌≤◌, List, [], ◌∷◌, length, refl, sym, ap, ap₂, ◌∙◌, subst, arith, Some, ℤ}
+use Rattle.word_image.proofs.Common.{none-some, LocalRule}
+use Rattle.tail_config.proofs.Common.{HasParts-unique}
 use Rattle.rule_text.specs.declared.text_fault.TextFault.{TextFault}
 use Rattle.rule_text.specs.RuleTexts.{IsOffset}
 use Rattle.rule_text.specs.RuleTexts.IsOffset.{Plain, Minus}
@@ -11,7 +9,7 @@ use Rattle.rule_text.proofs.laws.Texts.{IsRuleText-unique, IsRuleText-no_fault}
 use Rattle.ca_words.specs.declared.names.Name.{Name}
 use Rattle.ca_words.specs.declared.names.Name.TheVariants as name
 use Rattle.ca_words.specs.Commands.{Command, IsCommand, rule_count}
-use Rattle.ca_findings.specs.Questions.{Question}
+use Rattle.ca_findings.proofs.Common.{Question}
 use Rattle.ca_cli.specs.Asked.{AreRuleTexts, Asks, IsAsked, IsFirstFault, IsShapeFault, IsOperandFault}
 
 -- a text names one offset

@@ -1,18 +1,13 @@
 -- What `certify` and `brief` write is accepted by `check`.
-use Rattle.std.proofs.Common.{◌≡◌, ℕ, ◌≤◌, ◌∙◌, List, length, refl, sym, ap, subst, arith}
-use Rattle.std.specs.Prelude.{Option, Some, ◌↔◌}
-use Rattle.word_image.specs.LocalRules.{LocalRule}
+use Rattle.std.proofs.Common.{◌≡◌, ℕ, ◌≤◌, ◌∙◌, List, length, refl, sym, ap, subst, arith, Option, Some, ◌↔◌}
+use Rattle.word_image.proofs.Common.{LocalRule}
 use Rattle.cert_format.specs.declared.cert_version.CertVersion.{CertVersion}
-use Rattle.cert_format.specs.Certificates.{Certificate}
-use Rattle.cert_format.specs.WrittenTexts.{certificate_text}
-use Rattle.cert_conditions.specs.Accepted.{IsAccepted, AreTrue, verdicts_of}
+use Rattle.cert_format.proofs.Common.{Certificate, certificate_text}
+use Rattle.cert_conditions.proofs.Common.{IsAccepted, AreTrue, verdicts_of, AreTrue-accepted}
 use Rattle.cert_conditions.specs.declared.verdicts.Verdicts.{Verdicts}
-use Rattle.cert_conditions.proofs.laws.Soundness.{AreTrue-accepted}
 use Rattle.certificate_laws.specs.WrittenCertificates.{IsWritten}
 use Rattle.ca_words.specs.Commands.{Command, IsCommand, check_command, words_of}
-use Rattle.ca_findings.specs.Questions.{Question}
-use Rattle.ca_findings.specs.Findings.{Finding, IsFinding, weights_by}
-use Rattle.ca_findings.specs.Replies.{Reply}
+use Rattle.ca_findings.proofs.Common.{Question, Finding, IsFinding, weights_by, Reply}
 use Rattle.ca_text.specs.Texts.{text_of}
 use Rattle.ca_text.specs.Replies.{reply_text}
 use Rattle.ca_text.specs.StatusLines.{accepted_lines}

@@ -1,15 +1,12 @@
 -- Of an input that is told `check` has one right answer.
-use Rattle.std.proofs.Common.{◌≡◌, ℕ, ◌+◌, ◌≤◌, List, length, refl, ap, ◌∙◌, subst, arith}
-use Rattle.std.specs.Prelude.{Some, ◌↔◌}
-use Rattle.cert_conditions.specs.Accepted.{IsAccepted}
-use Rattle.cert_conditions.specs.Refusals.{IsRefusal}
+use Rattle.std.proofs.Common.{◌≡◌, ℕ, ◌+◌, ◌≤◌, List, length, refl, ap, ◌∙◌, subst, arith, Some, ◌↔◌}
+use Rattle.cert_conditions.proofs.Common.{IsAccepted, IsRefusal, AreTrue-accepted}
 use Rattle.cert_conditions.specs.declared.refusal.Refusal.{Refusal}
 use Rattle.cert_conditions.specs.declared.verdicts.Verdicts.{Verdicts}
 use Rattle.cert_conditions.proofs.laws.OneAnswer.{IsAccepted-unique, IsRefusal-unique, accepted_not_refused}
-use Rattle.cert_conditions.proofs.laws.Soundness.{AreTrue-accepted}
 use Rattle.ca_words.specs.declared.names.Name.TheVariants as name
 use Rattle.ca_words.specs.Commands.{Command, IsCommand, check_command}
-use Rattle.ca_findings.specs.Replies.{Reply}
+use Rattle.ca_findings.proofs.Common.{Reply}
 use Rattle.ca_text.specs.Replies.{reply_text}
 use Rattle.ca_text.specs.StatusLines.{accepted_lines, refused_line, too_long_line}
 use Rattle.ca_cli.specs.declared.status.Status.{Status}

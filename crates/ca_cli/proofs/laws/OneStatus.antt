@@ -1,11 +1,9 @@
 -- The right answers to words have one status.
-use Rattle.std.proofs.Common.{◌≡◌, ◌≢◌, ℕ, ◌≤◌, List, [], length, refl, sym, ap, ◌∙◌, subst, arith}
-use Rattle.std.specs.Prelude.{Option, Some}
+use Rattle.std.proofs.Common.{◌≡◌, ◌≢◌, ℕ, ◌≤◌, List, [], length, refl, sym, ap, ◌∙◌, subst, arith, Option, Some}
 use Rattle.rule_text.specs.declared.text_fault.TextFault.{TextFault}
-use Rattle.cert_conditions.specs.Accepted.{IsAccepted}
-use Rattle.cert_conditions.specs.Refusals.{IsRefusal}
+use Rattle.cert_conditions.proofs.Common.{IsAccepted, IsRefusal}
 use Rattle.ca_words.specs.Commands.{Command, IsCommand}
-use Rattle.ca_findings.specs.Replies.{Reply}
+use Rattle.ca_findings.proofs.Common.{Reply}
 use Rattle.ca_cli.specs.declared.status.Status.{Status}
 use Rattle.ca_cli.specs.declared.status.Status.TheVariants as status
 use Rattle.ca_cli.specs.Asked.{IsOperandFault}

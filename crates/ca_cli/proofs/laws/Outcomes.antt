@@ -1,9 +1,6 @@
 -- What comes of a question comes of the command that asks it.
-use Rattle.std.proofs.Common.{◌≡◌, ◌<◌, ◌≤◌, ℕ, List, [], ◌∷◌, length, get_or, refl, sym, ap, subst, ◌∙◌, arith}
-use Rattle.std.specs.Prelude.{Result, Ok, Err}
-use Rattle.std.specs.Result.{IsErrAnd}
-use Rattle.std.proofs.lemmas.Result.{err_from_is_err_and}
-use Rattle.word_image.specs.LocalRules.{LocalRule}
+use Rattle.std.proofs.Common.{◌≡◌, ◌<◌, ◌≤◌, ℕ, List, [], ◌∷◌, length, get_or, refl, sym, ap, subst, ◌∙◌, arith, Result, Ok, Err, IsErrAnd}
+use Rattle.word_image.proofs.Common.{err_from_is_err_and, LocalRule}
 use Rattle.rule_text.specs.declared.text_fault.TextFault.{TextFault}
 use Rattle.rule_text.specs.RuleTexts.{IsRuleText, IsTextFault}
 use Rattle.ca_words.specs.declared.names.Name.{Name}
@@ -11,8 +8,7 @@ use Rattle.ca_words.specs.Commands.{Command}
 use Rattle.ca_findings.specs.declared.found.Found.{Found}
 use Rattle.ca_findings.specs.declared.found.Stop as unfit
 use Rattle.ca_findings.specs.declared.found.Stop.TheVariants as unfit_stop
-use Rattle.ca_findings.specs.Questions.{Question}
-use Rattle.ca_findings.specs.Values.{Answers}
+use Rattle.ca_findings.proofs.Common.{Question, Answers}
 use Rattle.ca_answers.specs.declared.summaries.NoRules.{NoRules}
 use Rattle.ca_answers.specs.declared.summaries.NoRules.TheVariants as none
 use Rattle.ca_cli.specs.declared.stop.Stop.{Stop}

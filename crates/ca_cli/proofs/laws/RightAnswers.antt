@@ -1,12 +1,9 @@
 -- What the right answers to words have in common.
-use Rattle.std.proofs.Common.{◌≡◌, ◌≢◌, ℕ, List, refl, sym, ◌∙◌, subst}
-use Rattle.std.specs.Prelude.{Option, ◌↔◌}
+use Rattle.std.proofs.Common.{◌≡◌, ◌≢◌, ℕ, List, refl, sym, ◌∙◌, subst, Option, ◌↔◌}
 use Rattle.rule_text.specs.declared.text_fault.TextFault.{TextFault}
 use Rattle.ca_words.specs.Commands.{Command, IsCommand}
 use Rattle.ca_words.proofs.laws.Names.{IsCommand-unique}
-use Rattle.ca_findings.specs.Questions.{Question}
-use Rattle.ca_findings.specs.Findings.{Finding, Unfit, IsFinding, IsUnfitFor}
-use Rattle.ca_findings.specs.Replies.{Reply}
+use Rattle.ca_findings.proofs.Common.{Question, Finding, Unfit, IsFinding, IsUnfitFor, Reply}
 use Rattle.ca_text.specs.Replies.{reply_text}
 use Rattle.ca_text.specs.StatusLines.{usage_line, operand_fault_line}
 use Rattle.ca_cli.specs.declared.status.Status.{Status}

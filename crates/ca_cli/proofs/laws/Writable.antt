@@ -1,12 +1,10 @@
 -- What is right for words can be written.
-use Rattle.std.proofs.Common.{ℕ, List, ◌∷◌, inl, inr}
-use Rattle.std.specs.Prelude.{Option, ◌⊎◌, ⊤}
-use Rattle.word_image.specs.LocalRules.{LocalRule, IsRule}
+use Rattle.std.proofs.Common.{ℕ, List, ◌∷◌, inl, inr, Option, ◌⊎◌}
+use Rattle.std.specs.Prelude.{⊤}
+use Rattle.word_image.proofs.Common.{LocalRule, IsRule}
 use Rattle.rule_text.proofs.laws.AcceptedRules.{IsRule-text}
 use Rattle.ca_words.specs.declared.names.Name.{Name}
-use Rattle.ca_findings.specs.Questions.{Question, AreRules}
-use Rattle.ca_findings.specs.Findings.{Finding, Unfit, IsFinding, IsUnfitFor}
-use Rattle.ca_findings.specs.Replies.{Reply}
+use Rattle.ca_findings.proofs.Common.{Question, AreRules, Finding, Unfit, IsFinding, IsUnfitFor, Reply}
 use Rattle.ca_findings.specs.Writable.{IsWritable, IsWritableUnfit, IsWritableReply}
 use Rattle.ca_words.specs.Commands.{Command}
 use Rattle.ca_cli.specs.Asked.{AreRuleTexts, Asks}

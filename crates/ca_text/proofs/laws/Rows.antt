@@ -1,8 +1,6 @@
 -- What is written item by item.
-use Rattle.std.proofs.Common.{◌≡◌, ℕ, ◌+◌, List, ◌++◌, sym, ap, ◌∙◌}
-use Rattle.std.specs.List.{flat_map, range_with_len}
-use Rattle.std.proofs.lemmas.List.{flat_map_more}
-use Rattle.word_image.proofs.laws.Lists.{range-more}
+use Rattle.std.proofs.Common.{◌≡◌, ℕ, ◌+◌, List, ◌++◌, sym, ap, ◌∙◌, flat_map}
+use Rattle.word_image.proofs.Common.{range_with_len, flat_map_more, range-more}
 
 -- what is written item by item, and then the next item
 pub rows-more : (f : ℕ → List ℕ) (before : List ℕ) (a n j : ℕ) → a + n ≡ j

@@ -1,9 +1,6 @@
 -- The line of weights.
-use Rattle.std.proofs.Common.{◌≡◌, ℕ, List, [], ◌++◌, length, true, false, cond, codes, bytes_eq, refl}
-use Rattle.std.specs.List.{join_by}
-use Rattle.std.specs.Fmt.{decimal}
-use Rattle.std.proofs.lemmas.Slice.Eq.{bytes_eq-Decides}
-use Rattle.word_image.specs.Weights.{own_weights}
+use Rattle.std.proofs.Common.{◌≡◌, ℕ, List, [], ◌++◌, length, true, false, cond, codes, bytes_eq, refl, decimal}
+use Rattle.word_image.proofs.Common.{join_by, bytes_eq-Decides, own_weights}
 use Rattle.ca_text.specs.Reports.{line}
 use Rattle.ca_text.specs.StatusLines.{weights_lines}
 

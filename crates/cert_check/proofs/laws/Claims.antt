@@ -1,12 +1,9 @@
 -- Claims that fall, read on the steps of a pair.
 use Rattle.std.proofs.Common.{◌≡◌, ℕ, ◌<◌, ◌↔◌, List, Option, Some, sym, subst, ◌∙◌}
-use Rattle.std.proofs.lemmas.Option.{same_Some}
-use Rattle.word_image.specs.LocalRules.{LocalRule, IsRule}
-use Rattle.word_image.specs.Graphs.{pair_count}
+use Rattle.word_image.proofs.Common.{same_Some, LocalRule, IsRule, pair_count}
 use Rattle.word_image.specs.declared.side.Side.{Side}
-use Rattle.pair_laws.proofs.BackSteps.{LeadsOn-follows}
-use Rattle.cert_conditions.specs.Breaches.{EachBelow}
-use Rattle.cert_conditions.specs.Claims.{claim, IsBelow, Falls}
+use Rattle.pair_laws.proofs.Common.{LeadsOn-follows}
+use Rattle.cert_conditions.proofs.Common.{EachBelow, claim, IsBelow, Falls}
 use Rattle.cert_check.specs.SideWindows.{FallsBy}
 
 -- the claim of a pair falls exactly where it falls on all letters

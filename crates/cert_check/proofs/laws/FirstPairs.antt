@@ -1,16 +1,7 @@
 -- The first pairs of a side, told by the letters of their nodes.
 use Rattle.std.proofs.Common.{◌≡◌, ◌≢◌, ℕ, ◌+◌, ◌-◌, ◌*◌, ◌/◌, ◌%◌, ◌<◌, slice_index, refl, sym, ap, ap₂, ◌∙◌, subst, arith, mul_comm, mod-lt, div-add-mod'}
-use Rattle.std.proofs.lemmas.Nat.{mul-add-lt, div_below, div-mul-add, mod-mul-add}
-use Rattle.word_image.specs.LocalRules.{LocalRule, IsRule, node_count, value, word_of}
-use Rattle.word_image.specs.Graphs.{next, node_letter, pair_of, first_of, second_of, pair_count}
-use Rattle.word_image.specs.FirstPairs.{IsFirstOfRight, IsFirstOfLeft, IsFirstOf}
-use Rattle.word_image.proofs.laws.Values.{value-word_of}
-use Rattle.word_image.proofs.laws.Graphs.{next-below}
-use Rattle.word_image.proofs.laws.WindowParts.{rest_count, power-below, node_count-rest, window_parts, node_parts}
-use Rattle.pair_laws.proofs.Edges.{next-digits}
-use Rattle.pair_laws.proofs.Pairs.{first_of-pair_of, second_of-pair_of, pair_of-first_of, first_of-below, second_of-below}
-use Rattle.word_image.specs.Ends.{window_with}
-use Rattle.word_image.specs.Sides.{other}
+use Rattle.word_image.proofs.Common.{mul-add-lt, div_below, div-mul-add, mod-mul-add, LocalRule, IsRule, node_count, value, word_of, next, node_letter, pair_of, first_of, second_of, pair_count, IsFirstOfRight, IsFirstOfLeft, IsFirstOf, value-word_of, next-below, rest_count, power-below, node_count-rest, window_parts, node_parts, window_with, other}
+use Rattle.pair_laws.proofs.Common.{next-digits, first_of-pair_of, second_of-pair_of, pair_of-first_of, first_of-below, second_of-below}
 use Rattle.word_image.specs.declared.side.Side.{Side}
 use Rattle.word_image.specs.declared.side.Side.TheVariants.{Right, Left}
 use Rattle.cert_check.specs.SideWindows.{rest_of}

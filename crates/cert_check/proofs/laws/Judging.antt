@@ -1,7 +1,6 @@
 -- What reading bytes says of their acceptance and refusal.
 use Rattle.std.proofs.Common.{◌≡◌, ℕ, List, ◌⊎◌, Ok, Err, ap, ◌∙◌, subst, ⊎_elim, Result, alloc_error}
-use Rattle.cert_format.specs.Certificates.{Certificate}
-use Rattle.cert_format.specs.CertificateTexts.{IsCertificateText}
+use Rattle.cert_format.proofs.Common.{Certificate, IsCertificateText}
 use Rattle.cert_format.specs.ShapeFaults.{IsShapeFault}
 use Rattle.cert_format.specs.declared.shape_fault.ShapeFault.{ShapeFault}
 use Rattle.cert_format.specs.declared.shape_fault.CertFault.{CertFault}
@@ -9,9 +8,7 @@ use Rattle.cert_format.specs.declared.shape_fault.CertFault.TheVariants as cert_
 use Rattle.cert_conditions.specs.declared.verdicts.Verdicts.{Verdicts}
 use Rattle.cert_conditions.specs.declared.refusal.Refusal.{Refusal}
 use Rattle.cert_conditions.specs.declared.refusal.Refusal.TheVariants as refusal
-use Rattle.cert_conditions.specs.Accepted.{IsAccepted, verdicts_of}
-use Rattle.cert_conditions.specs.Conditions.{MeetsConditions}
-use Rattle.cert_conditions.specs.Refusals.{IsRefusal, IsFirstUnmet}
+use Rattle.cert_conditions.proofs.Common.{IsAccepted, verdicts_of, MeetsConditions, IsRefusal, IsFirstUnmet}
 use Rattle.cert_conditions.specs.Refusals.IsRefusal.{NoShape, Unmet}
 
 -- each certificate of the bytes was read, unless memory was refused

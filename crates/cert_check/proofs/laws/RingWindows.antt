@@ -1,11 +1,8 @@
 -- Two rings of one length have one image exactly where the rule gives one letter on their windows at each place.
 use Rattle.std.proofs.Common.{◌≡◌, ℕ, ◌<◌, ◌≤◌, List, length, ℤ, pos, ◌+ℤ◌, ◌-ℤ◌, sym, ap, ◌∙◌, arith}
-use Rattle.std.proofs.lemmas.Int.{ints}
-use Rattle.word_image.specs.LocalRules.{LocalRule, local_map}
-use Rattle.word_image.specs.Rings.{ring_letter, ring_letters, ring_image}
-use Rattle.tail_config.specs.Tails.{image_cell, cell}
-use Rattle.tail_config.proofs.laws.Runs.{run-same}
-use Rattle.tail_laws.proofs.TwinTails.{round, cell-round, ShareImage-turn, ShareImage-rings, ring_image-shared}
+use Rattle.word_image.proofs.Common.{ints, LocalRule, local_map, ring_letter, ring_letters, ring_image}
+use Rattle.tail_config.proofs.Common.{image_cell, cell, run-same}
+use Rattle.tail_laws.proofs.Common.{round, cell-round, ShareImage-turn, ShareImage-rings, ring_image-shared}
 
 -- what the rule gives on the window at this place of a ring
 abbrev pub window_letter : LocalRule → List ℕ → ℕ → ℕ

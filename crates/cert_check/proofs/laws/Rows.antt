@@ -1,6 +1,6 @@
 -- Rows of bits that mark sets, with one set more.
 use Rattle.std.proofs.Common.{◌≡◌, ℕ, ◌+◌, ◌*◌, ◌/◌, ◌%◌, ◌^◌, ◌<◌, ◌↔◌, ◌⊎◌, inl, inr, List, length, bit_or, slice_index, slice_set, sym, ap, ap₂, ◌∙◌, arith, ⊎_elim, div-add-mod'}
-use Rattle.pair_laws.proofs.Rows.{HasBit-more}
+use Rattle.pair_laws.proofs.Common.{HasBit-more}
 use Rattle.cert_check.specs.Rows.{IsMarked}
 
 -- a set is its row and its bit

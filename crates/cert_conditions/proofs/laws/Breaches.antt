@@ -1,16 +1,9 @@
 -- A breach of a condition says that the condition isn't met, and a certificate has at most one first breach.
 use Rattle.std.proofs.Common.{◌≡◌, ◌≢◌, sym, subst, List, length, take, drop, get_or, slice_index, ℕ, suc, ◌+◌, ◌<◌, ◌^◌, ◌≤◌, Contains, arith, All}
-use Rattle.std.proofs.lemmas.Option.{slice_get-get_or}
-use Rattle.std.proofs.lemmas.List.{take_more}
-use Rattle.std.proofs.lemmas.List.Elements.{All-push}
-use Rattle.word_image.specs.LocalRules.{LocalRule, word_of}
-use Rattle.word_image.specs.Rings.{ring_image}
-use Rattle.word_image.specs.Graphs.{full_set, first_of, second_of, pair_count}
+use Rattle.word_image.proofs.Common.{slice_get-get_or, take_more, All-push, LocalRule, word_of, ring_image, full_set, first_of, second_of, pair_count, IsFirstOf, slice_get-cut}
 use Rattle.word_image.specs.declared.side.Side.TheVariants as side
-use Rattle.word_image.specs.FirstPairs.{IsFirstOf}
-use Rattle.word_image.proofs.laws.Places.{slice_get-cut}
-use Rattle.tail_config.specs.Tails.{TailConfig, Different, ShareImage}
-use Rattle.cert_format.specs.Certificates.{Certificate}
+use Rattle.tail_config.proofs.Common.{TailConfig, Different, ShareImage}
+use Rattle.cert_format.proofs.Common.{Certificate}
 use Rattle.cert_conditions.specs.declared.condition.Condition.{Condition}
 use Rattle.cert_conditions.specs.declared.condition.Condition.TheVariants as condition
 use Rattle.cert_conditions.specs.declared.refusal.TwinCause.{TwinCause}

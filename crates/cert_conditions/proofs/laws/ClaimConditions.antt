@@ -1,27 +1,12 @@
 -- What claims of ranks say of windows and look-aheads, and so of injectivity and of closing on either side; what twins and splits say against them.
 use Rattle.std.proofs.Common.{◌≡◌, ◌≢◌, ℕ, ◌≤◌, List, length, Option, refl, arith, ◌↔◌, IsTrue}
-use Rattle.std.proofs.lemmas.Bool.{false≢true}
-use Rattle.word_image.specs.LocalRules.{LocalRule, IsRule, IsWord}
-use Rattle.word_image.specs.Rings.{ring_image, IsTwins}
-use Rattle.word_image.specs.Windows.{IsDetermined, IsRightAhead}
-use Rattle.word_image.specs.Graphs.{pair_count}
-use Rattle.word_image.specs.FirstPairs.{IsFirstOfRight, IsFirstOfLeft, IsFirstOf}
-use Rattle.word_image.specs.Sides.{seen_from}
+use Rattle.word_image.proofs.Common.{false≢true, LocalRule, IsRule, IsWord, ring_image, IsTwins, IsDetermined, IsRightAhead, pair_count, IsFirstOfRight, IsFirstOfLeft, IsFirstOf, seen_from}
 use Rattle.word_image.specs.declared.side.Side.{Side}
 use Rattle.word_image.specs.declared.side.Side.TheVariants.{Right, Left}
-use Rattle.pair_laws.proofs.Evidence.{IsDetermined-claims, ahead-claims}
-use Rattle.tail_config.specs.Tails.{TailConfig, Different, ShareImage, AgreeLeft, AgreeRight, IsInjective, IsRightSplit, IsRightClosing, IsLeftClosing}
-use Rattle.tail_config.specs.LeftSplits.{IsLeftSplit}
-use Rattle.tail_config.specs.TailTexts.{IsShortTail}
-use Rattle.tail_laws.proofs.Injective.{IsInjective-determined}
-use Rattle.tail_laws.proofs.Closing.{IsRightClosing-ahead}
-use Rattle.tail_laws.proofs.Sides.{IsLeftClosing-ahead}
-use Rattle.tail_laws.proofs.TwinTails.{no_twins}
-use Rattle.tail_laws.proofs.Verdicts.{IsRightClosing-none, IsLeftClosing-none}
-use Rattle.cert_format.specs.Evidence.{InjectiveEvidence, SideEvidence}
-use Rattle.cert_format.specs.Certificates.{IsInjectiveShape, IsSideShape}
-use Rattle.cert_format.specs.Evidence.InjectiveEvidence.{Window, Twins}
-use Rattle.cert_format.specs.Evidence.SideEvidence.{Ahead, Split}
+use Rattle.pair_laws.proofs.Common.{IsDetermined-claims, ahead-claims}
+use Rattle.tail_config.proofs.Common.{TailConfig, Different, ShareImage, AgreeLeft, AgreeRight, IsInjective, IsRightSplit, IsRightClosing, IsLeftClosing, IsLeftSplit, IsShortTail}
+use Rattle.tail_laws.proofs.Common.{IsInjective-determined, IsRightClosing-ahead, IsLeftClosing-ahead, no_twins, IsRightClosing-none, IsLeftClosing-none}
+use Rattle.cert_format.proofs.Common.{InjectiveEvidence, SideEvidence, IsInjectiveShape, IsSideShape, Window, Twins, Ahead, Split}
 use Rattle.cert_conditions.specs.Breaches.{EachBelow}
 use Rattle.cert_conditions.specs.Claims.{claim, Falls, IsWindowPair, IsAheadPair}
 use Rattle.cert_conditions.specs.Conditions.{OfWindow, OfTwins, OfAhead, OfSplit}

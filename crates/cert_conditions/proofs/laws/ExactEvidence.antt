@@ -1,23 +1,13 @@
 -- True evidence meets the conditions: the sets of last nodes, an orphan, the exact ranks, and with them each window and look-ahead, twins, splits, a flux, and a lossy ring.
 use Rattle.std.proofs.Common.{◌≢◌, ℕ, ◌^◌, List, [], ◌∷◌, ◌++◌, length, slice_index, Contains, Option, ℤ, subst}
-use Rattle.std.proofs.lemmas.List.Elements.{Contains-get_or}
-use Rattle.word_image.specs.LocalRules.{LocalRule, IsRule, word_of}
-use Rattle.word_image.specs.Words.{IsSurjective, IsOrphan}
-use Rattle.word_image.specs.Rings.{IsTwins, IsFlux, IsLossyRing}
-use Rattle.word_image.specs.Windows.{IsDetermined, IsRightAhead}
-use Rattle.word_image.specs.Graphs.{full_set, pair_count}
-use Rattle.word_image.specs.Sides.{seen_from}
+use Rattle.word_image.proofs.Common.{Contains-get_or, LocalRule, IsRule, word_of, IsSurjective, IsOrphan, IsTwins, IsFlux, IsLossyRing, IsDetermined, IsRightAhead, full_set, pair_count, seen_from, IsFirstOf, IsLastSet, IsLastSet-full, IsLastSet-step, IsOrphan-empty_set, IsOrphan-not_surjective}
 use Rattle.word_image.specs.declared.side.Side.{Side}
 use Rattle.word_image.specs.declared.side.Side.TheVariants.{Right, Left}
-use Rattle.word_image.specs.FirstPairs.{IsFirstOf}
-use Rattle.word_image.specs.Ranks.{IsLastSet}
-use Rattle.word_image.proofs.laws.LastSets.{IsLastSet-full, IsLastSet-step, IsOrphan-empty_set, IsOrphan-not_surjective}
-use Rattle.search_laws.proofs.StepSets.{LeadsToSet-last, IsLastSet-orphan, IsStep-some}
+use Rattle.search_laws.proofs.Common.{LeadsToSet-last, IsLastSet-orphan, IsStep-some}
 use Rattle.pair_laws.proofs.Claims.{ClaimsRanks, FallsOn-ranks}
-use Rattle.pair_laws.proofs.Evidence.{IsClaimedApart-ranks, ahead-ranks}
+use Rattle.pair_laws.proofs.Common.{IsClaimedApart-ranks, ahead-ranks}
 use Rattle.ring_laws.proofs.FluxWindows.{FlowsAt-flux}
-use Rattle.tail_config.specs.Tails.{TailConfig, AgreeLeft, AgreeRight, IsRightSplit}
-use Rattle.tail_config.specs.LeftSplits.{IsLeftSplit}
+use Rattle.tail_config.proofs.Common.{TailConfig, AgreeLeft, AgreeRight, IsRightSplit, IsLeftSplit}
 use Rattle.cert_format.specs.declared.cert_version.CertVersion.TheVariants.{One}
 use Rattle.cert_conditions.specs.Breaches.{EachBelow}
 use Rattle.cert_conditions.specs.Claims.{claim, IsWindowPair, IsAheadPair}

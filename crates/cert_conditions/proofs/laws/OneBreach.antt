@@ -1,13 +1,10 @@
 -- A certificate has at most one first condition that it doesn't meet, and one thing is said of it.
 use Rattle.std.proofs.Common.{◌≡◌, ◌≢◌, refl, ap, ap₂, subst, subst₂, List, length, slice_index, ℕ, ◌^◌, ⊎_elim, arith}
-use Rattle.std.proofs.lemmas.Bool.{cases_lt}
-use Rattle.word_image.specs.LocalRules.{LocalRule, word_of}
-use Rattle.word_image.specs.Graphs.{first_of, second_of, pair_count}
-use Rattle.tail_config.specs.Tails.{TailConfig}
-use Rattle.cert_format.specs.Certificates.{Certificate}
+use Rattle.word_image.proofs.Common.{cases_lt, LocalRule, word_of, first_of, second_of, pair_count, IsFirstOf}
+use Rattle.tail_config.proofs.Common.{TailConfig}
+use Rattle.cert_format.proofs.Common.{Certificate}
 use Rattle.cert_format.proofs.laws.ShapeFaults.{IsFirstWithout-unique}
 use Rattle.cert_conditions.specs.declared.condition.Condition.{Condition}
-use Rattle.word_image.specs.FirstPairs.{IsFirstOf}
 use Rattle.cert_conditions.specs.declared.refusal.TwinCause.{TwinCause}
 use Rattle.cert_conditions.specs.declared.refusal.SplitCause.{SplitCause}
 use Rattle.cert_conditions.specs.declared.refusal.Refusal.{Refusal}

@@ -1,10 +1,7 @@
 -- Listed pairs that meet their conditions are a pair list.
 use Rattle.std.proofs.Common.{◌≢◌, ℕ, List, length, slice_index, ◌<◌, All}
-use Rattle.std.proofs.lemmas.List.Elements.{All-contains}
-use Rattle.word_image.specs.LocalRules.{LocalRule, IsRule}
-use Rattle.word_image.specs.Graphs.{first_of, second_of, pair_count}
-use Rattle.word_image.specs.PairLists.{IsPairList}
-use Rattle.pair_laws.proofs.Evidence.{IsFirstOfRight-below}
+use Rattle.word_image.proofs.Common.{All-contains, LocalRule, IsRule, first_of, second_of, pair_count, IsPairList}
+use Rattle.pair_laws.proofs.Common.{IsFirstOfRight-below}
 use Rattle.cert_conditions.specs.Breaches.{EachBelow}
 use Rattle.cert_conditions.specs.Pairs.{FirstIsListed, StepsAreListed}
 use Rattle.cert_conditions.proofs.laws.StepConditions.{at_listed}

@@ -1,6 +1,6 @@
 -- Parts of sets of nodes.
 use Rattle.std.proofs.Common.{◌≡◌, ℕ, bit_and, sym, ap, ◌∙◌}
-use Rattle.std.proofs.lemmas.Nat.{and_assoc}
+use Rattle.word_image.proofs.Common.{and_assoc}
 
 -- a part of a part is a part
 pub part-of_part : (s t u : ℕ) → bit_and s t ≡ s → bit_and t u ≡ t → bit_and s u ≡ s

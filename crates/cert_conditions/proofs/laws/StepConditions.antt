@@ -1,19 +1,8 @@
 -- What listed sets and a read orphan say of surjectivity (Sutner 1991), and what says so of every rule.
 use Rattle.std.proofs.Common.{◌≡◌, ◌≢◌, ℕ, ◌^◌, ◌<◌, min, List, [], ◌∷◌, ◌++◌, length, slice_index, Contains, IsBitSet, bit_and, sym, ap, subst, ◌∙◌, append_assoc, append-nil, arith, pow_pos}
-use Rattle.std.specs.Int.{bit_at}
-use Rattle.std.specs.Int.Bits.{and_self}
-use Rattle.std.proofs.lemmas.Nat.{and_le_r}
-use Rattle.std.proofs.lemmas.Nat.Bits.{bit_at_and, bit_at-lt}
-use Rattle.std.proofs.lemmas.List.{get_or_default}
-use Rattle.std.proofs.lemmas.List.Elements.{All-tail}
-use Rattle.word_image.specs.LocalRules.{LocalRule, IsRule, IsWord, node_count}
-use Rattle.word_image.specs.Words.{IsSurjective, IsOrphan}
-use Rattle.word_image.specs.Graphs.{full_set}
-use Rattle.word_image.specs.Ranks.{IsLastNode}
-use Rattle.word_image.proofs.laws.Bits.{bit_at-IsBitSet, IsBitSet-some}
+use Rattle.word_image.proofs.Common.{bit_at, and_self, and_le_r, bit_at_and, bit_at-lt, get_or_default, All-tail, LocalRule, IsRule, IsWord, node_count, IsSurjective, IsOrphan, full_set, IsLastNode, bit_at-IsBitSet, IsBitSet-some, IsOrphan-empty_set}
 use Rattle.word_image.proofs.laws.LastNodes.{IsLastNode-empty, IsLastNode-push}
-use Rattle.word_image.proofs.laws.LastSets.{IsOrphan-empty_set}
-use Rattle.search_laws.proofs.StepSets.{IsLastSet-leads}
+use Rattle.search_laws.proofs.Common.{IsLastSet-leads}
 use Rattle.cert_format.specs.declared.cert_version.CertVersion.{CertVersion}
 use Rattle.cert_format.specs.declared.cert_version.CertVersion.TheVariants.{One, Two, Three}
 use Rattle.cert_conditions.specs.Breaches.{EachBelow}

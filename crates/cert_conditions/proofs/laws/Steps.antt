@@ -1,7 +1,7 @@
 -- A word leads from a set to one set.
 use Rattle.std.proofs.Common.{◌≡◌, ℕ, List, [], ◌∷◌, sym, subst, ◌∙◌}
-use Rattle.word_image.specs.LocalRules.{LocalRule}
-use Rattle.search_laws.proofs.StepSets.{IsSetOf-unique}
+use Rattle.word_image.proofs.Common.{LocalRule}
+use Rattle.search_laws.proofs.Common.{IsSetOf-unique}
 use Rattle.cert_conditions.specs.Sets.{LeadsTo}
 
 -- a word leads from a set to one set

@@ -1,13 +1,9 @@
 -- What a flux and a lossy ring say of conservation, and what says so of every rule (Hattori and Takesue 1991).
 use Rattle.std.proofs.Common.{◌≡◌, ℕ, ◌^◌, List, length, refl, ℤ, ◌↔◌, IsTrue}
-use Rattle.std.proofs.lemmas.Bool.{false≢true}
-use Rattle.word_image.specs.LocalRules.{LocalRule, IsRule, IsWord, word_of, node_count}
-use Rattle.word_image.specs.Rings.{IsFlux, IsLossyRing, IsConserving}
+use Rattle.word_image.proofs.Common.{false≢true, LocalRule, IsRule, IsWord, word_of, node_count, IsFlux, IsLossyRing, IsConserving}
 use Rattle.ring_laws.proofs.Fluxes.{IsConserving-flux}
 use Rattle.ring_laws.proofs.FluxWindows.{IsFlux-windows}
-use Rattle.cert_format.specs.Evidence.{SumEvidence}
-use Rattle.cert_format.specs.Certificates.{IsSumShape}
-use Rattle.cert_format.specs.Evidence.SumEvidence.{Flux, Ring}
+use Rattle.cert_format.proofs.Common.{SumEvidence, IsSumShape, Flux, Ring}
 use Rattle.cert_conditions.specs.Breaches.{EachBelow}
 use Rattle.cert_conditions.specs.Sums.{Flows, IsLossy}
 use Rattle.cert_conditions.specs.Conditions.{OfFlux, OfRing}

@@ -1,15 +1,9 @@
 -- What is said of surjectivity by listed sets, listed pairs or an orphan is true where its conditions are met.
 use Rattle.std.proofs.Common.{◌≢◌, length, slice_index, Contains, refl, ◌↔◌, IsTrue}
-use Rattle.std.proofs.lemmas.Bool.{false≢true}
-use Rattle.word_image.specs.LocalRules.{LocalRule, IsRule}
-use Rattle.word_image.specs.Words.{IsSurjective}
-use Rattle.word_image.specs.Graphs.{full_set, first_of, second_of, pair_count}
-use Rattle.word_image.proofs.laws.LastSets.{IsOrphan-not_surjective}
+use Rattle.word_image.proofs.Common.{false≢true, LocalRule, IsRule, IsSurjective, full_set, first_of, second_of, pair_count, IsOrphan-not_surjective}
 use Rattle.eden_laws.proofs.ReachedPairs.{IsSurjective-pair_list}
 use Rattle.cert_format.specs.declared.cert_version.CertVersion.{CertVersion}
-use Rattle.cert_format.specs.Evidence.{SurjectiveEvidence}
-use Rattle.cert_format.specs.Certificates.{IsSurjectiveShape}
-use Rattle.cert_format.specs.Evidence.SurjectiveEvidence.{Sets, Pairs, Orphan}
+use Rattle.cert_format.proofs.Common.{SurjectiveEvidence, IsSurjectiveShape, Sets, Pairs, Orphan}
 use Rattle.cert_conditions.specs.Breaches.{EachBelow}
 use Rattle.cert_conditions.specs.Sets.{StepIsKept, LeadsTo}
 use Rattle.cert_conditions.specs.Pairs.{FirstIsListed, StepsAreListed}

@@ -1,7 +1,6 @@
 -- What flows on a window, by the window's value.
 use Rattle.std.proofs.Common.{◌≡◌, ℕ, suc, ◌-◌, ◌/◌, ◌%◌, ◌^◌, ◌<◌, ◌≤◌, List, slice_index, ℤ, pos, ◌-ℤ◌, sym, ap, ap₂, ◌∙◌, arith, ◌↔◌}
-use Rattle.word_image.specs.LocalRules.{LocalRule, IsRule, value, word_of, node_count}
-use Rattle.word_image.proofs.laws.Values.{length-word_of, IsWord-word_of, value-word_of}
+use Rattle.word_image.proofs.Common.{LocalRule, IsRule, value, word_of, node_count, length-word_of, IsWord-word_of, value-word_of}
 use Rattle.ring_laws.proofs.FluxWindows.{FlowsAt, value-first_node, value-last}
 use Rattle.cert_conditions.specs.Sums.{Flows, flux_at}
 

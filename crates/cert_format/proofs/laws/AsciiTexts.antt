@@ -1,15 +1,9 @@
 -- The printed texts of words, configurations and rules are ASCII, and so UTF-8.
 use Rattle.std.proofs.Common.{ℕ, ◌+◌, ◌<◌, ◌≤◌, List, [], ◌∷◌, ◌++◌, arith, lit<, lit≤, ℤ, pos, negsuc, IsUtf8, IsAscii, decimal}
-use Rattle.std.proofs.lemmas.Bool.Decides.{nat_tests}
-use Rattle.std.proofs.lemmas.Int.{ints}
-use Rattle.std.proofs.lemmas.Str.{IsAscii-append, IsUtf8-from_ascii}
+use Rattle.word_image.proofs.Common.{nat_tests, ints, IsAscii-append, IsUtf8-from_ascii, IsAscii-decimal, All-head, All-tail, LocalRule, IsShape, IsRule, IsWord, lower_digit, word_text}
 use Rattle.std.proofs.lemmas.Str.Ascii.{IsAscii-nil, IsAscii-cons}
-use Rattle.std.proofs.lemmas.Fmt.{IsAscii-decimal}
-use Rattle.std.proofs.lemmas.List.Elements.{All-head, All-tail}
-use Rattle.word_image.specs.LocalRules.{LocalRule, IsShape, IsRule, IsWord}
-use Rattle.word_image.specs.Digits.{lower_digit, word_text}
 use Rattle.tail_config.specs.TailTexts as tail
-use Rattle.tail_config.specs.TailValues.{TailOver, IsAcceptedTail}
+use Rattle.tail_config.proofs.Common.{TailOver, IsAcceptedTail}
 use Rattle.rule_text.specs.PrintedRules.{offset_text, printed_rule}
 
 -- a text of bytes below 128

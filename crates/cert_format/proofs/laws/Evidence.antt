@@ -1,10 +1,7 @@
 -- Where a JSON value is no evidence.
 use Rattle.std.proofs.Common.{◌≡◌, ◌≢◌, sym, ap, ◌∙◌, subst, List, [], ◌∷◌, length, ℕ, ◌+◌, ◌<◌, ◌≤◌, ℤ, Option, arith, codes, All}
-use Rattle.std.specs.List.{AllZip}
-use Rattle.std.proofs.lemmas.List.Elements.{All-nil, All-cons, All-head, All-tail, All-weaker}
+use Rattle.word_image.proofs.Common.{AllZip, All-nil, All-cons, All-head, All-tail, All-weaker, LocalRule, node_count, full_set, pair_count}
 use Rattle.serde_json.specs.Data.{Data}
-use Rattle.word_image.specs.LocalRules.{LocalRule, node_count}
-use Rattle.word_image.specs.Graphs.{full_set, pair_count}
 use Rattle.cert_format.specs.declared.cert_version.CertVersion.{CertVersion}
 use Rattle.cert_format.specs.Evidence.{SurjectiveEvidence, InjectiveEvidence, SumEvidence}
 use Rattle.cert_format.specs.Certificates.{IsClaim, IsNear}

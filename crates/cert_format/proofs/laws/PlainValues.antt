@@ -1,10 +1,9 @@
 -- The value of a certificate nests no deeper than JSON is read, and has no float.
 use Rattle.std.proofs.Common.{◌≡◌, ℕ, suc, ◌≤◌, List, [], ◌∷◌, map, Option, Some, None, false, refl, sym, subst, ⊎_elim, arith, ℤ, pos, negsuc, codes}
-use Rattle.std.proofs.Math.Nat.{max-le}
+use Rattle.word_image.proofs.Common.{max-le, LocalRule}
 use Rattle.serde_json.specs.Data.{Data, string, object, Items, Members, no_members, member, depth, items_depth, members_depth}
 use Rattle.serde_json.specs.View.{items_of}
 use Rattle.serde_json.specs.Written.{has_float, items_have_float, members_have_float}
-use Rattle.word_image.specs.LocalRules.{LocalRule}
 use Rattle.rule_text.specs.PrintedRules.{printed_rule}
 use Rattle.cert_format.specs.Versions.{number_of}
 use Rattle.cert_format.specs.Evidence.{SurjectiveEvidence, InjectiveEvidence, SideEvidence, SumEvidence}

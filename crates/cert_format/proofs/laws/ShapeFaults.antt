@@ -1,13 +1,9 @@
 -- Bytes have one first fault, and the text of a certificate has none.
 use Rattle.std.proofs.Common.{◌≡◌, refl, sym, ap, ◌∙◌, subst, List, [], ◌∷◌, ◌++◌, ℕ, zero, suc, ◌<◌, ◌≤◌, ◌⊎◌, ⊎_elim, inl, inr, Result, Ok, Err, arith, codes, IfOk, IfErr, alloc_error}
 use Rattle.std.specs.Prelude.{⊤}
-use Rattle.std.specs.List.{AllByRecursion}
-use Rattle.std.proofs.lemmas.List.Elements.{recursion_from_All}
-use Rattle.std.proofs.lemmas.Bool.{cases_eq}
-use Rattle.std.proofs.lemmas.Option.{none-some}
+use Rattle.word_image.proofs.Common.{AllByRecursion, recursion_from_All, cases_eq, none-some, LocalRule}
 use Rattle.serde_json.specs.Data.{Data, object, Members}
 use Rattle.serde_json.specs.Find.{as_object}
-use Rattle.word_image.specs.LocalRules.{LocalRule}
 use Rattle.rule_text.specs.RuleTexts.{IsRuleText, IsTextFault}
 use Rattle.rule_text.proofs.laws.Texts.{IsRuleText-unique, IsTextFault-unique, IsRuleText-no_fault}
 use Rattle.cert_format.specs.declared.shape_fault.Key.{Key}

@@ -1,9 +1,7 @@
 -- Letters below k, by their digits.
 use Rattle.std.proofs.Common.{◌≡◌, ℕ, zero, suc, ◌<◌, List, [], ◌∷◌, length, map, get_or, Some, ap, arith}
-use Rattle.std.proofs.lemmas.List.Elements.{All-head, All-tail}
-use Rattle.word_image.specs.LocalRules.{IsWord}
-use Rattle.word_image.specs.Digits.{hex_value}
-use Rattle.tail_config.specs.TailTexts.{Spells}
+use Rattle.word_image.proofs.Common.{All-head, All-tail, IsWord, hex_value}
+use Rattle.tail_config.proofs.Common.{Spells}
 
 -- a digit without a letter below k
 pub not_letters : (k : ℕ) (text w : List ℕ) (i : ℕ) → i < length text → ((a : ℕ) → hex_value (get_or text i 0) ≡ Some a → ¬ (a < k)) → Spells text w → ¬ IsWord k w

@@ -1,12 +1,9 @@
 -- Which step of reading a certificate fails.
 use Rattle.std.proofs.Common.{◌≡◌, refl, sym, ◌∙◌, subst, List, ◌∷◌, ◌++◌, ℕ, inl, inr, Result, Ok, Err, Option, Some, None, true, false, is_some, codes, alloc_error, IsUtf8, IfOk, IfErr}
-use Rattle.std.specs.List.{AllByRecursion}
-use Rattle.std.proofs.lemmas.List.Elements.{All-from_recursion}
-use Rattle.std.proofs.lemmas.Option.{none-some}
+use Rattle.word_image.proofs.Common.{AllByRecursion, All-from_recursion, none-some, LocalRule}
 use Rattle.serde_json.specs.Data.{Data, object, Members}
 use Rattle.serde_json.specs.Read.{read}
 use Rattle.serde_json.specs.Find.{get_member, as_object}
-use Rattle.word_image.specs.LocalRules.{LocalRule}
 use Rattle.rule_text.specs.RuleTexts.{IsRuleText}
 use Rattle.cert_format.specs.declared.misread.Misread.{Misread}
 use Rattle.cert_format.specs.declared.misread.Misread.TheVariants as misread

@@ -1,17 +1,12 @@
 -- A JSON value says one thing, and bytes are the text of one certificate.
 use Rattle.std.proofs.Common.{◌≡◌, refl, sym, ap, ◌∙◌, subst, subst₂, List, [], ◌∷◌, length, map, ℕ, zero, suc, ℤ, Option, Some, None, slice_index, arith, codes}
-use Rattle.std.specs.List.{AllZip}
-use Rattle.std.proofs.lemmas.Option.{none-some, same_Some}
+use Rattle.word_image.proofs.Common.{AllZip, none-some, same_Some, LocalRule, hex_value}
 use Rattle.serde_json.specs.Data.{Data, null, Members, no_members, member}
 use Rattle.serde_json.specs.Find.{get_member, as_object, as_array, as_str}
 use Rattle.serde_json.specs.Events.{members_len}
-use Rattle.word_image.specs.LocalRules.{LocalRule}
-use Rattle.word_image.specs.Digits.{hex_value}
 use Rattle.rule_text.specs.RuleTexts.{IsRuleText}
 use Rattle.rule_text.proofs.laws.Texts.{IsRuleText-unique}
-use Rattle.tail_config.specs.Tails.{TailConfig}
-use Rattle.tail_config.specs.TailTexts.{HasParts}
-use Rattle.tail_config.proofs.laws.TailTexts.{HasParts-unique}
+use Rattle.tail_config.proofs.Common.{TailConfig, HasParts, HasParts-unique}
 use Rattle.cert_format.specs.declared.cert_version.CertVersion.{CertVersion}
 use Rattle.cert_format.specs.declared.cert_version.CertVersion.TheVariants.{One, Two, Three}
 use Rattle.cert_format.specs.Versions.{number_of}

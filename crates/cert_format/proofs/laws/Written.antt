@@ -1,22 +1,11 @@
 -- What is written for a certificate within its limits is read back as it.
 use Rattle.std.proofs.Common.{◌≡◌, ℕ, ◌-◌, ◌^◌, ◌<◌, ◌≤◌, List, [], ◌∷◌, codes, map, Option, Some, None, All, nat_cmp, Contains, refl, sym, ap, subst, ⊎_elim, ◌++◌, arith, ℤ, pos, negsuc, ◌≤ℤ◌, if◌then◌else◌}
-use Rattle.std.specs.List.{AllZip}
-use Rattle.std.specs.Cmp.Lexicographic.{slice_cmp}
-use Rattle.std.proofs.lemmas.Bool.Decides.{nat_tests}
-use Rattle.std.proofs.lemmas.Int.{ints}
-use Rattle.std.proofs.lemmas.List.Elements.{All-head, All-tail, Contains-append_left}
-use Rattle.std.proofs.lemmas.Option.{none-some}
+use Rattle.word_image.proofs.Common.{AllZip, slice_cmp, nat_tests, ints, All-head, All-tail, Contains-append_left, none-some, LocalRule, IsRule, IsWord, node_count, pair_count, word_text, IsWord-le}
 use Rattle.serde_json.specs.Data.{Data, string, Members, no_members, member}
 use Rattle.serde_json.specs.Find.{get_member}
 use Rattle.serde_json.specs.View.{items_of}
-use Rattle.word_image.specs.LocalRules.{LocalRule, IsRule, IsWord, node_count}
-use Rattle.word_image.specs.Graphs.{pair_count}
-use Rattle.word_image.specs.Digits.{word_text}
-use Rattle.word_image.proofs.laws.Words.{IsWord-le}
-use Rattle.tail_config.specs.Tails.{TailConfig}
-use Rattle.tail_config.specs.TailTexts.{IsShortTail}
+use Rattle.tail_config.proofs.Common.{TailConfig, IsShortTail, Spells-word_text}
 use Rattle.tail_config.specs.TailTexts as tail
-use Rattle.tail_config.proofs.laws.TailTexts.{Spells-word_text}
 use Rattle.rule_text.specs.PrintedRules.{printed_rule}
 use Rattle.rule_text.proofs.laws.Printed.{IsRuleText-printed_rule}
 use Rattle.cert_format.specs.declared.cert_version.CertVersion.{CertVersion}

@@ -1,5 +1,5 @@
 use Rattle.std.proofs.Common.{refl}
-use Rattle.tail_laws.proofs.Injective.{determined_letter}
+use Rattle.tail_laws.proofs.Common.{determined_letter}
 use Rattle.config_laws.proofs.Injective.{IsInjective-everywhere}
 use Rattle.config_laws.proofs.injective_everywhere.Goals as goal
 

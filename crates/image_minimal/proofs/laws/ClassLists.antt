@@ -1,18 +1,8 @@
 -- A rule has one list of classes, so it has one least automaton.
 use Rattle.std.proofs.Common.{◌≡◌, ℕ, zero, suc, ◌+◌, ◌-◌, ◌*◌, ◌/◌, ◌%◌, ◌<◌, ◌≤◌, List, [], ◌∷◌, ◌++◌, length, get_or, slice_index, Option, Some, None, refl, sym, ap, ap₂, ◌∙◌, subst, arith, ⊎_elim, append-nil, append_assoc, slice_get, nat_cmp, Equal, ext_get_or, div-lt_iff_lt-mul, mod-lt, mul-zero, mul_comm}
-use Rattle.std.specs.Cmp.Lexicographic.{slice_cmp}
-use Rattle.std.specs.Cmp.{nat_cmp_is}
-use Rattle.std.proofs.lemmas.Bool.{cases_lt}
-use Rattle.std.proofs.lemmas.List.Elements.{All-push, All-head, All-tail}
+use Rattle.word_image.proofs.Common.{slice_cmp, nat_cmp_is, cases_lt, All-push, All-head, All-tail, slice_get_within, slice_get-get_or, div-add-mod, LocalRule, IsRule, IsWord, IsOrphan, slice_get-unique, IsPreimage-snoc, then_equal}
 use Rattle.std.proofs.lemmas.Map.Lookups.{exact_bytes}
-use Rattle.std.proofs.lemmas.Option.{slice_get_within, slice_get-get_or}
-use Rattle.std.proofs.Math.Nat.{div-add-mod}
-use Rattle.word_image.specs.LocalRules.{LocalRule, IsRule, IsWord}
-use Rattle.word_image.specs.Words.{IsOrphan}
-use Rattle.word_image.proofs.laws.Places.{slice_get-unique}
-use Rattle.word_image.proofs.laws.Words.{IsPreimage-snoc}
-use Rattle.word_image.proofs.laws.Orders.{then_equal}
-use Rattle.search_laws.proofs.WordOrder.{word_number, word_number-le, word_number-less, word_cmp-number}
+use Rattle.search_laws.proofs.Common.{word_number, word_number-le, word_number-less, word_cmp-number}
 use Rattle.image_minimal.specs.ImageLanguages.{Alike, IsLeastAlike, IsClassList, IsNextClass, IsDeadClass, Automaton, IsLeastAutomaton}
 
 -- words of one number are one

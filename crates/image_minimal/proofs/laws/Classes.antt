@@ -1,14 +1,8 @@
 -- The closures that a breadth first queue lists are the classes of alike words, in the order of their least words.
 use Rattle.std.proofs.Common.{◌≡◌, ◌≢◌, ℕ, ◌+◌, ◌*◌, ◌<◌, ◌≤◌, ◌↔◌, List, [], length, get_or, Some, None, refl, sym, ◌∙◌, subst, arith, slice_get}
-use Rattle.std.proofs.lemmas.Option.{slice_get_within, slice_get-get_or}
-use Rattle.word_image.specs.LocalRules.{LocalRule, IsRule}
-use Rattle.word_image.specs.Graphs.{full_set}
-use Rattle.word_image.proofs.laws.LastSets.{IsPreimage-nonempty_set}
-use Rattle.search_laws.specs.SearchQueues.{Place, TreeSpells, IsQueue}
-use Rattle.search_laws.proofs.Walks.{Leads-push}
-use Rattle.search_laws.proofs.SpelledWords.{TreeSpells-some, TreeSpells-ascending, Leads-spelled}
+use Rattle.word_image.proofs.Common.{slice_get_within, slice_get-get_or, LocalRule, IsRule, full_set, IsPreimage-nonempty_set}
+use Rattle.search_laws.proofs.Common.{Place, TreeSpells, IsQueue, Leads-push, TreeSpells-some, TreeSpells-ascending, Leads-spelled, chosen, stands_at}
 use Rattle.search_laws.proofs.LeastFirst.{IsLeastTo-spelled, reached_all}
-use Rattle.search_laws.proofs.Families.{chosen, stands_at}
 use Rattle.image_minimal.specs.ImageLanguages.{Alike, IsClassList, IsNextClass, IsDeadClass}
 use Rattle.image_minimal.specs.Closures.{IsClosedStep}
 use Rattle.image_minimal.proofs.laws.Unread.{IsOrphan-last}

@@ -1,12 +1,7 @@
 -- Steps of closures: from the set of all nodes a word leads to the closure of its last nodes, and to no other set.
 use Rattle.std.proofs.Common.{◌≡◌, ℕ, ◌^◌, ◌<◌, List, [], ◌∷◌, refl, sym, subst}
-use Rattle.word_image.specs.LocalRules.{LocalRule, IsRule, IsWord, node_count}
-use Rattle.word_image.specs.Graphs.{full_set}
-use Rattle.word_image.specs.Ranks.{IsLastSet}
-use Rattle.word_image.proofs.laws.LastSets.{IsLastSet-full, IsLastSet-step}
-use Rattle.search_laws.specs.Walks.{Walk, Leads}
-use Rattle.search_laws.proofs.Walks.{Leads-induct}
-use Rattle.search_laws.proofs.StepSets.{IsStep-some, IsSetOf-unique}
+use Rattle.word_image.proofs.Common.{LocalRule, IsRule, IsWord, node_count, full_set, IsLastSet, IsLastSet-full, IsLastSet-step}
+use Rattle.search_laws.proofs.Common.{Walk, Leads, Leads-induct, IsStep-some, IsSetOf-unique}
 use Rattle.image_minimal.specs.Closures.{IsClosure, IsClosedStep}
 use Rattle.image_minimal.proofs.laws.Closures.{AreReadAlike-closure, AreReadAlike-step, IsClosure-alike, IsClosure-unique, IsClosure-full}
 

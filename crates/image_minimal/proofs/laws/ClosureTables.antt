@@ -1,16 +1,8 @@
 -- The closure of a set by those of the sets with one node more.
 use Rattle.std.proofs.Common.{◌≡◌, ℕ, ◌+◌, ◌^◌, ◌<◌, ◌⊎◌, ◌↔◌, inl, inr, List, set, slice_index, IsBitSet, bit_and, bit_or, refl, sym, ◌∙◌, subst, arith, ⊎_elim, pow_pos, get_or-set_same, get_or-set_other, length-set}
-use Rattle.std.proofs.lemmas.Bool.{cases_eq}
-use Rattle.std.proofs.lemmas.Nat.{le_or_l, or_lt}
-use Rattle.std.proofs.Math.Pow.{pow-lt}
-use Rattle.word_image.specs.LocalRules.{LocalRule, node_count}
-use Rattle.word_image.specs.Graphs.{IsNodeSet, full_set}
-use Rattle.word_image.proofs.laws.Bits.{IsBitSet-or, IsBitSet-pow, IsBitSet-decide}
-use Rattle.word_image.proofs.laws.Searches.{some_below}
-use Rattle.word_image.proofs.laws.LastSets.{IsBitSet-full}
-use Rattle.word_image.proofs.laws.Unions.{IsSetOf-same}
-use Rattle.pair_laws.proofs.Sets.{IsSetOf-both}
-use Rattle.search_laws.proofs.StepSets.{same_set}
+use Rattle.word_image.proofs.Common.{cases_eq, le_or_l, or_lt, pow-lt, LocalRule, node_count, IsNodeSet, full_set, IsBitSet-or, IsBitSet-pow, IsBitSet-decide, some_below, IsBitSet-full, IsSetOf-same}
+use Rattle.pair_laws.proofs.Common.{IsSetOf-both}
+use Rattle.search_laws.proofs.Common.{same_set}
 use Rattle.image_minimal.specs.Closures.{IsWithin, IsUnreadSet, IsClosure, AreClosuresFrom}
 use Rattle.image_minimal.proofs.laws.Unread.{IsUnreadSet-below}
 

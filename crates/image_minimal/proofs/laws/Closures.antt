@@ -1,12 +1,7 @@
 -- The closure of a set: two words are alike exactly where the sets of their last nodes have one closure.
 use Rattle.std.proofs.Common.{◌≡◌, ℕ, ◌^◌, ◌<◌, ◌↔◌, List, [], ◌∷◌, refl, sym, subst, arith, pow_pos}
-use Rattle.word_image.specs.LocalRules.{LocalRule, IsRule, node_count}
-use Rattle.word_image.specs.Graphs.{full_set}
-use Rattle.word_image.specs.Edges.{IsStep}
-use Rattle.word_image.specs.Ranks.{IsLastSet}
-use Rattle.word_image.proofs.laws.LastSets.{IsBitSet-full}
-use Rattle.word_image.proofs.laws.Unions.{IsSetOf-same}
-use Rattle.search_laws.proofs.StepSets.{IsSetOf-unique}
+use Rattle.word_image.proofs.Common.{LocalRule, IsRule, node_count, full_set, IsStep, IsLastSet, IsBitSet-full, IsSetOf-same}
+use Rattle.search_laws.proofs.Common.{IsSetOf-unique}
 use Rattle.image_minimal.specs.ImageLanguages.{Alike}
 use Rattle.image_minimal.specs.Closures.{IsWithin, IsUnreadSet, IsClosure}
 use Rattle.image_minimal.proofs.laws.Unread.{IsBack-some, IsUnread-some, IsWord-unread, IsWithin-back, IsWithin-zero, IsOrphan-unread}

@@ -1,16 +1,7 @@
 -- The words of links, and the words that come early enough after them: such a word is read from both sets of a link or from neither.
 use Rattle.std.proofs.Common.{◌≡◌, ℕ, ◌+◌, ◌*◌, ◌^◌, ◌<◌, ◌≤◌, ◌⊎◌, ◌↔◌, inl, inr, List, [], ◌∷◌, ◌++◌, Some, refl, sym, ap, ◌∙◌, subst, arith, ⊎_elim, append-nil, append_assoc, slice_get, pow_pos, mul-le-mul_left, mul-le-mul_right, mul-one}
-use Rattle.word_image.specs.LocalRules.{LocalRule, IsRule, IsWord, node_count}
-use Rattle.word_image.specs.Graphs.{full_set}
-use Rattle.word_image.specs.Edges.{IsStep}
-use Rattle.word_image.proofs.laws.Places.{slice_get-unique}
-use Rattle.search_laws.specs.SearchQueues.{Place, filled}
-use Rattle.search_laws.specs.SearchQueues.TreeSpells.{Root}
-use Rattle.search_laws.proofs.Walks.{Walk-each}
-use Rattle.search_laws.proofs.WordOrder.{word_number, word_number-snoc}
-use Rattle.search_laws.proofs.QueueStates.{mapped_at, state-all}
-use Rattle.search_laws.proofs.SpelledWords.{TreeSpells-unique, TreeSpells-some, TreeSpells-cases, Leads-spelled}
-use Rattle.search_laws.proofs.StepSets.{IsStep-some, LeadsToSet}
+use Rattle.word_image.proofs.Common.{LocalRule, IsRule, IsWord, node_count, full_set, IsStep, slice_get-unique}
+use Rattle.search_laws.proofs.Common.{Place, filled, Root, Walk-each, word_number, word_number-snoc, mapped_at, state-all, TreeSpells-unique, TreeSpells-some, TreeSpells-cases, Leads-spelled, IsStep-some, LeadsToSet}
 use Rattle.image_minimal.specs.Closures.{IsWithin, IsUnread}
 use Rattle.image_minimal.specs.declared.links.Link.{Link}
 use Rattle.image_minimal.specs.Links.{LinkStep, IsLinking, link_place, link_places, SpellsLink}

@@ -1,20 +1,8 @@
 -- What links say of the orphans of two rules: links that are closed under steps show that they are the same, and the first
 -- pair with exactly one empty set gives the least word that is an orphan of exactly one.
 use Rattle.std.proofs.Common.{◌≡◌, ℕ, ◌+◌, ◌*◌, ◌<◌, ◌≤◌, ◌↔◌, inl, inr, List, [], ◌∷◌, ◌++◌, length, Some, sym, ap, ◌∙◌, subst, arith, ⊎_elim, append_assoc, slice_get}
-use Rattle.std.proofs.lemmas.Bool.{cases_lt}
-use Rattle.std.proofs.lemmas.List.{length-map}
-use Rattle.word_image.specs.LocalRules.{LocalRule, IsRule, IsWord}
-use Rattle.word_image.specs.Words.{IsOrphan}
-use Rattle.word_image.specs.Graphs.{full_set}
-use Rattle.word_image.specs.Ranks.{IsLastSet}
-use Rattle.word_image.proofs.laws.LastSets.{IsLastSet-full}
-use Rattle.search_laws.specs.SearchQueues.TreeSpells.{Root}
-use Rattle.search_laws.proofs.Walks.{Leads-push}
-use Rattle.search_laws.proofs.WordOrder.{word_number, word_number-snoc, word_number-less}
-use Rattle.search_laws.proofs.SpelledWords.{TreeSpells-unique, TreeSpells-some, spelled-within, edges-ascending}
-use Rattle.search_laws.proofs.QueueSteps.{edge-within}
-use Rattle.search_laws.proofs.QueueStates.{unmapped_at}
-use Rattle.search_laws.proofs.StepSets.{IsLastSet-leads}
+use Rattle.word_image.proofs.Common.{cases_lt, length-map, LocalRule, IsRule, IsWord, IsOrphan, full_set, IsLastSet, IsLastSet-full}
+use Rattle.search_laws.proofs.Common.{Root, Leads-push, word_number, word_number-snoc, word_number-less, TreeSpells-unique, TreeSpells-some, spelled-within, edges-ascending, edge-within, unmapped_at, IsLastSet-leads}
 use Rattle.image_minimal.specs.ImageLanguages.{HaveSameOrphans, Separates}
 use Rattle.image_minimal.specs.Closures.{IsWithin, IsUnread}
 use Rattle.image_minimal.specs.declared.links.Link.{Link}

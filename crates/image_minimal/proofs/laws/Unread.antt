@@ -1,19 +1,8 @@
 -- A word is read from a set where some node of the set isn't one of those from which it isn't read, and then it goes on from there.
 use Rattle.std.proofs.Common.{◌≡◌, ℕ, ◌^◌, ◌<◌, ◌⊎◌, ◌↔◌, inl, inr, List, [], ◌∷◌, ◌++◌, IsBitSet, refl, sym, subst, arith, ⊎_elim, append-nil, append_assoc, pow_pos}
-use Rattle.std.proofs.lemmas.Bool.{cases_eq}
-use Rattle.std.proofs.lemmas.List.Elements.{All-tail}
-use Rattle.word_image.specs.LocalRules.{LocalRule, IsRule, IsWord, node_count}
-use Rattle.word_image.specs.Words.{IsOrphan}
-use Rattle.word_image.specs.Graphs.{next, label}
-use Rattle.word_image.specs.Edges.{IsEdge, IsStep}
+use Rattle.word_image.proofs.Common.{cases_eq, All-tail, LocalRule, IsRule, IsWord, node_count, IsOrphan, next, label, IsEdge, IsStep, IsLastSet, IsBitSet-some, IsBitSet-zero, IsBitSet-decide, next-below, IsLastSet-step, IsOrphan-empty_set, some_below}
 use Rattle.word_image.specs.declared.side.Side.TheVariants.{Right}
-use Rattle.word_image.specs.Ranks.{IsLastSet}
-use Rattle.word_image.proofs.laws.Bits.{IsBitSet-some, IsBitSet-zero, IsBitSet-decide}
-use Rattle.word_image.proofs.laws.Graphs.{next-below}
-use Rattle.word_image.proofs.laws.LastSets.{IsLastSet-step, IsOrphan-empty_set}
-use Rattle.word_image.proofs.laws.Searches.{some_below}
-use Rattle.search_laws.proofs.StepSets.{some_set, IsStep-some, IsLastSet-unique, IsLastSet-orphan}
-use Rattle.search_laws.proofs.Walks.{All-walk}
+use Rattle.search_laws.proofs.Common.{some_set, IsStep-some, IsLastSet-unique, IsLastSet-orphan, All-walk}
 use Rattle.image_minimal.specs.Closures.{IsWithin, IsLedInto, IsBack, StepsInto, IsUnread, IsUnreadSet}
 
 -- an edge leads to a node

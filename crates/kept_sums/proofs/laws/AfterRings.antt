@@ -1,12 +1,6 @@
 -- A ring and the words round it and its image; the stage after it.
 use Rattle.std.proofs.Common.{◌≡◌, ℕ, ◌+◌, ◌*◌, ◌^◌, ◌<◌, ◌≤◌, List, length, take, set, ℤ, pos, subst, ⊎_elim, ◌⊎◌, arith}
-use Rattle.std.specs.List.{range_with_len}
-use Rattle.std.proofs.lemmas.List.Elements.{All-map}
-use Rattle.std.proofs.lemmas.List.FromFn.{length-map-range_with_len}
-use Rattle.word_image.specs.LocalRules.{LocalRule, IsRule, IsWord, value}
-use Rattle.word_image.specs.Rings.{IsRing, ring_letters, ring_image}
-use Rattle.word_image.proofs.laws.Rings.{IsWord-ring_letters}
-use Rattle.word_image.proofs.laws.Values.{value-below}
+use Rattle.word_image.proofs.Common.{range_with_len, All-map, length-map-range_with_len, LocalRule, IsRule, IsWord, value, IsRing, ring_letters, ring_image, IsWord-ring_letters, value-below}
 use Rattle.ring_laws.proofs.Rings.{IsWord-ring_image, length-ring_letters}
 use Rattle.kept_sums.specs.Sums.{blocks, KeepsSumOf}
 use Rattle.kept_sums.specs.Spans.{entry, gain_at, IsNarrowed, IsLastGain, GainNothing, AreSmall}

@@ -1,13 +1,9 @@
 -- How great the numbers of a crossed row may be, divided by their greatest common divisor: no greater than those of a small solution of the conditions so far.
 use Rattle.std.proofs.Common.{◌≡◌, ◌≢◌, ℕ, zero, suc, ◌+◌, ◌-◌, ◌*◌, ◌^◌, ◌<◌, ◌≤◌, List, [], ◌∷◌, length, map, slice_index, slice_index_or, ℤ, pos, negsuc, ◌+ℤ◌, ◌-ℤ◌, ◌*ℤ◌, refl, sym, ap, ap₂, subst, ◌∙◌, ⊎_elim, ◌⊎◌, inl, inr, arith, unsigned_abs}
 use Prim.Native.Nat.{◌∣◌}
-use Rattle.std.proofs.Math.Nat.{eq-zero_of_zero-dvd, eq_of_mul-eq-mul_left, mul_left_comm, mul_assoc, mul-le-mul, mul-le-mul_left, mul-le-mul_right}
-use Rattle.std.proofs.Math.IntN.{pos-*ℤ-pos}
-use Rattle.std.proofs.lemmas.Bool.{cases_lt, cases_eq}
-use Rattle.std.proofs.lemmas.Int.{ints, unsigned_abs-mul}
-use Rattle.std.proofs.lemmas.List.{length-map, length-take}
-use Rattle.word_image.specs.LocalRules.{LocalRule, IsRule, IsWord}
-use Rattle.word_image.specs.Rings.{ring_image}
+use Rattle.std.proofs.Math.Nat.{mul_left_comm, mul_assoc, mul-le-mul, mul-le-mul_left, mul-le-mul_right}
+use Rattle.word_image.proofs.Common.{eq-zero_of_zero-dvd, eq_of_mul-eq-mul_left, pos-*ℤ-pos, cases_lt, cases_eq, ints, unsigned_abs-mul, length-map, LocalRule, IsRule, IsWord, ring_image}
+use Rattle.std.proofs.lemmas.List.{length-take}
 use Rattle.kept_sums.specs.Sums.{sum_to}
 use Rattle.kept_sums.specs.Rows.{at, IsCross, IsDivisor}
 use Rattle.kept_sums.specs.Spans.{entry, gain_at}

@@ -1,16 +1,7 @@
 -- Weights of words: how a ring's sum changes is a sum over its windows, so short rings tell whether every ring keeps it.
 use Rattle.std.proofs.Common.{◌≡◌, ℕ, ◌+◌, ◌-◌, ◌*◌, ◌%◌, ◌<◌, ◌≤◌, List, length, map, take, slice_index, ℤ, pos, negsuc, ◌+ℤ◌, ◌-ℤ◌, refl, sym, ap, ap₂, ◌∙◌, arith, mod-lt}
 use mathlib.Core.Path.{fun_ext}
-use Rattle.std.specs.List.{range_with_len}
-use Rattle.std.specs.Int.{int_rem_euclid}
-use Rattle.std.proofs.Math.Nat.{mod-add-mod}
-use Rattle.std.proofs.lemmas.Int.{ints}
-use Rattle.std.proofs.lemmas.List.FromFn.{length-map-range_with_len, get_or-map-range_with_len}
-use Rattle.word_image.specs.LocalRules.{LocalRule, IsRule, local_map, value}
-use Rattle.word_image.specs.Words.{image}
-use Rattle.word_image.specs.Rings.{IsRing, ring_letter, ring_letters, ring_image}
-use Rattle.word_image.proofs.laws.Rings.{ring_letters-rem}
-use Rattle.word_image.proofs.laws.RingSums.{ring_letters-turn}
+use Rattle.word_image.proofs.Common.{range_with_len, int_rem_euclid, mod-add-mod, ints, length-map-range_with_len, get_or-map-range_with_len, LocalRule, IsRule, local_map, value, image, IsRing, ring_letter, ring_letters, ring_image, ring_letters-rem, ring_letters-turn}
 use Rattle.ring_laws.proofs.Rings.{image-ring_letters, take-ring_letters}
 use Rattle.kept_sums.specs.Sums.{sum_at, blocks, KeepsSumOf, IsKept, sum_to}
 use Rattle.kept_sums.specs.Spans.{gain_at}

@@ -1,8 +1,6 @@
 -- What is crossed by a ring fits, in both orders of its words.
 use Rattle.std.proofs.Common.{◌≡◌, ℕ, zero, suc, ◌+◌, ◌-◌, ◌*◌, ◌^◌, ◌<◌, ◌≤◌, List, [], length, slice_index_or, ℤ, pos, negsuc, refl, subst, arith, ◌<ℤ◌}
-use Rattle.std.proofs.lemmas.Int.{ints}
-use Rattle.word_image.specs.LocalRules.{LocalRule, IsRule, IsWord}
-use Rattle.word_image.specs.Rings.{IsRing, ring_image}
+use Rattle.word_image.proofs.Common.{ints, LocalRule, IsRule, IsWord, IsRing, ring_image}
 use Rattle.kept_sums.specs.Rows.{IsCross}
 use Rattle.kept_sums.specs.Spans.{entry, gain_at, FitNarrowed}
 use Rattle.kept_sums.specs.Stages.{IsStage}

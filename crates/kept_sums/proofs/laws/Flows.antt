@@ -1,15 +1,8 @@
 -- Weights are kept exactly where they have a flux; and weights of letters from 0 on exactly where the rule conserves them.
 use Rattle.std.proofs.Common.{◌≡◌, ℕ, ◌+◌, ◌-◌, ◌*◌, ◌%◌, ◌<◌, ◌≤◌, ◌↔◌, List, [], ◌∷◌, length, take, drop, sum_by, slice_index, ℤ, pos, ◌+ℤ◌, ◌-ℤ◌, refl, sym, ap, ap₂, ◌∙◌, arith, length-drop}
-use Rattle.std.proofs.Math.Nat.{mod-eq_of_lt, pow-zero}
-use Rattle.std.proofs.lemmas.Int.{ints}
+use Rattle.std.proofs.Math.Nat.{mod-eq_of_lt}
+use Rattle.word_image.proofs.Common.{pow-zero, ints, All-take, All-drop, fill_by_all, LocalRule, IsRule, IsWord, value, word_of, ring_letters, ring_image, IsConserving, IsWord-ring_letters, ring_letters-turn, word_of-value}
 use Rattle.std.proofs.lemmas.List.{length-take-le}
-use Rattle.std.proofs.lemmas.List.Elements.{All-take, All-drop}
-use Rattle.std.proofs.lemmas.List.FromFn.{fill_by_all}
-use Rattle.word_image.specs.LocalRules.{LocalRule, IsRule, IsWord, value, word_of}
-use Rattle.word_image.specs.Rings.{ring_letters, ring_image, IsConserving}
-use Rattle.word_image.proofs.laws.Rings.{IsWord-ring_letters}
-use Rattle.word_image.proofs.laws.RingSums.{ring_letters-turn}
-use Rattle.word_image.proofs.laws.Values.{word_of-value}
 use Rattle.ring_laws.proofs.Rings.{length-ring_letters, take-ring_letters, drop-ring_letters}
 use Rattle.kept_sums.specs.Sums.{sum_at, blocks, IsKept}
 use Rattle.kept_sums.specs.Fluxes.{IsFluxOf, window_gain}

@@ -1,12 +1,6 @@
 -- The rows of an answer are independent apart from trivial weights, and so are the conditions of its rings.
 use Rattle.std.proofs.Common.{◌≡◌, ◌≢◌, ℕ, zero, suc, ◌+◌, ◌-◌, ◌^◌, ◌<◌, ◌≤◌, List, [], ◌∷◌, length, map, take, set, slice_index, slice_index_or, get_or-set_other, get_or-set_same, ℤ, pos, negsuc, ◌*ℤ◌, refl, sym, ap, subst, ◌∙◌, ⊎_elim, ◌⊎◌, inl, inr, arith, ◌==◌, if◌then◌else◌, unsigned_abs}
-use Rattle.std.proofs.Math.Nat.{pow-le-pow_right}
-use Rattle.std.proofs.lemmas.Bool.{cases_lt, cases_eq}
-use Rattle.std.proofs.lemmas.Bool.Decides.{nat_tests}
-use Rattle.std.proofs.lemmas.Int.{ints}
-use Rattle.std.proofs.lemmas.List.{length-map}
-use Rattle.word_image.specs.LocalRules.{LocalRule, IsRule}
-use Rattle.word_image.specs.Rings.{ring_image}
+use Rattle.word_image.proofs.Common.{pow-le-pow_right, cases_lt, cases_eq, nat_tests, ints, length-map, LocalRule, IsRule, ring_image}
 use Rattle.kept_sums.specs.Sums.{blocks, KeepsSumOf, sum_to}
 use Rattle.kept_sums.specs.Spans.{entry, combination, gain_at}
 use Rattle.kept_sums.specs.Stages.{IsFree, IsNormal, ring_at, IsZero, NotedKeep, IsStage}

@@ -1,6 +1,6 @@
 -- Rings of integers: products over sums, and that a product is zero only where a factor is.
 use Rattle.std.proofs.Common.{◌≡◌, ℕ, zero, suc, ◌*◌, ◌≤◌, ℤ, pos, negsuc, ◌+ℤ◌, ◌-ℤ◌, ◌*ℤ◌, neg_ℤ, refl, sym, ap, ap₂, ◌∙◌, arith}
-use Rattle.std.proofs.lemmas.Int.{ints}
+use Rattle.word_image.proofs.Common.{ints}
 use borrow.Author.Differences.{up, down, sum_is_lem, product_is, neg_is}
 
 -- a product with a sum

@@ -1,8 +1,7 @@
 -- The limits of the shapes: no small solution has a number above 2^56.
 use Rattle.std.proofs.Common.{◌≡◌, ℕ, suc, ◌+◌, ◌-◌, ◌*◌, ◌^◌, ◌<◌, ◌≤◌, ap, ◌∙◌, ⊎_elim, arith}
-use Rattle.std.proofs.Math.Nat.{pow-le-pow_left, pow-le-pow_right, pow-suc}
-use Rattle.std.proofs.lemmas.Bool.{cases_lt}
-use Rattle.word_image.specs.LocalRules.{LocalRule, IsRule}
+use Rattle.std.proofs.Math.Nat.{pow-suc}
+use Rattle.word_image.proofs.Common.{pow-le-pow_left, pow-le-pow_right, cases_lt, LocalRule, IsRule}
 use Rattle.kept_sums.proofs.laws.Ranges.{power-positive}
 use Rattle.kept_sums.proofs.laws.Bounds.{free_count}
 

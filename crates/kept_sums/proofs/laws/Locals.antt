@@ -1,13 +1,7 @@
 -- A number for each window of d + 1 letters: where its sum is 0 round each ring of at most 2 d + 1 letters, it is 0 round every ring (Hattori and Takesue 1991).
 use Rattle.std.proofs.Common.{◌≡◌, ℕ, zero, suc, ◌+◌, ◌-◌, ◌*◌, ◌<◌, ◌≤◌, List, ◌++◌, length, take, drop, replicate, ℤ, pos, ◌+ℤ◌, ◌-ℤ◌, sym, ap, ap₂, ◌∙◌, arith, length-append, length-drop, append_assoc}
-use Rattle.std.proofs.Math.Seq.{drop-append-add}
-use Rattle.std.proofs.lemmas.Int.{ints}
-use Rattle.std.proofs.lemmas.List.{length-replicate, length-take-le, take-append-drop, take-append-le, take_all, drop-append-le}
-use Rattle.std.proofs.lemmas.List.Elements.{All-append, All-take, All-replicate}
-use Rattle.word_image.specs.LocalRules.{IsWord}
-use Rattle.word_image.specs.Rings.{IsRing, ring_letters}
-use Rattle.word_image.proofs.laws.Rings.{IsWord-ring_letters}
-use Rattle.word_image.proofs.laws.RingSums.{ring_letters-turn}
+use Rattle.word_image.proofs.Common.{drop-append-add, ints, length-replicate, take-append-le, drop-append-le, All-append, All-take, All-replicate, IsWord, IsRing, ring_letters, IsWord-ring_letters, ring_letters-turn}
+use Rattle.std.proofs.lemmas.List.{length-take-le, take-append-drop, take_all}
 use Rattle.ring_laws.proofs.Rings.{ring_letters-closed, length-ring_letters, take-ring_letters, drop-ring_letters, slice_range-ring_letters}
 use Rattle.kept_sums.specs.Sums.{sum_to}
 use Rattle.kept_sums.proofs.laws.Spans.{sum_to-agree}

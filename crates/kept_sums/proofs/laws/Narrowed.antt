@@ -1,8 +1,6 @@
 -- What a step leaves of rows that stand, and of rows of zeros.
 use Rattle.std.proofs.Common.{◌≡◌, ◌≢◌, ℕ, zero, suc, ◌<◌, ◌≤◌, List, ℤ, pos, negsuc, ◌-ℤ◌, ◌*ℤ◌, sym, ap, ap₂, subst, ◌∙◌, ⊎_elim, arith, ◌<ℤ◌}
-use Rattle.std.proofs.lemmas.Int.{ints}
-use Rattle.std.proofs.lemmas.Bool.{cases_lt}
-use Rattle.word_image.specs.LocalRules.{IsWord}
+use Rattle.word_image.proofs.Common.{ints, cases_lt, IsWord}
 use Rattle.kept_sums.specs.Spans.{entry, gain_at, IsNarrowed}
 use Rattle.kept_sums.specs.Stages.{IsStanding, IsZero}
 use Rattle.kept_sums.proofs.laws.Integers.{zero-of_times}

@@ -1,16 +1,12 @@
 -- Rows as they are filled, and a row divided by its greatest divisor.
 use Rattle.std.proofs.Common.{◌≡◌, ◌≢◌, ℕ, ◌+◌, ◌*◌, ◌<◌, ◌≤◌, List, length, set, replicate, get_or-set_other, get_or-set_same, below_more, ℤ, pos, ◌-ℤ◌, ◌*ℤ◌, sym, ap, subst, ◌∙◌, ⊎_elim, arith, unsigned_abs}
-use Rattle.std.proofs.Math.Nat.{mul-dvd-mul_left, dvd_of_mul-dvd-mul_left, eq-one_of_dvd-one, eq-zero_of_zero-dvd, mul-one}
-use Rattle.std.proofs.lemmas.Int.{ints, unsigned_abs-mul}
-use Rattle.std.proofs.lemmas.Bool.{cases_lt}
-use Rattle.std.proofs.Math.ListN.{get_or-eq_default}
-use Rattle.std.proofs.lemmas.List.{get_or-replicate, length-replicate}
+use Rattle.std.proofs.Math.Nat.{mul-one}
+use Rattle.word_image.proofs.Common.{mul-dvd-mul_left, dvd_of_mul-dvd-mul_left, eq-one_of_dvd-one, eq-zero_of_zero-dvd, ints, unsigned_abs-mul, cases_lt, get_or-eq_default, get_or-replicate, length-replicate, pos-*ℤ-pos}
 use Prim.Native.Nat.{◌∣◌}
 use Rattle.kept_sums.specs.Rows.{at, IsCombined, IsDivisor, IsPart, IsUnit}
 use Rattle.kept_sums.specs.Sums.{sum_to}
 use Rattle.kept_sums.proofs.laws.Integers.{mul-sub, mul-swap, zero-of_times}
 use Rattle.kept_sums.proofs.laws.Spans.{sum_to-agree, sum_to-scaled}
-use Rattle.std.proofs.Math.IntN.{pos-*ℤ-pos}
 
 -- what holds of the first numbers and of the one that is stored next
 pub put : (P : ℕ → ℤ → Type 0) (row : List ℤ) (n : ℕ) (x : ℤ) → n < length row → ((a : ℕ) → a < n → P a (at row a)) → P n x → (a : ℕ) → a < n + 1 → P a (at (set row n x) a)

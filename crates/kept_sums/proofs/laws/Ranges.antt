@@ -1,8 +1,6 @@
 -- Words of which there are at most 16 have at most 4 letters.
 use Rattle.std.proofs.Common.{ℕ, ◌+◌, ◌*◌, ◌^◌, ◌<◌, ◌≤◌, subst, ⊎_elim, arith}
-use Rattle.std.proofs.Math.Nat.{pow-le-pow_left, pow-le-pow_right, pow-zero}
-use Rattle.std.proofs.lemmas.Bool.{cases_lt}
-use Rattle.word_image.specs.LocalRules.{LocalRule, IsRule}
+use Rattle.word_image.proofs.Common.{pow-le-pow_left, pow-le-pow_right, pow-zero, cases_lt, LocalRule, IsRule}
 
 -- words of which there are at most 16 have at most 4 letters
 pub few : (k range : ℕ) → 2 ≤ k → k ^ range ≤ 16 → range ≤ 4

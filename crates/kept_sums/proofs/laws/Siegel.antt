@@ -1,15 +1,7 @@
 -- Fewer conditions on integers than there are integers have a small solution that isn't 0 (Siegel 1929, after Thue).
 use Rattle.std.proofs.Common.{◌≡◌, ◌≢◌, ℕ, suc, ◌+◌, ◌-◌, ◌*◌, ◌^◌, ◌<◌, ◌≤◌, List, [], ◌∷◌, length, map, sum_by, ℤ, pos, ◌-ℤ◌, refl, sym, ap, ap₂, subst, ◌∙◌, ⊎_elim, ◌⊎◌, inl, inr, arith, unsigned_abs}
-use Rattle.std.proofs.Math.Nat.{pow-suc, pow-le-pow_left, mul-le-mul_right}
-use Rattle.std.proofs.lemmas.Bool.{cases_eq}
-use Rattle.std.proofs.lemmas.Nat.{mul-pow}
-use Rattle.std.proofs.lemmas.List.Elements.{All-tail, All-cons}
-use Rattle.std.proofs.lemmas.Int.{ints}
-use Rattle.std.proofs.lemmas.List.Sums.{sum_by-cons}
-use Rattle.std.proofs.lemmas.List.{length-map}
-use Rattle.word_image.specs.LocalRules.{IsWord, value, word_of}
-use Rattle.word_image.proofs.laws.Searches.{twice_below}
-use Rattle.word_image.proofs.laws.Values.{value-below, value-injective, length-word_of, IsWord-word_of, value-word_of}
+use Rattle.std.proofs.Math.Nat.{pow-suc, mul-le-mul_right}
+use Rattle.word_image.proofs.Common.{pow-le-pow_left, cases_eq, mul-pow, All-tail, All-cons, ints, sum_by-cons, length-map, IsWord, value, word_of, twice_below, value-below, value-injective, length-word_of, IsWord-word_of, value-word_of}
 use Rattle.kept_sums.specs.Spans.{gain_at}
 use Rattle.kept_sums.proofs.laws.Ranges.{power-positive}
 use Rattle.kept_sums.proofs.laws.Sums.{gain_at-sub, sum_at-pos}

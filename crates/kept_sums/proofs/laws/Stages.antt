@@ -1,9 +1,7 @@
 -- Stages: the first one, and that after a ring whose sum some row doesn't keep.
 use Rattle.std.proofs.Common.{◌≡◌, ◌≢◌, ℕ, ◌+◌, ◌-◌, ◌*◌, ◌^◌, ◌<◌, ◌≤◌, List, [], length, take, set, slice_index, get_or-set_other, get_or-set_same, ℤ, pos, sym, ap, ap₂, subst, ◌∙◌, ⊎_elim, ◌⊎◌, inl, inr, arith}
-use Rattle.std.proofs.lemmas.Bool.{cases_lt, cases_eq}
+use Rattle.word_image.proofs.Common.{cases_lt, cases_eq, LocalRule, IsWord, IsRing}
 use Rattle.std.proofs.lemmas.List.{length-set}
-use Rattle.word_image.specs.LocalRules.{LocalRule, IsWord}
-use Rattle.word_image.specs.Rings.{IsRing}
 use Rattle.kept_sums.specs.Sums.{KeepsSumOf}
 use Rattle.kept_sums.specs.Spans.{entry, gain_at, IsNarrowed, IsLastGain, AreSmall}
 use Rattle.kept_sums.specs.Stages.{IsFree, ring_at, IsStanding, IsZero, IsPlace, NotedKeep, IsStage}

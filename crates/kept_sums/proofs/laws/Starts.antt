@@ -1,13 +1,7 @@
 -- The first stage: each free place has the row that gives it the weight 1.
 use Rattle.std.proofs.Common.{◌≡◌, ◌≢◌, ℕ, ◌-◌, ◌^◌, ◌<◌, ◌≤◌, List, [], replicate, slice_index, slice_index_or, ℤ, pos, ◌*ℤ◌, sym, ap, subst, ◌∙◌, ⊎_elim, arith, unsigned_abs}
-use Rattle.std.proofs.Math.Nat.{eq-one_of_dvd-one}
-use Rattle.std.proofs.Math.ListN.{get_or-eq_default}
+use Rattle.word_image.proofs.Common.{eq-one_of_dvd-one, get_or-eq_default, ints, cases_lt, cases_eq, get_or-replicate, length-replicate, LocalRule, IsRule, slice_index-zeros}
 use Prim.Native.Nat.{◌∣◌}
-use Rattle.std.proofs.lemmas.Int.{ints}
-use Rattle.std.proofs.lemmas.Bool.{cases_lt, cases_eq}
-use Rattle.std.proofs.lemmas.List.{get_or-replicate, length-replicate}
-use Rattle.word_image.specs.LocalRules.{LocalRule, IsRule}
-use Rattle.word_image.proofs.laws.Lists.{slice_index-zeros}
 use Rattle.kept_sums.specs.Sums.{IsKept, sum_to}
 use Rattle.kept_sums.specs.Rows.{at, IsUnit, IsCombined}
 use Rattle.kept_sums.specs.Spans.{entry, IsSpanned}

@@ -1,10 +1,6 @@
 -- Sums of weights over words are linear in the weights.
 use Rattle.std.proofs.Common.{◌≡◌, ℕ, ◌+◌, ◌<◌, List, [], ◌∷◌, ◌++◌, length, take, get_or, sum_by, ℤ, pos, ◌+ℤ◌, ◌-ℤ◌, ◌*ℤ◌, refl, sym, ap, ap₂, ◌∙◌, arith}
-use Rattle.std.proofs.lemmas.Int.{ints}
-use Rattle.std.proofs.lemmas.List.{take_more}
-use Rattle.std.proofs.lemmas.List.Sums.{sum_by-cons}
-use Rattle.std.proofs.lemmas.List.Elements.{All-tail}
-use Rattle.word_image.specs.LocalRules.{IsWord}
+use Rattle.word_image.proofs.Common.{ints, take_more, sum_by-cons, All-tail, IsWord}
 use Rattle.kept_sums.specs.Sums.{sum_at}
 use Rattle.kept_sums.specs.Spans.{gain_at}
 use Rattle.kept_sums.proofs.laws.Integers.{mul-add, mul-sub}

@@ -1,12 +1,7 @@
 -- Trivial weights: each rule keeps their sums; each weight is a normal one and a trivial one; only 0 is both.
 use Rattle.std.proofs.Common.{◌≡◌, ℕ, zero, suc, ◌+◌, ◌-◌, ◌*◌, ◌/◌, ◌%◌, ◌^◌, ◌<◌, ◌≤◌, List, length, take, drop, ℤ, pos, ◌+ℤ◌, ◌-ℤ◌, ◌*ℤ◌, sym, ap, ap₂, ◌∙◌, arith, mod-lt}
-use Rattle.std.proofs.Math.Nat.{pow-suc, pow-zero, div-div-eq-div-mul, div-eq_of_lt, mod-eq_of_lt, div-one, zero-div, div-lt_iff_lt-mul, pow-le-pow_right}
-use Rattle.std.proofs.lemmas.Int.{ints}
-use Rattle.word_image.specs.LocalRules.{LocalRule, IsRule, IsWord, value, word_of}
-use Rattle.word_image.specs.Rings.{IsRing, ring_letters, ring_image}
-use Rattle.word_image.proofs.laws.Rings.{IsWord-ring_letters}
-use Rattle.word_image.proofs.laws.RingSums.{ring_letters-turn}
-use Rattle.word_image.proofs.laws.Values.{value-take, value-drop, length-word_of, IsWord-word_of, value-word_of}
+use Rattle.std.proofs.Math.Nat.{pow-suc, mod-eq_of_lt, div-one, div-lt_iff_lt-mul}
+use Rattle.word_image.proofs.Common.{pow-zero, div-div-eq-div-mul, div-eq_of_lt, zero-div, pow-le-pow_right, ints, LocalRule, IsRule, IsWord, value, word_of, IsRing, ring_letters, ring_image, IsWord-ring_letters, ring_letters-turn, value-take, value-drop, length-word_of, IsWord-word_of, value-word_of}
 use Rattle.ring_laws.proofs.Rings.{length-ring_letters, take-ring_letters, drop-ring_letters}
 use Rattle.kept_sums.specs.Sums.{sum_at, blocks, KeepsSumOf, IsKept, sum_to}
 use Rattle.kept_sums.specs.Stages.{IsNormal, ring_at, NotedKeep, IsStage}

@@ -1,9 +1,6 @@
 -- Sums of n integers, and of those round a ring: they are the same from any place on.
 use Rattle.std.proofs.Common.{◌≡◌, ℕ, zero, suc, ◌+◌, [], ◌∷◌, map, ℤ, pos, negsuc, ◌+ℤ◌, ◌-ℤ◌, refl, sym, ap, ◌∙◌, arith}
-use Rattle.std.specs.List.{range_with_len}
-use Rattle.std.proofs.lemmas.Int.{ints}
-use Rattle.word_image.proofs.laws.Lists.{range-more}
-use Rattle.std.proofs.lemmas.List.{map-append}
+use Rattle.word_image.proofs.Common.{range_with_len, ints, range-more, map-append}
 use Rattle.kept_sums.specs.Sums.{sum_at, sum_to}
 use Rattle.kept_sums.proofs.laws.Sums.{sum_at-snoc}
 use Rattle.kept_sums.proofs.laws.Spans.{sum_to-agree}

@@ -1,15 +1,9 @@
 -- Windows of m + range - 1 letters by their values, and the fluxes of what they add.
 use Rattle.std.proofs.Common.{◌≡◌, ℕ, zero, suc, ◌+◌, ◌-◌, ◌*◌, ◌/◌, ◌%◌, ◌^◌, ◌<◌, ◌≤◌, ◌≢◌, List, length, take, drop, get_or, get_or-set_other, set, replicate, slice_index, ℤ, pos, ◌-ℤ◌, sym, ap, ap₂, subst, ◌∙◌, arith, mod-lt, length-drop, unsigned_abs}
-use Rattle.std.proofs.Math.Nat.{pow-zero, pow-suc, mul-le-mul, mul-le-mul_left, div-lt_iff_lt-mul, div-lt_self, mod-eq_of_lt}
+use Rattle.std.proofs.Math.Nat.{pow-suc, mul-le-mul, mul-le-mul_left, div-lt_iff_lt-mul, mod-eq_of_lt}
+use Rattle.word_image.proofs.Common.{pow-zero, div-lt_self, ints, length-replicate, All-take, All-drop, LocalRule, IsRule, IsWord, value, word_of, image, get_or-image, IsWord-image, length-image, value-below, value-take_more, value-take-below, value-take, value-drop, length-word_of, IsWord-word_of, value-word_of, word_of-value}
 use Rattle.std.proofs.lemmas.Nat.{pow-add}
-use Rattle.std.proofs.lemmas.Int.{ints}
-use Rattle.std.proofs.lemmas.List.{length-take-le, length-set, length-replicate, take_all}
-use Rattle.std.proofs.lemmas.List.Elements.{All-take, All-drop}
-use Rattle.word_image.specs.LocalRules.{LocalRule, IsRule, IsWord, value, word_of}
-use Rattle.word_image.specs.Words.{image}
-use Rattle.word_image.proofs.laws.Images.{get_or-image}
-use Rattle.word_image.proofs.laws.Words.{IsWord-image, length-image}
-use Rattle.word_image.proofs.laws.Values.{value-below, value-take_more, value-take-below, value-take, value-drop, length-word_of, IsWord-word_of, value-word_of, word_of-value}
+use Rattle.std.proofs.lemmas.List.{length-take-le, length-set, take_all}
 use Rattle.kept_sums.specs.Rows.{at}
 use Rattle.kept_sums.specs.Fluxes.{IsFluxOf, window_gain, AreGains, IsFlowBy}
 use Rattle.kept_sums.proofs.laws.Ranges.{power-positive}

@@ -1,6 +1,6 @@
 -- From one rule of the list to the next.
 use Rattle.std.proofs.Common.{◌≡◌, ℕ, ◌+◌, ◌-◌, ◌^◌, ◌<◌, ◌↔◌, List, Option, Some, None, refl, sym, subst, arith, MatchOption}
-use Rattle.word_image.specs.LocalRules.{LocalRule}
+use Rattle.word_image.proofs.Common.{LocalRule}
 use Rattle.rule_lists.specs.Ranks.{IsOrder, rank, rank_of_first}
 use Rattle.rule_lists.specs.Listed.{IsListed, IsFirst, NoneIs}
 use Rattle.rule_lists.specs.Calls.{IsAfter}

@@ -1,15 +1,7 @@
 -- Images and image cells under the second rule after the first.
 use Rattle.std.proofs.Common.{◌≡◌, None, eq-eqb, ℕ, ◌+◌, ◌-◌, ◌<◌, ◌≤◌, List, length, take, drop, slice_range, ℤ, ◌+ℤ◌, refl, sym, ap, ap₂, subst, ◌∙◌, arith, length-drop, not, if◌then◌else◌, Some, length-take-le}
-use Rattle.std.proofs.lemmas.Bool.Decides.{nat_tests}
-use Rattle.std.proofs.lemmas.Int.{ints}
-use Rattle.std.proofs.lemmas.List.Elements.{All-take, All-drop}
-use Rattle.word_image.specs.LocalRules.{LocalRule, IsRule, IsShape, IsWord, local_map}
-use Rattle.word_image.specs.Words.{image}
-use Rattle.word_image.proofs.laws.Words.{length-image, entry-below}
-use Rattle.word_image.proofs.laws.Images.{get_or-image, image-by_letters, image-drop, image-take}
-use Rattle.tail_config.specs.Tails.{cells, cell}
-use Rattle.tail_config.proofs.laws.Runs.{length-run, IsWord-run, image-run}
-use Rattle.tail_config.proofs.laws.Cells.{cell-below}
+use Rattle.word_image.proofs.Common.{nat_tests, ints, All-take, All-drop, LocalRule, IsRule, IsShape, IsWord, local_map, image, length-image, entry-below, get_or-image, image-by_letters, image-drop, image-take}
+use Rattle.tail_config.proofs.Common.{cells, cell, length-run, IsWord-run, image-run, cell-below}
 use Rattle.rule_algebra.specs.Algebra.{IsComposed}
 use Rattle.rule_algebra.specs.MadeImages.{ComposesCells}
 use Rattle.rule_algebra.specs.AlgebraFaults.{limit_fault, compose_fault}

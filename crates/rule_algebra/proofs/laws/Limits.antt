@@ -1,9 +1,6 @@
 -- A shape without a fault is accepted.
 use Rattle.std.proofs.Common.{◌≡◌, ℕ, ◌≤◌, None, ℤ, ap, ap₂, ◌∙◌, arith}
-use Rattle.std.proofs.lemmas.Bool.Decides.{nat_tests}
-use Rattle.std.proofs.lemmas.Int.{ints}
-use Rattle.word_image.specs.LocalRules.{IsShape}
-use Rattle.word_image.proofs.laws.RuleFaults.{IsShape-offset}
+use Rattle.word_image.proofs.Common.{nat_tests, ints, IsShape, IsShape-offset}
 use Rattle.rule_algebra.specs.AlgebraFaults.{offset_fault, limit_fault}
 
 -- of as many states as a rule has

@@ -1,12 +1,6 @@
 -- Words, rules and images in new colours.
 use Rattle.std.proofs.Common.{◌≡◌, ◌≢◌, ℕ, ◌+◌, ◌-◌, ◌<◌, ◌≤◌, List, [], ◌∷◌, length, take, drop, get_or, slice_index, slice_range, set, refl, sym, ap, ap₂, ◌∙◌, ⊎_elim, arith, length-drop, length-take-le, get_or-set_same, get_or-set_other, length-set}
-use Rattle.std.proofs.lemmas.Bool.{cases_lt}
-use Rattle.std.proofs.lemmas.List.{length-map, take-map, drop-map, get_or-map, get_or_past}
-use Rattle.std.proofs.lemmas.List.Elements.{All-map, All-take, All-drop, All-head, All-tail, All-set}
-use Rattle.word_image.specs.LocalRules.{LocalRule, IsRule, IsWord, local_map}
-use Rattle.word_image.specs.Words.{image}
-use Rattle.word_image.proofs.laws.Words.{length-image}
-use Rattle.word_image.proofs.laws.Images.{get_or-image, image-by_letters}
+use Rattle.word_image.proofs.Common.{cases_lt, length-map, take-map, drop-map, get_or-map, get_or_past, All-map, All-take, All-drop, All-head, All-tail, All-set, LocalRule, IsRule, IsWord, local_map, image, length-image, get_or-image, image-by_letters}
 use Rattle.rule_algebra.specs.Algebra.{IsRecolouring, IsRecoloured, recoloured}
 use Rattle.rule_algebra.specs.MadeImages.{RecoloursImages}
 use Rattle.rule_algebra.specs.Tables.{AreOldLetters}

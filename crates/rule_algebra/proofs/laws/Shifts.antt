@@ -1,8 +1,7 @@
 -- The image cells under a shifted rule.
 use Rattle.std.proofs.Common.{◌≡◌, None, ℤ, ◌+ℤ◌, ap, arith}
-use Rattle.std.proofs.lemmas.Int.{ints}
-use Rattle.word_image.specs.LocalRules.{LocalRule, IsRule, local_map}
-use Rattle.tail_config.specs.Tails.{cells}
+use Rattle.word_image.proofs.Common.{ints, LocalRule, IsRule, local_map}
+use Rattle.tail_config.proofs.Common.{cells}
 use Rattle.rule_algebra.specs.Algebra.{shifted}
 use Rattle.rule_algebra.specs.MadeImages.{ShiftsImages}
 use Rattle.rule_algebra.specs.AlgebraFaults.{offset_fault}

@@ -1,10 +1,6 @@
 -- Tables by what they give on each window.
 use Rattle.std.proofs.Common.{◌≡◌, ℕ, ◌^◌, ◌<◌, List, length, slice_index, sym, ap, ◌∙◌, subst, arith}
-use Rattle.std.specs.List.{range_with_len}
-use Rattle.std.proofs.lemmas.List.FromFn.{length-map-range_with_len, get_or-map-range_with_len}
-use Rattle.std.proofs.lemmas.List.Elements.{All-map}
-use Rattle.word_image.specs.LocalRules.{IsWord, value, word_of}
-use Rattle.word_image.proofs.laws.Values.{value-below, word_of-value}
+use Rattle.word_image.proofs.Common.{range_with_len, length-map-range_with_len, get_or-map-range_with_len, All-map, IsWord, value, word_of, value-below, word_of-value}
 use Rattle.rule_algebra.specs.Tabulated.{table_by}
 
 -- there is an entry for each window

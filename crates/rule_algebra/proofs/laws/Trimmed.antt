@@ -1,17 +1,7 @@
 -- Last cells are the first cells of the mirrored rule, and a trimmed rule is twice without its first cells.
 use Rattle.std.proofs.Common.{◌≡◌, ℕ, ◌+◌, ◌-◌, ◌<◌, ◌≤◌, List, ◌++◌, length, take, drop, reverse, replicate, sym, ap, ap₂, subst, ◌∙◌, arith, length-drop, ℤ, pos, negsuc, ◌+ℤ◌, neg_ℤ}
-use Rattle.std.proofs.Math.Seq.{take-append-add}
-use Rattle.std.proofs.lemmas.Int.{ints}
-use Rattle.std.proofs.lemmas.List.{length-reverse, length-replicate, reverse-reverse, drop-take}
-use Rattle.std.proofs.lemmas.List.Elements.{All-drop}
-use Rattle.word_image.specs.LocalRules.{LocalRule, IsRule, IsWord, local_map, mirrored}
-use Rattle.word_image.proofs.laws.Images.{IsWord-reverse, local_map-mirrored}
-use Rattle.word_image.proofs.laws.Lists.{reverse-cut}
-use Rattle.tail_config.specs.Configs.{IsConfig}
-use Rattle.tail_config.specs.Tails.{TailConfig, IsTail, cell, image_cell, mirror_of}
-use Rattle.tail_config.specs.TailValues.{config_of}
-use Rattle.tail_config.proofs.laws.Cells.{cell-below}
-use Rattle.tail_config.proofs.laws.Mirror.{IsTail-mirror, cell-mirror, image_of-backwards}
+use Rattle.word_image.proofs.Common.{take-append-add, ints, length-reverse, length-replicate, reverse-reverse, drop-take, All-drop, LocalRule, IsRule, IsWord, local_map, mirrored, IsWord-reverse, local_map-mirrored, reverse-cut}
+use Rattle.tail_config.proofs.Common.{IsConfig, TailConfig, IsTail, cell, image_cell, mirror_of, config_of, cell-below, IsTail-mirror, cell-mirror, image_of-backwards}
 use Rattle.rule_algebra.specs.Algebra.{KeepsImages, Ignores, IsTrimmed}
 use Rattle.rule_algebra.specs.Tables.{IsRest, DropsFirsts}
 use Rattle.rule_algebra.proofs.laws.Trimming.{Ignores-firsts, firsts_ignored, Ignores-rest, behind_zeros, rest_letters, KeepsImages-rest}

@@ -1,18 +1,7 @@
 -- Cells that a rule ignores, and the rule without them.
 use Rattle.std.proofs.Common.{◌≡◌, ℕ, ◌+◌, ◌-◌, ◌%◌, ◌^◌, ◌<◌, ◌≤◌, List, ◌∷◌, ◌++◌, length, take, drop, replicate, slice_index, refl, sym, ap, subst, ◌∙◌, ⊎_elim, arith, length-append, length-drop, zero-mul, ℤ, pos, ◌+ℤ◌, take_all, length-take-le, drop-drop, get_or-take}
-use Rattle.std.proofs.Math.Nat.{pow-le-pow_right}
-use Rattle.std.proofs.Math.Seq.{drop-append_seam}
-use Rattle.std.proofs.lemmas.Bool.{cases_lt}
-use Rattle.std.proofs.lemmas.Int.{ints}
-use Rattle.std.proofs.lemmas.List.{length-replicate}
-use Rattle.std.proofs.lemmas.List.Elements.{All-cons, All-take, All-drop, All-append, All-replicate}
-use Rattle.word_image.specs.LocalRules.{LocalRule, IsRule, IsWord, value, word_of, local_map, node_count}
-use Rattle.word_image.proofs.laws.Values.{value-below, value-word_of, length-word_of, IsWord-word_of}
-use Rattle.word_image.proofs.laws.Graphs.{value-tail}
-use Rattle.word_image.proofs.laws.WindowParts.{some_letter}
-use Rattle.tail_config.specs.Tails.{cells, cell}
-use Rattle.tail_config.proofs.laws.Runs.{length-run, IsWord-run, drop-run}
-use Rattle.tail_config.proofs.laws.Cells.{cell-below}
+use Rattle.word_image.proofs.Common.{pow-le-pow_right, drop-append_seam, cases_lt, ints, length-replicate, All-cons, All-take, All-drop, All-append, All-replicate, LocalRule, IsRule, IsWord, value, word_of, local_map, node_count, value-below, value-word_of, length-word_of, IsWord-word_of, value-tail, some_letter}
+use Rattle.tail_config.proofs.Common.{cells, cell, length-run, IsWord-run, drop-run, cell-below}
 use Rattle.rule_algebra.specs.Algebra.{KeepsImages, Ignores}
 use Rattle.rule_algebra.specs.Tables.{without_first, IsRest, DropsFirsts}
 

@@ -1,10 +1,7 @@
 -- The image cells under a widened rule.
 use Rattle.std.proofs.Common.{◌≡◌, ℕ, ◌-◌, ◌/◌, ◌^◌, ◌<◌, ◌≤◌, List, take, slice_index, ℤ, ◌+ℤ◌, sym, ap, ◌∙◌}
-use Rattle.word_image.specs.LocalRules.{LocalRule, IsRule, IsShape, local_map, word_of}
-use Rattle.word_image.proofs.laws.Words.{entry-below}
-use Rattle.tail_config.specs.Tails.{cells, cell}
-use Rattle.tail_config.proofs.laws.Runs.{length-run, IsWord-run, take-run}
-use Rattle.tail_config.proofs.laws.Cells.{cell-below}
+use Rattle.word_image.proofs.Common.{LocalRule, IsRule, IsShape, local_map, word_of, entry-below}
+use Rattle.tail_config.proofs.Common.{cells, cell, length-run, IsWord-run, take-run, cell-below}
 use Rattle.rule_algebra.specs.Algebra.{KeepsImages}
 use Rattle.rule_algebra.specs.Tables.{widened}
 use Rattle.rule_algebra.proofs.laws.WindowValues.{value-take-word_of}

@@ -1,14 +1,6 @@
 -- The values of the parts of a window.
 use Rattle.std.proofs.Common.{◌≡◌, ℕ, ◌+◌, ◌-◌, ◌/◌, ◌%◌, ◌^◌, ◌<◌, ◌≤◌, List, length, take, drop, get_or, slice_index, slice_range, sym, ap, ap₂, ◌∙◌, arith, length-take-le}
-use Rattle.std.proofs.Math.Nat.{pow-le-pow_right}
-use Rattle.std.proofs.lemmas.List.{drop-take}
-use Rattle.std.proofs.lemmas.List.Elements.{All-take}
-use Rattle.word_image.specs.LocalRules.{LocalRule, IsRule, IsWord, value, word_of}
-use Rattle.word_image.specs.Words.{image}
-use Rattle.word_image.proofs.laws.Values.{value-take, value-drop, length-word_of, IsWord-word_of, value-word_of}
-use Rattle.word_image.proofs.laws.WindowParts.{some_letter}
-use Rattle.word_image.proofs.laws.Words.{length-image}
-use Rattle.word_image.proofs.laws.Images.{get_or-image}
+use Rattle.word_image.proofs.Common.{pow-le-pow_right, drop-take, All-take, LocalRule, IsRule, IsWord, value, word_of, image, value-take, value-drop, length-word_of, IsWord-word_of, value-word_of, some_letter, length-image, get_or-image}
 
 -- the value of n letters from place i on
 pub value-slice_range : (k i n : ℕ) (w : List ℕ) → IsWord k w → i + n ≤ length w → value k (slice_range w i (i + n)) ≡ value k w / k ^ (length w - (i + n)) % k ^ n

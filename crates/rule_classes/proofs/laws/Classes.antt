@@ -1,11 +1,8 @@
 -- What the rules of a class have in common, and how its least rule is found.
 use Rattle.std.proofs.Common.{◌≡◌, ℕ, ◌<◌, ◌≤◌, List, Bool, true, false, refl, sym, ap, ◌∙◌, subst, ⊎_elim, arith, ◌↔◌, true≢false}
-use Rattle.std.proofs.lemmas.Bool.{false≢true}
-use Rattle.word_image.specs.LocalRules.{LocalRule, IsRule, mirrored, wolfram_number}
-use Rattle.word_image.specs.Words.{IsSurjective}
-use Rattle.word_image.proofs.laws.Images.{IsRule-mirrored}
-use Rattle.tail_config.specs.Tails.{IsInjective, IsRightClosing, IsLeftClosing}
-use Rattle.tail_laws.proofs.Sides.{IsLeftClosing-mirrored}
+use Rattle.word_image.proofs.Common.{false≢true, LocalRule, IsRule, mirrored, wolfram_number, IsSurjective, IsRule-mirrored}
+use Rattle.tail_config.proofs.Common.{IsInjective, IsRightClosing, IsLeftClosing}
+use Rattle.tail_laws.proofs.Common.{IsLeftClosing-mirrored}
 use Rattle.rule_algebra.specs.Algebra.{IsRecoloured}
 use Rattle.rule_classes.specs.Classes.{IsInClass, IsLeastOfClass}
 use Rattle.rule_classes.specs.ClassVerdicts.{HaveOneVerdict}

@@ -1,14 +1,6 @@
 -- The rules that colourings make are those of the class, and their numbers compare as their entries do.
 use Rattle.std.proofs.Common.{◌≡◌, ℕ, ◌^◌, ◌<◌, List, length, take, get_or, slice_index, Bool, true, false, pos, refl, sym, ap, ◌∙◌, arith, get_or-take, ext_get_or}
-use Rattle.std.proofs.lemmas.Int.{ints}
-use Rattle.std.proofs.lemmas.List.{length-map, get_or_append_left}
-use Rattle.std.proofs.lemmas.List.FromFn.{get_or-map-range_with_len}
-use Rattle.word_image.specs.LocalRules.{LocalRule, IsRule, value, word_of, local_map, wolfram_number}
-use Rattle.word_image.proofs.laws.Values.{length-word_of, IsWord-word_of, value-word_of}
-use Rattle.word_image.proofs.laws.Words.{entry-below}
-use Rattle.word_image.proofs.laws.Images.{IsRule-mirrored}
-use Rattle.word_image.proofs.laws.RuleFaults.{IsShape-offset}
-use Rattle.word_image.proofs.laws.SameRules.{rule_from_parts}
+use Rattle.word_image.proofs.Common.{ints, length-map, get_or_append_left, get_or-map-range_with_len, LocalRule, IsRule, value, word_of, local_map, wolfram_number, length-word_of, IsWord-word_of, value-word_of, entry-below, IsRule-mirrored, IsShape-offset, rule_from_parts}
 use Rattle.rule_algebra.specs.Algebra.{recoloured}
 use Rattle.rule_algebra.proofs.laws.Recolouring.{new_colour, recoloured_rule}
 use Rattle.rule_algebra.proofs.laws.Tables.{length-table_by, IsWord-table_by, table_by-at}

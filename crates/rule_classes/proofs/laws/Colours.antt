@@ -1,10 +1,6 @@
 -- Colours and their letters: every permutation has both, and words come back.
 use Rattle.std.proofs.Common.{◌≡◌, ℕ, zero, suc, ◌<◌, ◌≤◌, List, [], ◌∷◌, ◌++◌, length, take, get_or, slice_index, refl, sym, ap, ap₂, ◌∙◌, subst, ⊎_elim, arith, length-take-le, get_or-take}
-use Rattle.std.proofs.lemmas.Bool.{cases_lt}
-use Rattle.std.proofs.lemmas.List.{length_push, get_or_push, get_or_append_left}
-use Rattle.std.proofs.lemmas.List.Elements.{All-map, All-from_get_or, All-head, All-tail}
-use Rattle.word_image.specs.LocalRules.{IsWord}
-use Rattle.word_image.proofs.laws.Searches.{twice_below}
+use Rattle.word_image.proofs.Common.{cases_lt, length_push, get_or_push, get_or_append_left, All-map, All-from_get_or, All-head, All-tail, IsWord, twice_below}
 use Rattle.rule_algebra.specs.Algebra.{IsRecolouring, recoloured}
 use Rattle.rule_algebra.proofs.laws.Recolouring.{recoloured_back}
 use Rattle.rule_classes.specs.Colourings.{AreInverse}

@@ -1,7 +1,6 @@
 -- The least of the rules that complete a colouring: by comparing tables, and by choosing one colour more.
 use Rattle.std.proofs.Common.{◌≡◌, ◌≢◌, inl, inr, ◌⊎◌, ℕ, ◌+◌, ◌-◌, ◌^◌, ◌<◌, ◌≤◌, slice_index, refl, sym, ap, ◌∙◌, subst, ⊎_elim, arith, ◌==◌, if◌then◌else◌, eq-eqb, ne_eqb}
-use Rattle.std.proofs.lemmas.Bool.{cases_lt, cases_eq, cond-true, cond-false}
-use Rattle.word_image.specs.LocalRules.{LocalRule, IsRule}
+use Rattle.word_image.proofs.Common.{cases_lt, cases_eq, cond-true, cond-false, LocalRule, IsRule}
 use Rattle.rule_classes.specs.Colourings.{IsColouring, IsChosen, Completes, IsLeastColouring, AgreeFrom, entry, recoloured_number}
 use Rattle.rule_classes.specs.declared.colourings.Colouring.{Colouring}
 use Rattle.rule_classes.proofs.laws.Colourings.{recoloured_number-less, recoloured_number-same}

@@ -1,12 +1,6 @@
 -- Windows whose letters are among the greatest, and what a colouring that is completed gives on them.
 use Rattle.std.proofs.Common.{◌≡◌, inl, inr, ◌⊎◌, ℕ, zero, suc, ◌+◌, ◌-◌, ◌*◌, ◌/◌, ◌%◌, ◌^◌, ◌<◌, ◌≤◌, List, length, get_or, slice_index, Bool, sym, ap, ap₂, ◌∙◌, ⊎_elim, arith, pow-suc, suc-mul, mul-le-mul_right, div-one, pow-add, ext_get_or}
-use Rattle.std.proofs.Math.Nat.{pow-zero, one-le-pow}
-use Rattle.std.proofs.lemmas.Bool.{cases_lt}
-use Rattle.std.proofs.lemmas.Nat.{div-mul-add, mod-mul-add}
-use Rattle.std.proofs.lemmas.List.{length-map, get_or-map}
-use Rattle.word_image.specs.LocalRules.{LocalRule, IsRule, word_of, local_map, node_count}
-use Rattle.word_image.proofs.laws.Values.{length-word_of, IsWord-word_of}
-use Rattle.word_image.proofs.laws.WindowParts.{some_letter, windows-nodes, get_or-word_of}
+use Rattle.word_image.proofs.Common.{pow-zero, one-le-pow, cases_lt, div-mul-add, mod-mul-add, length-map, get_or-map, LocalRule, IsRule, word_of, local_map, node_count, length-word_of, IsWord-word_of, some_letter, windows-nodes, get_or-word_of}
 use Rattle.rule_classes.specs.Classes.{turned}
 use Rattle.rule_classes.specs.Colourings.{IsColouring, IsChosen, Completes, entry, old_word}
 use Rattle.rule_classes.specs.declared.colourings.Colouring.{Colouring}

@@ -1,12 +1,6 @@
 -- Of rules of one shape the Wolfram numbers are in the order of the tables, read from the greatest window on.
 use Rattle.std.proofs.Common.{◌≡◌, ℕ, ◌+◌, ◌-◌, ◌*◌, ◌^◌, ◌<◌, List, length, reverse, take, drop, get_or, sym, ap, ap₂, ◌∙◌, subst, arith, length-drop, length-take-le, take-append-drop, get_or-drop, ext_get_or}
-use Rattle.std.proofs.lemmas.List.{length-reverse, reverse-reverse, reverse-append}
-use Rattle.std.proofs.lemmas.List.Elements.{All-take}
-use Rattle.word_image.specs.LocalRules.{LocalRule, IsRule, IsWord, value, wolfram_number}
-use Rattle.word_image.proofs.laws.Values.{value-append, value-below, value-injective}
-use Rattle.word_image.proofs.laws.Images.{IsWord-reverse}
-use Rattle.word_image.proofs.laws.SameRules.{rule_from_parts}
-use Rattle.word_image.proofs.laws.Orders.{digits-lt}
+use Rattle.word_image.proofs.Common.{length-reverse, reverse-reverse, reverse-append, All-take, LocalRule, IsRule, IsWord, value, wolfram_number, value-append, value-below, value-injective, IsWord-reverse, rule_from_parts, digits-lt}
 use Rattle.rule_text.proofs.laws.Numbers.{value-reverse_drop, wolfram_number-value}
 
 -- two tables of one shape have one length

@@ -1,15 +1,6 @@
 -- A window is read from its last letter on, in the old letters.
 use Rattle.std.proofs.Common.{◌≡◌, ℕ, suc, ◌+◌, ◌-◌, ◌*◌, ◌/◌, ◌%◌, ◌^◌, ◌<◌, ◌≤◌, List, [], ◌∷◌, ◌++◌, length, take, drop, reverse, get_or, slice_index, if◌then◌else◌, Bool, true, false, refl, sym, ap, ap₂, ◌∙◌, subst, arith, length-drop, drop-cons, pow-suc, mod-lt, mod-eq_of_lt, mul-le-mul_right, div-add-mod', take_all}
-use Rattle.std.proofs.Math.Nat.{pow-le-pow_right, pow-zero, one-le-pow}
-use Rattle.std.proofs.lemmas.Nat.{div-mul-add, mod-mul-add, div_below}
-use Rattle.std.proofs.lemmas.List.{length_push, map-append, length-map, length-reverse, get_or-map, reverse-append, drop_all}
-use Rattle.std.proofs.lemmas.List.Elements.{All-drop, All-push}
-use Rattle.word_image.specs.LocalRules.{LocalRule, IsRule, IsWord, value, word_of, local_map, node_count}
-use Rattle.word_image.proofs.laws.Values.{value-snoc, value-below, value-injective, value-take_more, value-word_of, IsWord-word_of, length-word_of}
-use Rattle.word_image.proofs.laws.Images.{IsWord-reverse, local_map-mirrored}
-use Rattle.word_image.proofs.laws.RuleFaults.{window_count-le}
-use Rattle.word_image.proofs.laws.WindowParts.{some_letter, window_with-within}
-use Rattle.word_image.specs.Ends.{window_with, end_node}
+use Rattle.word_image.proofs.Common.{pow-le-pow_right, pow-zero, one-le-pow, div-mul-add, mod-mul-add, div_below, length_push, map-append, length-map, length-reverse, get_or-map, reverse-append, drop_all, All-drop, All-push, LocalRule, IsRule, IsWord, value, word_of, local_map, node_count, value-snoc, value-below, value-injective, value-take_more, value-word_of, IsWord-word_of, length-word_of, IsWord-reverse, local_map-mirrored, window_count-le, some_letter, window_with-within, window_with, end_node}
 use Rattle.word_image.specs.declared.side.Side.TheVariants.{Right}
 use Rattle.rule_algebra.specs.Algebra.{recoloured}
 use Rattle.rule_classes.specs.Classes.{turned}

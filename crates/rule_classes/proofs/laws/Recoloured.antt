@@ -1,9 +1,6 @@
 -- Recoloured rules: the way back, and surjective rules.
 use Rattle.std.proofs.Common.{◌≡◌, ℕ, ◌+◌, ◌-◌, ◌^◌, List, length, slice_index, sym, ap, ap₂, ◌∙◌, subst}
-use Rattle.std.proofs.lemmas.List.{length-map}
-use Rattle.word_image.specs.LocalRules.{LocalRule, IsRule, IsWord, local_map}
-use Rattle.word_image.specs.Words.{IsPreimage, IsSurjective}
-use Rattle.word_image.proofs.laws.Words.{entry-below}
+use Rattle.word_image.proofs.Common.{length-map, LocalRule, IsRule, IsWord, local_map, IsPreimage, IsSurjective, entry-below}
 use Rattle.rule_algebra.specs.Algebra.{IsRecoloured, recoloured}
 use Rattle.rule_algebra.proofs.laws.Recolouring.{RecoloursImages-recoloured}
 use Rattle.rule_classes.specs.Colourings.{AreInverse}

@@ -1,12 +1,7 @@
 -- Configurations in new colours, and what recolouring keeps of a rule, at any offset.
 use Rattle.std.proofs.Common.{◌≡◌, ℕ, ◌+◌, ◌-◌, ◌%◌, List, length, slice_index, ℤ, pos, negsuc, ◌+ℤ◌, ◌-ℤ◌, refl, sym, ap, ap₂, ◌∙◌, subst, ⊎_elim, arith, mod-lt}
-use Rattle.std.proofs.lemmas.Bool.{cases_lt}
-use Rattle.std.proofs.lemmas.Int.{ints}
-use Rattle.std.proofs.lemmas.List.{length-map, get_or-map}
-use Rattle.word_image.specs.LocalRules.{LocalRule, IsRule, local_map}
-use Rattle.tail_config.specs.Tails.{TailConfig, IsTail, cell, cells, image_cell, Same, ShareImage, IsInjective, IsRightClosing, IsLeftClosing}
-use Rattle.tail_config.proofs.laws.Runs.{run-by_letters, length-run, get_or-run, IsWord-run}
-use Rattle.tail_config.proofs.laws.Cells.{cell-middle, cell-right, cell-below}
+use Rattle.word_image.proofs.Common.{cases_lt, ints, length-map, get_or-map, LocalRule, IsRule, local_map}
+use Rattle.tail_config.proofs.Common.{TailConfig, IsTail, cell, cells, image_cell, Same, ShareImage, IsInjective, IsRightClosing, IsLeftClosing, run-by_letters, length-run, get_or-run, IsWord-run, cell-middle, cell-right, cell-below}
 use Rattle.rule_algebra.specs.Algebra.{IsRecoloured, recoloured}
 use Rattle.rule_classes.specs.Colourings.{AreInverse}
 use Rattle.rule_classes.proofs.laws.Colours.{AreInverse-swap, IsWord-colours}

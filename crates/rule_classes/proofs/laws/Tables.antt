@@ -1,13 +1,7 @@
 -- Tables that are filled: from the table of another rule, window by window, to that of the recoloured rule.
 use Rattle.std.proofs.Common.{◌≡◌, ℕ, ◌+◌, ◌-◌, ◌^◌, ◌<◌, ◌≤◌, List, length, get_or, set, replicate, slice_index, false, sym, ap, ◌∙◌, subst, ⊎_elim, arith, length-set, length-append, get_or-set_same, get_or-set_other, ext_get_or}
 use Rattle.std.proofs.Math.Seq.{get_or-append_right}
-use Rattle.std.proofs.lemmas.Bool.{cases_lt}
-use Rattle.std.proofs.lemmas.List.{length-map, length-replicate, get_or-map, get_or_append_left}
-use Rattle.word_image.specs.LocalRules.{LocalRule, IsRule, IsWord, word_of, local_map}
-use Rattle.word_image.specs.Storage.{padded}
-use Rattle.word_image.proofs.laws.RuleFaults.{window_count-le}
-use Rattle.word_image.proofs.laws.Values.{IsWord-word_of, value-word_of}
-use Rattle.word_image.proofs.laws.Lists.{slice_index-zeros}
+use Rattle.word_image.proofs.Common.{cases_lt, length-map, length-replicate, get_or-map, get_or_append_left, LocalRule, IsRule, IsWord, word_of, local_map, padded, window_count-le, IsWord-word_of, value-word_of, slice_index-zeros}
 use Rattle.rule_algebra.specs.Algebra.{recoloured}
 use Rattle.rule_algebra.proofs.laws.Tables.{length-table_by}
 use Rattle.rule_classes.specs.Classes.{turned}

@@ -1,10 +1,7 @@
 -- Calls one after another give each listed rule once.
 use Rattle.std.proofs.Common.{◌≡◌, ℕ, ◌^◌, ◌<◌, ◌≤◌, List, [], ◌∷◌, ◌++◌, ◌⊎◌, inl, inr, length, Option, Some, None, refl, sym, ap₂, ◌∙◌, subst, arith, ⊎_elim, Contains, slice_index}
-use Rattle.std.proofs.lemmas.Bool.{cases_lt}
+use Rattle.word_image.proofs.Common.{cases_lt, Contains-append_left, Contains-append_right, Contains-append_cases, Contains-push, Contains-push_cases, LocalRule, rule_from_parts}
 use Rattle.std.proofs.lemmas.List.{ext_get_or}
-use Rattle.std.proofs.lemmas.List.Elements.{Contains-append_left, Contains-append_right, Contains-append_cases, Contains-push, Contains-push_cases}
-use Rattle.word_image.specs.LocalRules.{LocalRule}
-use Rattle.word_image.proofs.laws.SameRules.{rule_from_parts}
 use Rattle.rule_lists.specs.Ranks.{IsOrder, rank, rank_of_first}
 use Rattle.rule_lists.specs.Listed.{IsOfShape, IsListed, IsFirst, NoneIs}
 use Rattle.rule_lists.specs.Calls.{IsAfter, AreAll, AreSoFar, AreAscending, AreListed}

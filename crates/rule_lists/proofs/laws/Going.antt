@@ -1,15 +1,12 @@
 -- The search goes on: which rules are still to come.
 use Rattle.std.proofs.Common.{◌≡◌, ◌≢◌, ℕ, ◌+◌, ◌-◌, ◌*◌, ◌^◌, ◌<◌, ◌≤◌, ◌↔◌, inl, inr, List, length, slice_index, set, Option, Some, None, IfSome, sym, ap, ap₂, ◌∙◌, subst, arith, ⊎_elim, add-mul, one-mul, mul_assoc, mul_comm, pow-suc, MatchOption}
 use Rattle.std.proofs.Common.{subst₂}
-use Rattle.std.proofs.Math.Nat.{one-le-pow}
-use Rattle.std.proofs.lemmas.Nat.{mul-le, pow-add}
-use Rattle.std.proofs.lemmas.Bool.{cases_eq}
+use Rattle.word_image.proofs.Common.{one-le-pow, mul-le, cases_eq, LocalRule, rule_from_parts}
+use Rattle.std.proofs.lemmas.Nat.{pow-add}
 use Rattle.std.proofs.lemmas.List.{get_or-set_same, get_or-set_other}
-use Rattle.word_image.specs.LocalRules.{LocalRule}
 use Rattle.rule_lists.specs.Ranks.{IsOrder, rank_of_first, rank}
 use Rattle.rule_lists.specs.Tables.{IsTable, HasLetters, IsPast, IsFurther, least_rank}
 use Rattle.std.proofs.lemmas.List.{ext_get_or}
-use Rattle.word_image.proofs.laws.SameRules.{rule_from_parts}
 use Rattle.rule_lists.specs.Properties.{Has}
 use Rattle.rule_lists.specs.Listed.{IsOfShape, IsListed, IsFilled, IsFirst, NoneIs, IsOn, Forbids}
 use Rattle.rule_lists.specs.declared.properties.Property.{Property}

@@ -1,8 +1,7 @@
 -- The parts of a list, by the letter at one more window.
 use Rattle.std.proofs.Common.{◌≡◌, ◌≢◌, ℕ, ◌^◌, ◌<◌, ◌≤◌, ◌↔◌, List, length, slice_index, set, sym, ap, ◌∙◌, arith, ⊎_elim}
-use Rattle.std.proofs.lemmas.Bool.{cases_eq}
+use Rattle.word_image.proofs.Common.{cases_eq, LocalRule}
 use Rattle.std.proofs.lemmas.List.{get_or-set_same, get_or-set_other}
-use Rattle.word_image.specs.LocalRules.{LocalRule}
 use Rattle.rule_lists.specs.Tables.{HasLetters}
 use Rattle.rule_lists.specs.Listed.{IsListed}
 use Rattle.rule_lists.specs.declared.properties.Property.{Property}

@@ -1,8 +1,6 @@
 -- The number of a row of decimal digits.
 use Rattle.std.proofs.Common.{◌≡◌, ℕ, ◌+◌, ◌-◌, ◌*◌, ◌<◌, List, length, map, take, get_or, ap, ◌∙◌}
-use Rattle.std.proofs.lemmas.List.{map_more}
-use Rattle.word_image.specs.LocalRules.{value}
-use Rattle.word_image.proofs.laws.Values.{value-snoc}
+use Rattle.word_image.proofs.Common.{map_more, value, value-snoc}
 use Rattle.rule_text.specs.RuleTexts.{decimal_value}
 
 -- one digit more

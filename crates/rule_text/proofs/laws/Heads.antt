@@ -1,8 +1,6 @@
 -- The texts of the grammar by their parts: each is a row of digits, or a head and its entries.
 use Rattle.std.proofs.Common.{◌≡◌, ◌≢◌, ℕ, ◌+◌, ◌⊎◌, inl, inr, Bool, true, false, List, ◌∷◌, ◌++◌, length, take, drop, get_or, get_or-drop, take-append-drop, refl, sym, ap, ap₂, subst, ◌∙◌, arith, append_assoc, length-append, All, ℤ}
-use Rattle.std.proofs.lemmas.Bool.{cases_lt}
-use Rattle.std.proofs.lemmas.List.{get_or_past}
-use Rattle.std.proofs.Math.Seq.{get_or-append_seam}
+use Rattle.word_image.proofs.Common.{cases_lt, get_or_past, get_or-append_seam}
 use Rattle.rule_text.specs.declared.head.Kind.{Kind}
 use Rattle.rule_text.specs.declared.head.Kind.TheVariants as kind
 use Rattle.rule_text.specs.RuleTexts.{IsDigit, IsDecimal, IsOffset, Plain, Minus, Entries, Said, Says, Bare, InTable, InNumber, bare, decimal_value}

@@ -1,13 +1,6 @@
 -- From the parts of a text to the whole: what its beginning leads to, and where it goes wrong.
 use Rattle.std.proofs.Common.{◌≡◌, ℕ, ◌+◌, ◌≤◌, inl, inr, List, [], ◌∷◌, ◌++◌, length, take, drop, get_or, None, refl, sym, ap, subst, ◌∙◌, arith, append_assoc, take-append-drop, length-append, length-take-le, get_or-take, get_or-drop, All, ℤ, codes, unwrap_or, slice_get, get_or-append-add, take-take}
-use Rattle.std.proofs.lemmas.Bool.{cases_eq, cases_lt}
-use Rattle.std.proofs.lemmas.Option.{none-some, slice_get-get_or, unwrap_or-slice_get}
-use Rattle.std.proofs.lemmas.List.{get_or_past, get_or_append_left, take-append-le}
-use Rattle.std.proofs.lemmas.List.Elements.{All-append, All-nil}
-use Rattle.std.proofs.Math.Seq.{get_or-append_seam}
-use Rattle.word_image.specs.Digits.{IsHexDigit}
-use Rattle.word_image.specs.Grammars.{Begins, IsFormFault}
-use Rattle.word_image.proofs.laws.Prefixes.{IsFormFault-next, IsFormFault-rest}
+use Rattle.word_image.proofs.Common.{cases_eq, cases_lt, none-some, slice_get-get_or, unwrap_or-slice_get, get_or_past, get_or_append_left, take-append-le, All-append, All-nil, get_or-append_seam, IsHexDigit, Begins, IsFormFault, IsFormFault-next, IsFormFault-rest}
 use Rattle.rule_text.specs.declared.text_fault.TextFault.{TextFault}
 use Rattle.rule_text.specs.declared.text_fault.TextFault.TheVariants as fault
 use Rattle.rule_text.specs.declared.head.Kind.{Kind}

@@ -1,9 +1,6 @@
 -- The letters of a number in base k, from the least significant on: the table of a Wolfram number.
 use Rattle.std.proofs.Common.{◌≡◌, ℕ, suc, ◌+◌, ◌*◌, ◌/◌, ◌%◌, ◌^◌, ◌<◌, [], ◌∷◌, ◌++◌, reverse, sym, ap, ap₂, ◌∙◌, arith, add-one, add-mul, mul_assoc, mul_comm, pow-suc, mod-lt, mul-le-mul, div-add-mod'}
-use Rattle.std.proofs.Math.Nat.{div-div-eq-div-mul, one-le-pow}
-use Rattle.std.proofs.lemmas.Nat.{div_below, div-mul-add, mod-mul-add}
-use Rattle.std.proofs.lemmas.List.{reverse-append}
-use Rattle.word_image.specs.LocalRules.{word_of}
+use Rattle.word_image.proofs.Common.{div-div-eq-div-mul, one-le-pow, div_below, div-mul-add, mod-mul-add, reverse-append, word_of}
 
 -- the last places of a number, and the one before them, can be read from its last places and one more
 digits_apart : (n p k : ℕ) → 0 < p → 0 < k → (n % (p * k) % p ≡ n % p) × (n % (p * k) / p ≡ n / p % k)

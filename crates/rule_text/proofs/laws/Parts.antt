@@ -1,10 +1,6 @@
 -- The grammar of a head part by part: a field, an offset and a kind, and what may come after each.
 use Rattle.std.proofs.Common.{◌≡◌, ◌≢◌, ℕ, ◌+◌, ◌≤◌, ◌⊎◌, inl, inr, Bool, true, false, List, [], ◌∷◌, ◌++◌, length, drop, get_or, refl, sym, ap, ap₂, subst, ◌∙◌, arith, All, ℤ, codes, get_or-append-add}
-use Rattle.std.proofs.lemmas.Bool.{cases_order}
-use Rattle.std.proofs.lemmas.List.{get_or_append_left}
-use Rattle.std.proofs.Math.Seq.{get_or-append_seam}
-use Rattle.std.proofs.lemmas.List.Elements.{All-nil, All-cons, All-tail}
-use Rattle.word_image.specs.Digits.{IsHexDigit}
+use Rattle.word_image.proofs.Common.{cases_order, get_or_append_left, get_or-append_seam, All-nil, All-cons, All-tail, IsHexDigit}
 use Rattle.rule_text.specs.declared.head.Kind.{Kind}
 use Rattle.rule_text.specs.declared.head.Kind.TheVariants as kind
 use Rattle.rule_text.specs.RuleTexts.{IsDigit, IsDecimal, Entries, Said, decimal_value}

@@ -1,11 +1,10 @@
 -- A text has one rule, or one first fault.
 use Rattle.std.proofs.Common.{◌≡◌, ℕ, List, Ok, Err, Result, sym, ap, ◌∙◌, IfOk, IfErr}
-use Rattle.word_image.specs.LocalRules.{LocalRule}
+use Rattle.word_image.proofs.Common.{LocalRule, IsFormFault-unique}
 use Rattle.rule_text.specs.declared.text_fault.TextFault.{TextFault}
 use Rattle.rule_text.specs.declared.text_fault.TextFault.TheVariants as fault
 use Rattle.rule_text.specs.RuleTexts.{Said, Says, IsRuleText, IsTextFault, NoForm, Refused, fault_of, rule_of}
 use Rattle.rule_text.specs.TextReadings.{IsReading}
-use Rattle.word_image.proofs.laws.Prefixes.{IsFormFault-unique}
 use Rattle.rule_text.proofs.laws.Heads.{Says-unique}
 
 -- a text is a text of one rule

@@ -1,8 +1,6 @@
 -- What the table of a rule shows before the rule is looked at.
 use Rattle.std.proofs.Common.{◌<◌, ◌≤◌, length, arith}
-use Rattle.std.proofs.Math.Nat.{one-le-pow}
-use Rattle.word_image.specs.LocalRules.{LocalRule, IsRule}
-use Rattle.word_image.specs.Words.{IsSurjective}
+use Rattle.word_image.proofs.Common.{one-le-pow, LocalRule, IsRule, IsSurjective}
 use Rattle.table_laws.specs.Tables.{HasMean}
 use Rattle.table_laws.proofs.MeanTables.{HasMean-even}
 use Rattle.table_laws.proofs.EvenTables.{IsEven-surjective}

@@ -1,10 +1,8 @@
 -- A rule is open exactly where its evidence has a look-ahead on both sides.
 use Rattle.std.proofs.Common.{refl, ◌↔◌, IsTrue}
-use Rattle.std.proofs.lemmas.Bool.{false≢true}
-use Rattle.word_image.specs.LocalRules.{LocalRule}
-use Rattle.tail_config.specs.Tails.{IsOpen}
-use Rattle.cert_format.specs.Evidence.{SideEvidence}
-use Rattle.cert_format.specs.Evidence.SideEvidence.{Ahead, Split}
+use Rattle.word_image.proofs.Common.{false≢true, LocalRule}
+use Rattle.tail_config.proofs.Common.{IsOpen}
+use Rattle.cert_format.proofs.Common.{SideEvidence, Ahead, Split}
 use Rattle.certificate_laws.specs.LeastEvidence.{IsRightPart, IsLeftPart, close_both}
 
 -- where a side has a split it doesn't close, so the rule isn't open

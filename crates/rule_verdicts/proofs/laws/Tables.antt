@@ -1,10 +1,6 @@
 -- Tables of consecutive numbers: a table has the digits of its number, the first letter the least significant.
 use Rattle.std.proofs.Common.{◌≡◌, ℕ, zero, suc, ◌+◌, ◌*◌, ◌^◌, ◌<◌, List, [], ◌∷◌, length, reverse, get_or, set, refl, sym, ap, ◌∙◌, subst, arith, pow-suc, pos, mul-add, mul_assoc, mul_comm, mul-one, one-mul}
-use Rattle.std.proofs.Math.Nat.{pow-zero}
-use Rattle.std.proofs.lemmas.List.{reverse-append, reverse-reverse, length-reverse}
-use Rattle.word_image.specs.LocalRules.{LocalRule, IsRule, IsWord, value, word_of, wolfram_number}
-use Rattle.word_image.proofs.laws.Values.{value-snoc, word_of-value, value-word_of, length-word_of}
-use Rattle.word_image.proofs.laws.Images.{IsWord-reverse}
+use Rattle.word_image.proofs.Common.{pow-zero, reverse-append, reverse-reverse, length-reverse, LocalRule, IsRule, IsWord, value, word_of, wolfram_number, value-snoc, word_of-value, value-word_of, length-word_of, IsWord-reverse}
 use Rattle.rule_text.proofs.laws.Numbers.{wolfram_number-value}
 use Rattle.rule_verdicts.specs.Truths.{table_rule}
 use Rattle.rule_verdicts.specs.Numbers.{numbered_rule}

@@ -1,8 +1,6 @@
 -- The evidence of a rule, its family and its ranks are what is written for it.
 use Rattle.std.proofs.Common.{◌≡◌, ℕ, ◌<◌, List, length, get_or, subst, Option, None}
-use Rattle.word_image.specs.LocalRules.{LocalRule}
-use Rattle.word_image.specs.Graphs.{pair_count}
-use Rattle.word_image.specs.Sides.{Together}
+use Rattle.word_image.proofs.Common.{LocalRule, pair_count, Together}
 use Rattle.word_image.specs.declared.side.Side.{Side}
 use Rattle.pair_rank.specs.Sides.{IsRankOf}
 use Rattle.certificate_laws.specs.WrittenCertificates.{IsRankRow}

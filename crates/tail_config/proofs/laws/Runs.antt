@@ -1,13 +1,6 @@
 -- The runs of letters of a configuration, and their images.
 use Rattle.std.proofs.Common.{◌≡◌, ℕ, suc, ◌+◌, ◌-◌, ◌<◌, ◌≤◌, List, [], ◌∷◌, ◌++◌, length, take, drop, get_or, slice_range, ℤ, pos, ◌+ℤ◌, refl, sym, ap, ap₂, ◌∙◌, arith, length-drop, take-append-drop, length-take, get_or-take, get_or-drop}
-use Rattle.std.specs.List.{range_with_len}
-use Rattle.std.proofs.lemmas.Int.{ints}
-use Rattle.std.proofs.lemmas.List.FromFn.{length-map-range_with_len, map-range_with_len_more, get_or-map-range_with_len, fill_by_all}
-use Rattle.std.proofs.lemmas.List.Elements.{All-map}
-use Rattle.word_image.specs.LocalRules.{LocalRule, IsRule, IsWord, local_map}
-use Rattle.word_image.specs.Words.{image}
-use Rattle.word_image.specs.Windows.{HaveOneImage}
-use Rattle.word_image.proofs.laws.Images.{image-by_letters}
+use Rattle.word_image.proofs.Common.{range_with_len, ints, length-map-range_with_len, map-range_with_len_more, get_or-map-range_with_len, fill_by_all, All-map, LocalRule, IsRule, IsWord, local_map, image, HaveOneImage, image-by_letters}
 use Rattle.tail_config.specs.Configs.{Config, IsConfig, run, image_of}
 
 -- a run of n letters has n letters

@@ -1,7 +1,6 @@
 -- A text has one Tail or one first fault.
 use Rattle.std.proofs.Common.{◌≡◌, ◌⊎◌, ℕ, List, Result, Ok, Err, sym, ap, ap₂, ◌∙◌, inl, inr, subst, alloc_error, IfOk, IfErr}
-use Rattle.std.proofs.lemmas.Option.{none-some, same_Some}
-use Rattle.word_image.proofs.laws.Prefixes.{IsFormFault-unique}
+use Rattle.word_image.proofs.Common.{none-some, same_Some, IsFormFault-unique}
 use Rattle.tail_config.specs.Tails.{TailConfig}
 use Rattle.tail_config.specs.TailValues.{TailOver}
 use Rattle.tail_config.specs.TailFaults.{tail_fault, IsTailText}

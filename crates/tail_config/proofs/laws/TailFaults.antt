@@ -1,10 +1,6 @@
 -- Three parts have no fault exactly where they are a configuration with short parts.
 use Rattle.std.proofs.Common.{◌≡◌, ℕ, ◌≤◌, List, [], ◌∷◌, ◌++◌, length, leb, Option, None, Some, refl, arith, nat_le, position, ◌↔◌, option_map}
-use Rattle.std.specs.List.{position_or_len}
-use Rattle.std.proofs.lemmas.Bool.Decides.{nat_tests}
-use Rattle.std.proofs.lemmas.List.Sums.{position_or_len_is}
-use Rattle.word_image.specs.LocalRules.{IsWord}
-use Rattle.word_image.proofs.laws.RuleFaults.{IsWord-position}
+use Rattle.word_image.proofs.Common.{position_or_len, nat_tests, position_or_len_is, IsWord, IsWord-position}
 use Rattle.tail_config.specs.Tails.{TailConfig}
 use Rattle.tail_config.specs.TailTexts.{IsShortTail}
 use Rattle.tail_config.specs.TailFaults.{first_fault, empty_fault, long_fault, letter_fault, length_faults, letter_faults, tail_fault}

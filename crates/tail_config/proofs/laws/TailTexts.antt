@@ -1,12 +1,6 @@
 -- How a text is cut at its bars, and where it leaves the grammar.
 use Rattle.std.proofs.Common.{◌≡◌, ◌≢◌, ℕ, ◌+◌, ◌-◌, ◌<◌, ◌≤◌, ◌&&◌, List, [], ◌∷◌, ◌++◌, length, map, take, drop, get_or, slice_range, codes, Option, None, Some, is_some, unwrap_or, All, refl, sym, ap, ap₂, subst, ◌∙◌, arith, append_assoc, append-nil, take-append-drop, nat_lt, ◌==◌, if◌then◌else◌, option_and_then, take-take, take_all}
-use Rattle.std.proofs.lemmas.Bool.Decides.{nat_tests}
-use Rattle.std.proofs.lemmas.Option.{none-some, same_Some}
-use Rattle.std.proofs.lemmas.List.{drop-take, take_more}
-use Rattle.std.proofs.lemmas.List.Elements.{All-nil, All-cons, All-head, All-tail}
-use Rattle.word_image.specs.Digits.{hex_value, lower_digit, IsHexDigit, letter_at, word_text}
-use Rattle.word_image.specs.Grammars.{Begins, IsFormFault}
-use Rattle.word_image.proofs.laws.Prefixes.{Begins-text, Begins-prefix, IsFormFault-stuck}
+use Rattle.word_image.proofs.Common.{nat_tests, none-some, same_Some, drop-take, take_more, All-nil, All-cons, All-head, All-tail, hex_value, lower_digit, IsHexDigit, letter_at, word_text, Begins, IsFormFault, Begins-text, Begins-prefix, IsFormFault-stuck}
 use Rattle.tail_config.specs.Tails.{TailConfig}
 use Rattle.tail_config.specs.TailTexts.{Spells, HasParts}
 use Rattle.tail_config.specs.TailFaults.{HasForm}

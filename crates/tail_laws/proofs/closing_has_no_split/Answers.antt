@@ -1,4 +1,4 @@
-use Rattle.word_image.proofs.laws.Images.{IsRule-mirrored}
+use Rattle.word_image.proofs.Common.{IsRule-mirrored}
 use Rattle.tail_laws.proofs.NormalSplits.{IsRightClosing-no_normal}
 use Rattle.tail_laws.proofs.Sides.{IsLeftClosing-mirrored}
 use Rattle.tail_laws.proofs.closing_has_no_split.Goals as goal

@@ -1,10 +1,7 @@
 -- The two answers as they are found, and that there is one answer.
 use Rattle.std.proofs.Common.{◌≡◌, ℕ, ◌≤◌, List, refl, sym, ap, ap₂, ◌∙◌, subst, arith, ⊎_elim, IsBitSet}
-use Rattle.std.proofs.lemmas.Bool.{cases_lt}
-use Rattle.word_image.specs.LocalRules.{LocalRule}
-use Rattle.word_image.specs.Words.{IsOrphan}
-use Rattle.word_image.specs.Graphs.{IsNodeSet, HasBit}
-use Rattle.tail_config.specs.Tails.{TailConfig, IsTail}
+use Rattle.word_image.proofs.Common.{cases_lt, LocalRule, IsOrphan, IsNodeSet, HasBit}
+use Rattle.tail_config.proofs.Common.{TailConfig, IsTail}
 use Rattle.tail_preimage.specs.Preimages.{PlacedConfig, Shape, IsLeastGap, stretch, IsGap}
 use Rattle.tail_preimage.specs.Answers.{IsPreimageAnswer, placed_config}
 use Rattle.tail_preimage.specs.Relations.{Open, IsFirst}

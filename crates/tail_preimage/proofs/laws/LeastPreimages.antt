@@ -1,19 +1,7 @@
 -- Of the first shape the first loop walks are the least preimage: the least node with a loop, and first walks for each of the three parts. There is one least preimage.
 use Rattle.std.proofs.Common.{◌≡◌, ◌≢◌, ℕ, ◌+◌, ◌-◌, ◌<◌, ◌≤◌, List, ◌++◌, length, take, drop, ℤ, refl, sym, ap, ap₂, ◌∙◌, subst, arith, length-append, length-drop, append_assoc, ⊎_elim, nat_cmp, Ordering, Less, Equal, Greater, take-append-drop, length-take-le, take_at, drop_at}
-use Rattle.std.specs.List.{repeat}
-use Rattle.std.specs.Ordering.{ordering_then}
-use Rattle.std.specs.Cmp.{IsTotalOrder, nat_cmp_is}
-use Rattle.std.specs.Cmp.Lexicographic.{slice_cmp}
-use Rattle.std.proofs.lemmas.Bool.{cases_lt}
-use Rattle.std.proofs.lemmas.Cmp.{nat_cmp_total, nat_list_cmp_total, on_total, then_total}
-use Rattle.std.proofs.lemmas.List.{drop-append-le}
-use Rattle.std.proofs.lemmas.List.Elements.{All-take}
-use Rattle.word_image.specs.LocalRules.{LocalRule, IsRule, value}
-use Rattle.word_image.proofs.laws.Bits.{IsBitSet-pow}
-use Rattle.word_image.proofs.laws.Orders.{slice_cmp-value, then_equal}
-use Rattle.word_image.proofs.laws.Comparisons.{then_not_greater, nat_cmp-equal, slice_cmp-same}
-use Rattle.tail_config.specs.Tails.{TailConfig, IsTail}
-use Rattle.tail_config.specs.TailValues.{config_of}
+use Rattle.word_image.proofs.Common.{repeat, ordering_then, IsTotalOrder, nat_cmp_is, slice_cmp, cases_lt, nat_cmp_total, nat_list_cmp_total, on_total, then_total, drop-append-le, All-take, LocalRule, IsRule, value, IsBitSet-pow, slice_cmp-value, then_equal, then_not_greater, nat_cmp-equal, slice_cmp-same}
+use Rattle.tail_config.proofs.Common.{TailConfig, IsTail, config_of}
 use Rattle.tail_preimage.specs.Walks.{IsWalk, before_last}
 use Rattle.tail_preimage.specs.Preimages.{PlacedConfig, Shape, HasShape, IsShapedPreimage, IsLeastPreimage, shape_cmp, letters, stretch, IsSmall, IsFrom}
 use Rattle.tail_preimage.specs.FirstWalks.{AreLoopWalks, AreFirstWalks, placed_of}

@@ -1,14 +1,7 @@
 -- The first walk of a word from a node into a set of nodes is found edge by edge: at each place the least letter from whose edge the set can still be reached.
 use Rattle.std.proofs.Common.{◌≡◌, ◌≢◌, ◌↔◌, ℕ, ◌+◌, ◌-◌, ◌<◌, ◌≤◌, List, [], ◌∷◌, ◌++◌, length, take, drop, get_or, IsBitSet, sym, ap, ◌∙◌, subst, arith, length-drop, ⊎_elim, nat_cmp, Equal, Greater, take-append-drop, take_all, take-take, take_at, length-take-le}
-use Rattle.std.specs.Ordering.{ordering_then}
-use Rattle.std.specs.Cmp.Lexicographic.{slice_cmp}
-use Rattle.std.proofs.lemmas.Bool.{cases_lt}
-use Rattle.std.proofs.lemmas.List.{take_more, nil_from_length}
-use Rattle.word_image.specs.LocalRules.{LocalRule, IsRule, value, node_count}
-use Rattle.word_image.specs.Graphs.{next, label}
-use Rattle.word_image.specs.Edges.{IsEdge}
+use Rattle.word_image.proofs.Common.{ordering_then, slice_cmp, cases_lt, take_more, nil_from_length, LocalRule, IsRule, value, node_count, next, label, IsEdge, then_not_greater, slice_cmp-same}
 use Rattle.word_image.specs.declared.side.Side.TheVariants.{Right}
-use Rattle.word_image.proofs.laws.Comparisons.{then_not_greater, slice_cmp-same}
 use Rattle.tail_preimage.specs.Walks.{IsWalk, Reaches, IsLeastWalkInto}
 use Rattle.tail_preimage.proofs.laws.Walks.{HasLastEdge, IsWalk-none, IsWalk-stays, IsWalk-cut, IsWalk-push, IsWalk-snoc, HasWalk-cons, IsWalk-last, same_first}
 use Rattle.tail_preimage.proofs.laws.Orders.{slice_cmp-append, slice_cmp-equal, key_not_greater}

@@ -1,10 +1,6 @@
 -- Orderings in turn: which aren't greater, and that two things of which neither is greater are tied.
 use Rattle.std.proofs.Common.{◌≡◌, ◌≢◌, ℕ, ◌≤◌, List, [], ◌∷◌, ◌++◌, length, refl, sym, ap, ap₂, ◌∙◌, arith, nat_cmp, Ordering, Less, Equal, Greater}
-use Rattle.std.specs.Ordering.{ordering_then, ordering_reverse}
-use Rattle.std.specs.Cmp.{IsTotalOrder}
-use Rattle.std.specs.Cmp.Lexicographic.{slice_cmp}
-use Rattle.word_image.proofs.laws.Comparisons.{then_not_greater, nat_cmp-le, nat_cmp-equal}
-use Rattle.word_image.proofs.laws.Orders.{then_equal}
+use Rattle.word_image.proofs.Common.{ordering_then, ordering_reverse, IsTotalOrder, slice_cmp, then_not_greater, nat_cmp-le, nat_cmp-equal, then_equal}
 
 -- three orderings in turn
 then_assoc : (a b c : Ordering) → ordering_then (ordering_then a b) c ≡ ordering_then a (ordering_then b c)

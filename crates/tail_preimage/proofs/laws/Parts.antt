@@ -1,14 +1,11 @@
 -- The relations of the parts of a configuration, read as walks along words.
 use Rattle.std.proofs.Common.{◌≡◌, ◌↔◌, ℕ, zero, suc, ◌+◌, ◌<◌, ◌≤◌, List, [], ◌++◌, get_or, sym, ap, ◌∙◌, subst, arith}
-use Rattle.std.specs.List.{repeat}
-use Rattle.word_image.specs.LocalRules.{LocalRule, IsRule, node_count}
-use Rattle.word_image.specs.Words.{IsOrphan}
-use Rattle.pair_laws.proofs.Sets.{IsBitSet-below}
-use Rattle.tail_config.specs.Tails.{TailConfig, IsTail}
+use Rattle.word_image.proofs.Common.{repeat, LocalRule, IsRule, node_count, IsOrphan, HasBit}
+use Rattle.pair_laws.proofs.Common.{IsBitSet-below}
+use Rattle.tail_config.proofs.Common.{TailConfig, IsTail}
 use Rattle.tail_preimage.specs.Walks.{HasWalk}
 use Rattle.tail_preimage.specs.Preimages.{Shape, stretch}
 use Rattle.tail_preimage.specs.Relations.{IsRelation, Steps, Open, SomeRounds}
-use Rattle.word_image.specs.Graphs.{HasBit}
 use Rattle.tail_preimage.specs.Parts.{ArePeriods, AreTailParts, PassesThrough, Starts, IsPossible}
 use Rattle.tail_preimage.specs.FirstWalks.{AreLoopWalks}
 use Rattle.tail_preimage.specs.declared.periods.Periods.{Periods}

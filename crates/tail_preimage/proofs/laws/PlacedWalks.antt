@@ -1,15 +1,7 @@
 -- A placed configuration that maps to another is a walk that spells the other's letters, and from its shape come three walks.
 use Rattle.std.proofs.Common.{◌≡◌, ℕ, ◌+◌, ◌-◌, ◌*◌, List, length, take, drop, ℤ, pos, ◌+ℤ◌, ◌-ℤ◌, neg_ℤ, refl, sym, ap, ap₂, ◌∙◌, subst, subst₂, arith, add-mul, take_at}
-use Rattle.std.specs.List.{repeat}
-use Rattle.std.proofs.lemmas.Int.{ints}
-use Rattle.word_image.specs.LocalRules.{LocalRule, IsRule, value, local_map}
-use Rattle.word_image.specs.Words.{IsPreimage, IsOrphan}
-use Rattle.tail_config.specs.Configs.{run, image_of}
-use Rattle.tail_config.specs.Tails.{TailConfig, IsTail, cell, cells}
-use Rattle.tail_config.proofs.laws.Runs.{length-run, IsWord-run, run-same, take-run, drop-run, image-run}
-use Rattle.tail_config.proofs.laws.Cells.{cell-below, cells-middle, cells-left, cells-right}
-use Rattle.tail_config.proofs.laws.Periods.{RepeatsRight-times}
-use Rattle.tail_config.proofs.laws.Repeats.{cell-right_period}
+use Rattle.word_image.proofs.Common.{repeat, ints, LocalRule, IsRule, value, local_map, IsPreimage, IsOrphan}
+use Rattle.tail_config.proofs.Common.{run, image_of, TailConfig, IsTail, cell, cells, length-run, IsWord-run, run-same, take-run, drop-run, image-run, cell-below, cells-middle, cells-left, cells-right, RepeatsRight-times, cell-right_period}
 use Rattle.tail_preimage.specs.Walks.{IsWalk, before_last}
 use Rattle.tail_preimage.specs.Preimages.{PlacedConfig, MapsTo, Shape, IsShapedPreimage, stretch}
 use Rattle.tail_preimage.specs.FirstWalks.{AreLoopWalks}

@@ -1,18 +1,8 @@
 -- Three walks, a loop, one from it to another loop, and that loop, are a placed configuration that maps to the letters which they spell.
 use Rattle.std.proofs.Common.{◌≡◌, ℕ, zero, suc, ◌+◌, ◌-◌, ◌*◌, ◌<◌, ◌≤◌, List, [], ◌++◌, length, take, drop, get_or, slice_range, ℤ, pos, ◌+ℤ◌, ◌-ℤ◌, unsigned_abs, refl, sym, ap, ap₂, ◌∙◌, subst, arith, length-append, length-drop, append_assoc, mul_assoc, suc-mul, zero-mul, add-mul, mul-one, mul-le-mul_left, take-append-drop, length-take-le, append-nil}
-use Rattle.std.specs.List.{repeat}
-use Rattle.std.proofs.lemmas.Int.{ints}
-use Rattle.std.proofs.lemmas.Nat.{mul-le}
-use Rattle.std.proofs.lemmas.List.{take-append-le, drop-append-le}
-use Rattle.std.proofs.lemmas.List.Elements.{All-take}
-use Rattle.word_image.specs.LocalRules.{LocalRule, IsRule, IsWord, value, word_of, local_map}
-use Rattle.word_image.proofs.laws.Values.{length-word_of, value-injective}
-use Rattle.word_image.proofs.laws.Images.{get_or-image}
-use Rattle.pair_laws.proofs.Joins.{same_node}
-use Rattle.tail_config.specs.Tails.{TailConfig, IsTail, cell, cells}
-use Rattle.tail_config.specs.TailValues.{config_of}
-use Rattle.tail_config.proofs.laws.Runs.{length-run, get_or-run, IsWord-run, run-same, slice_range-run, take-run}
-use Rattle.tail_config.proofs.laws.Cells.{cell-below}
+use Rattle.word_image.proofs.Common.{repeat, ints, mul-le, take-append-le, drop-append-le, All-take, LocalRule, IsRule, IsWord, value, word_of, local_map, length-word_of, value-injective, get_or-image}
+use Rattle.pair_laws.proofs.Common.{same_node}
+use Rattle.tail_config.proofs.Common.{TailConfig, IsTail, cell, cells, config_of, length-run, get_or-run, IsWord-run, run-same, slice_range-run, take-run, cell-below}
 use Rattle.tail_preimage.specs.Walks.{IsWalk, before_last}
 use Rattle.tail_preimage.specs.Preimages.{PlacedConfig, MapsTo, Shape, IsShapedPreimage, stretch, placed_cell, placed_cells}
 use Rattle.tail_preimage.specs.FirstWalks.{AreLoopWalks, placed_of}

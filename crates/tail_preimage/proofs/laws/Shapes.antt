@@ -1,12 +1,8 @@
 -- The first possible shape is found key by key, and the first gap side by side.
 use Rattle.std.proofs.Common.{◌≡◌, ◌↔◌, ℕ, ◌+◌, ◌-◌, ◌<◌, ◌≤◌, IsBitSet, refl, sym, subst, arith, ⊎_elim, nat_cmp}
-use Rattle.std.specs.Ordering.{ordering_then}
-use Rattle.std.proofs.lemmas.Bool.{cases_lt}
-use Rattle.word_image.specs.LocalRules.{LocalRule, node_count}
-use Rattle.word_image.specs.Graphs.{IsNodeSet, HasBit}
-use Rattle.word_image.proofs.laws.Comparisons.{nat_cmp-le}
-use Rattle.pair_laws.proofs.Sets.{IsBitSet-below}
-use Rattle.tail_config.specs.Tails.{TailConfig}
+use Rattle.word_image.proofs.Common.{ordering_then, cases_lt, LocalRule, node_count, IsNodeSet, HasBit, nat_cmp-le}
+use Rattle.pair_laws.proofs.Common.{IsBitSet-below}
+use Rattle.tail_config.proofs.Common.{TailConfig}
 use Rattle.tail_preimage.specs.Preimages.{Shape}
 use Rattle.tail_preimage.specs.Relations.{Open, Rounds, SomeRounds, Meets, IsFirst}
 use Rattle.tail_preimage.specs.Parts.{AreTailParts, Through, PassesThrough, IsPossible, IsFirstShape}

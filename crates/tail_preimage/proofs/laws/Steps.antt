@@ -1,9 +1,7 @@
 -- Steps of a relation between at most 16 nodes: one after another, round and round, and that 16 of them pass some node twice.
 use Rattle.std.proofs.Common.{◌≡◌, ℕ, zero, suc, ◌+◌, ◌-◌, ◌*◌, ◌<◌, ◌≤◌, replicate, refl, sym, subst, arith, suc-mul, zero-mul, mul-one, mul-le-mul_left}
-use Rattle.std.proofs.lemmas.List.{replicate-append-replicate}
-use Rattle.word_image.proofs.laws.Searches.{twice_below}
-use Rattle.search_laws.specs.Walks.{Walk}
-use Rattle.search_laws.proofs.Walks.{Walk-join, Walk-cut}
+use Rattle.word_image.proofs.Common.{replicate-append-replicate, twice_below}
+use Rattle.search_laws.proofs.Common.{Walk, Walk-join, Walk-cut}
 use Rattle.tail_preimage.specs.Relations.{Unlettered, Steps, Open, Rounds, SomeRounds}
 
 -- no step stays

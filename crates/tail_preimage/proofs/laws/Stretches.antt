@@ -1,14 +1,7 @@
 -- Words that are repeated, and the runs of a configuration that begin and end at whole periods.
 use Rattle.std.proofs.Common.{◌≡◌, ℕ, zero, suc, ◌+◌, ◌-◌, ◌*◌, ◌<◌, List, ◌∷◌, ◌++◌, length, drop, slice_index, ℤ, pos, ◌+ℤ◌, ◌-ℤ◌, neg_ℤ, refl, sym, ap, ap₂, ◌∙◌, arith, length-append, append_assoc, drop-cons, suc-mul, zero-mul, append-nil}
-use Rattle.std.specs.List.{repeat}
-use Rattle.std.proofs.lemmas.Int.{ints}
-use Rattle.std.proofs.lemmas.List.Elements.{All-nil, All-append}
-use Rattle.word_image.specs.LocalRules.{IsWord}
-use Rattle.tail_config.specs.Tails.{TailConfig, IsTail, cell, cells}
-use Rattle.tail_config.proofs.laws.Runs.{run-same, run-append}
-use Rattle.tail_config.proofs.laws.Cells.{cells-middle, cells-left, cells-right}
-use Rattle.tail_config.proofs.laws.Periods.{RepeatsLeft-times}
-use Rattle.tail_config.proofs.laws.Repeats.{cell-left_period, cell-right_period}
+use Rattle.word_image.proofs.Common.{repeat, ints, All-nil, All-append, IsWord}
+use Rattle.tail_config.proofs.Common.{TailConfig, IsTail, cell, cells, run-same, run-append, cells-middle, cells-left, cells-right, RepeatsLeft-times, cell-left_period, cell-right_period}
 use Rattle.tail_preimage.specs.Preimages.{stretch}
 
 -- so many copies have so many times the letters

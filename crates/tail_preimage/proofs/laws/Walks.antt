@@ -1,18 +1,9 @@
 -- Walks: cut in two, joined, and one edge longer at either end.
 use Rattle.std.proofs.Common.{◌≡◌, ◌↔◌, ℕ, ◌+◌, ◌-◌, ◌<◌, List, [], ◌∷◌, ◌++◌, length, take, drop, refl, sym, ap, ap₂, ◌∙◌, subst, arith, length-append, length-drop, length-take-le, take_all, take_at, drop_at, take-take, drop-drop}
-use Rattle.std.proofs.lemmas.List.{length_push, take-append-le}
-use Rattle.std.proofs.lemmas.List.Elements.{All-append, All-take, All-drop}
-use Rattle.word_image.specs.LocalRules.{LocalRule, IsRule, IsWord, value, word_of, node_count}
-use Rattle.word_image.specs.Words.{IsOrphan}
-use Rattle.word_image.specs.Graphs.{next, label}
-use Rattle.word_image.specs.Edges.{IsEdge}
+use Rattle.word_image.proofs.Common.{length_push, take-append-le, All-append, All-take, All-drop, LocalRule, IsRule, IsWord, value, word_of, node_count, IsOrphan, next, label, IsEdge, value-injective, length-word_of, IsWord-word_of, value-word_of, IsLongerPreimage, IsPreimage-empty, IsPreimage-snoc, IsPreimage-push, image-take, image-drop, value-node, value-next, local_map-label}
 use Rattle.word_image.specs.declared.side.Side.TheVariants.{Right}
-use Rattle.word_image.proofs.laws.Values.{value-injective, length-word_of, IsWord-word_of, value-word_of}
-use Rattle.word_image.proofs.laws.Words.{IsLongerPreimage, IsPreimage-empty, IsPreimage-snoc, IsPreimage-push}
 use Rattle.word_image.proofs.laws.LastNodes.{IsLastNode-below, last_edge}
-use Rattle.word_image.proofs.laws.Images.{image-take, image-drop}
-use Rattle.word_image.proofs.laws.Graphs.{value-node, value-next, local_map-label}
-use Rattle.pair_laws.proofs.Joins.{drop-join_more, image-join, same_node, value-cut}
+use Rattle.pair_laws.proofs.Common.{drop-join_more, image-join, same_node, value-cut}
 use Rattle.tail_preimage.specs.Walks.{IsWalk, HasWalk}
 
 -- a walk begins with a node

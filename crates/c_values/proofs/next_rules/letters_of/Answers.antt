@@ -1,5 +1,5 @@
 use Rattle.std.proofs.Common.{ℕ, List, ◌++◌, length, ap₂}
-use Rattle.std.proofs.lemmas.List.{drop-replicate}
+use Rattle.word_image.proofs.Common.{drop-replicate}
 use Rattle.c_values.proofs.next_rules.letters_of.Goals as goal
 
 pub returns : goal.returns

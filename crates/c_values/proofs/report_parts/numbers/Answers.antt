@@ -1,5 +1,5 @@
 use Rattle.std.proofs.Common.{ℤ, List, ◌++◌, length, drop, replicate, pos, ap, ap₂, ◌∙◌}
-use Rattle.std.proofs.lemmas.List.{drop-replicate}
+use Rattle.word_image.proofs.Common.{drop-replicate}
 use Rattle.c_values.proofs.report_parts.numbers.Goals as goal
 
 pub returns : goal.returns

@@ -1,8 +1,6 @@
 use Rattle.std.proofs.Common.{ℕ, List, Option, subst}
-use Rattle.cert_format.specs.Parts.{sum_of}
-use Rattle.ca_findings.specs.Questions.{Question}
-use Rattle.ca_findings.specs.Findings.{Finding, AreFor, IsFinding, weight_by}
-use Rattle.ca_findings.specs.Values.{evidence_of, finding_of}
+use Rattle.cert_format.proofs.Common.{sum_of}
+use Rattle.ca_findings.proofs.Common.{Question, Finding, AreFor, IsFinding, weight_by, evidence_of, finding_of}
 use Rattle.c_values.specs.Reports.{named_weights}
 use Rattle.c_values.proofs.laws.Reports.{IsShortSum-part, IsFinding-report, IsFinding-least, IsUnfitFor-report, IsReported-written, IsReported-none}
 use Rattle.c_values.proofs.rule_reports.report_of_rule.Goals as goal

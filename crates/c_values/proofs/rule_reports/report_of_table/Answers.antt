@@ -1,6 +1,6 @@
 use Rattle.std.proofs.Common.{◌≡◌, ap, ◌∙◌, w8, FitsSigned, to_z, of_z, rules}
 use Rattle.std.proofs.lemmas.Int.{to_z-of_z}
-use Rattle.word_image.specs.RuleFaults.{rule_fault}
+use Rattle.word_image.proofs.Common.{rule_fault}
 use Rattle.c_values.specs.Reports.{rule_with}
 use Rattle.c_values.proofs.laws.Reports.{IsReported-fault}
 use Rattle.c_values.proofs.rule_reports.report_of_table.Goals as goal

@@ -1,6 +1,6 @@
 use Rattle.std.proofs.Common.{◌≤◌, refl, arith}
-use Rattle.std.proofs.lemmas.Bool.{false≢true}
-use Rattle.ca_findings.specs.Findings.{IsFinding, IsUnfitFor}
+use Rattle.word_image.proofs.Common.{false≢true}
+use Rattle.ca_findings.proofs.Common.{IsFinding, IsUnfitFor}
 use Rattle.ca_answers.proofs.class_rules.least.Goals as goal
 
 pub returns-in-Ok : goal.returns-in-Ok

@@ -1,6 +1,6 @@
 use Rattle.std.proofs.Common.{sym, subst}
-use Rattle.word_image.specs.LocalRules.{IsRule}
-use Rattle.ca_findings.specs.Findings.{IsFinding, IsUnfitFor}
+use Rattle.word_image.proofs.Common.{IsRule}
+use Rattle.ca_findings.proofs.Common.{IsFinding, IsUnfitFor}
 use Rattle.ca_answers.proofs.class_rules.lift.Goals as goal
 
 pub returns-in-Ok : goal.returns-in-Ok

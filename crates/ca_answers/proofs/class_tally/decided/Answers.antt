@@ -1,9 +1,6 @@
-use Rattle.std.proofs.Common.{◌≡◌, ◌<◌, ◌++◌, ◌∷◌, [], ℕ, nat_eq, Option, None, Some, All, Contains, ap, refl, sym, ◌∙◌, subst}
-use Rattle.std.specs.Option.{SomeIff}
+use Rattle.std.proofs.Common.{◌≡◌, ◌<◌, ◌++◌, ◌∷◌, [], ℕ, nat_eq, Option, None, Some, All, Contains, ap, refl, sym, ◌∙◌, subst, SomeIff}
 use Rattle.std.specs.Map.{lookup}
-use Rattle.std.proofs.lemmas.List.{map_push}
-use Rattle.std.proofs.lemmas.List.Elements.{All-push}
-use Rattle.word_image.specs.LocalRules.{LocalRule, IsRule, wolfram_number}
+use Rattle.word_image.proofs.Common.{map_push, All-push, LocalRule, IsRule, wolfram_number}
 use Rattle.rule_verdicts.specs.declared.truths.Truths.{Truths}
 use Rattle.rule_verdicts.specs.Truths.{AreTruths}
 use Rattle.rule_verdicts.specs.Numbers.{numbered_rule}

@@ -1,7 +1,7 @@
 use Rattle.std.proofs.Common.{◌↔◌, IsTrue, sym, ap, subst}
-use Rattle.word_image.specs.LocalRules.{LocalRule}
-use Rattle.tail_config.specs.Tails.{IsRightClosing, IsLeftClosing}
-use Rattle.cert_conditions.proofs.laws.Soundness.{both_true}
+use Rattle.word_image.proofs.Common.{LocalRule}
+use Rattle.tail_config.proofs.Common.{IsRightClosing, IsLeftClosing}
+use Rattle.cert_conditions.proofs.Common.{both_true}
 use Rattle.ca_answers.proofs.laws.ClassTallies.{verdict_through}
 use Rattle.ca_answers.proofs.class_tally.of_member.Goals as goal
 use Rattle.ca_answers.proofs.class_tally.of_member.Goals.{then-mirrored, else-mirrored}

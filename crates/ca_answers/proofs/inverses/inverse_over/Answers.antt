@@ -1,6 +1,6 @@
 use Rattle.std.proofs.Common.{◌<◌, ◌^◌, subst}
 use Rattle.inverse_table.specs.InverseFaults.{IsInvFault}
-use Rattle.ca_findings.specs.Findings.{IsFinding, IsUnfitFor}
+use Rattle.ca_findings.proofs.Common.{IsFinding, IsUnfitFor}
 use Rattle.ca_answers.proofs.inverses.inverse_over.Goals as goal
 
 pub returns-in-Ok : goal.returns-in-Ok

@@ -1,5 +1,5 @@
 use Rattle.std.proofs.Common.{refl}
-use Rattle.std.proofs.lemmas.Bool.{false≢true}
+use Rattle.word_image.proofs.Common.{false≢true}
 use Rattle.ca_answers.proofs.inverses.map_rule.Goals as goal
 
 pub returns-in-Ok : goal.returns-in-Ok

@@ -1,9 +1,6 @@
-use Rattle.std.proofs.Common.{ℕ, List, refl, sym, subst}
-use Rattle.std.specs.Prelude.{IsNone, None, Some}
-use Rattle.std.proofs.lemmas.Bool.{false≢true}
-use Rattle.word_image.specs.Words.{IsSurjective}
-use Rattle.word_image.specs.Erasure.{IsErasable, IsLeastErasable}
-use Rattle.ca_findings.specs.Findings.{IsFinding}
+use Rattle.std.proofs.Common.{ℕ, List, refl, sym, subst, IsNone, None, Some}
+use Rattle.word_image.proofs.Common.{false≢true, IsSurjective, IsErasable, IsLeastErasable}
+use Rattle.ca_findings.proofs.Common.{IsFinding}
 use Rattle.ca_answers.proofs.languages.erase.Goals as goal
 
 pub returns-in-None : goal.returns-in-None

@@ -1,8 +1,7 @@
 use Rattle.std.proofs.Common.{sym, ap, ◌∙◌, subst}
-use Rattle.word_image.specs.Words.{IsSurjective}
+use Rattle.word_image.proofs.Common.{IsSurjective}
 use Rattle.image_minimal.specs.ImageLanguages.{IsLeastAutomaton}
-use Rattle.ca_findings.specs.Findings.{IsFinding}
-use Rattle.ca_findings.specs.Values.{automaton_of}
+use Rattle.ca_findings.proofs.Common.{IsFinding, automaton_of}
 use Rattle.ca_answers.specs.OneClass.{one_class}
 use Rattle.ca_answers.proofs.laws.OneClass.{IsLeastAutomaton-surjective}
 use Rattle.ca_answers.proofs.languages.language.Goals as goal

@@ -1,15 +1,12 @@
-use Rattle.std.proofs.Common.{◌≡◌, ap, ◌∙◌}
-use Rattle.std.specs.Prelude.{None}
-use Rattle.word_image.specs.LocalRules.{LocalRule}
-use Rattle.tail_config.specs.Tails.{TailConfig}
+use Rattle.std.proofs.Common.{◌≡◌, ap, ◌∙◌, None}
+use Rattle.word_image.proofs.Common.{LocalRule}
+use Rattle.tail_config.proofs.Common.{TailConfig}
 use Rattle.tail_config.specs.TailFaults.{tail_fault}
 use Rattle.tail_config.proofs.laws.TailFaults.{tail_fault-none}
 use Rattle.tail_preimage.specs.Answers.{IsPreimageAnswer, placed_config}
 use Rattle.tail_preimage.specs.declared.answer.Pre.{Pre}
 use Rattle.tail_preimage.specs.declared.answer.Pre.TheVariants.{From, Gap}
-use Rattle.ca_findings.specs.Questions.{Question}
-use Rattle.ca_findings.specs.Findings.{IsFinding}
-use Rattle.ca_findings.specs.Values.{preimage_of}
+use Rattle.ca_findings.proofs.Common.{Question, IsFinding, preimage_of}
 use Rattle.ca_answers.proofs.preimages.preimage.Goals as goal
 
 -- a right answer is a right finding

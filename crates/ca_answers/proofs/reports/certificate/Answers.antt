@@ -1,10 +1,8 @@
-use Rattle.std.proofs.Common.{◌∙◌, List, ℕ, subst, subst₂}
-use Rattle.std.specs.Prelude.{option_copied}
-use Rattle.word_image.specs.LocalRules.{LocalRule, IsRule}
-use Rattle.word_image.specs.Weights.{AreWeights}
+use Rattle.std.proofs.Common.{◌∙◌, List, ℕ, subst, subst₂, option_copied}
+use Rattle.word_image.proofs.Common.{LocalRule, IsRule, AreWeights}
 use Rattle.certificate_laws.specs.WrittenCertificates.{HasWrittenParts}
 use Rattle.certificate_laws.proofs.Accepted.{IsWritten-parts}
-use Rattle.ca_findings.specs.Findings.{IsFinding}
+use Rattle.ca_findings.proofs.Common.{IsFinding}
 use Rattle.ca_answers.proofs.laws.OwnWeights.{unfit-certificate}
 use Rattle.ca_answers.proofs.reports.certificate.Goals as goal
 

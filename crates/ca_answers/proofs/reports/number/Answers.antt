@@ -1,6 +1,5 @@
 use Rattle.std.proofs.Common.{sym, subst}
-use Rattle.ca_findings.specs.Questions.{Question}
-use Rattle.ca_findings.specs.Findings.{Finding, IsFinding}
+use Rattle.ca_findings.proofs.Common.{Question, Finding, IsFinding}
 use Rattle.rule_text.proofs.laws.NumbersFound.{number_found-is}
 use Rattle.ca_answers.proofs.reports.number.Goals as goal
 

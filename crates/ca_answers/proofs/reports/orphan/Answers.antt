@@ -1,4 +1,4 @@
-use Rattle.ca_findings.specs.Findings.{IsFinding}
+use Rattle.ca_findings.proofs.Common.{IsFinding}
 use Rattle.ca_answers.proofs.reports.orphan.Goals as goal
 
 pub returns : goal.returns

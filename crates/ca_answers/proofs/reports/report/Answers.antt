@@ -1,8 +1,6 @@
-use Rattle.std.proofs.Common.{List, ℕ, slice_index, ◌∙◌, subst}
-use Rattle.std.specs.Prelude.{option_copied}
+use Rattle.std.proofs.Common.{List, ℕ, slice_index, ◌∙◌, subst, option_copied}
 use Rattle.certificate_laws.specs.LeastEvidence.{IsLeastEvidence}
-use Rattle.ca_findings.specs.Findings.{IsFinding}
-use Rattle.ca_findings.specs.Values.{evidence_of}
+use Rattle.ca_findings.proofs.Common.{IsFinding, evidence_of}
 use Rattle.ca_answers.proofs.laws.OwnWeights.{IsLeastEvidence-by, unfit-report}
 use Rattle.ca_answers.proofs.reports.report.Goals as goal
 

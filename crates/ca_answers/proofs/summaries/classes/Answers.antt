@@ -1,8 +1,6 @@
 use Rattle.std.proofs.Common.{◌≡◌, None, subst}
 use Rattle.rule_verdicts.specs.Numbers.{numbers_fault}
-use Rattle.ca_findings.specs.Questions.{Question}
-use Rattle.ca_findings.specs.Findings.{IsFinding}
-use Rattle.ca_findings.specs.Values.{finding_of}
+use Rattle.ca_findings.proofs.Common.{Question, IsFinding, finding_of}
 use Rattle.ca_answers.specs.Samples.{survey_rules}
 use Rattle.ca_answers.proofs.summaries.classes.Goals as goal
 

@@ -1,6 +1,5 @@
 use Rattle.std.proofs.Common.{◌≡◌, ◌+◌, ◌^◌, ◌<◌, [], ◌∷◌, ◌++◌, length, reverse, refl, sym, ap, ◌∙◌, subst, arith}
-use Rattle.std.proofs.lemmas.List.FromFn.{length-map-range_with_len}
-use Rattle.word_image.specs.LocalRules.{LocalRule, IsRule, value}
+use Rattle.word_image.proofs.Common.{length-map-range_with_len, LocalRule, IsRule, value}
 use Rattle.rule_verdicts.specs.Truths.{table_rule}
 use Rattle.rule_verdicts.specs.Numbers.{numbered_rule}
 use Rattle.rule_verdicts.proofs.laws.Tables.{numbered_rule-table}

@@ -1,5 +1,5 @@
 use Rattle.std.proofs.Common.{◌≡◌, ◌+◌, ◌-◌, ◌^◌, ◌≤◌, IfOk, length, reverse, ap, ◌∙◌, subst, arith}
-use Rattle.word_image.specs.LocalRules.{value}
+use Rattle.word_image.proofs.Common.{value}
 use Rattle.rule_text.specs.RuleTexts.{number_fault}
 use Rattle.rule_text.proofs.laws.AcceptedRules.{none_or}
 use Rattle.rule_verdicts.proofs.laws.Numbers.{few_states, numbers_fault-room}

@@ -1,8 +1,7 @@
 use Rattle.std.proofs.Common.{◌≡◌, ◌-◌, List, ◌++◌, length}
-use Rattle.word_image.specs.LocalRules.{LocalRule}
+use Rattle.word_image.proofs.Common.{LocalRule}
 use Rattle.ca_answers.specs.Samples.{sample_rules}
-use Rattle.ca_findings.specs.Counts.{AreCounts}
-use Rattle.ca_findings.specs.Values.{counts_of}
+use Rattle.ca_findings.proofs.Common.{AreCounts, counts_of}
 use Rattle.ca_answers.proofs.summaries.counts_in.Given as goal
 
 -- the rules so far are counted, and the others go on from the state that they left

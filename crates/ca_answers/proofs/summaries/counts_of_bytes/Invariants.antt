@@ -1,6 +1,5 @@
 use Rattle.ca_answers.specs.Samples.{survey_rules}
-use Rattle.ca_findings.specs.Counts.{AreCounts}
-use Rattle.ca_findings.specs.Values.{counts_of}
+use Rattle.ca_findings.proofs.Common.{AreCounts, counts_of}
 use Rattle.ca_answers.proofs.summaries.counts_of_bytes.Given as goal
 
 -- the rules so far are counted

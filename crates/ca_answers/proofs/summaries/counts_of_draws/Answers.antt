@@ -1,6 +1,5 @@
-use Rattle.std.proofs.Common.{◌≡◌, ◌^◌, refl, rules}
-use Rattle.std.specs.Prelude.{pos}
-use Rattle.word_image.proofs.laws.RuleFaults.{window_count-le, part_long}
+use Rattle.std.proofs.Common.{◌≡◌, ◌^◌, refl, rules, pos}
+use Rattle.word_image.proofs.Common.{window_count-le, part_long}
 use Rattle.ca_answers.proofs.summaries.counts_of_draws.Goals as goal
 
 pub counts_in-requires-clause-long : goal.counts_in-requires-clause-long

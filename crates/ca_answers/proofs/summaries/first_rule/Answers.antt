@@ -1,5 +1,5 @@
 use Rattle.std.proofs.Common.{◌≡◌, ◌+◌, pos, ap, sym, ◌∙◌, subst, arith}
-use Rattle.std.proofs.lemmas.Option.{none-some}
+use Rattle.word_image.proofs.Common.{none-some}
 use Rattle.rule_text.specs.RuleTexts.{by_number, fault_of}
 use Rattle.rule_text.specs.TextReadings.{IsReading}
 use Rattle.ca_answers.proofs.laws.Samples.{survey-accepted}

@@ -1,5 +1,5 @@
 use Rattle.std.proofs.Common.{refl, rules}
-use Rattle.word_image.proofs.laws.RulesBy.{IsRuleBy-entries}
+use Rattle.word_image.proofs.Common.{IsRuleBy-entries}
 use Rattle.ca_answers.proofs.summaries.rule_of_table.Goals as goal
 
 pub by-requires-clause-rule : goal.by-requires-clause-rule

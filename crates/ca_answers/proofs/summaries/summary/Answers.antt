@@ -1,5 +1,4 @@
-use Rattle.ca_findings.specs.Findings.{IsFinding}
-use Rattle.ca_findings.specs.Values.{counts_of}
+use Rattle.ca_findings.proofs.Common.{IsFinding, counts_of}
 use Rattle.ca_answers.proofs.summaries.summary.Goals as goal
 
 pub returns : goal.returns

@@ -1,5 +1,5 @@
 use Rattle.std.proofs.Common.{◌+◌, refl, ap, sym, ◌∙◌, arith, length-append}
-use Rattle.std.specs.Int.{from_bool}
+use Rattle.word_image.proofs.Common.{from_bool}
 use Rattle.ca_answers.proofs.laws.OwnWeights.{IsConserving-tested}
 use Rattle.ca_answers.proofs.laws.Counts.{AreMany-le, AreMany-push}
 use Rattle.ca_answers.proofs.tally.add.Goals as goal

@@ -1,6 +1,6 @@
 use Rattle.std.proofs.Common.{length, Err, refl, sym, ap, ◌∙◌}
 use Rattle.ca_c.specs.Calls.{IsHandedBack}
-use Rattle.std.proofs.lemmas.Bool.{false≢true}
+use Rattle.word_image.proofs.Common.{false≢true}
 use Rattle.ca_c.proofs.laws.Calls.{IsHandedBack-whole, IsHandedBack-short, no_fault-answer}
 use Rattle.ca_c.proofs.calls.hand_back.Goals as goal
 

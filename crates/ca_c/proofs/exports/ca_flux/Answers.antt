@@ -1,6 +1,5 @@
 use Rattle.std.proofs.Common.{ℕ, subst, sym, ◌∙◌}
-use Rattle.std.proofs.lemmas.Bool.{false≢true}
-use Rattle.word_image.specs.LocalRules.{LocalRule}
+use Rattle.word_image.proofs.Common.{false≢true, LocalRule}
 use Rattle.kept_sums.specs.Sums.{IsKept}
 use Rattle.kept_sums.specs.Rows.{at}
 use Rattle.kept_sums.specs.Fluxes.{IsFluxList}

@@ -1,6 +1,5 @@
-use Rattle.std.proofs.Common.{◌≡◌, ◌+◌, ◌<◌, ◌≤◌, ℕ, List, length, inl, inr, sym, subst, arith}
-use Rattle.std.specs.Prelude.{◌≢◌, ◌⊎◌, alloc_error, Option, Result, Ok, Err, IfOk, MatchResult}
-use Rattle.cert_conditions.specs.Refusals.{IsRefusal}
+use Rattle.std.proofs.Common.{◌≡◌, ◌+◌, ◌<◌, ◌≤◌, ℕ, List, length, inl, inr, sym, subst, arith, ◌≢◌, ◌⊎◌, alloc_error, Option, Result, Ok, Err, IfOk, MatchResult}
+use Rattle.cert_conditions.proofs.Common.{IsRefusal}
 use Rattle.cert_conditions.specs.declared.refusal.Refusal.{Refusal}
 use Rattle.cert_conditions.specs.declared.refusal.Refusal.TheVariants as refusal
 use Rattle.ca_io.specs.declared.input.InputFault.{InputFault}
@@ -9,7 +8,7 @@ use Rattle.ca_words.specs.declared.names.Name.TheVariants as name
 use Rattle.ca_words.specs.Commands.{Command}
 use Rattle.ca_findings.specs.declared.reply.Reply as code
 use Rattle.ca_findings.specs.declared.reply.Reply.TheVariants as said
-use Rattle.ca_findings.specs.Values.{reply_of}
+use Rattle.ca_findings.proofs.Common.{reply_of}
 use Rattle.ca_cli.specs.Inputs.{most_input, IsWholeInput}
 use Rattle.ca_cli.specs.RightAnswers.{IsReply}
 use Rattle.ca_cli.proofs.laws.Inputs.{IsLongInput-taken, IsWholeInput-taken}

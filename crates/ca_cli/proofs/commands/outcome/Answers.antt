@@ -1,5 +1,4 @@
-use Rattle.std.proofs.Common.{◌≡◌, [], ◌∷◌, length, map, string_bytes, sym, ap, ap₂, ◌∙◌, arith}
-use Rattle.std.specs.Prelude.{Ok}
+use Rattle.std.proofs.Common.{◌≡◌, [], ◌∷◌, length, map, string_bytes, sym, ap, ap₂, ◌∙◌, arith, Ok}
 use Rattle.ca_words.specs.Commands.{rule_count}
 use Rattle.ca_cli.specs.Asked.{AreRuleTexts}
 use Rattle.ca_cli.specs.Outcomes.{command_of}

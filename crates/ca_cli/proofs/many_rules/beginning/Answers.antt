@@ -1,14 +1,10 @@
-use Rattle.std.proofs.Common.{◌≡◌, ℕ, ◌<◌, ◌≤◌, ◌^◌, List, [], ◌∷◌, sym, subst, arith}
-use Rattle.std.specs.Prelude.{Option, None, Some, MatchOption, Result, Ok, Err, MatchResult}
-use Rattle.std.specs.Option.{SomeIff}
+use Rattle.std.proofs.Common.{◌≡◌, ℕ, ◌<◌, ◌≤◌, ◌^◌, List, [], ◌∷◌, sym, subst, arith, Option, None, Some, MatchOption, Result, Ok, Err, MatchResult, SomeIff}
 use Rattle.rule_text.specs.RuleTexts.{decimal_value}
 use Rattle.rule_verdicts.specs.Numbers.{numbers_fault}
 use Rattle.ca_words.specs.declared.names.Name.TheVariants as names
 use Rattle.ca_words.specs.Operands.{IsSeed}
 use Rattle.ca_findings.specs.declared.found.Found.{Found}
-use Rattle.ca_findings.specs.Questions.{Question}
-use Rattle.ca_findings.specs.Findings.{IsFinding}
-use Rattle.ca_findings.specs.Values.{finding_of}
+use Rattle.ca_findings.proofs.Common.{Question, IsFinding, finding_of}
 use Rattle.ca_answers.specs.declared.summaries.NoRules.{NoRules}
 use Rattle.ca_answers.specs.declared.summaries.NoRules.TheVariants as none
 use Rattle.ca_answers.specs.NoRules.{IsNoRules}

@@ -1,6 +1,5 @@
-use Rattle.std.proofs.Common.{inl, inr, ◌≡◌, ℕ, List, [], ◌∷◌, sym, subst}
-use Rattle.std.specs.Prelude.{◌⊎◌, alloc_error}
-use Rattle.word_image.specs.LocalRules.{LocalRule}
+use Rattle.std.proofs.Common.{inl, inr, ◌≡◌, ℕ, List, [], ◌∷◌, sym, subst, ◌⊎◌, alloc_error}
+use Rattle.word_image.proofs.Common.{LocalRule}
 use Rattle.tail_config.specs.TailFaults.{IsTailText}
 use Rattle.tail_config.specs.declared.texts.TailTextFault.{TailTextFault}
 use Rattle.tail_config.specs.declared.texts.TailTextFault.TheVariants as text
@@ -10,8 +9,7 @@ use Rattle.tail_config.specs.TailTextFaults.IsTailTextFault.{Refused}
 use Rattle.ca_words.specs.declared.names.Name.TheVariants as names
 use Rattle.ca_findings.specs.declared.found.Cause.TheVariants as cause
 use Rattle.ca_findings.specs.declared.found.Stop.TheVariants as unfit_stop
-use Rattle.ca_findings.specs.Questions.{Question}
-use Rattle.ca_findings.specs.Findings.{IsUnfitFor}
+use Rattle.ca_findings.proofs.Common.{Question, IsUnfitFor}
 use Rattle.ca_cli.specs.Asked.{Asks}
 use Rattle.ca_cli.specs.Outcomes.{IsStopAt}
 use Rattle.ca_cli.proofs.laws.Outcomes.{comes}

@@ -1,4 +1,4 @@
-use Rattle.ca_findings.specs.Questions.{Question}
+use Rattle.ca_findings.proofs.Common.{Question}
 use Rattle.ca_cli.specs.Asked.{Asks}
 use Rattle.ca_cli.proofs.laws.Outcomes.{comes}
 use Rattle.ca_cli.proofs.questions.of_rule.Goals as goal

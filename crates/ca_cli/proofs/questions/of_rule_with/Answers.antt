@@ -1,8 +1,6 @@
-use Rattle.std.proofs.Common.{subst, ◌∙◌}
-use Rattle.std.specs.Prelude.{Some}
+use Rattle.std.proofs.Common.{subst, ◌∙◌, Some}
 use Rattle.cert_format.specs.declared.cert_version.CertVersion.TheVariants as version
-use Rattle.ca_findings.specs.Questions.{Question}
-use Rattle.ca_findings.specs.Values.{Answers}
+use Rattle.ca_findings.proofs.Common.{Question, Answers}
 use Rattle.ca_cli.specs.Asked.{Asks}
 use Rattle.ca_cli.proofs.laws.Outcomes.{comes}
 use Rattle.ca_cli.proofs.questions.of_rule_with.Goals as goal

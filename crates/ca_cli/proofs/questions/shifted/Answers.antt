@@ -1,9 +1,7 @@
-use Rattle.std.proofs.Common.{◌≡◌, w8, FitsSigned, to_z, of_z, subst, rules}
-use Rattle.std.specs.Prelude.{IfSome}
+use Rattle.std.proofs.Common.{◌≡◌, w8, FitsSigned, to_z, of_z, subst, rules, IfSome}
 use Rattle.std.proofs.lemmas.Int.{to_z-of_z}
 use Rattle.rule_text.specs.RuleTexts.{IsOffset}
-use Rattle.ca_findings.specs.Questions.{Question}
-use Rattle.ca_findings.specs.Values.{Answers}
+use Rattle.ca_findings.proofs.Common.{Question, Answers}
 use Rattle.ca_cli.specs.Asked.{Asks}
 use Rattle.ca_cli.proofs.laws.Outcomes.{comes}
 use Rattle.ca_cli.proofs.questions.shifted.Goals as goal

@@ -1,8 +1,6 @@
-use Rattle.std.proofs.Common.{◌≡◌, subst}
-use Rattle.std.specs.Prelude.{MatchOption}
+use Rattle.std.proofs.Common.{◌≡◌, subst, MatchOption}
 use Rattle.rule_text.specs.RuleTexts.{IsDecimal, decimal_value}
-use Rattle.ca_findings.specs.Questions.{Question}
-use Rattle.ca_findings.specs.Values.{Answers}
+use Rattle.ca_findings.proofs.Common.{Question, Answers}
 use Rattle.ca_cli.specs.Asked.{Asks}
 use Rattle.ca_cli.proofs.laws.Outcomes.{comes}
 use Rattle.ca_cli.proofs.questions.widened.Goals as goal

@@ -1,5 +1,5 @@
 use Rattle.std.proofs.Common.{refl, sym, ap, ◌∙◌}
-use Rattle.std.proofs.lemmas.Result.{IfOk-weaker}
+use Rattle.word_image.proofs.Common.{IfOk-weaker}
 use Rattle.ca_words.proofs.laws.Names.{IsCommand-unique}
 use Rattle.ca_cli.specs.RightAnswers.{IsReplyTo}
 use Rattle.ca_cli.proofs.laws.Inputs.{nothing_read}

@@ -1,5 +1,5 @@
 use Rattle.std.proofs.Common.{ap, ◌∙◌}
-use Rattle.std.proofs.lemmas.Result.{IfOk-weaker}
+use Rattle.word_image.proofs.Common.{IfOk-weaker}
 use Rattle.rule_text.proofs.laws.NumbersFound.{number_found-is}
 use Rattle.ca_json.specs.Values.{number_or_null}
 use Rattle.ca_json.proofs.evidence.number_value.Goals as goal

@@ -1,9 +1,8 @@
 use Rattle.std.proofs.Common.{List, [], ◌∷◌, ◌++◌, map, ap, ap₂, sym, ◌∙◌, arith}
-use Rattle.std.proofs.lemmas.List.{map-append}
-use Rattle.std.proofs.lemmas.List.FromFn.{map-range_with_len_more}
+use Rattle.word_image.proofs.Common.{map-append, map-range_with_len_more}
 use Rattle.serde_json.specs.Data.{Data}
 use Rattle.serde_json.specs.View.{view}
-use Rattle.ca_findings.specs.Values.{automaton_of}
+use Rattle.ca_findings.proofs.Common.{automaton_of}
 use Rattle.ca_json.specs.Findings.{row_json}
 use Rattle.ca_json.proofs.languages.rows_value.Goals as goal
 

@@ -1,6 +1,4 @@
-use Rattle.std.proofs.Common.{◌≡◌, ◌++◌, append_assoc, sym, ap, ◌∙◌, subst}
-use Rattle.std.specs.Prelude.{codes, IfOk}
-use Rattle.std.specs.Fmt.{decimal}
+use Rattle.std.proofs.Common.{◌≡◌, ◌++◌, append_assoc, sym, ap, ◌∙◌, subst, codes, IfOk, decimal}
 use Rattle.ca_text.specs.Reports.{line}
 use Rattle.rule_text.specs.FaultTexts.{fault_text}
 use Rattle.ca_text.proofs.faults.operand_fault_output.Goals as goal

@@ -1,9 +1,6 @@
-use Rattle.std.proofs.Common.{◌≡◌, ℕ, ◌+◌, ◌-◌, ◌≤◌, List, [], ◌∷◌, ◌++◌, length-drop, drop, take, sym, ap, ap₂, ◌∙◌, arith, add-one, append_assoc}
-use Rattle.std.specs.Prelude.{codes}
-use Rattle.std.specs.List.{flat_map, range_with_len}
-use Rattle.std.specs.Fmt.{decimal}
-use Rattle.std.proofs.lemmas.List.{drop-set, take_all}
-use Rattle.std.proofs.lemmas.Result.{on_ok_weaker}
+use Rattle.std.proofs.Common.{◌≡◌, ℕ, ◌+◌, ◌-◌, ◌≤◌, List, [], ◌∷◌, ◌++◌, length-drop, drop, take, sym, ap, ap₂, ◌∙◌, arith, add-one, append_assoc, codes, flat_map, decimal}
+use Rattle.word_image.proofs.Common.{range_with_len, drop-set, on_ok_weaker}
+use Rattle.std.proofs.lemmas.List.{take_all}
 use Rattle.image_minimal.specs.ImageLanguages.{Automaton}
 use Rattle.ca_text.specs.Lines.{after_class}
 use Rattle.ca_text.proofs.languages.write_row.Goals as goal

@@ -1,7 +1,5 @@
-use Rattle.std.proofs.Common.{◌≡◌, ℕ, ◌+◌, ◌-◌, ◌*◌, ◌<◌, ◌≤◌, [], ◌∷◌, ◌++◌, drop, slice_index}
-use Rattle.std.specs.Prelude.{codes}
-use Rattle.std.specs.List.{flat_map, range_with_len}
-use Rattle.std.specs.Fmt.{decimal}
+use Rattle.std.proofs.Common.{◌≡◌, ℕ, ◌+◌, ◌-◌, ◌*◌, ◌<◌, ◌≤◌, [], ◌∷◌, ◌++◌, drop, slice_index, codes, flat_map, decimal}
+use Rattle.word_image.proofs.Common.{range_with_len}
 use Rattle.image_minimal.specs.ImageLanguages.{Automaton}
 use Rattle.ca_text.specs.Lines.{after_class}
 use Rattle.ca_text.proofs.languages.write_row.Given as goal

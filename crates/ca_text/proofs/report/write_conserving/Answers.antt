@@ -1,7 +1,5 @@
-use Rattle.std.proofs.Common.{◌++◌, ap, ◌∙◌}
-use Rattle.std.specs.Prelude.{codes}
-use Rattle.std.proofs.lemmas.Result.{on_ok_weaker}
-use Rattle.word_image.specs.Digits.{word_text}
+use Rattle.std.proofs.Common.{◌++◌, ap, ◌∙◌, codes}
+use Rattle.word_image.proofs.Common.{on_ok_weaker, word_text}
 use Rattle.ca_text.specs.Reports.{line}
 use Rattle.ca_text.proofs.report.write_conserving.Goals as goal
 

@@ -1,6 +1,4 @@
-use Rattle.std.proofs.Common.{◌≡◌, ◌++◌, append_assoc, sym, ap, ◌∙◌, subst}
-use Rattle.std.specs.Prelude.{codes, OnOk}
-use Rattle.std.specs.Fmt.{decimal}
+use Rattle.std.proofs.Common.{◌≡◌, ◌++◌, append_assoc, sym, ap, ◌∙◌, subst, codes, OnOk, decimal}
 use Rattle.ca_text.specs.Reports.{line}
 use Rattle.ca_text.proofs.report.write_determined.Goals as goal
 

@@ -1,10 +1,7 @@
-use Rattle.std.proofs.Common.{◌≡◌, ℕ, ◌+◌, ◌<◌, List, [], ◌∷◌, ◌++◌, length, take, get_or, refl, sym, ap, ap₂, ◌∙◌, add-one, append_assoc, append-nil}
-use Rattle.std.specs.Prelude.{ℤ, pos, negsuc, codes}
-use Rattle.std.specs.Fmt.{decimal, signed_decimal}
-use Rattle.std.proofs.lemmas.List.{take_more}
-use Rattle.std.proofs.lemmas.Grind.{flat_map-append}
+use Rattle.std.proofs.Common.{◌≡◌, ℕ, ◌+◌, ◌<◌, List, [], ◌∷◌, ◌++◌, length, take, get_or, refl, sym, ap, ap₂, ◌∙◌, add-one, append_assoc, append-nil, ℤ, pos, negsuc, codes, decimal, flat_map}
+use Rattle.std.specs.Fmt.{signed_decimal}
+use Rattle.word_image.proofs.Common.{take_more, flat_map-append}
 use Rattle.rule_text.specs.PrintedRules.{offset_text}
-use Rattle.std.specs.List.{flat_map}
 use Rattle.ca_text.proofs.report.write_flux.Goals as goal
 
 -- an integer is written as an offset is

@@ -1,8 +1,7 @@
-use Rattle.std.proofs.Common.{◌++◌, ap, ◌∙◌, cond}
-use Rattle.std.specs.Prelude.{codes}
-use Rattle.std.proofs.lemmas.Result.{on_ok_weaker}
+use Rattle.std.proofs.Common.{◌++◌, ap, ◌∙◌, cond, codes}
+use Rattle.word_image.proofs.Common.{on_ok_weaker}
 use Rattle.rule_text.specs.PrintedRules.{printed_rule, number_found}
-use Rattle.cert_format.specs.Parts.{injective_of, side_of, sum_of}
+use Rattle.cert_format.proofs.Common.{injective_of, side_of, sum_of}
 use Rattle.rule_text.proofs.laws.NumbersFound.{number_found-is}
 use Rattle.ca_text.specs.Reports.{line, number_line, surjective_line, injective_line, side_line, conserving_line}
 use Rattle.ca_text.proofs.laws.Appended.{appended_twice}

@@ -1,7 +1,4 @@
-use Rattle.std.proofs.Common.{◌≡◌, ◌++◌, take}
-use Rattle.std.specs.Prelude.{codes}
-use Rattle.std.specs.List.{flat_map}
-use Rattle.std.specs.Fmt.{decimal}
+use Rattle.std.proofs.Common.{◌≡◌, ◌++◌, take, codes, flat_map, decimal}
 use Rattle.ca_text.proofs.verdicts.write_others.Given as goal
 
 -- the numbers so far

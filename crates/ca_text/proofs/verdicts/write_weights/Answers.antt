@@ -1,10 +1,5 @@
-use Rattle.std.proofs.Common.{◌≡◌, ◌++◌, length, ap, sym, ◌∙◌}
-use Rattle.std.specs.Prelude.{codes}
-use Rattle.std.specs.List.{join_by}
-use Rattle.std.specs.Fmt.{decimal}
-use Rattle.std.proofs.lemmas.Bool.{false≢true}
-use Rattle.std.proofs.lemmas.Result.{on_ok_weaker}
-use Rattle.word_image.specs.Weights.{own_weights}
+use Rattle.std.proofs.Common.{◌≡◌, ◌++◌, length, ap, sym, ◌∙◌, codes, decimal}
+use Rattle.word_image.proofs.Common.{join_by, false≢true, on_ok_weaker, own_weights}
 use Rattle.ca_text.proofs.laws.Appended.{appended_twice}
 use Rattle.ca_text.proofs.laws.WeightLines.{weights_lines-other}
 use Rattle.ca_text.proofs.verdicts.write_weights.Goals as goal

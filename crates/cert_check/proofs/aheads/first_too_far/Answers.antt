@@ -1,5 +1,5 @@
 use Rattle.std.proofs.Common.{sym, ◌∙◌, arith}
-use Rattle.std.proofs.lemmas.Bool.{false≢true}
+use Rattle.word_image.proofs.Common.{false≢true}
 use Rattle.cert_check.proofs.aheads.first_too_far.Goals as goal
 
 pub returns-then-not-claims_below : goal.returns-then-not-claims_below

@@ -1,6 +1,5 @@
-use Rattle.cert_conditions.specs.Breaches.{EachBelow}
-use Rattle.word_image.specs.FirstPairs.{IsFirstOf}
-use Rattle.cert_conditions.specs.Claims.{IsAheadPair}
+use Rattle.cert_conditions.proofs.Common.{EachBelow, IsAheadPair}
+use Rattle.word_image.proofs.Common.{IsFirstOf}
 use Rattle.cert_check.proofs.aheads.first_too_far.Given as goal
 
 -- less than n - 1 is claimed of each first pair so far

@@ -1,6 +1,5 @@
 use Rattle.std.proofs.Common.{◌≡◌, sym, ap, subst, ◌∙◌}
-use Rattle.std.proofs.lemmas.Bool.{false≢true}
-use Rattle.word_image.specs.Graphs.{first_of, second_of}
+use Rattle.word_image.proofs.Common.{false≢true, first_of, second_of}
 use Rattle.word_image.specs.declared.side.Side.{Side}
 use Rattle.cert_check.specs.SideWindows.{rest_of}
 use Rattle.cert_check.proofs.laws.FirstPairs.{HaveOneLabel, DifferAtEnd, IsFirstOf-differ, DifferAtEnd-first}

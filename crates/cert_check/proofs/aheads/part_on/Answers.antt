@@ -1,7 +1,6 @@
 use Rattle.std.proofs.Common.{sym, ap, subst, ◌∙◌}
-use Rattle.cert_format.specs.Certificates.{Certificate, IsSideShape}
-use Rattle.cert_format.specs.Parts.{side_of, IsOver}
-use Rattle.cert_conditions.specs.Sides.{evidence_on}
+use Rattle.cert_format.proofs.Common.{Certificate, IsSideShape, side_of, IsOver}
+use Rattle.cert_conditions.proofs.Common.{evidence_on}
 use Rattle.cert_check.proofs.aheads.part_on.Goals as goal
 
 pub returns-in-Right-clause-part : goal.returns-in-Right-clause-part

@@ -1,5 +1,5 @@
 use Rattle.std.proofs.Common.{◌≡◌, ℕ, ◌-◌, ◌^◌, ap₂, ◌∙◌, arith}
-use Rattle.word_image.proofs.laws.WindowParts.{power-below}
+use Rattle.word_image.proofs.Common.{power-below}
 use Rattle.cert_check.proofs.aheads.rest_of.Goals as goal
 
 pub pow-requires : goal.pow-requires

@@ -1,6 +1,5 @@
 use Rattle.std.proofs.Common.{◌≢◌, ℕ, ◌<◌}
-use Rattle.word_image.specs.Graphs.{first_of, second_of}
-use Rattle.word_image.specs.Ends.{label_at}
+use Rattle.word_image.proofs.Common.{first_of, second_of, label_at}
 use Rattle.cert_check.proofs.aheads.share_a_label.Given as goal
 
 -- no letter so far makes windows with one label

@@ -1,15 +1,8 @@
 use Rattle.std.proofs.Common.{ℕ, List, Option, sym, ap, subst, subst₂, ◌∙◌}
-use Rattle.word_image.specs.LocalRules.{LocalRule}
-use Rattle.word_image.specs.Graphs.{pair_count}
-use Rattle.word_image.specs.FirstPairs.{IsFirstOf}
-use Rattle.cert_format.specs.Certificates.{Certificate, IsSideShape}
-use Rattle.cert_format.specs.Parts.{side_of}
+use Rattle.word_image.proofs.Common.{LocalRule, pair_count, IsFirstOf}
+use Rattle.cert_format.proofs.Common.{Certificate, IsSideShape, side_of}
 use Rattle.cert_format.specs.declared.parts.SidePart.{SidePart}
-use Rattle.cert_conditions.specs.Breaches.{EachBelow, IsFirstBreach}
-use Rattle.cert_conditions.specs.Claims.{IsAheadPair}
-use Rattle.cert_conditions.specs.Sides.{claims_on}
-use Rattle.cert_conditions.specs.Conditions.{OfAhead}
-use Rattle.cert_conditions.specs.Refusals.IsBreach.{NoAhead}
+use Rattle.cert_conditions.proofs.Common.{EachBelow, IsFirstBreach, IsAheadPair, claims_on, OfAhead, NoAhead}
 use Rattle.cert_check.proofs.aheads.side_ahead.Goals as goal
 
 pub first_too_far-requires-clause-row : goal.first_too_far-requires-clause-row

@@ -1,7 +1,7 @@
 use Rattle.std.proofs.Common.{length, sym, ap, ◌∙◌}
-use Rattle.word_image.specs.Graphs.{pair_count}
-use Rattle.cert_format.specs.Certificates.{Certificate}
-use Rattle.cert_conditions.specs.Sides.{claims_on}
+use Rattle.word_image.proofs.Common.{pair_count}
+use Rattle.cert_format.proofs.Common.{Certificate}
+use Rattle.cert_conditions.proofs.Common.{claims_on}
 use Rattle.cert_check.proofs.claims.claims_on.Goals as goal
 
 pub returns-in-Right-clause-row : goal.returns-in-Right-clause-row

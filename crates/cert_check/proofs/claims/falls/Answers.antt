@@ -1,6 +1,5 @@
 use Rattle.std.proofs.Common.{◌≡◌, Some, refl, sym, ap, ◌∙◌, arith, below_more}
-use Rattle.cert_conditions.specs.Breaches.{EachBelow}
-use Rattle.cert_conditions.specs.Claims.{claim}
+use Rattle.cert_conditions.proofs.Common.{EachBelow, claim}
 use Rattle.cert_check.specs.SideWindows.{FallsBy}
 use Rattle.cert_check.proofs.laws.Claims.{Falls-steps}
 use Rattle.cert_check.proofs.claims.falls.Goals as goal

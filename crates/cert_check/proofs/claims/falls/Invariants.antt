@@ -1,4 +1,4 @@
-use Rattle.cert_conditions.specs.Breaches.{EachBelow}
+use Rattle.cert_conditions.proofs.Common.{EachBelow}
 use Rattle.cert_check.specs.SideWindows.{FallsBy}
 use Rattle.cert_check.proofs.claims.falls.Given as goal
 

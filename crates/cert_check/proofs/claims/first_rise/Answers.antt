@@ -1,5 +1,5 @@
 use Rattle.std.proofs.Common.{below_more}
-use Rattle.cert_conditions.specs.Claims.{Falls}
+use Rattle.cert_conditions.proofs.Common.{Falls}
 use Rattle.cert_check.proofs.claims.first_rise.Goals as goal
 
 pub loop-pair-preserved : goal.loop-pair-preserved

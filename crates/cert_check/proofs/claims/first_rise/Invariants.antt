@@ -1,5 +1,4 @@
-use Rattle.cert_conditions.specs.Breaches.{EachBelow}
-use Rattle.cert_conditions.specs.Claims.{Falls}
+use Rattle.cert_conditions.proofs.Common.{EachBelow, Falls}
 use Rattle.cert_check.proofs.claims.first_rise.Given as goal
 
 -- the claims of the pairs so far fall

@@ -1,10 +1,7 @@
 use Rattle.std.proofs.Common.{ℕ, List, Option, ap, subst₂}
-use Rattle.word_image.specs.LocalRules.{LocalRule}
-use Rattle.word_image.specs.Graphs.{pair_count}
-use Rattle.cert_format.specs.Certificates.{Certificate}
-use Rattle.cert_conditions.specs.Breaches.{EachBelow, IsFirstBreach}
-use Rattle.cert_conditions.specs.Claims.{Falls}
-use Rattle.cert_conditions.specs.Refusals.IsBreach.{Rising}
+use Rattle.word_image.proofs.Common.{LocalRule, pair_count}
+use Rattle.cert_format.proofs.Common.{Certificate}
+use Rattle.cert_conditions.proofs.Common.{EachBelow, IsFirstBreach, Falls, Rising}
 use Rattle.cert_check.proofs.claims.side_claims.Goals as goal
 
 pub returns-in-Some : goal.returns-in-Some

@@ -1,6 +1,6 @@
 use Rattle.std.proofs.Common.{subst, All, take_all}
-use Rattle.std.proofs.lemmas.Result.{err_from_is_err_and}
-use Rattle.cert_conditions.specs.Conditions.{conditions, Holds}
+use Rattle.word_image.proofs.Common.{err_from_is_err_and}
+use Rattle.cert_conditions.proofs.Common.{conditions, Holds}
 use Rattle.cert_conditions.proofs.laws.Breaches.{IsFirstUnmet-at, All-more, MeetsConditions-all}
 use Rattle.cert_check.proofs.conditions.check_all.Goals as goal
 

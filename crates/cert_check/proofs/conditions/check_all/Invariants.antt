@@ -1,5 +1,5 @@
 use Rattle.std.proofs.Common.{take, All}
-use Rattle.cert_conditions.specs.Conditions.{conditions, Holds}
+use Rattle.cert_conditions.proofs.Common.{conditions, Holds}
 use Rattle.cert_check.proofs.conditions.check_all.Given as goal
 
 -- the conditions so far are met

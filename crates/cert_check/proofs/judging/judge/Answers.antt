@@ -1,14 +1,12 @@
 use Rattle.std.proofs.Common.{◌≡◌, Ok, Err, inl, inr, sym, ap, ◌∙◌, subst, ⊎_elim}
-use Rattle.std.proofs.lemmas.Result.{err_from_is_err_and}
-use Rattle.word_image.proofs.laws.Results.{handed_on}
+use Rattle.word_image.proofs.Common.{err_from_is_err_and, handed_on}
 use Rattle.cert_format.specs.declared.shape_fault.CertFault.TheVariants as cert_fault
 use Rattle.cert_conditions.specs.declared.refusal.Refusal.TheVariants as refusal
-use Rattle.cert_conditions.specs.Refusals.{IsRefusal}
+use Rattle.cert_conditions.proofs.Common.{IsRefusal, AreTrue-accepted}
 use Rattle.cert_conditions.specs.Refusals.IsRefusal.{NoShape, Unmet}
 use Rattle.cert_conditions.proofs.laws.Breaches.{unmet_fails}
 use Rattle.cert_conditions.proofs.laws.OneBreach.{one_unmet}
 use Rattle.cert_check.proofs.laws.Judging.{accepted-read, refusal-read, accepted-named, refusal-named}
-use Rattle.cert_conditions.proofs.laws.Soundness.{AreTrue-accepted}
 use Rattle.cert_check.proofs.judging.judge.Goals as goal
 
 pub returns-in_err-check_all-in-Ok-clause-refused : goal.returns-in_err-check_all-in-Ok-clause-refused

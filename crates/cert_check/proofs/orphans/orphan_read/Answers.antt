@@ -1,12 +1,9 @@
 use Rattle.std.proofs.Common.{ℕ, List, ap, subst}
-use Rattle.word_image.specs.Graphs.{full_set}
-use Rattle.cert_format.specs.Certificates.{Certificate}
-use Rattle.cert_format.specs.Parts.{surjective_of}
+use Rattle.word_image.proofs.Common.{full_set}
+use Rattle.cert_format.proofs.Common.{Certificate, surjective_of}
 use Rattle.cert_conditions.specs.declared.condition.Condition.TheVariants as condition
 use Rattle.cert_conditions.specs.declared.refusal.Refusal.TheVariants as refusal
-use Rattle.cert_conditions.specs.Sets.{LeadsTo}
-use Rattle.cert_conditions.specs.Refusals.{IsBreach}
-use Rattle.cert_conditions.specs.Refusals.IsBreach.{NoOrphan}
+use Rattle.cert_conditions.proofs.Common.{LeadsTo, IsBreach, NoOrphan}
 use Rattle.cert_conditions.proofs.laws.Steps.{LeadsTo-unique}
 use Rattle.cert_check.proofs.orphans.orphan_read.Goals as goal
 

@@ -1,9 +1,7 @@
 use Rattle.std.proofs.Common.{sym, subst, take}
-use Rattle.std.proofs.lemmas.List.{take_more}
-use Rattle.word_image.specs.Graphs.{full_set}
-use Rattle.word_image.specs.Edges.{IsStep}
-use Rattle.cert_conditions.specs.Sets.{LeadsTo}
-use Rattle.search_laws.proofs.Walks.{Walk-push}
+use Rattle.word_image.proofs.Common.{take_more, full_set, IsStep}
+use Rattle.cert_conditions.proofs.Common.{LeadsTo}
+use Rattle.search_laws.proofs.Common.{Walk-push}
 use Rattle.cert_check.proofs.orphans.reached.Goals as goal
 
 pub loop-letter-init : goal.loop-letter-init

@@ -1,6 +1,6 @@
 use Rattle.std.proofs.Common.{take}
-use Rattle.word_image.specs.Graphs.{full_set}
-use Rattle.cert_conditions.specs.Sets.{LeadsTo}
+use Rattle.word_image.proofs.Common.{full_set}
+use Rattle.cert_conditions.proofs.Common.{LeadsTo}
 use Rattle.cert_check.proofs.orphans.reached.Given as goal
 
 -- the letters so far are read

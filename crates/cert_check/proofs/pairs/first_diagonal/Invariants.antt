@@ -1,6 +1,6 @@
 use Rattle.std.proofs.Common.{◌≢◌, slice_index}
-use Rattle.word_image.specs.Graphs.{first_of, second_of}
-use Rattle.cert_conditions.specs.Breaches.{EachBelow}
+use Rattle.word_image.proofs.Common.{first_of, second_of}
+use Rattle.cert_conditions.proofs.Common.{EachBelow}
 use Rattle.cert_check.proofs.pairs.first_diagonal.Given as goal
 
 -- the pairs so far have two different nodes

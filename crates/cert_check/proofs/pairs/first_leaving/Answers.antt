@@ -1,5 +1,5 @@
 use Rattle.std.proofs.Common.{slice_index, sym, subst, ⊎_elim, below_more}
-use Rattle.cert_conditions.specs.Pairs.{StepsAreListed}
+use Rattle.cert_conditions.proofs.Common.{StepsAreListed}
 use Rattle.cert_check.proofs.pairs.first_leaving.Goals as goal
 
 pub returns-in-Some : goal.returns-in-Some

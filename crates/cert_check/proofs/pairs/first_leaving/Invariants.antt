@@ -1,6 +1,5 @@
 use Rattle.std.proofs.Common.{ℕ, slice_index}
-use Rattle.cert_conditions.specs.Breaches.{EachBelow}
-use Rattle.cert_conditions.specs.Pairs.{StepsAreListed}
+use Rattle.cert_conditions.proofs.Common.{EachBelow, StepsAreListed}
 use Rattle.cert_check.specs.Rows.{IsMarked}
 use Rattle.cert_check.proofs.pairs.first_leaving.Given as goal
 

@@ -1,5 +1,5 @@
 use Rattle.std.proofs.Common.{true≢false, sym, ◌∙◌, arith, below_more}
-use Rattle.cert_conditions.specs.Pairs.{StepIsListed}
+use Rattle.cert_conditions.proofs.Common.{StepIsListed}
 use Rattle.cert_check.proofs.pairs.first_letter_out.Goals as goal
 
 pub returns-then-not-leads_within : goal.returns-then-not-leads_within

@@ -1,6 +1,5 @@
 use Rattle.std.proofs.Common.{ℕ, List}
-use Rattle.cert_conditions.specs.Breaches.{EachBelow}
-use Rattle.cert_conditions.specs.Pairs.{StepIsListed}
+use Rattle.cert_conditions.proofs.Common.{EachBelow, StepIsListed}
 use Rattle.cert_check.specs.Rows.{AreMarked}
 use Rattle.cert_check.proofs.pairs.first_letter_out.Given as goal
 

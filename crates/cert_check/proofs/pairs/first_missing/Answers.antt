@@ -1,6 +1,6 @@
-use Rattle.std.proofs.lemmas.Bool.{false≢true}
+use Rattle.word_image.proofs.Common.{false≢true}
 use Rattle.std.proofs.Common.{sym, ◌∙◌, below_more}
-use Rattle.cert_conditions.specs.Pairs.{FirstIsListed}
+use Rattle.cert_conditions.proofs.Common.{FirstIsListed}
 use Rattle.cert_check.proofs.pairs.first_missing.Goals as goal
 use Rattle.cert_check.proofs.pairs.first_missing.Goals.{else-is_first-via-then-is_first+else-not-has, else-is_first-via-else-is_first}
 

@@ -1,5 +1,4 @@
-use Rattle.cert_conditions.specs.Breaches.{EachBelow}
-use Rattle.cert_conditions.specs.Pairs.{FirstIsListed}
+use Rattle.cert_conditions.proofs.Common.{EachBelow, FirstIsListed}
 use Rattle.cert_check.proofs.pairs.first_missing.Given as goal
 
 -- the first pairs so far are listed

@@ -1,6 +1,5 @@
 use Rattle.std.proofs.Common.{arith, below_more}
-use Rattle.cert_conditions.specs.Breaches.{EachBelow}
-use Rattle.cert_conditions.specs.Pairs.{StepIsListed}
+use Rattle.cert_conditions.proofs.Common.{EachBelow, StepIsListed}
 use Rattle.cert_check.proofs.pairs.first_step_out.Goals as goal
 
 pub returns-in-Some : goal.returns-in-Some

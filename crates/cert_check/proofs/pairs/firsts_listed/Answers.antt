@@ -1,14 +1,9 @@
 use Rattle.std.proofs.Common.{List, ℕ, sym, ap, subst}
-use Rattle.word_image.specs.Graphs.{pair_count}
-use Rattle.cert_format.specs.Certificates.{Certificate}
-use Rattle.cert_format.specs.Parts.{surjective_of}
+use Rattle.word_image.proofs.Common.{pair_count}
+use Rattle.cert_format.proofs.Common.{Certificate, surjective_of}
 use Rattle.cert_conditions.specs.declared.condition.Condition.TheVariants as condition
 use Rattle.cert_conditions.specs.declared.refusal.Refusal.TheVariants as refusal
-use Rattle.cert_conditions.specs.Breaches.{EachBelow, IsFirstBreach}
-use Rattle.cert_conditions.specs.Pairs.{FirstIsListed}
-use Rattle.cert_conditions.specs.Conditions.{OfPairs, Holds}
-use Rattle.cert_conditions.specs.Refusals.{IsBreach}
-use Rattle.cert_conditions.specs.Refusals.IsBreach.{NoFirst}
+use Rattle.cert_conditions.proofs.Common.{EachBelow, IsFirstBreach, FirstIsListed, OfPairs, Holds, IsBreach, NoFirst}
 use Rattle.cert_check.proofs.pairs.firsts_listed.Goals as goal
 
 pub returns-in-Some : goal.returns-in-Some

@@ -1,12 +1,9 @@
 use Rattle.std.proofs.Common.{◌≢◌, ℕ, List, length, slice_index, ap, subst}
-use Rattle.word_image.specs.Graphs.{first_of, second_of}
-use Rattle.cert_format.specs.Certificates.{Certificate}
-use Rattle.cert_format.specs.Parts.{surjective_of}
+use Rattle.word_image.proofs.Common.{first_of, second_of}
+use Rattle.cert_format.proofs.Common.{Certificate, surjective_of}
 use Rattle.cert_conditions.specs.declared.condition.Condition.TheVariants as condition
 use Rattle.cert_conditions.specs.declared.refusal.Refusal.TheVariants as refusal
-use Rattle.cert_conditions.specs.Breaches.{IsFirstBreach}
-use Rattle.cert_conditions.specs.Refusals.{IsBreach}
-use Rattle.cert_conditions.specs.Refusals.IsBreach.{Diagonal}
+use Rattle.cert_conditions.proofs.Common.{IsFirstBreach, IsBreach, Diagonal}
 use Rattle.cert_check.proofs.pairs.off_diagonal.Goals as goal
 
 pub returns-in-Some : goal.returns-in-Some

@@ -1,15 +1,10 @@
 use Rattle.std.proofs.Common.{ℕ, List, length, slice_index, sym, ap, subst}
-use Rattle.word_image.specs.LocalRules.{LocalRule}
+use Rattle.word_image.proofs.Common.{LocalRule}
 use Rattle.cert_format.specs.declared.cert_version.CertVersion.{CertVersion}
-use Rattle.cert_format.specs.Certificates.{Certificate}
-use Rattle.cert_format.specs.Parts.{surjective_of}
+use Rattle.cert_format.proofs.Common.{Certificate, surjective_of}
 use Rattle.cert_conditions.specs.declared.condition.Condition.TheVariants as condition
 use Rattle.cert_conditions.specs.declared.refusal.Refusal.TheVariants as refusal
-use Rattle.cert_conditions.specs.Breaches.{EachBelow, IsFirstBreach}
-use Rattle.cert_conditions.specs.Sets.{StepIsKept}
-use Rattle.cert_conditions.specs.Conditions.{OfSets, Holds}
-use Rattle.cert_conditions.specs.Refusals.{IsBreach}
-use Rattle.cert_conditions.specs.Refusals.IsBreach.{NotClosed}
+use Rattle.cert_conditions.proofs.Common.{EachBelow, IsFirstBreach, StepIsKept, OfSets, Holds, IsBreach, NotClosed}
 use Rattle.cert_check.proofs.sets.closed.Goals as goal
 
 -- all steps of the set at a place are as the version asks

@@ -1,5 +1,5 @@
 use Rattle.std.proofs.Common.{◌≢◌, slice_index}
-use Rattle.cert_conditions.specs.Breaches.{EachBelow}
+use Rattle.cert_conditions.proofs.Common.{EachBelow}
 use Rattle.cert_check.proofs.sets.first_empty.Given as goal
 
 -- none so far is empty

@@ -1,7 +1,7 @@
 use Rattle.std.proofs.Common.{◌≤◌, true≢false, sym, ◌∙◌, subst, arith, below_more}
-use Rattle.word_image.specs.Graphs.{full_set}
-use Rattle.search_laws.proofs.StepSets.{IsSetOf-unique}
-use Rattle.cert_conditions.specs.Sets.{IsKept, StepIsKept}
+use Rattle.word_image.proofs.Common.{full_set}
+use Rattle.search_laws.proofs.Common.{IsSetOf-unique}
+use Rattle.cert_conditions.proofs.Common.{IsKept, StepIsKept}
 use Rattle.cert_check.proofs.sets.first_not_kept.Goals as goal
 
 pub loop-letter-preserved : goal.loop-letter-preserved

@@ -1,8 +1,7 @@
 use Rattle.std.proofs.Common.{ℕ, List}
 use Rattle.cert_format.specs.declared.cert_version.CertVersion.{CertVersion}
-use Rattle.word_image.specs.Graphs.{full_set}
-use Rattle.cert_conditions.specs.Breaches.{EachBelow}
-use Rattle.cert_conditions.specs.Sets.{StepIsKept}
+use Rattle.word_image.proofs.Common.{full_set}
+use Rattle.cert_conditions.proofs.Common.{EachBelow, StepIsKept}
 use Rattle.cert_check.specs.Rows.{AreKept}
 use Rattle.cert_check.proofs.sets.first_not_kept.Given as goal
 

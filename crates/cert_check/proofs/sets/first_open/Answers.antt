@@ -1,7 +1,6 @@
 use Rattle.std.proofs.Common.{slice_index, sym, subst, ⊎_elim, arith, below_more}
-use Rattle.word_image.specs.Graphs.{full_set}
-use Rattle.cert_conditions.specs.Breaches.{EachBelow}
-use Rattle.cert_conditions.specs.Sets.{StepIsKept}
+use Rattle.word_image.proofs.Common.{full_set}
+use Rattle.cert_conditions.proofs.Common.{EachBelow, StepIsKept}
 use Rattle.cert_check.specs.Rows.{AreKept}
 use Rattle.cert_check.proofs.sets.first_open.Goals as goal
 

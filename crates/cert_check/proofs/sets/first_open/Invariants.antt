@@ -1,6 +1,5 @@
 use Rattle.std.proofs.Common.{ℕ, slice_index}
-use Rattle.cert_conditions.specs.Breaches.{EachBelow}
-use Rattle.cert_conditions.specs.Sets.{StepIsKept}
+use Rattle.cert_conditions.proofs.Common.{EachBelow, StepIsKept}
 use Rattle.cert_check.specs.Rows.{IsMarked}
 use Rattle.cert_check.proofs.sets.first_open.Given as goal
 

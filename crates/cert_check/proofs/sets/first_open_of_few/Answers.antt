@@ -1,6 +1,5 @@
 use Rattle.std.proofs.Common.{slice_index, below_more}
-use Rattle.cert_conditions.specs.Breaches.{EachBelow}
-use Rattle.cert_conditions.specs.Sets.{StepIsKept}
+use Rattle.cert_conditions.proofs.Common.{EachBelow, StepIsKept}
 use Rattle.cert_check.proofs.sets.first_open_of_few.Goals as goal
 
 pub loop-place-preserved : goal.loop-place-preserved

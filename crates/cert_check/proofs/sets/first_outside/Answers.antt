@@ -1,6 +1,6 @@
 use Rattle.std.proofs.Common.{true≢false, sym, ◌∙◌, subst, arith, below_more}
-use Rattle.search_laws.proofs.StepSets.{IsSetOf-unique}
-use Rattle.cert_conditions.specs.Sets.{IsKept, StepIsKept}
+use Rattle.search_laws.proofs.Common.{IsSetOf-unique}
+use Rattle.cert_conditions.proofs.Common.{IsKept, StepIsKept}
 use Rattle.cert_check.proofs.sets.first_outside.Goals as goal
 
 pub loop-letter-preserved : goal.loop-letter-preserved

@@ -1,5 +1,4 @@
-use Rattle.cert_conditions.specs.Breaches.{EachBelow}
-use Rattle.cert_conditions.specs.Sets.{StepIsKept}
+use Rattle.cert_conditions.proofs.Common.{EachBelow, StepIsKept}
 use Rattle.cert_check.proofs.sets.first_outside.Given as goal
 
 -- the steps so far are as they should be

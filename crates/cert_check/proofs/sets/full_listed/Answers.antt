@@ -1,10 +1,8 @@
 use Rattle.std.proofs.Common.{ℕ, List, Contains, true≢false, eq-eqb, sym, ap, ◌∙◌, subst, subst₂, arith}
-use Rattle.cert_format.specs.Certificates.{Certificate}
-use Rattle.cert_format.specs.Parts.{surjective_of}
+use Rattle.cert_format.proofs.Common.{Certificate, surjective_of}
 use Rattle.cert_conditions.specs.declared.condition.Condition.TheVariants as condition
 use Rattle.cert_conditions.specs.declared.refusal.Refusal.TheVariants as refusal
-use Rattle.cert_conditions.specs.Refusals.{IsBreach}
-use Rattle.cert_conditions.specs.Refusals.IsBreach.{NoFull}
+use Rattle.cert_conditions.proofs.Common.{IsBreach, NoFull}
 use Rattle.cert_check.proofs.sets.full_listed.Goals as goal
 
 pub returns-else-contains : goal.returns-else-contains

@@ -1,11 +1,8 @@
 use Rattle.std.proofs.Common.{◌≢◌, length, slice_index, ap, subst}
-use Rattle.cert_format.specs.Certificates.{Certificate}
-use Rattle.cert_format.specs.Parts.{surjective_of}
+use Rattle.cert_format.proofs.Common.{Certificate, surjective_of}
 use Rattle.cert_conditions.specs.declared.condition.Condition.TheVariants as condition
 use Rattle.cert_conditions.specs.declared.refusal.Refusal.TheVariants as refusal
-use Rattle.cert_conditions.specs.Breaches.{IsFirstBreach}
-use Rattle.cert_conditions.specs.Refusals.{IsBreach}
-use Rattle.cert_conditions.specs.Refusals.IsBreach.{Empty}
+use Rattle.cert_conditions.proofs.Common.{IsFirstBreach, IsBreach, Empty}
 use Rattle.cert_check.proofs.sets.none_empty.Goals as goal
 
 pub returns-in-Some : goal.returns-in-Some

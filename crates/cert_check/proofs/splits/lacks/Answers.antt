@@ -1,7 +1,6 @@
 use Rattle.std.proofs.Common.{◌≡◌, Option, None, Some, true, not, is_some, IfSome, ℤ, ap, sym, ◌∙◌, rules}
-use Rattle.std.proofs.lemmas.Bool.{false≢true}
-use Rattle.tail_config.specs.Tails.{TailConfig, Different}
-use Rattle.tail_config.specs.Differences.{IsNearestDifference}
+use Rattle.word_image.proofs.Common.{false≢true}
+use Rattle.tail_config.proofs.Common.{TailConfig, Different, IsNearestDifference}
 use Rattle.cert_conditions.specs.Refusals.IsSplitBreach.{Same, Apart, Image}
 use Rattle.cert_check.proofs.splits.lacks.Goals as goal
 

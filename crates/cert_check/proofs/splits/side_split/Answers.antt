@@ -1,12 +1,8 @@
 use Rattle.std.proofs.Common.{sym, ap, subst, ◌∙◌}
-use Rattle.word_image.specs.LocalRules.{LocalRule}
-use Rattle.tail_config.specs.Tails.{Different, ShareImage}
-use Rattle.cert_format.specs.Certificates.{Certificate}
-use Rattle.cert_format.specs.Parts.{side_of, IsOver}
-use Rattle.cert_conditions.specs.Sides.{AgreeBehind}
-use Rattle.cert_conditions.specs.Conditions.{OfSplit}
-use Rattle.cert_conditions.specs.Refusals.{IsSplitBreach}
-use Rattle.cert_conditions.specs.Refusals.IsBreach.{NoSplit}
+use Rattle.word_image.proofs.Common.{LocalRule}
+use Rattle.tail_config.proofs.Common.{Different, ShareImage}
+use Rattle.cert_format.proofs.Common.{Certificate, side_of, IsOver}
+use Rattle.cert_conditions.proofs.Common.{AgreeBehind, OfSplit, IsSplitBreach, NoSplit}
 use Rattle.cert_check.proofs.splits.side_split.Goals as goal
 
 pub lacks-requires-clause-first : goal.lacks-requires-clause-first

@@ -1,7 +1,6 @@
 use Rattle.std.proofs.Common.{◌<◌, slice_index, sym, subst, ◌∙◌, below_more, arith}
-use Rattle.std.proofs.lemmas.Bool.{false≢true}
-use Rattle.word_image.specs.LocalRules.{word_of}
-use Rattle.cert_conditions.specs.Sums.{Flows}
+use Rattle.word_image.proofs.Common.{false≢true, word_of}
+use Rattle.cert_conditions.proofs.Common.{Flows}
 use Rattle.cert_check.proofs.sums.first_unbalanced.Goals as goal
 
 pub loop-window-preserved : goal.loop-window-preserved

@@ -1,7 +1,6 @@
 use Rattle.std.proofs.Common.{slice_index}
-use Rattle.word_image.specs.LocalRules.{word_of}
-use Rattle.cert_conditions.specs.Breaches.{EachBelow}
-use Rattle.cert_conditions.specs.Sums.{Flows}
+use Rattle.word_image.proofs.Common.{word_of}
+use Rattle.cert_conditions.proofs.Common.{EachBelow, Flows}
 use Rattle.cert_check.proofs.sums.first_unbalanced.Given as goal
 
 -- the flux balances at each window so far

@@ -1,7 +1,6 @@
 use Rattle.std.proofs.Common.{◌≡◌, ℕ, ◌/◌, ◌%◌, ◌-ℤ◌, ◌↔◌, get_or, slice_index, nat_eq, IsTrue, ℤ, pos, w32, w64, FitsSigned, of_z, to_z, sym, ap, ap₂, ◌∙◌, rules}
 use Rattle.std.proofs.lemmas.Int.{to_z-of_z}
-use Rattle.std.proofs.lemmas.Bool.Decides.{Decides-eqb}
-use Rattle.word_image.specs.LocalRules.{node_count}
+use Rattle.word_image.proofs.Common.{Decides-eqb, node_count}
 use Rattle.cert_conditions.proofs.laws.WindowFlows.{Flows-value}
 use Rattle.cert_check.proofs.sums.flows.Goals as goal
 

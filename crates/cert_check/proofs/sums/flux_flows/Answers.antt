@@ -1,13 +1,9 @@
 use Rattle.std.proofs.Common.{◌^◌, List, slice_index, ℤ, ap, subst}
-use Rattle.word_image.specs.LocalRules.{word_of}
-use Rattle.cert_format.specs.Certificates.{Certificate}
-use Rattle.cert_format.specs.Parts.{sum_of}
+use Rattle.word_image.proofs.Common.{word_of}
+use Rattle.cert_format.proofs.Common.{Certificate, sum_of}
 use Rattle.cert_conditions.specs.declared.condition.Condition.TheVariants.{FluxFlows}
 use Rattle.cert_conditions.specs.declared.refusal.Refusal.TheVariants as refusal
-use Rattle.cert_conditions.specs.Breaches.{IsFirstBreach}
-use Rattle.cert_conditions.specs.Sums.{Flows}
-use Rattle.cert_conditions.specs.Refusals.{IsBreach}
-use Rattle.cert_conditions.specs.Refusals.IsBreach.{NoFlux}
+use Rattle.cert_conditions.proofs.Common.{IsFirstBreach, Flows, IsBreach, NoFlux}
 use Rattle.cert_check.proofs.sums.flux_flows.Goals as goal
 
 pub first_unbalanced-requires-clause-letters : goal.first_unbalanced-requires-clause-letters

@@ -1,12 +1,9 @@
 use Rattle.std.proofs.Common.{◌≡◌, ℕ, List, length, sym, ap, subst, ◌∙◌, arith}
-use Rattle.std.proofs.lemmas.Bool.Decides.{Decides-eqb}
-use Rattle.cert_format.specs.Certificates.{Certificate}
-use Rattle.cert_format.specs.Evidence.SumEvidence.{Ring}
-use Rattle.cert_format.specs.Parts.{sum_of}
+use Rattle.word_image.proofs.Common.{Decides-eqb}
+use Rattle.cert_format.proofs.Common.{Certificate, Ring, sum_of}
 use Rattle.cert_conditions.specs.declared.condition.Condition.TheVariants.{RingLossy}
 use Rattle.cert_conditions.specs.declared.refusal.Refusal.TheVariants as refusal
-use Rattle.cert_conditions.specs.Refusals.{IsBreach}
-use Rattle.cert_conditions.specs.Refusals.IsBreach.{NoRing}
+use Rattle.cert_conditions.proofs.Common.{IsBreach, NoRing}
 use Rattle.cert_check.proofs.sums.ring_lossy.Goals as goal
 use Rattle.cert_check.proofs.sums.ring_lossy.Goals.{then-is_empty-via-then-is_empty, then-is_empty-via-else-is_empty+then-keeps_sum}
 

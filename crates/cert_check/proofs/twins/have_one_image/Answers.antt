@@ -1,5 +1,5 @@
 use Rattle.std.proofs.Common.{refl, sym, ◌∙◌, arith}
-use Rattle.std.proofs.lemmas.Bool.{false≢true}
+use Rattle.word_image.proofs.Common.{false≢true}
 use Rattle.cert_check.proofs.laws.RingWindows.{ring_image-windows, windows-ring_image}
 use Rattle.cert_check.proofs.twins.have_one_image.Goals as goal
 

@@ -1,11 +1,8 @@
 use Rattle.std.proofs.Common.{ℕ, List, sym, ap, ap₂, subst, ◌∙◌}
-use Rattle.cert_format.specs.Certificates.{Certificate}
-use Rattle.cert_format.specs.Evidence.InjectiveEvidence.{Twins}
-use Rattle.cert_format.specs.Parts.{injective_of}
+use Rattle.cert_format.proofs.Common.{Certificate, Twins, injective_of}
 use Rattle.cert_conditions.specs.declared.condition.Condition.TheVariants.{TwinsAlike}
 use Rattle.cert_conditions.specs.declared.refusal.Refusal.TheVariants as refusal
-use Rattle.cert_conditions.specs.Refusals.{IsBreach}
-use Rattle.cert_conditions.specs.Refusals.IsBreach.{NoTwins}
+use Rattle.cert_conditions.proofs.Common.{IsBreach, NoTwins}
 use Rattle.cert_check.proofs.twins.twins_alike.Goals as goal
 
 pub returns-in-Some : goal.returns-in-Some

@@ -1,6 +1,6 @@
 use Rattle.std.proofs.Common.{sym, ◌∙◌, arith, below_more}
-use Rattle.std.proofs.lemmas.Bool.{false≢true}
-use Rattle.cert_conditions.specs.Claims.{IsWindowPair}
+use Rattle.word_image.proofs.Common.{false≢true}
+use Rattle.cert_conditions.proofs.Common.{IsWindowPair}
 use Rattle.cert_check.proofs.windows.first_not_told.Goals as goal
 
 pub returns-then-not-is_told : goal.returns-then-not-is_told

@@ -1,5 +1,4 @@
-use Rattle.cert_conditions.specs.Breaches.{EachBelow}
-use Rattle.cert_conditions.specs.Claims.{IsWindowPair}
+use Rattle.cert_conditions.proofs.Common.{EachBelow, IsWindowPair}
 use Rattle.cert_check.proofs.windows.first_not_told.Given as goal
 
 -- the claims tell the nodes of each pair so far

@@ -1,15 +1,10 @@
 use Rattle.std.proofs.Common.{ℕ, List, Option, sym, ap, subst, subst₂, ◌∙◌}
-use Rattle.word_image.specs.Graphs.{pair_count}
-use Rattle.cert_format.specs.Certificates.{Certificate}
-use Rattle.cert_format.specs.Parts.{injective_of}
+use Rattle.word_image.proofs.Common.{pair_count}
+use Rattle.cert_format.proofs.Common.{Certificate, injective_of}
 use Rattle.cert_format.specs.declared.parts.InjectivePart.{InjectivePart}
 use Rattle.cert_conditions.specs.declared.condition.Condition.TheVariants.{WindowClaims}
 use Rattle.cert_conditions.specs.declared.refusal.Refusal.TheVariants as refusal
-use Rattle.cert_conditions.specs.Breaches.{EachBelow, IsFirstBreach}
-use Rattle.cert_conditions.specs.Claims.{IsWindowPair}
-use Rattle.cert_conditions.specs.Conditions.{Holds, OfWindow}
-use Rattle.cert_conditions.specs.Refusals.{IsBreach}
-use Rattle.cert_conditions.specs.Refusals.IsBreach.{NoWindow}
+use Rattle.cert_conditions.proofs.Common.{EachBelow, IsFirstBreach, IsWindowPair, Holds, OfWindow, IsBreach, NoWindow}
 use Rattle.cert_check.proofs.windows.window_claims.Goals as goal
 
 pub returns-in-Some : goal.returns-in-Some

@@ -1,6 +1,5 @@
 use Rattle.std.proofs.Common.{◌≡◌, ◌≤◌, ◌∙◌, refl, ap, subst, take, length, All, arith}
-use Rattle.std.proofs.Math.Seq.{take-length}
-use Rattle.std.proofs.lemmas.List.Elements.{All-more}
+use Rattle.word_image.proofs.Common.{take-length, All-more}
 use Rattle.cert_format.proofs.evidence.are_within.Goals as goal
 
 pub loop-number-preserved : goal.loop-number-preserved

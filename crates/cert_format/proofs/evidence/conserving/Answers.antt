@@ -1,5 +1,5 @@
 use Rattle.serde_json.specs.View.{view}
-use Rattle.word_image.proofs.laws.Results.{handed_on}
+use Rattle.word_image.proofs.Common.{handed_on}
 use Rattle.cert_format.proofs.laws.Evidence.{no_ring}
 use Rattle.cert_format.proofs.evidence.conserving.Goals as goal
 

@@ -1,6 +1,6 @@
 use Rattle.std.proofs.Common.{sym, subst, ◌∙◌}
 use Rattle.serde_json.specs.View.{view}
-use Rattle.word_image.proofs.laws.Results.{handed_on}
+use Rattle.word_image.proofs.Common.{handed_on}
 use Rattle.cert_format.specs.Readings.{IsFluxFor}
 use Rattle.cert_format.proofs.laws.Evidence.{IsFluxFor-array, no_flux}
 use Rattle.cert_format.proofs.evidence.flux.Goals as goal

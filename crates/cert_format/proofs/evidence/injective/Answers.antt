@@ -1,5 +1,5 @@
 use Rattle.serde_json.specs.View.{view}
-use Rattle.word_image.proofs.laws.Results.{handed_on}
+use Rattle.word_image.proofs.Common.{handed_on}
 use Rattle.cert_format.proofs.laws.Evidence.{no_twins_value}
 use Rattle.cert_format.proofs.evidence.injective.Goals as goal
 

@@ -1,5 +1,5 @@
 use Rattle.std.proofs.Common.{arith}
-use Rattle.word_image.proofs.laws.Graphs.{pair_count_pos}
+use Rattle.word_image.proofs.Common.{pair_count_pos}
 use Rattle.cert_format.proofs.evidence.last_pair.Goals as goal
 
 pub overflow_sub-result : goal.overflow_sub-result

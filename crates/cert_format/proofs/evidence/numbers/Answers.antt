@@ -1,6 +1,6 @@
 use Rattle.std.proofs.Common.{◌≡◌, ◌≤◌, sym, subst, true, All, arith}
 use Rattle.serde_json.specs.View.{view}
-use Rattle.word_image.proofs.laws.Results.{handed_on}
+use Rattle.word_image.proofs.Common.{handed_on}
 use Rattle.cert_format.specs.Readings.{AreNumbers}
 use Rattle.cert_format.proofs.laws.Evidence.{AreNumbers-array, no_numbers_array, no_numbers_above}
 use Rattle.cert_format.proofs.evidence.numbers.Goals as goal

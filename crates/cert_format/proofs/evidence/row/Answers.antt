@@ -1,6 +1,6 @@
 use Rattle.std.proofs.Common.{sym, subst, ◌∙◌}
 use Rattle.serde_json.specs.View.{view}
-use Rattle.word_image.proofs.laws.Results.{handed_on}
+use Rattle.word_image.proofs.Common.{handed_on}
 use Rattle.cert_format.specs.Readings.{IsRowFor}
 use Rattle.cert_format.proofs.laws.Evidence.{IsRowFor-array, no_row}
 use Rattle.cert_format.proofs.evidence.row.Goals as goal

@@ -1,7 +1,6 @@
 use Rattle.std.proofs.Common.{◌≡◌, ◌≢◌, refl, sym, ap, subst, length, ◌∙◌}
-use Rattle.std.proofs.lemmas.Bool.{false≢true}
+use Rattle.word_image.proofs.Common.{false≢true, handed_on}
 use Rattle.serde_json.specs.View.{view}
-use Rattle.word_image.proofs.laws.Results.{handed_on}
 use Rattle.cert_format.specs.Readings.{IsWeightsFor}
 use Rattle.cert_format.proofs.laws.Evidence.{IsWeightsFor-array, no_weights_array, no_weights_long}
 use Rattle.cert_format.proofs.evidence.weights.Goals as goal

@@ -1,6 +1,5 @@
 use Rattle.std.proofs.Common.{◌≡◌, ◌+◌, ◌∙◌, sym, ap, subst, map, take, length, arith}
-use Rattle.std.specs.List.{AllZip}
-use Rattle.std.proofs.Math.Seq.{take-length}
+use Rattle.word_image.proofs.Common.{AllZip, take-length}
 use Rattle.serde_json.specs.View.{view}
 use Rattle.cert_format.proofs.laws.Arrays.{IsArrayOf-values, AllZip-more, not_array}
 use Rattle.cert_format.proofs.items.array.Goals as goal

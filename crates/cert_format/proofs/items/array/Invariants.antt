@@ -1,5 +1,5 @@
 use Rattle.std.proofs.Common.{map, take}
-use Rattle.std.specs.List.{AllZip}
+use Rattle.word_image.proofs.Common.{AllZip}
 use Rattle.serde_json.specs.View.{view}
 use Rattle.cert_format.proofs.items.array.Given as goal
 

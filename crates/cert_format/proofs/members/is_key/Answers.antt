@@ -1,5 +1,5 @@
 use Rattle.std.proofs.Common.{[], ◌∷◌, string_bytes, codes, if◌then◌else◌}
-use Rattle.std.proofs.lemmas.List.Elements.{Contains-append_left}
+use Rattle.word_image.proofs.Common.{Contains-append_left}
 use Rattle.cert_format.specs.Versions.{names_weights}
 use Rattle.cert_format.specs.CertificateTexts.{keys}
 use Rattle.cert_format.proofs.laws.Objects.{list_any-keys}

@@ -1,6 +1,6 @@
 use Rattle.std.proofs.Common.{◌≡◌, ◌∙◌, refl, sym, [], ◌∷◌, true, true≢false, inr, rules}
 use Rattle.serde_json.specs.View.{view}
-use Rattle.word_image.proofs.laws.Results.{handed_on}
+use Rattle.word_image.proofs.Common.{handed_on}
 use Rattle.cert_format.specs.declared.shape_fault.Key.TheVariants as key
 use Rattle.cert_format.specs.Parts.{IsWeightShape}
 use Rattle.cert_format.specs.CertificateTexts.{HasNoOther}

@@ -1,7 +1,6 @@
 use Rattle.std.proofs.Common.{◌≡◌, ℕ, List, true, sym, ap, ◌∙◌}
-use Rattle.std.proofs.lemmas.Bool.{false≢true}
+use Rattle.word_image.proofs.Common.{false≢true, own_weights}
 use Rattle.serde_json.specs.View.{view}
-use Rattle.word_image.specs.Weights.{own_weights}
 use Rattle.cert_format.specs.Versions.{names_weights}
 use Rattle.cert_format.specs.declared.shape_fault.Key.TheVariants as key
 use Rattle.cert_format.specs.CertificateTexts.{HasWeights}

@@ -1,6 +1,5 @@
 use Rattle.std.proofs.Common.{◌^◌, refl, sym, ◌∙◌, ap, subst, arith, ⊎_elim}
-use Rattle.std.proofs.lemmas.Bool.{cases_eq, false≢true}
-use Rattle.word_image.specs.LocalRules.{LocalRule}
+use Rattle.word_image.proofs.Common.{cases_eq, false≢true, LocalRule}
 use Rattle.closing_test.specs.EndlessFirsts.{IsEndlessAt}
 use Rattle.closing_test.proofs.EndlessFirsts.{not_closing_with, closing_without}
 use Rattle.closing_test.proofs.closes.closes.Goals as goal

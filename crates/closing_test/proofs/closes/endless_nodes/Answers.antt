@@ -1,6 +1,5 @@
 use Rattle.std.proofs.Common.{ℕ, ◌<◌, ◌↔◌, IsBitSet, sym, subst}
-use Rattle.word_image.specs.Ranks.{IsEndless}
-use Rattle.word_image.specs.Sides.{Together}
+use Rattle.word_image.proofs.Common.{IsEndless, Together}
 use Rattle.closing_test.proofs.closes.endless_nodes.Goals as goal
 
 pub returns-in-Right : goal.returns-in-Right

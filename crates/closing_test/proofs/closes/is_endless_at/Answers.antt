@@ -1,6 +1,5 @@
 use Rattle.std.proofs.Common.{sym, ◌∙◌, ap, subst, arith, ⊎_elim}
-use Rattle.std.proofs.lemmas.Bool.{cases_eq, false≢true}
-use Rattle.word_image.specs.LocalRules.{LocalRule}
+use Rattle.word_image.proofs.Common.{cases_eq, false≢true, LocalRule}
 use Rattle.closing_test.specs.EndlessFirsts.{IsEndlessWith}
 use Rattle.closing_test.proofs.closes.is_endless_at.Goals as goal
 

@@ -1,9 +1,7 @@
 use Rattle.std.proofs.Common.{◌≡◌, subst, true≢false, sym, ap, ◌∙◌, length, arith}
-use Rattle.std.proofs.lemmas.List.{length-reverse}
-use Rattle.word_image.specs.LocalRules.{LocalRule, mirrored}
-use Rattle.tail_config.specs.Tails.{IsRightClosing, IsLeftClosing, mirror_of}
-use Rattle.tail_config.specs.TailValues.{TailOver}
-use Rattle.tail_laws.proofs.Sides.{IsLeftClosing-mirrored}
+use Rattle.word_image.proofs.Common.{length-reverse, LocalRule, mirrored}
+use Rattle.tail_config.proofs.Common.{IsRightClosing, IsLeftClosing, mirror_of, TailOver}
+use Rattle.tail_laws.proofs.Common.{IsLeftClosing-mirrored}
 use Rattle.closing_test.specs.Closing.{IsLeastSplitOf, IsShortOver}
 use Rattle.closing_test.proofs.closing.left_over.Goals as goal
 

@@ -1,5 +1,5 @@
 use Rattle.std.proofs.Common.{IfOk, subst}
-use Rattle.word_image.specs.LocalRules.{LocalRule}
+use Rattle.word_image.proofs.Common.{LocalRule}
 use Rattle.closing_test.specs.Closing.{IsRightAnswer}
 use Rattle.closing_test.proofs.closing.right.Goals as goal
 

@@ -1,5 +1,5 @@
 use Rattle.std.proofs.Common.{◌≤◌}
-use Rattle.word_image.specs.Sides.{PairGoes}
+use Rattle.word_image.proofs.Common.{PairGoes}
 use Rattle.closing_test.specs.LeastAheads.{IsLeastFor, IsFirstWith}
 use Rattle.closing_test.proofs.LookAheads.{Below}
 use Rattle.closing_test.proofs.look_ahead.ahead_at.Given as goal

@@ -1,10 +1,9 @@
 use Rattle.std.proofs.Common.{◌≡◌, ◌^◌, refl, sym, subst, true≢false, arith}
-use Rattle.word_image.specs.Sides.{PairGoes}
-use Rattle.word_image.specs.FirstPairs.{IsFirstOf}
+use Rattle.word_image.proofs.Common.{PairGoes, IsFirstOf}
 use Rattle.closing_test.specs.LeastAheads.{IsLeastFor, IsFirstAt}
 use Rattle.closing_test.proofs.LookAheads.{Below, IsLeastFor-next, IsLeastFor-windows, ord_max-le, IsLeastRightAhead-first, IsClosing-first}
-use Rattle.pair_laws.proofs.BothWays.{no_ahead}
-use Rattle.tail_laws.proofs.Certainty.{not_closing}
+use Rattle.pair_laws.proofs.Common.{no_ahead}
+use Rattle.tail_laws.proofs.Common.{not_closing}
 use Rattle.closing_test.proofs.look_ahead.least_ahead.Goals as goal
 
 pub loop-window-preserved : goal.loop-window-preserved

@@ -1,5 +1,5 @@
 use Rattle.std.proofs.Common.{ap, subst, ◌∙◌}
-use Rattle.word_image.specs.LocalRules.{LocalRule, IsRule}
+use Rattle.word_image.proofs.Common.{LocalRule, IsRule}
 use Rattle.closing_test.proofs.SplitTails.{IsLeastSplitOf-walks, IsTail-walks, IsRightClosing-none_found}
 use Rattle.closing_test.proofs.split.least_split.Goals as goal
 

@@ -1,12 +1,6 @@
-use Rattle.std.proofs.Common.{◌≡◌, ℕ, ◌+◌, ◌*◌, ◌<◌, ◌≤◌, List, Some, sym, ap, ◌∙◌, subst, arith}
-use Rattle.std.specs.List.{slice_get}
-use Rattle.std.specs.Prelude.{All, Contains}
-use Rattle.std.proofs.lemmas.Option.{slice_get-get_or}
-use Rattle.word_image.specs.LocalRules.{LocalRule, IsRule}
-use Rattle.word_image.specs.Graphs.{pair_count}
-use Rattle.word_image.specs.MarkedPairs.{marked}
-use Rattle.word_image.proofs.laws.Graphs.{pair_count_pos}
-use Rattle.search_laws.specs.PairWalks.{PairWalk}
+use Rattle.std.proofs.Common.{◌≡◌, ℕ, ◌+◌, ◌*◌, ◌<◌, ◌≤◌, List, Some, sym, ap, ◌∙◌, subst, arith, slice_get, All, Contains}
+use Rattle.word_image.proofs.Common.{slice_get-get_or, LocalRule, IsRule, pair_count, marked, pair_count_pos}
+use Rattle.search_laws.proofs.Common.{PairWalk}
 use Rattle.least_walk.specs.Trees.{WalkSource}
 use Rattle.closing_test.proofs.SeenSplits.{IsLeastSeen, IsLeastSeen-start, IsLeastSeen-next, IsLeastSoFar-seen}
 use Rattle.closing_test.proofs.split.least_walks.Goals as goal

@@ -1,5 +1,5 @@
 use Rattle.std.proofs.Common.{ℕ, slice_index, sym, ◌∙◌, subst}
-use Rattle.word_image.specs.LocalRules.{LocalRule}
+use Rattle.word_image.proofs.Common.{LocalRule}
 use Rattle.closing_test.proofs.SeenSplits.{IsSomeSplit, IsSomeSplit-next}
 use Rattle.closing_test.proofs.split.short_walks.Goals as goal
 use Rattle.closing_test.proofs.split.short_walks.Goals.{then-eq+in_ok-earlier, else-eq}

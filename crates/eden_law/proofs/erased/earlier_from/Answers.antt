@@ -1,14 +1,10 @@
 use Rattle.std.proofs.Common.{◌≡◌, ℕ, ◌+◌, ◌-◌, ◌*◌, ◌<◌, ◌≤◌, List, ◌++◌, length, map, sym, ap, ap₂, ◌∙◌, subst, subst₂, arith, MatchOption}
-use Rattle.std.proofs.lemmas.Nat.{div_below}
-use Rattle.word_image.specs.LocalRules.{LocalRule, IsRule, word_of, node_count}
-use Rattle.word_image.specs.Graphs.{first_of, second_of, pair_of, pair_count}
-use Rattle.word_image.specs.MarkedPairs.{marked}
-use Rattle.search_laws.specs.PairWalks.{PairWalk, IsLeastWalkTo, uncode}
-use Rattle.pair_laws.proofs.Pairs.{first_of-pair_of, second_of-pair_of, pair_of-below}
+use Rattle.word_image.proofs.Common.{div_below, LocalRule, IsRule, word_of, node_count, first_of, second_of, pair_of, pair_count, marked}
+use Rattle.search_laws.proofs.Common.{PairWalk, IsLeastWalkTo, uncode}
+use Rattle.pair_laws.proofs.Common.{first_of-pair_of, second_of-pair_of, pair_of-below}
 use Rattle.least_walk.specs.Trees.{WalkSource}
 use Rattle.eden_law.specs.Erasures.{IsErasure}
-use Rattle.tail_laws.specs.FirstLists.{IsLeastOf, IsFirstFound}
-use Rattle.tail_laws.proofs.FirstLists.{IsFirstFound-next}
+use Rattle.tail_laws.proofs.Common.{IsLeastOf, IsFirstFound, IsFirstFound-next}
 use Rattle.eden_law.proofs.LeastErasures.{start_of, goal_of, erasure_letters, IsLeastOf-walk, IsFirstFound-within}
 use Rattle.eden_law.proofs.FoundErasures.{ArePairs-erasure, uncode-node}
 use Rattle.eden_law.proofs.erased.earlier_from.Goals as goal

@@ -1,7 +1,7 @@
 use Rattle.std.proofs.Common.{◌+◌, ◌*◌}
-use Rattle.word_image.specs.LocalRules.{node_count}
+use Rattle.word_image.proofs.Common.{node_count}
 use Rattle.eden_law.specs.Erasures.{IsErasure}
-use Rattle.tail_laws.specs.FirstLists.{IsFirstFound}
+use Rattle.tail_laws.proofs.Common.{IsFirstFound}
 use Rattle.eden_law.proofs.erased.earlier_from.Given as goal
 
 abbrev pub invariant-loop-to : goal.invariant-loop-to

@@ -1,13 +1,9 @@
 use Rattle.std.proofs.Common.{◌≡◌, map, true, false, refl, subst}
-use Rattle.word_image.specs.LocalRules.{LocalRule, IsRule}
-use Rattle.word_image.specs.Graphs.{pair_count}
-use Rattle.word_image.specs.Words.{IsSurjective}
-use Rattle.word_image.specs.Erasure.{IsLeastErasable}
-use Rattle.search_laws.specs.PairWalks.{uncode}
+use Rattle.word_image.proofs.Common.{LocalRule, IsRule, pair_count, IsSurjective, IsLeastErasable}
+use Rattle.search_laws.proofs.Common.{uncode}
 use Rattle.eden_laws.proofs.GardenOfEden.{IsSurjective-none_erasable, none_erasable-surjective}
 use Rattle.eden_law.specs.Erasures.{IsErasure}
-use Rattle.tail_laws.specs.FirstLists.{NoneBelow, IsFirstBelow}
-use Rattle.tail_laws.proofs.FirstLists.{spelled_pair}
+use Rattle.tail_laws.proofs.Common.{NoneBelow, IsFirstBelow, spelled_pair}
 use Rattle.eden_law.proofs.LeastErasures.{IsLeastErasable-first, none_erasable-below, length-IsLeastErasable}
 use Rattle.eden_law.proofs.erased.erasable_over.Goals as goal
 

@@ -1,5 +1,5 @@
 use Rattle.std.proofs.Common.{◌≡◌, ℕ, ◌+◌, ◌*◌, ◌<◌, List, length, count_by, refl, sym, ap₂, subst, ⊎_elim, arith, ◌==◌}
-use Rattle.std.proofs.lemmas.Bool.{cases_eq}
+use Rattle.word_image.proofs.Common.{cases_eq}
 use Rattle.table_laws.specs.Tables.{IsEven}
 use Rattle.table_laws.proofs.EvenTables.{IsEven-surjective}
 use Rattle.eden_law.proofs.even.is_even.Goals as goal

@@ -1,6 +1,5 @@
 use Rattle.std.proofs.Common.{ℕ, ◌-◌, ◌*◌, ◌%◌, ◌^◌, ◌<◌, bit_and, ◌∙◌, arith}
-use Rattle.std.proofs.lemmas.Nat.{and_le_l}
-use Rattle.word_image.specs.LocalRules.{LocalRule, IsRule}
+use Rattle.word_image.proofs.Common.{and_le_l, LocalRule, IsRule}
 use Rattle.eden_law.proofs.ReachedRows.{AreAdded-start, AreAdded-step, LeadsApart-set}
 use Rattle.eden_law.specs.ReachedRows.{LeadsApart}
 use Rattle.eden_law.proofs.surjective.add_firsts.Goals as goal

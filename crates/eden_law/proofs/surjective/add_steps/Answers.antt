@@ -1,9 +1,5 @@
 use Rattle.std.proofs.Common.{◌≡◌, ℕ, IsBitSet, sym, ◌∙◌, subst, ⊎_elim, arith}
-use Rattle.std.proofs.lemmas.Bool.{cases_eq}
-use Rattle.word_image.specs.LocalRules.{LocalRule, IsRule}
-use Rattle.word_image.specs.Graphs.{next}
-use Rattle.std.proofs.lemmas.Nat.{bit_set_by_shift}
-use Rattle.word_image.proofs.laws.Graphs.{next-below}
+use Rattle.word_image.proofs.Common.{cases_eq, LocalRule, IsRule, next, bit_set_by_shift, next-below}
 use Rattle.eden_law.specs.ReachedRows.{LeadsBeside}
 use Rattle.eden_law.proofs.ReachedRows.{AreAdded-start, AreAdded-step, LeadsBeside-set}
 use Rattle.eden_law.proofs.surjective.add_steps.Goals as goal

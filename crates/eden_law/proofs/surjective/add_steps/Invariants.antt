@@ -1,5 +1,5 @@
 use Rattle.std.proofs.Common.{ℕ, ◌<◌}
-use Rattle.word_image.specs.Graphs.{next}
+use Rattle.word_image.proofs.Common.{next}
 use Rattle.eden_law.specs.ReachedRows.{LeadsBeside, AreAdded}
 use Rattle.eden_law.proofs.surjective.add_steps.Given as goal
 

@@ -1,6 +1,5 @@
 use Rattle.std.proofs.Common.{◌≡◌, ℕ, ◌<◌, slice_index, slice_set, sym, ap, subst, subst₂, arith}
-use Rattle.word_image.specs.LocalRules.{LocalRule, node_count}
-use Rattle.word_image.specs.Graphs.{next}
+use Rattle.word_image.proofs.Common.{LocalRule, node_count, next}
 use Rattle.eden_law.specs.ReachedRows.{LeadsBeside, AreAdded, IsRowSearch}
 use Rattle.eden_law.proofs.ReachedRows.{IsRowSearch-steps, HasBit-added, not_surjective-beside}
 use Rattle.eden_law.proofs.surjective.follow_all.Goals as goal

@@ -1,7 +1,6 @@
 use Rattle.std.proofs.Common.{ℕ, ◌-◌, ◌<◌, sum_by}
-use Rattle.word_image.specs.LocalRules.{node_count}
+use Rattle.word_image.proofs.Common.{node_count, HasBit}
 use Rattle.eden_law.specs.ReachedRows.{IsRowSearch}
-use Rattle.word_image.specs.Graphs.{HasBit}
 use Rattle.eden_law.proofs.surjective.follow_all.Given as goal
 
 -- the search goes on, and what was found stays

@@ -1,5 +1,5 @@
 use Rattle.std.proofs.Common.{◌≡◌, ℕ, ◌<◌, slice_index}
-use Rattle.word_image.specs.LocalRules.{node_count}
+use Rattle.word_image.proofs.Common.{node_count}
 use Rattle.eden_law.specs.ReachedRows.{IsRowSearch}
 use Rattle.eden_law.proofs.ReachedRows.{HasFirsts}
 use Rattle.eden_law.proofs.surjective.is_surjective.Given as goal

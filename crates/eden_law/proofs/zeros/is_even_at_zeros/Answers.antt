@@ -1,7 +1,7 @@
 use Rattle.std.proofs.Common.{◌≡◌, ℕ, ◌+◌, ◌-◌, ◌*◌, ◌/◌, ◌^◌, ◌<◌, ◌≤◌, suc, Bool, List, length, sym, ap, ap₂, ◌∙◌, arith, pow-suc}
-use Rattle.std.proofs.Math.Nat.{add-mul, one-mul, zero-mul, mul_comm, mul-div_cancel_left}
+use Rattle.std.proofs.Math.Nat.{add-mul, one-mul, zero-mul, mul_comm}
+use Rattle.word_image.proofs.Common.{mul-div_cancel_left, LocalRule, IsRule, node_count}
 use Rattle.std.proofs.lemmas.Bool.{eq-eqb, eqb-true}
-use Rattle.word_image.specs.LocalRules.{LocalRule, IsRule, node_count}
 use Rattle.table_laws.specs.ZeroPairs.{count_below, gives_zeros, zero_pairs}
 use Rattle.table_laws.proofs.Counts.{count_below-none, count_below-add}
 use Rattle.table_laws.proofs.ZeroPairs.{zero_pairs-surjective}

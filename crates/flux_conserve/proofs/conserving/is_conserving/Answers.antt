@@ -1,6 +1,5 @@
 use Rattle.std.proofs.Common.{sym, ◌∙◌, refl, slice_index, arith}
-use Rattle.std.proofs.lemmas.List.FromFn.{length-map-range_with_len}
-use Rattle.word_image.specs.LocalRules.{node_count}
+use Rattle.word_image.proofs.Common.{length-map-range_with_len, node_count}
 use Rattle.ring_laws.proofs.FluxWalks.{walk_gain}
 use Rattle.ring_laws.proofs.FluxWindows.{IsFlux-windows, FlowsAt-flux}
 use Rattle.ring_laws.proofs.LossyRings.{IsConserving-walk_gains}

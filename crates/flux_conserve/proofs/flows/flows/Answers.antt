@@ -1,5 +1,5 @@
 use Rattle.std.proofs.Common.{◌≡◌, ℕ, ◌/◌, ◌%◌, ◌-ℤ◌, get_or, pos, w32, FitsSigned, sym, ap₂, ◌∙◌, rules}
-use Rattle.word_image.specs.LocalRules.{node_count}
+use Rattle.word_image.proofs.Common.{node_count}
 use Rattle.flux_conserve.proofs.Differences.{is_passed_difference}
 use Rattle.flux_conserve.proofs.flows.flows.Goals as goal
 

@@ -1,7 +1,5 @@
 use Rattle.std.proofs.Common.{◌≡◌, ℕ, slice_index, suc, ◌+◌, ◌-◌, ◌*◌, ◌%◌, ◌<◌, ◌+ℤ◌, ap, ◌∙◌, arith, mod-lt}
-use Rattle.std.proofs.lemmas.Int.{ints}
-use Rattle.word_image.specs.LocalRules.{LocalRule, node_count}
-use Rattle.word_image.proofs.laws.Graphs.{node_count_pos}
+use Rattle.word_image.proofs.Common.{ints, LocalRule, node_count, node_count_pos}
 use Rattle.ring_laws.proofs.FluxWindows.{window_gain, walk_sum, walk_gain-sum}
 use Rattle.flux_conserve.proofs.flows.walk_flow.Goals as goal
 

@@ -1,5 +1,5 @@
 use Rattle.std.proofs.Common.{◌≡◌, slice_index, ◌-◌, ◌*◌, ◌<◌, pos, ◌+ℤ◌, ◌-ℤ◌, ◌≤ℤ◌}
-use Rattle.word_image.specs.LocalRules.{node_count}
+use Rattle.word_image.proofs.Common.{node_count}
 use Rattle.ring_laws.proofs.FluxWalks.{walk_gain}
 use Rattle.ring_laws.proofs.FluxWindows.{walk_sum}
 use Rattle.flux_conserve.proofs.flows.walk_flow.Given as goal

@@ -1,6 +1,6 @@
 use Rattle.std.proofs.Common.{◌≡◌, ◌<◌, slice_index, set, pos, w32, FitsSigned, to_z, of_z, ap, ◌∙◌, arith, rules}
 use Rattle.std.proofs.lemmas.Int.{to_z-of_z}
-use Rattle.word_image.proofs.laws.Lists.{filled_more}
+use Rattle.word_image.proofs.Common.{filled_more}
 use Rattle.ring_laws.proofs.FluxWalks.{walk_gain}
 use Rattle.flux_conserve.proofs.flows.walk_flows.Goals as goal
 

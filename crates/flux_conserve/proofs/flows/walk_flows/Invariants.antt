@@ -1,5 +1,5 @@
 use Rattle.std.proofs.Common.{◌≡◌, slice_index, ◌-◌, ◌++◌, map, replicate, pos}
-use Rattle.std.specs.List.{range_with_len}
+use Rattle.word_image.proofs.Common.{range_with_len}
 use Rattle.ring_laws.proofs.FluxWalks.{walk_gain}
 use Rattle.flux_conserve.proofs.flows.walk_flows.Given as goal
 

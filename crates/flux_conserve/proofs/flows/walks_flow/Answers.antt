@@ -1,6 +1,5 @@
 use Rattle.std.proofs.Common.{◌≡◌, ℕ, ◌/◌, ◌%◌, ◌<◌, ◌-ℤ◌, get_or, slice_index, ℤ, pos, w32, FitsSigned, sym, ap, ap₂, ◌∙◌, arith, rules}
-use Rattle.std.proofs.lemmas.List.FromFn.{get_or-map-range_with_len}
-use Rattle.word_image.specs.LocalRules.{node_count}
+use Rattle.word_image.proofs.Common.{get_or-map-range_with_len, node_count}
 use Rattle.ring_laws.proofs.FluxWalks.{walk_gain, walk_gains}
 use Rattle.flux_conserve.proofs.Differences.{is_passed_difference}
 use Rattle.flux_conserve.proofs.flows.walks_flow.Goals as goal

@@ -1,5 +1,5 @@
 use Rattle.std.proofs.Common.{◌≡◌, ◌+◌, ◌-◌, ◌^◌, ◌<◌, length, get_or, set, ap, arith, length-set}
-use Rattle.std.proofs.lemmas.List.Elements.{All-set}
+use Rattle.word_image.proofs.Common.{All-set}
 use Rattle.flux_conserve.proofs.Counter.{value-set_more, value-set_carry}
 use Rattle.flux_conserve.proofs.rings.advance.Goals as goal
 

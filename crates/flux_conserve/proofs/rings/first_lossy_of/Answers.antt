@@ -1,13 +1,5 @@
 use Rattle.std.proofs.Common.{◌≡◌, ℕ, ◌+◌, ◌^◌, ◌<◌, ◌≤◌, List, ◌++◌, length, slice_index, take, drop, replicate, refl, sym, ap, ap₂, subst, ◌∙◌, ⊎_elim, arith, length-append, length-drop, length-take-le}
-use Rattle.std.proofs.Math.Nat.{pow-le-pow_left, pow-le-pow_right}
-use Rattle.std.proofs.Math.Seq.{take-append_seam}
-use Rattle.std.proofs.lemmas.Bool.{cases_eq}
-use Rattle.std.proofs.lemmas.List.{take-replicate}
-use Rattle.std.proofs.lemmas.List.Elements.{All-replicate, All-take}
-use Rattle.word_image.specs.LocalRules.{LocalRule, IsWord, value}
-use Rattle.word_image.specs.Rings.{IsRing, KeepsSum}
-use Rattle.word_image.proofs.laws.Values.{value-below, value-injective}
-use Rattle.word_image.proofs.laws.Values.{value-zeros}
+use Rattle.word_image.proofs.Common.{pow-le-pow_left, pow-le-pow_right, take-append_seam, cases_eq, take-replicate, All-replicate, All-take, LocalRule, IsWord, value, IsRing, KeepsSum, value-below, value-injective, value-zeros}
 use Rattle.flux_conserve.proofs.rings.first_lossy_of.Goals as goal
 
 pub pow-end-requires : goal.pow-end-requires

@@ -1,6 +1,5 @@
 use Rattle.std.proofs.Common.{◌≡◌, ℕ, ◌^◌, ◌<◌, List, length, slice_index, take}
-use Rattle.word_image.specs.LocalRules.{IsWord, value}
-use Rattle.word_image.specs.Rings.{IsRing, KeepsSum}
+use Rattle.word_image.proofs.Common.{IsWord, value, IsRing, KeepsSum}
 use Rattle.flux_conserve.proofs.rings.first_lossy_of.Given as goal
 
 -- the letters are the word whose turn it is, and the rings of the words before it keep their sums

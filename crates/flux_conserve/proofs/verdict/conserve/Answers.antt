@@ -1,6 +1,5 @@
 use Rattle.std.proofs.Common.{◌≡◌, ℕ, List, slice_index, take, ℤ, refl, sym, ap₂, subst, ◌∙◌}
-use Rattle.word_image.specs.LocalRules.{node_count}
-use Rattle.word_image.specs.Rings.{IsFlux}
+use Rattle.word_image.proofs.Common.{node_count, IsFlux}
 use Rattle.flux_conserve.specs.Keepings.{IsFluxRow}
 use Rattle.flux_conserve.proofs.FluxRows.{gains_row, IsConserving-gains_row, IsFluxRow-gains_row}
 use Rattle.flux_conserve.proofs.verdict.conserve.Goals.{After-is_flux}

@@ -1,5 +1,5 @@
 use Rattle.std.proofs.Common.{◌<◌, slice_index, sym, subst, arith}
-use Rattle.word_image.specs.Edges.{IsStep}
+use Rattle.word_image.proofs.Common.{IsStep}
 use Rattle.image_minimal.specs.Closures.{IsClosedStep}
 use Rattle.image_minimal.specs.Searches.{IsClassSearch}
 use Rattle.image_minimal.proofs.laws.ClosedSteps.{IsClosedStep-unique}

@@ -1,9 +1,9 @@
 use Rattle.std.proofs.Common.{◌≡◌, ℕ, ◌*◌, List, [], ◌∷◌, sym, ap, ◌∙◌, subst, arith, mul-le-mul_right}
-use Rattle.word_image.specs.Graphs.{full_set}
+use Rattle.word_image.proofs.Common.{full_set}
 use Rattle.image_minimal.specs.Closures.{IsClosedStep}
 use Rattle.image_minimal.specs.Searches.{IsClassSearch}
 use Rattle.image_minimal.proofs.Indexes.{inserted_first}
-use Rattle.search_laws.proofs.Searches.{IsSearch-start}
+use Rattle.search_laws.proofs.Common.{IsSearch-start}
 use Rattle.image_minimal.proofs.ClassSearches.{length-classes-le}
 use Rattle.image_minimal.proofs.classes.search.Goals as goal
 

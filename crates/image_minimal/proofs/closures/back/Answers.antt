@@ -1,7 +1,5 @@
 use Rattle.std.proofs.Common.{ℕ, ◌+◌, ◌^◌, ◌<◌, sym, subst, arith}
-use Rattle.std.proofs.lemmas.Nat.{one_shl}
-use Rattle.word_image.specs.LocalRules.{node_count}
-use Rattle.word_image.proofs.laws.Unions.{IsSetTo, IsSetTo-skip, IsSetTo-take, IsSetTo-all}
+use Rattle.word_image.proofs.Common.{one_shl, node_count, IsSetTo, IsSetTo-skip, IsSetTo-take, IsSetTo-all}
 use Rattle.image_minimal.specs.Closures.{IsLedInto}
 use Rattle.image_minimal.proofs.Backs.{all_led, not_led}
 use Rattle.image_minimal.proofs.closures.back.Goals as goal

@@ -1,5 +1,4 @@
-use Rattle.word_image.specs.LocalRules.{node_count}
-use Rattle.word_image.proofs.laws.Unions.{IsSetTo}
+use Rattle.word_image.proofs.Common.{node_count, IsSetTo}
 use Rattle.image_minimal.specs.Closures.{IsLedInto}
 use Rattle.image_minimal.proofs.closures.back.Given as goal
 

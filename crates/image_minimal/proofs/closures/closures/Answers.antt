@@ -1,6 +1,5 @@
 use Rattle.std.proofs.Common.{◌≡◌, ◌+◌, ◌-◌, ◌^◌, ◌<◌, set, sym, subst, arith, pow_pos}
-use Rattle.word_image.specs.LocalRules.{node_count}
-use Rattle.word_image.proofs.laws.Places.{Contains-slice_get}
+use Rattle.word_image.proofs.Common.{node_count, Contains-slice_get}
 use Rattle.image_minimal.specs.Indexes.{IsPlaceOf}
 use Rattle.image_minimal.specs.Closures.{IsClosure, AreClosuresFrom}
 use Rattle.image_minimal.proofs.laws.ClosureTables.{IsClosure-unread, AreClosuresFrom-set}

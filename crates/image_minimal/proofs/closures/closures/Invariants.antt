@@ -1,5 +1,5 @@
 use Rattle.std.proofs.Common.{◌-◌, ◌^◌}
-use Rattle.word_image.specs.LocalRules.{node_count}
+use Rattle.word_image.proofs.Common.{node_count}
 use Rattle.image_minimal.specs.Closures.{AreClosuresFrom}
 use Rattle.image_minimal.proofs.closures.closures.Given as goal
 

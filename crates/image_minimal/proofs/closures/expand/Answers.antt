@@ -1,7 +1,6 @@
 use Rattle.std.proofs.Common.{◌≡◌, ◌+◌, ◌*◌, ◌<◌, subst, arith}
 use Rattle.image_minimal.specs.Closures.{IsBack}
-use Rattle.search_laws.specs.SearchQueues.{IsSearch}
-use Rattle.search_laws.proofs.StepSets.{IsSetOf-unique}
+use Rattle.search_laws.proofs.Common.{IsSearch, IsSetOf-unique}
 use Rattle.image_minimal.proofs.Indexes.{IsInsertedAt-kept}
 use Rattle.image_minimal.proofs.Searches.{IsStateSearch-insert}
 use Rattle.image_minimal.proofs.closures.expand.Goals as goal

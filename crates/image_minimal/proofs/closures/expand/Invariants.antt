@@ -1,6 +1,6 @@
 use Rattle.std.proofs.Common.{◌≡◌, ◌+◌, ◌*◌, Some, slice_get}
 use Rattle.image_minimal.specs.Closures.{IsBack}
-use Rattle.search_laws.specs.SearchQueues.{IsSearch}
+use Rattle.search_laws.proofs.Common.{IsSearch}
 use Rattle.image_minimal.proofs.closures.expand.Given as goal
 
 -- the edges on the first letters are followed

@@ -1,9 +1,8 @@
 use Rattle.std.proofs.Common.{◌≡◌, ◌*◌, ◌^◌, [], ◌∷◌, sym, subst, arith, mul-le-mul_right, pow_pos}
-use Rattle.word_image.specs.LocalRules.{node_count}
+use Rattle.word_image.proofs.Common.{node_count}
 use Rattle.image_minimal.specs.Closures.{IsBack}
-use Rattle.search_laws.specs.SearchQueues.{IsSearch}
+use Rattle.search_laws.proofs.Common.{IsSearch, IsSearch-start, length-search-le}
 use Rattle.image_minimal.proofs.Indexes.{inserted_first}
-use Rattle.search_laws.proofs.Searches.{IsSearch-start, length-search-le}
 use Rattle.image_minimal.proofs.Searches.{AreUnreadSets-closed}
 use Rattle.image_minimal.proofs.closures.unread_sets.Goals as goal
 

@@ -1,7 +1,7 @@
 use Rattle.std.proofs.Common.{◌-◌, ◌*◌, ◌^◌}
-use Rattle.word_image.specs.LocalRules.{node_count}
+use Rattle.word_image.proofs.Common.{node_count}
 use Rattle.image_minimal.specs.Closures.{IsBack}
-use Rattle.search_laws.specs.SearchQueues.{IsSearch}
+use Rattle.search_laws.proofs.Common.{IsSearch}
 use Rattle.image_minimal.proofs.closures.unread_sets.Given as goal
 
 -- the edges from the first sets are followed

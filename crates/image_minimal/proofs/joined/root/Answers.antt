@@ -1,5 +1,5 @@
 use Rattle.std.proofs.Common.{◌≡◌, ◌<◌, ◌≤◌, length, get_or, slice_index, ap, ◌∙◌, arith}
-use Rattle.std.proofs.lemmas.List.{get_or_default}
+use Rattle.word_image.proofs.Common.{get_or_default}
 use Rattle.image_minimal.specs.Joins.Rises.{Rest}
 use Rattle.image_minimal.proofs.Joins.{Rises-then, IsHalved-start, IsHalved-next}
 use Rattle.image_minimal.proofs.joined.root.Goals as goal

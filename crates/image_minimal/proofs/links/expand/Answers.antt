@@ -1,8 +1,5 @@
 use Rattle.std.proofs.Common.{◌≡◌, ℕ, ◌+◌, ◌*◌, ◌^◌, ◌%◌, ◌<◌, [], ◌∷◌, ◌++◌, slice_index, refl, ap, ap₂, ◌∙◌, subst, arith, suc-mul}
-use Rattle.std.proofs.lemmas.Nat.{one_shl}
-use Rattle.std.proofs.lemmas.Option.{slice_get_read}
-use Rattle.word_image.specs.LocalRules.{node_count}
-use Rattle.word_image.proofs.laws.Places.{slice_get-append}
+use Rattle.word_image.proofs.Common.{one_shl, slice_get_read, node_count, slice_get-append}
 use Rattle.image_minimal.specs.Joins.{IsJoin}
 use Rattle.image_minimal.specs.Links.{IsLinkSearch}
 use Rattle.image_minimal.proofs.laws.LinkWords.{link-below}

@@ -1,8 +1,5 @@
 use Rattle.std.proofs.Common.{◌≡◌, ℕ, ◌+◌, ◌*◌, ◌^◌, ◌%◌, [], ◌∷◌, ◌++◌, length, Some, sym, ap, ap₂, ◌∙◌, subst, arith, slice_get, mul-le-mul_right}
-use Rattle.std.specs.List.{range_with_len}
-use Rattle.std.proofs.lemmas.Nat.{one_shl}
-use Rattle.std.proofs.lemmas.Option.{slice_get_within}
-use Rattle.word_image.specs.LocalRules.{LocalRule, IsRule, node_count}
+use Rattle.word_image.proofs.Common.{range_with_len, one_shl, slice_get_within, LocalRule, IsRule, node_count}
 use Rattle.image_minimal.specs.declared.links.Link.{Link}
 use Rattle.image_minimal.specs.ImageLanguages.{Separates}
 use Rattle.image_minimal.specs.Links.{link_place, IsLinkSearch, IsLinkedOn, SpellsLink, set_count}

@@ -1,7 +1,5 @@
 use Rattle.std.proofs.Common.{◌≡◌, ℕ, ◌+◌, ◌*◌, ◌^◌, ◌<◌, List, slice_index, refl, sym, ap, ◌∙◌, subst, subst₂, arith, vec_capacity, suc-mul}
-use Rattle.std.proofs.lemmas.List.{length_push}
-use Rattle.word_image.specs.LocalRules.{LocalRule, node_count}
-use Rattle.word_image.specs.Edges.{IsStep}
+use Rattle.word_image.proofs.Common.{length_push, LocalRule, node_count, IsStep}
 use Rattle.image_subsets.specs.Masks.{IsInserted}
 use Rattle.image_subsets.specs.Searches.{IsTreeSearch}
 use Rattle.image_subsets.specs.StepTables.{Rows, AreTables}

@@ -1,5 +1,5 @@
 use Rattle.std.proofs.Common.{◌↔◌, ◌⊎◌, inl, inr, refl, subst, arith, ⊎_elim}
-use Rattle.std.proofs.lemmas.Bool.{cases_eq}
+use Rattle.word_image.proofs.Common.{cases_eq}
 use Rattle.image_subsets.specs.Marks.{IsSetMarked, HoldsWithout, HoldsSmaller}
 use Rattle.image_subsets.proofs.marks.mark_beyond.Goals as goal
 

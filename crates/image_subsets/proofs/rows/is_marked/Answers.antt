@@ -1,6 +1,6 @@
 use Rattle.std.proofs.Common.{◌/◌, ◌%◌, ◌^◌, ◌↔◌, slice_index, bit_and, IsTrue, subst, ◌==◌}
-use Rattle.pair_laws.proofs.Rows.{IsBitSet-test}
-use Rattle.word_image.specs.Graphs.{HasBit}
+use Rattle.pair_laws.proofs.Common.{IsBitSet-test}
+use Rattle.word_image.proofs.Common.{HasBit}
 use Rattle.image_subsets.proofs.rows.is_marked.Goals as goal
 
 pub returns : goal.returns

@@ -1,5 +1,5 @@
 use Rattle.std.proofs.Common.{◌≡◌, ℕ, ◌+◌, ◌-◌, ◌*◌, ◌%◌, ◌^◌, ◌<◌, ◌↔◌, slice_index, IsBitSet, bit_and, sym, subst, arith}
-use Rattle.std.proofs.lemmas.Nat.{one_shl, bit_set_by_shift, pow_below}
+use Rattle.word_image.proofs.Common.{one_shl, bit_set_by_shift, pow_below}
 use Rattle.image_subsets.specs.declared.rows.TheConstants.{WITH_LOW_NODE}
 use Rattle.image_subsets.specs.Marks.{HoldsWithout}
 use Rattle.image_subsets.proofs.RowMarks.{pow-le, with_low_node, with_high_node, with_no_node}

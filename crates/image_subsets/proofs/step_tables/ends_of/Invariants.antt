@@ -1,5 +1,5 @@
 use Rattle.std.proofs.Common.{◌≡◌, ℕ, ◌<◌, length, slice_index}
-use Rattle.word_image.specs.Edges.{IsEnds}
+use Rattle.word_image.proofs.Common.{IsEnds}
 use Rattle.word_image.specs.declared.side.Side.TheVariants.{Right}
 use Rattle.image_subsets.proofs.step_tables.ends_of.Given as goal
 

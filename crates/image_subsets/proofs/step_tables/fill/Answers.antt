@@ -1,5 +1,5 @@
 use Rattle.std.proofs.Common.{◌≡◌, ◌+◌, ◌-◌, ◌∙◌, subst, arith, ⊎_elim}
-use Rattle.std.proofs.lemmas.Bool.{cases_lt}
+use Rattle.word_image.proofs.Common.{cases_lt}
 use Rattle.image_subsets.specs.StepTables.{AreSteps}
 use Rattle.image_subsets.proofs.Steps.{AreSteps-double}
 use Rattle.image_subsets.proofs.step_tables.fill.Goals as goal

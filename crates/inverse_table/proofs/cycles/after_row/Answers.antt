@@ -1,6 +1,5 @@
 use Rattle.std.proofs.Common.{◌≡◌, ◌≢◌, ℕ, suc, ◌+◌, ◌*◌, ◌%◌, ◌<◌, ◌≤◌, sym, ap, ◌∙◌, ⊎_elim, arith, mod-lt, mod-eq_of_lt}
-use Rattle.std.proofs.Math.Nat.{mod_self, suc-mod}
-use Rattle.std.proofs.lemmas.Bool.{cases_eq, cases_lt}
+use Rattle.word_image.proofs.Common.{mod_self, suc-mod, cases_eq, cases_lt}
 use Rattle.inverse_table.proofs.ImageLaws.{row_below}
 use Rattle.inverse_table.proofs.cycles.after_row.Goals as goal
 

@@ -1,7 +1,5 @@
 use Rattle.std.proofs.Common.{◌≡◌, ℕ, ◌+◌, ◌*◌, ◌%◌, ◌≤◌, ◌++◌, List, length, map, slice_index, slice_range, refl, sym, ap, subst, ◌∙◌, arith, mod-lt, mod-eq_of_lt}
-use Rattle.word_image.specs.LocalRules.{LocalRule, IsRule, node_count}
-use Rattle.word_image.proofs.laws.Graphs.{node_count_pos}
-use Rattle.word_image.proofs.laws.WindowParts.{windows-nodes}
+use Rattle.word_image.proofs.Common.{LocalRule, IsRule, node_count, node_count_pos, windows-nodes}
 use Rattle.inverse_table.specs.ImageValues.{labels_from}
 use Rattle.inverse_table.proofs.ImageLaws.{AreLonger, AreLonger-row, AreImageValues-longer, row-long}
 use Rattle.inverse_table.proofs.image_values.longer.Goals as goal

@@ -1,5 +1,5 @@
 use Rattle.std.proofs.Common.{◌≡◌, ◌*◌, ◌%◌, ◌≤◌, length, vec_capacity}
-use Rattle.word_image.specs.LocalRules.{node_count}
+use Rattle.word_image.proofs.Common.{node_count}
 use Rattle.inverse_table.proofs.ImageLaws.{AreLonger}
 use Rattle.inverse_table.proofs.image_values.longer.Given as goal
 

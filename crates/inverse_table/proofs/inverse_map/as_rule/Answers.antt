@@ -1,11 +1,7 @@
 use Rattle.std.proofs.Common.{◌≡◌, ℕ, None, ℤ, w8, w32, FitsSigned, to_z, of_z, refl, sym, ◌∙◌, arith, rules}
-use Rattle.std.proofs.lemmas.Int.{to_z-of_z, ints}
-use Rattle.std.proofs.lemmas.Option.{none-some}
-use Rattle.word_image.specs.LocalRules.{IsRule}
-use Rattle.word_image.specs.RuleFaults.{shape_fault}
-use Rattle.word_image.proofs.laws.RuleFaults.{IsShape-shape_fault, shape_fault-IsShape}
-use Rattle.word_image.proofs.laws.RulesBy.{IsRuleBy-entries}
-use Rattle.tail_config.specs.InverseMaps.{WindowMap}
+use Rattle.std.proofs.lemmas.Int.{to_z-of_z}
+use Rattle.word_image.proofs.Common.{ints, none-some, IsRule, shape_fault, IsShape-shape_fault, shape_fault-IsShape, IsRuleBy-entries}
+use Rattle.tail_config.proofs.Common.{WindowMap}
 use Rattle.inverse_table.specs.InverseMaps.{map_rule}
 use Rattle.inverse_table.specs.MapLimits.{IsWindowMap}
 use Rattle.inverse_table.proofs.MapRules.{IsRule-map_rule, shape_fault-limit}

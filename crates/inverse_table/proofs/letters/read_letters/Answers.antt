@@ -1,5 +1,5 @@
 use Rattle.std.proofs.Common.{◌≡◌, ℕ, ◌+◌, ◌-◌, ◌*◌, ◌/◌, ◌%◌, ◌<◌, ◌≤◌, sym, ap, ◌∙◌, arith}
-use Rattle.std.proofs.lemmas.Nat.{div-mul-add}
+use Rattle.word_image.proofs.Common.{div-mul-add}
 use Rattle.inverse_table.specs.ImageValues.{letter_by_unit}
 use Rattle.inverse_table.proofs.letters.read_letters.Goals as goal
 

@@ -1,7 +1,7 @@
 use Rattle.std.proofs.Common.{◌≡◌, ℕ, ◌+◌, ◌-◌, ◌%◌, ◌<◌, ◌++◌, List, All, length, take, drop, w32, FitsSigned, refl, sym, ap₂, subst, subst₂, ◌∙◌, rules, arith, take_all}
 use Rattle.std.proofs.lemmas.Int.{to_z-of_z}
-use Rattle.std.proofs.lemmas.List.{take-append-le}
-use Rattle.tail_config.specs.InverseMaps.{IsInverseMap}
+use Rattle.word_image.proofs.Common.{take-append-le}
+use Rattle.tail_config.proofs.Common.{IsInverseMap}
 use Rattle.inverse_table.specs.InverseMaps.{GivesBack}
 use Rattle.inverse_table.specs.InverseFaults.{IsApartAt}
 use Rattle.inverse_table.specs.ImageValues.{AreReadBack, letter_by_unit}

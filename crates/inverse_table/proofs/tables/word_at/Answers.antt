@@ -1,8 +1,5 @@
 use Rattle.std.proofs.Common.{◌≡◌, ℕ, ◌+◌, ◌-◌, ◌/◌, ◌%◌, ◌^◌, List, [], ◌∷◌, ◌++◌, slice_index, sym, ap₂, ◌∙◌, arith, take_all}
-use Rattle.std.proofs.lemmas.List.{take_more}
-use Rattle.word_image.specs.LocalRules.{word_of}
-use Rattle.word_image.proofs.laws.Values.{length-word_of}
-use Rattle.word_image.proofs.laws.WindowParts.{get_or-word_of}
+use Rattle.word_image.proofs.Common.{take_more, word_of, length-word_of, get_or-word_of}
 use Rattle.inverse_table.proofs.WordCounts.{power-most}
 use Rattle.inverse_table.proofs.tables.word_at.Goals as goal
 

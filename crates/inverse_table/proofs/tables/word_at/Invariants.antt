@@ -1,5 +1,5 @@
 use Rattle.std.proofs.Common.{◌≡◌, ◌+◌, ◌-◌, take}
-use Rattle.word_image.specs.LocalRules.{word_of}
+use Rattle.word_image.proofs.Common.{word_of}
 use Rattle.inverse_table.proofs.tables.word_at.Given as goal
 
 abbrev pub invariant-loop-place : goal.invariant-loop-place

@@ -1,7 +1,5 @@
 use Rattle.std.proofs.Common.{◌≡◌, ◌≢◌, ℕ, ◌+◌, ◌<◌, ◌≤◌, None, get_or, set, sym, subst, ◌∙◌, arith}
-use Rattle.word_image.specs.LocalRules.{LocalRule, node_count}
-use Rattle.word_image.specs.Graphs.{pair_of, node_letter}
-use Rattle.word_image.specs.Ranks.{BeginTogether, EndTogether, IsRank}
+use Rattle.word_image.proofs.Common.{LocalRule, node_count, pair_of, node_letter, BeginTogether, EndTogether, IsRank}
 use Rattle.inverse_window.specs.Starts.{HoldsFrom, later}
 use Rattle.inverse_window.specs.FirstWindows.{PairDiffersAt, PairBegins, EndsFor, IsPastOf, AreStarts}
 use Rattle.inverse_window.proofs.RankStarts.{AreStarts-next, AreStarts-other}

@@ -1,4 +1,4 @@
-use Rattle.word_image.specs.Graphs.{pair_of}
+use Rattle.word_image.proofs.Common.{pair_of}
 use Rattle.inverse_window.specs.FirstWindows.{AreStarts}
 use Rattle.inverse_window.proofs.starts.add_starts.Given as goal
 

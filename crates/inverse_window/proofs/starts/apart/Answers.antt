@@ -1,5 +1,5 @@
-use Rattle.word_image.specs.Sides.{Together}
-use Rattle.pair_laws.proofs.Ranks.{Together-less}
+use Rattle.word_image.proofs.Common.{Together}
+use Rattle.pair_laws.proofs.Common.{Together-less}
 use Rattle.inverse_window.proofs.StartLaws.{HoldsFrom-rank}
 use Rattle.inverse_window.proofs.starts.apart.Goals as goal
 

@@ -1,4 +1,4 @@
-use Rattle.word_image.specs.Ranks.{EndTogether}
+use Rattle.word_image.proofs.Common.{EndTogether}
 use Rattle.inverse_window.proofs.RankStarts.{IsRank-counted}
 use Rattle.inverse_window.proofs.starts.ends_for.Goals as goal
 

@@ -1,5 +1,5 @@
 use Rattle.std.proofs.Common.{◌≡◌, ap, subst, arith}
-use Rattle.word_image.specs.LocalRules.{node_count}
+use Rattle.word_image.proofs.Common.{node_count}
 use Rattle.inverse_window.specs.FirstWindows.{IsPast}
 use Rattle.inverse_window.proofs.PastRanks.{IsPast-next}
 use Rattle.inverse_window.proofs.starts.past_ranks.Goals as goal

@@ -1,5 +1,5 @@
 use Rattle.std.proofs.Common.{◌≡◌, ap, subst, arith}
-use Rattle.word_image.specs.LocalRules.{IsRule, node_count}
+use Rattle.word_image.proofs.Common.{IsRule, node_count}
 use Rattle.inverse_window.specs.FirstWindows.{IsPastOf}
 use Rattle.inverse_window.proofs.PastRanks.{past_rank, IsPastOf-next}
 use Rattle.inverse_window.proofs.starts.past_ranks_of.Goals as goal

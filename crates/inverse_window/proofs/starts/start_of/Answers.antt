@@ -1,7 +1,5 @@
 use Rattle.std.proofs.Common.{◌≡◌, ◌≢◌, ℕ, ◌+◌, ◌<◌, ◌≤◌, Option, sym, subst, ◌∙◌, arith, IfSome}
-use Rattle.word_image.specs.LocalRules.{LocalRule, node_count}
-use Rattle.word_image.specs.Graphs.{pair_of, node_letter}
-use Rattle.word_image.specs.Ranks.{EndTogether}
+use Rattle.word_image.proofs.Common.{LocalRule, node_count, pair_of, node_letter, EndTogether}
 use Rattle.inverse_window.specs.Starts.{HoldsFrom, later}
 use Rattle.inverse_window.specs.FirstWindows.{PairDiffersAt, PairEnds, NoneHolds}
 use Rattle.inverse_window.proofs.StartLaws.{HoldsFrom-next, HoldsFrom-other, later-most}

@@ -1,5 +1,5 @@
 use Rattle.std.proofs.Common.{◌≤◌, IfSome}
-use Rattle.word_image.specs.Graphs.{pair_of}
+use Rattle.word_image.proofs.Common.{pair_of}
 use Rattle.inverse_window.specs.Starts.{HoldsFrom}
 use Rattle.inverse_window.specs.FirstWindows.{PairDiffersAt, PairEnds, NoneHolds}
 use Rattle.inverse_window.proofs.starts.start_of.Given as goal

@@ -1,7 +1,5 @@
 use Rattle.std.proofs.Common.{◌≡◌, ℕ, ◌+◌, ◌*◌, ap, subst, ◌∙◌, arith}
-use Rattle.word_image.specs.LocalRules.{LocalRule, node_count}
-use Rattle.word_image.specs.Graphs.{pair_of, pair_count}
-use Rattle.word_image.specs.Windows.{IsDetermined}
+use Rattle.word_image.proofs.Common.{LocalRule, node_count, pair_of, pair_count, IsDetermined}
 use Rattle.inverse_window.specs.Starts.{HoldsFrom}
 use Rattle.inverse_window.specs.FirstWindows.{PairDiffersAt, PairEnds, NoneHolds}
 use Rattle.inverse_window.proofs.StartLaws.{HoldsFrom-same}

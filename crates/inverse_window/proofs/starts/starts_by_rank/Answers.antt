@@ -1,6 +1,5 @@
 use Rattle.std.proofs.Common.{◌≡◌, ℕ, ◌+◌, ◌*◌, Option, Some, replicate, ap, subst, ◌∙◌, arith}
-use Rattle.word_image.specs.LocalRules.{LocalRule, node_count}
-use Rattle.word_image.specs.Graphs.{pair_of, pair_count}
+use Rattle.word_image.proofs.Common.{LocalRule, node_count, pair_of, pair_count}
 use Rattle.inverse_window.specs.FirstWindows.{AreStarts}
 use Rattle.inverse_window.proofs.RankStarts.{AreStarts-first}
 use Rattle.inverse_window.proofs.starts.starts_by_rank.Goals as goal

@@ -1,11 +1,7 @@
 use Rattle.std.proofs.Common.{◌+◌, map, sym, subst}
-use Rattle.word_image.specs.LocalRules.{LocalRule}
-use Rattle.search_laws.specs.PairWalks.{uncode}
-use Rattle.search_laws.proofs.PairWalks.{ArePairs-walk}
-use Rattle.tail_laws.specs.FirstLists.{IsLeastOf, IsFirstFound}
-use Rattle.tail_laws.specs.Turns.{IsTurn}
-use Rattle.tail_laws.proofs.FirstLists.{IsFirstFound-next}
-use Rattle.tail_laws.proofs.LeastTwins.{IsLeastTurn, IsLeastOf-turn}
+use Rattle.word_image.proofs.Common.{LocalRule}
+use Rattle.search_laws.proofs.Common.{uncode, ArePairs-walk}
+use Rattle.tail_laws.proofs.Common.{IsLeastOf, IsFirstFound, IsTurn, IsFirstFound-next, IsLeastTurn, IsLeastOf-turn}
 use Rattle.inverse_window.proofs.TurnSteps.{IsFirstFound-later}
 use Rattle.inverse_window.proofs.twin_pairs.first_turn.Goals as goal
 use Rattle.inverse_window.proofs.twin_pairs.first_turn.Goals.{in_default, in-Some+in_ok-steps}

@@ -1,5 +1,4 @@
-use Rattle.tail_laws.specs.FirstLists.{IsFirstFound}
-use Rattle.tail_laws.specs.Turns.{IsTurn}
+use Rattle.tail_laws.proofs.Common.{IsFirstFound, IsTurn}
 use Rattle.inverse_window.proofs.twin_pairs.first_turn.Given as goal
 
 abbrev pub invariant-loop-p : goal.invariant-loop-p

@@ -1,7 +1,6 @@
 use Rattle.std.proofs.Common.{◌↔◌, ℕ, List, IfOk, IsNone, MatchOption, subst}
-use Rattle.word_image.specs.LocalRules.{LocalRule}
-use Rattle.word_image.specs.Rings.{IsTwins, IsLeastTwins}
-use Rattle.tail_config.specs.Tails.{IsInjective}
+use Rattle.word_image.proofs.Common.{LocalRule, IsTwins, IsLeastTwins}
+use Rattle.tail_config.proofs.Common.{IsInjective}
 use Rattle.inverse_window.proofs.twin_pairs.twins.Goals as goal
 
 pub returns-clause-injective : goal.returns-clause-injective

@@ -1,14 +1,8 @@
 use Rattle.std.proofs.Common.{◌≡◌, map, true, false, refl}
-use Rattle.word_image.specs.LocalRules.{IsRule}
-use Rattle.word_image.specs.Graphs.{pair_count}
-use Rattle.word_image.specs.Rings.{IsLeastTwins}
-use Rattle.search_laws.specs.PairWalks.{uncode}
-use Rattle.tail_laws.proofs.TwinTails.{no_twins}
+use Rattle.word_image.proofs.Common.{IsRule, pair_count, IsLeastTwins}
+use Rattle.search_laws.proofs.Common.{uncode}
+use Rattle.tail_laws.proofs.Common.{no_twins, NoneBelow, IsFirstBelow, IsTurn, spelled_pair, IsLeastTwins-first, no_twins-none, length-IsLeastTwins}
 use Rattle.tail_laws.proofs.NoTwins.{IsInjective-no_twins}
-use Rattle.tail_laws.specs.FirstLists.{NoneBelow, IsFirstBelow}
-use Rattle.tail_laws.specs.Turns.{IsTurn}
-use Rattle.tail_laws.proofs.FirstLists.{spelled_pair}
-use Rattle.tail_laws.proofs.LeastTwins.{IsLeastTwins-first, no_twins-none, length-IsLeastTwins}
 use Rattle.inverse_window.proofs.twin_pairs.twins_over.Goals as goal
 
 pub returns-in_ok-x-in-Some-clause-least : goal.returns-in_ok-x-in-Some-clause-least

@@ -1,5 +1,5 @@
 use Rattle.std.proofs.Common.{◌≢◌, ◌==◌, ◌-◌, ◌*◌, ◌^◌, ◌%◌, ◌↔◌, ℕ, not, IsTrue, bit_and, sym, ap, ◌∙◌, eq-eqb, arith, ne_eqb}
-use Rattle.std.proofs.lemmas.Bool.{false≢true}
+use Rattle.word_image.proofs.Common.{false≢true}
 use Rattle.inverse_window.proofs.BothWays.{GoOnBothWays-some}
 use Rattle.inverse_window.proofs.verdicts.has_other.Goals as goal
 

@@ -1,6 +1,5 @@
 use Rattle.std.proofs.Common.{refl, sym, ◌∙◌, ap, subst, arith, ⊎_elim}
-use Rattle.std.proofs.lemmas.Bool.{cases_eq, false≢true}
-use Rattle.word_image.specs.LocalRules.{node_count}
+use Rattle.word_image.proofs.Common.{cases_eq, false≢true, node_count}
 use Rattle.inverse_window.specs.BothWays.{GoOnBothWays}
 use Rattle.inverse_window.proofs.BothWays.{not_injective, injective_where_none}
 use Rattle.inverse_window.proofs.verdicts.is_injective.Goals as goal

@@ -1,5 +1,5 @@
 use Rattle.std.proofs.Common.{◌≡◌, ◌+◌, ◌-◌, subst, arith}
-use Rattle.word_image.specs.LocalRules.{node_count}
+use Rattle.word_image.proofs.Common.{node_count}
 use Rattle.inverse_window.specs.FirstWindows.{IsPast}
 use Rattle.inverse_window.proofs.FirstSearches.{IsSearched, IsSearched-next, IsFirstWindowOf-searched}
 use Rattle.inverse_window.proofs.windows.first_within.Goals as goal

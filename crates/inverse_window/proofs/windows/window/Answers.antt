@@ -1,8 +1,7 @@
 use Rattle.std.proofs.Common.{◌≡◌, ◌-◌, sym, ◌∙◌, subst, arith}
-use Rattle.std.proofs.lemmas.Bool.{false≢true}
-use Rattle.word_image.specs.LocalRules.{IsRule}
-use Rattle.tail_config.specs.Tails.{IsInjective}
-use Rattle.tail_laws.proofs.Certainty.{IsInjective-window}
+use Rattle.word_image.proofs.Common.{false≢true, IsRule}
+use Rattle.tail_config.proofs.Common.{IsInjective}
+use Rattle.tail_laws.proofs.Common.{IsInjective-window}
 use Rattle.eden_laws.proofs.Preinjective.{IsSurjective-injective}
 use Rattle.inverse_window.specs.FirstWindows.{IsFirstWindowOf}
 use Rattle.inverse_window.proofs.FirstSearches.{earlier-most}

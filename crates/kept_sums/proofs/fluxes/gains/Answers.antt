@@ -1,6 +1,6 @@
 use Rattle.std.proofs.Common.{◌≡◌, ◌≢◌, ℕ, ◌+◌, ◌-◌, ◌^◌, ◌≤◌, get_or-set_other, slice_index_or, ℤ, pos, to_z, of_z, w64, refl, sym, ap, ap₂, subst, ◌∙◌, arith, unsigned_abs}
 use Rattle.std.proofs.lemmas.List.{length-set}
-use Rattle.word_image.specs.LocalRules.{word_of}
+use Rattle.word_image.proofs.Common.{word_of}
 use Rattle.kept_sums.specs.Fluxes.{window_gain}
 use Rattle.kept_sums.proofs.Casts.{back}
 use Rattle.kept_sums.proofs.laws.Parts.{put, at-replicate}

@@ -1,5 +1,5 @@
 use Rattle.std.proofs.Common.{◌≡◌, ℕ, ◌+◌, ◌-◌, ◌^◌, ◌<◌, ◌≤◌, length, pos, unsigned_abs}
-use Rattle.word_image.specs.LocalRules.{word_of}
+use Rattle.word_image.proofs.Common.{word_of}
 use Rattle.kept_sums.specs.Rows.{at}
 use Rattle.kept_sums.specs.Fluxes.{window_gain}
 use Rattle.kept_sums.proofs.fluxes.gains.Given as goal

@@ -1,7 +1,5 @@
 use Rattle.std.proofs.Common.{◌≡◌, ℕ, ◌+◌, ◌-◌, ◌*◌, ◌/◌, ◌%◌, ◌^◌, ◌<◌, ◌≤◌, get_or, slice_index, sym, ap, ap₂, subst₂, ◌∙◌, arith}
-use Rattle.std.proofs.Math.Nat.{pow-le-pow_right}
-use Rattle.word_image.specs.LocalRules.{value, word_of}
-use Rattle.word_image.specs.Words.{image}
+use Rattle.word_image.proofs.Common.{pow-le-pow_right, value, word_of, image}
 use Rattle.kept_sums.proofs.laws.Ranges.{short, power-positive}
 use Rattle.kept_sums.proofs.laws.Windows.{windows-most, window-within, window-letter, image-below, image-more, image-whole}
 use Rattle.kept_sums.proofs.fluxes.image_value.Goals.{After-pow, After-pow-in-loop-i, After-at}

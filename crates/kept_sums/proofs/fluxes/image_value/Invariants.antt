@@ -1,6 +1,5 @@
 use Rattle.std.proofs.Common.{◌≡◌, ◌+◌, ◌-◌, take}
-use Rattle.word_image.specs.LocalRules.{value, word_of}
-use Rattle.word_image.specs.Words.{image}
+use Rattle.word_image.proofs.Common.{value, word_of, image}
 use Rattle.kept_sums.proofs.fluxes.image_value.Given as goal
 
 -- the value of the first letters of the image

@@ -1,7 +1,5 @@
 use Rattle.std.proofs.Common.{ℕ, ◌*◌, ◌/◌, ◌^◌, ◌<◌, ◌≤◌, ℤ, ◌-ℤ◌, refl, sym, ap₂, subst, ◌∙◌, ⊎_elim, arith, unsigned_abs}
-use Rattle.std.proofs.Math.Nat.{pow-zero, div-lt_self}
-use Rattle.std.proofs.lemmas.Bool.{cases_lt}
-use Rattle.std.proofs.lemmas.Int.{ints}
+use Rattle.word_image.proofs.Common.{pow-zero, div-lt_self, cases_lt, ints}
 use Rattle.kept_sums.specs.Rows.{at}
 use Rattle.kept_sums.proofs.Casts.{fits-sub, back-sub}
 use Rattle.kept_sums.proofs.laws.Ranges.{power-positive}

@@ -1,5 +1,5 @@
 use Rattle.std.proofs.Common.{◌<◌, ◌≤◌, length, ⊎_elim, arith}
-use Rattle.std.proofs.lemmas.Bool.{cases_lt}
+use Rattle.word_image.proofs.Common.{cases_lt}
 use Rattle.kept_sums.specs.Spans.{entry}
 use Rattle.kept_sums.proofs.laws.Densities.{IsKept-short_rings}
 use Rattle.kept_sums.proofs.laws.Ranges.{short}

@@ -1,6 +1,5 @@
 use Rattle.std.proofs.Common.{◌≡◌, ℕ, ◌+◌, ◌^◌, ◌≤◌, List, length, take, ap, ap₂, sym, subst, subst₂, ◌∙◌, ◌⊎◌, arith}
-use Rattle.word_image.specs.LocalRules.{LocalRule, IsRule, IsWord}
-use Rattle.word_image.specs.Rings.{IsRing, ring_image}
+use Rattle.word_image.proofs.Common.{LocalRule, IsRule, IsWord, IsRing, ring_image}
 use Rattle.kept_sums.specs.Sums.{blocks}
 use Rattle.kept_sums.specs.Spans.{IsLastGain, IsNarrowed, GainNothing, FitNarrowed}
 use Rattle.kept_sums.proofs.laws.Densities.{length-ring_image}

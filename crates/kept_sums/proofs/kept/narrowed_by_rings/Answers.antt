@@ -1,9 +1,5 @@
 use Rattle.std.proofs.Common.{◌≡◌, ℕ, ◌+◌, ◌^◌, ◌<◌, ◌≤◌, List, length, take, ℤ, sym, ap, ap₂, subst, ◌∙◌, ⊎_elim, arith}
-use Rattle.std.proofs.Math.Nat.{pow-le-pow_left, pow-le-pow_right}
-use Rattle.std.proofs.lemmas.Bool.{cases_eq}
-use Rattle.word_image.specs.LocalRules.{LocalRule, value, word_of}
-use Rattle.word_image.specs.Rings.{IsRing}
-use Rattle.word_image.proofs.laws.Values.{value-below, value-injective, length-word_of, IsWord-word_of, value-word_of}
+use Rattle.word_image.proofs.Common.{pow-le-pow_left, pow-le-pow_right, cases_eq, LocalRule, value, word_of, IsRing, value-below, value-injective, length-word_of, IsWord-word_of, value-word_of}
 use Rattle.kept_sums.specs.Stages.{RowsKeep}
 use Rattle.kept_sums.proofs.kept.narrowed_by_rings.Goals.{After-pow-number-end, After-word_with-letters}
 use Rattle.kept_sums.proofs.kept.narrowed_by_rings.Goals as goal

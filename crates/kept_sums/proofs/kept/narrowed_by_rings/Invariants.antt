@@ -1,6 +1,5 @@
 use Rattle.std.proofs.Common.{◌≡◌, ℕ, ◌<◌, List, length}
-use Rattle.word_image.specs.LocalRules.{value}
-use Rattle.word_image.specs.Rings.{IsRing}
+use Rattle.word_image.proofs.Common.{value, IsRing}
 use Rattle.kept_sums.specs.Stages.{IsStage, RowsKeep}
 use Rattle.kept_sums.proofs.kept.narrowed_by_rings.Given as goal
 

@@ -1,5 +1,5 @@
 use Rattle.std.proofs.Common.{◌≡◌, ℕ, ◌-◌, ◌^◌, ◌≤◌, refl, ap₂, subst₂, ◌∙◌, arith}
-use Rattle.std.proofs.Math.Nat.{pow-le-pow_right}
+use Rattle.word_image.proofs.Common.{pow-le-pow_right}
 use Rattle.kept_sums.proofs.laws.Starts.{entry-zeros, AreUnits, IsStage-start}
 use Rattle.kept_sums.proofs.kept.start.Goals as goal
 

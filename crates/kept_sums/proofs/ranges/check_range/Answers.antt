@@ -1,7 +1,5 @@
 use Rattle.std.proofs.Common.{◌≡◌, ℕ, ◌^◌, ◌<◌, ◌≤◌, ap₂, ◌∙◌, ⊎_elim, arith}
-use Rattle.std.proofs.Math.Nat.{pow-le-pow_left, pow-le-pow_right}
-use Rattle.std.proofs.lemmas.Bool.{cases_lt}
-use Rattle.std.proofs.lemmas.Bool.Decides.{nat_tests}
+use Rattle.word_image.proofs.Common.{pow-le-pow_left, pow-le-pow_right, cases_lt, nat_tests}
 use Rattle.kept_sums.proofs.laws.Ranges.{few}
 use Rattle.kept_sums.proofs.ranges.check_range.Goals.{then-range-gt4-via-then-range-gt4, then-range-gt4-via-else-range-gt4+then-pow-gt16}
 use Rattle.kept_sums.proofs.ranges.check_range.Goals as goal

@@ -1,5 +1,5 @@
 use Rattle.std.proofs.Common.{◌≡◌, ◌-◌, ◌^◌, ◌<◌, ◌++◌, length, take}
-use Rattle.word_image.specs.LocalRules.{word_of}
+use Rattle.word_image.proofs.Common.{word_of}
 use Rattle.kept_sums.proofs.rings.word_with.Given as goal
 
 -- the first letters, and behind them the word of what is left

@@ -1,7 +1,5 @@
 use Rattle.std.proofs.Common.{◌≡◌, ℕ, ◌/◌, ◌%◌, ℤ, pos, ◌+ℤ◌, ◌-ℤ◌, ◌*ℤ◌, sym, ap, ◌∙◌, arith}
-use Rattle.std.proofs.Math.Nat.{div-add-mod}
-use Rattle.std.proofs.Math.IntN.{pos-*ℤ-pos}
-use Rattle.std.proofs.lemmas.Int.{ints}
+use Rattle.word_image.proofs.Common.{div-add-mod, pos-*ℤ-pos, ints}
 use Rattle.std.proofs.lemmas.Nat.Gcd.{IsGcd-from_zero, IsGcd-from_mod}
 use Rattle.kept_sums.specs.Rows.{IsCombinedOf}
 use Rattle.kept_sums.proofs.laws.Integers.{mul-add, mul-assoc, mul-comm, sub-mul}

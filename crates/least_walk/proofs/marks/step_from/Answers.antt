@@ -1,8 +1,5 @@
-use Rattle.std.proofs.Common.{◌≡◌, ℕ, ◌*◌, Some, cond, sym, ap, ap₂, ◌∙◌, arith}
-use Rattle.std.specs.Prelude.{◌==◌, ◌||◌, not, nat_le}
-use Rattle.word_image.specs.LocalRules.{LocalRule}
-use Rattle.word_image.specs.Graphs.{next, label, pair_of, pair_count, first_of, second_of}
-use Rattle.word_image.proofs.laws.Graphs.{pair_count_pos}
+use Rattle.std.proofs.Common.{◌≡◌, ℕ, ◌*◌, Some, cond, sym, ap, ap₂, ◌∙◌, arith, ◌==◌, ◌||◌, not, nat_le}
+use Rattle.word_image.proofs.Common.{LocalRule, next, label, pair_of, pair_count, first_of, second_of, pair_count_pos}
 use Rattle.least_walk.specs.Marks.{pair_part}
 use Rattle.least_walk.proofs.MarkedRows.{marked-edges, mark-stays, mark-comes}
 use Rattle.least_walk.proofs.marks.step_from.Goals as goal

@@ -1,8 +1,6 @@
 use Rattle.std.proofs.Common.{◌≡◌, ℕ, ◌+◌, ◌*◌, sym, ap, ap₂, ◌∙◌, arith}
-use Rattle.std.proofs.lemmas.Nat.{mul-add-lt}
-use Rattle.word_image.specs.LocalRules.{LocalRule}
-use Rattle.word_image.specs.Graphs.{pair_count, pair_of}
-use Rattle.pair_laws.proofs.Pairs.{pair_of-below}
+use Rattle.word_image.proofs.Common.{mul-add-lt, LocalRule, pair_count, pair_of}
+use Rattle.pair_laws.proofs.Common.{pair_of-below}
 use Rattle.least_walk.proofs.MarkedRows.{parts-of}
 use Rattle.least_walk.proofs.marks.with_parts.Goals as goal
 

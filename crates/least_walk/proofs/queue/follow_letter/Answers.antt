@@ -1,10 +1,5 @@
-use Rattle.std.proofs.Common.{◌≡◌, ℕ, ◌+◌, ◌*◌, ◌<◌, ◌≤◌, inr, List, [], ◌∷◌, ◌++◌, length, vec_capacity, get_or, Some, refl, sym, ap, ◌∙◌, subst, subst₂, arith}
-use Rattle.std.specs.List.{slice_get}
-use Rattle.std.proofs.lemmas.List.{length_push}
-use Rattle.std.proofs.lemmas.Option.{slice_get-get_or}
-use Rattle.word_image.specs.LocalRules.{LocalRule}
-use Rattle.word_image.specs.MarkedPairs.{marked}
-use Rattle.word_image.proofs.laws.Places.{slice_get-append}
+use Rattle.std.proofs.Common.{◌≡◌, ℕ, ◌+◌, ◌*◌, ◌<◌, ◌≤◌, inr, List, [], ◌∷◌, ◌++◌, length, vec_capacity, get_or, Some, refl, sym, ap, ◌∙◌, subst, subst₂, arith, slice_get}
+use Rattle.word_image.proofs.Common.{length_push, slice_get-get_or, LocalRule, marked, slice_get-append}
 use Rattle.least_walk.specs.declared.queue.Reached.{Reached}
 use Rattle.least_walk.specs.Queues.{MarkedStep, IsWalking, IsWalkSearch, IsOldBut, step_count}
 use Rattle.least_walk.proofs.Walking.{length-walking-le, IsWalkSearch-old, IsWalkSearch-new, IsWalkSearch-rest, depth-below, goal-tells, MarkedStep-letters, IsOldBut-more}

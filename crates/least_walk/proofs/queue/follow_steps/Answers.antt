@@ -1,9 +1,5 @@
-use Rattle.std.proofs.Common.{◌≡◌, ℕ, ◌+◌, ◌*◌, ◌<◌, List, vec_capacity, Some, IsBitSet, refl, sym, ap, ◌∙◌, subst, subst₂, arith}
-use Rattle.std.specs.List.{slice_get}
-use Rattle.std.proofs.lemmas.Option.{slice_get-get_or, slice_get_within}
-use Rattle.word_image.specs.LocalRules.{LocalRule}
-use Rattle.word_image.proofs.laws.Bits.{IsBitSet-zero}
-use Rattle.word_image.proofs.laws.Places.{slice_get-unique}
+use Rattle.std.proofs.Common.{◌≡◌, ℕ, ◌+◌, ◌*◌, ◌<◌, List, vec_capacity, Some, IsBitSet, refl, sym, ap, ◌∙◌, subst, subst₂, arith, slice_get}
+use Rattle.word_image.proofs.Common.{slice_get-get_or, slice_get_within, LocalRule, IsBitSet-zero, slice_get-unique}
 use Rattle.least_walk.specs.Marks.{ArePartsOf}
 use Rattle.least_walk.specs.declared.queue.Reached.{Reached}
 use Rattle.least_walk.specs.Queues.{IsWalkSearch, step_count}

@@ -1,5 +1,4 @@
-use Rattle.std.proofs.Common.{◌≡◌, ◌≤◌, ◌+◌, ◌*◌, vec_capacity}
-use Rattle.std.specs.List.{slice_get}
+use Rattle.std.proofs.Common.{◌≡◌, ◌≤◌, ◌+◌, ◌*◌, vec_capacity, slice_get}
 use Rattle.least_walk.specs.Queues.{IsWalkSearch, step_count}
 use Rattle.least_walk.proofs.queue.follow_steps.Given as goal
 

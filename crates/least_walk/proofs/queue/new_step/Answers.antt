@@ -1,5 +1,5 @@
 use Rattle.std.proofs.Common.{arith}
-use Rattle.std.proofs.lemmas.Nat.{bit_set_by_shift}
+use Rattle.word_image.proofs.Common.{bit_set_by_shift}
 use Rattle.least_walk.proofs.queue.new_step.Goals as goal
 
 pub overflow_shr-letters : goal.overflow_shr-letters

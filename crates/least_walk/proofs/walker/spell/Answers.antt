@@ -1,8 +1,6 @@
 use Rattle.std.proofs.Common.{◌≡◌, [], length, get_or, sym, ap, subst, arith}
-use Rattle.std.proofs.lemmas.List.{length_push}
-use Rattle.std.proofs.lemmas.Option.{slice_get-get_or}
-use Rattle.search_laws.specs.SearchQueues.{TreeSpells}
-use Rattle.search_laws.specs.SearchQueues.TreeSpells.{Root}
+use Rattle.word_image.proofs.Common.{length_push, slice_get-get_or}
+use Rattle.search_laws.proofs.Common.{TreeSpells, Root}
 use Rattle.least_walk.specs.declared.queue.Reached.{Reached}
 use Rattle.least_walk.specs.Queues.{places_of, SpellsBefore}
 use Rattle.least_walk.proofs.Walking.{SpellsBefore-parent}

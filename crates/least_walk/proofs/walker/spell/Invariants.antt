@@ -1,5 +1,5 @@
 use Rattle.std.proofs.Common.{ℕ, ◌+◌, ◌<◌, ◌≤◌, List, ◌++◌, length, reverse, vec_capacity}
-use Rattle.search_laws.specs.SearchQueues.{TreeSpells}
+use Rattle.search_laws.proofs.Common.{TreeSpells}
 use Rattle.least_walk.specs.Queues.{places_of, SpellsBefore}
 use Rattle.least_walk.proofs.walker.spell.Given as goal
 

@@ -1,5 +1,5 @@
 use Rattle.std.proofs.Common.{◌≡◌, ◌^◌, length, take, map}
-use Rattle.word_image.specs.Digits.{lower_digit}
+use Rattle.word_image.proofs.Common.{lower_digit}
 use Rattle.list_run.proofs.lines.write_digits.Given as goal
 
 -- the digits so far

@@ -1,5 +1,5 @@
 use Rattle.std.proofs.Common.{ℕ, refl, arith}
-use Rattle.std.proofs.lemmas.List.{get_or-replicate}
+use Rattle.word_image.proofs.Common.{get_or-replicate}
 use Rattle.list_run.proofs.listing.given_letters.Goals as goal
 
 pub loop-window-init : goal.loop-window-init

@@ -1,6 +1,5 @@
 use Rattle.std.proofs.Common.{◌≡◌, [], ◌∷◌, ◌++◌, true, false, length, take, slice_index, refl, sym, ap, ◌∙◌, append-nil, arith, filter, take_all}
-use Rattle.std.proofs.lemmas.List.{length_push}
-use Rattle.word_image.specs.Families.{is_cover}
+use Rattle.word_image.proofs.Common.{length_push, is_cover}
 use Rattle.orphan_search.proofs.Covers.{no_cover-first, covers_more}
 use Rattle.orphan_search.proofs.search.write_cover.Goals as goal
 

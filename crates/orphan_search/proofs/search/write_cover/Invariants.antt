@@ -1,5 +1,5 @@
 use Rattle.std.proofs.Common.{◌≡◌, ◌≤◌, ◌∷◌, length, take, slice_index, vec_capacity, filter}
-use Rattle.word_image.specs.Families.{is_cover}
+use Rattle.word_image.proofs.Common.{is_cover}
 use Rattle.orphan_search.proofs.search.write_cover.Given as goal
 
 -- the covers among the first sets are written

@@ -1,9 +1,6 @@
 use Rattle.std.proofs.Common.{◌≡◌, ◌<◌, [], ◌∷◌, ◌++◌, length, slice_index, Some, sym, ap, ◌∙◌, subst, arith}
-use Rattle.std.proofs.lemmas.List.{length_push}
-use Rattle.std.proofs.lemmas.Option.{get_or_from_slice_get}
-use Rattle.word_image.specs.Graphs.{full_set}
-use Rattle.word_image.specs.Families.{IsLeastWordOf}
-use Rattle.search_laws.proofs.SpelledWords.{letter_before}
+use Rattle.word_image.proofs.Common.{length_push, get_or_from_slice_get, full_set, IsLeastWordOf}
+use Rattle.search_laws.proofs.Common.{letter_before}
 use Rattle.image_subsets.proofs.LeastWords.{IsLeastWordOf-parent, IsLeastWordOf-full}
 use Rattle.orphan_search.proofs.search.write_word.Goals as goal
 

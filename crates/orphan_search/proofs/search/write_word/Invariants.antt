@@ -1,6 +1,5 @@
 use Rattle.std.proofs.Common.{◌≡◌, ℕ, ◌+◌, ◌≤◌, List, ◌++◌, length, slice_index, reverse, vec_capacity}
-use Rattle.word_image.specs.LocalRules.{LocalRule}
-use Rattle.word_image.specs.Families.{IsLeastWordOf}
+use Rattle.word_image.proofs.Common.{LocalRule, IsLeastWordOf}
 use Rattle.image_subsets.specs.FamilyTrees.{IsFamilyTree}
 use Rattle.orphan_search.proofs.search.write_word.Given as goal
 

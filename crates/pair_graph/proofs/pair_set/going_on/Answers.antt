@@ -1,5 +1,5 @@
 use Rattle.std.proofs.Common.{slice_index, ap, ◌∙◌, arith}
-use Rattle.word_image.specs.Ends.{end_node}
+use Rattle.word_image.proofs.Common.{end_node}
 use Rattle.pair_graph.proofs.PairLanes.{AreLanes-next, mask-below, GoesOn-mask}
 use Rattle.pair_graph.proofs.pair_set.going_on.Goals as goal
 

@@ -1,5 +1,5 @@
 use Rattle.std.proofs.Common.{◌≡◌, ℕ, ◌<◌, Some, IsTrue}
-use Rattle.word_image.specs.Graphs.{follow_on}
+use Rattle.word_image.proofs.Common.{follow_on}
 use Rattle.pair_graph.specs.PairSets.{holds}
 use Rattle.pair_graph.proofs.plain.leads_into_by.Given as goal
 

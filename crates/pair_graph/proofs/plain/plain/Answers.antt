@@ -1,5 +1,5 @@
 use Rattle.std.proofs.Common.{◌+◌, ◌<◌, ◌↔◌, length, IsTrue, sym, ◌∙◌, ap, subst, arith, ⊎_elim}
-use Rattle.std.proofs.lemmas.Bool.{cases_eq, false≢true}
+use Rattle.word_image.proofs.Common.{cases_eq, false≢true}
 use Rattle.pair_graph.specs.PairSets.{holds, LeadsInto}
 use Rattle.pair_graph.proofs.plain.plain.Goals as goal
 use Rattle.pair_graph.proofs.plain.plain.Goals.{then-not-leads_into, else-not-leads_into}

@@ -1,5 +1,5 @@
 use Rattle.std.proofs.Common.{◌≡◌, ℕ, ◌<◌, ◌↔◌, length, IsTrue}
-use Rattle.word_image.specs.Graphs.{pair_count}
+use Rattle.word_image.proofs.Common.{pair_count}
 use Rattle.pair_graph.specs.PairSets.{holds, LeadsInto}
 use Rattle.pair_graph.proofs.plain.plain.Given as goal
 

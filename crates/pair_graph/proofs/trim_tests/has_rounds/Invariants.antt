@@ -1,5 +1,5 @@
 use Rattle.std.proofs.Common.{◌≡◌, length}
-use Rattle.word_image.specs.Graphs.{pair_count}
+use Rattle.word_image.proofs.Common.{pair_count}
 use Rattle.pair_graph.proofs.trim_tests.has_rounds.Given as goal
 
 -- the set is one of the rule's pairs

@@ -1,6 +1,5 @@
 use Rattle.std.proofs.Common.{ℕ, ◌≡◌, ◌+◌, ◌*◌, Option, None, replicate, ap, subst, sym, ◌∙◌, arith}
-use Rattle.std.proofs.lemmas.List.{get_or-replicate}
-use Rattle.word_image.specs.LocalRules.{node_count}
+use Rattle.word_image.proofs.Common.{get_or-replicate, node_count}
 use Rattle.pair_graph.specs.PairSets.{IsTrimmedSet}
 use Rattle.pair_rank.proofs.TrimmedSets.{AreTogether, AreTogether-all, AreTogether-next, AreEndless-stable, AreEndless-all}
 use Rattle.pair_rank.proofs.Tables.{AreRanksSoFar-none, AreRanksSoFar-next, AreRanks-endless}

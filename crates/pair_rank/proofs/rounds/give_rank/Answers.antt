@@ -1,5 +1,5 @@
 use Rattle.std.proofs.Common.{◌≡◌, ◌+◌, ◌*◌, Some, length, sym, ap, ◌∙◌, subst, arith, length-set}
-use Rattle.std.proofs.lemmas.Nat.{bit_set_by_shift}
+use Rattle.word_image.proofs.Common.{bit_set_by_shift}
 use Rattle.pair_rank.proofs.Tables.{IsGiven, IsGiven-take, IsGiven-skip}
 use Rattle.pair_rank.proofs.rounds.give_rank.Goals as goal
 use Rattle.pair_rank.proofs.rounds.give_rank.Goals.{then-set-v-eq1, else-set-v-eq1}

@@ -1,8 +1,5 @@
 use Rattle.std.proofs.Common.{ap, ◌∙◌, subst₂, MatchOption}
-use Rattle.word_image.specs.LocalRules.{LocalRule}
-use Rattle.word_image.specs.Graphs.{first_of, second_of}
-use Rattle.word_image.specs.Ranks.{IsRank, IsEndless}
-use Rattle.word_image.specs.Sides.{Together}
+use Rattle.word_image.proofs.Common.{LocalRule, first_of, second_of, IsRank, IsEndless, Together}
 use Rattle.pair_rank.proofs.rows.rank_of.Goals as goal
 
 pub returns : goal.returns

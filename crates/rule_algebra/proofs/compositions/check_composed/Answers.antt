@@ -1,7 +1,7 @@
 use Rattle.std.proofs.Common.{ℕ, ◌+◌, ◌-◌, ap, ap₂, ◌∙◌, sym, w8, to_z, of_z}
 use Rattle.rule_algebra.proofs.laws.Limits.{limit_fault-parts}
 use Rattle.rule_algebra.proofs.laws.Compositions.{compose_fault-same}
-use Rattle.word_image.proofs.laws.RulesBy.{FitsSigned-offset}
+use Rattle.word_image.proofs.Common.{FitsSigned-offset}
 use Rattle.rule_algebra.proofs.RuleParts.{sum-in_w16}
 use Rattle.rule_algebra.proofs.compositions.check_composed.Goals as goal
 

@@ -1,10 +1,6 @@
 use Rattle.std.proofs.Common.{◌≡◌, ℕ, ◌+◌, ◌-◌, ◌^◌, ◌<◌, ◌≤◌, None, ℤ, ◌+ℤ◌, slice_index, refl, ap₂, ◌∙◌, w8, to_z, of_z, arith, rules}
 use Rattle.std.proofs.iter.Serving.{serving}
-use Rattle.word_image.specs.LocalRules.{LocalRule, IsRule, word_of, value}
-use Rattle.word_image.specs.RulesBy.{IsRuleBy}
-use Rattle.word_image.specs.Words.{image}
-use Rattle.word_image.proofs.laws.RuleFaults.{window_count-le}
-use Rattle.word_image.proofs.laws.RulesBy.{IsRuleBy-map}
+use Rattle.word_image.proofs.Common.{LocalRule, IsRule, word_of, value, IsRuleBy, image, window_count-le, IsRuleBy-map}
 use Rattle.rule_algebra.specs.AlgebraFaults.{compose_fault}
 use Rattle.rule_algebra.specs.Tables.{composed}
 use Rattle.rule_algebra.proofs.laws.Compositions.{compose_fault-states, IsRule-composed_fault}

@@ -1,6 +1,5 @@
 use Rattle.std.proofs.Common.{ℕ, ◌+◌, ◌-◌, ◌/◌, ◌%◌, ◌^◌, slice_index, ap₂, ◌∙◌, arith, mod-lt}
-use Rattle.std.proofs.Math.Nat.{one-le-pow}
-use Rattle.word_image.proofs.laws.WindowParts.{some_letter}
+use Rattle.word_image.proofs.Common.{one-le-pow, some_letter}
 use Rattle.rule_algebra.proofs.laws.WindowValues.{fewer_values, get_or-image-word_of}
 use Rattle.rule_algebra.proofs.compositions.image_letter.Goals as goal
 

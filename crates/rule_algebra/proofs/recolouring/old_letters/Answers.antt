@@ -1,6 +1,5 @@
 use Rattle.std.proofs.Common.{◌≡◌, ℕ, ◌<◌, subst, arith}
-use Rattle.std.proofs.lemmas.List.{length-replicate}
-use Rattle.std.proofs.lemmas.List.Elements.{All-replicate}
+use Rattle.word_image.proofs.Common.{length-replicate, All-replicate}
 use Rattle.rule_algebra.specs.Tables.{AreOldLetters}
 use Rattle.rule_algebra.proofs.laws.Recolouring.{AreOldLetters-more}
 use Rattle.rule_algebra.proofs.recolouring.old_letters.Goals as goal

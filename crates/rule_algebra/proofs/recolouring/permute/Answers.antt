@@ -1,8 +1,6 @@
 use Rattle.std.proofs.Common.{◌≡◌, ℕ, ◌^◌, ◌<◌, ◌≤◌, List, length, slice_index, refl, sym, ap, ap₂, subst, ◌∙◌, ℤ, w8, to_z, of_z, arith, rules}
 use Rattle.std.proofs.iter.Serving.{serving}
-use Rattle.word_image.specs.LocalRules.{LocalRule, IsRule, value, word_of}
-use Rattle.word_image.specs.RulesBy.{IsRuleBy}
-use Rattle.word_image.proofs.laws.RulesBy.{IsRuleBy-map}
+use Rattle.word_image.proofs.Common.{LocalRule, IsRule, value, word_of, IsRuleBy, IsRuleBy-map}
 use Rattle.rule_algebra.specs.Algebra.{IsRecolouring, IsRecoloured, recoloured}
 use Rattle.rule_algebra.specs.Tables.{AreOldLetters}
 use Rattle.rule_algebra.proofs.laws.Recolouring.{new_colour, recoloured_rule, IsRule-recoloured, IsRecoloured-rule, RecoloursImages-recoloured}

@@ -1,12 +1,7 @@
 use Rattle.std.proofs.Common.{◌≡◌, ℕ, ◌^◌, ◌<◌, ◌≤◌, List, length, slice_index, sym, ap, ap₂, ◌∙◌, arith, rules}
 use Rattle.std.proofs.iter.Serving.{serving}
-use Rattle.std.proofs.lemmas.List.{length-map, get_or-map}
-use Rattle.word_image.specs.LocalRules.{LocalRule, IsRule, IsWord, value, word_of}
+use Rattle.word_image.proofs.Common.{length-map, get_or-map, LocalRule, IsRule, IsWord, value, word_of, length-word_of, IsWordBy-letters, window_count-le, some_letter}
 use Rattle.word_image.specs.WordsBy.{IsWordBy}
-use Rattle.word_image.proofs.laws.Values.{length-word_of}
-use Rattle.word_image.proofs.laws.WordsBy.{IsWordBy-letters}
-use Rattle.word_image.proofs.laws.RuleFaults.{window_count-le}
-use Rattle.word_image.proofs.laws.WindowParts.{some_letter}
 use Rattle.rule_algebra.specs.Algebra.{recoloured}
 use Rattle.rule_algebra.proofs.laws.Recolouring.{IsWord-recoloured}
 use Rattle.rule_algebra.proofs.recolouring.recoloured_value.Goals as goal

@@ -1,10 +1,9 @@
 use Rattle.std.proofs.Common.{◌≡◌, ℕ, List, ℤ, ◌+ℤ◌, None, sym, ap, ap₂, subst, ◌∙◌, w8, to_z, of_z}
-use Rattle.word_image.specs.LocalRules.{LocalRule, IsRule}
+use Rattle.word_image.proofs.Common.{LocalRule, IsRule, FitsSigned-offset}
 use Rattle.rule_algebra.specs.Algebra.{shifted}
 use Rattle.rule_algebra.specs.MadeImages.{ShiftsImages}
 use Rattle.rule_algebra.specs.AlgebraFaults.{offset_fault}
 use Rattle.rule_algebra.proofs.laws.Shifts.{ShiftsImages-shifted, IsRule-shifted}
-use Rattle.word_image.proofs.laws.RulesBy.{FitsSigned-offset}
 use Rattle.rule_algebra.proofs.RuleParts.{rule_of_parts, sum-in_w16}
 use Rattle.rule_algebra.proofs.shifts.shift.Goals as goal
 

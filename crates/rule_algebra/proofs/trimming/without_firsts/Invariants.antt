@@ -1,4 +1,4 @@
-use Rattle.word_image.specs.LocalRules.{IsRule}
+use Rattle.word_image.proofs.Common.{IsRule}
 use Rattle.rule_algebra.specs.Tables.{IsRest}
 use Rattle.rule_algebra.proofs.trimming.without_firsts.Given as goal
 

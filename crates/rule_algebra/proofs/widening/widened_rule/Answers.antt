@@ -1,11 +1,6 @@
 use Rattle.std.proofs.Common.{◌≡◌, ℕ, ◌+◌, ◌*◌, ◌-◌, ◌/◌, ◌^◌, ◌<◌, ◌≤◌, ℤ, slice_index, take, w8, to_z, of_z, refl, ap, ◌∙◌, arith, rules, pow-add}
-use Rattle.std.proofs.Math.Nat.{pow-le-pow_right, one-le-pow}
+use Rattle.word_image.proofs.Common.{pow-le-pow_right, one-le-pow, div_below, LocalRule, IsRule, IsShape, local_map, word_of, IsRuleBy, window_count-le, IsRuleBy-map}
 use Rattle.std.proofs.iter.Serving.{serving}
-use Rattle.std.proofs.lemmas.Nat.{div_below}
-use Rattle.word_image.specs.LocalRules.{LocalRule, IsRule, IsShape, local_map, word_of}
-use Rattle.word_image.specs.RulesBy.{IsRuleBy}
-use Rattle.word_image.proofs.laws.RuleFaults.{window_count-le}
-use Rattle.word_image.proofs.laws.RulesBy.{IsRuleBy-map}
 use Rattle.rule_algebra.specs.Tables.{widened}
 use Rattle.rule_algebra.proofs.laws.Widening.{IsRule-widened, widened-entry}
 use Rattle.rule_algebra.proofs.RuleParts.{power_of}

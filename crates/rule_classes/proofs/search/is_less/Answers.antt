@@ -1,5 +1,5 @@
 use Rattle.std.proofs.Common.{◌≡◌, ◌*◌, ap, ◌∙◌, subst, arith}
-use Rattle.word_image.proofs.laws.WindowParts.{windows-nodes}
+use Rattle.word_image.proofs.Common.{windows-nodes}
 use Rattle.rule_classes.specs.Colourings.{AgreeFrom}
 use Rattle.rule_classes.proofs.laws.Completions.{AgreeFrom-none, Completes-itself, one_number}
 use Rattle.rule_classes.proofs.search.is_less.Goals as goal

@@ -1,5 +1,5 @@
 use Rattle.std.proofs.Common.{inr, arith}
-use Rattle.word_image.proofs.laws.Graphs.{node_count_pos}
+use Rattle.word_image.proofs.Common.{node_count_pos}
 use Rattle.rule_classes.proofs.search.may_be_less.Goals as goal
 
 pub overflow_sub-nodes : goal.overflow_sub-nodes

@@ -1,7 +1,5 @@
 use Rattle.std.proofs.Common.{◌≡◌, ◌≤◌, ◌<◌, ◌^◌, ◌∙◌, ℕ, ap₂, arith}
-use Rattle.std.proofs.Math.Nat.{one-le-pow, pow-le-pow_right}
-use Rattle.word_image.proofs.laws.RuleFaults.{window_count-le}
-use Rattle.word_image.proofs.laws.WindowParts.{some_letter}
+use Rattle.word_image.proofs.Common.{one-le-pow, pow-le-pow_right, window_count-le, some_letter}
 use Rattle.rule_lists.proofs.classes.power.Goals as goal
 
 -- a power of the states, up to the number of windows

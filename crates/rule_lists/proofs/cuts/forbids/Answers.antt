@@ -1,5 +1,5 @@
 use Rattle.std.proofs.Common.{◌≡◌, ◌<◌, ◌-◌, ℕ, slice_index, sym, ◌∙◌, subst, ⊎_elim, arith}
-use Rattle.word_image.proofs.laws.RuleFaults.{window_count-le}
+use Rattle.word_image.proofs.Common.{window_count-le}
 use Rattle.rule_lists.proofs.cuts.forbids.Goals as goal
 
 pub returns-then-has_other : goal.returns-then-has_other

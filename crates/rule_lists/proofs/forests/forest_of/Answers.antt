@@ -1,6 +1,5 @@
 use Rattle.std.proofs.Common.{◌≡◌, ◌-ℤ◌, pos, slice_index, slice_index_or, ◌∙◌, sym, subst, arith}
-use Rattle.std.proofs.lemmas.Int.{ints}
-use Rattle.word_image.proofs.laws.RuleFaults.{window_count-le}
+use Rattle.word_image.proofs.Common.{ints, window_count-le}
 use Rattle.rule_lists.proofs.forests.forest_of.Goals as goal
 
 pub loop-window-init : goal.loop-window-init

@@ -1,5 +1,5 @@
 use Rattle.std.proofs.Common.{◌≡◌, ◌<◌, slice_index, ap, ◌∙◌, sym, subst, arith}
-use Rattle.word_image.proofs.laws.RuleFaults.{window_count-le}
+use Rattle.word_image.proofs.Common.{window_count-le}
 use Rattle.rule_lists.specs.Forests.{GainsWith}
 use Rattle.rule_lists.proofs.Flows.{GainsWith-flux}
 use Rattle.rule_lists.proofs.forests.with_letter.Goals as goal

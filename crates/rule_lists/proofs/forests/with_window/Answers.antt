@@ -1,5 +1,5 @@
 use Rattle.std.proofs.Common.{◌≡◌, ℕ, ◌+◌, ◌/◌, ◌%◌, ◌-ℤ◌, pos, slice_index, slice_index_or, refl, sym, ap, ap₂, ◌∙◌, arith}
-use Rattle.word_image.specs.LocalRules.{node_count}
+use Rattle.word_image.proofs.Common.{node_count}
 use Rattle.rule_lists.proofs.Flows.{AreLevels-joined, AreUpTo-joined}
 use Rattle.rule_lists.proofs.forests.with_window.Goals as goal
 

@@ -1,6 +1,5 @@
 use Rattle.std.proofs.Common.{slice_index, ap, ◌∙◌, subst, ◌↔◌, IsTrue}
-use Rattle.word_image.specs.Rings.{IsConserving}
-use Rattle.word_image.specs.Weights.{own_weights}
+use Rattle.word_image.proofs.Common.{IsConserving, own_weights}
 use Rattle.ring_laws.proofs.SameWeights.{IsConserving-own}
 use Rattle.rule_lists.proofs.properties.keeps_sums.Goals as goal
 

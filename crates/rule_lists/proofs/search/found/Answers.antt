@@ -1,5 +1,5 @@
 use Rattle.std.proofs.Common.{◌≡◌, ◌<◌, ◌^◌, ℕ, slice_index, sym, ◌∙◌, arith}
-use Rattle.std.proofs.lemmas.Bool.{false≢true}
+use Rattle.word_image.proofs.Common.{false≢true}
 use Rattle.rule_lists.proofs.laws.Going.{Forbids-rejected, Forbids-other, HasLetters-same}
 use Rattle.rule_lists.proofs.laws.Filled.{of_shape, letters_of_shape}
 use Rattle.rule_lists.proofs.search.found.Goals as goal

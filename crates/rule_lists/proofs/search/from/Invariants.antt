@@ -1,5 +1,5 @@
 use Rattle.std.proofs.Common.{◌≤◌, ◌^◌, ◌↔◌, IfSome}
-use Rattle.word_image.specs.LocalRules.{LocalRule}
+use Rattle.word_image.proofs.Common.{LocalRule}
 use Rattle.rule_lists.specs.Tables.{IsTable, IsPast}
 use Rattle.rule_lists.specs.Listed.{IsListed}
 use Rattle.rule_lists.proofs.laws.Going.{to_come}

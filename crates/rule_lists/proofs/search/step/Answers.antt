@@ -1,6 +1,6 @@
 use Rattle.std.proofs.Common.{◌≡◌, ◌+◌, set, Some, slice_index, sym, ap, ◌∙◌, subst, arith}
 use Rattle.rule_lists.specs.Listed.{IsOn}
-use Rattle.word_image.proofs.laws.RuleFaults.{window_count-le}
+use Rattle.word_image.proofs.Common.{window_count-le}
 use Rattle.rule_lists.proofs.laws.Going.{IsOn-letter, IsOn-advance}
 use Rattle.rule_lists.proofs.search.step.Goals as goal
 

@@ -1,5 +1,5 @@
 use Rattle.std.proofs.Common.{◌≡◌, ◌≢◌, ◌+◌, slice_index, refl, ap, ◌∙◌, arith}
-use Rattle.std.proofs.lemmas.Bool.Decides.{nat_tests}
+use Rattle.word_image.proofs.Common.{nat_tests}
 use Rattle.rule_lists.proofs.Flows.{Bars-level}
 use Rattle.rule_lists.proofs.sums.has_no_letter.Goals as goal
 

@@ -1,4 +1,4 @@
-use Rattle.std.specs.Prelude.{Contains}
+use Rattle.std.proofs.Common.{Contains}
 use Rattle.rule_lists.proofs.Barred.{BarsClosing-endless}
 use Rattle.rule_lists.proofs.theorems.fixed_endless_first_pair_forbids_closing.Goals as goal
 

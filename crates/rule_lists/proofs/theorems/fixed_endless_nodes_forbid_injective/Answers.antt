@@ -1,4 +1,4 @@
-use Rattle.std.specs.Prelude.{Contains}
+use Rattle.std.proofs.Common.{Contains}
 use Rattle.rule_lists.proofs.NoInjective.{IsInjective-none_fixed}
 use Rattle.rule_lists.proofs.theorems.fixed_endless_nodes_forbid_injective.Goals as goal
 

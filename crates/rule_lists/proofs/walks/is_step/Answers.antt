@@ -1,10 +1,6 @@
 use Rattle.std.proofs.Common.{◌≡◌, ◌<◌, ◌%◌, ℕ, slice_index, sym, ap, ap₂, ◌∙◌, subst, arith}
-use Rattle.std.proofs.lemmas.Nat.{mod_below}
-use Rattle.word_image.proofs.laws.WindowParts.{some_letter}
+use Rattle.word_image.proofs.Common.{mod_below, some_letter, LocalRule, node_count, window_with, next, pair_of, first_of, second_of}
 use Rattle.std.proofs.lemmas.Bool.{eqb-true}
-use Rattle.word_image.specs.LocalRules.{LocalRule, node_count}
-use Rattle.word_image.specs.Ends.{window_with}
-use Rattle.word_image.specs.Graphs.{next, pair_of, first_of, second_of}
 use Rattle.word_image.specs.declared.side.Side.TheVariants.{Right}
 use Rattle.rule_lists.proofs.walks.is_step.Goals as goal
 

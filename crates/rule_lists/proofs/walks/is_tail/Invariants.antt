@@ -1,5 +1,5 @@
 use Rattle.std.proofs.Common.{◌<◌}
-use Rattle.word_image.specs.Graphs.{pair_count}
+use Rattle.word_image.proofs.Common.{pair_count}
 use Rattle.rule_lists.specs.FixedWalks.{IsFixedWalk}
 use Rattle.rule_lists.proofs.walks.is_tail.Given as goal
 

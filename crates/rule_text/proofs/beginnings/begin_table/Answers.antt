@@ -1,9 +1,6 @@
 use Rattle.std.proofs.Common.{◌≡◌, ℕ, ◌^◌, List, Some, take, map, length, sym, ap, ap₂, ◌∙◌, arith, rules, FitsSigned, w8, to_z, of_z, ℤ, option_map}
 use Rattle.std.proofs.lemmas.Int.{to_z-of_z}
-use Rattle.std.proofs.lemmas.List.{length-map}
-use Rattle.word_image.specs.Digits.{letter_at}
-use Rattle.word_image.specs.RuleFaults.{shape_fault, table_fault, rule_fault}
-use Rattle.word_image.proofs.laws.RuleFaults.{window_count-le}
+use Rattle.word_image.proofs.Common.{length-map, letter_at, shape_fault, table_fault, rule_fault, window_count-le}
 use Rattle.rule_text.specs.RuleTexts.{in_text}
 use Rattle.rule_text.specs.Beginnings.{filled}
 use Rattle.rule_text.proofs.laws.Beginnings.{fault_in_text, take-filled}

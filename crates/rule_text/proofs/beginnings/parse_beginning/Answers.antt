@@ -1,6 +1,5 @@
 use Rattle.std.proofs.Common.{ℕ, ◌+◌, ◌-◌, List, take, drop, length, subst, Result, rules, IfOk, IfErr}
-use Rattle.std.proofs.lemmas.List.{take_rest}
-use Rattle.word_image.specs.Grammars.{IsFormFault}
+use Rattle.word_image.proofs.Common.{take_rest, IsFormFault}
 use Rattle.rule_text.specs.declared.head.Head.{Head}
 use Rattle.rule_text.specs.declared.text_fault.TextFault.{TextFault}
 use Rattle.rule_text.specs.declared.text_fault.TextFault.TheVariants as fault

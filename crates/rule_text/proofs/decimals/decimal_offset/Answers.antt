@@ -1,6 +1,6 @@
 use Rattle.std.proofs.Common.{◌≡◌, ℕ, Bool, ◌-◌, List, take, drop, length, Some, sym, ap, subst, ◌∙◌, w8, FitsSigned, rules, ℤ}
 use Rattle.std.proofs.lemmas.Int.{to_z-of_z}
-use Rattle.std.proofs.lemmas.List.{take_rest}
+use Rattle.word_image.proofs.Common.{take_rest}
 use Rattle.rule_text.specs.RuleTexts.{IsDecimal, IsOffset, decimal_value}
 use Rattle.rule_text.specs.Heads.{signed}
 use Rattle.rule_text.proofs.laws.Heads.{IsOffset-at, IsOffset-only}

@@ -1,5 +1,5 @@
 use Rattle.std.proofs.Common.{◌≢◌, length, arith, rules, subst, List, All, take_all}
-use Rattle.std.proofs.lemmas.List.Elements.{All-more}
+use Rattle.word_image.proofs.Common.{All-more}
 use Rattle.rule_text.specs.RuleTexts.{IsDigit}
 use Rattle.rule_text.specs.Heads.{IsDecimalStop}
 use Rattle.rule_text.proofs.laws.Leads.{IsFormFault-decimal}

@@ -1,5 +1,5 @@
 use Rattle.std.proofs.Common.{take, All}
-use Rattle.word_image.specs.Digits.{IsHexDigit}
+use Rattle.word_image.proofs.Common.{IsHexDigit}
 use Rattle.rule_text.proofs.digits.hex_stop.Given as goal
 
 -- the bytes so far are hexadecimal digits

@@ -1,5 +1,5 @@
 use Rattle.std.proofs.Common.{◌≡◌, take, map}
-use Rattle.word_image.specs.Digits.{letter_at}
+use Rattle.word_image.proofs.Common.{letter_at}
 use Rattle.rule_text.proofs.digits.write_letters.Given as goal
 
 -- the letters so far

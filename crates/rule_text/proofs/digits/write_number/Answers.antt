@@ -1,7 +1,5 @@
 use Rattle.std.proofs.Common.{ℕ, ◌/◌, ◌%◌, ◌<◌, List, [], ◌∷◌, ◌++◌, sym, ap, ap₂, length, ◌≡◌, ◌^◌, eq-eqb, ◌∙◌, arith}
-use Rattle.std.proofs.lemmas.List.{take_more_set}
-use Rattle.std.proofs.lemmas.Bool.Decides.{nat_tests}
-use Rattle.std.proofs.Math.Nat.{one-le-pow}
+use Rattle.word_image.proofs.Common.{take_more_set, nat_tests, one-le-pow}
 use Rattle.rule_text.proofs.laws.Numbers.{div-is_zero}
 use Rattle.rule_text.proofs.laws.Letters.{reverse-word_of-more, div-pow-more}
 use Rattle.rule_text.proofs.digits.write_number.Goals as goal

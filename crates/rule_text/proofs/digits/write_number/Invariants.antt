@@ -1,5 +1,5 @@
 use Rattle.std.proofs.Common.{◌≡◌, ◌/◌, ◌%◌, ◌^◌, take, reverse}
-use Rattle.word_image.specs.LocalRules.{word_of}
+use Rattle.word_image.proofs.Common.{word_of}
 use Rattle.rule_text.proofs.digits.write_number.Given as goal
 
 -- the letters so far, and what is left of the number

@@ -1,6 +1,6 @@
 use Rattle.std.proofs.Common.{ℕ, zero-add, subst, sym, arith, rules, FitsSigned, w8, to_z, of_z}
 use Rattle.std.proofs.lemmas.Int.{to_z-of_z}
-use Rattle.word_image.specs.Grammars.{IsFormFault}
+use Rattle.word_image.proofs.Common.{IsFormFault}
 use Rattle.rule_text.specs.RuleTexts.{IsSaid, IsTextFault, Bare}
 use Rattle.rule_text.specs.Heads.{IsRuleFormAt, LacksField}
 use Rattle.rule_text.proofs.laws.Parts.{Signed, Kinds, AfterWidth-more, Kinds-more}

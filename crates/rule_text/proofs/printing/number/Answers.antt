@@ -1,5 +1,5 @@
 use Rattle.std.proofs.Common.{◌≡◌, ℕ, ◌+◌, ◌-◌, ◌*◌, ◌^◌, ◌<◌, ◌≤◌, drop, reverse, get_or, refl, sym, ap, ap₂, ◌∙◌, arith}
-use Rattle.word_image.specs.LocalRules.{LocalRule, IsRule, value}
+use Rattle.word_image.proofs.Common.{LocalRule, IsRule, value}
 use Rattle.rule_text.proofs.laws.Numbers.{value-reverse_drop, value-reverse_drop-below, wolfram_number-value}
 use Rattle.rule_text.proofs.printing.number.Goals as goal
 

@@ -1,5 +1,5 @@
 use Rattle.std.proofs.Common.{◌≡◌, drop, reverse}
-use Rattle.word_image.specs.LocalRules.{value}
+use Rattle.word_image.proofs.Common.{value}
 use Rattle.rule_text.proofs.printing.number.Given as goal
 
 -- the number whose digits are the letters from here on, the last one the most significant

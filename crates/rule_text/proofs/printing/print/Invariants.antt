@@ -1,5 +1,5 @@
 use Rattle.std.proofs.Common.{◌≡◌, ◌++◌, map, take, codes, decimal}
-use Rattle.word_image.specs.Digits.{lower_digit}
+use Rattle.word_image.proofs.Common.{lower_digit}
 use Rattle.rule_text.specs.PrintedRules.{head, offset_text}
 use Rattle.rule_text.proofs.printing.print.Given as goal
 

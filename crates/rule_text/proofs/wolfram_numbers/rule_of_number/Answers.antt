@@ -1,8 +1,6 @@
 use Rattle.std.proofs.Common.{◌≡◌, ◌^◌, ◌<◌, refl, sym, subst, to_z, of_z, w8, rules}
 use Rattle.std.proofs.lemmas.Int.{to_z-of_z}
-use Rattle.std.proofs.lemmas.Bool.{false≢true}
-use Rattle.word_image.specs.LocalRules.{IsRule}
-use Rattle.word_image.proofs.laws.RuleFaults.{window_count-le, part_long}
+use Rattle.word_image.proofs.Common.{false≢true, IsRule, window_count-le, part_long}
 use Rattle.rule_text.proofs.laws.Numbers.{IsRule-number}
 use Rattle.rule_text.proofs.wolfram_numbers.rule_of_number.Goals as goal
 

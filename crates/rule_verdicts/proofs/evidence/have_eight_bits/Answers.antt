@@ -1,5 +1,5 @@
 use Rattle.std.proofs.Common.{◌≤◌, arith}
-use Rattle.std.proofs.lemmas.List.Elements.{All-from_get_or}
+use Rattle.word_image.proofs.Common.{All-from_get_or}
 use Rattle.rule_verdicts.proofs.evidence.have_eight_bits.Goals as goal
 
 pub returns : goal.returns

@@ -1,7 +1,5 @@
 use Rattle.std.proofs.Common.{◌≡◌, ◌+◌, ◌*◌, ◌<◌, ◌≤◌, length, get_or, set, sum, refl, ◌∙◌, arith, length-set}
-use Rattle.std.proofs.Math.Nat.{pow-zero}
-use Rattle.std.proofs.lemmas.List.Elements.{All-set}
-use Rattle.std.proofs.lemmas.List.Sums.{sum_by-set, sum_by-le}
+use Rattle.word_image.proofs.Common.{pow-zero, All-set, sum_by-set, sum_by-le}
 use Rattle.rule_verdicts.proofs.laws.Tables.{value-set_more, value-set_carry}
 use Rattle.rule_verdicts.proofs.numbers.next_table.Goals as goal
 

@@ -1,5 +1,5 @@
 use Rattle.std.proofs.Common.{◌≡◌, ◌+◌, ◌^◌, length, reverse, sum}
-use Rattle.word_image.specs.LocalRules.{IsWord, value}
+use Rattle.word_image.proofs.Common.{IsWord, value}
 use Rattle.rule_verdicts.proofs.numbers.next_table.Given as goal
 
 -- a step at the place is still to be carried

@@ -1,5 +1,5 @@
 use Rattle.std.proofs.Common.{◌≡◌, ◌+◌, ◌*◌, length, sym, ◌∙◌, subst}
-use Rattle.std.proofs.lemmas.Bool.{false≢true}
+use Rattle.word_image.proofs.Common.{false≢true}
 use Rattle.table_laws.specs.Tables.{HasMean}
 use Rattle.ring_laws.proofs.SameWeights.{IsConserving-own}
 use Rattle.table_laws.proofs.MeanTables.{HasMean-conserving}

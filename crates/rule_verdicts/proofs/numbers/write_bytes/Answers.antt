@@ -1,7 +1,5 @@
 use Rattle.std.proofs.Common.{◌≡◌, ℕ, ◌+◌, ◌^◌, ◌<◌, List, length, reverse, slice_index, set, refl, sym, ap, ◌∙◌, subst, ⊎_elim, arith, get_or-set_other}
-use Rattle.std.proofs.lemmas.Bool.{cases_eq}
-use Rattle.std.proofs.lemmas.Grind.{get_or-set_at}
-use Rattle.word_image.specs.LocalRules.{LocalRule, IsRule, value}
+use Rattle.word_image.proofs.Common.{cases_eq, get_or-set_at, LocalRule, IsRule, value}
 use Rattle.rule_verdicts.specs.Truths.{table_rule}
 use Rattle.rule_verdicts.specs.Numbers.{numbered_rule, IsVerdictByte}
 use Rattle.rule_verdicts.proofs.laws.Tables.{numbered_rule-table}

@@ -1,5 +1,5 @@
 use Rattle.std.proofs.Common.{◌≡◌, ℕ, ◌+◌, ◌^◌, ◌<◌, length, reverse, slice_index, sum}
-use Rattle.word_image.specs.LocalRules.{IsWord, value}
+use Rattle.word_image.proofs.Common.{IsWord, value}
 use Rattle.rule_verdicts.specs.Numbers.{numbered_rule, IsVerdictByte}
 use Rattle.rule_verdicts.proofs.numbers.write_bytes.Given as goal
 

@@ -1,8 +1,5 @@
 use Rattle.std.proofs.Common.{◌≡◌, ◌∙◌, sym, subst}
-use Rattle.word_image.specs.LocalRules.{LocalRule}
-use Rattle.word_image.specs.Words.{IsSurjective}
-use Rattle.word_image.specs.Families.{IsCoverList}
-use Rattle.word_image.proofs.laws.LastSets.{IsOrphan-not_surjective}
+use Rattle.word_image.proofs.Common.{LocalRule, IsSurjective, IsCoverList, IsOrphan-not_surjective}
 use Rattle.orphan_search.specs.declared.search.Outcome.{Outcome}
 use Rattle.orphan_search.specs.declared.search.Outcome.TheVariants.{Closed, Orphan}
 use Rattle.orphan_search.specs.Verdicts.{Found, IsVerdict}

@@ -1,7 +1,5 @@
 use Rattle.std.proofs.Common.{◌≡◌, sym, ◌∙◌, subst}
-use Rattle.std.proofs.lemmas.Bool.{false≢true}
-use Rattle.word_image.specs.LocalRules.{LocalRule}
-use Rattle.word_image.specs.Words.{IsSurjective, IsLeastOrphan}
+use Rattle.word_image.proofs.Common.{false≢true, LocalRule, IsSurjective, IsLeastOrphan}
 use Rattle.orphan_search.specs.declared.search.Outcome.{Outcome}
 use Rattle.orphan_search.specs.declared.search.Outcome.TheVariants.{Closed, Orphan}
 use Rattle.orphan_search.specs.Verdicts.{Found, IsVerdict}

@@ -1,9 +1,7 @@
 use Rattle.std.proofs.Common.{◌≡◌, ◌∙◌, Bool, refl, sym, subst, ◌↔◌, IsTrue}
-use Rattle.std.proofs.lemmas.Bool.{false≢true}
-use Rattle.word_image.specs.LocalRules.{LocalRule}
-use Rattle.word_image.specs.Words.{IsSurjective}
-use Rattle.tail_config.specs.Tails.{IsInjective, IsRightClosing, IsLeftClosing}
-use Rattle.cert_conditions.proofs.laws.Soundness.{both_true}
+use Rattle.word_image.proofs.Common.{false≢true, LocalRule, IsSurjective}
+use Rattle.tail_config.proofs.Common.{IsInjective, IsRightClosing, IsLeftClosing}
+use Rattle.cert_conditions.proofs.Common.{both_true}
 use Rattle.rule_verdicts.proofs.truths.decided.Goals as goal
 
 -- a verdict on a rule is one on an equal rule

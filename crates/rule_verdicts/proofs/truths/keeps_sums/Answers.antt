@@ -1,7 +1,5 @@
 use Rattle.std.proofs.Common.{length, slice_index, sym, ap, ◌∙◌, subst, arith, ◌↔◌, IsTrue, false}
-use Rattle.std.proofs.lemmas.Bool.{false≢true}
-use Rattle.word_image.specs.Rings.{IsConserving}
-use Rattle.word_image.specs.Weights.{own_weights}
+use Rattle.word_image.proofs.Common.{false≢true, IsConserving, own_weights}
 use Rattle.ring_laws.proofs.SameWeights.{IsConserving-own}
 use Rattle.rule_verdicts.proofs.laws.Means.{some_letters}
 use Rattle.rule_verdicts.proofs.truths.keeps_sums.Goals as goal

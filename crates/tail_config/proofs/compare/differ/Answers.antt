@@ -1,6 +1,5 @@
 use Rattle.std.proofs.Common.{◌≡◌, ℕ, suc, unsigned_abs, ◌+◌, ◌<◌, ◌≤◌, ℤ, pos, negsuc, subst, sym, ⊎_elim, arith}
-use Rattle.std.proofs.lemmas.Bool.{cases_lt}
-use Rattle.std.proofs.lemmas.Int.{ints}
+use Rattle.word_image.proofs.Common.{cases_lt, ints}
 use Rattle.tail_config.specs.Tails.{TailConfig, cell}
 use Rattle.tail_config.specs.Differences.{IsNearestDifference, IsFirstDifference, left_cells, right_cells}
 use Rattle.tail_config.proofs.compare.differ.Goals as goal

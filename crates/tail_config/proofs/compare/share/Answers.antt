@@ -1,6 +1,5 @@
 use Rattle.std.proofs.Common.{◌≡◌, ℕ, ◌<◌, ◌↔◌, Bool, IsTrue, ℤ, pos, ◌+ℤ◌, ◌≤ℤ◌, length, ap, arith}
-use Rattle.std.proofs.lemmas.Int.{ints}
-use Rattle.word_image.specs.LocalRules.{LocalRule}
+use Rattle.word_image.proofs.Common.{ints, LocalRule}
 use Rattle.tail_config.specs.Tails.{TailConfig, IsTail, ShareImage, image_cell}
 use Rattle.tail_config.proofs.laws.Spans.{windows_start, windows_end, ShareImage-from_run}
 use Rattle.tail_config.proofs.compare.share.Goals as goal

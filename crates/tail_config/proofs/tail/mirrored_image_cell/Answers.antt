@@ -1,5 +1,5 @@
 use Rattle.std.proofs.Common.{length, pos, ◌-ℤ◌, arith}
-use Rattle.std.proofs.lemmas.Int.{ints}
+use Rattle.word_image.proofs.Common.{ints}
 use Rattle.tail_config.proofs.laws.Cells.{cell-below}
 use Rattle.tail_config.proofs.laws.Mirror.{cell-mirror, image_of-backwards}
 use Rattle.tail_config.proofs.tail.mirrored_image_cell.Goals as goal

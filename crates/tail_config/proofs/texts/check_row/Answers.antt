@@ -1,7 +1,5 @@
 use Rattle.std.proofs.Common.{◌≡◌, ℕ, ◌+◌, Bool, cond, not, List, [], ◌∷◌, map, refl, ap, sym, ◌∙◌, nat_le, position, option_map}
-use Rattle.std.specs.List.{prefix_len}
-use Rattle.std.proofs.lemmas.List.{length-map}
-use Rattle.word_image.specs.Digits.{letter_at}
+use Rattle.word_image.proofs.Common.{prefix_len, length-map, letter_at}
 use Rattle.tail_config.specs.declared.faults.TailFault.TheVariants as fault
 use Rattle.tail_config.proofs.texts.check_row.Goals as goal
 

@@ -1,5 +1,5 @@
 use Rattle.std.proofs.Common.{ℕ, ◌<◌, ◌≤◌, get_or}
-use Rattle.word_image.specs.Digits.{IsHexDigit}
+use Rattle.word_image.proofs.Common.{IsHexDigit}
 use Rattle.tail_config.proofs.texts.digits_end.Given as goal
 
 -- the bytes from the start on have been digits

@@ -1,5 +1,5 @@
 use Rattle.std.proofs.Common.{refl}
-use Rattle.std.proofs.lemmas.Bool.{false≢true}
+use Rattle.word_image.proofs.Common.{false≢true}
 use Rattle.tail_config.proofs.laws.TailTexts.{HasParts-cut}
 use Rattle.tail_config.proofs.texts.has_form.Goals as goal
 

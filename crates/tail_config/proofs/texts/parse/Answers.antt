@@ -1,7 +1,5 @@
 use Rattle.std.proofs.Common.{◌≡◌, ℕ, List, Err, IfOk, IfErr, alloc_error, sym, inl, inr, subst, rules}
-use Rattle.std.proofs.lemmas.Result.{err_from_is_err_and}
-use Rattle.word_image.specs.Grammars.{IsFormFault}
-use Rattle.word_image.proofs.laws.Results.{handed_on}
+use Rattle.word_image.proofs.Common.{err_from_is_err_and, IsFormFault, handed_on}
 use Rattle.tail_config.specs.TailFaults.{HasForm}
 use Rattle.tail_config.specs.TailTextFaults.{IsTailTextFault, NoForm, Refused, IsFormAt, letters_of}
 use Rattle.tail_config.specs.declared.texts.TailTextFault.{TailTextFault}

@@ -1,6 +1,5 @@
 use Rattle.std.proofs.Common.{refl}
-use Rattle.word_image.specs.Digits.{word_text}
-use Rattle.word_image.proofs.laws.Words.{IsWord-le}
+use Rattle.word_image.proofs.Common.{word_text, IsWord-le}
 use Rattle.tail_config.proofs.laws.TailTexts.{Spells-word_text}
 use Rattle.tail_config.proofs.texts.printed_text_is_read.Goals as goal
 

@@ -1,5 +1,5 @@
 use Rattle.std.proofs.Common.{refl}
-use Rattle.word_image.proofs.laws.Results.{handed_on}
+use Rattle.word_image.proofs.Common.{handed_on}
 use Rattle.tail_config.proofs.laws.TailTexts.{IsFormFault-left, IsFormFault-middle, IsFormFault-right, IsCut-right}
 use Rattle.tail_config.proofs.texts.split.Goals as goal
 

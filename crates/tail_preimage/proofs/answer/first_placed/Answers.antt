@@ -1,12 +1,8 @@
 use Rattle.std.proofs.Common.{ℕ, ◌<◌, ◌≤◌, List, ◌∙◌, rules, IsBitSet, w64}
 use Rattle.std.proofs.lemmas.Int.{to_z-of_z}
-use Rattle.std.specs.List.{repeat}
-use Rattle.word_image.specs.LocalRules.{LocalRule, node_count}
-use Rattle.word_image.specs.Graphs.{IsNodeSet, HasBit}
-use Rattle.word_image.proofs.laws.Bits.{IsBitSet-zero}
-use Rattle.word_image.proofs.laws.Unions.{IsSetOf-same}
-use Rattle.pair_laws.proofs.Sets.{IsBitSet-below}
-use Rattle.tail_config.specs.Tails.{TailConfig, IsTail}
+use Rattle.word_image.proofs.Common.{repeat, LocalRule, node_count, IsNodeSet, HasBit, IsBitSet-zero, IsSetOf-same}
+use Rattle.pair_laws.proofs.Common.{IsBitSet-below}
+use Rattle.tail_config.proofs.Common.{TailConfig, IsTail}
 use Rattle.tail_preimage.specs.Walks.{HasWalk}
 use Rattle.tail_preimage.specs.Preimages.{Shape}
 use Rattle.tail_preimage.specs.Relations.{Steps, IsFirst}

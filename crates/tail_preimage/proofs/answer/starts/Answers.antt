@@ -1,9 +1,7 @@
 use Rattle.std.proofs.Common.{arith}
-use Rattle.word_image.specs.LocalRules.{node_count}
-use Rattle.word_image.proofs.laws.Unions.{IsSetOf-same}
-use Rattle.pair_laws.proofs.Sets.{IsBitSet-below}
+use Rattle.word_image.proofs.Common.{node_count, IsSetOf-same}
+use Rattle.pair_laws.proofs.Common.{IsBitSet-below, IsSetOf-both}
 use Rattle.tail_preimage.proofs.laws.Parts.{ArePeriods-row}
-use Rattle.pair_laws.proofs.Sets.{IsSetOf-both}
 use Rattle.tail_preimage.proofs.answer.starts.Goals as goal
 
 pub returns : goal.returns

@@ -1,5 +1,5 @@
 use Rattle.tail_preimage.specs.Relations.{Open}
-use Rattle.word_image.specs.Graphs.{HasBit}
+use Rattle.word_image.proofs.Common.{HasBit}
 use Rattle.tail_preimage.proofs.laws.Shapes.{Through-before, Through-behind}
 use Rattle.tail_preimage.proofs.gaps.first_gap.Goals as goal
 

@@ -1,6 +1,6 @@
 use Rattle.std.proofs.Common.{◌-◌, arith, below_more}
 use Rattle.tail_preimage.specs.Relations.{Rounds, Meets}
-use Rattle.word_image.specs.Graphs.{HasBit}
+use Rattle.word_image.proofs.Common.{HasBit}
 use Rattle.tail_preimage.proofs.Meets.{IsSetOf-meets}
 use Rattle.tail_preimage.proofs.periods.least_first.Goals as goal
 

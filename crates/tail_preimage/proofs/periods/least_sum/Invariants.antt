@@ -1,6 +1,6 @@
 use Rattle.std.proofs.Common.{ℕ, ◌<◌}
 use Rattle.tail_preimage.specs.Relations.{SomeRounds, Meets}
-use Rattle.word_image.specs.Graphs.{HasBit}
+use Rattle.word_image.proofs.Common.{HasBit}
 use Rattle.tail_preimage.proofs.periods.least_sum.Given as goal
 
 -- no lesser number does

@@ -1,4 +1,4 @@
-use Rattle.word_image.proofs.laws.Unions.{IsSetOf-same}
+use Rattle.word_image.proofs.Common.{IsSetOf-same}
 use Rattle.tail_preimage.proofs.laws.Parts.{ArePeriods-row}
 use Rattle.tail_preimage.proofs.periods.loops.Goals as goal
 

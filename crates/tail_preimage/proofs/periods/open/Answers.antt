@@ -1,5 +1,4 @@
-use Rattle.word_image.proofs.laws.LastSets.{IsBitSet-full}
-use Rattle.word_image.proofs.laws.Unions.{IsSetOf-same}
+use Rattle.word_image.proofs.Common.{IsBitSet-full, IsSetOf-same}
 use Rattle.tail_preimage.proofs.laws.Parts.{ArePeriods-end, ArePeriods-row}
 use Rattle.tail_preimage.proofs.periods.open.Goals as goal
 

@@ -1,6 +1,5 @@
-use Rattle.word_image.specs.LocalRules.{node_count}
-use Rattle.word_image.proofs.laws.Unions.{IsSetOf-same}
-use Rattle.pair_laws.proofs.Sets.{IsBitSet-below}
+use Rattle.word_image.proofs.Common.{node_count, IsSetOf-same}
+use Rattle.pair_laws.proofs.Common.{IsBitSet-below}
 use Rattle.tail_preimage.proofs.laws.Parts.{ArePeriods-end, ArePeriods-row}
 use Rattle.tail_preimage.proofs.periods.rounds.Goals as goal
 

@@ -1,7 +1,6 @@
 use Rattle.std.proofs.Common.{◌≡◌, ◌-◌, subst, arith}
-use Rattle.word_image.proofs.laws.Unions.{IsSetOf-same, IsUnion-take}
+use Rattle.word_image.proofs.Common.{IsSetOf-same, IsUnion-take, HasBit}
 use Rattle.tail_preimage.specs.Relations.{Rounds}
-use Rattle.word_image.specs.Graphs.{HasBit}
 use Rattle.tail_preimage.proofs.periods.some_rounds.Goals as goal
 
 pub loop-n-preserved : goal.loop-n-preserved

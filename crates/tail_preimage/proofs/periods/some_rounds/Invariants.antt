@@ -1,8 +1,6 @@
 use Rattle.std.proofs.Common.{◌-◌}
-use Rattle.word_image.specs.LocalRules.{node_count}
-use Rattle.word_image.proofs.laws.Unions.{IsUnion}
+use Rattle.word_image.proofs.Common.{node_count, IsUnion, HasBit}
 use Rattle.tail_preimage.specs.Relations.{Rounds}
-use Rattle.word_image.specs.Graphs.{HasBit}
 use Rattle.tail_preimage.proofs.periods.some_rounds.Given as goal
 
 -- the first numbers are done

@@ -1,6 +1,5 @@
 use Rattle.std.proofs.Common.{◌≡◌, ◌≢◌, ℕ, subst, arith, slice_index, bit_and}
-use Rattle.std.proofs.lemmas.Nat.{one_shl}
-use Rattle.word_image.proofs.laws.Unions.{IsSetOf-same, IsSetTo-take, IsSetTo-skip, IsSetTo-all}
+use Rattle.word_image.proofs.Common.{one_shl, IsSetOf-same, IsSetTo-take, IsSetTo-skip, IsSetTo-all}
 use Rattle.tail_preimage.proofs.Meets.{sets_meet}
 use Rattle.tail_preimage.proofs.relations.before.Goals as goal
 use Rattle.tail_preimage.proofs.relations.before.Goals.{then-rows-from-ne0, else-rows-from-ne0}

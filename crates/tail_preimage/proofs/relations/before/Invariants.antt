@@ -1,6 +1,5 @@
 use Rattle.std.proofs.Common.{◌≢◌, bit_and, slice_index}
-use Rattle.word_image.specs.LocalRules.{node_count}
-use Rattle.word_image.proofs.laws.Unions.{IsSetTo}
+use Rattle.word_image.proofs.Common.{node_count, IsSetTo}
 use Rattle.tail_preimage.proofs.relations.before.Given as goal
 
 -- the first nodes are done

@@ -1,7 +1,5 @@
 use Rattle.std.proofs.Common.{◌≡◌, ◌<◌, refl, sym, arith}
-use Rattle.std.proofs.Math.Pow.{pow-lt}
-use Rattle.std.proofs.lemmas.Nat.{one_shl}
-use Rattle.word_image.proofs.laws.Bits.{IsBitSet-pow}
+use Rattle.word_image.proofs.Common.{pow-lt, one_shl, IsBitSet-pow}
 use Rattle.tail_preimage.proofs.Rows.{AreRowsFilled-none, AreRowsFilled-more, AreRowsFilled-all}
 use Rattle.tail_preimage.proofs.relations.identity.Goals as goal
 

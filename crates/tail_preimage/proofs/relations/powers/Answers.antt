@@ -1,8 +1,7 @@
 use Rattle.std.proofs.Common.{◌≡◌, suc, ◌+◌, [], refl, ◌∙◌, subst, arith, length-set}
-use Rattle.pair_laws.proofs.Sets.{IsBitSet-below}
-use Rattle.word_image.specs.LocalRules.{node_count}
+use Rattle.pair_laws.proofs.Common.{IsBitSet-below}
+use Rattle.word_image.proofs.Common.{node_count, HasBit}
 use Rattle.tail_preimage.specs.Relations.{IsRelation, Steps}
-use Rattle.word_image.specs.Graphs.{HasBit}
 use Rattle.tail_preimage.proofs.laws.Steps.{Steps-none, Steps-stay, Steps-cons, Steps-first}
 use Rattle.tail_preimage.proofs.Rows.{row_more, IsRelation-same}
 use Rattle.tail_preimage.proofs.relations.powers.Goals as goal

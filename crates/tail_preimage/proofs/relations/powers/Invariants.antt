@@ -1,6 +1,6 @@
 use Rattle.std.proofs.Common.{◌≡◌, ℕ, ◌≤◌, [], length, get_or}
 use Rattle.tail_preimage.specs.Relations.{IsRelation, Steps}
-use Rattle.word_image.specs.Graphs.{HasBit}
+use Rattle.word_image.proofs.Common.{HasBit}
 use Rattle.tail_preimage.proofs.relations.powers.Given as goal
 
 -- the first relations are made

@@ -1,5 +1,5 @@
 use Rattle.std.proofs.Common.{◌-◌, [], length, drop, slice_index, subst, arith}
-use Rattle.std.proofs.lemmas.List.{drop_all}
+use Rattle.word_image.proofs.Common.{drop_all}
 use Rattle.tail_preimage.specs.Walks.{HasWalk}
 use Rattle.tail_preimage.proofs.laws.Walks.{IsWalk-none, IsWalk-stays, HasWalk-cons}
 use Rattle.tail_preimage.proofs.laws.Stretches.{drop-more}

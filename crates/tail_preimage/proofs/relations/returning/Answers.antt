@@ -1,7 +1,5 @@
 use Rattle.std.proofs.Common.{◌≡◌, ◌↔◌, ℕ, ◌/◌, ◌^◌, sym, subst, arith, slice_index, bit_and}
-use Rattle.std.proofs.lemmas.Nat.{one_shl, bit_set_by_shift}
-use Rattle.word_image.proofs.laws.Unions.{IsSetTo-take, IsSetTo-skip, IsSetTo-all}
-use Rattle.word_image.specs.Graphs.{HasBit}
+use Rattle.word_image.proofs.Common.{one_shl, bit_set_by_shift, IsSetTo-take, IsSetTo-skip, IsSetTo-all, HasBit}
 use Rattle.tail_preimage.proofs.relations.returning.Goals as goal
 use Rattle.tail_preimage.proofs.relations.returning.Goals.{then-rows-from-eq1, else-rows-from-eq1}
 

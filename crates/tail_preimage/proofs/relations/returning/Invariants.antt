@@ -1,6 +1,4 @@
-use Rattle.word_image.specs.LocalRules.{node_count}
-use Rattle.word_image.proofs.laws.Unions.{IsSetTo}
-use Rattle.word_image.specs.Graphs.{HasBit}
+use Rattle.word_image.proofs.Common.{node_count, IsSetTo, HasBit}
 use Rattle.tail_preimage.proofs.relations.returning.Given as goal
 
 -- the first nodes are done

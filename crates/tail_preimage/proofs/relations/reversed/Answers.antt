@@ -1,7 +1,6 @@
 use Rattle.std.proofs.Common.{◌<◌, refl, subst, arith}
-use Rattle.word_image.proofs.laws.Unions.{IsSetOf-same}
-use Rattle.pair_laws.proofs.Sets.{IsBitSet-shl}
-use Rattle.word_image.specs.Graphs.{HasBit}
+use Rattle.word_image.proofs.Common.{IsSetOf-same, HasBit}
+use Rattle.pair_laws.proofs.Common.{IsBitSet-shl}
 use Rattle.tail_preimage.proofs.Rows.{AreRowsFilled-none, AreRowsFilled-more, AreRowsFilled-all}
 use Rattle.tail_preimage.proofs.relations.reversed.Goals as goal
 

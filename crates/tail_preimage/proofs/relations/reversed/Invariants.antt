@@ -1,4 +1,4 @@
-use Rattle.word_image.specs.Graphs.{HasBit}
+use Rattle.word_image.proofs.Common.{HasBit}
 use Rattle.tail_preimage.proofs.Rows.{AreRowsFilled}
 use Rattle.tail_preimage.proofs.relations.reversed.Given as goal
 

@@ -1,6 +1,6 @@
 use Rattle.std.proofs.Common.{ℕ, ◌-◌}
 use Rattle.tail_preimage.specs.Relations.{Open, Rounds, SomeRounds, Meets}
-use Rattle.word_image.specs.Graphs.{HasBit}
+use Rattle.word_image.proofs.Common.{HasBit}
 use Rattle.tail_preimage.specs.Parts.{Through}
 use Rattle.tail_preimage.proofs.laws.Shapes.{IsFirst-same, Through-before, Through-behind, IsFirstShape-keys, left_key, right_key, before_key, after_key}
 use Rattle.tail_preimage.proofs.shapes.first_shape.Goals as goal

@@ -1,7 +1,6 @@
 use Rattle.std.proofs.Common.{◌-◌, ap, ◌∙◌, arith}
-use Rattle.word_image.specs.LocalRules.{node_count}
-use Rattle.word_image.specs.Graphs.{node_letter}
-use Rattle.pair_laws.proofs.Sets.{IsBitSet-below, IsBitSet-and}
+use Rattle.word_image.proofs.Common.{node_count, node_letter}
+use Rattle.pair_laws.proofs.Common.{IsBitSet-below, IsBitSet-and}
 use Rattle.tail_preimage.proofs.laws.Walks.{IsWalk-none, IsWalk-last}
 use Rattle.tail_preimage.proofs.laws.LeastWalks.{IsLeastBegun-start, IsLeastBegun-end}
 use Rattle.tail_preimage.proofs.OpenSets.{open-after, some_edge_on, IsLeastBegun-node}

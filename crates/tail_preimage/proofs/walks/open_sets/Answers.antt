@@ -1,5 +1,5 @@
 use Rattle.std.proofs.Common.{◌≡◌, ◌∙◌, slice_index, arith}
-use Rattle.std.proofs.lemmas.List.{get_or_default}
+use Rattle.word_image.proofs.Common.{get_or_default}
 use Rattle.tail_preimage.proofs.OpenSets.{AreOpen-start, AreOpen-more}
 use Rattle.tail_preimage.proofs.walks.open_sets.Goals as goal
 

@@ -1,5 +1,5 @@
 use Rattle.std.proofs.Common.{◌++◌, ap, sym, ◌∙◌, append_assoc}
-use Rattle.std.specs.List.{repeat}
+use Rattle.word_image.proofs.Common.{repeat}
 use Rattle.tail_preimage.proofs.laws.Stretches.{repeat-more}
 use Rattle.tail_preimage.proofs.words.with_copies.Goals as goal
 

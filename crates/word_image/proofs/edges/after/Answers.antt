@@ -1,6 +1,6 @@
 use Rattle.std.proofs.Common.{◌≡◌, ℕ, ◌+◌, slice_index, bit_or, IsBitSet, sym, subst, arith}
 use Rattle.word_image.specs.Graphs.{HasBit}
-use Rattle.std.proofs.lemmas.Nat.{bit_set_by_shift}
+use Rattle.word_image.proofs.Common.{bit_set_by_shift}
 use Rattle.word_image.proofs.laws.Unions.{IsUnion, IsUnion-skip, IsUnion-take}
 use Rattle.word_image.proofs.edges.after.Goals as goal
 use Rattle.word_image.proofs.edges.after.Goals.{then-set-u-eq1, else-set-u-eq1}

@@ -1,5 +1,5 @@
 use Rattle.std.proofs.Common.{◌≡◌, ◌*◌, ◌^◌, ◌%◌, replicate, slice_index, zero-mul, ap, ◌∙◌, sym, subst, arith, add-mul}
-use Rattle.std.proofs.lemmas.Nat.{one_shl}
+use Rattle.word_image.proofs.Common.{one_shl}
 use Rattle.word_image.specs.Ends.{end_node, end_at}
 use Rattle.word_image.proofs.laws.Edges.{HaveEdges, HaveEdges-none, HaveEdges-more, with_ends, AreEdgeRows-all}
 use Rattle.word_image.proofs.edges.edge_rows.Goals as goal

@@ -1,5 +1,5 @@
 use Rattle.std.proofs.Common.{◌≡◌, ◌+◌, map, slice_range}
-use Rattle.std.specs.List.{range_with_len}
+use Rattle.word_image.proofs.Common.{range_with_len}
 use Rattle.word_image.specs.LocalRules.{local_map}
 use Rattle.word_image.proofs.images.windows_image.Given as goal
 

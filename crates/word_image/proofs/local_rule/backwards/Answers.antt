@@ -1,5 +1,5 @@
 use Rattle.std.proofs.Common.{◌≡◌, ℕ, ◌-◌, ◌^◌, ◌<◌, List, length, reverse, get_or, slice_index, sym, ap, ◌∙◌, arith, rules}
-use Rattle.std.proofs.lemmas.List.{length-reverse, get_or-reverse}
+use Rattle.word_image.proofs.Common.{length-reverse, get_or-reverse}
 use Rattle.word_image.specs.LocalRules.{word_of}
 use Rattle.word_image.specs.WordsBy.{IsWordBy}
 use Rattle.word_image.proofs.laws.Values.{IsWord-word_of, length-word_of}

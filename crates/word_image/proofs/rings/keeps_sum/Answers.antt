@@ -1,8 +1,5 @@
 use Rattle.std.proofs.Common.{◌≡◌, length, map, slice_index, sum_by, pos, sym, ap, ◌∙◌, arith, take_all}
-use Rattle.std.specs.List.{range_with_len}
-use Rattle.std.proofs.lemmas.List.FromFn.{sum_by-map-range_with_len_more}
-use Rattle.std.proofs.lemmas.List.Sums.{sum_by_more}
-use Rattle.std.proofs.lemmas.Bool.Decides.{nat_tests}
+use Rattle.word_image.proofs.Common.{range_with_len, sum_by-map-range_with_len_more, sum_by_more, nat_tests}
 use Rattle.word_image.specs.LocalRules.{local_map}
 use Rattle.word_image.specs.Rings.{ring_letters, ring_image}
 use Rattle.word_image.proofs.laws.RingSums.{sum_by-ring_image-start}

@@ -1,5 +1,5 @@
 use Rattle.std.proofs.Common.{◌≡◌, pos, ◌+ℤ◌, length, map, sym, ap, ◌∙◌, arith}
-use Rattle.std.specs.List.{range_with_len}
+use Rattle.word_image.proofs.Common.{range_with_len}
 use Rattle.word_image.specs.LocalRules.{local_map}
 use Rattle.word_image.specs.Rings.{ring_letters}
 use Rattle.word_image.proofs.laws.Lists.{letters_more}

@@ -1,5 +1,5 @@
 use Rattle.std.proofs.Common.{◌≡◌, ◌+◌, ◌%◌, length, take, slice_index, pos, refl, sym, subst, ◌∙◌, arith, length-set}
-use Rattle.std.proofs.lemmas.List.{take_more_set}
+use Rattle.word_image.proofs.Common.{take_more_set}
 use Rattle.word_image.specs.LocalRules.{IsWord}
 use Rattle.word_image.specs.Rings.{ring_letter}
 use Rattle.word_image.proofs.laws.Lists.{letters_more}

@@ -1,5 +1,5 @@
 use Rattle.std.proofs.Common.{◌≡◌, ℕ, ◌-◌, ◌/◌, ◌%◌, ◌^◌, ◌≤◌, sym, ap₂, ◌∙◌, arith}
-use Rattle.std.proofs.Math.Nat.{one-le-pow, pow-le-pow_right}
+use Rattle.word_image.proofs.Common.{one-le-pow, pow-le-pow_right}
 use Rattle.word_image.proofs.laws.WindowParts.{get_or-word_of}
 use Rattle.word_image.proofs.values.letter_of.Goals as goal
 

@@ -1,5 +1,5 @@
 use Rattle.std.proofs.Common.{All, IfOk, subst, subst₂}
-use Rattle.word_image.specs.LocalRules.{LocalRule}
+use Rattle.word_image.proofs.Common.{LocalRule}
 use Rattle.rule_classes.specs.Classes.{IsLeastOfClass}
 use Rattle.rule_classes.specs.ClassVerdicts.{HaveOneVerdict}
 use Rattle.ca_answers.specs.ClassTallies.{IsDecided, IsRuleAdded, rules_in}

@@ -1,8 +1,6 @@
 use Rattle.std.proofs.Common.{sym, ◌∙◌, subst}
-use Rattle.std.proofs.lemmas.List.{length-map}
-use Rattle.ca_findings.specs.Questions.{Question}
-use Rattle.ca_findings.specs.Findings.{Finding, IsFinding}
-use Rattle.ca_findings.specs.Values.{counts_of}
+use Rattle.word_image.proofs.Common.{length-map}
+use Rattle.ca_findings.proofs.Common.{Question, Finding, IsFinding, counts_of}
 use Rattle.ca_answers.specs.ClassTallies.{rule_in, rules_in}
 use Rattle.ca_answers.proofs.class_tally.ClassTally.found.Goals as goal
 

@@ -1,5 +1,5 @@
 use Rattle.std.proofs.Common.{◌≡◌, take, map}
-use Rattle.std.specs.List.{range_with_len}
+use Rattle.word_image.proofs.Common.{range_with_len}
 use Rattle.ca_answers.specs.Samples.{state_after, drawn}
 use Rattle.ca_answers.proofs.generator.Generator.fill.Given as goal
 

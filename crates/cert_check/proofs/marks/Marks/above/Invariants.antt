@@ -1,5 +1,5 @@
 use Rattle.std.proofs.Common.{ℕ, ◌<◌, ◌↔◌}
-use Rattle.cert_conditions.specs.Sets.{HasPart}
+use Rattle.cert_conditions.proofs.Common.{HasPart}
 use Rattle.cert_check.specs.Rows.{IsMarked}
 use Rattle.cert_check.proofs.marks.Marks.above.Given as goal
 

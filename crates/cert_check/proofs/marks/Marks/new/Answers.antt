@@ -1,5 +1,5 @@
 use Rattle.std.proofs.Common.{◌/◌, ◌%◌}
-use Rattle.pair_laws.proofs.Rows.{HasBit-none}
+use Rattle.pair_laws.proofs.Common.{HasBit-none}
 use Rattle.cert_check.proofs.marks.Marks.new.Goals as goal
 
 pub returns : goal.returns

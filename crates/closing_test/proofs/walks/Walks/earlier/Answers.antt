@@ -1,9 +1,8 @@
 use Rattle.std.proofs.Common.{◌≡◌, ℕ, ◌+◌, ◌%◌, ◌≤◌, List, length, map, sym, subst, subst₂, arith}
-use Rattle.word_image.specs.LocalRules.{LocalRule}
-use Rattle.word_image.specs.MarkedPairs.{marked}
-use Rattle.search_laws.specs.PairWalks.{PairWalk, IsLeastWalk, IsLeastWalkTo, uncode}
+use Rattle.word_image.proofs.Common.{LocalRule, marked}
+use Rattle.search_laws.proofs.Common.{PairWalk, IsLeastWalk, IsLeastWalkTo, uncode}
 use Rattle.least_walk.specs.Trees.{WalkSource}
-use Rattle.tail_laws.proofs.LeastSplits.{IsLeastSplitAt-walks}
+use Rattle.tail_laws.proofs.Common.{IsLeastSplitAt-walks}
 use Rattle.closing_test.proofs.LeastWalks.{kept_if_before, length-reach, IsNoneBefore-none, IsNoneBefore-long}
 use Rattle.closing_test.proofs.walks.Walks.earlier.Goals as goal
 

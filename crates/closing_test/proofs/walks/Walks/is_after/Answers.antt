@@ -1,6 +1,5 @@
-use Rattle.std.proofs.Common.{length, ◌∙◌, sym, ap, ap₂}
-use Rattle.std.specs.Ordering.{ordering_then, nat_cmp}
-use Rattle.std.specs.Cmp.Lexicographic.{slice_cmp}
+use Rattle.std.proofs.Common.{length, ◌∙◌, sym, ap, ap₂, nat_cmp}
+use Rattle.word_image.proofs.Common.{ordering_then, slice_cmp}
 use Rattle.closing_test.proofs.LeastWalks.{splits_cmp-numbers, is_gt-greater}
 use Rattle.closing_test.proofs.walks.Walks.is_after.Goals as goal
 

@@ -1,5 +1,5 @@
 use Rattle.std.proofs.Common.{ℕ, List, [], ◌∷◌, ◌++◌, subst}
-use Rattle.word_image.specs.Ranks.{IsLastSet}
+use Rattle.word_image.proofs.Common.{IsLastSet}
 use Rattle.debruijn.proofs.graph.Graph.step.Goals as goal
 
 pub returns-clause-word : goal.returns-clause-word

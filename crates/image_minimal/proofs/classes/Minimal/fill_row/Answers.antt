@@ -1,6 +1,7 @@
 use Rattle.std.proofs.Common.{◌≡◌, ℕ, ◌+◌, ◌*◌, ◌<◌, ◌≤◌, List, [], ◌∷◌, ◌++◌, length, length-drop, take, drop, set, slice_get, slice_index, Some, Contains, sym, ap, ◌∙◌, subst, arith, append_assoc, append-nil}
 use Rattle.std.proofs.Math.Nat.{mul-le-mul_right}
-use Rattle.std.proofs.lemmas.List.{get_or-drop, take_more, take_more_set}
+use Rattle.std.proofs.lemmas.List.{get_or-drop}
+use Rattle.word_image.proofs.Common.{take_more, take_more_set}
 use Rattle.image_minimal.specs.ImageLanguages.{IsLeastAutomaton}
 use Rattle.image_minimal.proofs.ClassSearches.{HasClasses-least, class-below, class_inside, Contains-next, next_class}
 use Rattle.image_minimal.proofs.classes.Minimal.fill_row.Goals as goal

@@ -1,5 +1,5 @@
 use Rattle.std.proofs.Common.{◌≡◌, ◌<◌, slice_get, slice_index, Some, Contains, ◌∙◌, sym, subst, arith}
-use Rattle.word_image.specs.LocalRules.{LocalRule, IsRule}
+use Rattle.word_image.proofs.Common.{LocalRule, IsRule}
 use Rattle.image_minimal.specs.ImageLanguages.{IsLeastAutomaton}
 use Rattle.image_minimal.proofs.ClassSearches.{class-below, class_inside, Contains-next, next_class}
 use Rattle.image_minimal.proofs.classes.Minimal.next.Goals as goal

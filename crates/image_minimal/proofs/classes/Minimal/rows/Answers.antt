@@ -1,6 +1,7 @@
 use Rattle.std.proofs.Common.{◌≡◌, ℕ, ◌+◌, ◌*◌, List, ◌++◌, length, take, drop, sym, ap, ap₂, ◌∙◌, arith}
 use Rattle.std.proofs.Math.Seq.{take-add}
-use Rattle.std.proofs.lemmas.List.{take_all, length-replicate}
+use Rattle.std.proofs.lemmas.List.{take_all}
+use Rattle.word_image.proofs.Common.{length-replicate}
 use Rattle.image_subsets.proofs.MarkSpreads.{written_back}
 use Rattle.image_minimal.proofs.classes.Minimal.rows.Goals as goal
 

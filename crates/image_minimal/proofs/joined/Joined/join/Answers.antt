@@ -1,5 +1,5 @@
 use Rattle.std.proofs.Common.{◌≡◌, ℕ, ◌<◌, ◌⊎◌, inl, inr, List, length, set, sym, ap, subst, arith, ⊎_elim}
-use Rattle.std.proofs.lemmas.Bool.{cases_lt}
+use Rattle.word_image.proofs.Common.{cases_lt}
 use Rattle.image_minimal.specs.Joins.{Rises, IsHalved, IsUnited}
 use Rattle.image_minimal.proofs.Joins.{rise_to_one, IsUnited-roots}
 use Rattle.image_minimal.proofs.joined.Joined.join.Goals as goal

@@ -1,7 +1,5 @@
 use Rattle.std.proofs.Common.{ℕ, [], ◌∷◌, ◌++◌, sym, ap, ◌∙◌, subst, arith}
-use Rattle.std.specs.List.{range_with_len}
-use Rattle.std.proofs.lemmas.List.FromFn.{get_or-range_with_len, length-range_with_len}
-use Rattle.word_image.proofs.laws.Lists.{range-more}
+use Rattle.word_image.proofs.Common.{range_with_len, get_or-range_with_len, length-range_with_len, range-more}
 use Rattle.image_minimal.specs.Joins.{IsFalling}
 use Rattle.image_minimal.proofs.joined.Joined.new.Goals as goal
 

@@ -1,6 +1,5 @@
 use Rattle.std.proofs.Common.{◌≡◌, ℕ, inl, inr, [], ◌∷◌, ◌++◌, length, set, Some, Contains, refl, sym, ap, ap₂, ◌∙◌, subst, arith, slice_get}
-use Rattle.std.proofs.lemmas.List.{length_push}
-use Rattle.word_image.proofs.laws.Places.{slice_get-push}
+use Rattle.word_image.proofs.Common.{length_push, slice_get-push}
 use Rattle.image_minimal.specs.Indexes.{IsPlaceOf}
 use Rattle.image_minimal.proofs.Indexes.{IsExactIndex-push, length-listed-le}
 use Rattle.image_minimal.proofs.listed.Listed.insert.Goals as goal

@@ -1,5 +1,5 @@
 use Rattle.std.proofs.Common.{◌≡◌, get_or, Some, ap, ◌∙◌, subst, arith, refl, slice_get}
-use Rattle.std.proofs.lemmas.Option.{slice_get_read}
+use Rattle.word_image.proofs.Common.{slice_get_read}
 use Rattle.image_minimal.specs.Indexes.{IsPlaceOf}
 use Rattle.image_minimal.proofs.Indexes.{IsPlaceOf-index}
 use Rattle.image_minimal.proofs.listed.Listed.place.Goals as goal

@@ -1,5 +1,5 @@
 use Rattle.std.proofs.Common.{length, sym, slice_index, ◌-◌, ◌^◌, ◌<◌, ◌≡◌, [], ◌∷◌, ◌++◌, None, true, false, Bool, List, ℕ, ap, ◌∙◌, subst, arith, Contains, mul-le-mul_right}
-use Rattle.std.proofs.lemmas.Option.{slice_get_within, get_or_from_slice_get}
+use Rattle.word_image.proofs.Common.{slice_get_within, get_or_from_slice_get}
 use Rattle.image_subsets.specs.Masks.{IsInserted}
 use Rattle.image_subsets.specs.Searches.{IsExpanded, EndsEmpty}
 use Rattle.image_subsets.proofs.Searches.{set-below, IsExpanded-start, IsFamilyTree-closed, IsFamilyTree-stopped, length-subset_search-le, IsTree-search}

@@ -1,5 +1,5 @@
 use Rattle.std.proofs.Common.{◌≤◌, ◌-◌, ◌*◌, ◌^◌, false, vec_capacity}
-use Rattle.word_image.specs.LocalRules.{node_count}
+use Rattle.word_image.proofs.Common.{node_count}
 use Rattle.image_subsets.specs.declared.masks.TheConstants.{MOST_SETS}
 use Rattle.image_subsets.specs.Searches.{IsExpanded}
 use Rattle.image_subsets.specs.StepTables.{AreTables}

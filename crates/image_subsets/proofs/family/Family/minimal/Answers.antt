@@ -1,6 +1,5 @@
 use Rattle.std.proofs.Common.{◌≡◌, ◌^◌, ◌<◌, ◌≤◌, refl, ℕ, List, length, slice_index, Contains, IsTrue, Bool, true, false, not, sym, ap, ◌∙◌, subst, arith, pow_mono}
-use Rattle.std.proofs.lemmas.Bool.{false≢true}
-use Rattle.word_image.specs.Families.{is_minimal}
+use Rattle.word_image.proofs.Common.{false≢true, is_minimal}
 use Rattle.image_subsets.specs.Marks.{IsSetMarked}
 use Rattle.image_subsets.proofs.MarkSpreads.{IsMinimal-marks}
 use Rattle.image_subsets.proofs.Minimal.{is_minimal-IsMinimal}

@@ -1,5 +1,5 @@
 use Rattle.std.proofs.Common.{[], length, ap, arith, refl}
-use Rattle.std.proofs.lemmas.Option.{none-some}
+use Rattle.word_image.proofs.Common.{none-some}
 use Rattle.image_subsets.specs.FamilyTrees.{IsTree}
 use Rattle.image_subsets.proofs.family.Family.new.Goals as goal
 

@@ -1,5 +1,5 @@
 use Rattle.std.proofs.Common.{◌≡◌, ℕ, ◌<◌, length, get_or, Option, Some, None, sym, ap, ◌∙◌, subst, arith, slice_get}
-use Rattle.std.proofs.lemmas.Option.{slice_get-get_or}
+use Rattle.word_image.proofs.Common.{slice_get-get_or}
 use Rattle.image_subsets.specs.FamilyTrees.{FamilyTree, IsTree}
 use Rattle.image_subsets.proofs.family.Family.parent.Goals as goal
 

@@ -1,5 +1,5 @@
 use Rattle.std.proofs.Common.{◌≡◌, ℕ, ◌+◌, ◌-◌, ◌*◌, ◌/◌, ◌%◌, ◌^◌, ◌<◌, ◌≤◌, ◌↔◌, ◌⊎◌, List, length, slice_index, sym, ap, ◌∙◌, subst, arith}
-use Rattle.std.proofs.lemmas.List.{length-replicate}
+use Rattle.word_image.proofs.Common.{length-replicate}
 use Rattle.image_subsets.specs.Marks.{IsSetMarked, AreAbove, AreBeyond, HoldsSmaller}
 use Rattle.image_subsets.proofs.MarkSpreads.{AreBeyond-made, written_back, rows_few}
 use Rattle.image_subsets.proofs.marks.Marks.mark.Goals as goal

@@ -1,5 +1,5 @@
 use Rattle.std.proofs.Common.{◌≡◌, ℕ, ◌*◌, ◌%◌, ◌^◌, ◌↔◌, ◌<◌, List, [], ◌∷◌, ◌++◌, length, slice_index, slice_set, bit_or, Bool, false, IsTrue, Contains, refl, arith, sym, ◌∙◌, subst, true≢false}
-use Rattle.std.proofs.lemmas.List.{get_or_default}
+use Rattle.word_image.proofs.Common.{get_or_default}
 use Rattle.image_subsets.specs.Marks.{IsSetMarked}
 use Rattle.image_subsets.specs.Masks.{AreMembers}
 use Rattle.image_subsets.proofs.MaskLists.{AreMembers-push, few_before_new}

@@ -1,5 +1,5 @@
 use Rattle.std.proofs.Common.{◌≡◌, ◌%◌, sym, ◌∙◌, subst, arith, refl}
-use Rattle.std.proofs.lemmas.Grind.{and_numeral}
+use Rattle.word_image.proofs.Common.{and_numeral}
 use Rattle.image_subsets.specs.StepTables.{AreTables, HasRows}
 use Rattle.image_subsets.proofs.Steps.{IsStep-tables}
 use Rattle.image_subsets.proofs.step_tables.StepTables.steps.Goals as goal

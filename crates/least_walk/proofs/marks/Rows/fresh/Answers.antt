@@ -1,7 +1,5 @@
 use Rattle.std.proofs.Common.{◌≡◌, ℕ, ◌+◌, List, slice_index, refl, ap, ◌∙◌, subst, arith}
-use Rattle.word_image.specs.LocalRules.{LocalRule, node_count}
-use Rattle.word_image.specs.Graphs.{next, label}
-use Rattle.word_image.specs.Edges.{IsEnds}
+use Rattle.word_image.proofs.Common.{LocalRule, node_count, next, label, IsEnds}
 use Rattle.word_image.specs.declared.side.Side.TheVariants.{Right}
 use Rattle.least_walk.specs.Marks.{HasPair}
 use Rattle.least_walk.proofs.MarkedRows.{fresh-with_mark, fresh-without}

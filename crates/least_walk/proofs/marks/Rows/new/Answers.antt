@@ -1,5 +1,5 @@
-use Rattle.word_image.specs.Graphs.{second_of}
-use Rattle.pair_laws.proofs.Rows.{HasBit-none}
+use Rattle.word_image.proofs.Common.{second_of}
+use Rattle.pair_laws.proofs.Common.{HasBit-none}
 use Rattle.least_walk.specs.Marks.{row_of, pair_part}
 use Rattle.least_walk.proofs.marks.Rows.new.Goals as goal
 

@@ -1,9 +1,6 @@
-use Rattle.std.proofs.Common.{ℕ, ◌*◌, ◌<◌, ◌≤◌, List, map, sym, ap, ◌∙◌, subst}
-use Rattle.std.specs.Prelude.{All, Contains}
-use Rattle.std.proofs.lemmas.Result.{IfOk-weaker}
-use Rattle.word_image.specs.Graphs.{pair_count}
-use Rattle.word_image.specs.MarkedPairs.{marked}
-use Rattle.search_laws.specs.PairWalks.{PairWalk}
+use Rattle.std.proofs.Common.{ℕ, ◌*◌, ◌<◌, ◌≤◌, List, map, sym, ap, ◌∙◌, subst, All, Contains}
+use Rattle.word_image.proofs.Common.{IfOk-weaker, pair_count, marked}
+use Rattle.search_laws.proofs.Common.{PairWalk}
 use Rattle.least_walk.specs.declared.queue.Reached.{Reached}
 use Rattle.least_walk.proofs.TreeLaws.{All-pairs, Contains-walk}
 use Rattle.least_walk.proofs.tree.WalkTree.pairs.Goals as goal

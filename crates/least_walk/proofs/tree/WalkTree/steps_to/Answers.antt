@@ -1,8 +1,6 @@
-use Rattle.std.proofs.Common.{◌≡◌, ℕ, ◌≤◌, List, length, get_or, Some, sym, ap, ◌∙◌, subst, subst₂}
-use Rattle.std.specs.List.{slice_get}
-use Rattle.std.proofs.lemmas.Option.{get_or_from_slice_get}
-use Rattle.word_image.specs.MarkedPairs.{marked}
-use Rattle.search_laws.specs.PairWalks.{PairWalk, IsLeastWalkTo}
+use Rattle.std.proofs.Common.{◌≡◌, ℕ, ◌≤◌, List, length, get_or, Some, sym, ap, ◌∙◌, subst, subst₂, slice_get}
+use Rattle.word_image.proofs.Common.{get_or_from_slice_get, marked}
+use Rattle.search_laws.proofs.Common.{PairWalk, IsLeastWalkTo}
 use Rattle.least_walk.specs.declared.queue.Reached.{Reached}
 use Rattle.least_walk.proofs.TreeLaws.{steps-place, no_walk-absent, no_walk-absent_all}
 use Rattle.least_walk.proofs.tree.WalkTree.steps_to.Goals as goal

@@ -1,8 +1,6 @@
-use Rattle.std.proofs.Common.{List, ℕ, ◌≤◌, length, map, sym, ap, ◌∙◌, subst, arith}
-use Rattle.std.specs.List.{slice_get}
-use Rattle.std.proofs.lemmas.Option.{slice_get_within}
-use Rattle.word_image.specs.MarkedPairs.{marked}
-use Rattle.search_laws.specs.PairWalks.{PairWalk, IsLeastWalkTo, uncode}
+use Rattle.std.proofs.Common.{List, ℕ, ◌≤◌, length, map, sym, ap, ◌∙◌, subst, arith, slice_get}
+use Rattle.word_image.proofs.Common.{slice_get_within, marked}
+use Rattle.search_laws.proofs.Common.{PairWalk, IsLeastWalkTo, uncode}
 use Rattle.least_walk.specs.Queues.{IsBackward, SpellsBefore}
 use Rattle.least_walk.proofs.Walking.{IsBackward-walking, length-walking-le}
 use Rattle.least_walk.proofs.TreeLaws.{IsLeastWalkTo-steps, length-steps, no_walk-absent, no_walk-absent_all}

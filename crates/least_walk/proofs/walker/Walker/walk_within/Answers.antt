@@ -1,7 +1,6 @@
 use Rattle.std.proofs.Common.{◌≡◌, [], ◌∷◌, ◌++◌, length, map, refl, sym, ap, ◌∙◌, subst, subst₂, arith}
-use Rattle.std.proofs.lemmas.Option.{slice_get_within}
-use Rattle.word_image.specs.MarkedPairs.{marked}
-use Rattle.search_laws.specs.PairWalks.{IsLeastWalk, uncode}
+use Rattle.word_image.proofs.Common.{slice_get_within, marked}
+use Rattle.search_laws.proofs.Common.{IsLeastWalk, uncode}
 use Rattle.least_walk.specs.Queues.{IsBackward, SpellsBefore}
 use Rattle.least_walk.proofs.Walking.{length-walking-le, IsBackward-walking, IsLeastWalk-arrival, length-arrival, no_walk-ended, no_walk-all}
 use Rattle.least_walk.proofs.walker.Walker.walk_within.Goals as goal

@@ -1,5 +1,5 @@
 use Rattle.std.proofs.Common.{◌≡◌, ◌↔◌, subst}
-use Rattle.word_image.specs.Words.{IsSurjective}
+use Rattle.word_image.proofs.Common.{IsSurjective}
 use Rattle.orphan_search.specs.declared.search.Outcome.TheVariants.{Closed}
 use Rattle.orphan_search.proofs.search.Search.run.Goals as goal
 

@@ -1,8 +1,5 @@
 use Rattle.std.proofs.Common.{rules, ◌≡◌, ◌≢◌, ◌-◌, Bool, [], if◌then◌else◌, length, slice_index, ℕ, List, refl, sym, ap, ap₂, ◌∙◌, subst, arith}
-use Rattle.std.proofs.lemmas.Option.{get_or_from_slice_get}
-use Rattle.word_image.specs.Graphs.{full_set}
-use Rattle.word_image.specs.Families.{IsFamily, covers_of}
-use Rattle.word_image.proofs.laws.LastSets.{IsOrphan-not_surjective}
+use Rattle.word_image.proofs.Common.{get_or_from_slice_get, full_set, IsFamily, covers_of, IsOrphan-not_surjective}
 use Rattle.orphan_search.proofs.Verdicts.{IsLeastOrphan-empty, IsSurjective-family, nonempty_family}
 use Rattle.orphan_search.proofs.search.Search.run_over.Goals as goal
 

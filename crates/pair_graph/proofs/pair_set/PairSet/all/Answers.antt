@@ -1,8 +1,5 @@
 use Rattle.std.proofs.Common.{◌≡◌, ◌-◌, ◌*◌, ◌^◌, ◌<◌, ◌≤◌, length, replicate, true, ap, sym, ◌∙◌, arith, ⊎_elim, get_or-set_other, length-set, pow_pos}
-use Rattle.std.proofs.lemmas.Bool.{cases_eq}
-use Rattle.std.proofs.lemmas.Grind.{get_or-set_at}
-use Rattle.word_image.specs.LocalRules.{node_count}
-use Rattle.word_image.proofs.laws.Graphs.{node_count_pos}
+use Rattle.word_image.proofs.Common.{cases_eq, get_or-set_at, node_count, node_count_pos}
 use Rattle.pair_graph.specs.PairRows.{truths-all}
 use Rattle.pair_graph.proofs.pair_set.PairSet.all.Goals as goal
 

@@ -1,5 +1,5 @@
 use Rattle.std.proofs.Common.{◌≡◌, ◌/◌, ◌<◌, ℕ, List, Bool, length, ◌∙◌, ap, arith}
-use Rattle.std.proofs.lemmas.Nat.{div_below}
+use Rattle.word_image.proofs.Common.{div_below}
 use Rattle.pair_graph.specs.PairSets.{truths, AreRows}
 use Rattle.pair_graph.specs.PairRows.{length-truths}
 use Rattle.pair_graph.proofs.PairSteps.{holds-removed}

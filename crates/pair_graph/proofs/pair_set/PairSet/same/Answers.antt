@@ -1,6 +1,5 @@
 use Rattle.std.proofs.Common.{◌≡◌, length, refl, Bool, true, false, IsTrue, MatchBool, ap, ap₂, sym, ◌∙◌}
-use Rattle.std.specs.Cmp.Lexicographic.{told_text}
-use Rattle.std.proofs.lemmas.Bool.{false≢true}
+use Rattle.word_image.proofs.Common.{told_text, false≢true}
 use Rattle.pair_graph.specs.PairSets.{truths}
 use Rattle.pair_graph.specs.PairRows.{same_rows, same_roots, length-truths}
 use Rattle.pair_graph.proofs.pair_set.PairSet.same.Goals as goal

@@ -1,5 +1,5 @@
 use Rattle.std.proofs.Common.{subst}
-use Rattle.word_image.specs.LocalRules.{IsRule, node_count}
+use Rattle.word_image.proofs.Common.{IsRule, node_count}
 use Rattle.pair_graph.specs.PairSets.{AreNodesKept, GoesOn}
 use Rattle.pair_graph.proofs.PairSteps.{nodes_from_length, AreRows-kept, IsTrimmedSet-kept}
 use Rattle.pair_graph.proofs.pair_set.PairSet.trim.Goals as goal

@@ -1,8 +1,7 @@
 use Rattle.std.proofs.Common.{◌≡◌, sym, ap, subst, ◌∙◌}
-use Rattle.word_image.specs.LocalRules.{IsRule}
-use Rattle.word_image.specs.Graphs.{follow_on}
+use Rattle.word_image.proofs.Common.{IsRule, follow_on}
 use Rattle.word_image.specs.declared.side.Side.TheVariants.{Left}
-use Rattle.pair_laws.proofs.BackSteps.{LeadsBack-follow}
+use Rattle.pair_laws.proofs.Common.{LeadsBack-follow}
 use Rattle.pair_graph.proofs.pairs.Pairs.back.Goals as goal
 
 pub returns : goal.returns

@@ -1,6 +1,5 @@
 use Rattle.std.proofs.Common.{sym, subst, MatchOption}
-use Rattle.word_image.specs.Ranks.{IsRank, IsEndless}
-use Rattle.word_image.specs.Sides.{Together}
+use Rattle.word_image.proofs.Common.{IsRank, IsEndless, Together}
 use Rattle.pair_rank.proofs.ranks.Ranks.rank.Goals as goal
 
 pub returns-in-Right-clause-rank : goal.returns-in-Right-clause-rank

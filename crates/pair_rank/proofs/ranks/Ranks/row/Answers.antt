@@ -1,9 +1,5 @@
 use Rattle.std.proofs.Common.{◌≡◌, ℕ, ◌+◌, ◌<◌, List, [], ◌∷◌, ◌++◌, length, get_or, None, sym, subst, ap, ◌∙◌, ⊎_elim, arith, Option}
-use Rattle.std.proofs.lemmas.Bool.{cases_lt}
-use Rattle.std.proofs.Math.ListN.{get_or-append}
-use Rattle.std.proofs.Math.Seq.{get_or-append_seam}
-use Rattle.std.proofs.lemmas.List.{length_push}
-use Rattle.word_image.specs.Graphs.{pair_count}
+use Rattle.word_image.proofs.Common.{cases_lt, get_or-append, get_or-append_seam, length_push, pair_count}
 use Rattle.pair_rank.specs.Sides.{IsRankOf}
 use Rattle.pair_rank.proofs.ranks.Ranks.row.Goals as goal
 

@@ -1,6 +1,5 @@
 use Rattle.std.proofs.Common.{◌≡◌, ℕ, ◌-◌, List, ◌++◌, length, replicate, sym, ap, ap₂, ◌∙◌, arith}
-use Rattle.std.proofs.lemmas.List.{drop-replicate}
-use Rattle.word_image.specs.Storage.{padded}
+use Rattle.word_image.proofs.Common.{drop-replicate, padded}
 use Rattle.rule_classes.proofs.laws.Tables.{table-own}
 use Rattle.rule_classes.proofs.best.Best.own.Goals as goal
 

@@ -1,8 +1,6 @@
 use Rattle.std.proofs.Common.{◌≡◌, ℕ, ◌^◌, List, take, pos, IfOk, refl, sym, ap₂, subst, ◌∙◌}
-use Rattle.word_image.specs.LocalRules.{LocalRule, IsRule}
-use Rattle.word_image.specs.Storage.{padded}
+use Rattle.word_image.proofs.Common.{LocalRule, IsRule, padded, rule_from_parts}
 use Rattle.word_image.proofs.Storage.{take-in_row}
-use Rattle.word_image.proofs.laws.SameRules.{rule_from_parts}
 use Rattle.rule_classes.specs.Colourings.{IsColouring, in_colours}
 use Rattle.rule_classes.specs.declared.colourings.Colouring.{Colouring}
 use Rattle.rule_classes.proofs.laws.Colourings.{IsRule-in_colours}

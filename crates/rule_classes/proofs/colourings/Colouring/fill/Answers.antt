@@ -1,8 +1,5 @@
 use Rattle.std.proofs.Common.{◌≡◌, ℕ, ◌*◌, ◌^◌, ◌<◌, ◌≤◌, List, slice_index, sym, ap, ◌∙◌, subst, ⊎_elim, arith, mul-le-mul_left}
-use Rattle.std.proofs.Math.Nat.{one-le-pow}
-use Rattle.std.proofs.lemmas.Bool.{cases_eq}
-use Rattle.word_image.specs.LocalRules.{LocalRule, IsRule, node_count}
-use Rattle.word_image.proofs.laws.WindowParts.{some_letter, windows-nodes}
+use Rattle.word_image.proofs.Common.{one-le-pow, cases_eq, LocalRule, IsRule, node_count, some_letter, windows-nodes}
 use Rattle.rule_classes.specs.Colourings.{IsColouring, old_value}
 use Rattle.rule_classes.specs.Tables.{AreFilled}
 use Rattle.rule_classes.specs.declared.colourings.Colouring.{Colouring}

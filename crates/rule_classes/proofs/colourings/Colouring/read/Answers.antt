@@ -1,6 +1,5 @@
 use Rattle.std.proofs.Common.{◌≡◌, ℕ, ◌+◌, ◌*◌, ◌^◌, ◌<◌, slice_index, ap, ◌∙◌, arith}
-use Rattle.word_image.specs.LocalRules.{LocalRule, IsRule, node_count}
-use Rattle.word_image.proofs.laws.RuleFaults.{window_count-le}
+use Rattle.word_image.proofs.Common.{LocalRule, IsRule, node_count, window_count-le}
 use Rattle.rule_classes.specs.Colourings.{IsColouring, old_value}
 use Rattle.rule_classes.specs.Tables.{IsRow}
 use Rattle.rule_classes.specs.declared.colourings.Colouring.{Colouring}

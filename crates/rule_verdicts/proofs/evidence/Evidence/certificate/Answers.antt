@@ -1,8 +1,7 @@
 use Rattle.std.proofs.Common.{refl, subst}
 use Rattle.word_image.specs.declared.side.Side.TheVariants.{Right, Left}
-use Rattle.cert_format.specs.Certificates.{Certificate}
-use Rattle.cert_format.specs.Parts.{surjective_of, injective_of, side_of, sum_of}
-use Rattle.word_image.specs.LocalRules.{LocalRule}
+use Rattle.cert_format.proofs.Common.{Certificate, surjective_of, injective_of, side_of, sum_of}
+use Rattle.word_image.proofs.Common.{LocalRule}
 use Rattle.certificate_laws.specs.LeastEvidence.{IsOrphanPart}
 use Rattle.certificate_laws.specs.WrittenCertificates.{orphan_of, HasWrittenParts, IsListPart}
 use Rattle.certificate_laws.specs.LeastEvidence as found

@@ -1,6 +1,6 @@
 use Rattle.std.proofs.Common.{subst, ◌↔◌, IsTrue}
-use Rattle.tail_config.specs.Tails.{IsOpen}
-use Rattle.cert_format.specs.Parts.{side_of}
+use Rattle.tail_config.proofs.Common.{IsOpen}
+use Rattle.cert_format.proofs.Common.{side_of}
 use Rattle.certificate_laws.specs.LeastEvidence as found
 use Rattle.rule_verdicts.proofs.laws.Openness.{IsOpen-close_both}
 use Rattle.rule_verdicts.proofs.evidence.Evidence.is_open.Goals as goal

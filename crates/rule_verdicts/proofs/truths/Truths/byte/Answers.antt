@@ -1,5 +1,5 @@
 use Rattle.std.proofs.Common.{ap, ◌∙◌, arith}
-use Rattle.std.specs.Int.{from_bool}
+use Rattle.word_image.proofs.Common.{from_bool}
 use Rattle.rule_verdicts.proofs.truths.Truths.byte.Goals as goal
 
 pub returns : goal.returns

@@ -1,7 +1,7 @@
 use Rattle.std.proofs.Common.{false, ◌↔◌, IsTrue}
-use Rattle.std.proofs.lemmas.Bool.{false≢true}
+use Rattle.word_image.proofs.Common.{false≢true}
 use Rattle.eden_laws.proofs.Preinjective.{IsSurjective-injective, IsSurjective-right_closing, IsSurjective-left_closing}
-use Rattle.cert_conditions.proofs.laws.Soundness.{both_true}
+use Rattle.cert_conditions.proofs.Common.{both_true}
 use Rattle.rule_verdicts.proofs.truths.Truths.not_surjective.Goals as goal
 
 -- a no is true of what doesn't hold

@@ -1,6 +1,5 @@
 use Rattle.std.proofs.Common.{◌≡◌, ℕ, List, sym, ◌∙◌, subst}
-use Rattle.std.proofs.lemmas.Bool.{false≢true}
-use Rattle.word_image.specs.LocalRules.{LocalRule}
+use Rattle.word_image.proofs.Common.{false≢true, LocalRule}
 use Rattle.table_laws.specs.Tables.{HasMean}
 use Rattle.ring_laws.proofs.SameWeights.{IsConserving-own}
 use Rattle.rule_verdicts.proofs.laws.Means.{HasMean-surjective}

@@ -1,5 +1,5 @@
 use Rattle.std.proofs.Common.{◌≡◌, ◌≤◌, ℕ, ◌+◌, ◌*◌, ◌/◌, ◌%◌, Bool, true, false, ap, ◌∙◌, arith, ◌==◌, ◌&&◌}
-use Rattle.std.specs.Int.{from_bool}
+use Rattle.word_image.proofs.Common.{from_bool}
 use Rattle.rule_verdicts.specs.declared.truths.Truths.{Truths}
 use Rattle.rule_verdicts.proofs.truths.Truths.of_byte.Goals as goal
 

@@ -1,5 +1,5 @@
 use Rattle.std.proofs.Common.{sym, ◌∙◌}
-use Rattle.std.proofs.lemmas.Bool.{false≢true}
+use Rattle.word_image.proofs.Common.{false≢true}
 use Rattle.ring_laws.proofs.SameWeights.{IsConserving-own}
 use Rattle.table_laws.proofs.MeanTables.{HasMean-conserving}
 use Rattle.rule_verdicts.specs.Truths.{table_rule}

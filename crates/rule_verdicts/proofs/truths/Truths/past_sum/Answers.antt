@@ -1,5 +1,5 @@
 use Rattle.std.proofs.Common.{refl, sym, ◌∙◌}
-use Rattle.std.proofs.lemmas.Bool.{false≢true}
+use Rattle.word_image.proofs.Common.{false≢true}
 use Rattle.ring_laws.proofs.SameWeights.{IsConserving-own}
 use Rattle.rule_verdicts.specs.Truths.{table_rule}
 use Rattle.rule_verdicts.proofs.laws.Means.{some_letters}

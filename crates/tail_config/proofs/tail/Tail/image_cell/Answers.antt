@@ -1,5 +1,5 @@
 use Rattle.std.proofs.Common.{ℕ, List, sym, subst}
-use Rattle.word_image.specs.LocalRules.{IsWord}
+use Rattle.word_image.proofs.Common.{IsWord}
 use Rattle.tail_config.specs.TailValues.{IsAcceptedTail}
 use Rattle.tail_config.proofs.laws.Runs.{IsWord-run}
 use Rattle.tail_config.proofs.laws.Cells.{cell-below}

@@ -1,7 +1,6 @@
 use Rattle.std.proofs.Common.{◌≡◌, ℕ, ◌-◌, ◌^◌, ◌<◌, ◌≤◌, List, length, take, drop, map, replicate, set, slice_index, refl, sym, ap, ap₂, subst, subst₂, ◌∙◌, ℤ, w8, FitsSigned, to_z, of_z, arith, ext_get_or}
 use Rattle.std.proofs.lemmas.Int.{to_z-of_z}
-use Rattle.std.specs.List.{range_with_len}
-use Rattle.std.proofs.lemmas.List.FromFn.{length-map-range_with_len, get_or-map-range_with_len}
+use Rattle.word_image.proofs.Common.{range_with_len, length-map-range_with_len, get_or-map-range_with_len}
 use Rattle.word_image.specs.LocalRules.{LocalRule, IsShape, IsRule}
 use Rattle.word_image.specs.RulesBy.{IsRuleBy}
 use Rattle.word_image.specs.Storage.{padded}

@@ -1,5 +1,5 @@
 use Rattle.std.proofs.Common.{◌≡◌, ℤ, map, slice_index}
-use Rattle.std.specs.List.{range_with_len}
+use Rattle.word_image.proofs.Common.{range_with_len}
 use Rattle.word_image.specs.LocalRules.{LocalRule}
 use Rattle.word_image.specs.RulesBy.{IsRuleBy}
 use Rattle.word_image.specs.Storage.{padded}

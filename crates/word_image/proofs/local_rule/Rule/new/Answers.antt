@@ -1,6 +1,6 @@
 use Rattle.std.proofs.Common.{◌≡◌, ℕ, ◌^◌, List, length, take, drop, None, refl, sym, ap, ◌∙◌, arith, w8, FitsSigned, to_z, of_z, ℤ}
 use Rattle.std.proofs.lemmas.Int.{to_z-of_z}
-use Rattle.std.proofs.lemmas.Option.{none-some}
+use Rattle.word_image.proofs.Common.{none-some}
 use Rattle.word_image.specs.LocalRules.{IsWord, IsShape, IsRule}
 use Rattle.word_image.specs.RuleFaults.{shape_fault}
 use Rattle.word_image.proofs.laws.RuleFaults.{IsShape-shape_fault, shape_fault-IsShape, IsWord-table_fault, table_fault-IsWord, window_count-le}

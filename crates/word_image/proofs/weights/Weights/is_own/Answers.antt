@@ -1,6 +1,5 @@
 use Rattle.std.proofs.Common.{◌≡◌, length, map-id, slice_index, refl, ap, ◌∙◌, arith}
-use Rattle.std.specs.List.{range_with_len}
-use Rattle.std.proofs.lemmas.List.FromFn.{fill_by_all}
+use Rattle.word_image.proofs.Common.{range_with_len, fill_by_all}
 use Rattle.word_image.specs.Weights.{own_weights}
 use Rattle.word_image.proofs.laws.Weights.{own_weights-letter}
 use Rattle.word_image.proofs.weights.Weights.is_own.Goals as goal

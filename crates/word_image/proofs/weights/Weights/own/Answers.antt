@@ -1,5 +1,5 @@
 use Rattle.std.proofs.Common.{◌≡◌, ℕ, ◌+◌, ◌-◌, ◌<◌, List, length, take, drop, map-id, set, replicate, refl, sym, ap, ◌∙◌, arith}
-use Rattle.std.proofs.lemmas.List.FromFn.{length-range_with_len}
+use Rattle.word_image.proofs.Common.{length-range_with_len}
 use Rattle.word_image.specs.Storage.{in_row}
 use Rattle.word_image.specs.Weights.{own_weights}
 use Rattle.word_image.proofs.Storage.{take-in_row, drop-in_row, in_row-more}
