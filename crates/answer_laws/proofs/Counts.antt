@@ -5,7 +5,7 @@ use Rattle.rule_classes.proofs.laws.Classes.{IsLeastOfClass-unique}
 use Rattle.ca_findings.proofs.Common.{AreMany, Counts, AreCounts, AreLeastRules, IsLeastOfItsClass, None, One, Other}
 use Rattle.answer_laws.proofs.Lists.{length-le_from_contained}
 
--- so many of the rules have a property, and no more
+-- one number alone counts the rules of a list that have a property
 AreMany-unique : {Has : LocalRule → Type 0} {rules : List LocalRule} {n m : ℕ} → AreMany Has rules n → AreMany Has rules m → n ≡ m
 AreMany-unique None None = refl
 AreMany-unique (One r rules n has rest) (One _ _ m _ also) = ap (λ i. i + 1) (AreMany-unique rest also)
@@ -36,6 +36,6 @@ leasts_within {rules} {leasts} {others} accepted here there i d within =
 length-AreLeastRules-le : {rules leasts others : List LocalRule} → All IsRule rules → AreLeastRules rules leasts → AreLeastRules rules others → length leasts ≤ length others
 length-AreLeastRules-le {rules} {leasts} {others} accepted here there = length-le_from_contained leasts others here.distinct (leasts_within accepted here there)
 
--- rules have so many classes, and no more
+-- two lists of the least rules of some rules have one number of rules
 pub length-AreLeastRules : {rules leasts others : List LocalRule} → All IsRule rules → AreLeastRules rules leasts → AreLeastRules rules others → length leasts ≡ length others
 length-AreLeastRules accepted here there = omega (arith, length-AreLeastRules-le accepted here there, length-AreLeastRules-le accepted there here)

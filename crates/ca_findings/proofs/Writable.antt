@@ -11,22 +11,22 @@ use Rattle.ca_findings.specs.Writable.{HasDigits, HasTwinDigits, HasRingDigits, 
 IsWord-16 : {r : LocalRule} (w : List ℕ) → IsRule r → IsWord r.states w → IsWord 16 w
 IsWord-16 {r = r} w rule word = let most = rule.shape.most_states in All-weaker (λ a. a < r.states) (λ a. a < 16) (λ a below. omega arith) w word
 
--- the least orphan
+-- the letters of the least orphan have digits
 pub HasDigits-orphan : {r : LocalRule} (o : Option (List ℕ)) → IsRule r → IsOrphanPart r o → HasDigits o
 HasDigits-orphan None rule h = tt
 HasDigits-orphan (Some w) rule h = IsWord-16 w rule h.orphan.word
 
--- the least twins
+-- the letters of the least twins have digits
 pub HasTwinDigits-least : {r : LocalRule} (e : InjectiveEvidence) → IsRule r → IsInjectivePart r e → HasTwinDigits e
 HasTwinDigits-least (Window n c) rule h = tt
 HasTwinDigits-least (Twins x y) rule h = (IsWord-16 x rule h.1.twins.first.word, IsWord-16 y rule h.1.twins.second.word)
 
--- the least ring
+-- the letters of the least ring have digits
 pub HasRingDigits-least : {r : LocalRule} (weight : ℕ → ℕ) (e : SumEvidence) → IsRule r → IsConservingPart weight r e → HasRingDigits e
 HasRingDigits-least weight (Flux phi) rule h = tt
 HasRingDigits-least weight (Ring p) rule h = IsWord-16 p rule h.1.lossy.ring.word
 
--- a right finding
+-- a right finding can be written
 pub IsWritable-right : {q : Question} {f : Finding} → AreRules q → IsFinding q f → IsWritable f
 IsWritable-right rule (IsFinding.Report r named e each weights least) =
     (HasDigits-orphan e.orphan rule least.surjective, HasTwinDigits-least e.injective rule least.injective, HasRingDigits-least _ e.conserving rule least.conserving)
@@ -42,7 +42,7 @@ IsWritable-right rule (IsFinding.Preimage r t p short from) =
 IsWritable-right rule (IsFinding.Gap r t before after w short gap) = IsWord-16 w rule gap.least.orphan.word
 IsWritable-right rule found = tt
 
--- a right cause
+-- a right cause can be written
 pub IsWritableUnfit-right : {q : Question} {u : Unfit} → AreRules q → IsUnfitFor q u → IsWritableUnfit u
 IsWritableUnfit-right rule (IsUnfitFor.Twins r x y none least) = (IsWord-16 x rule least.twins.first.word, IsWord-16 y rule least.twins.second.word)
 IsWritableUnfit-right rule unfits = tt

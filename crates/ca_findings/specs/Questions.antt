@@ -27,7 +27,7 @@ pub data Question : Type 0 where
   Summary : (rules : List LocalRule) → Question
   Classes : (rules : List LocalRule) → Question
 
--- its rules are accepted ones
+-- the rules of a question are accepted ones
 abbrev pub AreRules : Question → Type 0
 AreRules (Report r weights) = IsRule r
 AreRules (Certify version r weights) = IsRule r

@@ -44,7 +44,7 @@ class_line m i = line (decimal (after_class m i 0) ++ flat_map (λ a. codes " " 
 abbrev pub automaton_lines : Automaton → List ℕ
 automaton_lines m = classes_line m.classes ++ dead_line m.dead ++ flat_map (class_line m) (range_with_len 0 m.classes)
 
--- the place where its middle begins, and the configuration
+-- the text of a placed configuration: the place where its middle begins, and the configuration
 abbrev pub placed_text : PlacedConfig → List ℕ
 placed_text p = codes "preimage " ++ offset_text p.at ++ codes " " ++ tail.printed p.config
 

@@ -27,7 +27,7 @@ abbrev pub injective_line : InjectiveEvidence → List ℕ
 injective_line (Window n c) = line (codes "injective yes window " ++ decimal n ++ codes " " ++ decimal c)
 injective_line (Twins x y) = line (codes "injective no twins " ++ word_text x ++ codes " " ++ word_text y)
 
--- of a side by its name: a look-ahead, or else a split
+-- the line of a side by its name: a look-ahead, or else a split
 abbrev pub side_line : List ℕ → SideEvidence → List ℕ
 side_line name (Ahead n) = line (name ++ codes " yes ahead " ++ decimal n)
 side_line name (Split x y) = line (name ++ codes " no split " ++ tail.printed x ++ codes " " ++ tail.printed y)

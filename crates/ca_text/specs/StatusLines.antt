@@ -50,7 +50,7 @@ accepted_lines v =
 
 -- Of a refused one
 
--- the first fault of its shape
+-- the text of the first fault of a certificate's shape
 abbrev pub shape_text : ShapeFault → List ℕ
 shape_text shape.NotJson = codes "notjson"
 shape_text (shape.Version v) = codes "version " ++ decimal v

@@ -28,44 +28,44 @@ OfSets (Sets sets) P = P sets
 OfSets (Pairs pairs) P = ⊤
 OfSets (Orphan w) P = ⊤
 
--- of listed pairs
+-- what is asked of listed pairs, where the part has them
 abbrev pub OfPairs : SurjectiveEvidence → (List ℕ → Type 0) → Type 0
 OfPairs (Sets sets) P = ⊤
 OfPairs (Pairs pairs) P = P pairs
 OfPairs (Orphan w) P = ⊤
 
--- of an orphan
+-- what is asked of an orphan, where the part has one
 abbrev pub OfOrphan : SurjectiveEvidence → (List ℕ → Type 0) → Type 0
 OfOrphan (Sets sets) P = ⊤
 OfOrphan (Pairs pairs) P = ⊤
 OfOrphan (Orphan w) P = P w
 
--- of a window
+-- what is asked of a window, where the part has one
 abbrev pub OfWindow : InjectiveEvidence → (ℕ → ℕ → Type 0) → Type 0
 OfWindow (Window n c) P = P n c
 OfWindow (Twins x y) P = ⊤
 
--- of twins
+-- what is asked of twins, where the part has them
 abbrev pub OfTwins : InjectiveEvidence → (List ℕ → List ℕ → Type 0) → Type 0
 OfTwins (Window n c) P = ⊤
 OfTwins (Twins x y) P = P x y
 
--- of a look-ahead
+-- what is asked of a look-ahead, where the part has one
 abbrev pub OfAhead : SideEvidence → (ℕ → Type 0) → Type 0
 OfAhead (Ahead n) P = P n
 OfAhead (Split x y) P = ⊤
 
--- of a split
+-- what is asked of a split, where the part has one
 abbrev pub OfSplit : SideEvidence → (TailConfig → TailConfig → Type 0) → Type 0
 OfSplit (Ahead n) P = ⊤
 OfSplit (Split x y) P = P x y
 
--- of a flux
+-- what is asked of a flux, where the part has one
 abbrev pub OfFlux : SumEvidence → (List ℤ → Type 0) → Type 0
 OfFlux (Flux phi) P = P phi
 OfFlux (Ring p) P = ⊤
 
--- of a ring
+-- what is asked of a ring, where the part has one
 abbrev pub OfRing : SumEvidence → (List ℕ → Type 0) → Type 0
 OfRing (Flux phi) P = ⊤
 OfRing (Ring p) P = P p
@@ -87,6 +87,6 @@ Holds c (SideSplit side) = OfSplit (evidence_on c side) (λ x y. Different x y �
 Holds c FluxFlows = OfFlux c.conserving (λ phi. EachBelow (c.rule.states ^ c.rule.width) (λ v. Flows (slice_index c.weights) c.rule phi (word_of c.rule.states c.rule.width v)))
 Holds c RingLossy = OfRing c.conserving (IsLossy (slice_index c.weights) c.rule)
 
--- the certificate meets all of them
+-- the certificate meets all conditions
 abbrev pub MeetsConditions : Certificate → Type 0
 MeetsConditions c = (condition : Condition) → Holds c condition

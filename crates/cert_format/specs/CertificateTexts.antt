@@ -109,23 +109,23 @@ keys = codes "conserving" ∷ codes "injective" ∷ codes "left" ∷ codes "rank
 abbrev pub keys_of : CertVersion → List (List ℕ)
 keys_of version = keys ++ (if names_weights version then codes "weights" ∷ [] else [])
 
--- there is no key besides
+-- there is no key besides the version's
 abbrev pub HasNoOther : CertVersion → Members → Type 0
 HasNoOther version ms = (k : List ℕ) (d : Data) → get_member k ms ≡ Some d → Contains (keys_of version) k
 
--- the key is there, with evidence within its limits: of surjective
+-- the key of surjective is there, with evidence within its limits
 abbrev pub HasSurjective : CertVersion → LocalRule → Members → SurjectiveEvidence → Type 0
 HasSurjective version r ms e = HasMember ms (codes "surjective") (λ d. IsSurjectiveValue d e) × IsSurjectiveShape version r e
 
--- of injective
+-- the key of injective is there, with evidence within its limits
 abbrev pub HasInjective : LocalRule → Members → InjectiveEvidence → Type 0
 HasInjective r ms e = HasMember ms (codes "injective") (λ d. IsInjectiveValue d e) × IsInjectiveShape r e
 
--- of the right or the left, whose key is handed in
+-- the key of the right or the left, which is handed in, is there, with evidence within its limits
 abbrev pub HasSide : List ℕ → LocalRule → Members → SideEvidence → Type 0
 HasSide k r ms e = HasMember ms k (λ d. IsSideValue d e) × IsSideShape r e
 
--- of conserving
+-- the key of conserving is there, with evidence within its limits
 abbrev pub HasConserving : LocalRule → Members → SumEvidence → Type 0
 HasConserving r ms e = HasMember ms (codes "conserving") (λ d. IsSumValue d e) × IsSumShape r e
 
@@ -134,7 +134,7 @@ pub data HasWeights (version : CertVersion) (r : LocalRule) (ms : Members) (weig
   Named : names_weights version ≡ true → HasMember ms (codes "weights") (λ d. IsArrayOf IsWhole d weights) → AreWeights r.states weights → HasWeights version r ms weights
   Own : (names_weights version ≡ true → get_member (codes "weights") ms ≡ None) → weights ≡ own_weights r.states → HasWeights version r ms weights
 
--- of the ranks, in both directions
+-- the key of the ranks is there, with ranks in both directions
 abbrev pub HasRanks : LocalRule → Members → List (Option ℕ) → List (Option ℕ) → Type 0
 HasRanks r ms forward backward = HasMember ms (codes "ranks") (λ d. IsRanksValue d forward backward) × IsRankShape r forward × IsRankShape r backward
 

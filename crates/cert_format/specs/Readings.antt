@@ -29,11 +29,11 @@ members_in (object ms) = ms
 abbrev pub IsLetters : ℕ → List ℕ → List ℕ → Type 0
 IsLetters k text w = Spells text w × IsWord k w
 
--- a string of them
+-- a string of a word over the letters below k
 abbrev pub IsWordValue : ℕ → Data → List ℕ → Type 0
 IsWordValue k d w = IsDigits d w × IsWord k w
 
--- an array of two such strings
+-- an array of two strings of words over the letters below k
 abbrev pub IsWordsValue : ℕ → Data → List ℕ → List ℕ → Type 0
 IsWordsValue k d x y = IsArrayOf IsDigits d (x ∷ y ∷ []) × IsWord k x × IsWord k y
 
@@ -41,7 +41,7 @@ IsWordsValue k d x y = IsArrayOf IsDigits d (x ∷ y ∷ []) × IsWord k x × Is
 abbrev pub IsTailValue : ℕ → Data → TailConfig → Type 0
 IsTailValue k d t = IsTailString d t × IsShortTail k t
 
--- an array of two such strings
+-- an array of two strings of short configurations over the letters below k
 abbrev pub IsTailsValue : ℕ → Data → TailConfig → TailConfig → Type 0
 IsTailsValue k d x y = IsArrayOf IsTailString d (x ∷ y ∷ []) × IsShortTail k x × IsShortTail k y
 
@@ -53,7 +53,7 @@ IsShort d n = IsWhole d n × (n ≤ 65535)
 abbrev pub IsRankValue : Data → Option ℕ → Type 0
 IsRankValue d o = IsClaimValue d o × IsClaim o
 
--- a signed whole number of that size
+-- a signed whole number of the size of a flow
 abbrev pub IsFlow : Data → ℤ → Type 0
 IsFlow d z = IsSigned d z × IsNear z
 
@@ -81,19 +81,19 @@ IsByte d n = IsWhole d n × (n ≤ 255)
 abbrev pub IsWeightsFor : LocalRule → Data → List ℕ → Type 0
 IsWeightsFor r d weights = IsArrayOf IsWhole d weights × AreWeights r.states weights
 
--- evidence within its limits: for surjective
+-- evidence for surjective, within its limits
 abbrev pub IsSurjectiveFor : CertVersion → LocalRule → Data → SurjectiveEvidence → Type 0
 IsSurjectiveFor version r d e = IsSurjectiveValue d e × IsSurjectiveShape version r e
 
--- for injective
+-- evidence for injective, within its limits
 abbrev pub IsInjectiveFor : LocalRule → Data → InjectiveEvidence → Type 0
 IsInjectiveFor r d e = IsInjectiveValue d e × IsInjectiveShape r e
 
--- for closing on a side
+-- evidence for closing on a side, within its limits
 abbrev pub IsSideFor : LocalRule → Data → SideEvidence → Type 0
 IsSideFor r d e = IsSideValue d e × IsSideShape r e
 
--- for conserving
+-- evidence for conserving, within its limits
 abbrev pub IsSumFor : LocalRule → Data → SumEvidence → Type 0
 IsSumFor r d e = IsSumValue d e × IsSumShape r e
 
@@ -101,7 +101,7 @@ IsSumFor r d e = IsSumValue d e × IsSumShape r e
 abbrev pub IsRowFor : LocalRule → Data → List (Option ℕ) → Type 0
 IsRowFor r d row = IsArrayOf IsClaimValue d row × IsRankShape r row
 
--- in both directions
+-- claims for each pair, in both directions
 abbrev pub AreRanksFor : LocalRule → Data → List (Option ℕ) → List (Option ℕ) → Type 0
 AreRanksFor r d forward backward = IsRanksValue d forward backward × IsRankShape r forward × IsRankShape r backward
 

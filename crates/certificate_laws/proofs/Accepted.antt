@@ -15,7 +15,7 @@ pub IsAccepted-written : {version : CertVersion} {r : LocalRule} {weights : List
     → IsAccepted bytes (verdicts_of c)
 IsAccepted-written {c = c} rule parts text = record { certificate = c; text = text; meets = MeetsConditions-written rule parts; verdicts = refl }
 
--- so where its text is read back, what has the parts is the certificate that is written for the rule
+-- a certificate with the written parts whose text is read back is the one that is written for the rule
 pub IsWritten-read_back : {version : CertVersion} {r : LocalRule} {weights : List ℕ} {c : Certificate} {bytes : List ℕ} → names_weights version ≡ true → IsRule r → AreWeights r.states weights
     → HasWrittenParts version r weights c → bytes ≡ certificate_text c → IsCertificateText bytes c → IsWritten version r weights c
 IsWritten-read_back {c = c} names rule are parts written text =

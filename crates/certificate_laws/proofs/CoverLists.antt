@@ -69,6 +69,6 @@ length-filter-le p (x ∷ xs) =
       | false ↦ omega arith
     ]
 
--- so a cover list has at most one set more than the list
+-- a cover list has at most one set more than the list
 pub length-covers : (full : ℕ) (sets : List ℕ) → length (covers_of full sets) ≤ length sets + 1
 length-covers full sets = omega (arith, length-filter-le (is_cover full sets) sets)

@@ -39,7 +39,7 @@ sets-apart {r} {sets} family i j d less within same =
     (second.least (get_or ws i []) (subst (IsLastSet r (get_or ws i [])) same first.set_of)) in
     omega (arith, after, before)
 
--- so there are at most 65,536
+-- a family has at most 65,536 sets
 length-family : {r : LocalRule} {sets : List ℕ} → IsRule r → IsFamily r sets → length sets ≤ 65536
 length-family {r} {sets} rule family =
     let few = length-le_from_distinct_below sets (2 ^ node_count r) (IsDistinct-from_AllPairs Decides-eqb sets (sets-apart family)) (λ s any.

@@ -20,7 +20,7 @@ pair_list-met {pairs = pairs} list = (
 pub below-reached : {r : LocalRule} {pairs : List ℕ} → IsRule r → AreReached r pairs → All (λ p. p < pair_count r) pairs
 below-reached {pairs = pairs} rule reached i d within = IsReached-below rule ((reached.exactly (get_or pairs i d)).0 (Contains-get_or pairs i d within))
 
--- so there are no more than these
+-- there are no more reached pairs than pairs of nodes
 pub length-reached : {r : LocalRule} {pairs : List ℕ} → IsRule r → AreReached r pairs → length pairs ≤ pair_count r
 length-reached {r} {pairs} rule reached =
     length-le_from_distinct_below pairs (pair_count r)

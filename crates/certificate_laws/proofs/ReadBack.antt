@@ -25,7 +25,7 @@ pub record IsReadBack (n : ℕ) (d : Data) : Type 0 where
   pub value : of_json (outline d) ≡ Some d
   pub text : IsUtf8 (compact_text d)
 
--- values in a row
+-- values in a row that can each be read back
 record AreReadBack (n : ℕ) (ds : Items) : Type 0 where
   depth : tree.items_depth (items_outline ds) ≤ n
   numbers : tree.ItemsHaveNumbers (items_outline ds)
@@ -37,27 +37,27 @@ abbrev pub put_all : Members → Members → Members
 put_all found no_members = found
 put_all found (member k d ms) = put_all (put k d found) ms
 
--- members in a row
+-- members in a row whose values can each be read back
 pub record HaveReadBack (n : ℕ) (ms : Members) : Type 0 where
   pub depth : tree.members_depth (members_outline ms) ≤ n
   pub numbers : tree.MembersHaveNumbers (members_outline ms)
   pub values : (found : Members) → of_members (members_outline ms) found ≡ Some (put_all found ms)
   pub text : (later : Bool) → IsUtf8 (members_text later ms)
 
--- a comma where something stands before
+-- a comma where something stands before is UTF-8
 IsUtf8-comma : (later : Bool) → IsUtf8 (comma_if later)
 IsUtf8-comma true = IsUtf8-are_ascii (44 ∷ []) refl
 IsUtf8-comma false = IsUtf8-are_ascii [] refl
 
--- null
+-- null is read back
 pub IsReadBack-null : (n : ℕ) → IsReadBack n null
 IsReadBack-null n = record { depth = omega arith; numbers = tt; value = refl; text = IsUtf8-are_ascii _ refl }
 
--- a string
+-- a string is read back
 pub IsReadBack-string : (n : ℕ) (s : List ℕ) → IsUtf8 s → IsReadBack n (string s)
 IsReadBack-string n s text = record { depth = omega arith; numbers = tt; value = refl; text = IsUtf8-quoted s text }
 
--- a whole number of 64 bits
+-- a whole number of 64 bits is read back
 pub IsReadBack-whole : (n v : ℕ) → v < 2 ^ 64 → IsReadBack n (whole_value v)
 IsReadBack-whole n v fits = record {
   depth = omega arith;
@@ -66,7 +66,7 @@ IsReadBack-whole n v fits = record {
   text = IsUtf8-from_ascii (decimal v) (IsAscii-decimal v fits);
 }
 
--- a negative one
+-- a negative number is read back
 IsReadBack-negative : (n v : ℕ) → v + 1 < 2 ^ 63 → IsReadBack n (number (negative (negsuc v)))
 IsReadBack-negative n v fits = record {
   depth = omega arith;
@@ -75,7 +75,7 @@ IsReadBack-negative n v fits = record {
   text = IsUtf8-from_ascii (signed_decimal (negsuc v)) (IsAscii-signed (negsuc v) (omega arith));
 }
 
--- values in a row, one by one
+-- values in a row are read back, one by one
 AreReadBack-none : (n : ℕ) → AreReadBack n no_items
 AreReadBack-none n = record { depth = omega arith; numbers = tt; values = refl; text = λ later. IsUtf8-are_ascii _ refl }
 
@@ -91,7 +91,7 @@ AreReadBack-map : {A : Type 0} {n : ℕ} (f : A → Data) (P : A → Type 0) →
 AreReadBack-map f P each [] all = AreReadBack-none _
 AreReadBack-map f P each (x ∷ xs) all = AreReadBack-item (each x (All-head P x xs all)) (AreReadBack-map f P each xs (All-tail P x xs all))
 
--- an array
+-- an array of values that are read back is read back
 pub IsReadBack-array : {A : Type 0} {n : ℕ} (f : A → Data) (P : A → Type 0) → ((x : A) → P x → IsReadBack n (f x)) → (xs : List A) → All P xs → IsReadBack (suc n) (array_from (map f xs))
 IsReadBack-array f P each xs all =
     let items = AreReadBack-map f P each xs all in
@@ -102,7 +102,7 @@ IsReadBack-array f P each xs all =
       text = IsUtf8-append (91 ∷ []) _ (IsUtf8-are_ascii (91 ∷ []) refl) (items.text false);
     }
 
--- members in a row, one by one
+-- members in a row are read back, one by one
 pub HaveReadBack-none : (n : ℕ) → HaveReadBack n no_members
 HaveReadBack-none n = record { depth = omega arith; numbers = tt; values = λ found. refl; text = λ later. IsUtf8-are_ascii _ refl }
 
@@ -116,7 +116,7 @@ HaveReadBack-member k {d = d} {ms = ms} key first rest = record {
       (IsUtf8-append (quoted k) _ (IsUtf8-quoted k (IsUtf8-are_ascii k key)) (IsUtf8-append (58 ∷ []) _ (IsUtf8-are_ascii (58 ∷ []) refl) (IsUtf8-append (compact_text d) _ first.text (rest.text true))));
 }
 
--- an object, where its members stay as they are when they are put one after another
+-- an object is read back, where its members stay as they are when they are put one after another
 pub IsReadBack-object : {n : ℕ} {ms : Members} → put_all no_members ms ≡ ms → HaveReadBack n ms → IsReadBack (suc n) (object ms)
 IsReadBack-object same members = record {
   depth = omega (arith, members.depth);
@@ -125,16 +125,16 @@ IsReadBack-object same members = record {
   text = IsUtf8-append (123 ∷ []) _ (IsUtf8-are_ascii (123 ∷ []) refl) (members.text false);
 }
 
--- an object with one member
+-- an object with one member is read back
 pub IsReadBack-only : {n : ℕ} (k : List ℕ) {d : Data} → are_ascii k ≡ true → IsReadBack n d → IsReadBack (suc n) (only k d)
 IsReadBack-only k key first = IsReadBack-object refl (HaveReadBack-member k key first (HaveReadBack-none _))
 
--- an integer whose absolute value has at most 62 bits
+-- an integer whose absolute value has at most 62 bits is read back
 pub IsReadBack-signed : (n : ℕ) (z : ℤ) → mag z + 1 < 2 ^ 63 → IsReadBack n (signed_value z)
 IsReadBack-signed n (pos v) fits = IsReadBack-whole n v (omega (arith, fits))
 IsReadBack-signed n (negsuc v) fits = IsReadBack-negative n v (omega (arith, fits))
 
--- the text is read as the value
+-- the text of a value that is read back is read as the value
 pub read-compact_text : {n : ℕ} (d : Data) → n ≤ max_depth → IsReadBack n d → read (compact_text d) ≡ Some d
 read-compact_text d shallow is =
     let j = outline d in

@@ -6,7 +6,7 @@ use Rattle.cert_conditions.proofs.laws.StepConditions.{IsOrphan-read}
 use Rattle.cert_conditions.proofs.Common.{LeadsTo-orphan}
 use Rattle.certificate_laws.proofs.LongerWords.{word_cmp-longer}
 
--- so it has at most 65,536 letters
+-- the least orphan has at most 65,536 letters
 pub length-IsLeastOrphan : {r : LocalRule} {w : List ℕ} → IsRule r → IsLeastOrphan r w → length w ≤ 65536
 length-IsLeastOrphan {r} {w} rule least =
     let most : 2 ^ node_count r ≤ 2 ^ 16 = pow-le-pow_right (omega arith) rule.shape.most_nodes in

@@ -36,7 +36,7 @@ HasShortSplit-begins {r} {p} rule f begins =
 splits_cmp-longer : (x y u v : TailConfig) → length u.middle + length u.right < length x.middle + length x.right → splits_cmp (x, y) (u, v) ≡ Greater
 splits_cmp-longer x y u v less = later_by_number (length x.middle + length x.right) (length u.middle + length u.right) _ less
 
--- so the least one is short
+-- the middle and the right period of the least right split have together at most m letters more than there are pairs
 pub IsLeastRightSplit-le : {r : LocalRule} {x y : TailConfig} → IsRule r → IsLeastRightSplit r x y → length x.middle + length x.right ≤ r.width - 1 + 1 + pair_count r
 IsLeastRightSplit-le {r} {x} {y} rule least =
     ⊎_elim

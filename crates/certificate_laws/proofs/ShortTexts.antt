@@ -28,17 +28,17 @@ length-signed_value : (z : ℤ) → IsNear z → length (compact_text (signed_va
 length-signed_value (pos n) near = length_signed_le 7 (pos n) (omega (arith, ints, near.1)) (omega (arith, ints, near.1))
 length-signed_value (negsuc n) near = length_signed_le 7 (negsuc n) (omega (arith, ints, near.0)) (omega (arith, ints, near.0))
 
--- a claim has at most five
+-- the text of a claim has at most five characters
 length-claim_value : (o : Option ℕ) → IsClaim o → length (compact_text (claim_value o)) ≤ 5
 length-claim_value None claim = omega arith
 length-claim_value (Some n) claim = length-whole_value n claim
 
--- an offset has at most three
+-- the text of an offset has at most three characters
 length-offset_text : (z : ℤ) → negsuc 15 ≤ℤ z → z ≤ℤ pos 16 → length (offset_text z) ≤ 3
 length-offset_text (pos n) low high = let small : n ≤ 16 = omega (arith, ints) in omega (arith, length-decimal-le 2 n (omega arith) (omega arith) (omega arith))
 length-offset_text (negsuc n) low high = let small : n ≤ 15 = omega (arith, ints) in omega (arith, length-decimal-le 2 (n + 1) (omega arith) (omega arith) (omega arith))
 
--- the printed form of a rule has at most 267
+-- the printed form of a rule has at most 267 characters
 length-printed_rule : {r : LocalRule} → IsRule r → length (printed_rule r) ≤ 267
 length-printed_rule {r} rule =
     let shape = rule.shape in
@@ -49,7 +49,7 @@ length-printed_rule {r} rule =
     let table = rule.entries in
     simp (length-append, length-map) (omega arith)
 
--- the cover list, the reached pairs, or an orphan
+-- the text of the cover list, the reached pairs, or an orphan has at most 393,260 bytes
 length-surjective_value : (version : CertVersion) {r : LocalRule} → IsRule r → (e : SurjectiveEvidence) → IsSurjectiveShape version r e → IsOrphanPart r (orphan_of e) → IsListPart version r e
     → length (compact_text (surjective_value e)) ≤ 393260
 length-surjective_value version {r} rule (Sets sets) shape surjective (two, covers) =
@@ -62,7 +62,7 @@ length-surjective_value version {r} rule (Pairs pairs) shape surjective (three, 
     omega (arith, length-only (codes "pairs") (array_from (map whole_value pairs)), length-values whole_value 5 pairs small, length-reached rule reached, most)
 length-surjective_value version rule (Orphan w) shape least list = omega (arith, length-IsLeastOrphan rule least, length-only (codes "orphan") (word_value w), length-word_value w)
 
--- a window or twins
+-- the text of a window or twins has at most 1,100 bytes
 length-injective_value : {r : LocalRule} → IsRule r → (e : InjectiveEvidence) → IsInjectiveShape r e → IsInjectivePart r e → length (compact_text (injective_value e)) ≤ 1100
 length-injective_value rule (Window n c) shape part =
     omega (
@@ -76,7 +76,7 @@ length-injective_value rule (Twins x y) shape part =
     let brief = length-IsLeastTwins rule part.1 in
     omega (arith, brief.0, brief.1, length-only (codes "twins") (array_from (word_value x ∷ word_value y ∷ [])), length-pair_text (word_value x) (word_value y), length-word_value x, length-word_value y)
 
--- a look-ahead or a split
+-- the text of a look-ahead or a split has at most 6,300 bytes
 length-side_value : (r : LocalRule) (e : SideEvidence) → IsSideShape r e → length (compact_text (side_value e)) ≤ 6300
 length-side_value r (Ahead n) shape = omega (arith, length-only (codes "ahead") (whole_value n), length-whole_value n shape.1)
 length-side_value r (Split x y) shape =
@@ -84,14 +84,14 @@ length-side_value r (Split x y) shape =
     let second : IsShortTail r.states y = shape.1 in
     omega (arith, length-only (codes "split") (array_from (tail_value x ∷ tail_value y ∷ [])), length-pair_text (tail_value x) (tail_value y), length-tail_value x, length-tail_value y)
 
--- a flux or a ring
+-- the text of a flux or a ring has at most 200 bytes
 length-sum_value : (weight : ℕ → ℕ) {r : LocalRule} → IsRule r → (e : SumEvidence) → IsSumShape r e → IsConservingPart weight r e → length (compact_text (sum_value e)) ≤ 200
 length-sum_value weight rule (Flux phi) shape part =
     let small = All-weaker IsNear (λ z. length (compact_text (signed_value z)) ≤ 8) length-signed_value phi shape.1 in
     omega (arith, length-only (codes "flux") (array_from (map signed_value phi)), length-values signed_value 8 phi small, shape.0, rule.shape.most_nodes)
 length-sum_value weight rule (Ring p) shape part = omega (arith, length-IsLeastLossyRing rule part.1, rule.shape.most_width, length-only (codes "ring") (word_value p), length-word_value p)
 
--- the ranks of one direction
+-- the text of the ranks of one direction has at most 1,538 bytes
 length-row : {r : LocalRule} {row : List (Option ℕ)} → IsRule r → IsRankShape r row → length (compact_text (array_from (map claim_value row))) ≤ 1538
 length-row {r} {row} rule shape =
     let small = All-weaker IsClaim (λ o. length (compact_text (claim_value o)) ≤ 5) length-claim_value row shape.claims in
@@ -104,7 +104,7 @@ length-ranks_value {r} {forward} {backward} rule ahead back =
     let behind : Data = array_from (map claim_value backward) in
     omega (arith, length-member false (codes "backward") behind (member (codes "forward") front no_members), length-member true (codes "forward") front no_members, length-row rule ahead, length-row rule back)
 
--- the weights, where they are written, and the closing brace
+-- the weights, where they are written, and the closing brace have at most 200 bytes
 length-weights_members : {r : LocalRule} → IsRule r → (weights : List ℕ) → AreWeights r.states weights → length (members_text true (weights_members r weights)) ≤ 200
 length-weights_members {r} rule weights are =
     let value : Data = array_from (map whole_value weights) in

@@ -22,12 +22,12 @@ length-escape_byte x =
     length-either (nat_lt 0 (escape_letter x)) (92 ∷ escape_letter x ∷ []) _ (omega arith)
     (length-either (nat_lt x 32) (92 ∷ 117 ∷ 48 ∷ 48 ∷ digit_char (x / 16) ∷ digit_char (x % 16) ∷ []) (x ∷ []) (omega arith) (omega arith))
 
--- so each byte of a string takes at most six
+-- the escaped text of a string has at most six bytes for each of its bytes
 length-escape : (s : List ℕ) → length (escape s) ≤ length s * 6
 length-escape [] = omega arith
 length-escape (x ∷ s) = omega (arith, length-append (escape_byte x) (escape s), length-escape_byte x, length-escape s)
 
--- with the quotation marks
+-- the escaped text of a string with the quotation marks has two bytes more
 pub length-quoted : (s : List ℕ) → length (quoted s) ≤ length s * 6 + 2
 length-quoted s = omega (arith, length-append (escape s) (34 ∷ []), length-escape s)
 
@@ -35,7 +35,7 @@ length-quoted s = omega (arith, length-append (escape s) (34 ∷ []), length-esc
 abbrev IsPlainByte : ℕ → Type 0
 IsPlainByte x = (35 ≤ x) × (x ≢ 92)
 
--- it stands for itself
+-- a plain byte stands for itself
 escape_byte-plain : (x : ℕ) → IsPlainByte x → escape_byte x ≡ x ∷ []
 unfolding escape_byte
 escape_byte-plain x (low, other) =
@@ -66,15 +66,15 @@ IsPlainByte-digit a =
     (λ below. let few = ltb-true a 10 below in (omega arith, λ e. omega arith))
     (λ above. let many = ltb-false a 10 above in (omega arith, λ e. omega arith))
 
--- so is the text of a word
+-- the text of a word has plain bytes alone
 IsPlain-word : (w : List ℕ) → All IsPlainByte (word_text w)
 IsPlain-word w = All-map IsPlainByte lower_digit w (λ i d l. IsPlainByte-digit _)
 
--- the string of a word
+-- the string of a word has two bytes more than the word has letters
 pub length-word_value : (w : List ℕ) → length (compact_text (word_value w)) ≡ length w + 2
 length-word_value w = length-plain (word_text w) (IsPlain-word w) ∙ ap (λ n. n + 2) (length-map w lower_digit)
 
--- the string of a configuration
+-- the string of a configuration has four bytes more than its parts have letters
 pub length-tail_value : (t : TailConfig) → length (compact_text (tail_value t)) ≡ length t.left + length t.middle + length t.right + 4
 length-tail_value t =
     let a : List ℕ = word_text t.left in
@@ -96,12 +96,12 @@ length-tail_value t =
       length-map t.right lower_digit,
     )
 
--- a comma, or none
+-- a comma, or none, has at most one byte
 length-comma_if : (later : Bool) → length (comma_if later) ≤ 1
 length-comma_if true = omega arith
 length-comma_if false = omega arith
 
--- the items of an array, of n bytes each, take one more each, and the bracket
+-- the items of an array, of n bytes each, take one byte more each, and one for the bracket
 length-items_text : (n : ℕ) (later : Bool) (ds : List Data) → All (λ d. length (compact_text d) ≤ n) ds → length (items_text later (items_of ds)) ≤ length ds * (n + 1) + 1
 length-items_text n later [] all = omega arith
 length-items_text n later (d ∷ ds) all =
@@ -115,11 +115,11 @@ length-items_text n later (d ∷ ds) all =
       length-items_text n true ds (All-tail (λ d. length (compact_text d) ≤ n) d ds all),
     )
 
--- an array of values of n bytes each
+-- the text of an array of values of n bytes each takes one byte more for each, and two for the brackets
 pub length-values : {A : Type 0} (f : A → Data) (n : ℕ) (xs : List A) → All (λ x. length (compact_text (f x)) ≤ n) xs → length (compact_text (array_from (map f xs))) ≤ length xs * (n + 1) + 2
 length-values f n xs all = omega (arith, length-items_text n false (map f xs) (All-map (λ d. length (compact_text d) ≤ n) f xs all), ap (λ k. k * (n + 1)) (length-map xs f))
 
--- an array of two values
+-- the text of an array of two values has three bytes more than theirs
 pub length-pair_text : (d e : Data) → length (compact_text (array_from (d ∷ e ∷ []))) ≡ length (compact_text d) + length (compact_text e) + 3
 length-pair_text d e =
     let rest : List ℕ = compact_text e ++ 93 ∷ [] in
@@ -131,6 +131,6 @@ length-member later k d ms =
     let rest : List ℕ = compact_text d ++ members_text true ms in
     omega (arith, length-comma_if later, length-append (comma_if later) (quoted k ++ 58 ∷ rest), length-append (quoted k) (58 ∷ rest), length-quoted k, length-append (compact_text d) (members_text true ms))
 
--- an object with one member
+-- the text of an object with one member takes its key, its value, and six bytes of punctuation
 pub length-only : (k : List ℕ) (d : Data) → length (compact_text (only k d)) ≤ length k * 6 + 6 + length (compact_text d)
 length-only k d = omega (arith, length-member false k d no_members)

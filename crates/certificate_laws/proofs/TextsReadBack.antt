@@ -12,22 +12,22 @@ use Rattle.cert_format.proofs.Common.{number_of, SurjectiveEvidence, InjectiveEv
 use Rattle.cert_format.proofs.laws.Written.{IsCertificateText-written}
 use Rattle.certificate_laws.proofs.ReadBack.{IsReadBack, HaveReadBack, IsReadBack-null, IsReadBack-string, IsReadBack-whole, IsReadBack-signed, IsReadBack-array, IsReadBack-object, IsReadBack-only, HaveReadBack-none, HaveReadBack-member, read-compact_text}
 
--- a byte below 128
+-- a byte below 128 is UTF-8
 IsUtf8-byte : (x : ℕ) → x < 128 → IsUtf8 (x ∷ [])
 IsUtf8-byte x small = IsUtf8-are_ascii (x ∷ []) (rw (lt-ltb x 128 small) refl)
 
--- the digit of a letter below 16
+-- the digit of a letter below 16 is below 128
 lower_digit-below : (a : ℕ) → a < 16 → lower_digit a < 128
 lower_digit-below a small = cond_both (nat_lt a 10) (48 + a) (87 + a) (λ b. b < 128) (λ below. omega arith) (λ above. omega arith)
 
--- the digits of a word
+-- the digits of a word are UTF-8
 IsUtf8-word : {k : ℕ} → k ≤ 16 → (w : List ℕ) → IsWord k w → IsUtf8 (word_text w)
 IsUtf8-word most [] word = IsUtf8-are_ascii [] refl
 IsUtf8-word {k} most (a ∷ w) word =
     let below : a < k = All-head (λ b. b < k) a w word in
     IsUtf8-append (lower_digit a ∷ []) (word_text w) (IsUtf8-byte (lower_digit a) (lower_digit-below a (omega (arith, below, most)))) (IsUtf8-word most w (All-tail (λ b. b < k) a w word))
 
--- a configuration
+-- the text of a configuration is UTF-8
 IsUtf8-tail : {k : ℕ} → k ≤ 16 → (t : TailConfig) → IsShortTail k t → IsUtf8 (tail.printed t)
 IsUtf8-tail most t short =
     let bar = IsUtf8-are_ascii (codes "|") refl in
@@ -35,16 +35,16 @@ IsUtf8-tail most t short =
     let middle = IsUtf8-append _ (codes "|") (IsUtf8-append _ (word_text t.middle) left (IsUtf8-word most t.middle short.tail.middle_word)) bar in
     IsUtf8-append _ (word_text t.right) middle (IsUtf8-word most t.right short.tail.right_word)
 
--- a decimal number
+-- the text of a decimal number is UTF-8
 IsUtf8-decimal : (n : ℕ) → n < 2 ^ 64 → IsUtf8 (decimal n)
 IsUtf8-decimal n fits = IsUtf8-from_ascii (decimal n) (IsAscii-decimal n fits)
 
--- an offset
+-- the text of an offset is UTF-8
 IsUtf8-offset : (z : ℤ) → IsNear z → IsUtf8 (offset_text z)
 IsUtf8-offset (pos n) near = IsUtf8-decimal n (omega (arith, ints, near.1))
 IsUtf8-offset (negsuc n) near = IsUtf8-append (codes "-") _ (IsUtf8-are_ascii (codes "-") refl) (IsUtf8-decimal (n + 1) (omega (arith, ints, near.0)))
 
--- a printed rule
+-- the text of a printed rule is UTF-8
 IsUtf8-rule : {r : LocalRule} → IsRule r → IsUtf8 (printed_rule r)
 IsUtf8-rule {r} rule =
     let shape = rule.shape in
@@ -55,7 +55,7 @@ IsUtf8-rule {r} rule =
     let offset = IsUtf8-append _ (codes ":") (IsUtf8-append _ (offset_text r.offset) width (IsUtf8-offset r.offset near)) colon in
     IsUtf8-append _ (word_text r.table) (IsUtf8-append _ (codes "t") offset (IsUtf8-are_ascii (codes "t") refl)) (IsUtf8-word shape.most_states r.table rule.letters)
 
--- numbers below a limit of 64 bits
+-- an array of numbers below a limit of 64 bits is read back
 whole_values : (n limit : ℕ) → limit ≤ 2 ^ 64 → (values : List ℕ) → All (λ v. v < limit) values → IsReadBack (suc n) (array_from (map whole_value values))
 whole_values n limit fits values small = IsReadBack-array whole_value (λ v. v < limit) (λ v below. IsReadBack-whole n v (omega (arith, below, fits))) values small
 
@@ -101,25 +101,25 @@ module _ {r : LocalRule} (rule : IsRule r) where
       near-back (negsuc v) near = IsReadBack-signed 0 (negsuc v) (omega (arith, ints, near.0))
   sum-back (Ring p) shape = IsReadBack-only (codes "ring") refl (word-back 1 p shape)
 
--- a claim
+-- a claim is read back
 claim-back : (n : ℕ) (o : Option ℕ) → IsClaim o → IsReadBack n (claim_value o)
 claim-back n None claim = IsReadBack-null n
 claim-back n (Some v) claim = IsReadBack-whole n v (omega (arith, claim))
 
--- the ranks
+-- the ranks are read back
 ranks-back : (forward backward : List (Option ℕ)) → All IsClaim forward → All IsClaim backward → IsReadBack 2 (ranks_value forward backward)
 ranks-back forward backward first second =
     IsReadBack-object refl
     (HaveReadBack-member (codes "backward") refl (IsReadBack-array claim_value IsClaim (claim-back 0) backward second)
     (HaveReadBack-member (codes "forward") refl (IsReadBack-array claim_value IsClaim (claim-back 0) forward first) (HaveReadBack-none 1)))
 
--- the version
+-- the number of a version is read back
 version-back : (v : CertVersion) → IsReadBack 2 (whole_value (number_of v))
 version-back One = IsReadBack-whole 2 1 (omega arith)
 version-back Two = IsReadBack-whole 2 2 (omega arith)
 version-back Three = IsReadBack-whole 2 3 (omega arith)
 
--- the members, where these stand behind them
+-- the members of a certificate are read back, where those behind them are
 members-back : {c : Certificate} {rest : Members} → IsShaped c → HaveReadBack 2 rest → HaveReadBack 2 (members_before rest c)
 members-back {c} shaped rest =
     let rule = shaped.rule in
@@ -132,7 +132,7 @@ members-back {c} shaped rest =
     (HaveReadBack-member (codes "surjective") refl (surjective-back rule c.version c.surjective shaped.surjective)
     (HaveReadBack-member (codes "version") refl (version-back c.version) rest)))))))
 
--- the whole
+-- the value of a certificate within its limits is read back
 IsReadBack-certificate : {c : Certificate} → IsShaped c → IsReadBack 3 (certificate_value c)
 IsReadBack-certificate {c} shaped =
     ⊎_elim
@@ -144,7 +144,7 @@ IsReadBack-certificate {c} shaped =
     (HaveReadBack-member (codes "weights") refl (IsReadBack-array whole_value (λ w. w ≤ 255) (λ w small. IsReadBack-whole 1 w (omega (arith, small))) c.weights shaped.weights.each.small) (HaveReadBack-none 2)))))
     (weights_members-cases c.rule c.weights)
 
--- so a certificate within its limits is read from its text
+-- a certificate within its limits is read from its own text
 pub IsCertificateText-own : {c : Certificate} → IsShaped c → IsCertificateText (certificate_text c) c
 IsCertificateText-own {c} shaped =
     let back = IsReadBack-certificate shaped in

@@ -8,7 +8,7 @@ use Rattle.tail_config.specs.Tails.{IsInjective, IsRightClosing, IsLeftClosing}
 use Rattle.tail_config.specs.Splits.{IsLeastRightSplit, IsLeastLeftSplit}
 use Rattle.cert_format.specs.Evidence.{InjectiveEvidence, SideEvidence, SumEvidence, Window, Twins, Ahead, Split, Flux, Ring}
 
--- of a rule and weights of its letters: an orphan, or none where it is surjective, and what is said of the other four questions
+-- the evidence of a rule and weights: an orphan, or none where it is surjective, and what is said of the other four questions
 pub record Evidence : Type 0 where
   pub rule : LocalRule
   pub weights : List ℕ

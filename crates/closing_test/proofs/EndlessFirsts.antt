@@ -8,14 +8,14 @@ use Rattle.closing_test.specs.Sides.{IsFound}
 use Rattle.closing_test.specs.EndlessFirsts.{IsEndlessWith}
 use Rattle.closing_test.proofs.LookAheads.{end_pair-goes}
 
--- both say that it looks ahead
+-- a rule is closing on a side exactly where no first pair of the side is endless
 closes_exactly : (side : Side) {r : LocalRule} → IsRule r → IsClosing side r ↔ ((p : ℕ) → IsFirstOf side r p → ¬ IsEndless (PairGoes side r p))
 closes_exactly side rule =
     let ahead = some_ahead side rule in
     let closes = closing_ahead side rule in
     ((λ closing. ahead.0 (closes.0 closing)), (λ none. closes.1 (ahead.1 none)))
 
--- an endless first pair forbids it
+-- where an endless first pair of a side is found, the rule isn't closing on that side
 pub not_closing_with : (side : Side) {r : LocalRule} → IsRule r → (w a : ℕ) → IsEndlessWith side r w a → ¬ IsClosing side r
 not_closing_with side {r} rule w a h closing = (closes_exactly side rule).0 closing (end_pair side r w a) (IsFirst-ends side rule w a h.first) h.endless
 

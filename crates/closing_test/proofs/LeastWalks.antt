@@ -57,7 +57,7 @@ is_gt-greater Less s b e f = (λ h. absurd (true≢false (sym h ∙ e)), λ h. a
 is_gt-greater Equal s b e f = (λ h. absurd (true≢false (sym h ∙ e)), λ h. absurd (true≢false (ap is_gt (sym (f ∙ h)))))
 is_gt-greater Greater s b e f = (λ h. sym f, λ h. e)
 
--- none comes before it where no walk leads to the state
+-- where no walk leads to a state, no split there comes before the best one
 pub IsNoneBefore-none : {r : LocalRule} {t : ℕ} (best : Option Walks) → ((w : List (ℕ × ℕ)) → ¬ PairWalk (marked r) r.states 0 w t) → IsNoneBefore r t best
 IsNoneBefore-none best none w v at before = none w at.reach
 
@@ -93,7 +93,7 @@ splits_cmp-middle best w v same longer greater =
     let less : splits_cmp (split_by best) (split_of w v) ≡ Less = splits_cmp-walks m p w v ∙ ap₂ (λ o q. ordering_then o (ordering_then q rest)) letters middles in
     true≢false (sym (ap is_gt greater) ∙ ap is_gt less)
 
--- or no walk leads round it in so few steps as the best one leaves
+-- where no walk leads round a state in as few steps as the best split leaves, no split there comes before it
 pub IsNoneBefore-long : {r : LocalRule} {t most n : ℕ} (best : Option Walks)
     → MatchOption best (most ≡ 512) (λ walks. IsMostAfter walks n most) → ((w : List (ℕ × ℕ)) → PairWalk (marked r) r.states 0 w t → n ≤ length w)
     → ((v : List (ℕ × ℕ)) → 0 < length v → length v ≤ most → ¬ PairWalk (marked r) r.states t v (with_mark r t))
@@ -105,12 +105,12 @@ IsNoneBefore-long {most = most} (Some best) is reach short all w v at before =
     (λ few. short v at.some few at.round)
     (cases_lt most (length v))
 
--- or the least one there doesn't
+-- where the least split at a state doesn't come before the best one, no split there does
 IsNoneBefore-least : {r : LocalRule} {t : ℕ} (best : Option Walks) (found : Walks) → IsLeastSplitAt r t (middle_pairs found) (period_pairs found) → ¬ ComesBefore (split_by found) best → IsNoneBefore r t best
 IsNoneBefore-least None found here later w v at before = later tt
 IsNoneBefore-least (Some best) found here later w v at before = no_earlier-least here (middle_pairs best) (period_pairs best) later at before
 
--- so the walks of the least one there are kept exactly where it does
+-- the least split at a state, kept exactly where it comes before the best one, is an earlier one, or no split there is
 pub kept_if_before : {r : LocalRule} {t : ℕ} (best result : Option Walks) (found : Walks) → IsLeastSplitAt r t (middle_pairs found) (period_pairs found)
     → SomeIff result (ComesBefore (split_by found) best) found → MatchOption result (IsNoneBefore r t best) (AreEarlier r t best)
 kept_if_before best None found here later = IsNoneBefore-least best found here later

@@ -12,7 +12,7 @@ pub record IsLeastIn (r : LocalRule) (states : List ℕ) (n : ℕ) (best : Walks
   pub split : IsNormalRightSplit r (first_tail (middle_pairs best) (period_pairs best)) (second_tail (middle_pairs best) (period_pairs best))
   pub least : (i s : ℕ) → i < n → slice_get states i ≡ Some s → (w v : List (ℕ × ℕ)) → IsSplitAt r s w v → splits_cmp (split_by best) (split_of w v) ≢ Greater
 
--- these walks make the least of those, and there is none if there are no walks
+-- the walks make a normal split that none at the first n states of a list comes before; without walks there is none at those states
 abbrev pub IsLeastSeen : LocalRule → List ℕ → ℕ → Option Walks → Type 0
 IsLeastSeen r states n None = (i s : ℕ) → i < n → slice_get states i ≡ Some s → IsNoSplitAt r s
 IsLeastSeen r states n (Some best) = IsLeastIn r states n best
@@ -26,7 +26,7 @@ pub IsSomeSplit-next : (r : LocalRule) (t : ℕ) (best found : Option Walks) →
 IsSomeSplit-next r t best None rule h none = h
 IsSomeSplit-next r t best (Some found) rule h new = IsNormalRightSplit-walks rule new.least.split
 
--- of no states they are the least
+-- walks that make a normal split are the least of no states
 pub IsLeastSeen-start : (r : LocalRule) (states : List ℕ) (found : Option Walks) → IsSomeSplit r found → IsLeastSeen r states 0 found
 IsLeastSeen-start r states None h = λ i s less at. absurd (omega (arith, less))
 IsLeastSeen-start r states (Some walks) h = record { split = h; least = λ i s less at w v there greater. omega (arith, less) }
@@ -40,7 +40,7 @@ seen-next states n t here P before now i s less at =
     (λ other. before i s (omega (arith, other)) at)
     (cases_eq i n)
 
--- one state more, at which none comes before the least one so far, or these walks make the least one that does
+-- with one state more, the walks before stay the least, or the walks that come before them at this state are the least
 pub IsLeastSeen-next : (r : LocalRule) (states : List ℕ) (n t : ℕ) (best found : Option Walks) → IsRule r → slice_get states n ≡ Some t → IsLeastSeen r states n best
     → MatchOption found (IsNoneBefore r t best) (AreEarlier r t best) → IsLeastSeen r states (n + 1) (option_or found best)
 IsLeastSeen-next r states n t None None rule here h none = seen-next states n t here (IsNoSplitAt r) h (λ w v at. none w v at tt)

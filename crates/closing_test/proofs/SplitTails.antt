@@ -18,7 +18,7 @@ split_by-tails w =
     λ side. ap₂ (λ (m p : List ℕ). record { left = 0 ∷ []; middle = m; right = p }) (map-map side (uncode 16) w.middle.items) (map-map side (uncode 16) w.period.items) in
     ap₂ (λ (x y : TailConfig). (x, y)) (tail (λ p. p.0)) (tail (λ p. p.1))
 
--- they are short
+-- the configurations of two walks are short
 IsShortOver-walks : (r : LocalRule) (w : Walks) (letter : Letter) → IsShortOver r (record { states = r.states; config = tail_by letter w })
 IsShortOver-walks r w letter = record {
   states = refl;
@@ -31,16 +31,16 @@ IsShortOver-walks r w letter = record {
 IsLeastRightSplit-walks : {r : LocalRule} (w : Walks) → IsRule r → IsLeastSoFar r (pair_count r + pair_count r) (Some w) → IsLeastRightSplit r (tail_by First w) (tail_by Second w)
 IsLeastRightSplit-walks {r} w rule h = subst (λ (s : TailConfig × TailConfig). IsLeastRightSplit r s.0 s.1) (split_by-tails w) (IsLeastRightSplit-below rule h)
 
--- in such configurations
+-- the least walks of all states make the least split, in short configurations
 pub IsLeastSplitOf-walks : {r : LocalRule} {x y : TailOver} (w : Walks) → IsRule r → IsLeastSoFar r (pair_count r + pair_count r) (Some w)
     → x ≡ record { states = r.states; config = tail_by First w } → y ≡ record { states = r.states; config = tail_by Second w } → IsLeastSplitOf r x y
 IsLeastSplitOf-walks {r} w rule h first second =
     rw (first, second) (record { least = IsLeastRightSplit-walks w rule h; first = IsShortOver-walks r w First; second = IsShortOver-walks r w Second })
 
--- they are over the rule's letters
+-- the configurations of the least walks of all states are over the rule's letters
 pub IsTail-walks : {r : LocalRule} (w : Walks) → IsRule r → IsLeastSoFar r (pair_count r + pair_count r) (Some w) → IsTail r.states (tail_by First w) × IsTail r.states (tail_by Second w)
 IsTail-walks w rule h = let split = (IsLeastRightSplit-walks w rule h).split.split in (split.first, split.second)
 
--- a rule that isn't right-closing has some
+-- a rule for which no walks are found is right-closing
 pub IsRightClosing-none_found : {r : LocalRule} → IsRule r → IsLeastSoFar r (pair_count r + pair_count r) None → IsRightClosing r
 IsRightClosing-none_found rule none = (IsRightClosing-no_normal rule).1 (no_normal_split rule none)

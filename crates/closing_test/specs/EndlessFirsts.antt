@@ -11,6 +11,6 @@ pub record IsEndlessWith (side : Side) (r : LocalRule) (w a : ℕ) : Type 0 wher
   pub first : AreFirst side r w a
   pub endless : IsEndless (PairGoes side r (end_pair side r w a))
 
--- for some letter they are
+-- for some letter the ends of this window and of the one with this letter at its end are endless
 abbrev pub IsEndlessAt : Side → LocalRule → ℕ → Type 0
 IsEndlessAt side r w = (a : ℕ) × (a < r.states) × IsEndlessWith side r w a

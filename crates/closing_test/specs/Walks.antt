@@ -27,7 +27,7 @@ letter_of Second step = step % most_states
 abbrev pub tail_by : Letter → Walks → TailConfig
 tail_by letter w = record { left = 0 ∷ []; middle = map (letter_of letter) w.middle.items; right = map (letter_of letter) w.period.items }
 
--- the split that they make
+-- the split that two walks make
 abbrev pub split_by : Walks → TailConfig × TailConfig
 split_by w = split_of (middle_pairs w) (period_pairs w)
 
@@ -36,12 +36,12 @@ abbrev pub ComesBefore : TailConfig × TailConfig → Option Walks → Type 0
 ComesBefore split None = Unit {0}
 ComesBefore split (Some best) = splits_cmp (split_by best) split ≡ Greater
 
--- walks of n letters or more and of more than so many make a split that comes after that of these walks, by letters or middle
+-- middles of n letters or more, and periods of more than `most`, make a split that comes after that of the walks, by letters or middle
 abbrev pub IsMostAfter : Walks → ℕ → ℕ → Type 0
 IsMostAfter best n most = (w v : ℕ) → n ≤ w → most < v
     → (length best.middle.items + length best.period.items < w + v) ⊎ ((length best.middle.items + length best.period.items ≡ w + v) × (length best.middle.items < w))
 
--- no normal split at state t comes before that one
+-- no normal split at state t comes before the one that the walks make, if there are any
 abbrev pub IsNoneBefore : LocalRule → ℕ → Option Walks → Type 0
 IsNoneBefore r t best = (w v : List (ℕ × ℕ)) → IsSplitAt r t w v → ¬ ComesBefore (split_of w v) best
 

@@ -53,7 +53,7 @@ record Between (r : LocalRule) (x y : Config) (p q : ℤ) : Type 0 where
   inside : (j : ℤ) → (p +ℤ r.offset) <ℤ j → j <ℤ (q +ℤ r.offset +ℤ pos (r.width - 1)) → z j ≡ x j
   image : image_of r z ≡ y
 
--- such a configuration is there if the image of x agrees with y from enough places before p to enough places after q
+-- a configuration between is there if the image of x agrees with y from enough places before p to enough places after q
 between : {r : LocalRule} {n l : ℕ} {x y : Config} → IsRule r → IsRightAhead r n → IsLeftAhead r l → IsConfig r.states x → IsConfig r.states y → (p q : ℤ) → p ≤ℤ q
     → ((j : ℤ) → p <ℤ (j +ℤ pos (enough r l)) → j <ℤ (q +ℤ pos (enough r n)) → image_of r x j ≡ y j) → Between r x y p q
 between {r} {n} {l} {x} {y} rule right left hx hy p q order agree =

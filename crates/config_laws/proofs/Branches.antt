@@ -172,11 +172,11 @@ branches {r} {u} {v} {x} {y} rule hu hv fork (suc n) = more_branches rule hu hv 
 abbrev whole : {r : LocalRule} {u v z : List ℕ} → IsBranch r u v z → List ℕ
 whole {r} {z = z} b = z ++ (b.leads [] (All-nil (λ a. a < r.states))).0
 
--- it is a preimage
+-- the branch, made longer by what reads nothing more, is a preimage of v
 IsPreimage-whole : {r : LocalRule} {u v z : List ℕ} → (b : IsBranch r u v z) → IsPreimage r (v ++ []) (whole b)
 IsPreimage-whole {r} b = (b.leads [] (All-nil (λ a. a < r.states))).1
 
--- the number of its last node
+-- the number of the last node of a branch
 abbrev last : {r : LocalRule} {u v z : List ℕ} → IsBranch r u v z → ℕ
 last {r} {v = v} b = value r.states (drop (length (v ++ [])) (whole b))
 

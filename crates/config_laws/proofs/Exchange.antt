@@ -11,22 +11,22 @@ use Rattle.config_laws.proofs.Joined.{joined, joined-left, joined-right, IsConfi
 abbrev placed : Config → ℤ → List ℕ → Config
 placed c s w = joined c s (λ a. get_or w a (c (s +ℤ pos a)))
 
--- its letter at a place of the word
+-- the letter at a place of the word that was put in is the word's
 placed-inside : (c : Config) (s : ℤ) (w : List ℕ) (a : ℕ) → a < length w → placed c s w (s +ℤ pos a) ≡ get_or w a 0
 placed-inside c s w a l = joined-right c s (λ b. get_or w b (c (s +ℤ pos b))) (s +ℤ pos a) a refl ∙ get_or_default w a (c (s +ℤ pos a)) 0 l
 
--- its letter behind the word
+-- the letter behind the word that was put in is the configuration's own
 placed-behind : (c : Config) (s : ℤ) (w : List ℕ) (a : ℕ) → length w ≤ a → placed c s w (s +ℤ pos a) ≡ c (s +ℤ pos a)
 placed-behind c s w a l = joined-right c s (λ b. get_or w b (c (s +ℤ pos b))) (s +ℤ pos a) a refl ∙ get_or_past w a (c (s +ℤ pos a)) l
 
--- it is one over the same letters
+-- a configuration in which a word over its letters stands from a place on is one over the same letters
 IsConfig-placed : {k : ℕ} {c : Config} → IsConfig k c → (s : ℤ) (w : List ℕ) → IsWord k w → IsConfig k (placed c s w)
 IsConfig-placed {k} {c} hc s w hw = IsConfig-joined hc s (λ a.
     ⊎_elim (λ l. let below : get_or w a 0 < k = hw a 0 l in omega (arith, below, get_or_default w a (c (s +ℤ pos a)) 0 l))
     (λ l. let below : c (s +ℤ pos a) < k = hc (s +ℤ pos a) in omega (arith, below, get_or_past w a (c (s +ℤ pos a)) l))
     (cases_lt a (length w)))
 
--- what stands there already changes nothing
+-- a word that stands there already changes nothing when it is put in
 placed-same : (c : Config) (s : ℤ) (w : List ℕ) → ((a : ℕ) → a < length w → get_or w a 0 ≡ c (s +ℤ pos a)) → placed c s w ≡ c
 placed-same c s w h = fun_ext (λ j. by_lt_z j s (joined-left c s (λ b. get_or w b (c (s +ℤ pos b))) j) (λ l.
     let a : ℕ = unsigned_abs (j -ℤ s) in
@@ -35,7 +35,7 @@ placed-same c s w h = fun_ext (λ j. by_lt_z j s (joined-left c s (λ b. get_or 
     (λ behind. sym (ap (placed c s w) here) ∙ placed-behind c s w a behind ∙ ap c here)
     (cases_lt a (length w))))
 
--- the word stands in it
+-- the word that was put in stands in the configuration
 run-placed : (c : Config) (s : ℤ) (w : List ℕ) → run (placed c s w) s (length w) ≡ w
 run-placed c s w = sym (run-by_letters (placed c s w) s (length w) w refl (λ a l. sym (placed-inside c s w a l)))
 

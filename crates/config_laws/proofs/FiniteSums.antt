@@ -22,7 +22,7 @@ record HaveEqualEnds (r : LocalRule) (l : ℕ) (a b : List ℕ) : Type 0 where
   front : take (r.width - 1) a ≡ take (r.width - 1) b
   back : drop l a ≡ drop l b
 
--- such words gain the same
+-- two words with equal ends gain the same
 gain-ends : {r : LocalRule} {l : ℕ} {a b : List ℕ} → IsRule r → (weight : ℕ → ℕ) → KeepsFiniteChanges weight r → HaveEqualEnds r l a b → gain weight r a ≡ gain weight r b
 gain-ends {r} {l} {a} {b} rule weight keeps h =
     let d : ℕ = r.width - 1 in
@@ -68,7 +68,7 @@ gain-ends {r} {l} {a} {b} rule weight keeps h =
 abbrev zeros_gain : (ℕ → ℕ) → LocalRule → ℕ → ℤ
 zeros_gain weight r n = gain weight r (run zeros (pos 0) (n + (r.width - 1)))
 
--- a ring gains as much as so many zeros: one turn put in between zeros, or as many zeros
+-- a ring gains as much as zeros of its length: one turn put in between zeros, or as many zeros
 gain-zeros : {r : LocalRule} {p : List ℕ} → IsRule r → (weight : ℕ → ℕ) → KeepsFiniteChanges weight r → IsRing r.states p
     → (pos (sum_by weight (ring_image r p)) -ℤ pos (sum_by weight p)) ≡ zeros_gain weight r (length p)
 gain-zeros {r} {p} rule weight keeps ring =
@@ -171,7 +171,7 @@ zeros_gain-one {r} rule weight keeps =
     let down = letter_gain rule weight keeps fewest.0 (omega (arith, fewest.1)) in
     omega (arith, ints, up.2, down.2, most.2 up.0 (omega (arith, up.1)), fewest.2 down.0 (omega (arith, down.1)))
 
--- nor do more windows of zeros gain
+-- windows of zeros gain nothing, however many they are
 zeros_gain-none : {r : LocalRule} → IsRule r → (weight : ℕ → ℕ) → KeepsFiniteChanges weight r → (n : ℕ) → zeros_gain weight r n ≡ pos 0
 zeros_gain-none {r} rule weight keeps zero = gain-short weight r (run zeros (pos 0) (0 + (r.width - 1))) (omega (arith, length-run zeros (pos 0) (0 + (r.width - 1))))
 zeros_gain-none {r} rule weight keeps (suc n) =

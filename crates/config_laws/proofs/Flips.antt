@@ -10,11 +10,11 @@ use Rattle.config_laws.proofs.Closing.{IsRightClosing-everywhere}
 abbrev pub flip : Config → Config
 flip x i = x (neg_ℤ i)
 
--- read backwards twice, it is itself
+-- read backwards twice, a configuration is itself
 pub flip-flip : (x : Config) → flip (flip x) ≡ x
 flip-flip x = fun_ext (λ i. ap x (neg_ℤ-neg_ℤ i))
 
--- the mirrored rule takes it to the image read backwards
+-- the mirrored rule takes a configuration read backwards to the image read backwards
 pub image_of-flip : {r : LocalRule} {x : Config} → IsRule r → IsConfig r.states x → image_of (mirrored r) (flip x) ≡ flip (image_of r x)
 image_of-flip {r} {x} rule h = fun_ext (λ i. image_of-backwards {c = pos 1} {x = x} {y = flip x} rule h (λ j k e. let place : neg_ℤ j ≡ k = omega (arith, ints) in ap x place) i (neg_ℤ i) (omega (arith, ints)))
 

@@ -15,11 +15,11 @@ record Reaches (r : LocalRule) (y : Config) (n : ℕ) (i : ℤ) : Type 0 where
   x : List ℕ
   preimage : IsPreimage r (run y i (enough r n + 1)) x
 
--- it has as many letters, and m - 1 more
+-- a word whose image is one letter longer than is enough has m - 1 letters more than this
 length-Reaches : {r : LocalRule} {y : Config} {n : ℕ} {i : ℤ} → (h : Reaches r y n i) → length h.x ≡ enough r n + 1 + (r.width - 1)
 length-Reaches {r} {y} {n} {i} h = h.preimage.long ∙ ap (λ l. l + (r.width - 1)) (length-run y i (enough r n + 1))
 
--- a preimage of enough letters leads to such a word with the same first m - 1 letters
+-- a preimage of enough letters leads to a word for one letter more with the same first m - 1 letters
 reaches : {r : LocalRule} {y : Config} {n : ℕ} → IsRule r → IsRightAhead r n → IsConfig r.states y → (i : ℤ) (x : List ℕ) → IsPreimage r (run y i (enough r n)) x
     → (h : Reaches r y n i) × (take (r.width - 1) h.x ≡ take (r.width - 1) x)
 reaches {r} {y} {n} rule ahead hy i x p =
@@ -30,7 +30,7 @@ reaches {r} {y} {n} rule ahead hy i x p =
     ap (λ j. run y i (enough r n) ++ y j ∷ []) (sym here) ∙ sym (run-append y i e (enough r n) 1 refl) in
     (record { x = longer.0; preimage = subst (λ w. IsPreimage r w longer.0) more longer.1 }, longer.2)
 
--- the next one, whose letters begin with the second letter of this one
+-- the next word that reaches, whose letters begin with the second letter of the one before
 next_reaches : {r : LocalRule} {y : Config} {n : ℕ} → IsRule r → IsRightAhead r n → IsConfig r.states y → (i : ℤ) (t : ℕ) (h : Reaches r y n (i +ℤ pos t))
     → (g : Reaches r y n (i +ℤ pos (suc t))) × (take (r.width - 1) g.x ≡ take (r.width - 1) (drop 1 h.x))
 next_reaches {r} {y} {n} rule ahead hy i t h =
@@ -42,16 +42,16 @@ next_reaches {r} {y} {n} rule ahead hy i t h =
       maps = image-drop r 1 h.x ∙ ap (drop 1) h.preimage.maps ∙ ap (λ l. drop 1 (run y (i +ℤ pos t) l)) order ∙ drop-run y (i +ℤ pos t) j 1 (enough r n) (omega (arith, ints));
     })
 
--- such a word for each place from i on
+-- a word that reaches for each place from i on
 abbrev all_reach : {r : LocalRule} {y : Config} {n : ℕ} → IsRule r → IsRightAhead r n → IsConfig r.states y → (i : ℤ) → Reaches r y n (i +ℤ pos 0) → (t : ℕ) → Reaches r y n (i +ℤ pos t)
 all_reach rule ahead hy i h zero = h
 all_reach rule ahead hy i h (suc t) = (next_reaches rule ahead hy i t (all_reach rule ahead hy i h t)).0
 
--- their first letters
+-- the first letters of the words that reach
 abbrev first_letters : {r : LocalRule} {y : Config} {n : ℕ} → IsRule r → IsRightAhead r n → IsConfig r.states y → (i : ℤ) → Reaches r y n (i +ℤ pos 0) → ℕ → ℕ
 first_letters rule ahead hy i h t = get_or (all_reach rule ahead hy i h t).x 0 0
 
--- the first m letters of each are first letters
+-- the first m letters of each word that reaches are first letters
 first_letters-window : {r : LocalRule} {y : Config} {n : ℕ} (rule : IsRule r) (ahead : IsRightAhead r n) (hy : IsConfig r.states y) (i : ℤ) (h : Reaches r y n (i +ℤ pos 0)) (a t : ℕ) → a < r.width
     → first_letters rule ahead hy i h (t + a) ≡ get_or (all_reach rule ahead hy i h t).x a 0
 first_letters-window {r} {y} {n} rule ahead hy i h zero t l = let all : t + 0 ≡ t = omega arith in ap (first_letters rule ahead hy i h) all
@@ -127,6 +127,6 @@ goes_on {r} {n} {x} {y} rule ahead hx hy i agree =
         ∙ sym (get_or-take d h.x a 0 l) ∙ ap (λ w. get_or w a 0) front ∙ get_or-take d (run x s (enough r n + d)) a 0 l
         ∙ get_or-run x s (s +ℤ pos a) (enough r n + d) a (omega arith) refl
 
--- before place i its image is that of x
+-- before place i the image of the configuration that goes on is that of x
 pub image_of-before : {r : LocalRule} {x y : Config} {i : ℤ} → (h : GoesOn r x y i) → (j : ℤ) → j <ℤ i → image_of r h.z j ≡ image_of r x j
 image_of-before {r} {x} {y} {i} h j l = image_of-window r h.z x j j (λ a g. h.before (j +ℤ r.offset +ℤ pos a) (omega (arith, ints)))

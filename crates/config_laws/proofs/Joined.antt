@@ -14,19 +14,19 @@ from_zero a f (negsuc i) = a
 abbrev pub joined : Config → ℤ → (ℕ → ℕ) → Config
 joined x e f i = from_zero (x i) f (i -ℤ e)
 
--- left of the place are the letters of x
+-- a joined configuration has the letters of x left of the place
 pub joined-left : (x : Config) (e : ℤ) (f : ℕ → ℕ) (i : ℤ) → i <ℤ e → joined x e f i ≡ x i
 joined-left x e f i l =
     let place : i -ℤ e ≡ negsuc (unsigned_abs (i -ℤ e) - 1) = omega (arith, ints) in
     ap (from_zero (x i) f) place
 
--- from the place on is what f says
+-- a joined configuration has what f says from the place on
 pub joined-right : (x : Config) (e : ℤ) (f : ℕ → ℕ) (i : ℤ) (a : ℕ) → e +ℤ pos a ≡ i → joined x e f i ≡ f a
 joined-right x e f i a h =
     let place : i -ℤ e ≡ pos a = omega (arith, ints) in
     ap (from_zero (x i) f) place
 
--- it is a configuration if both parts have letters alone
+-- the letters of x and those of f, joined at a place, are a configuration where both are letters alone
 pub IsConfig-joined : {k : ℕ} {x : Config} {f : ℕ → ℕ} → IsConfig k x → (e : ℤ) → ((a : ℕ) → f a < k) → IsConfig k (joined x e f)
 IsConfig-joined {k} {x} {f} hx e hf i =
     by_lt_z i e (λ l. omega (arith, joined-left x e f i l, hx i))
@@ -36,18 +36,18 @@ IsConfig-joined {k} {x} {f} hx e hf i =
 abbrev pub written : Config → ℤ → List ℕ → Config
 written x e w = joined x e (λ a. get_or w a 0)
 
--- it is a configuration if x is one and w a word
+-- a word written into a configuration over its letters, with zeros behind, makes a configuration
 pub IsConfig-written : {k : ℕ} {x : Config} → 0 < k → IsConfig k x → (e : ℤ) (w : List ℕ) → IsWord k w → IsConfig k (written x e w)
 IsConfig-written {k} {x} some hx e w hw =
     IsConfig-joined hx e (λ a. ⊎_elim (λ l. hw a 0 l) (λ l. omega (arith, get_or_past w a 0 l)) (cases_lt a (length w)))
 
--- its image has the word's image
+-- the image of a configuration has the image of a word that was written into it
 pub image_of-written : {r : LocalRule} → IsRule r → (x : Config) (i : ℤ) (w : List ℕ) (a : ℕ) → a < length w - (r.width - 1) → image_of r (written x (i +ℤ r.offset) w) (i +ℤ pos a) ≡ get_or (image r w) a 0
 image_of-written {r} rule x i w a l =
     image_of-letters r (written x (i +ℤ r.offset) w) (i +ℤ pos a) w a l (omega arith) (λ c g.
     sym (joined-right x (i +ℤ r.offset) (λ b. get_or w b 0) (i +ℤ pos a +ℤ r.offset +ℤ pos c) (a + c) (omega (arith, ints))))
 
--- the word stands in it
+-- the word that was written into a configuration stands in it
 pub run-written : (x : Config) (e : ℤ) (w : List ℕ) → run (written x e w) e (length w) ≡ w
 run-written x e w = sym (run-by_letters (written x e w) e (length w) w refl (λ a l. sym (joined-right x e (λ b. get_or w b 0) (e +ℤ pos a) a refl)))
 
@@ -55,11 +55,11 @@ run-written x e w = sym (run-by_letters (written x e w) e (length w) w refl (λ 
 abbrev pub between_zeros : List ℕ → Config
 between_zeros w = written zeros (pos 0) w
 
--- its letter at a place of the word or behind it
+-- the letter of a word between zeros, at a place of the word or behind it
 pub letter-right : (w : List ℕ) (j : ℤ) → pos 0 ≤ℤ j → between_zeros w j ≡ get_or w (unsigned_abs j) 0
 letter-right w j l = joined-right zeros (pos 0) (λ a. get_or w a 0) j (unsigned_abs j) (omega (arith, ints))
 
--- it is finite
+-- a word between zeros is a finite configuration
 pub IsFinite-between : (w : List ℕ) → IsFinite (between_zeros w)
 IsFinite-between w = (
   (pos 0, λ j l. joined-left zeros (pos 0) (λ a. get_or w a 0) j l),

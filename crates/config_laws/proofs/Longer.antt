@@ -94,11 +94,11 @@ record State (r : LocalRule) (l : ℕ) (z : List ℕ) : Type 0 where
   b : ℕ
   is : IsState r l z x b
 
--- the word's image, and the letter
+-- what a state says: the image of its word, and then its letter
 abbrev said : {r : LocalRule} {l : ℕ} {z : List ℕ} → State r l z → List ℕ
 said {r} s = image r s.x ++ s.b ∷ []
 
--- it is a word of l + 1 letters
+-- the word's image followed by the letter is a word of l + 1 letters
 IsWord-said : {r : LocalRule} {l : ℕ} {z : List ℕ} → IsRule r → (s : State r l z) → IsWord r.states (said s) × (length (said s) ≡ suc l)
 IsWord-said {r} {l} rule s = (
   All-push (λ a. a < r.states) (image r s.x) s.b (IsWord-image rule s.x) s.is.letter,
@@ -146,7 +146,7 @@ said-back {r} {n} {l} rule ahead enough s (suc i) e same =
     (sym (next_state rule a).1 ∙ next ∙ (next_state rule b).1) in
     said-back rule ahead enough s i e (ap₂ (λ (w : List ℕ) (c : ℕ). w ++ c ∷ []) parts.0 parts.1)
 
--- it comes back, since there are finitely many words
+-- since there are finitely many words, some later state says what the first one says
 comes_back : {r : LocalRule} {n l : ℕ} {z : List ℕ} → (rule : IsRule r) → IsRightAhead r n → r.width - 1 + n ≤ l + 1 → (s : State r l z) → (e : ℕ) × (said s ≡ said (states rule s (suc e)))
 comes_back {r} {n} {l} {z} rule ahead enough s =
     let found = twice_below (r.states ^ suc l) (λ i. value r.states (said (states rule s i))) (λ i h. said-below i) in
@@ -165,7 +165,7 @@ comes_back {r} {n} {l} {z} rule ahead enough s =
         let second = IsWord-said rule (states rule s j) in
         value-injective r.states (said (states rule s i)) (said (states rule s j)) first.0 second.0 (first.1 ∙ sym second.1) e
 
--- what its next one says has a preimage that begins with z
+-- what the next state says has a preimage that begins with z
 state_preimage : {r : LocalRule} {l : ℕ} {z : List ℕ} → (rule : IsRule r) (s : State r l z) (v : List ℕ) → v ≡ said (next_state rule s).0 → (y : List ℕ) × IsPreimage r v y × (take (r.width - 1) y ≡ z)
 state_preimage {r} {l} {z} rule s v e =
     let in_s : IsInserted r l s.b s.x = IsInserted-word l s.b s.x s.is.letter s.is.word s.is.long in

@@ -16,7 +16,7 @@ same_word x y = ⊎_elim (λ e. inl ((bytes_eq-Decides x y).0 e)) (λ e. inr (no
 abbrev middle : Config → ℕ → List ℕ
 middle y n = run y (neg_ℤ (pos n)) (n + n + 1)
 
--- how many letters a preimage of them has
+-- how many letters a preimage of the letters from -n to n has
 abbrev size : LocalRule → ℕ → ℕ
 size r n = n + n + 1 + (r.width - 1)
 
@@ -57,7 +57,7 @@ record Over (r : LocalRule) (y : Config) (n : ℕ) (w : List ℕ) (m : ℕ) : Ty
   preimage : IsPreimage r (middle y m) z
   over : part r n m z ≡ w
 
--- there is such a preimage or not
+-- w is part of a preimage of the letters of y from -m to m, or it isn't
 over_or_not : (r : LocalRule) (y : Config) (n : ℕ) (w : List ℕ) (m : ℕ) → Over r y n w m ⊎ ¬ Over r y n w m
 over_or_not r y n w m =
     let l : ℕ = length (middle y m) + (r.width - 1) in

@@ -31,11 +31,11 @@ each_letter P p q s t (suc (suc zero)) l = s
 each_letter P p q s t (suc (suc (suc zero))) l = t
 each_letter P p q s t (suc (suc (suc (suc a)))) l = absurd (omega arith)
 
--- what the rule gives
+-- what the rule gives on the letters a and b
 abbrev gives : ℕ → ℕ → ℕ
 gives a b = local_map parities (a ∷ b ∷ [])
 
--- what its letter says of the two of a window
+-- what the letter that the rule gives says of the two letters of a window
 abbrev Says : ℕ → ℕ → Type 0
 Says a b = (gives a b ≡ 0 → a % 2 ≡ b % 2) × (gives a b ≡ 1 → a ≡ 2) × (gives a b ≡ 2 → a ≡ 3)
 
@@ -54,7 +54,7 @@ before (suc zero) b = 2
 before (suc (suc zero)) b = 3
 before (suc (suc (suc y))) b = 1 - b % 2
 
--- that letter is below 4, and the rule gives y on it and b
+-- the letter that becomes y before b is below 4, and the rule gives y on it and b
 abbrev Becomes : ℕ → ℕ → Type 0
 Becomes y b = (before y b < 4) × (gives (before y b) b ≡ y)
 
@@ -79,7 +79,7 @@ first-below : (w : List ℕ) → IsWord 4 w → first w < 4
 first-below [] h = omega arith
 first-below (y ∷ w) h = (becomes y (first w) (h 0 0 (omega arith)) (first-below w (All-tail (λ a. a < 4) y w h))).0
 
--- it is a preimage
+-- the first letter and the others are a preimage of the word
 IsPreimage-first : (w : List ℕ) → IsWord 4 w → IsPreimage parities w (first w ∷ rest w)
 IsPreimage-first [] h = record { word = word_by_test 4 (0 ∷ []) refl; long = refl; maps = refl }
 IsPreimage-first (y ∷ w) h =
@@ -106,7 +106,7 @@ mark-below true true = omega arith
 mark-below true false = omega arith
 mark-below false b = omega arith
 
--- these, from place 0 on
+-- the marks of two tests at each number, from place 0 on
 abbrev marks : (ℕ → Bool) → (ℕ → Bool) → Config
 marks p q (pos j) = mark (p j) (q j)
 marks p q (negsuc j) = 0

@@ -120,7 +120,7 @@ record OnRight (r : LocalRule) (y : Config) (s : ℤ) : Type 0 where
   image : (j : ℤ) → s ≤ℤ j → image_of r x j ≡ y j
   repeats : RepeatsFarRight x
 
--- what does so is there if y repeats far to the right, and the image of x agrees with it from s on for long enough
+-- x on the right is there if y repeats far to the right, and the image of x agrees with y from s on for long enough
 on_right : {r : LocalRule} {x y : Config} → IsRule r → IsConfig r.states x → (s : ℤ) (right : RepeatsFarRight y) → s ≤ℤ right.place
     → ((j : ℤ) → s ≤ℤ j → j <ℤ (right.place +ℤ pos (node_count r * right.period)) → image_of r x j ≡ y j) → OnRight r y s
 on_right {r} {x} {y} rule hx s right order agree =
@@ -158,7 +158,7 @@ RepeatsFarLeft-flip {z} right = record {
       ap z place ∙ right.again (neg_ℤ j) (omega (arith, ints));
 }
 
--- what does so is there if y repeats far to the left, and the image of x agrees with it there for long enough
+-- a loop back is there if y repeats far to the left, and the image of x agrees with y there for long enough
 loops_back : {r : LocalRule} {x y : Config} → IsRule r → IsConfig r.states x → (left : RepeatsFarLeft y)
     → ((a : ℕ) → a < node_count r * left.period → image_of r x (left.place -ℤ pos a) ≡ y (left.place -ℤ pos a)) → LoopsBack r x y (left.place -ℤ pos (node_count r * left.period))
 loops_back {r} {x} {y} rule hx left agree =
@@ -181,7 +181,7 @@ RepeatsFarRight-behind {x} {z} e same h = record {
   again = λ j l. same (j +ℤ pos h.period) (omega (arith, ints)) ∙ h.again j (omega (arith, ints)) ∙ sym (same j (omega (arith, ints)));
 }
 
--- where y repeats far to the left too, and so far that this is enough, it is the image of what repeats far out
+-- where y repeats far out on both sides, far enough on the left, y is the image of what repeats far out
 on_both : {r : LocalRule} {y : Config} {s : ℤ} → IsRule r → (left : RepeatsFarLeft y) → (s +ℤ pos (node_count r * left.period)) ≤ℤ left.place → OnRight r y s
     → (x : Config) × IsConfig r.states x × HasTails x × (image_of r x ≡ y)
 on_both {r} {y} {s} rule left far g =
@@ -206,7 +206,7 @@ HasTails-finite {x} ((p, left), (q, right)) = (
   record { place = q +ℤ pos 1; period = 1; some = omega arith; again = λ j l. right (j +ℤ pos 1) (omega (arith, ints)) ∙ sym (right j (omega (arith, ints))) },
 )
 
--- a rule that takes such configurations to all of them takes some word to each
+-- a rule that takes configurations that repeat far out to all of them takes some word to each
 IsSurjective-tails : {r : LocalRule} → IsRule r → IsOntoTails r → IsSurjective r
 IsSurjective-tails {r} rule onto w hw = found (onto (between_zeros w) (IsConfig-written (some_letter rule) (λ j. some_letter rule) (pos 0) w hw) (HasTails-finite (IsFinite-between w)))
   where

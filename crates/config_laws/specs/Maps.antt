@@ -39,7 +39,7 @@ IsOntoMap r = (y : Config) → IsConfig r.states y → (x : Config) × IsConfig 
 abbrev pub IsNear : LocalRule → Config → ℕ → ℕ → Type 0
 IsNear r x n N = (y : Config) → IsConfig r.states y → AgreeWithin N (image_of r x) y → (z : Config) × IsConfig r.states z × AgreeWithin n x z × (image_of r z ≡ y)
 
--- the map is open: for each x and n there is such an N
+-- the map is open: for each x and n, what agrees with the image of x far enough is an image of what agrees with x from -n to n
 abbrev pub IsOpenMap : LocalRule → Type 0
 IsOpenMap r = (x : Config) (n : ℕ) → IsConfig r.states x → (N : ℕ) × IsNear r x n N
 

@@ -5,7 +5,7 @@ use Rattle.std.specs.Prelude.{◌≡◌, ◌⊎◌, ℕ, suc, Bool, true}
 abbrev pub Falls : (ℕ → Bool) → Type 0
 Falls test = (n : ℕ) → test (suc n) ≡ true → test n ≡ true
 
--- of two such tests, one of which passes at each number, one passes at all: known as the lesser limited principle of omniscience
+-- of two falling tests, one of which passes at each number, one passes at all: the lesser limited principle of omniscience
 abbrev pub OneOfTwo : Type 0
 OneOfTwo = (p q : ℕ → Bool) → Falls p → Falls q → ((n : ℕ) → (p n ≡ true) ⊎ (q n ≡ true)) → ((n : ℕ) → p n ≡ true) ⊎ ((n : ℕ) → q n ≡ true)
 

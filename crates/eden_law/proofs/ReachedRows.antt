@@ -17,7 +17,7 @@ AreAdded-start Has h = record {
   pairs = λ u v hu hv. (λ old. inl old, λ either. ⊎_elim (λ old. old) (λ new. absurd (omega (arith, new.1))) either);
 }
 
--- one letter more
+-- one letter more is added
 pub AreAdded-step : {r : LocalRule} {node n : ℕ} {Has : ℕ → ℕ → Type 0} {old new : List ℕ} → IsRule r → (i set : ℕ) → AreAdded r node Has n old new → i ≡ next r node n → set < 2 ^ node_count r
     → ((v : ℕ) → v < node_count r → (IsBitSet set v ↔ Has n v)) → AreAdded r node Has (n + 1) old (slice_set new i (bit_or (slice_index new i) set))
 AreAdded-step {r} {node} {n} {Has} {old} {new} rule i set h at small has =
@@ -54,7 +54,7 @@ AreAdded-step {r} {node} {n} {Has} {old} {new} rule i set h at small has =
           );
     }
 
--- what was found stays
+-- what was found stays in the rows to which pairs are added
 pub HasBit-added : {r : LocalRule} {node n : ℕ} {Has : ℕ → ℕ → Type 0} {old new : List ℕ} → AreAdded r node Has n old new → (u v : ℕ) → u < node_count r → v < node_count r → HasBit old u v → HasBit new u v
 HasBit-added h u v hu hv old = (h.pairs u v hu hv).1 (inl old)
 

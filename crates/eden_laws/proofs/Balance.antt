@@ -10,7 +10,7 @@ use Rattle.eden_laws.proofs.Numbered.{Numbered, numbered}
 abbrev IsOf : LocalRule → ℕ → ℕ → ℕ → Type 0
 IsOf r l c a = value r.states (image r (word_of r.states (l + (r.width - 1)) a)) ≡ c
 
--- these numbers
+-- the numbers of the preimages of a word of l letters with the value c, numbered
 preimages : (r : LocalRule) (l c : ℕ) → Numbered (IsOf r l c) (r.states ^ (l + (r.width - 1)))
 preimages r l c = numbered (IsOf r l c) (λ a. cases_eq (value r.states (image r (word_of r.states (l + (r.width - 1)) a))) c) (r.states ^ (l + (r.width - 1)))
 
@@ -19,13 +19,13 @@ abbrev woven : ℕ → ℕ → List ℕ → List ℕ → List ℕ
 woven k d w [] = []
 woven k d w (c ∷ cs) = w ++ (word_of k d c ++ woven k d w cs)
 
--- how long it is
+-- how long a woven word is
 length-woven : (k d : ℕ) (w cs : List ℕ) → length (woven k d w cs) ≡ length cs * (length w + d)
 length-woven k d w [] = omega arith
 length-woven k d w (c ∷ cs) =
     omega (arith, length-append w (word_of k d c ++ woven k d w cs), length-append (word_of k d c) (woven k d w cs), length-word_of k d c, length-woven k d w cs)
 
--- it is a word
+-- a woven word is a word
 IsWord-woven : (k d : ℕ) (w cs : List ℕ) → IsWord k w → IsWord (k ^ d) cs → IsWord k (woven k d w cs)
 IsWord-woven k d w [] h small = All-nil (λ a. a < k)
 IsWord-woven k d w (c ∷ cs) h small =
@@ -33,7 +33,7 @@ IsWord-woven k d w (c ∷ cs) h small =
     All-append Below w (word_of k d c ++ woven k d w cs) h
     (All-append Below (word_of k d c) (woven k d w cs) (IsWord-word_of k d c (All-head (λ a. a < k ^ d) c cs small)) (IsWord-woven k d w cs h (All-tail (λ a. a < k ^ d) c cs small)))
 
--- behind w and d letters it goes on
+-- behind w and d letters a woven word goes on
 drop-woven : (k d c : ℕ) (w cs : List ℕ) → drop (length w + d) (woven k d w (c ∷ cs)) ≡ woven k d w cs
 drop-woven k d c w cs =
     sym (drop-drop d (length w) (woven k d w (c ∷ cs)))
@@ -102,11 +102,11 @@ record IsWoven (r : LocalRule) (w : List ℕ) (j : ℕ) (z : List ℕ) : Type 0 
   small : IsWord (node_count r) cs
   preimage : IsPreimage r (woven r.states (r.width - 1) w cs) z
 
--- it has j blocks, and m - 1 letters more
+-- a preimage of a woven word has j blocks, and m - 1 letters more
 length-IsWoven : {r : LocalRule} {w : List ℕ} {j : ℕ} {z : List ℕ} → IsWoven r w j z → length z ≡ j * (length w + (r.width - 1)) + (r.width - 1)
 length-IsWoven {r} {w} {j} h = h.preimage.long ∙ ap (λ n. n + (r.width - 1)) (length-woven r.states (r.width - 1) w h.cs ∙ ap (λ n. n * (length w + (r.width - 1))) h.long)
 
--- all its blocks are preimages of w
+-- all blocks of a preimage of a woven word are preimages of w
 blocks-IsWoven : {r : LocalRule} {w : List ℕ} {j : ℕ} {z : List ℕ} → IsRule r → IsWord r.states w → IsWoven r w j z
     → All (λ a. (a < r.states ^ (length w + (r.width - 1))) × IsOf r (length w) (value r.states w) a) (blocks r.states (length w + (r.width - 1)) j z)
 blocks-IsWoven {r} {w} {j} {z} rule hw h =
@@ -153,7 +153,7 @@ node_count-two {r} rule =
     let most : r.states ^ 1 ≤ r.states ^ (r.width - 1) = pow-le-pow_right (omega (arith, rule.shape.least_states)) (omega arith) in
     omega (arith, rule.shape.least_states)
 
--- so no word has fewer preimages than there are nodes
+-- under a surjective rule no word has fewer preimages than there are nodes
 no_fewer : {r : LocalRule} → IsRule r → IsSurjective r → (w : List ℕ) → IsWord r.states w → node_count r ≤ (preimages r (length w) (value r.states w)).count
 no_fewer {r} rule every w hw =
     let k : ℕ = r.states in
@@ -275,6 +275,6 @@ IsBalanced-surjective {r} rule every w hw =
 pub IsSurjective-balanced : {r : LocalRule} → IsRule r → IsBalanced r → IsSurjective r
 IsSurjective-balanced rule balanced w hw = let has = balanced w hw in (has.at 0, has.preimage 0 (node_count_pos rule))
 
--- the theorem
+-- a rule is surjective exactly where it is balanced
 pub IsSurjective-IsBalanced : {r : LocalRule} → IsRule r → (IsSurjective r ↔ IsBalanced r)
 IsSurjective-IsBalanced rule = (IsBalanced-surjective rule, IsSurjective-balanced rule)

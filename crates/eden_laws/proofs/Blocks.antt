@@ -55,18 +55,18 @@ pub record IsWithout (q v : ℕ) (ds : List ℕ) : Type 0 where
   pub below : IsWord (suc q) ds
   pub none : All (λ d. d ≢ v) ds
 
--- such a list as one number: v is left out in the place of q
+-- a list of numbers that leave out v as one number: v is left out in the place of q
 abbrev pub block_code : ℕ → ℕ → List ℕ → ℕ
 block_code q v ds = value q (map (moved q v) ds)
 
--- the numbers are then below q
+-- the numbers of a list that leave out v are below q once v is left out in the place of q
 IsWord-moved : {q v : ℕ} {ds : List ℕ} → IsWithout q v ds → IsWord q (map (moved q v) ds)
 IsWord-moved {q} {v} {ds} h =
     All-map (λ d. d < q) (moved q v) ds (λ i d l.
     let below : get_or ds i d < suc q = h.below i d l in
     ⊎_elim (λ at. omega (arith, at.0, at.1, h.left_out, h.none i d l)) (λ at. omega (arith, at.0, at.1)) (but_cases (λ x. x) q v (get_or ds i d)))
 
--- so this one is below q ^ j
+-- the code of a list of numbers that leave out v is below q to the power of its length
 pub block_code-below : {q v : ℕ} {ds : List ℕ} → IsWithout q v ds → block_code q v ds < q ^ length ds
 block_code-below {q} {v} {ds} h = subst (λ n. block_code q v ds < q ^ n) (length-map ds (moved q v)) (value-below q (map (moved q v) ds) (IsWord-moved h))
 
@@ -90,7 +90,7 @@ block_code-injective {q} {v} {ds} {es} h g long e =
     ∙ ap (map (moved v q)) (value-injective q (map (moved q v) ds) (map (moved q v) es) (IsWord-moved h) (IsWord-moved g) (length-map ds (moved q v) ∙ long ∙ sym (length-map es (moved q v))) e)
     ∙ map-moved_back q v es g.none
 
--- with another number in its place v is left out
+-- where each v of a list is replaced by another number, v is left out
 pub IsWithout-moved : (q v x : ℕ) (ds : List ℕ) → v < suc q → x < suc q → x ≢ v → IsWord (suc q) ds → IsWithout q v (map (moved v x) ds)
 IsWithout-moved q v x ds left_out new other below =
     record {

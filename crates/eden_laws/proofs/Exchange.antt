@@ -26,7 +26,7 @@ IsErasable-long {r} {x} {y} h =
     (λ short. absurd (h.different (sym (take_all (r.width - 1) x (omega arith)) ∙ h.same_front ∙ take_all (r.width - 1) y (omega arith))))
     (cases_lt (r.width - 1) (length x))
 
--- either may stand for the other
+-- either word of an erasable pair may stand for the other within a word
 pub image-exchange : {r : LocalRule} {x y : List ℕ} → IsRule r → IsErasable r x y → (p s : List ℕ) → image r (p ++ (x ++ s)) ≡ image r (p ++ (y ++ s))
 image-exchange {r} {x} {y} rule h p s =
     let long : r.width - 1 < length x = IsErasable-long h in

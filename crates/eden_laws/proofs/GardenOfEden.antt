@@ -43,12 +43,12 @@ IsSurjective-none_erasable {r} rule none w word =
 abbrev kept : LocalRule → List ℕ → List ℕ → ℕ → List ℕ → List ℕ
 kept r x y j z = map (moved (value r.states y) (value r.states x)) (blocks r.states (length x) j z)
 
--- there are j
+-- there are j kept blocks
 length-kept : (r : LocalRule) (x y : List ℕ) (j : ℕ) (z : List ℕ) → length (kept r x y j z) ≡ j
 length-kept r x y j z =
     length-map (blocks r.states (length x) j z) (moved (value r.states y) (value r.states x)) ∙ length-blocks r.states (length x) j z
 
--- they leave out y
+-- the kept blocks leave out y
 IsWithout-kept : {r : LocalRule} {x y : List ℕ} → IsErasable r x y → (j : ℕ) (z : List ℕ) → IsWord r.states z → j * length x ≤ length z
     → IsWithout (r.states ^ length x - 1) (value r.states y) (kept r x y j z)
 IsWithout-kept {r} {x} {y} h j z word long =
@@ -68,11 +68,11 @@ image-kept : {r : LocalRule} {x y : List ℕ} → IsRule r → IsErasable r x y 
 image-kept {r} {x} {y} rule h j z word long =
     ap (image r) (sym (spread-blocks r.states (length x) j z word long)) ∙ image-replaced rule h [] (blocks r.states (length x) j z) (drop (j * length x) z)
 
--- these blocks and the last m - 1 letters as one number
+-- the kept blocks and the last m - 1 letters as one number
 abbrev kept_number : LocalRule → List ℕ → List ℕ → ℕ → List ℕ → ℕ
 kept_number r x y j z = block_code (r.states ^ length x - 1) (value r.states y) (kept r x y j z) * node_count r + value r.states (drop (j * length x) z)
 
--- the number is below N * q ^ j
+-- the number of the kept blocks is below N * q ^ j, where there are N nodes
 kept_number-below : {r : LocalRule} {x y : List ℕ} → IsErasable r x y → (j : ℕ) (z : List ℕ) → HasBlocks r (length x) j z → kept_number r x y j z < node_count r * (r.states ^ length x - 1) ^ j
 kept_number-below {r} {x} {y} h j z is =
     let q : ℕ = r.states ^ length x - 1 in
@@ -122,6 +122,6 @@ none_erasable-surjective {r} rule every x y h =
     sym (preimage found.0).1.maps ∙ image-number rule h j (z found.0) (z found.1) (is found.0) (is found.1) found.4 ∙ (preimage found.1).1.maps in
     absurd (omega (arith, found.2, found.3, sym (back found.0 (omega (arith, found.2, found.3))) ∙ ap (value k) same ∙ back found.1 found.3))
 
--- the law
+-- a rule is surjective exactly where no two words are an erasable pair
 pub garden_of_eden : {r : LocalRule} → IsRule r → (IsSurjective r ↔ NoneErasable r)
 garden_of_eden rule = (none_erasable-surjective rule, IsSurjective-none_erasable rule)

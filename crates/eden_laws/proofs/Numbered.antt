@@ -11,7 +11,7 @@ pub record Numbered (P : ℕ → Type 0) (n : ℕ) : Type 0 where
   pub forth : (i : ℕ) → i < count → place (at i) ≡ i
   pub back : (a : ℕ) → a < n → P a → (place a < count) × (at (place a) ≡ a)
 
--- with the number n
+-- the numbers that are numbered, and the number n, of which the thing holds too
 Numbered-with : {P : ℕ → Type 0} {n : ℕ} → Numbered P n → P n → Numbered P (suc n)
 Numbered-with {P} {n} before here = record {
   count = before.count + 1;
@@ -39,7 +39,7 @@ Numbered-with {P} {n} before here = record {
       (cases_eq a n);
 }
 
--- without it
+-- the numbers that are numbered, without the number n, of which the thing doesn't hold
 Numbered-without : {P : ℕ → Type 0} {n : ℕ} → Numbered P n → ¬ P n → Numbered P (suc n)
 Numbered-without {P} {n} before none = record {
   count = before.count;
@@ -50,7 +50,7 @@ Numbered-without {P} {n} before none = record {
   back = λ a l holds. ⊎_elim (λ last. absurd (none (subst P last holds))) (λ other. before.back a (omega (arith, other)) holds) (cases_eq a n);
 }
 
--- they can be numbered
+-- the numbers below a bound of which something holds that can be decided can be numbered
 pub numbered : (P : ℕ → Type 0) → ((a : ℕ) → P a ⊎ ¬ P a) → (n : ℕ) → Numbered P n
 numbered P decide zero = record {
   count = 0;

@@ -9,7 +9,7 @@ use Rattle.eden_laws.proofs.Exchange.{IsErasable-long}
 use Rattle.eden_laws.proofs.GardenOfEden.{IsSurjective-none_erasable, none_erasable-surjective}
 use Rattle.eden_laws.proofs.PairEnds.{pair_behind, first_of-behind, second_of-behind, HaveOneImage-follow, IsPush, IsPush-some}
 
--- one more letter leaves the first letters
+-- with one letter more at the end, two words begin alike exactly where they did
 take-push : {r : LocalRule} {n : ℕ} {x y : List ℕ} (a b : ℕ) → HaveOneImage r n x y → take (r.width - 1) (x ++ a ∷ []) ≡ take (r.width - 1) (y ++ b ∷ []) ↔ (take (r.width - 1) x ≡ take (r.width - 1) y)
 take-push {r} {n} {x} {y} a b h =
     let first : take (r.width - 1) (x ++ a ∷ []) ≡ take (r.width - 1) x = take-append-le (r.width - 1) x (a ∷ []) (omega (arith, h.first_long)) in
@@ -57,7 +57,7 @@ pub record ReachingWords (r : LocalRule) (p : ℕ) : Type 0 where
   pub same_front : take (r.width - 1) x ≡ take (r.width - 1) y
   pub pair : pair_behind r n x y ≡ p
 
--- a step leads two words with one image and one beginning to such words, if they or the letters differ
+-- a step leads two words with one image and one beginning to two different such words, if they or the letters differ
 ReachingWords-push : {r : LocalRule} {n p q : ℕ} {x y : List ℕ} → IsRule r → HaveOneImage r n x y → take (r.width - 1) x ≡ take (r.width - 1) y → pair_behind r n x y ≡ p → (a b : ℕ) → a < r.states → b < r.states
     → follow r p a b ≡ Some q → ((x ≡ y) → a ≢ b) → ReachingWords r q
 ReachingWords-push {r} {n} {p} {q} {x} {y} rule h front e a b ha hb f other =
@@ -72,7 +72,7 @@ ReachingWords-push {r} {n} {p} {q} {x} {y} rule h front e a b ha hb f other =
       pair = after.1;
     }
 
--- each reached pair has such words
+-- each reached pair has two different words with one image and one beginning that end with it
 pub words-reached : {r : LocalRule} {p : ℕ} → IsRule r → IsReached r p → ReachingWords r p
 words-reached {r} rule (First p h) =
     let z : List ℕ = word_of r.states (r.width - 1) h.node in
@@ -115,7 +115,7 @@ HaveOneImage-erasable h =
 pub last-erasable : {r : LocalRule} {x y : List ℕ} → IsErasable r x y → drop (length x - (r.width - 1)) x ≡ drop (length x - (r.width - 1)) y
 last-erasable {r} {y = y} h = h.same_back ∙ ap (λ j. drop (j - (r.width - 1)) y) (sym h.one_length)
 
--- so an erasable pair gives a reached pair of two equal nodes
+-- an erasable pair gives a reached pair of two equal nodes
 IsReached-erasable : {r : LocalRule} {x y : List ℕ} → IsRule r → IsErasable r x y → (p : ℕ) × IsReached r p × (first_of r p ≡ second_of r p)
 IsReached-erasable {r} {x} {y} rule h =
     let n : ℕ = length x - (r.width - 1) in
@@ -142,7 +142,7 @@ pub holds-reached : {r : LocalRule} {p : ℕ} (Holds : ℕ → Type 0) → ((q :
 holds-reached Holds firsts closed (First p h) = firsts p h
 holds-reached Holds firsts closed (On p a b q reached ha hb f) = closed p a b q (holds-reached Holds firsts closed reached) ha hb f
 
--- so a rule with a pair list is surjective
+-- a rule with a pair list is surjective
 pub IsSurjective-pair_list : {r : LocalRule} {pairs : List ℕ} → IsRule r → IsPairList r pairs → IsSurjective r
 IsSurjective-pair_list rule list = (IsSurjective-reached rule).1 (λ p reached. list.off_diagonal p (holds-reached (Contains _) list.firsts list.closed reached))
 

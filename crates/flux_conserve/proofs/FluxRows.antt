@@ -21,7 +21,7 @@ drop-gains_row weight r =
     let long : length (walk_gains weight r) ≡ node_count r = length-map-range_with_len (walk_gain weight r) 0 (node_count r) in
     ap (λ n. drop n (gains_row weight r)) (sym long) ∙ drop-append_seam (walk_gains weight r) (replicate (16 - node_count r) (pos 0))
 
--- a rule is conserving exactly where the first of them are a flux
+-- a rule is conserving exactly where the gains at the front of the row are a flux
 pub IsConserving-gains_row : {r : LocalRule} → IsRule r → (weight : ℕ → ℕ) → IsConserving weight r ↔ IsFlux weight r (take (node_count r) (gains_row weight r))
 IsConserving-gains_row {r} rule weight = let P : List ℤ → Type 0 = λ phi. IsConserving weight r ↔ IsFlux weight r phi in subst P (sym (take-gains_row weight r)) (IsConserving-walk_gains rule weight)
 

@@ -15,7 +15,7 @@ all_led {r} {ends} {set} rule u a small h none v edge =
     (λ missing. absurd (IsBitSet-zero v (subst (λ n. IsBitSet n v) none ((IsBitSet-minus ends set v small (omega (arith, node, rule.shape.most_nodes))).1 ((h.nodes v node).1 edge, missing)))))
     (IsBitSet-decide set v)
 
--- where it lacks one, not all do
+-- where the set lacks one of the ends, not all edges lead into it
 pub not_led : {r : LocalRule} {ends set : ℕ} → IsRule r → (u a : ℕ) → set < 2 ^ 16 → IsEnds Right r u a ends → bit_and ends (65535 - set) ≢ 0 → ¬ IsLedInto r set a u
 not_led {r} {ends} {set} rule u a small h some led =
     let (v, node, bit) = IsBitSet-some (node_count r) (bit_and ends (65535 - set)) (omega (arith, and_le_l ends (65535 - set), h.within)) some in

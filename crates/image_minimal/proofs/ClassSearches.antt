@@ -18,7 +18,7 @@ length-classes-le {r} x = length-search-le x (2 ^ node_count r) (omega (arith, p
 pub class-below : {r : LocalRule} {classes : List ℕ} {e : ℕ} → IsClassSearch r classes e → (i : ℕ) → i < length classes → slice_index classes i < 2 ^ node_count r
 class-below {r} {classes} x i l = search-below x (2 ^ node_count r) (omega (arith, pow_pos (node_count r))) (λ s a t step. step.closure.of.within) i (slice_index classes i) (slice_get-get_or classes i 0 l)
 
--- there is one
+-- there is at least one class
 pub classes-some : {r : LocalRule} {classes : List ℕ} {e : ℕ} → IsClassSearch r classes e → 1 ≤ length classes
 classes-some {classes = classes} x =
     let first = x.queue.fills.first.state in
@@ -59,7 +59,7 @@ record AreClassWords (r : LocalRule) (classes : List ℕ) (words : List (List �
   pub next : (i a j from to : ℕ) → slice_get classes i ≡ Some from → slice_get classes j ≡ Some to → a < r.states → IsClosedStep r from a to → IsNextClass r words i a j
   pub dead : (dead : Option ℕ) → IsPlaceOf classes 0 dead → IsDeadClass r words dead
 
--- there are such words
+-- there are words of the classes
 words_of : {r : LocalRule} {closures classes : List ℕ} → HasClasses r closures classes → (words : List (List ℕ)) × AreClassWords r classes words
 words_of {r} {closures} {classes} h =
     let x = h.search in

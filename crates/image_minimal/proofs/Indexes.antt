@@ -33,7 +33,7 @@ IsExactIndex-apart {sets} {places} h i j set at also =
     let two = (h.each set j small).1 also in
     cc
 
--- so there are at most 65,536 sets
+-- a list with an exact index has at most 65,536 sets
 pub length-listed-le : {sets : List ℕ} {places : List (Option ℕ)} → IsExactIndex sets places → length sets ≤ 65536
 length-listed-le {sets} h =
     let at : (i : ℕ) → i < length sets → slice_get sets i ≡ Some (slice_index sets i) = λ i l. slice_get-get_or sets i 0 l in

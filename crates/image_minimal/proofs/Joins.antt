@@ -4,7 +4,7 @@ use Rattle.word_image.proofs.Common.{cases_eq, sum_by-set}
 use Rattle.image_minimal.specs.Joins.{Rises, IsFalling, total, IsHalved, IsUnited}
 use Rattle.image_minimal.specs.Joins.Rises.{Rest, Rise}
 
--- one way after another
+-- one way up the parents after another is a way up
 pub Rises-then : {parents : List ℕ} {x y z : ℕ} → Rises parents x y → Rises parents y z → Rises parents x z
 Rises-then (Rest x) more = more
 Rises-then (Rise x y inside rest) more = Rise x _ inside (Rises-then rest more)
@@ -18,7 +18,7 @@ Rises-root {parents} (Rise x z inside rest) root same is = Rises-root rest root 
 total-set : (parents : List ℕ) (x parent : ℕ) → x < length parents → total (set parents x parent) + slice_index parents x ≡ total parents + parent
 total-set parents x parent inside = sum_by-set (λ y. y) parents x parent 0 inside
 
--- nothing has changed yet
+-- a list of parents that hasn't changed yet is halved from itself
 pub IsHalved-start : {parents : List ℕ} → IsFalling parents → IsHalved parents parents
 IsHalved-start {parents} falling = record {
   long = refl;
@@ -57,7 +57,7 @@ Rises-halved : {old new : List ℕ} {x z : ℕ} → IsHalved old new → Rises n
 Rises-halved h (Rest x) = Rest x
 Rises-halved h (Rise x z inside rest) = Rises-then (h.kept x (omega (arith, h.long))) (Rises-halved h rest)
 
--- halved twice
+-- what is halved twice is halved
 pub IsHalved-then : {old middle new : List ℕ} → IsHalved old middle → IsHalved middle new → IsHalved old new
 IsHalved-then first second = record {
   long = second.long ∙ first.long;

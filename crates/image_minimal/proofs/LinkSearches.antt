@@ -50,7 +50,7 @@ IsLinking-there {r} {q} {links} h a linking x s t head letter one two chain = re
   even = linking.even;
 }
 
--- or to one that isn't, which is linked
+-- one edge more leads to a pair that isn't joined, which is linked
 IsLinking-new : {r q : LocalRule} {links : List Link} (h a : ℕ) → IsLinking r q links (h * r.states + a) → (x y : Link) → slice_get links h ≡ Some x → a < r.states → y.parent ≡ h → y.letter ≡ a
     → IsStep r x.first a y.first → IsStep q x.second a y.second → (y.first ≡ 0 ↔ (y.second ≡ 0)) → HasChain r (links ++ y ∷ []) (y.first, y.second) (h * r.states + a + 1)
     → IsLinking r q (links ++ y ∷ []) (h * r.states + a + 1)
@@ -75,7 +75,7 @@ IsLinkSearch-there {r} {q} {s = s} {t = t} h letter search x head below one two 
       joined = AreJoined-halved search.joined halved (h * r.states + letter + 1) (omega arith);
     }
 
--- a pair that isn't makes a link
+-- a pair whose sets aren't in one class makes a link
 pub IsLinkSearch-new : {r q : LocalRule} {links : List Link} {parents new : List ℕ} {s t : ℕ} (h letter : ℕ) → IsLinkSearch r q links parents (h * r.states + letter) → (x : Link)
     → slice_get links h ≡ Some x → letter < r.states → IsStep r x.first letter s → IsStep q x.second letter t → (s ≡ 0 ↔ (t ≡ 0))
     → IsUnited parents new s (2 ^ node_count r + t) → IsLinkSearch r q (links ++ record { first = s; second = t; parent = h; letter = letter } ∷ []) new (h * r.states + letter + 1)
@@ -128,7 +128,7 @@ uneven s t test =
     (cases_eq t 0))
     (cases_eq s 0)
 
--- or both or neither
+-- of two sets both are empty or neither
 pub even : (s t : ℕ) → not (beq (nat_eq s 0) (nat_eq t 0)) ≡ false → (s ≡ 0 ↔ (t ≡ 0))
 even s t test =
     ⊎_elim

@@ -14,11 +14,11 @@ IsWithin r set other = (u : ℕ) → u < node_count r → IsBitSet set u → IsB
 abbrev pub IsLedInto : LocalRule → ℕ → ℕ → ℕ → Type 0
 IsLedInto r set a u = (v : ℕ) → IsEdge Right r a u v → IsBitSet set v
 
--- the nodes from which they do
+-- the nodes from which all edges labelled a lead into the set
 pub record IsBack (r : LocalRule) (set a before : ℕ) : Type 0 where
   pub of : IsNodeSet r (IsLedInto r set a) before
 
--- letter a leads from these nodes to those into which all its edges from them lead
+-- letter a leads from a set to a rest: the set has the nodes from which all edges labelled a lead into the rest
 abbrev pub StepsInto : LocalRule → ℕ → ℕ → ℕ → Type 0
 StepsInto r set a rest = (a < r.states) × IsBack r rest a set
 

@@ -19,7 +19,7 @@ link_place x = record { state = (x.first, x.second); parent = x.parent; letter =
 abbrev pub link_places : List Link → List (Place (ℕ × ℕ))
 link_places = map link_place
 
--- one state is joined to the other by links that were made by the time so many edges had been followed
+-- one state is joined to the other by links that were made by the time e edges had been followed
 pub data Chain (n k : ℕ) (links : List Link) (e : ℕ) : ℕ → ℕ → Type 0 where
   Stay : (x : ℕ) → Chain n k links e x x
   Forth : (i : ℕ) (y : Link) (z : ℕ) → slice_get links i ≡ Some y → filled k i (link_place y) ≤ e → Chain n k links e (second_state n y) z → Chain n k links e y.first z
@@ -29,7 +29,7 @@ pub data Chain (n k : ℕ) (links : List Link) (e : ℕ) : ℕ → ℕ → Type 
 abbrev pub LinkStep : LocalRule → LocalRule → ℕ × ℕ → ℕ → ℕ × ℕ → Type 0
 LinkStep r q from a to = IsStep r from.0 a to.0 × IsStep q from.1 a to.1
 
--- two sets are joined by links that were made by the time so many edges had been followed
+-- two sets are joined by links that were made by the time e edges had been followed
 abbrev pub HasChain : LocalRule → List Link → ℕ × ℕ → ℕ → Type 0
 HasChain r links pair e = Chain (2 ^ node_count r) r.states links e pair.0 (2 ^ node_count r + pair.1)
 

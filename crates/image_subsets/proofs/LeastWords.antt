@@ -8,7 +8,7 @@ use Rattle.image_subsets.specs.FamilyTrees.{IsLeastParent}
 abbrev family_word : {r : LocalRule} {sets : List ℕ} → IsFamily r sets → ℕ → List ℕ
 family_word family i = get_or family.words i []
 
--- it is the least one of its set
+-- the word that a family has for the set at a place is the least one of its set
 family_word-least : {r : LocalRule} {sets : List ℕ} → (family : IsFamily r sets) (i : ℕ) → i < length sets → IsLeastWordOf r (slice_index sets i) (family_word family i)
 family_word-least {r} {sets} family i below = paired_at (IsLeastWordOf r) sets family.words i 0 [] family.each below
 

@@ -15,7 +15,7 @@ set_without-bit x u i node inside =
       (λ (first, other). minus.1 (first, λ some. other ((IsBitSet-pow u i).0 some))),
     )
 
--- nothing is done
+-- before the first row nothing is spread
 pub IsSpreadTo-start : (u : ℕ) (others rows : List ℕ) → IsSpreadTo u 0 others rows rows
 IsSpreadTo-start u others rows = record {
   done = λ x less. absurd (omega (arith, less));
@@ -38,7 +38,7 @@ HoldsWithout-same {u} {n} {old} {now} node h x =
       (λ both. (both.0, same.1 both.1)),
     )
 
--- one row more
+-- one row more is spread
 pub IsSpreadTo-row : {u i : ℕ} (more : ℕ) {others old now : List ℕ} → IsSpreadTo u (64 * i) others old now → i < length now
     → ((b : ℕ) → b < 64 → (IsBitSet more b ↔ HoldsWithout others u (64 * i + b)))
     → IsSpreadTo u (64 * (i + 1)) others old (slice_set now i (bit_or (slice_index now i) more))
@@ -88,7 +88,7 @@ AreMarksTo-start {sets} {n} {rows} h x below = (
   (λ c. (h.marked x below).1 (c.place, c.below, get_or_default sets c.place x 0 c.below ∙ same_set n (slice_index sets c.place) x (h.within c.place c.below) below (λ i _. (c.part i, c.agree i (omega arith))))),
 )
 
--- one node more
+-- the marks of one node more are spread
 pub AreMarksTo-next : (sets : List ℕ) (n u : ℕ) (old new : List ℕ) (count : ℕ) → n ≤ 16 → u < n → 2 ^ n ≤ count → IsSpreadTo u count old old new
     → AreMarksTo sets n u old → AreMarksTo sets n (u + 1) new
 AreMarksTo-next sets n u old new count few node all spread marks x below =
@@ -139,7 +139,7 @@ AreMarksTo-next sets n u old new count few node all spread marks x below =
           (IsBitSet-decide (slice_index sets c.place) u))),
     )
 
--- in the end those that contain one are
+-- once the marks of all nodes are spread, exactly the sets that contain a listed one are marked
 pub AreAbove-all : (sets : List ℕ) (n : ℕ) (marks : List ℕ) → AreMarksTo sets n n marks → AreAbove sets n marks
 AreAbove-all sets n marks h x below = (
   (λ marked. let c = (h x below).0 marked in (c.place, c.below, c.part)),

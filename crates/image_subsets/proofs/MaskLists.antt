@@ -60,7 +60,7 @@ AreMembers-push {sets} {rows} h set i v row bit small new = record {
       );
 }
 
--- so there are at most as many as masks
+-- a list of different sets that the rows mark has at most 65,536 sets
 length-masks-le : {sets rows : List ℕ} → AreMembers sets rows → length sets ≤ 65536
 length-masks-le {sets} h =
     length-le_from_distinct_below sets 65536 (IsDistinct-from_AllPairs Decides-eqb sets h.apart) (λ s any.

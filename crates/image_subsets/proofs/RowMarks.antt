@@ -28,7 +28,7 @@ IsBitSet-low i b u inside low =
       (λ some. bits.0 (subst (λ x. IsBitSet x u) (sym rest) some)),
     )
 
--- one of the others by its row
+-- whether a set has a node from the seventh on is told by the set's row
 pub IsBitSet-high : (i b v : ℕ) → b < 64 → IsBitSet (64 * i + b) (6 + v) ↔ IsBitSet i v
 IsBitSet-high i b v inside =
     let row : (64 * i + b) / 64 ≡ i = omega (arith, inside) in
@@ -49,7 +49,7 @@ abbrev every : ℕ → (ℕ → Bool) → Bool
 every zero f = true
 every (suc n) f = f n && every n f
 
--- it is passed by any one
+-- a test that each number below n passes is passed by any one of them
 every-at : (n : ℕ) (f : ℕ → Bool) → every n f ≡ true → (i : ℕ) → i < n → f i ≡ true
 every-at zero f all i less = absurd (omega (arith, less))
 every-at (suc n) f all i less =
@@ -92,7 +92,7 @@ with_low_node rows i b u s row inside low size =
       (λ (some, without). let has = node_of.0 some in parts.1 ((kept has).1 without, mask.1 has)),
     )
 
--- those that have one of the others, which stand in another row without it
+-- the sets of a row that have one of the nodes from the seventh on, and are marked in another row without it
 pub with_high_node : (rows : List ℕ) (i b v at : ℕ) → i < 1024 → b < 64 → v < 10 → IsBitSet i v → at + 2 ^ v ≡ i
     → IsBitSet (slice_index rows at) b ↔ HoldsWithout rows (6 + v) (64 * i + b)
 with_high_node rows i b v at row inside high some is =
@@ -106,7 +106,7 @@ with_high_node rows i b v at row inside high some is =
       (λ both. subst₂ (HasBit rows) at_row at_bit both.1),
     )
 
--- where a row is of sets that lack one of the others, none has it
+-- where a row is of sets that lack a node from the seventh on, none of its sets has the node
 pub with_no_node : (rows : List ℕ) (i b v : ℕ) → b < 64 → ¬ IsBitSet i v → IsBitSet 0 b ↔ HoldsWithout rows (6 + v) (64 * i + b)
 with_no_node rows i b v inside none = (
   (λ some. absurd (IsBitSet-zero b some)),

@@ -49,7 +49,7 @@ set-below {r} {sets} h i below =
 pub length-subset_search-le : {r : LocalRule} {sets : List ℕ} {parents : List (Option (ℕ × ℕ))} {e : ℕ} → IsTreeSearch r sets parents e → length sets ≤ 2 ^ node_count r
 length-subset_search-le {r} h = length-listed-le h.search (2 ^ node_count r) (omega (arith, pow_pos (node_count r))) (λ s a t step. step.within)
 
--- of at most 16 nodes
+-- a search of the sets of at most 16 nodes has at most 65,536 sets
 pub length-search-most : {r : LocalRule} {sets : List ℕ} {parents : List (Option (ℕ × ℕ))} {e : ℕ} → IsRule r → IsTreeSearch r sets parents e → length sets ≤ 65536
 length-search-most {r} rule h = omega (arith, length-subset_search-le h, pow_mono {i = node_count r} {j = 16} rule.shape.most_nodes)
 
@@ -136,7 +136,7 @@ pub record IsExpanding (r : LocalRule) (sets : List ℕ) (parents : List (Option
   pub within : h < length sets
   pub here : slice_index sets h ≡ set
 
--- the set stands there
+-- the set whose edges are followed stands at its place
 head_at : {r : LocalRule} {sets : List ℕ} {parents : List (Option (ℕ × ℕ))} {h set n : ℕ} → IsExpanding r sets parents h set n → slice_get sets h ≡ Some set
 head_at {sets = sets} {h = h} x = slice_get-get_or sets h 0 x.within ∙ ap Some x.here
 

@@ -46,7 +46,7 @@ upper_row rows ends x y at below =
     ∙ get_or-append-add rows (map (λ row. zip2 bit_or row ends) rows) y []
     ∙ get_or-map (λ row. zip2 bit_or row ends) rows y [] [] below
 
--- one node more
+-- the steps of the sets of one node more
 pub AreSteps-double : {r : LocalRule} {first count : ℕ} {rows : List (List ℕ)} → IsRule r → AreSteps r first count rows → (u : ℕ) (ends : List ℕ) → u ≡ first + count → u < node_count r
     → length ends ≡ 16 → ((a : ℕ) → a < r.states → IsEnds Right r u a (slice_index ends a))
     → AreSteps r first (count + 1) (rows ++ map (λ row. zip2 bit_or row ends) rows)

@@ -3,11 +3,11 @@ use Rattle.std.proofs.Common.{◌≡◌, ℕ, suc, ◌+◌, ◌-◌, ◌*◌, �
 use Rattle.word_image.proofs.Common.{pow-le-pow_right, get_or-append, cases_lt, length-map, get_or-append_right, get_or-map, All-take, All-from_get_or, LocalRule, IsRule, IsWord, value, word_of, local_map, node_count, image, label, value-drop, value-snoc, value-below, length-word_of, IsWord-word_of, value-word_of, split_last, IsWord-image, length-image, image-snoc, local_map-label, node_count_pos, windows-nodes}
 use Rattle.inverse_table.specs.ImageValues.{AreImageValues, labels_from}
 
--- the rows before another one
+-- the rows before another one end before it begins
 pub row_below : (i j k : ℕ) → i < j → i * k + k ≤ j * k
 row_below i j k l = let more : (i + 1) * k ≤ j * k = mul-le-mul_right k (omega arith) in omega arith
 
--- the labels of a node's edges
+-- a node has as many labels as there are letters, and they are in the table
 pub row-long : {r : LocalRule} → IsRule r → (node : ℕ) → node < node_count r
     → (node * r.states + r.states ≤ length r.table) × (length (labels_from r node) ≡ r.states)
 row-long {r} rule node l =
@@ -21,7 +21,7 @@ pub record AreLonger (r : LocalRule) (images : List ℕ) (count : ℕ) (values :
   pub long : length values ≡ count * r.states
   pub each : (word a : ℕ) → word < count → a < r.states → slice_index values (word * r.states + a) ≡ slice_index images word * r.states + label r (word % node_count r) a
 
--- the row of the next word
+-- the row of the next word's longer images is added
 pub AreLonger-row : {r : LocalRule} → IsRule r → (images values : List ℕ) (count node first : ℕ) → AreLonger r images count values
     → node ≡ count % node_count r → first ≡ slice_index images count * r.states
     → AreLonger r images (count + 1) (values ++ map (λ label. first + label) (labels_from r node))
@@ -50,7 +50,7 @@ AreLonger-row {r} rule images values count node first h at is =
           (cases_lt word count);
     }
 
--- so these are the images of the words that are one letter longer
+-- the values with one letter more are the images of the words that are one letter longer
 pub AreImageValues-longer : {r : LocalRule} → IsRule r → (n : ℕ) (images values : List ℕ)
     → AreLonger r images (length images) values → AreImageValues r n images → AreImageValues r (n + 1) values
 AreImageValues-longer {r} rule n images values longer before =
@@ -85,7 +85,7 @@ image-at {r} {n} {images} h v l =
     ap (slice_index images) (sym (value-word_of r.states (n + (r.width - 1)) v below))
     ∙ h.each x (IsWord-word_of r.states (n + (r.width - 1)) v below) (length-word_of r.states (n + (r.width - 1)) v)
 
--- is a number below k ^ n
+-- each image of the words of n + m - 1 letters is a number below k ^ n
 pub AreImageValues-below : {r : LocalRule} {n : ℕ} {images : List ℕ} → IsRule r → AreImageValues r n images → All (λ image. image < r.states ^ n) images
 AreImageValues-below {r} {n} {images} rule h = All-from_get_or (λ image. image < r.states ^ n) images 0 (λ v l.
     let x : List ℕ = word_of r.states (n + (r.width - 1)) v in
@@ -93,7 +93,7 @@ AreImageValues-below {r} {n} {images} rule h = All-from_get_or (λ image. image 
     let below : value r.states (image r x) < r.states ^ n = subst (λ j. value r.states (image r x) < r.states ^ j) long (value-below r.states (image r x) (IsWord-image rule x)) in
     omega (arith, image-at h v l))
 
--- so there is room for one more letter of the image
+-- where k ^ j is at most 65,536, and n is less than j, there is room for one more letter of each image of n letters
 pub AreImageValues-fit : {r : LocalRule} {n : ℕ} {images : List ℕ} → IsRule r → (j : ℕ) → n < j → r.states ^ j ≤ 65536 → AreImageValues r n images
     → All (λ image. image * r.states + r.states ≤ 65536) images
 AreImageValues-fit {r} {n} {images} rule j less few h = All-from_get_or (λ image. image * r.states + r.states ≤ 65536) images 0 (λ v l.

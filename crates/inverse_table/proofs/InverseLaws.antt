@@ -26,7 +26,7 @@ letter_by_unit-place {r} rule n c k unit some inside same behind x h long =
     ap (λ j. value r.states x / unit % j) same ∙ ap (λ u. value r.states x / u % r.states) behind
     ∙ letter-value r.states x c (n + (r.width - 1) - 1 - c) h (omega arith)
 
--- the letters at that place
+-- the letters are read back by their place in the value
 pub IsReadingBack-place : {r : LocalRule} {n c k unit : ℕ} {images letters : List ℕ} → IsRule r → 1 ≤ n → c ≤ n + r.width - 2 → k ≡ r.states
     → unit ≡ r.states ^ (n + (r.width - 1) - 1 - c) → AreImageValues r n images → length letters ≡ r.states ^ n → IsReadingBack r n c (letter_by_unit k unit) images letters
 IsReadingBack-place {r} {n} {c} {k} {unit} rule some inside same behind values long =
@@ -73,7 +73,7 @@ read_back {r} {images = images} {letters = letters} h all x word long =
     let below : value r.states x < length images = subst (λ j. value r.states x < j) (ap (λ j. r.states ^ j) long ∙ sym h.values.long) (value-below r.states x word) in
     ap (slice_index letters) (sym (h.values.each x word long)) ∙ all (value r.states x) below ∙ h.reads x word long
 
--- so the window is determined
+-- where the letter of each word is read back, the window is determined
 pub IsDetermined-read : {r : LocalRule} {n c : ℕ} {letter : ℕ → ℕ} {images letters : List ℕ} → IsReadingBack r n c letter images letters → AreReadBack letter images (length images) letters
     → IsDetermined r n c
 IsDetermined-read {r} {letters = letters} h all = record {
@@ -86,11 +86,11 @@ IsDetermined-read {r} {letters = letters} h all = record {
 IsSurjective-determined : {r : LocalRule} {n c : ℕ} → IsRule r → IsDetermined r n c → IsSurjective r
 IsSurjective-determined rule window = IsSurjective-injective rule (IsInjective-determined rule window)
 
--- the map of these letters
+-- the map of the letters that are read back
 abbrev pub map_of : LocalRule → ℕ → ℕ → List ℕ → WindowMap
 map_of r n c letters = record { states = r.states; width = n; offset = neg_ℤ r.offset -ℤ pos c; table = letters }
 
--- is the inverse map
+-- the map of the letters that are read back is the inverse map
 pub IsInverseMap-read : {r : LocalRule} {n c : ℕ} {letter : ℕ → ℕ} {images letters : List ℕ} → IsRule r → IsReadingBack r n c letter images letters → AreReadBack letter images (length images) letters
     → IsInverseMap r n c (map_of r n c letters)
 IsInverseMap-read {r} {n} {c} {letter} {images} {letters} rule h all =
@@ -104,7 +104,7 @@ IsInverseMap-read {r} {n} {c} {letter} {images} {letters} rule h all =
       none = λ w word long none. let found = IsSurjective-determined rule (IsDetermined-read h all) w word in absurd (none found.0 found.1);
     }
 
--- one of the maps that there are
+-- the map that is read is one of the maps that there are
 pub IsWindowMap-read : {r : LocalRule} {n c : ℕ} {letter : ℕ → ℕ} {images letters : List ℕ} → IsRule r → IsReadingBack r n c letter images letters → AreReadBack letter images (length images) letters
     → r.states ^ n ≤ 65536 → IsWindowMap (map_of r n c letters)
 IsWindowMap-read {r} {n} {c} {letters = letters} rule h all few =
@@ -138,7 +138,7 @@ map_letter-image {r} {n} h x word long =
     let fewer : length (image r x) ≡ n = length-image r x ∙ ap (λ j. j - (r.width - 1)) long ∙ omega arith in
     h.letter (image r x) x fewer (record { word = word; long = omega (arith, fewer, long); maps = refl })
 
--- so n cells of the image of a configuration give a cell back
+-- from n cells of the image of a configuration the map gives a cell back
 map_letter-cells : {r : LocalRule} {n c : ℕ} {g : WindowMap} → IsRule r → c ≤ n + r.width - 2 → 1 ≤ n → IsInverseMap r n c g → (t : TailConfig) → IsTail r.states t → (i : ℤ)
     → map_letter g (run (image_of r (cell t)) (i +ℤ g.offset) n) ≡ cell t i
 map_letter-cells {r} {n} {c} {g} rule inside some h t tail i =
@@ -185,7 +185,7 @@ map_image-part {r} {n} {c} {g} {x} {z} rule some inside h long p =
     (IsPreimage-part rule p i n (omega arith))
     ∙ get_or-take (n + (r.width - 1)) (drop i z) c 0 (omega arith) ∙ get_or-drop i z c 0)))
 
--- so the rule gives letter c of a word back from what the map makes of the word
+-- the map's rule gives letter c of a word back from what the map makes of the word
 local_map-map_image : {r : LocalRule} {n c : ℕ} {g : WindowMap} → IsRule r → IsDetermined r n c → IsInverseMap r n c g
     → (x : List ℕ) → IsWord r.states x → length x ≡ n + (r.width - 1) → local_map r (map_image g x) ≡ slice_index x c
 local_map-map_image {r} {n} {c} {g} rule window h x word long =

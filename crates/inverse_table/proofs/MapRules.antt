@@ -23,7 +23,7 @@ windows_one g one =
     let width : max 2 g.width ≡ 2 = omega arith in
     ap (λ n. k ^ n) width ∙ pow-suc k 1 ∙ ap (λ n. n * k) (pow-suc k 0 ∙ ap (λ n. n * k) (pow-zero k) ∙ one-mul k)
 
--- for a window it has the map's letter for the first cell
+-- the rule of a map that reads one letter has, for a window, the map's letter for the first cell
 pub entry_one : {g : WindowMap} → IsWindowMap g → g.width ≡ 1 → (v : ℕ) → v < g.states ^ (map_rule g).width → (v / g.states < length g.table) × (slice_index g.table (v / g.states) ≡ slice_index (map_rule g).table v)
 entry_one {g} h one v l =
     let k : ℕ = g.states in
@@ -32,7 +32,7 @@ entry_one {g} h one v l =
     let first : v / k < k = div_below v k k (omega (arith, h.least_states)) below in
     (omega arith, sym (ap (λ t. slice_index t v) (table_one g one) ∙ get_or-map-range_with_len (λ u. slice_index g.table (u / k)) 0 (k * k) v v 0 below (omega arith)))
 
--- of an accepted shape, it is a rule
+-- the rule of a map, where its shape is accepted, is a rule
 pub IsRule-map_rule : {g : WindowMap} → IsWindowMap g → IsShape g.states (map_rule g).width g.offset → IsRule (map_rule g)
 IsRule-map_rule {g} h shape =
     let k : ℕ = g.states in

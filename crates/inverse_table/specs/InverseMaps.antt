@@ -15,7 +15,7 @@ map_rule g = record {
   table = if g.width == 1 then map (λ v. slice_index g.table (v / g.states)) (range_with_len 0 (g.states * g.states)) else g.table;
 }
 
--- what it gives on the consecutive words of `width` letters of a word
+-- what the map gives on the consecutive words of `width` letters of a word
 abbrev pub map_image : WindowMap → List ℕ → List ℕ
 map_image g x = map (λ i. map_letter g (slice_range x i (i + g.width))) (range_with_len 0 (length x + 1 - g.width))
 

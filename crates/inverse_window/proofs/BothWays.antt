@@ -7,7 +7,7 @@ use Rattle.tail_config.proofs.Common.{IsInjective}
 use Rattle.tail_laws.proofs.Common.{IsInjective-determined, IsInjective-window}
 use Rattle.inverse_window.specs.BothWays.{GoOnBothWays}
 
--- two different nodes that do forbid it
+-- two different nodes that go on both ways forbid that the rule is injective
 pub not_injective : {r : LocalRule} → IsRule r → (u v : ℕ) → u ≢ v → GoOnBothWays r u v → ¬ IsInjective r
 not_injective {r} rule u v different goes injective =
     let node = (Together-below Right _ _ _ _ (goes.begins 0)).1 in
@@ -41,7 +41,7 @@ GoOnBothWays-rows {r} rule u begins ends v first small forward backward =
       (λ (different, goes). rest.1 (both.1 (forward.1 goes.begins, backward.1 goes.ends), (λ here. different (sym (one.0 here))))),
     )
 
--- so it isn't empty exactly where another node goes on with it
+-- the nodes of two rows but u are some exactly where another node goes on with u both ways
 pub GoOnBothWays-some : {r : LocalRule} → IsRule r → (u begins ends : ℕ) → u < node_count r → begins < 2 ^ 16
     → ((v : ℕ) → v < 16 → (IsBitSet begins v ↔ IsEndless (BeginTogether r u v))) → ((v : ℕ) → v < 16 → (IsBitSet ends v ↔ IsEndless (EndTogether r u v)))
     → (bit_and (bit_and begins ends) (65535 - 1 * 2 ^ u % 2 ^ 16) ≢ 0) ↔ ((v : ℕ) × (u ≢ v) × GoOnBothWays r u v)

@@ -14,7 +14,7 @@ use Rattle.inverse_window.proofs.FirstWindowLaws.{IsFirstWindowOf-earlier, IsFir
 abbrev pub HasBefore : ℕ → ℕ → ℕ → ℕ → Type 0
 HasBefore e c n' c' = (c ≤ c') × (c' ≤ e) × (c' ≤ n')
 
--- what is known once these windows were looked at
+-- what is known once the windows with c to e letters of the image before the letter were looked at
 pub record IsSearched (r : LocalRule) (e c : ℕ) (last : Option ℕ) (found : Option WindowAt) : Type 0 where
   pub start : HoldsFrom last (NoneHolds (pair_count r) (λ p. PairDiffersAt r 0 p × EndsFor r e p c) (PairBegins r))
   pub start_most : IfSome last (λ n. n ≤ 240)
@@ -31,7 +31,7 @@ earlier-most a b found earlier first second =
     let Most : Option WindowAt → Type 0 = λ o. IfSome o (λ w. w.n ≤ 480) in
     ⊎_elim (λ is. subst Most (sym is) first) (λ is. subst Most (sym is) second) earlier.one
 
--- one number of letters more
+-- with one number of letters before the letter more, the search goes on
 pub IsSearched-next : {r : LocalRule} → IsRule r → (e c i : ℕ) (starts : List (Option ℕ)) (last here : Option ℕ) (found made next : Option WindowAt) → c ≤ e → i ≡ c
     → AreStarts r e (pair_count r) starts → here ≡ later last (get_or starts i None) → made ≡ window_within c here → IfSome made (λ w. w.n ≤ 480) → IsEarlier found made next
     → IsSearched r e (c + 1) last found → IsSearched r e c here next
@@ -68,7 +68,7 @@ IsDetermined-fewer {r} rule e n c past many within determined =
     let none = (IsDetermined-within rule c (n - c)).0 (subst (λ a. IsDetermined r a c) (sym long) determined) in
     (IsDetermined-within rule e (n - c)).1 (λ p l of. none p l (of.0, past (first_of r p) (first_of-below rule p l) (second_of r p) e (second_of-below rule p) (omega arith) of.1 c))
 
--- so once the windows with at most e were looked at, all were
+-- above the finite ranks, once the windows with at most e letters before the letter were looked at, all were
 pub IsFirstWindowOf-searched : {r : LocalRule} → IsRule r → (e : ℕ) → IsPast r (node_count r) e → (last : Option ℕ) (found : Option WindowAt) → IsSearched r e 0 last found → IsFirstWindowOf r (λ n c. c < n + 1) found
 IsFirstWindowOf-searched {r} rule e past last None searched = λ n c within determined.
     ⊎_elim

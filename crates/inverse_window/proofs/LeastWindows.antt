@@ -12,7 +12,7 @@ use Rattle.inverse_window.proofs.FirstWindowLaws.{IsFirstWindowOf-earlier, IsFir
 abbrev pub IsBefore : ℕ → ℕ → ℕ → Type 0
 IsBefore i n c = c < n + i
 
--- one place more
+-- the first window, with one place more for its letter
 pub IsFirstWindowOf-next : (r : LocalRule) (i : ℕ) (start : Option ℕ) (found made next : Option WindowAt) → HoldsFrom start (λ n. IsDetermined r n (n + i)) → made ≡ option_map (λ n. record { n = n; c = n + i }) start
     → IsEarlier found made next → IsFirstWindowOf r (IsBefore i) found → IsFirstWindowOf r (IsBefore (i + 1)) next
 IsFirstWindowOf-next r i start found made next from made_is earlier before =
@@ -29,7 +29,7 @@ IsLeastDetermined-first rule (Some w) first = record {
   least = λ n c before determined. first.least n c (omega (arith, determined.some, determined.inside, rule.shape.least_width)) before determined;
 }
 
--- there is one exactly where the rule is injective
+-- there is a least determined window exactly where the rule is injective
 pub IsInjective-least : {r : LocalRule} → IsRule r → (found : Option WindowAt) → MatchOption found ((n c : ℕ) → ¬ IsDetermined r n c) (λ w. IsLeastDetermined r w.n w.c)
     → IsSome found ↔ IsInjective r
 IsInjective-least rule None none = (

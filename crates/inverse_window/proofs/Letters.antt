@@ -8,7 +8,7 @@ use Rattle.inverse_window.specs.FirstWindows.{PairDiffersAt}
 abbrev constant_node : LocalRule → ℕ → ℕ
 constant_node r a = value r.states (replicate (r.width - 1) a)
 
--- its letters
+-- the letters of the node of one letter, again and again, are this letter
 node_letter-constant_node : (r : LocalRule) (a i : ℕ) → a < r.states → i < r.width - 1 → node_letter r (constant_node r a) i ≡ a
 node_letter-constant_node r a i letter within =
     let w : List ℕ = replicate (r.width - 1) a in

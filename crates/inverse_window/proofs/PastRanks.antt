@@ -9,7 +9,7 @@ use Rattle.inverse_window.specs.FirstWindows.{IsPastOf, IsPast}
 pub past_rank : {r : LocalRule} → IsRule r → (u v a n : ℕ) → IsRank (EndTogether r u v) a → a < n → EndTogether r u v n → IsEndless (EndTogether r u v)
 past_rank rule u v a n rank more ends = absurd (rank.no_more (Together-less Left rule _ _ (a + 1) _ (omega arith) ends))
 
--- one more second node
+-- a bound is past the ranks of a first node and one more second node
 pub IsPastOf-next : {r : LocalRule} (u v past next : ℕ) → IsPastOf r u v past → past ≤ next → ((n : ℕ) → next ≤ n → EndTogether r u v n → IsEndless (EndTogether r u v)) → IsPastOf r u (v + 1) next
 IsPastOf-next {r} u v past next before more here = λ w n l least ends.
     ⊎_elim
@@ -17,7 +17,7 @@ IsPastOf-next {r} u v past next before more here = λ w n l least ends.
     (λ other. before w n (omega (arith, other)) (omega arith) ends)
     (cases_eq w v)
 
--- one more first node
+-- a bound is past the ranks of one more first node
 pub IsPast-next : {r : LocalRule} (u past next : ℕ) → IsPast r u past → IsPastOf r u (node_count r) next → past ≤ next → IsPast r (u + 1) next
 IsPast-next {r} u past next before here more = λ s l v n below least.
     ⊎_elim

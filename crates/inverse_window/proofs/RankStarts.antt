@@ -7,7 +7,7 @@ use Rattle.inverse_window.specs.Starts.{HoldsFrom, later}
 use Rattle.inverse_window.specs.FirstWindows.{PairDiffersAt, PairBegins, EndsFor, NoneHolds, AreStarts}
 use Rattle.inverse_window.proofs.StartLaws.{HoldsFrom-first, HoldsFrom-next, HoldsFrom-other, later-most}
 
--- these are the pairs that a start speaks of
+-- the pair p differs at the first letter, and ends together for b letters and no more, counted as far as e
 abbrev pub OfRank : LocalRule → ℕ → ℕ → ℕ → Type 0
 OfRank r e b p = PairDiffersAt r 0 p × IsRank (EndsFor r e p) b
 
@@ -19,7 +19,7 @@ IsRank-counted (Some a) P e rank past =
     let below : a < e = ⊎_elim (λ less. less) (λ most. absurd (rank.no_more (past a most rank.holds (a + 1)))) (cases_lt a e) in
     (record { holds = (omega arith, rank.holds); no_more = λ h. rank.no_more h.1 }, omega arith)
 
--- before the first pair
+-- the starts before the first pair are 0
 pub AreStarts-first : (r : LocalRule) (e : ℕ) → e ≤ 240 → AreStarts r e 0 (replicate 241 (Some 0))
 AreStarts-first r e few =
     let zero : Option ℕ = Some 0 in
@@ -35,7 +35,7 @@ AreStarts-first r e few =
 one_rank : {r : LocalRule} → IsRule r → (e p a b : ℕ) → IsRank (EndsFor r e p) a → IsRank (EndsFor r e p) b → a ≡ b
 one_rank {r} rule e p = IsRank-one (EndsFor r e p) (λ i n l h. (omega (arith, h.0), Together-less Left rule _ _ i n l h.1))
 
--- behind a pair that differs at its first letter
+-- the starts behind a pair that differs at its first letter
 pub AreStarts-next : {r : LocalRule} {e p b : ℕ} {starts : List (Option ℕ)} → IsRule r → (x : Option ℕ) → AreStarts r e p starts
     → PairDiffersAt r 0 p → b ≤ e → IsRank (EndsFor r e p) b → HoldsFrom x (λ n. ¬ PairBegins r p n) → IfSome x (λ n. n ≤ 240)
     → AreStarts r e (p + 1) (set starts b (later (get_or starts b None) x))
@@ -58,7 +58,7 @@ AreStarts-next {r} {e} {p} {b} {starts} rule x before differ within rank from mo
       most = at (λ a o. IfSome o (λ n. n ≤ 240)) (later-most (get_or starts b None) x 240 (before.most b within) most) (λ a l other. before.most a l);
     }
 
--- behind any other pair
+-- the starts stay behind a pair that doesn't differ at its first letter
 pub AreStarts-other : {r : LocalRule} {e p : ℕ} {starts : List (Option ℕ)} → AreStarts r e p starts → ¬ PairDiffersAt r 0 p → AreStarts r e (p + 1) starts
 AreStarts-other {r} {e} {p} {starts} before same = record {
   long = before.long;

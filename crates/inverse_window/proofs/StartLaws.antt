@@ -24,18 +24,18 @@ later-most None b k first second = tt
 later-most (Some a) None k first second = tt
 later-most (Some a) (Some b) k first second = omega arith
 
--- what holds for less too no longer holds past its rank
+-- what holds for less wherever it holds no longer holds past its rank
 pub HoldsFrom-rank : (P : ℕ → Type 0) (a : ℕ) → ((i n : ℕ) → i ≤ n → P n → P i) → IsRank P a → HoldsFrom (Some (a + 1)) (λ n. ¬ P n)
 HoldsFrom-rank P a less rank = λ n. (
   λ none. ⊎_elim (λ l. absurd (none (less n a (omega arith) rank.holds))) (λ l. l) (cases_lt n (a + 1)),
   λ l h. rank.no_more (less (a + 1) n l h),
 )
 
--- with no pair all hold
+-- where there is no pair, all numbers hold
 pub HoldsFrom-first : (Of : ℕ → Type 0) (P : ℕ → ℕ → Type 0) → HoldsFrom (Some 0) (NoneHolds 0 Of P)
 HoldsFrom-first Of P = λ n. (λ none. omega arith, λ l p below. absurd (omega arith))
 
--- one more pair of them
+-- what holds where none of the pairs does, with one pair more, starts at the later of two numbers
 pub HoldsFrom-next : (a b : Option ℕ) (p : ℕ) (Of : ℕ → Type 0) (P : ℕ → ℕ → Type 0) → Of p → HoldsFrom a (NoneHolds p Of P) → HoldsFrom b (λ n. ¬ P p n) → HoldsFrom (later a b) (NoneHolds (p + 1) Of P)
 HoldsFrom-next a b p Of P of before here =
     HoldsFrom-later a b (NoneHolds p Of P) (λ n. ¬ P p n) (NoneHolds (p + 1) Of P)
@@ -45,7 +45,7 @@ HoldsFrom-next a b p Of P of before here =
     ))
     before here
 
--- one more pair that is none of these changes nothing
+-- one more pair that isn't among those asked for changes nothing
 pub HoldsFrom-other : (a : Option ℕ) (p : ℕ) (Of : ℕ → Type 0) (P : ℕ → ℕ → Type 0) → ¬ Of p → HoldsFrom a (NoneHolds p Of P) → HoldsFrom a (NoneHolds (p + 1) Of P)
 HoldsFrom-other a p Of P not_of before =
     HoldsFrom-same a (NoneHolds p Of P) (NoneHolds (p + 1) Of P)

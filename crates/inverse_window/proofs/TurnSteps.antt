@@ -10,7 +10,7 @@ pairs_cmp-longer w v less greater =
     let lengths : pairs_cmp w v ≡ Less = ap (λ o. ordering_then o (slice_cmp pair_cmp w v)) (sym (nat_cmp_is (length w) (length v) Less less)) in
     true≢false (sym (ap is_gt greater) ∙ ap is_gt lengths)
 
--- one more pair, without a walk of so few steps
+-- the first walk found stays so with one more pair that has no walk of as few steps
 pub IsFirstFound-later : {r : LocalRule} → IsRule r → (n most : ℕ) (found : Option (Vec ℕ Global)) → MatchOption found (most ≡ 512) (λ steps. most ≡ length steps.items) → IsFirstFound (IsTurn r) n found
     → ((w : List (ℕ × ℕ)) → 0 < length w → length w ≤ most → ¬ IsTurn r n w) → (512 ≤ most → (w : List (ℕ × ℕ)) → 0 < length w → ¬ IsTurn r n w) → IsFirstFound (IsTurn r) (n + 1) found
 IsFirstFound-later {r} rule n most None is none short all = IsFirstFound-none (IsTurn r) None none (λ w turn. all (omega arith) w (turn-some rule n w turn) turn)

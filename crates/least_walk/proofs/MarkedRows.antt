@@ -133,7 +133,7 @@ end-old {r} rule v b ends row end letter small first leads old =
     (subst (IsBitSet (bit_and ends (65535 - row))) (sym place) ((IsBitSet-minus ends row (next r v b) small (omega (arith, next-below rule v b))).1 (leads, absent))))))
     (IsBitSet-decide row (next r v b))
 
--- so the rows have the marked pair where the letters a and b lead, if its bit is missing in the ends without its row
+-- the rows have the marked pair to which the letters a and b lead, if its bit is missing in the ends without the row
 step-old : {r : LocalRule} → IsRule r → (rows : List ℕ) (t a b q u v mark ends row end : ℕ) → (step : IsMarkedStep r t a b q) → step.mark ≡ mark
     → first_of r (pair_part r t) ≡ u → second_of r (pair_part r t) ≡ v → b < r.states
     → IsEnds Right r v (label r u a) ends → end ≡ next r v 0 → row ≡ slice_index rows (16 * mark + next r u a) → row < 2 ^ 16
@@ -155,7 +155,7 @@ fresh-with_mark {r} rule rows parts t a b q ends row end of with letter leads st
     let half : (t / pair_count r) * pair_count r ≡ 1 * pair_count r = ap (λ h. h * pair_count r) (sym of.mark ∙ with) in
     step-old rule rows t a b q parts.first parts.second 1 ends row end step (step.stays (omega arith)) (sym of.first) (sym of.second) letter leads start here small old
 
--- from one without it, the mark stays away where the letters are the same
+-- from a marked pair without the mark, the mark stays away where the letters are the same
 pub fresh-without : {r : LocalRule} → IsRule r → (rows : List ℕ) (parts : Parts) (t a b q ends row plain end same : ℕ) → ArePartsOf r parts t → parts.mark ≡ 0 → b < r.states → a < 16
     → IsEnds Right r parts.second (label r parts.first a) ends → end ≡ next r parts.second 0
     → row ≡ slice_index rows (16 + next r parts.first a) → row < 2 ^ 16 → plain ≡ slice_index rows (next r parts.first a) → plain < 2 ^ 16 → same ≡ 1 * 2 ^ a % 2 ^ 16

@@ -26,7 +26,7 @@ pub ended : {r : LocalRule} {start : ℕ} {queue : List Reached} {most : ℕ} �
 ended None found none = none
 ended (Some a) found none = absurd (none-some found.goal found.sought)
 
--- what stands in its queue
+-- the pairs that stand in the queue of a search are apart
 pub AreApart-walking : {r : LocalRule} {ends : Ends} {queue : List Reached} {e : ℕ} → IsWalking r ends queue e → AreApart queue
 AreApart-walking {queue = queue} w = record {
   few = length-walking-le w;
@@ -61,7 +61,7 @@ IsLeastWalkTo-spelled {r} {queue = queue} {i = i} {w} walking spells x at =
           first.least (map (code 16) v) (Leads-walk 16 le other) (sym order ∙ greater);
     }
 
--- no walk of at most so many steps leads to what stands at no place
+-- no walk of at most `most` steps leads to what stands at no place
 pub no_walk-absent : {r : LocalRule} {start most t : ℕ} {queue : List Reached} {places : List ℕ} → IsWalkTree r start most queue places → ((i : ℕ) (x : Reached) → slice_get queue i ≡ Some x → x.pair ≢ t)
     → (w : List (ℕ × ℕ)) → length w ≤ most → ¬ PairWalk (marked r) r.states start w t
 no_walk-absent {queue = queue} tree absent [] short walk =
@@ -88,7 +88,7 @@ Contains-walk {t = t} {queue = queue} {w = w} tree large walk =
       get_or_from_slice_get (map (λ (y : Reached). y.pair) queue) reached.at x.pair t (mapped_at (λ (y : Reached). y.pair) queue reached.at x at) ∙ ap (λ z. z.state) alike ∙ reached.of_state,
     )
 
--- each of them is a marked pair
+-- each pair that a walk tree has reached is a marked pair
 pub All-pairs : {r : LocalRule} {start most : ℕ} {queue : List Reached} {places : List ℕ} → IsWalkTree r start most queue places → All (λ t. t < 2 * pair_count r) (map (λ x. x.pair) queue)
 All-pairs {r} {queue = queue} tree =
     All-map (λ t. t < 2 * pair_count r) (λ (x : Reached). x.pair) queue
@@ -103,14 +103,14 @@ no_walk-absent_all {t = t} {queue} tree absent large w walk =
     let (x, at, alike) = reached_at queue reached.at reached.place reached.stands in
     absent reached.at x at (ap (λ z. z.state) alike ∙ reached.of_state)
 
--- so are those that are written before nothing
+-- the steps that spell the way to a place, written before nothing, are the least walk to its pair
 pub IsLeastWalkTo-steps : {r : LocalRule} {start most : ℕ} {queue : List Reached} {places : List ℕ} {i : ℕ} {old steps : List ℕ} → IsWalkTree r start most queue places
     → (x : Reached) (t : ℕ) → slice_get queue i ≡ Some x → x.pair ≡ t → old ≡ [] → SpellsBefore queue i old steps → IsLeastWalkTo (marked r) r.states start t (map (uncode 16) steps)
 IsLeastWalkTo-steps {r} {start} {steps = steps} tree x t at same none (w, spells, whole) =
     let alone : steps ≡ w = whole ∙ ap (λ o. w ++ reverse o) none ∙ append-nil w in
     subst₂ (λ u s. IsLeastWalkTo (marked r) r.states start u (map (uncode 16) s)) same (sym alone) (IsLeastWalkTo-spelled tree.ended.walking spells x at)
 
--- which has at most so many steps
+-- the steps to a place are at most as many as the bound
 pub length-steps : {r : LocalRule} {start most : ℕ} {queue : List Reached} {places : List ℕ} {i : ℕ} {old steps : List ℕ} → IsWalkTree r start most queue places
     → (x : Reached) → slice_get queue i ≡ Some x → old ≡ [] → SpellsBefore queue i old steps → length steps ≤ most
 length-steps {i = i} {steps = steps} tree x at none (w, spells, whole) =

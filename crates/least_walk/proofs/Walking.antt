@@ -37,7 +37,7 @@ length-walking-le {r} {queue = queue} w =
     let square : node_count r * node_count r ≤ 16 * node_count r = mul-le-mul_right (node_count r) few in
     omega (arith, length-queue-le w.filled (2 * pair_count r) w.start_in (MarkedStep-below w.rule), length-map queue place_of)
 
--- the start alone
+-- the start alone is a search
 pub IsWalking-start : {r : LocalRule} {ends : Ends} → IsRule r → ends.start < 2 * pair_count r
     → (x : Reached) → x.pair ≡ ends.start → x.depth ≡ 0 → IsWalking r ends (x ∷ []) 0
 IsWalking-start {r} {ends} rule start x at none = record {
@@ -55,7 +55,7 @@ IsWalking-start {r} {ends} rule start x at none = record {
 abbrev pub IsListed : List Reached → ℕ → Type 0
 IsListed queue t = (i : ℕ) × (x : Reached) × (slice_get queue i ≡ Some x) × (x.pair ≡ t)
 
--- one more edge leads nowhere, or to what has been reached and isn't the goal
+-- a search stays one where one more edge leads nowhere, or to what has been reached and isn't the goal
 pub IsWalking-old : {r : LocalRule} {ends : Ends} {queue : List Reached} → (h n : ℕ) → IsWalking r ends queue (h * step_count r + n) → (x : Reached) → slice_get queue h ≡ Some x → n < step_count r
     → ((t : ℕ) → MarkedStep r x.pair n t → (ends.goal ≢ Some t) × IsListed queue t) → IsWalking r ends queue (h * step_count r + (n + 1))
 IsWalking-old {r} {ends} {queue} h n w x at letter old =
@@ -97,7 +97,7 @@ HasDepths-push {queue} d x y at more =
           (slice_get-push_cases queue y i z there);
     }
 
--- one more edge leads to what hasn't been reached and isn't the goal, and it is added
+-- a search stays one where one more edge leads to what hasn't been reached and isn't the goal, and this is added
 pub IsWalking-new : {r : LocalRule} {ends : Ends} {queue : List Reached} → (h n : ℕ) → IsWalking r ends queue (h * step_count r + n) → (x y : Reached) → slice_get queue h ≡ Some x → n < step_count r
     → y.parent ≡ h → y.step ≡ n → y.depth ≡ x.depth + 1 → MarkedStep r x.pair n y.pair → ends.goal ≢ Some y.pair → ¬ IsListed queue y.pair
     → IsWalking r ends (queue ++ y ∷ []) (h * step_count r + (n + 1))
@@ -127,7 +127,7 @@ IsListed-push queue y t (i, x, at, same) = (i, x, slice_get-append queue (y ∷ 
 listed_in_rows : {r : LocalRule} {ends : Ends} {queue : List Reached} {rows : List ℕ} {e : ℕ} → IsWalkSearch r ends queue rows e → (t : ℕ) → ends.goal ≢ Some t → IsListed queue t → HasPair r rows t
 listed_in_rows {r} {rows = rows} s t other (i, x, at, same) = subst (HasPair r rows) same (s.all i x at (λ e. other (e ∙ ap Some same)))
 
--- it is a marked pair
+-- what a search has reached is a marked pair
 pub queued-below : {r : LocalRule} {ends : Ends} {queue : List Reached} {e : ℕ} → IsWalking r ends queue e → (i : ℕ) (x : Reached) → slice_get queue i ≡ Some x → x.pair < 2 * pair_count r
 queued-below {r} {queue = queue} w i x at =
     state-below w.filled (2 * pair_count r) w.start_in (MarkedStep-below w.rule) i (place_of x) (place_at queue i x at)
@@ -237,7 +237,7 @@ depth_at queue i = (get_or queue i (record { pair = 0; parent = 0; step = 0; dep
 depth_at-place : (queue : List Reached) (i : ℕ) (x : Reached) → slice_get queue i ≡ Some x → depth_at queue i ≡ x.depth
 depth_at-place queue i x at = ap (λ z. z.depth) (get_or_from_slice_get queue i x _ at)
 
--- these are the depths of the places
+-- the depths in the queue of a search are the depths of its places
 AreDepths-queue : {r : LocalRule} {ends : Ends} {queue : List Reached} {e : ℕ} → IsWalking r ends queue e → AreDepths (places_of queue) (depth_at queue)
 AreDepths-queue {queue = queue} w =
     let (first, root, _) = reached_at queue 0 w.filled.fills.first w.filled.fills.root in
@@ -255,7 +255,7 @@ length-spelled : {tree : List (Place ℕ)} {depth : ℕ → ℕ} → AreDepths t
 length-spelled d _ _ Root = sym d.root
 length-spelled d _ _ (Branch i x w some at spells) = length_push w x.letter ∙ ap (λ n. n + 1) (length-spelled d x.parent w spells) ∙ sym (d.more i x some at)
 
--- there are fewer steps to a place than places, so fewer than 512
+-- fewer than 512 steps lead to a place, since there are at most 512 places
 pub depth-below : {r : LocalRule} {ends : Ends} {queue : List Reached} {e : ℕ} → IsWalking r ends queue e → (i : ℕ) (x : Reached) → slice_get queue i ≡ Some x → x.depth < 512
 depth-below {queue = queue} w i x at =
     let (v, spells) = TreeSpells-some w.filled.fills i (place_of x) (place_at queue i x at) in
@@ -279,7 +279,7 @@ deeper {queue = queue} w i j x y le at there =
       depth_at-place queue j y there,
     )
 
--- where the edges from the places before the head alone have been followed, and these places are less than so many steps away, none is further away than that
+-- where only the edges from the places before the head were followed, and these are nearer than `most` steps, no place is further
 pub near-all : {r : LocalRule} {ends : Ends} {queue : List Reached} {most : ℕ} → (h : ℕ) → IsWalking r ends queue (h * step_count r)
     → ((i : ℕ) (x : Reached) → i < h → slice_get queue i ≡ Some x → x.depth < most) → (i : ℕ) (x : Reached) → slice_get queue i ≡ Some x → x.depth ≤ most
 near-all h w near zero x at = omega (arith, w.depths.root x at)
@@ -306,7 +306,7 @@ IsLeastWalk-arrival {r} {ends} {queue} {place} {step} {goal} {steps} a sought sp
     let first = IsLeastStepsTo-edge a.walking.filled spells (place_of a.from) (place_at queue place a.from a.stands) step a.letters refl a.goal (a.walking.none a.goal a.sought) a.arrives in
     IsLeastWalk-steps a.walking.rule.shape.most_states (subst₂ (IsLeastStepsTo (MarkedStep r) (step_count r) ends.start) one (sym whole) first)
 
--- it has one step more than the place is away
+-- the walk to where a search arrives has at most one step more than the place is away
 pub length-arrival : {r : LocalRule} {ends : Ends} {queue : List Reached} {place step most : ℕ} {steps : List ℕ} → IsArrival r ends queue place step → IsNearStart queue place most
     → SpellsBefore queue place (step ∷ []) steps → length steps ≤ most
 length-arrival {queue = queue} {place} {step} a near (w, spells, whole) =
@@ -319,7 +319,7 @@ length-arrival {queue = queue} {place} {step} a near (w, spells, whole) =
       ap length whole,
     )
 
--- a search that stops before places that are so many steps away, in which no edge leads to a marked pair, has not missed a walk of so many steps to it
+-- a search that stops at places `most` steps away, and found no edge to a marked pair, has not missed a walk of at most `most` steps to it
 pub no_walk-edge : {r : LocalRule} {ends : Ends} {queue : List Reached} {most goal : ℕ} → (x : IsEnded r ends queue most) → NoEdgeBefore (MarkedStep r) (step_count r) (places_of queue) x.edges goal
     → (w : List (ℕ × ℕ)) → 0 < length w → length w ≤ most → ¬ PairWalk (marked r) r.states ends.start w goal
 no_walk-edge {r} {ends} {queue} {most} {goal} x none w some short walk =
@@ -332,12 +332,12 @@ no_walk-edge {r} {ends} {queue} {most} {goal} x none w some short walk =
     none (map (code 16) w) (omega (arith, length-map w (code 16))) (omega (arith, length-map w (code 16)))
     (Leads-walk 16 x.walking.rule.shape.most_states walk)
 
--- none leads to its goal
+-- no walk of as few steps as the bound leads to the goal of an ended search
 pub no_walk-ended : {r : LocalRule} {ends : Ends} {queue : List Reached} {most goal : ℕ} → IsEnded r ends queue most → ends.goal ≡ Some goal
     → (w : List (ℕ × ℕ)) → 0 < length w → length w ≤ most → ¬ PairWalk (marked r) r.states ends.start w goal
 no_walk-ended {goal = goal} x sought = no_walk-edge x (x.walking.none goal sought)
 
--- with a bound of 512 it has followed all edges
+-- with a bound of 512 an ended search has followed all edges
 pub all_followed : {r : LocalRule} {ends : Ends} {queue : List Reached} {most : ℕ} → 512 ≤ most → (x : IsEnded r ends queue most) → length (places_of queue) * step_count r ≤ x.edges
 all_followed {r} {ends} {queue} large x =
     let all : length queue ≤ x.head = ⊎_elim
@@ -350,13 +350,13 @@ all_followed {r} {ends} {queue} large x =
     let rows : length queue * step_count r ≤ x.head * step_count r = mul-le-mul_right (step_count r) all in
     omega (arith, rows, ap (λ n. n * step_count r) (length-map queue place_of), x.followed)
 
--- so there is no walk at all
+-- with a bound of 512 an ended search shows that no walk at all leads to its goal
 pub no_walk-all : {r : LocalRule} {ends : Ends} {queue : List Reached} {most goal : ℕ} → IsEnded r ends queue most → ends.goal ≡ Some goal → 512 ≤ most
     → (w : List (ℕ × ℕ)) → 0 < length w → ¬ PairWalk (marked r) r.states ends.start w goal
 no_walk-all {goal = goal} x sought large =
     no_walk 16 goal x.walking.rule.shape.most_states (no_steps_to x.walking.filled (all_followed large x) goal (x.walking.none goal sought))
 
--- one step more, from the place of the parent
+-- the steps behind a place, and the step to it, are the steps behind the place of its parent
 pub SpellsBefore-parent : (queue : List Reached) (at i : ℕ) (x : Reached) (old steps longer : List ℕ) → 0 < i → slice_get queue i ≡ Some x → longer ≡ steps ++ x.step ∷ []
     → ((w : List ℕ) → TreeSpells (places_of queue) i w → SpellsBefore queue at old (w ++ reverse steps)) → (w : List ℕ) → TreeSpells (places_of queue) x.parent w → SpellsBefore queue at old (w ++ reverse longer)
 SpellsBefore-parent queue at i x old steps longer positive here more completes w spells =

@@ -47,7 +47,7 @@ pub record IsWalkSearch (r : LocalRule) (ends : Ends) (queue : List Reached) (ro
   pub listed : (t : ℕ) → t < 2 * pair_count r → HasPair r rows t → (ends.goal ≢ Some t) × ((i : ℕ) × (x : Reached) × (slice_get queue i ≡ Some x) × (x.pair ≡ t))
   pub all : (i : ℕ) (x : Reached) → slice_get queue i ≡ Some x → ends.goal ≢ Some x.pair → HasPair r rows x.pair
 
--- the edges from the places before the head have been followed, so many steps or more lead to the others, and no more than that to any
+-- the edges from the places before the head have been followed, `most` steps or more lead to the others, and no more than that to any
 pub record IsEnded (r : LocalRule) (ends : Ends) (queue : List Reached) (most : ℕ) : Type 0 where
   pub edges : ℕ
   pub head : ℕ
@@ -66,7 +66,7 @@ pub record IsArrival (r : LocalRule) (ends : Ends) (queue : List Reached) (place
   pub sought : ends.goal ≡ Some goal
   pub arrives : MarkedStep r from.pair step goal
 
--- fewer than so many steps lead to this place
+-- fewer than `most` steps lead to this place
 abbrev pub IsNearStart : List Reached → ℕ → ℕ → Type 0
 IsNearStart queue place most = (x : Reached) → slice_get queue place ≡ Some x → x.depth < most
 

@@ -21,7 +21,7 @@ pub record AreApart (queue : List Reached) : Type 0 where
 abbrev pub IsPairIndex : List Reached → List ℕ → Type 0
 IsPairIndex queue places = (i : ℕ) (x : Reached) → slice_get queue i ≡ Some x → slice_index places x.pair ≡ i
 
--- a search from the start has ended with all that is reached by at most so many steps, and these are the places
+-- a search from the start has ended with all that is reached by at most `most` steps, and these are the places
 pub record IsWalkTree (r : LocalRule) (start most : ℕ) (queue : List Reached) (places : List ℕ) : Type 0 where
   pub ended : IsEnded r (record { start = start; goal = None }) queue most
   pub index : IsPairIndex queue places

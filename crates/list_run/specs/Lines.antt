@@ -35,7 +35,7 @@ rule_lines shape (r ∷ rs) = rule_line shape r ++ rule_lines shape rs
 abbrev pub count_line : ℕ → List ℕ
 count_line count = line (codes "rules " ++ decimal count)
 
--- how many there are; the count stops at 2^64 - 1
+-- the last line of a list: how many rules there are; the count stops at 2^64 - 1
 abbrev pub last_line : List LocalRule → List ℕ
 last_line rules = count_line (min (length rules) (2 ^ 64 - 1))
 

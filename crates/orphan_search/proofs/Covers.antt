@@ -2,16 +2,16 @@
 use Rattle.std.proofs.Common.{◌≡◌, ◌≢◌, ℕ, ◌+◌, ◌<◌, List, [], ◌∷◌, ◌++◌, Bool, cond, AllPairs, length, take, slice_index, refl, sym, ap, ◌∙◌, arith, ◌&&◌, not, filter, eq-eqb, ne_eqb}
 use Rattle.word_image.proofs.Common.{filter_more, is_minimal, is_cover}
 
--- among the first set alone there is none
+-- among the first set alone there is no cover
 pub no_cover-first : (sets : List ℕ) → 0 < length sets → filter (is_cover (slice_index sets 0) sets) (take 1 sets) ≡ []
 no_cover-first [] some = absurd (omega arith)
 no_cover-first (s ∷ sets) some = ap (λ (b : Bool). cond (not b && is_minimal (s ∷ sets) s) (s ∷ []) []) (eq-eqb s s refl)
 
--- another set is one where it is minimal
+-- a set other than the full one is in the cover list where it is minimal
 is_cover-minimal : (full : ℕ) (sets : List ℕ) (s : ℕ) → s ≢ full → is_cover full sets s ≡ is_minimal sets s
 is_cover-minimal full sets s other = ap (λ b. not b && is_minimal sets s) (ne_eqb s full other)
 
--- another set comes into the cover list behind those of the sets before it, where it is minimal
+-- a set other than the first comes into the cover list behind those before it, where it is minimal
 pub covers_more : (sets : List ℕ) → AllPairs (λ s t. s ≢ t) sets → (i : ℕ) → 0 < i → i < length sets → (minimal : Bool) → minimal ≡ is_minimal sets (slice_index sets i)
     → filter (is_cover (slice_index sets 0) sets) (take (i + 1) sets)
     ≡ filter (is_cover (slice_index sets 0) sets) (take i sets) ++ cond minimal (slice_index sets i ∷ []) []

@@ -11,7 +11,7 @@ pub record AreLanes (side : Side) (r : LocalRule) (ends : List (List ℕ)) (rows
   pub long : length hits ≡ 16
   pub lanes : (v : ℕ) → v < 16 → IsUnion 16 (GoesOnBy side r ends rows u v) n (slice_index hits v)
 
--- one letter more
+-- the lanes with one letter more
 pub AreLanes-next : {side : Side} {r : LocalRule} {ends : List (List ℕ)} {rows : List ℕ} {u n : ℕ} {hits : List ℕ} → AreLanes side r ends rows u n hits
     → (label to : ℕ) → label ≡ label_at side r u n → to ≡ end_at side r u n
     → length (slice_index_or ends label []) ≡ 16 → slice_index rows to < 2 ^ 16
@@ -57,7 +57,7 @@ mask_of hits = mask_l (map (top 15) (zip2 (λ a b. cond (differs a b) 65535 0) h
 mask_is : (hits : List ℕ) → length hits ≡ 16 → mask_of hits ≡ mask_l (map (λ x. differs x 0) hits)
 mask_is hits long = bitmask_splat w16 differs hits 16 0 long (omega arith)
 
--- it has sixteen bits
+-- the mask of sixteen lanes has sixteen bits
 pub mask-below : (hits : List ℕ) → length hits ≡ 16 → mask_of hits < 2 ^ 16
 mask-below hits long =
     let ms = map (λ x. differs x 0) hits in
@@ -84,7 +84,7 @@ mask-bit hits v long inside =
       (λ some. (bit_at-IsBitSet (mask_of hits) v).1 (bit ∙ differs-some lane some)),
     )
 
--- so it is the set of the nodes that go on
+-- the mask of the lanes is the set of the nodes v that go on with u
 pub GoesOn-mask : {side : Side} {r : LocalRule} {ends : List (List ℕ)} {rows : List ℕ} {u n : ℕ} {hits : List ℕ} → AreLanes side r ends rows u n hits → n ≡ r.states
     → (v : ℕ) → v < 16 → IsBitSet (mask_of hits) v ↔ GoesOn side r ends rows u v
 GoesOn-mask {side} {r} {ends} {rows} {u} {n} {hits} h all v inside =

@@ -94,7 +94,7 @@ GoesOn-into side {r} rule ends rows edges p inside =
           )),
     )
 
--- one row more
+-- the nodes of one row more are kept
 pub AreNodesKept-next : {Goes : ℕ → ℕ → Type 0} {rows : List ℕ} {n : ℕ} {kept : List ℕ} → AreNodesKept Goes rows n kept
     → (i j on : ℕ) → i ≡ n → j ≡ n → n < 16 → ((v : ℕ) → v < 16 → (IsBitSet on v ↔ Goes n v))
     → AreNodesKept Goes rows (n + 1) (slice_set kept i (bit_and (slice_index rows j) on))
@@ -134,7 +134,7 @@ AreRows-kept {Goes} {m} {rows} {kept} n h same rows_of = record {
 pub nodes_from_length : (r : LocalRule) (n : ℕ) (rows : List ℕ) (set : List Bool) → truths n rows ≡ set → length set ≡ pair_count r → n ≡ node_count r
 nodes_from_length r n rows set seen long = same_roots n (node_count r) (sym (length-truths n rows) ∙ ap length seen ∙ long)
 
--- so what is kept is the set trimmed
+-- what is kept of the rows is the set trimmed
 pub IsTrimmedSet-kept : (side : Side) {r : LocalRule} → IsRule r → (n : ℕ) (ends : List (List ℕ)) (rows kept : List ℕ) (set : List Bool) → n ≡ node_count r → truths n rows ≡ set
     → AreEdgeRows side r ends → AreNodesKept (GoesOn side r ends rows) rows (node_count r) kept → IsTrimmedSet side r set (truths n kept)
 IsTrimmedSet-kept side {r} rule n ends rows kept set same seen edges h =
@@ -155,7 +155,7 @@ IsTrimmedSet-kept side {r} rule n ends rows kept set same seen edges h =
 abbrev pub removed : List ℕ → ℕ → ℕ → List ℕ
 removed rows i j = slice_set rows i (bit_and (slice_index rows i) (65535 - 1 * 2 ^ j % 2 ^ 16))
 
--- they have every pair but one
+-- rows without one bit of one row have every pair but one
 pub holds-removed : (n : ℕ) (rows : List ℕ) (set : List Bool) (p i m : ℕ) → truths n rows ≡ set → AreRows n rows → i ≡ p / n → m ≡ n → p < length set
     → (q : ℕ) → q < length set → IsTrue (holds (truths n (removed rows i (p % m))) q) ↔ (IsTrue (holds set q) × (q ≢ p))
 holds-removed n rows set p i m seen h at nodes inside q within =

@@ -41,7 +41,7 @@ pub record LeadsIntoBy (side : Side) (r : LocalRule) (set : List Bool) (p a : �
   pub leads : follow_on side r p a second ≡ Some pair
   pub there : IsTrue (holds set pair)
 
--- some letters do
+-- some letters lead from the pair into the set
 abbrev pub LeadsInto : Side → LocalRule → List Bool → ℕ → Type 0
 LeadsInto side r set p = (a : ℕ) × (a < r.states) × LeadsIntoBy side r set p a
 
@@ -56,7 +56,7 @@ pub record GoesOnBy (side : Side) (r : LocalRule) (ends : List (List ℕ)) (rows
   pub second : IsBitSet (ends_at ends (label_at side r u a) v) t
   pub pair : IsBitSet (slice_index rows (end_at side r u a)) t
 
--- some edges do
+-- some edges of the nodes u and v with one label lead to two nodes whose pair is in the rows
 abbrev pub GoesOn : Side → LocalRule → List (List ℕ) → List ℕ → ℕ → ℕ → Type 0
 GoesOn side r ends rows u v = (a : ℕ) × (t : ℕ) × (a < r.states) × GoesOnBy side r ends rows u v a t
 

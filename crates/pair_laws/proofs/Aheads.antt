@@ -32,7 +32,7 @@ BeginTogether-ahead {r} {n} rule ahead u a b hu ha hb different l h =
     ∙ ahead.letter _ _ whole (take-letter (r.width - 1) z a (drop (r.width - 1) h.x) long ∙ sym (take-letter (r.width - 1) z b (drop (r.width - 1) h.y) long))
     ∙ get_or-letter (r.width - 1) z b (drop (r.width - 1) h.y) long)
 
--- where no two such nodes begin together for n - 1, the rule looks ahead for n
+-- where no two nodes to which one label leads from one node begin together for n - 1, the rule looks ahead for n
 pub IsRightAhead-apart : {r : LocalRule} {n : ℕ} → IsRule r → 1 ≤ n
     → ((u a b : ℕ) → u < node_count r → a < r.states → b < r.states → a ≢ b → label r u a ≡ label r u b → ¬ BeginTogether r (next r u a) (next r u b) (n - 1))
     → IsRightAhead r n

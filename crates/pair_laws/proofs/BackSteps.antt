@@ -27,7 +27,7 @@ same_window {r} rule u c a s letter node = (
   (λ (first, leads). sym (div-add-mod' (u * r.states + c) (node_count r)) ∙ ap₂ (λ b t. window_with Left r t b) (first_letter rule u c letter ∙ first) leads),
 )
 
--- so letter a before node s has the window of a node that begins with a, and of a letter that leads from it to s
+-- the window of letter a before node s is that of a node that begins with a, and of a letter that leads from it to s
 back_edge : {r : LocalRule} → IsRule r → (s a : ℕ) → s < node_count r → a < r.states → let w : ℕ = window_with Left r s a in
     (w / r.states < node_count r) × (w % r.states < r.states) × (w / r.states * r.states + w % r.states ≡ w) × (node_letter r (w / r.states) 0 ≡ a) × (next r (w / r.states) (w % r.states) ≡ s)
 back_edge {r} rule s a node letter =

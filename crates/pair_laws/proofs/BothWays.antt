@@ -43,7 +43,7 @@ pub record IsEndlessBothWays (r : LocalRule) (p : ℕ) : Type 0 where
   pub begins : IsEndless (PairGoes Right r p)
   pub ends : IsEndless (PairGoes Left r p)
 
--- such a pair whose nodes differ at a letter
+-- a pair that is endless both ways and whose nodes differ at a letter
 record DifferBothWays (r : LocalRule) (i : ℕ) : Type 0 where
   pair : ℕ
   endless : IsEndlessBothWays r pair
@@ -84,7 +84,7 @@ differ_behind {r} rule i l d =
       different = λ e. d.different (letters.0 ∙ e ∙ sym letters.1);
     }
 
--- so pairs differ at the first letter
+-- where an endless pair differs at some letter, one differs at the first letter
 differ_first : {r : LocalRule} → IsRule r → (i : ℕ) → i < r.width - 1 → DifferBothWays r i → DifferBothWays r 0
 differ_first rule zero l d = d
 differ_first {r} rule (suc i) l d = let e : suc i ≡ i + 1 = omega arith in differ_first rule i (omega arith) (differ_before rule i (omega arith) (subst (DifferBothWays r) e d))
@@ -103,7 +103,7 @@ IsDetermined-not_both_ways {r} {n} {c} rule h p different endless =
     let d : DifferBothWays r (c - min c n) = differ_each rule (c - min c n) (omega arith) first in
     ((IsDetermined-pairs rule n c).0 h).2 d.pair (pair-below rule d.pair (Together-below Right _ _ _ _ (d.endless.begins 0)).0) d.different (d.endless.ends (min c n)) (d.endless.begins (n - min c n))
 
--- where none are, a window is determined
+-- where no two different nodes are endless both ways, a window is determined
 pub IsDetermined-none_both_ways : {r : LocalRule} → IsRule r → ((p : ℕ) → p < pair_count r → first_of r p ≢ second_of r p → ¬ IsEndlessBothWays r p)
     → IsDetermined r (pair_count r + pair_count r) (pair_count r)
 IsDetermined-none_both_ways {r} rule none =

@@ -20,7 +20,7 @@ PairGoes-claim side rule falls (suc j) p n e h =
     let below = falls p (LeadsOn-from side rule p q step) n q e step in
     omega (arith, PairGoes-claim side rule falls j q below.0 below.1 rest, below.2)
 
--- so where less than n is claimed, the pair doesn't go on for n
+-- where a falling claim claims less than n of a pair, the pair doesn't go on for n
 pub PairGoes-claims_below : (side : Side) {r : LocalRule} {claim : ℕ → Option ℕ} → IsRule r → FallsOn side r claim → (p n : ℕ) → ClaimsBelow claim p n → ¬ PairGoes side r p n
 PairGoes-claims_below side rule falls p n below h = omega (arith, PairGoes-claim side rule falls n p below.0 below.1 h, below.2)
 

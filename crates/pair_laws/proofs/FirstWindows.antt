@@ -54,7 +54,7 @@ record Parts (r : LocalRule) (w : ℕ) : Type 0 where
   window : w ≡ (first * rest_count r + rest) * r.states + last
   back : w % node_count r ≡ rest * r.states + last
 
--- each window is made so
+-- each window has a first letter, a word of m - 2 letters and a last letter
 parts_of : {r : LocalRule} → IsRule r → (w : ℕ) → w < r.states ^ r.width → Parts r w
 parts_of {r} rule w below =
     let k : ℕ = r.states in
@@ -142,7 +142,7 @@ first-left {r} {p} rule f =
           ∙ ap₂ (pair_of r) (sym (div-mul-add u k f.letter f.in_letters)) (sym (ap (λ c. c / k) other ∙ div-mul-add v k f.letter f.in_letters)),
     )
 
--- the ends of two such windows are a first pair of the side
+-- the ends of two first windows of a side are a first pair of the side
 pub IsFirst-ends : (side : Side) {r : LocalRule} → IsRule r → (w a : ℕ) → AreFirst side r w a → IsFirstOf side r (end_pair side r w a)
 IsFirst-ends Right rule w a h = right-first rule w a h
 IsFirst-ends Left rule w a h = left-first rule w a h

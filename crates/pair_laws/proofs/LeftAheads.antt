@@ -46,7 +46,7 @@ get_or_push_node {r} rule u j x c h e at =
     let place : j + 0 ≡ j = omega arith in
     get_or_append_left x (c ∷ []) 0 j (omega arith) ∙ ap (slice_index x) (sym place) ∙ sym (get_or-drop j x 0 0) ∙ ap (λ z. get_or z 0 0) (end_word r u j x h e at)
 
--- where a rule looks ahead to the left for n, no such nodes end together for n - 1
+-- where a rule looks ahead to the left for n, no two nodes of a left pair end together for n - 1
 pub EndTogether-ahead : {r : LocalRule} {n u v : ℕ} → IsRule r → IsLeftAhead r n → IsLeftPair r u v → ¬ EndTogether r u v (n - 1)
 EndTogether-ahead {r} {n} {u} {v} rule ahead f h =
     let words = (IsLeftAhead-words rule n).0 ahead in
@@ -72,7 +72,7 @@ last_letter {r} rule j n x e =
     let place : j + (r.width - 1) ≡ n + (r.width - 1 - 1) = omega arith in
     get_or-drop j x (r.width - 1) 0 ∙ ap (slice_index x) place ∙ sym (get_or-drop n x (r.width - 1 - 1) 0)
 
--- where no such nodes end together for n - 1, a rule looks ahead to the left for n
+-- where no two nodes of a left pair end together for n - 1, a rule looks ahead to the left for n
 pub IsLeftAhead-apart : {r : LocalRule} {n : ℕ} → IsRule r → 1 ≤ n
     → ((u v : ℕ) → u < node_count r → v < node_count r → IsLeftPair r u v → ¬ EndTogether r u v (n - 1)) → IsLeftAhead r n
 IsLeftAhead-apart {r} {n} rule some apart = (IsLeftAhead-words rule n).1 (

@@ -58,7 +58,7 @@ follow-pair_of r u v a b h e =
     follow-edges r (pair_of r u v) a b (ap (λ s. label r s a) first ∙ e ∙ ap (λ t. label r t b) (sym second))
     ∙ ap₂ (λ (s t : ℕ). Some (pair_of r (next r s a) (next r t b))) first second
 
--- it leads to pairs
+-- where a pair of nodes leads is a pair of nodes
 pub follow-below : {r : LocalRule} → IsRule r → (p a b q : ℕ) → follow r p a b ≡ Some q → q < pair_count r
 follow-below {r} rule p a b q e =
     subst (λ s. s < pair_count r) (follow-some r p a b q e).1 (pair_of-below r _ _ (next-below rule (first_of r p) a) (next-below rule (second_of r p) b))

@@ -18,7 +18,7 @@ IsBitSet-and a b i =
       (λ (first, second). let x = (bit_at-IsBitSet a i).0 first in let y = (bit_at-IsBitSet b i).0 second in (bit_at-IsBitSet (bit_and a b) i).1 (omega arith)),
     )
 
--- so the numbers of which both hold
+-- what two sets have both is the set of the numbers of which both hold
 pub IsSetOf-both : {n : ℕ} {P Q : ℕ → Type 0} {a b : ℕ} → IsSetOf n P a → IsSetOf n Q b → IsSetOf n (λ u. P u × Q u) (bit_and a b)
 IsSetOf-both {a = a} {b = b} h g = record {
   within = let less = and_le_r a b in let small = g.within in omega arith;

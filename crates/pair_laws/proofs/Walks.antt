@@ -64,7 +64,7 @@ LeadTogether-rest {r} {n = n} rule i j e h =
     subst₂ (LeadTogether r (place_node r h.x i) (place_node r h.y i) j) (last h.x h.one_image.first_long ∙ h.first_last) (last h.y h.one_image.second_long ∙ h.second_last)
     (HaveOneImage-between rule i j n 0 n e (omega arith) h.one_image)
 
--- so it is a walk of i steps and one of j
+-- a walk of i + j steps is a walk of i steps and one of j
 pub LeadTogether-cut : {r : LocalRule} {u v s t n : ℕ} → IsRule r → (i j : ℕ) → i + j ≡ n → LeadTogether r u v n s t
     → (p : ℕ) × (q : ℕ) × LeadTogether r u v i p q × LeadTogether r p q j s t
 LeadTogether-cut {r} rule i j e h = (place_node r h.x i, place_node r h.y i, LeadTogether-front rule i j e h, LeadTogether-rest rule i j e h)

@@ -35,7 +35,7 @@ pub record Meet (r : LocalRule) (u v i n : ℕ) : Type 0 where
   pub first : value r.states (take (r.width - 1) (drop i x)) ≡ u
   pub second : value r.states (take (r.width - 1) (drop i y)) ≡ v
 
--- such words are the two that end with them, joined with the two that begin with them
+-- where two nodes end together for i and begin together for j, two words with one image have them at i
 pub Meet-together : {r : LocalRule} {u v i j n : ℕ} → IsRule r → i + j ≡ n → EndTogether r u v i → BeginTogether r u v j → Meet r u v i n
 Meet-together {r} {i = i} rule e h g =
     let at_x : drop i h.x ≡ take (r.width - 1) g.x =

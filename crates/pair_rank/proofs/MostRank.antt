@@ -55,7 +55,7 @@ listed-apart side {r} {n} {i} {j} rule less within l m first second =
     (λ k. ⊎_elim (λ k'. omega (arith, k.0, k'.0)) (λ k'. omega (arith, k.0, k.1, k'.0, k'.1)) m.kind)
     l.kind
 
--- so there are fewer ranks than pairs of two different nodes
+-- a rank of two nodes is less than the number of pairs of two different nodes
 pub IsRank-apart : (side : Side) {r : LocalRule} → IsRule r → (u v n : ℕ) → IsRank (Together side r u v) n → n + node_count r < pair_count r
 IsRank-apart side {r} rule u v n rank =
     ⊎_elim
@@ -73,7 +73,7 @@ IsRank-apart side {r} rule u v n rank =
     absurd (listed-apart side rule less (omega arith) (at i) (at j) same.0 same.1))
     (cases_lt (n + node_count r) (pair_count r))
 
--- at most 239
+-- a rank of two nodes is at most 239
 pub IsRank-most : (side : Side) {r : LocalRule} → IsRule r → (u v n : ℕ) → IsRank (Together side r u v) n → n ≤ 239
 IsRank-most side {r} rule u v n rank =
     let few : node_count r ≤ 16 = rule.shape.most_nodes in

@@ -27,7 +27,7 @@ IsGiven-take {set} {u} {n} {w} {old} {new} h inside i at within present =
           other_place s v small (λ e. free e.0 (omega (arith, e.1)) (subst (IsBitSet set) (sym e.1) present)) ∙ h.kept s v small (λ same less. free same (omega arith));
     }
 
--- the next node isn't
+-- the next node isn't in the set: it is given nothing
 pub IsGiven-skip : {set u n w : ℕ} {old new : List (Option ℕ)} → IsGiven set u n w old new → ¬ IsBitSet set w → IsGiven set u n (w + 1) old new
 IsGiven-skip {set} {u} {n} {w} {old} {new} h absent = record {
   given = λ v less some. ⊎_elim (λ same. absurd (absent (subst (IsBitSet set) same some))) (λ other. h.given v (omega (arith, other)) some) (cases_eq v w);

@@ -31,7 +31,7 @@ AreTogether-all side {r} rule = record {
   );
 }
 
--- after a round the set has those that go on for one more
+-- after a round the set has the pairs that go on for one more
 pub AreTogether-next : {side : Side} {r : LocalRule} → IsRule r → {n : ℕ} {set after : List Bool} → AreTogether side r n set → IsTrimmedSet side r set after → AreTogether side r (n + 1) after
 AreTogether-next {side} {r} rule {n} {set} {after} h trimmed = record {
   count = trimmed.count;

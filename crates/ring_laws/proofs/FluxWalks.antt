@@ -12,7 +12,7 @@ zeros r = replicate (r.width - 1) 0
 abbrev pub walk_gain : (ℕ → ℕ) → LocalRule → ℕ → ℤ
 walk_gain weight r v = gain weight r (word_of r.states (r.width - 1) v ++ zeros r)
 
--- that gain of each node
+-- what the walk from each node gains that reads m - 1 letters 0
 abbrev pub walk_gains : (ℕ → ℕ) → LocalRule → List ℤ
 walk_gains weight r = map (walk_gain weight r) (range_with_len 0 (node_count r))
 

@@ -22,7 +22,7 @@ first_letter k (a ∷ w) some word =
     sym (div-mul-add a (k ^ length w) (value k w) (value-below k w (All-tail (λ b. b < k) a w word)))
     ∙ ap (λ n. (a * k ^ length w + value k w) / k ^ n) long
 
--- so what a window gains
+-- what a window gains is what its value tells
 window_gain-value : {r : LocalRule} → IsRule r → (weight : ℕ → ℕ) (w : List ℕ) → IsWord r.states w → length w ≡ r.width
     → (pos (weight (local_map r w)) -ℤ pos (weight (slice_index w 0))) ≡ window_gain weight r (value r.states w)
 window_gain-value {r} rule weight w word e =
@@ -30,7 +30,7 @@ window_gain-value {r} rule weight w word e =
     first_letter r.states w (omega arith) word ∙ ap (λ n. value r.states w / r.states ^ (n - 1)) e in
     ap (λ a. pos (weight (local_map r w)) -ℤ pos (weight a)) begins
 
--- its first node, by its value
+-- the first node of a window, by the window's value
 pub value-first_node : {r : LocalRule} → IsRule r → (w : List ℕ) → IsWord r.states w → length w ≡ r.width → value r.states (take (r.width - 1) w) ≡ value r.states w / r.states
 value-first_node {r} rule w word e =
     let one : length w - (r.width - 1) ≡ 1 = omega arith in

@@ -8,7 +8,7 @@ use Rattle.ring_laws.proofs.FluxWalks.{zeros, length-zeros, IsWord-zeros, walk_g
 abbrev pub ShortRingsKeepSum : (ℕ → ℕ) → LocalRule → Type 0
 ShortRingsKeepSum weight r = (p : List ℕ) → IsRing r.states p → length p ≤ 2 * r.width - 1 → KeepsSum weight r p
 
--- then so does m - 1 letters 0 and a word of at most m letters
+-- where the short rings keep their sum, so does a ring of m - 1 letters 0 and a word of at most m letters
 keeps_after_zeros : {r : LocalRule} → IsRule r → (weight : ℕ → ℕ) → ShortRingsKeepSum weight r → (w : List ℕ) → IsWord r.states w → length w ≤ r.width
     → KeepsSum weight r (zeros r ++ w)
 keeps_after_zeros {r} rule weight keep w word short =
@@ -26,6 +26,6 @@ IsFlux-short_rings {r} rule weight keep = IsFlux-rings rule weight (λ w word e.
       keeps_after_zeros rule weight keep (take (r.width - 1) w) node (omega (arith, length-take (r.width - 1) w)),
     ))
 
--- so a weight is conserved exactly where the walks' gains are a flux
+-- a weight is conserved exactly where the walks' gains are a flux
 pub IsConserving-walk_gains : {r : LocalRule} → IsRule r → (weight : ℕ → ℕ) → IsConserving weight r ↔ IsFlux weight r (walk_gains weight r)
 IsConserving-walk_gains rule weight = (λ keep. IsFlux-short_rings rule weight (λ p ring short. keep p ring), λ flux. IsConserving-flux rule flux)

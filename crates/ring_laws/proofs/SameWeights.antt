@@ -4,15 +4,15 @@ use Rattle.word_image.proofs.Common.{sum_by-cons, All-tail, LocalRule, IsRule, I
 use Rattle.word_image.proofs.laws.Weights.{own_weights-letter}
 use Rattle.ring_laws.proofs.Rings.{IsWord-ring_image}
 
--- each letter has one weight by both
+-- each letter below k has the same weight by two weights
 abbrev pub AgreeOn : ℕ → (ℕ → ℕ) → (ℕ → ℕ) → Type 0
 AgreeOn k weight other = (a : ℕ) → a < k → weight a ≡ other a
 
--- the other way round
+-- two weights agree the other way round too
 pub AgreeOn-sym : {k : ℕ} {weight other : ℕ → ℕ} → AgreeOn k weight other → AgreeOn k other weight
 AgreeOn-sym agree a l = sym (agree a l)
 
--- a word weighs the same by both
+-- a word weighs the same by two weights that agree on its letters
 sum_by-agree : {k : ℕ} {weight other : ℕ → ℕ} → AgreeOn k weight other → (w : List ℕ) → IsWord k w → sum_by weight w ≡ sum_by other w
 sum_by-agree agree [] word = refl
 sum_by-agree {k} {weight} {other} agree (a ∷ w) word =
@@ -20,18 +20,18 @@ sum_by-agree {k} {weight} {other} agree (a ∷ w) word =
     ∙ ap₂ (λ (m n : ℕ). m + n) (agree a (word 0 0 (omega arith))) (sum_by-agree agree w (All-tail (λ b. b < k) a w word))
     ∙ sym (sum_by-cons other a w)
 
--- a ring keeps its sum by the one where it does by the other
+-- where two weights agree on the letters, a ring that keeps its sum by the one keeps it by the other
 pub KeepsSum-agree : {weight other : ℕ → ℕ} {r : LocalRule} → IsRule r → AgreeOn r.states weight other → (p : List ℕ) → IsWord r.states p → KeepsSum weight r p → KeepsSum other r p
 KeepsSum-agree {r = r} rule agree p word keeps = sym (sum_by-agree agree p word) ∙ keeps ∙ sum_by-agree agree (ring_image r p) (IsWord-ring_image rule p)
 
--- so a rule is conserving by the one where it is by the other
+-- where two weights agree on the letters, a rule that is conserving by the one is so by the other
 IsConserving-agreed : {weight other : ℕ → ℕ} {r : LocalRule} → IsRule r → AgreeOn r.states weight other → IsConserving weight r → IsConserving other r
 IsConserving-agreed rule agree keep p ring = KeepsSum-agree rule agree p ring.word (keep p ring)
 
 pub IsConserving-agree : {weight other : ℕ → ℕ} {r : LocalRule} → IsRule r → AgreeOn r.states weight other → IsConserving weight r ↔ IsConserving other r
 IsConserving-agree rule agree = (IsConserving-agreed rule agree, IsConserving-agreed rule (AgreeOn-sym agree))
 
--- a flux by the one is a flux by the other
+-- where two weights agree on the letters, a flux by the one is a flux by the other
 pub IsFlux-agree : {weight other : ℕ → ℕ} {r : LocalRule} {phi : List ℤ} → IsRule r → AgreeOn r.states weight other → IsFlux weight r phi → IsFlux other r phi
 IsFlux-agree {r = r} rule agree flux = record {
   entries = flux.entries;
@@ -40,7 +40,7 @@ IsFlux-agree {r = r} rule agree flux = record {
       ∙ flux.flows w first last word long at_first at_last;
 }
 
--- a lossy ring by the one is lossy by the other
+-- where two weights agree on the letters, a ring that is lossy by the one is lossy by the other
 pub IsLossyRing-agree : {weight other : ℕ → ℕ} {r : LocalRule} {p : List ℕ} → IsRule r → AgreeOn r.states weight other → IsLossyRing weight r p → IsLossyRing other r p
 IsLossyRing-agree {p = p} rule agree lossy = record { ring = lossy.ring; loses = λ keeps. lossy.loses (KeepsSum-agree rule (AgreeOn-sym agree) p lossy.ring.word keeps) }
 
@@ -55,6 +55,6 @@ IsLeastLossyRing-agree rule agree least = record {
 pub AgreeOn-own : (k : ℕ) → AgreeOn k (slice_index (own_weights k)) (λ a. a)
 AgreeOn-own k a l = own_weights-letter k a l
 
--- so by own weights a rule is conserving exactly where each ring keeps the sum of its letters
+-- by own weights a rule is conserving exactly where each ring keeps the sum of its letters
 pub IsConserving-own : {r : LocalRule} → IsRule r → IsConserving (slice_index (own_weights r.states)) r ↔ IsConserving (λ a. a) r
 IsConserving-own {r} rule = IsConserving-agree rule (AgreeOn-own r.states)

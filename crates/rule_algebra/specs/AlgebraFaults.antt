@@ -4,27 +4,27 @@ use Rattle.word_image.specs.LocalRules.{LocalRule, most_width, most_nodes}
 use Rattle.rule_algebra.specs.declared.fault.AlgebraFault.{AlgebraFault}
 use Rattle.rule_algebra.specs.declared.fault.AlgebraFault.TheVariants.{States, Width, Nodes, Offset}
 
--- of a window of m cells at offset o
+-- the fault of a window of m cells at offset o
 abbrev pub offset_fault : ℕ → ℤ → Option AlgebraFault
 offset_fault m o = if int_lt o (negsuc 15) || int_lt (pos 16) (o +ℤ pos (m - 1)) then Some Offset else None
 
--- of k states, of which a rule stands, at width m and offset o
+-- the fault of k states, of which a rule stands, at width m and offset o
 abbrev pub limit_fault : ℕ → ℕ → ℤ → Option AlgebraFault
 limit_fault k m o =
     if nat_lt most_width m then Some Width
     else (if nat_lt most_nodes (k ^ (m - 1)) then Some Nodes
     else offset_fault m o)
 
--- of a rule that is shifted
+-- the fault of a rule that is shifted
 abbrev pub shift_fault : LocalRule → ℤ → Option AlgebraFault
 shift_fault r by = offset_fault r.width (r.offset +ℤ by)
 
--- of two rules, the second after the first
+-- the fault of two rules, the second after the first
 abbrev pub compose_fault : LocalRule → LocalRule → Option AlgebraFault
 compose_fault first second =
     if not (first.states == second.states) then Some States
     else limit_fault first.states (first.width + second.width - 1) (first.offset +ℤ second.offset)
 
--- of a rule that is widened to m cells
+-- the fault of a rule that is widened to m cells
 abbrev pub widen_fault : LocalRule → ℕ → Option AlgebraFault
 widen_fault r m = if nat_lt m r.width then Some Width else limit_fault r.states m r.offset

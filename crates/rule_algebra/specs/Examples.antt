@@ -20,7 +20,7 @@ shifted-204 = refl
 sum_of_products : composed both sum_mod_two ≡ record { states = 2; width = 3; offset = pos 0; table = 0 ∷ 0 ∷ 0 ∷ 1 ∷ 0 ∷ 0 ∷ 1 ∷ 0 ∷ [] }
 sum_of_products = refl
 
--- is not the product of sums
+-- the product of sums isn't the sum of products
 product_of_sums : composed sum_mod_two both ≡ record { states = 2; width = 3; offset = pos 0; table = 0 ∷ 0 ∷ 1 ∷ 0 ∷ 0 ∷ 1 ∷ 0 ∷ 0 ∷ [] }
 product_of_sums = refl
 

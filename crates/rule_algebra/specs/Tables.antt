@@ -23,7 +23,7 @@ widened r m = record {
   table = table_by r.states m (λ w. local_map r (take r.width w));
 }
 
--- the rule without its first cell, as it is where that is the letter 0
+-- the rule without its first cell, as the rule is where the first cell is the letter 0
 abbrev pub without_first : LocalRule → LocalRule
 without_first r = record {
   states = r.states;

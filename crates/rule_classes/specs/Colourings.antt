@@ -17,7 +17,7 @@ pub record AreInverse (k : ℕ) (colours letters : List ℕ) : Type 0 where
   pub back : (a : ℕ) → a < k → slice_index letters (slice_index colours a) ≡ a
   pub there : (a : ℕ) → a < k → slice_index colours (slice_index letters a) ≡ a
 
--- both are those of a colouring
+-- the colours and the letters of a colouring undo each other
 abbrev pub IsColouring : ℕ → Colouring → Type 0
 IsColouring k c = AreInverse k c.colours c.letters
 

@@ -48,7 +48,7 @@ PairStep-fixed r s letters rule h p q step =
       follows = follow-edges s p step.a step.b at ∙ ap (λ x. Some x) to;
     }
 
--- a fixed step leads on in each such rule
+-- a fixed step leads on in each rule that has the letters
 LeadsOn-fixed : (side : Side) (r s : LocalRule) (letters : List ℕ) → IsRule r → IsCompletion r.states r.width letters s → (p q : ℕ) → FixedLeadsOn side r letters p q → LeadsOn side s p q
 LeadsOn-fixed Right r s letters rule h p q step = PairStep-fixed r s letters rule h p q step
 LeadsOn-fixed Left r s letters rule h p q step = PairStep-fixed r s letters rule h q p step
@@ -73,7 +73,7 @@ PairStep-equal s rule u a l letter = record {
   follows = follow-pair_of s u u a a l refl;
 }
 
--- so such a pair leads on to such a pair
+-- a pair of a node with itself leads on to a pair of a node with itself
 equal_leads_on : (side : Side) (s : LocalRule) → IsRule s → (p : ℕ) → IsEqualPair s p → (q : ℕ) × LeadsOn side s p q × IsEqualPair s q
 equal_leads_on Right s rule p h =
     let u : ℕ = first_of s p in
@@ -111,7 +111,7 @@ PairGoes-fixed side r s letters Set rule endless h n p has =
     either)
     n p (inr has)
 
--- a pair of two different nodes in two such sets forbids injective rules
+-- a pair of two different nodes that goes on and on both ways forbids injective rules
 pub IsInjective-none_fixed : (r s : LocalRule) (letters : List ℕ) (On Back : ℕ → Type 0) (p : ℕ) → IsRule r → AreEndlessOn Right r letters On → AreEndlessOn Left r letters Back
     → On p → Back p → first_of r p ≢ second_of r p → IsCompletion r.states r.width letters s → ¬ IsInjective s
 IsInjective-none_fixed r s letters On Back p rule on back has_on has_back other h =

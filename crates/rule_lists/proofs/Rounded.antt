@@ -23,16 +23,16 @@ goes_on : (side : Side) (r : LocalRule) (letters : List ℕ) {p z : ℕ} → (fi
 goes_on side r letters ends (Here p inside) = (inside, ⊎_elim (λ one. inl one) (λ round. inr (round.next, round.on, round.back)) ends)
 goes_on side r letters ends (Step p q z inside step on) = (inside, inr (q, step, on))
 
--- so these pairs go on and on
+-- the pairs that lead to one with one node, or to one that is led round, go on and on
 AreEndlessOn-walk : (side : Side) (r : LocalRule) (letters : List ℕ) (z : ℕ) → (first_of r z ≡ second_of r z) ⊎ IsFixedRound side r letters z → AreEndlessOn side r letters (λ p. IsFixedWalk side r letters p z)
 AreEndlessOn-walk side r letters z ends p walk = goes_on side r letters ends walk
 
--- one step more
+-- a walk to a pair, and one step more from it, is a walk
 pub walk-more : (side : Side) (r : LocalRule) (letters : List ℕ) (z : ℕ) {p q : ℕ} → IsFixedWalk side r letters p q → FixedLeadsOn side r letters q z → q < pair_count r → z < pair_count r → IsFixedWalk side r letters p z
 walk-more side r letters z (Here q inside) step here there = Step q z z inside step (Here z there)
 walk-more side r letters z (Step p x q inside first on) step here there = Step p x z inside first (walk-more side r letters z on step here there)
 
--- a walk begins inside
+-- a walk begins at a pair inside
 walk-begin : (side : Side) (r : LocalRule) (letters : List ℕ) {p z : ℕ} → IsFixedWalk side r letters p z → p < pair_count r
 walk-begin side r letters (Here z inside) = inside
 walk-begin side r letters (Step p q z inside step on) = inside
@@ -114,19 +114,19 @@ IsFixedEndless-step Left r letters Set p q rule inside there one other step has 
       },
     )
 
--- to a pair with one node, or one that is led round, no rule that has them closes
+-- a fixed way to a pair with one node, or to one that is led round, bars that a rule with the letters closes
 pub BarsClosing-tail : (side : Side) (r s : LocalRule) (letters : List ℕ) (p : ℕ) → IsRule r → IsFixedTail side r letters p → (first_of r p ≡ second_of r p) ⊎ IsFixedRound side r letters p
     → IsCompletion r.states r.width letters s → ¬ IsClosing side s
 BarsClosing-tail side r s letters p rule tail ends h =
     let (w, a, first) = IsFixedEndless-step side r letters (λ q. IsFixedWalk side r letters q p) tail.from tail.first rule tail.inside (walk-begin side r letters tail.walk) tail.one tail.different tail.begins tail.walk in
     BarsClosing-endless side r s letters (λ q. IsFixedWalk side r letters q p) w a rule (AreEndlessOn-walk side r letters p ends) first h
 
--- what is reached further on
+-- a pair to which a walk leads from a reached pair is reached
 IsFixedReached-walk : (r : LocalRule) (letters : List ℕ) {p z : ℕ} → IsFixedReached r letters p → IsFixedWalk Right r letters p z → IsFixedReached r letters z
 IsFixedReached-walk r letters reached (Here z inside) = reached
 IsFixedReached-walk r letters reached (Step p q z inside step on) = IsFixedReached-walk r letters (On p q reached step) on
 
--- the first of these pairs is reached
+-- the pair of two different nodes to which a step leads from a pair of equal nodes is a first one
 IsFixedFirst-step : (r : LocalRule) (letters : List ℕ) (p q : ℕ) → IsRule r → p < pair_count r → first_of r p ≡ second_of r p → first_of r q ≢ second_of r q → IsFixedStep r letters p q → IsFixedFirst r letters q
 IsFixedFirst-step r letters p q rule inside one other step =
     let u : ℕ = first_of r p in

@@ -13,7 +13,7 @@ AreLevels n trees levels phi = (u v : ℕ) → u < n → v < n → slice_index t
 abbrev pub AreKnown : LocalRule → List ℕ → List ℕ → List ℕ → Type 0
 AreKnown r letters trees levels = (s : LocalRule) (phi : List ℤ) → IsCompletion r.states r.width letters s → IsFlux (λ a. a) s phi → AreLevels (node_count r) trees levels phi
 
--- no level is greater
+-- no level of a node is greater than the most
 abbrev pub AreUpTo : ℕ → List ℕ → Type 0
 AreUpTo most levels = (v : ℕ) → v < most_nodes → slice_index levels v ≤ most
 

@@ -36,7 +36,7 @@ pub record GoesOverField (text : List ℕ) (from to number : ℕ) : Type 0 where
   pub decimal : IsDecimal 1 2 digits
   pub value : number ≡ decimal_value digits
 
--- instead, too few digits come, or no colon after all of them
+-- instead of one or two digits and a colon, too few digits come, or no colon after all of them
 pub record LacksField (text : List ℕ) (from place : ℕ) : Type 0 where
   pub digits : List ℕ
   pub over : GoesOver text from place digits

@@ -23,7 +23,7 @@ filled-least {k = k} {tree = tree} {e = e} q i j b x y at from letter step =
     (λ yet. omega (arith, q.fills.so_far i x at))
     (cases_lt (j * k + b) e)
 
--- so its place is the first from which a step leads to the state, and its letter the first on which one does from there
+-- a state's parent is the first place from which a step leads to it, and its letter the first on which one does from there
 pub parent-least : {Step : ℕ → ℕ → ℕ → Type 0} {k start : ℕ} {tree : List (Place ℕ)} {e : ℕ} → IsQueue Step k start tree e
     → (i j b : ℕ) (x y : Place ℕ) → 0 < i → slice_get tree i ≡ Some x → slice_get tree j ≡ Some y → b < k → Step y.state b x.state
     → (x.parent ≤ j) × (x.parent ≡ j → x.letter ≤ b)

@@ -45,12 +45,12 @@ depths-ascending {depth = depth} q d (suc n) (suc i) j x y most le at_i at_j = �
     omega (arith, before, d.more (suc i) x (omega arith) at_i, d.more j y (omega (arith, less)) at_j))
     (cases_eq (suc i) j)
 
--- the steps from the places before h are followed, and so many steps or more lead to the others
+-- the steps from the places before h are followed, and `most` steps or more lead to the others
 pub record IsDeepFrom (k : ℕ) (tree : List (Place ℕ)) (depth : ℕ → ℕ) (e h most : ℕ) : Type 0 where
   pub followed : h * k ≤ e
   pub deep : (i : ℕ) (x : Place ℕ) → h ≤ i → slice_get tree i ≡ Some x → most ≤ depth i
 
--- then each state to which at most so many letters lead stands at a place that is no deeper
+-- each state to which at most as many letters lead as the queue is deep stands at a place no deeper than there are letters
 reached_in_time : {Step : ℕ → ℕ → ℕ → Type 0} {k start : ℕ} {tree : List (Place ℕ)} {e : ℕ} {depth : ℕ → ℕ} {h most : ℕ} → IsQueue Step k start tree e → AreDepths tree depth
     → IsDeepFrom k tree depth e h most → (w : List ℕ) (s : ℕ) → Leads Step k start w s → length w ≤ most
     → (i : ℕ) × (x : Place ℕ) × (slice_get tree i ≡ Some x) × (x.state ≡ s) × (depth i ≤ length w)
@@ -78,7 +78,7 @@ reached_in_time {Step} {k} {tree = tree} {e = e} {depth = depth} {h = h} {most =
           (cases_eq j 0),
     ))
 
--- so where no step that was followed leads to a state, no word of one to so many letters does
+-- where no followed step leads to a state, no word of one letter to as many as the queue is deep does
 pub no_word_within : {Step : ℕ → ℕ → ℕ → Type 0} {k start : ℕ} {tree : List (Place ℕ)} {e : ℕ} {depth : ℕ → ℕ} {h most goal : ℕ} → IsQueue Step k start tree e → AreDepths tree depth
     → IsDeepFrom k tree depth e h most → NoEdgeBefore Step k tree e goal
     → (w : List ℕ) → 0 < length w → length w ≤ most → ¬ Leads Step k start w goal

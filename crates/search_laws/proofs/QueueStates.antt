@@ -55,7 +55,7 @@ states-apart {tree = tree} q i j d less within same =
     let one = q.apart i j first.0 second.0 first.1 second.1 (first.2 ∙ same ∙ sym second.2) in
     omega (arith, one)
 
--- so there are no more places than states
+-- a queue has no more places than there are states
 pub length-queue-le : {Step : ℕ → ℕ → ℕ → Type 0} {k start : ℕ} {tree : List (Place ℕ)} {e : ℕ} → IsQueue Step k start tree e
     → (n : ℕ) → start < n → ((s a t : ℕ) → Step s a t → t < n) → length tree ≤ n
 length-queue-le {tree = tree} q n first steps =

@@ -65,7 +65,7 @@ IsFilled-there {Step = Step} {Met = Met} {k = k} {tree = tree} {e = e} q h n x e
   done = HaveMet-next Step Met k tree e h n x q.done edge below head met;
 }
 
--- it leads to no state, or to states that are there
+-- a queue stays one where one more edge is followed that leads to no state, or to states that are there
 pub IsQueue-there : {Step : ℕ → ℕ → ℕ → Type 0} {k start : ℕ} {tree : List (Place ℕ)} {e : ℕ} → IsQueue Step k start tree e
     → (h n : ℕ) (x : Place ℕ) → e ≡ h * k + n → n < k → slice_get tree h ≡ Some x
     → ((t : ℕ) → Step x.state n t → (j : ℕ) × (y : Place ℕ) × (slice_get tree j ≡ Some y) × (y.state ≡ t))
@@ -117,7 +117,7 @@ IsFilled-new {Step = Step} {More = More} {k = k} {tree = tree} {e = e} q h n x y
           edge below head (λ t follows. met t follows (late (length tree) refl))) (omega (arith, edge-within k tree h (n + 1) x head (omega arith)));
     }
 
--- it leads to a state that isn't there
+-- a queue stays one where one more edge is followed that leads to a state that isn't there, and the state is added
 pub IsQueue-new : {Step : ℕ → ℕ → ℕ → Type 0} {k start : ℕ} {tree : List (Place ℕ)} {e : ℕ} → IsQueue Step k start tree e
     → (h n : ℕ) (x y : Place ℕ) → e ≡ h * k + n → n < k → slice_get tree h ≡ Some x → y.parent ≡ h → y.letter ≡ n → Step x.state n y.state
     → ((t : ℕ) → Step x.state n t → t ≡ y.state)

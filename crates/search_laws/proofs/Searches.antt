@@ -16,11 +16,11 @@ pub search_place : {Step : ℕ → ℕ → ℕ → Type 0} {k start : ℕ} {stat
     → (y : Place ℕ) × (slice_get x.tree i ≡ Some y) × (y.state ≡ s)
 search_place x i s at = unmapped_at (λ y. y.state) x.tree i s (subst (λ l. slice_get l i ≡ Some s) (sym x.lists) at)
 
--- as many places as states
+-- the tree of a search has as many places as there are states listed
 pub length-search : {Step : ℕ → ℕ → ℕ → Type 0} {k start : ℕ} {states : List ℕ} {e : ℕ} → (x : IsSearch Step k start states e) → length x.tree ≡ length states
 length-search x = sym (length-map x.tree (λ y. y.state)) ∙ ap length x.lists
 
--- one more edge is followed, to nothing that isn't listed
+-- a search stays one where one more edge is followed, to nothing that isn't listed
 abbrev pub IsSearch-there : {Step : ℕ → ℕ → ℕ → Type 0} {k start : ℕ} {states : List ℕ} (h n from : ℕ) → IsSearch Step k start states (h * k + n) → n < k
     → slice_get states h ≡ Some from → ((t : ℕ) → Step from n t → Contains states t) → IsSearch Step k start states (h * k + n + 1)
 IsSearch-there {Step} {states = states} h n from x letter here there =
@@ -31,7 +31,7 @@ IsSearch-there {Step} {states = states} h n from x letter here there =
       lists = x.lists;
     }
 
--- or to a state that isn't, which is put into the list
+-- a search stays one where one more edge is followed, to a state that isn't listed and is put into the list
 abbrev pub IsSearch-new : {Step : ℕ → ℕ → ℕ → Type 0} {k start : ℕ} {states : List ℕ} (h n from to : ℕ) → IsSearch Step k start states (h * k + n) → n < k
     → slice_get states h ≡ Some from → Step from n to → ((t : ℕ) → Step from n t → t ≡ to) → ¬ Contains states to → IsSearch Step k start (states ++ to ∷ []) (h * k + n + 1)
 IsSearch-new {Step} {states = states} h n from to x letter here step only new =

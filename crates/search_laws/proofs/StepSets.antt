@@ -16,7 +16,7 @@ same_set n a b small_a small_b same = same_from_bits_below n a b small_a small_b
     (cases_eq (bit_at b i) 1))
     (cases_eq (bit_at a i) 1))
 
--- so there is one set of those of which something holds
+-- there is one set of the nodes of which something holds
 pub IsSetOf-unique : {n : ℕ} {Holds : ℕ → Type 0} {a b : ℕ} → IsSetOf n Holds a → IsSetOf n Holds b → a ≡ b
 IsSetOf-unique {n} {a = a} {b = b} first second =
     same_set n a b first.within second.within (λ i l. ((λ some. (second.nodes i l).1 ((first.nodes i l).0 some)), (λ some. (first.nodes i l).1 ((second.nodes i l).0 some))))
@@ -29,7 +29,7 @@ some_to Holds decide count (suc n) within =
     subst (λ m. (set : ℕ) × IsSetTo count Holds m set) (add-one n)
     (⊎_elim (λ holds. (bit_or set (2 ^ n), IsSetTo-take Holds before (omega arith) refl holds)) (λ none. (set, IsSetTo-skip Holds before none)) (decide n))
 
--- so they are a set
+-- the numbers below n of which something holds that can be decided are a set
 pub some_set : (Holds : ℕ → Type 0) → ((i : ℕ) → Holds i ⊎ ¬ Holds i) → (n : ℕ) → (set : ℕ) × IsSetOf n Holds set
 some_set Holds decide n = let (set, all) = some_to Holds decide n n (omega arith) in (set, IsSetTo-all Holds refl all)
 
@@ -49,7 +49,7 @@ IsLastSet-unique first second = IsSetOf-unique first.last second.last
 abbrev pub LeadsToSet : LocalRule → List ℕ → ℕ → Type 0
 LeadsToSet r = Leads (IsStep r) r.states (full_set r)
 
--- where it leads is that set
+-- where a word leads from the full set is its set of last nodes
 pub IsLastSet-leads : {r : LocalRule} {w : List ℕ} {set : ℕ} → IsRule r → LeadsToSet r w set → IsLastSet r w set
 IsLastSet-leads {r} {w} {set} rule leads =
     Leads-induct (IsLastSet r) (IsLastSet-full r) (λ v a s t before letter step last. IsLastSet-step {set = s} {after = t} rule last letter step) w set leads
@@ -59,7 +59,7 @@ walk_from : (r : LocalRule) (w : List ℕ) (set : ℕ) → (end : ℕ) × Walk (
 walk_from r [] set = (set, refl)
 walk_from r (a ∷ w) set = let (after, step) = IsStep-some r set a in let (end, rest) = walk_from r w after in (end, (after, step, rest))
 
--- so does each word from the full one
+-- each word leads from the full set to a set
 pub LeadsToSet-some : (r : LocalRule) (w : List ℕ) → IsWord r.states w → (set : ℕ) × LeadsToSet r w set
 LeadsToSet-some r w word = let (end, walk) = walk_from r w (full_set r) in (end, record { walk = walk; word = word })
 

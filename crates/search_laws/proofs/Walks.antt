@@ -13,7 +13,7 @@ pub Walk-cut : {S L : Type 0} (Step : S → L → S → Type 0) (v w : List L) (
 Walk-cut Step [] w s t walk = (s, refl, walk)
 Walk-cut Step (a ∷ v) w s t (next, step, rest) = let (u, first, second) = Walk-cut Step v w next t rest in (u, (next, step, first), second)
 
--- one more step at the end
+-- a walk with one more step at the end is a walk
 pub Walk-push : {S L : Type 0} (Step : S → L → S → Type 0) (w : List L) (a : L) (s u t : S) → Walk Step s w u → Step u a t → Walk Step s (w ++ a ∷ []) t
 Walk-push Step w a s u t walk step = Walk-join Step w (a ∷ []) s u t walk (t, step, refl)
 
@@ -37,7 +37,7 @@ All-walk Step P each (a ∷ w) s t (u, step, rest) = All-cons P a w (each s a u 
 pub Leads-none : {S : Type 0} {Step : S → ℕ → S → Type 0} {k : ℕ} {start : S} → Leads Step k start [] start
 Leads-none {k = k} = record { walk = refl; word = All-nil (λ a. a < k) }
 
--- one more letter
+-- one more letter leads one step on
 pub Leads-push : {S : Type 0} {Step : S → ℕ → S → Type 0} {k : ℕ} {start s t : S} {w : List ℕ} {a : ℕ} → Leads Step k start w s → a < k → Step s a t → Leads Step k start (w ++ a ∷ []) t
 Leads-push {Step = Step} {k = k} {start = start} {s = s} {t = t} {w = w} {a = a} leads letter step = record {
   walk = Walk-push Step w a start s t leads.walk step;

@@ -3,21 +3,21 @@ use Rattle.std.proofs.Common.{◌≡◌, ℕ, zero, suc, ◌+◌, ◌-◌, ◌%�
 use Rattle.word_image.proofs.Common.{from_bool, cases_lt, twice_below}
 use Rattle.table_laws.specs.ZeroPairs.{count_below}
 
--- none below 0
+-- no number below 0 passes a test
 pub count_below-none : (p : ℕ → Bool) → count_below p 0 ≡ 0
 unfolding count_below
 count_below-none p = refl
 
--- one number more
+-- one number more is counted if it passes
 pub count_below-more : (p : ℕ → Bool) (n : ℕ) → count_below p (n + 1) ≡ count_below p n + from_bool (p n)
 unfolding count_below
 count_below-more p n = let e : n + 1 ≡ suc n = omega arith in ap (count_below p) e
 
--- a number more that passes
+-- with a number more that passes, one number more is counted
 count_below-yes : (p : ℕ → Bool) (n : ℕ) → p n ≡ true → count_below p (n + 1) ≡ count_below p n + 1
 count_below-yes p n passes = count_below-more p n ∙ ap (λ b. count_below p n + from_bool b) passes
 
--- with a greater bound there are no fewer
+-- below a greater bound no fewer numbers pass
 count_below-le : (p : ℕ → Bool) (i d : ℕ) → count_below p i ≤ count_below p (i + d)
 count_below-le p i zero = let e : i + 0 ≡ i = omega arith in omega (arith, ap (count_below p) e)
 count_below-le p i (suc d) =
@@ -48,7 +48,7 @@ nth p (suc n) i l =
     ] l refl)
     (cases_lt i (count_below p n))
 
--- as many as there are where these numbers are all that pass, each once
+-- as many numbers pass as there are in a list of all that pass, each once
 pub count_below-exact : (p : ℕ → Bool) (n m : ℕ) (at : ℕ → ℕ) → ((i : ℕ) → i < m → (at i < n) × (p (at i) ≡ true)) → ((i j : ℕ) → i < m → j < m → at i ≡ at j → i ≡ j)
     → ((v : ℕ) → v < n → p v ≡ true → (i : ℕ) × (i < m) × (at i ≡ v)) → count_below p n ≡ m
 count_below-exact p n m at holds apart all =
@@ -81,19 +81,19 @@ count_below-exact p n m at holds apart all =
     (cases_lt m (count_below p n)))
     (cases_lt (count_below p n) m)
 
--- of tests that agree
+-- of two tests that agree as many numbers pass the one as the other
 pub count_below-agree : (p q : ℕ → Bool) (n : ℕ) → ((a : ℕ) → a < n → p a ≡ q a) → count_below p n ≡ count_below q n
 unfolding count_below
 count_below-agree p q zero same = refl
 count_below-agree p q (suc n) same = ap₂ (λ i b. i + from_bool b) (count_below-agree p q n (λ a l. same a (omega arith))) (same n (omega arith))
 
--- of one that none passes
+-- of a test that no number passes the count is 0
 pub count_below-never : (p : ℕ → Bool) (n : ℕ) → ((a : ℕ) → a < n → p a ≡ false) → count_below p n ≡ 0
 unfolding count_below
 count_below-never p zero fails = refl
 count_below-never p (suc n) fails = omega (arith, count_below-never p n (λ a l. fails a (omega arith)), ap from_bool (fails n (omega arith)))
 
--- in two parts
+-- the count of two parts is the sum of the counts of both
 pub count_below-add : (p : ℕ → Bool) (n d : ℕ) → count_below p (n + d) ≡ count_below p n + count_below (λ a. p (n + a)) d
 count_below-add p n zero = let e : n + 0 ≡ n = omega arith in omega (arith, ap (count_below p) e, count_below-none (λ a. p (n + a)))
 count_below-add p n (suc d) =

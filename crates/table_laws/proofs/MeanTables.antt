@@ -6,24 +6,24 @@ use Rattle.ring_laws.proofs.FluxWalks.{walk_gains}
 use Rattle.ring_laws.proofs.LossyRings.{IsConserving-walk_gains}
 use Rattle.table_laws.specs.Tables.{IsEven, HasMean}
 
--- f 0 + f 1 + .. + f (n - 1)
+-- the total f 0 + f 1 + .. + f (n - 1)
 total : (ℕ → ℤ) → ℕ → ℤ
 total f zero = pos 0
 total f (suc n) = total f n +ℤ f n
 
--- of two functions that agree
+-- the totals of two functions that agree are equal
 total-agree : (f g : ℕ → ℤ) (n : ℕ) → ((i : ℕ) → i < n → f i ≡ g i) → total f n ≡ total g n
 unfolding total
 total-agree f g zero h = refl
 total-agree f g (suc n) h = ap₂ (λ (i j : ℤ). i +ℤ j) (total-agree f g n (λ i l. h i (omega arith))) (h n (omega arith))
 
--- in two parts
+-- a total in two parts
 total-add : (f : ℕ → ℤ) (a b : ℕ) → total f (a + b) ≡ total f a +ℤ total (λ i. f (a + i)) b
 unfolding total
 total-add f a zero = let e : a + 0 ≡ a = omega arith in ap (total f) e ∙ omega (arith, ints)
 total-add f a (suc b) = let e : a + suc b ≡ suc (a + b) = omega arith in ap (total f) e ∙ omega (arith, ints, total-add f a b)
 
--- of differences
+-- the total of differences is the difference of the totals
 total-sub : (f g : ℕ → ℤ) (n : ℕ) → total (λ i. f i -ℤ g i) n ≡ total f n -ℤ total g n
 unfolding total
 total-sub f g zero = omega (arith, ints)
@@ -34,31 +34,31 @@ times : ℕ → ℤ → ℤ
 times zero x = pos 0
 times (suc n) x = times n x +ℤ x
 
--- n times 0
+-- n times 0 is 0
 times-zero : (n : ℕ) → times n (pos 0) ≡ pos 0
 unfolding times
 times-zero zero = refl
 times-zero (suc n) = omega (arith, ints, times-zero n)
 
--- n times a sum
+-- n times a sum is the sum of n times each part
 times-add : (n : ℕ) (x y : ℤ) → times n (x +ℤ y) ≡ times n x +ℤ times n y
 unfolding times
 times-add zero x y = omega (arith, ints)
 times-add (suc n) x y = omega (arith, ints, times-add n x y)
 
--- n times a number that isn't negative
+-- n times a number that isn't negative is the product
 times-pos : (n x : ℕ) → times n (pos x) ≡ pos (n * x)
 unfolding times
 times-pos zero x = ap pos (sym (zero-mul x))
 times-pos (suc n) x = omega (arith, ints, times-pos n x, suc-mul n x)
 
--- of one and the same number
+-- the total of one and the same number, n times, is n times the number
 total-same : (f : ℕ → ℤ) (x : ℤ) (n : ℕ) → ((i : ℕ) → i < n → f i ≡ x) → total f n ≡ times n x
 unfolding total times
 total-same f x zero h = refl
 total-same f x (suc n) h = ap₂ (λ (i j : ℤ). i +ℤ j) (total-same f x n (λ i l. h i (omega arith))) (h n (omega arith))
 
--- n blocks of d numbers, each of which has f 0 to f (d - 1)
+-- the total of n blocks of d numbers, each of which has f 0 to f (d - 1)
 total-rem : (f : ℕ → ℤ) (d n : ℕ) → total (λ v. f (v % d)) (n * d) ≡ times n (total f d)
 unfolding total times
 total-rem f d zero = ap (total (λ v. f (v % d))) (zero-mul d)
@@ -67,7 +67,7 @@ total-rem f d (suc n) =
     ∙ total-add (λ v. f (v % d)) (n * d) d
     ∙ ap₂ (λ (i j : ℤ). i +ℤ j) (total-rem f d n) (total-agree (λ i. f ((n * d + i) % d)) f d (λ i l. ap f (mod-mul-add n d i l)))
 
--- n blocks of d numbers, of which block i has f i alone
+-- the total of n blocks of d numbers, of which block i has f i alone
 total-div : (f : ℕ → ℤ) (d n : ℕ) → total (λ v. f (v / d)) (n * d) ≡ times d (total f n)
 unfolding total
 total-div f d zero = ap (total (λ v. f (v / d))) (zero-mul d) ∙ sym (times-zero d)
@@ -77,7 +77,7 @@ total-div f d (suc n) =
     ∙ ap₂ (λ (i j : ℤ). i +ℤ j) (total-div f d n) (total-same (λ i. f ((n * d + i) / d)) (f n) d (λ i l. ap f (div-mul-add n d i l)))
     ∙ sym (times-add d (total f n) (f n))
 
--- the sum of the first letters of a table
+-- the total of the first letters of a table is their sum
 total-table : (table : List ℕ) (n : ℕ) → n ≤ length table → total (λ v. pos (slice_index table v)) n ≡ pos (sum (take n table))
 unfolding total
 total-table table zero few = refl
@@ -97,7 +97,7 @@ unfolding triangle
 triangle-twice zero = refl
 triangle-twice (suc n) = omega (arith, triangle-twice n, suc-mul n (suc n), mul-suc n n)
 
--- the sum of the letters below n
+-- the total of the letters below n is 0 + 1 + .. + (n - 1)
 total-letters : (n : ℕ) → total (λ a. pos a) n ≡ pos (triangle n)
 unfolding total triangle
 total-letters zero = refl
@@ -143,7 +143,7 @@ weighed : ℕ → List ℕ → ℕ
 weighed zero xs = 0
 weighed (suc n) xs = weighed n xs + n * count_by (λ b. b == n) xs
 
--- of no letters it is 0
+-- the sum of the letters of a list below n is 0 where there are no letters
 weighed-nil : (n : ℕ) → weighed n [] ≡ 0
 unfolding weighed
 weighed-nil zero = refl
@@ -158,7 +158,7 @@ weighed-other (suc n) x xs l =
     omega (arith, sum_by-cons (λ b. cond (b == n) 1 0) x xs, cond-false {A = ℕ} (x == n) 1 0 (ne_eqb x n (λ e. absurd (omega arith)))) in
     omega (arith, weighed-other n x xs (omega arith), ap (λ i. n * i) same)
 
--- one more that is below n adds its value
+-- a letter more that is below n adds its value
 weighed-one : (n x : ℕ) (xs : List ℕ) → x < n → weighed n (x ∷ xs) ≡ weighed n xs + x
 unfolding weighed
 weighed-one zero x xs l = absurd (omega arith)
@@ -176,7 +176,7 @@ weighed-one (suc n) x xs l =
     omega (arith, weighed-one n x xs (omega (arith, other)), ap (λ i. n * i) same))
     (cases_eq x n)
 
--- of a word of k letters it is the sum
+-- the sum of the letters of a word over k letters below k is the sum of all
 weighed-word : (k : ℕ) (xs : List ℕ) → IsWord k xs → weighed k xs ≡ sum xs
 weighed-word k [] word = weighed-nil k
 weighed-word k (x ∷ xs) word =

@@ -15,7 +15,7 @@ pub record WindowMap : Type 0 where
 abbrev pub map_letter : WindowMap → List ℕ → ℕ
 map_letter g w = slice_index g.table (value g.states w)
 
--- what it makes of a configuration: at each place what it gives on the letters from its offset on
+-- what the map makes of a configuration: at each place what it gives on the letters from its offset on
 abbrev pub mapped : WindowMap → Config → Config
 mapped g y i = map_letter g (run y (i +ℤ g.offset) g.width)
 

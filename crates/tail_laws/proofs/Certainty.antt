@@ -26,7 +26,7 @@ differ_or_not a b = ⊎_elim (λ e. inr (λ n. n e)) (λ n. inl n) (cases_eq a b
 abbrev pub IsLongBothWays : LocalRule → ℕ → Type 0
 IsLongBothWays r p = (first_of r p ≢ second_of r p) × (PairGoes Left r p (pair_count r) × PairGoes Right r p (pair_count r))
 
--- that is decided of each pair
+-- of each pair it is decided whether its nodes differ, and end and begin together for as long as there are pairs
 long_or_not : {r : LocalRule} → IsRule r → (p : ℕ) → ((p < pair_count r) × IsLongBothWays r p) ⊎ ¬ ((p < pair_count r) × IsLongBothWays r p)
 long_or_not {r} rule p =
     ⊎_elim (λ l. decide_both (inl l) (decide_both (differ_or_not (first_of r p) (second_of r p)) (decide_both
@@ -41,7 +41,7 @@ window_or_twins {r} rule =
     (λ none. inl (_, _, IsDetermined-none_both_ways rule (λ p l other endless. none p l (l, (other, (endless.ends (pair_count r), endless.begins (pair_count r)))))))
     (some_below (λ p. (p < pair_count r) × IsLongBothWays r p) (long_or_not rule) (pair_count r))
 
--- so it is injective exactly where it has a determined window
+-- a rule is injective exactly where it has a determined window
 pub IsInjective-window : {r : LocalRule} → IsRule r → IsInjective r ↔ HasWindow r
 IsInjective-window {r} rule = (
   λ injective. ⊎_elim (λ w. w) (λ t. absurd (no_twins t.2 injective)) (window_or_twins rule),
@@ -52,7 +52,7 @@ IsInjective-window {r} rule = (
 abbrev pub IsLongFirst : LocalRule → ℕ → ℕ → ℕ → Type 0
 IsLongFirst r node a b = (a ≢ b) × ((label r node a ≡ label r node b) × BeginTogether r (next r node a) (next r node b) (pair_count r))
 
--- which gives a normal split
+-- two letters with one label to nodes that begin together for as long as there are pairs give a normal split
 first_split : {r : LocalRule} → IsRule r → (node a b : ℕ) → node < node_count r → a < r.states → b < r.states → IsLongFirst r node a b → HasNormalSplit r
 first_split {r} rule node a b hn ha hb h =
     normal_split-begins rule
@@ -85,7 +85,7 @@ ahead_or_split {r} rule =
     ))))
     (some_below (λ node. (a : ℕ) × (a < r.states) × ((b : ℕ) × (b < r.states) × IsLongFirst r node a b)) letters (node_count r))
 
--- so it is right-closing exactly where it looks ahead
+-- a rule is right-closing exactly where it looks ahead to the right
 pub IsRightClosing-window : {r : LocalRule} → IsRule r → IsRightClosing r ↔ ((n : ℕ) × IsRightAhead r n)
 IsRightClosing-window {r} rule = (
   λ closing. ⊎_elim (λ a. a) (λ s. absurd ((IsRightClosing-none r).0 closing s.0 s.1 s.2.split)) (ahead_or_split rule),

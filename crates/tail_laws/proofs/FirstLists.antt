@@ -4,7 +4,7 @@ use Rattle.word_image.proofs.Common.{cases_eq, map-map, word_cmp, pairs_cmp, no_
 use Rattle.search_laws.proofs.Common.{ArePairs, uncode, pairs_cmp-codes, codes-uncode}
 use Rattle.tail_laws.specs.FirstLists.{IsLeastOf, NoneBelow, IsFirstBelow, IsFirstFound}
 
--- one number more has none
+-- where no number below n has a list, and n has none, no number up to n has one
 NoneBelow-none : {Has : ℕ → List (ℕ × ℕ) → Type 0} {n : ℕ} → NoneBelow Has n → ((v : List (ℕ × ℕ)) → ¬ Has n v) → NoneBelow Has (n + 1)
 NoneBelow-none {Has} {n} before none p v l has = ⊎_elim (λ same. none v (subst (λ q. Has q v) same has)) (λ other. before p v (omega (arith, other)) has) (cases_eq p n)
 
@@ -17,7 +17,7 @@ IsFirstBelow-new {Has} {n} {u} first before = record {
   least = λ p v l has. ⊎_elim (λ same. first.least v (subst (λ q. Has q v) same has)) (λ other. before p v (omega (arith, other)) has) (cases_eq p n);
 }
 
--- else that one stays the first, where the number n has none that comes before
+-- the first list so far stays the first, where the number n has none that comes before it
 pub IsFirstBelow-old : {Has : ℕ → List (ℕ × ℕ) → Type 0} {n : ℕ} {w : List (ℕ × ℕ)} → IsFirstBelow Has n w → ((v : List (ℕ × ℕ)) → Has n v → pairs_cmp w v ≢ Greater) → IsFirstBelow Has (n + 1) w
 IsFirstBelow-old {Has} {n} best here = record {
   number = best.number;
@@ -26,7 +26,7 @@ IsFirstBelow-old {Has} {n} best here = record {
   least = λ p v l has. ⊎_elim (λ same. here v (subst (λ q. Has q v) same has)) (λ other. best.least p v (omega (arith, other)) has) (cases_eq p n);
 }
 
--- or where the first that it has doesn't come before
+-- the first list so far stays the first, where the first that the number n has doesn't come before it
 IsFirstBelow-after : {Has : ℕ → List (ℕ × ℕ) → Type 0} {n : ℕ} {u w : List (ℕ × ℕ)} → IsFirstBelow Has n w → IsLeastOf Has n u → pairs_cmp u w ≢ Less → IsFirstBelow Has (n + 1) w
 IsFirstBelow-after {u = u} {w = w} best first other = IsFirstBelow-old best (λ v has. no_later pairs_cmp_total w u v (not_before pairs_cmp_total u w other) (first.least v has))
 
@@ -41,7 +41,7 @@ IsFirstBelow-earlier old other best least Greater is = IsFirstBelow-after best l
 pairs_cmp-bytes : (v w : List ℕ) → ArePairs 16 (map (uncode 16) v) → ArePairs 16 (map (uncode 16) w) → pairs_cmp (map (uncode 16) v) (map (uncode 16) w) ≡ word_cmp v w
 pairs_cmp-bytes v w small_v small_w = pairs_cmp-codes 16 (map (uncode 16) v) (map (uncode 16) w) small_v small_w ∙ ap₂ word_cmp (codes-uncode 16 v) (codes-uncode 16 w)
 
--- one more number, which has some
+-- the first list found up to n, where the number n has some list
 pub IsFirstFound-next : {Has : ℕ → List (ℕ × ℕ) → Type 0} {n : ℕ} → ((p : ℕ) (abs : List (ℕ × ℕ)) → p ≤ n → Has p abs → ArePairs 16 abs) → (found : Option (Vec ℕ Global)) (other steps : List ℕ)
     → MatchOption found (steps ≡ other) (λ old. steps ≡ (if is_lt (word_cmp other old.items) then other else old.items))
     → IsFirstFound Has n found → IsLeastOf Has n (map (uncode 16) other) → IsFirstBelow Has (n + 1) (map (uncode 16) steps)
@@ -52,7 +52,7 @@ IsFirstFound-next {Has} {n} small (Some old) other steps is best least =
     (IsFirstBelow-earlier old.items other best least (word_cmp other old.items)
     (pairs_cmp-bytes other old.items (small n (map (uncode 16) other) (omega arith) least.has) (small best.number (map (uncode 16) old.items) (omega (arith, best.below)) best.has)))
 
--- one more number, which has none
+-- the first list found so far stays so, where the number n has none
 pub IsFirstFound-none : (Has : ℕ → List (ℕ × ℕ) → Type 0) {n : ℕ} → (found : Option (Vec ℕ Global)) → IsFirstFound Has n found → ((abs : List (ℕ × ℕ)) → ¬ Has n abs) → IsFirstFound Has (n + 1) found
 IsFirstFound-none Has None before none = NoneBelow-none before none
 IsFirstFound-none Has (Some old) best none = IsFirstBelow-old best (λ v has. absurd (none v has))

@@ -46,7 +46,7 @@ pub record LeadsToLoop (r : LocalRule) (p : ℕ) : Type 0 where
 abbrev pub looped_tail : LocalRule → ℕ → ℕ → List ℕ → List ℕ → TailConfig
 looped_tail r node a walk turn = record { left = 0 ∷ []; middle = word_of r.states (r.width - 1) node ++ a ∷ walk; right = turn }
 
--- it is a configuration over the rule's letters
+-- the configuration of a node, a letter, a walk and a loop is one over the rule's letters
 IsTail-looped_tail : {r : LocalRule} → IsRule r → (node a : ℕ) (walk turn : List ℕ) → node < node_count r → a < r.states → IsWord r.states walk → IsRing r.states turn → IsTail r.states (looped_tail r node a walk turn)
 IsTail-looped_tail {r} rule node a walk turn hn ha hw ht =
     let m : ℕ = r.width - 1 in

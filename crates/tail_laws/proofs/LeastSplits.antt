@@ -14,7 +14,7 @@ splits_cmp_total =
     (then_total (on_total (λ p. zip (p.0).middle (p.1).middle) (lists_total pair_cmp_total))
     (on_total (λ p. zip (p.0).right (p.1).right) (lists_total pair_cmp_total))))
 
--- the order of such splits, said of the walks
+-- the order of splits, said of the walks that make them
 abbrev pub walks_cmp : List (ℕ × ℕ) → List (ℕ × ℕ) → List (ℕ × ℕ) → List (ℕ × ℕ) → Ordering
 walks_cmp w v w' v' =
     ordering_then (nat_cmp (length w + length v) (length w' + length v'))
@@ -71,7 +71,7 @@ tail_of-parts : (t : TailConfig) (middle right : List ℕ) → t.left ≡ 0 ∷ 
 tail_of-parts t middle right left same_middle same_right =
     ap₂ (λ (m p : List ℕ). record { left = 0 ∷ []; middle = m; right = p }) same_middle same_right ∙ ap (λ (l : List ℕ). record { left = l; middle = t.middle; right = t.right }) (sym left)
 
--- over all states it is the least normal right split
+-- the least normal split over all states is the least normal right split
 pub IsLeastRightSplit-below : {r : LocalRule} {w v : List (ℕ × ℕ)} → IsRule r → IsLeastBelow r (pair_count r + pair_count r) w v → IsLeastRightSplit r (first_tail w v) (second_tail w v)
 IsLeastRightSplit-below {r} {w} {v} rule h =
     record {

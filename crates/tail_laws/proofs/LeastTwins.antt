@@ -12,14 +12,14 @@ use Rattle.tail_laws.specs.FirstLists.{IsLeastOf, NoneBelow, IsFirstBelow}
 abbrev pub IsLeastTurn : LocalRule → ℕ → List (ℕ × ℕ) → Type 0
 IsLeastTurn r p w = IsLeastWalk (marked r) r.states p (p + pair_count r) w
 
--- such a walk has a step
+-- a walk from the pair p to p with the mark has a step
 pub turn-some : {r : LocalRule} → IsRule r → (p : ℕ) (w : List (ℕ × ℕ)) → IsTurn r p w → 0 < length w
 turn-some {r} rule p [] turn =
     let pairs : 0 < pair_count r = pair_count_pos rule in
     absurd (omega arith)
 turn-some rule p (ab ∷ w) turn = omega arith
 
--- so the least of those with a step is the least of all
+-- the least walk from the pair p to p with the mark that has a step is the least of all such walks
 pub IsLeastOf-turn : {r : LocalRule} {p : ℕ} {w : List (ℕ × ℕ)} → IsRule r → IsLeastTurn r p w → IsLeastOf (IsTurn r) p w
 IsLeastOf-turn {r} {p} rule first = record { has = first.walk; least = λ v turn. first.least v (turn-some rule p v turn) turn }
 
@@ -35,7 +35,7 @@ IsLeastTwins-first {w = w} rule first = record {
   least = λ u v twins. let turn = twins-turn rule twins in subst (λ z. pairs_cmp z (zip u v) ≢ Greater) (sym (zip-sides w)) (first.least turn.0 (zip u v) turn.1 turn.2);
 }
 
--- where there is no walk there are no twins
+-- where no pair has a walk to itself with the mark, there are no twins
 pub no_twins-none : {r : LocalRule} → IsRule r → NoneBelow (IsTurn r) (pair_count r) → (x y : List ℕ) → ¬ IsTwins r x y
 no_twins-none rule none x y twins = let turn = twins-turn rule twins in none turn.0 (zip x y) turn.1 turn.2
 

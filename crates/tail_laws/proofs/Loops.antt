@@ -8,7 +8,7 @@ use Rattle.tail_laws.proofs.Nodes.{node_at, label_over, same_nodes, ShareImage-l
 abbrev pub IsLooped : LocalRule → TailConfig → Type 0
 IsLooped r t = node_at r t (pos (length t.middle)) ≡ node_at r t (pos (length t.middle + length t.right))
 
--- the cells of that node repeat too
+-- where the right period leads back to its node, the node's cells repeat too
 pub looped-cells : (r : LocalRule) {t : TailConfig} → IsTail r.states t → IsLooped r t → RepeatsRight (length t.right) (cell t) (pos (length t.middle) -ℤ pos (r.width - 1))
 looped-cells r {t} h loop i l =
     let m : ℕ = length t.middle in
@@ -21,7 +21,7 @@ looped-cells r {t} h loop i l =
     same a k ∙ ap (cell t) place in
     by_lt_z i (pos m) (λ k. sym (at_run (cell t) (λ j. cell t (j +ℤ pos n)) start (r.width - 1) turn i l (omega (arith, ints)))) (cell-right_period t i)
 
--- where they do the right period leads back to the node
+-- where the cells of the node repeat, the right period leads back to the node
 pub IsLooped-cells : (r : LocalRule) (t : TailConfig) → RepeatsRight (length t.right) (cell t) (pos (length t.middle) -ℤ pos (r.width - 1)) → IsLooped r t
 IsLooped-cells r t repeats =
     let m : ℕ = length t.middle in

@@ -26,7 +26,7 @@ HasOther-some [] y h = absurd h
 HasOther-some (a ∷ x) [] h = absurd h
 HasOther-some (a ∷ x) (b ∷ y) h = (omega arith, omega arith)
 
--- the letter pairs of twins are such a walk
+-- the letter pairs of twins are a walk from a pair to itself with the mark
 pub twins-turn : {r : LocalRule} {x y : List ℕ} → IsRule r → IsTwins r x y → (p : ℕ) × (p < pair_count r) × IsTurn r p (zip x y)
 twins-turn {r} {x} {y} rule twins =
     let n : ℕ = pair_count r in

@@ -14,7 +14,7 @@ abbrev pub HasOther : List (ℕ × ℕ) → Type 0
 HasOther [] = ⊥
 HasOther (ab ∷ rest) = (ab.0 ≢ ab.1) ⊎ HasOther rest
 
--- the letters of two words of one length make such a pair if the words differ
+-- the letters of two different words of one length make a pair of two different letters
 pub HasOther-zip : (x y : List ℕ) → length x ≡ length y → x ≢ y → HasOther (zip x y)
 HasOther-zip [] [] e n = n refl
 HasOther-zip [] (b ∷ y) e n = absurd (omega arith)
@@ -53,15 +53,15 @@ follow-marked {r} rule t a b s e =
     let both = value_marked (label r (first_of r p) a) (label r (second_of r p) b) q (mark r t a b) s e in
     (q, both.0, pair_of-below r _ _ (next-below rule (first_of r p) a) (next-below rule (second_of r p) b), both.1)
 
--- a mark is kept
+-- a mark that was there is kept
 mark_kept : (p t a b : ℕ) → p ≤ t → (if nat_le p t || not (a == b) then p else 0) ≡ p
 mark_kept p t a b l = grind (arith, nat_tests)
 
--- it is set where two letters differ
+-- the mark is set where two letters differ
 mark_set : (p t a b : ℕ) → a ≢ b → (if nat_le p t || not (a == b) then p else 0) ≡ p
 mark_set p t a b n = grind (arith, nat_tests)
 
--- else there is none
+-- no mark is set where none was and the letters are equal
 mark_none : (p t a b : ℕ) → t < p → a ≡ b → (if nat_le p t || not (a == b) then p else 0) ≡ 0
 mark_none p t a b l e = grind (arith, nat_tests)
 
@@ -70,7 +70,7 @@ record IsStepMarked (r : LocalRule) (t a b s q : ℕ) : Type 0 where
   pub pair : s % pair_count r ≡ q
   pub mark : (pair_count r ≤ s) ↔ ((pair_count r ≤ t) ⊎ (a ≢ b))
 
--- so is each state after a step
+-- the state after a step is its pair, and has the mark exactly if the state before it has or the letters differ
 marked_step : (r : LocalRule) (t a b q : ℕ) → q < pair_count r → IsStepMarked r t a b (q + mark r t a b) q
 marked_step r t a b q h =
     let p : ℕ = pair_count r in
@@ -93,7 +93,7 @@ pub record IsMarkedWalk (r : LocalRule) (t : ℕ) (abs : List (ℕ × ℕ)) (s :
   pub pairs : PairLeads r (t % pair_count r) abs (s % pair_count r)
   pub mark : (pair_count r ≤ s) ↔ ((pair_count r ≤ t) ⊎ HasOther abs)
 
--- that is what a walk of the marked graph is
+-- a walk of the marked graph is a walk of pairs that ends with the mark exactly if it begins with it or two letters differ
 pub IsMarkedWalk-leads : {r : LocalRule} → IsRule r → (abs : List (ℕ × ℕ)) (t s : ℕ) → MarkedLeads r t abs s → IsMarkedWalk r t abs s
 IsMarkedWalk-leads {r} rule [] t s h = record { pairs = ap (λ n. n % pair_count r) h; mark = (λ l. inl (rw h l), λ w. rw (← h) (⊎_elim (λ l. l) (λ n. absurd n) w)) }
 IsMarkedWalk-leads {r} rule (ab ∷ rest) t s h =

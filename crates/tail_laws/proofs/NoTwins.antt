@@ -113,14 +113,14 @@ cell-seam t i n a low high =
     let place : pos a ≡ pos (a - n) +ℤ pos (length w) = omega (arith, ints) in
     ap (cell (round w)) place ∙ cell-round_period w (omega arith) (pos (a - n)) ∙ cell-run t i n (a - n) (omega arith)
 
--- the rings of such runs are equal on the d places before and the d places after the seam
+-- the rings of runs with equal ends are equal on the d places before and the d places after the seam
 seam_cells : (x y : TailConfig) (i : ℤ) (n d : ℕ) → HaveEqualEnds x y i n d → (a : ℕ) → n ≤ a + d → a < n + d → cell (round (cells x i n)) (pos a) ≡ cell (round (cells y i n)) (pos a)
 seam_cells x y i n d ends a low high =
     ⊎_elim (λ l. cell-run x i n a l ∙ ends.last a l low ∙ sym (cell-run y i n a l))
     (λ l. cell-seam x i n a l (omega arith) ∙ ends.first (a - n) (omega arith) ∙ sym (cell-seam y i n a l (omega arith)))
     (cases_lt a n)
 
--- so their image cells are equal on a turn if the configurations share an image
+-- the rings of runs with equal ends have equal image cells on a turn if the configurations share an image
 turn-ends : {r : LocalRule} → IsRule r → (x y : TailConfig) (i : ℤ) (n : ℕ) → HaveEqualEnds x y i n (r.width - 1) → ShareImage r x y
     → (k : ℕ) → k < n → image_cell r (round (cells x i n)) (neg_ℤ r.offset +ℤ pos k) ≡ image_cell r (round (cells y i n)) (neg_ℤ r.offset +ℤ pos k)
 turn-ends {r} rule x y i n ends share k within =

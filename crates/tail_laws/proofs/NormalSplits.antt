@@ -13,11 +13,11 @@ use Rattle.tail_laws.proofs.Verdicts.{IsRightClosing-none}
 abbrev pub zeroed : ℕ → ℕ → ℕ → TailConfig → TailConfig
 zeroed d n p t = recut (0 ∷ []) t (neg_ℤ (pos d)) (d + n + d) p
 
--- it is a configuration over the same letters
+-- a configuration with zeros far on the left, cut from another one, is one over the same letters
 IsTail-zeroed : {k : ℕ} {t : TailConfig} → 0 < k → IsTail k t → (d n p : ℕ) → 1 ≤ p → IsTail k (zeroed d n p t)
 IsTail-zeroed {k} {t} some h d n p turn = IsTail-recut h (0 ∷ []) (omega arith) (IsWord-zero some) (neg_ℤ (pos d)) (d + n + d) p turn
 
--- its cells are those of d places before, where p is a period behind the first n places
+-- the cells of a zeroed configuration are those of d places before, where p is a period behind the first n places
 cell-zeroed : (d n p : ℕ) (t : TailConfig) → 1 ≤ p → RepeatsRight p (cell t) (pos n) → (i j : ℤ) → pos 0 ≤ℤ i → j +ℤ pos d ≡ i → cell (zeroed d n p t) i ≡ cell t j
 cell-zeroed d n p t turn repeats i j l e =
     let new : i ≡ pos (unsigned_abs i) = omega (arith, ints) in
@@ -36,7 +36,7 @@ IsLooped-zeroed r n p t turn repeats =
     ∙ repeats (i -ℤ pos d) (omega (arith, ints))
     ∙ sym (cell-zeroed d n p t turn repeats i (i -ℤ pos d) (omega (arith, ints)) (omega (arith, ints))))
 
--- the labels are those of d places before, from there on
+-- the labels of a configuration with zeros far on the left are those of d places before, from there on
 label_over-zeroed : (r : LocalRule) (n p : ℕ) (t : TailConfig) → 1 ≤ p → RepeatsRight p (cell t) (pos n) → (i j : ℤ) → pos (r.width - 1) ≤ℤ i → j +ℤ pos (r.width - 1) ≡ i
     → label_over r (zeroed (r.width - 1) n p t) i ≡ label_over r t j
 label_over-zeroed r n p t turn repeats i j l e =
@@ -53,7 +53,7 @@ zeroed-same d n p x y turn fx fy left (pos i) l =
     ∙ left (pos i -ℤ pos d) (omega (arith, ints))
     ∙ sym (cell-zeroed d n p y turn fy (pos i) (pos i -ℤ pos d) (omega (arith, ints)) (omega (arith, ints)))
 
--- they share an image if they did
+-- two configurations share an image with zeros far on the left if they did without them
 ShareImage-zeroed : {r : LocalRule} → IsRule r → (n p : ℕ) (x y : TailConfig) → 1 ≤ p → RepeatsRight p (cell x) (pos n) → RepeatsRight p (cell y) (pos n)
     → ((i : ℤ) → i <ℤ pos 0 → cell x i ≡ cell y i) → ShareImage r x y → ShareImage r (zeroed (r.width - 1) n p x) (zeroed (r.width - 1) n p y)
 ShareImage-zeroed {r} rule n p x y turn fx fy left share =
@@ -65,7 +65,7 @@ ShareImage-zeroed {r} rule n p x y turn fx fy left share =
     (λ l. label_over-zeroed r n p x turn fx i (i -ℤ pos d) l (omega (arith, ints)) ∙ labels-ShareImage r x y share (i -ℤ pos d)
     ∙ sym (label_over-zeroed r n p y turn fy i (i -ℤ pos d) l (omega (arith, ints)))))
 
--- they are different if they were
+-- two configurations are different with zeros far on the left if they were without them
 Different-zeroed : (d n p : ℕ) (x y : TailConfig) → 1 ≤ p → RepeatsRight p (cell x) (pos n) → RepeatsRight p (cell y) (pos n)
     → ((i : ℤ) → i <ℤ pos 0 → cell x i ≡ cell y i) → Different x y → Different (zeroed d n p x) (zeroed d n p y)
 Different-zeroed d n p x y turn fx fy left (i, other) =
@@ -103,7 +103,7 @@ normal_split {r} {x} {y} rule s =
       },
     )
 
--- so a rule is right-closing exactly where it has no normal right split
+-- a rule is right-closing exactly where it has no normal right split
 pub IsRightClosing-no_normal : {r : LocalRule} → IsRule r → IsRightClosing r ↔ ((x y : TailConfig) → ¬ IsNormalRightSplit r x y)
 IsRightClosing-no_normal {r} rule = (
   λ closing x y s. (IsRightClosing-none r).0 closing x y s.split,

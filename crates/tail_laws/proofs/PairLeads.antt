@@ -91,7 +91,7 @@ IsInStep-walk {r} {x} {y} rule hx hy middles rights q reach loop =
       second = ap (λ a. node_at r y (pos a)) (sym middles) ∙ back.1 ∙ ap₂ (λ a b. node_at r y (pos (a + b))) middles rights;
     }
 
--- if they have one left part too they share an image
+-- two configurations with one left part whose middles and right periods go in step share an image
 pub ShareImage-walk : {r : LocalRule} {x y : TailConfig} → IsRule r → IsTail r.states x → IsTail r.states y → x.left ≡ y.left → length x.middle ≡ length y.middle → length x.right ≡ length y.right
     → (q : ℕ) → PairLeads r (pair_at r x y (pos 0)) (zip x.middle y.middle) q → PairLeads r q (zip x.right y.right) q → ShareImage r x y
 ShareImage-walk {r} {x} {y} rule hx hy left middles rights q reach loop =

@@ -94,7 +94,7 @@ pub record IsSplitWalk (r : LocalRule) (x y : TailConfig) : Type 0 where
   pub loop : PairLeads r pair (zip x.right y.right) pair
   pub different : ¬ ((x.middle ≡ y.middle) × (x.right ≡ y.right))
 
--- such a walk is a normal right split
+-- two configurations with the walk of a split are a normal right split
 pub IsNormalRightSplit-walk : {r : LocalRule} {x y : TailConfig} → IsRule r → IsSplitWalk r x y → IsNormalRightSplit r x y
 IsNormalRightSplit-walk {r} {x} {y} rule w =
     let left : x.left ≡ y.left = w.first_left ∙ sym w.second_left in

@@ -29,7 +29,7 @@ Same-from_mirror {k} {x} {y} hx hy long same i = across_same hx hy long i (same 
 pub Different-mirror : {k : ℕ} {x y : TailConfig} → IsTail k x → IsTail k y → length x.middle ≡ length y.middle → Different x y → Different (mirror_of x) (mirror_of y)
 Different-mirror {k} {x} {y} hx hy long (i, other) = (across (length x.middle) i, λ e. other (across_same hx hy long i e))
 
--- those that agree on the right agree on the left read backwards
+-- two configurations that agree on the right agree on the left read backwards
 pub AgreeLeft-mirror : {k : ℕ} {x y : TailConfig} → IsTail k x → IsTail k y → length x.middle ≡ length y.middle → AgreeRight x y → AgreeLeft (mirror_of x) (mirror_of y)
 AgreeLeft-mirror {k} {x} {y} hx hy long (p, right) =
     (across (length x.middle) p, λ i l. same_across hx hy long i (right (across (length x.middle) i) (omega (arith, ints))))
@@ -39,7 +39,7 @@ pub AgreeRight-mirror : {k : ℕ} {x y : TailConfig} → IsTail k x → IsTail k
 AgreeRight-mirror {k} {x} {y} hx hy long (p, left) =
     (across (length x.middle) p, λ i l. same_across hx hy long i (left (across (length x.middle) i) (omega (arith, ints))))
 
--- those that share an image share it read backwards, under the mirrored rule
+-- two configurations that share an image share it read backwards, under the mirrored rule
 pub ShareImage-mirror : {r : LocalRule} {x y : TailConfig} → IsRule r → IsTail r.states x → IsTail r.states y → length x.middle ≡ length y.middle
     → ShareImage r x y → ShareImage (mirrored r) (mirror_of x) (mirror_of y)
 ShareImage-mirror {r} {x} {y} rule hx hy long share i =

@@ -56,7 +56,7 @@ IsTail-tail_of {r} {t} {w} {v} rule h side small =
       right_word = word v h.round.letters;
     }
 
--- two such walks are a normal right split
+-- two walks that make a split at a state are a normal right split
 pub IsNormalRightSplit-walks : {r : LocalRule} {t : ℕ} {w v : List (ℕ × ℕ)} → IsRule r → IsSplitAt r t w v → IsNormalRightSplit r (first_tail w v) (second_tail w v)
 IsNormalRightSplit-walks {r} {t} {w} {v} rule h =
     let p : ℕ = pair_count r in

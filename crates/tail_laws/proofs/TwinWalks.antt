@@ -11,7 +11,7 @@ use Rattle.tail_laws.proofs.PairLeads.{PairLeads, pair_at, IsInStep-walk, PairLe
 abbrev pub from_node : LocalRule → ℕ → List ℕ → TailConfig
 from_node r u p = record { left = word_of r.states (r.width - 1) u; middle = []; right = p }
 
--- it is a configuration over the rule's letters
+-- the configuration with node u before place 0, and the ring p from there on, is one over the rule's letters
 IsTail-from_node : {r : LocalRule} {p : List ℕ} → IsRule r → (u : ℕ) → u < node_count r → IsRing r.states p → IsTail r.states (from_node r u p)
 IsTail-from_node {r} {p} rule u h ring =
     record {
@@ -22,7 +22,7 @@ IsTail-from_node {r} {p} rule u h ring =
       right_word = ring.word;
     }
 
--- the node of such a configuration at place 0 is the one from which it was made
+-- the node at place 0 of the configuration from a node is this node
 node_at-from_node : (r : LocalRule) (u : ℕ) (p : List ℕ) → u < node_count r → node_at r (from_node r u p) (pos 0) ≡ u
 node_at-from_node r u p h =
     let m : ℕ = r.width - 1 in
@@ -32,12 +32,12 @@ node_at-from_node r u p h =
     ∙ ap (λ n. value r.states (cells (from_node r u p) (neg_ℤ (pos n)) n)) (sym long)
     ∙ ap (value r.states) (cells-left (from_node r u p)) ∙ value-word_of r.states m u h
 
--- right of place 0 the node is of no account
+-- right of place 0 the configuration from a node has the cells of the ring
 cell-from_node : (r : LocalRule) (u : ℕ) (p : List ℕ) (i : ℤ) → pos 0 ≤ℤ i → cell (round p) i ≡ cell (from_node r u p) i
 cell-from_node r u p (pos i) l = refl
 cell-from_node r u p (negsuc i) l = absurd (omega (arith, ints))
 
--- there the ring's image cells are the labels of the walk
+-- right of place 0 the ring's image cells are the labels of the walk from the node
 image_cell-from_node : {r : LocalRule} → IsRule r → (u : ℕ) (p : List ℕ) (d : ℕ) → image_cell r (round p) (neg_ℤ r.offset +ℤ pos d) ≡ label_over r (from_node r u p) (pos 0 +ℤ pos (d + (r.width - 1)))
 image_cell-from_node {r} rule u p d =
     let start : ℤ = neg_ℤ r.offset +ℤ pos d +ℤ r.offset in
@@ -69,7 +69,7 @@ ShareImage-loop {r} {x} {y} rule hx hy long u v hu hv loop =
     ShareImage-turn r x y hx.some long (neg_ℤ r.offset) (λ d l.
     image_cell-from_node rule u x d ∙ labels (pos 0 +ℤ pos (d + (r.width - 1))) (omega (arith, ints)) ∙ sym (image_cell-from_node rule v y d))
 
--- where the walk from a node comes back to it, it is the node before the ring
+-- where the walk from a node comes back to the node, this is the node before the ring
 looped_node : {r : LocalRule} {p : List ℕ} → IsRule r → IsRing r.states p → (u : ℕ) → u < node_count r → IsLooped r (from_node r u p) → node_at r (round p) (pos 0) ≡ u
 looped_node {r} {p} rule ring u h loop =
     let m : ℕ = r.width - 1 in
@@ -84,7 +84,7 @@ looped_node {r} {p} rule ring u h loop =
     sym (round_again place (omega (arith, ints))) ∙ cell-from_node r u p (place +ℤ pos (m * n)) (omega (arith, ints)) ∙ again place (omega (arith, ints))))
     ∙ node_at-from_node r u p h
 
--- so the pair of a closed walk is that of the nodes before its rings
+-- the pair of a closed walk is that of the nodes before its two rings
 pub loop_nodes : {r : LocalRule} {x y : List ℕ} → IsRule r → IsRing r.states x → IsRing r.states y → length x ≡ length y → (u v : ℕ) → u < node_count r → v < node_count r
     → PairLeads r (pair_of r u v) (zip x y) (pair_of r u v) → pair_at r (round x) (round y) (pos 0) ≡ pair_of r u v
 loop_nodes {r} {x} {y} rule hx hy long u v hu hv loop =
@@ -124,7 +124,7 @@ pub record IsTwinWalk (r : LocalRule) (x y : List ℕ) : Type 0 where
   pub in_nodes : (u < node_count r) × (v < node_count r)
   pub loop : PairLeads r (pair_of r u v) (zip x y) (pair_of r u v)
 
--- these are the twins
+-- twins are two different rings of one length that are a closed walk of pairs
 pub IsTwins-walk : {r : LocalRule} {x y : List ℕ} → IsRule r → IsTwins r x y ↔ IsTwinWalk r x y
 IsTwins-walk {r} {x} {y} rule = (
   λ t. record {

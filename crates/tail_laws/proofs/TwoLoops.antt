@@ -25,7 +25,7 @@ pub pair_at-loop : {r : LocalRule} {x y : TailConfig} → IsRule r → IsTail r.
 pair_at-loop {r} {x} {y} rule hx hy lefts u v hu hv before =
     ap₂ (pair_of r) (node_at-left r x) (node_at-left r y) ∙ loop_nodes rule (IsRing-left hx) (IsRing-left hy) lefts u v hu hv before
 
--- left periods that lead from a pair back to it, middles that lead from there to a pair, and right periods that lead from that back to it: these share an image, so if they are different the rule has twins
+-- two configurations whose left periods, middles and right periods go in step share an image: if they differ the rule has twins
 pub has_twins-loops : {r : LocalRule} {x y : TailConfig} → IsRule r → IsTail r.states x → IsTail r.states y
     → length x.left ≡ length y.left → length x.middle ≡ length y.middle → length x.right ≡ length y.right → (u v q : ℕ) → u < node_count r → v < node_count r
     → PairLeads r (pair_of r u v) (zip x.left y.left) (pair_of r u v) → PairLeads r (pair_of r u v) (zip x.middle y.middle) q → PairLeads r q (zip x.right y.right) q → Different x y → HasTwins r

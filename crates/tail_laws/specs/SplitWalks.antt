@@ -22,7 +22,7 @@ pub record IsSplitAt (r : LocalRule) (t : ℕ) (w v : List (ℕ × ℕ)) : Type 
 abbrev pub tail_of : (ℕ × ℕ → ℕ) → List (ℕ × ℕ) → List (ℕ × ℕ) → TailConfig
 tail_of side w v = record { left = 0 ∷ []; middle = map side w; right = map side v }
 
--- the first configuration, and the second
+-- the first configuration of two walks, and the second
 abbrev pub first_tail : List (ℕ × ℕ) → List (ℕ × ℕ) → TailConfig
 first_tail = tail_of (λ p. p.0)
 

@@ -11,7 +11,7 @@ use Rattle.tail_preimage.proofs.laws.Walks.{IsWalk-last}
 use Rattle.tail_preimage.proofs.laws.Parts.{IsRelation-below}
 use Rattle.tail_preimage.proofs.laws.LeastWalks.{Reaches-none, Reaches-cons, IsLeastBegun, IsLeastBegun-push}
 
--- at the end of the word it is the goal
+-- the set at the end of the word is the goal
 pub AreOpen-start : {r : LocalRule} {goal : ℕ} → (w : List ℕ) → goal < 2 ^ node_count r → AreOpen r w goal 0 (goal ∷ [])
 AreOpen-start {r} {goal} w small =
     let none : drop (length w - 0) w ≡ [] = drop_all (length w - 0) w (omega arith) in
@@ -30,7 +30,7 @@ IsNodeSet-back rule a w goal rel h = IsSetOf-same (λ u l. (
   (λ reach. let (v, node, edge, on) = (Reaches-cons rule a w goal u l).0 reach in (v, ((rel.rows u l).nodes v node).1 edge, (h.nodes v node).1 on)),
 ))
 
--- one set more
+-- the set of one place more, before the others
 pub AreOpen-more : {r : LocalRule} {w sets edges : List ℕ} {goal n before : ℕ} → IsRule r → AreOpen r w goal n sets → n < length w → IsRelation r (IsEdge Right r (slice_index w (length w - 1 - n))) edges
     → IsNodeSet r (λ u. (v : ℕ) × HasBit edges u v × IsBitSet (slice_index sets n) v) before → AreOpen r w goal (n + 1) (sets ++ before ∷ [])
 AreOpen-more {r} {w} {sets} {edges} {goal} {n} {before} rule h inside rel step =

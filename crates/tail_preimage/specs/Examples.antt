@@ -8,11 +8,11 @@ use Rattle.tail_preimage.specs.Preimages.{PlacedConfig, placed_cells, letters, S
 abbrev placed : PlacedConfig
 placed = record { at = negsuc 1; config = record { left = 0 ∷ []; middle = 0 ∷ 0 ∷ 1 ∷ []; right = 0 ∷ [] } }
 
--- its cells from -3 to 1: the 1 stands at cell 0
+-- the cells of the placed configuration from -3 to 1: the 1 stands at cell 0
 placed_cells-placed : placed_cells placed (negsuc 2) 5 ≡ 0 ∷ 0 ∷ 0 ∷ 1 ∷ 0 ∷ []
 placed_cells-placed = refl
 
--- the letters of its left period, its middle and its right period
+-- the letters of the placed configuration: its left period, its middle and its right period
 letters-placed : letters placed ≡ 0 ∷ 0 ∷ 0 ∷ 1 ∷ 0 ∷ []
 letters-placed = refl
 

@@ -16,7 +16,7 @@ pub record AreLoopWalks (r : LocalRule) (t : TailConfig) (s : Shape) (v w : ℕ)
   pub middle : IsWalk r (stretch t s.before s.after) v w y
   pub right : IsWalk r (repeat s.on t.right) w w z
 
--- the placed configuration that they spell
+-- the placed configuration that three walks spell
 abbrev pub placed_of : LocalRule → TailConfig → ℕ → List ℕ → List ℕ → List ℕ → PlacedConfig
 placed_of r t before x y z = record { at = r.offset -ℤ pos (before * length t.left); config = config_of (before_last r x) (before_last r y) (before_last r z) }
 

@@ -11,7 +11,7 @@ use Rattle.tail_preimage.specs.declared.periods.Periods.{Periods}
 use Rattle.tail_preimage.specs.declared.shapes.Parts.{Parts}
 use Rattle.tail_preimage.specs.declared.shapes.Spans.{Spans}
 
--- the relations of 0 to 16 periods are those of so many steps
+-- the relations of 0 to 16 periods are those of 0 to 16 steps by one period
 pub record ArePeriods (r : LocalRule) (periods : Periods) : Type 0 where
   pub period : AreSets r periods.period
   pub powers : (n : ℕ) → n ≤ most_nodes → IsRelation r (Steps (HasBit periods.period) n) (get_or periods.powers n [])
@@ -33,7 +33,7 @@ HaveParts r parts = (t : TailConfig) × AreTailParts r t parts
 abbrev pub Through : LocalRule → Parts → (ℕ → Type 0) → (ℕ → Type 0) → Type 0
 Through r parts Before Behind = (v : ℕ) × (w : ℕ) × (v < node_count r) × (w < node_count r) × Before v × HasBit parts.middle v w × Behind w
 
--- so many left periods, the middle and so many right periods lead through
+-- b left periods, the middle and a right periods lead through
 abbrev pub PassesThrough : LocalRule → Parts → ℕ → ℕ → Type 0
 PassesThrough r parts b a = Through r parts (Open (HasBit parts.left.period) b) (Open (HasBit parts.right.period) a)
 
@@ -48,7 +48,7 @@ Starts r parts s v =
     × ((u : ℕ) × (u < node_count r) × Steps (HasBit parts.left.period) s.before u v
     × ((w : ℕ) × (w < node_count r) × HasBit parts.middle u w × Rounds (HasBit parts.right.period) s.after s.on w))
 
--- some node is such a start
+-- some node is one from which walks of the shape start
 pub record IsPossible (r : LocalRule) (parts : Parts) (s : Shape) : Type 0 where
   pub back_some : 1 ≤ s.back
   pub on_some : 1 ≤ s.on

@@ -45,14 +45,14 @@ pub record HasShape (r : LocalRule) (t : TailConfig) (s : Shape) (p : PlacedConf
   -- the m - 1 cells from the middle on are equal to those one left period before
   pub node : placed_cells p p.at (r.width - 1) ≡ placed_cells p (p.at -ℤ pos (s.back * length t.left)) (r.width - 1)
 
--- by how many left periods of t the left period and the middle span together, then by how many right ones, then by those of the middle
+-- the order of shapes: by the left periods of left period and middle together, then the right ones, then those of the middle
 abbrev pub shape_cmp : Shape → Shape → Ordering
 shape_cmp s u =
     ordering_then (nat_cmp (s.back + s.before) (u.back + u.before))
     (ordering_then (nat_cmp (s.on + s.after) (u.on + u.after))
     (ordering_then (nat_cmp s.before u.before) (nat_cmp s.after u.after)))
 
--- the three parts, one after the other
+-- the three parts of a placed configuration, one after the other
 abbrev pub letters : PlacedConfig → List ℕ
 letters p = p.config.left ++ p.config.middle ++ p.config.right
 
@@ -61,17 +61,17 @@ pub record IsShapedPreimage (r : LocalRule) (t : TailConfig) (s : Shape) (p : Pl
   pub maps : MapsTo r p t
   pub shape : HasShape r t s p
 
--- the first of all of them: by shape, then in dictionary order
+-- the first placed configuration that maps to t: by shape, then in dictionary order
 pub record IsLeastPreimage (r : LocalRule) (t : TailConfig) (p : PlacedConfig) : Type 0 where
   pub shape : Shape
   pub preimage : IsShapedPreimage r t shape p
   pub least : (s : Shape) (q : PlacedConfig) → IsShapedPreimage r t s q → ordering_then (shape_cmp shape s) (slice_cmp nat_cmp (letters p) (letters q)) ≢ Greater
 
--- the word of so many left periods, the middle, and so many right periods
+-- the word of some left periods, the middle, and some right periods of a configuration
 abbrev pub stretch : TailConfig → ℕ → ℕ → List ℕ
 stretch t before after = repeat before t.left ++ t.middle ++ repeat after t.right
 
--- the first such word that is an orphan: by left periods, then by right ones
+-- the first orphan of some left periods, the middle and some right periods: by the left ones, then by the right ones
 pub record IsLeastGap (r : LocalRule) (t : TailConfig) (before after : ℕ) (w : List ℕ) : Type 0 where
   pub word : w ≡ stretch t before after
   pub orphan : IsOrphan r w
@@ -88,7 +88,7 @@ pub record IsFrom (r : LocalRule) (t : TailConfig) (p : PlacedConfig) : Type 0 w
   pub least : IsLeastPreimage r t p
   pub small : IsSmall least.shape
 
--- the first gap, where none does
+-- the first gap, where no placed configuration maps to t
 pub record IsGap (r : LocalRule) (t : TailConfig) (before after : ℕ) (w : List ℕ) : Type 0 where
   pub least : IsLeastGap r t before after w
   pub before_few : before ≤ most_nodes

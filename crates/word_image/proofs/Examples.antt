@@ -65,7 +65,7 @@ lossy-012 = record {
 image-shift : (x : List ℕ) → IsWord 2 x → length x ≡ 2 → image shift x ≡ drop 1 x
 image-shift = each_of_four (λ x. image shift x ≡ drop 1 x) refl refl refl refl
 
--- so one letter of the image is the second letter of the two, and says nothing of the first
+-- under the shift two words with one image of one letter have the same second letter
 same_second : {x y : List ℕ} → HaveOneImage shift 1 x y → drop 1 x ≡ drop 1 y
 same_second {x} {y} h = sym (image-shift x h.first h.first_long) ∙ h.one_image ∙ image-shift y h.second h.second_long
 

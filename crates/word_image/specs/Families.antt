@@ -39,7 +39,7 @@ is_minimal sets s = not (list_any (λ t. not (t == s) && is_subset t s) sets)
 abbrev pub is_cover : ℕ → List ℕ → ℕ → Bool
 is_cover full sets s = not (s == full) && is_minimal sets s
 
--- the full set first, and then each such set of the list, in its order
+-- the full set first, and then each minimal set of the list, in its order
 abbrev pub covers_of : ℕ → List ℕ → List ℕ
 covers_of full sets = full ∷ filter (is_cover full sets) sets
 

@@ -5,7 +5,7 @@ use Rattle.word_image.specs.LocalRules.{most_states, most_width, most_nodes}
 use Rattle.word_image.specs.declared.local_rule.RuleFault.{RuleFault}
 use Rattle.word_image.specs.declared.local_rule.RuleFault.TheVariants.{States, Width, Nodes, Offset, Length, Letter}
 
--- of k states, width m and offset o
+-- the fault of k states, width m and offset o
 abbrev pub shape_fault : ℕ → ℕ → ℤ → Option RuleFault
 shape_fault k m o =
     if nat_lt k 2 || nat_lt most_states k then Some States
@@ -14,11 +14,11 @@ shape_fault k m o =
     else (if int_lt o (negsuc 15) || int_lt (pos 16) (o +ℤ pos (m - 1)) then Some Offset
     else None)))
 
--- of a table, for a shape that is accepted
+-- the fault of a table, for a shape that is accepted
 abbrev pub table_fault : ℕ → ℕ → List ℕ → Option RuleFault
 table_fault k m table =
     if not (length table == k ^ m) then Some Length else option_map Letter (position (λ a. nat_le k a) table)
 
--- of all four: the shape comes before the table
+-- the first fault of states, width, offset and table: the shape comes before the table
 abbrev pub rule_fault : ℕ → ℕ → ℤ → List ℕ → Option RuleFault
 rule_fault k m o table = option_or (shape_fault k m o) (table_fault k m table)

@@ -12,7 +12,7 @@ abbrev pub other : Side → Side
 other Right = Left
 other Left = Right
 
--- the rule whose right side it is
+-- the rule whose right side is this side of the rule
 abbrev pub seen_from : Side → LocalRule → LocalRule
 seen_from Right r = r
 seen_from Left r = mirrored r
@@ -22,7 +22,7 @@ abbrev pub Together : Side → LocalRule → ℕ → ℕ → ℕ → Type 0
 Together Right = BeginTogether
 Together Left = EndTogether
 
--- the nodes of a pair do
+-- the nodes of a pair go on together for n
 abbrev pub PairGoes : Side → LocalRule → ℕ → ℕ → Type 0
 PairGoes side r p = Together side r (first_of r p) (second_of r p)
 

@@ -2,7 +2,7 @@
 use Rattle.std.specs.Prelude.{◌≡◌, ℕ, ◌≤◌, List, length, All}
 use Rattle.std.specs.List.{range_with_len}
 
--- one for each of k letters
+-- a weight for each of k letters
 pub record AreWeights (k : ℕ) (weights : List ℕ) : Type 0 where
   pub each_letter : length weights ≡ k
   pub small : All (λ w. w ≤ 255) weights

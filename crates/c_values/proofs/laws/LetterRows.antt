@@ -9,7 +9,7 @@ use Rattle.c_values.specs.declared.letter_rows.TailRows.{TailRows}
 use Rattle.c_values.specs.declared.letter_rows.SplitRows.{SplitRows}
 use Rattle.c_values.specs.LetterRows.{IsRow, AreTwinRows, AreTailRows, AreSplitRows}
 
--- these letters begin with those
+-- the letters after are the letters before, and more behind them
 pub record IsGrown (letters after : List ℕ) : Type 0 where
   pub more : List ℕ
   pub whole : after ≡ letters ++ more
@@ -46,14 +46,14 @@ IsRow-grown {letters} {after} {word} {row} grown h =
           ∙ take-append-le row.length (drop row.begin letters) grown.more left ∙ h.same;
     }
 
--- the rows of two words keep them
+-- the rows of two words keep the words where letters are added
 pub AreTwinRows-grown : {letters after x y : List ℕ} {rows : TwinRows} → IsGrown letters after → AreTwinRows letters rows x y → AreTwinRows after rows x y
 AreTwinRows-grown grown h = record { first = IsRow-grown grown h.first; second = IsRow-grown grown h.second }
 
--- the rows of a configuration keep its parts
+-- the rows of a configuration keep its parts where letters are added
 pub AreTailRows-grown : {letters after : List ℕ} {rows : TailRows} {t : TailConfig} → IsGrown letters after → AreTailRows letters rows t → AreTailRows after rows t
 AreTailRows-grown grown h = record { left = IsRow-grown grown h.left; middle = IsRow-grown grown h.middle; right = IsRow-grown grown h.right }
 
--- the rows of two configurations keep their parts
+-- the rows of two configurations keep their parts where letters are added
 pub AreSplitRows-grown : {letters after : List ℕ} {rows : SplitRows} {x y : TailConfig} → IsGrown letters after → AreSplitRows letters rows x y → AreSplitRows after rows x y
 AreSplitRows-grown grown h = record { first = AreTailRows-grown grown h.first; second = AreTailRows-grown grown h.second }

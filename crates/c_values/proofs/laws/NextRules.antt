@@ -28,23 +28,23 @@ pub IsWindowOrder-order : (property : Property) {number states width i j : ℕ} 
 IsWindowOrder-order property {number} {states} {width} {i} {j} {before} {order} shape numbered same_states same_width ordered =
     IsWindowOrder.Order property order (sym shape) numbered (subst₂ (λ (k m : ℕ). IsOrderFor property k m order) same_states same_width ordered)
 
--- as many windows as those of the rule of a table
+-- the rule of a table has as many windows as its states to the power of its width
 pub size-rule_of_table : (states width : ℕ) (table : List ℕ) {size : ℕ} {r : LocalRule} → size ≡ r.states ^ r.width → r ≡ rule_of_table states width table → size ≡ states ^ width
 size-rule_of_table states width table windows same = windows ∙ ap (λ (r : LocalRule). r.states ^ r.width) same
 
--- the number of a fault of the table
+-- the code of a fault of the table is handed back, and the table as it was
 pub IsNext-fault : {number states width code : ℕ} {order begin before : List ℕ} {after : Bool} {f : RuleFault} → Some f ≡ rule_fault states width (pos 0) before → code ≡ fault_code (Some f)
     → IsNext number states width order begin after before code before
 IsNext-fault {number} {states} {width} {code} {order} {begin} {before} {after} {f} fault coded =
     subst (λ (n : ℕ). IsNext number states width order begin after before n before) (sym coded) (IsNext.NoTable f (sym fault))
 
--- no order of all windows
+-- where the windows are in no order, code 11 is handed back
 pub IsNext-no_order : (property : Property) {number states width size : ℕ} {order begin before : List ℕ} {after : Bool} → IsRule (rule_of_table states width before) → number ≡ property_number property
     → size ≡ states ^ width → ¬ IsOrder size order → IsNext number states width order begin after before 11 before
 IsNext-no_order property {order = order} rule numbered windows none =
     IsNext.NoOrder property rule numbered (λ ordered. none (subst (λ (n : ℕ). IsOrder n order) (sym windows) ordered))
 
--- more fixed letters than all windows
+-- where more letters are fixed than there are windows, code 12 is handed back
 pub IsNext-no_beginning : (property : Property) {number states width size : ℕ} {order begin before : List ℕ} {after : Bool} → IsRule (rule_of_table states width before) → number ≡ property_number property
     → size ≡ states ^ width → IsOrder size order → size < length begin → IsNext number states width order begin after before 12 before
 IsNext-no_beginning property {order = order} {begin = begin} rule numbered windows ordered more =

@@ -20,19 +20,19 @@ use Rattle.c_values.specs.ReportParts.{IsShortSum, SaysSurjective, SaysInjective
 use Rattle.c_values.specs.Reports.{IsReported, IsReportOf, IsReportCall, letters_in, no_report}
 use Rattle.c_values.proofs.laws.LetterRows.{IsGrown, IsRow-grown, AreTwinRows-grown, AreSplitRows-grown}
 
--- what is said of surjective
+-- what is said of surjective stays so where letters are added
 pub SaysSurjective-grown : (letters after : List ℕ) (holds : ℕ) (row : LetterRow) (orphan : Option (List ℕ)) → IsGrown letters after
     → SaysSurjective letters holds row orphan → SaysSurjective after holds row orphan
 SaysSurjective-grown letters after holds row None grown h = h
 SaysSurjective-grown letters after holds row (Some w) grown h = (h.0, IsRow-grown grown h.1)
 
--- what is said of injective
+-- what is said of injective stays so where letters are added
 pub SaysInjective-grown : (letters after : List ℕ) (holds window place : ℕ) (twins : TwinRows) (e : InjectiveEvidence) → IsGrown letters after
     → SaysInjective letters holds window place twins e → SaysInjective after holds window place twins e
 SaysInjective-grown letters after holds window place twins (Window n c) grown h = h
 SaysInjective-grown letters after holds window place twins (Twins x y) grown h = (h.0, h.1, h.2, AreTwinRows-grown grown h.3)
 
--- what is said of closing on a side
+-- what is said of closing on a side stays so where letters are added
 pub SaysSide-grown : (letters after : List ℕ) (holds ahead : ℕ) (split : SplitRows) (e : SideEvidence) → IsGrown letters after
     → SaysSide letters holds ahead split e → SaysSide after holds ahead split e
 SaysSide-grown letters after holds ahead split (Ahead n) grown h = h

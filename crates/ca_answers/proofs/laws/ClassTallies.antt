@@ -20,7 +20,7 @@ HasLeast leasts r = (g : LocalRule) × Contains leasts g × IsLeastOfItsClass r 
 abbrev IsNeeded : List LocalRule → LocalRule → Type 0
 IsNeeded rules g = (r : LocalRule) × Contains rules r × IsLeastOfItsClass r g
 
--- one rule more, with its least rule added to the list
+-- the least rules of one rule more: its least rule is added to the list
 pub AreLeastRules-push : {rules leasts more : List LocalRule} {r g : LocalRule} → IsLeastOfItsClass r g → IsRuleAdded g leasts more → AreLeastRules rules leasts → AreLeastRules (rules ++ r ∷ []) more
 AreLeastRules-push {rules = rules} {r = r} {g = g} least (Old leasts there) are = record {
   distinct = are.distinct;

@@ -7,19 +7,19 @@ use Rattle.cert_format.proofs.Common.{SumEvidence, Flux, Ring}
 use Rattle.certificate_laws.specs.LeastEvidence.{Evidence, IsConservingPart, IsLeastEvidence}
 use Rattle.ca_findings.proofs.Common.{Question, Unfit, IsUnfitFor, AreFor, weight_by, weights_by}
 
--- of one verdict
+-- a verdict on own weights is one on the letters as weights
 pub IsConserving-tested : {r : LocalRule} {weights : List ℕ} {keeps : Bool} → IsRule r → weights ≡ own_weights r.states → IsTrue keeps ↔ IsConserving (slice_index weights) r → IsTrue keeps ↔ IsConserving (λ a. a) r
 IsConserving-tested {r} {weights} {keeps} rule own exact =
     let test = subst (λ (ws : List ℕ). IsTrue keeps ↔ IsConserving (slice_index ws) r) own exact in
     let same = IsConserving-own rule in
     ((λ yes. same.0 (test.0 yes)), (λ keep. test.1 (same.1 keep)))
 
--- of its evidence
+-- evidence by own weights is evidence by the letters as weights
 IsConservingPart-own : {r : LocalRule} → IsRule r → (e : SumEvidence) → IsConservingPart (slice_index (own_weights r.states)) r e → IsConservingPart (λ a. a) r e
 IsConservingPart-own {r} rule (Flux phi) part = ((IsConserving-own rule).0 part.0, IsFlux-agree rule (AgreeOn-own r.states) part.1, part.2)
 IsConservingPart-own {r} rule (Ring p) part = ((λ keep. part.0 ((IsConserving-own rule).1 keep)), IsLeastLossyRing-agree rule (AgreeOn-own r.states) part.1)
 
--- of all evidence
+-- the least evidence by the weights of a row is the least by the weights that are named, or by the letters themselves
 pub IsLeastEvidence-by : {r : LocalRule} {e : Evidence} (named : Option (List ℕ)) → IsRule r → IsLeastEvidence (slice_index (weights_by named r)) r e → IsLeastEvidence (weight_by named) r e
 IsLeastEvidence-by {r} {e} None rule least = record {
   rule = least.rule;

@@ -11,7 +11,7 @@ use Rattle.ca_answers.specs.Samples.{survey_rules, next_state, state_after, draw
 pub survey_rules-more : (k m first i : ℕ) → survey_rules k m first (i + 1) ≡ survey_rules k m first i ++ numbered_rule k m (first + i) ∷ []
 survey_rules-more k m first i = map-range_with_len_more (numbered_rule k m) first i (first + i) refl
 
--- one draw more
+-- one draw more is added behind the draws before
 pub draws-more : (k s i : ℕ) → map (drawn k s) (range_with_len 0 (i + 1)) ≡ map (drawn k s) (range_with_len 0 i) ++ drawn k s i ∷ []
 draws-more k s i = map-range_with_len_more (drawn k s) 0 i i (omega arith)
 

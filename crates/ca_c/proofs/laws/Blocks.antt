@@ -10,7 +10,7 @@ pub record IsWordEnd (block : List ℕ) (end : ℕ) : Type 0 where
   pub cut : block ≡ take end block ++ 0 ∷ drop (end + 1) block
   pub unended : All (λ b. b ≢ 0) (take end block)
 
--- the words that are done and those of the rest are those of the block, and it has no others
+-- the words that are done and those of the rest are those of the block, and the block has no others
 pub record HasDone (block rest : List ℕ) (done : List (List ℕ)) : Type 0 where
   pub built : (words : List (List ℕ)) → AreWords rest words → AreWords block (done ++ words)
   pub only : (words : List (List ℕ)) → AreWords block words → (more : List (List ℕ)) × (words ≡ done ++ more) × AreWords rest more
@@ -36,7 +36,7 @@ same_words (a ∷ u) (b ∷ w) x y hu hw same =
     let rest = same_words u w x y (All-tail (λ b. b ≢ 0) a u hu) (All-tail (λ b. b ≢ 0) b w hw) cc in
     (ap₂ (λ (c : ℕ) (v : List ℕ). c ∷ v) first rest.0, rest.1)
 
--- a 0 byte is one
+-- bytes with a 0 among them aren't all others than 0
 has_zero : (u x : List ℕ) → ¬ All (λ b. b ≢ 0) (u ++ 0 ∷ x)
 has_zero [] x all = All-head (λ b. b ≢ 0) 0 x all refl
 has_zero (a ∷ u) x all = has_zero u x (All-tail (λ b. b ≢ 0) a (u ++ 0 ∷ x) all)
@@ -64,7 +64,7 @@ no_words : {block : List ℕ} (words : List (List ℕ)) → All (λ b. b ≢ 0) 
 no_words [] unended other h = other h.written
 no_words (u ∷ us) unended other h = has_zero u (block_of us) (subst (All (λ b. b ≢ 0)) h.written unended)
 
--- then one word more
+-- where the rest begins with the text of a word and a 0, this word is done too, and the rest is what stands after the 0
 pub HasDone-step : {block rest word after : List ℕ} {done : List (List ℕ)} → HasDone block rest done → rest ≡ word ++ 0 ∷ after → IsWordText word
     → HasDone block after (done ++ word ∷ [])
 HasDone-step {block = block} {word = word} {done = done} walk cut text = record {
@@ -75,7 +75,7 @@ HasDone-step {block = block} {word = word} {done = done} walk cut text = record 
       (first.0, left.1 ∙ ap (λ (v : List (List ℕ)). done ++ v) first.2 ∙ sym (append_assoc done (word ∷ []) first.0), first.3);
 }
 
--- in the words of the code
+-- where the code finds the end of the next word of a block, this word is done too
 pub HasDone-next : {block rest word : List ℕ} {done more : List (List ℕ)} (end len : ℕ) → HasDone block rest done → IsWordEnd rest end → word ≡ take end rest → IsUtf8 (take end rest)
     → len ≡ length rest → more ≡ done ++ word ∷ [] → HasDone block (take (len - (end + 1)) (drop (end + 1) rest)) more
 HasDone-next {block = block} {rest = rest} {word = word} {done = done} {more = more} end len walk at same text long grown =
@@ -85,17 +85,17 @@ HasDone-next {block = block} {rest = rest} {word = word} {done = done} {more = m
     let next : IsWordText word = record { text = subst IsUtf8 (sym same) text; unended = subst (All (λ b. b ≢ 0)) (sym same) at.unended } in
     subst (λ x. HasDone block x more) (sym whole) (subst (HasDone block after) (sym grown) (HasDone-step walk cut next))
 
--- with nothing left these are the words
+-- where nothing is left of a block, the words that are done are its words
 pub HasDone-end : {block rest : List ℕ} {done : List (List ℕ)} → HasDone block rest done → rest ≡ [] → AreWords block done
 HasDone-end {block = block} {done = done} walk empty =
     subst (AreWords block) (append-nil done) (walk.built [] (subst (λ x. AreWords x []) (sym empty) AreWords-nil))
 
--- with no 0 left there are none
+-- where bytes but no 0 are left, the block has no words
 pub HasDone-unended : {block rest : List ℕ} {done : List (List ℕ)} → HasDone block rest done → rest ≢ [] → All (λ b. b ≢ 0) rest
     → (words : List (List ℕ)) → ¬ AreWords block words
 HasDone-unended walk other unended words h = let left = walk.only words h in no_words left.0 unended other left.2
 
--- with a next word that isn't UTF-8 there are none
+-- where the next word of a block isn't UTF-8, the block has no words
 pub HasDone-foreign : {block rest word : List ℕ} {done : List (List ℕ)} (after : List ℕ) → HasDone block rest done → rest ≡ word ++ 0 ∷ after → All (λ b. b ≢ 0) word → ¬ IsUtf8 word
     → (words : List (List ℕ)) → ¬ AreWords block words
 HasDone-foreign after walk cut unended foreign words h =
@@ -122,7 +122,7 @@ IsWordEnd-position xs i found =
 past_end : (a b : ℕ) → cond (nat_lt a b) (Some a) None ≡ None → b ≤ a
 past_end a b none = elim (leb_tells (suc a) b) [ inl less ↦ absurd (none-some a (sym none ∙ ap (λ t. cond t (Some a) None) less.0)) | inr more ↦ omega (arith, more.1) ]
 
--- where there is no place of a 0 byte, there is none
+-- where a search finds no place of a 0 byte, there is no 0 byte
 pub unended-position : (xs : List ℕ) → position (λ b. b == 0) xs ≡ None → All (λ b. b ≢ 0) xs
 unended-position xs none = λ k d below.
     let end = past_end (position_or_len (λ b. b == 0) xs) (length xs) none in
@@ -133,7 +133,7 @@ pub some_bytes : (xs : List ℕ) → (length xs == 0) ≡ false → xs ≢ []
 some_bytes [] other none = absurd (true≢false other)
 some_bytes (x ∷ xs) other none = cc
 
--- and one whose length is 0 is
+-- a list whose length is 0 is empty
 pub no_bytes : (xs : List ℕ) → (length xs == 0) ≡ true → xs ≡ []
 no_bytes [] same = refl
 no_bytes (x ∷ xs) same = absurd (omega (arith, eqb-true (length (x ∷ xs)) 0 same))

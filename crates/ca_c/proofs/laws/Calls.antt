@@ -5,7 +5,7 @@ use Rattle.ca_cli.specs.declared.status.Status.{Status}
 use Rattle.ca_cli.specs.Statuses.{code_of, reply_status}
 use Rattle.ca_c.specs.Calls.{IsAnswerIn, IsHandedBack}
 
--- the whole output
+-- an output that fits the buffer is handed back whole
 pub IsHandedBack-whole : {form : Reply → List ℕ} {block input before after output bytes : List ℕ} {status : Status} {code len : ℕ} → IsAnswerIn form block input status output → code ≡ code_of status → len ≡ length output
     → bytes ≡ output → length bytes ≤ length before → after ≡ bytes ++ drop (length bytes) before → IsHandedBack form block input before code len after
 IsHandedBack-whole {form = form} {block = block} {input = input} {before = before} {after = after} {output = output} {status = status} {code = code} {len = len} answer coded long same fits put =
@@ -36,7 +36,7 @@ no_fault (Reply.Refused f) = ((λ is. omega (arith, is)), (λ is. omega (arith, 
 no_fault Reply.TooLong = ((λ is. omega (arith, is)), (λ is. omega (arith, is)))
 no_fault Reply.Usage = ((λ is. omega (arith, is)), (λ is. omega (arith, is)))
 
--- the code of a right answer is neither
+-- the code of a right answer is neither 6 nor 7
 pub no_fault-answer : {form : Reply → List ℕ} {block input output : List ℕ} {status : Status} {code : ℕ} → IsAnswerIn form block input status output → code ≡ code_of status → (code ≢ 6) × (code ≢ 7)
 no_fault-answer answer coded =
     let none = no_fault answer.reply in

@@ -86,7 +86,7 @@ not_fit_says fit asked unfits (Accepted c bytes v check whole accepted are_true)
 not_fit_says fit asked unfits (Refused c bytes f check whole refused) = absurd (IsAsked-reads_nothing asked check)
 not_fit_says fit asked unfits (TooLong c check long) = absurd (IsAsked-reads_nothing asked check)
 
--- of a question that something is found for it is Done
+-- of a question for which something is found the status is Done
 pub found_says : {input : Option (List ℕ)} {c : Command} {q : Question} {g : Finding} {reply : Reply} → FoundOrUnfit → IsAsked c q → IsFinding q g → IsReply input c reply → reply_status reply ≡ status.Done
 found_says fit asked right (Found c p f also other) = refl
 found_says {g = g} fit asked right (NoFit c p u also unfits) = absurd (fit p g u (subst (λ r. IsFinding r g) (IsAsked-unique asked also) right) unfits)
@@ -95,7 +95,7 @@ found_says fit asked right (Accepted c bytes v check whole accepted are_true) = 
 found_says fit asked right (Refused c bytes f check whole refused) = absurd (IsAsked-reads_nothing asked check)
 found_says fit asked right (TooLong c check long) = absurd (IsAsked-reads_nothing asked check)
 
--- of a command that reads nothing, none of whose operands is refused and for which something fits, it is Done
+-- of a command that reads nothing, none of whose operands is refused and for which something fits, the status is Done
 pub done_says : {input : Option (List ℕ)} {c : Command} {reply : Reply} → ReadsNothing c → ((i : ℕ) (f : TextFault) → ¬ IsOperandFault c i f) → ((q : Question) (u : Unfit) → IsAsked c q → ¬ IsUnfitFor q u)
     → IsReply input c reply → reply_status reply ≡ status.Done
 done_says reads accepted fits (Found c q f asked right) = refl

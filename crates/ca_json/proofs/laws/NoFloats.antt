@@ -21,72 +21,72 @@ use Rattle.ca_json.specs.Findings.{rule_or_null, pair_or_null, report_json, inve
 use Rattle.ca_json.specs.Causes.{unfit_json, operand_json, fault_name, fault_place, places_json, format_json, refusal_json}
 use Rattle.ca_json.specs.Replies.{verdicts_json, json_of}
 
--- a value has none
+-- a JSON value has no float
 abbrev pub NoFloat : Data → Type 0
 NoFloat d = has_float d ≡ false
 
--- the values of a list's elements
+-- the values of a list's elements have no float if none of them has one
 NoFloat-array : {A : Type 0} (f : A → Data) → ((x : A) → NoFloat (f x)) → (xs : List A) → items_have_float (items_of (map f xs)) ≡ false
 NoFloat-array f each [] = refl
 NoFloat-array f each (x ∷ xs) = rw (each x) (NoFloat-array f each xs)
 
--- a list of numbers
+-- a list of numbers has no float
 NoFloat-numbers : (ns : List ℕ) → NoFloat (numbers_json ns)
 NoFloat-numbers ns = NoFloat-array whole_value (λ n. refl) ns
 
--- a signed number
+-- a signed number has no float
 NoFloat-signed : (z : ℤ) → NoFloat (signed_value z)
 NoFloat-signed (pos n) = refl
 NoFloat-signed (negsuc n) = refl
 
--- a number or null
+-- a number or null has no float
 NoFloat-claim : (o : Option ℕ) → NoFloat (claim_value o)
 NoFloat-claim None = refl
 NoFloat-claim (Some n) = refl
 
--- the text of a number, or null
+-- the text of a number, or null, has no float
 NoFloat-number : (o : Option ℕ) → NoFloat (number_or_null o)
 NoFloat-number None = refl
 NoFloat-number (Some n) = refl
 
--- a word or null
+-- a word or null has no float
 NoFloat-word : (o : Option (List ℕ)) → NoFloat (word_or_null o)
 NoFloat-word None = refl
 NoFloat-word (Some w) = refl
 
--- two words or null
+-- two words or null have no float
 NoFloat-pair : (o : Option (List ℕ × List ℕ)) → NoFloat (pair_or_null o)
 NoFloat-pair None = refl
 NoFloat-pair (Some pair) = refl
 
--- a rule or null
+-- a rule or null has no float
 NoFloat-rule : (o : Option LocalRule) → NoFloat (rule_or_null o)
 NoFloat-rule None = refl
 NoFloat-rule (Some r) = refl
 
 -- Of verdicts with their evidence
 
--- whether a rule is surjective
+-- the JSON of whether a rule is surjective has no float
 NoFloat-surjective : (o : Option (List ℕ)) → NoFloat (surjective_json o)
 NoFloat-surjective None = refl
 NoFloat-surjective (Some w) = refl
 
--- whether a rule is injective
+-- the JSON of whether a rule is injective has no float
 NoFloat-injective : (e : InjectiveEvidence) → NoFloat (injective_json e)
 NoFloat-injective (Window n c) = refl
 NoFloat-injective (Twins x y) = refl
 
--- whether a rule closes on a side
+-- the JSON of whether a rule closes on a side has no float
 NoFloat-side : (e : SideEvidence) → NoFloat (side_json e)
 NoFloat-side (Ahead n) = refl
 NoFloat-side (Split x y) = refl
 
--- whether a rule conserves its sums
+-- the JSON of whether a rule conserves its sums has no float
 NoFloat-conserving : (e : SumEvidence) → NoFloat (conserving_json e)
 NoFloat-conserving (Flux phi) = rw (NoFloat-array signed_value NoFloat-signed phi)
 NoFloat-conserving (Ring p) = refl
 
--- a report
+-- the JSON of a report has no float
 NoFloat-report : (e : Evidence) → NoFloat (report_json e)
 NoFloat-report e =
     rw (
@@ -101,19 +101,19 @@ NoFloat-report e =
 
 -- Of what is found
 
--- an inverse map
+-- the JSON of an inverse map has no float
 NoFloat-inverse : (n c : ℕ) (g : WindowMap) (rule : Option LocalRule) → NoFloat (inverse_json n c g rule)
 NoFloat-inverse n c g rule = rw (NoFloat-signed g.offset, NoFloat-rule rule)
 
--- the rows of an automaton
+-- the JSON of the rows of an automaton has no float
 NoFloat-rows : (m : Automaton) → NoFloat (array_from (map (row_json m) (range_with_len 0 m.classes)))
 NoFloat-rows m = NoFloat-array (row_json m) (λ i. NoFloat-numbers (take m.states (drop (i * m.states) m.next))) (range_with_len 0 m.classes)
 
--- an automaton
+-- the JSON of an automaton has no float
 NoFloat-automaton : (m : Automaton) → NoFloat (automaton_json m)
 NoFloat-automaton m = rw (NoFloat-claim m.dead, NoFloat-rows m)
 
--- what is found
+-- the JSON of what is found has no float
 NoFloat-finding : (f : Finding) → NoFloat (finding_json f)
 NoFloat-finding (Finding.Report e) = rw (NoFloat-report e)
 NoFloat-finding (Finding.Written c) = rw ((IsPlain-certificate c).no_float)
@@ -131,7 +131,7 @@ NoFloat-finding (Finding.Classes t n) = refl
 
 -- Of causes
 
--- why nothing fits
+-- the JSON of why nothing fits has no float
 NoFloat-unfit : (u : Unfit) → NoFloat (unfit_json u)
 NoFloat-unfit (Unfit.Twins x y) = refl
 NoFloat-unfit (Unfit.Wide n) = refl
@@ -142,24 +142,24 @@ NoFloat-unfit (Unfit.Tail f) = refl
 NoFloat-unfit Unfit.Weights = refl
 NoFloat-unfit Unfit.States = refl
 
--- the fault of an operand
+-- the JSON of the fault of an operand has no float
 NoFloat-operand : (operand : ℕ) (name : List ℕ) (place : Option ℕ) → NoFloat (operand_json operand name place)
 NoFloat-operand operand name None = refl
 NoFloat-operand operand name (Some place) = refl
 
--- the place of a fault as a list
+-- the place of a fault as a list has no float
 NoFloat-places : (place : Option ℕ) → NoFloat (places_json place)
 NoFloat-places None = refl
 NoFloat-places (Some place) = refl
 
--- the refusal for a fault of the shape
+-- the JSON of the refusal for a fault of the shape has no float
 NoFloat-format : (f : ShapeFault) → NoFloat (format_json f)
 NoFloat-format shape.NotJson = refl
 NoFloat-format (shape.Version v) = refl
 NoFloat-format (shape.Shape k) = refl
 NoFloat-format (shape.Rule f) = rw (NoFloat-places (fault_place f))
 
--- a refusal
+-- the JSON of a refusal has no float
 NoFloat-refusal : (f : Refusal) → NoFloat (refusal_json f)
 NoFloat-refusal (refusal.Format f) = NoFloat-format f
 NoFloat-refusal (refusal.Rank s p) = refl
@@ -178,11 +178,11 @@ NoFloat-refusal (refusal.Flux w) = refl
 NoFloat-refusal refusal.Ring = refl
 NoFloat-refusal (refusal.Memory _) = refl
 
--- what an accepted certificate says
+-- the JSON of what an accepted certificate says has no float
 NoFloat-verdicts : (v : Verdicts) → NoFloat (verdicts_json v)
 NoFloat-verdicts v = rw (NoFloat-numbers v.weights)
 
--- a reply
+-- the JSON of a reply has no float
 pub NoFloat-reply : (reply : Reply) → NoFloat (json_of reply)
 NoFloat-reply (Reply.Found f) = rw (NoFloat-finding f)
 NoFloat-reply (Reply.NoFit u) = rw (NoFloat-unfit u)

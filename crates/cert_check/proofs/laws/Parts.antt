@@ -70,7 +70,7 @@ AreAbove sets above i = (s : ℕ) → IsMarked above s ↔ ((s < i) × HasPart s
 abbrev IsAbove : List ℕ → List ℕ → ℕ → Type 0
 IsAbove listed above i = IsMarked listed i ⊎ ((n : ℕ) × (n < 16) × IsMarked above (without i n))
 
--- where it holds the set contains a listed one, and it does where the set does
+-- the test of the next set is passed exactly where the set contains a listed one
 IsAbove-part : (sets listed above : List ℕ) (i : ℕ) → i < 2 ^ 16 → AreMarked listed sets → AreAbove sets above i → IsAbove listed above i ↔ HasPart sets i
 IsAbove-part sets listed above i small marked before = (
   (λ test. ⊎_elim

@@ -8,7 +8,7 @@ use Rattle.tail_laws.proofs.Common.{round, cell-round, ShareImage-turn, ShareIma
 abbrev pub window_letter : LocalRule → List ℕ → ℕ → ℕ
 window_letter r p i = local_map r (ring_letters p (pos i) r.width)
 
--- it is an image cell of the configuration that repeats the ring
+-- the letter of the window at place i of a ring is cell i - offset of the image of the configuration that repeats the ring
 image_cell-window : (r : LocalRule) (p : List ℕ) (i : ℕ) → image_cell r (round p) (pos 0 -ℤ r.offset +ℤ pos i) ≡ window_letter r p i
 image_cell-window r p i =
     let at : ℤ = pos 0 -ℤ r.offset +ℤ pos i +ℤ r.offset in

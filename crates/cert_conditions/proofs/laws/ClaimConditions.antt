@@ -60,14 +60,14 @@ pub IsInjective-said : {r : LocalRule} → IsRule r → (forward backward : List
 IsInjective-said rule forward backward falls back (Window n c) shape pairs alike = ((λ _. IsInjective-determined rule (IsDetermined-claimed rule forward backward falls back n c shape pairs)), (λ _. refl))
 IsInjective-said {r} rule forward backward falls back (Twins x y) shape pairs alike = ((λ no. absurd (false≢true no)), (λ injective. absurd (no_twins (IsTwins-alike {r = r} shape.0 shape.1 alike) injective)))
 
--- of closing on the right
+-- what is said of closing on the right is true where its conditions are met
 pub IsRightClosing-said : {r : LocalRule} → IsRule r → (forward : List (Option ℕ)) → AllFall Right r forward → (e : SideEvidence) → IsSideShape r e
     → OfAhead e (λ n. EachBelow (pair_count r) (IsAheadPair (IsFirstOfRight r) forward n)) → OfSplit e (AreSplit AgreeLeft r) → IsTrue (says_closing e) ↔ IsRightClosing r
 IsRightClosing-said rule forward falls (Ahead n) shape pairs apart = ((λ _. IsRightClosing-ahead rule (ahead-claimed Right rule forward falls n shape pairs)), (λ _. refl))
 IsRightClosing-said {r} rule forward falls (Split x y) shape pairs apart =
     ((λ no. absurd (false≢true no)), (λ closing. absurd ((IsRightClosing-none r).0 closing x y (IsRightSplit-apart shape.0 shape.1 apart))))
 
--- of closing on the left
+-- what is said of closing on the left is true where its conditions are met
 pub IsLeftClosing-said : {r : LocalRule} → IsRule r → (backward : List (Option ℕ)) → AllFall Left r backward → (e : SideEvidence) → IsSideShape r e
     → OfAhead e (λ n. EachBelow (pair_count r) (IsAheadPair (IsFirstOfLeft r) backward n)) → OfSplit e (AreSplit AgreeRight r) → IsTrue (says_closing e) ↔ IsLeftClosing r
 IsLeftClosing-said rule backward back (Ahead n) shape pairs apart = ((λ _. IsLeftClosing-ahead rule (ahead-claimed Left rule backward back n shape pairs)), (λ _. refl))

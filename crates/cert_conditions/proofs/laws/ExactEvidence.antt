@@ -21,17 +21,17 @@ pub record AreLastSets (r : LocalRule) (sets : List ℕ) : Type 0 where
   pub each : (set : ℕ) → Contains sets set → (w : List ℕ) × IsLastSet r w set
   pub all : (w : List ℕ) (set : ℕ) → IsLastSet r w set → Contains sets set
 
--- it has the full set
+-- the list of the last nodes of each word has the full set
 pub Contains-full : {r : LocalRule} {sets : List ℕ} → AreLastSets r sets → Contains sets (full_set r)
 Contains-full {r} last = last.all [] (full_set r) (IsLastSet-full r)
 
--- it has no empty set where the rule is surjective
+-- where the rule is surjective, the list of the last nodes of each word has no empty set
 pub nonempty-last_sets : {r : LocalRule} {sets : List ℕ} → IsSurjective r → AreLastSets r sets → EachBelow (length sets) (λ i. slice_index sets i ≢ 0)
 nonempty-last_sets {r} {sets} surjective last i l empty =
     let found = last.each (slice_index sets i) (Contains-get_or sets i 0 l) in
     IsOrphan-not_surjective (IsOrphan-empty_set (subst (IsLastSet r found.0) empty found.1)) surjective
 
--- it has each step from one of its sets
+-- the list of the last nodes of each word has each step from one of its sets
 pub StepIsKept-last_sets : {r : LocalRule} {sets : List ℕ} → IsRule r → AreLastSets r sets → EachBelow (length sets) (λ i. EachBelow r.states (StepIsKept One r sets (slice_index sets i)))
 StepIsKept-last_sets {r} {sets} rule last i l a letter =
     let found = last.each (slice_index sets i) (Contains-get_or sets i 0 l) in

@@ -20,7 +20,7 @@ use Rattle.cert_conditions.specs.Refusals.IsBreach.{Rising, NoFull, Empty, NotCl
 use Rattle.cert_conditions.specs.Refusals.IsTwinsBreach.{Length, Same as SameWords, Image as OtherRings}
 use Rattle.cert_conditions.specs.Refusals.IsSplitBreach.{Same as SameCells, Apart, Image as OtherImages}
 
--- the first number is one
+-- two first breaches are at one number
 one_breach : (n : ℕ) (P : ℕ → Type 0) (i j : ℕ) → IsFirstBreach n P i → IsFirstBreach n P j → i ≡ j
 one_breach n P i j h k =
     ⊎_elim
@@ -40,7 +40,7 @@ one_twin_cause (OtherRings one some _ _) (Length none) = absurd (none (one, some
 one_twin_cause (OtherRings _ _ other _) (SameWords _ _ same) = absurd (other same)
 one_twin_cause (OtherRings _ _ _ _) (OtherRings _ _ _ _) = refl
 
--- that of two configurations is one
+-- two configurations are no split for one cause alone
 one_split_cause : {r : LocalRule} {Agree : TailConfig → TailConfig → Type 0} {x y : TailConfig} {a b : SplitCause} → IsSplitBreach r Agree x y a → IsSplitBreach r Agree x y b → a ≡ b
 one_split_cause (SameCells _) (SameCells _) = refl
 one_split_cause (SameCells none) (Apart other _) = absurd (none other)

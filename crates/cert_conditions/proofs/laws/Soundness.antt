@@ -12,7 +12,7 @@ use Rattle.cert_conditions.proofs.laws.SurjectiveConditions.{IsSurjective-said}
 use Rattle.cert_conditions.proofs.laws.ClaimConditions.{IsInjective-said, IsRightClosing-said, IsLeftClosing-said}
 use Rattle.cert_conditions.proofs.laws.SumConditions.{IsConserving-said}
 
--- both are yes exactly where both are true
+-- two verdicts together are yes exactly where both things are true
 pub both_true : {A B : Type 0} (a b : Bool) → IsTrue a ↔ A → IsTrue b ↔ B → IsTrue (a && b) ↔ (A × B)
 both_true true true first second = ((λ _. (first.0 refl, second.0 refl)), (λ _. refl))
 both_true true false first second = ((λ no. absurd (false≢true no)), (λ both. second.1 both.1))

@@ -29,7 +29,7 @@ values-IsArrayOf R d vs xs is all =
     let same : all.0 ≡ items_view vs = same_Some _ _ (sym (ap as_array all.1) ∙ sym is) in
     subst (λ ds. AllZip R ds xs) (ap list_of same ∙ list_of-items_view vs) all.2
 
--- one value more
+-- an array whose values are read gives one value more
 pub AllZip-more : {A : Type 0} (R : Data → A → Type 0) (vs : List Value) (i : ℕ) (v : Value) (xs : List A) (x : A) → i < length vs → v ≡ get_or vs i v
     → AllZip R (map view (take i vs)) xs → R (view v) x → AllZip R (map view (take (i + 1) vs)) (xs ++ x ∷ [])
 AllZip-more R vs i v xs x lt is all here =
@@ -43,7 +43,7 @@ no_zip R (w ∷ vs) i v [] lt is none all = all
 no_zip R (w ∷ vs) zero v (x ∷ xs) lt is none all = none x (subst (λ v. R (view v) x) (sym is) all.0)
 no_zip R (w ∷ vs) (suc i) v (x ∷ xs) lt is none all = no_zip R vs i v xs (omega arith) is none all.1
 
--- makes an array none of such items
+-- a value that is no item makes an array no array of items
 pub not_array : {A : Type 0} (R : Data → A → Type 0) (d : Data) (vs : List Value) (i : ℕ) (v : Value) → Some (items_view vs) ≡ as_array d → i < length vs → v ≡ get_or vs i v → ((x : A) → ¬ R (view v) x)
     → (xs : List A) → ¬ IsArrayOf R d xs
 not_array R d vs i v is lt at none xs all = no_zip R vs i v xs lt at none (values-IsArrayOf R d vs xs is all)

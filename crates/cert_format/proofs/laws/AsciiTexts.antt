@@ -10,19 +10,19 @@ use Rattle.rule_text.specs.PrintedRules.{offset_text, printed_rule}
 record Ascii (text : List ℕ) : Type 0 where
   bytes : IsAscii text
 
--- one text and another one after it
+-- one ASCII text and another one after it are ASCII
 both : {x y : List ℕ} → Ascii x → Ascii y → Ascii (x ++ y)
 both {x} {y} h g = record { bytes = IsAscii-append x y h.bytes g.bytes }
 
--- a text of one byte
+-- a text of one byte below 128 is ASCII
 one : (b : ℕ) → b < 128 → Ascii (b ∷ [])
 one b h = record { bytes = IsAscii-cons b [] h IsAscii-nil }
 
--- a number below 100
+-- the decimal text of a number below 100 is ASCII
 Ascii-decimal : (n : ℕ) → n < 100 → Ascii (decimal n)
 Ascii-decimal n h = record { bytes = IsAscii-decimal n (omega arith) }
 
--- an offset of an accepted shape
+-- the text of an offset of an accepted shape is ASCII
 Ascii-offset : (k m : ℕ) (o : ℤ) → IsShape k m o → Ascii (offset_text o)
 Ascii-offset k m (pos n) shape =
     let most = shape.most_offset in
@@ -31,7 +31,7 @@ Ascii-offset k m (negsuc n) shape =
     let least = shape.least_offset in
     both (one 45 (lit< tt)) (Ascii-decimal (n + 1) (grind (arith, ints)))
 
--- a word over at most 16 letters
+-- the text of a word over at most 16 letters is ASCII
 Ascii-word : (k : ℕ) (w : List ℕ) → k ≤ 16 → IsWord k w → Ascii (word_text w)
 Ascii-word k [] few word = record { bytes = IsAscii-nil }
 Ascii-word k (a ∷ w) few word =
@@ -39,11 +39,11 @@ Ascii-word k (a ∷ w) few word =
     let rest = Ascii-word k w few (All-tail (λ a. a < k) a w word) in
     record { bytes = IsAscii-cons (lower_digit a) (word_text w) (grind (arith, nat_tests)) rest.bytes }
 
--- the text of a word
+-- the text of a word is UTF-8
 pub IsUtf8-word : (w : List ℕ) → IsWord 16 w → IsUtf8 (word_text w)
 IsUtf8-word w word = IsUtf8-from_ascii (word_text w) (Ascii-word 16 w (lit≤ tt) word).bytes
 
--- the text of a configuration
+-- the text of a configuration is UTF-8
 pub IsUtf8-tail : (t : TailOver) → IsAcceptedTail t → IsUtf8 (tail.printed t.config)
 IsUtf8-tail t accepted =
     let few = accepted.most_states in
@@ -54,7 +54,7 @@ IsUtf8-tail t accepted =
     let bar = one 124 (lit< tt) in
     IsUtf8-from_ascii (tail.printed t.config) (both (both (both (both left bar) middle) bar) right).bytes
 
--- the text of a rule
+-- the text of a rule is UTF-8
 pub IsUtf8-rule : (r : LocalRule) → IsRule r → IsUtf8 (printed_rule r)
 IsUtf8-rule r rule =
     let shape = rule.shape in

@@ -37,12 +37,12 @@ no_orphan version r d only none (Sets sets) h = sets_or_orphan d h.0.1 only
 no_orphan version r d only none (Pairs pairs) h = pairs_or_orphan d h.0.1 only
 no_orphan version r d only none (Orphan w) h = none w (at_key d (λ v. IsDigits v w) only h.0.1 h.0.2, h.1)
 
--- none for injective: the twins are none
+-- no evidence for injective: the twins are none
 pub no_twins_value : (r : LocalRule) (d : Data) {v : Data} → HasOnly (codes "twins") v d → ((x y : List ℕ) → ¬ IsWordsValue r.states v x y) → (e : InjectiveEvidence) → ¬ IsInjectiveFor r d e
 no_twins_value r d only none (Window n c) h = not_both d only h.0.2
 no_twins_value r d only none (Twins x y) h = none x y (at_key d (λ v. IsArrayOf IsDigits v (x ∷ y ∷ [])) only h.0.1 h.0.2, h.1.0, h.1.1)
 
--- none for conserving: the ring is none
+-- no evidence for conserving: the ring is none
 pub no_ring : (r : LocalRule) (d : Data) {v : Data} → HasOnly (codes "ring") v d → ((w : List ℕ) → ¬ IsWordValue r.states v w) → (e : SumEvidence) → ¬ IsSumFor r d e
 no_ring r d only none (Flux phi) h = flux_or_ring d h.0.1 only
 no_ring r d only none (Ring p) h = none p (at_key d (λ v. IsDigits v p) only h.0.1 h.0.2, h.1)
@@ -71,7 +71,7 @@ second_zip R P (d ∷ ds) (x ∷ xs) h = All-cons P x xs h.0.1 (second_zip R P d
 pub IsArrayOf-within : {A : Type 0} (R : Data → A → Type 0) (P : A → Type 0) (d : Data) (xs : List A) → IsArrayOf R d xs → All P xs → IsArrayOf (λ d x. R d x × P x) d xs
 IsArrayOf-within R P d xs h all = (h.0, h.1, both_zip R P (list_of h.0) xs h.2 all)
 
--- is an array, and its elements are within it
+-- an array of elements within a limit is an array, and its elements are within the limit
 pub within-IsArrayOf : {A : Type 0} (R : Data → A → Type 0) (P : A → Type 0) (d : Data) (xs : List A) → IsArrayOf (λ d x. R d x × P x) d xs → IsArrayOf R d xs × All P xs
 within-IsArrayOf R P d xs h = ((h.0, h.1, first_zip R P (list_of h.0) xs h.2), second_zip R P (list_of h.0) xs h.2)
 

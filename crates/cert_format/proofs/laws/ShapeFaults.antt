@@ -67,7 +67,7 @@ pub IsFirstWithout-unique : {A : Type 0} {P : A → Type 0} {xs : List A} {x y :
 IsFirstWithout-unique {P = P} {x = x} {y = y} p q =
     first_of_list P p.before q.before p.after q.after x y (sym p.list ∙ q.list) (recursion_from_All P p.before p.earlier) (recursion_from_All P q.before q.earlier) p.fails q.fails
 
--- what the bytes have that pass so many steps, of six before the parts
+-- what the bytes have that pass the first n steps, of six before the parts
 abbrev Passed : List ℕ → ℕ → Type 0
 Passed bytes zero = ⊤
 Passed bytes (suc zero) = (d : Data) × IsJson bytes d
@@ -98,7 +98,7 @@ steps_before bytes (suc j) i le passed =
     (λ other. steps_before bytes j i (omega (arith, le, other)) (step_before bytes j passed))
     (cases_eq i (suc j))
 
--- how many of these steps come before a fault's
+-- how many steps come before the one at which a fault's own step fails
 abbrev stage : {bytes : List ℕ} {f : ShapeFault} → IsShapeFault bytes f → ℕ
 stage (NoJson none) = 0
 stage (NoObject d json none) = 1
@@ -108,7 +108,7 @@ stage (NoRule ms v json version none) = 4
 stage (BadRule ms v text json version rule_text g wrong) = 5
 stage (BadPart ms v text r k json version rule_text rule first) = 6
 
--- these pass
+-- the steps before a fault's stage pass
 stage_passed : {bytes : List ℕ} {f : ShapeFault} (a : IsShapeFault bytes f) → Passed bytes (stage a)
 stage_passed (NoJson none) = tt
 stage_passed (NoObject d json none) = (d, json)
@@ -129,7 +129,7 @@ stage_fails {bytes} (BadRule ms v text json version rule_text g wrong) h =
     IsRuleText-no_fault (subst (λ text. IsRuleText text h.3) (one_text bytes h.2 text h.4 json h.6 rule_text) h.7) wrong
 stage_fails (BadPart ms v text r k json version rule_text rule first) h = h
 
--- so two faults come at one step
+-- no fault of the bytes comes at an earlier step than another
 not_before : {bytes : List ℕ} {f g : ShapeFault} (a : IsShapeFault bytes f) (b : IsShapeFault bytes g) → ¬ (stage a < stage b)
 not_before {bytes} a b less = stage_fails a (steps_before bytes (stage b) (suc (stage a)) (omega (arith, less)) (stage_passed b))
 

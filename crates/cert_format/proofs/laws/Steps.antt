@@ -26,7 +26,7 @@ use Rattle.cert_format.proofs.laws.Uniqueness.{one_some}
 pub no_ranks : (r : LocalRule) (ms : Members) (d : Data) → get_member (codes "ranks") ms ≡ Some d → ((forward backward : List (Option ℕ)) → ¬ AreRanksFor r d forward backward) → ¬ ((forward backward : List (Option ℕ)) × HasRanks r ms forward backward)
 no_ranks r ms d is none h = none h.0 h.1 (subst (λ d. IsRanksValue d h.0 h.1) (one_some h.2.0.1 is) h.2.0.2, h.2.1, h.2.2)
 
--- that of the weights where the member is none
+-- the step of the weights fails where the member is no weights
 pub no_weights : {version : CertVersion} {r : LocalRule} {ms : Members} {d : Data} → names_weights version ≡ true → get_member (codes "weights") ms ≡ Some d → ((weights : List ℕ) → ¬ IsWeightsFor r d weights)
     → ¬ ((weights : List ℕ) × HasWeights version r ms weights)
 no_weights {d = d} names is none (weights, Own absent own) = none-some d (sym (absent names) ∙ is)

@@ -23,7 +23,7 @@ use Rattle.cert_format.specs.CertificateTexts.HasWeights.{Named, Own}
 pub one_some : {A : Type 0} {o : Option A} {x y : A} → o ≡ Some x → o ≡ Some y → x ≡ y
 one_some {x = x} {y = y} p q = same_Some x y (sym p ∙ q)
 
--- a list is what its options hold
+-- two lists with the same options are one list
 same_letters : (w v : List ℕ) → map Some w ≡ map Some v → w ≡ v
 same_letters [] [] e = refl
 same_letters (a ∷ w) (b ∷ v) e = let tails : map Some w ≡ map Some v = cc in let rest : w ≡ v = same_letters w v tails in cc
@@ -53,7 +53,7 @@ IsClaimValue-unique d None (Some n) h k = absurd (not_null d n h k)
 IsClaimValue-unique d (Some m) None h k = absurd (not_null d m k h)
 IsClaimValue-unique d (Some m) (Some n) h k = ap Some (one_some h k)
 
--- each of these relations has one value at most
+-- the lists of two arrays are one, where each value is related to one element at most
 one_zip : {A : Type 0} (R : Data → A → Type 0) → ((d : Data) (x y : A) → R d x → R d y → x ≡ y) → (ds : List Data) (xs ys : List A) → AllZip R ds xs → AllZip R ds ys → xs ≡ ys
 one_zip R one [] [] [] h k = refl
 one_zip R one [] [] (y ∷ ys) h k = absurd k
@@ -153,7 +153,7 @@ pub HasMember-unique : {A : Type 0} (R : Data → A → Type 0) → ((d : Data) 
     → HasMember ms k (λ d. R d x) → HasMember ns k (λ d. R d y) → x ≡ y
 HasMember-unique R one k x y same p q = one q.0 x y (subst (λ d. R d x) (one_some (subst (λ ms. get_member k ms ≡ Some p.0) same p.1) q.1) p.2) q.2
 
--- bytes are one object
+-- bytes are at most one object
 pub IsObject-unique : (bytes : List ℕ) {ms ns : Members} → IsObject bytes ms → IsObject bytes ns → ms ≡ ns
 IsObject-unique bytes {ms} {ns} p q = same_Some ms ns (ap as_object (one_some p.1 q.1))
 
@@ -172,7 +172,7 @@ version_of-number : (v : CertVersion) → version_of (number_of v) ≡ Some v
 version_of-number One = refl
 version_of-number _ = refl
 
--- so two versions have two numbers
+-- two versions with one number are one
 pub number_of-injective : (v w : CertVersion) → number_of v ≡ number_of w → v ≡ w
 number_of-injective v w same = same_Some v w (sym (version_of-number v) ∙ ap version_of same ∙ version_of-number w)
 

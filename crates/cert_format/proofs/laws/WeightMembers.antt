@@ -17,7 +17,7 @@ IsWeightShape-has {r = r} rule (Own absent own) =
     let few = rule.shape.most_states in
     record { each = subst (AreWeights r.states) (sym own) (AreWeights-own (omega arith)); own = λ none. own }
 
--- other ones than the letters' own come where the version names weights
+-- weights other than the letters' own come where the version names weights
 pub names_weights-other : {version : CertVersion} {r : LocalRule} {weights : List ℕ} → IsWeightShape version r weights → ¬ (weights ≡ own_weights r.states) → names_weights version ≡ true
 names_weights-other {version} shape other =
     elim (names_weights version) as (λ b. names_weights version ≡ b → b ≡ true) [
@@ -41,7 +41,7 @@ weights_members-cases r weights =
       | false ↦ (λ is. inr ((λ own. false≢true (sym is ∙ same.1 own)), refl))
     ] refl
 
--- by the test of a list of weights alone
+-- no member of weights is written where the weights are the own ones of as many letters
 pub weights_members-own : {version : CertVersion} {r : LocalRule} {weights : List ℕ} → IsWeightShape version r weights → weights ≡ own_weights (length weights) → weights_members r weights ≡ no_members
 weights_members-own {r = r} {weights = weights} shape own =
     ⊎_elim (λ (same, none). none) (λ (other, named). absurd (other (own ∙ ap own_weights (shape.each).each_letter))) (weights_members-cases r weights)

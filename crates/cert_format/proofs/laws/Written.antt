@@ -34,13 +34,13 @@ Contains-found : (ms : Members) (k : List ℕ) (d : Data) → get_member k ms �
 Contains-found no_members k d found = absurd (none-some d found)
 Contains-found (member l e ms) k d found = found_at (slice_cmp nat_cmp k l) k l e d _ _ refl (Contains-found ms k d) found
 
--- the values of a list's elements, of which all are within a limit
+-- the values of a list's elements, all within a limit, are read as the elements
 AllZip-values : {A : Type 0} (R : Data → A → Type 0) (P : A → Type 0) (f : A → Data) → ((x : A) → P x → R (f x) x) → (xs : List A) → All P xs
     → AllZip R (list_of (items_of (map f xs))) xs
 AllZip-values R P f each [] all = tt
 AllZip-values R P f each (x ∷ xs) all = (each x (All-head P x xs all), AllZip-values R P f each xs (All-tail P x xs all))
 
--- an array of them
+-- an array of the values of a list's elements, all within a limit, is read as the list
 IsArrayOf-values : {A : Type 0} (R : Data → A → Type 0) (P : A → Type 0) (f : A → Data) → ((x : A) → P x → R (f x) x) → (xs : List A) → All P xs
     → IsArrayOf R (array_from (map f xs)) xs
 IsArrayOf-values R P f each xs all = (items_of (map f xs), refl, AllZip-values R P f each xs all)
@@ -79,7 +79,7 @@ IsSigned-signed (pos n) limits =
     grind (arith, nat_tests)
 IsSigned-signed (negsuc n) limits = refl
 
--- the parts of a certificate are read from their values: of surjective
+-- evidence for surjective is read from its value
 IsSurjectiveValue-written : {r : LocalRule} → IsRule r → (version : CertVersion) (e : SurjectiveEvidence) → IsSurjectiveShape version r e → IsSurjectiveValue (surjective_value e) e
 IsSurjectiveValue-written {r} rule version (Sets sets) shape =
     (array_from (map whole_value sets), refl, IsArrayOf-values IsWhole (λ set. set ≤ 2 ^ node_count r - 1) whole_value (λ n h. refl) sets shape)
@@ -87,26 +87,26 @@ IsSurjectiveValue-written {r} rule version (Pairs pairs) shape =
     (array_from (map whole_value pairs), refl, IsArrayOf-values IsWhole (λ p. p < pair_count r) whole_value (λ n h. refl) pairs shape.1)
 IsSurjectiveValue-written {r} rule version (Orphan w) shape = (word_value w, refl, IsDigits-word r.states w (rule.shape).most_states shape)
 
--- of injective
+-- evidence for injective is read from its value
 IsInjectiveValue-written : {r : LocalRule} → IsRule r → (e : InjectiveEvidence) → IsInjectiveShape r e → IsInjectiveValue (injective_value e) e
 IsInjectiveValue-written rule (Window n c) shape = (whole_value c, whole_value n, refl, refl, refl)
 IsInjectiveValue-written {r} rule (Twins x y) shape =
     let few = (rule.shape).most_states in
     (array_from (word_value x ∷ word_value y ∷ []), refl, (items_of (word_value x ∷ word_value y ∷ []), refl, (IsDigits-word r.states x few shape.0, (IsDigits-word r.states y few shape.1, tt))))
 
--- of a side
+-- evidence for a side is read from its value
 IsSideValue-written : {r : LocalRule} → IsRule r → (e : SideEvidence) → IsSideShape r e → IsSideValue (side_value e) e
 IsSideValue-written rule (Ahead n) shape = (whole_value n, refl, refl)
 IsSideValue-written rule (Split x y) shape =
     let few = (rule.shape).most_states in
     (array_from (tail_value x ∷ tail_value y ∷ []), refl, (items_of (tail_value x ∷ tail_value y ∷ []), refl, (IsTailString-tail few shape.0, (IsTailString-tail few shape.1, tt))))
 
--- of conserving
+-- evidence for conserving is read from its value
 IsSumValue-written : {r : LocalRule} → IsRule r → (e : SumEvidence) → IsSumShape r e → IsSumValue (sum_value e) e
 IsSumValue-written rule (Flux phi) shape = (array_from (map signed_value phi), refl, IsArrayOf-values IsSigned IsNear signed_value IsSigned-signed phi shape.1)
 IsSumValue-written {r} rule (Ring p) shape = (word_value p, refl, IsDigits-word r.states p (rule.shape).most_states shape)
 
--- of the ranks
+-- the ranks are read from their value
 IsRanksValue-written : {r : LocalRule} {forward backward : List (Option ℕ)} → IsRankShape r forward → IsRankShape r backward
     → IsRanksValue (ranks_value forward backward) forward backward
 IsRanksValue-written {r} {forward} {backward} ahead back =

@@ -64,7 +64,7 @@ no_earlier {r} {x} {y} a b (suc i) j w at also =
     absurd (omega (arith, less, number-later b j (g - j) w v also there)))
     (cases_lt g j)
 
--- so a class has one place
+-- a class has one place in all class lists
 one_place : {r : LocalRule} {x y : List (List ℕ)} → IsClassList r x → IsClassList r y → (i j : ℕ) (w : List ℕ) → slice_get x i ≡ Some w → slice_get y j ≡ Some w → i ≡ j
 one_place a b i j w at also = omega (arith, no_earlier a b i j w at also, no_earlier b a j i w also at)
 
@@ -113,7 +113,7 @@ orphan_on {r} rule w (a ∷ z) word orphan =
     } in
     subst (IsOrphan r) (append_assoc w (a ∷ []) z) (orphan_on rule (w ++ a ∷ []) z (All-tail (λ b. b < r.states) a z word) longer)
 
--- so all orphans are alike
+-- two orphans are alike
 orphans_alike : {r : LocalRule} {v w : List ℕ} → IsRule r → IsOrphan r v → IsOrphan r w → Alike r v w
 orphans_alike {v = v} {w = w} rule first second z word = ((λ _. orphan_on rule w z word second), (λ _. orphan_on rule v z word first))
 

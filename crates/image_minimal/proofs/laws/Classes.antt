@@ -13,12 +13,12 @@ use Rattle.image_minimal.proofs.laws.ClosedSteps.{LeadsToClosure, IsLastClosure-
 abbrev pub IsClosureQueue : LocalRule → List (Place ℕ) → ℕ → Type 0
 IsClosureQueue r = IsQueue (IsClosedStep r) r.states (full_set r)
 
--- the words of its places
+-- the words of the places of a queue of closures
 pub record AreClasses (tree : List (Place ℕ)) (words : List (List ℕ)) : Type 0 where
   pub long : length tree ≡ length words
   pub spelled : (i : ℕ) (w : List ℕ) → slice_get words i ≡ Some w → TreeSpells tree i w
 
--- there are such words
+-- there are words of the places of a search
 pub AreClasses-some : {r : LocalRule} {tree : List (Place ℕ)} {e : ℕ} → IsClosureQueue r tree e → (words : List (List ℕ)) × AreClasses tree words
 AreClasses-some {tree = tree} q =
     let words = chosen tree (TreeSpells tree) (TreeSpells-some q.fills) in
@@ -82,7 +82,7 @@ IsDeadClass-some rule q c i x at empty =
     let h = IsLastClosure-leads rule leads in
     (w, at_w, (IsOrphan-last rule h.last).1 ((IsClosure-empty h.last.last.within h.closes).1 empty))
 
--- where no place has it the rule is surjective
+-- where no place of the queue has the empty set, the rule is surjective
 pub IsDeadClass-none : {r : LocalRule} {tree : List (Place ℕ)} {e : ℕ} → IsRule r → HaveClosures r → IsClosureQueue r tree e → length tree * r.states ≤ e
     → (words : List (List ℕ)) → ((i : ℕ) (x : Place ℕ) → slice_get tree i ≡ Some x → x.state ≢ 0) → IsDeadClass r words None
 IsDeadClass-none rule closures q closed words none w word =

@@ -36,7 +36,7 @@ IsLastClosure-leads {r} {w} {closure} rule = Leads-induct (IsLastClosure r) (rec
 abbrev pub HaveClosures : LocalRule → Type 0
 HaveClosures r = (set : ℕ) → set < 2 ^ node_count r → (closure : ℕ) × IsClosure r set closure
 
--- then from each set a word leads to some set by closed steps
+-- where each set of nodes has a closure, a word leads from each set to some set by closed steps
 closed_walk : {r : LocalRule} → HaveClosures r → (w : List ℕ) (set : ℕ) → (end : ℕ) × Walk (IsClosedStep r) set w end
 closed_walk closures [] set = (set, refl)
 closed_walk {r} closures (a ∷ w) set =

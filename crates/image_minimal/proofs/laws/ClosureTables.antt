@@ -29,7 +29,7 @@ lacking r set other =
 abbrev pub with_node : ℕ → ℕ → ℕ
 with_node set u = bit_or set (2 ^ u)
 
--- it has that node, and those of the set
+-- a set with one node more has that node, and those of the set
 pub IsBitSet-with : (set u v : ℕ) → IsBitSet (with_node set u) v ↔ (IsBitSet set v ⊎ (v ≡ u))
 IsBitSet-with set u v =
     let either = IsBitSet-or set (2 ^ u) v in
@@ -50,7 +50,7 @@ with_node-greater set u missing =
 pub record IsShared (r : LocalRule) (set n : ℕ) (closures : List ℕ) (shared : ℕ) : Type 0 where
   pub of : IsNodeSet r (λ v. (u : ℕ) → u < n → ¬ IsBitSet set u → IsBitSet (slice_index closures (with_node set u)) v) shared
 
--- at the beginning they are all nodes
+-- before the first node, what the closures have in common is all nodes
 pub IsShared-start : {r : LocalRule} (set : ℕ) (closures : List ℕ) → IsShared r set 0 closures (full_set r)
 IsShared-start {r} set closures = record {
   of = record { within = omega (arith, pow_pos (node_count r)); nodes = λ v l. ((λ _ u less. absurd (omega (arith, less))), (λ _. IsBitSet-full r v l)) };
@@ -65,7 +65,7 @@ IsShared-skip {set = set} {n = n} h there = record {
   )) h.of;
 }
 
--- or it isn't
+-- the next node isn't in the set: what the closures share is shared with the closure of the set with this node
 pub IsShared-take : {r : LocalRule} {set n shared : ℕ} {closures : List ℕ} → IsShared r set n closures shared → ¬ IsBitSet set n
     → slice_index closures (with_node set n) < 2 ^ node_count r → IsShared r set (n + 1) closures (bit_and shared (slice_index closures (with_node set n)))
 IsShared-take {r} {set} {n} {shared} {closures} h new small =
@@ -105,7 +105,7 @@ IsClosure-shared {r} {set} {shared} {closures} small read above h =
     } in
     record { of = closure }
 
--- one closure more
+-- the closure of one set more
 pub AreClosuresFrom-set : {r : LocalRule} {n closure : ℕ} {closures : List ℕ} → AreClosuresFrom r (n + 1) closures → n < 2 ^ node_count r → IsClosure r n closure
     → AreClosuresFrom r n (set closures n closure)
 AreClosuresFrom-set {r} {n} {closure} {closures} h small here = record {

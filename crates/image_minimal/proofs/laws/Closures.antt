@@ -14,7 +14,7 @@ pub record AreReadAlike (r : LocalRule) (s t : ℕ) : Type 0 where
 pub IsWithin-closure : {r : LocalRule} {s closure : ℕ} → IsClosure r s closure → IsWithin r s closure
 IsWithin-closure c u l there = (c.of.nodes u l).1 (λ unread is within. within u l there)
 
--- so the same words are read from the closure
+-- the same words are read from a set and from its closure
 pub AreReadAlike-closure : {r : LocalRule} {s closure : ℕ} → IsClosure r s closure → AreReadAlike r closure s
 AreReadAlike-closure c = record {
   within = λ unread is. (
@@ -80,7 +80,7 @@ Alike-read {r} {x} {y} {s} {t} rule first second = (
       )),
 )
 
--- so exactly where these have one closure
+-- two words are alike exactly where their last nodes have one closure
 pub Alike-closure : {r : LocalRule} {x y : List ℕ} {s t closure other : ℕ} → IsRule r → IsLastSet r x s → IsLastSet r y t → IsClosure r s closure → IsClosure r t other
     → (Alike r x y ↔ (closure ≡ other))
 Alike-closure {r} {x} {y} {s} {t} {closure} {other} rule first second of_s of_t =

@@ -114,7 +114,7 @@ SpellsLink-parent links i w reaches positive x at =
     ))
     (TreeSpells-cases reaches)
 
--- that to the first link is empty
+-- the word on the way to the first link is empty
 pub SpellsLink-first : (links : List Link) (w : List ℕ) → SpellsLink links 0 w → w ≡ []
 SpellsLink-first links w reaches = TreeSpells-unique reaches Root
 

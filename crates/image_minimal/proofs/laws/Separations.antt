@@ -28,7 +28,7 @@ same_orphan {r} {q} rule other states v both = (
       ((both word s.0 t.0 s.1 t.1).1 ((IsOrphan-unread other v t.0 t.1 [] (full_set q) (IsLastSet-full q)).0 orphan))),
 )
 
--- where all words that don't come after v are early, it is an orphan of both rules or of neither
+-- where all words that don't come after a word are early, the word is an orphan of both rules or of neither
 orphan_early : {r q : LocalRule} {links : List Link} {e : ℕ} {Early : ℕ → List ℕ → Type 0} → IsRule r → IsRule q → r.states ≡ q.states → IsLinking r q links e
     → AreEarly r.states links e Early → (v : List ℕ) → (IsWord r.states v → Early 0 v) → (IsOrphan r v ↔ IsOrphan q v)
 orphan_early {r} {q} {links} rule other states h early v soon = same_orphan rule other states v (λ word s t unread also.

@@ -35,11 +35,11 @@ IsUnread-some r (a ∷ z) word =
     let back = IsBack-some r rest.0 a in
     (back.0, (rest.0, (word 0 0 (omega arith), back.1), rest.1))
 
--- its letters are below k
+-- a word that isn't read from some nodes has letters below k
 pub IsWord-unread : (r : LocalRule) (z : List ℕ) (set : ℕ) → IsUnread r z set → IsWord r.states z
 IsWord-unread r z set unread = All-walk (StepsInto r) (λ a. a < r.states) (λ s a t step. step.0) z set 0 unread
 
--- these are nodes
+-- the nodes from which a word isn't read are a set of the rule's nodes
 pub IsUnreadSet-below : {r : LocalRule} {set : ℕ} → IsUnreadSet r set → set < 2 ^ node_count r
 IsUnreadSet-below {r} {set} ([], none) = subst (λ n. n < 2 ^ node_count r) (sym none) (pow_pos (node_count r))
 IsUnreadSet-below (a ∷ z, (rest, (letter, back), unread)) = back.of.within

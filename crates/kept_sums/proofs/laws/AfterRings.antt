@@ -36,7 +36,7 @@ after_of r range p = blocks r.states range (ring_image r p)
 abbrev pub before_of : LocalRule → ℕ → List ℕ → List ℕ
 before_of r range p = blocks r.states range p
 
--- no row gains by a ring
+-- rows of which none gains by a ring are themselves the stage after the ring
 pub IsAfterRing-same : {r : LocalRule} {range : ℕ} {rows : List (List ℤ)} {counts : List ℕ} {rings : List (List ℕ)} → IsStage r range rows counts rings → (p : List ℕ)
     → GainNothing rows (after_of r range p) (before_of r range p) → IsAfterRing r range rows p rows counts rings
 IsAfterRing-same {r} {range} {rows} stage p none = record {

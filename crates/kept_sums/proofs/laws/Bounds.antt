@@ -43,7 +43,7 @@ length-noted counts first (suc n) =
     let more = length-keep_if (cases_lt (slice_index counts (first + n)) 1) (first + n) (noted counts first n) in
     omega arith
 
--- what is listed
+-- one of the n places from first on, in which a ring is noted
 pub record Noted (counts : List ℕ) (first n a : ℕ) : Type 0 where
   pub least : first ≤ a
   pub most : a < first + n
@@ -156,7 +156,7 @@ record Multiple (n : ℕ) (weight : ℕ → ℤ) (m : ℤ) (cross : List ℤ) : 
   some : 1 ≤ n
   is : (a : ℕ) → a < 16 → pos n *ℤ weight a ≡ m *ℤ at cross a
 
--- then a divisor of it takes it down to the size of the solution
+-- a row of which the solution is a multiple has at most its divisor times the greatest of the solution
 bounded_multiple : (n : ℕ) (weight : ℕ → ℤ) (m : ℤ) (cross : List ℤ) (g most b : ℕ) → Multiple n weight m cross → ((a : ℕ) → unsigned_abs (weight a) ≤ most) → b < 16 → weight b ≢ pos 0
     → IsDivisor cross g → (a : ℕ) → a < 16 → unsigned_abs (at cross a) ≤ g * most
 bounded_multiple n weight m cross g most b multiple small within some divisor a l =
@@ -220,7 +220,7 @@ ring_short counts rings m h l = let cut = length-take (slice_index counts m) (sl
 pub stands-count : {r : LocalRule} {range : ℕ} {rows : List (List ℤ)} {counts : List ℕ} {rings : List (List ℕ)} → IsStage r range rows counts rings → (m : ℕ) → m < 16 → IsStanding rows m → ¬ (1 ≤ slice_index counts m)
 stands-count {rows = rows} stage m l standing some = not_both (entry rows m m) standing.leads ((stage.places m l).dropped some m l)
 
--- which places are listed
+-- a free place in which a ring is noted, where it is neither i nor j
 record Listed (r : LocalRule) (range : ℕ) (counts : List ℕ) (i j a : ℕ) : Type 0 where
   free : IsFree r.states range a
   other : a ≢ i → a ≢ j → 1 ≤ slice_index counts a

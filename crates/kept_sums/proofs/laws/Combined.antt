@@ -10,22 +10,22 @@ use Rattle.kept_sums.proofs.laws.Spans.{sum_to-agree, sum_to-scaled}
 below_or : ℕ → (ℕ → ℤ) → ℤ → ℕ → ℤ
 below_or n f y a = ⊎_elim (λ (l : a < n). f a) (λ (l : n ≤ a). y) (cases_lt a n)
 
--- below n it is the function, however the cases fall
+-- a function with another value from n on is itself below n, however the cases fall
 either_below : (n : ℕ) (f : ℕ → ℤ) (y : ℤ) (a : ℕ) → a < n → (c : (a < n) ⊎ (n ≤ a)) → ⊎_elim (λ (l : a < n). f a) (λ (l : n ≤ a). y) c ≡ f a
 either_below n f y a l (inl h) = refl
 either_below n f y a l (inr h) = absurd (omega arith)
 
--- from n on it is the other value, however the cases fall
+-- a function with another value from n on has that value from n on, however the cases fall
 either_from : (n : ℕ) (f : ℕ → ℤ) (y : ℤ) (a : ℕ) → n ≤ a → (c : (a < n) ⊎ (n ≤ a)) → ⊎_elim (λ (l : a < n). f a) (λ (l : n ≤ a). y) c ≡ y
 either_from n f y a l (inl h) = absurd (omega arith)
 either_from n f y a l (inr h) = refl
 
--- below n it is the function
+-- a function with another value from n on is itself below n
 below_or-below : (n : ℕ) (f : ℕ → ℤ) (y : ℤ) (a : ℕ) → a < n → below_or n f y a ≡ f a
 unfolding below_or
 below_or-below n f y a l = either_below n f y a l (cases_lt a n)
 
--- from n on it is the other value
+-- a function with another value from n on has that value from n on
 below_or-from : (n : ℕ) (f : ℕ → ℤ) (y : ℤ) (a : ℕ) → n ≤ a → below_or n f y a ≡ y
 unfolding below_or
 below_or-from n f y a l = either_from n f y a l (cases_lt a n)

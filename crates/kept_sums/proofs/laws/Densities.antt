@@ -19,7 +19,7 @@ place_of : ℤ → ℕ → ℕ
 place_of (pos a) n = a % n
 place_of (negsuc a) n = n - 1 - a % n
 
--- that place is the remainder of the offset
+-- the place of the ring at which an integer place stands is the remainder of that place
 place_of-rem : (o : ℤ) (n : ℕ) → int_rem_euclid o (pos n) ≡ pos (place_of o n)
 unfolding place_of
 place_of-rem (pos a) n = refl

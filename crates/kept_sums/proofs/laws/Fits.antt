@@ -15,7 +15,7 @@ positive_is (pos zero) above = absurd (omega (arith, ints, above))
 positive_is (pos (suc n)) above = (suc n, omega arith, refl)
 positive_is (negsuc n) above = absurd (omega (arith, ints, above))
 
--- by two words of that many letters
+-- rows narrowed by two words that are short enough fit
 fit_by : {r : LocalRule} {range : ℕ} {rows : List (List ℤ)} {counts : List ℕ} {rings : List (List ℕ)} → IsRule r → 1 ≤ range → r.states ^ range ≤ 16 → IsStage r range rows counts rings
     → (x y : List ℕ) → IsWord (r.states ^ range) x → IsWord (r.states ^ range) y → length x + 3 ≤ 2 * (r.width + range) → length y + 3 ≤ 2 * (r.width + range) → (j : ℕ) → j < 16 → FitNarrowed rows x y j
 fit_by {r} {range} {rows} {counts} {rings} rule some few stage x y one two x_short y_short j within = λ above i l cross crossed g divisor a n.
@@ -39,14 +39,14 @@ fit_by {r} {range} {rows} {counts} {rings} rule some few stage x y one two x_sho
     } in
     bounded_cross setting (2 ^ 56) i cross (λ e most. limits rule range h e some few long most) l (subst (λ (z : ℤ). IsCross (slice_index_or rows i []) (gain_at (entry rows i) x y) (slice_index_or rows j []) z cross) lead.2 crossed) g divisor a n
 
--- by the words round a ring and round its image
+-- rows narrowed by the words round a ring and round its image fit
 pub fit_after : {r : LocalRule} {range : ℕ} {rows : List (List ℤ)} {counts : List ℕ} {rings : List (List ℕ)} → IsRule r → 1 ≤ range → r.states ^ range ≤ 16 → IsStage r range rows counts rings
     → (p : List ℕ) → IsRing r.states p → length p + 3 ≤ 2 * (r.width + range) → (j : ℕ) → j < 16 → FitNarrowed rows (after_of r range p) (before_of r range p) j
 fit_after {r} {range} rule some few stage p ring short j within =
     fit_by rule some few stage (after_of r range p) (before_of r range p) (IsWord-blocks range (IsRing-ring_image rule ring)) (IsWord-blocks range ring)
     (omega (arith, length-blocks r.states range (ring_image r p), length-ring_image r p)) (omega (arith, length-blocks r.states range p)) j within
 
--- by the words round the image and round a ring, the other way round
+-- rows narrowed by the words round the image and round a ring, the other way round, fit
 pub fit_before : {r : LocalRule} {range : ℕ} {rows : List (List ℤ)} {counts : List ℕ} {rings : List (List ℕ)} → IsRule r → 1 ≤ range → r.states ^ range ≤ 16 → IsStage r range rows counts rings
     → (p : List ℕ) → IsRing r.states p → length p + 3 ≤ 2 * (r.width + range) → (j : ℕ) → j < 16 → FitNarrowed rows (before_of r range p) (after_of r range p) j
 fit_before {r} {range} rule some few stage p ring short j within =

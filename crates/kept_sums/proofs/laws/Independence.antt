@@ -46,7 +46,7 @@ rows-independent {r} {range} {rows} rule some few stage parts trivial i l free n
 abbrev others_of : LocalRule → ℕ → List ℕ → ℕ → List ℕ
 others_of r range counts i = noted (set counts i 0) (r.states ^ (range - 1)) (free_count r range)
 
--- what is listed there
+-- a free place other than i in which a ring is noted
 record Other (counts : List ℕ) (k range i a : ℕ) : Type 0 where
   free : IsFree k range a
   some : 1 ≤ slice_index counts a
@@ -157,7 +157,7 @@ rings-independent {r} {range} {rows} {counts} {rings} rule few stage parts vanis
 abbrev OneOf : ℕ → ℕ → Type 0
 OneOf a b = ((a ≡ 0) × (1 ≤ b)) ⊎ ((1 ≤ a) × (b ≡ 0))
 
--- such numbers count once
+-- two numbers of which exactly one isn't 0 count once
 one-counts : (a b : ℕ) → OneOf a b → (if a == 0 then 0 else 1) + (if b == 0 then 0 else 1) ≡ 1
 one-counts a b (inl h) = let none = h.0 in let some = h.1 in grind (arith, nat_tests)
 one-counts a b (inr h) = let some = h.0 in let none = h.1 in grind (arith, nat_tests)

@@ -120,7 +120,7 @@ window-potential k h d some vanish w word e =
     let here : run h d w 1 ≡ h w = one-window h d w e in
     omega (arith, ints)
 
--- of windows of that many letters, round each ring
+-- where the sums over short rings are 0, so is the sum over the windows round each ring
 pub turn_sum-vanishes : (k : ℕ) (h : List ℕ → ℤ) (d : ℕ) → 1 ≤ k → ShortRingsVanish k h d → (p : List ℕ) → IsRing k p → turn_sum h d p ≡ pos 0
 turn_sum-vanishes k h d some vanish p ring =
     let at_place : ℕ → ℤ = λ i. potential h d (ring_letters p (pos i) d) in

@@ -15,11 +15,11 @@ crossed-zero : (share lead : ℕ) (new old gain other : ℤ) → 1 ≤ share →
 crossed-zero share lead new old gain other some cross none nothing =
     zero-of_times share new some (cross ∙ ap₂ (λ (u v : ℤ). (pos lead *ℤ u) -ℤ v) none nothing ∙ omega (arith, ints))
 
--- a product with 0
+-- a product with 0 is 0
 times-zero : (gain other : ℤ) → other ≡ pos 0 → gain *ℤ other ≡ pos 0
 times-zero gain other none = ap (λ (x : ℤ). gain *ℤ x) none ∙ omega (arith, ints)
 
--- a product of 0
+-- a product of 0 is 0
 zero-times : (gain other : ℤ) → gain ≡ pos 0 → gain *ℤ other ≡ pos 0
 zero-times gain other none = ap (λ (x : ℤ). x *ℤ other) none ∙ omega (arith, ints)
 
@@ -42,28 +42,28 @@ crossed-positive share lead new old gain other some cross above nothing =
     let whole : pos share *ℤ new ≡ pos lead *ℤ old = cross ∙ ap (λ (v : ℤ). (pos lead *ℤ old) -ℤ v) nothing ∙ omega (arith, ints) in
     positive-of_times share new (subst (λ (x : ℤ). pos 0 <ℤ x) (sym whole) (times-positive lead old some above))
 
--- rows of zeros stay so
+-- rows of zeros stay so when rows are narrowed
 pub IsZero-narrowed : {rows news : List (List ℤ)} {x y : List ℕ} {j : ℕ} → IsNarrowed rows x y j news → IsWord 16 x → IsWord 16 y → (i : ℕ) → i < 16 → IsZero rows i → IsZero news i
 IsZero-narrowed {rows} {news} {x} {y} {j} narrowed one two i l none a h =
     let row = narrowed.each i l in
     crossed-zero row.share narrowed.lead _ (entry rows i a) (gain_at (entry rows i) x y) (entry rows j a) row.positive (row.cross a h) (none a h)
     (zero-times _ (entry rows j a) (gain_at-zero rows i x y one two none))
 
--- the row by which the others are crossed becomes one
+-- the row by which the others are crossed becomes a row of zeros
 pub IsZero-pivot : {rows news : List (List ℤ)} {x y : List ℕ} {j : ℕ} → IsNarrowed rows x y j news → j < 16 → IsZero news j
 IsZero-pivot {rows} {news} {x} {y} {j} narrowed l a h =
     let row = narrowed.each j l in
     zero-of_times row.share _ row.positive
     (row.cross a h ∙ ap (λ (g : ℤ). (pos narrowed.lead *ℤ entry rows j a) -ℤ (g *ℤ entry rows j a)) narrowed.gains ∙ omega (arith, ints))
 
--- numbers that are 0 in both rows stay so
+-- numbers that are 0 in both rows stay 0 in the narrowed row
 pub entry-narrowed : {rows news : List (List ℤ)} {x y : List ℕ} {j : ℕ} → IsNarrowed rows x y j news → (i a : ℕ) → i < 16 → a < 16
     → entry rows i a ≡ pos 0 → entry rows j a ≡ pos 0 → entry news i a ≡ pos 0
 entry-narrowed {rows} {news} {x} {y} {j} narrowed i a l h none nothing =
     let row = narrowed.each i l in
     crossed-zero row.share narrowed.lead _ (entry rows i a) (gain_at (entry rows i) x y) (entry rows j a) row.positive (row.cross a h) none (times-zero _ _ nothing)
 
--- a later place
+-- of two different places one that isn't before the other is a later one
 later : (i j : ℕ) → i ≢ j → j ≤ i → j < i
 later i j other l = omega arith
 

@@ -17,7 +17,7 @@ few k range some most =
 pub power-positive : (b e : ℕ) → 1 ≤ b → 1 ≤ b ^ e
 power-positive b e some = subst (λ n. n ≤ b ^ e) (pow-zero b) (pow-le-pow_right some {i = 0} {j = e} (omega arith))
 
--- a window of such words has few letters
+-- where there are at most sixteen words of `range` letters, the width and the range together are at most 9
 pub short : {r : LocalRule} → IsRule r → (range : ℕ) → r.states ^ range ≤ 16 → r.width + range ≤ 9
 short {r} rule range most =
     let wide = rule.shape.most_width in

@@ -33,7 +33,7 @@ unfolding chosen
 chosen-here a p d e (inl s) same = refl
 chosen-here a p d e (inr n) same = absurd (n same)
 
--- at another place it isn't
+-- at another place than a number's own the number isn't chosen
 chosen-there : (a p d e : ℕ) (c : (a ≡ p) ⊎ (a ≢ p)) → a ≢ p → chosen c d e ≡ e
 unfolding chosen
 chosen-there a p d e (inl s) other = absurd (other s)

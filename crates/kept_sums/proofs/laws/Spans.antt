@@ -145,7 +145,7 @@ IsSpanned-narrowed {k} {j} {rows} {news} {after} {before} {weight} few one two n
           ∙ omega (arith, ints);
     }
 
--- rows that gain nothing by two other words are narrowed to such rows
+-- rows that gain nothing by two words, narrowed by two other words, still gain nothing by them
 pub gain_at-narrowed : {j : ℕ} {rows news : List (List ℤ)} {after before : List ℕ} → j < 16 → IsNarrowed rows after before j news
     → (x y : List ℕ) → IsWord 16 x → IsWord 16 y → ((i : ℕ) → i < 16 → gain_at (entry rows i) x y ≡ pos 0) → (i : ℕ) → i < 16 → gain_at (entry news i) x y ≡ pos 0
 gain_at-narrowed {j} {rows} {news} {after} {before} within narrowed x y one two none i l =

@@ -43,7 +43,7 @@ past {k} {range} {rows} units i outside a _ =
     (λ (l : k ^ (range - 1) ≤ i). ⊎_elim (λ (h : i < k ^ range). absurd (outside (record { least = l; most = h }))) (λ (h : k ^ range ≤ i). units.after i h a) (cases_lt i (k ^ range)))
     (cases_lt i (k ^ (range - 1)))
 
--- small numbers
+-- the entries of unit rows are small
 small_at : {first size : ℕ} {rows : List (List ℤ)} → AreUnits first size rows → (i a : ℕ) → unsigned_abs (entry rows i a) ≤ 2 ^ 56
 small_at {first} {size} {rows} units i a =
     let none = λ (e : entry rows i a ≡ pos 0). subst (λ (z : ℤ). unsigned_abs z ≤ 2 ^ 56) (sym e) (omega arith) in
@@ -59,7 +59,7 @@ small_at {first} {size} {rows} units i a =
     (λ (other : a ≢ i). none (off units i a other))
     (cases_eq a i)
 
--- each normal weight is the sum of them, each as often as the weight says
+-- each normal weight is the sum of unit rows, each as often as the weight says
 spanned : {first size : ℕ} {rows : List (List ℤ)} → size ≤ 16 → AreUnits first size rows → (weight : ℕ → ℤ) → ((a : ℕ) → a < first → weight a ≡ pos 0) → IsSpanned size rows weight
 spanned {first} {size} {rows} few units weight normal = record {
   times = 1;

@@ -56,11 +56,11 @@ gain_at-sub f g x y = let one = sum_at-sub f g x in let two = sum_at-sub f g y i
 pub gain_at-none : (x y : List ℕ) → gain_at (λ a. pos 0) x y ≡ pos 0
 gain_at-none x y = let one = sum_at-none x in let two = sum_at-none y in omega (arith, ints)
 
--- the other way round it is the negative
+-- weights that gain nothing by two words gain nothing by them the other way round
 pub gain_at-swap : (f : ℕ → ℤ) (x y : List ℕ) → gain_at f x y ≡ pos 0 → gain_at f y x ≡ pos 0
 gain_at-swap f x y e = omega (arith, ints)
 
--- one letter more
+-- the sum over a word with one letter more
 pub sum_at-snoc : (f : ℕ → ℤ) (w : List ℕ) (a : ℕ) → sum_at f (w ++ a ∷ []) ≡ sum_at f w +ℤ f a
 sum_at-snoc f [] a = omega (arith, ints)
 sum_at-snoc f (b ∷ w) a = let rest = sum_at-snoc f w a in omega (arith, ints)

@@ -53,7 +53,7 @@ IsKept-trivial {r} rule range weight some trivial p ring =
 pub potential_of : ℕ → ℕ → (ℕ → ℤ) → ℕ → ℤ
 potential_of k d weight v = sum_to d (λ j. weight 0 -ℤ weight (v / k ^ j))
 
--- what it gives without the last letter
+-- the weight of a word, by what the potential gives on the word and without its last letter
 potential-step : (k d : ℕ) (weight : ℕ → ℤ) (v : ℕ) → v < k ^ d → weight v ≡ weight 0 +ℤ (potential_of k d weight (v / k) -ℤ potential_of k d weight v)
 unfolding potential_of
 potential-step k d weight v l =
@@ -71,7 +71,7 @@ potential-step k d weight v l =
 abbrev pub trivial_part : ℕ → ℕ → (ℕ → ℤ) → ℕ → ℤ
 trivial_part k range weight x = weight 0 +ℤ (potential_of k (range - 1) weight (x / k) -ℤ potential_of k (range - 1) weight (x % k ^ (range - 1)))
 
--- what is left of them
+-- what is left of weights without their trivial part
 abbrev pub normal_part : ℕ → ℕ → (ℕ → ℤ) → ℕ → ℤ
 normal_part k range weight x = weight x -ℤ trivial_part k range weight x
 
@@ -94,7 +94,7 @@ IsTrivial-part k range weight some = record {
       ap₂ (λ (x y : ℕ). weight 0 +ℤ (potential_of k (range - 1) weight x -ℤ potential_of k (range - 1) weight y)) (sym ends.0) (sym ends.1);
 }
 
--- what is left is normal
+-- what is left of weights without their trivial part is normal
 pub IsNormal-part : (k range : ℕ) (weight : ℕ → ℤ) → IsNormal k range (normal_part k range weight)
 IsNormal-part k range weight a l =
     let step = potential-step k (range - 1) weight a l in

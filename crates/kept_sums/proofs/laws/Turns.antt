@@ -73,7 +73,7 @@ turn-all g n again (negsuc (suc i)) =
     let e : negsuc i ≡ negsuc (suc i) +ℤ pos 1 = omega (arith, ints) in
     sym (turn-next g n again (negsuc (suc i))) ∙ ap (turn g n) (sym e) ∙ turn-all g n again (negsuc i)
 
--- said without the word
+-- terms that come again after n have the sum of n terms from 0 on, whatever the place they begin at
 pub sum_to-turn : (g : ℤ → ℤ) (n : ℕ) → ((i : ℤ) → g (i +ℤ pos n) ≡ g i) → (o : ℤ) → sum_to n (λ i. g (pos i +ℤ o)) ≡ sum_to n (λ i. g (pos i))
 unfolding turn
 sum_to-turn g n again o = turn-all g n again o ∙ sum_to-agree n (λ i l. let e : pos i +ℤ pos 0 ≡ pos i = omega (arith, ints) in ap g e)

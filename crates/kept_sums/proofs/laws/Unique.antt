@@ -51,7 +51,7 @@ pub record Stands (k range : ℕ) (rows : List (List ℤ)) (i : ℕ) : Type 0 wh
   pub free : IsFree k range i
   pub standing : IsStanding rows i
 
--- a place has such a row, or one of zeros
+-- a free place has a row that stands, or one of zeros
 pub stands_or_zero : {k range : ℕ} {rows : List (List ℤ)} {counts : List ℕ} {rings : List (List ℕ)} {i : ℕ} → IsPlace k range rows counts rings i → Stands k range rows i ⊎ IsZero rows i
 stands_or_zero {k} {range} {rows} {counts} {rings} {i} place =
     ⊎_elim
@@ -78,11 +78,11 @@ factor-positive (pos zero) (pos n) above product = absurd (omega (arith, ints, p
 factor-positive (pos (suc s)) (pos n) above product = (suc s, omega arith, refl)
 factor-positive (negsuc s) (pos n) above product = absurd (omega (arith, ints, product))
 
--- a product of 0
+-- a product of 0 is 0
 pub zero-factor : (c x : ℤ) → c ≡ pos 0 → c *ℤ x ≡ pos 0
 zero-factor c x none = ap (λ (z : ℤ). z *ℤ x) none ∙ omega (arith, ints)
 
--- a product with 0
+-- a product with 0 is 0
 pub factor-none : (c x : ℤ) → x ≡ pos 0 → c *ℤ x ≡ pos 0
 factor-none c x none = ap (λ (z : ℤ). c *ℤ z) none ∙ omega (arith, ints)
 
@@ -110,7 +110,7 @@ spanned_row {r} {range} {rows} {others} {counts} {other_counts} {rings} {other_r
     (λ a below. stands.standing.begins a (omega arith))
     (λ m h noted. one.kept i l (ring_at other_counts other_rings m) ((other.stage.places m h).ring noted))
 
--- where a row of the one stands, one of the other does
+-- where a row of one answer stands, a row of the other does
 stands_too : {r : LocalRule} {range : ℕ} {rows others : List (List ℤ)} {counts other_counts : List ℕ} {rings other_rings : List (List ℕ)}
     → AreKeptSums r range rows counts rings → AreKeptSums r range others other_counts other_rings → (i : ℕ) → i < 16 → Stands r.states range rows i → Stands r.states range others i
 stands_too {r} {range} {rows} {others} {counts} {other_counts} {rings} {other_rings} one other i l stands =

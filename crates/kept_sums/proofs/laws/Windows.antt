@@ -36,7 +36,7 @@ value-front k m range v some l =
     value-take k range w (IsWord-word_of k (m + range - 1) v l) (omega arith)
     ∙ ap₂ (λ (x n : ℕ). x / k ^ n) (value-word_of k (m + range - 1) v l) rest
 
--- are one of few words
+-- the first letters of a window are one of few words
 pub front-below : (k m range v : ℕ) → 1 ≤ m → k ^ range ≤ 16 → v < k ^ (m + range - 1) → v / k ^ (m - 1) < 16
 front-below k m range v some few l =
     let w : List ℕ = word_of k (m + range - 1) v in
@@ -80,7 +80,7 @@ length-image_of r range v some =
     let whole = length-image r (word_of r.states (r.width + range - 1) v) in
     omega arith
 
--- the value of its first letters and one more is below 16
+-- the value of the first letters of a window's image and one more is below 16
 pub image-below : (r : LocalRule) → IsRule r → (range i v : ℕ) → i < range → r.states ^ range ≤ 16
     → value r.states (take i (image r (word_of r.states (r.width + range - 1) v))) * r.states + get_or (image r (word_of r.states (r.width + range - 1) v)) i 0 < 16
 image-below r rule range i v l few =

@@ -28,7 +28,7 @@ rank-listed property k m begin order r h listed =
     let below : rank_of_first k order r.table (k ^ m) < k ^ (k ^ m) = rank-below k (k ^ m) order r.table (k ^ m) h (IsTable-shape listed.shape) (omega arith) in
     subst (λ n. rank_of_first k order r.table n < k ^ (k ^ m)) (sym h.long) below
 
--- fewer are left after each rule
+-- fewer rules are left over after each rule
 pub left_over-less : (property : Property) (k m : ℕ) (begin order : List ℕ) (r : LocalRule) (before next : Option LocalRule) → before ≡ Some r → IsOrder (k ^ m) order → IsListed property k m begin r
     → MatchOption next (NoneIs property k m begin (IsAfter k order (Some r))) (IsFirst property k m begin order (IsAfter k order (Some r))) → left_over k (k ^ m) order next < left_over k (k ^ m) order before
 left_over-less property k m begin order r before next is h listed first =

@@ -10,12 +10,12 @@ use Rattle.rule_algebra.specs.Tables.{composed}
 use Rattle.rule_algebra.proofs.laws.Limits.{IsShape-limit_fault}
 use Rattle.rule_algebra.proofs.laws.Tables.{length-table_by, IsWord-table_by, table_by-at}
 
--- what it gives on a window
+-- what the second rule after the first gives on a window
 local_map-composed : (first second : LocalRule) (w : List ℕ) → IsWord first.states w → length w ≡ first.width + second.width - 1
     → local_map (composed first second) w ≡ local_map second (image first w)
 local_map-composed first second w word long = table_by-at first.states (first.width + second.width - 1) (λ x. local_map second (image first x)) w word long
 
--- it is accepted if its shape is
+-- the second rule after the first is an accepted rule if its shape is accepted
 pub IsRule-composed : (first second : LocalRule) → IsRule second → first.states ≡ second.states
     → IsShape first.states (first.width + second.width - 1) (first.offset +ℤ second.offset) → IsRule (composed first second)
 IsRule-composed first second after same shape =
@@ -74,7 +74,7 @@ IsRule-composed_fault {first} {second} before after none =
     (IsShape-limit_fault first.states (first.width + second.width - 1) (first.offset +ℤ second.offset) before.shape.least_states before.shape.most_states (omega arith)
     (sym (compose_fault-same first second same) ∙ none))
 
--- it is the rule whose image is the image of the image
+-- the second rule after the first is the rule whose image is the image of the image
 pub IsComposed-composed : {first second : LocalRule} → IsRule first → IsRule second → IsComposed first second (composed first second)
 IsComposed-composed {first} {second} before after = record {
   states = refl;

@@ -3,7 +3,7 @@ use Rattle.std.proofs.Common.{◌≡◌, ℕ, ◌≤◌, None, ℤ, ap, ap₂, �
 use Rattle.word_image.proofs.Common.{nat_tests, ints, IsShape, IsShape-offset}
 use Rattle.rule_algebra.specs.AlgebraFaults.{offset_fault, limit_fault}
 
--- of as many states as a rule has
+-- a shape of as many states as a rule has is accepted where no limit is broken
 pub IsShape-limit_fault : (k m : ℕ) (o : ℤ) → 2 ≤ k → k ≤ 16 → 2 ≤ m → limit_fault k m o ≡ None → IsShape k m o
 IsShape-limit_fault k m o least most wide none = record {
   least_states = least;
@@ -15,7 +15,7 @@ IsShape-limit_fault k m o least most wide none = record {
   most_offset = grind (arith, ints);
 }
 
--- of the shape of a rule, at another offset
+-- the shape of a rule at another offset is accepted where the offset has no fault
 pub IsShape-offset_fault : (k m : ℕ) (o p : ℤ) → IsShape k m o → offset_fault m p ≡ None → IsShape k m p
 IsShape-offset_fault k m o p shape none = IsShape-offset p shape (grind (arith, ints)) (grind (arith, ints))
 

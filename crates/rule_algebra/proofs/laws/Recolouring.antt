@@ -22,7 +22,7 @@ colour-below k colours word some a =
 pub IsWord-recoloured : (k : ℕ) (colours : List ℕ) → IsWord k colours → 0 < k → (w : List ℕ) → IsWord k (recoloured colours w)
 IsWord-recoloured k colours word some w = All-map (λ a. a < k) (slice_index colours) w (λ i d l. colour-below k colours word some _)
 
--- one more letter
+-- one more letter has its old letter in the list
 pub AreOldLetters-more : {k n : ℕ} {colours letters : List ℕ} → k ≤ 16 → IsRecolouring k colours → n < k → AreOldLetters k colours n letters
     → AreOldLetters k colours (n + 1) (set letters (slice_index colours n) n)
 AreOldLetters-more {k} {n} {colours} {letters} few h below before =
@@ -49,11 +49,11 @@ recoloured_back {k} letters colours back (a ∷ w) word =
 abbrev pub new_colour : LocalRule → List ℕ → List ℕ → List ℕ → ℕ
 new_colour r colours letters w = slice_index colours (local_map r (recoloured letters w))
 
--- the rule that gives it
+-- the rule that gives the new colours
 abbrev pub recoloured_rule : LocalRule → List ℕ → List ℕ → LocalRule
 recoloured_rule r colours letters = record { states = r.states; width = r.width; offset = r.offset; table = table_by r.states r.width (new_colour r colours letters) }
 
--- is accepted
+-- the recoloured rule is accepted
 pub IsRule-recoloured : {r : LocalRule} (colours letters : List ℕ) → IsRule r → IsWord r.states colours → IsRule (recoloured_rule r colours letters)
 IsRule-recoloured {r} colours letters rule word = record {
   shape = rule.shape;

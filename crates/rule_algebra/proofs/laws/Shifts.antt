@@ -7,7 +7,7 @@ use Rattle.rule_algebra.specs.MadeImages.{ShiftsImages}
 use Rattle.rule_algebra.specs.AlgebraFaults.{offset_fault}
 use Rattle.rule_algebra.proofs.laws.Limits.{IsShape-offset_fault}
 
--- are the old ones further to the right
+-- the image cells of the shifted rule are the old ones further to the right
 pub ShiftsImages-shifted : (r : LocalRule) (by : ℤ) → ShiftsImages r by (shifted r by)
 ShiftsImages-shifted r by = λ t i.
     let place : i +ℤ (r.offset +ℤ by) ≡ i +ℤ by +ℤ r.offset = omega (arith, ints) in

@@ -19,7 +19,7 @@ pub firsts_ignored : (r : LocalRule) (d : ℕ) → Ignores r d 0
     → (v w : List ℕ) → IsWord r.states v → IsWord r.states w → length v ≡ r.width → length w ≡ r.width → drop d v ≡ drop d w → local_map r v ≡ local_map r w
 firsts_ignored r d h v w hv hw lv lw e = h v w hv hw lv lw (whole d r.width v lv ∙ e ∙ sym (whole d r.width w lw))
 
--- fewer first cells are ignored too
+-- a rule that ignores its first cells ignores fewer of them too
 pub Ignores-fewer : (r : LocalRule) (c d : ℕ) → c ≤ d → Ignores r d 0 → Ignores r c 0
 Ignores-fewer r c d h ignored = Ignores-firsts r c (λ v w hv hw lv lw e.
     let split : d - c + c ≡ d = omega arith in
@@ -30,7 +30,7 @@ Ignores-fewer r c d h ignored = Ignores-firsts r c (λ v w hv hw lv lw e.
 abbrev pub SameRows : LocalRule → ℕ → Type 0
 SameRows r n = (v : ℕ) → v < n → slice_index r.table v ≡ slice_index r.table (v % node_count r)
 
--- then the first cell is ignored
+-- where the table's rows for the first letters are equal, the first cell is ignored
 pub Ignores-same_rows : {r : LocalRule} → IsRule r → SameRows r (r.states ^ r.width) → Ignores r 1 0
 Ignores-same_rows {r} rule rows = Ignores-firsts r 1 (λ v w hv hw lv lw e.
     let row : (x : List ℕ) → IsWord r.states x → length x ≡ r.width → local_map r x ≡ slice_index r.table (value r.states (drop 1 x)) = λ x word long.

@@ -20,7 +20,7 @@ value-take-word_of k n m v h below =
     value-take k n (word_of k m v) (IsWord-word_of k m v below) (omega arith)
     ∙ ap₂ (λ (a j : ℕ). a / k ^ (j - n)) (value-word_of k m v below) long
 
--- n letters from place i on
+-- the value of n letters of a word from place i on
 pub value-slice_range-word_of : (k i n m v : ℕ) → i + n ≤ m → v < k ^ m → value k (slice_range (word_of k m v) i (i + n)) ≡ v / k ^ (m - (i + n)) % k ^ n
 value-slice_range-word_of k i n m v h below =
     let long : length (word_of k m v) ≡ m = length-word_of k m v in
@@ -31,12 +31,12 @@ value-slice_range-word_of k i n m v h below =
 pub fewer_values : {r : LocalRule} → IsRule r → (i n : ℕ) → r.states ^ n ≤ 256 → i ≤ n → r.states ^ i ≤ 256
 fewer_values {r} rule i n fits l = let grows : r.states ^ i ≤ r.states ^ n = pow-le-pow_right (some_letter rule) l in omega arith
 
--- the image of a window of so many letters has n letters
+-- the image of a window of m + n - 1 letters has n letters
 pub length-image-word_of : {r : LocalRule} → IsRule r → (n v : ℕ) → length (image r (word_of r.states (r.width + n - 1) v)) ≡ n
 length-image-word_of {r} rule n v =
     omega (arith, length-image r (word_of r.states (r.width + n - 1) v), length-word_of r.states (r.width + n - 1) v)
 
--- letter i of it
+-- letter i of the image of a window of m + n - 1 letters, by the window's value
 pub get_or-image-word_of : {r : LocalRule} → IsRule r → (n i v : ℕ) → i < n → v < r.states ^ (r.width + n - 1)
     → slice_index r.table (v / r.states ^ (n - 1 - i) % r.states ^ r.width) ≡ get_or (image r (word_of r.states (r.width + n - 1) v)) i 0
 get_or-image-word_of {r} rule n i v l below =

@@ -29,7 +29,7 @@ IsRule-in_colours {r} c rule colouring = record {
 
 -- Numbers
 
--- its table has the entries
+-- the table of the recoloured rule has the entries
 pub get_or-in_colours : (r : LocalRule) (c : Colouring) (v : ℕ) → v < r.states ^ r.width → get_or (in_colours r c).table v 0 ≡ entry r c v
 get_or-in_colours r c v l = get_or-map-range_with_len (λ u. entry r c u) 0 (r.states ^ r.width) v v 0 l (omega arith)
 
@@ -68,7 +68,7 @@ recoloured_number-same r c d same =
 abbrev of_colours : LocalRule → List ℕ → List ℕ → LocalRule
 of_colours b colours letters = record (recoloured_rule b colours letters) { offset = pos 0 }
 
--- has a recoloured table
+-- the recoloured rule at offset 0 has a recoloured table
 of_colours-recoloured : {b : LocalRule} {colours letters : List ℕ} → IsRule b → AreInverse b.states colours letters → HasRecolouredTable b (of_colours b colours letters)
 of_colours-recoloured {b} {colours} {letters} rule inverse = record {
   colours = take b.states colours;
@@ -87,7 +87,7 @@ of_colours-recoloured {b} {colours} {letters} rule inverse = record {
   offset = refl;
 }
 
--- a rule with a recoloured table is such a rule
+-- a rule with a recoloured table is the rule in some colours
 recoloured-of_colours : {b h : LocalRule} → (has : HasRecolouredTable b h) → (letters : List ℕ) × AreInverse b.states has.colours letters × (h ≡ of_colours b has.colours letters)
 recoloured-of_colours {b} {h} has =
     let found = inverse_letters has.recolouring in
@@ -102,7 +102,7 @@ recoloured-of_colours {b} {h} has =
           ∙ sym (get_or-map-range_with_len (λ u. new_colour b has.colours found.0 (word_of b.states b.width u)) 0 (b.states ^ b.width) v v 0 below (omega arith)))),
     )
 
--- so a recoloured rule is of the class
+-- a recoloured rule is of the rule's class
 pub IsInClass-colours : {r : LocalRule} {colours letters : List ℕ} → (mirror : Bool) → IsRule r → AreInverse r.states colours letters
     → IsInClass r mirror (in_colours r (record { mirrored = mirror; colours = colours; letters = letters }))
 IsInClass-colours {r} {colours} {letters} true rule inverse = of_colours-recoloured (IsRule-mirrored rule) inverse

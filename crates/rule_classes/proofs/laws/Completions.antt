@@ -25,13 +25,13 @@ AgreeFrom-less {r} {c} {best} {low} {high} {v} rule most colouring known chosen 
       (λ other. rest.same d completes u (omega arith) within) (cases_eq u v);
 }
 
--- a greater letter makes a greater number
+-- where the tables agree on the greater windows, a greater letter makes a greater number
 greater_number : {r : LocalRule} {c best d : Colouring} {low high v : ℕ} → IsRule r → IsColouring r.states best → Completes r.states c low high d → v < r.states ^ r.width
     → AgreeFrom r c low high best (v + 1) → entry r best v < entry r d v → recoloured_number r best < recoloured_number r d
 greater_number {r} {c} {best} {d} {low} {high} {v} rule colouring completes below rest less =
     recoloured_number-less best d v rule colouring completes.colouring below (λ u past within. sym (rest.same d completes u (omega arith) within)) less
 
--- a lesser one a lesser number
+-- where the tables agree on the greater windows, a lesser letter makes a lesser number
 pub lesser_number : {r : LocalRule} {c best : Colouring} {low high v : ℕ} → IsRule r → IsColouring r.states c → IsColouring r.states best → v < r.states ^ r.width
     → AgreeFrom r c low high best (v + 1) → entry r c v < entry r best v → recoloured_number r c < recoloured_number r best
 lesser_number {r} {c} {best} {low} {high} {v} rule first second below rest less =
@@ -48,7 +48,7 @@ none_less-free {r} {c} {best} {low} {high} {v} rule most colouring other known r
     let from : low ≤ entry r d v = entry-free rule most colouring completes known free in
     omega (arith, greater_number rule other completes known.below rest (omega arith))
 
--- nor where a chosen letter is greater
+-- where the best rule has a lesser letter than a chosen one, nothing is less
 pub none_less-chosen : {r : LocalRule} {c best : Colouring} {low high v : ℕ} → IsRule r → high ≤ r.states → IsColouring r.states c → IsColouring r.states best → IsKnown r low high v
     → AgreeFrom r c low high best (v + 1) → IsChosen low high (entry r c v) → entry r best v < entry r c v → (d : Colouring) → Completes r.states c low high d → recoloured_number r best ≤ recoloured_number r d
 none_less-chosen {r} {c} {best} {low} {high} {v} rule most colouring other known rest chosen less d completes =
@@ -67,7 +67,7 @@ next_of-greatest k low high e = cond-true (low + high == k) (high - 1) low (eq-e
 pub next_of-least : (k low high : ℕ) → low + high ≢ k → next_of k low high ≡ low
 next_of-least k low high other = cond-false (low + high == k) (high - 1) low (ne_eqb (low + high) k other)
 
--- it is one of them
+-- the colour that is chosen next is one of the free ones
 pub next_of-within : (k low high : ℕ) → low < high → (low ≤ next_of k low high) × (next_of k low high < high)
 next_of-within k low high some =
     ⊎_elim (λ e. let at = next_of-greatest k low high e in (omega (arith, at), omega (arith, at))) (λ other. let at = next_of-least k low high other in (omega (arith, at), omega (arith, at))) (cases_eq (low + high) k)
@@ -106,12 +106,12 @@ Completes-last {k} {c} {d} {low} {high} few most colouring completes = record {
       (cases_lt a low);
 }
 
--- where none is free, the two make one rule
+-- where no colour is free, a colouring and one that completes it make one rule
 pub recoloured_number-completes : {r : LocalRule} {c d : Colouring} → IsRule r → IsColouring r.states c → Completes r.states c 0 0 d → recoloured_number r c ≡ recoloured_number r d
 recoloured_number-completes {r} {c} {d} rule colouring completes = recoloured_number-same r c d (λ u l.
     sym (entry-chosen rule (omega arith) colouring completes (record { below = l; near = inl refl }) (inr (omega arith))))
 
--- so the lesser of the two is the least
+-- the least of the completed colouring and the one before is the least where at most one colour is free
 pub IsLeastColouring-last : {r : LocalRule} {c before found : Colouring} {low high : ℕ} → high ≤ low + 1 → high ≤ r.states → IsColouring r.states c → IsLeastColouring r c 0 0 before found → IsLeastColouring r c low high before found
 IsLeastColouring-last {r} {c} {before} {found} {low} {high} few most colouring h = record {
   colouring = h.colouring;
@@ -149,7 +149,7 @@ IsNext-end {k} {low} {high} {colour} {next} {from} {to} {c} {e} most some at end
       kept = λ a is. grind arith;
     })
 
--- what completes the first and has that letter there completes it
+-- what completes c, and has c's letter of the chosen colour at the next one, completes the next colouring
 Completes-next : {k : ℕ} {c d e : Colouring} {low high next colour from to : ℕ} → IsNext k c low high next colour e from to → low ≤ colour → colour < high → Completes k c low high d
     → slice_index d.letters next ≡ slice_index c.letters colour → Completes k e from to d
 Completes-next {k} {c} {d} {e} {low} {high} {next} {colour} {from} {to} h least most completes same = record {
@@ -181,7 +181,7 @@ pub record IsLeastOver (r : LocalRule) (c : Colouring) (low high next n : ℕ) (
   pub one : (found ≡ before) ⊎ (Completes r.states c low high found × (recoloured_number r found < recoloured_number r before))
   pub least : (d : Colouring) → Completes r.states c low high d → (q : ℕ) → low ≤ q → q < n → slice_index d.letters next ≡ slice_index c.letters q → recoloured_number r found ≤ recoloured_number r d
 
--- one less, or as before
+-- what is less than the one before, or is the one before, is no greater
 pub no_greater : (r : LocalRule) {A : Type 0} {before found : Colouring} → (found ≡ before) ⊎ (A × (recoloured_number r found < recoloured_number r before)) → recoloured_number r found ≤ recoloured_number r before
 no_greater r {A} {before} {found} one = ⊎_elim (λ (same : found ≡ before). let number = ap (recoloured_number r) same in omega arith) (λ less. omega (arith, less.1)) one
 
@@ -206,7 +206,7 @@ IsLeastOver-more {r} {c} {e} {before} {found} {new} {low} {high} {next} {n} {fro
           (cases_lt q n);
     }
 
--- all are tried
+-- all colours are tried
 pub IsLeastColouring-over : {r : LocalRule} {c before found : Colouring} {low high : ℕ} (next : ℕ) → next < r.states → low ≤ next → next < high → IsColouring r.states c
     → IsLeastOver r c low high next high before found → IsLeastColouring r c low high before found
 IsLeastColouring-over {r} {c} {before} {found} {low} {high} next l from to colouring over = record {

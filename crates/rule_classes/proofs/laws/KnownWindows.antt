@@ -59,7 +59,7 @@ IsKnown-at {r} {low} {high} rule u first a node letter from known = record {
       known;
 }
 
--- its letters are chosen
+-- the letters of a known window are chosen
 letters-chosen : {r : LocalRule} {low high v : ℕ} → IsRule r → high ≤ r.states → IsKnown r low high v → (i : ℕ) → i < r.width → IsChosen low high (get_or (word_of r.states r.width v) i 0)
 letters-chosen {r} {low} {high} {v} rule most known i l =
     let a : ℕ = get_or (word_of r.states r.width v) i 0 in
@@ -71,7 +71,7 @@ letters-chosen {r} {low} {high} {v} rule most known i l =
     inr (omega (arith, great, get_or-word_of r.states i r.width v l known.below)))
     known.near
 
--- so a colouring that completes another has the same old letters there
+-- a colouring that completes another has the same old letters at a known window
 old_word-completes : {r : LocalRule} {c d : Colouring} {low high v : ℕ} → IsRule r → high ≤ r.states → Completes r.states c low high d → IsKnown r low high v → old_word r d v ≡ old_word r c v
 old_word-completes {r} {c} {d} {low} {high} {v} rule most completes known =
     let w : List ℕ = word_of r.states r.width v in

@@ -20,7 +20,7 @@ length-read_as : (mirror : Bool) (w : List ℕ) → length (read_as mirror w) �
 length-read_as true w = length-reverse w
 length-read_as false w = refl
 
--- with one letter more before them
+-- the value of a word with one letter more before it, read forwards or backwards
 value-read_as : (mirror : Bool) (k a : ℕ) (w : List ℕ) → value k (read_as mirror (a ∷ w)) ≡ (if mirror then value k (read_as mirror w) * k + a else a * k ^ length w + value k (read_as mirror w))
 value-read_as true k a w = ap (value k) (reverse-append (a ∷ []) w) ∙ value-snoc k (reverse w) a
 value-read_as false k a w = refl
@@ -44,7 +44,7 @@ pub record IsReadSoFar (r : LocalRule) (c : Colouring) (v i left power old : ℕ
   pub raised : power ≡ r.states ^ i
   pub reads : old ≡ value r.states (read_as c.mirrored (drop (r.width - i) (old_word r c v)))
 
--- none is read
+-- at the beginning no letter of a window is read
 pub IsReadSoFar-none : {r : LocalRule} (c : Colouring) (v : ℕ) → v < r.states ^ r.width → IsReadSoFar r c v 0 v 1 0
 IsReadSoFar-none {r} c v below =
     let w : List ℕ = word_of r.states r.width v in
@@ -55,7 +55,7 @@ IsReadSoFar-none {r} c v below =
       reads = sym (ap (λ x. value r.states (read_as c.mirrored x)) nothing ∙ empty c.mirrored r.states);
     }
 
--- the values are few
+-- the values of what was read so far are few
 pub IsReadSoFar-few : {r : LocalRule} {c : Colouring} {v i left power old : ℕ} → IsRule r → IsColouring r.states c → v < r.states ^ r.width → i ≤ r.width → IsReadSoFar r c v i left power old
     → (old < r.states ^ i) × (r.states ^ i ≤ 256)
 IsReadSoFar-few {r} {c} {v} {i} {left} {power} {old} rule colouring below l h =
@@ -69,7 +69,7 @@ IsReadSoFar-few {r} {c} {v} {i} {left} {power} {old} rule colouring below l h =
       omega arith,
     )
 
--- one letter more is read
+-- one letter more of a window is read
 pub IsReadSoFar-more : {r : LocalRule} {c : Colouring} {v i left power old : ℕ} → v < r.states ^ r.width → i < r.width → IsReadSoFar r c v i left power old
     → IsReadSoFar r c v (i + 1) (left / r.states) (power * r.states)
     (if c.mirrored then old * r.states + slice_index c.letters (left % r.states) else slice_index c.letters (left % r.states) * power + old)
@@ -106,7 +106,7 @@ IsReadSoFar-more {r} {c} {v} {i} {left} {power} {old} below l h =
 less_square : (k n u : ℕ) → 0 < k → u < k ^ n → u < k * k ^ n
 less_square k n u some l = let grows : 1 * k ^ n ≤ k * k ^ n = mul-le-mul_right (k ^ n) some in omega arith
 
--- it is one of a window
+-- the old value of a window is a window's value
 pub old_value-below : (r : LocalRule) (c : Colouring) (v : ℕ) → IsColouring r.states c → v < r.states ^ r.width → old_value r c v < r.states ^ r.width
 old_value-below r c v colouring below =
     let x : List ℕ = old_word r c v in
@@ -133,7 +133,7 @@ word_of-moved k n v some below =
     value-injective k _ _ (IsWord-word_of k (suc n) v below) word (length-word_of k (suc n) v ∙ sym long)
     (value-word_of k (suc n) v below ∙ sym (value-snoc k short (v % k) ∙ ap (λ x. x * k + v % k) (value-word_of k n (v / k) back) ∙ div-add-mod' v k))
 
--- so is its value
+-- the old value of a window is the one of the window a letter back, moved on by the old letter of its last digit
 pub old_value-moved : {r : LocalRule} (c : Colouring) (v : ℕ) → IsRule r → IsColouring r.states c → v < r.states ^ r.width
     → old_value r c v ≡ window_with (last_side c.mirrored) r (end_node (last_side c.mirrored) r (old_value r c (v / r.states))) (slice_index c.letters (v % r.states))
 old_value-moved {r} c v rule colouring below =
@@ -167,7 +167,7 @@ pub given-read : (r : LocalRule) (c : Colouring) (v : ℕ) → IsColouring r.sta
     → slice_index r.table (old_value r c v) ≡ local_map (turned r c.mirrored) (old_word r c v)
 given-read r c v colouring below = local_map-read_as r c.mirrored (old_word r c v) (IsWord-old_word r c v colouring below) (length-old_word r c v)
 
--- whose colour is the entry
+-- the entry of a window is the new colour of what the rule gives on the window in the old letters
 pub entry-read : (r : LocalRule) (c : Colouring) (v : ℕ) → IsColouring r.states c → v < r.states ^ r.width
     → slice_index c.colours (slice_index r.table (old_value r c v)) ≡ entry r c v
 entry-read r c v colouring below = ap (slice_index c.colours) (given-read r c v colouring below)

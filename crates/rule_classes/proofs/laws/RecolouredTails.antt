@@ -11,7 +11,7 @@ use Rattle.rule_classes.proofs.laws.Recoloured.{IsRecoloured-back}
 abbrev recoloured_tail : List ℕ → TailConfig → TailConfig
 recoloured_tail colours t = record { left = recoloured colours t.left; middle = recoloured colours t.middle; right = recoloured colours t.right }
 
--- is a configuration
+-- a configuration in the new colours is a configuration
 IsTail-recoloured : {k : ℕ} {colours letters : List ℕ} {t : TailConfig} → AreInverse k colours letters → IsTail k t → IsTail k (recoloured_tail colours t)
 IsTail-recoloured {k} {colours} {letters} {t} h tail = record {
   left_some = omega (arith, tail.left_some, length-map t.left (slice_index colours));
@@ -21,7 +21,7 @@ IsTail-recoloured {k} {colours} {letters} {t} h tail = record {
   right_word = IsWord-colours h t.right tail.right_word;
 }
 
--- its cells are the cells in the new colours
+-- the cells of a configuration in the new colours are its cells in the new colours
 cell-recoloured : {k : ℕ} {t : TailConfig} → (colours : List ℕ) → IsTail k t → (i : ℤ) → cell (recoloured_tail colours t) i ≡ slice_index colours (cell t i)
 cell-recoloured {k} {t} colours tail (pos i) =
     let new : TailConfig = recoloured_tail colours t in
@@ -42,7 +42,7 @@ cell-recoloured {k} {t} colours tail (negsuc i) =
     ap (λ n. slice_index new.left (n - 1 - i % n)) (length-map t.left (slice_index colours))
     ∙ get_or-map (slice_index colours) t.left (length t.left - 1 - i % length t.left) 0 0 (omega arith)
 
--- so are its runs of cells
+-- the runs of cells of a recoloured configuration are the runs in the new colours
 cells-recoloured : {k : ℕ} {t : TailConfig} → (colours : List ℕ) → IsTail k t → (i : ℤ) (n : ℕ) → cells (recoloured_tail colours t) i n ≡ recoloured colours (cells t i n)
 cells-recoloured {k} {t} colours tail i n =
     let w : List ℕ = recoloured colours (cells t i n) in
@@ -91,7 +91,7 @@ pub IsInjective-recoloured : {r g : LocalRule} {colours letters : List ℕ} → 
 IsInjective-recoloured {r} {g} {colours} {letters} rule inverse new injective x y hx hy share =
     Same-recoloured rule inverse new hx hy share (injective (recoloured_tail letters x) (recoloured_tail letters y))
 
--- right-closing if the rule is
+-- a recoloured rule is right-closing if the rule is
 pub IsRightClosing-recoloured : {r g : LocalRule} {colours letters : List ℕ} → IsRule r → AreInverse r.states colours letters → IsRecoloured colours r g → IsRightClosing r → IsRightClosing g
 IsRightClosing-recoloured {r} {g} {colours} {letters} rule inverse new closing x y hx hy share agree =
     Same-recoloured rule inverse new hx hy share

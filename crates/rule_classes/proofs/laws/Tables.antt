@@ -39,7 +39,7 @@ filled f xs n x room new old v l =
     rw one (get_or-set_same xs n x 0 room ∙ new))
     (cases_lt v n)
 
--- one window more
+-- the table is filled at one window more
 pub AreFilled-more : {r : LocalRule} {c : Colouring} {n : ℕ} {windows entries : List ℕ} (old colour : ℕ) → IsRule r → n < r.states ^ r.width → old ≡ old_value r c n → colour ≡ entry r c n
     → AreFilled r c n windows entries → AreFilled r c (n + 1) (set windows n old) (set entries n colour)
 AreFilled-more {r} {c} {n} {windows} {entries} old colour rule below value gives h =

@@ -60,7 +60,7 @@ complete property k m begin order last (r ∷ rs) h all q listed after =
     subst (λ p. Contains (r ∷ rs) p) same (Contains-first rs r))
     (cases_lt (rank k order r.table) (rank k order q.table))
 
--- they ascend
+-- all listed rules after the last one ascend
 ascending : (property : Property) (k m : ℕ) (begin order : List ℕ) (last : Option LocalRule) (rs : List LocalRule) → AreAll property k m begin order last rs → AreAscending k order last rs
 ascending property k m begin order last [] all = tt
 ascending property k m begin order last (r ∷ rs) all = (all.0.from, ascending property k m begin order (Some r) rs all.1)
@@ -72,13 +72,13 @@ AreListed-all property k m begin order rs h all = record {
   ascending = ascending property k m begin order None rs all;
 }
 
--- one rule more
+-- with one rule more, what the calls give is still each listed rule once
 pub AreSoFar-next : (property : Property) (k m : ℕ) (begin order : List ℕ) (first : Option LocalRule) (rs : List LocalRule) (last : Option LocalRule) (r : LocalRule) → AreSoFar property k m begin order first rs last → IsFirst property k m begin order (IsAfter k order last) r
     → AreSoFar property k m begin order first (rs ++ r ∷ []) (Some r)
 AreSoFar-next property k m begin order first [] last r e is = (subst (λ o. IsFirst property k m begin order (IsAfter k order o) r) (sym e) is, refl)
 AreSoFar-next property k m begin order first (q ∷ rs) last r h is = (h.0, AreSoFar-next property k m begin order (Some q) rs last r h.1 is)
 
--- where none comes after the last one, they are all
+-- where no listed rule comes after the last one given, the rules given are all
 pub AreAll-ended : (property : Property) (k m : ℕ) (begin order : List ℕ) (first : Option LocalRule) (rs : List LocalRule) (last : Option LocalRule) → AreSoFar property k m begin order first rs last → NoneIs property k m begin (IsAfter k order last)
     → AreAll property k m begin order first rs
 AreAll-ended property k m begin order first [] last e none = subst (λ o. NoneIs property k m begin (IsAfter k order o)) (sym e) none

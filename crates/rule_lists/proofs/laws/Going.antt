@@ -165,7 +165,7 @@ Forbids-other property k m begin order table n j h states full other q of begins
 pub HasLetters-same : {j k n size : ℕ} (begin entries table : List ℕ) → j ≡ k → n ≡ size → HasLetters j n begin entries → ((v : ℕ) → v < size → slice_index table v ≡ slice_index entries v) → HasLetters k size begin table
 HasLetters-same begin entries table states full has same v l fixed = same v l ∙ has v (omega (arith, l, full)) (omega (arith, fixed, states))
 
--- a full table whose rule has it is the first to come
+-- a full table whose rule has the property is the first to come
 pub IsFirst-filled : (property : Property) (k m : ℕ) (begin : List ℕ) (order table : List ℕ) (n : ℕ) (next : Option ℕ) (From : LocalRule → Type 0) (r : LocalRule) → IsOrder (k ^ m) order → next ≡ Some n → IsFilled property k m begin table n r
     → ((q : LocalRule) → IsListed property k m begin q → (From q ↔ IsPast k order table next q.table)) → IsFirst property k m begin order From r
 IsFirst-filled property k m begin order table n next From r h is filled same =
@@ -192,7 +192,7 @@ first_of_same property k m i j begin order o From To states width same h =
       least = λ q listed to. first.least q listed ((same q listed).1 to);
     }
 
--- those past a rule's own letters are those of a greater rank
+-- the tables past a rule's own letters are those of a greater rank
 pub past_rank : (property : Property) (k m : ℕ) (begin : List ℕ) (order letters new : List ℕ) (next : Option ℕ) (n j : ℕ) (r q : LocalRule) → IsOrder (k ^ m) order → j ≡ k → n ≡ k ^ m
     → ((v : ℕ) → v < k ^ m → slice_index letters v ≡ slice_index r.table v) → IsListed property k m begin q
     → ((t : List ℕ) → IsTable j (length order) t → (rank_of_first j order letters n < rank_of_first j order t n) ↔ IsPast j order new next t)

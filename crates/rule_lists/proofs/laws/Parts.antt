@@ -13,7 +13,7 @@ letter-set k size begin t w a inside room letter has =
     let at : slice_index (set begin w a) w ≡ a = get_or-set_same begin w a 0 room in
     has w inside (omega (arith, at, letter)) ∙ at
 
--- it has the letters that are fixed elsewhere, where none is fixed at the window
+-- a table with the letters that are fixed at one open window and elsewhere has the letters fixed elsewhere
 HasLetters-unset : (k size : ℕ) (begin t : List ℕ) (w a : ℕ) → k ≤ slice_index begin w → HasLetters k size (set begin w a) t → HasLetters k size begin t
 HasLetters-unset k size begin t w a open_ has v l fixed =
     let other : v ≢ w = λ e. let same : slice_index begin v ≡ slice_index begin w = ap (slice_index begin) e in absurd (omega (arith, fixed, open_, same)) in
@@ -42,7 +42,7 @@ IsListed-parts property k m begin w r inside room open_ = (
   λ (a, letter, h). record { shape = h.shape; has = h.has; begins = HasLetters-unset k (k ^ m) begin r.table w a open_ h.begins },
 )
 
--- in one part alone
+-- a rule is listed in one part alone
 pub IsListed-one_part : (property : Property) (k m : ℕ) (begin : List ℕ) (w a b : ℕ) (r : LocalRule) → w < k ^ m → w < length begin → a < k → b < k
     → IsListed property k m (set begin w a) r → IsListed property k m (set begin w b) r → a ≡ b
 IsListed-one_part property k m begin w a b r inside room ha hb first second =

@@ -70,7 +70,7 @@ IsOffset-only text start minus z over plain offset =
 parts_of : List ℕ → List ℕ → Bool → List ℕ → Kind → List ℕ → List ℕ
 parts_of k m minus d kd y = k ++ colon ∷ (m ++ colon ∷ (sign minus ++ (d ++ colon ∷ (kind_text kd ++ y))))
 
--- are the head with its entries after it
+-- the parts of a head with its entries are the head and the entries after it
 head-parts : (k m : List ℕ) (minus : Bool) (d : List ℕ) (kd : Kind) (y : List ℕ) → head k m (sign minus ++ d) (kind_text kd) ++ y ≡ parts_of k m minus d kd y
 unfolding parts_of
 head-parts k m minus d kd y = simp (append_assoc) refl
@@ -79,7 +79,7 @@ head-parts k m minus d kd y = simp (append_assoc) refl
 place_of : List ℕ → List ℕ → Bool → List ℕ → ℕ
 place_of k m minus d = 0 + length k + 1 + length m + 1 + length (sign minus) + length d + 1 + 1
 
--- is where the head ends
+-- the place where the entries begin, by the parts, is where the head ends
 head-place : (k m : List ℕ) (minus : Bool) (d : List ℕ) (kd : Kind) → length (head k m (sign minus ++ d) (kind_text kd)) ≡ place_of k m minus d
 unfolding place_of
 head-place k m minus d kind.Table = simp (length-append) (omega arith)
@@ -106,7 +106,7 @@ Says-parts text said k =
     subst (Says text) (sym e.tells.1)
     (Says-same says (head-parts k.digits m.digits o.minus d.digits e.kd e.rest ∙ sym whole) refl refl (head-place k.digits m.digits o.minus d.digits e.kd))
 
--- a text with a head has these parts
+-- a text with a head has the parts of the head
 Field-head : (k m o y : List ℕ) (z : ℤ) (kd : Kind) (place : ℕ) → IsDecimal 1 2 k → IsDecimal 1 2 m → IsOffset o z → IsEntries kd y → place ≡ length (head k m o (kind_text kd))
     → Field AfterStates 0 (head k m o (kind_text kd) ++ y) (saying (decimal_value k) (decimal_value m) z (entries_of kd y) place)
 unfolding parts_of place_of

@@ -15,7 +15,7 @@ pub record TextLeads (text : List ℕ) (from : ℕ) (After : ℕ → List ℕ �
   pub whole : (y : List ℕ) (s : Said) → After (length (take from text)) y s → Says (take from text ++ y) s
   pub only : (y : List ℕ) (s : Said) → Says (take from text ++ y) s → After (length (take from text)) y s
 
--- one part more: y comes after it where `join y` comes before it
+-- one part more of a text was gone over: y comes after it where `join y` comes before it
 TextLeads-part : {text : List ℕ} {from to : ℕ} {After Next : ℕ → List ℕ → Said → Type 0} → TextLeads text from After → (join : List ℕ → List ℕ) (step : ℕ → ℕ)
     → ((y : List ℕ) → take to text ++ y ≡ take from text ++ join y) → length (take to text) ≡ step (length (take from text))
     → ((p : ℕ) (y : List ℕ) (s : Said) → Next (step p) y s → After p (join y) s) → ((p : ℕ) (y : List ℕ) (s : Said) → After p (join y) s → Next (step p) y s)
@@ -35,7 +35,7 @@ TextLeads-stuck {text} l join place within cut more none =
     (record { more = next.0; whole = (next.1, subst (λ z. Says z next.1) (sym (cut next.0)) (l.whole (join next.0) next.1 next.2)) })
     (λ y same said. none _ y said.0 same (l.only (join y) said.0 (subst (λ z. Says z said.0) (cut y) said.1)))
 
--- K and its colon
+-- a text was gone over as far as K and its colon
 pub TextLeads-states : {text : List ℕ} {to n : ℕ} → GoesOverField text 0 to n → TextLeads text to (AfterStates n)
 TextLeads-states {text} {to} {n} h =
     let d = h.digits in
@@ -53,7 +53,7 @@ TextLeads-states {text} {to} {n} h =
       ];
     }
 
--- M and its colon
+-- a text was gone over as far as M and its colon
 pub TextLeads-field : {text : List ℕ} {from to n : ℕ} {After : ℕ → ℕ → List ℕ → Said → Type 0} → TextLeads text from (Field After) → GoesOverField text from to n
     → TextLeads text to (After n)
 TextLeads-field {text} {from} {to} {n} {After} l h =
@@ -65,7 +65,7 @@ TextLeads-field {text} {from} {to} {n} {After} l h =
     (λ p y s next. record { digits = d; rest = y; decimal = h.decimal; parts = refl; after = subst (λ j. After j (p + length d + 1) y s) h.value next })
     (λ p y s field. subst (λ j. After j (p + length d + 1) y s) (sym h.value) (Field-after {After = After} d y h.decimal field))
 
--- O and its colon
+-- a text was gone over as far as O and its colon
 pub TextLeads-offset : {text : List ℕ} {from to : ℕ} {z : ℤ} {After : ℤ → ℕ → List ℕ → Said → Type 0} → TextLeads text from (Signed After) → GoesOverOffset text from to z
     → TextLeads text to (After z)
 TextLeads-offset {text} {from} {to} {z} {After} l h =
@@ -83,7 +83,7 @@ TextLeads-offset {text} {from} {to} {z} {After} l h =
     })
     (λ p y s signed. subst (λ o. After o (p + length g + length d + 1) y s) (sym h.value) (Signed-after {After = After} h.minus d y h.decimal signed))
 
--- a kind
+-- a text was gone over as far as a kind
 pub TextLeads-kind : {text : List ℕ} {from to k m : ℕ} {o : ℤ} → TextLeads text from (Kinds k m o) → (kd : Kind) → GoesOver text from to (kind_text kd)
     → TextLeads text to (Tells k m o kd)
 TextLeads-kind {text} {from} {to} {k} {m} {o} l kd over =
@@ -116,7 +116,7 @@ end_at y text place same empty = elim (cases_lt place (length text)) [
 named : {text : List ℕ} {f : TextFault} {place : ℕ} → f ≡ fault.Form place → IsFormFault IsSaid text place → IsTextFault text f
 named {text} {f} {place} is form = subst (λ (g : TextFault). IsTextFault text g) (sym is) (NoForm place form)
 
--- M or its colon is lacking
+-- a text goes wrong where M or its colon is lacking
 pub TextLeads-lacks_field : {text : List ℕ} {from : ℕ} {f : TextFault} {After : ℕ → ℕ → List ℕ → Said → Type 0} → TextLeads text from (Field After)
     → ((n p : ℕ) → (y : List ℕ) × (s : Said) × After n p y s) → IsRuleFormAt text f (LacksField text from) → IsTextFault text f
 TextLeads-lacks_field {text} {from} {f} {After} l more (place, is, within, h) =
@@ -124,7 +124,7 @@ TextLeads-lacks_field {text} {from} {f} {After} l more (place, is, within, h) =
     (λ p. Field-more {After = After} more p h.digits h.decimal)
     (λ p y s same. Field-lacks {After = After} h.digits y (get_or text place 0) (byte_at y text place same) h.decimal h.longest h.no_colon))
 
--- O or its colon is lacking
+-- a text goes wrong where O or its colon is lacking
 pub TextLeads-lacks_offset : {text : List ℕ} {from : ℕ} {e : TextFault} {After : ℤ → ℕ → List ℕ → Said → Type 0} → TextLeads text from (Signed After)
     → ((z : ℤ) (p : ℕ) → (y : List ℕ) × (s : Said) × After z p y s) → IsRuleFormAt text e (LacksOffset text from) → IsTextFault text e
 TextLeads-lacks_offset {text} {from} {e} {After} l more (place, is, within, h) =
@@ -137,7 +137,7 @@ TextLeads-lacks_offset {text} {from} {e} {After} l more (place, is, within, h) =
     (λ p y s same. Signed-lacks {After = After} h.minus f.digits y (get_or text place 0) (byte_at y text place same) f.decimal f.longest f.no_colon
     (λ plain none minus. h.no_sign plain (ap (λ i. get_or text i 0) (sym (f.stays none)) ∙ minus))))
 
--- neither kind comes
+-- a text goes wrong where neither kind comes
 pub TextLeads-lacks_kind : {text : List ℕ} {from k m : ℕ} {o : ℤ} {f : TextFault} → TextLeads text from (Kinds k m o)
     → IsRuleFormAt text f (λ place. (place ≡ from) × IsNoKind (get_or text place 0)) → IsTextFault text f
 TextLeads-lacks_kind {text} {from} {k} {m} {o} {f} l (place, is, within, at_none) =
@@ -194,7 +194,7 @@ IsFormFault-decimal digits n stop =
           ]
     ])
 
--- those of a table at the first that is no hexadecimal one
+-- the digits of a table go wrong at the first that is no hexadecimal one
 pub IsFormFault-hex : (digits : List ℕ) (n : ℕ) → IsHexStop digits n → IsFormFault (All IsHexDigit) digits n
 IsFormFault-hex digits n stop =
     let x = take n digits in

@@ -22,7 +22,7 @@ digits_apart n p k some base =
     let first : n / p ≡ q * k + s = ap (λ j. j / p) n_is ∙ div-mul-add (q * k + s) p t low in
     (sym last, sym (ap (λ j. j % k) first ∙ mod-mul-add q k s letter))
 
--- one letter more
+-- the last places of a number with one place more
 pub reverse-word_of-more : (k n i : ℕ) → 0 < k
     → reverse (word_of k (i + 1) (n % k ^ (i + 1))) ≡ reverse (word_of k i (n % k ^ i)) ++ (n / k ^ i) % k ∷ []
 reverse-word_of-more k n i base =
@@ -33,6 +33,6 @@ reverse-word_of-more k n i base =
     ap (λ j. reverse (word_of k j (n % k ^ j))) (add-one i) ∙ reverse-append (v / k ^ i ∷ []) (word_of k i (v % k ^ i))
     ∙ ap₂ (λ (a b : ℕ). reverse (word_of k i a) ++ b ∷ []) rest letter
 
--- what is left of the number
+-- a number without its last i + 1 places is the number without its last i, divided by k
 pub div-pow-more : (k n i : ℕ) → n / k ^ (i + 1) ≡ n / k ^ i / k
 div-pow-more k n i = ap (λ j. n / k ^ j) (add-one i) ∙ ap (λ j. n / j) (pow-suc k i) ∙ sym (div-div-eq-div-mul n (k ^ i) k)

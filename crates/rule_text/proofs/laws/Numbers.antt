@@ -65,7 +65,7 @@ value-reverse_drop k t i some within =
     let split : drop j t ≡ get_or t j 0 ∷ drop i t = drop_more t j 0 (omega arith) ∙ ap (λ n. get_or t j 0 ∷ drop n t) next in
     ap (λ x. value k (reverse x)) split ∙ ap (value k) (reverse-append (get_or t j 0 ∷ []) (drop i t)) ∙ value-snoc k (reverse (drop i t)) (get_or t j 0)
 
--- it fits 128 bits where there are at most 6 states
+-- the number of the letters from one place on fits 128 bits where there are at most 6 states
 pub value-reverse_drop-below : {r : LocalRule} → IsRule r → r.states < 7 → (i : ℕ) → value r.states (reverse (drop i r.table)) < 2 ^ 128
 value-reverse_drop-below {r = r} rule few i =
     let k = r.states in

@@ -39,7 +39,7 @@ pub every_rule : (text : List ℕ) (a : Result LocalRule TextFault) → IfOk a (
 every_rule text (Ok s) rule fault r is = ap Ok (IsRuleText-unique rule is)
 every_rule text (Err f) rule fault r is = absurd (IsRuleText-no_fault is fault)
 
--- nor has a text with a fault
+-- a text with a fault has no other answer
 pub every_fault : (text : List ℕ) (a : Result LocalRule TextFault) → IfOk a (λ r. IsRuleText text r) → IfErr a (λ f. IsTextFault text f)
     → (f : TextFault) → IsTextFault text f → a ≡ Err f
 every_fault text (Ok r) rule fault f is = absurd (IsRuleText-no_fault rule is)

@@ -16,7 +16,7 @@ low-value k [] = refl
 low-value k (a ∷ w) =
     ap (value k) (reverse-append (a ∷ []) w) ∙ value-snoc k (reverse w) a ∙ omega (arith, ap (λ n. n * k) (low-value k w), mul_comm (low k w) k)
 
--- with another letter at a place
+-- the number of a table with another letter at a place
 low-set : (k : ℕ) (w : List ℕ) (i x : ℕ) → i < length w → low k (set w i x) + k ^ i * get_or w i 0 ≡ low k w + k ^ i * x
 unfolding low
 low-set k [] i x l = absurd (omega arith)
@@ -53,13 +53,13 @@ numbered_rule-table k m table rule =
     ap (λ n. reverse (word_of k n (value k (reverse table)))) (sym long) ∙ ap reverse (word_of-value k (reverse table) word) ∙ reverse-reverse table in
     ap (table_rule k m) back
 
--- so a rule at offset 0 is that of its Wolfram number
+-- a rule at offset 0 is the rule of its Wolfram number
 pub numbered_rule-wolfram : {r : LocalRule} → IsRule r → r.offset ≡ pos 0 → numbered_rule r.states r.width (wolfram_number r) ≡ r
 numbered_rule-wolfram {r} rule offset =
     let own : r ≡ table_rule r.states r.width r.table = ap (λ o. record { states = r.states; width = r.width; offset = o; table = r.table }) offset in
     ap (numbered_rule r.states r.width) (wolfram_number-value rule) ∙ numbered_rule-table r.states r.width r.table (subst IsRule own rule) ∙ sym own
 
--- the table of the rule with a number has so many letters
+-- the table of the rule with a number has k ^ m letters
 pub length-numbered : (k m n : ℕ) (r : LocalRule) (table : List ℕ) → r ≡ numbered_rule k m n → table ≡ r.table → length table ≡ k ^ m
 length-numbered k m n r table rule same = ap length (same ∙ ap (λ (q : LocalRule). q.table) rule) ∙ length-reverse (word_of k (k ^ m) n) ∙ length-word_of k (k ^ m) n
 

@@ -13,7 +13,7 @@ abbrev AllNone : List (Option TailFault) → Type 0
 AllNone [] = Unit {0}
 AllNone (f ∷ fs) = (f ≡ None) × AllNone fs
 
--- so none comes first
+-- no fault comes first exactly where none comes
 first_fault-none : (fs : List (Option TailFault)) → (first_fault fs ≡ None) ↔ AllNone fs
 first_fault-none [] = (λ e. tt, λ e. refl)
 first_fault-none (None ∷ fs) = (λ e. (refl, (first_fault-none fs).0 e), λ all. (first_fault-none fs).1 all.1)

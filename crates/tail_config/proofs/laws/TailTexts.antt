@@ -84,7 +84,7 @@ abbrev bars : ℕ → List ℕ → Option ℕ
 bars n [] = Some n
 bars n (b ∷ x) = option_and_then (λ m. bars m x) (bars_after n b)
 
--- over two texts in a row
+-- how many bars there are over two texts in a row
 bars-append : (n : ℕ) (x y : List ℕ) → bars n (x ++ y) ≡ option_and_then (λ m. bars m y) (bars n x)
 bars-append n [] y = refl
 bars-append n (b ∷ x) y =
@@ -93,7 +93,7 @@ bars-append n (b ∷ x) y =
       | Some m ↦ bars-append m x y
     ]
 
--- digits have none
+-- digits have no bars
 bars-digits : (n : ℕ) (d : List ℕ) → All IsHexDigit d → bars n d ≡ Some n
 bars-digits n [] all = refl
 bars-digits n (b ∷ d) all =
@@ -132,7 +132,7 @@ not-Begins x n b e none begins =
     ∙ ap (option_and_then (λ m. bars m begins.more)) none in
     none-some 2 (sym lost ∙ whole)
 
--- neither does a byte that is no digit, and no bar that may come
+-- no text of the grammar goes on with a byte that is no digit and no bar that may come
 bars_after-none : (n b : ℕ) → ¬ IsHexDigit b → (b ≡ bar → 2 ≤ n) → bars_after n b ≡ None
 bars_after-none n b other last =
     elim (hex_value b) as (λ o. (o ≢ None → ⊥) → (if is_some o then Some n else (if (b == bar) && nat_lt n 2 then Some (n + 1) else None)) ≡ None) [
@@ -228,7 +228,7 @@ IsFormFault-right {text} {first} {second} {end} left middle d inside =
     IsFormFault-bars text end 2 d.within (subst (Begins HasForm) (sym parts.0) (Begins-three _ _ _ (take-digits left.digits) middle.digits.digits d.digits)) parts.1
     d.stop (λ h e. omega arith) (λ h. absurd (omega arith))
 
--- a text that doesn't
+-- a text whose digits after its second bar go on to its end is cut into its three parts
 pub IsCut-right : {text : List ℕ} {first second end : ℕ} → IsBarAfter text 0 first → IsBarAfter text (first + 1) second → IsDigitsEnd text (second + 1) end
     → length text ≤ end → IsCut text (take first text) (slice_range text (first + 1) second) (slice_range text (second + 1) (length text))
 IsCut-right {text} {first} {second} {end} left middle d past =

@@ -56,7 +56,7 @@ IsLeastGap-unique {r} {t} {b} {a} {c} {d} {w} {z} h g =
     let rights : a ≡ d = omega (arith, h.after_least d (subst (λ n. IsOrphan r (stretch t n d)) (sym lefts) second), g.after_least a (subst (λ n. IsOrphan r (stretch t n a)) lefts first)) in
     (lefts, rights, h.word ∙ ap₂ (stretch t) lefts rights ∙ sym g.word)
 
--- so there is one answer
+-- there is one answer that is right for a configuration
 pub IsPreimageAnswer-unique : (r : LocalRule) (t : TailConfig) (x y : Pre) → IsPreimageAnswer r t x → IsPreimageAnswer r t y → x ≡ y
 IsPreimageAnswer-unique r t (From p) (From q) h g =
     ap (λ (c : PlacedConfig). From (record { at = c.at; left = c.config.left; middle = c.config.middle; right = c.config.right })) (IsLeastPreimage-unique h.least g.least)

@@ -46,7 +46,7 @@ lesser-node {r} {x = x} {y = y} {u = u} {s = s} h g e l =
 abbrev whole : LocalRule → List ℕ → List ℕ → List ℕ → List ℕ
 whole r x y z = x ++ (drop (r.width - 1) y ++ drop (r.width - 1) z)
 
--- it is the letters of the placed configuration, and then those of the last node
+-- the whole walk is the letters of the placed configuration, and then those of the last node
 whole-letters : {r : LocalRule} {t : TailConfig} {s : Shape} {v w : ℕ} {x y z : List ℕ} → IsRule r → AreLoopWalks r t s v w x y z
     → whole r x y z ≡ letters (placed_of r t s.before x y z) ++ drop (length z - (r.width - 1)) z
 whole-letters {r} {t} {s} {v} {w} {x} {y} {z} rule h =
@@ -134,7 +134,7 @@ shape_cmp-equal s u e =
 AreFirstWalks-walks : {r : LocalRule} {t : TailConfig} {s : Shape} {v w : ℕ} {x y z : List ℕ} → AreFirstWalks r t s v w x y z → AreLoopWalks r t s v w x y z
 AreFirstWalks-walks h = record { back_some = h.back_some; on_some = h.on_some; left = h.left.walk; middle = h.middle.walk; right = h.right.walk }
 
--- their letters come no later than those of any other placed configuration of the shape that maps to t
+-- the letters of first walks come no later than those of any other placed configuration of the shape that maps to t
 first-letters : {r : LocalRule} {t : TailConfig} {s : Shape} {v w : ℕ} {x y z : List ℕ} {q : PlacedConfig} → IsRule r → IsTail r.states t → AreFirstWalks r t s v w x y z → IsShapedPreimage r t s q
     → slice_cmp nat_cmp (letters (placed_of r t s.before x y z)) (letters q) ≢ Greater
 first-letters {r} {t} {s} {x = x} {y = y} {z = z} {q = q} rule ht h other =
@@ -150,7 +150,7 @@ first-letters {r} {t} {s} {x = x} {y = y} {z = z} {q = q} rule ht h other =
     let same : b ≡ letters q = ap₂ (λ (m n : List ℕ). m ++ n ++ before_last r g.z) g.left g.middle ∙ ap (λ n. q.config.left ++ q.config.middle ++ n) g.right in
     subst (λ m. slice_cmp nat_cmp a m ≢ Greater) same (first_not_greater (slice_cmp nat_cmp a b) (slice_cmp nat_cmp i j) (λ e. whole-not_greater rule h g.walks (all ∙ e)))
 
--- so of a shape that is no greater than that of any other walks they are the least preimage
+-- the first walks of a shape that is no greater than that of any other walks are the least preimage
 pub IsFrom-first : {r : LocalRule} {t : TailConfig} {s : Shape} {v w : ℕ} {x y z : List ℕ} → IsRule r → IsTail r.states t → IsSmall s
     → ((u : Shape) (n q : ℕ) (a b c : List ℕ) → AreLoopWalks r t u n q a b c → shape_cmp s u ≢ Greater) → AreFirstWalks r t s v w x y z → IsFrom r t (placed_of r t s.before x y z)
 IsFrom-first {r} {t} {s} {x = x} {y = y} {z = z} rule ht small least h =

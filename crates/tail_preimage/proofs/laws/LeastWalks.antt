@@ -24,7 +24,7 @@ pub record IsLeastBegun (r : LocalRule) (w : List ℕ) (u goal n v : ℕ) (x : L
   pub open_still : Reaches r (drop n w) goal v
   pub least : (s : ℕ) (y : List ℕ) → IsBitSet goal s → IsWalk r w u s y → slice_cmp nat_cmp x (take (n + (r.width - 1)) y) ≢ Greater
 
--- it begins with the letters of the node
+-- before any edge, the first walk into the goal begins with the letters of its first node
 pub IsLeastBegun-start : {r : LocalRule} {w : List ℕ} {u goal : ℕ} {x : List ℕ} → IsRule r → IsWalk r [] u u x → Reaches r w goal u → IsLeastBegun r w u goal 0 u x
 IsLeastBegun-start {r} {w} {u} {x = x} rule walk reach =
     let d : ℕ = r.width - 1 in
@@ -48,7 +48,7 @@ record IsOther (r : LocalRule) (w : List ℕ) (u goal n : ℕ) (y : List ℕ) : 
   spells : label r node letter ≡ get_or w n 0
   on : Reaches r (drop (n + 1) w) goal (next r node letter)
 
--- it is one by its last edge
+-- n edges, one more, and a walk from there into the goal are another walk of the word
 IsOther-edge : {r : LocalRule} {w rest y : List ℕ} {u s node : ℕ} (goal : ℕ) (n : ℕ) → n < length w → IsBitSet goal s → HasLastEdge r (take n w) (get_or w n 0) u node (take (n + 1 + (r.width - 1)) y)
     → IsWalk r (drop (n + 1) w) node s rest → IsOther r w u goal n y
 IsOther-edge {r} {w} {rest} {y} {s = s} goal n inside at edge after =
@@ -93,7 +93,7 @@ push-not_greater {r} {w} {u} {goal} {n} {v} {x} {y} walk b none least o e =
     key_not_greater b c Equal at_most (λ _ e. cc) in
     then_not_greater (slice_cmp nat_cmp x o.before) (slice_cmp nat_cmp (b ∷ []) (c ∷ [])) first last (sym letters ∙ greater)
 
--- it goes on along the edge of the least letter that spells the next one and leads to a node from which the goal is reached
+-- the first walk goes on by the least letter that spells the next one and leads to where the goal is reached
 pub IsLeastBegun-push : {r : LocalRule} {w : List ℕ} {u goal n v : ℕ} {x : List ℕ} → IsRule r → IsLeastBegun r w u goal n v x → n < length w → (b : ℕ) → b < r.states
     → label r v b ≡ get_or w n 0 → Reaches r (drop (n + 1) w) goal (next r v b)
     → ((c : ℕ) → c < b → label r v c ≡ get_or w n 0 → ¬ Reaches r (drop (n + 1) w) goal (next r v c)) → IsLeastBegun r w u goal (n + 1) (next r v b) (x ++ b ∷ [])
@@ -104,7 +104,7 @@ IsLeastBegun-push {r} {w} {u} {goal} {n} {v} {x} rule h inside b letter spells r
       least = λ s y at other. push-not_greater {goal = goal} {y = y} h.walk b none (h.least s y at other) (IsOther-walk {goal = goal} rule n inside at y other);
     }
 
--- at the end of the word it is the first walk
+-- at the end of the word the beginning of the first walk is the first walk
 pub IsLeastBegun-end : {r : LocalRule} {w : List ℕ} {u goal n v : ℕ} {x : List ℕ} → IsRule r → n ≡ length w → IsLeastBegun r w u goal n v x → IsLeastWalkInto r w u goal v x
 IsLeastBegun-end {r} {w} {u} {goal} {n} {v} {x} rule e h =
     let d : ℕ = r.width - 1 in

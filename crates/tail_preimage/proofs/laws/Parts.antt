@@ -25,7 +25,7 @@ IsRelation-below {r} {table = table} h u v l bit =
 pub ArePeriods-end : {r : LocalRule} {periods : Periods} {n u v : ℕ} → ArePeriods r periods → u < node_count r → Steps (HasBit periods.period) n u v → v < node_count r
 ArePeriods-end {r} h node steps = Steps-end (λ a b l bit. IsBitSet-below (node_count r) _ b (h.period a l) bit) node steps
 
--- the relation of n periods has them
+-- the relation of n periods has two nodes exactly where n steps of the period lead from one to the other
 pub ArePeriods-row : {r : LocalRule} {periods : Periods} → ArePeriods r periods → (n : ℕ) → n ≤ 16 → (u v : ℕ) → u < node_count r → HasBit (get_or periods.powers n []) u v ↔ Steps (HasBit periods.period) n u v
 ArePeriods-row h n few u v l = let rel = h.powers n few in ((λ bit. (IsRelation-below rel u v l bit).1), (λ steps. ((rel.rows u l).nodes v (ArePeriods-end h l steps)).1 steps))
 
@@ -116,7 +116,7 @@ walk-PassesThrough {r} {t} {parts} {u} {s} h b a walk =
       (s, (Steps-repeat h.rule h.right a w s w_node).1 third),
     )
 
--- so a stretch is an orphan exactly where its periods lead nowhere
+-- where a stretch is an orphan, its periods and the middle lead nowhere
 pub IsOrphan-PassesThrough : {r : LocalRule} {t : TailConfig} {parts : Parts} → AreTailParts r t parts → (b a : ℕ) → IsOrphan r (stretch t b a) → ¬ PassesThrough r parts b a
 IsOrphan-PassesThrough h b a orphan passes = let walk = PassesThrough-walk h b a passes in IsOrphan-walk orphan walk.2
 

@@ -8,7 +8,7 @@ use Rattle.tail_preimage.specs.FirstWalks.{AreLoopWalks}
 use Rattle.tail_preimage.proofs.laws.Stretches.{length-repeat, repeat-add, stretch_length, stretch_start, cells-lefts, cells-rights, cells-stretch}
 use Rattle.tail_preimage.proofs.laws.Placements.{placed_cells-cells}
 
--- a run of its cells is a preimage of a run of the letters
+-- a run of the cells of a placed configuration is a preimage of a run of the letters
 IsPreimage-placed : {r : LocalRule} {t : TailConfig} {p : PlacedConfig} → IsRule r → MapsTo r p t → (i j : ℤ) (n : ℕ) → i +ℤ r.offset -ℤ p.at ≡ j
     → IsPreimage r (cells t i n) (cells p.config j (n + (r.width - 1)))
 IsPreimage-placed {r} {t} {p} rule h i j n e =
@@ -28,7 +28,7 @@ IsPreimage-placed {r} {t} {p} rule h i j n e =
 abbrev pub node_from : LocalRule → TailConfig → ℤ → ℕ
 node_from r c j = value r.states (cells c j (r.width - 1))
 
--- so it is a walk from node to node
+-- the cells of a configuration that maps to t are a walk of t's cells from node to node
 pub IsWalk-placed : {r : LocalRule} {t : TailConfig} {p : PlacedConfig} → IsRule r → MapsTo r p t → (i j : ℤ) (n : ℕ) → i +ℤ r.offset -ℤ p.at ≡ j
     → IsWalk r (cells t i n) (node_from r p.config j) (node_from r p.config (j +ℤ pos n)) (cells p.config j (n + (r.width - 1)))
 IsWalk-placed {r} {t} {p} rule h i j n e =
@@ -47,7 +47,7 @@ IsPreimage-stretch {r} {t} {p} rule ht h b a =
     let x : List ℕ = cells p.config j (stretch_length t b a + (r.width - 1)) in
     (x, subst (λ w. IsPreimage r w x) (cells-stretch ht b a) (IsPreimage-placed rule h i j (stretch_length t b a) refl))
 
--- so an orphan among the stretches shows that none does
+-- where a stretch is an orphan, no placed configuration maps to the whole configuration
 pub not_MapsTo-orphan : {r : LocalRule} {t : TailConfig} → IsRule r → IsTail r.states t → (b a : ℕ) → IsOrphan r (stretch t b a) → (p : PlacedConfig) → ¬ MapsTo r p t
 not_MapsTo-orphan rule ht b a orphan p h = let found = IsPreimage-stretch rule ht h b a in orphan.none found.0 found.1
 

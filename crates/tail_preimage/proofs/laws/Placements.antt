@@ -13,7 +13,7 @@ use Rattle.tail_preimage.proofs.laws.Stretches.{length-repeat, repeat-add, repea
 pub length-before_last : {r : LocalRule} {w x : List ℕ} {u v : ℕ} → IsWalk r w u v x → length (before_last r x) ≡ length w
 length-before_last {r} {x = x} h = let long = h.preimage.long in length-take-le (length x - (r.width - 1)) x (omega arith) ∙ omega arith
 
--- they are a word
+-- the letters of a walk before its last node are a word
 pub IsWord-before_last : {r : LocalRule} {w x : List ℕ} {u v : ℕ} → IsWalk r w u v x → IsWord r.states (before_last r x)
 IsWord-before_last {r} {x = x} h = All-take (λ a. a < r.states) (length x - (r.width - 1)) x h.preimage.word
 
@@ -29,18 +29,18 @@ join-before_last {r} {w = w} {z = z} {x = x} {y = y} h g =
     ∙ append_assoc (before_last r x) (drop (length x - d) x) (drop d y)
     ∙ ap (λ a. before_last r x ++ a) (ap (λ a. a ++ drop d y) seam ∙ take-append-drop d y)
 
--- so walks are joined
+-- a walk to a node and a walk from it on are joined into one
 pub IsWalk-then : {r : LocalRule} {u v s : ℕ} {w z x y : List ℕ} → IsRule r → IsWalk r w u v x → IsWalk r z v s y → IsWalk r (w ++ z) u s (before_last r x ++ y)
 IsWalk-then {r} {u} {s = s} {w = w} {z = z} rule h g = subst (IsWalk r (w ++ z) u s) (join-before_last h g) (IsWalk-join rule h g)
 
--- a loop, so often, and then a walk
+-- a loop, n times, and then a walk are one walk
 pub IsWalk-round : {r : LocalRule} {v s : ℕ} {w z x y : List ℕ} → IsRule r → IsWalk r w v v x → IsWalk r z v s y → (n : ℕ) → IsWalk r (repeat n w ++ z) v s (repeat n (before_last r x) ++ y)
 IsWalk-round rule h g zero = g
 IsWalk-round {r} {v} {s} {w} {z} {x} {y} rule h g (suc n) =
     subst (IsWalk r (repeat (suc n) w ++ z) v s) (sym (append_assoc (before_last r x) (repeat n (before_last r x)) y))
     (subst (λ a. IsWalk r a v s (before_last r x ++ (repeat n (before_last r x) ++ y))) (sym (append_assoc w (repeat n w) z)) (IsWalk-then rule h (IsWalk-round rule h g n)))
 
--- so many periods more on either side of a stretch are one
+-- b left periods more before a stretch and a right periods more behind it make one stretch
 pub stretch-more : (t : TailConfig) (b p q a : ℕ) → repeat b t.left ++ (stretch t p q ++ repeat a t.right) ≡ stretch t (b + p) (q + a)
 stretch-more t b p q a =
     let m : List ℕ = t.middle in
@@ -58,7 +58,7 @@ rounds t s b a = stretch t (b * s.back + s.before) (s.after + a * s.on)
 abbrev pub spelled : LocalRule → List ℕ → List ℕ → List ℕ → TailConfig
 spelled r x y z = config_of (before_last r x) (before_last r y) (before_last r z)
 
--- the loops, so often, are one walk: its letters are a stretch of the configuration, and then those of the last node
+-- b left loops, the middle and a right loops are one walk: a stretch of the configuration, and the letters of the last node
 pub IsWalk-rounds : {r : LocalRule} {t : TailConfig} {s : Shape} {v w : ℕ} {x y z : List ℕ} → IsRule r → AreLoopWalks r t s v w x y z → (b a : ℕ)
     → IsWalk r (rounds t s b a) v w (stretch (spelled r x y z) b a ++ word_of r.states (r.width - 1) w)
 IsWalk-rounds {r} {t} {s} {v} {w} {x} {y} {z} rule h b a =
@@ -75,7 +75,7 @@ IsWalk-rounds {r} {t} {s} {v} {w} {x} {y} {z} rule h b a =
     let parts : left ++ (m ++ (right ++ end)) ≡ left ++ m ++ right ++ end = sym (append_assoc (left ++ m) right end ∙ append_assoc left m (right ++ end)) in
     subst (λ i. IsWalk r i v w (left ++ m ++ right ++ end)) word (subst (IsWalk r (repeat b (repeat s.back t.left) ++ (stretch t s.before s.after ++ (repeat a (repeat s.on t.right) ++ []))) v w) parts all)
 
--- it is a configuration over the rule's letters
+-- the configuration that three loop walks spell is one over the rule's letters
 pub IsTail-spelled : {r : LocalRule} {t : TailConfig} {s : Shape} {v w : ℕ} {x y z : List ℕ} → IsTail r.states t → AreLoopWalks r t s v w x y z → IsTail r.states (spelled r x y z)
 IsTail-spelled {r} {t} {s} {x = x} {y = y} {z = z} ht h =
     let left : 1 * 1 ≤ s.back * length t.left = mul-le 1 1 s.back (length t.left) h.back_some ht.left_some in
@@ -98,7 +98,7 @@ lefts-rounds : (t : TailConfig) (s : Shape) (n p : ℕ) → p ≡ s.back * lengt
 lefts-rounds t s n p e =
     ap (λ a. n * a + s.before * length t.left) e ∙ ap (λ a. a + s.before * length t.left) (sym (mul_assoc n s.back (length t.left))) ∙ sym (add-mul (n * s.back) s.before (length t.left))
 
--- at least as much
+-- n is no greater than n times a positive number
 le-times : (n p : ℕ) → 1 ≤ p → n ≤ n * p
 le-times n p h = let more : n * 1 ≤ n * p = mul-le-mul_left n h in omega (arith, mul-one n)
 
@@ -168,7 +168,7 @@ spelled-node {r} {t} {w = w} {x = x} {y = y} {z = z} rule ht h b =
     ∙ sym (take-append-le d run (word_of r.states d w) (omega (arith, length-stretch c b d))))
     ∙ (IsWalk-rounds rule h b d).first
 
--- so it is a placed configuration of their shape that maps to t
+-- the placed configuration of three loop walks is one of their shape that maps to t
 pub IsShapedPreimage-placed_of : {r : LocalRule} {t : TailConfig} {s : Shape} {v w : ℕ} {x y z : List ℕ} → IsRule r → IsTail r.states t → AreLoopWalks r t s v w x y z
     → IsShapedPreimage r t s (placed_of r t s.before x y z)
 IsShapedPreimage-placed_of {r} {t} {s} {x = x} {y = y} {z = z} rule ht h =

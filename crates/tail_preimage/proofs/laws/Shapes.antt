@@ -11,7 +11,7 @@ use Rattle.tail_preimage.proofs.laws.Orders.{key_not_greater}
 use Rattle.tail_preimage.proofs.laws.Steps.{Open-rounds}
 use Rattle.tail_preimage.proofs.laws.Parts.{ArePeriods-end, SomeRounds-periods}
 
--- the first number of which it holds is no greater than another
+-- the first number of which something holds is no greater than another
 IsFirst-le : (P : ℕ → Type 0) (n i : ℕ) → IsFirst P n → P i → n ≤ i
 IsFirst-le P n i h holds = ⊎_elim (λ less. absurd (h.none i less holds)) (λ l. l) (cases_lt i n)
 
@@ -23,7 +23,7 @@ IsFirst-same P Q n same h = record { holds = (same n).0 h.holds; none = λ i l h
 pub Through-map : (r : LocalRule) (parts : Parts) (P Q S T : ℕ → Type 0) → ((v : ℕ) → v < node_count r → P v → S v) → ((w : ℕ) → w < node_count r → Q w → T w) → Through r parts P Q → Through r parts S T
 Through-map r parts P Q S T first second (v, w, v_node, w_node, before, middle, behind) = (v, w, v_node, w_node, first v v_node before, middle, second w w_node behind)
 
--- it meets the nodes from which the middle leads into a set
+-- the middle leads from a node of P to one of Q exactly where one of P is a node from which the middle leads into the set of Q
 pub Through-before : {set rears : ℕ} → (r : LocalRule) (parts : Parts) (P Q : ℕ → Type 0) → IsNodeSet r Q set → IsNodeSet r (λ v. (w : ℕ) × HasBit parts.middle v w × IsBitSet set w) rears → Meets r P rears ↔ Through r parts P Q
 Through-before {set = set} r parts P Q h g = (
   (λ (v, node, before, bit).
@@ -63,17 +63,17 @@ pub record AreFirstKeys (r : LocalRule) (parts : Parts) (left right before after
   pub before_first : IsFirst (λ n. Through r parts (Rounds (HasBit parts.left.period) n (left - n)) (SomeRounds (HasBit parts.right.period) right)) before
   pub after_first : IsFirst (λ n. Through r parts (Rounds (HasBit parts.left.period) before (left - before)) (Rounds (HasBit parts.right.period) n (right - n))) after
 
--- rounds are some rounds
+-- n rounds of a sum are some rounds of the sum
 some_rounds : (E : ℕ → ℕ → Type 0) (n on sum v : ℕ) → n + on ≡ sum → 1 ≤ on → Rounds E n on v → SomeRounds E sum v
 some_rounds E n on sum v both some h = (n, on, both, some, h)
 
--- of one side, whose sum is known
+-- rounds of one side, whose sum is known, by their number
 exact_rounds : (E : ℕ → ℕ → Type 0) (n m on sum v : ℕ) → n ≡ m → n + on ≡ sum → Rounds E n on v → Rounds E m (sum - m) v
 exact_rounds E n m on sum v same both h =
     let rest : on ≡ sum - m = omega arith in
     subst (λ k. Rounds E m k v) rest (subst (λ k. Rounds E k on v) same h)
 
--- they are those of the first shape
+-- the first keys of both sides are those of the first shape
 pub IsFirstShape-keys : {r : LocalRule} {t : TailConfig} {parts : Parts} → AreTailParts r t parts → (left right before after : ℕ) → AreFirstKeys r parts left right before after
     → IsFirstShape r parts (record { before = before; back = left - before; after = after; on = right - after })
 IsFirstShape-keys {r} {t} {parts} h left right before after keys =
@@ -111,24 +111,24 @@ IsFirstShape-keys {r} {t} {parts} h left right before after keys =
           nat_cmp-le after u.after (fourth (omega (arith, e)) (omega (arith, f)) g))));
     }
 
--- there is a first key where 16 periods on either side lead through
+-- where 16 periods on either side lead through, there is a first key
 pub left_key : {r : LocalRule} {t : TailConfig} {parts : Parts} → AreTailParts r t parts → PassesThrough r parts 16 16 → (n : ℕ) × (n ≤ 16) × Through r parts (SomeRounds (HasBit parts.left.period) n) (Open (HasBit parts.right.period) 16)
 left_key h (v, w, v_node, w_node, before, row, behind) =
     let (sum, few, rounds) = SomeRounds-periods h.rule h.left v_node before in
     (sum, few, (v, w, v_node, w_node, rounds, row, behind))
 
--- for the first key there is a second
+-- where there is a first key, there is a second one
 pub right_key : {r : LocalRule} {t : TailConfig} {parts : Parts} (P : ℕ → Type 0) → AreTailParts r t parts → Through r parts P (Open (HasBit parts.right.period) 16) → (n : ℕ) × (n ≤ 16) × Through r parts P (SomeRounds (HasBit parts.right.period) n)
 right_key P h (v, w, v_node, w_node, before, row, behind) =
     let (sum, few, rounds) = SomeRounds-periods h.rule h.right w_node behind in
     (sum, few, (v, w, v_node, w_node, before, row, rounds))
 
--- for the second key there is a third
+-- where there is a second key, there is a third one
 pub before_key : (r : LocalRule) (parts : Parts) (Q : ℕ → Type 0) (left : ℕ) → Through r parts (SomeRounds (HasBit parts.left.period) left) Q → (n : ℕ) × (n < left) × Through r parts (Rounds (HasBit parts.left.period) n (left - n)) Q
 before_key r parts Q left (v, w, v_node, w_node, (n, on, both, some, rounds), row, behind) =
     (n, omega (arith, both, some), (v, w, v_node, w_node, exact_rounds (HasBit parts.left.period) n n on left v refl both rounds, row, behind))
 
--- for the third key there is a fourth
+-- where there is a third key, there is a fourth one
 pub after_key : (r : LocalRule) (parts : Parts) (P : ℕ → Type 0) (right : ℕ) → Through r parts P (SomeRounds (HasBit parts.right.period) right) → (n : ℕ) × (n < right) × Through r parts P (Rounds (HasBit parts.right.period) n (right - n))
 after_key r parts P right (v, w, v_node, w_node, before, row, (n, on, both, some, rounds)) =
     (n, omega (arith, both, some), (v, w, v_node, w_node, before, row, exact_rounds (HasBit parts.right.period) n n on right w refl both rounds))

@@ -30,19 +30,19 @@ pub Steps-end : {E : ℕ → ℕ → Type 0} {count n u v : ℕ} → ((a b : ℕ
 Steps-end {n = zero} closed node h = omega (arith, node, Steps-stay h)
 Steps-end {n = suc n} {u = u} closed node h = let (w, step, rest) = Steps-first h in Steps-end {n = n} closed (closed u w node step) rest
 
--- the first of them, and the others
+-- i + j steps are i steps, and j others
 Steps-cut : {E : ℕ → ℕ → Type 0} {u v : ℕ} → (i j : ℕ) → Steps E (i + j) u v → (w : ℕ) × Steps E i u w × Steps E j w v
 Steps-cut {E} {u} {v} i j h =
     let (w, first, second) = Walk-cut (Unlettered E) (replicate i tt) (replicate j tt) u v (subst (λ l. Walk (Unlettered E) u l v) (sym (replicate-append-replicate i j tt)) h.walk) in
     (w, record { walk = first }, record { walk = second })
 
--- the node after some of them
+-- the node after i of n steps
 abbrev after : {E : ℕ → ℕ → Type 0} (n : ℕ) {u v : ℕ} → Steps E n u v → ℕ → ℕ
 after n {u} h zero = u
 after zero {u} h (suc i) = u
 after (suc n) h (suc i) = after n {u = h.walk.0} (record { walk = h.walk.2 }) i
 
--- steps lead from one such node to a later one
+-- steps lead from the node after i of n steps to the node after k of them
 Steps-between : {E : ℕ → ℕ → Type 0} (n : ℕ) {u v : ℕ} (h : Steps E n u v) (i j k : ℕ) → i + j ≡ k → k ≤ n → Steps E j (after n h i) (after n h k)
 Steps-between n h zero zero zero e l = Steps-none refl
 Steps-between zero h i j (suc k) e l = absurd (omega arith)
@@ -52,7 +52,7 @@ Steps-between n h zero zero (suc k) e l = absurd (omega arith)
 Steps-between n h zero (suc j) zero e l = absurd (omega arith)
 Steps-between n h (suc i) j zero e l = absurd (omega arith)
 
--- where 16 steps lead somewhere, so few lead to a node to which others lead back that they are at most 16 in all
+-- where 16 steps lead somewhere, some steps lead to a node to which others lead back, at most 16 in all
 pub SomeRounds-open : {E : ℕ → ℕ → Type 0} {count u : ℕ} → count ≤ 16 → ((a b : ℕ) → a < count → E a b → b < count) → u < count → Open E 16 u → (sum : ℕ) × (sum ≤ 16) × SomeRounds E sum u
 SomeRounds-open {E} {count} {u} few closed node (v, h) =
     let (i, j, less, most, same) = twice_below 16 (after 16 h) (λ k l. let below = Steps-end closed node (Steps-between 16 h 0 k k (omega arith) l) in omega arith) in
@@ -60,14 +60,14 @@ SomeRounds-open {E} {count} {u} few closed node (v, h) =
     let round = Steps-between 16 h i (j - i) j there most in
     (j, most, (i, j - i, there, omega arith, (after 16 h i, Steps-between 16 h 0 i i (omega arith) (omega arith), subst (Steps E (j - i) (after 16 h i)) (sym same) round)))
 
--- round as often as one likes
+-- steps that lead from a node back to it lead round as often as one likes
 Steps-round : {E : ℕ → ℕ → Type 0} {on v : ℕ} → Steps E on v v → (n : ℕ) → Steps E (n * on) v v
 Steps-round {E} {on} {v} h zero = subst (λ m. Steps E m v v) (sym (zero-mul on)) (Steps-none refl)
 Steps-round {E} {on} {v} h (suc n) =
     let all : on + n * on ≡ suc n * on = omega (arith, suc-mul n on) in
     subst (λ m. Steps E m v v) all (Steps-add on (n * on) h (Steps-round h n))
 
--- so any number of steps leads somewhere
+-- where it goes round as often as one likes, any number of steps leads somewhere
 pub Open-rounds : (E : ℕ → ℕ → Type 0) (n on u : ℕ) → 1 ≤ on → Rounds E n on u → (b : ℕ) → Open E b u
 Open-rounds E n on u some (v, to, round) b =
     let many : b * 1 ≤ b * on = mul-le-mul_left b some in

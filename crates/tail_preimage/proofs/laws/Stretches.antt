@@ -4,7 +4,7 @@ use Rattle.word_image.proofs.Common.{repeat, ints, All-nil, All-append, IsWord}
 use Rattle.tail_config.proofs.Common.{TailConfig, IsTail, cell, cells, run-same, run-append, cells-middle, cells-left, cells-right, RepeatsLeft-times, cell-left_period, cell-right_period}
 use Rattle.tail_preimage.specs.Preimages.{stretch}
 
--- so many copies have so many times the letters
+-- n copies of a list have n times its letters
 pub length-repeat : {X : Type 0} (n : ℕ) (x : List X) → length (repeat n x) ≡ n * length x
 length-repeat zero x = sym (zero-mul (length x))
 length-repeat (suc n) x = omega (arith, length-append x (repeat n x), length-repeat n x, suc-mul n (length x))
@@ -39,12 +39,12 @@ repeat-repeat (suc m) n x =
     let next : n + m * n ≡ suc m * n = omega (arith, suc-mul m n) in
     ap (λ y. repeat n x ++ y) (repeat-repeat m n x) ∙ sym (repeat-add n (m * n) x) ∙ ap (λ i. repeat i x) next
 
--- they are a word if one is
+-- copies of a word are a word
 pub IsWord-repeat : {k : ℕ} (x : List ℕ) → IsWord k x → (n : ℕ) → IsWord k (repeat n x)
 IsWord-repeat {k} x h zero = All-nil (λ a. a < k)
 IsWord-repeat {k} x h (suc n) = All-append (λ a. a < k) x (repeat n x) h (IsWord-repeat x h n)
 
--- the letters between so many periods on either side
+-- how many letters b left periods, the middle and a right periods have
 abbrev pub stretch_length : TailConfig → ℕ → ℕ → ℕ
 stretch_length t b a = b * length t.left + length t.middle + a * length t.right
 
@@ -52,7 +52,7 @@ pub length-stretch : (t : TailConfig) (b a : ℕ) → length (stretch t b a) ≡
 length-stretch t b a =
     omega (arith, length-append (repeat b t.left ++ t.middle) (repeat a t.right), length-append (repeat b t.left) t.middle, length-repeat b t.left, length-repeat a t.right)
 
--- they are a word
+-- the letters between b left periods and a right ones are a word
 pub IsWord-stretch : {k : ℕ} {t : TailConfig} → IsTail k t → (b a : ℕ) → IsWord k (stretch t b a)
 IsWord-stretch {k} {t} h b a =
     All-append (λ c. c < k) (repeat b t.left ++ t.middle) (repeat a t.right)
@@ -90,7 +90,7 @@ cells-rights {t = t} h (suc a) =
 abbrev pub stretch_start : TailConfig → ℕ → ℤ
 stretch_start t b = neg_ℤ (pos (b * length t.left))
 
--- so many left periods, the middle and so many right periods are a run
+-- b left periods, the middle and a right periods are a run of the configuration
 pub cells-stretch : {k : ℕ} {t : TailConfig} → IsTail k t → (b a : ℕ) → cells t (stretch_start t b) (stretch_length t b a) ≡ stretch t b a
 cells-stretch {t = t} h b a =
     let left : ℕ = b * length t.left in

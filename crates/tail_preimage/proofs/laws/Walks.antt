@@ -146,11 +146,11 @@ HasWalk-cons {r} rule a w u s l = (
       (_, IsWalk-join rule edge (subst (λ n. IsWalk r w n s y) (sym leads) rest))),
 )
 
--- joined
+-- two walks are joined to a walk of both words
 pub HasWalk-join : {r : LocalRule} {u v s : ℕ} {w z : List ℕ} → IsRule r → HasWalk r w u v → HasWalk r z v s → HasWalk r (w ++ z) u s
 HasWalk-join {r} rule (x, h) (y, g) = (x ++ drop (r.width - 1) y, IsWalk-join rule h g)
 
--- cut
+-- a walk of two words is cut into a walk of each
 pub HasWalk-cut : {r : LocalRule} {u s : ℕ} → IsRule r → (w z : List ℕ) → HasWalk r (w ++ z) u s → (v : ℕ) × HasWalk r w u v × HasWalk r z v s
 HasWalk-cut {r} rule w z (x, h) = let cut = IsWalk-cut rule w z h in (cut.node, (take (length w + (r.width - 1)) x, cut.before), (drop (length w) x, cut.after))
 

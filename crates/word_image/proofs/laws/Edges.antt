@@ -23,7 +23,7 @@ pub record HaveEdges (side : Side) (r : LocalRule) (n : ℕ) (rows : List (List 
   pub wide : (label : ℕ) → label < 16 → length (slice_index_or rows label []) ≡ 16
   pub ends : (label u : ℕ) → label < 16 → u < 16 → IsUnion (node_count r) (IsEdgeAt side r label u) n (ends_at rows label u)
 
--- rows of zeros have none
+-- rows of zeros have no edges
 pub HaveEdges-none : (side : Side) (r : LocalRule) → HaveEdges side r 0 (replicate 16 (replicate 16 0))
 HaveEdges-none side r =
     let row : (label : ℕ) → label < 16 → slice_index_or (replicate 16 (replicate {A = ℕ} 16 0)) label [] ≡ replicate 16 0 = λ label below. get_or-replicate 16 label (replicate {A = ℕ} 16 0) [] below in
@@ -38,7 +38,7 @@ HaveEdges-none side r =
 abbrev pub with_ends : List (List ℕ) → ℕ → ℕ → ℕ → List (List ℕ)
 with_ends rows i j set = slice_set rows i (slice_set (slice_index_or rows i []) j (bit_or (slice_index (slice_index_or rows i []) j) set))
 
--- that place has the nodes more, and each other is as before
+-- rows with a set of nodes more at one place have them more there, and are elsewhere as before
 ends_at-with_ends : {side : Side} {r : LocalRule} {n : ℕ} {rows : List (List ℕ)} → HaveEdges side r n rows → (i j set label u : ℕ) → i < 16 → j < 16
     → ((label ≡ i) × (u ≡ j) × (ends_at (with_ends rows i j set) label u ≡ bit_or (ends_at rows label u) set))
     ⊎ ((¬ ((label ≡ i) × (u ≡ j))) × (ends_at (with_ends rows i j set) label u ≡ ends_at rows label u))
@@ -55,7 +55,7 @@ ends_at-with_ends {rows = rows} h i j set label u in_i in_j =
     (λ differs. inr ((λ both. differs both.0), ap (λ (l : List ℕ). slice_index l u) (get_or-set_other rows i label changed [] differs)))
     (cases_eq label i)
 
--- one edge more
+-- the rows with one edge more
 pub HaveEdges-more : {side : Side} {r : LocalRule} {w a : ℕ} {rows : List (List ℕ)} → IsRule r → w < node_count r → a < r.states → HaveEdges side r (w * r.states + a) rows → (i j set : ℕ)
     → i ≡ label_at side r w a → j ≡ w → set ≡ 2 ^ end_at side r w a → i < 16 → j < 16 → HaveEdges side r (w * r.states + a + 1) (with_ends rows i j set)
 HaveEdges-more {side} {r} {w} {a} {rows} rule node letter h i j set labelled leaves arrives in_i in_j =

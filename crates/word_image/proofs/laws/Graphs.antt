@@ -15,7 +15,7 @@ node_count_pos {r} rule = one-le-pow (r.width - 1) r.states (omega arith)
 pub pair_count_pos : {r : LocalRule} → IsRule r → 0 < pair_count r
 pair_count_pos rule = mul-pos (node_count_pos rule) (node_count_pos rule)
 
--- of which there are at most 256
+-- there are at most 256 pairs of nodes
 pub pair_count-le : {r : LocalRule} → IsRule r → pair_count r ≤ 256
 pair_count-le rule = mul-le-mul rule.shape.most_nodes rule.shape.most_nodes
 
@@ -33,7 +33,7 @@ value-tail k d y h e =
     let long : length y - 1 ≡ d = omega arith in
     value-drop k 1 y h (omega arith) ∙ ap (λ n. value k y % k ^ n) long
 
--- where one more letter leads from a node
+-- where one more letter leads from the last node of a word
 pub value-next : {r : LocalRule} → IsRule r → (n : ℕ) (x : List ℕ) (b : ℕ) → IsWord r.states x → length x ≡ n + (r.width - 1) → b < r.states
     → value r.states (drop (n + 1) (x ++ b ∷ [])) ≡ next r (value r.states (drop n x)) b
 value-next {r} rule n x b h e l =

@@ -33,7 +33,7 @@ nat_cmp-digits a b u v n h g =
     (λ is e. ap after is ∙ nat_cmp-add (a * n) u v ∙ ap (λ c. nat_cmp (a * n + u) (c * n + v)) e)
     (λ is l. ap after is ∙ nat_cmp_is (a * n + u) (b * n + v) Greater (digits-lt b a v u n g l))
 
--- both are equal if both together are
+-- two orderings are both equal if both together are
 pub then_equal : (a b : Ordering) → ordering_then a b ≡ Equal → (a ≡ Equal) × (b ≡ Equal)
 then_equal Equal b e = (refl, e)
 then_equal _ b e = absurd (cc)

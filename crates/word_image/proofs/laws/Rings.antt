@@ -40,7 +40,7 @@ ring_letter-rem p (negsuc i) t j some e =
     let whole : (negsuc i +ℤ pos j) +ℤ pos (turns * length p) ≡ pos (t + j) = omega (arith, ints, suc-mul (i / length p) (length p)) in
     sym (ring_letter-turns p (negsuc i +ℤ pos j) turns some) ∙ ap (ring_letter p) whole
 
--- so the letters from i places after a place on are those from a place of the ring on
+-- the letters of a ring from i places after a place on are those from a place of the ring on
 pub ring_letters-rem : (p : List ℕ) (o : ℤ) (t i n : ℕ) → 0 < length p → int_rem_euclid o (pos (length p)) ≡ pos t
     → ring_letters p (pos i +ℤ o) n ≡ ring_letters p (pos ((t + i) % length p)) n
 ring_letters-rem p o t i n some e = ap (λ f. map f (range_with_len 0 n)) (fun_ext (λ j.

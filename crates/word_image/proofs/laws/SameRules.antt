@@ -12,7 +12,7 @@ rule_from_parts {r} {s} states width offset table =
     let of : ℕ → ℕ → ℤ → List ℕ → LocalRule = λ k m o t. record { states = k; width = m; offset = o; table = t } in
     ap₂ (λ (k m : ℕ). of k m r.offset r.table) states width ∙ ap₂ (λ (o : ℤ) (t : List ℕ). of s.states s.width o t) offset table
 
--- the test of two rules tells it
+-- the test of two rules tells whether they are one
 pub Decides-same_rule : (r s : LocalRule) → Decides (same_rule r s) (r ≡ s)
 Decides-same_rule r s =
     let tables = slice_eq-Decides Decides-eqb r.table s.table (pointwise nat_eq r.table s.table) refl in

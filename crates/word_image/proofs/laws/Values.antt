@@ -17,7 +17,7 @@ value-append k (a ∷ x) y =
     let goal : a * k ^ length (x ++ y) + value k (x ++ y) ≡ (a * k ^ length x + value k x) * k ^ length y + value k y = omega arith in
     goal
 
--- one more letter at the end
+-- the value of a word with one more letter at the end
 pub value-snoc : (k : ℕ) (w : List ℕ) (a : ℕ) → value k (w ++ a ∷ []) ≡ value k w * k + a
 value-snoc k w a =
     let e : value k (w ++ a ∷ []) ≡ value k w * k ^ 1 + (a * k ^ 0 + 0) = value-append k w (a ∷ []) in
@@ -88,11 +88,11 @@ word_of-value k (a ∷ w) h =
     let rest : (a * k ^ length w + value k w) % k ^ length w ≡ value k w = mod-mul-add a (k ^ length w) (value k w) below in
     ap₂ (λ (c : ℕ) (v : ℕ). c ∷ word_of k (length w) v) first rest ∙ ap (λ z. a ∷ z) (word_of-value k w tail)
 
--- the first letters of a word, with one letter more
+-- the value of the first letters of a word, with one letter more
 pub value-take_more : (k : ℕ) (w : List ℕ) (i : ℕ) → i < length w → value k (take (i + 1) w) ≡ value k (take i w) * k + get_or w i 0
 value-take_more k w i h = ap (value k) (take_more w i 0 h) ∙ value-snoc k (take i w) (get_or w i 0)
 
--- its value is below what bounds those of words as long as the whole
+-- the value of the first letters of a word, with one letter more, is below what bounds those of words as long as the whole
 pub value-take-below : (k : ℕ) (w : List ℕ) (i n : ℕ) → IsWord k w → i < length w → k ^ length w ≤ n → value k (take i w) * k + get_or w i 0 < n
 value-take-below k w i n word h fits =
     let letter : get_or w i 0 < k = word i 0 h in
@@ -109,7 +109,7 @@ value-cut k n w h =
     ∙ value-append k (take n w) (drop n w)
     ∙ ap (λ j. value k (take n w) * k ^ j + value k (drop n w)) (length-drop n w)
 
--- the others are fewer
+-- the value of the letters behind the first n is below that of as many letters
 rest_below : (k n : ℕ) (w : List ℕ) → IsWord k w → value k (drop n w) < k ^ (length w - n)
 rest_below k n w word =
     let below : value k (drop n w) < k ^ length (drop n w) = value-below k (drop n w) (All-drop (λ a. a < k) n w word) in
@@ -120,7 +120,7 @@ pub value-take : (k n : ℕ) (w : List ℕ) → IsWord k w → n ≤ length w �
 value-take k n w word h =
     sym (ap (λ v. v / k ^ (length w - n)) (value-cut k n w h) ∙ div-mul-add (value k (take n w)) (k ^ (length w - n)) (value k (drop n w)) (rest_below k n w word))
 
--- the value without them
+-- the value of a word without its first n letters
 pub value-drop : (k n : ℕ) (w : List ℕ) → IsWord k w → n ≤ length w → value k (drop n w) ≡ value k w % k ^ (length w - n)
 value-drop k n w word h =
     sym (ap (λ v. v % k ^ (length w - n)) (value-cut k n w h) ∙ mod-mul-add (value k (take n w)) (k ^ (length w - n)) (value k (drop n w)) (rest_below k n w word))

@@ -8,7 +8,7 @@ use Rattle.word_image.specs.Weights.{AreWeights, own_weights}
 pub own_weights-letter : (k a : ℕ) → a < k → slice_index (own_weights k) a ≡ a
 own_weights-letter k a l = get_or-range_with_len 0 k a 0 l ∙ omega arith
 
--- of at most 256 letters these are weights
+-- own weights are weights of at most 256 letters
 pub AreWeights-own : {k : ℕ} → k ≤ 256 → AreWeights k (own_weights k)
 AreWeights-own {k} few =
     let long : length (own_weights k) ≡ k = length-range_with_len 0 k in

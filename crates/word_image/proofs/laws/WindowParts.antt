@@ -26,14 +26,14 @@ windows-nodes {r} rule =
 abbrev pub rest_count : LocalRule → ℕ
 rest_count r = r.states ^ (r.width - 2)
 
--- a node is a letter and such a word
+-- a node is a letter and a word of m - 2 letters
 pub node_count-rest : {r : LocalRule} → IsRule r → node_count r ≡ rest_count r * r.states
 node_count-rest {r} rule =
     let wide : 2 ≤ r.width = rule.shape.least_width in
     let long : r.width - 1 ≡ suc (r.width - 2) = omega arith in
     ap (λ n. r.states ^ n) long ∙ pow-suc r.states (r.width - 2)
 
--- the window of a letter, such a word and a letter, read from either end
+-- the window of a letter, a word of m - 2 letters and a letter, read from either end
 pub window_parts : {r : LocalRule} → IsRule r → (a s b : ℕ) → a * node_count r + (s * r.states + b) ≡ (a * rest_count r + s) * r.states + b
 window_parts {r} rule a s b =
     let inner : a * node_count r ≡ a * rest_count r * r.states = ap (λ n. a * n) (node_count-rest rule) ∙ sym (mul_assoc a (rest_count r) r.states) in

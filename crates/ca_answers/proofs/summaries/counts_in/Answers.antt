@@ -14,7 +14,7 @@ loop-i-init c = ([], c.no_rules-counts.ensures, refl, sample-begin c.args.k c.ar
 long : (c : After-fill) → length c.loop-i.table ≡ c.args.k ^ c.args.m
 long c = c.loop-i.auto.table ∙ c.requires.long
 
--- its rule is the one that is drawn
+-- the rule of the filled table is the one that is drawn
 drawn_is : (c : After-fill) → table_rule c.args.k c.args.m c.fill.new.letters ≡ drawn_rule c.args.k c.args.m c.loop-i.generator
 drawn_is c = ap (table_rule c.args.k c.args.m) (c.fill.ensures.letters ∙ ap (λ n. map (drawn c.args.k c.loop-i.generator) (range_with_len 0 n)) (long c))
 

@@ -6,7 +6,7 @@ use Rattle.ca_text.proofs.decimals.write_decimal.Goals as goal
 length-decimal_step : (n : ℕ) → 10 ≤ n → n < 2 ^ 32 → (length (decimal n) ≡ length (decimal (n / 10)) + 1) × (0 < length (decimal (n / 10)))
 length-decimal_step n more fits = (ap length (decimal_step n more (omega arith)) ∙ length-append _ _, decimal_nonempty (n / 10) (omega arith))
 
--- its last digit at a place, and the others still to be written
+-- the last digit of a number is written at a place, and the others are still to be written before it
 last_written : (n place : ℕ) (bytes : List ℕ) {new before : List ℕ} → 10 ≤ n → n < 2 ^ 32 → 1 ≤ place → place < length bytes → new ≡ (48 + n % 10) ∷ drop (place + 1) bytes
     → decimal n ++ drop (place + 1) bytes ≡ before → decimal (n / 10) ++ new ≡ before
 last_written n place bytes more fits some within is so =

@@ -13,7 +13,7 @@ signed_decimal-offset_text (negsuc n) = ap (λ m. 45 ∷ decimal m) (sym (add-on
 abbrev after_blanks : List ℤ → List ℕ
 after_blanks zs = flat_map (λ z. codes " " ++ offset_text z) zs
 
--- one number more
+-- numbers with a blank before each, with one number more
 after_blanks-more : (zs : List ℤ) (i : ℕ) → i < length zs → after_blanks (take (i + 1) zs) ≡ after_blanks (take i zs) ++ (codes " " ++ offset_text (get_or zs i (pos 0)))
 after_blanks-more zs i within =
     let z = get_or zs i (pos 0) in

@@ -6,7 +6,7 @@ use Rattle.ca_text.proofs.verdicts.write_others.Goals as goal
 abbrev after_commas : List ℕ → List ℕ
 after_commas ns = flat_map (λ n. codes "," ++ decimal n) ns
 
--- one number more
+-- numbers with a comma before each, with one number more
 after_commas-more : (ns : List ℕ) (i : ℕ) → i < length ns → after_commas (take (i + 1) ns) ≡ after_commas (take i ns) ++ (codes "," ++ decimal (get_or ns i 0))
 after_commas-more ns i within =
     let n = get_or ns i 0 in

@@ -6,7 +6,7 @@ use Rattle.cert_format.specs.WrittenTexts.{array_from, whole_value, members_befo
 use Rattle.cert_format.proofs.laws.WeightMembers.{weights_members-own, weights_members-other}
 use Rattle.cert_format.proofs.writing.certificate_value.Goals as goal
 
--- without own weights
+-- the value of a certificate without own weights
 pub returns-then-is_own-clause-value : goal.returns-then-is_own-clause-value
 returns-then-is_own-clause-value c =
     let cert = c.args.cert.now in

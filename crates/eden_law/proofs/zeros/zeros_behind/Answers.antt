@@ -6,11 +6,11 @@ use Rattle.table_laws.proofs.ZeroPairs.{gives_zeros-block}
 use Rattle.eden_law.proofs.zeros.zeros_behind.Goals.{then-table-first-eq0, else-table-first-eq0}
 use Rattle.eden_law.proofs.zeros.zeros_behind.Goals as goal
 
--- the words that begin with a letter, by their number among these
+-- the words that begin with the letter b, by their number among these: whether both windows have the letter 0
 abbrev words : ℕ → ℕ → List ℕ → ℕ → ℕ → Bool
 words k n table b v = gives_zeros k table (b * n * k + v)
 
--- those of one window more
+-- with the node v more, the words counted more are the letters a with the letter 0 at the window of b and v and at that of v and a
 words-more : (k n : ℕ) (table : List ℕ) (b v : ℕ) → length table ≡ n * k → v < n
     → count_below (words k n table b) ((v + 1) * k) ≡ count_below (words k n table b) (v * k) + count_below (λ a. (slice_index table (b * n + v) == 0) && (slice_index table (v * k + a) == 0)) k
 words-more k n table b v long node =
@@ -30,7 +30,7 @@ words-zero k n table b v long node here =
     let true_here : (slice_index table (b * n + v) == 0) ≡ true = eq-eqb _ 0 here in
     words-more k n table b v long node ∙ ap (λ i. count_below (words k n table b) (v * k) + i) (count_below-agree (λ a. (slice_index table (b * n + v) == 0) && (slice_index table (v * k + a) == 0)) (λ a. slice_index table (v * k + a) == 0) k (λ a l. ap (λ t. t && (slice_index table (v * k + a) == 0)) true_here))
 
--- where it has another there are none
+-- where the window of b and v has another letter than 0, the node v adds no words
 words-other : (k n : ℕ) (table : List ℕ) (b v : ℕ) → length table ≡ n * k → v < n → ¬ (slice_index table (b * n + v) ≡ 0)
     → count_below (words k n table b) ((v + 1) * k) ≡ count_below (words k n table b) (v * k)
 words-other k n table b v long node other =

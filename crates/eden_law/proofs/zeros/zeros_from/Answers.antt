@@ -3,7 +3,7 @@ use Rattle.word_image.proofs.Common.{from_bool}
 use Rattle.table_laws.proofs.Counts.{count_below-none, count_below-more}
 use Rattle.eden_law.proofs.zeros.zeros_from.Goals as goal
 
--- it is 0 or 1
+-- a truth value as a number is 0 or 1
 small : (b : Bool) → from_bool b ≤ 1
 small true = omega arith
 small false = omega arith

@@ -3,7 +3,7 @@ use Rattle.word_image.proofs.Common.{ints, LocalRule, node_count, node_count_pos
 use Rattle.ring_laws.proofs.FluxWindows.{window_gain, walk_sum, walk_gain-sum}
 use Rattle.flux_conserve.proofs.flows.walk_flow.Goals as goal
 
--- one window more of a walk
+-- the sum of a walk with one window more
 walk_sum-next : (weight : ℕ → ℕ) (r : LocalRule) (u n : ℕ) → n < r.width
     → walk_sum weight r u (r.width - n) ≡ window_gain weight r (u * r.states) +ℤ walk_sum weight r (u * r.states % node_count r) (r.width - (n + 1))
 walk_sum-next weight r u n l = let e : r.width - n ≡ suc (r.width - (n + 1)) = omega arith in ap (walk_sum weight r u) e

@@ -8,7 +8,7 @@ use Rattle.image_minimal.proofs.laws.Separations.{HaveSameOrphans-closed, Separa
 use Rattle.image_minimal.proofs.LinkSearches.{IsLinkSearch-start}
 use Rattle.image_minimal.proofs.separation.search.Goals as goal
 
--- how many sets there are under a rule of so many nodes
+-- how many sets there are under a rule of n nodes
 shifted : {r : LocalRule} (n : ℕ) → IsRule r → n ≡ node_count r → 1 * 2 ^ n % 4294967296 ≡ 2 ^ node_count r
 shifted {r} n rule is = one_shl n 32 (omega (arith, rule.shape.most_nodes)) ∙ ap (λ m. 2 ^ m) is
 

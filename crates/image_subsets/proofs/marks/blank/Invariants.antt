@@ -2,7 +2,7 @@ use Rattle.std.proofs.Common.{◌≡◌, ◌≤◌, length, replicate, vec_capac
 use Rattle.image_subsets.specs.declared.rows.TheConstants.{MOST_ROWS}
 use Rattle.image_subsets.proofs.marks.blank.Given as goal
 
--- so many rows are made
+-- the rows made so far are as many as the rounds, and all 0
 abbrev pub invariant-loop-row : goal.invariant-loop-row
 invariant-loop-row l = record {
   room : MOST_ROWS ≤ vec_capacity l.rows;

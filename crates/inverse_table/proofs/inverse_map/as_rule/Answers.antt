@@ -13,14 +13,14 @@ passed {g} {o} h offset =
     let fits : FitsSigned w32 o = omega (arith, ints, h.least_offset, h.most_offset) in
     to_z-of_z w32 o fits ∙ offset
 
--- so the shape that is asked for is the rule's
+-- the shape that is asked for is that of the map's rule
 asked : {g : WindowMap} {k m : ℕ} {o : ℤ} → IsWindowMap g → k ≡ g.states → m ≡ (map_rule g).width → o ≡ g.offset
     → shape_fault k m (to_z w8 (of_z w8 (to_z w32 (of_z w32 o)))) ≡ shape_fault g.states (map_rule g).width g.offset
 asked {g} h states width offset =
     let fits : FitsSigned w8 g.offset = omega (arith, ints, h.least_offset, h.most_offset) in
     rw (states, width, passed h offset, to_z-of_z w8 g.offset fits) refl
 
--- where it has no fault, it is a rule
+-- where the shape that is asked for has no fault, the rule of the map is a rule
 accepted : {g : WindowMap} {k m : ℕ} {o : ℤ} → IsWindowMap g → k ≡ g.states → m ≡ (map_rule g).width → o ≡ g.offset
     → None ≡ shape_fault k m (to_z w8 (of_z w8 (to_z w32 (of_z w32 o)))) → IsRule (map_rule g)
 accepted h states width offset none = IsRule-map_rule h (IsShape-shape_fault _ _ _ (sym (asked h states width offset) ∙ sym none))

@@ -35,7 +35,7 @@ pow-requires-in-loop-i c =
 head_is : (c : After-pow) → c.pow.result ≡ c.args.rule.now.states ^ (c.args.rule.now.width + (c.args.range - 1 - c.loop-i.i))
 head_is c = c.pow.ensures ∙ ap₂ (λ (x y : ℕ). x ^ y) (c.from-k.ensures ∙ c.k.ensures.states) (c.from.ensures ∙ ap (λ n. n + (c.args.range - 1 - c.loop-i.i)) c.m.ensures.width)
 
--- the less one
+-- the less of two powers, as it is computed
 tail_is : (c : After-pow-in-loop-i) → c.pow-in-loop-i.result ≡ c.args.rule.now.states ^ (c.args.range - 1 - c.loop-i.i)
 tail_is c = c.pow-in-loop-i.ensures ∙ ap₂ (λ (x y : ℕ). x ^ y) (c.from-k.ensures ∙ c.k.ensures.states) c.from-in-loop-i.ensures
 

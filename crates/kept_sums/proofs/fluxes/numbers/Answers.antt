@@ -15,7 +15,7 @@ record Sizes (c : After-from-in-loop-word-2) : Type 0 where
   first : unsigned_abs (at c.loop-word.flux c.from-in-loop-word.result) ≤ 2 ^ 60
   last : unsigned_abs (at c.args.gains.now c.from-in-loop-word-2.result) ≤ 2 ^ 60
 
--- both are small
+-- both numbers are small
 sizes : (c : After-from-in-loop-word-2) → Sizes c
 sizes c =
     let k = c.args.k in

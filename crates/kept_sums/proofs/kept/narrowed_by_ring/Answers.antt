@@ -27,7 +27,7 @@ blocks-after-requires-clause-ring c =
     let ring : IsRing r.states p = subst (IsRing r.states) (sym (ring_is _ _ c.args.letters.now c.from.ensures)) c.requires.ring in
     subst₂ (λ (k : ℕ) (x : List ℕ). IsRing k x) (sym c.k-2.ensures.states) (sym c.image_letters-image.ensures) (IsRing-ring_image c.k.ensures.rule ring)
 
--- what the words are
+-- what the two words of a cut ring are
 record Words (r : LocalRule) (range : ℕ) (p after before : List ℕ) : Type 0 where
   ring : IsRing r.states p
   rule : IsRule r

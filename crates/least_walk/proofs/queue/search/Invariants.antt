@@ -3,7 +3,7 @@ use Rattle.least_walk.specs.declared.queue.Reached.{Reached}
 use Rattle.least_walk.specs.Queues.{IsWalkSearch, step_count}
 use Rattle.least_walk.proofs.queue.search.Given as goal
 
--- the steps from the places before the head, which are less than so many steps away, have been followed
+-- the steps from the places before the head, which are less than `most` steps away, have been followed
 abbrev pub invariant-loop-head : goal.invariant-loop-head
 invariant-loop-head l = record {
   room : 512 ≤ vec_capacity l.queue;

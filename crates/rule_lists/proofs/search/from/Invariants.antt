@@ -5,7 +5,7 @@ use Rattle.rule_lists.specs.Listed.{IsListed}
 use Rattle.rule_lists.proofs.laws.Going.{to_come}
 use Rattle.rule_lists.proofs.search.from.Given as goal
 
--- those rules are still to come that were at the beginning
+-- the rules still to come are those that were to come at the beginning
 abbrev pub invariant-loop-next : goal.invariant-loop-next
 invariant-loop-next l = record {
   table : IsTable l.shape.states (l.shape.states ^ l.shape.width) l.entries;

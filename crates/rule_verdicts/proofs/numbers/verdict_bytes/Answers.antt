@@ -15,11 +15,11 @@ none c =
     let reading = subst (IsReading (by_number c.args.k c.args.m (pos 0) c.in-Some.last)) c.in_ok-numbered.was c.numbered.ensures in
     subst (λ n. option_or (option_map (in_text 0) (shape_fault c.args.k c.args.m (pos 0))) (number_fault c.args.k c.args.m n) ≡ None) last reading.0
 
--- so each does
+-- each number from the first on that has a byte is one of a rule
 room : (c : After-copy_from_slice) → c.args.first + length c.args.bytes.now ≤ c.args.k ^ (c.args.k ^ c.args.m)
 room c = numbers_fault-room c.args.k c.args.m c.args.first (length c.args.bytes.now) c.requires (none c)
 
--- the rule of the first one
+-- the rule of the first number
 first_rule : (c : After-copy_from_slice) → c.in_ok-rule.rule ≡ numbered_rule c.args.k c.args.m c.args.first
 first_rule c = let reading = subst (IsReading (by_number c.args.k c.args.m (pos 0) c.args.first)) c.in_ok-rule.was c.numbered-2.ensures in reading.1
 

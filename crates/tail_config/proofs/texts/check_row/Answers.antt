@@ -8,7 +8,7 @@ prefix_len-map : (p : ℕ → Bool) (f : ℕ → ℕ) (xs : List ℕ) → prefix
 prefix_len-map p f [] = refl
 prefix_len-map p f (x ∷ xs) = ap (λ n. cond (p (f x)) (1 + n) 0) (prefix_len-map p f xs)
 
--- so the first value that passes stands where the first number does whose value passes
+-- the first value that passes stands where the first number does whose value passes
 position-map : (p : ℕ → Bool) (f : ℕ → ℕ) (xs : List ℕ) → position p (map f xs) ≡ position (λ x. p (f x)) xs
 position-map p f xs = rw (prefix_len-map (λ x. not (p x)) f xs, length-map xs f)
 

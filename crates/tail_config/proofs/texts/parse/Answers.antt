@@ -13,7 +13,7 @@ use Rattle.tail_config.proofs.texts.parse.Goals as goal
 form_fault : {k : ℕ} {text : List ℕ} {f : TailTextFault} → IsFormAt f (IsFormFault HasForm text) → IsTailTextFault k text f
 form_fault {k} {text} h = subst (IsTailTextFault k text) (sym h.1) (NoForm h.0 h.2)
 
--- so the answer is right
+-- the answer to a text that isn't in the grammar is right
 at_form : (c : goal.After-from_residual) → IsTailTextAnswer c.args.k c.args.text.now c.from_residual.result
 at_form c =
     let p = err_from_is_err_and c.from_residual.result c.from_residual.ensures.1 in

@@ -10,7 +10,7 @@ use Rattle.closing_test.proofs.walks.Walks.earlier.Goals as goal
 reach : {r : LocalRule} {t : ℕ} {w : List (ℕ × ℕ)} (s : WalkSource) → s ≡ record { rule = r; start = 0; most = 512 } → IsLeastWalkTo (marked s.rule) s.rule.states s.start t w → IsLeastWalkTo (marked r) r.states 0 t w
 reach {t = t} {w} s same h = subst (λ (z : WalkSource). IsLeastWalkTo (marked z.rule) z.rule.states z.start t w) same h
 
--- walks of fewer steps don't lead there
+-- walks of fewer steps don't lead to the state
 no_shorter : {r : LocalRule} {t n : ℕ} (s : WalkSource) → s ≡ record { rule = r; start = 0; most = 512 } → (w : List (ℕ × ℕ)) × IsLeastWalkTo (marked s.rule) s.rule.states s.start t w × (length w ≡ n)
     → (v : List (ℕ × ℕ)) → PairWalk (marked r) r.states 0 v t → n ≤ length v
 no_shorter s same (w, first, long) v walk = omega (arith, length-reach (reach s same first) walk, long)

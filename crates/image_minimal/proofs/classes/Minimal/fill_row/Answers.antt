@@ -40,7 +40,7 @@ bounds-rows-first c =
     let inside = entry_inside c.args.i a.states a.classes c.loop-letter.letter (c.requires.class a least) below in
     omega (arith, ap (λ n. c.args.i * n) states, inside, least.long, c.requires.room a least, c.loop-letter.auto.rows)
 
--- one entry more
+-- one entry more of a row is filled in
 entry_more : (old now xs : List ℕ) (at n class : ℕ) → take (at + n) now ≡ take at old ++ take n (drop at xs) → at + n < length now → at + n < length xs → class ≡ slice_index xs (at + n)
     → take (at + (n + 1)) (set now (at + n) class) ≡ take at old ++ take (n + 1) (drop at xs)
 entry_more old now xs at n class so_far room within is =

@@ -3,7 +3,7 @@ use Rattle.word_image.proofs.Common.{none-some}
 use Rattle.image_subsets.specs.FamilyTrees.{IsTree}
 use Rattle.image_subsets.proofs.family.Family.new.Goals as goal
 
--- no set at all
+-- no set at all is a tree
 IsTree-none : IsTree (record { sets = []; parents = [] })
 IsTree-none = record { most = omega arith; one_each = refl; earlier = λ i way at. absurd (none-some way at) }
 

@@ -3,7 +3,7 @@ use Rattle.word_image.proofs.Common.{slice_get-get_or}
 use Rattle.image_subsets.specs.FamilyTrees.{FamilyTree, IsTree}
 use Rattle.image_subsets.proofs.family.Family.parent.Goals as goal
 
--- what the index reads
+-- the way that the index reads stands in the tree
 read : (tree now : FamilyTree) (i : ℕ) (way : Option (ℕ × ℕ)) → tree ≡ now → IsTree tree → i < length now.sets → way ≡ get_or tree.parents i way → slice_get tree.parents i ≡ Some way
 read tree now i way same h within at =
     let inside : i < length tree.parents = omega (arith, h.one_each, ap (λ t. length t.sets) same, within) in

@@ -5,7 +5,7 @@ use Rattle.image_subsets.specs.Masks.{AreMembers}
 use Rattle.image_subsets.proofs.MaskLists.{AreMembers-push, few_before_new}
 use Rattle.image_subsets.proofs.masks.Masks.insert.Goals as goal
 
--- the set isn't there
+-- a set that isn't marked isn't in the list
 absent : (sets rows now : List ℕ) (set : ℕ) (marked : Bool) → AreMembers sets rows → set < 65536 → now ≡ rows → (IsTrue marked ↔ IsSetMarked now set) → marked ≡ false → ¬ Contains sets set
 absent sets rows now set marked h small same exactly missing has =
     true≢false (sym (exactly.1 (subst (λ l. IsSetMarked l set) (sym same) ((h.marked set small).1 has))) ∙ missing)

@@ -24,7 +24,7 @@ made c = record {
   backward = c.in_ok-backward.backward;
 }
 
--- it is what is written for the rule
+-- the certificate that is made has the parts that are written for the rule
 HasWrittenParts-made : (c : goal.In_ok-surjective_part) → HasWrittenParts c.args.version c.self.inside.rule c.self.inside.weights (made c)
 HasWrittenParts-made c =
     let part = surjective_of c.in_ok-surjective_part.field-0 in

@@ -8,7 +8,7 @@ bit : (b : Bool) (n : ℕ) → n ≡ from_bool b → (n == 1) ≡ b
 bit true n e = ap (λ i. i == 1) e
 bit false n e = ap (λ i. i == 1) e
 
--- it is 0 or 1
+-- a truth value as a number is 0 or 1
 small : (b : Bool) → from_bool b ≤ 1
 small true = omega arith
 small false = omega arith
@@ -24,7 +24,7 @@ record Bits (n s i r l b c : ℕ) : Type 0 where
 bits : (n s i r l b c : ℕ) → s ≤ 1 → i ≤ 1 → r ≤ 1 → l ≤ 1 → b ≤ 1 → c ≤ 1 → n ≡ s + 2 * i + 4 * r + 8 * l + 16 * b + 32 * c → Bits n s i r l b c
 bits n s i r l b c hs hi hr hl hb hc e = record { zeroth = omega arith; first = omega arith; second = omega arith; third = omega arith; fifth = omega arith }
 
--- from its fields
+-- the truths are made of their fields
 whole : (t : Truths) (s i r l c : Bool) → s ≡ t.surjective → i ≡ t.injective → r ≡ t.right → l ≡ t.left → c ≡ t.conserving
     → record { surjective = s; injective = i; right = r; left = l; conserving = c } ≡ t
 whole t s i r l c es ei er el ec =

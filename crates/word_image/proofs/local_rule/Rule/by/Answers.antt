@@ -18,15 +18,15 @@ record IsMade (k m : ℕ) (o : ℤ) (entries : List ℕ) (r : LocalRule) : Type 
 windows : {k m : ℕ} {o : ℤ} {gives : ℕ → ℕ → Type 0} {r : LocalRule} → IsRuleBy k m o gives r → k ^ m ≡ length r.table
 windows by = ap₂ (λ (a b : ℕ). a ^ b) (sym by.states) (sym by.width) ∙ sym by.rule.entries
 
--- are few
+-- a rule has at most 256 windows
 few : {k m : ℕ} {o : ℤ} {gives : ℕ → ℕ → Type 0} {r : LocalRule} → IsRuleBy k m o gives r → k ^ m ≤ 256
 few {k} {m} {o} {gives} {r} by = omega (arith, windows by, by.rule.entries, window_count-le r.states r.width r.offset by.rule.shape)
 
--- their shape is accepted
+-- the shape of a rule that is made is accepted
 shape_of : {k m : ℕ} {o : ℤ} {gives : ℕ → ℕ → Type 0} {r : LocalRule} → IsRuleBy k m o gives r → IsShape k m o
 shape_of {o = o} {r = r} by = subst₂ (λ (k m : ℕ). IsShape k m o) by.states by.width (subst (IsShape r.states r.width) by.offset by.rule.shape)
 
--- it is made where all its entries are there
+-- a rule is made of its entries where all of them are there
 made : {k m : ℕ} {o : ℤ} {gives : ℕ → ℕ → Type 0} {r : LocalRule} → IsRuleBy k m o gives r → FitsSigned w8 o → (n : ℕ) (entries : List ℕ) → n ≡ k ^ m
     → entries ≡ padded (map (slice_index r.table) (range_with_len 0 n)) → IsMade k m o entries r
 made {k} {m} {o} {gives} {r} by fits n entries all filled =

@@ -11,7 +11,7 @@ use Rattle.word_image.proofs.local_rule.Rule.new.Goals as goal
 passed : (k m : ℕ) (o : ℤ) → FitsSigned w8 o → shape_fault k m (to_z w8 (of_z w8 o)) ≡ shape_fault k m o
 passed k m o fits = ap (shape_fault k m) (to_z-of_z w8 o fits)
 
--- so the shape is accepted where it has none
+-- a shape whose offset was passed on is accepted where it has no fault
 accepted_shape : (k m : ℕ) (o : ℤ) → FitsSigned w8 o → None ≡ shape_fault k m (to_z w8 (of_z w8 o)) → IsShape k m o
 accepted_shape k m o fits none = IsShape-shape_fault k m o (sym (passed k m o fits) ∙ sym none)
 

@@ -15,7 +15,7 @@ loop-letter-preserved c =
     let a = c.loop-letter.letter in
     rw c.from.ensures (ap (λ row. set row a a) c.loop-letter.invariant ∙ own_weights-more a (omega arith))
 
--- in the end those of all letters
+-- in the end the own weights of all letters stand
 all_letters : (k n : ℕ) (numbers : List ℕ) → n ≡ k → numbers ≡ in_row 16 (own_weights n)
     → (take k numbers ≡ own_weights k) × (drop k numbers ≡ replicate (16 - k) 0)
 all_letters k n numbers all same =
