@@ -1,6 +1,6 @@
 -- A question has one right finding, and where nothing fits it, one cause.
 use Rattle.std.proofs.Common.{◌≡◌, refl, sym, ap, ap₂, ◌∙◌, Option, Some}
-use Rattle.word_image.proofs.Common.{same_Some}
+use Rattle.cert_format.proofs.Common.{one_some}
 use Rattle.tail_laws.proofs.Common.{IsInjective-determined}
 use Rattle.tail_preimage.proofs.laws.LeastPreimages.{IsLeastPreimage-unique}
 use Rattle.image_minimal.proofs.laws.ClassLists.{IsLeastAutomaton-unique}
@@ -42,24 +42,20 @@ IsFinding-unique rules (IsFinding.Summary _ t counts) (IsFinding.Summary _ u als
 IsFinding-unique rules (IsFinding.Classes _ leasts t counts least) (IsFinding.Classes _ others u also other) =
     ap₂ Finding.Classes (AreCounts-unique counts also) (length-AreLeastRules rules least other)
 
--- of two faults that are found both are one
-one_fault : {F : Type 0} {fault : Option F} (f g : F) → fault ≡ Some f → fault ≡ Some g → f ≡ g
-one_fault f g here there = same_Some f g (sym here ∙ there)
-
 -- a question of accepted rules that nothing fits has one cause
 pub IsUnfitFor-unique : {q : Question} {u v : Unfit} → AreRules q → IsUnfitFor q u → IsUnfitFor q v → u ≡ v
 IsUnfitFor-unique rule (IsUnfitFor.Report r weights other) (IsUnfitFor.Report _ _ _) = refl
 IsUnfitFor-unique rule (IsUnfitFor.Written v r weights other) (IsUnfitFor.Written _ _ _ _) = refl
-IsUnfitFor-unique rule (IsUnfitFor.Shift r by f unfits) (IsUnfitFor.Shift _ _ g also) = ap Unfit.Algebra (one_fault f g unfits also)
-IsUnfitFor-unique rule (IsUnfitFor.Widen r width f unfits) (IsUnfitFor.Widen _ _ g also) = ap Unfit.Algebra (one_fault f g unfits also)
+IsUnfitFor-unique rule (IsUnfitFor.Shift r by f unfits) (IsUnfitFor.Shift _ _ g also) = ap Unfit.Algebra (one_some unfits also)
+IsUnfitFor-unique rule (IsUnfitFor.Widen r width f unfits) (IsUnfitFor.Widen _ _ g also) = ap Unfit.Algebra (one_some unfits also)
 IsUnfitFor-unique rule (IsUnfitFor.Permute r letters unfits) (IsUnfitFor.Permute _ _ _) = refl
-IsUnfitFor-unique rules (IsUnfitFor.Compose r s f unfits) (IsUnfitFor.Compose _ _ g also) = ap Unfit.Algebra (one_fault f g unfits also)
+IsUnfitFor-unique rules (IsUnfitFor.Compose r s f unfits) (IsUnfitFor.Compose _ _ g also) = ap Unfit.Algebra (one_some unfits also)
 IsUnfitFor-unique rule (IsUnfitFor.Least r many) (IsUnfitFor.Least _ _) = refl
-IsUnfitFor-unique rule (IsUnfitFor.Lift r f unfits) (IsUnfitFor.Lift _ g also) = ap Unfit.Lift (one_fault f g unfits also)
-IsUnfitFor-unique rule (IsUnfitFor.Unlift r f unfits) (IsUnfitFor.Unlift _ g also) = ap Unfit.Lift (one_fault f g unfits also)
+IsUnfitFor-unique rule (IsUnfitFor.Lift r f unfits) (IsUnfitFor.Lift _ g also) = ap Unfit.Lift (one_some unfits also)
+IsUnfitFor-unique rule (IsUnfitFor.Unlift r f unfits) (IsUnfitFor.Unlift _ g also) = ap Unfit.Lift (one_some unfits also)
 IsUnfitFor-unique rule (IsUnfitFor.Twins r x y none twins) (IsUnfitFor.Twins _ u v _ also) = let (first, second) = IsLeastTwins-unique twins also in ap₂ Unfit.Twins first second
 IsUnfitFor-unique rule (IsUnfitFor.Twins r x y none twins) (IsUnfitFor.Wide _ n c least wide) = absurd (none (IsInjective-determined rule least.determined))
 IsUnfitFor-unique rule (IsUnfitFor.Wide r n c least wide) (IsUnfitFor.Twins _ x y none twins) = absurd (none (IsInjective-determined rule least.determined))
 IsUnfitFor-unique rule (IsUnfitFor.Wide r n c least wide) (IsUnfitFor.Wide _ m d also _) = ap Unfit.Wide (IsLeastDetermined-unique least also).0
-IsUnfitFor-unique rule (IsUnfitFor.Tail r t f unfits) (IsUnfitFor.Tail _ _ g also) = ap Unfit.Tail (one_fault f g unfits also)
+IsUnfitFor-unique rule (IsUnfitFor.Tail r t f unfits) (IsUnfitFor.Tail _ _ g also) = ap Unfit.Tail (one_some unfits also)
 IsUnfitFor-unique rules (IsUnfitFor.States r s differ) (IsUnfitFor.States _ _ _) = refl

@@ -1,4 +1,4 @@
--- The names that proofs cite from here, passed on from one place. Declares nothing.
+-- The definitions and lemmas that the proofs of crates above cite, passed on from one place. Declares nothing.
 pub use Rattle.ca_findings.specs.Counts.{AreCounts, AreLeastRules, AreMany, Counts, IsLeastOfItsClass}
 pub use Rattle.ca_findings.specs.Counts.AreMany.{None, One, Other}
 pub use Rattle.ca_findings.specs.Findings.{AreFor, Finding, IsErasedFound, IsFinding, IsInverseFound, IsMapRule, IsSameFound, IsUnfitFor, Unfit, weight_by, weights_by}

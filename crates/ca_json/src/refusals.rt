@@ -2,7 +2,6 @@
 ghost use Rattle.std.specs.Prelude.{◌≡◌, [], IfOk};
 ghost use Rattle.serde_json.specs.View.{view};
 ghost use Rattle.ca_json.specs.Causes as causes;
-ghost use Rattle.ca_json.specs.Values.{numbers_json};
 
 use crate::causes::{fault_name, fault_place};
 use cert_conditions::{Refusal, SplitCause, key_name, side_name, split_name, twin_name};

@@ -3,8 +3,6 @@ ghost use Rattle.std.specs.Prelude.{◌≡◌, IfOk};
 ghost use Rattle.ca_findings.specs.Values.{unfit_of};
 ghost use Rattle.ca_text.specs.StatusLines.{operand_fault_line, unfit_line};
 ghost use Rattle.ca_text.specs.Texts.{tail_text, unfit_text};
-ghost use Rattle.rule_algebra.specs.FaultTexts.{algebra_text};
-ghost use Rattle.rule_classes.specs.FaultTexts.{lift_text};
 ghost use Rattle.ca_findings.specs.Writable.{IsWritableUnfit};
 
 use crate::output::Output;

@@ -1,4 +1,4 @@
--- The names that proofs cite from here, passed on from one place. Declares nothing.
+-- The definitions and lemmas that the proofs of crates above cite, passed on from one place. Declares nothing.
 pub use Rattle.cert_conditions.specs.Accepted.{AreTrue, IsAccepted, verdicts_of}
 pub use Rattle.cert_conditions.specs.Breaches.{EachBelow, IsFirstBreach}
 pub use Rattle.cert_conditions.specs.Claims.{Falls, IsAheadPair, IsBelow, IsWindowPair, claim}

@@ -1,4 +1,4 @@
--- The names that proofs cite from here, passed on from one place. Declares nothing.
+-- The definitions and lemmas that the proofs of crates above cite, passed on from one place. Declares nothing.
 pub use Rattle.cert_format.specs.CertificateTexts.{IsCertificateText}
 pub use Rattle.cert_format.specs.Certificates.{Certificate, IsClaim, IsInjectiveShape, IsNear, IsRankShape, IsSideShape, IsSumShape, IsSurjectiveShape}
 pub use Rattle.cert_format.specs.Evidence.{InjectiveEvidence, SideEvidence, SumEvidence, SurjectiveEvidence}
@@ -9,4 +9,6 @@ pub use Rattle.cert_format.specs.Evidence.SurjectiveEvidence.{Orphan, Pairs, Set
 pub use Rattle.cert_format.specs.Parts.{IsOver, IsShaped, injective_of, side_of, sum_of, surjective_of}
 pub use Rattle.cert_format.specs.Versions.{lists_pairs, names_weights, number_of}
 pub use Rattle.cert_format.specs.WrittenTexts.{array_from, certificate_text, certificate_value, claim_value, injective_value, members_before, only, ranks_value, side_value, signed_value, sum_value, surjective_value, tail_value, weights_members, whole_value, word_value}
+pub use Rattle.cert_format.proofs.laws.Objects.{put_same}
+pub use Rattle.cert_format.proofs.laws.Uniqueness.{one_some}
 pub use Rattle.cert_format.proofs.laws.WeightMembers.{IsWeightShape-has, weights_members-cases}

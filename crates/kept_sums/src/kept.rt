@@ -1,6 +1,5 @@
 //! Which sums a rule keeps.
 ghost use Rattle.std.specs.Prelude.{◌≡◌, ◌≢◌, ℕ, ◌+◌, ◌-◌, ◌*◌, ◌^◌, ◌<◌, ◌≤◌, ◌⊎◌, List, length, take, set, All, true, pos};
-ghost use Rattle.word_image.specs.LocalRules.{IsRule};
 ghost use Rattle.word_image.specs.Rings.{IsRing};
 ghost use Rattle.kept_sums.specs.Rows.{IsUnit};
 ghost use Rattle.kept_sums.specs.Sums.{IsKept};

@@ -1,4 +1,4 @@
--- The names that proofs cite from here, passed on from one place. Declares nothing.
+-- The definitions and lemmas that the proofs of crates above cite, passed on from one place. Declares nothing.
 pub use Rattle.pair_laws.specs.FirstWindows.{HasEndlessFirst, end_pair, with_end}
 pub use Rattle.pair_laws.proofs.BackSteps.{LeadsBack-follow, LeadsOn-follows, end_at-below, follow_on-edges}
 pub use Rattle.pair_laws.proofs.BothWays.{IsDetermined-none_both_ways, IsDetermined-not_both_ways, ahead_pairs, no_ahead, some_ahead}

@@ -1,4 +1,4 @@
--- The names that proofs cite from here, passed on from one place. Declares nothing.
+-- The definitions and lemmas that the proofs of crates above cite, passed on from one place. Declares nothing.
 pub use Rattle.search_laws.specs.PairWalks.{ArePairs, IsLeastWalk, IsLeastWalkTo, LetterPairStep, PairWalk, uncode}
 pub use Rattle.search_laws.specs.SearchQueues.{IsFilled, IsQueue, IsSearch, NoEdgeBefore, Place, TreeSpells, filled}
 pub use Rattle.search_laws.specs.SearchQueues.TreeSpells.{Branch, Root}

@@ -1,4 +1,4 @@
--- The names that proofs cite from here, passed on from one place. Declares nothing.
+-- The definitions and lemmas that the proofs of crates above cite, passed on from one place. Declares nothing.
 pub use Rattle.tail_config.specs.Configs.{AgreeFarLeft, AgreeFarRight, AgreeWithin, Config, IsConfig, image_of, run, zeros}
 pub use Rattle.tail_config.specs.Differences.{IsNearestDifference, most_middle}
 pub use Rattle.tail_config.specs.InverseMaps.{IsInverseMap, WindowMap, map_letter, mapped}

@@ -1,4 +1,4 @@
--- The names that proofs cite from here, passed on from one place. Declares nothing.
+-- The definitions and lemmas that the proofs of crates above cite, passed on from one place. Declares nothing.
 pub use Rattle.tail_laws.specs.Closing.{IsClosing}
 pub use Rattle.tail_laws.specs.FirstLists.{IsFirstBelow, IsFirstFound, IsLeastOf, NoneBelow}
 pub use Rattle.tail_laws.specs.SplitWalks.{IsLeastSplitAt, IsNoSplitAt, IsSplitAt, first_tail, second_tail, split_of, tail_of, with_mark}

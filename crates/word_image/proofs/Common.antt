@@ -1,4 +1,4 @@
--- The names that proofs cite from here, passed on from one place. Declares nothing.
+-- The definitions and lemmas of this crate that proofs above cite, and those of std that its own Common lacks, passed on from one place. Declares nothing.
 pub use Rattle.std.specs.Cmp.{IsTotalOrder, nat_cmp_is, nat_eq_equiv}
 pub use Rattle.std.specs.Cmp.Lexicographic.{pointwise, slice_cmp, told_text}
 pub use Rattle.std.specs.Int.{IsGcd, bit_at, bit_not, from_bool, int_rem_euclid}

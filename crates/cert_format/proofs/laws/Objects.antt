@@ -1,10 +1,10 @@
 -- The members of an object, beside the entries of the map that holds them.
-use Rattle.std.proofs.Common.{◌≡◌, ℕ, zero, suc, List, [], ◌∷◌, length, map, Option, Some, Ordering, Less, Equal, Greater, String, Global, string_bytes, nat_cmp, is_eq, All, Contains, slice_get, Bool, true, bytes_eq, IsTrue, ◌↔◌, refl, sym, ap, ◌∙◌, subst, arith}
+use Rattle.std.proofs.Common.{◌≡◌, ℕ, zero, suc, List, [], ◌∷◌, length, map, Option, Some, Ordering, Less, Equal, Greater, String, Global, string_bytes, nat_cmp, is_eq, All, Contains, slice_get, Bool, true, bytes_eq, IsTrue, ◌↔◌, refl, sym, ap, ◌∙◌, subst, arith, ap₂}
 use Rattle.word_image.proofs.Common.{list_any, match_ordering, slice_cmp, bytes_eq-Decides, none-some, same_Some, All-contains, All-map, slice_cmp-same}
 use Rattle.std.specs.Map.{keys_of as names_of}
 use Rattle.std.proofs.lemmas.Map.Text.{is_eq-slice_cmp}
 use Rattle.std.proofs.lemmas.List.Folds.{Any-from_list_any, list_any-from_Any}
-use Rattle.serde_json.specs.Data.{Data, object}
+use Rattle.serde_json.specs.Data.{Data, Members, object, put}
 use Rattle.serde_json.specs.Find.{get_member, as_object}
 use Rattle.serde_json.specs.Events.{members_len}
 use Rattle.serde_json.specs.View.{view, members_view}
@@ -97,3 +97,7 @@ list_any-keys keys name r is = (
 pub members_in-entries : (d : Data) (es : List Entry) → Some (members_view es) ≡ as_object d → members_in d ≡ members_view es
 members_in-entries (object ms) es is = sym (same_Some _ _ is)
 members_in-entries _ es is = absurd (none-some (members_view es) (sym is))
+
+-- equal values put into equal members
+pub put_same : (k : List ℕ) {d e : Data} {ms ns : Members} → d ≡ e → ms ≡ ns → put k d ms ≡ put k e ns
+put_same k value members = ap₂ (λ (d : Data) (ms : Members). put k d ms) value members

@@ -8,14 +8,14 @@ use Rattle.kept_sums.specs.Sums.{sum_to}
 use Rattle.kept_sums.specs.Rows.{at, IsCross, IsDivisor}
 use Rattle.kept_sums.specs.Spans.{entry, gain_at}
 use Rattle.kept_sums.specs.Stages.{IsFree, IsNormal, ring_at, IsStanding, IsZero, NotedKeep, IsStage}
-use Rattle.kept_sums.proofs.laws.Integers.{mul-sub, mul-assoc, mul-swap}
+use Rattle.kept_sums.proofs.laws.Integers.{mul-sub, mul-assoc, mul-swap, zero-factor, factor-none}
 use Rattle.kept_sums.proofs.laws.Sums.{gain_at-agree, gain_at-scaled}
 use Rattle.kept_sums.proofs.laws.Spans.{sum_to-agree, sum_to-add, sum_to-scaled, sum_to-times, sum_to-one, gain_at-sum_to}
 use Rattle.kept_sums.proofs.laws.Densities.{length-ring_image, gain-KeepsSumOf}
 use Rattle.kept_sums.proofs.laws.Narrowed.{gain_at-zero}
 use Rattle.kept_sums.proofs.laws.Stages.{IsPivot-gains}
 use Rattle.kept_sums.proofs.laws.AfterRings.{length-blocks, within, after_of, before_of}
-use Rattle.kept_sums.proofs.laws.Unique.{Stands, stands_or_zero, not_both, part-zero, zero-factor, factor-none}
+use Rattle.kept_sums.proofs.laws.Unique.{Stands, stands_or_zero, not_both, part-zero}
 use Rattle.kept_sums.proofs.laws.Siegel.{In, Apart, Condition, Each, AreShort, SmallSolution, small_solution}
 
 -- the places from first on, n of them, in which a ring is noted

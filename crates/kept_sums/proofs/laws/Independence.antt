@@ -6,13 +6,13 @@ use Rattle.kept_sums.specs.Spans.{entry, combination, gain_at}
 use Rattle.kept_sums.specs.Stages.{IsFree, IsNormal, ring_at, IsZero, NotedKeep, IsStage}
 use Rattle.kept_sums.specs.Trivials.{IsTrivial}
 use Rattle.kept_sums.specs.Independence.{ring_gain, IsNeeded, places_with}
-use Rattle.kept_sums.proofs.laws.Integers.{mul-neg, zero-of_times}
+use Rattle.kept_sums.proofs.laws.Integers.{mul-neg, zero-of_times, zero-factor, factor-none}
 use Rattle.kept_sums.proofs.laws.Spans.{sum_to-one, sum_to-none}
 use Rattle.kept_sums.proofs.laws.Densities.{length-ring_image, KeepsSumOf-gain, gain-KeepsSumOf}
 use Rattle.kept_sums.proofs.laws.AfterRings.{length-blocks}
 use Rattle.kept_sums.proofs.laws.Ranges.{few_letters}
 use Rattle.kept_sums.proofs.laws.Trivials.{IsNormal-trivial}
-use Rattle.kept_sums.proofs.laws.Unique.{Stands, stands_or_zero, part-zero, factor-zero, zero-factor, factor-none}
+use Rattle.kept_sums.proofs.laws.Unique.{Stands, stands_or_zero, part-zero, factor-zero}
 use Rattle.kept_sums.proofs.laws.Siegel.{In, Condition, small_solution}
 use Rattle.kept_sums.proofs.laws.Bounds.{noted, In-noted, noted-In, Apart-noted, free_count, condition_of, ring_short, stands-count, Each-of, Each-all}
 

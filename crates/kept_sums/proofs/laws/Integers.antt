@@ -58,3 +58,11 @@ zero-of_times (suc n) (negsuc a) some e = absurd (omega (arith, ints))
 -- the product of a difference
 pub sub-mul : (a b x : ℤ) → (a -ℤ b) *ℤ x ≡ (a *ℤ x) -ℤ (b *ℤ x)
 sub-mul a b x = mul-comm (a -ℤ b) x ∙ mul-sub x a b ∙ ap₂ (λ (u v : ℤ). u -ℤ v) (mul-comm x a) (mul-comm x b)
+
+-- a product of 0 is 0
+pub zero-factor : (c x : ℤ) → c ≡ pos 0 → c *ℤ x ≡ pos 0
+zero-factor c x none = ap (λ (z : ℤ). z *ℤ x) none ∙ omega (arith, ints)
+
+-- a product with 0 is 0
+pub factor-none : (c x : ℤ) → x ≡ pos 0 → c *ℤ x ≡ pos 0
+factor-none c x none = ap (λ (z : ℤ). c *ℤ z) none ∙ omega (arith, ints)

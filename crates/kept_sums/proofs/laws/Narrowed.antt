@@ -3,7 +3,7 @@ use Rattle.std.proofs.Common.{◌≡◌, ◌≢◌, ℕ, zero, suc, ◌<◌, ◌
 use Rattle.word_image.proofs.Common.{ints, cases_lt, IsWord}
 use Rattle.kept_sums.specs.Spans.{entry, gain_at, IsNarrowed}
 use Rattle.kept_sums.specs.Stages.{IsStanding, IsZero}
-use Rattle.kept_sums.proofs.laws.Integers.{zero-of_times}
+use Rattle.kept_sums.proofs.laws.Integers.{zero-of_times, zero-factor, factor-none}
 use Rattle.kept_sums.proofs.laws.Sums.{gain_at-agree, gain_at-none}
 
 -- a row of zeros gains nothing
@@ -14,14 +14,6 @@ gain_at-zero rows i x y one two none = gain_at-agree none x y one two ∙ gain_a
 crossed-zero : (share lead : ℕ) (new old gain other : ℤ) → 1 ≤ share → pos share *ℤ new ≡ (pos lead *ℤ old) -ℤ (gain *ℤ other) → old ≡ pos 0 → gain *ℤ other ≡ pos 0 → new ≡ pos 0
 crossed-zero share lead new old gain other some cross none nothing =
     zero-of_times share new some (cross ∙ ap₂ (λ (u v : ℤ). (pos lead *ℤ u) -ℤ v) none nothing ∙ omega (arith, ints))
-
--- a product with 0 is 0
-times-zero : (gain other : ℤ) → other ≡ pos 0 → gain *ℤ other ≡ pos 0
-times-zero gain other none = ap (λ (x : ℤ). gain *ℤ x) none ∙ omega (arith, ints)
-
--- a product of 0 is 0
-zero-times : (gain other : ℤ) → gain ≡ pos 0 → gain *ℤ other ≡ pos 0
-zero-times gain other none = ap (λ (x : ℤ). x *ℤ other) none ∙ omega (arith, ints)
 
 -- a number is positive where the first part of its cross is, and the second is 0
 positive-of_times : (n : ℕ) (x : ℤ) → pos 0 <ℤ (pos n *ℤ x) → pos 0 <ℤ x
@@ -47,7 +39,7 @@ pub IsZero-narrowed : {rows news : List (List ℤ)} {x y : List ℕ} {j : ℕ} �
 IsZero-narrowed {rows} {news} {x} {y} {j} narrowed one two i l none a h =
     let row = narrowed.each i l in
     crossed-zero row.share narrowed.lead _ (entry rows i a) (gain_at (entry rows i) x y) (entry rows j a) row.positive (row.cross a h) (none a h)
-    (zero-times _ (entry rows j a) (gain_at-zero rows i x y one two none))
+    (zero-factor _ (entry rows j a) (gain_at-zero rows i x y one two none))
 
 -- the row by which the others are crossed becomes a row of zeros
 pub IsZero-pivot : {rows news : List (List ℤ)} {x y : List ℕ} {j : ℕ} → IsNarrowed rows x y j news → j < 16 → IsZero news j
@@ -61,7 +53,7 @@ pub entry-narrowed : {rows news : List (List ℤ)} {x y : List ℕ} {j : ℕ} �
     → entry rows i a ≡ pos 0 → entry rows j a ≡ pos 0 → entry news i a ≡ pos 0
 entry-narrowed {rows} {news} {x} {y} {j} narrowed i a l h none nothing =
     let row = narrowed.each i l in
-    crossed-zero row.share narrowed.lead _ (entry rows i a) (gain_at (entry rows i) x y) (entry rows j a) row.positive (row.cross a h) none (times-zero _ _ nothing)
+    crossed-zero row.share narrowed.lead _ (entry rows i a) (gain_at (entry rows i) x y) (entry rows j a) row.positive (row.cross a h) none (factor-none _ _ nothing)
 
 -- of two different places one that isn't before the other is a later one
 later : (i j : ℕ) → i ≢ j → j ≤ i → j < i
@@ -75,15 +67,15 @@ IsStanding-narrowed {rows} {news} {x} {y} {j} narrowed within last pivot i l oth
     let gain = gain_at (entry rows i) x y in
     let beside : entry rows j i ≡ pos 0 = stands.alone j within (λ e. other (sym e)) in
     let above : pos 0 <ℤ entry news i i =
-    crossed-positive row.share narrowed.lead _ (entry rows i i) gain (entry rows j i) narrowed.some (row.cross i l) stands.leads (times-zero gain _ beside) in
+    crossed-positive row.share narrowed.lead _ (entry rows i i) gain (entry rows j i) narrowed.some (row.cross i l) stands.leads (factor-none gain _ beside) in
     record {
       leads = above;
       begins = λ a h.
           let within_row : a < 16 = omega arith in
           let nothing : gain *ℤ entry rows j a ≡ pos 0 =
           ⊎_elim
-          (λ (before : i < j). times-zero gain _ (pivot.begins a (omega arith)))
-          (λ (after : j ≤ i). zero-times _ (entry rows j a) (last i (omega (arith, later i j other after)) l))
+          (λ (before : i < j). factor-none gain _ (pivot.begins a (omega arith)))
+          (λ (after : j ≤ i). zero-factor _ (entry rows j a) (last i (omega (arith, later i j other after)) l))
           (cases_lt i j) in
           crossed-zero row.share narrowed.lead _ (entry rows i a) gain (entry rows j a) row.positive (row.cross a within_row) (stands.begins a h) nothing;
       alone = λ m h apart. entry-narrowed narrowed m i h l (stands.alone m h apart) beside;

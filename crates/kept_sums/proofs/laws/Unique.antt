@@ -5,7 +5,7 @@ use Rattle.kept_sums.specs.Sums.{sum_to}
 use Rattle.kept_sums.specs.Rows.{at, IsCombined}
 use Rattle.kept_sums.specs.Spans.{entry, IsSpanned}
 use Rattle.kept_sums.specs.Stages.{IsFree, ring_at, IsStanding, IsZero, IsPlace, AreKeptSums}
-use Rattle.kept_sums.proofs.laws.Integers.{mul-sub, mul-swap, mul-comm, zero-of_times}
+use Rattle.kept_sums.proofs.laws.Integers.{mul-sub, mul-swap, mul-comm, zero-of_times, zero-factor, factor-none}
 use Rattle.kept_sums.proofs.laws.Narrowed.{times-positive}
 use Rattle.kept_sums.proofs.laws.Spans.{sum_to-agree, sum_to-scaled, sum_to-one, sum_to-none}
 use Rattle.kept_sums.proofs.laws.Stages.{is_free}
@@ -77,14 +77,6 @@ factor-positive c (negsuc n) above product = absurd (omega (arith, ints, above))
 factor-positive (pos zero) (pos n) above product = absurd (omega (arith, ints, product))
 factor-positive (pos (suc s)) (pos n) above product = (suc s, omega arith, refl)
 factor-positive (negsuc s) (pos n) above product = absurd (omega (arith, ints, product))
-
--- a product of 0 is 0
-pub zero-factor : (c x : ℤ) → c ≡ pos 0 → c *ℤ x ≡ pos 0
-zero-factor c x none = ap (λ (z : ℤ). z *ℤ x) none ∙ omega (arith, ints)
-
--- a product with 0 is 0
-pub factor-none : (c x : ℤ) → x ≡ pos 0 → c *ℤ x ≡ pos 0
-factor-none c x none = ap (λ (z : ℤ). c *ℤ z) none ∙ omega (arith, ints)
 
 -- what weights that are combined of rows have where one of these stands
 spanned_at : {k range : ℕ} {rows : List (List ℤ)} {weight : ℕ → ℤ} (spanned : IsSpanned (k ^ range) rows weight) (l : ℕ) → l < 16 → Stands k range rows l

@@ -1,11 +1,8 @@
 use Rattle.std.proofs.Common.{◌≡◌, ℕ, List, ap, ap₂, ◌∙◌, codes}
 use Rattle.serde_json.specs.Data.{Data, boolean, object, Members, no_members, put}
 use Rattle.serde_json.specs.View.{members_view}
+use Rattle.cert_format.proofs.Common.{put_same}
 use Rattle.ca_json.proofs.evidence.report_value.Goals as goal
-
--- equal values put into equal members
-put_same : (k : List ℕ) {d e : Data} {ms ns : Members} → d ≡ e → ms ≡ ns → put k d ms ≡ put k e ns
-put_same k value members = ap₂ (λ (d : Data) (ms : Members). put k d ms) value members
 
 -- the members come in the order of their keys, each after the last
 pub returns : goal.returns

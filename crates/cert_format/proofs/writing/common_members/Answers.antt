@@ -5,11 +5,8 @@ use Rattle.rule_text.specs.PrintedRules.{printed_rule}
 use Rattle.cert_format.specs.Versions.{number_of}
 use Rattle.cert_format.specs.Parts.{side_of}
 use Rattle.cert_format.specs.WrittenTexts.{whole_value, side_value}
+use Rattle.cert_format.proofs.laws.Objects.{put_same}
 use Rattle.cert_format.proofs.writing.common_members.Goals as goal
-
--- equal values put into equal members
-put_same : (k : List ℕ) {d e : Data} {ms ns : Members} → d ≡ e → ms ≡ ns → put k d ms ≡ put k e ns
-put_same k value members = ap₂ (λ (d : Data) (ms : Members). put k d ms) value members
 
 -- the members come in the order of their keys, each after the last
 pub returns : goal.returns

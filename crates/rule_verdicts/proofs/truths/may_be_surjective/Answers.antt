@@ -1,1 +1,0 @@
-use Rattle.rule_verdicts.proofs.truths.may_be_surjective.Goals as goal
