@@ -1,5 +1,5 @@
 -- A question has one right finding, and where nothing fits it, one cause.
-use Rattle.std.proofs.Common.{◌≡◌, refl, sym, ap, ap₂, ◌∙◌, Option, Some}
+use Rattle.std.proofs.Common.{◌≡◌, refl, sym, ap, ap₂, ◌∙◌}
 use Rattle.cert_format.proofs.Common.{one_some}
 use Rattle.tail_laws.proofs.Common.{IsInjective-determined}
 use Rattle.tail_preimage.proofs.laws.LeastPreimages.{IsLeastPreimage-unique}

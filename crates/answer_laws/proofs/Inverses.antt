@@ -1,5 +1,5 @@
 -- The inverse map of a rule over its least determined window is one.
-use Rattle.std.proofs.Common.{◌≡◌, ℕ, ◌^◌, ◌<◌, List, get_or, slice_index, ℤ, refl, sym, ap, ap₂, ◌∙◌, subst, arith, Option, None, Some}
+use Rattle.std.proofs.Common.{◌≡◌, ℕ, ◌^◌, ◌<◌, List, get_or, slice_index, refl, sym, ap, ◌∙◌, subst, arith, Option, None, Some}
 use Rattle.word_image.proofs.Common.{same_number_lists, LocalRule, value, word_of, IsPreimage, length-word_of, IsWord-word_of, value-word_of}
 use Rattle.tail_config.proofs.Common.{WindowMap, IsInverseMap}
 use Rattle.inverse_table.specs.InverseMaps.{GivesBack}

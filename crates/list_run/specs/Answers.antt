@@ -1,5 +1,5 @@
 -- Which status and which output are right for the words of the command line.
-use Rattle.std.specs.Prelude.{◌≡◌, ◌⊎◌, ℕ, List, [], ◌∷◌, codes}
+use Rattle.std.specs.Prelude.{◌≡◌, ℕ, List, [], ◌∷◌, codes}
 use Rattle.rule_text.specs.declared.text_fault.TextFault.{TextFault}
 use Rattle.rule_text.specs.declared.beginnings.Beginning.{Beginning}
 use Rattle.rule_text.specs.Beginnings.{IsBeginning, IsBeginningFault}

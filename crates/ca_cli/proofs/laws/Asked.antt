@@ -1,5 +1,5 @@
 -- A command asks one question, or one of its operands is refused, and not both; `check` asks none.
-use Rattle.std.proofs.Common.{◌≡◌, ◌≢◌, ℕ, ◌≤◌, List, [], ◌∷◌, length, refl, sym, ap, ap₂, ◌∙◌, subst, arith, Some, ℤ}
+use Rattle.std.proofs.Common.{◌≡◌, ◌≢◌, ℕ, ◌≤◌, List, ◌∷◌, length, refl, sym, ap, ap₂, ◌∙◌, subst, arith, ℤ}
 use Rattle.word_image.proofs.Common.{none-some, LocalRule}
 use Rattle.tail_config.proofs.Common.{HasParts-unique}
 use Rattle.rule_text.specs.declared.text_fault.TextFault.{TextFault}

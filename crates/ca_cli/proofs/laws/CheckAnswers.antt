@@ -1,5 +1,5 @@
 -- Of an input that is told `check` has one right answer.
-use Rattle.std.proofs.Common.{◌≡◌, ℕ, ◌+◌, ◌≤◌, List, length, refl, ap, ◌∙◌, subst, arith, Some, ◌↔◌}
+use Rattle.std.proofs.Common.{◌≡◌, ℕ, ◌+◌, ◌≤◌, List, length, refl, ap, subst, arith, Some, ◌↔◌}
 use Rattle.cert_conditions.proofs.Common.{IsAccepted, IsRefusal, AreTrue-accepted}
 use Rattle.cert_conditions.specs.declared.refusal.Refusal.{Refusal}
 use Rattle.cert_conditions.specs.declared.verdicts.Verdicts.{Verdicts}

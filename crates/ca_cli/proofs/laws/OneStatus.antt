@@ -1,5 +1,5 @@
 -- The right answers to words have one status.
-use Rattle.std.proofs.Common.{◌≡◌, ◌≢◌, ℕ, ◌≤◌, List, [], length, refl, sym, ap, ◌∙◌, subst, arith, Option, Some}
+use Rattle.std.proofs.Common.{◌≡◌, ℕ, ◌≤◌, List, [], length, refl, sym, ap, ◌∙◌, subst, arith, Option, Some}
 use Rattle.rule_text.specs.declared.text_fault.TextFault.{TextFault}
 use Rattle.cert_conditions.proofs.Common.{IsAccepted, IsRefusal}
 use Rattle.ca_words.specs.Commands.{Command, IsCommand}

@@ -1,4 +1,4 @@
-use Rattle.std.proofs.Common.{◌≡◌, ◌+◌, ◌<◌, ◌≤◌, ℕ, List, length, inl, inr, sym, subst, arith, ◌≢◌, ◌⊎◌, alloc_error, Option, Result, Ok, Err, IfOk, MatchResult}
+use Rattle.std.proofs.Common.{◌≡◌, ◌+◌, ◌≤◌, ℕ, List, length, inl, inr, sym, subst, arith, ◌≢◌, ◌⊎◌, alloc_error, Option, Result, Ok, Err, IfOk, MatchResult}
 use Rattle.cert_conditions.proofs.Common.{IsRefusal}
 use Rattle.cert_conditions.specs.declared.refusal.Refusal.{Refusal}
 use Rattle.cert_conditions.specs.declared.refusal.Refusal.TheVariants as refusal
