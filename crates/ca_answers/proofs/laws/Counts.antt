@@ -1,7 +1,8 @@
 -- Counts of rules, one rule more at a time.
 use Rattle.std.proofs.Common.{◌≡◌, ℕ, Bool, true, false, ◌+◌, ◌≤◌, List, [], ◌∷◌, ◌++◌, length, refl, sym, subst, arith, ◌↔◌, IsTrue}
 use Rattle.word_image.proofs.Common.{from_bool, false≢true, LocalRule}
-use Rattle.ca_findings.proofs.Common.{AreMany, None, One, Other}
+use Rattle.ca_findings.proofs.Common.{AreMany}
+use Rattle.ca_findings.specs.Counts.AreMany.{None, One, Other}
 
 -- no more rules have a property than there are
 pub AreMany-le : {Has : LocalRule → Type 0} {rules : List LocalRule} {n : ℕ} → AreMany Has rules n → n ≤ length rules

@@ -1,5 +1,5 @@
 use Rattle.std.proofs.Common.{refl}
-use Rattle.ca_findings.proofs.Common.{None}
+use Rattle.ca_findings.specs.Counts.AreMany.{None}
 use Rattle.ca_answers.proofs.tally.no_rules.Goals as goal
 
 pub returns : goal.returns
