@@ -1,6 +1,9 @@
 -- The certificate that is written for a rule is one: its least evidence, its cover list or reached pairs, and its ranks.
 use Rattle.std.proofs.Common.{◌≡◌, ℕ, ◌+◌, ◌<◌, ◌≤◌, ⊎_elim, List, [], length, get_or, Contains, refl, sym, ap, ◌∙◌, subst, arith, Option, None, Some, MatchOption}
-use Rattle.word_image.proofs.Common.{IsStrictlySortedBy, nat_cmp_total, same_number_lists, get_or_default, same_lists, sorted_from_strictly_increasing, sorted_from_all_adjacent, none-some, same_Some, slice_get-get_or, LocalRule, IsRule, IsSurjective, word_cmp, first_of, second_of, full_set, IsRank, IsEndless, IsLastSet, IsLeastWordOf, IsFamily, covers_of, IsCoverList, Together, IsOrphan-empty_set, IsOrphan-not_surjective, paired_at, paired_length}
+use Rattle.std.proofs.lemmas.Cmp.{nat_cmp_total}
+use Rattle.std.proofs.lemmas.Map.Keys.{sorted_from_strictly_increasing, sorted_from_all_adjacent}
+use Rattle.std.specs.List.Sorted.{IsStrictlySortedBy}
+use Rattle.word_image.proofs.Common.{same_number_lists, get_or_default, same_lists, none-some, same_Some, slice_get-get_or, LocalRule, IsRule, IsSurjective, word_cmp, first_of, second_of, full_set, IsRank, IsEndless, IsLastSet, IsLeastWordOf, IsFamily, covers_of, IsCoverList, Together, IsOrphan-empty_set, IsOrphan-not_surjective, paired_at, paired_length}
 use Rattle.word_image.specs.declared.side.Side.{Side}
 use Rattle.word_image.specs.declared.side.Side.TheVariants.{Right, Left}
 use Rattle.pair_laws.proofs.Common.{IsRank-one, Together-less}

@@ -1,6 +1,9 @@
 -- Lists with the same members: in one order they are one, and where none stands twice they have one length.
 use Rattle.std.proofs.Common.{inl, inr, ◌≡◌, ◌≢◌, ◌⊎◌, ⊎_elim, ◌↔◌, ℕ, zero, suc, ◌<◌, ◌≤◌, List, [], ◌∷◌, length, get_or, All, AllPairs, Contains, refl, sym, ap, ap₂, ◌∙◌, subst, arith, Ordering, Less, Greater}
-use Rattle.word_image.proofs.Common.{IsTotalOrder, IsStrictlySortedBy, ordering_reverse, cases_lt, get_or_default, All-contains, All-from_recursion, Contains-append_right, sorted_head, sorted_tail, Contains-tail, twice_below}
+use Rattle.std.proofs.lemmas.Map.Keys.{sorted_head, sorted_tail}
+use Rattle.std.proofs.lemmas.Map.Made.{Contains-tail}
+use Rattle.std.specs.List.Sorted.{IsStrictlySortedBy}
+use Rattle.word_image.proofs.Common.{IsTotalOrder, ordering_reverse, cases_lt, get_or_default, All-contains, All-from_recursion, Contains-append_right, twice_below}
 
 -- what is in a list is its first item, or in the rest
 first_or_rest : {X : Type 0} (x z : X) (xs : List X) (k : ℕ) → k < length (x ∷ xs) → get_or (x ∷ xs) k z ≡ z → (x ≡ z) ⊎ Contains xs z

@@ -1,6 +1,8 @@
 -- The orders of words, of pairs of words and of splits: of two that come no later than each other both are one.
 use Rattle.std.proofs.Common.{◌≡◌, ◌≢◌, ℕ, List, length, map, sym, ap, ◌∙◌, zip, nat_cmp, Less, Equal, Greater}
-use Rattle.word_image.proofs.Common.{ordering_reverse, IsTotalOrder, slice_cmp, on_total, then_total, nat_cmp_total, nat_list_cmp_total, firsts-zip, seconds-zip, pair_cmp, pairs_cmp, word_cmp, pairs_cmp_total, then_equal}
+use Rattle.std.proofs.lemmas.Cmp.{on_total, then_total, nat_cmp_total, nat_list_cmp_total}
+use Rattle.std.proofs.lemmas.Slice.Zip.{firsts-zip, seconds-zip}
+use Rattle.word_image.proofs.Common.{ordering_reverse, IsTotalOrder, slice_cmp, pair_cmp, pairs_cmp, word_cmp, pairs_cmp_total, then_equal}
 use Rattle.std.specs.FinMap.{slice_cmp-IsAntisymmetric}
 use Rattle.std.proofs.lemmas.Map.Lookups.{exact_unsigned, exact_pairs}
 use Rattle.tail_laws.proofs.Common.{splits_cmp_total}

@@ -1,6 +1,9 @@
 -- The sets of a family are different, so there are at most as many as sets of nodes.
 use Rattle.std.proofs.Common.{◌≡◌, ◌≢◌, ℕ, zero, suc, ◌+◌, ◌-◌, ◌^◌, ◌<◌, ◌≤◌, List, [], length, get_or, AllPairs, refl, ap, subst, arith}
-use Rattle.word_image.proofs.Common.{Decides-eqb, IsDistinct-from_AllPairs, length-le_from_distinct_below, Contains-from_any, slice_get-get_or, pow-le-pow_right, LocalRule, IsRule, IsWord, node_count, IsLastSet, IsFamily, IsAscending, IsLeastWordOf, IsCoverList, full_set, paired_at, paired_length}
+use Rattle.std.proofs.lemmas.Map.Made.{IsDistinct-from_AllPairs}
+use Rattle.std.proofs.lemmas.Map.Steps.{length-le_from_distinct_below}
+use Rattle.std.proofs.lemmas.Map.Views.{Contains-from_any}
+use Rattle.word_image.proofs.Common.{Decides-eqb, slice_get-get_or, pow-le-pow_right, LocalRule, IsRule, IsWord, node_count, IsLastSet, IsFamily, IsAscending, IsLeastWordOf, IsCoverList, full_set, paired_at, paired_length}
 use Rattle.search_laws.proofs.Common.{word_number, word_number-le, word_number-less}
 use Rattle.certificate_laws.proofs.MetConditions.{IsLastSet-each}
 use Rattle.certificate_laws.proofs.CoverLists.{length-covers}

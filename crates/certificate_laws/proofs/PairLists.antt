@@ -1,6 +1,9 @@
 -- The reached pairs of a surjective rule meet the conditions of listed pairs, and are few.
 use Rattle.std.proofs.Common.{◌≢◌, ℕ, ◌<◌, ◌≤◌, List, length, get_or, slice_index, arith, All}
-use Rattle.word_image.proofs.Common.{Decides-eqb, Contains-get_or, IsDistinct-from_AllPairs, length-le_from_distinct_below, Contains-from_any, LocalRule, IsRule, first_of, second_of, pair_count, IsPairList}
+use Rattle.std.proofs.lemmas.Map.Made.{IsDistinct-from_AllPairs}
+use Rattle.std.proofs.lemmas.Map.Steps.{length-le_from_distinct_below}
+use Rattle.std.proofs.lemmas.Map.Views.{Contains-from_any}
+use Rattle.word_image.proofs.Common.{Decides-eqb, Contains-get_or, LocalRule, IsRule, first_of, second_of, pair_count, IsPairList}
 use Rattle.std.proofs.lemmas.List.Kept.{AllPairs-from_increasing}
 use Rattle.eden_laws.proofs.ReachedPairs.{IsReached-below}
 use Rattle.cert_conditions.proofs.Common.{EachBelow, FirstIsListed, StepsAreListed}

@@ -2,7 +2,9 @@
 use Rattle.std.proofs.Common.{◌≡◌, ℕ, suc, ◌+◌, ◌^◌, ◌<◌, ◌≤◌, negsuc, pos, Bool, true, false, List, [], ◌∷◌, map, All, IsUtf8, Some, option_map, option_and_then, decimal, append-nil, refl, sym, ap, ◌∙◌, arith, ℤ}
 use lib.Signed.{mag}
 use Rattle.std.specs.Fmt.{signed_decimal}
-use Rattle.word_image.proofs.Common.{max-le, IsAscii-decimal, IsAscii-signed, All-head, All-tail, IsUtf8-append, IsUtf8-from_ascii}
+use Rattle.std.proofs.lemmas.Fmt.{IsAscii-decimal, IsAscii-signed}
+use Rattle.std.proofs.lemmas.Str.{IsUtf8-append, IsUtf8-from_ascii}
+use Rattle.word_image.proofs.Common.{max-le, All-head, All-tail}
 use Rattle.json.specs.Json as json
 use Rattle.json.specs.Print.{quoted}
 use Rattle.json.specs.Tree as tree

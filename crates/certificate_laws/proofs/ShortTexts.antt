@@ -1,6 +1,7 @@
 -- The text that is written for a rule has fewer than 450,000 bytes.
 use Rattle.std.proofs.Common.{◌≡◌, ℕ, ◌+◌, ◌-◌, ◌^◌, ◌<◌, ◌≤◌, true, false, ⊎_elim, List, [], ◌∷◌, length, map, slice_index, Option, Some, None, arith, length-append, ℤ, pos, negsuc, ◌≤ℤ◌, codes}
-use Rattle.word_image.proofs.Common.{pow-le-pow_right, length-decimal-le, length_signed_le, ints, length-map, All-weaker, LocalRule, IsRule, node_count, pair_count, AreWeights, window_count-le, pair_count-le}
+use Rattle.std.proofs.lemmas.Fmt.{length-decimal-le, length_signed_le}
+use Rattle.word_image.proofs.Common.{pow-le-pow_right, ints, length-map, All-weaker, LocalRule, IsRule, node_count, pair_count, AreWeights, window_count-le, pair_count-le}
 use Rattle.serde_json.specs.Data.{Data, Members, no_members, member, string}
 use Rattle.serde_json.specs.Written.{compact_text, members_text}
 use Rattle.tail_config.proofs.Common.{IsShortTail}

@@ -1,6 +1,8 @@
 -- The text of a certificate within its limits is a text of it.
 use Rattle.std.proofs.Common.{ℕ, suc, ◌+◌, ◌-◌, ◌^◌, ◌<◌, ◌≤◌, negsuc, pos, List, [], ◌∷◌, map, All, IsUtf8, Option, Some, None, codes, decimal, refl, sym, subst, ⊎_elim, arith, lt-ltb, ℤ, nat_lt}
-use Rattle.word_image.proofs.Common.{pow-le-pow_right, cond_both, IsAscii-decimal, ints, All-head, All-tail, All-weaker, All-nil, All-cons, IsUtf8-append, IsUtf8-from_ascii, LocalRule, IsRule, IsWord, node_count, lower_digit, word_text, pair_count-le}
+use Rattle.std.proofs.lemmas.Fmt.{IsAscii-decimal}
+use Rattle.std.proofs.lemmas.Str.{IsUtf8-append, IsUtf8-from_ascii}
+use Rattle.word_image.proofs.Common.{pow-le-pow_right, cond_both, ints, All-head, All-tail, All-weaker, All-nil, All-cons, LocalRule, IsRule, IsWord, node_count, lower_digit, word_text, pair_count-le}
 use Rattle.json.proofs.Printed.Utf8.{IsUtf8-are_ascii}
 use Rattle.serde_json.specs.Data.{object, Members}
 use Rattle.tail_config.proofs.Common.{TailConfig, IsShortTail}

@@ -1,6 +1,7 @@
 -- The order of splits by the numbers of their letter pairs, and where no split at a state comes before the least one so far.
 use Rattle.std.proofs.Common.{◌≡◌, ◌≢◌, ℕ, ◌+◌, ◌/◌, ◌%◌, ◌<◌, ◌≤◌, List, [], ◌∷◌, length, map, Option, Some, None, Bool, true≢false, refl, sym, ap, ap₂, ◌∙◌, subst, ⊎_elim, arith, nat_cmp, is_gt, ◌↔◌, IsTrue, MatchOption, SomeIff, Ordering, Less, Equal, Greater}
-use Rattle.word_image.proofs.Common.{ordering_then, nat_cmp_is, slice_cmp, cases_lt, ranked, by_ranked, length-map, LocalRule, marked, pair_cmp}
+use Rattle.std.proofs.lemmas.Cmp.{ranked, by_ranked}
+use Rattle.word_image.proofs.Common.{ordering_then, nat_cmp_is, slice_cmp, cases_lt, length-map, LocalRule, marked, pair_cmp}
 use Rattle.search_laws.proofs.Common.{PairWalk, IsLeastWalkTo, uncode}
 use Rattle.tail_config.proofs.Common.{splits_cmp}
 use Rattle.tail_laws.proofs.Common.{IsLeastSplitAt, split_of, with_mark, splits_cmp-walks, no_earlier-least}

@@ -1,6 +1,7 @@
 -- The least look-ahead on a side is 2 more than the greatest rank of a first pair, or 1 where there is none.
 use Rattle.std.proofs.Common.{◌≡◌, ◌⊎◌, ℕ, ◌+◌, ◌-◌, ◌<◌, ◌≤◌, ◌^◌, max, inl, inr, refl, sym, ap, ap₂, ◌∙◌, subst, ⊎_elim, arith, ◌↔◌, if◌then◌else◌, nat_cmp, is_lt}
-use Rattle.word_image.proofs.Common.{ord_max, cases_lt, cases_eq, ranked, by_ranked, LocalRule, IsRule, IsLeastRightAhead, pair_of, IsRank, IsEndless, seen_from, Together, PairGoes, IsFirstOf}
+use Rattle.std.proofs.lemmas.Cmp.{ranked, by_ranked}
+use Rattle.word_image.proofs.Common.{ord_max, cases_lt, cases_eq, LocalRule, IsRule, IsLeastRightAhead, pair_of, IsRank, IsEndless, seen_from, Together, PairGoes, IsFirstOf}
 use Rattle.pair_laws.proofs.Common.{PairGoes-pair_of, PairGoes-less, ahead_pairs, end_pair, HasEndlessFirst, IsFirst-ends, first_ends}
 use Rattle.tail_laws.proofs.Common.{closing_ahead, IsClosing}
 use Rattle.word_image.specs.declared.side.Side.{Side}

@@ -1,6 +1,7 @@
 -- The search for the least split over the states of a list, place by place.
 use Rattle.std.proofs.Common.{◌≡◌, ◌≢◌, ℕ, ◌+◌, ◌<◌, ◌≤◌, List, length, Option, Some, None, ap, ◌∙◌, subst, ⊎_elim, arith, slice_get, MatchOption, IfSome, Contains, Greater}
-use Rattle.word_image.proofs.Common.{option_or, cases_eq, slice_get-get_or, LocalRule, IsRule, pair_count, marked, no_later, not_before, slice_get-unique}
+use Rattle.std.specs.Option.{option_or}
+use Rattle.word_image.proofs.Common.{cases_eq, slice_get-get_or, LocalRule, IsRule, pair_count, marked, no_later, not_before, slice_get-unique}
 use Rattle.search_laws.proofs.Common.{PairWalk}
 use Rattle.tail_config.proofs.Common.{IsNormalRightSplit, splits_cmp}
 use Rattle.tail_laws.proofs.Common.{IsSplitAt, IsNoSplitAt, first_tail, second_tail, split_of, IsNormalRightSplit-walks, splits_cmp_total}

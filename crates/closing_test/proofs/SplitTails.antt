@@ -1,6 +1,7 @@
 -- The configurations that two walks make: how long their parts are, and what the least walks of all states make of them.
 use Rattle.std.proofs.Common.{◌≡◌, ℕ, ◌+◌, List, [], ◌∷◌, map, Some, None, refl, ap₂, subst, arith}
-use Rattle.word_image.proofs.Common.{length-map, map-map, LocalRule, IsRule, pair_count}
+use Rattle.std.proofs.lemmas.Simd.{map-map}
+use Rattle.word_image.proofs.Common.{length-map, LocalRule, IsRule, pair_count}
 use Rattle.search_laws.proofs.Common.{uncode}
 use Rattle.tail_config.proofs.Common.{TailConfig, IsTail, IsRightClosing, IsLeastRightSplit, TailOver}
 use Rattle.tail_laws.proofs.Common.{tail_of, IsLeastRightSplit-below, no_normal_split}

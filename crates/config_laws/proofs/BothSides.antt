@@ -1,6 +1,8 @@
 -- A rule that is closing on both sides: what agrees for long enough with the image of a configuration is the image of one that agrees with that configuration.
 use Rattle.std.proofs.Common.{◌≡◌, ℕ, ◌+◌, ◌-◌, ◌<◌, ℤ, pos, ◌+ℤ◌, ◌-ℤ◌, neg_ℤ, unsigned_abs, sym, ap, ◌∙◌, subst, arith, ◌<ℤ◌, ◌≤ℤ◌}
-use Rattle.word_image.proofs.Common.{fun_ext, neg_ℤ-neg_ℤ, ints, by_lt_z, LocalRule, IsRule, mirrored, IsRightAhead, IsLeftAhead, IsSurjective, IsRule-mirrored, mirrored-mirrored}
+use Rattle.std.proofs.Math.IntN.{neg_ℤ-neg_ℤ}
+use Rattle.std.proofs.Math.Path.{fun_ext}
+use Rattle.word_image.proofs.Common.{ints, by_lt_z, LocalRule, IsRule, mirrored, IsRightAhead, IsLeftAhead, IsSurjective, IsRule-mirrored, mirrored-mirrored}
 use Rattle.tail_config.proofs.Common.{IsRightClosing, IsLeftClosing, IsOpen, Config, IsConfig, image_of, AgreeWithin, AgreeFarLeft, AgreeFarRight, image_of-window}
 use Rattle.tail_laws.proofs.Common.{IsRightClosing-window, IsLeftClosing-window}
 use Rattle.eden_laws.proofs.Preinjective.{IsSurjective-right_closing}

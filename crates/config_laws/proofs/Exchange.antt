@@ -1,6 +1,7 @@
 -- Either word of an erasable pair may stand for the other in any configuration, so where there is one as many configurations as are wanted have one image.
 use Rattle.std.proofs.Common.{◌≡◌, ℕ, suc, ◌+◌, ◌*◌, ◌<◌, ◌≤◌, ⊎_elim, List, length, get_or, slice_index, ℤ, pos, ◌+ℤ◌, ◌-ℤ◌, unsigned_abs, refl, sym, ap, ◌∙◌, arith, ◌<ℤ◌, ◌≤ℤ◌}
-use Rattle.word_image.proofs.Common.{fun_ext, cases_lt, ints, by_lt_z, mul-le, mod-mul-add, get_or_past, get_or_default, LocalRule, IsRule, IsWord, IsSurjective, IsRing, ring_letter, IsErasable, ring_letter-below}
+use Rattle.std.proofs.Math.Path.{fun_ext}
+use Rattle.word_image.proofs.Common.{cases_lt, ints, by_lt_z, mul-le, mod-mul-add, get_or_past, get_or_default, LocalRule, IsRule, IsWord, IsSurjective, IsRing, ring_letter, IsErasable, ring_letter-below}
 use Rattle.tail_config.proofs.Common.{DifferAt, differ_at, Config, IsConfig, run, image_of, run-by_letters}
 use Rattle.eden_laws.proofs.Exchange.{IsErasable-long, image_of-exchange}
 use Rattle.eden_laws.proofs.GardenOfEden.{garden_of_eden}

@@ -1,6 +1,8 @@
 -- A configuration read backwards, under the mirrored rule: what is said of the right side is said of the left.
 use Rattle.std.proofs.Common.{◌≡◌, pos, neg_ℤ, sym, ap, ◌∙◌, subst, arith, ◌↔◌}
-use Rattle.word_image.proofs.Common.{fun_ext, neg_ℤ-neg_ℤ, ints, LocalRule, IsRule, mirrored, IsRule-mirrored, mirrored-mirrored}
+use Rattle.std.proofs.Math.IntN.{neg_ℤ-neg_ℤ}
+use Rattle.std.proofs.Math.Path.{fun_ext}
+use Rattle.word_image.proofs.Common.{ints, LocalRule, IsRule, mirrored, IsRule-mirrored, mirrored-mirrored}
 use Rattle.tail_config.proofs.Common.{Config, IsConfig, image_of, IsLeftClosing, image_of-backwards}
 use Rattle.tail_laws.proofs.Common.{IsLeftClosing-mirrored}
 use Rattle.config_laws.specs.Maps.{IsRightClosingMap, IsLeftClosingMap}

@@ -1,6 +1,7 @@
 -- Injective says of configurations with periodic tails what it says of all.
 use Rattle.std.proofs.Common.{ap, ◌↔◌}
-use Rattle.word_image.proofs.Common.{fun_ext, LocalRule, IsRule}
+use Rattle.std.proofs.Math.Path.{fun_ext}
+use Rattle.word_image.proofs.Common.{LocalRule, IsRule}
 use Rattle.tail_config.proofs.Common.{Config, IsInjective, cell, cell-below}
 use Rattle.tail_laws.proofs.Common.{IsInjective-window, agree_determined}
 use Rattle.config_laws.specs.Maps.{IsInjectiveMap}

@@ -1,6 +1,7 @@
 -- The inverse map of a determined window undoes the rule on every configuration, and the rule undoes the map (Hedlund 1969).
 use Rattle.std.proofs.Common.{◌≡◌, ℕ, ◌+◌, ◌-◌, ◌<◌, ℤ, pos, ◌+ℤ◌, ◌-ℤ◌, sym, ap, ◌∙◌, arith}
-use Rattle.word_image.proofs.Common.{fun_ext, ints, LocalRule, IsRule, IsDetermined}
+use Rattle.std.proofs.Math.Path.{fun_ext}
+use Rattle.word_image.proofs.Common.{ints, LocalRule, IsRule, IsDetermined}
 use Rattle.tail_config.proofs.Common.{IsInjective, IsOpen, WindowMap, IsInverseMap, map_letter, mapped, Config, IsConfig, run, image_of, length-run, get_or-run}
 use Rattle.tail_laws.proofs.Common.{IsInjective-determined}
 use Rattle.config_laws.specs.Maps.{IsOntoMap}

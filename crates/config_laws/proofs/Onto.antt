@@ -1,6 +1,8 @@
 -- Where every word has a preimage each configuration has one, if one of two tests passes: of the preimages of its longer and longer middles one goes on for ever (Hedlund 1969).
 use Rattle.std.proofs.Common.{◌≡◌, ◌⊎◌, ℕ, zero, suc, ◌+◌, ◌-◌, ◌^◌, ◌<◌, ◌≤◌, ◌↔◌, refl, inl, inr, ⊎_elim, List, length, take, drop, get_or, ℤ, pos, ◌+ℤ◌, ◌-ℤ◌, neg_ℤ, unsigned_abs, sym, ap, ◌∙◌, subst, arith, length-drop, bytes_eq, length-take-le, take-take, drop-drop, get_or-take, get_or-drop}
-use Rattle.word_image.proofs.Common.{fun_ext, cases_Bool, not_from_Decides, bytes_eq-Decides, ints, drop-take, All-take, All-drop, LocalRule, IsRule, value, word_of, image, IsPreimage, IsSurjective, value-below, word_of-value, image-take, image-drop, decide_both}
+use Rattle.std.proofs.Math.Path.{fun_ext}
+use Rattle.std.proofs.lemmas.Slice.Eq.{bytes_eq-Decides}
+use Rattle.word_image.proofs.Common.{cases_Bool, not_from_Decides, ints, drop-take, All-take, All-drop, LocalRule, IsRule, value, word_of, image, IsPreimage, IsSurjective, value-below, word_of-value, image-take, image-drop, decide_both}
 use Rattle.tail_config.proofs.Common.{Config, IsConfig, run, length-run, get_or-run, IsWord-run, drop-run, take-run}
 use Rattle.config_laws.specs.Maps.{IsOntoMap}
 use Rattle.config_laws.specs.OneOfTwo.{OneOfTwo}

@@ -1,6 +1,7 @@
 -- A rule is open exactly where it is closing on both sides (Hedlund 1969).
 use Rattle.std.proofs.Common.{◌≡◌, ℕ, ◌+◌, ◌-◌, ◌<◌, ◌≤◌, List, ◌++◌, length, get_or, ℤ, pos, ◌+ℤ◌, ◌-ℤ◌, neg_ℤ, unsigned_abs, refl, sym, ap, ap₂, ◌∙◌, subst, arith, ◌<ℤ◌, ◌≤ℤ◌, ◌↔◌}
-use Rattle.word_image.proofs.Common.{neg_ℤ-neg_ℤ, ints, LocalRule, IsRule, mirrored, IsPreimage, IsSurjective, some_letter, IsRule-mirrored}
+use Rattle.std.proofs.Math.IntN.{neg_ℤ-neg_ℤ}
+use Rattle.word_image.proofs.Common.{ints, LocalRule, IsRule, mirrored, IsPreimage, IsSurjective, some_letter, IsRule-mirrored}
 use Rattle.tail_config.proofs.Common.{TailConfig, IsRightSplit, IsRightClosing, IsLeftClosing, IsOpen, cell, cell-below, Config, IsConfig, run, image_of, zeros, length-run, get_or-run, IsWord-run, run-same, run-append, take-run}
 use Rattle.tail_laws.proofs.Common.{IsLeftClosing-mirrored, IsRightClosing-none}
 use Rattle.config_laws.specs.Maps.{IsNear, IsOpenMap, IsEvenlyOpenMap}

@@ -1,6 +1,7 @@
 -- The Garden of Eden theorem over all configurations (Moore 1962, Myhill 1963).
 use Rattle.std.proofs.Common.{◌↔◌, ap}
-use Rattle.word_image.proofs.Common.{fun_ext, LocalRule, IsRule, IsSurjective}
+use Rattle.std.proofs.Math.Path.{fun_ext}
+use Rattle.word_image.proofs.Common.{LocalRule, IsRule, IsSurjective}
 use Rattle.tail_config.proofs.Common.{Config, cell, cell-below}
 use Rattle.eden_laws.proofs.GardenOfEden.{garden_of_eden}
 use Rattle.eden_laws.proofs.Preinjective.{IsSurjective-preinjective, agree_between}

@@ -1,6 +1,7 @@
 -- The first lossy ring of the least length that has one is the first of all.
 use Rattle.std.proofs.Common.{◌≡◌, ℕ, ◌<◌, ◌≤◌, List, length, refl, sym, ap, ◌∙◌, arith, nat_cmp, Ordering, Less, Equal, Greater}
-use Rattle.word_image.proofs.Common.{ordering_then, slice_cmp, ranked, by_ranked, LocalRule, value, IsLeastLossyRing, slice_cmp-value}
+use Rattle.std.proofs.lemmas.Cmp.{ranked, by_ranked}
+use Rattle.word_image.proofs.Common.{ordering_then, slice_cmp, LocalRule, value, IsLeastLossyRing, slice_cmp-value}
 use Rattle.flux_conserve.specs.LeastRings.{IsFirstLossyRing, KeepSumAt}
 
 -- where the rings of fewer letters keep their sums

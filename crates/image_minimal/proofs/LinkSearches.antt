@@ -1,6 +1,7 @@
 -- A search through linked sets of two rules, one edge more at a time.
 use Rattle.std.proofs.Common.{◌≡◌, ◌≢◌, ℕ, ◌+◌, ◌*◌, ◌^◌, ◌<◌, ◌≤◌, ◌⊎◌, ◌↔◌, inl, inr, List, [], ◌∷◌, ◌++◌, length, slice_index, Some, refl, sym, ap₂, ◌∙◌, subst, subst₂, arith, ⊎_elim, not, nat_eq, true, false, true≢false, slice_get, eq-eqb, ne_eqb}
-use Rattle.word_image.proofs.Common.{range_with_len, cases_eq, pow-lt, slice_get_within, length_push, map-append, get_or-range_with_len, length-range_with_len, LocalRule, IsRule, node_count, full_set, IsStep, node_count_pos, only_place, slice_get-push, slice_get-push_cases}
+use Rattle.std.proofs.Math.Pow.{pow-lt}
+use Rattle.word_image.proofs.Common.{range_with_len, cases_eq, slice_get_within, length_push, map-append, get_or-range_with_len, length-range_with_len, LocalRule, IsRule, node_count, full_set, IsStep, node_count_pos, only_place, slice_get-push, slice_get-push_cases}
 use Rattle.std.proofs.Math.Bool.{beq}
 use Rattle.search_laws.proofs.Common.{IsFilled, filled-later, IsFilled-start, IsFilled-there, IsFilled-new, IsSetOf-unique}
 use Rattle.image_minimal.specs.declared.links.Link.{Link}

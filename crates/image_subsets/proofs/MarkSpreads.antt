@@ -1,6 +1,7 @@
 -- Marks, one node more at a time.
 use Rattle.std.proofs.Common.{◌≡◌, ◌≢◌, ℕ, ◌+◌, ◌-◌, ◌*◌, ◌/◌, ◌%◌, ◌^◌, ◌<◌, ◌≤◌, ◌↔◌, ◌⊎◌, inl, inr, List, length, slice_index, slice_set, replicate, take, drop, ◌++◌, Contains, IsBitSet, bit_or, refl, sym, ap, ◌∙◌, subst, arith, ⊎_elim}
-use Rattle.word_image.proofs.Common.{cases_eq, cases_lt, get_or_default, take-append-le, and_le_l, one_shl, pow-lt, some_below, IsBitSet-pow, IsBitSet-decide}
+use Rattle.std.proofs.Math.Pow.{pow-lt}
+use Rattle.word_image.proofs.Common.{cases_eq, cases_lt, get_or_default, take-append-le, and_le_l, one_shl, some_below, IsBitSet-pow, IsBitSet-decide}
 use Rattle.std.proofs.lemmas.List.{take_all}
 use Rattle.std.proofs.Math.Pow.{pow_mono}
 use Rattle.pair_laws.proofs.Common.{HasBit-or, HasBit-none, IsBitSet-minus, IsBitSet-below}

@@ -1,6 +1,10 @@
 -- A list of different sets with a mark on each, one set more at a time, and emptied.
 use Rattle.std.proofs.Common.{◌≡◌, ◌≢◌, ℕ, ◌*◌, ◌/◌, ◌%◌, ◌^◌, ◌<◌, ◌≤◌, ◌↔◌, ◌⊎◌, inl, inr, List, [], ◌∷◌, ◌++◌, length, replicate, slice_index, slice_set, Contains, IsBitSet, bit_or, refl, sym, ap, ◌∙◌, subst, arith, ⊎_elim}
-use Rattle.word_image.proofs.Common.{cases_eq, Decides-eqb, length_push, length-replicate, get_or_append_left, get_or_at, get_or_default, Contains-push, Contains-append_left, Contains-push_cases, all_pairs_push, IsDistinct-from_AllPairs, length-le_from_distinct_below, Contains-from_any, one_shl, IsBitSet-pow}
+use Rattle.std.proofs.lemmas.List.Quantifiers.{all_pairs_push}
+use Rattle.std.proofs.lemmas.Map.Made.{IsDistinct-from_AllPairs}
+use Rattle.std.proofs.lemmas.Map.Steps.{length-le_from_distinct_below}
+use Rattle.std.proofs.lemmas.Map.Views.{Contains-from_any}
+use Rattle.word_image.proofs.Common.{cases_eq, Decides-eqb, length_push, length-replicate, get_or_append_left, get_or_at, get_or_default, Contains-push, Contains-append_left, Contains-push_cases, one_shl, IsBitSet-pow}
 use Rattle.std.proofs.lemmas.List.{length-set}
 use Rattle.pair_laws.proofs.Common.{HasBit-or, HasBit-none}
 use Rattle.image_subsets.specs.Marks.{IsSetMarked}

@@ -1,6 +1,8 @@
 -- Marks in rows of 64 bits: the nodes of a set by its row and its bit, and rows with one row written.
 use Rattle.std.proofs.Common.{◌≡◌, ℕ, suc, ◌+◌, ◌-◌, ◌*◌, ◌/◌, ◌%◌, ◌^◌, ◌<◌, ◌≤◌, ◌↔◌, List, Bool, true, slice_index, IsBitSet, bit_and, zero, refl, sym, ap, ◌∙◌, subst, subst₂, arith, ⊎_elim, ◌==◌, ◌&&◌}
-use Rattle.word_image.proofs.Common.{bit_at, cases_lt, cases_eq, and_parts, and_mask, and_comm, and-not, shl-shr, bit_at_ones, and_pow, pow-lt, bit_at-IsBitSet, IsBitSet-zero, HasBit}
+use Rattle.std.proofs.Math.Pow.{pow-lt}
+use Rattle.std.proofs.lemmas.Nat.Bits.{bit_at_ones, and_pow}
+use Rattle.word_image.proofs.Common.{bit_at, cases_lt, cases_eq, and_parts, and_mask, and_comm, and-not, shl-shr, bit_at-IsBitSet, IsBitSet-zero, HasBit}
 use Rattle.std.proofs.lemmas.Bool.{eqb-true}
 use Rattle.std.proofs.lemmas.Nat.{pow-add}
 use Rattle.pair_laws.proofs.Common.{IsBitSet-below, IsBitSet-and, IsBitSet-shr}

@@ -1,6 +1,9 @@
 -- Steps of sets, part by part, and the tables that are made of them.
 use Rattle.std.proofs.Common.{◌≡◌, ℕ, ◌+◌, ◌-◌, ◌*◌, ◌/◌, ◌%◌, ◌^◌, ◌<◌, List, [], ◌++◌, length, map, get_or, slice_index, min, inl, inr, bit_or, refl, sym, ap, ap₂, ◌∙◌, subst, subst₂, arith, ⊎_elim, pow_mono}
-use Rattle.word_image.proofs.Common.{zip2, or_shifted_r, mod-add-div, cases_lt, get_or_append_left, get_or_default, length-map, get_or-map, or_lt, div_below, get_or-zip2, length-zip2, LocalRule, IsRule, node_count, IsBitSet-or, IsBitSet-pow, IsEdge, IsEnds, IsStep, IsSetOf-same}
+use Rattle.std.proofs.lemmas.Simd.{get_or-zip2, length-zip2}
+use Rattle.std.specs.Int.Bits.{or_shifted_r}
+use Rattle.std.specs.Simd.Lanes.{zip2}
+use Rattle.word_image.proofs.Common.{mod-add-div, cases_lt, get_or_append_left, get_or_default, length-map, get_or-map, or_lt, div_below, LocalRule, IsRule, node_count, IsBitSet-or, IsBitSet-pow, IsEdge, IsEnds, IsStep, IsSetOf-same}
 use Rattle.std.proofs.Math.Nat.{mul-lt-mul_of_pos_right, one-mul, mul-one, mul_comm, add-mul}
 use Rattle.std.proofs.lemmas.List.{get_or-append-add, length-append}
 use Rattle.std.proofs.lemmas.Nat.{pow_pos, pow-add}

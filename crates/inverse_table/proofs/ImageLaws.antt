@@ -1,6 +1,7 @@
 -- The values of the images of all words of one length.
 use Rattle.std.proofs.Common.{◌≡◌, ℕ, suc, ◌+◌, ◌-◌, ◌*◌, ◌%◌, ◌^◌, ◌<◌, ◌≤◌, List, [], ◌∷◌, ◌++◌, All, length, map, take, drop, get_or, slice_index, sym, ap, ap₂, subst, ◌∙◌, ⊎_elim, arith, length-append, length-drop, pow-suc, mod-lt, mul-le-mul_right, length-take-le, get_or-drop, get_or-take}
-use Rattle.word_image.proofs.Common.{pow-le-pow_right, get_or-append, cases_lt, length-map, get_or-append_right, get_or-map, All-take, All-from_get_or, LocalRule, IsRule, IsWord, value, word_of, local_map, node_count, image, label, value-drop, value-snoc, value-below, length-word_of, IsWord-word_of, value-word_of, split_last, IsWord-image, length-image, image-snoc, local_map-label, node_count_pos, windows-nodes}
+use Rattle.std.proofs.Math.ListN.{get_or-append}
+use Rattle.word_image.proofs.Common.{pow-le-pow_right, cases_lt, length-map, get_or-append_right, get_or-map, All-take, All-from_get_or, LocalRule, IsRule, IsWord, value, word_of, local_map, node_count, image, label, value-drop, value-snoc, value-below, length-word_of, IsWord-word_of, value-word_of, split_last, IsWord-image, length-image, image-snoc, local_map-label, node_count_pos, windows-nodes}
 use Rattle.inverse_table.specs.ImageValues.{AreImageValues, labels_from}
 
 -- the rows before another one end before it begins

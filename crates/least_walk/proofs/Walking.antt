@@ -1,6 +1,7 @@
 -- A breadth first search through the marked pairs, one step more at a time.
 use Rattle.std.proofs.Common.{◌≡◌, ◌≢◌, ℕ, zero, suc, ◌+◌, ◌-◌, ◌*◌, ◌/◌, ◌%◌, ◌<◌, ◌≤◌, ◌↔◌, ◌⊎◌, inl, inr, List, [], ◌∷◌, ◌++◌, length, get_or, map, reverse, zero-mul, Option, Some, None, Bool, true, false, true≢false, refl, sym, ap, ap₂, ◌∙◌, subst, subst₂, arith, ⊎_elim, slice_get, ◌==◌}
-use Rattle.word_image.proofs.Common.{option_eq, cases_lt, Decides-eqb, map-append, length-map, length_push, slice_get_within, slice_get-get_or, get_or_from_slice_get, none-some, same_Some, LocalRule, IsRule, node_count, pair_count, marked, slice_get-append, slice_get-push, slice_get-push_cases, only_place}
+use Rattle.std.specs.Option.{option_eq}
+use Rattle.word_image.proofs.Common.{cases_lt, Decides-eqb, map-append, length-map, length_push, slice_get_within, slice_get-get_or, get_or_from_slice_get, none-some, same_Some, LocalRule, IsRule, node_count, pair_count, marked, slice_get-append, slice_get-push, slice_get-push_cases, only_place}
 use Rattle.std.proofs.Math.Nat.{mul-le-mul_right, suc-mul}
 use Rattle.search_laws.proofs.Common.{Place, TreeSpells, IsQueue, NoEdgeBefore, Root, Branch, HaveMet-next, HaveMet-push, edge-within, IsQueue-start, IsQueue-there, IsQueue-new, mapped_at, unmapped_at, length-queue-le, state-below, letter_before, TreeSpells-some, length-spelled-le, uncode-code, code, Leads-walk, CodeStep-some, CodeStep-follows, IsLeastWalk-steps, no_walk, PairWalk, IsLeastWalk, uncode}
 use Rattle.search_laws.proofs.LeastSteps.{IsLeastStepsTo, IsLeastStepsTo-edge, no_steps_to}

@@ -1,6 +1,8 @@
 -- Rows of sets by lanes: one lane for each second node.
 use Rattle.std.proofs.Common.{◌≡◌, ◌≢◌, ℕ, ◌+◌, ◌%◌, ◌^◌, ◌<◌, ◌↔◌, List, [], length, map, replicate, Bool, false, not, cond, nat_eq, slice_index, slice_index_or, IsBitSet, bit_and, bit_or, sym, ap, ◌∙◌, subst, arith, w16, ne_eqb}
-use Rattle.word_image.proofs.Common.{zip2, mask_l, top, bit_at, and_le_r, get_or-map, get_or-replicate, length-map, get_or-zip2, length-zip2, mask_l-lt, bitmask_splat, bit_mask_l, LocalRule, bit_at-IsBitSet, IsBitSet-some, IsBitSet-zero, IsUnion, IsUnion-take, label_at, end_at}
+use Rattle.std.proofs.lemmas.Simd.{get_or-zip2, length-zip2, mask_l-lt, bitmask_splat, bit_mask_l}
+use Rattle.std.specs.Simd.Lanes.{zip2, mask_l, top}
+use Rattle.word_image.proofs.Common.{bit_at, and_le_r, get_or-map, get_or-replicate, length-map, LocalRule, bit_at-IsBitSet, IsBitSet-some, IsBitSet-zero, IsUnion, IsUnion-take, label_at, end_at}
 use Rattle.std.proofs.lemmas.Simd.{length-replicate}
 use Rattle.pair_laws.proofs.Common.{IsBitSet-and}
 use Rattle.word_image.specs.declared.side.Side.{Side}

@@ -1,6 +1,7 @@
 -- Sets of nodes as bits: what two have both, and what one has more than another.
 use Rattle.std.proofs.Common.{◌≡◌, ℕ, ◌+◌, ◌-◌, ◌*◌, ◌/◌, ◌%◌, ◌^◌, ◌<◌, ◌↔◌, IsBitSet, bit_and, sym, ap, ◌∙◌, subst, arith, ⊎_elim, w16, pow-add}
-use Rattle.word_image.proofs.Common.{bit_at, cases_lt, one_shl, and_le_r, div-div-eq-div-mul, bit_at_and, bit_at_not, bit_at_above, bit_at-lt, IsSetOf, bit_at-IsBitSet, IsBitSet-some, IsBitSet-zero, IsBitSet-pow}
+use Rattle.std.proofs.lemmas.Nat.Bits.{bit_at_and, bit_at_not, bit_at_above, bit_at-lt}
+use Rattle.word_image.proofs.Common.{bit_at, cases_lt, one_shl, and_le_r, div-div-eq-div-mul, IsSetOf, bit_at-IsBitSet, IsBitSet-some, IsBitSet-zero, IsBitSet-pow}
 
 -- a set of n nodes has only nodes below n
 pub IsBitSet-below : (n a i : ℕ) → a < 2 ^ n → IsBitSet a i → i < n

@@ -1,6 +1,9 @@
 -- The states of a breadth first queue: each is listed once, so there are no more places than states.
 use Rattle.std.proofs.Common.{◌≡◌, ◌≢◌, ℕ, zero, suc, ◌<◌, ◌≤◌, List, [], ◌∷◌, length, map, Some, Contains, AllPairs, refl, sym, ap, ◌∙◌, subst, arith, ⊎_elim, option_map, slice_get}
-use Rattle.word_image.proofs.Common.{Decides-eqb, cases_eq, length-map, IsDistinct-from_AllPairs, length-le_from_distinct_below, Contains-from_any, slice_get_within, slice_get-get_or, get_or_from_slice_get, slice_get-map, none-some}
+use Rattle.std.proofs.lemmas.Map.Made.{IsDistinct-from_AllPairs}
+use Rattle.std.proofs.lemmas.Map.Steps.{length-le_from_distinct_below}
+use Rattle.std.proofs.lemmas.Map.Views.{Contains-from_any}
+use Rattle.word_image.proofs.Common.{Decides-eqb, cases_eq, length-map, slice_get_within, slice_get-get_or, get_or_from_slice_get, slice_get-map, none-some}
 use Rattle.search_laws.specs.SearchQueues.{Place, IsFilled, IsQueue}
 
 -- the states of a list, in its order

@@ -1,6 +1,7 @@
 -- Each step leads to one set of nodes, each word has one set of last nodes, and steps lead along words from set to set.
 use Rattle.std.proofs.Common.{◌≡◌, ℕ, zero, suc, ◌^◌, ◌<◌, ◌≤◌, ◌⊎◌, ◌↔◌, List, [], ◌∷◌, IsBitSet, bit_or, refl, sym, ◌∙◌, subst, arith, add-one, ⊎_elim}
-use Rattle.word_image.proofs.Common.{bit_at, cases_eq, bit_at-lt, same_from_bits_below, LocalRule, IsRule, IsWord, node_count, IsOrphan, IsSetOf, full_set, next, label, IsEdge, IsStep, IsLastSet, bit_at-IsBitSet, IsBitSet-decide, IsUnion-none, IsSetTo, IsSetTo-take, IsSetTo-skip, IsSetTo-all, IsLastSet-full, IsLastSet-step, IsPreimage-nonempty_set, decide_both, exists_below}
+use Rattle.std.proofs.lemmas.Nat.Bits.{bit_at-lt, same_from_bits_below}
+use Rattle.word_image.proofs.Common.{bit_at, cases_eq, LocalRule, IsRule, IsWord, node_count, IsOrphan, IsSetOf, full_set, next, label, IsEdge, IsStep, IsLastSet, bit_at-IsBitSet, IsBitSet-decide, IsUnion-none, IsSetTo, IsSetTo-take, IsSetTo-skip, IsSetTo-all, IsLastSet-full, IsLastSet-step, IsPreimage-nonempty_set, decide_both, exists_below}
 use Rattle.word_image.specs.declared.side.Side.TheVariants.{Right}
 use Rattle.search_laws.specs.Walks.{Walk, Leads}
 use Rattle.search_laws.proofs.Walks.{Leads-induct}

@@ -1,6 +1,7 @@
 -- The first list of letter pairs that the numbers below n have, number by number, and in bytes: a letter pair (a, b) is the byte 16 a + b.
 use Rattle.std.proofs.Common.{◌≡◌, ◌≢◌, ℕ, ◌+◌, ◌/◌, ◌%◌, ◌<◌, ◌≤◌, List, map, Option, Some, None, Vec, Global, if◌then◌else◌, sym, ap, ap₂, ◌∙◌, subst, subst₂, ⊎_elim, arith, MatchOption, is_lt, Ordering, Less, Equal, Greater}
-use Rattle.word_image.proofs.Common.{cases_eq, map-map, word_cmp, pairs_cmp, no_later, not_before, pairs_cmp_total}
+use Rattle.std.proofs.lemmas.Simd.{map-map}
+use Rattle.word_image.proofs.Common.{cases_eq, word_cmp, pairs_cmp, no_later, not_before, pairs_cmp_total}
 use Rattle.search_laws.proofs.Common.{ArePairs, uncode, pairs_cmp-codes, codes-uncode}
 use Rattle.tail_laws.specs.FirstLists.{IsLeastOf, NoneBelow, IsFirstBelow, IsFirstFound}
 

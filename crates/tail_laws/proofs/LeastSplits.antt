@@ -1,6 +1,8 @@
 -- The least normal right split: the least of at most one candidate for each state of the marked graph, made of two least walks.
 use Rattle.std.proofs.Common.{◌≡◌, ◌≢◌, ℕ, ◌+◌, ◌≤◌, List, [], ◌∷◌, length, map, sym, ap, ap₂, ◌∙◌, subst, ⊎_elim, arith, zip, nat_cmp, Ordering, Equal, Greater}
-use Rattle.word_image.proofs.Common.{ordering_then, IsTotalOrder, nat_cmp_is, slice_cmp, cases_lt, then_total, on_total, lists_total, nat_cmp_total, length-map, firsts-zip, seconds-zip, LocalRule, IsRule, pair_count, marked, pair_cmp, pairs_cmp, then_not_greater, nat_cmp-le, nat_cmp-equal, no_later, pair_cmp_total}
+use Rattle.std.proofs.lemmas.Cmp.{then_total, on_total, lists_total, nat_cmp_total}
+use Rattle.std.proofs.lemmas.Slice.Zip.{firsts-zip, seconds-zip}
+use Rattle.word_image.proofs.Common.{ordering_then, IsTotalOrder, nat_cmp_is, slice_cmp, cases_lt, length-map, LocalRule, IsRule, pair_count, marked, pair_cmp, pairs_cmp, then_not_greater, nat_cmp-le, nat_cmp-equal, no_later, pair_cmp_total}
 use Rattle.search_laws.proofs.Common.{IsLeastWalk, IsLeastWalkTo}
 use Rattle.tail_config.proofs.Common.{TailConfig, IsNormalRightSplit, IsLeastRightSplit, splits_cmp}
 use Rattle.tail_laws.specs.SplitWalks.{IsSplitAt, IsNoSplitBelow, IsLeastSplitAt, IsLeastBelow, with_mark, first_tail, second_tail, split_of}

@@ -1,6 +1,7 @@
 -- The least twins are the first of the least walks in the marked graph from a pair without the mark to the same pair with it.
 use Rattle.std.proofs.Common.{◌≢◌, ℕ, ◌+◌, ◌<◌, ◌≤◌, List, [], ◌∷◌, length, map, sym, ◌∙◌, subst, arith, zip, Greater}
-use Rattle.word_image.proofs.Common.{length-map, length-zip, LocalRule, IsRule, pair_count, marked, IsTwins, IsLeastTwins, pairs_cmp, pair_count_pos, pair_count-le}
+use Rattle.std.proofs.lemmas.Slice.Zip.{length-zip}
+use Rattle.word_image.proofs.Common.{length-map, LocalRule, IsRule, pair_count, marked, IsTwins, IsLeastTwins, pairs_cmp, pair_count_pos, pair_count-le}
 use Rattle.search_laws.proofs.Common.{IsLeastWalk, length-IsLeastWalk}
 use Rattle.tail_laws.specs.Turns.{IsTurn}
 use Rattle.pair_laws.proofs.Common.{marked-below}

@@ -1,6 +1,7 @@
 -- Normal right splits as two walks in the marked graph: the one spells the middles, the other the right periods.
 use Rattle.std.proofs.Common.{◌≡◌, ◌≢◌, ◌⊎◌, ℕ, ◌+◌, ◌-◌, ◌%◌, ◌<◌, ◌≤◌, List, [], ◌∷◌, length, map, inl, inr, refl, sym, ap, ◌∙◌, subst, ⊎_elim, arith, mod-eq_of_lt, zip}
-use Rattle.word_image.proofs.Common.{add-mod_right, zero-mod, mod-mod, length-map, length-zip, All-nil, All-cons, All-head, All-tail, All-map, LocalRule, IsRule, IsWord, pair_count, marked, pair_count_pos}
+use Rattle.std.proofs.lemmas.Slice.Zip.{length-zip}
+use Rattle.word_image.proofs.Common.{add-mod_right, zero-mod, mod-mod, length-map, All-nil, All-cons, All-head, All-tail, All-map, LocalRule, IsRule, IsWord, pair_count, marked, pair_count_pos}
 use Rattle.pair_laws.proofs.Common.{mark-below}
 use Rattle.search_laws.proofs.Common.{ArePairs}
 use Rattle.tail_config.proofs.Common.{TailConfig, IsTail, IsNormalRightSplit, IsWord-zero, same_or_differ, DifferAt-different}

@@ -1,47 +1,22 @@
--- The definitions and lemmas of this crate that proofs above cite, and those of std that its own Common lacks, passed on from one place. Declares nothing.
+-- The definitions and lemmas of this crate, and the most cited of std, that proofs above cite, passed on from one place. Declares nothing.
 pub use Rattle.std.specs.Cmp.{IsTotalOrder, nat_cmp_is, nat_eq_equiv}
 pub use Rattle.std.specs.Cmp.Lexicographic.{pointwise, slice_cmp, told_text}
 pub use Rattle.std.specs.Int.{IsGcd, bit_at, bit_not, from_bool, int_rem_euclid}
-pub use Rattle.std.specs.Int.Bits.{and_self, or_shifted_r}
-pub use Rattle.std.specs.Io.KnownBytes.{Appends, Consumes, IsAtEnd}
 pub use Rattle.std.specs.List.{AllByRecursion, AllZip, IsDistinct, join_by, list_all, list_any, position_or_len, prefix_len, range_with_len, repeat}
-pub use Rattle.std.specs.List.Sorted.{IsNonDecreasingBy, IsStrictlyIncreasing, IsStrictlySortedBy}
-pub use Rattle.std.specs.Option.{option_eq, option_or}
 pub use Rattle.std.specs.Ordering.{match_ordering, ord_max, ordering_reverse, ordering_then}
-pub use Rattle.std.specs.Simd.Lanes.{mask_l, top, zip2}
-pub use Rattle.std.proofs.KnownBytes.{Appends-nil, Appends-trans, Consumes-nil}
-pub use Rattle.std.proofs.Math.IntN.{neg_ℤ-neg_ℤ, pos-*ℤ-pos}
-pub use Rattle.std.proofs.Math.ListN.{get_or-append, get_or-eq_default}
 pub use Rattle.std.proofs.Math.Nat.{add-mod_right, add-mul-mod_self_right, div-add-mod, div-div-eq-div-mul, div-eq_of_lt, div-lt_self, dvd_of_mul-dvd-mul_left, eq-one_of_dvd-one, eq-zero_of_zero-dvd, eq_of_mul-eq-mul_left, max-le, mod-add-div, mod-add-mod, mod-eq-sub-mod, mod-mod, mod_self, mul-div_cancel', mul-div_cancel_left, mul-dvd-mul_left, mul-mod_left, one-le-pow, pow-le-pow_left, pow-le-pow_right, pow-zero, suc-mod, zero-div, zero-mod}
-pub use Rattle.std.proofs.Math.Path.{fun_ext}
-pub use Rattle.std.proofs.Math.Pow.{pow-lt}
 pub use Rattle.std.proofs.Math.Seq.{drop-append-add, drop-append_seam, get_or-append_seam, take-append-add, take-append_seam, take-length}
 pub use Rattle.std.proofs.lemmas.Bool.{and_parts, cases_Bool, cases_eq, cases_lt, cases_order, cond-false, cond-true, cond_both, eqb-false, false≢true, not-true}
 pub use Rattle.std.proofs.lemmas.Bool.Decides.{Decides-below_and, Decides-eqb, Decides-ltb, eqb_tells, leb_tells, nat_tests, not_from_Decides, same_from_decides}
-pub use Rattle.std.proofs.lemmas.Cmp.{by_ranked, lists_total, nat_cmp_total, nat_list_cmp_total, on_total, ranked, then_total}
-pub use Rattle.std.proofs.lemmas.Fmt.{IsAscii-decimal, IsAscii-signed, decimal_digit, decimal_nonempty, decimal_step, length-decimal-le, length_signed_le}
 pub use Rattle.std.proofs.lemmas.Grind.{and_numeral, flat_map-append, get_or-set_at, same_number_lists}
 pub use Rattle.std.proofs.lemmas.Int.{by_lt_z, fits_signed_from_abs, ints, unsigned_abs-mul}
-pub use Rattle.std.proofs.lemmas.Iterator.{YieldsList-from_map_by, YieldsList-from_slice}
-pub use Rattle.std.proofs.lemmas.Iterator.Consumers.{map_from_collect}
 pub use Rattle.std.proofs.lemmas.List.{drop-append-le, drop-map, drop-replicate, drop-set, drop-take, drop_all, drop_more, flat_map_more, get_or-append_right, get_or-map, get_or-replicate, get_or-reverse, get_or_append_left, get_or_at, get_or_default, get_or_past, get_or_push, length-map, length-replicate, length-reverse, length_push, map-append, map_more, map_push, nil_from_length, replicate-append-replicate, reverse-append, reverse-reverse, same_from_push, same_lists, take-append-le, take-map, take-replicate, take_more, take_more_set, take_rest}
 pub use Rattle.std.proofs.lemmas.List.Elements.{All-append, All-cons, All-contains, All-contains_itself, All-drop, All-filter, All-from_get_or, All-from_recursion, All-head, All-map, All-more, All-nil, All-push, All-replicate, All-set, All-tail, All-take, All-weaker, Contains-append_cases, Contains-append_left, Contains-append_right, Contains-get_or, Contains-push, Contains-push_cases, filter_more, recursion_from_All}
 pub use Rattle.std.proofs.lemmas.List.FromFn.{fill_by_all, get_or-map-range_with_len, get_or-range_with_len, length-map-range_with_len, length-range_with_len, map-range_with_len_more, sum_by-map-range_with_len_more, take-map-range_with_len}
-pub use Rattle.std.proofs.lemmas.List.Quantifiers.{all_pairs_push, position-Some}
-pub use Rattle.std.proofs.lemmas.List.Sorted.{Contains-permutation, IsNonDecreasingBy-from_sort, IsNonDecreasingBy-from_sort_by_key, IsPermutation-keeps, IsPermutation-sym}
 pub use Rattle.std.proofs.lemmas.List.Sums.{AllPass-from_list_all, count_by_more_no, count_by_more_yes, fails_before_first, position_or_len_is, sum_by-append, sum_by-cons, sum_by-le, sum_by-set, sum_by-take-drop, sum_by_more, sum_by_push}
-pub use Rattle.std.proofs.lemmas.Map.Keys.{IsStrictlyIncreasing-from_distinct, sorted_from_all_adjacent, sorted_from_strictly_increasing, sorted_head, sorted_tail}
-pub use Rattle.std.proofs.lemmas.Map.Made.{Contains-tail, IsDistinct-from_AllPairs}
-pub use Rattle.std.proofs.lemmas.Map.Steps.{length-le_from_distinct_below}
-pub use Rattle.std.proofs.lemmas.Map.Views.{Contains-from_any, Contains-from_lookup, IsSome-lookup_from_Contains}
 pub use Rattle.std.proofs.lemmas.Nat.{and-not, and_assoc, and_comm, and_le_l, and_le_r, and_mask, bit_set_by_shift, div-mul-add, div_below, le_or_l, mod-mul-add, mod_below, mul-add-lt, mul-le, mul-pow, one_shl, or_lt, pow_below, same_from_place, shl-shr}
-pub use Rattle.std.proofs.lemmas.Nat.Bits.{and_pow, bit_at-lt, bit_at-trailing_zeros, bit_at_above, bit_at_and, bit_at_clear_other, bit_at_clear_same, bit_at_not, bit_at_ones, ones_shr, same_from_bits, same_from_bits_below, shr_and_one}
 pub use Rattle.std.proofs.lemmas.Option.{get_or_from_slice_get, none-some, same_Some, slice_get-get_or, slice_get-map, slice_get_read, slice_get_within, unwrap_or-slice_get}
 pub use Rattle.std.proofs.lemmas.Result.{IfOk-at_ok, IfOk-weaker, err_from_is_err_and, on_ok_weaker}
-pub use Rattle.std.proofs.lemmas.Simd.{bit_mask_l, bitmask_splat, get_or-zip2, length-zip2, map-map, mask_l-lt}
-pub use Rattle.std.proofs.lemmas.Slice.Eq.{bytes_eq-Decides, slice_eq-Decides}
-pub use Rattle.std.proofs.lemmas.Slice.Zip.{all_zipped_more, firsts-zip, length-zip, seconds-zip}
-pub use Rattle.std.proofs.lemmas.Str.{IsAscii-append, IsUtf8-append, IsUtf8-from_ascii}
 pub use Rattle.word_image.specs.Digits.{IsHexDigit, hex_value, letter_at, lower_digit, word_text}
 pub use Rattle.word_image.specs.Edges.{AreEdgeRows, IsEdge, IsEnds, IsStep}
 pub use Rattle.word_image.specs.Ends.{end_at, end_node, label_at, window_with}

@@ -3,7 +3,9 @@ use borrow.Author.Tests.{eqb-true}
 use Rattle.std.proofs.Common.{◌≡◌, ◌≢◌, ◌↔◌, ℕ, nat_eq, Bool, true, false, true≢false, IsTrue, List, [], ◌∷◌, ◌++◌, length, get_or, is_some, None, Some, All, Contains, pos, refl, sym, ap, subst, ◌∙◌, arith}
 use Rattle.std.specs.Map.{keys_of, lookup}
 use Rattle.std.proofs.lemmas.Cmp.{nat_eq_equiv}
-use Rattle.word_image.proofs.Common.{get_or-map, length-map, All-push, All-map, All-weaker, All-contains, Contains-get_or, Contains-append_left, Contains-push, Contains-from_lookup, IsSome-lookup_from_Contains, LocalRule, IsRule, wolfram_number, all_pairs_push}
+use Rattle.std.proofs.lemmas.List.Quantifiers.{all_pairs_push}
+use Rattle.std.proofs.lemmas.Map.Views.{Contains-from_lookup, IsSome-lookup_from_Contains}
+use Rattle.word_image.proofs.Common.{get_or-map, length-map, All-push, All-map, All-weaker, All-contains, Contains-get_or, Contains-append_left, Contains-push, LocalRule, IsRule, wolfram_number}
 use Rattle.rule_classes.specs.Classes.{IsLeastOfClass}
 use Rattle.rule_classes.proofs.laws.Numbers.{same_number}
 use Rattle.rule_verdicts.specs.declared.truths.Truths.{Truths}

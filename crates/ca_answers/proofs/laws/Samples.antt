@@ -1,6 +1,7 @@
 -- The rules of a survey and of a sample, one by one.
 use Rattle.std.proofs.Common.{◌≡◌, ℕ, suc, ◌+◌, ◌-◌, ◌*◌, ◌/◌, ◌%◌, ◌^◌, ◌<◌, ◌≤◌, List, [], ◌∷◌, ◌++◌, map, None, refl, sym, ap, ap₂, ◌∙◌, arith, add-one, mod-lt, get_or, append_assoc, append-nil, pos}
-use Rattle.word_image.proofs.Common.{range_with_len, option_or, map-range_with_len_more, length-map-range_with_len, nat_tests, add-mul-mod_self_right, All-map, All-from_get_or, LocalRule, IsShape, IsRule}
+use Rattle.std.specs.Option.{option_or}
+use Rattle.word_image.proofs.Common.{range_with_len, map-range_with_len_more, length-map-range_with_len, nat_tests, add-mul-mod_self_right, All-map, All-from_get_or, LocalRule, IsShape, IsRule}
 use Rattle.std.proofs.lemmas.Nat.{div-add-mod'}
 use Rattle.rule_text.specs.RuleTexts.{number_fault}
 use Rattle.rule_text.proofs.laws.AcceptedRules.{none_or}

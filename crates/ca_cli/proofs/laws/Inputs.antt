@@ -1,6 +1,7 @@
 -- What was taken of a source, and what it had left.
 use Rattle.std.proofs.Common.{◌+◌, ◌≤◌, ℕ, List, [], ◌++◌, length, length-append, refl, sym, ap, ◌∙◌, arith, Option, None, Some}
-use Rattle.word_image.proofs.Common.{Consumes, IsAtEnd, Consumes-nil}
+use Rattle.std.proofs.KnownBytes.{Consumes-nil}
+use Rattle.std.specs.Io.KnownBytes.{Consumes, IsAtEnd}
 use Rattle.std.proofs.lemmas.List.{append-nil}
 use Rattle.ca_cli.specs.Inputs.{most_input, IsWholeInput, IsLongInput}
 use Rattle.ca_cli.specs.Readings.{Reading}

@@ -1,6 +1,7 @@
 -- The line of weights.
 use Rattle.std.proofs.Common.{◌≡◌, ℕ, List, [], ◌++◌, length, true, false, cond, codes, bytes_eq, refl, decimal}
-use Rattle.word_image.proofs.Common.{join_by, bytes_eq-Decides, own_weights}
+use Rattle.std.proofs.lemmas.Slice.Eq.{bytes_eq-Decides}
+use Rattle.word_image.proofs.Common.{join_by, own_weights}
 use Rattle.ca_text.specs.Reports.{line}
 use Rattle.ca_text.specs.StatusLines.{weights_lines}
 

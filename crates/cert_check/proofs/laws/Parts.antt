@@ -1,6 +1,8 @@
 -- A set of nodes contains a listed set exactly where it is listed, or contains one without one of its nodes.
 use Rattle.std.proofs.Common.{◌≡◌, ℕ, ◌+◌, ◌*◌, ◌%◌, ◌^◌, ◌<◌, ◌≤◌, ◌↔◌, ◌⊎◌, inl, inr, List, Contains, bit_and, w16, sym, ap, subst, ◌∙◌, ⊎_elim, arith}
-use Rattle.word_image.proofs.Common.{bit_at, bit_not, and_self, cases_eq, and_le_l, and_le_r, bit_at_and, bit_at-lt, bit_at_clear_same, bit_at_clear_other, same_from_bits, same_from_bits_below}
+use Rattle.std.proofs.lemmas.Nat.Bits.{bit_at_and, bit_at-lt, bit_at_clear_same, bit_at_clear_other, same_from_bits, same_from_bits_below}
+use Rattle.std.specs.Int.Bits.{and_self}
+use Rattle.word_image.proofs.Common.{bit_at, bit_not, cases_eq, and_le_l, and_le_r}
 use Rattle.pair_laws.proofs.Common.{differ_below}
 use Rattle.cert_conditions.proofs.Common.{HasPart}
 use Rattle.cert_conditions.proofs.laws.Parts.{part-of_part}

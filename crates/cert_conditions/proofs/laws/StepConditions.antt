@@ -1,6 +1,8 @@
 -- What listed sets and a read orphan say of surjectivity (Sutner 1991), and what says so of every rule.
 use Rattle.std.proofs.Common.{◌≡◌, ◌≢◌, ℕ, ◌^◌, ◌<◌, min, List, [], ◌∷◌, ◌++◌, length, slice_index, Contains, IsBitSet, bit_and, sym, ap, subst, ◌∙◌, append_assoc, append-nil, arith, pow_pos}
-use Rattle.word_image.proofs.Common.{bit_at, and_self, and_le_r, bit_at_and, bit_at-lt, get_or_default, All-tail, LocalRule, IsRule, IsWord, node_count, IsSurjective, IsOrphan, full_set, IsLastNode, bit_at-IsBitSet, IsBitSet-some, IsOrphan-empty_set}
+use Rattle.std.proofs.lemmas.Nat.Bits.{bit_at_and, bit_at-lt}
+use Rattle.std.specs.Int.Bits.{and_self}
+use Rattle.word_image.proofs.Common.{bit_at, and_le_r, get_or_default, All-tail, LocalRule, IsRule, IsWord, node_count, IsSurjective, IsOrphan, full_set, IsLastNode, bit_at-IsBitSet, IsBitSet-some, IsOrphan-empty_set}
 use Rattle.word_image.proofs.laws.LastNodes.{IsLastNode-empty, IsLastNode-push}
 use Rattle.search_laws.proofs.Common.{IsLastSet-leads}
 use Rattle.cert_format.specs.declared.cert_version.CertVersion.{CertVersion}

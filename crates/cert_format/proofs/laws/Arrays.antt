@@ -1,6 +1,7 @@
 -- The items of an array, beside the vector that holds them.
 use Rattle.std.proofs.Common.{◌≡◌, ℕ, zero, suc, ◌+◌, ◌<◌, List, [], ◌∷◌, ◌++◌, length, map, take, get_or, Some, refl, sym, ap, ◌∙◌, subst, arith, add-one, take-suc}
-use Rattle.word_image.proofs.Common.{AllZip, none-some, same_Some, map-append, all_zipped_more}
+use Rattle.std.proofs.lemmas.Slice.Zip.{all_zipped_more}
+use Rattle.word_image.proofs.Common.{AllZip, none-some, same_Some, map-append}
 use Rattle.serde_json.specs.Data.{Data, array, Items, no_items, item}
 use Rattle.serde_json.specs.Find.{as_array}
 use Rattle.serde_json.specs.Events.{items_len}

@@ -1,6 +1,8 @@
 -- The printed texts of words, configurations and rules are ASCII, and so UTF-8.
 use Rattle.std.proofs.Common.{ℕ, ◌+◌, ◌<◌, ◌≤◌, List, [], ◌∷◌, ◌++◌, arith, lit<, lit≤, ℤ, pos, negsuc, IsUtf8, IsAscii, decimal}
-use Rattle.word_image.proofs.Common.{nat_tests, ints, IsAscii-append, IsUtf8-from_ascii, IsAscii-decimal, All-head, All-tail, LocalRule, IsShape, IsRule, IsWord, lower_digit, word_text}
+use Rattle.std.proofs.lemmas.Fmt.{IsAscii-decimal}
+use Rattle.std.proofs.lemmas.Str.{IsAscii-append, IsUtf8-from_ascii}
+use Rattle.word_image.proofs.Common.{nat_tests, ints, All-head, All-tail, LocalRule, IsShape, IsRule, IsWord, lower_digit, word_text}
 use Rattle.std.proofs.lemmas.Str.Ascii.{IsAscii-nil, IsAscii-cons}
 use Rattle.tail_config.specs.TailTexts as tail
 use Rattle.tail_config.proofs.Common.{TailOver, IsAcceptedTail}

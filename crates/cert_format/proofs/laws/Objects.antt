@@ -1,6 +1,7 @@
 -- The members of an object, beside the entries of the map that holds them.
 use Rattle.std.proofs.Common.{◌≡◌, ℕ, zero, suc, List, [], ◌∷◌, length, map, Option, Some, Ordering, Less, Equal, Greater, String, Global, string_bytes, nat_cmp, is_eq, All, Contains, slice_get, Bool, true, bytes_eq, IsTrue, ◌↔◌, refl, sym, ap, ◌∙◌, subst, arith, ap₂}
-use Rattle.word_image.proofs.Common.{list_any, match_ordering, slice_cmp, bytes_eq-Decides, none-some, same_Some, All-contains, All-map, slice_cmp-same}
+use Rattle.std.proofs.lemmas.Slice.Eq.{bytes_eq-Decides}
+use Rattle.word_image.proofs.Common.{list_any, match_ordering, slice_cmp, none-some, same_Some, All-contains, All-map, slice_cmp-same}
 use Rattle.std.specs.Map.{keys_of as names_of}
 use Rattle.std.proofs.lemmas.Map.Text.{is_eq-slice_cmp}
 use Rattle.std.proofs.lemmas.List.Folds.{Any-from_list_any, list_any-from_Any}

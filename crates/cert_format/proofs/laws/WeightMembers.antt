@@ -1,6 +1,7 @@
 -- The weights of a certificate: read within their limits, and written exactly where they aren't the letters' own.
 use Rattle.std.proofs.Common.{◌≡◌, ℕ, ◌⊎◌, inl, inr, List, length, map, codes, bytes_eq, true, false, cond, refl, sym, ap, subst, ◌∙◌, ⊎_elim, arith}
-use Rattle.word_image.proofs.Common.{false≢true, bytes_eq-Decides, LocalRule, IsRule, AreWeights, own_weights}
+use Rattle.std.proofs.lemmas.Slice.Eq.{bytes_eq-Decides}
+use Rattle.word_image.proofs.Common.{false≢true, LocalRule, IsRule, AreWeights, own_weights}
 use Rattle.serde_json.specs.Data.{Members, no_members, member}
 use Rattle.word_image.proofs.laws.Weights.{AreWeights-own}
 use Rattle.cert_format.specs.declared.cert_version.CertVersion.{CertVersion}

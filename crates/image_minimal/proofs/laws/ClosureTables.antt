@@ -1,6 +1,7 @@
 -- The closure of a set by those of the sets with one node more.
 use Rattle.std.proofs.Common.{◌≡◌, ℕ, ◌+◌, ◌^◌, ◌<◌, ◌⊎◌, ◌↔◌, inl, inr, List, set, slice_index, IsBitSet, bit_and, bit_or, refl, sym, ◌∙◌, subst, arith, ⊎_elim, pow_pos, get_or-set_same, get_or-set_other, length-set}
-use Rattle.word_image.proofs.Common.{cases_eq, le_or_l, or_lt, pow-lt, LocalRule, node_count, IsNodeSet, full_set, IsBitSet-or, IsBitSet-pow, IsBitSet-decide, some_below, IsBitSet-full, IsSetOf-same}
+use Rattle.std.proofs.Math.Pow.{pow-lt}
+use Rattle.word_image.proofs.Common.{cases_eq, le_or_l, or_lt, LocalRule, node_count, IsNodeSet, full_set, IsBitSet-or, IsBitSet-pow, IsBitSet-decide, some_below, IsBitSet-full, IsSetOf-same}
 use Rattle.pair_laws.proofs.Common.{IsSetOf-both}
 use Rattle.search_laws.proofs.Common.{same_set}
 use Rattle.image_minimal.specs.Closures.{IsWithin, IsUnreadSet, IsClosure, AreClosuresFrom}

@@ -2,7 +2,8 @@
 use Rattle.std.proofs.Common.{◌≡◌, ◌≢◌, ℕ, zero, suc, ◌+◌, ◌-◌, ◌*◌, ◌^◌, ◌<◌, ◌≤◌, List, [], ◌∷◌, length, map, slice_index, slice_index_or, ℤ, pos, negsuc, ◌+ℤ◌, ◌-ℤ◌, ◌*ℤ◌, refl, sym, ap, ap₂, subst, ◌∙◌, ⊎_elim, ◌⊎◌, inl, inr, arith, unsigned_abs}
 use Prim.Native.Nat.{◌∣◌}
 use Rattle.std.proofs.Math.Nat.{mul_left_comm, mul_assoc, mul-le-mul, mul-le-mul_left, mul-le-mul_right}
-use Rattle.word_image.proofs.Common.{eq-zero_of_zero-dvd, eq_of_mul-eq-mul_left, pos-*ℤ-pos, cases_lt, cases_eq, ints, unsigned_abs-mul, length-map, LocalRule, IsRule, IsWord, ring_image}
+use Rattle.std.proofs.Math.IntN.{pos-*ℤ-pos}
+use Rattle.word_image.proofs.Common.{eq-zero_of_zero-dvd, eq_of_mul-eq-mul_left, cases_lt, cases_eq, ints, unsigned_abs-mul, length-map, LocalRule, IsRule, IsWord, ring_image}
 use Rattle.std.proofs.lemmas.List.{length-take}
 use Rattle.kept_sums.specs.Sums.{sum_to}
 use Rattle.kept_sums.specs.Rows.{at, IsCross, IsDivisor}

@@ -1,7 +1,9 @@
 -- Rows as they are filled, and a row divided by its greatest divisor.
 use Rattle.std.proofs.Common.{◌≡◌, ◌≢◌, ℕ, ◌+◌, ◌*◌, ◌<◌, ◌≤◌, List, length, set, replicate, get_or-set_other, get_or-set_same, below_more, ℤ, pos, ◌-ℤ◌, ◌*ℤ◌, sym, ap, subst, ◌∙◌, ⊎_elim, arith, unsigned_abs}
 use Rattle.std.proofs.Math.Nat.{mul-one}
-use Rattle.word_image.proofs.Common.{mul-dvd-mul_left, dvd_of_mul-dvd-mul_left, eq-one_of_dvd-one, eq-zero_of_zero-dvd, ints, unsigned_abs-mul, cases_lt, get_or-eq_default, get_or-replicate, length-replicate, pos-*ℤ-pos}
+use Rattle.std.proofs.Math.IntN.{pos-*ℤ-pos}
+use Rattle.std.proofs.Math.ListN.{get_or-eq_default}
+use Rattle.word_image.proofs.Common.{mul-dvd-mul_left, dvd_of_mul-dvd-mul_left, eq-one_of_dvd-one, eq-zero_of_zero-dvd, ints, unsigned_abs-mul, cases_lt, get_or-replicate, length-replicate}
 use Prim.Native.Nat.{◌∣◌}
 use Rattle.kept_sums.specs.Rows.{at, IsCombined, IsDivisor, IsPart, IsUnit}
 use Rattle.kept_sums.specs.Sums.{sum_to}

@@ -1,6 +1,7 @@
 -- The step of the elimination: what it leaves keeps one sum more, and each weight that keeps it is still a combination.
 use Rattle.std.proofs.Common.{◌≡◌, ℕ, zero, suc, ◌*◌, ◌<◌, ◌≤◌, List, ℤ, pos, ◌+ℤ◌, ◌-ℤ◌, ◌*ℤ◌, refl, sym, ap, ap₂, ◌∙◌, ⊎_elim, ◌⊎◌, inl, inr, arith, mul-le-mul}
-use Rattle.word_image.proofs.Common.{cases_lt, pos-*ℤ-pos, ints, IsWord}
+use Rattle.std.proofs.Math.IntN.{pos-*ℤ-pos}
+use Rattle.word_image.proofs.Common.{cases_lt, ints, IsWord}
 use Rattle.kept_sums.specs.Sums.{sum_to}
 use Rattle.kept_sums.specs.Spans.{entry, IsSpanned, gain_at, IsNarrowed}
 use Rattle.kept_sums.proofs.laws.Integers.{mul-add, mul-sub, add-mul, mul-assoc, mul-swap, zero-of_times}

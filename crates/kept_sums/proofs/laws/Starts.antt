@@ -1,6 +1,7 @@
 -- The first stage: each free place has the row that gives it the weight 1.
 use Rattle.std.proofs.Common.{◌≡◌, ◌≢◌, ℕ, ◌-◌, ◌^◌, ◌<◌, ◌≤◌, List, [], replicate, slice_index, slice_index_or, ℤ, pos, ◌*ℤ◌, sym, ap, subst, ◌∙◌, ⊎_elim, arith, unsigned_abs}
-use Rattle.word_image.proofs.Common.{eq-one_of_dvd-one, get_or-eq_default, ints, cases_lt, cases_eq, get_or-replicate, length-replicate, LocalRule, IsRule, slice_index-zeros}
+use Rattle.std.proofs.Math.ListN.{get_or-eq_default}
+use Rattle.word_image.proofs.Common.{eq-one_of_dvd-one, ints, cases_lt, cases_eq, get_or-replicate, length-replicate, LocalRule, IsRule, slice_index-zeros}
 use Prim.Native.Nat.{◌∣◌}
 use Rattle.kept_sums.specs.Sums.{IsKept, sum_to}
 use Rattle.kept_sums.specs.Rows.{at, IsUnit, IsCombined}

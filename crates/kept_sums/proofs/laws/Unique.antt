@@ -1,6 +1,7 @@
 -- There is one answer: two have the same rows.
 use Rattle.std.proofs.Common.{◌≡◌, ◌≢◌, ℕ, zero, suc, ◌^◌, ◌<◌, ◌≤◌, List, [], slice_index, slice_index_or, ℤ, pos, negsuc, ◌-ℤ◌, ◌*ℤ◌, refl, sym, ap, subst, ◌∙◌, ⊎_elim, ◌⊎◌, inl, inr, arith, ◌<ℤ◌, unsigned_abs}
-use Rattle.word_image.proofs.Common.{pos-*ℤ-pos, cases_lt, ints, unsigned_abs-mul, LocalRule}
+use Rattle.std.proofs.Math.IntN.{pos-*ℤ-pos}
+use Rattle.word_image.proofs.Common.{cases_lt, ints, unsigned_abs-mul, LocalRule}
 use Rattle.kept_sums.specs.Sums.{sum_to}
 use Rattle.kept_sums.specs.Rows.{at, IsCombined}
 use Rattle.kept_sums.specs.Spans.{entry, IsSpanned}

@@ -1,6 +1,8 @@
 -- Lines behind lines.
 use Rattle.std.proofs.Common.{◌≡◌, ℕ, ◌+◌, ◌<◌, List, [], ◌∷◌, ◌++◌, length, take, Option, sym, ap, ◌∙◌, subst, arith}
-use Rattle.word_image.proofs.Common.{Appends, take-append-add, Appends-trans, LocalRule}
+use Rattle.std.proofs.KnownBytes.{Appends-trans}
+use Rattle.std.specs.Io.KnownBytes.{Appends}
+use Rattle.word_image.proofs.Common.{take-append-add, LocalRule}
 use Rattle.std.proofs.lemmas.List.{append_assoc, append-nil, length-append}
 use Rattle.list_run.specs.Lines.{rule_line, rule_lines}
 

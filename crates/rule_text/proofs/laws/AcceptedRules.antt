@@ -1,6 +1,7 @@
 -- The rule of a text is an accepted rule, which a checker needs of a text that it was handed.
 use Rattle.std.proofs.Common.{◌≡◌, ℕ, ◌^◌, ◌<◌, List, Option, Some, None, refl, sym, subst, arith, option_map}
-use Rattle.word_image.proofs.Common.{option_or, none-some, nat_tests, LocalRule, IsShape, IsRule, shape_fault, IsShape-shape_fault, IsWord-table_fault}
+use Rattle.std.specs.Option.{option_or}
+use Rattle.word_image.proofs.Common.{none-some, nat_tests, LocalRule, IsShape, IsRule, shape_fault, IsShape-shape_fault, IsWord-table_fault}
 use Rattle.rule_text.specs.RuleTexts.{Said, Entries, Table, Number, IsRuleText, rule_of, table_of, fault_of, entries_fault, number_fault, in_text}
 use Rattle.rule_text.proofs.laws.Numbers.{IsRule-number}
 

@@ -1,6 +1,7 @@
 -- The beginning of a table text: its form, its letters and its faults.
 use Rattle.std.proofs.Common.{◌≡◌, ℕ, Bool, true, false, List, ◌++◌, ◌+◌, ◌-◌, ◌≤◌, Ok, Err, Result, Option, Some, None, take, length, replicate, refl, sym, ap, ◌∙◌, arith, IfOk, IfErr, nat_lt, nat_le, ◌^◌, if◌then◌else◌, option_map}
-use Rattle.word_image.proofs.Common.{option_or, false≢true, take-replicate, take-append-add, shape_fault, table_fault}
+use Rattle.std.specs.Option.{option_or}
+use Rattle.word_image.proofs.Common.{false≢true, take-replicate, take-append-add, shape_fault, table_fault}
 use Rattle.word_image.specs.declared.local_rule.RuleFault.{RuleFault}
 use Rattle.word_image.specs.declared.local_rule.RuleFault.TheVariants as limit
 use Rattle.rule_text.specs.declared.text_fault.TextFault.{TextFault}

@@ -1,6 +1,7 @@
 -- Wolfram numbers and the rules that they stand for.
 use Rattle.std.proofs.Common.{◌≡◌, ℕ, zero, suc, ◌+◌, ◌-◌, ◌*◌, ◌/◌, ◌^◌, ◌<◌, ◌≤◌, Bool, ◌&&◌, ◌||◌, List, [], ◌∷◌, ◌++◌, length, reverse, take, drop, map-id, add-one, zero-add, length-drop, length-take-le, Some, get_or, refl, sym, ap, subst, ◌∙◌, arith, true, mod-lt, zero-mul, ℤ, nat_lt, nat_le, ◌↔◌, sum_by, div-add-mod', take_all, option_map}
-use Rattle.word_image.proofs.Common.{range_with_len, div-eq_of_lt, pow-le-pow_right, nat_tests, Decides-below_and, length-reverse, reverse-append, drop_more, take_more, map-range_with_len_more, sum_by_push, All-drop, option_or, LocalRule, IsShape, IsRule, IsWord, value, word_of, wolfram_number, IsWord-reverse, shape_fault-IsShape, length-word_of, IsWord-word_of, value-snoc, value-below}
+use Rattle.std.specs.Option.{option_or}
+use Rattle.word_image.proofs.Common.{range_with_len, div-eq_of_lt, pow-le-pow_right, nat_tests, Decides-below_and, length-reverse, reverse-append, drop_more, take_more, map-range_with_len_more, sum_by_push, All-drop, LocalRule, IsShape, IsRule, IsWord, value, word_of, wolfram_number, IsWord-reverse, shape_fault-IsShape, length-word_of, IsWord-word_of, value-snoc, value-below}
 use Rattle.rule_text.specs.declared.text_fault.TextFault.TheVariants as fault
 use Rattle.rule_text.specs.RuleTexts.{Said, Number, in_text, number_fault, entries_fault, fault_of}
 

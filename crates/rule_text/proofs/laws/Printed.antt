@@ -1,6 +1,7 @@
 -- The printed form of a rule is a text of it.
 use Rattle.std.proofs.Common.{◌≡◌, ℕ, suc, ◌+◌, ◌*◌, ◌/◌, ◌%◌, ◌<◌, List, [], ◌∷◌, ◌++◌, length, map, Some, inl, inr, refl, sym, ap, ap₂, subst, ◌∙◌, arith, add-one, mod-lt, All, ℤ, pos, negsuc, neg_ℤ, codes, unwrap_or, option_map, decimal, div-add-mod'}
-use Rattle.word_image.proofs.Common.{cases_lt, nat_tests, ints, div_below, none-some, decimal_digit, decimal_step, All-nil, All-cons, All-head, All-tail, All-map, All-weaker, LocalRule, IsShape, IsRule, lower_digit, hex_value, IsHexDigit, letter_at, table_fault-IsWord}
+use Rattle.std.proofs.lemmas.Fmt.{decimal_digit, decimal_step}
+use Rattle.word_image.proofs.Common.{cases_lt, nat_tests, ints, div_below, none-some, All-nil, All-cons, All-head, All-tail, All-map, All-weaker, LocalRule, IsShape, IsRule, lower_digit, hex_value, IsHexDigit, letter_at, table_fault-IsWord}
 use Rattle.rule_text.specs.RuleTexts.{IsDigit, IsDecimal, IsOffset, Plain, Minus, Says, InTable, Table, IsRuleText, decimal_value, in_text}
 use Rattle.rule_text.specs.PrintedRules.{offset_text, printed_rule, head}
 use Rattle.rule_text.proofs.laws.Parts.{saying}

@@ -1,6 +1,7 @@
 -- Consecutive numbers, of which the last one has a rule, or which are past all that have one.
 use Rattle.std.proofs.Common.{◌≡◌, ℕ, ◌+◌, ◌-◌, ◌^◌, ◌≤◌, None, ap, ◌∙◌, arith, Some, pos, Option, option_map}
-use Rattle.word_image.proofs.Common.{option_or, nat_tests, shape_fault, IsShape-shape_fault}
+use Rattle.std.specs.Option.{option_or}
+use Rattle.word_image.proofs.Common.{nat_tests, shape_fault, IsShape-shape_fault}
 use Rattle.rule_text.specs.RuleTexts.{in_text, number_fault}
 use Rattle.rule_text.specs.declared.text_fault.TextFault.{TextFault}
 use Rattle.rule_text.specs.declared.text_fault.TextFault.TheVariants as fault

@@ -1,6 +1,7 @@
 -- Of the first shape the first loop walks are the least preimage: the least node with a loop, and first walks for each of the three parts. There is one least preimage.
 use Rattle.std.proofs.Common.{◌≡◌, ◌≢◌, ℕ, ◌+◌, ◌-◌, ◌<◌, ◌≤◌, List, ◌++◌, length, take, drop, ℤ, refl, sym, ap, ap₂, ◌∙◌, subst, arith, length-append, length-drop, append_assoc, ⊎_elim, nat_cmp, Ordering, Less, Equal, Greater, take-append-drop, length-take-le, take_at, drop_at}
-use Rattle.word_image.proofs.Common.{repeat, ordering_then, IsTotalOrder, nat_cmp_is, slice_cmp, cases_lt, nat_cmp_total, nat_list_cmp_total, on_total, then_total, drop-append-le, All-take, LocalRule, IsRule, value, IsBitSet-pow, slice_cmp-value, then_equal, then_not_greater, nat_cmp-equal, slice_cmp-same}
+use Rattle.std.proofs.lemmas.Cmp.{nat_cmp_total, nat_list_cmp_total, on_total, then_total}
+use Rattle.word_image.proofs.Common.{repeat, ordering_then, IsTotalOrder, nat_cmp_is, slice_cmp, cases_lt, drop-append-le, All-take, LocalRule, IsRule, value, IsBitSet-pow, slice_cmp-value, then_equal, then_not_greater, nat_cmp-equal, slice_cmp-same}
 use Rattle.tail_config.proofs.Common.{TailConfig, IsTail, config_of}
 use Rattle.tail_preimage.specs.Walks.{IsWalk, before_last}
 use Rattle.tail_preimage.specs.Preimages.{PlacedConfig, Shape, HasShape, IsShapedPreimage, IsLeastPreimage, shape_cmp, letters, stretch, IsSmall, IsFrom}

@@ -1,5 +1,6 @@
 use Rattle.std.proofs.Common.{◌≡◌, ℕ, ◌+◌, ◌-◌, ◌/◌, ◌%◌, ◌^◌, ◌<◌, ◌≤◌, List, [], ◌∷◌, ◌++◌, length, drop, set, sym, ap, ◌∙◌, arith, append_assoc, length-append, decimal}
-use Rattle.word_image.proofs.Common.{decimal_digit, decimal_step, decimal_nonempty, drop-set}
+use Rattle.std.proofs.lemmas.Fmt.{decimal_digit, decimal_step, decimal_nonempty}
+use Rattle.word_image.proofs.Common.{drop-set}
 use Rattle.ca_text.proofs.decimals.write_decimal.Goals as goal
 
 -- a number of two digits or more has one more than its tenth

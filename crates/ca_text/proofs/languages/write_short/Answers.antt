@@ -1,5 +1,5 @@
 use Rattle.std.proofs.Common.{ℕ, ◌<◌, ◌≤◌, length, ap, arith, decimal}
-use Rattle.word_image.proofs.Common.{decimal_nonempty, length-decimal-le}
+use Rattle.std.proofs.lemmas.Fmt.{decimal_nonempty, length-decimal-le}
 use Rattle.ca_text.proofs.languages.write_short.Goals as goal
 
 -- a number of sixteen bits has at most five digits

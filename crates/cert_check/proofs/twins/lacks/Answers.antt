@@ -1,5 +1,6 @@
 use Rattle.std.proofs.Common.{◌≤◌, length, sym, ◌∙◌, arith}
-use Rattle.word_image.proofs.Common.{false≢true, nat_tests, Decides-eqb, slice_eq-Decides}
+use Rattle.std.proofs.lemmas.Slice.Eq.{slice_eq-Decides}
+use Rattle.word_image.proofs.Common.{false≢true, nat_tests, Decides-eqb}
 use Rattle.cert_conditions.specs.Refusals.IsTwinsBreach.{Length, Same, Image}
 use Rattle.cert_check.proofs.twins.lacks.Goals as goal
 use Rattle.cert_check.proofs.twins.lacks.Goals.{then-x-y-via-then-x-y, then-x-y-via-else-x-y+then-is_empty}

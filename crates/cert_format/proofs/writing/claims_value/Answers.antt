@@ -1,5 +1,7 @@
 use Rattle.std.proofs.Common.{◌≡◌, ◌∙◌, ap, map, rules}
-use Rattle.word_image.proofs.Common.{YieldsList-from_slice, YieldsList-from_map_by, map_from_collect, IfOk-at_ok}
+use Rattle.std.proofs.lemmas.Iterator.{YieldsList-from_slice, YieldsList-from_map_by}
+use Rattle.std.proofs.lemmas.Iterator.Consumers.{map_from_collect}
+use Rattle.word_image.proofs.Common.{IfOk-at_ok}
 use Rattle.serde_json.specs.View.{view}
 use Rattle.cert_format.specs.WrittenTexts.{claim_value, array_from}
 use Rattle.cert_format.proofs.writing.claims_value.Goals as goal

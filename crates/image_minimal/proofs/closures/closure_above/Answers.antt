@@ -1,5 +1,7 @@
 use Rattle.std.proofs.Common.{◌≡◌, ℕ, ◌+◌, ◌*◌, ◌%◌, ◌^◌, ◌<◌, IsBitSet, bit_and, bit_or, ◌/◌, slice_index, sym, ap, ◌∙◌, subst, arith}
-use Rattle.word_image.proofs.Common.{pow-lt, one_shl, or_lt, bit_set_by_shift, shr_and_one, bit_at-lt, node_count, bit_at-IsBitSet}
+use Rattle.std.proofs.Math.Pow.{pow-lt}
+use Rattle.std.proofs.lemmas.Nat.Bits.{shr_and_one, bit_at-lt}
+use Rattle.word_image.proofs.Common.{one_shl, or_lt, bit_set_by_shift, node_count, bit_at-IsBitSet}
 use Rattle.image_minimal.proofs.laws.ClosureTables.{with_node, with_node-greater, IsShared, IsShared-start, IsShared-skip, IsShared-take, IsClosure-shared}
 use Rattle.image_minimal.proofs.closures.closure_above.Goals as goal
 use Rattle.image_minimal.proofs.closures.closure_above.Goals.{then-set-u-eq0, else-set-u-eq0}

@@ -1,5 +1,5 @@
 use Rattle.std.proofs.Common.{◌≡◌, ◌++◌, map, take, vec_capacity, bit_or}
-use Rattle.word_image.proofs.Common.{zip2}
+use Rattle.std.specs.Simd.Lanes.{zip2}
 use Rattle.image_subsets.proofs.step_tables.double.Given as goal
 
 -- the first rows have their unions

@@ -1,5 +1,6 @@
 use Rattle.std.proofs.Common.{◌≡◌, ℕ, ◌/◌, ◌%◌, ℤ, pos, ◌+ℤ◌, ◌-ℤ◌, ◌*ℤ◌, sym, ap, ◌∙◌, arith}
-use Rattle.word_image.proofs.Common.{div-add-mod, pos-*ℤ-pos, ints}
+use Rattle.std.proofs.Math.IntN.{pos-*ℤ-pos}
+use Rattle.word_image.proofs.Common.{div-add-mod, ints}
 use Rattle.std.proofs.lemmas.Nat.Gcd.{IsGcd-from_zero, IsGcd-from_mod}
 use Rattle.kept_sums.specs.Rows.{IsCombinedOf}
 use Rattle.kept_sums.proofs.laws.Integers.{mul-add, mul-assoc, mul-comm, sub-mul}

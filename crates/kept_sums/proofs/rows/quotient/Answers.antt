@@ -1,6 +1,7 @@
 use Rattle.std.proofs.Common.{◌≡◌, ℕ, ◌+◌, ◌*◌, ◌/◌, ◌^◌, ◌<◌, ◌≤◌, ℤ, pos, ◌-ℤ◌, ◌*ℤ◌, neg_ℤ, to_z, of_z, w64, sym, ap, subst, ◌∙◌, arith, unsigned_abs}
 use Rattle.std.proofs.Math.Nat.{div-lt_iff_lt-mul}
-use Rattle.word_image.proofs.Common.{mul-div_cancel', ints, pos-*ℤ-pos}
+use Rattle.std.proofs.Math.IntN.{pos-*ℤ-pos}
+use Rattle.word_image.proofs.Common.{mul-div_cancel', ints}
 use Prim.Native.Nat.{◌∣◌}
 use Rattle.kept_sums.proofs.laws.Integers.{mul-neg}
 use Rattle.kept_sums.proofs.rows.quotient.Goals as goal

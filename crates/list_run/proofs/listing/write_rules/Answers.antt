@@ -1,5 +1,6 @@
 use Rattle.std.proofs.Common.{◌≡◌, ℕ, ◌+◌, ◌^◌, List, [], ◌∷◌, ◌++◌, ◌<◌, length, take, rules, Some, None, refl, ap, ap₂, ◌∙◌, subst, arith, MatchOption}
-use Rattle.word_image.proofs.Common.{Appends, Appends-nil}
+use Rattle.std.proofs.KnownBytes.{Appends-nil}
+use Rattle.std.specs.Io.KnownBytes.{Appends}
 use Rattle.std.proofs.lemmas.List.{length-append}
 use Rattle.rule_lists.specs.Listed.{IsFirst, NoneIs}
 use Rattle.rule_lists.specs.Calls.{IsAfter}

@@ -1,5 +1,6 @@
 use Rattle.std.proofs.Common.{◌≡◌, ◌-◌, ◌^◌, List, length, min, Option, None, MatchOption, is_some}
-use Rattle.word_image.proofs.Common.{Appends, LocalRule}
+use Rattle.std.specs.Io.KnownBytes.{Appends}
+use Rattle.word_image.proofs.Common.{LocalRule}
 use Rattle.rule_lists.specs.Listed.{IsFirst, NoneIs}
 use Rattle.rule_lists.specs.Calls.{IsAfter, AreSoFar}
 use Rattle.list_run.specs.Lines.{IsLineOf, rule_lines}

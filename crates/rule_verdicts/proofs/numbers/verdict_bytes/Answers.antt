@@ -1,5 +1,6 @@
 use Rattle.std.proofs.Common.{◌≡◌, ◌+◌, ◌-◌, ◌^◌, ◌≤◌, None, length, reverse, ap, ◌∙◌, subst, arith, pos, option_map}
-use Rattle.word_image.proofs.Common.{value, option_or, shape_fault}
+use Rattle.std.specs.Option.{option_or}
+use Rattle.word_image.proofs.Common.{value, shape_fault}
 use Rattle.rule_text.specs.RuleTexts.{by_number, in_text, number_fault}
 use Rattle.rule_text.specs.TextReadings.{IsReading}
 use Rattle.rule_verdicts.specs.Numbers.{numbers_fault, numbered_rule, AreVerdictBytes}

@@ -1,5 +1,6 @@
 use Rattle.std.proofs.Common.{refl, ◌∙◌, arith}
-use Rattle.word_image.proofs.Common.{pow-lt, one_shl, IsBitSet-pow}
+use Rattle.std.proofs.Math.Pow.{pow-lt}
+use Rattle.word_image.proofs.Common.{one_shl, IsBitSet-pow}
 use Rattle.pair_laws.proofs.Common.{IsBitSet-shl}
 use Rattle.tail_preimage.proofs.laws.Stretches.{IsWord-repeat}
 use Rattle.tail_preimage.proofs.answer.first_loop.Goals as goal

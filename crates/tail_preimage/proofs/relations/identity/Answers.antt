@@ -1,5 +1,6 @@
 use Rattle.std.proofs.Common.{◌≡◌, ◌<◌, refl, sym, arith}
-use Rattle.word_image.proofs.Common.{pow-lt, one_shl, IsBitSet-pow}
+use Rattle.std.proofs.Math.Pow.{pow-lt}
+use Rattle.word_image.proofs.Common.{one_shl, IsBitSet-pow}
 use Rattle.tail_preimage.proofs.Rows.{AreRowsFilled-none, AreRowsFilled-more, AreRowsFilled-all}
 use Rattle.tail_preimage.proofs.relations.identity.Goals as goal
 

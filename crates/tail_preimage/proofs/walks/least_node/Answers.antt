@@ -1,5 +1,6 @@
 use Rattle.std.proofs.Common.{arith, w16}
-use Rattle.word_image.proofs.Common.{bit_at-trailing_zeros, bit_at-IsBitSet}
+use Rattle.std.proofs.lemmas.Nat.Bits.{bit_at-trailing_zeros}
+use Rattle.word_image.proofs.Common.{bit_at-IsBitSet}
 use Rattle.tail_preimage.proofs.walks.least_node.Goals as goal
 
 pub returns : goal.returns

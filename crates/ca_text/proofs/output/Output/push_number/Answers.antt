@@ -1,5 +1,5 @@
 use Rattle.std.proofs.Common.{arith}
-use Rattle.word_image.proofs.Common.{length-decimal-le}
+use Rattle.std.proofs.lemmas.Fmt.{length-decimal-le}
 use Rattle.ca_text.proofs.output.Output.push_number.Goals as goal
 
 pub write_decimal-first-requires-clause-room : goal.write_decimal-first-requires-clause-room

@@ -1,5 +1,6 @@
 use Rattle.std.proofs.Common.{◌≡◌, ◌==◌, ◌*◌, ◌/◌, ◌%◌, ◌^◌, ◌<◌, ℕ, length, Bool, List, slice_index, bit_and, ◌∙◌, sym, ap, ap₂, arith}
-use Rattle.word_image.proofs.Common.{div_below, shr_and_one}
+use Rattle.std.proofs.lemmas.Nat.Bits.{shr_and_one}
+use Rattle.word_image.proofs.Common.{div_below}
 use Rattle.pair_graph.specs.PairSets.{holds, truths}
 use Rattle.pair_graph.specs.PairRows.{holds_bit, length-truths}
 use Rattle.pair_graph.proofs.pair_set.PairSet.holds.Goals as goal

@@ -1,5 +1,6 @@
 use Rattle.std.proofs.Common.{◌≡◌, ℕ, ◌+◌, ◌<◌, List, [], ◌∷◌, ◌++◌, length, get_or, None, sym, subst, ap, ◌∙◌, ⊎_elim, arith, Option}
-use Rattle.word_image.proofs.Common.{cases_lt, get_or-append, get_or-append_seam, length_push, pair_count}
+use Rattle.std.proofs.Math.ListN.{get_or-append}
+use Rattle.word_image.proofs.Common.{cases_lt, get_or-append_seam, length_push, pair_count}
 use Rattle.pair_rank.specs.Sides.{IsRankOf}
 use Rattle.pair_rank.proofs.ranks.Ranks.row.Goals as goal
 

@@ -1,5 +1,5 @@
 use Rattle.std.proofs.Common.{◌≡◌, ◌-◌, ◌^◌, ◌≤◌, ap, ◌∙◌, arith}
-use Rattle.word_image.proofs.Common.{ones_shr}
+use Rattle.std.proofs.lemmas.Nat.Bits.{ones_shr}
 use Rattle.word_image.proofs.laws.Graphs.{node_count_pos}
 use Rattle.word_image.proofs.local_rule.Rule.all_nodes.Goals as goal
 

@@ -1,5 +1,6 @@
 use Rattle.std.proofs.Common.{◌≡◌, ◌^◌, ℕ, List, take, sym, ap, ap₂, ◌∙◌, arith}
-use Rattle.word_image.proofs.Common.{Decides-eqb, same_from_decides, nat_tests, slice_eq-Decides, ints}
+use Rattle.std.proofs.lemmas.Slice.Eq.{slice_eq-Decides}
+use Rattle.word_image.proofs.Common.{Decides-eqb, same_from_decides, nat_tests, ints}
 use Rattle.word_image.specs.LocalRules.{LocalRule}
 use Rattle.word_image.specs.SameRules.{same_rule}
 use Rattle.word_image.specs.Storage.{padded, in_row-take}
