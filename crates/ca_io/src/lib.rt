@@ -37,6 +37,3 @@ pub use plain_source::PlainSource;
 pub use sinks::{Sink, write_all};
 pub use sources::{Failed, Source};
 pub use standard::{StdSink, StdSource};
-
-#[cfg(test)]
-mod tests;

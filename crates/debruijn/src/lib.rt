@@ -15,7 +15,5 @@
 #![tactic(auto)]
 
 mod graph;
-#[cfg(test)]
-mod tests;
 
 pub use graph::Graph;

@@ -25,8 +25,6 @@ mod marks;
 mod masks;
 mod rows;
 mod step_tables;
-#[cfg(test)]
-mod tests;
 
 pub use family::Family;
 pub use graph_steps::{full, step};

@@ -25,8 +25,6 @@ mod image_values;
 mod inverse_map;
 mod letters;
 mod tables;
-#[cfg(test)]
-mod tests;
 
 pub use inverse_map::{InverseMap, as_rule};
 pub use tables::{InvFault, table};

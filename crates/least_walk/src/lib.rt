@@ -25,8 +25,6 @@
 mod letter_pairs;
 mod marks;
 mod queue;
-#[cfg(test)]
-mod tests;
 mod tree;
 mod walker;
 

@@ -20,7 +20,5 @@
 #![tactic(auto)]
 
 mod search;
-#[cfg(test)]
-mod tests;
 
 pub use search::{Outcome, Search};

@@ -24,10 +24,6 @@
 mod pair_set;
 mod pairs;
 mod plain;
-#[cfg(test)]
-mod tests;
-#[cfg(test)]
-mod trim_tests;
 
 pub use pair_set::PairSet;
 pub use pairs::Pairs;

@@ -42,6 +42,3 @@ pub use rings::{RingFault, keeps_sum, ring_apply, ring_image};
 pub use side::Side;
 pub use values::{letter_of, value_by};
 pub use weights::{WeightFault, Weights};
-
-#[cfg(test)]
-mod tests;

@@ -1,4 +1,4 @@
-use Rattle.std.proofs.Common.{length, Err, refl, sym, ap, ◌∙◌}
+use Rattle.std.proofs.Common.{length, Err, refl, ap}
 use Rattle.ca_c.specs.Calls.{IsHandedBack}
 use Rattle.word_image.proofs.Common.{false≢true}
 use Rattle.ca_c.proofs.laws.Calls.{IsHandedBack-whole, IsHandedBack-short, no_fault-answer}

@@ -1,13 +1,14 @@
 //! The family of rule 106, done by hand.
 
-use crate::Family;
+use crate::known_rules::RULE_106;
 use debruijn::Graph;
+use image_subsets::Family;
 use std::test::Fail;
 use word_image::Rule;
 
 #[test]
 fn rule_106_has_twelve_sets(rt: HostRuntime) -> Result<(), Fail> {
-    let graph = Graph::of(&Rule::new(2, 3, -1, &[0, 1, 0, 1, 0, 1, 1, 0])?);
+    let graph = Graph::of(&Rule::new(2, 3, -1, &RULE_106)?);
     let mut family = Family::new(rt.alloc())?;
     assert_eq!(rt; family.len(), 0);
     family.explore(&graph);

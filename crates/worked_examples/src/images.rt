@@ -1,7 +1,7 @@
 //! Images by hand, of words and of rings, which the program never prints.
-use crate::{ImageFault, RingFault, Rule, image, ring_image};
 
-const RULE_110: [u8; 8] = [0, 1, 1, 1, 0, 1, 1, 0];
+use crate::known_rules::{RULE_110, RULE_184};
+use word_image::{ImageFault, RingFault, Rule, image, ring_image};
 
 #[test]
 fn rule_110_has_these_images(rt: HostRuntime) {
@@ -27,8 +27,7 @@ fn rule_110_has_these_images(rt: HostRuntime) {
 
 #[test]
 fn rings_are_read_on_from_their_end(rt: HostRuntime) {
-    let table: [u8; 8] = [0, 0, 0, 1, 1, 1, 0, 1];
-    // The offset, the ring and its image under the table of rule 184.
+    // The offset, the ring and its image under rule 184.
     let cases: [(i8, &[u8], Result<&[u8], RingFault>); 9] = [
         (-1, &[0, 0, 1, 1], Ok(&[1, 0, 1, 0])),
         (0, &[0, 0, 1, 1], Ok(&[0, 1, 0, 1])),
@@ -41,7 +40,7 @@ fn rings_are_read_on_from_their_end(rt: HostRuntime) {
         (-1, &[9], Err(RingFault::Letter(0))),
     ];
     for (o, ring, want) in cases {
-        let Ok(rule) = Rule::new(2, 3, o, &table) else {
+        let Ok(rule) = Rule::new(2, 3, o, &RULE_184) else {
             return assert!(rt; false, "the rule is refused");
         };
         match ring_image(rt.alloc(), &rule, ring) {

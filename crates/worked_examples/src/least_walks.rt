@@ -1,18 +1,11 @@
 //! Least walks, as a listing of all walks gives them: shorter ones first, and those of one length in
 //! dictionary order.
 
-use crate::Walker;
+use crate::known_rules::{RULE_110, RULE_170, RULE_184, SUM_OF_TWO};
+use least_walk::Walker;
 use pair_graph::Pairs;
 use std::test::Fail;
 use word_image::Rule;
-
-const RULE_184: [u8; 8] = [0, 0, 0, 1, 1, 1, 0, 1];
-
-const RULE_110: [u8; 8] = [0, 1, 1, 1, 0, 1, 1, 0];
-
-const RULE_170: [u8; 8] = [0, 1, 0, 1, 0, 1, 0, 1];
-
-const SUM_OF_TWO: [u8; 9] = [0, 1, 2, 1, 2, 0, 2, 0, 1];
 
 // States, width and table of a rule, from which marked pair to which one, and the steps: none where
 // there is no walk.

@@ -1,15 +1,12 @@
 //! Tails by their texts.
 ghost use Rattle.std.specs.Prelude.{◌≡◌, IfOk};
 
-use crate::{
+use crate::known_rules::{RULE_30, RULE_90};
+use std::test::Fail;
+use tail_config::{
     Part, Tail, TailFault, TailTextFault, agree_left, agree_right, differ, parse, print, share,
 };
-use std::test::Fail;
 use word_image::Rule;
-
-const RULE_30: [u8; 8] = [0, 1, 1, 1, 1, 0, 0, 0];
-
-const RULE_90: [u8; 8] = [0, 1, 0, 1, 1, 0, 1, 0];
 
 /// The Tail over two letters that a text stands for.
 fn tail(rt: &HostRuntime, text: &[u8]) -> Result<Tail, Fail>

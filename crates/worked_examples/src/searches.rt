@@ -1,15 +1,16 @@
 //! That a search is made where there is memory, which no clause says, and what a run leaves. The verdicts are
 //! well known or follow by hand.
 
-use crate::{Outcome, Search};
+use crate::known_rules::{RULE_106, RULE_110};
+use orphan_search::{Outcome, Search};
 use std::test::Fail;
 use word_image::Rule;
 
 // Rule 106 between two runs of rule 110: each run is as a first one.
 #[test]
 fn one_search_decides_rule_after_rule(rt: HostRuntime) -> Result<(), Fail> {
-    let orphaned = Rule::new(2, 3, -1, &[0, 1, 1, 1, 0, 1, 1, 0])?;
-    let closed = Rule::new(2, 3, -1, &[0, 1, 0, 1, 0, 1, 1, 0])?;
+    let orphaned = Rule::new(2, 3, -1, &RULE_110)?;
+    let closed = Rule::new(2, 3, -1, &RULE_106)?;
     let mut search = Search::new(rt.alloc())?;
     let nothing = (search.word(), search.sets(), search.cover());
     assert!(rt; nothing.0.is_empty() && nothing.1.is_empty() && nothing.2.is_empty());
@@ -35,7 +36,7 @@ fn rule_106_reaches_twelve_sets_whatever_ran_before(rt: HostRuntime) -> Result<(
     let shift: Vec<u8> = (0..=255u8).map(|window| window % 16).collect(rt.alloc())?;
     assert_eq!(rt; search.run(&Rule::new(16, 2, 0, &shift)?), Outcome::Closed);
     assert_eq!(rt; search.word(), [].as_slice());
-    let rule = Rule::new(2, 3, -1, &[0, 1, 0, 1, 0, 1, 1, 0])?;
+    let rule = Rule::new(2, 3, -1, &RULE_106)?;
     assert_eq!(rt; search.run(&rule), Outcome::Closed);
     assert_eq!(rt;
         search.sets(),

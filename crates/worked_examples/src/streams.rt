@@ -1,6 +1,6 @@
 //! What no clause can say: that memory is there, and what a reader and a writer of std do.
 
-use crate::{
+use ca_io::{
     Failed, InputFault, MemSink, MemSource, NullSink, PlainSource, Sink, Source, StdSink,
     StdSource, read_up_to, write_all,
 };

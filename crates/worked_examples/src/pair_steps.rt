@@ -1,6 +1,7 @@
 //! Steps forth and back on every pair and all letters, and marks.
 
-use crate::Pairs;
+use crate::known_rules::{RULE_110, SUM_OF_TWO};
+use pair_graph::Pairs;
 use std::process::Abort;
 use std::test::Fail;
 use word_image::Rule;
@@ -45,16 +46,16 @@ fn undoes_steps(rt: &impl Abort, pairs: &Pairs, first_letters: &[u8]) {
 
 #[test]
 fn every_step_is_undone(rt: HostRuntime) -> Result<(), Fail> {
-    let rule_110 = Rule::new(2, 3, -1, &[0, 1, 1, 1, 0, 1, 1, 0])?;
+    let rule_110 = Rule::new(2, 3, -1, &RULE_110)?;
     undoes_steps(&rt, &Pairs::of(&rule_110), &[0, 0, 1, 1]);
-    let sums = Rule::new(3, 2, 0, &[0, 1, 2, 1, 2, 0, 2, 0, 1])?;
+    let sums = Rule::new(3, 2, 0, &SUM_OF_TWO)?;
     undoes_steps(&rt, &Pairs::of(&sums), &[0, 1, 2]);
     Ok(())
 }
 
 #[test]
 fn rule_110_has_these_steps(rt: HostRuntime) -> Result<(), Fail> {
-    let pairs = Pairs::of(&Rule::new(2, 3, -1, &[0, 1, 1, 1, 0, 1, 1, 0])?);
+    let pairs = Pairs::of(&Rule::new(2, 3, -1, &RULE_110)?);
     assert_eq!(rt; pairs.count(), 16);
     // Pair, letters, and the steps without a mark and with it.
     let cases = [

@@ -1,12 +1,13 @@
 //! The graph of rule 110, done by hand.
 
-use crate::Graph;
+use crate::known_rules::RULE_110;
+use debruijn::Graph;
 use std::test::Fail;
 use word_image::Rule;
 
 #[test]
 fn rule_110_has_this_graph(rt: HostRuntime) -> Result<(), Fail> {
-    let graph = Graph::of(&Rule::new(2, 3, -1, &[0, 1, 1, 1, 0, 1, 1, 0])?);
+    let graph = Graph::of(&Rule::new(2, 3, -1, &RULE_110)?);
     assert_eq!(rt; (graph.k(), graph.nodes()), (2, 4));
     // Node, letter, and the node and label of the edge.
     let edges = [
@@ -46,7 +47,7 @@ fn rule_110_has_this_graph(rt: HostRuntime) -> Result<(), Fail> {
 
 #[test]
 fn the_word_01010_empties_the_sets_of_rule_110(rt: HostRuntime) -> Result<(), Fail> {
-    let graph = Graph::of(&Rule::new(2, 3, -1, &[0, 1, 1, 1, 0, 1, 1, 0])?);
+    let graph = Graph::of(&Rule::new(2, 3, -1, &RULE_110)?);
     let mut set = graph.full();
     assert_eq!(rt; set, 15);
     for (letter, after) in [(0, 9), (1, 6), (0, 1), (1, 2), (0, 0)] {

@@ -3,7 +3,7 @@
 ghost use Rattle.std.specs.Prelude.{◌≡◌, length};
 ghost use Rattle.word_image.specs.Graphs.{pair_count};
 
-use crate::{PairSet, Pairs, plain_backward, plain_forward};
+use pair_graph::{PairSet, Pairs, plain_backward, plain_forward};
 use std::alloc::{AllocError, Global};
 use std::process::Abort;
 use std::test::Fail;

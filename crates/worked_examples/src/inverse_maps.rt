@@ -1,24 +1,12 @@
 //! Windows that the program never asks of: ones that are not the least, and ones without a map.
 
-use crate::{InvFault, InverseMap, table};
+use crate::known_rules::{RULE_170, RULE_204};
+use inverse_table::{InvFault, InverseMap, table};
 use inverse_window::WindowAt;
-use std::alloc::{AllocError, Global};
+use std::alloc::Global;
 use std::process::Abort;
 use std::test::Fail;
 use word_image::Rule;
-
-// The letters that these digits name.
-fn letters(alloc: Global, digits: &[u8]) -> Result<Vec<u8>, AllocError> {
-    digits
-        .iter()
-        .map(|digit| digit.wrapping_sub(b'0'))
-        .collect(alloc)
-}
-
-// The rule over the letters 0 and 1 with this table.
-fn binary(alloc: Global, m: u8, o: i8, digits: &[u8]) -> Result<Rule, Fail> {
-    Ok(Rule::new(2, m, o, &letters(alloc, digits)?)?)
-}
 
 // What `table` answers for a window that the rule has.
 fn answer(
@@ -44,13 +32,13 @@ fn map_of(alloc: Global, rule: &Rule, n: u16, c: u16) -> Result<InverseMap, Fail
 
 #[test]
 fn windows_without_a_map(rt: HostRuntime) -> Result<(), Fail> {
-    let middle = binary(rt.alloc(), 3, -1, b"00110011")?;
+    let middle = Rule::new(2, 3, -1, &RULE_204)?;
     let Err(InvFault::NotDetermined { x, y }) = answer(rt.alloc(), &middle, 1, 0)? else {
         return Err(Fail::new("not refused"));
     };
     let (x, y) = (x.as_slice(), y.as_slice());
     assert!(rt; x.len() == 3 && y.len() == 3 && x[0] != y[0] && x[1] == y[1]);
-    let right = binary(rt.alloc(), 3, -1, b"01010101")?;
+    let right = Rule::new(2, 3, -1, &RULE_170)?;
     let wide = answer(rt.alloc(), &right, 17, 2)?;
     assert!(rt; matches!(&wide, Err(InvFault::Wide)));
     Ok(())
@@ -58,7 +46,7 @@ fn windows_without_a_map(rt: HostRuntime) -> Result<(), Fail> {
 
 #[test]
 fn the_longest_map(rt: HostRuntime) -> Result<(), Fail> {
-    let right = binary(rt.alloc(), 3, -1, b"01010101")?;
+    let right = Rule::new(2, 3, -1, &RULE_170)?;
     let map = map_of(rt.alloc(), &right, 16, 2)?;
     assert_eq!(rt; map.offset(), -1);
     assert_eq!(rt; map.table().len(), 65536);
