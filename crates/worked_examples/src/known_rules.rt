@@ -1,12 +1,18 @@
-//! Tables of rules that many tests take, of the windows in dictionary order.
+//! Tables of rules that many tests take: what each rule gives on its windows, in dictionary order. The elementary
+//! rules have their Wolfram numbers.
 
-/// The elementary rules by their Wolfram numbers: a window is the left neighbour, the cell and the right one.
 pub const RULE_30: [u8; 8] = [0, 1, 1, 1, 1, 0, 0, 0];
+
 pub const RULE_90: [u8; 8] = [0, 1, 0, 1, 1, 0, 1, 0];
+
 pub const RULE_106: [u8; 8] = [0, 1, 0, 1, 0, 1, 1, 0];
+
 pub const RULE_110: [u8; 8] = [0, 1, 1, 1, 0, 1, 1, 0];
+
 pub const RULE_170: [u8; 8] = [0, 1, 0, 1, 0, 1, 0, 1];
+
 pub const RULE_184: [u8; 8] = [0, 0, 0, 1, 1, 1, 0, 1];
+
 pub const RULE_204: [u8; 8] = [0, 0, 1, 1, 0, 0, 1, 1];
 
 /// The sum of two cells modulo 3.
