@@ -1,8 +1,8 @@
 -- Worked examples: cells of placed configurations, words of periods and shapes done by hand, which the check computes.
-use Rattle.std.specs.Prelude.{◌≡◌, ℕ, List, [], ◌∷◌, refl, pos, negsuc}
+use Rattle.std.specs.Prelude.{◌≡◌, [], ◌∷◌, refl, negsuc}
 use Rattle.std.specs.declared.cmp.Ordering.TheVariants.{Less, Greater}
 use Rattle.tail_config.specs.Tails.{TailConfig}
-use Rattle.tail_preimage.specs.Preimages.{PlacedConfig, placed_cells, letters, Shape, shape_cmp, stretch}
+use Rattle.tail_preimage.specs.Preimages.{PlacedConfig, placed_cells, letters, shape_cmp, stretch}
 
 -- the configuration 0|001|0, whose middle begins at cell -2
 abbrev placed : PlacedConfig

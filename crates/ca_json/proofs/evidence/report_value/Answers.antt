@@ -1,5 +1,5 @@
 use Rattle.std.proofs.Common.{◌≡◌, ap, ◌∙◌, codes}
-use Rattle.serde_json.specs.Data.{boolean, object, no_members, put}
+use Rattle.serde_json.specs.Data.{boolean, object, no_members}
 use Rattle.serde_json.specs.View.{members_view}
 use Rattle.cert_format.proofs.Common.{put_same}
 use Rattle.ca_json.proofs.evidence.report_value.Goals as goal

@@ -1,5 +1,5 @@
 use Rattle.std.proofs.Common.{◌≡◌, ap, ◌∙◌, codes, rules}
-use Rattle.serde_json.specs.Data.{string, no_members, put}
+use Rattle.serde_json.specs.Data.{string, no_members}
 use Rattle.serde_json.specs.View.{members_view}
 use Rattle.rule_text.specs.PrintedRules.{printed_rule}
 use Rattle.cert_format.specs.Versions.{number_of}
