@@ -1,6 +1,6 @@
 //! Marks of the sets that contain another one of a family.
 
-ghost use Rattle.std.specs.Prelude.{◌≡◌, ◌*◌, ◌^◌, ◌<◌, ◌≤◌, ◌↔◌, ◌⊎◌, ℕ, List, length, slice_index, vec_capacity, replicate, IsTrue};
+ghost use Rattle.std.specs.Prelude.{◌≡◌, ◌*◌, ◌^◌, ◌<◌, ◌≤◌, ◌↔◌, ◌⊎◌, ℕ, List, [], length, slice_index, vec_capacity, replicate, IsTrue, IfOk};
 ghost use Rattle.word_image.specs.LocalRules.{most_nodes};
 ghost use Rattle.image_subsets.specs.Marks.{IsSetMarked, HoldsSmaller, AreListed, AreAbove, AreBeyond};
 
@@ -32,7 +32,9 @@ impl Model for Marks {
 
 impl Marks {
     /// No marks.
-    pub fn new(alloc: Global) -> Result<Marks, AllocError> {
+    pub fn new(alloc: Global) -> Result<Marks, AllocError>
+        ensures { IfOk result (λ marks. marks ≡ []) }
+    {
         Ok(Marks {
             above: Vec::with_capacity(alloc, MOST_ROWS)?,
             beyond: Vec::with_capacity(alloc, MOST_ROWS)?,

@@ -1,6 +1,6 @@
 //! Steps of sets by two look-ups, one by the lower and one by the upper eight bits.
 
-ghost use Rattle.std.specs.Prelude.{◌≡◌, ◌+◌, ◌-◌, ◌*◌, ◌^◌, ◌<◌, ◌≤◌, ℕ, ◌++◌, map, length, slice_index, vec_len, vec_capacity};
+ghost use Rattle.std.specs.Prelude.{◌≡◌, ◌+◌, ◌-◌, ◌*◌, ◌^◌, ◌<◌, ◌≤◌, ℕ, [], ◌++◌, map, length, slice_index, vec_len, vec_capacity, IfOk};
 ghost use Rattle.std.specs.Int.Bits.{bit_or};
 ghost use Rattle.std.specs.Simd.Lanes.{zip2};
 ghost use Rattle.word_image.specs.LocalRules.{LocalRule, IsRule, node_count, most_states};
@@ -40,8 +40,10 @@ impl Model for StepTables {
 }
 
 impl StepTables {
-    /// Tables of no graph.
-    pub fn new(alloc: Global) -> Result<StepTables, AllocError> {
+    /// Tables of no graph: they have no rows.
+    pub fn new(alloc: Global) -> Result<StepTables, AllocError>
+        ensures { IfOk result (λ tables. tables ≡ record { low = []; high = [] }) }
+    {
         Ok(StepTables {
             low: Vec::with_capacity(alloc, ROWS)?,
             high: Vec::with_capacity(alloc, ROWS)?,
