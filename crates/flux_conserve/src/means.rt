@@ -1,5 +1,5 @@
 //! What the table of every conserving rule shows: its sum, and its first and its last letter.
-ghost use Rattle.std.specs.Prelude.{◌≡◌, ◌+◌, ◌*◌, ◌<◌, ◌≤◌, ◌↔◌, length, sum, IsTrue};
+ghost use Rattle.std.specs.Prelude.{◌≡◌, ◌+◌, ◌-◌, ◌*◌, ◌<◌, ◌≤◌, ◌↔◌, length, slice_index, sum, IsTrue};
 ghost use Rattle.word_image.specs.LocalRules.{LocalRule, IsRule, most_windows};
 ghost use Rattle.word_image.specs.Rings.{IsConserving};
 ghost use Rattle.table_laws.specs.Tables.{HasMean};
@@ -37,6 +37,7 @@ pub fn letter_sum(letters: &[u8]) -> u16
 /// letters. A rule whose table doesn't changes the sum of a ring of one letter, if each weighs its own value.
 pub fn keeps_ends(k: u8, table: &[u8]) -> bool
     requires { 0 < length table.now }
+    ensures ends { IsTrue result ↔ (slice_index table.now 0 ≡ 0) × (slice_index table.now (length table.now - 1) + 1 ≡ k) }
     ensures conserving { (r : LocalRule) → IsRule r → r.states ≡ k → r.table ≡ table.now → IsConserving (λ a. a) r → IsTrue result }
 {
     table[0] == 0 && u16::from(table[table.len() - 1]) + 1 == u16::from(k)
