@@ -29,6 +29,7 @@ pub fn shape_rule(states: u8, width: u8) -> Rule
     requires { IsShape states width (pos 0) }
     ensures states { result.states ≡ states }
     ensures width { result.width ≡ width }
+    ensures offset { result.offset ≡ pos 0 }
 {
     Rule::by(states, width, 0, |_| 0)
 }
