@@ -9,7 +9,7 @@ use Rattle.config_laws.proofs.Images.{IsPreimage-run}
 use Rattle.config_laws.proofs.BothSides.{IsOntoMap-closing}
 
 -- an injective rule is closing on both sides
-IsOpen-injective : (r : LocalRule) → IsInjective r → IsOpen r
+pub IsOpen-injective : (r : LocalRule) → IsInjective r → IsOpen r
 IsOpen-injective r injective = (λ x y hx hy share agree. injective x y hx hy share, λ x y hx hy share agree. injective x y hx hy share)
 
 -- under an injective rule each configuration is an image

@@ -19,3 +19,8 @@ pub mod FiniteSums
 pub mod Exchange
 pub mod FewPreimages
 pub mod Inverses
+pub mod LeftAhead
+pub mod Bijective
+pub mod Composed
+pub mod RingMaps
+pub mod RingImages

@@ -2,4 +2,6 @@ pub mod Maps
 pub mod OneOfTwo
 pub mod Repeating
 pub mod Sums
+pub mod Composed
+pub mod RingMaps
 pub mod Examples

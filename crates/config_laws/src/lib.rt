@@ -30,11 +30,12 @@
 //! The functions here do nothing, and take no time. Each carries a law by its contract.
 #![tactic(auto)]
 
-ghost use Rattle.std.specs.Prelude.{◌≡◌, ◌↔◌, ◌-◌, ℕ, List, ℤ, pos, ◌+ℤ◌, ◌-ℤ◌};
-ghost use Rattle.word_image.specs.LocalRules.{LocalRule, IsRule, node_count};
-ghost use Rattle.word_image.specs.Words.{IsSurjective};
+ghost use Rattle.std.specs.Prelude.{◌≡◌, ◌↔◌, ◌+◌, ◌-◌, ◌≤◌, ℕ, List, length, ℤ, pos, ◌+ℤ◌, ◌-ℤ◌};
+ghost use Rattle.word_image.specs.LocalRules.{LocalRule, IsRule, IsWord, node_count};
+ghost use Rattle.word_image.specs.Words.{IsSurjective, image};
 ghost use Rattle.word_image.specs.Windows.{IsDetermined, IsRightAhead};
-ghost use Rattle.word_image.specs.Rings.{IsConserving, IsFlux};
+ghost use Rattle.word_image.specs.Sides.{IsLeftAhead};
+ghost use Rattle.word_image.specs.Rings.{IsConserving, IsFlux, IsRing, ring_image};
 ghost use Rattle.tail_config.specs.Tails.{IsInjective, IsRightClosing, IsLeftClosing, IsOpen};
 ghost use Rattle.tail_config.specs.InverseMaps.{WindowMap, IsInverseMap, mapped};
 ghost use Rattle.tail_config.specs.Configs.{Config, IsConfig, run, image_of};
@@ -42,6 +43,8 @@ ghost use Rattle.config_laws.specs.Maps.{IsInjectiveMap, IsRightClosingMap, IsLe
 ghost use Rattle.config_laws.specs.OneOfTwo.{OneOfTwo, AllOrNot};
 ghost use Rattle.config_laws.specs.Repeating.{IsOntoTails};
 ghost use Rattle.config_laws.specs.Sums.{weight_on, flow_under, KeepsFiniteSums, KeepsChanges};
+ghost use Rattle.config_laws.specs.Composed.{IsOneAfter, Undoes};
+ghost use Rattle.config_laws.specs.RingMaps.{IsBijectiveOnRings};
 
 /// A rule is injective exactly where no two different configurations have one image. A determined window
 /// is the reason: n letters of the image of any configuration tell one of its letters.
@@ -56,6 +59,7 @@ pub fn closing_everywhere()
     ensures right { (r : LocalRule) → IsRule r → (IsRightClosing r ↔ IsRightClosingMap r) }
     ensures left { (r : LocalRule) → IsRule r → (IsLeftClosing r ↔ IsLeftClosingMap r) }
     ensures ahead { (r : LocalRule) (n : ℕ) (x y : Config) (i : ℤ) → IsRule r → IsRightAhead r n → IsConfig r.states x → IsConfig r.states y → run x (i +ℤ r.offset) (r.width - 1) ≡ run y (i +ℤ r.offset) (r.width - 1) → run (image_of r x) i n ≡ run (image_of r y) i n → x (i +ℤ r.offset +ℤ pos (r.width - 1)) ≡ y (i +ℤ r.offset +ℤ pos (r.width - 1)) }
+    ensures left_ahead { (r : LocalRule) (n : ℕ) (x y : Config) (i : ℤ) → IsRule r → IsLeftAhead r n → IsConfig r.states x → IsConfig r.states y → run x (i +ℤ r.offset +ℤ pos 1) (r.width - 1) ≡ run y (i +ℤ r.offset +ℤ pos 1) (r.width - 1) → run (image_of r x) (i +ℤ pos 1 -ℤ pos n) n ≡ run (image_of r y) (i +ℤ pos 1 -ℤ pos n) n → x (i +ℤ r.offset) ≡ y (i +ℤ r.offset) }
 {}
 
 /// The Garden of Eden law over all configurations: a rule is surjective exactly where no two different
@@ -107,10 +111,11 @@ pub fn open_is_open_map()
     ensures onto { (r : LocalRule) → IsRule r → IsOpen r → IsOntoMap r }
 {}
 
-/// The image of a part of a configuration weighs more than the part by the difference of the flux at its
-/// two ends. So a rule keeps the sums of rings exactly where it keeps those of finite configurations, and
+/// A rule keeps the sums of rings exactly where it has a flux (Hattori and Takesue 1991). The image of a part of a
+/// configuration weighs more than the part by the difference of the flux at its two ends. So a rule keeps the sums of rings exactly where it keeps those of finite configurations, and
 /// exactly where finitely many new letters change the sum of the image as they change that of the letters.
 pub fn conserving_everywhere()
+    ensures has_flux { (weight : ℕ → ℕ) (r : LocalRule) → IsRule r → (IsConserving weight r ↔ ((phi : List ℤ) × IsFlux weight r phi)) }
     ensures flux { (weight : ℕ → ℕ) (r : LocalRule) (phi : List ℤ) (x : Config) (i : ℤ) (n : ℕ) → IsRule r → IsFlux weight r phi → IsConfig r.states x → (pos (weight_on weight (image_of r x) i n) -ℤ pos (weight_on weight x (i +ℤ r.offset) n)) ≡ (flow_under r phi x i -ℤ flow_under r phi x (i +ℤ pos n)) }
     ensures finite { (weight : ℕ → ℕ) (r : LocalRule) → IsRule r → (IsConserving weight r ↔ KeepsFiniteSums weight r) }
     ensures changes { (weight : ℕ → ℕ) (r : LocalRule) → IsRule r → (IsConserving weight r ↔ KeepsChanges weight r) }
@@ -121,4 +126,39 @@ pub fn conserving_everywhere()
 pub fn inverse_everywhere()
     ensures back { (r : LocalRule) (n c : ℕ) (g : WindowMap) (x : Config) → IsRule r → IsDetermined r n c → IsInverseMap r n c g → IsConfig r.states x → mapped g (image_of r x) ≡ x }
     ensures forth { (r : LocalRule) (n c : ℕ) (g : WindowMap) (x : Config) → IsRule r → IsDetermined r n c → IsInverseMap r n c g → IsConfig r.states x → image_of r (mapped g x) ≡ x }
+{}
+
+/// An injective rule is open, and takes the configurations one to one onto all of them: each has one preimage. It has an
+/// inverse map, by a determined window (Amoroso and Patt 1972): a cellular automaton that undoes it.
+pub fn injective_is_bijective()
+    ensures open_ { (r : LocalRule) → IsRule r → IsInjective r → IsOpen r }
+    ensures one { (r : LocalRule) (y : Config) → IsRule r → IsInjective r → IsConfig r.states y
+        → (x : Config) × IsConfig r.states x × (image_of r x ≡ y) × ((z : Config) → IsConfig r.states z → image_of r z ≡ y → z ≡ x) }
+    ensures inverse { (r : LocalRule) → IsRule r → IsInjective r → (n c : ℕ) × (g : WindowMap) × IsDetermined r n c × IsInverseMap r n c g }
+{}
+
+/// One rule after another is surjective, injective, and closing on a side exactly where both are, and conserves what
+/// both conserve. It is one after the other if it is so on words.
+pub fn composed_everywhere()
+    ensures surjective { (r s t : LocalRule) → IsRule r → IsRule s → IsRule t → IsOneAfter r s t → (IsSurjective t ↔ (IsSurjective r × IsSurjective s)) }
+    ensures injective { (r s t : LocalRule) → IsRule r → IsRule s → IsRule t → IsOneAfter r s t → (IsInjective t ↔ (IsInjective r × IsInjective s)) }
+    ensures right { (r s t : LocalRule) → IsRule r → IsRule s → IsRule t → IsOneAfter r s t → (IsRightClosing t ↔ (IsRightClosing r × IsRightClosing s)) }
+    ensures left { (r s t : LocalRule) → IsRule r → IsRule s → IsRule t → IsOneAfter r s t → (IsLeftClosing t ↔ (IsLeftClosing r × IsLeftClosing s)) }
+    ensures conserving { (weight : ℕ → ℕ) (r s t : LocalRule) → IsRule r → IsRule s → IsRule t → IsOneAfter r s t → IsConserving weight r → IsConserving weight s → IsConserving weight t }
+    ensures rings { (r s t : LocalRule) (p : List ℕ) → IsOneAfter r s t → IsRing r.states p → ring_image t p ≡ ring_image s (ring_image r p) }
+    ensures words { (r s t : LocalRule) → IsRule r → IsRule s → IsRule t → t.states ≡ r.states → s.states ≡ r.states → t.width ≡ r.width + s.width - 1 → t.offset ≡ r.offset +ℤ s.offset
+        → ((x : List ℕ) → IsWord r.states x → t.width ≤ length x + 1 → image t x ≡ image s (image r x)) → IsOneAfter r s t }
+{}
+
+/// Where one rule undoes another, that one undoes it, both are injective, and they conserve the same.
+pub fn undone_everywhere()
+    ensures rings { (r s : LocalRule) (p : List ℕ) → Undoes r s → IsRing r.states p → ring_image s (ring_image r p) ≡ p }
+    ensures turned { (r s : LocalRule) → IsRule r → Undoes r s → Undoes s r }
+    ensures injective { (r s : LocalRule) → IsRule r → Undoes r s → IsInjective r }
+    ensures conserving { (weight : ℕ → ℕ) (r s : LocalRule) → IsRule r → IsRule s → Undoes r s → (IsConserving weight r ↔ IsConserving weight s) }
+{}
+
+/// A rule is injective exactly where it takes the rings of each length one to one onto all of them.
+pub fn injective_on_rings()
+    ensures { (r : LocalRule) → IsRule r → (IsInjective r ↔ IsBijectiveOnRings r) }
 {}

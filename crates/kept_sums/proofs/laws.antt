@@ -20,3 +20,4 @@ pub mod Fits
 pub mod Flows
 pub mod Windows
 pub mod Independence
+pub mod MadeRules

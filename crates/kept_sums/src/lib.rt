@@ -44,6 +44,7 @@ pub use ranges::{RangeFault, check_range};
 pub use rings::LONGEST;
 pub use rows::{Row, are_small};
 pub use theorems::{
-    conserved_weights_are_kept, one_answer, rings_are_independent, rows_are_independent,
-    rows_give_all_kept_sums, short_rings_and_fluxes_tell, trivial_sums_are_kept,
+    conserved_weights_are_kept, made_rules_keep_sums, offset_keeps_sums, one_answer,
+    rings_are_independent, rows_are_independent, rows_give_all_kept_sums,
+    short_rings_and_fluxes_tell, trivial_sums_are_kept,
 };

@@ -22,7 +22,9 @@ mod cut;
 mod lines;
 mod listing;
 mod status;
+mod theorems;
 mod top_call;
 
 pub use status::Status;
+pub use theorems::printed_rules_have_the_property;
 pub use top_call::run;

@@ -5,3 +5,4 @@ pub mod Advance
 pub mod Going
 pub mod Calls
 pub mod Parts
+pub mod Offsets

@@ -1,10 +1,14 @@
 -- The rules that are listed.
-use Rattle.std.specs.Prelude.{◌≡◌, ℕ, ◌^◌, ◌<◌, ◌≤◌, ◌↔◌, ◌⊎◌, List, slice_index, pos, Option, Some, IfSome}
+use Rattle.std.specs.Prelude.{◌≡◌, ℕ, ◌^◌, ◌<◌, ◌≤◌, ◌↔◌, ◌⊎◌, List, slice_index, ℤ, pos, Option, Some, IfSome}
 use Rattle.word_image.specs.LocalRules.{LocalRule, IsRule}
 use Rattle.rule_lists.specs.Properties.{Has}
 use Rattle.rule_lists.specs.Ranks.{rank}
 use Rattle.rule_lists.specs.Tables.{IsTable, HasLetters, IsPast, IsFurther}
 use Rattle.rule_lists.specs.declared.properties.Property.{Property}
+
+-- the rule with the same table, whose windows begin so far from their cells
+abbrev pub at_offset : LocalRule → ℤ → LocalRule
+at_offset r o = record { states = r.states; width = r.width; offset = o; table = r.table }
 
 -- an accepted rule of k states and width m at offset 0
 pub record IsOfShape (k m : ℕ) (r : LocalRule) : Type 0 where

@@ -37,5 +37,5 @@ pub use search::{first_rule, rule_after};
 pub use theorems::{
     calls_list_each_rule_once, fixed_endless_first_pair_forbids_closing,
     fixed_endless_nodes_forbid_injective, fixed_erasable_pair_forbids_surjective,
-    levels_give_letters_of_conserving, one_rule_of_a_rank, parts_add_up,
+    levels_give_letters_of_conserving, offset_tells_nothing, one_rule_of_a_rank, parts_add_up,
 };

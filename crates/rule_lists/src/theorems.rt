@@ -1,5 +1,5 @@
 //! That ranks tell rules apart and calls one after another list each once, and what fixed letters forbid.
-ghost use Rattle.std.specs.Prelude.{◌≡◌, ◌≢◌, ◌+◌, ◌/◌, ◌%◌, ◌^◌, ◌<◌, ◌≤◌, ◌↔◌, ℕ, List, Contains, None, length, slice_index, slice_set};
+ghost use Rattle.std.specs.Prelude.{◌≡◌, ◌≢◌, ◌+◌, ◌/◌, ◌%◌, ◌^◌, ◌<◌, ◌≤◌, ◌↔◌, ℕ, ℤ, List, Contains, None, length, slice_index, slice_set};
 ghost use Rattle.word_image.specs.LocalRules.{LocalRule, IsRule, node_count};
 ghost use Rattle.word_image.specs.Graphs.{first_of, second_of};
 ghost use Rattle.word_image.specs.Words.{IsSurjective};
@@ -9,7 +9,8 @@ ghost use Rattle.word_image.specs.declared.side.Side.TheVariants.{Right, Left};
 ghost use Rattle.tail_config.specs.Tails.{IsInjective};
 ghost use Rattle.tail_laws.specs.Closing.{IsClosing};
 ghost use Rattle.rule_lists.specs.Ranks.{IsOrder, rank};
-ghost use Rattle.rule_lists.specs.Listed.{IsOfShape, IsListed};
+ghost use Rattle.rule_lists.specs.Listed.{IsOfShape, IsListed, at_offset};
+ghost use Rattle.rule_lists.specs.Properties.{Has};
 ghost use Rattle.rule_lists.specs.Calls.{AreAll, AreListed};
 ghost use Rattle.rule_lists.specs.Completions.{IsCompletion};
 ghost use Rattle.rule_lists.specs.Reached.{IsFixedReached};
@@ -61,4 +62,9 @@ pub fn levels_give_letters_of_conserving()
 pub fn fixed_endless_first_pair_forbids_closing()
     ensures { (side : Side) (r s : LocalRule) (letters on : List ℕ) (w a : ℕ) → IsRule r → AreEndlessOn side r letters (Contains on) → IsFixedEndless side r letters (Contains on) w a
         → IsCompletion r.states r.width letters s → ¬ IsClosing side s }
+{}
+
+/// No property depends on the offset: a listed rule has the property wherever its windows lie.
+pub fn offset_tells_nothing()
+    ensures { (property : Property) (r : LocalRule) (o : ℤ) → IsRule r → IsRule (at_offset r o) → (Has property r ↔ Has property (at_offset r o)) }
 {}

@@ -2,6 +2,7 @@ use Rattle.std.proofs.Common.{refl}
 use Rattle.tail_laws.proofs.Common.{ahead_letter}
 use Rattle.config_laws.proofs.Closing.{IsRightClosing-everywhere}
 use Rattle.config_laws.proofs.Flips.{IsLeftClosing-everywhere}
+use Rattle.config_laws.proofs.LeftAhead.{letter_before}
 use Rattle.config_laws.proofs.closing_everywhere.Goals as goal
 
 pub returns-clause-right : goal.returns-clause-right
@@ -12,3 +13,6 @@ returns-clause-left c r rule = IsLeftClosing-everywhere rule
 
 pub returns-clause-ahead : goal.returns-clause-ahead
 returns-clause-ahead c r n x y i rule ahead hx hy = ahead_letter rule ahead hx hy i _ refl
+
+pub returns-clause-left_ahead : goal.returns-clause-left_ahead
+returns-clause-left_ahead c r n x y i rule ahead hx hy = letter_before rule ahead hx hy i

@@ -70,3 +70,10 @@ IsKept-conserving weight r =
       λ kept p ring. let before = total p in let after = total (ring_image r p) in let same = kept p ring in omega (arith, ints, before, after, same),
       λ keep p ring. total p ∙ ap pos (keep p ring) ∙ sym (total (ring_image r p)),
     )
+
+-- a sum that a rule keeps is kept at another offset, since a flux doesn't know it
+pub IsKept-at_offset : (r : LocalRule) (range : ℕ) (weight : ℕ → ℤ) (o : ℤ) → IsRule r → IsRule (record { states = r.states; width = r.width; offset = o; table = r.table }) → 1 ≤ range
+    → IsKept range weight r → IsKept range weight (record { states = r.states; width = r.width; offset = o; table = r.table })
+IsKept-at_offset r range weight o rule moved some kept =
+    let found = IsFluxOf-kept rule range weight some kept in
+    IsKept-flux moved range weight found.0 some (record { flows = found.1.flows })

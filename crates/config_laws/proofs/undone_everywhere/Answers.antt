@@ -1,0 +1,15 @@
+use Rattle.config_laws.proofs.Composed.{Undoes-turned, IsInjective-undone, IsConserving-both_ways}
+use Rattle.config_laws.proofs.RingImages.{ring_image-undone}
+use Rattle.config_laws.proofs.undone_everywhere.Goals as goal
+
+pub returns-clause-turned : goal.returns-clause-turned
+returns-clause-turned c r s rule u = Undoes-turned rule u
+
+pub returns-clause-injective : goal.returns-clause-injective
+returns-clause-injective c r s rule u = IsInjective-undone rule u
+
+pub returns-clause-conserving : goal.returns-clause-conserving
+returns-clause-conserving c weight r s first second u = IsConserving-both_ways first second u weight
+
+pub returns-clause-rings : goal.returns-clause-rings
+returns-clause-rings c r s p u ring = ring_image-undone u p ring
