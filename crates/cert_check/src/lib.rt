@@ -22,4 +22,6 @@ mod sums;
 mod twins;
 mod windows;
 
+pub use cert_conditions::{Refusal, SplitCause, TwinCause, Verdicts};
 pub use judging::judge;
+pub use word_image::Side;
