@@ -15,7 +15,7 @@ use crate::ends::first_nodes;
 use pair_rank::Ranks;
 use word_image::{Rule, Side};
 
-/// The least right look-ahead, at most 241, by the ranks of the rule; `None` exactly where there is
+/// The least right look-ahead, at most 121, by the ranks of the rule; `None` exactly where there is
 /// none, and so exactly where the rule isn't right-closing. A rule that has one is surjective.
 pub fn ahead_right(rule: &Rule, ranks: &Ranks) -> Option<u16>
     requires { ranks.now ≡ rule.now }
@@ -29,7 +29,7 @@ pub fn ahead_right(rule: &Rule, ranks: &Ranks) -> Option<u16>
     least_ahead(Side::Right, rule, ranks)
 }
 
-/// The least left look-ahead, at most 241, by the ranks of the rule: the least right one of the
+/// The least left look-ahead, at most 121, by the ranks of the rule: the least right one of the
 /// mirrored rule. `None` exactly where there is none, and so exactly where the rule isn't
 /// left-closing. A rule that has one is surjective.
 pub fn ahead_left(rule: &Rule, ranks: &Ranks) -> Option<u16>

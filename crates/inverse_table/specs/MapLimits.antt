@@ -9,6 +9,10 @@ use Rattle.word_image.specs.declared.local_rule.RuleFault.TheVariants.{Width, No
 abbrev pub most_map_entries : ℕ
 most_map_entries = 65536
 
+-- the most letters of the image in a window of which a map is asked for: a least window has at most half as many
+abbrev pub longest_window : ℕ
+longest_window = 480
+
 -- the maps that there are: a letter for each of at most 65,536 words
 pub record IsWindowMap (g : WindowMap) : Type 0 where
   pub least_states : 2 ≤ g.states

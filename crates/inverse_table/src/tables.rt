@@ -1,7 +1,6 @@
 //! The inverse map of a rule over a window.
 ghost use Rattle.std.specs.Prelude.{◌≡◌, ◌+◌, ◌-◌, ◌^◌, ◌<◌, ◌≤◌, neg_ℤ, ◌-ℤ◌, pos, IfOk, IsOk, MatchResult, SomeIff};
-ghost use Rattle.inverse_table.specs.MapLimits.{most_map_entries};
-ghost use Rattle.inverse_window.specs.FirstWindows.{longest_window};
+ghost use Rattle.inverse_table.specs.MapLimits.{most_map_entries, longest_window};
 ghost use Rattle.word_image.specs.LocalRules.{IsRule, word_of};
 ghost use Rattle.word_image.specs.Windows.{IsDetermined};
 ghost use Rattle.tail_config.specs.InverseMaps.{IsInverseMap};

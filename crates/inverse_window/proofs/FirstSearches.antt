@@ -17,23 +17,23 @@ HasBefore e c n' c' = (c ≤ c') × (c' ≤ e) × (c' ≤ n')
 -- what is known once the windows with c to e letters of the image before the letter were looked at
 pub record IsSearched (r : LocalRule) (e c : ℕ) (last : Option ℕ) (found : Option WindowAt) : Type 0 where
   pub start : HoldsFrom last (NoneHolds (pair_count r) (λ p. PairDiffersAt r 0 p × EndsFor r e p c) (PairBegins r))
-  pub start_most : IfSome last (λ n. n ≤ 240)
+  pub start_most : IfSome last (λ n. n ≤ 120)
   pub first : IsFirstWindowOf r (HasBefore e c) found
-  pub first_most : IfSome found (λ w. w.n ≤ 480)
+  pub first_most : IfSome found (λ w. w.n ≤ 240)
 
 -- the window with c letters before the letter, where it is found
 abbrev pub window_within : ℕ → Option ℕ → Option WindowAt
 window_within c start = option_map (λ n. record { n = c + n; c = c }) start
 
 -- the earlier of two windows is within a bound that they are within
-pub earlier-most : (a b found : Option WindowAt) → IsEarlier a b found → IfSome a (λ w. w.n ≤ 480) → IfSome b (λ w. w.n ≤ 480) → IfSome found (λ w. w.n ≤ 480)
+pub earlier-most : (a b found : Option WindowAt) → IsEarlier a b found → IfSome a (λ w. w.n ≤ 240) → IfSome b (λ w. w.n ≤ 240) → IfSome found (λ w. w.n ≤ 240)
 earlier-most a b found earlier first second =
-    let Most : Option WindowAt → Type 0 = λ o. IfSome o (λ w. w.n ≤ 480) in
+    let Most : Option WindowAt → Type 0 = λ o. IfSome o (λ w. w.n ≤ 240) in
     ⊎_elim (λ is. subst Most (sym is) first) (λ is. subst Most (sym is) second) earlier.one
 
 -- with one number of letters before the letter more, the search goes on
 pub IsSearched-next : {r : LocalRule} → IsRule r → (e c i : ℕ) (starts : List (Option ℕ)) (last here : Option ℕ) (found made next : Option WindowAt) → c ≤ e → i ≡ c
-    → AreStarts r e (pair_count r) starts → here ≡ later last (get_or starts i None) → made ≡ window_within c here → IfSome made (λ w. w.n ≤ 480) → IsEarlier found made next
+    → AreStarts r e (pair_count r) starts → here ≡ later last (get_or starts i None) → made ≡ window_within c here → IfSome made (λ w. w.n ≤ 240) → IsEarlier found made next
     → IsSearched r e (c + 1) last found → IsSearched r e c here next
 IsSearched-next {r} rule e c i starts last here found made next within place table start_is made_is made_most earlier before =
     let Of : ℕ → Type 0 = λ p. PairDiffersAt r 0 p × EndsFor r e p c in
@@ -44,7 +44,7 @@ IsSearched-next {r} rule e c i starts last here found made next within place tab
     (NoneHolds (pair_count r) Of (PairBegins r))
     (λ n. let split = NoneHolds-split rule e 0 c n (PairBegins r) in (λ none. let both = split.0 none in (both.1, both.0), λ both. split.1 (both.1, both.0)))
     before.start (table.from c within)) in
-    let most : IfSome here (λ n. n ≤ 240) = subst (λ o. IfSome o (λ n. n ≤ 240)) same (later-most last (get_or starts c None) 240 before.start_most (table.most c within)) in
+    let most : IfSome here (λ n. n ≤ 120) = subst (λ o. IfSome o (λ n. n ≤ 120)) same (later-most last (get_or starts c None) 120 before.start_most (table.most c within)) in
     let at : IsEarlier found (window_within c here) next = subst (λ o. IsEarlier found o next) made_is earlier in
     record {
       start = start;

@@ -20,15 +20,15 @@ IsRank-counted (Some a) P e rank past =
     (record { holds = (omega arith, rank.holds); no_more = λ h. rank.no_more h.1 }, omega arith)
 
 -- the starts before the first pair are 0
-pub AreStarts-first : (r : LocalRule) (e : ℕ) → e ≤ 240 → AreStarts r e 0 (replicate 241 (Some 0))
+pub AreStarts-first : (r : LocalRule) (e : ℕ) → e ≤ 120 → AreStarts r e 0 (replicate 121 (Some 0))
 AreStarts-first r e few =
     let zero : Option ℕ = Some 0 in
-    let zero_at : (b : ℕ) → b ≤ e → zero ≡ get_or (replicate 241 zero) b None = λ b l. sym (get_or-replicate 241 b zero None (omega arith)) in
+    let zero_at : (b : ℕ) → b ≤ e → zero ≡ get_or (replicate 121 zero) b None = λ b l. sym (get_or-replicate 121 b zero None (omega arith)) in
     record {
-      long = length-replicate 241 zero;
+      long = length-replicate 121 zero;
       few = few;
       from = λ b l. subst (λ (o : Option ℕ). HoldsFrom o (NoneHolds 0 (OfRank r e b) (PairBegins r))) (zero_at b l) (HoldsFrom-first (OfRank r e b) (PairBegins r));
-      most = λ b l. subst (λ (o : Option ℕ). IfSome o (λ n. n ≤ 240)) (zero_at b l) (omega arith);
+      most = λ b l. subst (λ (o : Option ℕ). IfSome o (λ n. n ≤ 120)) (zero_at b l) (omega arith);
     }
 
 -- a pair of nodes has one rank
@@ -37,17 +37,17 @@ one_rank {r} rule e p = IsRank-one (EndsFor r e p) (λ i n l h. (omega (arith, h
 
 -- the starts behind a pair that differs at its first letter
 pub AreStarts-next : {r : LocalRule} {e p b : ℕ} {starts : List (Option ℕ)} → IsRule r → (x : Option ℕ) → AreStarts r e p starts
-    → PairDiffersAt r 0 p → b ≤ e → IsRank (EndsFor r e p) b → HoldsFrom x (λ n. ¬ PairBegins r p n) → IfSome x (λ n. n ≤ 240)
+    → PairDiffersAt r 0 p → b ≤ e → IsRank (EndsFor r e p) b → HoldsFrom x (λ n. ¬ PairBegins r p n) → IfSome x (λ n. n ≤ 120)
     → AreStarts r e (p + 1) (set starts b (later (get_or starts b None) x))
 AreStarts-next {r} {e} {p} {b} {starts} rule x before differ within rank from most =
     let new : Option ℕ = later (get_or starts b None) x in
-    let few : e ≤ 240 = before.few in
+    let few : e ≤ 120 = before.few in
     let at : (P : ℕ → Option ℕ → Type 0) → P b new → ((a : ℕ) → a ≤ e → a ≢ b → P a (get_or starts a None)) → (a : ℕ) → a ≤ e → P a (get_or (set starts b new) a None) = λ P here there a l.
     ⊎_elim
     (λ same. subst (λ i. P i (get_or (set starts b new) i None)) (sym same) (subst (P b) (sym (get_or-set_same starts b new None (omega (arith, before.long)))) here))
     (λ other. subst (P a) (sym (get_or-set_other starts b a new None other)) (there a l other))
     (cases_eq a b) in
-    let long : length starts ≡ 241 = before.long in
+    let long : length starts ≡ 121 = before.long in
     record {
       long = length-set starts b new ∙ long;
       few = few;
@@ -55,7 +55,7 @@ AreStarts-next {r} {e} {p} {b} {starts} rule x before differ within rank from mo
           (HoldsFrom-next (get_or starts b None) x p (OfRank r e b) (PairBegins r) (differ, rank) (before.from b within) from)
           (λ a l other. HoldsFrom-other (get_or starts a None) p (OfRank r e a) (PairBegins r)
           (λ of. other (one_rank rule e p a b of.1 rank)) (before.from a l));
-      most = at (λ a o. IfSome o (λ n. n ≤ 240)) (later-most (get_or starts b None) x 240 (before.most b within) most) (λ a l other. before.most a l);
+      most = at (λ a o. IfSome o (λ n. n ≤ 120)) (later-most (get_or starts b None) x 120 (before.most b within) most) (λ a l other. before.most a l);
     }
 
 -- the starts stay behind a pair that doesn't differ at its first letter

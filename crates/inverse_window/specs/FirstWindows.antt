@@ -41,8 +41,8 @@ abbrev pub most_start : ℕ
 most_start = most_rank + 1
 
 -- the most letters of the image in a least determined window
-abbrev pub longest_window : ℕ
-longest_window = 2 * most_start
+abbrev pub most_window : ℕ
+most_window = 2 * most_start
 
 -- for each b up to e: from which number on the pairs below `count` that differ at their first letter, and end together for b and no more, don't begin together
 pub record AreStarts (r : LocalRule) (e count : ℕ) (starts : List (Option ℕ)) : Type 0 where

@@ -14,7 +14,7 @@
 //! j = min(c, n): they end with two nodes there for j letters of the image, and begin with them for the
 //! other n - j. So (n, c) is determined exactly where no two nodes that differ at letter c - j end
 //! together for j and begin together for n - j. The exact ranks say for how many letters two nodes do,
-//! at most 239 if not for all. For c ≤ n the letter is the node's first, and one pass over the pairs
+//! at most 119 if not for all. For c ≤ n the letter is the node's first, and one pass over the pairs
 //! finds for each rank backward the greatest rank forward; one pass over these ranks, from the greatest
 //! on, then finds the least c + rank + 1. For c > n the letter stands inside the last node, and n is one
 //! more than the greatest rank backward. Some window is determined exactly where no two different nodes

@@ -12,7 +12,7 @@ use pair_rank::Ranks;
 use word_image::{Rule, Side};
 
 /// How many numbers there are from 0 to one more than the greatest rank that is possible.
-const ROWS: usize = 241;
+const ROWS: usize = 121;
 
 /// From which n on the window (n, n + place) is determined: n letters of the image, all before the
 /// letter at this place of the last node.

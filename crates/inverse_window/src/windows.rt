@@ -4,7 +4,7 @@ ghost use Rattle.std.specs.Option.{option_map};
 ghost use Rattle.word_image.specs.Windows.{IsDetermined, IsLeastDetermined};
 ghost use Rattle.word_image.specs.Words.{IsSurjective};
 ghost use Rattle.tail_config.specs.Tails.{IsInjective};
-ghost use Rattle.inverse_window.specs.FirstWindows.{IsEarlier, IsFirstWindowOf, longest_window, most_start};
+ghost use Rattle.inverse_window.specs.FirstWindows.{IsEarlier, IsFirstWindowOf, most_window, most_start};
 
 use crate::starts::{later, past_ranks, start_past, starts_by_rank};
 use crate::verdicts::is_injective;
@@ -22,14 +22,14 @@ pub struct WindowAt {
 }
 
 /// The least determined window of a rule; `None` exactly where no window is determined, which is
-/// exactly where the rule is not injective. A rule that has one is surjective. Its n is at most 480.
+/// exactly where the rule is not injective. A rule that has one is surjective. Its n is at most 240.
 /// It takes no memory.
 pub fn window(rule: &Rule, ranks: &Ranks) -> Option<WindowAt>
     requires of_rule { ranks.now ≡ rule.now }
     ensures injective { IsSome result ↔ IsInjective rule.now }
     ensures surjective { IsSome result → IsSurjective rule.now }
     ensures least { MatchOption result ((n c : ℕ) → ¬ IsDetermined rule.now n c) (λ w. IsLeastDetermined rule.now w.n w.c) }
-    ensures most { IfSome result (λ w. w.n ≤ longest_window) }
+    ensures most { IfSome result (λ w. w.n ≤ most_window) }
 {
     if !is_injective(ranks.endless()) {
         return None;
@@ -46,7 +46,7 @@ pub fn window(rule: &Rule, ranks: &Ranks) -> Option<WindowAt>
 fn first_within(rule: &Rule, ranks: &Ranks) -> Option<WindowAt>
     requires of_rule { ranks.now ≡ rule.now }
     ensures first { IsFirstWindowOf rule.now (λ n c. c < n + 1) result }
-    ensures most { IfSome result (λ w. w.n ≤ longest_window) }
+    ensures most { IfSome result (λ w. w.n ≤ most_window) }
 {
     let past = past_ranks(ranks);
     let starts = starts_by_rank(rule, ranks, past);
@@ -65,7 +65,7 @@ fn window_within(c: u16, start: Option<u16>) -> Option<WindowAt>
     requires place { c ≤ most_start }
     requires most { IfSome start (λ n. n ≤ most_start) }
     ensures window { result ≡ option_map (λ n. record { n = c + n; c = c }) start }
-    ensures most { IfSome result (λ w. w.n ≤ longest_window) }
+    ensures most { IfSome result (λ w. w.n ≤ most_window) }
 {
     Some(WindowAt { n: c + start?, c })
 }
@@ -74,7 +74,7 @@ fn window_within(c: u16, start: Option<u16>) -> Option<WindowAt>
 fn window_past(place: u8, start: Option<u16>) -> Option<WindowAt>
     requires most { IfSome start (λ n. n ≤ most_start) }
     ensures window { result ≡ option_map (λ n. record { n = n; c = n + place }) start }
-    ensures most { IfSome result (λ w. w.n ≤ longest_window) }
+    ensures most { IfSome result (λ w. w.n ≤ most_window) }
 {
     let n = start?;
     Some(WindowAt {

@@ -1,10 +1,11 @@
--- A finite rank is less than the number of pairs of two different nodes: each lesser number is a rank too, and a node is endless with itself.
-use Rattle.std.proofs.Common.{◌≡◌, ℕ, zero, suc, ◌+◌, ◌-◌, ◌*◌, ◌<◌, ◌≤◌, ◌⊎◌, inl, inr, Option, Some, None, List, refl, sym, ap, subst, subst₂, ◌∙◌, arith, ⊎_elim, MatchOption, IfSome, mul-le-mul_right}
-use Rattle.word_image.proofs.Common.{cases_eq, cases_lt, same_from_place, LocalRule, IsRule, node_count, pair_of, pair_count, IsRank, IsEndless, twice_below, Together}
+-- A finite rank is less than the number of pairs of two different nodes, taken without order: each lesser number is a rank too, two nodes have one rank in either order, and a node is endless with itself.
+use Rattle.std.proofs.Common.{◌≡◌, ℕ, zero, suc, ◌+◌, ◌-◌, ◌*◌, ◌<◌, ◌≤◌, ◌⊎◌, inl, inr, Option, Some, None, List, refl, sym, ap, subst, subst₂, arith, ⊎_elim, MatchOption, IfSome, mul-le-mul_right}
+use Rattle.word_image.proofs.Common.{cases_eq, cases_lt, same_from_place, LocalRule, IsRule, node_count, pair_of, pair_count, IsRank, IsEndless, twice_below, Together, HaveOneImage}
 use Rattle.pair_laws.proofs.Common.{pair_of-below, IsRank-one, Together-below, Together-less}
 use Rattle.word_image.specs.declared.side.Side.{Side}
+use Rattle.word_image.specs.declared.side.Side.TheVariants.{Right, Left}
 use Rattle.pair_laws.proofs.Mirrors.{Together-same}
-use Rattle.pair_rank.specs.Sides.{AreRanks, rank_at}
+use Rattle.pair_rank.specs.Sides.{AreRanks, rank_at, most_rank}
 use Rattle.pair_rank.proofs.Sides.{Together-step}
 
 -- there are two nodes of each rank up to that of any two
@@ -23,70 +24,126 @@ lesser_rank side {r} rule (suc n) u v rank i l =
     }) i (omega (arith, other)))
     (cases_eq i (suc n))
 
--- two nodes of rank i, for i up to n, and after them each node with itself
+-- two words that have one image have it in the other order too
+HaveOneImage-turned : {r : LocalRule} {n : ℕ} {x y : List ℕ} → HaveOneImage r n x y → HaveOneImage r n y x
+HaveOneImage-turned h = record { first = h.second; second = h.first; first_long = h.second_long; second_long = h.first_long; one_image = sym h.one_image }
+
+-- two nodes go on together in either order
+Together-turned : (side : Side) (r : LocalRule) (u v n : ℕ) → Together side r u v n → Together side r v u n
+Together-turned Right r u v n h = record { x = h.y; y = h.x; one_image = HaveOneImage-turned h.one_image; first = h.second; second = h.first }
+Together-turned Left r u v n h = record { x = h.y; y = h.x; one_image = HaveOneImage-turned h.one_image; first = h.second; second = h.first }
+
+-- two nodes have one rank in either order
+IsRank-turned : (side : Side) (r : LocalRule) (u v n : ℕ) → IsRank (Together side r u v) n → IsRank (Together side r v u) n
+IsRank-turned side r u v n rank = record { holds = Together-turned side r u v n rank.holds; no_more = λ more. rank.no_more (Together-turned side r v u (n + 1) more) }
+
+-- two nodes of one rank, the lesser first
+record Ordered (side : Side) (r : LocalRule) (i : ℕ) : Type 0 where
+  u : ℕ
+  v : ℕ
+  less : u < v
+  rank : IsRank (Together side r u v) i
+
+-- two nodes that have a rank differ, so one of them is the lesser
+ordered : (side : Side) {r : LocalRule} → IsRule r → (u v i : ℕ) → IsRank (Together side r u v) i → Ordered side r i
+ordered side {r} rule u v i rank =
+    ⊎_elim
+    (λ less. record { u = u; v = v; less = less; rank = rank })
+    (λ other. ⊎_elim
+    (λ same. absurd (rank.no_more (subst (λ w. Together side r u w (i + 1)) same (Together-same side rule (i + 1) u (Together-below side r u v i rank.holds).0))))
+    (λ apart. record { u = v; v = u; less = omega (arith, other, apart); rank = IsRank-turned side r u v i rank })
+    (cases_eq u v))
+    (cases_lt u v)
+
+-- two nodes of each rank up to n, the lesser first, then again the lesser last, and then each node with itself
 record Listed (side : Side) (r : LocalRule) (n i : ℕ) : Type 0 where
   u : ℕ
   v : ℕ
-  kind : ((i ≤ n) × IsRank (Together side r u v) i) ⊎ ((n < i) × (u ≡ i - suc n) × (v ≡ u))
+  kind : ((i ≤ n) × (u < v) × IsRank (Together side r u v) i)
+      ⊎ (((n < i) × (v < u) × IsRank (Together side r u v) (i - suc n)) ⊎ ((n + suc n < i) × (u ≡ i - (suc n + suc n)) × (v ≡ u)))
 
 listed : (side : Side) {r : LocalRule} → IsRule r → (n u v : ℕ) → IsRank (Together side r u v) n → (i : ℕ) → Listed side r n i
 listed side {r} rule n u v rank i =
+    let at : (j : ℕ) → j ≤ n → Ordered side r j = λ j l. let (s, t, of_rank) = lesser_rank side rule n u v rank j l in ordered side rule s t j of_rank in
     ⊎_elim
-    (λ later. record { u = i - suc n; v = i - suc n; kind = inr (later, refl, refl) })
-    (λ within. let found = lesser_rank side rule n u v rank i within in record { u = found.0; v = found.1; kind = inl (within, found.2) })
+    (λ later. ⊎_elim
+    (λ last. record { u = i - (suc n + suc n); v = i - (suc n + suc n); kind = inr (inr (last, refl, refl)) })
+    (λ within.
+    let found = at (i - suc n) (omega (arith, within)) in
+    record { u = found.v; v = found.u; kind = inr (inl (later, found.less, IsRank-turned side r found.u found.v (i - suc n) found.rank)) })
+    (cases_lt (n + suc n) i))
+    (λ within. let found = at i within in record { u = found.u; v = found.v; kind = inl (within, found.less, found.rank) })
     (cases_lt n i)
 
 -- what is listed are nodes
-listed-below : (side : Side) {r : LocalRule} {n i : ℕ} → i ≤ n + node_count r → (l : Listed side r n i) → (l.u < node_count r) × (l.v < node_count r)
+listed-below : (side : Side) {r : LocalRule} {n i : ℕ} → i < suc n + suc n + node_count r → (l : Listed side r n i) → (l.u < node_count r) × (l.v < node_count r)
 listed-below side {r} {n} {i} within l =
-    ⊎_elim (λ k. Together-below side r l.u l.v i k.1.holds) (λ k. (omega (arith, k.0, k.1), omega (arith, k.0, k.1, k.2))) l.kind
-
--- no two of the listed nodes are listed twice
-listed-apart : (side : Side) {r : LocalRule} {n i j : ℕ} → IsRule r → i < j → j ≤ n + node_count r
-    → (l : Listed side r n i) → (m : Listed side r n j) → l.u ≡ m.u → l.v ≡ m.v → ⊥
-listed-apart side {r} {n} {i} {j} rule less within l m first second =
-    ⊎_elim
-    (λ k. ⊎_elim
-    (λ k'. omega (arith, less, IsRank-one (Together side r m.u m.v) (Together-less side rule m.u m.v) i j (subst₂ (λ (x y : ℕ). IsRank (Together side r x y) i) first second k.1) k'.1))
-    (λ k'.
-    let equal : l.v ≡ l.u = second ∙ k'.2 ∙ sym first in
-    k.1.no_more (subst (λ y. Together side r l.u y (i + 1)) (sym equal) (Together-same side rule (i + 1) l.u (Together-below side r l.u l.v i k.1.holds).0)))
-    m.kind)
-    (λ k. ⊎_elim (λ k'. omega (arith, k.0, k'.0)) (λ k'. omega (arith, k.0, k.1, k'.0, k'.1)) m.kind)
+    ⊎_elim (λ k. Together-below side r l.u l.v i k.2.holds)
+    (λ more. ⊎_elim (λ k. Together-below side r l.u l.v (i - suc n) k.2.holds) (λ k. (omega (arith, within, k.0, k.1), omega (arith, within, k.0, k.1, k.2))) more)
     l.kind
 
--- a rank of two nodes is less than the number of pairs of two different nodes
-pub IsRank-apart : (side : Side) {r : LocalRule} → IsRule r → (u v n : ℕ) → IsRank (Together side r u v) n → n + node_count r < pair_count r
+-- two nodes have one rank
+rank_once : (side : Side) {r : LocalRule} → IsRule r → {u v s t : ℕ} → u ≡ s → v ≡ t → (i j : ℕ) → IsRank (Together side r u v) i → IsRank (Together side r s t) j → i ≡ j
+rank_once side {r} rule {s = s} {t = t} first second i j one other =
+    IsRank-one (Together side r s t) (Together-less side rule s t) i j (subst₂ (λ (x y : ℕ). IsRank (Together side r x y) i) first second one) other
+
+-- no two of the listed nodes are listed twice
+listed-apart : (side : Side) {r : LocalRule} {n i j : ℕ} → IsRule r → i < j
+    → (l : Listed side r n i) → (m : Listed side r n j) → l.u ≡ m.u → l.v ≡ m.v → ⊥
+listed-apart side {r} {n} {i} {j} rule less l m first second =
+    ⊎_elim
+    (λ k. ⊎_elim
+    (λ k'. omega (arith, less, rank_once side rule first second i j k.2 k'.2))
+    (λ more. ⊎_elim (λ k'. omega (arith, k.1, k'.1, first, second)) (λ k'. omega (arith, k.1, k'.2, first, second)) more)
+    m.kind)
+    (λ more. ⊎_elim
+    (λ k. ⊎_elim
+    (λ k'. omega (arith, less, k.0, k'.0))
+    (λ more'. ⊎_elim
+    (λ k'. omega (arith, less, k.0, k'.0, rank_once side rule first second (i - suc n) (j - suc n) k.2 k'.2))
+    (λ k'. omega (arith, k.1, k'.2, first, second))
+    more')
+    m.kind)
+    (λ k. ⊎_elim
+    (λ k'. omega (arith, less, k.0, k'.0))
+    (λ more'. ⊎_elim (λ k'. omega (arith, k.2, k'.1, first, second)) (λ k'. omega (arith, less, k.0, k.1, k'.0, k'.1, first)) more')
+    m.kind)
+    more)
+    l.kind
+
+-- there are more ordered pairs of different nodes than twice as many as a rank says
+pub IsRank-apart : (side : Side) {r : LocalRule} → IsRule r → (u v n : ℕ) → IsRank (Together side r u v) n → 2 * (n + 1) + node_count r ≤ pair_count r
 IsRank-apart side {r} rule u v n rank =
     ⊎_elim
-    (λ few. few)
     (λ many.
     let at : (i : ℕ) → Listed side r n i = listed side rule n u v rank in
     let f : ℕ → ℕ = λ i. pair_of r (at i).u (at i).v in
-    let nodes : (i : ℕ) → i ≤ pair_count r → ((at i).u < node_count r) × ((at i).v < node_count r) = λ i l. listed-below side (omega arith) (at i) in
+    let nodes : (i : ℕ) → i ≤ pair_count r → ((at i).u < node_count r) × ((at i).v < node_count r) = λ i l. listed-below side (omega (arith, many, l)) (at i) in
     let twice = twice_below (pair_count r) f (λ i l. pair_of-below r (at i).u (at i).v (nodes i l).0 (nodes i l).1) in
     let i : ℕ = twice.0 in
     let j : ℕ = twice.1 in
     let less : i < j = twice.2 in
     let within : j ≤ pair_count r = twice.3 in
-    let same = same_from_place (at i).u (at i).v (at j).u (at j).v (node_count r) (nodes i (omega arith)).1 (nodes j within).1 twice.4 in
-    absurd (listed-apart side rule less (omega arith) (at i) (at j) same.0 same.1))
-    (cases_lt (n + node_count r) (pair_count r))
+    let same = same_from_place (at i).u (at i).v (at j).u (at j).v (node_count r) (nodes i (omega (arith, less, within))).1 (nodes j within).1 twice.4 in
+    absurd (listed-apart side rule less (at i) (at j) same.0 same.1))
+    (λ few. omega (arith, few))
+    (cases_lt (pair_count r) (2 * (n + 1) + node_count r))
 
--- a rank of two nodes is at most 239
-pub IsRank-most : (side : Side) {r : LocalRule} → IsRule r → (u v n : ℕ) → IsRank (Together side r u v) n → n ≤ 239
+-- a rank of two nodes is at most 119
+pub IsRank-most : (side : Side) {r : LocalRule} → IsRule r → (u v n : ℕ) → IsRank (Together side r u v) n → n ≤ most_rank
 IsRank-most side {r} rule u v n rank =
     let few : node_count r ≤ 16 = rule.shape.most_nodes in
+    let apart : 2 * (n + 1) + node_count r ≤ node_count r * node_count r = IsRank-apart side rule u v n rank in
     let most : node_count r * node_count r ≤ 16 * node_count r = mul-le-mul_right (node_count r) few in
-    omega (arith, IsRank-apart side rule u v n rank)
+    omega (arith, apart, most)
 
--- each rank that is given is at most 239
+-- each rank that is given is at most 119
 rank-most : (side : Side) {r : LocalRule} → IsRule r → (u v : ℕ) (rank : Option ℕ)
-    → MatchOption rank (IsEndless (Together side r u v)) (IsRank (Together side r u v)) → IfSome rank (λ n. n ≤ 239)
+    → MatchOption rank (IsEndless (Together side r u v)) (IsRank (Together side r u v)) → IfSome rank (λ n. n ≤ most_rank)
 rank-most side rule u v None endless = tt
 rank-most side rule u v (Some n) exact = IsRank-most side rule u v n exact
 
--- each rank of a table is at most 239
-pub AreRanks-most : (side : Side) {q r : LocalRule} (ranks : List (Option ℕ)) → IsRule q → q ≡ r → AreRanks side q ranks → (u v : ℕ) → u < node_count r → v < node_count r → IfSome (rank_at ranks u v) (λ n. n ≤ 239)
+-- each rank of a table is at most 119
+pub AreRanks-most : (side : Side) {q r : LocalRule} (ranks : List (Option ℕ)) → IsRule q → q ≡ r → AreRanks side q ranks → (u v : ℕ) → u < node_count r → v < node_count r → IfSome (rank_at ranks u v) (λ n. n ≤ most_rank)
 AreRanks-most side ranks rule same exact u v first second =
     let nodes = ap node_count same in rank-most side rule u v (rank_at ranks u v) (exact u v (omega arith) (omega arith))

@@ -62,8 +62,8 @@ AreEndless-stable {side} {r} rule {n} {set} h trimmed =
       );
     }
 
--- after 240 rounds what is left is endless
-pub AreEndless-all : {side : Side} {r : LocalRule} → IsRule r → {n : ℕ} {set : List Bool} → 240 ≤ n → AreTogether side r n set → AreEndless side r set
+-- after 120 rounds what is left is endless
+pub AreEndless-all : {side : Side} {r : LocalRule} → IsRule r → {n : ℕ} {set : List Bool} → 120 ≤ n → AreTogether side r n set → AreEndless side r set
 AreEndless-all {side} {r} rule {n} {set} many h = record {
   count = h.count;
   pairs = λ p inside.

@@ -1,5 +1,5 @@
 -- What ranks and endless pairs are, forward and backward.
-use Rattle.std.specs.Prelude.{◌≡◌, ℕ, ◌+◌, ◌-◌, ◌*◌, ◌<◌, ◌↔◌, List, Bool, Option, None, IsTrue, MatchOption, length, slice_index_or}
+use Rattle.std.specs.Prelude.{◌≡◌, ℕ, ◌+◌, ◌-◌, ◌*◌, ◌/◌, ◌<◌, ◌↔◌, List, Bool, Option, None, IsTrue, MatchOption, length, slice_index_or}
 use Rattle.word_image.specs.LocalRules.{LocalRule, node_count, most_nodes}
 use Rattle.word_image.specs.Graphs.{pair_count, most_pairs}
 use Rattle.word_image.specs.Ranks.{IsRank, IsEndless}
@@ -16,9 +16,9 @@ pub record AreEndless (side : Side) (r : LocalRule) (set : List Bool) : Type 0 w
   pub count : length set ≡ pair_count r
   pub pairs : (p : ℕ) → p < pair_count r → (IsTrue (holds set p) ↔ IsEndless (PairGoes side r p))
 
--- the greatest rank that two nodes may have: below N * (N - 1) for N nodes
+-- the greatest rank that two nodes may have: below N * (N - 1) / 2 for N nodes
 abbrev pub most_rank : ℕ
-most_rank = most_pairs - most_nodes - 1
+most_rank = (most_pairs - most_nodes) / 2 - 1
 
 -- the rank of u and v in a table that has it at 16 * u + v
 abbrev pub rank_at : List (Option ℕ) → ℕ → ℕ → Option ℕ

@@ -13,8 +13,9 @@
 //! The pairs that begin together for n + 1 are those from which two edges with one label lead to a
 //! pair that does for n. So rounds trim the set of all pairs, in round n by the pairs of rank n, and
 //! stop where a round leaves all: what is left is endless. Backward the same rounds read the edges
-//! backwards. A pair of rank n leads to pairs of each rank below n, and a pair of a node with itself is
-//! endless: so a finite rank is below N * (N - 1), at most 239.
+//! backwards. A pair of rank n leads to pairs of each rank below n, two nodes have one rank in either
+//! order, and a pair of a node with itself is endless: so a finite rank is below N * (N - 1) / 2, at most
+//! 119.
 //!
 //! For k states and N = k^(m - 1) nodes a set of pairs is N rows of bits, and a round takes time
 //! **O(k·N)** in operations on rows, each `of` at most **O(k·N·N²)**, and each look-up **O(1)**. No call

@@ -1,6 +1,6 @@
 //! The exact ranks of a rule.
 
-ghost use Rattle.std.specs.Prelude.{◌≡◌, ℕ, ◌+◌, ◌<◌, ◌≤◌, IfSome, MatchOption};
+ghost use Rattle.std.specs.Prelude.{◌≡◌, ℕ, ◌+◌, ◌*◌, ◌<◌, ◌≤◌, IfSome, MatchOption};
 ghost use Rattle.pair_rank.specs.Sides.{most_rank};
 ghost use Rattle.word_image.specs.LocalRules.{LocalRule, IsRule, node_count};
 ghost use Rattle.word_image.specs.Graphs.{pair_count};
@@ -112,9 +112,9 @@ impl Ranks {
     }
 }
 
-/// A rank of two nodes, to either side, is below N (N - 1) for N nodes, so it is at most 239: no two
-/// ranks are of one pair, and none is of a node with itself.
+/// A rank of two nodes, to either side, is below N (N - 1) / 2 for N nodes, so it is at most 119. Each
+/// lesser number is a rank too, two nodes have one rank in either order, and a node has none with itself.
 pub fn ranks_are_few()
-    ensures few { (side : Side) (r : LocalRule) (u v n : ℕ) → IsRule r → IsRank (Together side r u v) n → n + node_count r < pair_count r }
+    ensures few { (side : Side) (r : LocalRule) (u v n : ℕ) → IsRule r → IsRank (Together side r u v) n → 2 * (n + 1) + node_count r ≤ pair_count r }
     ensures most { (side : Side) (r : LocalRule) (u v n : ℕ) → IsRule r → IsRank (Together side r u v) n → n ≤ most_rank }
 {}

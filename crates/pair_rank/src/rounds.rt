@@ -8,7 +8,7 @@ use pair_graph::{PairSet, Pairs};
 use word_image::{MOST_NODES, MOST_PAIRS, Side};
 
 /// The greatest finite rank that is possible.
-const MOST_RANK: u16 = 239;
+const MOST_RANK: u16 = 119;
 
 /// The rank of each two nodes u and v, at 16 * u + v; `None` where they are endless.
 pub type RankTable = [Option<u16>; MOST_PAIRS];

@@ -1,6 +1,6 @@
 -- The evidence of a rule in the parts of a certificate.
 use Rattle.std.specs.Prelude.{ℕ, ◌≤◌, List, Option, ⊤}
-use Rattle.inverse_window.specs.FirstWindows.{longest_window}
+use Rattle.inverse_window.specs.FirstWindows.{most_window}
 use Rattle.word_image.specs.LocalRules.{LocalRule}
 use Rattle.cert_format.specs.declared.parts.InjectivePart.{InjectivePart}
 use Rattle.cert_format.specs.declared.parts.SidePart.{SidePart}
@@ -22,7 +22,7 @@ evidence_in r weights orphan injective right left conserving = record {
   conserving = sum_of conserving;
 }
 
--- a window has at most 480 letters of the image
+-- a window has at most 240 letters of the image
 abbrev pub HasShortWindow : InjectiveEvidence → Type 0
-HasShortWindow (Window n c) = n ≤ longest_window
+HasShortWindow (Window n c) = n ≤ most_window
 HasShortWindow (Twins x y) = ⊤

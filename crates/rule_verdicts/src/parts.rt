@@ -43,7 +43,7 @@ pub(crate) fn first_orphan(alloc: Global, graph: &Graph) -> Result<Option<Word>,
 }
 
 /// The least determined window exactly where the rule is injective, else its least twins. A window has
-/// at most 480 letters of the image.
+/// at most 240 letters of the image.
 pub fn injectivity(alloc: Global, rule: &Rule) -> Result<InjectivePart, AllocError>
     ensures least { IfOk result (λ part. IsInjectivePart rule.now (injective_of part)) }
     ensures most { IfOk result (λ part. HasShortWindow (injective_of part)) }

@@ -7,7 +7,7 @@ use Rattle.closing_test.proofs.look_ahead.ahead_at.Goals as goal
 pub loop-letter-preserved : goal.loop-letter-preserved
 loop-letter-preserved c = record {
   least = IsLeastFor-next c.args.side c.k-letter-end.ensures.rule c.loop-letter.invariant.least c.in_ok-ahead_with.ensures.least c.max-ahead.ensures;
-  most = ord_max-le 241 c.max-ahead.ensures c.loop-letter.invariant.most c.in_ok-ahead_with.ensures.most;
+  most = ord_max-le 121 c.max-ahead.ensures c.loop-letter.invariant.most c.in_ok-ahead_with.ensures.most;
 }
 
 pub returns-clause-least : goal.returns-clause-least

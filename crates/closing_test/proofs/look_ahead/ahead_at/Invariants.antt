@@ -7,5 +7,5 @@ use Rattle.closing_test.proofs.look_ahead.ahead_at.Given as goal
 abbrev pub invariant-loop-letter : goal.invariant-loop-letter
 invariant-loop-letter l = record {
   least : IsLeastFor (Below (IsFirstWith l.side l.rule l.window) l.letter) (PairGoes l.side l.rule) l.ahead;
-  most : l.ahead ≤ 241;
+  most : l.ahead ≤ 121;
 }

@@ -9,7 +9,7 @@ use Rattle.closing_test.proofs.look_ahead.least_ahead.Goals as goal
 pub loop-window-preserved : goal.loop-window-preserved
 loop-window-preserved c = record {
   least = IsLeastFor-next c.args.side c.size-window-end.ensures.rule c.loop-window.invariant.least c.in_ok-ahead_at.ensures.least c.max-ahead.ensures;
-  most = ord_max-le 241 c.max-ahead.ensures c.loop-window.invariant.most c.in_ok-ahead_at.ensures.most;
+  most = ord_max-le 121 c.max-ahead.ensures c.loop-window.invariant.most c.in_ok-ahead_at.ensures.most;
 }
 
 pub returns-in_err-ahead_at-clause-closing : goal.returns-in_err-ahead_at-clause-closing

@@ -6,5 +6,5 @@ abbrev pub invariant-loop-v : goal.invariant-loop-v
 invariant-loop-v l = record {
   past : IsPastOf l.ranks l.u l.v l.past;
   least : l.fn.least ≤ l.past;
-  most : l.past ≤ 240;
+  most : l.past ≤ 120;
 }

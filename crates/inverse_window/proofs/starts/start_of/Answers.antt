@@ -17,7 +17,7 @@ loop-v-preserved c =
     let start : Option ℕ = c.loop-v.start in
     let below : v < node_count r = omega arith in
     let more : p + 1 ≡ pair_of r u (v + 1) = omega arith in
-    let Kept : Option ℕ → Type 0 = λ o. HoldsFrom o (NoneHolds (pair_of r u (v + 1)) (PairDiffersAt r i) (PairEnds r)) × IfSome o (λ n. n ≤ 240) in
+    let Kept : Option ℕ → Type 0 = λ o. HoldsFrom o (NoneHolds (pair_of r u (v + 1)) (PairDiffersAt r i) (PairEnds r)) × IfSome o (λ n. n ≤ 120) in
     elim c.if-node_letter-letter.branch [
       | then-node_letter-letter w ↦
           let differ : PairDiffersAt r i p = of_nodes r (λ s t. node_letter r s i ≢ node_letter r t i) u v below
@@ -26,7 +26,7 @@ loop-v-preserved c =
           (subst (λ (z : LocalRule). HoldsFrom w.apart.result (λ n. ¬ EndTogether z u v n)) c.requires.of_rule w.apart.ensures.start) in
           subst Kept (sym (w.start-is ∙ w.later-start.ensures.later)) (
             subst (λ q. HoldsFrom (later start w.apart.result) (NoneHolds q (PairDiffersAt r i) (PairEnds r))) more (HoldsFrom-next start w.apart.result p (PairDiffersAt r i) (PairEnds r) differ c.loop-v.invariant.0 here),
-            later-most start w.apart.result 240 c.loop-v.invariant.1 w.apart.ensures.most,
+            later-most start w.apart.result 120 c.loop-v.invariant.1 w.apart.ensures.most,
           )
       | else-node_letter-letter w ↦
           let same : ¬ PairDiffersAt r i p = λ differ. nodes_differ r i u v below differ (sym c.node_letter-letter.ensures.letter ∙ sym w.if-node_letter-letter.false ∙ c.node_letter.ensures.letter) in

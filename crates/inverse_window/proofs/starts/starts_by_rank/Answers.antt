@@ -8,7 +8,7 @@ pub loop-u-init : goal.loop-u-init
 loop-u-init c =
     let zero : Option ℕ = Some 0 in
     let none : 0 ≡ pair_of c.args.rule.now 0 0 = omega arith in
-    subst (λ p. AreStarts c.args.rule.now c.args.past p (replicate 241 zero)) none (AreStarts-first c.args.rule.now c.args.past c.requires.most)
+    subst (λ p. AreStarts c.args.rule.now c.args.past p (replicate 121 zero)) none (AreStarts-first c.args.rule.now c.args.past c.requires.most)
 
 pub returns-clause-starts : goal.returns-clause-starts
 returns-clause-starts c =
