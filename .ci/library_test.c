@@ -637,6 +637,51 @@ static void test_flux(void)
     is("flux of a weight that is too great", finds_no_flux(2, cars, 8, 1, ((int64_t)1 << 56) + 1, CA_FAULT_WEIGHT));
     is("flux of a weight that is too little", finds_no_flux(2, cars, 8, 1, INT64_MIN, CA_FAULT_WEIGHT));
     is("flux of a sum that isn't kept", finds_no_flux(2, zeros, 8, 1, 1, CA_FAULT_LOST));
+
+    int64_t weights[CA_MOST_WORDS], numbers[CA_MOST_FLUX];
+    for (int at = 0; at < CA_MOST_WORDS; at++)
+        weights[at] = at < 2 ? at : INT64_MAX;
+    is("great numbers behind the weights of two words",
+       ca_flux(2, 3, cars, 8, 1, weights, numbers) == CA_FAULT_NONE && numbers[3] == -1);
+}
+
+/* A pointer may be NULL if the length beside it is 0. */
+static void test_null(void)
+{
+    static const uint8_t table[8] = {0, 1, 1, 1, 0, 1, 1, 0};
+    uint8_t order[8], rule[8] = {0};
+    struct ca_report report;
+    size_t length;
+    is("ca_run, NULL", ca_run(NULL, 0, NULL, 0, NULL, 0, &length) == CA_CODE_SHORT && length == strlen("usage error\n"));
+    is("ca_run_json, NULL", ca_run_json(NULL, 0, NULL, 0, NULL, 0, &length) == CA_CODE_SHORT && length == strlen(USAGE_JSON));
+    is("check of NULL", answers(WORDS("check\0"), NULL, 0, ROOM, CA_CODE_REFUSED, "refused format notjson\n"));
+    is("ca_verdicts, NULL", ca_verdicts(2, 3, NULL, 0).fault == CA_FAULT_LENGTH);
+    is("ca_report, NULL for the table", ca_report(2, 3, -1, NULL, 0, NULL, 0, &report, NULL, 0, &length) == CA_CODE_DONE
+                                            && report.fault == CA_FAULT_LENGTH && length == 0);
+    is("ca_report, NULL for weights and letters",
+       ca_report(2, 3, -1, table, 8, NULL, 0, &report, NULL, 0, &length) == CA_CODE_SHORT && length > 0);
+    is("ca_verdict_bytes, NULL", ca_verdict_bytes(2, 3, 0, 0, NULL, 0) == CA_FAULT_NONE);
+    is("ca_window_order, NULL", ca_window_order(CA_BIT_OPEN, 2, 3, NULL, 0) == CA_FAULT_LENGTH);
+    is("ca_next_rule, NULL for the order",
+       ca_next_rule(CA_BIT_OPEN, 2, 3, NULL, 0, NULL, 0, 0, rule, 8) == CA_FAULT_ORDER);
+    is("ca_next_rule, NULL for the beginning", ca_window_order(CA_BIT_OPEN, 2, 3, order, 8) == CA_FAULT_NONE
+           && ca_next_rule(CA_BIT_OPEN, 2, 3, order, 8, NULL, 0, 0, rule, 8) == CA_FAULT_NONE);
+    is("ca_next_rule, NULL for the table",
+       ca_next_rule(CA_BIT_OPEN, 2, 3, order, 8, NULL, 0, 0, NULL, 0) == CA_FAULT_LENGTH);
+    is("ca_kept_sums, NULL", ca_kept_sums(2, 3, NULL, 0, 1, &(struct ca_kept_sums){0}) == CA_FAULT_LENGTH);
+    is("ca_flux, NULL", ca_flux(2, 3, NULL, 0, 1, (int64_t[CA_MOST_WORDS]){0}, (int64_t[CA_MOST_FLUX]){0}) == CA_FAULT_LENGTH);
+}
+
+/* Each fault has a text of its own, and no other number has one. */
+static void test_fault_texts(void)
+{
+    const char *none = ca_fault_text(255);
+    for (int fault = 0; fault <= CA_FAULT_WEIGHTS; fault++) {
+        const bool there = fault != 9; /* no fault has this number */
+        is("the text of a fault", there == (strcmp(ca_fault_text((uint8_t)fault), none) != 0));
+        for (int other = 0; other < fault; other++)
+            is("texts of two faults", !there || strcmp(ca_fault_text((uint8_t)fault), ca_fault_text((uint8_t)other)) != 0);
+    }
 }
 
 static void *call_often(void *right)
@@ -645,6 +690,48 @@ static void *call_often(void *right)
         if (answers(WORDS("decide\0" "110\0"), NOTHING, ROOM, CA_DONE, REPORT_110))
             ++*(int *)right;
     return NULL;
+}
+
+/* The stack that a call may take, and what the thread itself takes of it. */
+enum { STACK = 128 * 1024, OWN_STACK = 16 * 1024 };
+
+/* The calls that take the most stack: certificates that are nested deeply, and long ones. */
+static void *call_on_a_small_stack(void *right)
+{
+    static uint8_t objects[2400000], lists[4000000], text[ROOM], letters[CA_MOST_REPORT_LETTERS];
+    static const uint8_t table[8] = {0, 1, 1, 1, 0, 1, 1, 0};
+    static struct ca_report report;
+    static struct ca_kept_sums sums;
+    size_t length;
+    uint8_t order[8], rule[8] = {0};
+    for (size_t at = 0; at < sizeof objects; at++)
+        objects[at] = (uint8_t)"{\"a\":"[at % 5];
+    memset(lists, '[', sizeof lists);
+    *(int *)right = ca_run(WORDS("check\0"), objects, sizeof objects, text, ROOM, &length) == CA_CODE_REFUSED
+        && ca_run(WORDS("check\0"), lists, sizeof lists, text, ROOM, &length) == CA_CODE_REFUSED
+        && ca_run_json(WORDS("check\0"), objects, sizeof objects, text, ROOM, &length) == CA_CODE_REFUSED
+        && ca_run(WORDS("certify\0" "90\0"), NOTHING, text, ROOM, &length) == CA_CODE_DONE
+        && ca_run_json(WORDS("decide\0" "110\0"), NOTHING, text, ROOM, &length) == CA_CODE_DONE
+        && ca_run(WORDS("language\0" "110\0"), NOTHING, text, ROOM, &length) == CA_CODE_DONE
+        && ca_run(WORDS("preimage\0" "110\0" "0|101|0\0"), NOTHING, text, ROOM, &length) == CA_CODE_DONE
+        && ca_report(2, 3, -1, table, 8, NULL, 0, &report, letters, sizeof letters, &length) == CA_CODE_DONE
+        && ca_window_order(CA_BIT_INJECTIVE, 2, 3, order, 8) == CA_FAULT_NONE
+        && ca_next_rule(CA_BIT_INJECTIVE, 2, 3, order, 8, NULL, 0, 0, rule, 8) == CA_FAULT_NONE
+        && ca_kept_sums(2, 3, table, 8, 2, &sums) == CA_FAULT_NONE;
+    return NULL;
+}
+
+static void test_small_stack(void)
+{
+    pthread_t thread;
+    pthread_attr_t stack;
+    int right = 0;
+    if (pthread_attr_init(&stack) != 0 || pthread_attr_setstacksize(&stack, STACK + OWN_STACK) != 0
+        || pthread_create(&thread, &stack, call_on_a_small_stack, &right) != 0)
+        abort();
+    pthread_join(thread, NULL);
+    pthread_attr_destroy(&stack);
+    is("calls in a thread with a small stack", right);
 }
 
 static void test_threads(void)
@@ -677,6 +764,9 @@ int main(void)
     test_next_rule();
     test_kept_sums();
     test_flux();
+    test_null();
+    test_fault_texts();
+    test_small_stack();
     test_threads();
     printf("%d passed, %d failed\n", passed, failed);
     return failed != 0;

@@ -7,10 +7,14 @@
  * RuleVerdicts of crates/c_values/src/table_verdicts.rt, RuleReport of rule_reports.rt and those of letter_rows.rt beside
  * it, and KeptSums of crates/kept_sums/src/kept.rt. That this header agrees with them is tested and not proved.
  *
- * Pointers. Each must point to as many bytes as the length beside it says, or where there is none to all of its type, and must not be NULL, not even
- * where that length is 0: then any address of an object will do. Nothing is kept of a pointer after a
- * call, nothing is allocated that the caller would have to free, and what is passed as const is only
- * read. What a call writes to, the buffer and *length, must overlap nothing else that it is passed.
+ * Pointers. A pointer with a length beside it points to as many bytes as the length says, and may be NULL if the length is 0.
+ * Any other pointer points to all of its type, and isn't NULL. A call keeps no pointer, and the caller has nothing to free. It
+ * only reads what is passed as const. The buffer and *length, to which it writes, must overlap nothing else that is passed.
+ *
+ * Numbers. The arguments are as wide as their types: 258 states are 2 for uint8_t, and a compiler doesn't warn of it. Check
+ * the range of an int before you pass it on.
+ *
+ * Stack. A call takes up to 128 KiB of stack. Give a thread of your own 256 KiB.
  *
  * Threads. There is no state outside of a call, so several threads may call at once, each with a buffer
  * and a length of its own; they may share what is only read. A call waits for nothing and starts no
@@ -31,6 +35,14 @@ extern "C" {
 
 /* The version of this interface, which ca_version gives. */
 #define CA_VERSION 2
+
+/* How many there are at most, for the sizes of arrays. */
+#define CA_MOST_WINDOWS 256         /* letters of a table, and windows of an order */
+#define CA_MOST_NODES 16            /* words of width - 1 letters, and numbers of the flux of a report */
+#define CA_MOST_REPORT_LETTERS 72712 /* letters of the words of a report */
+#define CA_MOST_WORDS 16            /* words of range letters, and weights of them */
+#define CA_MOST_FLUX 128            /* words of width + range - 2 letters, and numbers of their flux */
+#define CA_MOST_RING_LETTERS 15     /* letters of a ring that shows that a sum isn't kept */
 
 /* What ca_run and ca_run_json give. With codes up to CA_CODE_TOO_LONG there is an output. ca_report gives
  * CA_CODE_DONE, CA_CODE_MEMORY or CA_CODE_SHORT. */
@@ -64,13 +76,13 @@ enum ca_fault {
     CA_FAULT_WIDTH = 2,  /* the width is not 2 to 5 */
     CA_FAULT_NODES = 3,  /* there are more than 16 words of width - 1 letters */
     CA_FAULT_OFFSET = 4, /* the offset is less than -16, or the last cell of the window beyond the 16th on the right */
-    CA_FAULT_LENGTH = 5, /* the table, or the order to be written, has not one byte for each window */
+    CA_FAULT_LENGTH = 5, /* the table, or the order to be written, doesn't have one byte for each window */
     CA_FAULT_LETTER = 6, /* a letter of the table is not below states */
     CA_FAULT_KIND = 7,   /* there are more than six states, so rules have no numbers */
     CA_FAULT_NUMBER = 8, /* a number has no rule */
 
     CA_FAULT_PROPERTY = 10, /* the property is none */
-    CA_FAULT_ORDER = 11,    /* the order has not each window once */
+    CA_FAULT_ORDER = 11,    /* the order doesn't have each window once */
     CA_FAULT_BEGIN = 12,    /* more letters are fixed than there are windows */
     CA_FAULT_NO_RULE = 13,  /* there is no further rule */
 
@@ -81,6 +93,32 @@ enum ca_fault {
 
     CA_FAULT_WEIGHTS = 18 /* there isn't one weight for each letter */
 };
+
+/* What a fault means, in English and without a full stop. */
+static inline const char *ca_fault_text(uint8_t fault)
+{
+    switch (fault) {
+    case CA_FAULT_NONE: return "no fault";
+    case CA_FAULT_STATES: return "there must be 2 to 16 states";
+    case CA_FAULT_WIDTH: return "the width must be 2 to 5";
+    case CA_FAULT_NODES: return "there must be at most 16 words of width - 1 letters";
+    case CA_FAULT_OFFSET: return "the window must be within 16 cells on both sides";
+    case CA_FAULT_LENGTH: return "the table or the order must have one byte for each window";
+    case CA_FAULT_LETTER: return "each letter of the table must be less than the number of states";
+    case CA_FAULT_KIND: return "rules of more than six states have no numbers";
+    case CA_FAULT_NUMBER: return "the number must be that of a rule";
+    case CA_FAULT_PROPERTY: return "the property must be one of enum ca_bit";
+    case CA_FAULT_ORDER: return "the order must have each window once";
+    case CA_FAULT_BEGIN: return "no more letters can be fixed than there are windows";
+    case CA_FAULT_NO_RULE: return "there is no further rule";
+    case CA_FAULT_RANGE: return "words must have at least one letter";
+    case CA_FAULT_WORDS: return "there must be at most 16 words of so many letters";
+    case CA_FAULT_WEIGHT: return "each weight must be from -2^56 to 2^56";
+    case CA_FAULT_LOST: return "the rule doesn't keep the sum";
+    case CA_FAULT_WEIGHTS: return "there must be one weight for each letter";
+    default: return "no fault has this number";
+    }
+}
 
 /* What the byte of a rule is the sum of: those that hold, in the words of struct ca_rule_verdicts. For ca_window_order and
  * ca_next_rule each is a property. */
@@ -95,7 +133,7 @@ enum ca_bit {
 
 /* What holds of a rule. */
 struct ca_rule_verdicts {
-    uint8_t fault;   /* an enum ca_fault; where it isn't CA_FAULT_NONE, all below are false */
+    uint8_t fault;   /* an enum ca_fault; if it isn't CA_FAULT_NONE, all below are false */
     bool surjective; /* every word has a preimage */
     bool injective;  /* no two different configurations share an image */
     bool right;      /* no two that agree on the left do: the rule is right-closing */
@@ -104,7 +142,7 @@ struct ca_rule_verdicts {
     bool conserving; /* every ring keeps the sum of its letters */
 };
 
-/* A word: so many letters of the buffer, from this one on. Where there is none, both numbers are 0. */
+/* A word: length letters of the buffer, the first at begin. If there is none, both numbers are 0. */
 struct ca_row {
     size_t begin;
     size_t length;
@@ -130,19 +168,19 @@ struct ca_split {
 };
 
 /*
- * What holds of a rule, each with the least that shows it. A verdict is 1 where it holds, and else 0. What belongs to a
- * verdict that came out the other way is 0 throughout.
+ * What holds of a rule, each verdict with its least evidence. A verdict is 1 if it holds, and else 0. The evidence for the
+ * other verdict is 0 throughout. In C++ the function ca_report is ca::ca_report.
  */
 struct ca_report {
-    uint8_t fault;      /* an enum ca_fault; where it isn't CA_FAULT_NONE, all below are 0 */
+    uint8_t fault;      /* an enum ca_fault; if it isn't CA_FAULT_NONE, there is no report, and all below are 0 */
     uint8_t surjective; /* every word has a preimage; else orphan is the first word that has none */
     uint8_t injective;  /* no two different configurations share an image, and any window letters of an image tell the
-                           letter place, from 0 on, of the window + width - 1 letters behind them; else the rings of
-                           twins share one */
+                           letter place, starting at 0, of the window + width - 1 letters from which they come; else
+                           the rings of twins share one */
     uint8_t right;      /* no two that agree on the left do, and any width - 1 letters and right_ahead letters of the
                            image tell the next letter; else those of right_split do */
-    uint8_t left;       /* no two that agree on the right do, and left_ahead is this number of the mirrored rule; else
-                           those of left_split do */
+    uint8_t left;       /* no two that agree on the right do, and left_ahead is the right_ahead of the mirrored rule;
+                           else those of left_split do */
     uint8_t is_open;    /* both of these: the rule is open */
     uint8_t conserving; /* every ring keeps the sum of the weights of its letters, as flux shows; else ring doesn't */
     uint8_t nodes;      /* how many numbers flux has: one for each word of width - 1 letters, by its value */
@@ -150,7 +188,7 @@ struct ca_report {
     uint32_t place;
     uint32_t right_ahead;
     uint32_t left_ahead;
-    int32_t flux[16];   /* zeros after its numbers */
+    int32_t flux[CA_MOST_NODES]; /* zeros after its numbers */
     struct ca_row orphan;
     struct ca_twins twins;
     struct ca_row ring;
@@ -163,13 +201,15 @@ struct ca_report {
  * The sums that a rule keeps, of weights of words of range letters.
  *
  * A word stands at its value, the number whose digits in base states are its letters, the leftmost the most
- * significant. The place of a word that doesn't begin with 0 has a row or a ring, every other place neither.
+ * significant. The place of a word that doesn't begin with 0 has a row or a ring, every other place neither: it has a ring
+ * if its number of counts isn't 0. In C++ the function ca_kept_sums is ca::ca_kept_sums.
  */
 struct ca_kept_sums {
-    int64_t rows[16][16];  /* the weights of the words, where there is a row: its first number that isn't 0
-                              stands at its own place, is positive, and is 0 in all other rows; else zeros */
-    uint8_t counts[16];    /* how many letters the ring has, where there is one; else 0 */
-    uint8_t rings[16][15]; /* so many letters, and others after them */
+    int64_t rows[CA_MOST_WORDS][CA_MOST_WORDS]; /* the weights of the words, if there is a row: its first number that
+                                                   isn't 0 stands at its own place, is positive, and is 0 in all other
+                                                   rows; else zeros */
+    uint8_t counts[CA_MOST_WORDS];              /* how many letters the ring has, if there is one; else 0 */
+    uint8_t rings[CA_MOST_WORDS][CA_MOST_RING_LETTERS]; /* as many letters, and zeros or other letters after them */
 };
 
 /* The version of the interface that was linked. */
@@ -229,12 +269,20 @@ struct ca_rule_verdicts ca_verdicts(uint8_t states, uint8_t width, const uint8_t
  *                   CA_FAULT_STATES to CA_FAULT_LETTER or CA_FAULT_WEIGHTS, the first that holds, and *length is 0.
  *   CA_CODE_SHORT   There are *length letters, which is more than room. *report and the buffer are as they were. A
  *                   second call, with room enough, works the report out again. docs/COMMANDS.md says how long each
- *                   word can be: 72,712 letters hold the words of any rule.
+ *                   word can be: CA_MOST_REPORT_LETTERS hold the words of any rule.
  *   CA_CODE_MEMORY  *length is 0, and *report and the buffer are as they were.
+ *
+ * Test report->fault too: a rule that is refused has the code CA_CODE_DONE, and no verdict of its report holds.
  */
+#ifdef __cplusplus
+namespace ca {
+#endif
 uint8_t ca_report(uint8_t states, uint8_t width, int8_t offset, const uint8_t *table, size_t table_length,
                   const uint8_t *weights, size_t weights_length, struct ca_report *report, uint8_t *letters,
                   size_t room, size_t *length);
+#ifdef __cplusplus
+}
+#endif
 
 /*
  * Decides the questions of many rules with consecutive numbers, and takes no memory.
@@ -273,9 +321,11 @@ uint8_t ca_window_order(uint8_t property, uint8_t states, uint8_t width, uint8_t
  *
  *     uint8_t order[27], table[27] = {0};
  *     ca_window_order(CA_BIT_INJECTIVE, 3, 3, order, 27);
- *     for (int after = 0; ca_next_rule(CA_BIT_INJECTIVE, 3, 3, order, 27, order, 0, after, table, 27)
+ *     for (int after = 0; ca_next_rule(CA_BIT_INJECTIVE, 3, 3, order, 27, NULL, 0, after, table, 27)
  *                         == CA_FAULT_NONE; after = 1)
  *         print(table);
+ *
+ * after is a flag: don't pass a count, which is 0 again at 256, and then the first rule comes again.
  *
  * Only rules are found that have the first begin_length letters of begin at the windows of the same places; a byte that is
  * not below states leaves its window open. So a shape can be asked for in parts, side by side.
@@ -283,7 +333,8 @@ uint8_t ca_window_order(uint8_t property, uint8_t states, uint8_t width, uint8_t
  * table has a letter for each window, each below states, before the call too, whatever they are for the first rule. It
  * gives CA_FAULT_NONE, and then table has the rule's; or CA_FAULT_STATES, CA_FAULT_WIDTH, CA_FAULT_NODES,
  * CA_FAULT_LENGTH, CA_FAULT_LETTER, CA_FAULT_PROPERTY, CA_FAULT_ORDER, CA_FAULT_BEGIN or CA_FAULT_NO_RULE, the first that
- * holds; table is then as it was. How long a call takes is docs/LISTS.md's; many shapes have no end in sight.
+ * holds; table is then as it was. docs/LISTS.md says how long a call takes. For many shapes it takes longer than anyone can
+ * wait, and it can't be interrupted.
  */
 uint8_t ca_next_rule(uint8_t property, uint8_t states, uint8_t width, const uint8_t *order,
                      size_t order_length, const uint8_t *begin, size_t begin_length, uint8_t after,
@@ -301,12 +352,19 @@ uint8_t ca_next_rule(uint8_t property, uint8_t states, uint8_t width, const uint
  * It gives CA_FAULT_NONE, or CA_FAULT_STATES to CA_FAULT_NODES, CA_FAULT_LENGTH, CA_FAULT_LETTER, CA_FAULT_RANGE or
  * CA_FAULT_WORDS, the first that holds; *sums is then as it was.
  */
+#ifdef __cplusplus
+namespace ca {
+#endif
 uint8_t ca_kept_sums(uint8_t states, uint8_t width, const uint8_t *table, size_t table_length, uint8_t range,
                      struct ca_kept_sums *sums);
+#ifdef __cplusplus
+}
+#endif
 
 /*
  * Finds the flux of a sum that a rule keeps, which shows that it is kept, and takes no memory. The rule is that of
  * ca_verdicts, and weights has the weight of each word of range letters at its value: a row of struct ca_kept_sums will do.
+ * What stands behind the weight of the last word isn't looked at.
  *
  * A flux is a number for each word of width + range - 2 letters, so that for each word of one letter more what its image
  * weighs more than its first range letters is the number of its first letters but for the last less that of its last
@@ -317,7 +375,7 @@ uint8_t ca_kept_sums(uint8_t states, uint8_t width, const uint8_t *table, size_t
  * CA_FAULT_WORDS, CA_FAULT_WEIGHT or CA_FAULT_LOST, the first that holds; numbers is then as it was.
  */
 uint8_t ca_flux(uint8_t states, uint8_t width, const uint8_t *table, size_t table_length, uint8_t range,
-                const int64_t weights[16], int64_t numbers[128]);
+                const int64_t weights[CA_MOST_WORDS], int64_t numbers[CA_MOST_FLUX]);
 
 #ifdef __cplusplus
 }

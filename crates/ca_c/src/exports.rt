@@ -5,6 +5,7 @@ ghost use Rattle.cert_conditions.specs.Accepted.{AreTrue, is_open};
 ghost use Rattle.ca_text.specs.Replies.{reply_text};
 ghost use Rattle.ca_json.specs.Replies.{json_text};
 ghost use Rattle.ca_c.specs.Calls.{IsHandedBack};
+ghost use Rattle.ca_c.specs.Weights.{first_weights};
 ghost use Rattle.rule_verdicts.specs.Numbers.{numbers_fault, AreVerdictBytes};
 ghost use Rattle.c_values.specs.NumberedVerdicts.{number_code};
 ghost use Rattle.kept_sums.specs.Stages.{AreKeptSums};
@@ -265,7 +266,7 @@ pub extern "C" fn ca_kept_sums(
 
 /// Writes the flux of weights of words of so many letters, for the rule with these states, this width and this
 /// table, whose window begins at its cell: a number for each word of width + range - 2 letters, by its value,
-/// with 0 for the word of letters 0 and behind the last word. It gives 0, or the number of the first fault, and
+/// with 0 for the word of letters 0 and behind the last word. What stands behind the weight of the last word isn't looked at. It gives 0, or the number of the first fault, and
 /// then `numbers` is as it was: of the rule, of the range, 16 where a weight is greater than 2^56 or less than its
 /// negative, 17 where the rule doesn't keep the sum. It takes no memory.
 #[unsafe(no_mangle)]
@@ -277,7 +278,7 @@ pub extern "C" fn ca_flux(
     weights: &Row,
     numbers: &mut Flux,
 ) -> u8
-    ensures { IsFluxCall states width table.now range weights.now numbers.old result numbers.new }
+    ensures { IsFluxCall states width table.now range (first_weights (states ^ range) weights.now) numbers.old result numbers.new }
 {
     let made = Rule::new(states, width, 0, table);
     let rule = match made {
@@ -287,14 +288,26 @@ pub extern "C" fn ca_flux(
     if let Err(fault) = check_range(states, range) {
         return range_number(fault);
     }
-    if !are_small(weights) {
+    let weights = first_weights(states, range, weights);
+    if !are_small(&weights) {
         return GREAT_WEIGHT;
     }
-    match flux(&rule, range, weights) {
+    match flux(&rule, range, &weights) {
         Some(found) => {
             *numbers = found;
             FOUND
         }
         None => NOT_KEPT,
     }
+}
+
+/// The weights of the words of so many letters, and zeros behind the last of them.
+fn first_weights(states: u8, range: u8, weights: &Row) -> Row
+    requires { states ^ range ≤ 16 }
+    ensures { result ≡ first_weights (states ^ range) weights.now }
+{
+    let count = usize::from(states).pow(u32::from(range));
+    let mut first = *weights;
+    first[count..].fill(0);
+    first
 }
