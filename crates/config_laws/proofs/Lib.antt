@@ -24,3 +24,6 @@ pub mod Bijective
 pub mod Composed
 pub mod RingMaps
 pub mod RingImages
+pub mod Rounds
+pub mod PeriodicPreimages
+pub mod OntoRings

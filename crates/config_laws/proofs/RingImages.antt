@@ -7,7 +7,7 @@ use Rattle.tail_config.proofs.Common.{Config, image_of, image_of-window}
 use Rattle.config_laws.specs.Composed.{IsOneAfter, Undoes}
 
 -- a ring has as many letters as its image
-length-ring_image : (r : LocalRule) (p : List ℕ) → length (ring_image r p) ≡ length p
+pub length-ring_image : (r : LocalRule) (p : List ℕ) → length (ring_image r p) ≡ length p
 length-ring_image r p = length-map-range_with_len (λ i. local_map r (ring_letters p (pos i +ℤ r.offset) r.width)) 0 (length p)
 
 -- the letters of a ring come again after some turns

@@ -30,7 +30,8 @@
 //! The functions here do nothing, and take no time. Each carries a law by its contract.
 #![tactic(auto)]
 
-ghost use Rattle.std.specs.Prelude.{◌≡◌, ◌↔◌, ◌+◌, ◌-◌, ◌≤◌, ℕ, List, length, ℤ, pos, ◌+ℤ◌, ◌-ℤ◌};
+ghost use Rattle.std.specs.Prelude.{◌≡◌, ◌↔◌, ◌+◌, ◌-◌, ◌*◌, ◌≤◌, ℕ, List, length, ℤ, pos, ◌+ℤ◌, ◌-ℤ◌};
+ghost use Rattle.std.specs.List.{repeat};
 ghost use Rattle.word_image.specs.LocalRules.{LocalRule, IsRule, IsWord, node_count};
 ghost use Rattle.word_image.specs.Words.{IsSurjective, image};
 ghost use Rattle.word_image.specs.Windows.{IsDetermined, IsRightAhead};
@@ -42,9 +43,10 @@ ghost use Rattle.tail_config.specs.Configs.{Config, IsConfig, run, image_of};
 ghost use Rattle.config_laws.specs.Maps.{IsInjectiveMap, IsRightClosingMap, IsLeftClosingMap, IsPreinjectiveMap, IsRightContinuingMap, IsLeftContinuingMap, IsDenseMap, IsOntoMap, IsOpenMap, IsEvenlyOpenMap, AreMany};
 ghost use Rattle.config_laws.specs.OneOfTwo.{OneOfTwo, AllOrNot};
 ghost use Rattle.config_laws.specs.Repeating.{IsOntoTails};
+ghost use Rattle.config_laws.specs.Periodic.{HasPeriod, IsOntoPeriodic, HasPeriodicPreimages};
 ghost use Rattle.config_laws.specs.Sums.{weight_on, flow_under, KeepsFiniteSums, KeepsChanges};
 ghost use Rattle.config_laws.specs.Composed.{IsOneAfter, Undoes};
-ghost use Rattle.config_laws.specs.RingMaps.{IsBijectiveOnRings};
+ghost use Rattle.config_laws.specs.RingMaps.{IsBijectiveOnRings, IsOntoRings};
 
 /// A rule is injective exactly where no two different configurations have one image. A determined window
 /// is the reason: n letters of the image of any configuration tell one of its letters.
@@ -94,6 +96,23 @@ pub fn surjective_is_onto()
 /// of one that does.
 pub fn surjective_is_onto_repeating()
     ensures { (r : LocalRule) → IsRule r → (IsSurjective r ↔ IsOntoTails r) }
+{}
+
+/// A rule is surjective exactly if each ring, written l times for some l, is the image of a ring: then for some l of at most
+/// k^(m - 1). It is surjective exactly if each periodic configuration is the image of a periodic one (Hedlund 1969).
+pub fn surjective_on_rings()
+    ensures exactly { (r : LocalRule) → IsRule r → (IsSurjective r ↔ IsOntoRings r) }
+    ensures few { (r : LocalRule) (q : List ℕ) → IsRule r → IsSurjective r → IsRing r.states q
+        → (l : ℕ) × (p : List ℕ) × (1 ≤ l) × (l ≤ node_count r) × IsRing r.states p × (length p ≡ l * length q) × (ring_image r p ≡ repeat l q) }
+    ensures periodic { (r : LocalRule) → IsRule r → (IsSurjective r ↔ IsOntoPeriodic r) }
+{}
+
+/// A rule is surjective exactly if each preimage of a periodic configuration is periodic. Then its period is l periods of the
+/// image for some l of at most k^(m - 1) (Hedlund 1969). Rule 90 needs 4 for the letter 1 everywhere, the image of 0 0 1 1 again and again.
+pub fn periodic_preimages()
+    ensures exactly { (r : LocalRule) → IsRule r → (IsSurjective r ↔ HasPeriodicPreimages r) }
+    ensures period { (r : LocalRule) (x : Config) (p : ℕ) → IsRule r → IsSurjective r → IsConfig r.states x → HasPeriod p (image_of r x)
+        → (l : ℕ) × (1 ≤ l) × (l ≤ node_count r) × HasPeriod (l * p) x }
 {}
 
 /// A rule that is closing on a side is continuing on it: what agrees far out on the other side with an
