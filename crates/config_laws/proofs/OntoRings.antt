@@ -1,22 +1,17 @@
 -- A rule is surjective exactly if each ring, written a number of times, is the image of a ring, and exactly if each periodic configuration is the image of a periodic one (Hedlund 1969).
-use Rattle.std.proofs.Common.{◌≡◌, ℕ, zero, suc, ◌+◌, ◌*◌, ◌≤◌, ◌↔◌, List, [], ◌∷◌, ◌++◌, length, slice_index, pos, ◌+ℤ◌, ◌-ℤ◌, refl, sym, ap, ap₂, ◌∙◌, subst, arith, mod-eq_of_lt}
+use Rattle.std.proofs.Common.{◌≡◌, ℕ, zero, suc, ◌+◌, ◌*◌, ◌≤◌, ◌↔◌, List, [], ◌∷◌, ◌++◌, length, pos, ◌+ℤ◌, ◌-ℤ◌, refl, sym, ap, ap₂, ◌∙◌, subst, arith}
 use Rattle.std.proofs.Math.Path.{fun_ext}
 use Rattle.std.specs.List.{repeat}
-use Rattle.word_image.proofs.Common.{ints, get_or-map-range_with_len, some_letter, LocalRule, IsRule, node_count, local_map, IsSurjective, IsRing, ring_letter, ring_letters, ring_image, ring_letter-turn, ring_letter-below}
-use Rattle.tail_config.proofs.Common.{Config, IsConfig, run, image_of, zeros, length-run, run-by_letters, run-same, same-run, run-append}
+use Rattle.word_image.proofs.Common.{ints, some_letter, LocalRule, IsRule, node_count, IsSurjective, IsRing, ring_letter, ring_image, ring_letter-turn, ring_letter-below}
+use Rattle.tail_config.proofs.Common.{Config, IsConfig, run, image_of, zeros, length-run, run-same, same-run, run-append}
 use Rattle.config_laws.specs.Periodic.{HasPeriod, IsOntoPeriodic}
 use Rattle.config_laws.specs.RingMaps.{IsOntoRings}
 use Rattle.config_laws.proofs.Dense.{preimage_inside}
-use Rattle.config_laws.proofs.RingImages.{length-ring_image, image_of-ring}
-use Rattle.config_laws.proofs.Rounds.{HasPeriod-times, HasPeriod-ring, same_periodic, rounds-period, IsRing-run, PeriodicPreimage, periodic_preimage}
+use Rattle.config_laws.proofs.RingImages.{run-ring, run-ring_image, image_of-ring}
+use Rattle.config_laws.proofs.Periods.{HasPeriod-times, HasPeriod-ring, same_periodic}
+use Rattle.config_laws.proofs.Rounds.{rounds-period, IsRing-run, PeriodicPreimage, periodic_preimage}
 
--- a ring by the letters of its configuration
-run-ring : (q : List ℕ) → run (ring_letter q) (pos 0) (length q) ≡ q
-run-ring q = sym (run-by_letters (ring_letter q) (pos 0) (length q) q refl (λ a l.
-    let place : pos a ≡ pos 0 +ℤ pos a = omega (arith, ints) in
-    ap (slice_index q) (sym (mod-eq_of_lt l)) ∙ ap (ring_letter q) place))
-
--- so is a ring written l times
+-- a ring written l times by the letters of its configuration
 run-repeat : (q : List ℕ) → 1 ≤ length q → (l : ℕ) → run (ring_letter q) (pos 0) (l * length q) ≡ repeat l q
 run-repeat q some zero = let none : zero * length q ≡ 0 = omega arith in ap (run (ring_letter q) (pos 0)) none
 run-repeat q some (suc l) =
@@ -40,12 +35,6 @@ ring_letter-repeat q some l more =
     let first : HasPeriod (l * n) (ring_letter (repeat l q)) = subst (λ k. HasPeriod k (ring_letter (repeat l q))) long (HasPeriod-ring (repeat l q) (omega (arith, times.some, long))) in
     same_periodic first times (pos 0) (same-run (ring_letter (repeat l q)) (ring_letter q) (pos 0) (pos 0) (l * n)
     (ap (run (ring_letter (repeat l q)) (pos 0)) (sym long) ∙ run-ring (repeat l q) ∙ sym (run-repeat q some l)))
-
--- the image of a ring by the image of its configuration
-run-ring_image : (r : LocalRule) (p : List ℕ) → run (image_of r (ring_letter p)) (pos 0) (length p) ≡ ring_image r p
-run-ring_image r p = sym (run-by_letters (image_of r (ring_letter p)) (pos 0) (length p) (ring_image r p) (length-ring_image r p) (λ a l.
-    let place : pos a ≡ pos 0 +ℤ pos a = omega (arith, ints) in
-    get_or-map-range_with_len (λ i. local_map r (ring_letters p (pos i +ℤ r.offset) r.width)) 0 (length p) a a 0 l (omega arith) ∙ ap (image_of r (ring_letter p)) place))
 
 -- a ring whose image is q, written as many times as there are nodes at most
 pub record RingOver (r : LocalRule) (q : List ℕ) : Type 0 where

@@ -1,16 +1,17 @@
 -- A rule is surjective exactly if all preimages of periodic configurations are periodic: else more configurations than nodes have one image.
-use Rattle.std.proofs.Common.{◌≡◌, ◌⊎◌, ℕ, zero, suc, ◌+◌, ◌-◌, ◌*◌, ◌<◌, ◌≤◌, ◌↔◌, inl, inr, ⊎_elim, List, length, ℤ, pos, ◌+ℤ◌, ◌-ℤ◌, neg_ℤ, unsigned_abs, refl, sym, ap, ◌∙◌, subst, arith, mul_comm, ◌<ℤ◌}
+use Rattle.std.proofs.Common.{◌≡◌, ◌⊎◌, ℕ, zero, suc, ◌+◌, ◌-◌, ◌*◌, ◌<◌, ◌≤◌, ◌↔◌, inl, inr, ⊎_elim, List, length, ℤ, pos, ◌+ℤ◌, ◌-ℤ◌, neg_ℤ, unsigned_abs, refl, sym, ap, ◌∙◌, subst, arith, mul_comm, ◌<ℤ◌, ◌≤ℤ◌}
 use Rattle.std.proofs.Math.Path.{fun_ext}
 use Rattle.word_image.proofs.Common.{cases_eq, ints, by_lt_z, mul-le, LocalRule, IsRule, node_count, IsSurjective, IsErasable, ring_letter}
 use Rattle.eden_laws.proofs.Exchange.{IsErasable-long}
 use Rattle.eden_laws.proofs.GardenOfEden.{garden_of_eden}
 use Rattle.tail_config.proofs.Common.{DifferAt, differ_at, Config, IsConfig, image_of, image_of-window}
 use Rattle.config_laws.specs.Periodic.{HasPeriod, HasPeriodicPreimages}
-use Rattle.config_laws.proofs.Joined.{joined, joined-left, joined-right, IsConfig-joined}
+use Rattle.config_laws.proofs.Joined.{meeting, meeting-left, meeting-right, IsConfig-meeting, image_of-meeting}
 use Rattle.config_laws.proofs.Tails.{IsLoop, SomeLoop, some_loop}
 use Rattle.config_laws.proofs.Exchange.{placed-inside, placed-behind, one_other, turn_letter, image_of-one_other, AreMany-erasable}
 use Rattle.config_laws.proofs.FewPreimages.{not_many}
-use Rattle.config_laws.proofs.Rounds.{on_the_right, HasPeriod-times, HasPeriod-image, HasPeriod-ring, rounds, IsConfig-rounds, HasPeriod-rounds, rounds-loop, image_of-rounds}
+use Rattle.config_laws.proofs.Periods.{RepeatsRight-period, HasPeriod-times, HasPeriod-image, HasPeriod-ring}
+use Rattle.config_laws.proofs.Rounds.{rounds, IsConfig-rounds, HasPeriod-rounds, rounds-loop, image_of-rounds}
 
 -- n steps of d places
 abbrev steps : ℤ → ℕ → ℤ
@@ -72,46 +73,38 @@ all_more {r} {z} {c} rule every hz d again turn place cases (suc m) a l =
     ⊎_elim (λ same. same) (λ (e, less, is). sym (ap z is) ∙ all_more rule every hz d again turn place cases m e (omega arith) ∙ ap c is) (cases a n)
     ∙ steps-again c d turn (suc n) (place a))
 
--- two configurations with one image and one node under place i have that image when they are joined there
-image_of-joined : (r : LocalRule) (u v : Config) {y : Config} (i : ℤ) → ((a : ℕ) → a < r.width - 1 → u (i +ℤ r.offset +ℤ pos a) ≡ v (i +ℤ r.offset +ℤ pos a)) → image_of r u ≡ y → image_of r v ≡ y
-    → image_of r (joined u (i +ℤ r.offset) (λ a. v (i +ℤ r.offset +ℤ pos a))) ≡ y
-image_of-joined r u v {y} i node first second = fun_ext (λ j. by_lt_z j i
-    (λ l. image_of-window r z u j j (λ a g. by_lt_z (j +ℤ r.offset +ℤ pos a) s (joined-left u s f (j +ℤ r.offset +ℤ pos a))
-    (λ h. let b : ℕ = unsigned_abs (j +ℤ r.offset +ℤ pos a -ℤ s) in
-    let place : s +ℤ pos b ≡ j +ℤ r.offset +ℤ pos a = omega (arith, ints) in
-    joined-right u s f (j +ℤ r.offset +ℤ pos a) b place ∙ sym (node b (omega (arith, ints))) ∙ ap u place))
-    ∙ ap (λ (x : Config). x j) first)
-    (λ l. image_of-window r z v j j (λ a g.
-    let b : ℕ = unsigned_abs (j +ℤ r.offset +ℤ pos a -ℤ s) in
-    let place : s +ℤ pos b ≡ j +ℤ r.offset +ℤ pos a = omega (arith, ints) in
-    joined-right u s f (j +ℤ r.offset +ℤ pos a) b place ∙ ap v place)
-    ∙ ap (λ (x : Config). x j) second))
-  where
-    s : ℤ
-    s = i +ℤ r.offset
-
-    f : ℕ → ℕ
-    f a = v (s +ℤ pos a)
-
-    z : Config
-    z = joined u s f
-
 -- the letters come again one period back
 one_back : {p : ℕ} {x : Config} → HasPeriod p x → (i : ℤ) → x (i +ℤ neg_ℤ (pos p)) ≡ x i
 one_back {p} {x} h i =
     let place : i +ℤ neg_ℤ (pos p) +ℤ pos p ≡ i = omega (arith, ints) in
     sym (h.again (i +ℤ neg_ℤ (pos p))) ∙ ap x place
 
--- under a surjective rule a configuration whose image has the period of a loop has that period
+-- under a surjective rule z has the letters of c from a place on if it has them before, and c and the image of z have one period
+same_behind : {r : LocalRule} {z c : Config} {p : ℕ} → IsRule r → IsSurjective r → IsConfig r.states z → HasPeriod p (image_of r z) → HasPeriod p c
+    → (s : ℤ) → ((j : ℤ) → j <ℤ s → z j ≡ c j) → (j : ℤ) → s ≤ℤ j → z j ≡ c j
+same_behind {r} {z} {c} {p} rule every hz image period s before j l =
+    let a : ℕ = unsigned_abs (j -ℤ s) in
+    let here : s +ℤ pos a ≡ j = omega (arith, ints) in
+    subst (λ i. z i ≡ c i) here (all_more rule every hz (neg_ℤ (pos p)) (one_back image) (one_back period) (λ b. s +ℤ pos b) (λ b n.
+    let q : ℤ = s +ℤ pos b +ℤ steps (neg_ℤ (pos p)) (suc n) in
+    by_lt_z q s (λ h. inl (before q h)) (λ h. inr (unsigned_abs (q -ℤ s), omega (arith, ints, steps-left p n period.some), omega (arith, ints)))) (suc a) a (omega arith))
+
+-- and before a place if it has them from there on
+same_before : {r : LocalRule} {z c : Config} {p : ℕ} → IsRule r → IsSurjective r → IsConfig r.states z → HasPeriod p (image_of r z) → HasPeriod p c
+    → (s : ℤ) → ((j : ℤ) → s ≤ℤ j → z j ≡ c j) → (j : ℤ) → j <ℤ s → z j ≡ c j
+same_before {r} {z} {c} {p} rule every hz image period s behind j l =
+    let a : ℕ = unsigned_abs (s -ℤ j) - 1 in
+    let here : s -ℤ pos (suc a) ≡ j = omega (arith, ints) in
+    subst (λ i. z i ≡ c i) here (all_more rule every hz (pos p) image.again period.again (λ b. s -ℤ pos (suc b)) (λ b n.
+    let q : ℤ = s -ℤ pos (suc b) +ℤ steps (pos p) (suc n) in
+    by_lt_z q s (λ h. inr (unsigned_abs (s -ℤ q) - 1, omega (arith, ints, steps-right p n period.some), omega (arith, ints))) (λ h. inl (behind q h))) (suc a) a (omega arith))
+
+-- under a surjective rule a preimage of y has the period of a loop in it, if y has
 HasPeriod-loop : {r : LocalRule} {x y : Config} {i : ℤ} {p : ℕ} → IsRule r → IsSurjective r → IsConfig r.states x → image_of r x ≡ y → HasPeriod p y → IsLoop r x y i p → HasPeriod p x
 HasPeriod-loop {r} {x} {y} {i} {p} rule every hx image period h =
     subst (HasPeriod p) (fun_ext (λ j. by_lt_z j s
-    (λ l. let a : ℕ = unsigned_abs (s -ℤ j) - 1 in
-    let place : s -ℤ pos (suc a) ≡ j = omega (arith, ints) in
-    sym (ap c place) ∙ sym (before a) ∙ ap x place)
-    (λ l. let a : ℕ = unsigned_abs (j -ℤ s) in
-    let place : s +ℤ pos a ≡ j = omega (arith, ints) in
-    sym (ap c place) ∙ sym (behind a) ∙ ap x place))) turns
+    (λ l. sym (same_before rule every (IsConfig-meeting hx hc s) (subst (HasPeriod p) (sym second) period) turns s (meeting-right x c s) j l) ∙ meeting-left x c s j l)
+    (λ l. sym (same_behind rule every (IsConfig-meeting hc hx s) (subst (HasPeriod p) (sym first) period) turns s (meeting-left c x s) j l) ∙ meeting-right c x s j l))) turns
   where
     s : ℤ
     s = i +ℤ r.offset
@@ -122,44 +115,22 @@ HasPeriod-loop {r} {x} {y} {i} {p} rule every hx image period h =
     hc : IsConfig r.states c
     hc = IsConfig-rounds hx h.some s
 
-    one_image : image_of r c ≡ y
-    one_image = image_of-rounds h period
+    turns : HasPeriod p c
+    turns = HasPeriod-rounds x s h.some
 
     node : (a : ℕ) → a < r.width - 1 → c (s +ℤ pos a) ≡ x (s +ℤ pos a)
     node a l = rounds-loop h a (omega arith)
 
-    turns : HasPeriod p c
-    turns = HasPeriod-rounds x s h.some
+    first : image_of r (meeting c x s) ≡ y
+    first = image_of-meeting r c x i node (image_of-rounds h period) image
 
-    -- c on the left, and x on the right
-    behind : (a : ℕ) → x (s +ℤ pos a) ≡ c (s +ℤ pos a)
-    behind a =
-        let f : ℕ → ℕ = λ b. x (s +ℤ pos b) in
-        let z : Config = joined c s f in
-        let same : image_of r z ≡ y = image_of-joined r c x i node one_image image in
-        sym (joined-right c s f (s +ℤ pos a) a refl)
-        ∙ all_more {r = r} {z = z} {c = c} rule every (IsConfig-joined hc s (λ b. hx (s +ℤ pos b))) (neg_ℤ (pos p)) (one_back (subst (HasPeriod p) (sym same) period)) (one_back turns) (λ b. s +ℤ pos b)
-        (λ b n. let q : ℤ = s +ℤ pos b +ℤ steps (neg_ℤ (pos p)) (suc n) in
-        by_lt_z q s (λ l. inl (joined-left c s f q l)) (λ l. inr (unsigned_abs (q -ℤ s), omega (arith, ints, steps-left p n h.some), omega (arith, ints))))
-        (suc a) a (omega arith)
-
-    -- x on the left, and c on the right
-    before : (a : ℕ) → x (s -ℤ pos (suc a)) ≡ c (s -ℤ pos (suc a))
-    before a =
-        let f : ℕ → ℕ = λ b. c (s +ℤ pos b) in
-        let z : Config = joined x s f in
-        let same : image_of r z ≡ y = image_of-joined r x c i (λ b l. sym (node b l)) image one_image in
-        sym (joined-left x s f (s -ℤ pos (suc a)) (omega (arith, ints)))
-        ∙ all_more {r = r} {z = z} {c = c} rule every (IsConfig-joined hx s (λ b. hc (s +ℤ pos b))) (pos p) (subst (HasPeriod p) (sym same) period).again turns.again (λ b. s -ℤ pos (suc b))
-        (λ b n. let q : ℤ = s -ℤ pos (suc b) +ℤ steps (pos p) (suc n) in
-        by_lt_z q s (λ l. inr (unsigned_abs (s -ℤ q) - 1, omega (arith, ints, steps-right p n h.some), omega (arith, ints)))
-        (λ l. inl (let e : ℕ = unsigned_abs (q -ℤ s) in let place : s +ℤ pos e ≡ q = omega (arith, ints) in joined-right x s f q e place ∙ ap c place)))
-        (suc a) a (omega arith)
+    second : image_of r (meeting x c s) ≡ y
+    second = image_of-meeting r x c i (λ a l. sym (node a l)) image (image_of-rounds h period)
 
 -- under a surjective rule each preimage of a periodic configuration is periodic, with a period of at most as many periods as there are nodes
 pub HasPeriod-preimage : {r : LocalRule} {x : Config} {p : ℕ} → IsRule r → IsSurjective r → IsConfig r.states x → HasPeriod p (image_of r x) → (l : ℕ) × (1 ≤ l) × (l ≤ node_count r) × HasPeriod (l * p) x
 HasPeriod-preimage {r} {x} {p} rule every hx period =
-    let at : SomeLoop r x (image_of r x) (pos 0) p = some_loop rule hx (pos 0) p period.some (on_the_right period (pos 0)) (λ a l. refl) in
+    let at : SomeLoop r x (image_of r x) (pos 0) p = some_loop rule hx (pos 0) p period.some (RepeatsRight-period period (pos 0)) (λ a l. refl) in
     (at.turns, at.some, at.few, HasPeriod-loop rule every hx refl (HasPeriod-times at.turns at.some period) at.loop)
 
 -- one word of an erasable pair again and again, but for one block, isn't periodic

@@ -1,15 +1,12 @@
 -- An injective rule takes the rings of each length one to one onto all of them: else two of them would have one image.
 use Rattle.std.proofs.Common.{◌≡◌, ◌⊎◌, ℕ, ◌^◌, ◌<◌, ◌≤◌, ◌↔◌, inl, inr, ⊎_elim, List, length, refl, sym, ap, ◌∙◌, subst, arith}
-use Rattle.word_image.proofs.Common.{cases_lt, length-map-range_with_len, LocalRule, IsRule, IsWord, IsRing, ring_image, value, word_of, value-below, value-injective, IsWord-word_of, length-word_of, value-word_of, twice_below}
+use Rattle.word_image.proofs.Common.{cases_lt, LocalRule, IsRule, IsWord, IsRing, ring_image, value, word_of, value-below, value-injective, IsWord-word_of, length-word_of, value-word_of, twice_below}
 use Rattle.tail_config.proofs.Common.{IsInjective}
 use Rattle.tail_laws.proofs.NoTwins.{IsInjective-no_twins}
 use Rattle.ring_laws.proofs.Rings.{IsWord-ring_image}
 use Rattle.config_laws.specs.RingMaps.{IsBijectiveOnRings}
 use Rattle.config_laws.proofs.Onto.{same_word}
-
--- a ring has as many letters as its image
-length-image_ring : (r : LocalRule) (p : List ℕ) → length (ring_image r p) ≡ length p
-length-image_ring r p = length-map-range_with_len _ 0 (length p)
+use Rattle.config_laws.proofs.RingImages.{length-ring_image, IsRing-ring_image}
 
 -- a where i is below n, and else b
 abbrev chosen : (n i : ℕ) → (i < n) ⊎ (n ≤ i) → ℕ → ℕ → ℕ
@@ -49,7 +46,7 @@ some_ring {r} rule injective q ring = found (twice_below N f (λ i l. chosen-bel
     f i = chosen N i (cases_lt i N) (value k (image_at r n i)) (value k q)
 
     long : (i : ℕ) → length (image_at r n i) ≡ n
-    long i = length-image_ring r (word_of k n i) ∙ length-word_of k n i
+    long i = length-ring_image r (word_of k n i) ∙ length-word_of k n i
 
     below : (i : ℕ) → value k (image_at r n i) < N
     below i = subst (λ l. value k (image_at r n i) < k ^ l) (long i) (value-below k (image_at r n i) (IsWord-ring_image rule (word_of k n i)))
@@ -91,7 +88,7 @@ one_ring {r} rule injective x y hx hy same = ⊎_elim (λ e. e)
     (λ other. absurd ((IsInjective-no_twins rule).0 injective x y (record {
       first = hx;
       second = hy;
-      one_length = sym (length-image_ring r x) ∙ ap length same ∙ length-image_ring r y;
+      one_length = sym (length-ring_image r x) ∙ ap length same ∙ length-ring_image r y;
       different = other;
       one_image = same;
     })))
@@ -104,7 +101,6 @@ IsInjective-rings {r} rule = (
       let p = some_ring rule injective q ring in
       (p.0, p.1, p.2, p.3, λ s hs same. one_ring rule injective s p.0 hs p.1 (same ∙ sym p.3)),
   λ bijective. (IsInjective-no_twins rule).1 (λ x y twins.
-      let image_ring : IsRing r.states (ring_image r x) = record { word = IsWord-ring_image rule x; some = subst (λ m. 1 ≤ m) (sym (length-image_ring r x)) twins.first.some } in
-      let found = bijective (ring_image r x) image_ring in
+      let found = bijective (ring_image r x) (IsRing-ring_image rule twins.first) in
       twins.different (found.4 x twins.first refl ∙ sym (found.4 y twins.second (sym twins.one_image)))),
 )

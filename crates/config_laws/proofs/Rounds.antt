@@ -1,44 +1,11 @@
 -- Under a surjective rule each periodic configuration is the image of a periodic one: of a loop in a preimage of many periods, gone round without end.
-use Rattle.std.proofs.Common.{◌≡◌, ℕ, ◌+◌, ◌-◌, ◌*◌, ◌%◌, ◌<◌, ◌≤◌, List, length, slice_index, ℤ, pos, ◌+ℤ◌, ◌-ℤ◌, unsigned_abs, refl, sym, ap, ◌∙◌, subst, arith, mul-one, mod-lt, mod-eq_of_lt}
-use Rattle.std.proofs.Math.Path.{fun_ext}
-use Rattle.word_image.proofs.Common.{ints, mul-le, LocalRule, IsRule, node_count, IsSurjective, IsRing, ring_letter, ring_letter-turn, ring_letter-below}
-use Rattle.tail_config.proofs.Common.{RepeatsRight, RepeatsRight-times, same_right-period, Config, IsConfig, run, image_of, length-run, get_or-run, IsWord-run, image_of-window}
+use Rattle.std.proofs.Common.{◌≡◌, ℕ, ◌+◌, ◌-◌, ◌*◌, ◌%◌, ◌<◌, ◌≤◌, length, slice_index, ℤ, pos, ◌+ℤ◌, ◌-ℤ◌, refl, sym, ap, ◌∙◌, subst, arith, mod-lt, mod-eq_of_lt}
+use Rattle.word_image.proofs.Common.{ints, LocalRule, IsRule, node_count, IsSurjective, IsRing, ring_letter, ring_letter-turn, ring_letter-below}
+use Rattle.tail_config.proofs.Common.{Config, IsConfig, run, image_of, length-run, get_or-run, IsWord-run, image_of-window}
 use Rattle.config_laws.specs.Periodic.{HasPeriod}
 use Rattle.config_laws.proofs.Dense.{Matches, matches}
+use Rattle.config_laws.proofs.Periods.{RepeatsRight-period, HasPeriod-times, HasPeriod-image, same_periodic}
 use Rattle.config_laws.proofs.Tails.{IsLoop, one_turn, SomeLoop, some_loop}
-
--- what has a period has it on the right of any place
-pub on_the_right : {p : ℕ} {x : Config} → HasPeriod p x → (a : ℤ) → RepeatsRight p x a
-on_the_right h a i l = h.again i
-
--- a period as often as one likes is a period
-pub HasPeriod-times : {p : ℕ} {x : Config} → (c : ℕ) → 1 ≤ c → HasPeriod p x → HasPeriod (c * p) x
-HasPeriod-times {p} {x} c some h = record {
-  some = let least : 1 * 1 ≤ c * p = mul-le 1 1 c p some h.some in omega (arith, least);
-  again = λ i. RepeatsRight-times c p x i (on_the_right h i) i (omega (arith, ints));
-}
-
--- the image has the periods of the configuration
-pub HasPeriod-image : {p : ℕ} {x : Config} → (r : LocalRule) → HasPeriod p x → HasPeriod p (image_of r x)
-HasPeriod-image {p} {x} r h = record {
-  some = h.some;
-  again = λ i. image_of-window r x x (i +ℤ pos p) i (λ a l.
-      let place : i +ℤ pos p +ℤ r.offset +ℤ pos a ≡ (i +ℤ r.offset +ℤ pos a) +ℤ pos p = omega (arith, ints) in
-      ap x place ∙ h.again (i +ℤ r.offset +ℤ pos a));
-}
-
--- the configuration of a ring has its length as a period
-pub HasPeriod-ring : (q : List ℕ) → 1 ≤ length q → HasPeriod (length q) (ring_letter q)
-HasPeriod-ring q some = record { some = some; again = λ i. ring_letter-turn q i some }
-
--- two configurations with one period are equal if they are over one period
-pub same_periodic : {p : ℕ} {x y : Config} → HasPeriod p x → HasPeriod p y → (i : ℤ) → ((a : ℕ) → a < p → x (i +ℤ pos a) ≡ y (i +ℤ pos a)) → x ≡ y
-same_periodic {p} {x} {y} hx hy i start = fun_ext (λ j.
-    let k : ℕ = unsigned_abs (j -ℤ i) in
-    let far : k * 1 ≤ k * p = mul-le k 1 k p (omega arith) hx.some in
-    sym (RepeatsRight-times k p x j (on_the_right hx j) j (omega (arith, ints)))
-    ∙ same_right-period x y p i hx.some (on_the_right hx i) (on_the_right hy i) start (j +ℤ pos (k * p)) (omega (arith, ints, far, mul-one k))
-    ∙ RepeatsRight-times k p y j (on_the_right hy j) j (omega (arith, ints)))
 
 -- the p letters from place s on, again and again
 abbrev pub rounds : Config → ℤ → ℕ → Config
@@ -98,7 +65,7 @@ pub record PeriodicPreimage (r : LocalRule) (y : Config) (p : ℕ) : Type 0 wher
 pub periodic_preimage : {r : LocalRule} {y : Config} {p : ℕ} → IsRule r → IsSurjective r → IsConfig r.states y → HasPeriod p y → PeriodicPreimage r y p
 periodic_preimage {r} {y} {p} rule every hy period =
     let m : Matches r y (pos 0) (node_count r * p) = matches rule every hy (pos 0) (node_count r * p) in
-    let at : SomeLoop r m.x y (pos 0) p = some_loop rule m.config (pos 0) p period.some (on_the_right period (pos 0)) m.equal in
+    let at : SomeLoop r m.x y (pos 0) p = some_loop rule m.config (pos 0) p period.some (RepeatsRight-period period (pos 0)) m.equal in
     let s : ℤ = at.place +ℤ r.offset in
     record {
       turns = at.turns;
