@@ -1,4 +1,4 @@
--- Either word of an erasable pair may stand for the other in any configuration, so where there is one as many configurations as are wanted have one image.
+-- Either word of an erasable pair may stand for the other in any configuration, so if there is one as many configurations as are wanted have one image.
 use Rattle.std.proofs.Common.{◌≡◌, ℕ, suc, ◌+◌, ◌*◌, ◌<◌, ◌≤◌, ⊎_elim, List, length, get_or, slice_index, ℤ, pos, ◌+ℤ◌, ◌-ℤ◌, unsigned_abs, refl, sym, ap, ◌∙◌, arith, ◌<ℤ◌, ◌≤ℤ◌}
 use Rattle.std.proofs.Math.Path.{fun_ext}
 use Rattle.word_image.proofs.Common.{cases_lt, ints, by_lt_z, mul-le, mod-mul-add, get_or_past, get_or_default, LocalRule, IsRule, IsWord, IsSurjective, IsRing, ring_letter, IsErasable, ring_letter-below}
@@ -93,6 +93,6 @@ AreMany-erasable {r} {x} {y} rule h n = record {
               ∙ sym same ∙ placed-inside (ring_letter x) (pos (i * length x)) y d.place (omega (arith, h.one_length))),
         )
 
--- where no more configurations than nodes have one image, a rule is surjective
+-- if no more configurations than nodes have one image, a rule is surjective
 pub IsSurjective-few : {r : LocalRule} → IsRule r → (n : ℕ) → ((xs : ℕ → Config) → ¬ AreMany r n xs) → IsSurjective r
 IsSurjective-few rule n few = (garden_of_eden rule).1 (λ x y h. few (one_other x y) (AreMany-erasable rule h n))

@@ -27,7 +27,7 @@ joined-right x e f i a h =
     let place : i -ℤ e ≡ pos a = omega (arith, ints) in
     ap (from_zero (x i) f) place
 
--- the letters of x and those of f, joined at a place, are a configuration where both are letters alone
+-- the letters of x and those of f, joined at a place, are a configuration if both are letters
 pub IsConfig-joined : {k : ℕ} {x : Config} {f : ℕ → ℕ} → IsConfig k x → (e : ℤ) → ((a : ℕ) → f a < k) → IsConfig k (joined x e f)
 IsConfig-joined {k} {x} {f} hx e hf i =
     by_lt_z i e (λ l. omega (arith, joined-left x e f i l, hx i))

@@ -24,7 +24,7 @@ pub mod Bijective
 pub mod Composed
 pub mod Periods
 pub mod RingImages
-pub mod RingMaps
 pub mod Rounds
+pub mod RingMaps
 pub mod OntoRings
 pub mod PeriodicPreimages

@@ -1,15 +1,14 @@
 -- A rule is surjective exactly if each ring, written a number of times, is the image of a ring, and exactly if each periodic configuration is the image of a periodic one (Hedlund 1969).
-use Rattle.std.proofs.Common.{◌≡◌, ℕ, zero, suc, ◌+◌, ◌*◌, ◌≤◌, ◌↔◌, List, [], ◌∷◌, ◌++◌, length, pos, ◌+ℤ◌, ◌-ℤ◌, refl, sym, ap, ap₂, ◌∙◌, subst, arith}
-use Rattle.std.proofs.Math.Path.{fun_ext}
+use Rattle.std.proofs.Common.{◌≡◌, ℕ, zero, suc, ◌+◌, ◌*◌, ◌≤◌, ◌↔◌, List, [], ◌∷◌, ◌++◌, length, pos, ◌+ℤ◌, refl, sym, ap, ap₂, ◌∙◌, subst, arith}
 use Rattle.std.specs.List.{repeat}
 use Rattle.word_image.proofs.Common.{ints, some_letter, LocalRule, IsRule, node_count, IsSurjective, IsRing, ring_letter, ring_image, ring_letter-turn, ring_letter-below}
 use Rattle.tail_config.proofs.Common.{Config, IsConfig, run, image_of, zeros, length-run, run-same, same-run, run-append}
 use Rattle.config_laws.specs.Periodic.{HasPeriod, IsOntoPeriodic}
 use Rattle.config_laws.specs.RingMaps.{IsOntoRings}
 use Rattle.config_laws.proofs.Dense.{preimage_inside}
-use Rattle.config_laws.proofs.RingImages.{run-ring, run-ring_image, image_of-ring}
+use Rattle.config_laws.proofs.RingImages.{run-ring, image_of-ring}
 use Rattle.config_laws.proofs.Periods.{HasPeriod-times, HasPeriod-ring, same_periodic}
-use Rattle.config_laws.proofs.Rounds.{rounds-period, IsRing-run, PeriodicPreimage, periodic_preimage}
+use Rattle.config_laws.proofs.Rounds.{IsRing-run, ring_image-run, PeriodicPreimage, periodic_preimage}
 
 -- a ring written l times by the letters of its configuration
 run-repeat : (q : List ℕ) → 1 ≤ length q → (l : ℕ) → run (ring_letter q) (pos 0) (l * length q) ≡ repeat l q
@@ -51,17 +50,14 @@ pub ring_over : {r : LocalRule} {q : List ℕ} → IsRule r → IsSurjective r �
 ring_over {r} {q} rule every ring =
     let w : PeriodicPreimage r (ring_letter q) (length q) = periodic_preimage rule every (ring_letter-below ring) (HasPeriod-ring q ring.some) in
     let n : ℕ = w.turns * length q in
-    let p : List ℕ = run w.x (pos 0) n in
-    let long : length p ≡ n = length-run w.x (pos 0) n in
-    let letters : ring_letter p ≡ w.x = fun_ext (λ i. let place : i ≡ i -ℤ pos 0 = omega (arith, ints) in ap (ring_letter p) place) ∙ rounds-period w.period (pos 0) in
     record {
       turns = w.turns;
-      p = p;
+      p = run w.x (pos 0) n;
       some = w.some;
       few = w.few;
       ring = IsRing-run w.config w.period.some (pos 0);
-      long = long;
-      image = sym (run-ring_image r p) ∙ ap₂ (λ (x : Config) (l : ℕ). run (image_of r x) (pos 0) l) letters long ∙ ap (λ (y : Config). run y (pos 0) n) w.image ∙ run-repeat q ring.some w.turns;
+      long = length-run w.x (pos 0) n;
+      image = ring_image-run r w.period ∙ ap (λ (y : Config). run y (pos 0) n) w.image ∙ run-repeat q ring.some w.turns;
     }
 
 -- a rule is surjective if the configuration of each ring is an image

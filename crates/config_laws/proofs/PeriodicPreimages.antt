@@ -4,8 +4,9 @@ use Rattle.std.proofs.Math.Path.{fun_ext}
 use Rattle.word_image.proofs.Common.{cases_eq, ints, by_lt_z, mul-le, LocalRule, IsRule, node_count, IsSurjective, IsErasable, ring_letter}
 use Rattle.eden_laws.proofs.Exchange.{IsErasable-long}
 use Rattle.eden_laws.proofs.GardenOfEden.{garden_of_eden}
-use Rattle.tail_config.proofs.Common.{DifferAt, differ_at, Config, IsConfig, image_of, image_of-window}
+use Rattle.tail_config.proofs.Common.{DifferAt, differ_at, Config, IsConfig, image_of}
 use Rattle.config_laws.specs.Periodic.{HasPeriod, HasPeriodicPreimages}
+use Rattle.config_laws.proofs.Images.{image_of-moved}
 use Rattle.config_laws.proofs.Joined.{meeting, meeting-left, meeting-right, IsConfig-meeting, image_of-meeting}
 use Rattle.config_laws.proofs.Tails.{IsLoop, SomeLoop, some_loop}
 use Rattle.config_laws.proofs.Exchange.{placed-inside, placed-behind, one_other, turn_letter, image_of-one_other, AreMany-erasable}
@@ -57,11 +58,7 @@ one_more {r} {z} rule every hz d i again b same = ⊎_elim (λ e. e) (λ other. 
 }))) (cases_eq (z i) b)
   where
     shifted : (n : ℕ) (j : ℤ) → image_of r (λ k. z (k +ℤ steps d n)) j ≡ image_of r z j
-    shifted n j =
-        image_of-window r (λ k. z (k +ℤ steps d n)) z j (j +ℤ steps d n) (λ a l.
-        let place : j +ℤ r.offset +ℤ pos a +ℤ steps d n ≡ j +ℤ steps d n +ℤ r.offset +ℤ pos a = omega (arith, ints) in
-        ap z place)
-        ∙ steps-again (image_of r z) d again n j
+    shifted n j = image_of-moved r z (steps d n) j ∙ steps-again (image_of r z) d again n j
 
 -- so z has the letters of c at places that are numbered if all places steps after one of them have an earlier number, or the letters of c
 all_more : {r : LocalRule} {z c : Config} → IsRule r → IsSurjective r → IsConfig r.states z → (d : ℤ) → ((j : ℤ) → image_of r z (j +ℤ d) ≡ image_of r z j) → ((j : ℤ) → c (j +ℤ d) ≡ c j)

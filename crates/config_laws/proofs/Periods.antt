@@ -1,9 +1,11 @@
 -- Periodic configurations: their multiple periods, their images, and when two are equal.
 use Rattle.std.proofs.Common.{◌≡◌, ℕ, ◌*◌, ◌<◌, ◌≤◌, List, length, ℤ, pos, ◌+ℤ◌, ◌-ℤ◌, unsigned_abs, sym, ap, ◌∙◌, arith, mul-one}
 use Rattle.std.proofs.Math.Path.{fun_ext}
-use Rattle.word_image.proofs.Common.{ints, mul-le, LocalRule, ring_letter, ring_letter-turn}
-use Rattle.tail_config.proofs.Common.{RepeatsRight, RepeatsRight-times, same_right-period, Config, image_of, image_of-window}
+use Rattle.word_image.proofs.Common.{ints, mul-le, LocalRule, IsRule, ring_letter, ring_letter-turn}
+use Rattle.tail_config.proofs.Common.{RepeatsRight, RepeatsRight-times, same_right-period, Config, IsConfig, IsInjective, image_of}
 use Rattle.config_laws.specs.Periodic.{HasPeriod}
+use Rattle.config_laws.proofs.Images.{image_of-moved}
+use Rattle.config_laws.proofs.Injective.{IsInjective-everywhere}
 
 -- what has a period has it on the right of any place
 pub RepeatsRight-period : {p : ℕ} {x : Config} → HasPeriod p x → (a : ℤ) → RepeatsRight p x a
@@ -18,12 +20,13 @@ HasPeriod-times {p} {x} c some h = record {
 
 -- the image has the periods of the configuration
 pub HasPeriod-image : {p : ℕ} {x : Config} → (r : LocalRule) → HasPeriod p x → HasPeriod p (image_of r x)
-HasPeriod-image {p} {x} r h = record {
-  some = h.some;
-  again = λ i. image_of-window r x x (i +ℤ pos p) i (λ a l.
-      let place : i +ℤ pos p +ℤ r.offset +ℤ pos a ≡ (i +ℤ r.offset +ℤ pos a) +ℤ pos p = omega (arith, ints) in
-      ap x place ∙ h.again (i +ℤ r.offset +ℤ pos a));
-}
+HasPeriod-image {p} {x} r h = record { some = h.some; again = λ i. sym (image_of-moved r x (pos p) i) ∙ ap (λ (z : Config). image_of r z i) (fun_ext h.again) }
+
+-- under an injective rule the configuration has the periods of the image
+pub HasPeriod-injective : {r : LocalRule} {x : Config} {p : ℕ} → IsRule r → IsInjective r → IsConfig r.states x → HasPeriod p (image_of r x) → HasPeriod p x
+HasPeriod-injective {r} {x} {p} rule injective hx h =
+    let same : (λ j. x (j +ℤ pos p)) ≡ x = (IsInjective-everywhere rule).0 injective (λ j. x (j +ℤ pos p)) x (λ j. hx (j +ℤ pos p)) hx (fun_ext (λ i. image_of-moved r x (pos p) i ∙ h.again i)) in
+    record { some = h.some; again = λ i. ap (λ (z : Config). z i) same }
 
 -- the configuration of a ring has its length as a period
 pub HasPeriod-ring : (q : List ℕ) → 1 ≤ length q → HasPeriod (length q) (ring_letter q)

@@ -1,9 +1,9 @@
 -- A ring as a configuration: its image is the image of the configuration, so rules do with rings what they do with configurations.
-use Rattle.std.proofs.Common.{◌≡◌, ℕ, ◌≤◌, List, length, slice_index, pos, ◌+ℤ◌, refl, sym, ap, ap₂, ◌∙◌, subst, arith, mod-eq_of_lt}
-use Rattle.word_image.proofs.Common.{ints, get_or-map-range_with_len, length-map-range_with_len, LocalRule, IsRule, IsRing, local_map, ring_letter, ring_letters, ring_image, ring_letter-below}
+use Rattle.std.proofs.Common.{◌≡◌, ℕ, ◌≤◌, List, length, sum_by, slice_index, pos, ◌+ℤ◌, refl, sym, ap, ap₂, ◌∙◌, subst, arith, mod-eq_of_lt}
+use Rattle.word_image.proofs.Common.{ints, get_or-map-range_with_len, length-map-range_with_len, LocalRule, IsRule, IsRing, IsConserving, local_map, ring_letter, ring_letters, ring_image, ring_letter-below}
 use Rattle.ring_laws.proofs.Rings.{IsWord-ring_image}
 use Rattle.tail_config.proofs.Common.{Config, run, image_of, run-by_letters, same-run}
-use Rattle.config_laws.specs.Composed.{IsOneAfter, Undoes}
+use Rattle.config_laws.specs.Composed.{IsOneAfter, IsUndoneBy}
 use Rattle.config_laws.specs.Periodic.{HasPeriod}
 use Rattle.config_laws.proofs.Periods.{HasPeriod-image, HasPeriod-ring, same_periodic}
 
@@ -48,6 +48,18 @@ ring_image-after {r} {s} {t} c p ring =
     sym (run-ring_image t p) ∙ ap (λ (x : Config). run x (pos 0) (length p)) (c.image (ring_letter p) (ring_letter-below ring)) ∙ twice r s p ring.some
 
 -- what undoes a rule undoes it on rings
-pub ring_image-undone : {r s : LocalRule} → Undoes r s → (p : List ℕ) → IsRing r.states p → ring_image s (ring_image r p) ≡ p
+pub ring_image-undone : {r s : LocalRule} → IsUndoneBy r s → (p : List ℕ) → IsRing r.states p → ring_image s (ring_image r p) ≡ p
 ring_image-undone {r} {s} u p ring =
     sym (twice r s p ring.some) ∙ ap (λ (x : Config). run x (pos 0) (length p)) (u.back (ring_letter p) (ring_letter-below ring)) ∙ run-ring p
+
+-- one after the other conserves what both conserve
+pub IsConserving-after : {r s t : LocalRule} → IsRule r → IsOneAfter r s t → (weight : ℕ → ℕ) → IsConserving weight r → IsConserving weight s → IsConserving weight t
+IsConserving-after {r} {s} {t} rule c weight first second p ring =
+    let here : IsRing r.states p = subst (λ k. IsRing k p) c.states ring in
+    let image : IsRing s.states (ring_image r p) = subst (λ k. IsRing k (ring_image r p)) (sym c.second) (IsRing-ring_image rule here) in
+    first p here ∙ second (ring_image r p) image ∙ ap (sum_by weight) (sym (ring_image-after c p here))
+
+-- what undoes a rule conserves only what the rule conserves
+pub IsConserving-undone : {r s : LocalRule} → IsRule r → IsUndoneBy r s → (weight : ℕ → ℕ) → IsConserving weight s → IsConserving weight r
+IsConserving-undone {r} {s} rule u weight keeps p ring =
+    sym (keeps (ring_image r p) (subst (λ k. IsRing k (ring_image r p)) (sym u.states) (IsRing-ring_image rule ring)) ∙ ap (sum_by weight) (ring_image-undone u p ring))

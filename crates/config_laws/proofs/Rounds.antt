@@ -1,10 +1,12 @@
 -- Under a surjective rule each periodic configuration is the image of a periodic one: of a loop in a preimage of many periods, gone round without end.
-use Rattle.std.proofs.Common.{◌≡◌, ℕ, ◌+◌, ◌-◌, ◌*◌, ◌%◌, ◌<◌, ◌≤◌, length, slice_index, ℤ, pos, ◌+ℤ◌, ◌-ℤ◌, refl, sym, ap, ◌∙◌, subst, arith, mod-lt, mod-eq_of_lt}
-use Rattle.word_image.proofs.Common.{ints, LocalRule, IsRule, node_count, IsSurjective, IsRing, ring_letter, ring_letter-turn, ring_letter-below}
+use Rattle.std.proofs.Common.{◌≡◌, ℕ, ◌+◌, ◌-◌, ◌*◌, ◌%◌, ◌<◌, ◌≤◌, length, slice_index, ℤ, pos, ◌+ℤ◌, ◌-ℤ◌, refl, sym, ap, ap₂, ◌∙◌, subst, arith, mod-lt, mod-eq_of_lt}
+use Rattle.std.proofs.Math.Path.{fun_ext}
+use Rattle.word_image.proofs.Common.{ints, LocalRule, IsRule, node_count, IsSurjective, IsRing, ring_letter, ring_image, ring_letter-turn, ring_letter-below}
 use Rattle.tail_config.proofs.Common.{Config, IsConfig, run, image_of, length-run, get_or-run, IsWord-run, image_of-window}
 use Rattle.config_laws.specs.Periodic.{HasPeriod}
 use Rattle.config_laws.proofs.Dense.{Matches, matches}
 use Rattle.config_laws.proofs.Periods.{RepeatsRight-period, HasPeriod-times, HasPeriod-image, same_periodic}
+use Rattle.config_laws.proofs.RingImages.{run-ring_image}
 use Rattle.config_laws.proofs.Tails.{IsLoop, one_turn, SomeLoop, some_loop}
 
 -- the p letters from place s on, again and again
@@ -35,6 +37,15 @@ rounds-letter x s p a some =
 -- a periodic configuration is the letters of one period, again and again
 pub rounds-period : {p : ℕ} {x : Config} → HasPeriod p x → (s : ℤ) → rounds x s p ≡ x
 rounds-period {p} {x} h s = same_periodic (HasPeriod-rounds x s h.some) h s (λ a l. rounds-letter x s p a h.some ∙ ap (λ b. x (s +ℤ pos b)) (mod-eq_of_lt l))
+
+-- they are the ring of the configuration
+pub ring_letter-run : {p : ℕ} {x : Config} → HasPeriod p x → ring_letter (run x (pos 0) p) ≡ x
+ring_letter-run {p} {x} h = fun_ext (λ i. let place : i ≡ i -ℤ pos 0 = omega (arith, ints) in ap (ring_letter (run x (pos 0) p)) place) ∙ rounds-period h (pos 0)
+
+-- the image of this ring
+pub ring_image-run : {p : ℕ} {x : Config} → (r : LocalRule) → HasPeriod p x → ring_image r (run x (pos 0) p) ≡ run (image_of r x) (pos 0) p
+ring_image-run {p} {x} r h =
+    sym (run-ring_image r (run x (pos 0) p)) ∙ ap₂ (λ (z : Config) (n : ℕ). run (image_of r z) (pos 0) n) (ring_letter-run h) (length-run x (pos 0) p)
 
 -- round a loop they are the letters of the configuration, and so are m - 1 more
 pub rounds-loop : {r : LocalRule} {x y : Config} {i : ℤ} {p : ℕ} → IsLoop r x y i p → (a : ℕ) → a < p + (r.width - 1) → rounds x (i +ℤ r.offset) p (i +ℤ r.offset +ℤ pos a) ≡ x (i +ℤ r.offset +ℤ pos a)

@@ -78,7 +78,7 @@ pub record SomeLoop (r : LocalRule) (x y : Config) (i : ℤ) (q : ℕ) : Type 0 
   pub few : turns ≤ node_count r
   pub loop : IsLoop r x y place (turns * q)
 
--- where y repeats from place i on, and the image of x agrees with it for as many periods as there are nodes, there is a loop
+-- if y repeats from place i on, and the image of x agrees with it for as many periods as there are nodes, there is a loop
 pub some_loop : {r : LocalRule} {x y : Config} → IsRule r → IsConfig r.states x → (i : ℤ) (q : ℕ) → 1 ≤ q → RepeatsRight q y i
     → ((a : ℕ) → a < node_count r * q → image_of r x (i +ℤ pos a) ≡ y (i +ℤ pos a)) → SomeLoop r x y i q
 some_loop {r} {x} {y} rule hx i q some again agree =
@@ -184,7 +184,7 @@ RepeatsFarRight-behind {x} {z} e same h = record {
   again = λ j l. same (j +ℤ pos h.period) (omega (arith, ints)) ∙ h.again j (omega (arith, ints)) ∙ sym (same j (omega (arith, ints)));
 }
 
--- where y repeats far out on both sides, far enough on the left, y is the image of what repeats far out
+-- if y repeats far out on both sides, far enough on the left, y is the image of what repeats far out
 on_both : {r : LocalRule} {y : Config} {s : ℤ} → IsRule r → (left : RepeatsFarLeft y) → (s +ℤ pos (node_count r * left.period)) ≤ℤ left.place → OnRight r y s
     → (x : Config) × IsConfig r.states x × HasTails x × (image_of r x ≡ y)
 on_both {r} {y} {s} rule left far g =
@@ -216,6 +216,6 @@ IsSurjective-tails {r} rule onto w hw = found (onto (between_zeros w) (IsConfig-
     found : (x : Config) × IsConfig r.states x × HasTails x × (image_of r x ≡ between_zeros w) → (z : List ℕ) × IsPreimage r w z
     found (x, hx, tails, same) = preimage_inside rule hx w (ap (λ z. run z (pos 0) (length w)) same ∙ run-written zeros (pos 0) w)
 
--- a rule is surjective exactly where each configuration that repeats far out is the image of one that does
+-- a rule is surjective exactly if each configuration that repeats far out is the image of one that does
 pub IsSurjective-repeating : {r : LocalRule} → IsRule r → IsSurjective r ↔ IsOntoTails r
 IsSurjective-repeating rule = (IsOntoTails-surjective rule, IsSurjective-tails rule)

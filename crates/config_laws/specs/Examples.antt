@@ -6,7 +6,7 @@ use Rattle.word_image.specs.Rings.{ring_image}
 use Rattle.tail_config.specs.Configs.{Config, run, image_of}
 use Rattle.config_laws.specs.Sums.{weight_on, weight_within}
 
--- 2 becomes 1 and 3 becomes 2; 0 and 1 become 0 where the letter to the right is even or odd as they are, and 3 where not: the text 4:2:0:t0303303011112222
+-- 2 becomes 1 and 3 becomes 2; 0 and 1 become 0 if the letter to the right is even or odd as they are, and 3 if not: the text 4:2:0:t0303303011112222
 abbrev pub parities : LocalRule
 parities = record { states = 4; width = 2; offset = pos 0; table = 0 ∷ 3 ∷ 0 ∷ 3 ∷ 3 ∷ 0 ∷ 3 ∷ 0 ∷ 1 ∷ 1 ∷ 1 ∷ 1 ∷ 2 ∷ 2 ∷ 2 ∷ 2 ∷ [] }
 
