@@ -58,13 +58,13 @@ image_of-placed {r} {x} {y} rule h c s = fun_ext (image_of-exchange rule h s (ru
 abbrev pub one_other : List ℕ → List ℕ → ℕ → Config
 one_other x y i = placed (ring_letter x) (pos (i * length x)) y
 
--- its letters stand in the configuration of one again and again
+-- a word stands again and again in its configuration as a ring
 pub turn_letter : (x : List ℕ) (i a : ℕ) → a < length x → get_or x a 0 ≡ ring_letter x (pos (i * length x) +ℤ pos a)
 turn_letter x i a l =
     let place : pos (i * length x + a) ≡ pos (i * length x) +ℤ pos a = omega (arith, ints) in
     ap (slice_index x) (sym (mod-mul-add i (length x) a l)) ∙ ap (ring_letter x) place
 
--- its image is that of one again and again
+-- with one block exchanged, the image is that of one word again and again
 pub image_of-one_other : {r : LocalRule} {x y : List ℕ} → IsRule r → IsErasable r x y → (i : ℕ) → image_of r (one_other x y i) ≡ image_of r (ring_letter x)
 image_of-one_other {r} {x} {y} rule h i =
     let s : ℤ = pos (i * length x) in

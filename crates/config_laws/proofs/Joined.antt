@@ -37,14 +37,17 @@ IsConfig-joined {k} {x} {f} hx e hf i =
 abbrev pub meeting : Config → Config → ℤ → Config
 meeting x z e = joined x e (λ a. z (e +ℤ pos a))
 
+-- left of the place stand the letters of the first
 pub meeting-left : (x z : Config) (e i : ℤ) → i <ℤ e → meeting x z e i ≡ x i
 meeting-left x z e = joined-left x e (λ a. z (e +ℤ pos a))
 
+-- from the place on stand the letters of the second
 pub meeting-right : (x z : Config) (e i : ℤ) → e ≤ℤ i → meeting x z e i ≡ z i
 meeting-right x z e i l =
     let place : e +ℤ pos (unsigned_abs (i -ℤ e)) ≡ i = omega (arith, ints) in
     joined-right x e (λ a. z (e +ℤ pos a)) i (unsigned_abs (i -ℤ e)) place ∙ ap z place
 
+-- two configurations over the same letters that meet at a place are one over these letters
 pub IsConfig-meeting : {k : ℕ} {x z : Config} → IsConfig k x → IsConfig k z → (e : ℤ) → IsConfig k (meeting x z e)
 IsConfig-meeting hx hz e = IsConfig-joined hx e (λ a. hz (e +ℤ pos a))
 

@@ -22,6 +22,7 @@ run-repeat q some (suc l) =
     let place : pos n +ℤ pos a ≡ (pos 0 +ℤ pos a) +ℤ pos n = omega (arith, ints) in
     ap y place ∙ ring_letter-turn q (pos 0 +ℤ pos a) some) ∙ run-repeat q some l)
 
+-- a ring written l times has l times as many letters
 length-repeat : (q : List ℕ) → 1 ≤ length q → (l : ℕ) → length (repeat l q) ≡ l * length q
 length-repeat q some l = sym (ap length (run-repeat q some l)) ∙ length-run (ring_letter q) (pos 0) (l * length q)
 
@@ -45,7 +46,7 @@ pub record RingOver (r : LocalRule) (q : List ℕ) : Type 0 where
   pub long : length p ≡ turns * length q
   pub image : ring_image r p ≡ repeat turns q
 
--- under a surjective rule there is one
+-- under a surjective rule each ring, written a few times, is the image of a ring
 pub ring_over : {r : LocalRule} {q : List ℕ} → IsRule r → IsSurjective r → IsRing r.states q → RingOver r q
 ring_over {r} {q} rule every ring =
     let w : PeriodicPreimage r (ring_letter q) (length q) = periodic_preimage rule every (ring_letter-below ring) (HasPeriod-ring q ring.some) in

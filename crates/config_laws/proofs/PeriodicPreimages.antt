@@ -19,17 +19,17 @@ abbrev steps : ℤ → ℕ → ℤ
 steps d zero = pos 0
 steps d (suc n) = steps d n +ℤ d
 
--- steps after steps
+-- a + b steps are a steps and b steps
 steps-add : (d : ℤ) (a b : ℕ) → steps d (a + b) ≡ steps d a +ℤ steps d b
 steps-add d a zero = let all : a + 0 ≡ a = omega arith in ap (steps d) all ∙ omega (arith, ints)
 steps-add d a (suc b) = let all : a + suc b ≡ suc (a + b) = omega arith in ap (steps d) all ∙ omega (arith, ints, steps-add d a b)
 
--- steps to the left
+-- steps of -p places lead to the left
 steps-left : (p n : ℕ) → 1 ≤ p → steps (neg_ℤ (pos p)) (suc n) <ℤ pos 0
 steps-left p zero some = omega (arith, ints)
 steps-left p (suc n) some = omega (arith, ints, steps-left p n some)
 
--- steps to the right
+-- steps of p places lead to the right
 steps-right : (p n : ℕ) → 1 ≤ p → pos 0 <ℤ steps (pos p) (suc n)
 steps-right p zero some = omega (arith, ints)
 steps-right p (suc n) some = omega (arith, ints, steps-right p n some)
@@ -60,7 +60,7 @@ one_more {r} {z} rule every hz d i again b same = ⊎_elim (λ e. e) (λ other. 
     shifted : (n : ℕ) (j : ℤ) → image_of r (λ k. z (k +ℤ steps d n)) j ≡ image_of r z j
     shifted n j = image_of-moved r z (steps d n) j ∙ steps-again (image_of r z) d again n j
 
--- so z has the letters of c at places that are numbered if all places steps after one of them have an earlier number, or the letters of c
+-- under a surjective rule z has the letters of c at numbered places if it has them wherever steps from one of these places lead, but at places with a smaller number
 all_more : {r : LocalRule} {z c : Config} → IsRule r → IsSurjective r → IsConfig r.states z → (d : ℤ) → ((j : ℤ) → image_of r z (j +ℤ d) ≡ image_of r z j) → ((j : ℤ) → c (j +ℤ d) ≡ c j)
     → (place : ℕ → ℤ) → ((a n : ℕ) → (z (place a +ℤ steps d (suc n)) ≡ c (place a +ℤ steps d (suc n))) ⊎ ((e : ℕ) × (e < a) × (place e ≡ place a +ℤ steps d (suc n))))
     → (m a : ℕ) → a < m → z (place a) ≡ c (place a)
@@ -70,7 +70,7 @@ all_more {r} {z} {c} rule every hz d again turn place cases (suc m) a l =
     ⊎_elim (λ same. same) (λ (e, less, is). sym (ap z is) ∙ all_more rule every hz d again turn place cases m e (omega arith) ∙ ap c is) (cases a n)
     ∙ steps-again c d turn (suc n) (place a))
 
--- the letters come again one period back
+-- the letters of a periodic configuration come again one period back
 one_back : {p : ℕ} {x : Config} → HasPeriod p x → (i : ℤ) → x (i +ℤ neg_ℤ (pos p)) ≡ x i
 one_back {p} {x} h i =
     let place : i +ℤ neg_ℤ (pos p) +ℤ pos p ≡ i = omega (arith, ints) in
@@ -86,7 +86,7 @@ same_behind {r} {z} {c} {p} rule every hz image period s before j l =
     let q : ℤ = s +ℤ pos b +ℤ steps (neg_ℤ (pos p)) (suc n) in
     by_lt_z q s (λ h. inl (before q h)) (λ h. inr (unsigned_abs (q -ℤ s), omega (arith, ints, steps-left p n period.some), omega (arith, ints)))) (suc a) a (omega arith))
 
--- and before a place if it has them from there on
+-- under a surjective rule z has the letters of c before a place if it has them from there on, and c and the image of z have one period
 same_before : {r : LocalRule} {z c : Config} {p : ℕ} → IsRule r → IsSurjective r → IsConfig r.states z → HasPeriod p (image_of r z) → HasPeriod p c
     → (s : ℤ) → ((j : ℤ) → s ≤ℤ j → z j ≡ c j) → (j : ℤ) → j <ℤ s → z j ≡ c j
 same_before {r} {z} {c} {p} rule every hz image period s behind j l =
@@ -96,7 +96,7 @@ same_before {r} {z} {c} {p} rule every hz image period s behind j l =
     let q : ℤ = s -ℤ pos (suc b) +ℤ steps (pos p) (suc n) in
     by_lt_z q s (λ h. inr (unsigned_abs (s -ℤ q) - 1, omega (arith, ints, steps-right p n period.some), omega (arith, ints))) (λ h. inl (behind q h))) (suc a) a (omega arith))
 
--- under a surjective rule a preimage of y has the period of a loop in it, if y has
+-- under a surjective rule a preimage of y has the period of a loop in it, if y has that period
 HasPeriod-loop : {r : LocalRule} {x y : Config} {i : ℤ} {p : ℕ} → IsRule r → IsSurjective r → IsConfig r.states x → image_of r x ≡ y → HasPeriod p y → IsLoop r x y i p → HasPeriod p x
 HasPeriod-loop {r} {x} {y} {i} {p} rule every hx image period h =
     subst (HasPeriod p) (fun_ext (λ j. by_lt_z j s

@@ -7,11 +7,11 @@ use Rattle.config_laws.specs.Periodic.{HasPeriod}
 use Rattle.config_laws.proofs.Images.{image_of-moved}
 use Rattle.config_laws.proofs.Injective.{IsInjective-everywhere}
 
--- what has a period has it on the right of any place
+-- a periodic configuration repeats on the right of any place
 pub RepeatsRight-period : {p : ℕ} {x : Config} → HasPeriod p x → (a : ℤ) → RepeatsRight p x a
 RepeatsRight-period h a i l = h.again i
 
--- a period as often as one likes is a period
+-- c periods are a period
 pub HasPeriod-times : {p : ℕ} {x : Config} → (c : ℕ) → 1 ≤ c → HasPeriod p x → HasPeriod (c * p) x
 HasPeriod-times {p} {x} c some h = record {
   some = let least : 1 * 1 ≤ c * p = mul-le 1 1 c p some h.some in omega (arith, least);

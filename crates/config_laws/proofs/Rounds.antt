@@ -13,13 +13,15 @@ use Rattle.config_laws.proofs.Tails.{IsLoop, one_turn, SomeLoop, some_loop}
 abbrev pub rounds : Config → ℤ → ℕ → Config
 rounds x s p j = ring_letter (run x s p) (j -ℤ s)
 
--- these letters are a ring
+-- the letters of a run are a ring
 pub IsRing-run : {k p : ℕ} {x : Config} → IsConfig k x → 1 ≤ p → (s : ℤ) → IsRing k (run x s p)
 IsRing-run {k} {p} {x} hx some s = record { word = IsWord-run hx s p; some = subst (λ n. 1 ≤ n) (sym (length-run x s p)) some }
 
+-- letters of a configuration, again and again, are one over the same letters
 pub IsConfig-rounds : {k p : ℕ} {x : Config} → IsConfig k x → 1 ≤ p → (s : ℤ) → IsConfig k (rounds x s p)
 IsConfig-rounds hx some s j = ring_letter-below (IsRing-run hx some s) (j -ℤ s)
 
+-- p letters again and again have the period p
 pub HasPeriod-rounds : {p : ℕ} → (x : Config) (s : ℤ) → 1 ≤ p → HasPeriod p (rounds x s p)
 HasPeriod-rounds {p} x s some = record {
   some = some;
@@ -28,7 +30,7 @@ HasPeriod-rounds {p} x s some = record {
       ap (ring_letter (run x s p)) place ∙ ring_letter-turn (run x s p) (i -ℤ s) (omega (arith, length-run x s p));
 }
 
--- each is the letter at its place, counted round
+-- p letters again and again have at each place the letter that stands there, counted round
 rounds-letter : (x : Config) (s : ℤ) (p a : ℕ) → 1 ≤ p → rounds x s p (s +ℤ pos a) ≡ x (s +ℤ pos (a % p))
 rounds-letter x s p a some =
     let place : s +ℤ pos a -ℤ s ≡ pos a = omega (arith, ints) in
@@ -38,21 +40,21 @@ rounds-letter x s p a some =
 pub rounds-period : {p : ℕ} {x : Config} → HasPeriod p x → (s : ℤ) → rounds x s p ≡ x
 rounds-period {p} {x} h s = same_periodic (HasPeriod-rounds x s h.some) h s (λ a l. rounds-letter x s p a h.some ∙ ap (λ b. x (s +ℤ pos b)) (mod-eq_of_lt l))
 
--- they are the ring of the configuration
+-- one period of a periodic configuration is a ring with that configuration
 pub ring_letter-run : {p : ℕ} {x : Config} → HasPeriod p x → ring_letter (run x (pos 0) p) ≡ x
 ring_letter-run {p} {x} h = fun_ext (λ i. let place : i ≡ i -ℤ pos 0 = omega (arith, ints) in ap (ring_letter (run x (pos 0) p)) place) ∙ rounds-period h (pos 0)
 
--- the image of this ring
+-- the image of one period, closed to a ring, is one period of the image
 pub ring_image-run : {p : ℕ} {x : Config} → (r : LocalRule) → HasPeriod p x → ring_image r (run x (pos 0) p) ≡ run (image_of r x) (pos 0) p
 ring_image-run {p} {x} r h =
     sym (run-ring_image r (run x (pos 0) p)) ∙ ap₂ (λ (z : Config) (n : ℕ). run (image_of r z) (pos 0) n) (ring_letter-run h) (length-run x (pos 0) p)
 
--- round a loop they are the letters of the configuration, and so are m - 1 more
+-- the letters of a loop, again and again, are those of the configuration on the loop and on m - 1 places more
 pub rounds-loop : {r : LocalRule} {x y : Config} {i : ℤ} {p : ℕ} → IsLoop r x y i p → (a : ℕ) → a < p + (r.width - 1) → rounds x (i +ℤ r.offset) p (i +ℤ r.offset +ℤ pos a) ≡ x (i +ℤ r.offset +ℤ pos a)
 rounds-loop {r} {x} {y} {i} {p} h a l =
     rounds-letter x (i +ℤ r.offset) p a h.some ∙ sym (one_turn h (a + 1) a (omega arith) l)
 
--- round a loop the image is y, if y has the period of the loop
+-- the letters of a loop, again and again, have the image y, if y has the period of the loop
 pub image_of-rounds : {r : LocalRule} {x y : Config} {i : ℤ} {p : ℕ} → IsLoop r x y i p → HasPeriod p y → image_of r (rounds x (i +ℤ r.offset) p) ≡ y
 image_of-rounds {r} {x} {y} {i} {p} h hy =
     let z : Config = rounds x (i +ℤ r.offset) p in
@@ -72,7 +74,7 @@ pub record PeriodicPreimage (r : LocalRule) (y : Config) (p : ℕ) : Type 0 wher
   pub period : HasPeriod (turns * p) x
   pub image : image_of r x ≡ y
 
--- under a surjective rule a periodic configuration has one
+-- under a surjective rule a periodic configuration has a periodic preimage
 pub periodic_preimage : {r : LocalRule} {y : Config} {p : ℕ} → IsRule r → IsSurjective r → IsConfig r.states y → HasPeriod p y → PeriodicPreimage r y p
 periodic_preimage {r} {y} {p} rule every hy period =
     let m : Matches r y (pos 0) (node_count r * p) = matches rule every hy (pos 0) (node_count r * p) in
