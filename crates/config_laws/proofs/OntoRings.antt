@@ -1,14 +1,14 @@
 -- A rule is surjective exactly if each ring, written a number of times, is the image of a ring, and exactly if each periodic configuration is the image of a periodic one (Hedlund 1969).
-use Rattle.std.proofs.Common.{◌≡◌, ℕ, zero, suc, ◌+◌, ◌*◌, ◌≤◌, ◌↔◌, List, [], ◌∷◌, ◌++◌, length, pos, ◌+ℤ◌, refl, sym, ap, ap₂, ◌∙◌, subst, arith}
+use Rattle.std.proofs.Common.{◌≡◌, ℕ, zero, suc, ◌+◌, ◌*◌, ◌≤◌, ◌↔◌, List, [], ◌∷◌, ◌++◌, length, ℤ, pos, ◌+ℤ◌, refl, sym, ap, ap₂, ◌∙◌, subst, arith}
 use Rattle.std.specs.List.{repeat}
 use Rattle.word_image.proofs.Common.{ints, some_letter, LocalRule, IsRule, node_count, IsSurjective, IsRing, ring_letter, ring_image, ring_letter-turn, ring_letter-below}
 use Rattle.tail_config.proofs.Common.{Config, IsConfig, run, image_of, zeros, length-run, run-same, same-run, run-append}
 use Rattle.config_laws.specs.Periodic.{HasPeriod, IsOntoPeriodic}
 use Rattle.config_laws.specs.RingMaps.{IsOntoRings}
-use Rattle.config_laws.proofs.Dense.{preimage_inside}
-use Rattle.config_laws.proofs.RingImages.{run-ring, image_of-ring}
-use Rattle.config_laws.proofs.Periods.{HasPeriod-times, HasPeriod-ring, same_periodic}
-use Rattle.config_laws.proofs.Rounds.{IsRing-run, ring_image-run, PeriodicPreimage, periodic_preimage}
+use Rattle.config_laws.proofs.Dense.{Matches, matches, preimage_inside}
+use Rattle.config_laws.proofs.RingImages.{ring_image-run, run-ring, image_of-ring}
+use Rattle.config_laws.proofs.Periods.{RepeatsRight-period, rounds, IsRing-run, IsConfig-rounds, HasPeriod-rounds, HasPeriod-times, HasPeriod-ring, same_periodic}
+use Rattle.config_laws.proofs.Loops.{SomeLoop, some_loop, image_of-rounds}
 
 -- a ring written l times by the letters of its configuration
 run-repeat : (q : List ℕ) → 1 ≤ length q → (l : ℕ) → run (ring_letter q) (pos 0) (l * length q) ≡ repeat l q
@@ -35,6 +35,32 @@ ring_letter-repeat q some l more =
     let first : HasPeriod (l * n) (ring_letter (repeat l q)) = subst (λ k. HasPeriod k (ring_letter (repeat l q))) long (HasPeriod-ring (repeat l q) (omega (arith, times.some, long))) in
     same_periodic first times (pos 0) (same-run (ring_letter (repeat l q)) (ring_letter q) (pos 0) (pos 0) (l * n)
     (ap (run (ring_letter (repeat l q)) (pos 0)) (sym long) ∙ run-ring (repeat l q) ∙ sym (run-repeat q some l)))
+
+-- a periodic preimage, with a period of at most as many periods as there are nodes
+pub record PeriodicPreimage (r : LocalRule) (y : Config) (p : ℕ) : Type 0 where
+  pub turns : ℕ
+  pub x : Config
+  pub some : 1 ≤ turns
+  pub few : turns ≤ node_count r
+  pub config : IsConfig r.states x
+  pub period : HasPeriod (turns * p) x
+  pub image : image_of r x ≡ y
+
+-- under a surjective rule a periodic configuration has a periodic preimage
+pub periodic_preimage : {r : LocalRule} {y : Config} {p : ℕ} → IsRule r → IsSurjective r → IsConfig r.states y → HasPeriod p y → PeriodicPreimage r y p
+periodic_preimage {r} {y} {p} rule every hy period =
+    let m : Matches r y (pos 0) (node_count r * p) = matches rule every hy (pos 0) (node_count r * p) in
+    let at : SomeLoop r m.x y (pos 0) p = some_loop rule m.config (pos 0) p period.some (RepeatsRight-period period (pos 0)) m.equal in
+    let s : ℤ = at.place +ℤ r.offset in
+    record {
+      turns = at.turns;
+      x = rounds m.x s (at.turns * p);
+      some = at.some;
+      few = at.few;
+      config = IsConfig-rounds m.config at.loop.some s;
+      period = HasPeriod-rounds m.x s at.loop.some;
+      image = image_of-rounds at.loop (HasPeriod-times at.turns at.some period);
+    }
 
 -- a ring whose image is q, written as many times as there are nodes at most
 pub record RingOver (r : LocalRule) (q : List ℕ) : Type 0 where

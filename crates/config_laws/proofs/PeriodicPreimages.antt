@@ -8,11 +8,10 @@ use Rattle.tail_config.proofs.Common.{DifferAt, differ_at, Config, IsConfig, ima
 use Rattle.config_laws.specs.Periodic.{HasPeriod, HasPeriodicPreimages}
 use Rattle.config_laws.proofs.Images.{image_of-moved}
 use Rattle.config_laws.proofs.Joined.{meeting, meeting-left, meeting-right, IsConfig-meeting, image_of-meeting}
-use Rattle.config_laws.proofs.Tails.{IsLoop, SomeLoop, some_loop}
+use Rattle.config_laws.proofs.Loops.{IsLoop, rounds-loop, image_of-rounds, SomeLoop, some_loop}
 use Rattle.config_laws.proofs.Exchange.{placed-inside, placed-behind, one_other, turn_letter, image_of-one_other, AreMany-erasable}
 use Rattle.config_laws.proofs.FewPreimages.{not_many}
-use Rattle.config_laws.proofs.Periods.{RepeatsRight-period, HasPeriod-times, HasPeriod-image, HasPeriod-ring}
-use Rattle.config_laws.proofs.Rounds.{rounds, IsConfig-rounds, HasPeriod-rounds, rounds-loop, image_of-rounds}
+use Rattle.config_laws.proofs.Periods.{rounds, IsConfig-rounds, HasPeriod-rounds, RepeatsRight-period, HasPeriod-times, HasPeriod-image, HasPeriod-ring}
 
 -- n steps of d places
 abbrev steps : ℤ → ℕ → ℤ

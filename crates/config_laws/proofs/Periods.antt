@@ -1,8 +1,8 @@
--- Periodic configurations: their multiple periods, their images, and when two are equal.
-use Rattle.std.proofs.Common.{◌≡◌, ℕ, ◌*◌, ◌<◌, ◌≤◌, List, length, ℤ, pos, ◌+ℤ◌, ◌-ℤ◌, unsigned_abs, sym, ap, ◌∙◌, arith, mul-one}
+-- Periodic configurations: their multiple periods, their images, when two are equal, and the letters of a run again and again.
+use Rattle.std.proofs.Common.{◌≡◌, ℕ, ◌*◌, ◌<◌, ◌≤◌, List, length, ℤ, pos, ◌+ℤ◌, ◌-ℤ◌, unsigned_abs, refl, sym, ap, ◌∙◌, subst, arith, mul-one, ◌%◌, slice_index, mod-lt, mod-eq_of_lt}
 use Rattle.std.proofs.Math.Path.{fun_ext}
-use Rattle.word_image.proofs.Common.{ints, mul-le, LocalRule, IsRule, ring_letter, ring_letter-turn}
-use Rattle.tail_config.proofs.Common.{RepeatsRight, RepeatsRight-times, same_right-period, Config, IsConfig, IsInjective, image_of}
+use Rattle.word_image.proofs.Common.{ints, mul-le, LocalRule, IsRule, IsRing, ring_letter, ring_letter-turn, ring_letter-below}
+use Rattle.tail_config.proofs.Common.{RepeatsRight, RepeatsRight-times, same_right-period, Config, IsConfig, IsInjective, run, image_of, length-run, get_or-run, IsWord-run}
 use Rattle.config_laws.specs.Periodic.{HasPeriod}
 use Rattle.config_laws.proofs.Images.{image_of-moved}
 use Rattle.config_laws.proofs.Injective.{IsInjective-everywhere}
@@ -40,3 +40,34 @@ same_periodic {p} {x} {y} hx hy i start = fun_ext (λ j.
     sym (RepeatsRight-times k p x j (RepeatsRight-period hx j) j (omega (arith, ints)))
     ∙ same_right-period x y p i hx.some (RepeatsRight-period hx i) (RepeatsRight-period hy i) start (j +ℤ pos (k * p)) (omega (arith, ints, far, mul-one k))
     ∙ RepeatsRight-times k p y j (RepeatsRight-period hy j) j (omega (arith, ints)))
+
+-- the p letters from place s on, again and again
+abbrev pub rounds : Config → ℤ → ℕ → Config
+rounds x s p j = ring_letter (run x s p) (j -ℤ s)
+
+-- the letters of a run are a ring
+pub IsRing-run : {k p : ℕ} {x : Config} → IsConfig k x → 1 ≤ p → (s : ℤ) → IsRing k (run x s p)
+IsRing-run {k} {p} {x} hx some s = record { word = IsWord-run hx s p; some = subst (λ n. 1 ≤ n) (sym (length-run x s p)) some }
+
+-- letters of a configuration, again and again, are one over the same letters
+pub IsConfig-rounds : {k p : ℕ} {x : Config} → IsConfig k x → 1 ≤ p → (s : ℤ) → IsConfig k (rounds x s p)
+IsConfig-rounds hx some s j = ring_letter-below (IsRing-run hx some s) (j -ℤ s)
+
+-- p letters again and again have the period p
+pub HasPeriod-rounds : {p : ℕ} → (x : Config) (s : ℤ) → 1 ≤ p → HasPeriod p (rounds x s p)
+HasPeriod-rounds {p} x s some = record {
+  some = some;
+  again = λ i.
+      let place : i +ℤ pos p -ℤ s ≡ (i -ℤ s) +ℤ pos (length (run x s p)) = omega (arith, ints, length-run x s p) in
+      ap (ring_letter (run x s p)) place ∙ ring_letter-turn (run x s p) (i -ℤ s) (omega (arith, length-run x s p));
+}
+
+-- p letters again and again have at each place the letter that stands there, counted round
+pub rounds-letter : (x : Config) (s : ℤ) (p a : ℕ) → 1 ≤ p → rounds x s p (s +ℤ pos a) ≡ x (s +ℤ pos (a % p))
+rounds-letter x s p a some =
+    let place : s +ℤ pos a -ℤ s ≡ pos a = omega (arith, ints) in
+    ap (ring_letter (run x s p)) place ∙ ap (λ n. slice_index (run x s p) (a % n)) (length-run x s p) ∙ get_or-run x s (s +ℤ pos (a % p)) p (a % p) (mod-lt a some) refl
+
+-- a periodic configuration is the letters of one period, again and again
+pub rounds-period : {p : ℕ} {x : Config} → HasPeriod p x → (s : ℤ) → rounds x s p ≡ x
+rounds-period {p} {x} h s = same_periodic (HasPeriod-rounds x s h.some) h s (λ a l. rounds-letter x s p a h.some ∙ ap (λ b. x (s +ℤ pos b)) (mod-eq_of_lt l))

@@ -1,11 +1,12 @@
 -- A ring as a configuration: its image is the image of the configuration, so rules do with rings what they do with configurations.
-use Rattle.std.proofs.Common.{◌≡◌, ℕ, ◌≤◌, List, length, sum_by, slice_index, pos, ◌+ℤ◌, refl, sym, ap, ap₂, ◌∙◌, subst, arith, mod-eq_of_lt}
+use Rattle.std.proofs.Common.{◌≡◌, ℕ, ◌≤◌, List, length, sum_by, slice_index, pos, ◌+ℤ◌, ◌-ℤ◌, refl, sym, ap, ap₂, ◌∙◌, subst, arith, mod-eq_of_lt}
+use Rattle.std.proofs.Math.Path.{fun_ext}
 use Rattle.word_image.proofs.Common.{ints, get_or-map-range_with_len, length-map-range_with_len, LocalRule, IsRule, IsRing, IsConserving, local_map, ring_letter, ring_letters, ring_image, ring_letter-below}
 use Rattle.ring_laws.proofs.Rings.{IsWord-ring_image}
-use Rattle.tail_config.proofs.Common.{Config, run, image_of, run-by_letters, same-run}
+use Rattle.tail_config.proofs.Common.{Config, run, image_of, length-run, run-by_letters, same-run}
 use Rattle.config_laws.specs.Composed.{IsOneAfter, IsUndoneBy}
 use Rattle.config_laws.specs.Periodic.{HasPeriod}
-use Rattle.config_laws.proofs.Periods.{HasPeriod-image, HasPeriod-ring, same_periodic}
+use Rattle.config_laws.proofs.Periods.{rounds-period, HasPeriod-image, HasPeriod-ring, same_periodic}
 
 -- a ring has as many letters as its image
 pub length-ring_image : (r : LocalRule) (p : List ℕ) → length (ring_image r p) ≡ length p
@@ -26,6 +27,15 @@ pub run-ring_image : (r : LocalRule) (p : List ℕ) → run (image_of r (ring_le
 run-ring_image r p = sym (run-by_letters (image_of r (ring_letter p)) (pos 0) (length p) (ring_image r p) (length-ring_image r p) (λ a l.
     let place : pos a ≡ pos 0 +ℤ pos a = omega (arith, ints) in
     get_or-map-range_with_len (λ i. local_map r (ring_letters p (pos i +ℤ r.offset) r.width)) 0 (length p) a a 0 l (omega arith) ∙ ap (image_of r (ring_letter p)) place))
+
+-- one period of a periodic configuration is a ring with that configuration
+pub ring_letter-run : {p : ℕ} {x : Config} → HasPeriod p x → ring_letter (run x (pos 0) p) ≡ x
+ring_letter-run {p} {x} h = fun_ext (λ i. let place : i ≡ i -ℤ pos 0 = omega (arith, ints) in ap (ring_letter (run x (pos 0) p)) place) ∙ rounds-period h (pos 0)
+
+-- the image of one period, closed to a ring, is one period of the image
+pub ring_image-run : {p : ℕ} {x : Config} → (r : LocalRule) → HasPeriod p x → ring_image r (run x (pos 0) p) ≡ run (image_of r x) (pos 0) p
+ring_image-run {p} {x} r h =
+    sym (run-ring_image r (run x (pos 0) p)) ∙ ap₂ (λ (z : Config) (n : ℕ). run (image_of r z) (pos 0) n) (ring_letter-run h) (length-run x (pos 0) p)
 
 -- the image of a ring's configuration is the configuration of the image
 pub image_of-ring : (r : LocalRule) (p : List ℕ) → 1 ≤ length p → image_of r (ring_letter p) ≡ ring_letter (ring_image r p)

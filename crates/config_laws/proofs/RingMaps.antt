@@ -7,9 +7,8 @@ use Rattle.config_laws.specs.Periodic.{HasPeriod}
 use Rattle.config_laws.specs.RingMaps.{IsBijectiveOnRings}
 use Rattle.config_laws.proofs.Bijective.{one_preimage}
 use Rattle.config_laws.proofs.Injective.{IsInjective-everywhere}
-use Rattle.config_laws.proofs.Periods.{HasPeriod-ring, HasPeriod-injective}
-use Rattle.config_laws.proofs.RingImages.{length-ring_image, IsRing-ring_image, run-ring, image_of-ring}
-use Rattle.config_laws.proofs.Rounds.{IsRing-run, ring_image-run}
+use Rattle.config_laws.proofs.Periods.{IsRing-run, HasPeriod-ring, HasPeriod-injective}
+use Rattle.config_laws.proofs.RingImages.{ring_image-run, length-ring_image, IsRing-ring_image, run-ring, image_of-ring}
 
 -- under an injective rule each ring is the image of a ring: of one period of the preimage of its configuration
 some_ring : {r : LocalRule} → IsRule r → IsInjective r → (q : List ℕ) → IsRing r.states q → (p : List ℕ) × IsRing r.states p × (length p ≡ length q) × (ring_image r p ≡ q)

@@ -1,121 +1,15 @@
 -- Under a surjective rule each configuration that repeats far out is the image of one that does: a preimage of many periods passes one node twice, and goes round between for ever.
-use Rattle.std.proofs.Common.{◌≡◌, ℕ, zero, suc, ◌+◌, ◌-◌, ◌*◌, ◌%◌, ◌<◌, ◌≤◌, ◌↔◌, ⊎_elim, List, length, ℤ, pos, ◌+ℤ◌, ◌-ℤ◌, neg_ℤ, unsigned_abs, sym, ap, ◌∙◌, arith, mod-lt, mod-eq_of_lt, ◌<ℤ◌, ◌≤ℤ◌, add-mul}
-use Rattle.word_image.proofs.Common.{mod-add-mod, mod-eq-sub-mod, add-mod_right, cases_lt, ints, by_lt_z, mul-le, LocalRule, IsRule, IsWord, value, node_count, mirrored, IsPreimage, IsSurjective, value-injective, value-node, IsRule-mirrored, twice_below, some_letter}
-use Rattle.tail_config.proofs.Common.{RepeatsRight, RepeatsRight-times, repeats-mod, right_from, Config, IsConfig, run, image_of, zeros, length-run, IsWord-run, same-run, image_of-window}
+use Rattle.std.proofs.Common.{◌≡◌, ℕ, ◌+◌, ◌*◌, ◌<◌, ◌↔◌, List, length, ℤ, pos, ◌+ℤ◌, ◌-ℤ◌, neg_ℤ, unsigned_abs, sym, ap, ◌∙◌, arith, ◌<ℤ◌, ◌≤ℤ◌}
+use Rattle.word_image.proofs.Common.{ints, by_lt_z, LocalRule, IsRule, node_count, mirrored, IsPreimage, IsSurjective, IsRule-mirrored, some_letter}
+use Rattle.tail_config.proofs.Common.{RepeatsRight, Config, IsConfig, run, image_of, zeros}
 use Rattle.config_laws.specs.Sums.{IsFinite}
 use Rattle.config_laws.specs.Repeating.{RepeatsFarLeft, RepeatsFarRight, HasTails, IsOntoTails}
-use Rattle.config_laws.proofs.Joined.{joined, joined-left, joined-right, IsConfig-joined, IsConfig-written, run-written, between_zeros, IsFinite-between}
+use Rattle.config_laws.proofs.Joined.{IsConfig-written, run-written, between_zeros, IsFinite-between}
 use Rattle.config_laws.proofs.Flips.{flip}
-use Rattle.config_laws.proofs.GoesOn.{GoesOn, image_of-before}
+use Rattle.config_laws.proofs.GoesOn.{image_of-before}
 use Rattle.config_laws.proofs.BothSides.{GoesBack, GoesBack-flip, agree-flip, image_of-back}
 use Rattle.config_laws.proofs.Dense.{Matches, matches, preimage_inside}
-
--- p places from place i on, after which x has the same node under it, and over which its image is that of y, which repeats there
-pub record IsLoop (r : LocalRule) (x y : Config) (i : ℤ) (p : ℕ) : Type 0 where
-  pub some : 1 ≤ p
-  pub node : (a : ℕ) → a < r.width - 1 → x (i +ℤ r.offset +ℤ pos (p + a)) ≡ x (i +ℤ r.offset +ℤ pos a)
-  pub image : (a : ℕ) → a < p → image_of r x (i +ℤ pos a) ≡ y (i +ℤ pos a)
-  pub again : RepeatsRight p y i
-
--- the letters of a loop, and m - 1 more, are those of one turn
-pub one_turn : {r : LocalRule} {x y : Config} {i : ℤ} {p : ℕ} → IsLoop r x y i p → (n t : ℕ) → t < n → t < p + (r.width - 1) → x (i +ℤ r.offset +ℤ pos t) ≡ x (i +ℤ r.offset +ℤ pos (t % p))
-one_turn h zero t l within = absurd (omega arith)
-one_turn {r} {x} {y} {i} {p} h (suc n) t l within =
-    let s : ℤ = i +ℤ r.offset in
-    ⊎_elim (λ less. ap (λ j. x (s +ℤ pos j)) (sym (mod-eq_of_lt {n = t} less)))
-    (λ more.
-    let all : t ≡ p + (t - p) = omega arith in
-    ap (λ j. x (s +ℤ pos j)) all ∙ h.node (t - p) (omega arith) ∙ one_turn h n (t - p) (omega (arith, h.some)) (omega arith)
-    ∙ ap (λ j. x (s +ℤ pos j)) (sym (mod-eq-sub-mod more)))
-    (cases_lt t p)
-
--- what goes on from place i and repeats
-record LoopsOn (r : LocalRule) (x y : Config) (i : ℤ) : Type 0 where
-  goes : GoesOn r x y i
-  repeats : RepeatsFarRight goes.z
-
--- round a loop x goes on so
-loops_on : {r : LocalRule} {x y : Config} {i : ℤ} {p : ℕ} → IsRule r → IsConfig r.states x → IsLoop r x y i p → LoopsOn r x y i
-loops_on {r} {x} {y} {i} {p} rule hx h =
-    let s : ℤ = i +ℤ r.offset in
-    let f : ℕ → ℕ = λ t. x (s +ℤ pos (t % p)) in
-    let z : Config = joined x s f in
-    record {
-      goes = record {
-        z = z;
-        config = IsConfig-joined hx s (λ t. hx (s +ℤ pos (t % p)));
-        before = λ j l. by_lt_z j s (joined-left x s f j) (λ g.
-            let t : ℕ = unsigned_abs (j -ℤ s) in
-            let here : s +ℤ pos t ≡ j = omega (arith, ints) in
-            joined-right x s f j t here ∙ sym (one_turn h (suc t) t (omega arith) (omega (arith, ints))) ∙ ap x here);
-        after = λ j l.
-            let t : ℕ = unsigned_abs (j -ℤ i) in
-            let here : i +ℤ pos t ≡ j = omega (arith, ints) in
-            let turn : t % p < p = mod-lt t h.some in
-            image_of-window r z x j (i +ℤ pos (t % p)) (λ c g.
-            let place : i +ℤ pos (t % p) +ℤ r.offset +ℤ pos c ≡ s +ℤ pos (t % p + c) = omega (arith, ints) in
-            joined-right x s f (j +ℤ r.offset +ℤ pos c) (t + c) (omega (arith, ints)) ∙ ap (λ b. x (s +ℤ pos b)) (sym (mod-add-mod t p c))
-            ∙ sym (one_turn h (suc (t % p + c)) (t % p + c) (omega arith) (omega arith)) ∙ ap x (sym place))
-            ∙ h.image (t % p) turn ∙ repeats-mod (λ a. y (i +ℤ pos a)) p h.some (right_from p y i h.again) t ∙ ap y here;
-      };
-      repeats = record {
-        place = s;
-        period = p;
-        some = h.some;
-        again = λ j l.
-            let t : ℕ = unsigned_abs (j -ℤ s) in
-            joined-right x s f (j +ℤ pos p) (t + p) (omega (arith, ints)) ∙ ap (λ b. x (s +ℤ pos b)) (add-mod_right t p) ∙ sym (joined-right x s f j t (omega (arith, ints)));
-      };
-    }
-
--- a loop of at most as many periods of q letters as there are nodes, which begins at most so many periods after place i
-pub record SomeLoop (r : LocalRule) (x y : Config) (i : ℤ) (q : ℕ) : Type 0 where
-  pub place : ℤ
-  pub turns : ℕ
-  pub later : i ≤ℤ place
-  pub within : place ≤ℤ (i +ℤ pos (node_count r * q))
-  pub some : 1 ≤ turns
-  pub few : turns ≤ node_count r
-  pub loop : IsLoop r x y place (turns * q)
-
--- if y repeats from place i on, and the image of x agrees with it for as many periods as there are nodes, there is a loop
-pub some_loop : {r : LocalRule} {x y : Config} → IsRule r → IsConfig r.states x → (i : ℤ) (q : ℕ) → 1 ≤ q → RepeatsRight q y i
-    → ((a : ℕ) → a < node_count r * q → image_of r x (i +ℤ pos a) ≡ y (i +ℤ pos a)) → SomeLoop r x y i q
-some_loop {r} {x} {y} rule hx i q some again agree =
-    let d : ℕ = r.width - 1 in
-    let s : ℤ = i +ℤ r.offset in
-    let node : ℕ → List ℕ = λ j. run x (s +ℤ pos (j * q)) d in
-    let word : (j : ℕ) → IsWord r.states (node j) = λ j. IsWord-run hx (s +ℤ pos (j * q)) d in
-    let long : (j : ℕ) → length (node j) ≡ d = λ j. length-run x (s +ℤ pos (j * q)) d in
-    let found = twice_below (node_count r) (λ j. value r.states (node j)) (λ j l. value-node r (node j) (word j) (long j)) in
-    let j : ℕ = found.0 in
-    let e : ℕ = found.1 - found.0 in
-    let p : ℕ = e * q in
-    let more : found.1 ≡ j + e = omega (arith, found.2) in
-    let turns : found.1 * q ≡ j * q + p = ap (λ a. a * q) more ∙ add-mul j e q in
-    let most : found.1 * q ≤ node_count r * q = mul-le found.1 q (node_count r) q found.3 (omega arith) in
-    let least : 1 * 1 ≤ p = mul-le 1 1 e q (omega (arith, found.2)) some in
-    let same : node j ≡ node found.1 = value-injective r.states (node j) (node found.1) (word j) (word found.1) (long j ∙ sym (long found.1)) found.4 in
-    let place : ℤ = i +ℤ pos (j * q) in
-    record {
-      place = place;
-      turns = e;
-      later = omega (arith, ints);
-      within = omega (arith, ints, turns, most);
-      some = omega (arith, found.2);
-      few = omega (arith, found.3);
-      loop = record {
-        some = omega (arith, least);
-        node = λ a l.
-            let new : place +ℤ r.offset +ℤ pos (p + a) ≡ s +ℤ pos (found.1 * q) +ℤ pos a = omega (arith, ints, turns) in
-            let old : s +ℤ pos (j * q) +ℤ pos a ≡ place +ℤ r.offset +ℤ pos a = omega (arith, ints) in
-            ap x new ∙ sym (same-run x x (s +ℤ pos (j * q)) (s +ℤ pos (found.1 * q)) d same a l) ∙ ap x old;
-        image = λ a l.
-            let here : i +ℤ pos (j * q + a) ≡ place +ℤ pos a = omega (arith, ints) in
-            sym (ap (image_of r x) here) ∙ agree (j * q + a) (omega (arith, turns, most)) ∙ ap y here;
-        again = λ b l. RepeatsRight-times e q y i again b (omega (arith, ints));
-      };
-    }
+use Rattle.config_laws.proofs.Loops.{LoopsOn, loops_on, SomeLoop, some_loop}
 
 -- what repeats far to the right, and whose image agrees with y from place s on
 record OnRight (r : LocalRule) (y : Config) (s : ℤ) : Type 0 where
