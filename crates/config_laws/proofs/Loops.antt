@@ -51,8 +51,8 @@ pub record LoopsOn (r : LocalRule) (x y : Config) (i : ℤ) : Type 0 where
   pub repeats : RepeatsFarRight goes.z
 
 -- round a loop x goes on so
-pub loops_on : {r : LocalRule} {x y : Config} {i : ℤ} {p : ℕ} → IsRule r → IsConfig r.states x → IsLoop r x y i p → LoopsOn r x y i
-loops_on {r} {x} {y} {i} {p} rule hx h =
+pub loops_on : {r : LocalRule} {x y : Config} {i : ℤ} {p : ℕ} → IsConfig r.states x → IsLoop r x y i p → LoopsOn r x y i
+loops_on {r} {x} {y} {i} {p} hx h =
     let s : ℤ = i +ℤ r.offset in
     let c : Config = rounds x s p in
     let turns : HasPeriod p c = HasPeriod-rounds x s h.some in

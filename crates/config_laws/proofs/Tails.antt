@@ -23,7 +23,7 @@ on_right : {r : LocalRule} {x y : Config} → IsRule r → IsConfig r.states x �
     → ((j : ℤ) → s ≤ℤ j → j <ℤ (right.place +ℤ pos (node_count r * right.period)) → image_of r x j ≡ y j) → OnRight r y s
 on_right {r} {x} {y} rule hx s right order agree =
     let at : SomeLoop r x y right.place right.period = some_loop rule hx right.place right.period right.some right.again (λ a h. agree (right.place +ℤ pos a) (omega (arith, ints)) (omega (arith, ints))) in
-    let on : LoopsOn r x y at.place = loops_on rule hx at.loop in
+    let on : LoopsOn r x y at.place = loops_on hx at.loop in
     record {
       x = on.goes.z;
       config = on.goes.config;
@@ -61,7 +61,7 @@ loops_back : {r : LocalRule} {x y : Config} → IsRule r → IsConfig r.states x
 loops_back {r} {x} {y} rule hx left agree =
     let back = IsRule-mirrored rule in
     let at = some_loop {r = mirrored r} {x = flip x} {y = flip y} back (λ j. hx (neg_ℤ j)) (neg_ℤ left.place) left.period left.some (repeats_flipped left) (λ a l. agree-flip rule hx y left.place a (agree a l)) in
-    let on : LoopsOn (mirrored r) (flip x) (flip y) at.place = loops_on {r = mirrored r} {x = flip x} {y = flip y} back (λ j. hx (neg_ℤ j)) at.loop in
+    let on : LoopsOn (mirrored r) (flip x) (flip y) at.place = loops_on {r = mirrored r} {x = flip x} {y = flip y} (λ j. hx (neg_ℤ j)) at.loop in
     record {
       place = neg_ℤ at.place;
       low = omega (arith, ints, at.within);
