@@ -1,0 +1,121 @@
+-- Under a rule that is closing on both sides all configurations have the same number of preimages.
+use Rattle.std.proofs.Common.{◌≡◌, ◌≢◌, ℕ, ◌+◌, ◌-◌, ◌<◌, ◌≤◌, ⊎_elim, List, length, ℤ, pos, ◌+ℤ◌, ◌-ℤ◌, unsigned_abs, refl, sym, ap, ◌∙◌, subst, arith, ◌<ℤ◌, ◌≤ℤ◌}
+use Rattle.word_image.proofs.Common.{ints, cases_lt, LocalRule, IsRule, node_count, value, word_of, value-node, value-word_of, word_of-value, some_letter}
+use Rattle.tail_config.proofs.Common.{Config, IsConfig, IsOpen, zeros, run, image_of, length-run, get_or-run, IsWord-run, DifferAt, differ_at}
+use Rattle.eden_laws.proofs.Numbered.{Numbered, numbered}
+use Rattle.config_laws.specs.Maps.{Differ}
+use Rattle.config_laws.proofs.Joined.{joined, joined-left, joined-right, IsConfig-joined}
+use Rattle.config_laws.proofs.BothSides.{IsOntoMap-closing}
+use Rattle.preimage_laws.specs.PreimageCounts.{ArePreimages, IsToOne, IsConstantToOne, IsSeparating}
+use Rattle.preimage_laws.proofs.Pigeons.{chosen_below, twice_marked}
+use Rattle.preimage_laws.proofs.Separating.{IsOpen-separating}
+use Rattle.preimage_laws.proofs.Followed.{node_under, Through, AgreeAround, IsFollowed, IsFollowed-open, through_or_not}
+
+-- where runs differ the configurations do
+Differ-run : (x y : Config) (i : ℤ) (n : ℕ) → run x i n ≢ run y i n → Differ x y
+Differ-run x y i n other =
+    let d : DifferAt (run x i n) (run y i n) = differ_at (run x i n) (run y i n) (length-run x i n ∙ sym (length-run y i n)) other in
+    let within : d.place < n = omega (arith, d.within, length-run x i n) in
+    (i +ℤ pos d.place, λ e. d.other (get_or-run x i _ n d.place within refl ∙ e ∙ sym (get_or-run y i _ n d.place within refl)))
+
+-- where some places around 0 are enough, the preimages can be numbered, by the nodes that they have there
+preimages_of : {r : LocalRule} {y : Config} → IsRule r → IsSeparating r → (n : ℕ) → IsFollowed r y (pos 0) n → (d : ℕ) × (xs : ℕ → Config) × ArePreimages r y d xs
+preimages_of {r} {y} rule apart n followed = (
+  h.count,
+  found.0,
+  record {
+    configs = λ i l. (found.1 i l).0;
+    maps = λ i l. (found.1 i l).1;
+    differ = λ i j l most. Differ-run (found.0 i) (found.0 j) _ (r.width - 1) (λ e.
+        let same : h.at i ≡ h.at j = sym (back i (omega arith)) ∙ ap (value k) (sym (found.1 i (omega arith)).2 ∙ e ∙ (found.1 j most).2) ∙ back j most in
+        absurd (omega (arith, sym (h.forth i (omega arith)) ∙ ap h.place same ∙ h.forth j most)));
+    all = λ x hx maps.
+        let w : List ℕ = node_under r x (pos 0) in
+        let is : word_of k (r.width - 1) (value k w) ≡ w = ap (λ l. word_of k l (value k w)) (sym (length-run x _ (r.width - 1))) ∙ word_of-value k w (IsWord-run hx _ (r.width - 1)) in
+        let at = h.back (value k w) (value-node r w (IsWord-run hx _ (r.width - 1)) (length-run x _ (r.width - 1))) (x, hx, maps, sym is) in
+        let has = found.1 (h.place (value k w)) at.0 in (
+          h.place (value k w),
+          at.0,
+          apart (found.0 (h.place (value k w))) x _ has.0 hx (has.1 ∙ sym maps) (has.2 ∙ ap (word_of k (r.width - 1)) at.1 ∙ is),
+        );
+  },
+)
+  where
+    k : ℕ
+    k = r.states
+
+    P : ℕ → Type 0
+    P v = Through r y (pos 0) (word_of k (r.width - 1) v)
+
+    h : Numbered P (node_count r)
+    h = numbered P (λ v. through_or_not rule (pos 0) n followed (word_of k (r.width - 1) v)) (node_count r)
+
+    Q : ℕ → Config → Type 0
+    Q i x = IsConfig k x × (image_of r x ≡ y) × (node_under r x (pos 0) ≡ word_of k (r.width - 1) (h.at i))
+
+    found : (xs : ℕ → Config) × ((i : ℕ) → i < h.count → Q i (xs i))
+    found = chosen_below Config Q h.count zeros (λ i l. let t = (h.holds i l).1 in (t.0, (t.1, t.2, t.3)))
+
+    back : (i : ℕ) → i < h.count → value k (word_of k (r.width - 1) (h.at i)) ≡ h.at i
+    back i l = value-word_of k (r.width - 1) (h.at i) (h.holds i l).0
+
+-- preimages with the same node under a place have the same number
+same_number : {r : LocalRule} {y : Config} {n : ℕ} {xs : ℕ → Config} → IsSeparating r → ArePreimages r y n xs → (i : ℤ) (a b : ℕ) → a < b → b < n → node_under r (xs a) i ≢ node_under r (xs b) i
+same_number {r} {y} {n} {xs} apart are i a b l most e =
+    let d = are.differ a b l most in
+    d.1 (ap (λ (x : Config). x d.0) (apart (xs a) (xs b) _ (are.configs a (omega arith)) (are.configs b most) (are.maps a (omega arith) ∙ sym (are.maps b most)) e))
+
+-- what agrees around a place with y has as many preimages at least
+no_fewer : {r : LocalRule} {y z : Config} {d e : ℕ} {xs zs : ℕ → Config} → IsSeparating r → (i : ℤ) (n : ℕ) → IsFollowed r z i n → AgreeAround i n y z → ArePreimages r y d xs → ArePreimages r z e zs → d ≤ e
+no_fewer {r} {y} {z} {d} {e} {xs} {zs} apart i n followed agree first second =
+    ⊎_elim (λ less.
+    let (a, b, c, order, most, one, two) = twice_marked e (λ a c. node_under r (xs a) i ≡ node_under r (zs c) i) (λ a l. mark a (omega arith)) in
+    absurd (same_number apart first i a b order (omega arith) (one ∙ sym two)))
+    (λ enough. enough) (cases_lt e d)
+  where
+    mark : (a : ℕ) → a < d → (c : ℕ) × (c < e) × (node_under r (xs a) i ≡ node_under r (zs c) i)
+    mark a l =
+        let t = followed (xs a) (first.configs a l) (λ j low high. ap (λ (x : Config). x j) (first.maps a l) ∙ agree j low high) in
+        let (c, below, is) = second.all t.0 t.1 t.2 in
+        (c, below, sym t.3 ∙ ap (λ (x : Config). node_under r x i) (sym is))
+
+-- under a rule that is closing on both sides all configurations have the same number of preimages: of two configurations the left part of one and the right part of the other make one that agrees with both
+pub IsConstantToOne-open : {r : LocalRule} → IsRule r → IsOpen r → IsConstantToOne r
+IsConstantToOne-open {r} rule closing = (
+  (of h0).0,
+  some,
+  λ y hy. subst (λ d. (xs : ℕ → Config) × ArePreimages r y d xs) (omega (arith, same hy h0, same h0 hy)) ((of hy).1, (of hy).2),
+)
+  where
+    apart : IsSeparating r
+    apart = (IsOpen-separating rule).0 closing
+
+    n : ℕ
+    n = (IsFollowed-open rule closing).0
+
+    followed : {y : Config} → IsConfig r.states y → (i : ℤ) → IsFollowed r y i n
+    followed {y} hy i = (IsFollowed-open rule closing).1 y i hy
+
+    of : {y : Config} → IsConfig r.states y → (d : ℕ) × (xs : ℕ → Config) × ArePreimages r y d xs
+    of hy = preimages_of rule apart n (followed hy (pos 0))
+
+    h0 : IsConfig r.states zeros
+    h0 i = some_letter rule
+
+    same : {y z : Config} → (hy : IsConfig r.states y) (hz : IsConfig r.states z) → (of hy).0 ≤ (of hz).0
+    same {y} {z} hy hz =
+        let x : Config = joined y (pos 0) (λ a. z (pos a)) in
+        let hx : IsConfig r.states x = IsConfig-joined hy (pos 0) (λ a. hz (pos a)) in
+        let left : ℤ = pos 0 -ℤ pos (n + 1) in
+        let first = no_fewer apart left n (followed hx left) (λ j low high. sym (joined-left y (pos 0) (λ a. z (pos a)) j (omega (arith, ints)))) (of hy).2 (of hx).2 in
+        let second = no_fewer apart (pos n) n (followed hz (pos n)) (λ j low high.
+        let here : pos 0 +ℤ pos (unsigned_abs j) ≡ j = omega (arith, ints) in
+        let there : pos (unsigned_abs j) ≡ j = omega (arith, ints, low) in
+        joined-right y (pos 0) (λ a. z (pos a)) j (unsigned_abs j) here ∙ ap z there) (of hx).2 (of hz).2 in
+        omega (arith, first, second)
+
+    some : 1 ≤ (of h0).0
+    some =
+        let x = IsOntoMap-closing rule closing zeros h0 in
+        let at = (of h0).2.all x.0 x.1 x.2 in
+        omega (arith, at.1)

@@ -1,0 +1,4 @@
+pub mod Pigeons
+pub mod Separating
+pub mod Followed
+pub mod Counts
