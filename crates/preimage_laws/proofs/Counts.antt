@@ -59,18 +59,27 @@ preimages_of {r} {y} rule apart n followed = (
     back : (i : ℕ) → i < h.count → value k (word_of k (r.width - 1) (h.at i)) ≡ h.at i
     back i l = value-word_of k (r.width - 1) (h.at i) (h.holds i l).0
 
--- preimages with the same node under a place have the same number
-same_number : {r : LocalRule} {y : Config} {n : ℕ} {xs : ℕ → Config} → IsSeparating r → ArePreimages r y n xs → (i : ℤ) (a b : ℕ) → a < b → b < n → node_under r (xs a) i ≢ node_under r (xs b) i
-same_number {r} {y} {n} {xs} apart are i a b l most e =
-    let d = are.differ a b l most in
-    d.1 (ap (λ (x : Config). x d.0) (apart (xs a) (xs b) _ (are.configs a (omega arith)) (are.configs b most) (are.maps a (omega arith) ∙ sym (are.maps b most)) e))
+-- preimages of y that have the same node under place i are equal
+abbrev pub IsSeparated : LocalRule → Config → ℤ → Type 0
+IsSeparated r y i = (x z : Config) → IsConfig r.states x → IsConfig r.states z → image_of r x ≡ y → image_of r z ≡ y → node_under r x i ≡ node_under r z i → x ≡ z
+
+-- where preimages are separated, those with the same node have the same number
+pub same_number : {r : LocalRule} {y : Config} {n : ℕ} {xs : ℕ → Config} → ArePreimages r y n xs → (i : ℤ) → IsSeparated r y i
+    → (a b : ℕ) → a < n → b < n → node_under r (xs a) i ≡ node_under r (xs b) i → a ≡ b
+same_number {r} {y} {n} {xs} are i apart a b first second e =
+    ⊎_elim (λ l. absurd (differ a b l second e)) (λ h. ⊎_elim (λ l. absurd (differ b a l first (sym e))) (λ g. omega arith) (cases_lt b a)) (cases_lt a b)
+  where
+    differ : (c d : ℕ) → c < d → d < n → node_under r (xs c) i ≢ node_under r (xs d) i
+    differ c d l most e =
+        let at = are.differ c d l most in
+        at.1 (ap (λ (x : Config). x at.0) (apart (xs c) (xs d) (are.configs c (omega arith)) (are.configs d most) (are.maps c (omega arith)) (are.maps d most) e))
 
 -- what agrees around a place with y has as many preimages at least
 no_fewer : {r : LocalRule} {y z : Config} {d e : ℕ} {xs zs : ℕ → Config} → IsSeparating r → (i : ℤ) (n : ℕ) → IsFollowed r z i n → AgreeAround i n y z → ArePreimages r y d xs → ArePreimages r z e zs → d ≤ e
 no_fewer {r} {y} {z} {d} {e} {xs} {zs} apart i n followed agree first second =
     ⊎_elim (λ less.
     let (a, b, c, order, most, one, two) = twice_marked e (λ a c. node_under r (xs a) i ≡ node_under r (zs c) i) (λ a l. mark a (omega arith)) in
-    absurd (same_number apart first i a b order (omega arith) (one ∙ sym two)))
+    absurd (omega (arith, same_number first i (λ x w hx hw mx mw. apart x w (i +ℤ r.offset) hx hw (mx ∙ sym mw)) a b (omega arith) (omega arith) (one ∙ sym two))))
     (λ enough. enough) (cases_lt e d)
   where
     mark : (a : ℕ) → a < d → (c : ℕ) × (c < e) × (node_under r (xs a) i ≡ node_under r (zs c) i)
