@@ -9,7 +9,7 @@ use Rattle.eden_laws.proofs.Preinjective.{IsSurjective-right_closing}
 use Rattle.config_laws.specs.Maps.{IsNear, IsEvenlyOpenMap, IsOntoMap, IsRightContinuingMap, IsLeftContinuingMap}
 use Rattle.config_laws.proofs.Flips.{flip, image_of-flip}
 use Rattle.config_laws.proofs.GoesOn.{enough, GoesOn, goes_on, image_of-before}
-use Rattle.config_laws.proofs.Dense.{Matches, matches}
+use Rattle.config_laws.proofs.Dense.{Matches, matches-at, matches}
 
 -- a configuration that agrees with x behind the first letter under place i, and whose image agrees with y up to place i
 pub record GoesBack (r : LocalRule) (x y : Config) (i : ℤ) : Type 0 where
@@ -99,9 +99,7 @@ IsOntoMap-ahead {r} {k} {l} rule every right left y hy = found (matches rule eve
     found : Matches r y (pos 0) (enough r l + enough r k) → (z : Config) × IsConfig r.states z × (image_of r z ≡ y)
     found m =
         let p : ℤ = pos (enough r l) in
-        let b : Between r m.x y p p = between rule right left m.config hy p p (omega (arith, ints)) (λ j low high.
-        let here : pos 0 +ℤ pos (unsigned_abs j) ≡ j = omega (arith, ints) in
-        sym (ap (image_of r m.x) here) ∙ m.equal (unsigned_abs j) (omega (arith, ints)) ∙ ap y here) in
+        let b : Between r m.x y p p = between rule right left m.config hy p p (omega (arith, ints)) (λ j low high. matches-at m j (omega (arith, ints)) (omega (arith, ints))) in
         (b.z, b.config, b.image)
 
 -- a rule that is closing on both sides takes some configuration to each

@@ -8,7 +8,7 @@ use Rattle.config_laws.proofs.Joined.{joined, joined-left, joined-right, IsConfi
 use Rattle.config_laws.proofs.Flips.{flip}
 use Rattle.config_laws.proofs.GoesOn.{GoesOn, image_of-before}
 use Rattle.config_laws.proofs.BothSides.{Between, GoesBack, GoesBack-flip, agree-flip, image_of-back}
-use Rattle.config_laws.proofs.Dense.{Matches, matches, preimage_inside}
+use Rattle.config_laws.proofs.Dense.{Matches, matches-at, matches, preimage_inside}
 
 -- p places from place i on, after which x has the same node under it, and over which its image is that of y, which repeats there
 record IsLoop (r : LocalRule) (x y : Config) (i : ℤ) (p : ℕ) : Type 0 where
@@ -195,9 +195,7 @@ IsOntoTails-surjective {r} rule every y hy (left, first) =
     let l : ℕ = node_count r * left.period in
     let s : ℤ = left.place -ℤ pos l in
     let m : Matches r y s (l + unsigned_abs (right.place -ℤ left.place) + node_count r * right.period) = matches rule every hy s _ in
-    let (b, tails) = between_tails rule m.config left right order (λ j low high.
-    let here : s +ℤ pos (unsigned_abs (j -ℤ s)) ≡ j = omega (arith, ints) in
-    sym (ap (image_of r m.x) here) ∙ m.equal (unsigned_abs (j -ℤ s)) (omega (arith, ints)) ∙ ap y here) in
+    let (b, tails) = between_tails rule m.config left right order (λ j low high. matches-at m j (omega (arith, ints)) (omega (arith, ints))) in
     (b.z, b.config, tails, b.image)
 
 -- a finite configuration repeats far out

@@ -1,14 +1,13 @@
 -- Under a rule that is closing on both sides all configurations have the same number of preimages.
-use Rattle.std.proofs.Common.{◌≡◌, ◌≢◌, ℕ, ◌+◌, ◌-◌, ◌<◌, ◌≤◌, ⊎_elim, List, length, ℤ, pos, ◌+ℤ◌, ◌-ℤ◌, unsigned_abs, refl, sym, ap, ◌∙◌, subst, arith, ◌<ℤ◌, ◌≤ℤ◌}
+use Rattle.std.proofs.Common.{◌≡◌, ◌≢◌, ℕ, ◌+◌, ◌-◌, ◌<◌, ◌≤◌, ⊎_elim, List, ℤ, pos, ◌+ℤ◌, ◌-ℤ◌, unsigned_abs, refl, sym, ap, ◌∙◌, subst, arith}
 use Rattle.word_image.proofs.Common.{ints, cases_lt, LocalRule, IsRule, node_count, value, word_of, value-node, value-word_of, word_of-value, some_letter}
 use Rattle.tail_config.proofs.Common.{Config, IsConfig, IsOpen, zeros, run, image_of, length-run, get_or-run, IsWord-run, DifferAt, differ_at}
 use Rattle.eden_laws.proofs.Numbered.{Numbered, numbered}
 use Rattle.config_laws.specs.Maps.{Differ}
 use Rattle.config_laws.proofs.Joined.{joined, joined-left, joined-right, IsConfig-joined}
-use Rattle.config_laws.proofs.BothSides.{IsOntoMap-closing}
-use Rattle.preimage_laws.specs.PreimageCounts.{ArePreimages, IsToOne, IsConstantToOne, IsSeparating}
+use Rattle.preimage_laws.specs.PreimageCounts.{ArePreimages, IsConstantToOne, HasSeparatedPreimages}
 use Rattle.preimage_laws.proofs.Pigeons.{chosen_below, twice_marked}
-use Rattle.preimage_laws.proofs.Separating.{IsOpen-separating}
+use Rattle.preimage_laws.proofs.Separated.{IsOpen-separated}
 use Rattle.preimage_laws.proofs.Followed.{node_under, Through, AgreeAround, IsFollowed, IsFollowed-open, through_or_not}
 
 -- where runs differ the configurations do
@@ -19,7 +18,7 @@ Differ-run x y i n other =
     (i +ℤ pos d.place, λ e. d.other (get_or-run x i _ n d.place within refl ∙ e ∙ sym (get_or-run y i _ n d.place within refl)))
 
 -- where some places around 0 are enough, the preimages can be numbered, by the nodes that they have there
-preimages_of : {r : LocalRule} {y : Config} → IsRule r → IsSeparating r → (n : ℕ) → IsFollowed r y (pos 0) n → (d : ℕ) × (xs : ℕ → Config) × ArePreimages r y d xs
+preimages_of : {r : LocalRule} {y : Config} → IsRule r → HasSeparatedPreimages r → (n : ℕ) → IsFollowed r y (pos 0) n → (d : ℕ) × (xs : ℕ → Config) × ArePreimages r y d xs
 preimages_of {r} {y} rule apart n followed = (
   h.count,
   found.0,
@@ -75,7 +74,7 @@ same_number {r} {y} {n} {xs} are i apart a b first second e =
         at.1 (ap (λ (x : Config). x at.0) (apart (xs c) (xs d) (are.configs c (omega arith)) (are.configs d most) (are.maps c (omega arith)) (are.maps d most) e))
 
 -- what agrees around a place with y has as many preimages at least
-no_fewer : {r : LocalRule} {y z : Config} {d e : ℕ} {xs zs : ℕ → Config} → IsSeparating r → (i : ℤ) (n : ℕ) → IsFollowed r z i n → AgreeAround i n y z → ArePreimages r y d xs → ArePreimages r z e zs → d ≤ e
+no_fewer : {r : LocalRule} {y z : Config} {d e : ℕ} {xs zs : ℕ → Config} → HasSeparatedPreimages r → (i : ℤ) (n : ℕ) → IsFollowed r z i n → AgreeAround i n y z → ArePreimages r y d xs → ArePreimages r z e zs → d ≤ e
 no_fewer {r} {y} {z} {d} {e} {xs} {zs} apart i n followed agree first second =
     ⊎_elim (λ less.
     let (a, b, c, order, most, one, two) = twice_marked e (λ a c. node_under r (xs a) i ≡ node_under r (zs c) i) (λ a l. mark a (omega arith)) in
@@ -92,12 +91,11 @@ no_fewer {r} {y} {z} {d} {e} {xs} {zs} apart i n followed agree first second =
 pub IsConstantToOne-open : {r : LocalRule} → IsRule r → IsOpen r → IsConstantToOne r
 IsConstantToOne-open {r} rule closing = (
   (of h0).0,
-  some,
   λ y hy. subst (λ d. (xs : ℕ → Config) × ArePreimages r y d xs) (omega (arith, same hy h0, same h0 hy)) ((of hy).1, (of hy).2),
 )
   where
-    apart : IsSeparating r
-    apart = (IsOpen-separating rule).0 closing
+    apart : HasSeparatedPreimages r
+    apart = (IsOpen-separated rule).0 closing
 
     n : ℕ
     n = (IsFollowed-open rule closing).0
@@ -122,9 +120,3 @@ IsConstantToOne-open {r} rule closing = (
         let there : pos (unsigned_abs j) ≡ j = omega (arith, ints, low) in
         joined-right y (pos 0) (λ a. z (pos a)) j (unsigned_abs j) here ∙ ap z there) (of hx).2 (of hz).2 in
         omega (arith, first, second)
-
-    some : 1 ≤ (of h0).0
-    some =
-        let x = IsOntoMap-closing rule closing zeros h0 in
-        let at = (of h0).2.all x.0 x.1 x.2 in
-        omega (arith, at.1)

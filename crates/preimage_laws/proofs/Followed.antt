@@ -1,10 +1,10 @@
 -- Where what is read around a place tells which nodes the preimages of a configuration have there.
-use Rattle.std.proofs.Common.{◌≡◌, ◌⊎◌, ℕ, ◌+◌, ◌-◌, ◌*◌, ◌<◌, ◌≤◌, inl, inr, ⊎_elim, List, length, take, drop, get_or, ℤ, pos, ◌+ℤ◌, ◌-ℤ◌, unsigned_abs, refl, sym, ap, ◌∙◌, subst, arith, ◌<ℤ◌, ◌≤ℤ◌}
-use Rattle.word_image.proofs.Common.{ints, LocalRule, IsRule, IsWord, node_count, image, some_letter, decide_both}
-use Rattle.tail_config.proofs.Common.{Config, IsConfig, IsOpen, zeros, run, image_of, length-run, get_or-run, IsWord-run, run-same, take-run, drop-run, image-run}
+use Rattle.std.proofs.Common.{◌≡◌, ◌⊎◌, ℕ, ◌+◌, ◌-◌, ◌*◌, inl, inr, ⊎_elim, List, length, take, drop, ℤ, pos, ◌+ℤ◌, ◌-ℤ◌, unsigned_abs, refl, sym, ap, ◌∙◌, arith, ◌<ℤ◌, ◌≤ℤ◌}
+use Rattle.word_image.proofs.Common.{ints, LocalRule, IsRule, IsWord, node_count, image, decide_both}
+use Rattle.tail_config.proofs.Common.{Config, IsConfig, IsOpen, run, image_of, length-run, IsWord-run, run-same, take-run, drop-run, image-run}
 use Rattle.tail_laws.proofs.Common.{IsRightClosing-window, IsLeftClosing-window}
-use Rattle.config_laws.specs.Repeating.{RepeatsFarLeft, RepeatsFarRight, HasTails}
-use Rattle.config_laws.proofs.Joined.{written, IsConfig-written, image_of-written, run-written}
+use Rattle.config_laws.specs.Repeating.{RepeatsFarLeft, HasTails}
+use Rattle.config_laws.proofs.Dense.{matches-at, matches_written}
 use Rattle.config_laws.proofs.GoesOn.{enough}
 use Rattle.config_laws.proofs.BothSides.{Between, between}
 use Rattle.config_laws.proofs.Tails.{between_tails, repeats_from}
@@ -82,11 +82,6 @@ through_or_not {r} {y} rule i n followed w =
 
     through : (z : List ℕ) → IsWord r.states z → length z ≡ n + n + 1 + (r.width - 1) → image r z ≡ read → take (r.width - 1) (drop n z) ≡ w → Through r y i w
     through z word long maps node =
-        let x : Config = written zeros s z in
-        let found = followed x (IsConfig-written (some_letter rule) (λ j. some_letter rule) s z word) (λ j low high.
-        let a : ℕ = unsigned_abs (j -ℤ (i -ℤ pos n)) in
-        let here : i -ℤ pos n +ℤ pos a ≡ j = omega (arith, ints) in
-        sym (ap (image_of r x) here) ∙ image_of-written rule zeros (i -ℤ pos n) z a (omega (arith, ints))
-        ∙ ap (λ u. get_or u a 0) maps ∙ get_or-run y (i -ℤ pos n) j (n + n + 1) a (omega (arith, ints)) here) in
-        let whole : under r x i n ≡ z = ap (run x s) (sym long) ∙ run-written zeros s z in
-        (found.0, found.1, found.2, found.3 ∙ sym (node-under r x i n) ∙ ap (λ u. take (r.width - 1) (drop n u)) whole ∙ node)
+        let (m, whole) = matches_written rule (i -ℤ pos n) (n + n + 1) z (record { word = word; long = long ∙ ap (λ l. l + (r.width - 1)) (sym (length-run y (i -ℤ pos n) (n + n + 1))); maps = maps }) in
+        let found = followed m.x m.config (λ j low high. matches-at m j low (omega (arith, ints))) in
+        (found.0, found.1, found.2, found.3 ∙ sym (node-under r m.x i n) ∙ ap (λ u. take (r.width - 1) (drop n u)) (ap (run m.x s) (sym long) ∙ whole) ∙ node)

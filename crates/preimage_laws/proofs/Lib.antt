@@ -1,6 +1,7 @@
 pub mod Pigeons
-pub mod Separating
+pub mod Separated
 pub mod Followed
 pub mod Counts
 pub mod Periods
 pub mod Constant
+pub mod OneToOne

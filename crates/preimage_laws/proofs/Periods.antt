@@ -1,13 +1,12 @@
 -- Configurations that repeat everywhere: so do their preimages if there are finitely many, and under a surjective rule these are separated.
-use Rattle.std.proofs.Common.{◌≡◌, ℕ, ◌+◌, ◌-◌, ◌*◌, ◌%◌, ◌<◌, ◌≤◌, ⊎_elim, List, length, take, drop, slice_index, ℤ, pos, ◌+ℤ◌, ◌-ℤ◌, unsigned_abs, refl, sym, ap, ◌∙◌, subst, arith, ◌<ℤ◌, ◌≤ℤ◌, mul_comm, add-mul, mod-eq_of_lt}
+use Rattle.std.proofs.Common.{◌≡◌, ℕ, ◌+◌, ◌-◌, ◌*◌, ◌<◌, ◌≤◌, ⊎_elim, List, length, take, drop, slice_index, ℤ, pos, ◌+ℤ◌, ◌-ℤ◌, unsigned_abs, refl, sym, ap, ◌∙◌, subst, arith, ◌<ℤ◌, ◌≤ℤ◌, mul_comm, add-mul, mod-eq_of_lt}
 use Rattle.std.proofs.Math.Path.{fun_ext}
-use Rattle.word_image.proofs.Common.{ints, mul-le, LocalRule, IsRule, IsSurjective, IsRing, IsErasable, ring_letter, ring_letter-below, ring_letter-turn}
+use Rattle.word_image.proofs.Common.{ints, mul-le, LocalRule, IsRule, IsSurjective, ring_letter, ring_letter-below, ring_letter-turn}
 use Rattle.tail_config.proofs.Common.{Config, IsConfig, run, image_of, length-run, get_or-run, IsWord-run, run-same, same-run, take-run, last-run, image-run, image_of-window, RepeatsRight-times}
 use Rattle.eden_laws.proofs.GardenOfEden.{garden_of_eden}
 use Rattle.config_laws.proofs.Onto.{same_word}
 use Rattle.preimage_laws.specs.PreimageCounts.{ArePreimages}
 use Rattle.preimage_laws.proofs.Pigeons.{twice_marked}
-use Rattle.preimage_laws.proofs.Followed.{node_under}
 use Rattle.preimage_laws.proofs.Counts.{IsSeparated}
 
 -- the letters come again everywhere p places on

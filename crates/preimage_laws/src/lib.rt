@@ -1,14 +1,39 @@
-//! How many preimages a configuration has.
+//! How many preimages configurations have: a rule is open exactly where all have the same number of them
+//! (Hedlund 1969).
+//!
+//! Rule 90, the sum of two neighbours, takes four configurations to each: two letters side by side and the
+//! image tell all the others, and there are four such pairs of letters. Rule 30 takes two to the
+//! configuration of zeros, which are zeros and ones, but it has a right split, and so not two to each.
+//!
+//! Open gives one number. Let two preimages of a configuration have the same m - 1 letters at a place. The
+//! left part of one and the right part of the other, joined there, have the same image, so under a rule
+//! that is closing on both sides all three are equal. Hence the nodes at a place tell the preimages. What is
+//! read for long enough around the place tells which nodes are there, and so how many. The left part of one
+//! configuration and the right part of another make a third, which has as many preimages as either.
+//!
+//! One number n gives open. The n preimages of what repeats everywhere repeat too: of n + 1 shifts by whole
+//! periods two are equal. So two that have the same m - 1 letters at a place have them again on both sides
+//! of whatever lies between, and are equal, since a surjective rule erases no pair of words. A split is two
+//! preimages of a configuration that repeats far out, with the same m - 1 letters at a place. A long part of
+//! it around that place, again and again, has n preimages with n nodes there, and each of these is the node
+//! of a preimage of the whole. So its n preimages have n nodes, and no two have the same.
+//!
+//! No law uses the law of the excluded middle.
+//!
+//! The functions here do nothing, and take no time. Each carries a law by its contract.
 #![tactic(auto)]
 
 ghost use Rattle.std.specs.Prelude.{ℕ, ◌≤◌, ◌↔◌};
 ghost use Rattle.word_image.specs.LocalRules.{LocalRule, IsRule, node_count};
-ghost use Rattle.tail_config.specs.Tails.{IsOpen};
-ghost use Rattle.preimage_laws.specs.PreimageCounts.{IsToOne, IsConstantToOne, IsSeparating};
+ghost use Rattle.tail_config.specs.Tails.{IsInjective, IsOpen};
+ghost use Rattle.preimage_laws.specs.PreimageCounts.{IsToOne, IsConstantToOne, HasSeparatedPreimages};
 
-/// Under a rule that is open each configuration has the same number of preimages.
+/// A rule is open exactly where all configurations have the same number of preimages (Hedlund 1969). This
+/// number is at least 1 and at most k^(m - 1), and it is 1 exactly where the rule is injective. A rule is
+/// open exactly where different preimages of one configuration have at each place other m - 1 letters.
 pub fn open_is_constant_to_one()
     ensures exactly { (r : LocalRule) → IsRule r → (IsOpen r ↔ IsConstantToOne r) }
-    ensures most { (r : LocalRule) (n : ℕ) → IsRule r → IsToOne r n → n ≤ node_count r }
-    ensures separated { (r : LocalRule) → IsRule r → (IsOpen r ↔ IsSeparating r) }
+    ensures number { (r : LocalRule) (n : ℕ) → IsRule r → IsToOne r n → (1 ≤ n) × (n ≤ node_count r) }
+    ensures one { (r : LocalRule) → IsRule r → (IsInjective r ↔ IsToOne r 1) }
+    ensures separated { (r : LocalRule) → IsRule r → (IsOpen r ↔ HasSeparatedPreimages r) }
 {}

@@ -1,16 +1,16 @@
 -- A rule is closing on both sides exactly where preimages of one configuration are separated.
-use Rattle.std.proofs.Common.{◌≡◌, ℕ, ◌+◌, ◌-◌, ◌<◌, ◌↔◌, ℤ, pos, ◌+ℤ◌, ◌-ℤ◌, unsigned_abs, sym, ap, ◌∙◌, arith, ◌<ℤ◌, ◌≤ℤ◌}
+use Rattle.std.proofs.Common.{◌≡◌, ◌-◌, ◌↔◌, ℤ, pos, ◌+ℤ◌, ◌-ℤ◌, unsigned_abs, sym, ap, ◌∙◌, arith, ◌<ℤ◌, ◌≤ℤ◌}
 use Rattle.std.proofs.Math.Path.{fun_ext}
 use Rattle.word_image.proofs.Common.{ints, by_lt_z, LocalRule, IsRule}
-use Rattle.tail_config.proofs.Common.{Config, IsConfig, run, image_of, IsOpen, run-same, same-run, image_of-window}
+use Rattle.tail_config.proofs.Common.{Config, IsConfig, image_of, IsOpen, run-same, same-run, image_of-window}
 use Rattle.config_laws.proofs.Joined.{joined, joined-left, joined-right, IsConfig-joined}
 use Rattle.config_laws.proofs.Closing.{IsRightClosing-everywhere}
 use Rattle.config_laws.proofs.Flips.{IsLeftClosing-everywhere}
-use Rattle.preimage_laws.specs.PreimageCounts.{IsSeparating}
+use Rattle.preimage_laws.specs.PreimageCounts.{HasSeparatedPreimages}
 
 -- under a rule that is closing on both sides preimages are separated: the left part of one and the right part of the other, joined at m - 1 letters of both, have the same image
-IsSeparating-open : {r : LocalRule} → IsRule r → IsOpen r → IsSeparating r
-IsSeparating-open {r} rule closing x y s hx hy same node =
+HasSeparatedPreimages-open : {r : LocalRule} → IsRule r → IsOpen r → HasSeparatedPreimages r
+HasSeparatedPreimages-open {r} rule closing x y s hx hy same node =
     sym ((IsRightClosing-everywhere rule).0 closing.0 z x hz hx image (s, left)) ∙ (IsLeftClosing-everywhere rule).0 closing.1 z y hz hy (image ∙ same) (s, λ j l. right j (omega (arith, ints)))
   where
     z : Config
@@ -38,9 +38,9 @@ IsSeparating-open {r} rule closing x y s hx hy same node =
         (λ l. image_of-window r z y j j (λ a g. right (j +ℤ r.offset +ℤ pos a) (omega (arith, ints))) ∙ sym (ap (λ (c : Config). c j) same)))
 
 -- a rule is closing on both sides exactly where preimages are separated
-pub IsOpen-separating : {r : LocalRule} → IsRule r → IsOpen r ↔ IsSeparating r
-IsOpen-separating {r} rule = (
-  IsSeparating-open rule,
+pub IsOpen-separated : {r : LocalRule} → IsRule r → IsOpen r ↔ HasSeparatedPreimages r
+IsOpen-separated {r} rule = (
+  HasSeparatedPreimages-open rule,
   λ apart. (
     (IsRightClosing-everywhere rule).1 (λ x y hx hy same (p, left). apart x y (p -ℤ pos r.width) hx hy same (run-same x y _ _ (r.width - 1) (λ a l. left _ (omega (arith, ints))))),
     (IsLeftClosing-everywhere rule).1 (λ x y hx hy same (p, right). apart x y (p +ℤ pos 1) hx hy same (run-same x y _ _ (r.width - 1) (λ a l. right _ (omega (arith, ints))))),
