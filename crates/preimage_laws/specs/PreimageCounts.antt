@@ -19,6 +19,6 @@ IsToOne r n = (y : Config) → IsConfig r.states y → (xs : ℕ → Config) × 
 abbrev pub IsConstantToOne : LocalRule → Type 0
 IsConstantToOne r = (n : ℕ) × IsToOne r n
 
--- different preimages of one configuration are separated: at no place do they have the same m - 1 letters
+-- different preimages of one configuration are separated: they differ in each run of m - 1 letters
 abbrev pub HasSeparatedPreimages : LocalRule → Type 0
 HasSeparatedPreimages r = (x y : Config) (i : ℤ) → IsConfig r.states x → IsConfig r.states y → image_of r x ≡ image_of r y → run x i (r.width - 1) ≡ run y i (r.width - 1) → x ≡ y

@@ -1,9 +1,10 @@
 //! How many preimages configurations have: a rule is open exactly where all have the same number of them
 //! (Hedlund 1969).
 //!
-//! Rule 90, the sum of two neighbours, takes four configurations to each: two letters side by side and the
-//! image tell all the others, and there are four such pairs of letters. Rule 30 takes two to the
-//! configuration of zeros, which are zeros and ones, but it has a right split, and so not two to each.
+//! Under rule 90, the sum of two neighbours, each configuration has four preimages: two letters side by side
+//! and the image tell all the others, and there are four pairs of letters. Under rule 30 zeros have two
+//! preimages, zeros and ones. It has a right split, so it isn't open, and another configuration has another
+//! number of preimages.
 //!
 //! Open gives one number. Let two preimages of a configuration have the same m - 1 letters at a place. The
 //! left part of one and the right part of the other, joined there, have the same image, so under a rule
@@ -30,7 +31,7 @@ ghost use Rattle.preimage_laws.specs.PreimageCounts.{IsToOne, IsConstantToOne, H
 
 /// A rule is open exactly where all configurations have the same number of preimages (Hedlund 1969). This
 /// number is at least 1 and at most k^(m - 1), and it is 1 exactly where the rule is injective. A rule is
-/// open exactly where different preimages of one configuration have at each place other m - 1 letters.
+/// open exactly where different preimages of one configuration differ in each run of m - 1 letters.
 pub fn open_is_constant_to_one()
     ensures exactly { (r : LocalRule) → IsRule r → (IsOpen r ↔ IsConstantToOne r) }
     ensures number { (r : LocalRule) (n : ℕ) → IsRule r → IsToOne r n → (1 ≤ n) × (n ≤ node_count r) }
