@@ -42,7 +42,7 @@ goes_back : {r : LocalRule} {n : ℕ} {x y : Config} → IsRule r → IsLeftAhea
 goes_back {r} {n} {x} {y} rule ahead hx hy i agree =
     GoesBack-flip rule i (omega (arith, ints)) (goes_on {r = mirrored r} {n = n} {x = flip x} {y = flip y} (IsRule-mirrored rule) ahead (λ j. hx (neg_ℤ j)) (λ j. hy (neg_ℤ j)) (neg_ℤ i) (λ a l. agree-flip rule hx y i a (agree a l)))
 
--- where the image of x agrees with y behind place i, the whole image does then
+-- if the image of x agrees with y behind place i, the whole image does then
 pub image_of-back : {r : LocalRule} {x y : Config} {i : ℤ} → IsRule r → (h : GoesBack r x y i) → ((j : ℤ) → i <ℤ j → image_of r x j ≡ y j) → image_of r h.z ≡ y
 image_of-back {r} {x} {y} {i} rule h far = fun_ext (λ j. by_lt_z i j
     (λ l. image_of-window r h.z x j j (λ a k. h.after (j +ℤ r.offset +ℤ pos a) (omega (arith, ints))) ∙ far j l)

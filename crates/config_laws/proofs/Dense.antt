@@ -1,4 +1,4 @@
--- Every word has a preimage exactly where every configuration is matched by an image on every finite part.
+-- Every word has a preimage exactly if every configuration is matched by an image on every finite part.
 use Rattle.std.proofs.Common.{◌≡◌, ℕ, ◌+◌, ◌-◌, ◌<◌, List, length, get_or, ℤ, pos, ◌+ℤ◌, ◌-ℤ◌, neg_ℤ, unsigned_abs, refl, sym, ap, subst, ◌∙◌, arith, ◌↔◌, ◌<ℤ◌, ◌≤ℤ◌}
 use Rattle.word_image.proofs.Common.{ints, LocalRule, IsRule, IsPreimage, IsSurjective, some_letter}
 use Rattle.tail_config.proofs.Common.{Config, IsConfig, run, image_of, zeros, length-run, get_or-run, IsWord-run, run-same}
@@ -30,7 +30,7 @@ matches_written {r} {y} rule i n w p = (
   run-written zeros (i +ℤ r.offset) w,
 )
 
--- where every word has a preimage, each configuration is matched on any run
+-- if every word has a preimage, each configuration is matched on any run
 pub matches : {r : LocalRule} {y : Config} → IsRule r → IsSurjective r → IsConfig r.states y → (i : ℤ) (n : ℕ) → Matches r y i n
 matches {r} {y} rule every hy i n = let found = every (run y i n) (IsWord-run hy i n) in (matches_written rule i n found.0 found.1).0
 
@@ -47,7 +47,7 @@ preimage_inside {r} {x} rule hx w same =
     let z : List ℕ = run x (pos 0 +ℤ r.offset) (length w + (r.width - 1)) in
     (z, subst (λ v. IsPreimage r v z) same (IsPreimage-run rule hx (pos 0) (pos 0 +ℤ r.offset) (length w) refl))
 
--- where the images are dense, every word has a preimage
+-- if the images are dense, every word has a preimage
 IsSurjective-dense : {r : LocalRule} → IsRule r → IsDenseMap r → IsSurjective r
 IsSurjective-dense {r} rule dense w hw =
     let y : Config = between_zeros w in
@@ -55,6 +55,6 @@ IsSurjective-dense {r} rule dense w hw =
     preimage_inside rule found.1 w
     (run-same (image_of r found.0) y (pos 0) (pos 0) (length w) (λ a l. found.2 (pos 0 +ℤ pos a) (omega (arith, ints)) (omega (arith, ints))) ∙ run-written zeros (pos 0) w)
 
--- a rule is surjective exactly where the images are dense
+-- a rule is surjective exactly if the images are dense
 pub IsSurjective-everywhere : {r : LocalRule} → IsRule r → IsSurjective r ↔ IsDenseMap r
 IsSurjective-everywhere rule = (IsDenseMap-surjective rule, IsSurjective-dense rule)

@@ -22,5 +22,9 @@ pub mod Inverses
 pub mod LeftAhead
 pub mod Bijective
 pub mod Composed
-pub mod RingMaps
+pub mod Periods
 pub mod RingImages
+pub mod Rounds
+pub mod RingMaps
+pub mod OntoRings
+pub mod PeriodicPreimages

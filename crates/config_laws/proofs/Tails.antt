@@ -11,14 +11,14 @@ use Rattle.config_laws.proofs.BothSides.{Between, GoesBack, GoesBack-flip, agree
 use Rattle.config_laws.proofs.Dense.{Matches, matches-at, matches, preimage_inside}
 
 -- p places from place i on, after which x has the same node under it, and over which its image is that of y, which repeats there
-record IsLoop (r : LocalRule) (x y : Config) (i : ℤ) (p : ℕ) : Type 0 where
-  some : 1 ≤ p
-  node : (a : ℕ) → a < r.width - 1 → x (i +ℤ r.offset +ℤ pos (p + a)) ≡ x (i +ℤ r.offset +ℤ pos a)
-  image : (a : ℕ) → a < p → image_of r x (i +ℤ pos a) ≡ y (i +ℤ pos a)
-  again : RepeatsRight p y i
+pub record IsLoop (r : LocalRule) (x y : Config) (i : ℤ) (p : ℕ) : Type 0 where
+  pub some : 1 ≤ p
+  pub node : (a : ℕ) → a < r.width - 1 → x (i +ℤ r.offset +ℤ pos (p + a)) ≡ x (i +ℤ r.offset +ℤ pos a)
+  pub image : (a : ℕ) → a < p → image_of r x (i +ℤ pos a) ≡ y (i +ℤ pos a)
+  pub again : RepeatsRight p y i
 
 -- the letters of a loop, and m - 1 more, are those of one turn
-one_turn : {r : LocalRule} {x y : Config} {i : ℤ} {p : ℕ} → IsLoop r x y i p → (n t : ℕ) → t < n → t < p + (r.width - 1) → x (i +ℤ r.offset +ℤ pos t) ≡ x (i +ℤ r.offset +ℤ pos (t % p))
+pub one_turn : {r : LocalRule} {x y : Config} {i : ℤ} {p : ℕ} → IsLoop r x y i p → (n t : ℕ) → t < n → t < p + (r.width - 1) → x (i +ℤ r.offset +ℤ pos t) ≡ x (i +ℤ r.offset +ℤ pos (t % p))
 one_turn h zero t l within = absurd (omega arith)
 one_turn {r} {x} {y} {i} {p} h (suc n) t l within =
     let s : ℤ = i +ℤ r.offset in
@@ -68,17 +68,19 @@ loops_on {r} {x} {y} {i} {p} rule hx h =
       };
     }
 
--- a loop that begins between i and e
-record SomeLoop (r : LocalRule) (x y : Config) (i e : ℤ) : Type 0 where
-  place : ℤ
-  period : ℕ
-  later : i ≤ℤ place
-  within : place ≤ℤ e
-  loop : IsLoop r x y place period
+-- a loop of at most as many periods of q letters as there are nodes, which begins at most so many periods after place i
+pub record SomeLoop (r : LocalRule) (x y : Config) (i : ℤ) (q : ℕ) : Type 0 where
+  pub place : ℤ
+  pub turns : ℕ
+  pub later : i ≤ℤ place
+  pub within : place ≤ℤ (i +ℤ pos (node_count r * q))
+  pub some : 1 ≤ turns
+  pub few : turns ≤ node_count r
+  pub loop : IsLoop r x y place (turns * q)
 
--- where y repeats from place i on, and the image of x agrees with it for as many periods as there are nodes, there is a loop
-some_loop : {r : LocalRule} {x y : Config} → IsRule r → IsConfig r.states x → (i : ℤ) (q : ℕ) → 1 ≤ q → RepeatsRight q y i
-    → ((a : ℕ) → a < node_count r * q → image_of r x (i +ℤ pos a) ≡ y (i +ℤ pos a)) → SomeLoop r x y i (i +ℤ pos (node_count r * q))
+-- if y repeats from place i on, and the image of x agrees with it for as many periods as there are nodes, there is a loop
+pub some_loop : {r : LocalRule} {x y : Config} → IsRule r → IsConfig r.states x → (i : ℤ) (q : ℕ) → 1 ≤ q → RepeatsRight q y i
+    → ((a : ℕ) → a < node_count r * q → image_of r x (i +ℤ pos a) ≡ y (i +ℤ pos a)) → SomeLoop r x y i q
 some_loop {r} {x} {y} rule hx i q some again agree =
     let d : ℕ = r.width - 1 in
     let s : ℤ = i +ℤ r.offset in
@@ -97,9 +99,11 @@ some_loop {r} {x} {y} rule hx i q some again agree =
     let place : ℤ = i +ℤ pos (j * q) in
     record {
       place = place;
-      period = p;
+      turns = e;
       later = omega (arith, ints);
       within = omega (arith, ints, turns, most);
+      some = omega (arith, found.2);
+      few = omega (arith, found.3);
       loop = record {
         some = omega (arith, least);
         node = λ a l.
@@ -162,7 +166,7 @@ RepeatsFarRight-behind {x} {z} e same h = record {
   again = λ j l. same (j +ℤ pos h.period) (omega (arith, ints)) ∙ h.again j (omega (arith, ints)) ∙ sym (same j (omega (arith, ints)));
 }
 
--- where y repeats left of p and right of q, and the image of x agrees with it for as many periods more as there are nodes, y is the image of what repeats far out and agrees with x between
+-- if y repeats left of p and right of q, and the image of x agrees with it for as many periods more as there are nodes, y is the image of what repeats far out and agrees with x between
 pub between_tails : {r : LocalRule} {x y : Config} → IsRule r → IsConfig r.states x → (left : RepeatsFarLeft y) (right : RepeatsFarRight y) → left.place ≤ℤ right.place
     → ((j : ℤ) → left.place <ℤ (j +ℤ pos (node_count r * left.period + 1)) → j <ℤ (right.place +ℤ pos (node_count r * right.period)) → image_of r x j ≡ y j)
     → (b : Between r x y left.place right.place) × HasTails b.z
@@ -212,6 +216,6 @@ IsSurjective-tails {r} rule onto w hw = found (onto (between_zeros w) (IsConfig-
     found : (x : Config) × IsConfig r.states x × HasTails x × (image_of r x ≡ between_zeros w) → (z : List ℕ) × IsPreimage r w z
     found (x, hx, tails, same) = preimage_inside rule hx w (ap (λ z. run z (pos 0) (length w)) same ∙ run-written zeros (pos 0) w)
 
--- a rule is surjective exactly where each configuration that repeats far out is the image of one that does
+-- a rule is surjective exactly if each configuration that repeats far out is the image of one that does
 pub IsSurjective-repeating : {r : LocalRule} → IsRule r → IsSurjective r ↔ IsOntoTails r
 IsSurjective-repeating rule = (IsOntoTails-surjective rule, IsSurjective-tails rule)
