@@ -11,7 +11,7 @@ use Rattle.config_laws.proofs.Dense.{IsSurjective-everywhere}
 use Rattle.config_laws.proofs.Endless.{endless_one, decide_word}
 
 -- whether two words are equal
-same_word : (x y : List ℕ) → (x ≡ y) ⊎ ¬ (x ≡ y)
+pub same_word : (x y : List ℕ) → (x ≡ y) ⊎ ¬ (x ≡ y)
 same_word x y = ⊎_elim (λ e. inl ((bytes_eq-Decides x y).0 e)) (λ e. inr (not_from_Decides (bytes_eq x y) (bytes_eq-Decides x y) e)) (cases_Bool (bytes_eq x y))
 
 -- the letters of y from -n to n

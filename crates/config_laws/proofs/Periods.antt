@@ -2,7 +2,7 @@
 use Rattle.std.proofs.Common.{◌≡◌, ℕ, ◌*◌, ◌<◌, ◌≤◌, List, length, ℤ, pos, ◌+ℤ◌, ◌-ℤ◌, unsigned_abs, sym, ap, ◌∙◌, arith, mul-one}
 use Rattle.std.proofs.Math.Path.{fun_ext}
 use Rattle.word_image.proofs.Common.{ints, mul-le, LocalRule, IsRule, ring_letter, ring_letter-turn}
-use Rattle.tail_config.proofs.Common.{RepeatsRight, RepeatsRight-times, same_right-period, Config, IsConfig, IsInjective, image_of}
+use Rattle.tail_config.proofs.Common.{RepeatsLeft, RepeatsRight, RepeatsRight-times, same_right-period, Config, IsConfig, IsInjective, image_of}
 use Rattle.config_laws.specs.Periodic.{HasPeriod}
 use Rattle.config_laws.proofs.Images.{image_of-moved}
 use Rattle.config_laws.proofs.Injective.{IsInjective-everywhere}
@@ -10,6 +10,12 @@ use Rattle.config_laws.proofs.Injective.{IsInjective-everywhere}
 -- what has a period has it on the right of any place
 pub RepeatsRight-period : {p : ℕ} {x : Config} → HasPeriod p x → (a : ℤ) → RepeatsRight p x a
 RepeatsRight-period h a i l = h.again i
+
+-- and on the left
+pub RepeatsLeft-period : {p : ℕ} {x : Config} → HasPeriod p x → (a : ℤ) → RepeatsLeft p x a
+RepeatsLeft-period {p} {x} h a i l =
+    let place : i -ℤ pos p +ℤ pos p ≡ i = omega (arith, ints) in
+    sym (h.again (i -ℤ pos p)) ∙ ap x place
 
 -- a period as often as one likes is a period
 pub HasPeriod-times : {p : ℕ} {x : Config} → (c : ℕ) → 1 ≤ c → HasPeriod p x → HasPeriod (c * p) x

@@ -34,9 +34,13 @@ rounds-letter x s p a some =
     let place : s +ℤ pos a -ℤ s ≡ pos a = omega (arith, ints) in
     ap (ring_letter (run x s p)) place ∙ ap (λ n. slice_index (run x s p) (a % n)) (length-run x s p) ∙ get_or-run x s (s +ℤ pos (a % p)) p (a % p) (mod-lt a some) refl
 
+-- over the first p places from place s on they are the letters
+pub rounds-first : (x : Config) (s : ℤ) (p a : ℕ) → a < p → rounds x s p (s +ℤ pos a) ≡ x (s +ℤ pos a)
+rounds-first x s p a l = rounds-letter x s p a (omega arith) ∙ ap (λ b. x (s +ℤ pos b)) (mod-eq_of_lt l)
+
 -- a periodic configuration is the letters of one period, again and again
 pub rounds-period : {p : ℕ} {x : Config} → HasPeriod p x → (s : ℤ) → rounds x s p ≡ x
-rounds-period {p} {x} h s = same_periodic (HasPeriod-rounds x s h.some) h s (λ a l. rounds-letter x s p a h.some ∙ ap (λ b. x (s +ℤ pos b)) (mod-eq_of_lt l))
+rounds-period {p} {x} h s = same_periodic (HasPeriod-rounds x s h.some) h s (rounds-first x s p)
 
 -- they are the ring of the configuration
 pub ring_letter-run : {p : ℕ} {x : Config} → HasPeriod p x → ring_letter (run x (pos 0) p) ≡ x

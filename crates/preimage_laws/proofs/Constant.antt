@@ -1,17 +1,23 @@
 -- A rule under which all configurations have the same number of preimages is closing on both sides.
-use Rattle.std.proofs.Common.{◌≡◌, ◌≢◌, ℕ, ◌+◌, ◌-◌, ◌<◌, ◌≤◌, ◌↔◌, ⊎_elim, length, ℤ, pos, ◌+ℤ◌, ◌-ℤ◌, refl, sym, ap, ◌∙◌, arith}
+use Rattle.std.proofs.Common.{◌≡◌, ◌≢◌, ℕ, ◌+◌, ◌-◌, ◌*◌, ◌<◌, ◌≤◌, ◌↔◌, ⊎_elim, length, ℤ, pos, ◌+ℤ◌, ◌-ℤ◌, refl, sym, ap, ◌∙◌, subst, arith}
 use Rattle.std.proofs.Math.Path.{fun_ext}
 use Rattle.word_image.proofs.Common.{ints, cases_lt, LocalRule, IsRule, IsSurjective, node_count, value, value-node, value-injective, some_letter}
 use Rattle.tail_config.proofs.Common.{TailConfig, IsTail, IsOpen, ShareImage, Same, cell, cell-below, Config, IsConfig, zeros, image_of, length-run, IsWord-run, run-same}
+use Rattle.tail_config.proofs.laws.Periods.{at_run, same_left-back, same_right-back}
 use Rattle.tail_config.proofs.laws.Repeats.{cell-left_period, cell-right_period, image_of-left_period, image_of-right_period}
 use Rattle.config_laws.specs.Repeating.{HasTails}
+use Rattle.config_laws.specs.Periodic.{HasPeriod}
 use Rattle.config_laws.proofs.Images.{IsConfig-image}
+use Rattle.config_laws.proofs.Joined.{meeting, meeting-left, meeting-right, IsConfig-meeting}
+use Rattle.config_laws.proofs.Periods.{RepeatsLeft-period, RepeatsRight-period}
+use Rattle.config_laws.proofs.Rounds.{rounds, IsConfig-rounds, HasPeriod-rounds, rounds-first}
+use Rattle.config_laws.proofs.PeriodicPreimages.{HasPeriod-preimage}
 use Rattle.config_laws.proofs.Onto.{IsSurjective-onto}
 use Rattle.preimage_laws.specs.PreimageCounts.{ArePreimages, IsToOne, IsConstantToOne}
+use Rattle.preimage_laws.proofs.Separated.{image_of-run_meeting}
 use Rattle.preimage_laws.proofs.Pigeons.{chosen_below, twice_marked, taken}
 use Rattle.preimage_laws.proofs.Followed.{node_under, Through, IsFollowed, IsFollowed-tails}
 use Rattle.preimage_laws.proofs.Counts.{IsSeparated, same_number, IsConstantToOne-open}
-use Rattle.preimage_laws.proofs.Periods.{wound, IsConfig-wound, HasPeriod-wound, wound-inside, IsSeparated-period}
 
 -- if each configuration has n preimages, n isn't 0: an image has one
 to_one-some : {r : LocalRule} {n : ℕ} → IsRule r → IsToOne r n → 1 ≤ n
@@ -25,6 +31,21 @@ IsSurjective-to_one : {r : LocalRule} {n : ℕ} → IsRule r → IsToOne r n →
 IsSurjective-to_one rule each =
     let some = to_one-some rule each in
     IsSurjective-onto rule (λ y hy. let (xs, are) = each y hy in (xs 0, are.configs 0 some, are.maps 0 some))
+
+-- under a surjective rule the preimages of what repeats are separated: they repeat, and so does what two make if they meet, so it is equal to both
+IsSeparated-period : {r : LocalRule} {y : Config} {p : ℕ} → IsRule r → IsSurjective r → HasPeriod p y → (i : ℤ) → IsSeparated r y i
+IsSeparated-period {r} {y} {p} rule every again i x z hx hz mx mz node =
+    let s : ℤ = i +ℤ r.offset in
+    let (a, px) = period hx mx in
+    let (b, pz) = period hz mz in
+    let (c, pu) = period (IsConfig-meeting hx hz s) (image_of-run_meeting r x z s node mx mz) in
+    let u : Config = meeting x z s in
+    fun_ext (λ j.
+    sym (same_left-back u x c a (j +ℤ pos 1) s pu.some px.some (RepeatsLeft-period pu (j +ℤ pos 1)) (RepeatsLeft-period px (j +ℤ pos 1)) (meeting-left x z s) j (omega (arith, ints)))
+    ∙ same_right-back u z c b j s pu.some pz.some (RepeatsRight-period pu j) (RepeatsRight-period pz j) (λ k l. meeting-right x z s k (omega (arith, ints))) j (omega (arith, ints)))
+  where
+    period : {v : Config} → IsConfig r.states v → image_of r v ≡ y → (q : ℕ) × HasPeriod q v
+    period {v} hv mv = let (l, some, few, h) = HasPeriod-preimage rule every hv (subst (HasPeriod p) (sym mv) again) in (l * p, h)
 
 -- if w and y have n preimages each, those of w are separated at place i, and there is one of y with each of their nodes, then those of y are separated there
 IsSeparated-nodes : {r : LocalRule} {w y : Config} {n : ℕ} {ws ys : ℕ → Config} → ArePreimages r w n ws → ArePreimages r y n ys → (i : ℤ) → IsSeparated r w i
@@ -60,7 +81,7 @@ IsSeparated-nodes {r} {w} {y} {n} {ws} {ys} first second i apart through x z hx 
         let (a, la, fa) = taken n f (λ a l. (marks a l).0) apart_f c l in
         (a, la, ap ys fa ∙ is)
 
--- where each configuration has n preimages, those of what repeats far out are separated: around place i it is a part of what repeats everywhere, and that has n preimages, which have n nodes there
+-- if each configuration has n preimages, those of what repeats far out are separated: around place i it is a part of what repeats everywhere, and that has n preimages, which have n nodes there
 IsSeparated-tails : {r : LocalRule} {n : ℕ} {y : Config} → IsRule r → IsToOne r n → IsConfig r.states y → HasTails y → (i : ℤ) → IsSeparated r y i
 IsSeparated-tails {r} {n} {y} rule each hy tails i = let (m, followed) = IsFollowed-tails rule tails i in separated m followed
   where
@@ -68,10 +89,11 @@ IsSeparated-tails {r} {n} {y} rule each hy tails i = let (m, followed) = IsFollo
     separated m followed =
         let s : ℤ = i -ℤ pos m in
         let l : ℕ = m + m + 1 in
-        let (ws, first) = each (wound y s l) (IsConfig-wound hy s l (omega arith)) in
+        let (ws, first) = each (rounds y s l) (IsConfig-rounds hy (omega arith) s) in
         let (ys, second) = each y hy in
-        IsSeparated-nodes first second i (IsSeparated-period rule (IsSurjective-to_one rule each) first l (omega arith) (HasPeriod-wound y s l (omega arith)) i)
-        (λ a h. followed (ws a) (first.configs a h) (λ j low high. ap (λ (c : Config). c j) (first.maps a h) ∙ wound-inside y s l j low (omega (arith, ints))))
+        IsSeparated-nodes first second i (IsSeparated-period rule (IsSurjective-to_one rule each) (HasPeriod-rounds y s (omega arith)) i)
+        (λ a h. followed (ws a) (first.configs a h) (λ j low high. ap (λ (c : Config). c j) (first.maps a h)
+        ∙ at_run (rounds y s l) y s l (rounds-first y s l) j low (omega (arith, ints))))
 
 -- the image of a configuration with periodic tails repeats far out
 HasTails-image : {k : ℕ} (r : LocalRule) (t : TailConfig) → IsTail k t → HasTails (image_of r (cell t))
@@ -104,7 +126,7 @@ IsOpen-constant {r} rule (n, each) = (
         ap (λ (c : Config). c j) (IsSeparated-tails rule each (IsConfig-image rule x) (HasTails-image r s hs) i x z (cell-below hs) (cell-below ht) refl (sym (fun_ext share))
         (run-same x z (i +ℤ r.offset) (i +ℤ r.offset) (r.width - 1) node))
 
--- a rule is closing on both sides exactly where all configurations have the same number of preimages
+-- a rule is closing on both sides exactly if all configurations have the same number of preimages
 pub IsOpen-constant_to_one : {r : LocalRule} → IsRule r → IsOpen r ↔ IsConstantToOne r
 IsOpen-constant_to_one rule = (IsConstantToOne-open rule, IsOpen-constant rule)
 
@@ -121,6 +143,6 @@ to_one-within {r} {n} rule each = (to_one-some rule each, ⊎_elim (λ more. abs
         (value r.states (node_under r (xs a) (pos 0)), value-node r _ (word a (omega arith)) (long a), refl)) in
         absurd (omega (
           arith,
-          same_number are (pos 0) (IsSeparated-period rule (IsSurjective-to_one rule each) are 1 (omega arith) (λ j. refl) (pos 0)) a b (omega arith) (omega arith)
+          same_number are (pos 0) (IsSeparated-period {p = 1} rule (IsSurjective-to_one rule each) (record { some = omega arith; again = λ j. refl }) (pos 0)) a b (omega arith) (omega arith)
               (value-injective r.states _ _ (word a (omega arith)) (word b (omega arith)) (long a ∙ sym (long b)) (one ∙ sym two)),
         ))

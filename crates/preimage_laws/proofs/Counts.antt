@@ -1,23 +1,23 @@
 -- Under a rule that is closing on both sides all configurations have the same number of preimages.
-use Rattle.std.proofs.Common.{◌≡◌, ◌≢◌, ℕ, ◌+◌, ◌-◌, ◌<◌, ◌≤◌, ⊎_elim, List, ℤ, pos, ◌+ℤ◌, ◌-ℤ◌, unsigned_abs, refl, sym, ap, ◌∙◌, subst, arith}
+use Rattle.std.proofs.Common.{◌≡◌, ◌≢◌, ℕ, ◌+◌, ◌-◌, ◌<◌, ◌≤◌, ⊎_elim, List, ℤ, pos, ◌+ℤ◌, ◌-ℤ◌, refl, sym, ap, ◌∙◌, subst, arith}
 use Rattle.word_image.proofs.Common.{ints, cases_lt, LocalRule, IsRule, node_count, value, word_of, value-node, value-word_of, word_of-value, some_letter}
 use Rattle.tail_config.proofs.Common.{Config, IsConfig, IsOpen, zeros, run, image_of, length-run, get_or-run, IsWord-run, DifferAt, differ_at}
 use Rattle.eden_laws.proofs.Numbered.{Numbered, numbered}
 use Rattle.config_laws.specs.Maps.{Differ}
-use Rattle.config_laws.proofs.Joined.{joined, joined-left, joined-right, IsConfig-joined}
+use Rattle.config_laws.proofs.Joined.{meeting, meeting-left, meeting-right, IsConfig-meeting}
 use Rattle.preimage_laws.specs.PreimageCounts.{ArePreimages, IsConstantToOne, HasSeparatedPreimages}
 use Rattle.preimage_laws.proofs.Pigeons.{chosen_below, twice_marked}
 use Rattle.preimage_laws.proofs.Separated.{IsOpen-separated}
 use Rattle.preimage_laws.proofs.Followed.{node_under, Through, AgreeAround, IsFollowed, IsFollowed-open, through_or_not}
 
--- where runs differ the configurations do
+-- if runs differ the configurations do
 Differ-run : (x y : Config) (i : ℤ) (n : ℕ) → run x i n ≢ run y i n → Differ x y
 Differ-run x y i n other =
     let d : DifferAt (run x i n) (run y i n) = differ_at (run x i n) (run y i n) (length-run x i n ∙ sym (length-run y i n)) other in
     let within : d.place < n = omega (arith, d.within, length-run x i n) in
     (i +ℤ pos d.place, λ e. d.other (get_or-run x i _ n d.place within refl ∙ e ∙ sym (get_or-run y i _ n d.place within refl)))
 
--- where some places around 0 are enough, the preimages can be numbered, by the nodes that they have there
+-- if some places around 0 are enough, the preimages can be numbered, by the nodes that they have there
 preimages_of : {r : LocalRule} {y : Config} → IsRule r → HasSeparatedPreimages r → (n : ℕ) → IsFollowed r y (pos 0) n → (d : ℕ) × (xs : ℕ → Config) × ArePreimages r y d xs
 preimages_of {r} {y} rule apart n followed = (
   h.count,
@@ -62,7 +62,7 @@ preimages_of {r} {y} rule apart n followed = (
 abbrev pub IsSeparated : LocalRule → Config → ℤ → Type 0
 IsSeparated r y i = (x z : Config) → IsConfig r.states x → IsConfig r.states z → image_of r x ≡ y → image_of r z ≡ y → node_under r x i ≡ node_under r z i → x ≡ z
 
--- where preimages are separated, those with the same node have the same number
+-- if preimages are separated, those with the same node have the same number
 pub same_number : {r : LocalRule} {y : Config} {n : ℕ} {xs : ℕ → Config} → ArePreimages r y n xs → (i : ℤ) → IsSeparated r y i
     → (a b : ℕ) → a < n → b < n → node_under r (xs a) i ≡ node_under r (xs b) i → a ≡ b
 same_number {r} {y} {n} {xs} are i apart a b first second e =
@@ -111,12 +111,9 @@ IsConstantToOne-open {r} rule closing = (
 
     same : {y z : Config} → (hy : IsConfig r.states y) (hz : IsConfig r.states z) → (of hy).0 ≤ (of hz).0
     same {y} {z} hy hz =
-        let x : Config = joined y (pos 0) (λ a. z (pos a)) in
-        let hx : IsConfig r.states x = IsConfig-joined hy (pos 0) (λ a. hz (pos a)) in
+        let x : Config = meeting y z (pos 0) in
+        let hx : IsConfig r.states x = IsConfig-meeting hy hz (pos 0) in
         let left : ℤ = pos 0 -ℤ pos (n + 1) in
-        let first = no_fewer apart left n (followed hx left) (λ j low high. sym (joined-left y (pos 0) (λ a. z (pos a)) j (omega (arith, ints)))) (of hy).2 (of hx).2 in
-        let second = no_fewer apart (pos n) n (followed hz (pos n)) (λ j low high.
-        let here : pos 0 +ℤ pos (unsigned_abs j) ≡ j = omega (arith, ints) in
-        let there : pos (unsigned_abs j) ≡ j = omega (arith, ints, low) in
-        joined-right y (pos 0) (λ a. z (pos a)) j (unsigned_abs j) here ∙ ap z there) (of hx).2 (of hz).2 in
+        let first = no_fewer apart left n (followed hx left) (λ j low high. sym (meeting-left y z (pos 0) j (omega (arith, ints)))) (of hy).2 (of hx).2 in
+        let second = no_fewer apart (pos n) n (followed hz (pos n)) (λ j low high. meeting-right y z (pos 0) j (omega (arith, ints))) (of hx).2 (of hz).2 in
         omega (arith, first, second)

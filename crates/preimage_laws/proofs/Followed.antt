@@ -63,7 +63,7 @@ node-under r x i n =
     ∙ ap (take (r.width - 1)) (drop-run x (i -ℤ pos n +ℤ r.offset) (i +ℤ r.offset) n (n + 1 + (r.width - 1)) (omega (arith, ints)))
     ∙ take-run x (i +ℤ r.offset) (n + 1 + (r.width - 1)) (r.width - 1) (omega arith)
 
--- where some places around i are enough, it can be decided whether there is a preimage with a node under place i
+-- if some places around i are enough, it can be decided whether there is a preimage with a node under place i
 pub through_or_not : {r : LocalRule} {y : Config} → IsRule r → (i : ℤ) (n : ℕ) → IsFollowed r y i n → (w : List ℕ) → Through r y i w ⊎ ¬ Through r y i w
 through_or_not {r} {y} rule i n followed w =
     ⊎_elim (λ (z, word, long, is). inl (through z word long is.0 is.1)) (λ none. inr (λ (z, hz, maps, node). none (

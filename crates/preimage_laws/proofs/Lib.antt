@@ -2,6 +2,5 @@ pub mod Pigeons
 pub mod Separated
 pub mod Followed
 pub mod Counts
-pub mod Periods
 pub mod Constant
 pub mod OneToOne

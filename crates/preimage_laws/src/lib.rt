@@ -1,4 +1,4 @@
-//! How many preimages configurations have: a rule is open exactly where all have the same number of them
+//! How many preimages configurations have: a rule is open exactly if all have the same number of them
 //! (Hedlund 1969).
 //!
 //! Under rule 90, the sum of two neighbours, each configuration has four preimages: two letters side by side
@@ -12,12 +12,12 @@
 //! read for long enough around the place tells which nodes are there, and so how many. The left part of one
 //! configuration and the right part of another make a third, which has as many preimages as either.
 //!
-//! One number n gives open. The n preimages of what repeats everywhere repeat too: of n + 1 shifts by whole
-//! periods two are equal. So two that have the same m - 1 letters at a place have them again on both sides
-//! of whatever lies between, and are equal, since a surjective rule erases no pair of words. A split is two
-//! preimages of a configuration that repeats far out, with the same m - 1 letters at a place. A long part of
-//! it around that place, again and again, has n preimages with n nodes there, and each of these is the node
-//! of a preimage of the whole. So its n preimages have n nodes, and no two have the same.
+//! One number n gives open. Then the rule is surjective, so the preimages of a periodic configuration are
+//! periodic. Let two of them have the same m - 1 letters at a place. What they make when they are joined
+//! there is a preimage too, so it is periodic, and it agrees far out with either: all three are equal. A
+//! split is two preimages of a configuration that repeats far out, with the same m - 1 letters at a place.
+//! A long part of it around that place, again and again, has n preimages, which have n nodes there. Each
+//! of these is the node of a preimage of the whole. So its n preimages have n nodes, and no two have the same.
 //!
 //! No law uses the law of the excluded middle.
 //!
@@ -29,9 +29,9 @@ ghost use Rattle.word_image.specs.LocalRules.{LocalRule, IsRule, node_count};
 ghost use Rattle.tail_config.specs.Tails.{IsInjective, IsOpen};
 ghost use Rattle.preimage_laws.specs.PreimageCounts.{IsToOne, IsConstantToOne, HasSeparatedPreimages};
 
-/// A rule is open exactly where all configurations have the same number of preimages (Hedlund 1969). This
-/// number is at least 1 and at most k^(m - 1), and it is 1 exactly where the rule is injective. A rule is
-/// open exactly where different preimages of one configuration differ in each run of m - 1 letters.
+/// A rule is open exactly if all configurations have the same number of preimages (Hedlund 1969). This
+/// number is at least 1 and at most k^(m - 1), and it is 1 exactly if the rule is injective. A rule is
+/// open exactly if different preimages of one configuration differ in each run of m - 1 letters.
 pub fn open_is_constant_to_one()
     ensures exactly { (r : LocalRule) → IsRule r → (IsOpen r ↔ IsConstantToOne r) }
     ensures number { (r : LocalRule) (n : ℕ) → IsRule r → IsToOne r n → (1 ≤ n) × (n ≤ node_count r) }
