@@ -2,7 +2,7 @@
 use Rattle.std.proofs.Common.{◌≡◌, ℕ, ◌*◌, ◌<◌, ◌≤◌, List, length, ℤ, pos, ◌+ℤ◌, ◌-ℤ◌, unsigned_abs, refl, sym, ap, ◌∙◌, subst, arith, mul-one, ◌%◌, slice_index, mod-lt, mod-eq_of_lt}
 use Rattle.std.proofs.Math.Path.{fun_ext}
 use Rattle.word_image.proofs.Common.{ints, mul-le, LocalRule, IsRule, IsRing, ring_letter, ring_letter-turn, ring_letter-below}
-use Rattle.tail_config.proofs.Common.{RepeatsRight, RepeatsRight-times, same_right-period, Config, IsConfig, IsInjective, run, image_of, length-run, get_or-run, IsWord-run}
+use Rattle.tail_config.proofs.Common.{RepeatsLeft, RepeatsRight, RepeatsRight-times, same_right-period, Config, IsConfig, IsInjective, run, image_of, length-run, get_or-run, IsWord-run}
 use Rattle.config_laws.specs.Periodic.{HasPeriod}
 use Rattle.config_laws.proofs.Images.{image_of-moved}
 use Rattle.config_laws.proofs.Injective.{IsInjective-everywhere}
@@ -10,6 +10,12 @@ use Rattle.config_laws.proofs.Injective.{IsInjective-everywhere}
 -- a periodic configuration repeats on the right of any place
 pub RepeatsRight-period : {p : ℕ} {x : Config} → HasPeriod p x → (a : ℤ) → RepeatsRight p x a
 RepeatsRight-period h a i l = h.again i
+
+-- a periodic configuration repeats on the left of any place
+pub RepeatsLeft-period : {p : ℕ} {x : Config} → HasPeriod p x → (a : ℤ) → RepeatsLeft p x a
+RepeatsLeft-period {p} {x} h a i l =
+    let place : i -ℤ pos p +ℤ pos p ≡ i = omega (arith, ints) in
+    sym (h.again (i -ℤ pos p)) ∙ ap x place
 
 -- c periods are a period
 pub HasPeriod-times : {p : ℕ} {x : Config} → (c : ℕ) → 1 ≤ c → HasPeriod p x → HasPeriod (c * p) x
@@ -68,6 +74,10 @@ rounds-letter x s p a some =
     let place : s +ℤ pos a -ℤ s ≡ pos a = omega (arith, ints) in
     ap (ring_letter (run x s p)) place ∙ ap (λ n. slice_index (run x s p) (a % n)) (length-run x s p) ∙ get_or-run x s (s +ℤ pos (a % p)) p (a % p) (mod-lt a some) refl
 
+-- p letters again and again are the letters that stand there on the first p places
+pub rounds-first : (x : Config) (s : ℤ) (p a : ℕ) → a < p → rounds x s p (s +ℤ pos a) ≡ x (s +ℤ pos a)
+rounds-first x s p a l = rounds-letter x s p a (omega arith) ∙ ap (λ b. x (s +ℤ pos b)) (mod-eq_of_lt l)
+
 -- a periodic configuration is the letters of one period, again and again
 pub rounds-period : {p : ℕ} {x : Config} → HasPeriod p x → (s : ℤ) → rounds x s p ≡ x
-rounds-period {p} {x} h s = same_periodic (HasPeriod-rounds x s h.some) h s (λ a l. rounds-letter x s p a h.some ∙ ap (λ b. x (s +ℤ pos b)) (mod-eq_of_lt l))
+rounds-period {p} {x} h s = same_periodic (HasPeriod-rounds x s h.some) h s (rounds-first x s p)
