@@ -1,19 +1,29 @@
 -- An injective rule takes the configurations one to one onto all of them, and has an inverse map.
-use Rattle.std.proofs.Common.{◌≡◌, ℕ, ◌+◌, ◌-◌, ◌%◌, ◌^◌, ◌<◌, ◌≤◌, List, length, map, slice_index, neg_ℤ, pos, ◌-ℤ◌, refl, sym, ap, ◌∙◌, subst, arith, mod-lt, mod-eq_of_lt}
+use Rattle.std.proofs.Common.{◌≡◌, ℕ, ◌+◌, ◌-◌, ◌%◌, ◌^◌, ◌<◌, ◌≤◌, ◌↔◌, List, length, map, slice_index, neg_ℤ, pos, ◌-ℤ◌, refl, sym, ap, ◌∙◌, subst, arith, mod-lt, mod-eq_of_lt}
 use Rattle.std.specs.List.{range_with_len}
-use Rattle.word_image.proofs.Common.{pow-zero, pow-le-pow_right, some_letter, get_or-map-range_with_len, length-map-range_with_len, LocalRule, IsRule, IsWord, value, word_of, IsPreimage, IsSurjective, IsDetermined, IsWord-image, IsWord-word_of, word_of-value, value-below}
-use Rattle.tail_config.proofs.Common.{Config, IsConfig, IsInjective, WindowMap, IsInverseMap, image_of}
+use Rattle.word_image.proofs.Common.{one-le-pow, some_letter, get_or-map-range_with_len, length-map-range_with_len, LocalRule, IsRule, IsWord, value, word_of, IsPreimage, IsSurjective, IsDetermined, IsWord-image, IsWord-word_of, word_of-value, value-below}
+use Rattle.tail_config.proofs.Common.{IsInjective, WindowMap, IsInverseMap, image_of}
 use Rattle.tail_laws.proofs.Common.{IsInjective-window}
 use Rattle.eden_laws.proofs.Preinjective.{IsSurjective-injective}
+use Rattle.config_laws.specs.Maps.{IsBijectiveMap}
+use Rattle.config_laws.proofs.Images.{IsConfig-image}
 use Rattle.config_laws.proofs.Injective.{IsInjective-everywhere}
 use Rattle.config_laws.proofs.Inverses.{IsOntoMap-injective}
 
 -- an injective rule takes one configuration to each, and no other
-pub one_preimage : {r : LocalRule} → IsRule r → IsInjective r → (y : Config) → IsConfig r.states y
-    → (x : Config) × IsConfig r.states x × (image_of r x ≡ y) × ((z : Config) → IsConfig r.states z → image_of r z ≡ y → z ≡ x)
+pub one_preimage : {r : LocalRule} → IsRule r → IsInjective r → IsBijectiveMap r
 one_preimage {r} rule injective y hy =
     let found = IsOntoMap-injective rule injective y hy in
     (found.0, found.1, found.2, λ z hz same. (IsInjective-everywhere rule).0 injective z found.0 hz found.1 (same ∙ sym found.2))
+
+-- a rule is injective exactly if it takes one configuration to each, and no other
+pub IsInjective-bijective : {r : LocalRule} → IsRule r → IsInjective r ↔ IsBijectiveMap r
+IsInjective-bijective {r} rule = (
+  one_preimage rule,
+  λ bijective. (IsInjective-everywhere rule).1 (λ x y hx hy same.
+      let found = bijective (image_of r x) (IsConfig-image rule x) in
+      found.3 x hx refl ∙ sym (found.3 y hy (sym same))),
+)
 
 -- a preimage of the word of n letters with a value
 numbered : {r : LocalRule} → IsSurjective r → (n v : ℕ) → 1 ≤ r.states ^ n → (x : List ℕ) × IsPreimage r (word_of r.states n (v % r.states ^ n)) x
@@ -62,6 +72,5 @@ pub has_inverse : {r : LocalRule} → IsRule r → IsInjective r → (n c : ℕ)
 has_inverse {r} rule injective =
     let (n, c, window) = (IsInjective-window rule).0 injective in
     let every : IsSurjective r = IsSurjective-injective rule injective in
-    let grows : r.states ^ 0 ≤ r.states ^ n = pow-le-pow_right (some_letter rule) (omega arith) in
-    let some : 1 ≤ r.states ^ n = omega (arith, grows, pow-zero r.states) in
+    let some : 1 ≤ r.states ^ n = one-le-pow n r.states (some_letter rule) in
     (n, c, letters every n c some, window, IsInverseMap-letters rule every some window)

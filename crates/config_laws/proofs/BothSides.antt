@@ -9,7 +9,7 @@ use Rattle.eden_laws.proofs.Preinjective.{IsSurjective-right_closing}
 use Rattle.config_laws.specs.Maps.{IsNear, IsEvenlyOpenMap, IsOntoMap, IsRightContinuingMap, IsLeftContinuingMap}
 use Rattle.config_laws.proofs.Flips.{flip, image_of-flip}
 use Rattle.config_laws.proofs.GoesOn.{enough, GoesOn, goes_on, image_of-before}
-use Rattle.config_laws.proofs.Dense.{Matches, matches}
+use Rattle.config_laws.proofs.Dense.{Matches, matches-at, matches}
 
 -- a configuration that agrees with x behind the first letter under place i, and whose image agrees with y up to place i
 pub record GoesBack (r : LocalRule) (x y : Config) (i : ℤ) : Type 0 where
@@ -42,21 +42,21 @@ goes_back : {r : LocalRule} {n : ℕ} {x y : Config} → IsRule r → IsLeftAhea
 goes_back {r} {n} {x} {y} rule ahead hx hy i agree =
     GoesBack-flip rule i (omega (arith, ints)) (goes_on {r = mirrored r} {n = n} {x = flip x} {y = flip y} (IsRule-mirrored rule) ahead (λ j. hx (neg_ℤ j)) (λ j. hy (neg_ℤ j)) (neg_ℤ i) (λ a l. agree-flip rule hx y i a (agree a l)))
 
--- where the image of x agrees with y behind place i, the whole image does then
+-- if the image of x agrees with y behind place i, the whole image does then
 pub image_of-back : {r : LocalRule} {x y : Config} {i : ℤ} → IsRule r → (h : GoesBack r x y i) → ((j : ℤ) → i <ℤ j → image_of r x j ≡ y j) → image_of r h.z ≡ y
 image_of-back {r} {x} {y} {i} rule h far = fun_ext (λ j. by_lt_z i j
     (λ l. image_of-window r h.z x j j (λ a k. h.after (j +ℤ r.offset +ℤ pos a) (omega (arith, ints))) ∙ far j l)
     (h.before j))
 
 -- a configuration whose image is y, and that agrees with x between p and q
-record Between (r : LocalRule) (x y : Config) (p q : ℤ) : Type 0 where
-  z : Config
-  config : IsConfig r.states z
-  inside : (j : ℤ) → (p +ℤ r.offset) <ℤ j → j <ℤ (q +ℤ r.offset +ℤ pos (r.width - 1)) → z j ≡ x j
-  image : image_of r z ≡ y
+pub record Between (r : LocalRule) (x y : Config) (p q : ℤ) : Type 0 where
+  pub z : Config
+  pub config : IsConfig r.states z
+  pub inside : (j : ℤ) → (p +ℤ r.offset) <ℤ j → j <ℤ (q +ℤ r.offset +ℤ pos (r.width - 1)) → z j ≡ x j
+  pub image : image_of r z ≡ y
 
 -- a configuration between is there if the image of x agrees with y from enough places before p to enough places after q
-between : {r : LocalRule} {n l : ℕ} {x y : Config} → IsRule r → IsRightAhead r n → IsLeftAhead r l → IsConfig r.states x → IsConfig r.states y → (p q : ℤ) → p ≤ℤ q
+pub between : {r : LocalRule} {n l : ℕ} {x y : Config} → IsRule r → IsRightAhead r n → IsLeftAhead r l → IsConfig r.states x → IsConfig r.states y → (p q : ℤ) → p ≤ℤ q
     → ((j : ℤ) → p <ℤ (j +ℤ pos (enough r l)) → j <ℤ (q +ℤ pos (enough r n)) → image_of r x j ≡ y j) → Between r x y p q
 between {r} {n} {l} {x} {y} rule right left hx hy p q order agree =
     let g : GoesOn r x y q = goes_on rule right hx hy q (λ a h. agree (q +ℤ pos a) (omega (arith, ints, left.some)) (omega (arith, ints))) in
@@ -99,9 +99,7 @@ IsOntoMap-ahead {r} {k} {l} rule every right left y hy = found (matches rule eve
     found : Matches r y (pos 0) (enough r l + enough r k) → (z : Config) × IsConfig r.states z × (image_of r z ≡ y)
     found m =
         let p : ℤ = pos (enough r l) in
-        let b : Between r m.x y p p = between rule right left m.config hy p p (omega (arith, ints)) (λ j low high.
-        let here : pos 0 +ℤ pos (unsigned_abs j) ≡ j = omega (arith, ints) in
-        sym (ap (image_of r m.x) here) ∙ m.equal (unsigned_abs j) (omega (arith, ints)) ∙ ap y here) in
+        let b : Between r m.x y p p = between rule right left m.config hy p p (omega (arith, ints)) (λ j low high. matches-at m j (omega (arith, ints)) (omega (arith, ints))) in
         (b.z, b.config, b.image)
 
 -- a rule that is closing on both sides takes some configuration to each

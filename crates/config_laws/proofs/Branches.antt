@@ -37,7 +37,7 @@ pub record IsBranch (r : LocalRule) (u v z : List ℕ) : Type 0 where
   pub front : take (r.width - 1) z ≡ u
   pub leads : (w : List ℕ) → IsWord r.states w → (s : List ℕ) × IsPreimage r (v ++ w) (z ++ s)
 
--- where there is a branch, every word has a preimage
+-- if there is a branch, every word has a preimage
 pub preimage_behind : {r : LocalRule} {u v z : List ℕ} → IsBranch r u v z → (w : List ℕ) → IsWord r.states w → (x : List ℕ) × IsPreimage r w x
 preimage_behind {r} {u} {v} {z} b w hw = behind (z ++ (b.leads w hw).0) (b.leads w hw).1
   where
@@ -101,7 +101,7 @@ IsBranch-behind {r} {u} {v} {x} rule z e s is long front word b =
           );
     }
 
--- a branch goes on being one where more of the image is known
+-- a branch goes on being one if more of the image is known
 IsBranch-more : {r : LocalRule} {u v z : List ℕ} (w v' : List ℕ) → v' ≡ v ++ w → IsWord r.states w → IsBranch r u v z → IsBranch r u v' z
 IsBranch-more {r} {u} {v} {z} w v' is hw b = record {
   long = b.long;

@@ -2,12 +2,11 @@
 use Rattle.std.proofs.Common.{◌≡◌, ℕ, ◌+◌, ◌-◌, ◌≤◌, ◌↔◌, List, length, ℤ, pos, ◌+ℤ◌, ◌-ℤ◌, refl, sym, ap, ◌∙◌, subst, arith, ◌<ℤ◌, ◌≤ℤ◌}
 use Rattle.std.proofs.Math.Path.{fun_ext}
 use Rattle.word_image.proofs.Common.{ints, by_lt_z, LocalRule, IsRule, IsWord, image, IsSurjective, IsConserving, mirrored, IsRule-mirrored}
-use Rattle.tail_config.proofs.Common.{Config, IsConfig, run, image_of, AgreeFarLeft, AgreeFarRight, IsInjective, IsRightClosing, IsLeftClosing, length-run, IsWord-run, image-run, same-run, image_of-window}
+use Rattle.tail_config.proofs.Common.{Config, IsConfig, run, image_of, AgreeFarLeft, AgreeFarRight, IsInjective, IsRightClosing, IsLeftClosing, IsOpen, length-run, IsWord-run, image-run, same-run, image_of-window}
 use Rattle.tail_laws.proofs.Common.{IsRightClosing-window, IsLeftClosing-mirrored}
 use Rattle.eden_laws.proofs.Preinjective.{IsSurjective-right_closing}
 use Rattle.config_laws.specs.Maps.{IsRightClosingMap}
-use Rattle.config_laws.specs.Sums.{weight_within}
-use Rattle.config_laws.specs.Composed.{IsOneAfter, Undoes}
+use Rattle.config_laws.specs.Composed.{IsOneAfter, IsUndoneBy}
 use Rattle.config_laws.proofs.Images.{IsConfig-image}
 use Rattle.config_laws.proofs.Injective.{IsInjective-everywhere}
 use Rattle.config_laws.proofs.Closing.{IsRightClosing-everywhere}
@@ -15,8 +14,8 @@ use Rattle.config_laws.proofs.Flips.{flip, flip-flip, image_of-flip}
 use Rattle.config_laws.proofs.Preinjective.{IsSurjective-preinjective_map}
 use Rattle.config_laws.proofs.Dense.{IsSurjective-everywhere, Matches, matches}
 use Rattle.config_laws.proofs.GoesOn.{enough, GoesOn, goes_on, image_of-before}
-use Rattle.config_laws.proofs.FiniteSums.{IsConserving-changes}
 use Rattle.config_laws.proofs.Inverses.{IsOntoMap-injective}
+use Rattle.config_laws.proofs.RingImages.{IsConserving-undone}
 
 -- the letters are those of the other rule
 over : {k l : ℕ} {x : Config} → k ≡ l → IsConfig k x → IsConfig l x
@@ -38,7 +37,7 @@ agree_right_image r {x} {y} (p, right) = (p -ℤ r.offset, λ i l. image_of-wind
 same_after : {r s t : LocalRule} {x y : Config} → IsOneAfter r s t → IsConfig r.states x → IsConfig r.states y → image_of r x ≡ image_of r y → image_of t x ≡ image_of t y
 same_after {r} {s} {t} {x} {y} c hx hy same = c.image x hx ∙ ap (image_of s) same ∙ sym (c.image y hy)
 
--- one after the other is injective exactly where both are
+-- one after the other is injective exactly if both are
 pub IsInjective-after : {r s t : LocalRule} → IsRule r → IsRule s → IsRule t → IsOneAfter r s t → IsInjective t ↔ (IsInjective r × IsInjective s)
 IsInjective-after {r} {s} {t} first second both c =
     let of_r = IsInjective-everywhere first in
@@ -59,7 +58,7 @@ IsInjective-after {r} {s} {t} first second both c =
           of_r.0 inner x y gx gy (of_s.0 outer (image_of r x) (image_of r y) (IsConfig-between first c x) (IsConfig-between first c y) (sym (c.image x gx) ∙ same ∙ c.image y gy))),
     )
 
--- one after the other is surjective exactly where both are
+-- one after the other is surjective exactly if both are
 pub IsSurjective-after : {r s t : LocalRule} → IsRule r → IsRule s → IsRule t → IsOneAfter r s t → IsSurjective t ↔ (IsSurjective r × IsSurjective s)
 IsSurjective-after {r} {s} {t} first second both c =
     let of_r = IsSurjective-preinjective_map first in
@@ -81,7 +80,7 @@ IsSurjective-after {r} {s} {t} first second both c =
           (sym (c.image x gx) ∙ same ∙ c.image y gy) (agree_left_image r left) (agree_right_image r right)) left right),
     )
 
--- where the first rule is right-closing and one after the other is, so is the second: two configurations that agree to the left come from two that do
+-- if the first rule is right-closing and one after the other is, so is the second: two configurations that agree to the left come from two that do
 second_closing : {r s t : LocalRule} → IsRule r → IsRule s → IsOneAfter r s t → IsRightClosing r → IsRightClosingMap t → IsRightClosingMap s
 second_closing {r} {s} {t} first second c inner whole u v hu hv same (p, left) =
     let ahead = (IsRightClosing-window first).0 inner in
@@ -109,7 +108,7 @@ second_closing {r} {s} {t} first second c inner whole u v hu hv same (p, left) =
         (i +ℤ r.offset, λ j l. at_u.before j (omega (arith, ints)) ∙ sym (at_v.before j (omega (arith, ints)))) in
         fun_ext (λ j. by_lt_z j i (λ l. left j (omega (arith, ints))) (λ l. sym (at_u.after j l) ∙ ap (λ (z : Config). image_of r z j) equal ∙ at_v.after j l))
 
--- one after the other is right-closing exactly where both are
+-- one after the other is right-closing exactly if both are
 pub IsRightClosing-after : {r s t : LocalRule} → IsRule r → IsRule s → IsRule t → IsOneAfter r s t → IsRightClosing t ↔ (IsRightClosing r × IsRightClosing s)
 IsRightClosing-after {r} {s} {t} first second both c =
     let of_r = IsRightClosing-everywhere first in
@@ -138,7 +137,7 @@ IsOneAfter-mirrored {r} {s} {t} first second both c = record {
       ∙ sym (image_of-flip second (IsConfig-between first c y)) ∙ ap (image_of (mirrored s)) (sym (image_of-flip first hy) ∙ ap (image_of (mirrored r)) back);
 }
 
--- one after the other is left-closing exactly where both are
+-- one after the other is left-closing exactly if both are
 pub IsLeftClosing-after : {r s t : LocalRule} → IsRule r → IsRule s → IsRule t → IsOneAfter r s t → IsLeftClosing t ↔ (IsLeftClosing r × IsLeftClosing s)
 IsLeftClosing-after {r} {s} {t} first second both c =
     let of_r = IsLeftClosing-mirrored first in
@@ -149,50 +148,31 @@ IsLeftClosing-after {r} {s} {t} first second both c =
       λ (inner, outer). of_t.1 (right.1 (of_r.0 inner, of_s.0 outer)),
     )
 
--- one after the other conserves what both conserve
-pub IsConserving-after : {r s t : LocalRule} → IsRule r → IsRule s → IsRule t → IsOneAfter r s t → (weight : ℕ → ℕ) → IsConserving weight r → IsConserving weight s → IsConserving weight t
-IsConserving-after {r} {s} {t} first second both c weight keeps_r keeps_s = (IsConserving-changes both weight).1 (λ x y hx hy left right.
-    let gx = over c.states hx in
-    let gy = over c.states hy in
-    let inner = (IsConserving-changes first weight).0 keeps_r x y gx gy left right in
-    let outer = (IsConserving-changes second weight).0 keeps_s (image_of r x) (image_of r y) (IsConfig-between first c x) (IsConfig-between first c y) (agree_left_image r left) (agree_right_image r right) in (
-      inner.0 + outer.0,
-      λ n l.
-          let of_x : weight_within weight n (image_of t x) ≡ weight_within weight n (image_of s (image_of r x)) = ap (weight_within weight n) (c.image x gx) in
-          let of_y : weight_within weight n (image_of t y) ≡ weight_within weight n (image_of s (image_of r y)) = ap (weight_within weight n) (c.image y gy) in
-          omega (arith, inner.1 n (omega arith), outer.1 n (omega arith), of_x, of_y),
-    ))
+-- one after the other is open exactly if both are
+pub IsOpen-after : {r s t : LocalRule} → IsRule r → IsRule s → IsRule t → IsOneAfter r s t → IsOpen t ↔ (IsOpen r × IsOpen s)
+IsOpen-after first second both c =
+    let right = IsRightClosing-after first second both c in
+    let left = IsLeftClosing-after first second both c in (
+      λ (a, b). let u = right.0 a in let v = left.0 b in ((u.0, v.0), (u.1, v.1)),
+      λ (u, v). (right.1 (u.0, v.0), left.1 (u.1, v.1)),
+    )
 
 -- what is undone is injective
-pub IsInjective-undone : {r s : LocalRule} → IsRule r → Undoes r s → IsInjective r
+pub IsInjective-undone : {r s : LocalRule} → IsRule r → IsUndoneBy r s → IsInjective r
 IsInjective-undone {r} {s} rule u = (IsInjective-everywhere rule).1 (λ x y hx hy same. sym (u.back x hx) ∙ ap (image_of s) same ∙ u.back y hy)
 
--- where s undoes r, r undoes s
-pub Undoes-turned : {r s : LocalRule} → IsRule r → Undoes r s → Undoes s r
-Undoes-turned {r} {s} rule u = record {
+-- if s undoes r, r undoes s
+pub IsUndoneBy-turned : {r s : LocalRule} → IsRule r → IsUndoneBy r s → IsUndoneBy s r
+IsUndoneBy-turned {r} {s} rule u = record {
   states = sym u.states;
   back = λ y hy.
       let x = IsOntoMap-injective rule (IsInjective-undone rule u) y (over u.states hy) in
       ap (image_of r) (sym (ap (image_of s) x.2) ∙ u.back x.0 x.1) ∙ x.2;
 }
 
--- what undoes a rule conserves what the rule conserves
-IsConserving-undoes : {r s : LocalRule} → IsRule r → IsRule s → Undoes r s → (weight : ℕ → ℕ) → IsConserving weight r → IsConserving weight s
-IsConserving-undoes {r} {s} first second u weight keeps = (IsConserving-changes second weight).1 (λ x y hx hy left right.
-    let turned = Undoes-turned first u in
-    let gx : IsConfig r.states (image_of s x) = over u.states (IsConfig-image second x) in
-    let gy : IsConfig r.states (image_of s y) = over u.states (IsConfig-image second y) in
-    let inner = (IsConserving-changes first weight).0 keeps (image_of s x) (image_of s y) gx gy (agree_left_image s left) (agree_right_image s right) in (
-      inner.0,
-      λ n l.
-          let of_x : weight_within weight n (image_of r (image_of s x)) ≡ weight_within weight n x = ap (weight_within weight n) (turned.back x hx) in
-          let of_y : weight_within weight n (image_of r (image_of s y)) ≡ weight_within weight n y = ap (weight_within weight n) (turned.back y hy) in
-          omega (arith, inner.1 n l, of_x, of_y),
-    ))
-
 -- two rules that undo each other conserve the same
-pub IsConserving-both_ways : {r s : LocalRule} → IsRule r → IsRule s → Undoes r s → (weight : ℕ → ℕ) → IsConserving weight r ↔ IsConserving weight s
-IsConserving-both_ways first second u weight = (IsConserving-undoes first second u weight, IsConserving-undoes second first (Undoes-turned first u) weight)
+pub IsConserving-both_ways : {r s : LocalRule} → IsRule r → IsRule s → IsUndoneBy r s → (weight : ℕ → ℕ) → IsConserving weight r ↔ IsConserving weight s
+IsConserving-both_ways first second u weight = (IsConserving-undone second (IsUndoneBy-turned first u) weight, IsConserving-undone first u weight)
 
 -- what one after the other does with words, it does with configurations
 pub IsOneAfter-words : {r s t : LocalRule} → IsRule r → IsRule s → IsRule t → t.states ≡ r.states → s.states ≡ r.states → t.width ≡ r.width + s.width - 1 → t.offset ≡ r.offset +ℤ s.offset

@@ -9,7 +9,7 @@ use Rattle.config_laws.proofs.Images.{IsConfig-image, IsPreimage-run}
 use Rattle.config_laws.proofs.FiniteSums.{greatest}
 use Rattle.config_laws.proofs.Exchange.{IsSurjective-few}
 
--- two of the configurations, where they are two of those that differ
+-- two of the configurations, if they are two of those that differ
 abbrev Pair : (ℕ → Config) → ℕ → ℕ → ℕ → Type 0
 Pair xs n i j = Differ (xs i) (xs j) ⊎ ¬ ((i < j) × (j ≤ n))
 
@@ -22,7 +22,7 @@ abbrev far : {x y : Config} {P : Type 0} → Differ x y ⊎ P → ℕ
 far (inl d) = unsigned_abs d.0
 far (inr p) = 0
 
--- where runs from -b on are equal that reach beyond b, they don't differ as near as b
+-- if runs from -b on are equal that reach beyond b, they don't differ as near as b
 not_near : (xs : ℕ → Config) (n i j : ℕ) (h : Pair xs n i j) (b l : ℕ) → far h ≤ b → b + b < l → i < j → j ≤ n → run (xs i) (neg_ℤ (pos b)) l ≢ run (xs j) (neg_ℤ (pos b)) l
 not_near xs n i j (inr none) b l near long first second same = none (first, second)
 not_near xs n i j (inl d) b l near long first second same =
@@ -66,6 +66,6 @@ not_many {r} rule every xs many = near (two_alike rule every many (neg_ℤ (pos 
         (omega (arith, (greatest (λ j. far (at i j)) (node_count r)).2 j (omega arith), (greatest farthest (node_count r)).2 i (omega arith)))
         (omega arith) order below same
 
--- a rule is surjective exactly where no more configurations than nodes have one image
+-- a rule is surjective exactly if no more configurations than nodes have one image
 pub IsSurjective-few_to_one : {r : LocalRule} → IsRule r → IsSurjective r ↔ ((xs : ℕ → Config) → ¬ AreMany r (node_count r) xs)
 IsSurjective-few_to_one {r} rule = (not_many rule, IsSurjective-few rule (node_count r))

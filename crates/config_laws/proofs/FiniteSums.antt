@@ -1,4 +1,4 @@
--- Where finite configurations weigh as much as their images, or finitely many new letters change both alike, rings keep their sums.
+-- If finite configurations weigh as much as their images, or finitely many new letters change both alike, rings keep their sums.
 use Rattle.std.proofs.Common.{◌≡◌, ℕ, zero, suc, ◌+◌, ◌-◌, ◌<◌, ◌≤◌, ◌↔◌, ⊎_elim, List, [], ◌∷◌, ◌++◌, length, take, drop, sum_by, get_or, ℤ, pos, ◌+ℤ◌, ◌-ℤ◌, neg_ℤ, unsigned_abs, refl, sym, ap, ◌∙◌, arith, length-append, take-append-drop, ◌<ℤ◌, ◌≤ℤ◌, take_at, drop_at, append_assoc, get_or-take, get_or-drop}
 use Rattle.word_image.proofs.Common.{cases_lt, ints, by_lt_z, All-nil, All-cons, All-append, length-map-range_with_len, LocalRule, IsRule, IsWord, local_map, image, IsRing, ring_letters, ring_image, IsConserving, some_letter, IsWord-ring_letters, ring_letters-turn}
 use Rattle.ring_laws.proofs.Gains.{gain, gain-short, gain-append, gain-ring}
@@ -190,14 +190,14 @@ zeros_gain-none {r} rule weight keeps (suc n) =
     let whole : zeros_gain weight r (suc n) ≡ gain weight r (run zeros o 1 ++ (run zeros i d ++ run zeros j n)) = ap (gain weight r) parts in
     omega (arith, ints, zeros_gain-one rule weight keeps, zeros_gain-none rule weight keeps n)
 
--- where finite configurations and their images differ alike, rings keep their sums
+-- if finite configurations and their images differ alike, rings keep their sums
 IsConserving-finite : {r : LocalRule} → IsRule r → (weight : ℕ → ℕ) → KeepsFiniteChanges weight r → IsConserving weight r
 IsConserving-finite {r} rule weight keeps p ring =
     let gains = gain-zeros rule weight keeps ring in
     let none = zeros_gain-none rule weight keeps (length p) in
     omega (arith, ints)
 
--- a rule keeps the sums of rings exactly where it keeps those of finite configurations
+-- a rule keeps the sums of rings exactly if it keeps those of finite configurations
 pub IsConserving-sums : {r : LocalRule} → IsRule r → (weight : ℕ → ℕ) → IsConserving weight r ↔ KeepsFiniteSums weight r
 IsConserving-sums {r} rule weight = (
   λ keeps x hx finite.
@@ -209,7 +209,7 @@ IsConserving-sums {r} rule weight = (
       (of_x.0 + of_y.0, λ n l. omega (arith, of_x.1 n (omega arith), of_y.1 n (omega arith)))),
 )
 
--- a rule keeps the sums of rings exactly where it keeps changes
+-- a rule keeps the sums of rings exactly if it keeps changes
 pub IsConserving-changes : {r : LocalRule} → IsRule r → (weight : ℕ → ℕ) → IsConserving weight r ↔ KeepsChanges weight r
 IsConserving-changes {r} rule weight = (
   KeepsChanges-conserving rule weight,

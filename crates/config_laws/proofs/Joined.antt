@@ -1,7 +1,8 @@
 -- Configurations joined at a place, and words written into them.
 use Rattle.std.proofs.Common.{◌≡◌, ℕ, ◌+◌, ◌-◌, ◌<◌, List, length, get_or, ⊎_elim, ℤ, pos, negsuc, ◌+ℤ◌, ◌-ℤ◌, unsigned_abs, refl, sym, ap, ◌∙◌, arith, ◌<ℤ◌, ◌≤ℤ◌}
+use Rattle.std.proofs.Math.Path.{fun_ext}
 use Rattle.word_image.proofs.Common.{ints, by_lt_z, cases_lt, get_or_past, LocalRule, IsRule, IsWord, image}
-use Rattle.tail_config.proofs.Common.{Config, IsConfig, zeros, run, image_of, run-by_letters}
+use Rattle.tail_config.proofs.Common.{Config, IsConfig, zeros, run, image_of, run-by_letters, at_run, image_of-window}
 use Rattle.config_laws.specs.Sums.{IsFinite}
 use Rattle.config_laws.proofs.Images.{image_of-letters}
 
@@ -26,11 +27,41 @@ joined-right x e f i a h =
     let place : i -ℤ e ≡ pos a = omega (arith, ints) in
     ap (from_zero (x i) f) place
 
--- the letters of x and those of f, joined at a place, are a configuration where both are letters alone
+-- the letters of x and those of f, joined at a place, are a configuration if both are letters
 pub IsConfig-joined : {k : ℕ} {x : Config} {f : ℕ → ℕ} → IsConfig k x → (e : ℤ) → ((a : ℕ) → f a < k) → IsConfig k (joined x e f)
 IsConfig-joined {k} {x} {f} hx e hf i =
     by_lt_z i e (λ l. omega (arith, joined-left x e f i l, hx i))
     (λ l. let a : ℕ = unsigned_abs (i -ℤ e) in omega (arith, joined-right x e f i a (omega (arith, ints)), hf a))
+
+-- the letters of x left of place e, and those of z from there on
+abbrev pub meeting : Config → Config → ℤ → Config
+meeting x z e = joined x e (λ a. z (e +ℤ pos a))
+
+-- left of the place stand the letters of the first
+pub meeting-left : (x z : Config) (e i : ℤ) → i <ℤ e → meeting x z e i ≡ x i
+meeting-left x z e = joined-left x e (λ a. z (e +ℤ pos a))
+
+-- from the place on stand the letters of the second
+pub meeting-right : (x z : Config) (e i : ℤ) → e ≤ℤ i → meeting x z e i ≡ z i
+meeting-right x z e i l =
+    let place : e +ℤ pos (unsigned_abs (i -ℤ e)) ≡ i = omega (arith, ints) in
+    joined-right x e (λ a. z (e +ℤ pos a)) i (unsigned_abs (i -ℤ e)) place ∙ ap z place
+
+-- two configurations over the same letters that meet at a place are one over these letters
+pub IsConfig-meeting : {k : ℕ} {x z : Config} → IsConfig k x → IsConfig k z → (e : ℤ) → IsConfig k (meeting x z e)
+IsConfig-meeting hx hz e = IsConfig-joined hx e (λ a. hz (e +ℤ pos a))
+
+-- two configurations with one image and one node under place i have that image if they meet there
+pub image_of-meeting : (r : LocalRule) (x z : Config) {y : Config} (i : ℤ) → ((a : ℕ) → a < r.width - 1 → x (i +ℤ r.offset +ℤ pos a) ≡ z (i +ℤ r.offset +ℤ pos a)) → image_of r x ≡ y → image_of r z ≡ y
+    → image_of r (meeting x z (i +ℤ r.offset)) ≡ y
+image_of-meeting r x z i node first second =
+    let e : ℤ = i +ℤ r.offset in
+    fun_ext (λ j. by_lt_z j i
+    (λ l. image_of-window r (meeting x z e) x j j (λ a g.
+    let q : ℤ = j +ℤ r.offset +ℤ pos a in
+    by_lt_z q e (meeting-left x z e q) (λ h. meeting-right x z e q h ∙ sym (at_run x z e (r.width - 1) node q h (omega (arith, ints)))))
+    ∙ ap (λ (u : Config). u j) first)
+    (λ l. image_of-window r (meeting x z e) z j j (λ a g. meeting-right x z e (j +ℤ r.offset +ℤ pos a) (omega (arith, ints))) ∙ ap (λ (u : Config). u j) second))
 
 -- the letters of x left of place e, those of a word from there on, and then zeros
 abbrev pub written : Config → ℤ → List ℕ → Config

@@ -13,6 +13,8 @@ pub mod OpenMaps
 pub mod Endless
 pub mod Onto
 pub mod Parities
+pub mod Periods
+pub mod Loops
 pub mod Tails
 pub mod Sums
 pub mod FiniteSums
@@ -22,5 +24,7 @@ pub mod Inverses
 pub mod LeftAhead
 pub mod Bijective
 pub mod Composed
-pub mod RingMaps
 pub mod RingImages
+pub mod RingMaps
+pub mod OntoRings
+pub mod PeriodicPreimages

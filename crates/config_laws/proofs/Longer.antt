@@ -175,7 +175,7 @@ state_preimage {r} {l} {z} rule s v e =
       in_s.front ∙ s.is.front,
     )
 
--- a word that is longer by a letter has a preimage that begins as one of the word, where the word has letters enough
+-- a word that is longer by a letter has a preimage that begins as one of the word, if the word has letters enough
 pub longer_preimage : {r : LocalRule} {n : ℕ} {w x : List ℕ} → IsRule r → IsRightAhead r n → r.width - 1 + n ≤ length w + 1 → IsPreimage r w x → (b : ℕ) → b < r.states
     → (y : List ℕ) × IsPreimage r (w ++ b ∷ []) y × (take (r.width - 1) y ≡ take (r.width - 1) x)
 longer_preimage {r} {n} {w} {x} rule ahead enough p b hb =

@@ -1,4 +1,4 @@
--- Where every word has a preimage each configuration has one, if one of two tests passes: of the preimages of its longer and longer middles one goes on for ever (Hedlund 1969).
+-- If every word has a preimage each configuration has one, if one of two tests passes: of the preimages of its longer and longer middles one goes on for ever (Hedlund 1969).
 use Rattle.std.proofs.Common.{◌≡◌, ◌⊎◌, ℕ, zero, suc, ◌+◌, ◌-◌, ◌^◌, ◌<◌, ◌≤◌, ◌↔◌, refl, inl, inr, ⊎_elim, List, length, take, drop, get_or, ℤ, pos, ◌+ℤ◌, ◌-ℤ◌, neg_ℤ, unsigned_abs, sym, ap, ◌∙◌, subst, arith, length-drop, bytes_eq, length-take-le, take-take, drop-drop, get_or-take, get_or-drop}
 use Rattle.std.proofs.Math.Path.{fun_ext}
 use Rattle.std.proofs.lemmas.Slice.Eq.{bytes_eq-Decides}
@@ -99,7 +99,7 @@ Level-over {r} {y} {n} {w} rule over =
     let here : Over r y n w n = at n (omega arith) in
     (record { w = w; preimage = subst (IsPreimage r (middle y n)) here.over (IsPreimage-part rule y here.z n n (omega arith) here.preimage); over = at }, refl)
 
--- where parts of longer and longer preimages have what can be decided, so has one that goes on for ever
+-- if parts of longer and longer preimages have what can be decided, so has one that goes on for ever
 level : {r : LocalRule} {y : Config} → IsRule r → OneOfTwo → (n : ℕ) (P : List ℕ → Type 0) → ((w : List ℕ) → P w ⊎ ¬ P w)
     → ((e : ℕ) → (z : List ℕ) × IsPreimage r (middle y (n + e)) z × P (part r n (n + e) z)) → (h : Level r y n) × P h.w
 level {r} {y} rule one n P decide every =
@@ -178,10 +178,10 @@ IsOntoMap-surjective {r} rule one every y hy =
           ∙ ap (λ w. get_or w a 0) (at n).preimage.maps ∙ get_or-run y (neg_ℤ (pos n)) i (n + n + 1) a (omega (arith, ints)) (omega (arith, ints))),
     )
 
--- where each configuration is an image, every word is
+-- if each configuration is an image, every word is
 pub IsSurjective-onto : {r : LocalRule} → IsRule r → IsOntoMap r → IsSurjective r
 IsSurjective-onto rule onto = (IsSurjective-everywhere rule).1 (λ y n hy. let found = onto y hy in (found.0, found.1, λ i low high. ap (λ (z : Config). z i) found.2))
 
--- a rule is surjective exactly where each configuration is an image
+-- a rule is surjective exactly if each configuration is an image
 pub IsSurjective-compact : {r : LocalRule} → IsRule r → OneOfTwo → IsSurjective r ↔ IsOntoMap r
 IsSurjective-compact rule one = (IsOntoMap-surjective rule one, IsSurjective-onto rule)

@@ -1,4 +1,4 @@
--- A rule is open exactly where it is closing on both sides (Hedlund 1969).
+-- A rule is open exactly if it is closing on both sides (Hedlund 1969).
 use Rattle.std.proofs.Common.{◌≡◌, ℕ, ◌+◌, ◌-◌, ◌<◌, ◌≤◌, List, ◌++◌, length, get_or, ℤ, pos, ◌+ℤ◌, ◌-ℤ◌, neg_ℤ, unsigned_abs, refl, sym, ap, ap₂, ◌∙◌, subst, arith, ◌<ℤ◌, ◌≤ℤ◌, ◌↔◌}
 use Rattle.std.proofs.Math.IntN.{neg_ℤ-neg_ℤ}
 use Rattle.word_image.proofs.Common.{ints, LocalRule, IsRule, mirrored, IsPreimage, IsSurjective, some_letter, IsRule-mirrored}
@@ -11,7 +11,7 @@ use Rattle.config_laws.proofs.Flips.{flip, flip-flip, image_of-flip}
 use Rattle.config_laws.proofs.BothSides.{IsEvenlyOpenMap-closing}
 use Rattle.config_laws.proofs.Branches.{IsBranch, preimage_behind, IsFork, no_fork}
 
--- where the letters under places i to i + l lie near, and the first M letters of the image reach beyond N, those of x are a branch
+-- if the letters under places i to i + l lie near, and the first M letters of the image reach beyond N, those of x are a branch
 IsBranch-near : {r : LocalRule} {x : Config} → IsRule r → IsConfig r.states x → (n N : ℕ) → IsNear r x n N → (i : ℤ) (l M : ℕ) → neg_ℤ (pos n) ≤ℤ (i +ℤ r.offset) → (i +ℤ r.offset +ℤ pos (l + (r.width - 1))) ≤ℤ pos n
     → pos N <ℤ (i +ℤ pos M) → l ≤ M → IsBranch r (run x (i +ℤ r.offset) (r.width - 1)) (run (image_of r x) i M) (run x (i +ℤ r.offset) (l + (r.width - 1)))
 IsBranch-near {r} {x} rule hx n N near i l M low high far few =
@@ -110,10 +110,10 @@ IsLeftClosing-open rule open_map = (IsLeftClosing-mirrored rule).1 (IsRightClosi
 IsOpenMap-evenly : (r : LocalRule) → IsEvenlyOpenMap r → IsOpenMap r
 IsOpenMap-evenly r evenly x n hx = let near = evenly n in (near.0, near.1 x hx)
 
--- a rule is closing on both sides exactly where it is open
+-- a rule is closing on both sides exactly if it is open
 pub IsOpen-everywhere : {r : LocalRule} → IsRule r → IsOpen r ↔ IsOpenMap r
 IsOpen-everywhere {r} rule = (λ closing. IsOpenMap-evenly r (IsEvenlyOpenMap-closing rule closing), λ open_map. (IsRightClosing-open rule open_map, IsLeftClosing-open rule open_map))
 
--- a rule is closing on both sides exactly where it is open evenly
+-- a rule is closing on both sides exactly if it is open evenly
 pub IsOpen-evenly : {r : LocalRule} → IsRule r → IsOpen r ↔ IsEvenlyOpenMap r
 IsOpen-evenly {r} rule = (IsEvenlyOpenMap-closing rule, λ evenly. (IsOpen-everywhere rule).1 (IsOpenMap-evenly r evenly))

@@ -95,7 +95,7 @@ IsPreimage-first (y ∷ w) h =
 IsSurjective-parities : IsSurjective parities
 IsSurjective-parities w h = (first w ∷ rest w, IsPreimage-first w h)
 
--- 0 where both tests pass, and else which doesn't
+-- 0 if both tests pass, and else which doesn't
 abbrev mark : Bool → Bool → ℕ
 mark true true = 0
 mark true false = 2
@@ -125,7 +125,7 @@ falls : (p : ℕ → Bool) → Falls p → (n e : ℕ) → p (n + e) ≡ true �
 falls p down n zero h = let all : n ≡ n + 0 = omega arith in ap p all ∙ h
 falls p down n (suc e) h = let all : suc (n + e) ≡ n + suc e = omega arith in falls p down n e (down (n + e) (ap p all ∙ h))
 
--- where one test fails the other passes everywhere
+-- if one test fails the other passes everywhere
 passes_everywhere : (p q : ℕ → Bool) → Falls p → Falls q → ((n : ℕ) → (p n ≡ true) ⊎ (q n ≡ true)) → (n : ℕ) → q n ≡ false → (m : ℕ) → p m ≡ true
 passes_everywhere p q down_p down_q either n fails m =
     ⊎_elim (falls p down_p m n) (λ h. let turn : n + m ≡ m + n = omega arith in absurd (true≢false (sym (falls q down_q n m (ap q turn ∙ h)) ∙ fails))) (either (m + n))

@@ -7,7 +7,7 @@ use Rattle.eden_laws.proofs.GardenOfEden.{garden_of_eden}
 use Rattle.eden_laws.proofs.Preinjective.{IsSurjective-preinjective, agree_between}
 use Rattle.config_laws.specs.Maps.{IsPreinjectiveMap}
 
--- a rule is surjective exactly where it is preinjective
+-- a rule is surjective exactly if it is preinjective
 pub IsSurjective-preinjective_map : {r : LocalRule} → IsRule r → IsSurjective r ↔ IsPreinjectiveMap r
 IsSurjective-preinjective_map {r} rule = (
   λ every x y hx hy same left right. fun_ext (agree_between rule ((garden_of_eden rule).0 every) hx hy (λ i. ap (λ (z : Config). z i) same) left right),

@@ -9,7 +9,7 @@ pub record IsOneAfter (r s t : LocalRule) : Type 0 where
   pub second : s.states ≡ r.states
   pub image : (x : Config) → IsConfig r.states x → image_of t x ≡ image_of s (image_of r x)
 
--- s gives every configuration back from what r makes of it
-pub record Undoes (r s : LocalRule) : Type 0 where
+-- s gives every configuration back from what r makes of it: r is undone by s
+pub record IsUndoneBy (r s : LocalRule) : Type 0 where
   pub states : s.states ≡ r.states
   pub back : (x : Config) → IsConfig r.states x → image_of s (image_of r x) ≡ x

@@ -1,10 +1,12 @@
 -- A rule under which a configuration tells the letters of its preimages only from far away, and what the definitions give on configurations done by hand, which the check computes.
 use Rattle.std.specs.Prelude.{◌≡◌, ℕ, [], ◌∷◌, ◌==◌, if◌then◌else◌, pos, negsuc, refl}
+use Rattle.std.specs.List.{repeat}
 use Rattle.word_image.specs.LocalRules.{LocalRule}
+use Rattle.word_image.specs.Rings.{ring_image}
 use Rattle.tail_config.specs.Configs.{Config, run, image_of}
 use Rattle.config_laws.specs.Sums.{weight_on, weight_within}
 
--- 2 becomes 1 and 3 becomes 2; 0 and 1 become 0 where the letter to the right is even or odd as they are, and 3 where not: the text 4:2:0:t0303303011112222
+-- 2 becomes 1 and 3 becomes 2; 0 and 1 become 0 if the letter to the right is even or odd as they are, and 3 if not: the text 4:2:0:t0303303011112222
 abbrev pub parities : LocalRule
 parities = record { states = 4; width = 2; offset = pos 0; table = 0 ∷ 3 ∷ 0 ∷ 3 ∷ 3 ∷ 0 ∷ 3 ∷ 0 ∷ 1 ∷ 1 ∷ 1 ∷ 1 ∷ 2 ∷ 2 ∷ 2 ∷ 2 ∷ [] }
 
@@ -28,3 +30,18 @@ weight_on-ones_3 = refl
 
 weight_within-ones_3 : weight_within (λ a. a) 2 (steps_to 1 3) ≡ 6
 weight_within-ones_3 = refl
+
+-- the sum of both neighbours modulo 2: the text 2:3:-1:t01011010
+abbrev rule90 : LocalRule
+rule90 = record { states = 2; width = 3; offset = negsuc 0; table = 0 ∷ 1 ∷ 0 ∷ 1 ∷ 1 ∷ 0 ∷ 1 ∷ 0 ∷ [] }
+
+-- the ring 1 is no image, but it is one when it is written four times, as many times as there are nodes
+
+ring_image-zero : ring_image rule90 (0 ∷ []) ≡ 0 ∷ []
+ring_image-zero = refl
+
+ring_image-one : ring_image rule90 (1 ∷ []) ≡ 0 ∷ []
+ring_image-one = refl
+
+ring_image-four : ring_image rule90 (0 ∷ 0 ∷ 1 ∷ 1 ∷ []) ≡ repeat 4 (1 ∷ [])
+ring_image-four = refl

@@ -35,6 +35,10 @@ IsDenseMap r = (y : Config) (n : ℕ) → IsConfig r.states y → (x : Config) �
 abbrev pub IsOntoMap : LocalRule → Type 0
 IsOntoMap r = (y : Config) → IsConfig r.states y → (x : Config) × IsConfig r.states x × (image_of r x ≡ y)
 
+-- each configuration is the image of one configuration, and of no other
+abbrev pub IsBijectiveMap : LocalRule → Type 0
+IsBijectiveMap r = (y : Config) → IsConfig r.states y → (x : Config) × IsConfig r.states x × (image_of r x ≡ y) × ((z : Config) → IsConfig r.states z → image_of r z ≡ y → z ≡ x)
+
 -- whatever agrees with the image of x from -N to N is the image of what agrees with x from -n to n
 abbrev pub IsNear : LocalRule → Config → ℕ → ℕ → Type 0
 IsNear r x n N = (y : Config) → IsConfig r.states y → AgreeWithin N (image_of r x) y → (z : Config) × IsConfig r.states z × AgreeWithin n x z × (image_of r z ≡ y)

@@ -1,5 +1,5 @@
-use Rattle.config_laws.proofs.Composed.{IsSurjective-after, IsInjective-after, IsRightClosing-after, IsLeftClosing-after, IsConserving-after, IsOneAfter-words}
-use Rattle.config_laws.proofs.RingImages.{ring_image-after}
+use Rattle.config_laws.proofs.Composed.{IsSurjective-after, IsInjective-after, IsRightClosing-after, IsLeftClosing-after, IsOpen-after, IsOneAfter-words}
+use Rattle.config_laws.proofs.RingImages.{ring_image-after, IsConserving-after}
 use Rattle.config_laws.proofs.composed_everywhere.Goals as goal
 
 pub returns-clause-surjective : goal.returns-clause-surjective
@@ -14,8 +14,11 @@ returns-clause-right c r s t first second both after = IsRightClosing-after firs
 pub returns-clause-left : goal.returns-clause-left
 returns-clause-left c r s t first second both after = IsLeftClosing-after first second both after
 
+pub returns-clause-open_ : goal.returns-clause-open_
+returns-clause-open_ c r s t first second both after = IsOpen-after first second both after
+
 pub returns-clause-conserving : goal.returns-clause-conserving
-returns-clause-conserving c weight r s t first second both after = IsConserving-after first second both after weight
+returns-clause-conserving c weight r s t first second both after = IsConserving-after first after weight
 
 pub returns-clause-words : goal.returns-clause-words
 returns-clause-words c r s t first second both = IsOneAfter-words first second both

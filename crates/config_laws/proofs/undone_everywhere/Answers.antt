@@ -1,9 +1,9 @@
-use Rattle.config_laws.proofs.Composed.{Undoes-turned, IsInjective-undone, IsConserving-both_ways}
+use Rattle.config_laws.proofs.Composed.{IsUndoneBy-turned, IsInjective-undone, IsConserving-both_ways}
 use Rattle.config_laws.proofs.RingImages.{ring_image-undone}
 use Rattle.config_laws.proofs.undone_everywhere.Goals as goal
 
 pub returns-clause-turned : goal.returns-clause-turned
-returns-clause-turned c r s rule u = Undoes-turned rule u
+returns-clause-turned c r s rule u = IsUndoneBy-turned rule u
 
 pub returns-clause-injective : goal.returns-clause-injective
 returns-clause-injective c r s rule u = IsInjective-undone rule u

@@ -1,6 +1,6 @@
 -- The rule of a line has the property: it is the listed one at another offset.
-use Rattle.std.proofs.Common.{◌≡◌, ℕ, ◌^◌, List, pos, refl, sym, subst, arith}
-use Rattle.word_image.proofs.Common.{ints, LocalRule, IsRule, rule_from_parts}
+use Rattle.std.proofs.Common.{◌≡◌, ℕ, ◌-◌, ◌^◌, List, ℤ, pos, negsuc, ◌+ℤ◌, ◌≤ℤ◌, refl, subst, arith}
+use Rattle.word_image.proofs.Common.{ints, LocalRule, IsRule, IsShape-offset, rule_from_parts}
 use Rattle.rule_lists.specs.Listed.{IsListed, at_offset}
 use Rattle.rule_lists.specs.Properties.{Has}
 use Rattle.rule_lists.specs.Tables.{HasLetters}
@@ -8,53 +8,25 @@ use Rattle.rule_lists.specs.declared.properties.Property.{Property}
 use Rattle.rule_lists.proofs.laws.Offsets.{Has-at_offset}
 use Rattle.list_run.specs.Lines.{with_table}
 
--- a rule is accepted at the offset of another one of its shape
-IsRule-at : {q r : LocalRule} → IsRule q → IsRule r → q.width ≡ r.width → IsRule (at_offset r q.offset)
-IsRule-at {q} {r} other rule width = record {
-  shape = record {
-    least_states = rule.shape.least_states;
-    most_states = rule.shape.most_states;
-    least_width = rule.shape.least_width;
-    most_width = rule.shape.most_width;
-    most_nodes = rule.shape.most_nodes;
-    least_offset = other.shape.least_offset;
-    most_offset = omega (arith, ints, width, other.shape.most_offset);
-  };
-  entries = rule.entries;
-  letters = rule.letters;
-}
+-- a rule is accepted at each offset within the limits
+IsRule-at_offset : {r : LocalRule} (o : ℤ) → IsRule r → negsuc 15 ≤ℤ o → (o +ℤ pos (r.width - 1)) ≤ℤ pos 16 → IsRule (at_offset r o)
+IsRule-at_offset o rule least most = record { shape = IsShape-offset o rule.shape least most; entries = rule.entries; letters = rule.letters }
 
 -- the rule of a line is accepted, and has the property
 pub printed_has : (property : Property) (shape r : LocalRule) (letters : List ℕ) → IsRule shape → IsListed property shape.states shape.width letters r
     → IsRule (with_table shape r.table) × Has property (with_table shape r.table)
 printed_has property shape r letters rule l =
     let same : at_offset r shape.offset ≡ with_table shape r.table = rule_from_parts l.shape.states l.shape.width refl refl in
-    let moved : IsRule (at_offset r shape.offset) = IsRule-at rule l.shape.rule (sym l.shape.width) in
+    let moved : IsRule (at_offset r shape.offset) = IsRule-at_offset shape.offset l.shape.rule rule.shape.least_offset (omega (arith, ints, l.shape.width, rule.shape.most_offset)) in
     let has : Has property (at_offset r shape.offset) = (Has-at_offset property r shape.offset l.shape.rule moved).0 l.has in
     (subst IsRule same moved, subst (Has property) same has)
-
--- the rule at offset 0 is accepted
-IsRule-at_zero : {r : LocalRule} → IsRule r → IsRule (at_offset r (pos 0))
-IsRule-at_zero {r} rule = record {
-  shape = record {
-    least_states = rule.shape.least_states;
-    most_states = rule.shape.most_states;
-    least_width = rule.shape.least_width;
-    most_width = rule.shape.most_width;
-    most_nodes = rule.shape.most_nodes;
-    least_offset = omega (arith, ints);
-    most_offset = omega (arith, ints, rule.shape.most_width);
-  };
-  entries = rule.entries;
-  letters = rule.letters;
-}
 
 -- each rule of the offset that has the property and the letters is that of a line
 pub is_printed : (property : Property) (shape q : LocalRule) (letters : List ℕ) → IsRule q → q.states ≡ shape.states → q.width ≡ shape.width → q.offset ≡ shape.offset
     → Has property q → HasLetters shape.states (shape.states ^ shape.width) letters q.table
     → (r : LocalRule) × IsListed property shape.states shape.width letters r × (q ≡ with_table shape r.table)
 is_printed property shape q letters rule states width offset has begins =
-    let zero_rule : IsRule (at_offset q (pos 0)) = IsRule-at_zero rule in (
+    let zero_rule : IsRule (at_offset q (pos 0)) = IsRule-at_offset (pos 0) rule (omega (arith, ints)) (omega (arith, ints, rule.shape.most_width)) in (
       at_offset q (pos 0),
       record {
         shape = record { rule = zero_rule; states = states; width = width; offset = refl };

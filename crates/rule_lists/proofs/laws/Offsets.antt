@@ -17,7 +17,6 @@ image_cell-moved r o i t =
     let place : i +ℤ o ≡ i +ℤ o -ℤ r.offset +ℤ r.offset = omega (arith, ints) in
     ap (λ j. local_map r (cells t j r.width)) place
 
-
 -- configurations that share an image at another offset share one
 ShareImage-back : (r : LocalRule) (o : ℤ) (x y : TailConfig) → ShareImage (at_offset r o) x y → ShareImage r x y
 ShareImage-back r o x y share i =
@@ -39,6 +38,6 @@ Has-moved Conserving r o rule moved has =
     let flux : IsFlux (λ a. a) r (walk_gains (λ a. a) r) = (IsConserving-walk_gains rule (λ a. a)).0 has in
     IsConserving-flux {phi = walk_gains (λ a. a) r} moved (record { entries = flux.entries; flows = flux.flows })
 
--- a rule has a property exactly where it has it at another offset
+-- a rule has a property exactly if it has it at another offset
 pub Has-at_offset : (property : Property) (r : LocalRule) (o : ℤ) → IsRule r → IsRule (at_offset r o) → Has property r ↔ Has property (at_offset r o)
 Has-at_offset property r o rule moved = (Has-moved property r o rule moved, Has-moved property (at_offset r o) r.offset moved rule)

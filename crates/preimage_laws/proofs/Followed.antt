@@ -1,0 +1,87 @@
+-- Where what is read around a place tells which nodes the preimages of a configuration have there.
+use Rattle.std.proofs.Common.{◌≡◌, ◌⊎◌, ℕ, ◌+◌, ◌-◌, ◌*◌, inl, inr, ⊎_elim, List, length, take, drop, ℤ, pos, ◌+ℤ◌, ◌-ℤ◌, unsigned_abs, refl, sym, ap, ◌∙◌, arith, ◌<ℤ◌, ◌≤ℤ◌}
+use Rattle.word_image.proofs.Common.{ints, LocalRule, IsRule, IsWord, node_count, image, decide_both}
+use Rattle.tail_config.proofs.Common.{Config, IsConfig, IsOpen, run, image_of, length-run, IsWord-run, run-same, take-run, drop-run, image-run}
+use Rattle.tail_laws.proofs.Common.{IsRightClosing-window, IsLeftClosing-window}
+use Rattle.config_laws.specs.Repeating.{RepeatsFarLeft, HasTails}
+use Rattle.config_laws.proofs.Dense.{matches-at, matches_written}
+use Rattle.config_laws.proofs.GoesOn.{enough}
+use Rattle.config_laws.proofs.BothSides.{Between, between}
+use Rattle.config_laws.proofs.Tails.{between_tails, repeats_from}
+use Rattle.config_laws.proofs.Onto.{same_word}
+use Rattle.config_laws.proofs.Endless.{decide_word}
+
+-- the node with which the window of place i begins
+abbrev pub node_under : LocalRule → Config → ℤ → List ℕ
+node_under r x i = run x (i +ℤ r.offset) (r.width - 1)
+
+-- a preimage of y with this node under place i
+abbrev pub Through : LocalRule → Config → ℤ → List ℕ → Type 0
+Through r y i w = (z : Config) × IsConfig r.states z × (image_of r z ≡ y) × (node_under r z i ≡ w)
+
+-- the letters are equal at the places from i - n to i + n
+abbrev pub AgreeAround : ℤ → ℕ → Config → Config → Type 0
+AgreeAround i n x y = (j : ℤ) → (i -ℤ pos n) ≤ℤ j → j ≤ℤ (i +ℤ pos n) → x j ≡ y j
+
+-- if the image of x agrees with y around place i, y has a preimage with the node of x
+abbrev pub IsFollowed : LocalRule → Config → ℤ → ℕ → Type 0
+IsFollowed r y i n = (x : Config) → IsConfig r.states x → AgreeAround i n (image_of r x) y → Through r y i (node_under r x i)
+
+-- a preimage that agrees with x around place i has the node of x
+Through-between : {r : LocalRule} {x y : Config} {p q : ℤ} → Between r x y p q → (i : ℤ) → p <ℤ i → i ≤ℤ q → Through r y i (node_under r x i)
+Through-between {r} {x} b i low high = (b.z, b.config, b.image, run-same b.z x _ _ (r.width - 1) (λ a l. b.inside _ (omega (arith, ints)) (omega (arith, ints))))
+
+-- under a rule that is closing on both sides as many places are enough for all configurations
+pub IsFollowed-open : {r : LocalRule} → IsRule r → IsOpen r → (n : ℕ) × ((y : Config) (i : ℤ) → IsConfig r.states y → IsFollowed r y i n)
+IsFollowed-open {r} rule closing =
+    let (k, right) = (IsRightClosing-window rule).0 closing.0 in
+    let (l, left) = (IsLeftClosing-window rule).0 closing.1 in (
+      enough r k + enough r l + 1,
+      λ y i hy x hx agree. Through-between (between rule right left hx hy (i -ℤ pos 1) i (omega (arith, ints)) (λ j low high. agree j (omega (arith, ints)) (omega (arith, ints)))) i (omega (arith, ints)) (omega (arith, ints)),
+    )
+
+-- around each place of a configuration that repeats far out some places are enough
+pub IsFollowed-tails : {r : LocalRule} {y : Config} → IsRule r → HasTails y → (i : ℤ) → (n : ℕ) × IsFollowed r y i n
+IsFollowed-tails {r} {y} rule (first, last) i =
+    let p : ℤ = i -ℤ pos (unsigned_abs (first.place -ℤ i) + 1) in
+    let left : RepeatsFarLeft y = record { place = p; period = first.period; some = first.some; again = λ j l. first.again j (omega (arith, ints)) } in
+    let (right, order) = repeats_from i last in
+    let n : ℕ = unsigned_abs (p -ℤ i) + node_count r * first.period + unsigned_abs (right.place -ℤ i) + node_count r * right.period in (
+      n,
+      λ x hx agree. Through-between (between_tails rule hx left right (omega (arith, ints)) (λ j low high. agree j (omega (arith, ints)) (omega (arith, ints)))).0 i (omega (arith, ints)) order,
+    )
+
+-- the letters under the places from i - n to i + n
+abbrev under : LocalRule → Config → ℤ → ℕ → List ℕ
+under r x i n = run x (i -ℤ pos n +ℤ r.offset) (n + n + 1 + (r.width - 1))
+
+-- the node under place i stands in the middle of them
+node-under : (r : LocalRule) (x : Config) (i : ℤ) (n : ℕ) → take (r.width - 1) (drop n (under r x i n)) ≡ node_under r x i
+node-under r x i n =
+    let all : n + n + 1 + (r.width - 1) ≡ n + (n + 1 + (r.width - 1)) = omega arith in
+    ap (λ l. take (r.width - 1) (drop n (run x (i -ℤ pos n +ℤ r.offset) l))) all
+    ∙ ap (take (r.width - 1)) (drop-run x (i -ℤ pos n +ℤ r.offset) (i +ℤ r.offset) n (n + 1 + (r.width - 1)) (omega (arith, ints)))
+    ∙ take-run x (i +ℤ r.offset) (n + 1 + (r.width - 1)) (r.width - 1) (omega arith)
+
+-- if some places around i are enough, it can be decided whether there is a preimage with a node under place i
+pub through_or_not : {r : LocalRule} {y : Config} → IsRule r → (i : ℤ) (n : ℕ) → IsFollowed r y i n → (w : List ℕ) → Through r y i w ⊎ ¬ Through r y i w
+through_or_not {r} {y} rule i n followed w =
+    ⊎_elim (λ (z, word, long, is). inl (through z word long is.0 is.1)) (λ none. inr (λ (z, hz, maps, node). none (
+      under r z i n,
+      IsWord-run hz s (n + n + 1 + (r.width - 1)),
+      length-run z s (n + n + 1 + (r.width - 1)),
+      (image-run rule z (i -ℤ pos n) s (n + n + 1) refl ∙ ap (λ (c : Config). run c (i -ℤ pos n) (n + n + 1)) maps, node-under r z i n ∙ node),
+    )))
+    (decide_word r.states (n + n + 1 + (r.width - 1)) (λ z. (image r z ≡ read) × (take (r.width - 1) (drop n z) ≡ w)) (λ z. decide_both (same_word (image r z) read) (same_word (take (r.width - 1) (drop n z)) w)))
+  where
+    s : ℤ
+    s = i -ℤ pos n +ℤ r.offset
+
+    read : List ℕ
+    read = run y (i -ℤ pos n) (n + n + 1)
+
+    through : (z : List ℕ) → IsWord r.states z → length z ≡ n + n + 1 + (r.width - 1) → image r z ≡ read → take (r.width - 1) (drop n z) ≡ w → Through r y i w
+    through z word long maps node =
+        let (m, whole) = matches_written rule (i -ℤ pos n) (n + n + 1) z (record { word = word; long = long ∙ ap (λ l. l + (r.width - 1)) (sym (length-run y (i -ℤ pos n) (n + n + 1))); maps = maps }) in
+        let found = followed m.x m.config (λ j low high. matches-at m j low (omega (arith, ints))) in
+        (found.0, found.1, found.2, found.3 ∙ sym (node-under r m.x i n) ∙ ap (λ u. take (r.width - 1) (drop n u)) (ap (run m.x s) (sym long) ∙ whole) ∙ node)

@@ -1,0 +1,2 @@
+pub mod PreimageCounts
+pub mod Examples

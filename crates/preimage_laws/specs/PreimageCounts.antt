@@ -1,0 +1,24 @@
+-- How many preimages a configuration has, and that they are separated.
+use Rattle.std.specs.Prelude.{◌≡◌, ℕ, ◌-◌, ◌<◌, ℤ}
+use Rattle.word_image.specs.LocalRules.{LocalRule}
+use Rattle.tail_config.specs.Configs.{Config, IsConfig, run, image_of}
+use Rattle.config_laws.specs.Maps.{Differ}
+
+-- y has n preimages: they are numbered from 0 to n - 1, each once
+pub record ArePreimages (r : LocalRule) (y : Config) (n : ℕ) (xs : ℕ → Config) : Type 0 where
+  pub configs : (i : ℕ) → i < n → IsConfig r.states (xs i)
+  pub maps : (i : ℕ) → i < n → image_of r (xs i) ≡ y
+  pub differ : (i j : ℕ) → i < j → j < n → Differ (xs i) (xs j)
+  pub all : (x : Config) → IsConfig r.states x → image_of r x ≡ y → (i : ℕ) × (i < n) × (xs i ≡ x)
+
+-- the map is n-to-one: each configuration has n preimages
+abbrev pub IsToOne : LocalRule → ℕ → Type 0
+IsToOne r n = (y : Config) → IsConfig r.states y → (xs : ℕ → Config) × ArePreimages r y n xs
+
+-- the map is constant-to-one: all configurations have the same number of preimages
+abbrev pub IsConstantToOne : LocalRule → Type 0
+IsConstantToOne r = (n : ℕ) × IsToOne r n
+
+-- different preimages of one configuration are separated: they differ in each run of m - 1 letters
+abbrev pub HasSeparatedPreimages : LocalRule → Type 0
+HasSeparatedPreimages r = (x y : Config) (i : ℤ) → IsConfig r.states x → IsConfig r.states y → image_of r x ≡ image_of r y → run x i (r.width - 1) ≡ run y i (r.width - 1) → x ≡ y
