@@ -19,7 +19,7 @@ tell_forms() {
 }
 
 # The crates on which no program of ca's and no library stands.
-apart=(answer_laws config_laws list_run preimage_laws rules worked_examples)
+apart=(answer_laws config_laws list_run preimage_laws public_calls rules worked_examples)
 
 # is_current CRATE OTHER..: whether the crate was built, and no source changed since that began, but for those
 # of the other crates.

@@ -24,7 +24,7 @@ class Declaration:
     def words(self, part=None):
         """The words of its code; with a part, those of that constructor and of the lines below it."""
         code = [line for line in self.lines if not line.lstrip().startswith("--")]
-        return {word for line in (case(code, part) if part else code) for word in WORD.findall(line)}
+        return {word for line in (case(code, part) if part else code) for word in WORD.findall(line)} - {part}
 
 
 def case(lines, part):
