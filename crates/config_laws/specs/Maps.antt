@@ -55,7 +55,7 @@ IsEvenlyOpenMap r = (n : ℕ) → (N : ℕ) × ((x : Config) → IsConfig r.stat
 abbrev pub Differ : Config → Config → Type 0
 Differ x y = (i : ℤ) × (x i ≢ y i)
 
--- configurations with one image, of which those numbered from 0 to n all differ
+-- configurations with the same image, of which those numbered from 0 to n all differ: the list may be filled up with any of these
 pub record AreMany (r : LocalRule) (n : ℕ) (xs : ℕ → Config) : Type 0 where
   pub configs : (i : ℕ) → IsConfig r.states (xs i)
   pub differ : (i j : ℕ) → i < j → j ≤ n → Differ (xs i) (xs j)

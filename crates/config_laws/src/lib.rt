@@ -95,7 +95,7 @@ pub fn surjective_is_dense()
 {}
 
 /// A rule is surjective exactly if each configuration is an image (compactness), if of two tests one
-/// passes, which is known as the lesser limited principle of omniscience. It follows from the law of the
+/// passes, which is a form of the lesser limited principle of omniscience. It follows from the law of the
 /// excluded middle. It is needed: it holds if each configuration is an image under every surjective rule.
 pub fn surjective_is_onto()
     ensures exactly { OneOfTwo → (r : LocalRule) → IsRule r → (IsSurjective r ↔ IsOntoMap r) }
