@@ -4,8 +4,8 @@ rt proves the crates below one after the other, and a second command of rt in a 
 a library as built wherever it lies, by the stamp beside it, which is a sum of its sources and of those below. So each crate
 below is built by `rt lib` in one of a few copies of the checkout, once those that it stands on are there, first the one
 with the most lines on the way up from it. It takes along what an earlier run left of it, brings it back here, and
-its library is linked into the other copies; then the command runs here. On standard error stands how far it is. However it
-ends, it stops what it began and removes the copies.
+its library is linked into the other copies; then the command runs here. On standard error stands how far it is, and how much
+longer it will take, by the pace so far. However it ends, it stops what it began and removes the copies.
 """
 import os
 import re
@@ -141,10 +141,19 @@ class Builds:
                 return False
         return True
 
+    def seconds_left(self, seconds):
+        """How long the crates that aren't built will take, if their lines take as long as those of the built ones did in these
+        seconds: the crates on the longest way up one after the other, or all of them on as many processors as there are."""
+        built = sum(map(lines_of, self.built))
+        left = [name for name in self.below if name not in self.built]
+        lines = max(sum(map(lines_of, left)) / self.most, max(map(self.ways.get, left)))
+        return seconds * self.most * lines / built
+
     def tell(self):
-        minutes = int(time.monotonic() - self.begun) // 60
+        seconds = time.monotonic() - self.begun
+        left = f", some {self.seconds_left(seconds) / 60:.0f} more" if len(self.built) >= 3 else ""
         names = " ".join(name for name, _, _ in self.running.values())
-        print(f"{len(self.built)} of {len(self.below)} crates, {minutes} minutes: {names}", file=sys.stderr, flush=True)
+        print(f"{len(self.built)} of {len(self.below)} crates, {seconds / 60:.0f} minutes{left}: {names}", file=sys.stderr, flush=True)
 
     def stop(self):
         for pid in self.running:
