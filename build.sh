@@ -10,14 +10,6 @@ END
     return 1
 }
 
-# Says how each command is called, by the headings of docs/COMMANDS.md.
-tell_forms() {
-    {
-        echo "usage: ./ca COMMAND OPERANDS, where R is a rule, as 110; docs/COMMANDS.md says what each does"
-        sed -n '/^## [a-z]/{ s/^## /    .\/ca /; s/, /\n    .\/ca /g; p }' "$top/docs/COMMANDS.md"
-    } >&2
-}
-
 # The crates on which no program of ca's and no library stands.
 apart=(answer_laws config_laws list_run preimage_laws public_calls rules worked_examples)
 

@@ -4,8 +4,8 @@
     python3 judge.py < certificate.json
 
 The exit status is 0 where it is accepted, 1 where it is refused, 5 where it is too long, 6 where it can't be read,
-7 where the answer can't be written, 8 where there is no memory, and 70 where Python fails otherwise. The steps of the
-shape and the conditions stand in the order of that page's tables.
+7 where the answer can't be written, 8 where there is no memory, and 70 where it is called with an operand or Python fails
+otherwise. The steps of the shape and the conditions stand in the order of that page's tables.
 """
 import contextlib
 import os
@@ -376,6 +376,11 @@ def main():
 
 def ended():
     """The exit status of main; where Python itself fails 8 for want of memory and 70 else, so that it's never an answer's."""
+    if len(sys.argv) > 1:
+        # A name of a file isn't read, so an answer would be about something else.
+        with contextlib.suppress(Exception):
+            print(f"usage: python3 {sys.argv[0]} < CERTIFICATE (it reads standard input only)", file=sys.stderr)
+        return 70
     try:
         return main()
     except MemoryError:

@@ -290,6 +290,8 @@ def scripts(tally):
         with open(path, mode) as unwritable:
             ended = [subprocess.run(command, input=SHIFT.encode(), stdout=unwritable).returncode for command in both]
         tally.same(name, [7, 7], ended)
+    done = subprocess.run([*words, "certificate.json"], stdin=subprocess.DEVNULL, capture_output=True)
+    tally.same("judge.py with an operand", (70, b"", True), (done.returncode, done.stdout, b"usage:" in done.stderr))
     # A fault of Python's own, here that what judges is no function, is never taken for an answer.
     fault = "import sys, judge; judge.judge = None; sys.exit(judge.ended())"
     done = subprocess.run([sys.executable, "-c", fault], cwd=ROOT / "checkers", input=b"", capture_output=True)

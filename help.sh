@@ -1,0 +1,310 @@
+# What ./ca, ./try and ./rules say to whoever needs help: how a command is called, and what a fault of theirs means. Each
+# names itself in `me` and the checkout in `top`, and sources this.
+commands_page=$top/docs/COMMANDS.md
+
+# explains: whether a script says what a fault means: only at a terminal, and CA_EXPLAIN, which is yes or no, decides else.
+explains() {
+    case ${CA_EXPLAIN-} in
+    yes) return 0 ;;
+    no) return 1 ;;
+    *) [ -t 2 ] ;;
+    esac
+}
+
+# asks_help WORD..: whether one of the words is --help, or the first is help or -h.
+asks_help() {
+    local word
+    case ${1-} in help | -h) return 0 ;; esac
+    for word; do [ "$word" != --help ] || return 0; done
+    return 1
+}
+
+# plain: reads Markdown, and leaves of each link its words.
+plain() { sed -E 's/\[([^]]*)\]\([^)]*\)/\1/g'; }
+
+# forms: a line for each command, how it is called and what it does.
+forms() { sed -n '/^## All forms$/,/^## R,/s/^    \.\/ca/&/p' "$commands_page"; }
+
+# form COMMAND: its line of these.
+form() { forms | sed -n "/^ *\.\/ca $1 /p"; }
+
+# is_command WORD
+is_command() { [[ $1 =~ ^[a-z]+$ ]] && [ -n "$(form "$1")" ]; }
+
+# operands COMMAND: what stands behind it, [..] where it may be missing.
+operands() { form "$1" | sed -E 's/^ *\.\/ca [a-z]+ //; s/  .*//; s/<.*//'; }
+
+# may_be COMMAND OPERAND: what the operand may be.
+may_be() {
+    case $2 in
+    R) echo "a rule: the number of an elementary rule, 0 to 255, or K:M:O:t and its table, such as 2:3:-1:t01110110" ;;
+    '[WEIGHTS]') echo "one word: a weight from 0 to 255 for each letter, with one comma between, such as 0,1" ;;
+    K) echo "the number of states, from 2 to 16" ;;
+    M) if [ "$1" = widen ]; then echo "a width of one digit, from that of R to 5"; else echo "the width, from 2 to 5"; fi ;;
+    FROM) echo "the number of the first rule, of at most 39 digits" ;;
+    COUNT) echo "the number of rules, from 1 to 4096" ;;
+    SEED) echo "a number below 2^64, of at most 20 digits" ;;
+    N) echo "a number of cells of one or two digits, with a - before it for cells to the left" ;;
+    DIGITS) echo "the new names of the letters 0, 1, .. in one word of 1 to 16 hexadecimal digits, such as 10" ;;
+    'L|M|R') echo "one word in quotes with two bars, such as '0|1|0': left period, middle and right period, in hexadecimal digits" ;;
+    PROPERTY) echo "surjective, injective, right, left, open or conserving" ;;
+    BEGIN) echo "the beginning of a table: K:M:O:t and digits, as many as wanted, such as 2:3:-1:t" ;;
+    esac
+}
+
+# fits COMMAND OPERAND WORD: whether the word has the form of the operand. A rule may be any word here.
+fits() {
+    local LC_ALL=C weight='([01]?[0-9]{1,2}|2[0-4][0-9]|25[0-5])' padded
+    case $2 in
+    R | BEGIN) return 0 ;;
+    '[WEIGHTS]') [[ $3 =~ ^$weight(,$weight){0,15}$ ]] ;;
+    K) [[ $3 =~ ^[0-9]{1,2}$ ]] ;;
+    M) [[ $3 =~ ^[0-9]{1,2}$ ]] && [ "$1 ${#3}" != 'widen 2' ] ;;
+    FROM) [[ $3 =~ ^[0-9]{1,39}$ ]] ;;
+    COUNT) [[ $3 =~ ^[0-9]{1,4}$ ]] && ((10#$3 >= 1 && 10#$3 <= 4096)) ;;
+    SEED) padded=0000000000000000000$3 && [[ $3 =~ ^[0-9]{1,20}$ && ${padded: -20} < 18446744073709551616 ]] ;;
+    N) [[ $3 =~ ^-?[0-9]{1,2}$ ]] ;;
+    DIGITS) [[ $3 =~ ^[0-9a-fA-F]{1,16}$ ]] ;;
+    'L|M|R') [[ $3 =~ ^[0-9a-fA-F]*\|[0-9a-fA-F]*\|[0-9a-fA-F]*$ ]] ;;
+    PROPERTY) [[ $3 =~ ^(surjective|injective|right|left|open|conserving)$ ]] ;;
+    esac
+}
+
+# no_command WORD: says that the word is no command, and what may be meant.
+no_command() {
+    local meant=
+    case $1 in
+    -*) echo "there are no options, and \`$1\` is no command" ;;
+    *) echo "there is no command \`$1\`" ;;
+    esac
+    case ${1,,} in
+    rules | list | lists) echo "./rules PROPERTY BEGIN lists all rules of a shape" ;;
+    surjective | injective | bijective | reversible | invertible | open | closing | conserving | report) meant=decide ;;
+    [0-9]*) meant=decide ;;
+    ???*) meant=$(forms | sed -n "s/^ *\.\/ca \(${1,,}[a-z]*\) .*/\1/p" 2>/dev/null | sed -n 1p) ;;
+    esac
+    if [ -n "$meant" ]; then
+        echo "is it $meant?"
+        form "$meant"
+    else
+        forms
+    fi
+}
+
+# usage_fault NAME OPERANDS WORD..: says why these words can't stand behind the name, where these operands are to; fails if
+# they can.
+usage_fault() {
+    local name=$1 all=() least=0 one word
+    read -ra all <<<"$2"
+    shift 2
+    for one in ${all[@]+"${all[@]}"}; do [[ $one == \[* ]] || least=$((least + 1)); done
+    if [ $# -lt "$least" ] || [ $# -gt ${#all[@]} ]; then
+        [[ " $*" != *' --'* ]] || echo "there are no options"
+        echo "after $name comes ${all[*]:-no word}, and not ${*:-nothing}"
+        [ "$name" != check ] || echo "check reads standard input: ./ca check < FILE"
+        for one in $(printf '%s\n' ${all[@]+"${all[@]}"} | uniq); do echo "${one//[][]/} is $(may_be "$name" "$one")"; done
+        return 0
+    fi
+    for word; do
+        one=${all[0]}
+        all=("${all[@]:1}")
+        fits "$name" "$one" "$word" && continue
+        [[ $word != --* ]] || echo "there are no options"
+        echo "${one//[][]/} is $(may_be "$name" "$one"), and not \`$word\`"
+        return 0
+    done
+    return 1
+}
+
+# meaning OF FAULT: what a fault means. OF is `rule` for the text of a rule, `shape` for K, M and the numbers behind them,
+# `list` for a BEGIN, and the command for a cause of NotFit.
+meaning() {
+    case "$1 $2" in
+    'rule form') echo "it must be $(may_be ca R)" ;;
+    'list form') echo "it must be $(may_be rules BEGIN)" ;;
+    'rule states' | 'shape states' | 'list states') echo "K, the number of states, must be 2 to 16" ;;
+    'rule width' | 'shape width' | 'list width') echo "M, the width, must be 2 to 5" ;;
+    'rule nodes' | 'shape nodes' | 'list nodes')
+        echo "K to the power of M - 1 must be at most 16: M is at most 5 for 2 states, 3 for 3 and 4 states, and 2 for more" ;;
+    'rule offset' | 'list offset') echo "the window must be within 16 cells: O must be at least -16, and O + M - 1 at most 16" ;;
+    'rule kind') echo "rules of seven states or more have no numbers; give the table, K:M:O:t and its digits" ;;
+    'shape kind') echo "K must be at most 6: rules of seven states or more have no numbers; sample draws them" ;;
+    'list kind' | 'list number') echo "it must be the beginning of a table, K:M:O:t and digits; a number isn't one" ;;
+    'rule length') echo "the table must have one digit for each window, K to the power of M digits" ;;
+    'list length') echo "it must have no more digits than there are windows, K to the power of M" ;;
+    'rule letter' | 'list letter') echo "each digit of the table must be less than K" ;;
+    'rule number')
+        echo "an elementary rule has a number from 0 to 255, another one a number less than K^(K^M)"
+        echo "digits without colons are a number; before a table stands K:M:O:t, as in 2:3:-1:t01110110" ;;
+    'shape number') echo "FROM + COUNT - 1, the last number, must be less than K^(K^M); that is 256 for K 2 and M 3" ;;
+    'compose states' | 'same states') echo "both rules must have the same number of states" ;;
+    'compose width') echo "the width of the result must be at most 5: it is the sum of both widths less 1" ;;
+    'compose nodes') echo "with M the sum of both widths less 1, $(meaning rule nodes)" ;;
+    'compose offset') echo "the window of the result must be within 16 cells on both sides" ;;
+    'widen width') echo "M must be from the width of R to 5" ;;
+    'widen nodes') meaning rule nodes ;;
+    'widen offset') echo "the window must be within 16 cells: O + M - 1 must be at most 16" ;;
+    'shift offset') echo "N must leave the window within 16 cells on both sides" ;;
+    'permute permutation') echo "DIGITS must have each letter from 0 to K - 1 exactly once, such as 10 for two states" ;;
+    'inverse twins') echo "R has no inverse, since it isn't injective: these two words, each closed to a ring, have one image" ;;
+    'inverse wide') echo "R has an inverse, but its table is too large: there are more than 65,536 words of so many letters" ;;
+    'preimage tail leftempty') echo "the left period, before the first bar, must have a letter" ;;
+    'preimage tail rightempty') echo "the right period, behind the second bar, must have a letter" ;;
+    'preimage tail long') echo "each of the three parts must have at most 1,024 letters" ;;
+    'preimage tail letter') echo "each letter must be less than the number of states of R" ;;
+    'decide weights' | 'certify weights' | 'brief weights')
+        echo "WEIGHTS must have one number for each letter of R, such as 0,1 for two states" ;;
+    'least colours') echo "R must have at most six states" ;;
+    'lift states' | 'unlift states') echo "R must have at most 4 states: its letters become pairs, and there are at most 16" ;;
+    'lift nodes' | 'unlift nodes') echo "R is too wide: its width must be 2 or 3 for 2 states, and 2 for 3 and 4 states" ;;
+    'lift centre' | 'unlift centre') echo "the window of a cell must hold the cell itself: O must be from 1 - M to 0" ;;
+    *) return 1 ;;
+    esac
+}
+
+# may_follow PREFIX: what may stand behind the beginning of a rule's text.
+may_follow() {
+    local LC_ALL=C digits='a decimal digit'
+    if [[ $1 =~ ^[0-9]{1,2}$ ]]; then echo "$digits or :"
+    elif [[ $1 =~ ^[0-9]{39}$ ]]; then echo "nothing"
+    elif [[ $1 =~ ^[0-9]+$ ]]; then echo "$digits"
+    elif [[ $1 =~ ^[0-9]+:$ ]]; then echo "the width, $digits"
+    elif [[ $1 =~ ^[0-9]+:[0-9]$ ]]; then echo "$digits or :"
+    elif [[ $1 =~ ^[0-9]+:[0-9]{2}$ ]]; then echo ":"
+    elif [[ $1 =~ ^[0-9]+:[0-9]+:$ ]]; then echo "the offset, - or $digits"
+    elif [[ $1 =~ ^[0-9]+:[0-9]+:-$ ]]; then echo "$digits"
+    elif [[ $1 =~ ^[0-9]+:[0-9]+:-?[0-9]$ ]]; then echo ": or $digits"
+    elif [[ $1 =~ ^[0-9]+:[0-9]+:-?[0-9]{2}$ ]]; then echo ":"
+    elif [[ $1 =~ ^[0-9]+:[0-9]+:-?[0-9]+:$ ]]; then echo "t and a table, or w and a number"
+    elif [[ $1 =~ :t[0-9a-fA-F]*$ ]]; then echo "a hexadecimal digit"
+    elif [[ $1 =~ :w[0-9]{39}$ ]]; then echo "nothing"
+    else echo "$digits"; fi
+}
+
+# at_place TEXT KIND PLACE: where in a rule's text the fault is, where its kind has a place.
+at_place() {
+    local LC_ALL=C next
+    case $2 in
+    form)
+        next=${1:$3:1}
+        case $next in
+        '') next='it ends there' ;;
+        [[:graph:]]) next="not \`$next\`" ;;
+        *) next='nothing else' ;;
+        esac
+        [ "$3" = 0 ] && echo "it begins with a decimal digit, and $next" && return
+        echo "after \`${1:0:$3}\` comes $(may_follow "${1:0:$3}"), and $next"
+        ;;
+    letter) echo "its digit ${1:$3:1} after \`${1:0:$3}\` isn't" ;;
+    length)
+        [[ $1 =~ ^0?([0-9]+):0?([0-9]+):.*t(.*)$ ]] || return
+        echo "these are $((BASH_REMATCH[1] ** BASH_REMATCH[2])) digits, and it has ${#BASH_REMATCH[3]}"
+        ;;
+    esac
+}
+
+# explain OUTPUT WORD..: says what it means that the program's output for these words is this one, and how it is called.
+explain() {
+    local output=$1 name=${2-} text place kind at
+    shift
+    case $output in
+    'usage error')
+        if [ "$me" = rules ]; then
+            usage_fault ./rules 'PROPERTY BEGIN' "$@"
+        elif is_command "$name"; then
+            usage_fault "$name" "$(operands "$name")" "${@:2}"
+        else
+            no_command "$name"
+            return
+        fi
+        ;;
+    'rule fault '*)
+        read -r place kind at <<<"${output#rule fault }"
+        text=${*:place+1:1}
+        if [ "$me" = rules ]; then
+            echo "BEGIN is \`$2\`: $(meaning list "$kind")"
+            at_place "$2" "$kind" "$at"
+        elif [[ $(operands "$name") == K* ]]; then
+            echo "K is $2 and M is $3: $(meaning shape "$kind")"
+        else
+            echo "R is \`$text\`: $(meaning rule "$kind")"
+            at_place "$text" "$kind" "$at"
+        fi
+        ;;
+    'notfit '*)
+        kind=${output#notfit }
+        case $kind in twins* | wide*) kind=${kind%% *} ;; esac
+        meaning "$name" "$kind"
+        ;;
+    esac
+    if [ "$me" = rules ]; then echo '    ./rules PROPERTY BEGIN'; else form "$name"; fi
+}
+
+# explained PROGRAM WORD..: runs the program and gives its status. If somebody looks at standard error and the words are refused,
+# it says there what that means; the program then answers once more, in one line, so that its first output is its own.
+explained() {
+    local status
+    explains || exec "$@"
+    "$@"
+    status=$?
+    case $status in
+    [234]) explain "$("$@" 2>/dev/null </dev/null)" "${@:2}" | sed "s/^[^ ]/$me: &/" >&2 ;;
+    esac
+    return "$status"
+}
+
+# page COMMAND: its form, what its operands may be, and its part of docs/COMMANDS.md.
+page() {
+    local one line inside=
+    form "$1"
+    for one in $(operands "$1" | tr ' ' '\n' | uniq); do echo "${one//[][]/} is $(may_be "$1" "$one")."; done
+    while IFS= read -r line; do
+        case $line in
+        "## $1" | "## $1 "*) inside=yes ;;
+        '## '*) inside= ;;
+        esac
+        [ -z "$inside" ] || printf '%s\n' "${line#\#\# }"
+    done <"$commands_page" | plain
+}
+
+# give_help WORD..: where there are no words or they ask for help, says on standard error what they ask for, gives the program's
+# answer to them and ends. It returns if it would have to judge a rule for that answer.
+give_help() {
+    local word name=
+    [ $# = 0 ] || asks_help "$@" || return
+    for word; do [ -n "$name" ] || ! is_command "$word" || name=$word; done
+    if [ -n "$name" ]; then
+        page "$name"
+    else
+        echo "usage: ./ca COMMAND OPERANDS, where R is a rule, such as 110"
+        forms
+        echo "./ca help COMMAND says more of one; docs/COMMANDS.md has all."
+    fi >&2
+    if ! is_command "${1-}" || usage_fault "$1" "$(operands "$1")" "${@:2}" >/dev/null; then
+        printf 'usage error\n' 2>/dev/null || exit 7
+        exit 2
+    fi
+    # --help stands in the place of a rule. A number of an elementary rule before it is accepted.
+    if [ "$2" = --help ] || [[ $2 =~ ^0{0,30}([0-9]{1,3})$ && 10#${BASH_REMATCH[1]} -le 255 ]]; then
+        [ "$2" = --help ] && place=1 || place=2
+        printf 'rule fault %s form 0\n' "$place" 2>/dev/null || exit 7
+        exit 3
+    fi
+}
+
+# give_lists_help WORD..: where there are no words, says on standard error how ./rules is called, gives the program's answer
+# and ends; where they ask for help, prints the beginning of docs/LISTS.md and ends.
+give_lists_help() {
+    local one
+    if asks_help "$@"; then
+        sed -n '/^## The order$/q; p' "$top/docs/LISTS.md" | plain || exit 70
+        exit 0
+    fi
+    [ $# = 0 ] || return 0
+    {
+        echo 'usage: ./rules PROPERTY BEGIN; ./rules --help says more'
+        for one in PROPERTY BEGIN; do echo "    $one is $(may_be ./rules "$one")"; done
+    } >&2
+    printf 'usage error\n' 2>/dev/null || exit 7
+    exit 2
+}
