@@ -116,6 +116,30 @@ pub record SmallSolution (n i : ℕ) (g : ℕ → ℕ) (x y : ℕ → List ℕ) 
   pub some : weight place ≢ pos 0
   pub solves : (a : ℕ) → a < n → 1 ≤ g a → gain_at weight (x a) (y a) ≡ pos 0
 
+-- weights that are the digits of a number, and at place i what is left of it
+abbrev weights : ℕ → ℕ → (ℕ → ℕ) → ℕ → ℕ → ℕ
+weights n i base v = but (digit base v) i (v / product n base)
+
+-- of numbers below t + 1 times the product the weights are at most t
+weights-most : (n i t v a : ℕ) (base : ℕ → ℕ) → ((b : ℕ) → 1 ≤ base b) → ((b : ℕ) → base b ≤ t + 1) → v < (t + 1) * product n base → weights n i base v a ≤ t
+weights-most n i t v a base some few less =
+    ⊎_elim
+    (λ here. let top_digit = div_below v (product n base) (t + 1) (product-positive n base some) less in omega (arith, here.1, top_digit))
+    (λ there. let below = mod_below (v / product a base) (base a) (some a) in omega (arith, there.1, below, few a))
+    (but_cases (digit base v) i (v / product n base) a)
+
+-- different numbers have different weights, where place i has no digit
+weights-differ : (n i : ℕ) (base : ℕ → ℕ) (v u : ℕ) → i < n → ((a : ℕ) → 1 ≤ base a) → base i ≡ 1 → u < v → (a : ℕ) × (a < n) × (weights n i base v a ≢ weights n i base u a)
+weights-differ n i base v u l some one order =
+    ⊎_elim
+    (λ (equal : v / product n base ≡ u / product n base).
+    let found = differ n base some v u (λ rest. absurd (omega (arith, order, ap (λ m. product n base * m) equal, rest, div-add-mod v (product n base), div-add-mod u (product n base)))) in
+    let single : (m : ℕ) → digit base m i ≡ 0 = λ m. rw one (omega arith) in
+    let apart : found.0 ≢ i = λ e. found.2 (rw e (single v ∙ sym (single u))) in
+    (found.0, found.1, λ e. found.2 (sym (but_else (digit base v) i _ found.0 apart) ∙ e ∙ but_else (digit base u) i _ found.0 apart)))
+    (λ (other : v / product n base ≢ u / product n base). (i, l, λ e. other (sym (but_there (digit base v) i _ i refl) ∙ e ∙ but_there (digit base u) i _ i refl)))
+    (cases_eq (v / product n base) (u / product n base))
+
 -- conditions of words of at most h letters, one for each place where g isn't 0, have a solution there and at one place more
 pub small_solution : (n h i : ℕ) (g : ℕ → ℕ) (x y : ℕ → List ℕ) → i < n → 1 ≤ h → g i ≡ 0 → ((a : ℕ) → a < n → 1 ≤ g a → (length (x a) ≤ h) × (length (y a) ≤ h))
     → SmallSolution n i g x y (product n (λ a. pick (g a) 1 (2 * h)))
@@ -124,29 +148,18 @@ small_solution n h i g x y l some none short =
     let base : ℕ → ℕ = λ a. pick (g a) 0 t + 1 in
     let top : ℕ → ℕ = λ a. 2 * h * pick (g a) 0 t + 1 in
     let all : ℕ = (t + 1) * product n base in
-    let w : ℕ → ℕ → ℕ = λ v. but (digit base v) i (v / product n base) in
+    let w : ℕ → ℕ → ℕ = weights n i base in
     let codes : ℕ → ℕ → ℕ = λ v a. pick (g a) 0 (code (h * t) (w v) (x a) (y a)) in
-    let positive : 1 ≤ product n base = product-positive n base (λ a. omega arith) in
-    let single : (v : ℕ) → digit base v i ≡ 0 = λ v. let one : base i ≡ 1 = ap (λ m. pick m 0 t + 1) none in rw one (omega arith) in
-    let most : (v a : ℕ) → v < all → w v a ≤ t = λ v a less.
-    ⊎_elim
-    (λ here. let top_digit = div_below v (product n base) (t + 1) positive less in omega (arith, here.1, top_digit))
-    (λ there. let below = mod_below (v / product a base) (base a) (omega arith) in omega (arith, there.1, below, pick-most (g a) t))
-    (but_cases (digit base v) i (v / product n base) a) in
+    let some_base : (a : ℕ) → 1 ≤ base a = λ a. omega arith in
+    let no_digit : base i ≡ 1 = ap (λ m. pick m 0 t + 1) none in
+    let most : (v a : ℕ) → v < all → w v a ≤ t = λ v a. weights-most n i t v a base some_base (λ b. omega (arith, pick-most (g b) t)) in
     let below : (v : ℕ) → v < all → (a : ℕ) → a < n → codes v a < top a = λ v less a k.
     code-below (g a) h t _ _ (λ noted. omega (arith, sum_by-le (w v) t (x a) (λ m d j. most v _ less), mul-le-mul_right t (short a k noted).0)) in
-    let fewer : product n top < all = omega (arith, positive, product-le n top (λ a. pick (g a) 1 (2 * h)) base (λ a. base-le (g a) h t some)) in
+    let fewer : product n top < all = omega (arith, product-positive n base some_base, product-le n top (λ a. pick (g a) 1 (2 * h)) base (λ a. base-le (g a) h t some)) in
     let (u, v, order, last, same) = twice_below (product n top) (λ m. number n top (codes m)) (λ m k. number-below n top (codes m) (below m (omega (arith, fewer)))) in
     let v_within : v < all = omega (arith, fewer, last) in
     let u_within : u < all = omega (arith, v_within, order) in
-    let differs : (a : ℕ) × (a < n) × (w v a ≢ w u a) =
-    ⊎_elim
-    (λ (equal : v / product n base ≡ u / product n base).
-    let found = differ n base (λ a. omega arith) v u (λ rest. absurd (omega (arith, order, ap (λ m. product n base * m) equal, rest, div-add-mod v (product n base), div-add-mod u (product n base)))) in
-    let apart : found.0 ≢ i = λ e. found.2 (rw e (single v ∙ sym (single u))) in
-    (found.0, found.1, λ e. found.2 (sym (but_else (digit base v) i _ found.0 apart) ∙ e ∙ but_else (digit base u) i _ found.0 apart)))
-    (λ (other : v / product n base ≢ u / product n base). (i, l, λ e. other (sym (but_there (digit base v) i _ i refl) ∙ e ∙ but_there (digit base u) i _ i refl)))
-    (cases_eq (v / product n base) (u / product n base)) in
+    let differs = weights-differ n i base v u l some_base no_digit order in
     record {
       weight = λ a. pos (w v a) -ℤ pos (w u a);
       small = λ a. difference-most (w v a) (w u a) t (most v a v_within) (most u a u_within);
