@@ -7,9 +7,10 @@ use Rattle.rule_text.proofs.laws.Texts.{IsRuleText-no_fault, IsTextFault-unique}
 use Rattle.rule_text.proofs.laws.AcceptedRules.{IsRule-said, IsRule-text, none_map}
 use Rattle.rule_verdicts.specs.Numbers.{numbered_rule, numbers_fault}
 use Rattle.ca_words.specs.declared.names.Name.{Name}
-use Rattle.ca_words.specs.Commands.{Command, IsCommand, rule_count}
+use Rattle.ca_words.specs.declared.names.Name.TheVariants as name
+use Rattle.ca_words.specs.Commands.{Command, Form, IsCommand, form_of, rule_count}
 use Rattle.ca_findings.proofs.Common.{Question, AreRules}
-use Rattle.ca_answers.specs.Samples.{survey_rules, state_after, drawn_rule, sample_rules}
+use Rattle.ca_findings.specs.Samples.{survey_rules, state_after, drawn_rule, sample_rules}
 use Rattle.ca_answers.proofs.laws.Samples.{survey-accepted, IsRule-drawn}
 use Rattle.ca_cli.specs.Asked.{AreRuleTexts, Asks, IsAsked, IsFirstFault, IsShapeFault, IsOperandFault}
 
@@ -60,10 +61,9 @@ IsFirstFault-unique (IsFirstFault.Later text texts r i f says fault) (IsFirstFau
     let (same, one) = IsFirstFault-unique fault other in (ap (λ n. n + 1) same, one)
 
 -- a shape has one first fault
-IsShapeFault-unique : {n : Name} {operands : List (List ℕ)} {f g : TextFault} → IsShapeFault n operands f → IsShapeFault n operands g → f ≡ g
-IsShapeFault-unique (IsShapeFault.Survey k m from count f is) (IsShapeFault.Survey _ _ _ _ g also) = same_Some f g (sym is ∙ also)
-IsShapeFault-unique (IsShapeFault.Sample k m seed count f is) (IsShapeFault.Sample _ _ _ _ g also) = same_Some f g (sym is ∙ also)
-IsShapeFault-unique (IsShapeFault.Classes k m from count f is) (IsShapeFault.Classes _ _ _ _ g also) = same_Some f g (sym is ∙ also)
+IsShapeFault-unique : {form : Form} {operands : List (List ℕ)} {f g : TextFault} → IsShapeFault form operands f → IsShapeFault form operands g → f ≡ g
+IsShapeFault-unique (IsShapeFault.Numbers k m from count f is) (IsShapeFault.Numbers _ _ _ _ g also) = same_Some f g (sym is ∙ also)
+IsShapeFault-unique (IsShapeFault.Seed k m seed count f is) (IsShapeFault.Seed _ _ _ _ g also) = same_Some f g (sym is ∙ also)
 
 -- a text with a fault is a text
 IsFirstFault-some : {texts : List (List ℕ)} {i : ℕ} {f : TextFault} → IsFirstFault texts i f → 0 < length texts
@@ -71,14 +71,15 @@ IsFirstFault-some (IsFirstFault.Here text texts f is) = omega arith
 IsFirstFault-some (IsFirstFault.Later text texts r i f says fault) = omega arith
 
 -- a command with texts of rules has no shape with a fault
-IsShapeFault-no_rules : {n : Name} {operands : List (List ℕ)} {g : TextFault} → 0 < rule_count n → IsShapeFault n operands g → ⊥
-IsShapeFault-no_rules some (IsShapeFault.Survey k m from count g is) = omega (arith, some)
-IsShapeFault-no_rules some (IsShapeFault.Sample k m seed count g is) = omega (arith, some)
-IsShapeFault-no_rules some (IsShapeFault.Classes k m from count g is) = omega (arith, some)
+IsShapeFault-no_rules : (n : Name) {operands : List (List ℕ)} {g : TextFault} → 0 < rule_count n → IsShapeFault (form_of n) operands g → ⊥
+IsShapeFault-no_rules name.Survey some fault = omega (arith, some)
+IsShapeFault-no_rules name.Sample some fault = omega (arith, some)
+IsShapeFault-no_rules name.Classes some fault = omega (arith, some)
+IsShapeFault-no_rules _ some fault = elim fault [ ]
 
 -- of the operands of a command one is the first with a fault, and it has one first fault
 pub IsOperandFault-unique : {words : List (List ℕ)} {c : Command} {i j : ℕ} {f g : TextFault} → IsCommand words c → IsOperandFault c i f → IsOperandFault c j g → (i ≡ j) × (f ≡ g)
 IsOperandFault-unique is (IsOperandFault.OfRule c i f fault) (IsOperandFault.OfRule _ j g also) = IsFirstFault-unique fault also
-IsOperandFault-unique is (IsOperandFault.OfRule c i f fault) (IsOperandFault.OfShape _ g shape) = absurd (IsShapeFault-no_rules (omega (arith, is.rules, IsFirstFault-some fault)) shape)
-IsOperandFault-unique is (IsOperandFault.OfShape c f shape) (IsOperandFault.OfRule _ j g fault) = absurd (IsShapeFault-no_rules (omega (arith, is.rules, IsFirstFault-some fault)) shape)
+IsOperandFault-unique is (IsOperandFault.OfRule c i f fault) (IsOperandFault.OfShape _ g shape) = absurd (IsShapeFault-no_rules _ (omega (arith, is.rules, IsFirstFault-some fault)) shape)
+IsOperandFault-unique is (IsOperandFault.OfShape c f shape) (IsOperandFault.OfRule _ j g fault) = absurd (IsShapeFault-no_rules _ (omega (arith, is.rules, IsFirstFault-some fault)) shape)
 IsOperandFault-unique is (IsOperandFault.OfShape c f shape) (IsOperandFault.OfShape _ g also) = (refl, IsShapeFault-unique shape also)

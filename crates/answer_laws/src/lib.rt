@@ -1,8 +1,9 @@
-//! That there is exactly one right reply: the words, and what the source has left, determine the value that is
-//! said to them, and with it the status and each byte of every form in which it is written.
+//! There is at most one right reply: the words, and what the source has left, determine the value that is
+//! said to them, and with it the status and each byte of every form in which it is written. That there is one isn't
+//! a law here: [`ca_cli::run`] gives one unless a read, a write or a request for memory fails.
 //!
-//! A command asks one question, of accepted rules. A question has one right finding, and where nothing fits, one
-//! cause: what is found of a rule is the least of its kind, or a number that the rule determines, or a rule
+//! A command asks at most one question, of accepted rules. A question has at most one right finding, and if nothing
+//! fits, at most one cause: what is found of a rule is the least of its kind, or a number that the rule determines, or a rule
 //! that is told by its images, or a list of all of a kind in their order. Of two that come no later than
 //! each other in a total order both are one.
 //!
@@ -16,8 +17,8 @@ ghost use Rattle.ca_findings.specs.Replies.{Reply};
 ghost use Rattle.ca_cli.specs.Readings.{ReadsNothing};
 ghost use Rattle.ca_cli.specs.RightAnswers.{IsAnswer, IsReplyTo};
 
-/// Words have one right reply: whatever the source, where they are no command or one that reads nothing, and for
-/// all words over a source that tells what it has left.
+/// Words have at most one right reply: over any source if they are no command or one that reads nothing, and over
+/// a source that tells what it has left for all words.
 pub fn one_reply()
     ensures unread { (words : List (List ℕ)) (input : Option (List ℕ)) (reply other : Reply)
         → ((c : Command) → IsCommand words c → ReadsNothing c)
@@ -26,8 +27,8 @@ pub fn one_reply()
         → IsReplyTo words (Some left) reply → IsReplyTo words (Some left) other → reply ≡ other }
 {}
 
-/// Words have one right output with each status: whatever the source, where they are no command or one that
-/// reads nothing, and for all words over a source that tells what it has left.
+/// Words have at most one right output with each status: over any source if they are no command or one that reads
+/// nothing, and over a source that tells what it has left for all words.
 pub fn one_output()
     ensures unread { (words : List (List ℕ)) (input : Option (List ℕ)) (s : Status) (out other : List ℕ)
         → ((c : Command) → IsCommand words c → ReadsNothing c)

@@ -2,17 +2,15 @@
 ghost use Rattle.std.specs.Prelude.{◌≡◌, [], option_copied, IfOk};
 ghost use Rattle.cert_format.specs.Parts.{sum_of};
 ghost use Rattle.word_image.specs.LocalRules.{IsRule};
-ghost use Rattle.certificate_laws.specs.LeastEvidence.{Evidence};
-ghost use Rattle.ca_findings.specs.Findings.{Finding};
-ghost use Rattle.ca_findings.specs.Values.{evidence_of, finding_of};
+ghost use Rattle.ca_findings.specs.Values.{evidence_of};
 ghost use Rattle.c_values.specs.ReportParts.{IsShortSum};
 ghost use Rattle.c_values.specs.Reports.{IsReported, IsReportOf, letters_in, named_weights, no_report, rule_with};
 
 use crate::letter_rows::{LetterRow, NO_ROW, NO_SPLIT, NO_TWINS, SplitRows, TwinRows};
 use crate::report_parts::{MOST_NODES, add_conserving, add_injective, add_side, add_surjective};
 use crate::table_verdicts::fault_number;
-use ca_answers::report;
-use ca_findings::{Found, Report, Stop};
+use ca_answers::{report_with, weights_for};
+use ca_findings::Report;
 use std::alloc::{AllocError, Global};
 use word_image::Rule;
 
@@ -134,21 +132,9 @@ fn report_of_rule(alloc: Global, rule: &Rule, weights: &[u8]) -> Result<Reported
     requires { IsRule rule.now }
     ensures { IfOk result (λ made. IsReported rule.now (named_weights weights.now) made.report made.letters.items) }
 {
-    match report(alloc, rule, named(weights)) {
-        Ok(found) => written(alloc, &report_in(found)),
-        Err(Stop::Unfit(_)) => Ok(without(alloc, NO_WEIGHTS)),
-        Err(Stop::Memory(fault)) => Err(fault),
-    }
-}
-
-/// The report that is found.
-fn report_in(found: Found) -> Report
-    requires { (e : Evidence) × (finding_of found ≡ Finding.Report e) }
-    ensures { found ≡ Found.Report result }
-{
-    match found {
-        Found::Report(report) => report,
-        _ => unreachable!(),
+    match weights_for(rule, named(weights)) {
+        Some(weights) => written(alloc, &report_with(alloc, rule, &weights)?),
+        None => Ok(without(alloc, NO_WEIGHTS)),
     }
 }
 

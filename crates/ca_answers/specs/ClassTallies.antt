@@ -1,4 +1,4 @@
--- What is kept for the question of classes: the counts, and what holds of the least rules.
+-- Within the crate: what is kept for the question of classes: the counts, and what holds of the least rules.
 use Rattle.std.specs.Prelude.{◌≡◌, ℕ, List, ◌++◌, [], ◌∷◌, map, All, Contains}
 use Rattle.word_image.specs.LocalRules.{LocalRule, IsRule, wolfram_number}
 use Rattle.rule_verdicts.specs.declared.truths.Truths.{Truths}

@@ -1,4 +1,2 @@
-pub mod Samples
 pub mod ClassTallies
 pub mod OneClass
-pub mod NoRules

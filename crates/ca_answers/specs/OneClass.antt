@@ -1,4 +1,4 @@
--- The automaton of a surjective rule.
+-- Within the crate: the automaton of a surjective rule.
 use Rattle.std.specs.Prelude.{ℕ, None, replicate}
 use Rattle.image_minimal.specs.ImageLanguages.{Automaton}
 

@@ -1,7 +1,7 @@
 //! The letters that a seed stands for.
 ghost use Rattle.std.specs.Prelude.{◌≡◌, ℕ, ◌/◌, ◌%◌, ◌^◌, ◌<◌, map, length};
 ghost use Rattle.std.specs.List.{range_with_len};
-ghost use Rattle.ca_answers.specs.Samples.{next_state, state_after, drawn};
+ghost use Rattle.ca_findings.specs.Samples.{next_state, state_after, drawn};
 
 use std::marker::Model;
 

@@ -24,8 +24,8 @@ pub fn report(alloc: Global, rule: &Rule, weights: Option<&[u8]>) -> Result<Foun
     }
 }
 
-/// The report of a rule and weights of its letters.
-fn report_with(alloc: Global, rule: &Rule, weights: &Weights) -> Result<Report, AllocError>
+/// Returns the report of a rule and weights of its letters.
+pub fn report_with(alloc: Global, rule: &Rule, weights: &Weights) -> Result<Report, AllocError>
     requires { length weights.now ≡ rule.now.states }
     ensures weights { IfOk result (λ report. report.weights ≡ weights.now) }
     ensures least { IfOk result (λ report. IsLeastEvidence (slice_index weights.now) rule.now (evidence_of report)) }
@@ -42,8 +42,8 @@ fn report_with(alloc: Global, rule: &Rule, weights: &Weights) -> Result<Report, 
     })
 }
 
-/// The weights that are named, where there is one for each letter of the rule, or its letters' own values.
-fn weights_for(rule: &Rule, weights: Option<&[u8]>) -> Option<Weights>
+/// Returns the weights that are named, if there is one for each letter of the rule, or its letters' own values.
+pub fn weights_for(rule: &Rule, weights: Option<&[u8]>) -> Option<Weights>
     ensures each { IfSome result (λ each. AreFor (option_copied weights.entry) rule.now) }
     ensures weights { IfSome result (λ each. each ≡ weights_by (option_copied weights.entry) rule.now) }
     ensures letters { IfSome result (λ each. length each ≡ rule.now.states) }

@@ -1,5 +1,5 @@
 //! How many of many rules have each property.
-ghost use Rattle.std.specs.Prelude.{◌≡◌, ℕ, List, ◌+◌, ◌^◌, ◌<◌, ◌≤◌, None, Some, length, reverse, IfOk, MatchOption, MatchResult, pos};
+ghost use Rattle.std.specs.Prelude.{◌≡◌, ℕ, List, ◌+◌, ◌^◌, ◌<◌, ◌≤◌, None, length, reverse, IfOk, pos};
 ghost use Rattle.word_image.specs.LocalRules.{LocalRule, IsRule, IsShape, value};
 ghost use Rattle.rule_verdicts.specs.Numbers.{numbered_rule, numbers_fault, AreVerdictBytes};
 ghost use Rattle.rule_verdicts.specs.Truths.{table_rule};
@@ -8,80 +8,36 @@ ghost use Rattle.ca_findings.specs.Counts.{AreCounts};
 ghost use Rattle.ca_findings.specs.Findings.{IsFinding};
 ghost use Rattle.ca_findings.specs.Values.{counts_of, finding_of};
 ghost use Rattle.ca_answers.specs.ClassTallies.{IsClassTally};
-ghost use Rattle.ca_answers.specs.Samples.{survey_rules, sample_rules, sample_fault};
-ghost use Rattle.ca_answers.specs.NoRules.{IsNoRules};
+ghost use Rattle.ca_findings.specs.Samples.{survey_rules, sample_rules};
+ghost use Rattle.ca_findings.specs.QuestionValues.{AreNumbered, AreDrawn};
 
 use crate::class_tally::ClassTally;
 use crate::generator::Generator;
 use crate::tally;
-use ca_findings::{Counts, Found};
+use ca_findings::{Counts, Drawn, Found, Numbered};
 use flux_conserve::letter_sum;
-use rule_text::{TextFault, check_shape, numbered};
-use rule_verdicts::{Truths, fault_past_all, next_table, verdict_bytes};
+use rule_text::numbered;
+use rule_verdicts::{Truths, next_table, verdict_bytes};
 use std::alloc::{AllocError, Global};
 use word_image::{MOST_ENTRIES, Rule};
 
 /// The most rules of a summary.
 const MOST_RULES: usize = 4096;
 
-/// Why nothing is counted.
-#[derive(Debug, Drop)]
-pub enum NoRules {
-    /// There are no such rules, since their shape or their last number has this fault.
-    Fault(TextFault),
-    /// There was no memory.
-    Memory(AllocError),
-}
-
-impl From<TextFault> for NoRules {
-    ghost use Rattle.std.specs.Prelude.{◌≡◌};
-    ghost use Rattle.ca_answers.specs.declared.summaries.NoRules.TheVariants.{Fault};
-
-    ghost from_gives = { λ fault none. none ≡ Fault fault };
-
-    fn from(fault: TextFault) -> NoRules {
-        NoRules::Fault(fault)
-    }
-}
-
-impl From<AllocError> for NoRules {
-    ghost use Rattle.std.specs.Prelude.{◌≡◌};
-    ghost use Rattle.ca_answers.specs.declared.summaries.NoRules.TheVariants.{Memory};
-
-    ghost from_gives = { λ fault none. none ≡ Memory fault };
-
-    fn from(fault: AllocError) -> NoRules {
-        NoRules::Memory(fault)
-    }
-}
-
-/// How many of the rules with so many numbers from this one on have each property; else the first fault of
-/// the shape or the last number. They have k states, width m and offset 0, and None stands for the numbers
-/// from 2^128 on. It takes no memory.
-pub fn survey(k: u8, m: u8, from: Option<u128>, count: u16) -> Result<Found, TextFault>
-    requires some { 1 ≤ count }
-    requires few { count ≤ 4096 }
-    ensures { (n : ℕ) → MatchOption from (2 ^ 128 ≤ n) (λ first. first ≡ n) → MatchResult result
-        (λ found. (numbers_fault k m n count ≡ None) × IsFinding (Question.Summary (survey_rules k m n count)) (finding_of found))
-        (λ fault. numbers_fault k m n count ≡ Some fault) }
+/// How many of the rules with these numbers have each property. It takes no memory.
+pub fn survey(rules: Numbered) -> Found
+    requires { AreNumbered rules }
+    ensures { IsFinding (Question.Summary (survey_rules rules.states rules.width rules.first rules.count)) (finding_of result) }
 {
-    let Some(first) = from else {
-        return Err(fault_past_all(k, m));
-    };
-    let counts = counts_of_numbers(k, m, first, count)?;
-    Ok(summary(counts))
+    summary(counts_of_numbers(rules.states, rules.width, rules.first, rules.count))
 }
 
-/// How many of the first rules that a seed stands for have each property; else the first fault of the
-/// shape. It takes no memory.
-pub fn sample(k: u8, m: u8, seed: u64, count: u16) -> Result<Found, TextFault>
-    requires few { count ≤ 4096 }
-    ensures { MatchResult result
-        (λ found. (sample_fault k m ≡ None) × IsFinding (Question.Summary (sample_rules k m seed count)) (finding_of found))
-        (λ fault. sample_fault k m ≡ Some fault) }
+/// How many of the first rules that a seed stands for have each property. It takes no memory.
+pub fn sample(rules: Drawn) -> Found
+    requires { AreDrawn rules }
+    ensures { IsFinding (Question.Summary (sample_rules rules.states rules.width rules.seed rules.count)) (finding_of result) }
 {
-    check_shape(k, m, 0)?;
-    Ok(summary(counts_of_draws(k, m, seed, count)))
+    summary(counts_of_draws(rules.states, rules.width, rules.seed, rules.count))
 }
 
 /// What is found of some rules with these counts.
@@ -92,55 +48,25 @@ fn summary(counts: Counts) -> Found
 }
 
 /// The same as `survey`, and how many classes the rules have, each of which is decided once.
-pub fn classes(
-    alloc: Global,
-    k: u8,
-    m: u8,
-    from: Option<u128>,
-    count: u16,
-) -> Result<Found, NoRules>
-    requires some { 1 ≤ count }
-    requires few { count ≤ 4096 }
-    ensures { (n : ℕ) → MatchOption from (2 ^ 128 ≤ n) (λ first. first ≡ n) → MatchResult result
-        (λ found. (numbers_fault k m n count ≡ None) × IsFinding (Question.Classes (survey_rules k m n count)) (finding_of found))
-        (IsNoRules (numbers_fault k m n count)) }
+pub fn classes(alloc: Global, rules: Numbered) -> Result<Found, AllocError>
+    requires { AreNumbered rules }
+    ensures { IfOk result (λ found. IsFinding (Question.Classes (survey_rules rules.states rules.width rules.first rules.count)) (finding_of found)) }
 {
-    match first_number(k, m, from, count) {
-        Ok(first) => Ok(classes_of_numbers(alloc, k, m, first, count)?.found()),
-        Err(fault) => Err(NoRules::Fault(fault)),
-    }
+    let tally = classes_of_numbers(alloc, rules.states, rules.width, rules.first, rules.count)?;
+    Ok(tally.found())
 }
 
-/// The first of so many numbers, where each has a rule of this shape; else the first fault.
-fn first_number(k: u8, m: u8, from: Option<u128>, count: u16) -> Result<u128, TextFault>
-    requires some { 1 ≤ count }
-    ensures accepted { IfOk result (λ first. numbers_fault k m first count ≡ None) }
-    ensures number { (n : ℕ) → MatchOption from (2 ^ 128 ≤ n) (λ first. first ≡ n) → MatchResult result
-        (λ first. first ≡ n)
-        (λ fault. numbers_fault k m n count ≡ Some fault) }
-{
-    let Some(first) = from else {
-        return Err(fault_past_all(k, m));
-    };
-    let Some(last) = first.checked_add(u128::from(count - 1)) else {
-        return Err(fault_past_all(k, m));
-    };
-    numbered(k, m, 0, last)?;
-    Ok(first)
-}
-
-/// Counts what holds of the rules with so many numbers from this one on; else the first fault.
-fn counts_of_numbers(k: u8, m: u8, first: u128, count: u16) -> Result<Counts, TextFault>
+/// Counts what holds of the rules with so many numbers from this one on.
+fn counts_of_numbers(k: u8, m: u8, first: u128, count: u16) -> Counts
+    requires accepted { numbers_fault k m first count ≡ None }
     requires some { 1 ≤ count }
     requires few { count ≤ 4096 }
-    ensures { MatchResult result
-        (λ counts. (numbers_fault k m first count ≡ None) × AreCounts (survey_rules k m first count) (counts_of counts))
-        (λ fault. numbers_fault k m first count ≡ Some fault) }
+    ensures { AreCounts (survey_rules k m first count) (counts_of result) }
 {
     let mut bytes = [0; MOST_RULES];
     let bytes = &mut bytes[..usize::from(count)];
-    verdict_bytes(k, m, first, bytes)?;
-    Ok(counts_of_bytes(k, m, first, bytes))
+    verdict_bytes(k, m, first, bytes).unwrap();
+    counts_of_bytes(k, m, first, bytes)
 }
 
 /// Counts what holds of the rules with the numbers from this one on, of which each byte says it.

@@ -1,7 +1,8 @@
 pub mod Inputs
 pub mod Asked
 pub mod Operands
-pub mod Outcomes
+pub mod Asking
+pub mod Numbered
 pub mod RightAnswers
 pub mod CheckAnswers
 pub mod OneStatus

@@ -1,5 +1,5 @@
 -- Which question a command asks of its rules, and which of its operands is refused.
-use Rattle.std.specs.Prelude.{◌≡◌, ℕ, ◌+◌, List, [], ◌∷◌, map, Some, None, ℤ}
+use Rattle.std.specs.Prelude.{◌≡◌, ℕ, ◌+◌, List, [], ◌∷◌, map, Option, Some, None, ℤ}
 use Rattle.word_image.specs.Digits.{letter_at}
 use Rattle.word_image.specs.LocalRules.{LocalRule}
 use Rattle.tail_config.specs.Tails.{TailConfig}
@@ -10,10 +10,10 @@ use Rattle.cert_format.specs.declared.cert_version.CertVersion.TheVariants as ve
 use Rattle.rule_verdicts.specs.Numbers.{numbers_fault}
 use Rattle.ca_words.specs.declared.names.Name.{Name}
 use Rattle.ca_words.specs.declared.names.Name.TheVariants as name
-use Rattle.ca_words.specs.Commands.{Command}
+use Rattle.ca_words.specs.Commands.{Command, Form, form_of}
 use Rattle.ca_words.specs.WeightTexts.{weights_said}
 use Rattle.ca_findings.specs.Questions.{Question}
-use Rattle.ca_answers.specs.Samples.{survey_rules, sample_rules, sample_fault}
+use Rattle.ca_findings.specs.Samples.{survey_rules, sample_rules, sample_fault}
 
 -- The question
 
@@ -23,14 +23,16 @@ pub data AreRuleTexts : List (List ℕ) → List LocalRule → Type 0 where
   More : (text : List ℕ) (texts : List (List ℕ)) (r : LocalRule) (rules : List LocalRule) → IsRuleText text r → AreRuleTexts texts rules
       → AreRuleTexts (text ∷ texts) (r ∷ rules)
 
+-- the weights that operands name
+abbrev pub weights_in : List (List ℕ) → Option (List ℕ)
+weights_in [] = None
+weights_in (text ∷ _) = Some (weights_said text)
+
 -- a command of this name asks the question, of these rules and with these operands
 pub data Asks : Name → List LocalRule → List (List ℕ) → Question → Type 0 where
-  Decide : (r : LocalRule) → Asks name.Decide (r ∷ []) [] (Question.Report r None)
-  DecideWith : (r : LocalRule) (text : List ℕ) → Asks name.Decide (r ∷ []) (text ∷ []) (Question.Report r (Some (weights_said text)))
-  Certify : (r : LocalRule) → Asks name.Certify (r ∷ []) [] (Question.Certify version.Two r None)
-  CertifyWith : (r : LocalRule) (text : List ℕ) → Asks name.Certify (r ∷ []) (text ∷ []) (Question.Certify version.Two r (Some (weights_said text)))
-  Brief : (r : LocalRule) → Asks name.Brief (r ∷ []) [] (Question.Certify version.Three r None)
-  BriefWith : (r : LocalRule) (text : List ℕ) → Asks name.Brief (r ∷ []) (text ∷ []) (Question.Certify version.Three r (Some (weights_said text)))
+  Decide : (r : LocalRule) (operands : List (List ℕ)) → Asks name.Decide (r ∷ []) operands (Question.Report r (weights_in operands))
+  Certify : (r : LocalRule) (operands : List (List ℕ)) → Asks name.Certify (r ∷ []) operands (Question.Certify version.Two r (weights_in operands))
+  Brief : (r : LocalRule) (operands : List (List ℕ)) → Asks name.Brief (r ∷ []) operands (Question.Certify version.Three r (weights_in operands))
   Orphan : (r : LocalRule) → Asks name.Orphan (r ∷ []) [] (Question.Orphan r)
   Number : (r : LocalRule) → Asks name.Number (r ∷ []) [] (Question.Number r)
   Reflect : (r : LocalRule) → Asks name.Reflect (r ∷ []) [] (Question.Reflect r)
@@ -69,14 +71,12 @@ pub data IsFirstFault : List (List ℕ) → ℕ → TextFault → Type 0 where
       → IsFirstFault (text ∷ texts) (i + 1) f
 
 -- there are no rules of the shape with the numbers that the operands say, and this is the first fault
-pub data IsShapeFault : Name → List (List ℕ) → TextFault → Type 0 where
-  Survey : (k m from count : List ℕ) (f : TextFault) → numbers_fault (decimal_value k) (decimal_value m) (decimal_value from) (decimal_value count) ≡ Some f
-      → IsShapeFault name.Survey (k ∷ m ∷ from ∷ count ∷ []) f
-  Sample : (k m seed count : List ℕ) (f : TextFault) → sample_fault (decimal_value k) (decimal_value m) ≡ Some f → IsShapeFault name.Sample (k ∷ m ∷ seed ∷ count ∷ []) f
-  Classes : (k m from count : List ℕ) (f : TextFault) → numbers_fault (decimal_value k) (decimal_value m) (decimal_value from) (decimal_value count) ≡ Some f
-      → IsShapeFault name.Classes (k ∷ m ∷ from ∷ count ∷ []) f
+pub data IsShapeFault : Form → List (List ℕ) → TextFault → Type 0 where
+  Numbers : (k m from count : List ℕ) (f : TextFault) → numbers_fault (decimal_value k) (decimal_value m) (decimal_value from) (decimal_value count) ≡ Some f
+      → IsShapeFault Form.Numbers (k ∷ m ∷ from ∷ count ∷ []) f
+  Seed : (k m seed count : List ℕ) (f : TextFault) → sample_fault (decimal_value k) (decimal_value m) ≡ Some f → IsShapeFault Form.Seed (k ∷ m ∷ seed ∷ count ∷ []) f
 
 -- the operand with this number is the first with a fault, and this is its first fault; the shape of many rules counts as operand 1
 pub data IsOperandFault : Command → ℕ → TextFault → Type 0 where
   OfRule : (c : Command) (i : ℕ) (f : TextFault) → IsFirstFault c.rules i f → IsOperandFault c i f
-  OfShape : (c : Command) (f : TextFault) → IsShapeFault c.name c.operands f → IsOperandFault c 1 f
+  OfShape : (c : Command) (f : TextFault) → IsShapeFault (form_of c.name) c.operands f → IsOperandFault c 1 f

@@ -2,5 +2,5 @@ pub mod Statuses
 pub mod Inputs
 pub mod Readings
 pub mod Asked
-pub mod Outcomes
+pub mod Asking
 pub mod RightAnswers

@@ -3,14 +3,15 @@
 //! A command is a name, texts of rules and other operands, each of which may be any word. An answer is a [`Status`],
 //! which says how the program ended, and an output, the bytes that go to the sink. One command, `check`,
 //! reads: it takes the whole input, or one byte more than is judged. [`run`] goes from the words to the
-//! bytes in four steps:
+//! bytes in five steps:
 //!
-//! 1. the words are a command, or none;
-//! 2. the operands that are rules are read, and its question is asked by one function of ca_answers, which finds a value or
-//!    the cause for which nothing fits; `check` alone has the source, and hands the input to the judge;
-//! 3. either is a reply, all of it in values, which [`reply`] gives to whoever wants another form than the text;
-//! 4. its text is written whole in memory and goes to the sink; where a write fails, a sink that tells its bytes took a part
-//!    of it, and not the whole.
+//! 1. the words are read into a question, each operand once; or they are no command, or a text is none of a rule, or
+//!    the parts of a configuration don't fit;
+//! 2. `answer` of ca_answers finds what answers the question, or the cause for which nothing fits. Only `check` has the
+//!    source: it hands the input to the judge;
+//! 3. either is a reply, a value, which [`reply`] gives to whoever wants another form than the text;
+//! 4. its text is written whole in memory;
+//! 5. the text goes to the sink. If a write fails, a sink that tells its bytes took a part of it, and not the whole.
 //!
 //! The contract of [`run`] cites one relation, `IsAnswer` of specs/RightAnswers.antt: which status and
 //! which output are right for the words and for what the source had left. [`one_status`],
@@ -49,13 +50,10 @@
 #![tactic(auto)]
 
 mod answers;
+mod asking;
 mod checks;
-mod commands;
-mod many_rules;
-mod questions;
 mod replies;
 mod status;
-mod stop;
 mod theorems;
 mod top_call;
 

@@ -1,20 +1,21 @@
 //! From the words to what is said to them, as a value.
-ghost use Rattle.std.specs.Prelude.{◌≡◌, IfOk, map, string_bytes};
+ghost use Rattle.std.specs.Prelude.{◌≡◌, ◌↔◌, ℕ, List, Option, IfOk, IsTrue, map, string_bytes};
 ghost use Rattle.ca_words.specs.Commands.{IsCommand, check_command};
 ghost use Rattle.ca_findings.specs.Values.{reply_of};
+ghost use Rattle.ca_cli.specs.Asking.{IsOutcome};
 ghost use Rattle.ca_cli.specs.Readings.{IsReadFor, Reading};
 ghost use Rattle.ca_cli.specs.RightAnswers.{IsReplyTo};
 ghost use Rattle.ca_cli.specs.Statuses.{reply_status};
 
+use crate::asking::{one, question};
 use crate::checks::check;
-use crate::commands::carry_out;
-use ca_findings::Reply;
+use ca_answers::answer;
+use ca_findings::{Found, Reply, Stop};
 use ca_io::{InputFault, Source};
-use ca_words::{Command, Name};
-use std::alloc::Global;
+use std::alloc::{AllocError, Global};
 
-/// The reply to these words and to what the source has left, of which only `check` reads. There is none where a
-/// read failed, or there was no memory.
+/// Returns the reply to these words and to what the source has left, which only `check` reads. There is none if a
+/// read failed, or if there was no memory.
 pub fn reply<S: Source>(
     alloc: Global,
     words: &[String],
@@ -30,11 +31,42 @@ pub fn reply<S: Source>(
     ensures reading { Reading (result ≡ Err InputFault.Failed)
         (S.left source.old) (S.left source.new) (S.faults source.old) (S.faults source.new) }
 {
-    let Some(command) = Command::of(words) else {
-        return Ok(Reply::Usage);
-    };
-    match command.name() {
-        Name::Check => check(alloc, source),
-        _ => Ok(carry_out(alloc, &command)?),
+    if is_check(words) {
+        check(alloc, source)
+    } else {
+        Ok(said(outcome(alloc, words))?)
+    }
+}
+
+/// Returns whether the words are the command `check`.
+fn is_check(words: &[String]) -> bool
+    ensures { IsTrue result ↔ IsCommand (map string_bytes words.now) check_command }
+{
+    match one(words) {
+        Some(word) => word == "check".as_bytes(),
+        None => false,
+    }
+}
+
+/// Returns what is found for words that read nothing, or why nothing is.
+fn outcome(alloc: Global, words: &[String]) -> Result<Found, Stop>
+    requires { ¬ IsCommand (map string_bytes words.now) check_command }
+    ensures { IsOutcome (map string_bytes words.now) result }
+{
+    let question = question(alloc, words)?;
+    answer(alloc, &question)
+}
+
+/// Returns what is said if this comes of the words. Want of memory is no reply.
+fn said(found: Result<Found, Stop>) -> Result<Reply, AllocError>
+    ensures { (words : List (List ℕ)) (input : Option (List ℕ)) → IsOutcome words found →
+        IfOk result (λ reply. IsReplyTo words input (reply_of reply)) }
+{
+    match found {
+        Ok(found) => Ok(Reply::Found(found)),
+        Err(Stop::Usage) => Ok(Reply::Usage),
+        Err(Stop::RuleFault(operand, fault)) => Ok(Reply::RuleFault(operand, fault)),
+        Err(Stop::Unfit(cause)) => Ok(Reply::NoFit(cause)),
+        Err(Stop::Memory(fault)) => Err(fault),
     }
 }

@@ -1,6 +1,6 @@
 //! What the relation between words, status and output says, as laws for all commands together: each
 //! is the contract of a function with nothing to run.
-ghost use Rattle.std.specs.Prelude.{◌≡◌, ◌↔◌, ◌+◌, ◌≤◌, ℕ, List, Option, Some, length};
+ghost use Rattle.std.specs.Prelude.{◌≡◌, ◌↔◌, ◌+◌, ◌≤◌, ◌⊎◌, ℕ, List, Option, Some, length};
 ghost use Rattle.word_image.specs.LocalRules.{LocalRule};
 ghost use Rattle.cert_conditions.specs.Accepted.{AreTrue, IsAccepted};
 ghost use Rattle.cert_conditions.specs.Refusals.{IsRefusal};
@@ -22,8 +22,8 @@ ghost use Rattle.ca_cli.specs.RightAnswers.{IsAnswer, IsReplyOf, IsReplyTo};
 use crate::status::Status;
 use ca_findings::{found_or_unfit, right_findings_are_writable};
 
-/// Words have one right status: whatever the source, where they are no command or one that reads
-/// nothing, and for all words over a source that tells what it has left.
+/// Words have at most one right status: over any source if they are no command or one that reads
+/// nothing, and over a source that tells what it has left for all words.
 pub fn one_status()
     ensures unread { (words : List (List ℕ)) (input : Option (List ℕ)) (s t : Status) (out other : List ℕ)
         → ((c : Command) → IsCommand words c → ReadsNothing c)
@@ -70,8 +70,9 @@ pub fn done_or_not_fit()
     found_or_unfit();
 }
 
-/// Over a source that tells what it has left, `check` has one right answer: Done with the verdicts of an
-/// accepted input, Refused with the reason of one that isn't, and TooLong where there is more than is judged.
+/// Over a source that tells what it has left, `check` has exactly one right answer: Done with the verdicts of an
+/// accepted input, Refused with the reason of one that isn't, and TooLong if there is more than is judged. Over
+/// any source no other status is right.
 pub fn check_exactly()
     ensures done { (words : List (List ℕ)) (left : List ℕ) (v : Verdicts) (s : Status) (out : List ℕ)
         → IsCommand words check_command → length left ≤ most_input → IsAccepted left v
@@ -82,6 +83,9 @@ pub fn check_exactly()
     ensures too_long { (words : List (List ℕ)) (left : List ℕ) (s : Status) (out : List ℕ)
         → IsCommand words check_command → most_input + 1 ≤ length left
         → IsAnswer words (Some left) s out ↔ ((s ≡ Status.TooLong) × (out ≡ too_long_line)) }
+    ensures any { (words : List (List ℕ)) (input : Option (List ℕ)) (s : Status) (out : List ℕ)
+        → IsCommand words check_command → IsAnswer words input s out
+        → (s ≡ Status.Done) ⊎ ((s ≡ Status.Refused) ⊎ (s ≡ Status.TooLong)) }
 {}
 
 /// What is written for a command that asks for a certificate of a rule, with weights or without, `check`

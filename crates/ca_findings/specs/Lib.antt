@@ -1,4 +1,6 @@
 pub mod Questions
+pub mod QuestionValues
+pub mod Samples
 pub mod Counts
 pub mod Findings
 pub mod Replies

@@ -3,6 +3,7 @@ use cert_format::{Cert, InjectivePart, SidePart, SumPart};
 use inverse_table::InverseMap;
 use rule_algebra::AlgebraFault;
 use rule_classes::LiftFault;
+use rule_text::TextFault;
 use std::alloc::AllocError;
 use tail_config::TailFault;
 use tail_preimage::Pre;
@@ -107,10 +108,14 @@ pub enum Cause {
     States,
 }
 
-/// Why nothing is found.
+/// Why nothing is found for the words of a command line, or for a question.
 #[derive(Drop)]
 pub enum Stop {
-    /// Nothing fits.
+    /// The words are no command.
+    Usage,
+    /// The operand with this number, starting at 1, is refused for this fault.
+    RuleFault(u8, TextFault),
+    /// Nothing fits the question, for this cause.
     Unfit(Cause),
     /// There was no memory.
     Memory(AllocError),

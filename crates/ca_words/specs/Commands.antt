@@ -6,8 +6,6 @@ use Rattle.ca_words.specs.Operands.{AreColours, IsCount, IsSeed}
 use Rattle.ca_words.specs.WeightTexts.{AreWeightTexts}
 use Rattle.ca_words.specs.declared.names.Name.{Name}
 use Rattle.ca_words.specs.declared.names.Name.TheVariants as name
-use Rattle.ca_words.specs.declared.names.Form.{Form}
-use Rattle.ca_words.specs.declared.names.Form.TheVariants as form
 
 -- the word of a name
 abbrev pub word_of : Name → List ℕ
@@ -45,39 +43,50 @@ rule_count name.Classes = 0
 rule_count name.Check = 0
 rule_count _ = 1
 
+-- what stands behind the rules of a command: nothing, weights or nothing, an offset, a width of one digit, new letters, a configuration, or numbers or a seed of many rules
+pub data Form : Type 0 where
+  Nothing : Form
+  Weights : Form
+  Offset : Form
+  Width : Form
+  Colours : Form
+  Tail : Form
+  Numbers : Form
+  Seed : Form
+
 -- the form of the operands behind the rules
 abbrev pub form_of : Name → Form
-form_of name.Decide = form.Weights
-form_of name.Certify = form.Weights
-form_of name.Brief = form.Weights
-form_of name.Shift = form.Offset
-form_of name.Widen = form.Width
-form_of name.Permute = form.Colours
-form_of name.Preimage = form.Tail
-form_of name.Survey = form.Numbers
-form_of name.Classes = form.Numbers
-form_of name.Sample = form.Seed
-form_of _ = form.Nothing
+form_of name.Decide = Form.Weights
+form_of name.Certify = Form.Weights
+form_of name.Brief = Form.Weights
+form_of name.Shift = Form.Offset
+form_of name.Widen = Form.Width
+form_of name.Permute = Form.Colours
+form_of name.Preimage = Form.Tail
+form_of name.Survey = Form.Numbers
+form_of name.Classes = Form.Numbers
+form_of name.Sample = Form.Seed
+form_of _ = Form.Nothing
 
 -- no operand may stand behind the rules
 abbrev pub MayBeNone : Form → Type 0
-MayBeNone form.Nothing = ⊤
-MayBeNone form.Weights = ⊤
+MayBeNone Form.Nothing = ⊤
+MayBeNone Form.Weights = ⊤
 MayBeNone _ = ⊥
 
 -- the one operand behind the rules has this form
 abbrev pub IsOperand : Form → List ℕ → Type 0
-IsOperand form.Weights text = AreWeightTexts text
-IsOperand form.Offset text = (o : ℤ) × IsOffset text o
-IsOperand form.Width text = IsDecimal 1 1 text
-IsOperand form.Colours text = AreColours text
-IsOperand form.Tail text = HasForm text
+IsOperand Form.Weights text = AreWeightTexts text
+IsOperand Form.Offset text = (o : ℤ) × IsOffset text o
+IsOperand Form.Width text = IsDecimal 1 1 text
+IsOperand Form.Colours text = AreColours text
+IsOperand Form.Tail text = HasForm text
 IsOperand _ text = ⊥
 
 -- where many rules begin: a number of up to 39 digits, or a seed
 abbrev pub IsBeginning : Form → List ℕ → Type 0
-IsBeginning form.Numbers text = IsDecimal 1 39 text
-IsBeginning form.Seed text = IsSeed text
+IsBeginning Form.Numbers text = IsDecimal 1 39 text
+IsBeginning Form.Seed text = IsSeed text
 IsBeginning _ text = ⊥
 
 -- the operands behind the rules: none, or one, or the states, the width, where many rules begin and how many there are

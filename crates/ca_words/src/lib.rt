@@ -1,7 +1,7 @@
-//! The words of a command line: which of them are a command, and what its operands say.
+//! The words of a command line: the names of the commands, and the operands behind the rules.
 //!
-//! A **command** is a [`Name`], as many words as the name has **rules**, and behind these its **operands**,
-//! which are of the name's [`Form`]. A rule may be any word: whether it is the text of one isn't asked here.
+//! A **command** is a [`Name`], as many words as the name has **rules**, and behind these its **operands**. Which words
+//! are one is `IsCommand` of specs/Commands.antt. A rule may be any word: whether it is the text of one isn't asked here.
 //!
 //! | Words | Name | Rules | Operands | Form |
 //! |---|---|---|---|---|
@@ -13,17 +13,15 @@
 //! | `survey 2 3 0 256` | `Survey` | | `2`, `3`, `0`, `256` | `Numbers` |
 //! | `check` | `Check` | | | `Nothing` |
 //!
-//! `110`, `orphan`, `orphan 110 90` and `shift 110 x` are no commands. [`Command::of`] says whether words
-//! are one, and which: words are those of one command at most. The other functions read operands. A call
-//! takes **O(n)** time for n bytes of words, and no memory but for the [`numbers`] that it lists.
+//! `110`, `orphan`, `orphan 110 90` and `shift 110 x` are no commands. Words are those of one command at most.
+//! [`Name::named`] reads a name, and each of the other functions an operand. A call takes **O(n)** time for n bytes
+//! of words, and no memory but for the [`numbers`] that it lists.
 #![tactic(auto)]
 
-mod command;
 mod names;
 mod operands;
 mod weight_lists;
 
-pub use command::Command;
-pub use names::{Form, Name};
+pub use names::Name;
 pub use operands::{are_colours, count_of, seed, small};
 pub use weight_lists::{are_weights, numbers};

@@ -1,6 +1,6 @@
-//! The names of the commands, and what has to stand behind each.
+//! The names of the commands.
 ghost use Rattle.std.specs.Prelude.{◌≡◌, MatchOption};
-ghost use Rattle.ca_words.specs.Commands.{word_of, rule_count, form_of};
+ghost use Rattle.ca_words.specs.Commands.{word_of};
 
 /// The name of a command.
 #[derive(Clone, Copy, Debug)]
@@ -53,29 +53,8 @@ pub enum Name {
     Check,
 }
 
-/// What has to stand behind the rules of a command.
-#[derive(Clone, Copy, Debug)]
-pub enum Form {
-    /// No word.
-    Nothing,
-    /// No word, or the weights of the letters.
-    Weights,
-    /// An offset.
-    Offset,
-    /// One digit.
-    Width,
-    /// A new letter for each letter.
-    Colours,
-    /// A configuration.
-    Tail,
-    /// States, width, the first number and a count.
-    Numbers,
-    /// States, width, a seed and a count.
-    Seed,
-}
-
 impl Name {
-    /// What has this name.
+    /// Returns the name that this word is.
     pub fn named(word: &str) -> Option<Name>
         ensures { MatchOption result
             ((n : Name) → ¬ (word_of n ≡ word.now))
@@ -106,33 +85,6 @@ impl Name {
             "classes" => Some(Name::Classes),
             "check" => Some(Name::Check),
             _ => None,
-        }
-    }
-
-    /// How many rules stand behind it.
-    pub fn rule_count(self) -> usize
-        ensures { result ≡ rule_count self }
-    {
-        match self {
-            Name::Compose | Name::Same => 2,
-            Name::Survey | Name::Sample | Name::Classes | Name::Check => 0,
-            _ => 1,
-        }
-    }
-
-    /// The form of the operands behind the rules.
-    pub fn form(self) -> Form
-        ensures { result ≡ form_of self }
-    {
-        match self {
-            Name::Decide | Name::Certify | Name::Brief => Form::Weights,
-            Name::Shift => Form::Offset,
-            Name::Widen => Form::Width,
-            Name::Permute => Form::Colours,
-            Name::Preimage => Form::Tail,
-            Name::Survey | Name::Classes => Form::Numbers,
-            Name::Sample => Form::Seed,
-            _ => Form::Nothing,
         }
     }
 }

@@ -1,15 +1,11 @@
 -- What a report says, where letters are added behind its words, and what comes of the question for a report.
-use Rattle.std.proofs.Common.{◌≡◌, ◌≢◌, ℕ, ◌≤◌, List, ◌++◌, length, drop, Option, Some, None, Result, Ok, Err, refl, sym, ap, subst, subst₂, ◌∙◌, [], arith, IfOk}
+use Rattle.std.proofs.Common.{◌≡◌, ℕ, ◌≤◌, List, ◌++◌, length, drop, Option, Some, None, Result, Ok, Err, refl, sym, ap, subst, subst₂, ◌∙◌, [], arith, IfOk}
 use Rattle.word_image.proofs.Common.{LocalRule, IsRule, rule_fault}
 use Rattle.word_image.specs.declared.local_rule.RuleFault.{RuleFault}
 use Rattle.cert_format.specs.Evidence.{Window, Twins, Ahead, Split, Flux, Ring}
 use Rattle.cert_format.proofs.Common.{InjectiveEvidence, SideEvidence, SumEvidence}
 use Rattle.certificate_laws.specs.LeastEvidence.{Evidence, IsConservingPart, IsLeastEvidence}
-use Rattle.ca_findings.proofs.Common.{Question, Finding, Unfit, AreFor, IsFinding, IsUnfitFor, weight_by, finding_of}
-use Rattle.ca_findings.specs.declared.found.Report.{Report}
-use Rattle.ca_findings.specs.declared.found.Found.{Found}
-use Rattle.ca_findings.specs.declared.found.Found.TheVariants as found
-use Rattle.tail_preimage.specs.declared.answer.Pre.TheVariants.{From, Gap}
+use Rattle.ca_findings.proofs.Common.{Question, Finding, AreFor, IsFinding, weight_by}
 use Rattle.c_values.specs.declared.rule_reports.RuleReport.{RuleReport}
 use Rattle.c_values.specs.declared.rule_reports.Reported.{Reported}
 use Rattle.c_values.specs.declared.letter_rows.LetterRow.{LetterRow}
@@ -43,33 +39,9 @@ pub IsShortSum-part : {r : LocalRule} (weight : ℕ → ℕ) (e : SumEvidence) �
 IsShortSum-part weight (Flux phi) rule h = omega (arith, h.1.entries, rule.shape.most_nodes)
 IsShortSum-part weight (Ring p) rule h = tt
 
--- what is seen as a report is one
-pub only_report : (f : Found) (e : Evidence) → finding_of f ≡ Finding.Report e → ¬ ((x : Report) → f ≢ found.Report x)
-only_report (found.Report x) e same other = other x refl
-only_report (found.Written c) e same other = cc
-only_report (found.Orphan w) e same other = cc
-only_report (found.Number n) e same other = cc
-only_report (found.Rule r) e same other = cc
-only_report (found.Inverse i) e same other = cc
-only_report (found.Language m) e same other = cc
-only_report (found.Same w) e same other = cc
-only_report (found.Erased p) e same other = cc
-only_report (found.Preimage (From p)) e same other = cc
-only_report (found.Preimage (Gap before after w)) e same other = cc
-only_report (found.Summary t) e same other = cc
-only_report (found.Classes t n) e same other = cc
-
--- what is right for the question for a report is a report
-pub IsFinding-report : {r : LocalRule} {weights : Option (List ℕ)} {f : Finding} → IsFinding (Question.Report r weights) f → (e : Evidence) × (f ≡ Finding.Report e)
-IsFinding-report (IsFinding.Report r weights e each same least) = (e, refl)
-
 -- a right report has the least evidence
 pub IsFinding-least : {r : LocalRule} {weights : Option (List ℕ)} {e : Evidence} → IsFinding (Question.Report r weights) (Finding.Report e) → IsLeastEvidence (weight_by weights) r e
 IsFinding-least (IsFinding.Report r weights e each same least) = least
-
--- nothing fits the question for a report where there isn't one weight for each letter
-pub IsUnfitFor-report : {r : LocalRule} {weights : Option (List ℕ)} {u : Unfit} → IsUnfitFor (Question.Report r weights) u → ¬ AreFor weights r
-IsUnfitFor-report (IsUnfitFor.Report r weights other) = other
 
 -- the report that is written is the right one
 pub IsReported-written : {r : LocalRule} {weights : Option (List ℕ)} {e : Evidence} {E : Type 0} (result : Result Reported E) → IsRule r

@@ -6,7 +6,7 @@ use Rattle.std.proofs.lemmas.Nat.{div-add-mod'}
 use Rattle.rule_text.specs.RuleTexts.{number_fault}
 use Rattle.rule_text.proofs.laws.AcceptedRules.{none_or}
 use Rattle.rule_verdicts.specs.Numbers.{numbered_rule, numbers_fault}
-use Rattle.ca_answers.specs.Samples.{survey_rules, next_state, state_after, drawn, drawn_rule, sample_rules, sample_fault}
+use Rattle.ca_findings.specs.Samples.{survey_rules, next_state, state_after, drawn, drawn_rule, sample_rules, sample_fault}
 
 -- a survey of one rule more
 pub survey_rules-more : (k m first i : ℕ) → survey_rules k m first (i + 1) ≡ survey_rules k m first i ++ numbered_rule k m (first + i) ∷ []

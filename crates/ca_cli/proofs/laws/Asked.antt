@@ -8,7 +8,7 @@ use Rattle.rule_text.specs.RuleTexts.IsOffset.{Plain, Minus}
 use Rattle.rule_text.proofs.laws.Texts.{IsRuleText-unique, IsRuleText-no_fault}
 use Rattle.ca_words.specs.declared.names.Name.{Name}
 use Rattle.ca_words.specs.declared.names.Name.TheVariants as name
-use Rattle.ca_words.specs.Commands.{Command, IsCommand, rule_count}
+use Rattle.ca_words.specs.Commands.{Command, IsCommand, form_of, rule_count}
 use Rattle.ca_findings.proofs.Common.{Question}
 use Rattle.ca_cli.specs.Asked.{AreRuleTexts, Asks, IsAsked, IsFirstFault, IsShapeFault, IsOperandFault}
 
@@ -29,12 +29,9 @@ AreRuleTexts-unique (AreRuleTexts.More text texts r rules says rest) (AreRuleTex
 Asks-unique : {n : Name} {rules : List LocalRule} {operands : List (List ℕ)} {p q : Question} → Asks n rules operands p → Asks n rules operands q → p ≡ q
 Asks-unique (Asks.Shift r text by says) (Asks.Shift _ _ other also) = ap (Question.Shift r) (IsOffset-unique says also)
 Asks-unique (Asks.Preimage r text t parts) (Asks.Preimage _ _ u also) = ap (Question.Preimage r) (HasParts-unique parts also)
-Asks-unique (Asks.Decide r) (Asks.Decide _) = refl
-Asks-unique (Asks.DecideWith r text) (Asks.DecideWith _ _) = refl
-Asks-unique (Asks.Certify r) (Asks.Certify _) = refl
-Asks-unique (Asks.CertifyWith r text) (Asks.CertifyWith _ _) = refl
-Asks-unique (Asks.Brief r) (Asks.Brief _) = refl
-Asks-unique (Asks.BriefWith r text) (Asks.BriefWith _ _) = refl
+Asks-unique (Asks.Decide r operands) (Asks.Decide _ _) = refl
+Asks-unique (Asks.Certify r operands) (Asks.Certify _ _) = refl
+Asks-unique (Asks.Brief r operands) (Asks.Brief _ _) = refl
 Asks-unique (Asks.Orphan r) (Asks.Orphan _) = refl
 Asks-unique (Asks.Number r) (Asks.Number _) = refl
 Asks-unique (Asks.Reflect r) (Asks.Reflect _) = refl
@@ -65,10 +62,10 @@ texts_without_fault (AreRuleTexts.More text texts r rules says rest) (IsFirstFau
 texts_without_fault (AreRuleTexts.More text texts r rules says rest) (IsFirstFault.Later _ _ s i f also fault) = texts_without_fault rest fault
 
 -- a shape that is asked about has no fault
-shape_without_fault : {n : Name} {rules : List LocalRule} {operands : List (List ℕ)} {q : Question} {f : TextFault} → Asks n rules operands q → IsShapeFault n operands f → ⊥
-shape_without_fault (Asks.Survey k m from count none) (IsShapeFault.Survey _ _ _ _ f is) = none-some f (sym none ∙ is)
-shape_without_fault (Asks.Sample k m seed count none) (IsShapeFault.Sample _ _ _ _ f is) = none-some f (sym none ∙ is)
-shape_without_fault (Asks.Classes k m from count none) (IsShapeFault.Classes _ _ _ _ f is) = none-some f (sym none ∙ is)
+shape_without_fault : {n : Name} {rules : List LocalRule} {operands : List (List ℕ)} {q : Question} {f : TextFault} → Asks n rules operands q → IsShapeFault (form_of n) operands f → ⊥
+shape_without_fault (Asks.Survey k m from count none) (IsShapeFault.Numbers _ _ _ _ f is) = none-some f (sym none ∙ is)
+shape_without_fault (Asks.Sample k m seed count none) (IsShapeFault.Seed _ _ _ _ f is) = none-some f (sym none ∙ is)
+shape_without_fault (Asks.Classes k m from count none) (IsShapeFault.Numbers _ _ _ _ f is) = none-some f (sym none ∙ is)
 shape_without_fault _ fault = elim fault [ ]
 
 pub IsAsked-no_fault : {c : Command} {q : Question} {i : ℕ} {f : TextFault} → IsAsked c q → IsOperandFault c i f → ⊥
@@ -87,4 +84,4 @@ fault_behind (IsFirstFault.Later text texts r i f says fault) = omega arith
 -- `check` has no operand that is refused
 pub IsOperandFault-reads_nothing : {words : List (List ℕ)} {c : Command} {i : ℕ} {f : TextFault} → IsCommand words c → IsOperandFault c i f → c.name ≢ name.Check
 IsOperandFault-reads_nothing is (IsOperandFault.OfRule c i f fault) check = let none : rule_count c.name ≡ 0 = ap rule_count check in omega (arith, fault_behind fault, is.rules, none)
-IsOperandFault-reads_nothing is (IsOperandFault.OfShape c f fault) check = elim (subst (λ n. IsShapeFault n c.operands f) check fault) [ ]
+IsOperandFault-reads_nothing is (IsOperandFault.OfShape c f fault) check = elim (subst (λ n. IsShapeFault (form_of n) c.operands f) check fault) [ ]

@@ -1,5 +1,5 @@
--- Of an input that is told `check` has one right answer.
-use Rattle.std.proofs.Common.{◌≡◌, ℕ, ◌+◌, ◌≤◌, List, length, refl, ap, subst, arith, Some, ◌↔◌}
+-- Of an input that is told `check` has one right answer, and of any input one of three statuses.
+use Rattle.std.proofs.Common.{◌≡◌, ℕ, ◌+◌, ◌≤◌, List, length, refl, ap, subst, arith, Some, Option, inl, inr, ◌⊎◌, ◌↔◌}
 use Rattle.cert_conditions.proofs.Common.{IsAccepted, IsRefusal, AreTrue-accepted}
 use Rattle.cert_conditions.specs.declared.refusal.Refusal.{Refusal}
 use Rattle.cert_conditions.specs.declared.verdicts.Verdicts.{Verdicts}
@@ -83,3 +83,18 @@ check_refused is short refused =
 pub check_too_long : {words : List (List ℕ)} {left : List ℕ} {s : Status} {out : List ℕ} → IsCommand words check_command → most_input + 1 ≤ length left
     → IsAnswer words (Some left) s out ↔ ((s ≡ status.TooLong) × (out ≡ too_long_line))
 check_too_long is long = ((λ answer. (too_long_exactly is long).0 ((right_exactly is).0 answer)), (λ said. (right_exactly is).1 ((too_long_exactly is long).1 said)))
+
+-- whatever the source tells, a reply to `check` has one of three statuses
+one_of_three : {words : List (List ℕ)} {input : Option (List ℕ)} {c : Command} {reply : Reply} {s : Status} → IsCommand words c → c.name ≡ name.Check → IsReply input c reply → s ≡ reply_status reply
+    → (s ≡ status.Done) ⊎ ((s ≡ status.Refused) ⊎ (s ≡ status.TooLong))
+one_of_three is check (Found c q f asked right) same = absurd (IsAsked-reads_nothing asked check)
+one_of_three is check (NoFit c q u asked unfits) same = absurd (IsAsked-reads_nothing asked check)
+one_of_three is check (RuleFault c i f fault) same = absurd (IsOperandFault-reads_nothing is fault check)
+one_of_three is check (Accepted c bytes v _ whole accepted are_true) same = inl same
+one_of_three is check (Refused c bytes f _ whole refused) same = inr (inl same)
+one_of_three is check (TooLong c _ long) same = inr (inr same)
+
+-- and so has a right answer to its words
+pub check_any : {words : List (List ℕ)} {input : Option (List ℕ)} {s : Status} {out : List ℕ} → IsCommand words check_command → IsAnswer words input s out
+    → (s ≡ status.Done) ⊎ ((s ≡ status.Refused) ⊎ (s ≡ status.TooLong))
+check_any is answer = let (reply, right, same, text) = (right_exactly is).0 answer in one_of_three is refl right same

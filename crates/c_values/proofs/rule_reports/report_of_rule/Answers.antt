@@ -1,35 +1,22 @@
 use Rattle.std.proofs.Common.{ℕ, List, Option, subst}
 use Rattle.cert_format.proofs.Common.{sum_of}
-use Rattle.ca_findings.proofs.Common.{Question, Finding, AreFor, IsFinding, weight_by, evidence_of, finding_of}
-use Rattle.c_values.specs.Reports.{named_weights}
-use Rattle.c_values.proofs.laws.Reports.{IsShortSum-part, IsFinding-report, IsFinding-least, IsUnfitFor-report, IsReported-written, IsReported-none}
+use Rattle.ca_findings.proofs.Common.{AreFor, weight_by}
+use Rattle.ca_answers.proofs.laws.OwnWeights.{IsFinding-by}
+use Rattle.c_values.proofs.laws.Reports.{IsShortSum-part, IsFinding-least, IsReported-written, IsReported-none}
 use Rattle.c_values.proofs.rule_reports.report_of_rule.Goals as goal
-
-pub report_in-requires : goal.report_in-requires
-report_in-requires c = IsFinding-report c.in-Ok.ensures
 
 pub written-requires : goal.written-requires
 written-requires c =
-    let r = c.args.rule.now in
-    let weights = named_weights c.args.weights.now in
-    let x = c.report_in.result in
-    let fits : IsFinding (Question.Report r weights) (Finding.Report (evidence_of x)) =
-    subst (λ f. IsFinding (Question.Report r weights) (finding_of f)) c.report_in.ensures
-    (subst (λ (ws : Option (List ℕ)). IsFinding (Question.Report r ws) (finding_of c.in-Ok.found)) c.named.ensures c.in-Ok.ensures) in
-    IsShortSum-part (weight_by weights) (sum_of x.conserving) c.requires (IsFinding-least fits).conserving
+    let made = c.in_ok-report_with-in-Some.ensures in
+    let right = IsFinding-by _ c.requires c.in-Some.ensures.each made.weights c.in-Some.ensures.weights made.least in
+    IsShortSum-part (weight_by _) (sum_of c.in_ok-report_with-in-Some.field-0.conserving) c.requires (IsFinding-least right).conserving
 
-pub returns-in-Ok : goal.returns-in-Ok
-returns-in-Ok c =
-    let r = c.args.rule.now in
-    let weights = named_weights c.args.weights.now in
-    let x = c.report_in.result in
-    let fits : IsFinding (Question.Report r weights) (Finding.Report (evidence_of x)) =
-    subst (λ f. IsFinding (Question.Report r weights) (finding_of f)) c.report_in.ensures
-    (subst (λ (ws : Option (List ℕ)). IsFinding (Question.Report r ws) (finding_of c.in-Ok.found)) c.named.ensures c.in-Ok.ensures) in
-    IsReported-written c.written.result c.requires fits c.written.ensures.letters c.written.ensures.report
+pub returns-in_ok-report_with-in-Some : goal.returns-in_ok-report_with-in-Some
+returns-in_ok-report_with-in-Some c =
+    let made = c.in_ok-report_with-in-Some.ensures in
+    let right = rw c.named.ensures at (IsFinding-by _ c.requires c.in-Some.ensures.each made.weights c.in-Some.ensures.weights made.least) in
+    IsReported-written c.written.result c.requires right c.written.ensures.letters c.written.ensures.report
 
-pub returns-in-Err-Unfit : goal.returns-in-Err-Unfit
-returns-in-Err-Unfit c =
-    let r = c.args.rule.now in
-    let unfit = rw c.in-Err-Unfit.field-0-is at c.in-Err-Unfit.ensures in
-    IsReported-none c.without.result c.requires (subst (λ (ws : Option (List ℕ)). ¬ AreFor ws r) c.named.ensures (IsUnfitFor-report unfit)) c.without.ensures.report c.without.ensures.letters
+pub returns-in-None : goal.returns-in-None
+returns-in-None c =
+    IsReported-none c.without.result c.requires (subst (λ (ws : Option (List ℕ)). ¬ AreFor ws c.args.rule.now) c.named.ensures c.in-None.ensures.none) c.without.ensures.report c.without.ensures.letters

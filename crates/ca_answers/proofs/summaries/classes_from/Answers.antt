@@ -3,7 +3,7 @@ use Rattle.word_image.proofs.Common.{length-map-range_with_len, LocalRule, IsRul
 use Rattle.rule_verdicts.specs.Truths.{table_rule}
 use Rattle.rule_verdicts.specs.Numbers.{numbered_rule}
 use Rattle.rule_verdicts.proofs.laws.Tables.{numbered_rule-table}
-use Rattle.ca_answers.specs.Samples.{survey_rules}
+use Rattle.ca_findings.specs.Samples.{survey_rules}
 use Rattle.ca_answers.specs.ClassTallies.{IsClassTally}
 use Rattle.ca_answers.proofs.laws.Samples.{survey_rules-more}
 use Rattle.ca_answers.proofs.summaries.classes_from.Goals as goal

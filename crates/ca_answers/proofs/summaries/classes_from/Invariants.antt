@@ -1,6 +1,6 @@
 use Rattle.std.proofs.Common.{◌≡◌, ℕ, ◌+◌, ◌^◌, ◌<◌, length, reverse, sum}
 use Rattle.word_image.proofs.Common.{IsWord, value}
-use Rattle.ca_answers.specs.Samples.{survey_rules}
+use Rattle.ca_findings.specs.Samples.{survey_rules}
 use Rattle.ca_answers.specs.ClassTallies.{IsClassTally}
 use Rattle.ca_answers.proofs.summaries.classes_from.Given as goal
 

@@ -4,7 +4,7 @@ use Rattle.rule_text.specs.RuleTexts.{number_fault}
 use Rattle.rule_text.proofs.laws.AcceptedRules.{none_or}
 use Rattle.rule_verdicts.proofs.laws.Numbers.{few_states, numbers_fault-room}
 use Rattle.rule_verdicts.proofs.laws.Tables.{length-numbered, value-numbered}
-use Rattle.ca_answers.specs.Samples.{survey_rules, sample_fault}
+use Rattle.ca_findings.specs.Samples.{survey_rules, sample_fault}
 use Rattle.ca_answers.specs.ClassTallies.{IsClassTally}
 use Rattle.ca_answers.proofs.summaries.classes_of_numbers.Goals.{After-copy_from_slice}
 use Rattle.ca_answers.proofs.summaries.classes_of_numbers.Goals as goal

@@ -1,7 +1,7 @@
 use Rattle.std.proofs.Common.{◌≡◌, ◌+◌, ◌^◌, [], ◌∷◌, ◌++◌, length, map, ap, sym, ◌∙◌, subst, refl, arith, length-append}
 use Rattle.word_image.proofs.Common.{range_with_len, LocalRule, IsRule}
 use Rattle.rule_verdicts.specs.Truths.{table_rule, AreTruths}
-use Rattle.ca_answers.specs.Samples.{drawn, drawn_rule, state_after}
+use Rattle.ca_findings.specs.Samples.{drawn, drawn_rule, state_after}
 use Rattle.ca_findings.proofs.Common.{AreCounts, counts_of}
 use Rattle.ca_answers.proofs.laws.Samples.{IsRule-drawn, sample-begin, sample-step, sample-end}
 use Rattle.ca_answers.proofs.summaries.counts_in.Goals.{After-fill}

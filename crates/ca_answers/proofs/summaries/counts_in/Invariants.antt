@@ -1,6 +1,6 @@
 use Rattle.std.proofs.Common.{◌≡◌, ◌-◌, List, ◌++◌, length}
 use Rattle.word_image.proofs.Common.{LocalRule}
-use Rattle.ca_answers.specs.Samples.{sample_rules}
+use Rattle.ca_findings.specs.Samples.{sample_rules}
 use Rattle.ca_findings.proofs.Common.{AreCounts, counts_of}
 use Rattle.ca_answers.proofs.summaries.counts_in.Given as goal
 

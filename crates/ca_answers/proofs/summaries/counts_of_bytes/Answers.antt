@@ -4,7 +4,7 @@ use Rattle.rule_text.specs.RuleTexts.{by_number}
 use Rattle.rule_text.proofs.laws.AcceptedRules.{IsRule-said}
 use Rattle.rule_verdicts.specs.Truths.{AreTruths}
 use Rattle.rule_verdicts.specs.Numbers.{numbered_rule}
-use Rattle.ca_answers.specs.Samples.{survey_rules}
+use Rattle.ca_findings.specs.Samples.{survey_rules}
 use Rattle.ca_findings.proofs.Common.{AreCounts, counts_of}
 use Rattle.ca_answers.proofs.laws.Samples.{survey_rules-more, survey-accepted}
 use Rattle.ca_answers.proofs.summaries.counts_of_bytes.Goals as goal

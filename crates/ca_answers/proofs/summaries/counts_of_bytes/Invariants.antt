@@ -1,4 +1,4 @@
-use Rattle.ca_answers.specs.Samples.{survey_rules}
+use Rattle.ca_findings.specs.Samples.{survey_rules}
 use Rattle.ca_findings.proofs.Common.{AreCounts, counts_of}
 use Rattle.ca_answers.proofs.summaries.counts_of_bytes.Given as goal
 

@@ -1,4 +1,4 @@
-use Rattle.ca_cli.proofs.laws.CheckAnswers.{check_accepted, check_refused, check_too_long}
+use Rattle.ca_cli.proofs.laws.CheckAnswers.{check_accepted, check_refused, check_too_long, check_any}
 use Rattle.ca_cli.proofs.theorems.check_exactly.Goals as goal
 
 pub returns-clause-done : goal.returns-clause-done
@@ -9,3 +9,6 @@ returns-clause-refused c words left f s out = check_refused
 
 pub returns-clause-too_long : goal.returns-clause-too_long
 returns-clause-too_long c words left s out = check_too_long
+
+pub returns-clause-any : goal.returns-clause-any
+returns-clause-any c words input s out = check_any

@@ -1,7 +1,7 @@
 use Rattle.std.proofs.Common.{◌≡◌, ℕ, List, [], ◌∷◌, ◌++◌, length, map, refl, sym, ap, ap₂, ◌∙◌, arith}
 use Rattle.word_image.proofs.Common.{range_with_len, take_more_set}
 use Rattle.std.proofs.lemmas.List.{take_all}
-use Rattle.ca_answers.specs.Samples.{next_state, state_after, drawn}
+use Rattle.ca_findings.specs.Samples.{next_state, state_after, drawn}
 use Rattle.ca_answers.proofs.laws.Samples.{draws-more, state_after-none, state_after-more, drawn-is}
 use Rattle.ca_answers.proofs.generator.Generator.fill.Goals as goal
 

@@ -1,6 +1,6 @@
 use Rattle.std.proofs.Common.{◌≡◌, take, map}
 use Rattle.word_image.proofs.Common.{range_with_len}
-use Rattle.ca_answers.specs.Samples.{state_after, drawn}
+use Rattle.ca_findings.specs.Samples.{state_after, drawn}
 use Rattle.ca_answers.proofs.generator.Generator.fill.Given as goal
 
 -- the letters so far, and the state that they leave
