@@ -8,8 +8,8 @@ ghost use Rattle.kept_sums.specs.Stages.{IsStage, IsAfterRing, IsAfterRings, Are
 
 use crate::fluxes::is_kept;
 use crate::rings::{LONGEST, word_with, words};
-use crate::rows::Row;
-use crate::steps::{Rows, in_order, last_gain, narrowed};
+use crate::rows::{Row, gain};
+use crate::steps::{Rows, last_gain, narrowed};
 use word_image::{MOST_STATES, Rule};
 
 /// What is found: a row of weights or a ring for each word that doesn't begin with the letter 0.
@@ -77,8 +77,12 @@ fn narrowed_by_ring(
     let Some(pivot) = last_gain(&sums.rows, after, before) else {
         return *sums;
     };
-    let (after, before) = in_order(&sums.rows[usize::from(pivot)], after, before);
-    narrowed_at(sums, pivot, after, before, letters, count)
+    // The row gains more than nothing by the two words in one of their orders.
+    if gain(&sums.rows[usize::from(pivot)], after, before) > 0 {
+        narrowed_at(sums, pivot, after, before, letters, count)
+    } else {
+        narrowed_at(sums, pivot, before, after, letters, count)
+    }
 }
 
 /// The sums with the rows that are crossed with one that gains more than nothing, and a ring noted in its place.

@@ -1,5 +1,5 @@
 -- A ring and the words round it and its image; the stage after it.
-use Rattle.std.proofs.Common.{◌≡◌, ℕ, ◌+◌, ◌*◌, ◌^◌, ◌<◌, ◌≤◌, List, length, take, set, ℤ, pos, subst, ◌⊎◌, inl, inr, arith}
+use Rattle.std.proofs.Common.{◌≡◌, ℕ, ◌+◌, ◌*◌, ◌^◌, ◌<◌, ◌≤◌, List, length, take, set, ℤ, pos, subst, arith}
 use Rattle.word_image.proofs.Common.{range_with_len, All-map, length-map-range_with_len, LocalRule, IsRule, IsWord, value, IsRing, ring_letters, ring_image, IsWord-ring_letters, value-below}
 use Rattle.ring_laws.proofs.Rings.{IsWord-ring_image, length-ring_letters}
 use Rattle.kept_sums.specs.Sums.{blocks}
@@ -54,18 +54,13 @@ IsCondition-ring {r} rule range p few short ring =
     }
 
 -- the same of the two words in the other order
-IsCondition-swap : {r : LocalRule} {range : ℕ} {p x y : List ℕ} → IsCondition r range p x y → IsCondition r range p y x
+pub IsCondition-swap : {r : LocalRule} {range : ℕ} {p x y : List ℕ} → IsCondition r range p x y → IsCondition r range p y x
 IsCondition-swap {x = x} {y} c = record {
   x_word = c.y_word;
   y_word = c.x_word;
   short = let s = c.short in record { after_word = s.before_word; before_word = s.after_word; few_after = s.few_before; few_before = s.few_after };
   keeps = λ weight. (λ kept. gain_at-swap weight x y ((c.keeps weight).0 kept), λ none. (c.keeps weight).1 (gain_at-swap weight y x none));
 }
-
--- the same of the two words in either order
-pub IsCondition-either : {r : LocalRule} {range : ℕ} {p x y one other : List ℕ} → IsCondition r range p x y → ((one ≡ x) × (other ≡ y)) ⊎ ((one ≡ y) × (other ≡ x)) → IsCondition r range p one other
-IsCondition-either c (inl here) = rw (here.0, here.1) c
-IsCondition-either c (inr turned) = rw (turned.0, turned.1) (IsCondition-swap c)
 
 -- rows narrowed by a ring are a stage after it
 pub IsAfterRing-narrowed : {r : LocalRule} {range j : ℕ} {rows news : List (List ℤ)} {counts : List ℕ} {rings : List (List ℕ)} {x y : List ℕ} → IsRule r → (n : ℕ) (letters : List ℕ)

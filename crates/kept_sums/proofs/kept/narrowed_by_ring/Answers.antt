@@ -1,21 +1,34 @@
-use Rattle.std.proofs.Common.{arith}
+use Rattle.std.proofs.Common.{List, ℕ, take, arith}
 use Rattle.std.proofs.lemmas.List.{length-take}
-use Rattle.kept_sums.specs.Spans.{entry}
-use Rattle.kept_sums.proofs.laws.AfterRings.{IsCondition-either, IsAfterRing-narrowed}
+use Rattle.kept_sums.specs.Spans.{entry, FitNarrowed}
+use Rattle.kept_sums.specs.Stages.{IsCondition}
+use Rattle.kept_sums.proofs.laws.Sums.{gain_at-swap}
+use Rattle.kept_sums.proofs.laws.AfterRings.{IsCondition-swap, IsAfterRing-narrowed}
 use Rattle.kept_sums.proofs.laws.Bounds.{FitNarrowed-condition}
+use Rattle.kept_sums.proofs.kept.narrowed_by_ring.Goals.{After-gain}
 use Rattle.kept_sums.proofs.kept.narrowed_by_ring.Goals as goal
 
-pub narrowed_at-requires-clause-fits : goal.narrowed_at-requires-clause-fits
-narrowed_at-requires-clause-fits c =
-    let condition = IsCondition-either c.words.ensures.condition c.in_order.ensures.words in
+-- rows that are narrowed by the two words, in either order, fit
+fits : (c : After-gain) {x y : List ℕ} → IsCondition c.args.rule.now c.args.range (take c.from.result c.args.letters.now) x y → FitNarrowed c.args.sums.now.rows x y c.in-Some.pivot
+fits c condition =
     FitNarrowed-condition c.words.ensures.rule c.requires.letter c.requires.few c.requires.stage _ _ _ (rw c.from.ensures c.requires.ring) condition
     (omega (arith, c.from.ensures, c.requires.short, length-take c.from.result c.args.letters.now)) c.in-Some.pivot c.in-Some.ensures.last.within
 
-pub returns : goal.returns
-returns c =
-    let rows = c.args.sums.now.rows in
-    let condition = IsCondition-either c.words.ensures.condition c.in_order.ensures.words in
+pub narrowed_at-requires-clause-fits : goal.narrowed_at-requires-clause-fits
+narrowed_at-requires-clause-fits c = fits (goal.at.narrowed_at-requires-clause-fits c).After-gain c.words.ensures.condition
+
+pub narrowed_at-requires-else-gain-gt0-clause-fits : goal.narrowed_at-requires-else-gain-gt0-clause-fits
+narrowed_at-requires-else-gain-gt0-clause-fits c = fits (goal.at.narrowed_at-requires-else-gain-gt0-clause-fits c).After-gain (IsCondition-swap c.words.ensures.condition)
+
+pub returns-then-gain-gt0 : goal.returns-then-gain-gt0
+returns-then-gain-gt0 c =
     rw (c.narrowed_at.ensures.counts, c.narrowed_at.ensures.rings, ← c.from.ensures)
-    (IsAfterRing-narrowed c.words.ensures.rule c.from.result c.args.letters.now c.requires.stage c.requires.few condition c.in-Some.ensures.last.within
-    (λ i l h. (condition.keeps (entry rows i)).0 ((c.words.ensures.condition.keeps (entry rows i)).1 (c.in-Some.ensures.last.last i l h)))
+    (IsAfterRing-narrowed c.words.ensures.rule c.from.result c.args.letters.now c.requires.stage c.requires.few c.words.ensures.condition c.in-Some.ensures.last.within c.in-Some.ensures.last.last
     c.narrowed_at.ensures.narrowed c.narrowed_at.ensures.small (omega arith) (omega arith) (rw c.from.ensures c.requires.ring))
+
+pub returns-else-gain-gt0 : goal.returns-else-gain-gt0
+returns-else-gain-gt0 c =
+    rw (c.narrowed_at-else-gain-gt0.ensures.counts, c.narrowed_at-else-gain-gt0.ensures.rings, ← c.from.ensures)
+    (IsAfterRing-narrowed c.words.ensures.rule c.from.result c.args.letters.now c.requires.stage c.requires.few (IsCondition-swap c.words.ensures.condition) c.in-Some.ensures.last.within
+    (λ i l h. gain_at-swap (entry c.args.sums.now.rows i) _ _ (c.in-Some.ensures.last.last i l h))
+    c.narrowed_at-else-gain-gt0.ensures.narrowed c.narrowed_at-else-gain-gt0.ensures.small (omega arith) (omega arith) (rw c.from.ensures c.requires.ring))
