@@ -1,14 +1,14 @@
--- What a search through the closures says of the least automaton in the end.
-use Rattle.std.proofs.Common.{◌≡◌, ℕ, suc, ◌+◌, ◌*◌, ◌/◌, ◌%◌, ◌^◌, ◌<◌, ◌≤◌, List, length, replicate, slice_index, Option, Some, None, Contains, IsSome, refl, sym, ap, ◌∙◌, subst, arith, ⊎_elim, slice_get, pow_pos, mul-le-mul_right, suc-mul}
-use Rattle.word_image.proofs.Common.{cases_eq, same_from_place, slice_get_within, slice_get-get_or, get_or_from_slice_get, length-replicate, LocalRule, IsRule, node_count, IsStep, Contains-slice_get, slice_get-Contains, some_below}
-use Rattle.search_laws.proofs.Common.{Contains-state, mapped_at, search_place, search-below, length-search, length-search-le, chosen, IsStep-some}
-use Rattle.image_minimal.specs.ImageLanguages.{Automaton, IsClassList, IsNextClass, IsDeadClass, IsLeastAutomaton}
+-- A search through the closures has the classes of the least automaton in the end.
+use Rattle.std.proofs.Common.{◌≡◌, ℕ, suc, ◌+◌, ◌*◌, ◌/◌, ◌%◌, ◌^◌, ◌<◌, ◌≤◌, List, length, replicate, slice_index, Option, Some, None, refl, sym, ap, ◌∙◌, subst, subst₂, arith, ⊎_elim, slice_get, pow_pos, mul-le-mul_right, suc-mul}
+use Rattle.word_image.proofs.Common.{cases_eq, same_Some, same_from_place, slice_get_within, slice_get-get_or, get_or_from_slice_get, none-some, length-replicate, LocalRule, IsRule, node_count, some_below}
+use Rattle.search_laws.proofs.Common.{mapped_at, search_place, search-below, length-search, length-search-le, chosen, IsSearch, IsStep-some, IsSetOf-unique}
+use Rattle.image_minimal.specs.ImageLanguages.{Automaton, IsLeastAutomaton}
 use Rattle.image_minimal.specs.Closures.{IsClosedStep, AreClosures}
 use Rattle.image_minimal.specs.Indexes.{IsPlaceOf}
 use Rattle.image_minimal.specs.Searches.{IsClassSearch, HasClasses}
-use Rattle.image_minimal.proofs.laws.ClosedSteps.{HaveClosures}
-use Rattle.image_minimal.proofs.laws.Classes.{AreClasses, AreClasses-some, IsClassList-closed, IsNextClass-step, IsDeadClass-some, IsDeadClass-none}
-use Rattle.image_minimal.proofs.laws.ClassLists.{IsClassList-long, IsNextClass-unique, IsDeadClass-unique, table_place}
+use Rattle.image_minimal.proofs.laws.ClosedSteps.{closed_step}
+use Rattle.image_minimal.proofs.laws.Classes.{AreClassWords-closed, IsNextClass-step, IsDeadClass-place}
+use Rattle.image_minimal.proofs.laws.ClassLists.{table_place, IsLeastAutomaton-unique}
 
 -- there are no more classes than sets of nodes
 pub length-classes-le : {r : LocalRule} {classes : List ℕ} {e : ℕ} → IsClassSearch r classes e → length classes ≤ 2 ^ node_count r
@@ -18,142 +18,79 @@ length-classes-le {r} x = length-search-le x (2 ^ node_count r) (omega (arith, p
 pub class-below : {r : LocalRule} {classes : List ℕ} {e : ℕ} → IsClassSearch r classes e → (i : ℕ) → i < length classes → slice_index classes i < 2 ^ node_count r
 class-below {r} {classes} x i l = search-below x (2 ^ node_count r) (omega (arith, pow_pos (node_count r))) (λ s a t step. step.closure.of.within) i (slice_index classes i) (slice_get-get_or classes i 0 l)
 
--- there is at least one class
-pub classes-some : {r : LocalRule} {classes : List ℕ} {e : ℕ} → IsClassSearch r classes e → 1 ≤ length classes
-classes-some {classes = classes} x =
-    let first = x.queue.fills.first.state in
-    slice_get_within classes 0 first (subst (λ l. slice_get l 0 ≡ Some first) x.lists (mapped_at (λ z. z.state) x.tree 0 x.queue.fills.first x.queue.fills.root))
-
--- a step to a set is a closed step to its closure
-pub closed_step : {r : LocalRule} {closures : List ℕ} {to : ℕ} (set a : ℕ) → AreClosures r closures → IsStep r set a to → IsClosedStep r set a (slice_index closures to)
-closed_step {to = to} set a h step = record { to = to; step = step; closure = h.closure to (omega arith) step.within }
-
--- a closed step from a class leads to a class
-pub class_after : {r : LocalRule} {closures classes : List ℕ} → HasClasses r closures classes → (i a from to : ℕ) → slice_get classes i ≡ Some from → a < r.states → IsClosedStep r from a to
+-- where all edges are followed a closed step from a class leads to a class
+class_after : {r : LocalRule} {classes : List ℕ} {e : ℕ} → IsClassSearch r classes e → length classes * r.states ≤ e → (i a to : ℕ) → i < length classes → a < r.states → IsClosedStep r (slice_index classes i) a to
     → (j : ℕ) × (slice_get classes j ≡ Some to)
-class_after {r} {closures} {classes} h i a from to here letter step =
-    let x = h.search in
-    let (y, at, state) = search_place x i from here in
-    let row : suc i * r.states ≤ length classes * r.states = mul-le-mul_right r.states (slice_get_within classes i from here) in
-    let (j, z, stands, leads, early) = x.queue.fills.done i a to y at letter (omega (arith, suc-mul i r.states, h.all)) (subst (λ s. IsClosedStep r s a to) (sym state) step) in
+class_after {r} {classes} x closed i a to inside letter step =
+    let (y, at, state) = search_place x i (slice_index classes i) (slice_get-get_or classes i 0 inside) in
+    let row : suc i * r.states ≤ length classes * r.states = mul-le-mul_right r.states inside in
+    let (j, z, stands, leads, early) = x.queue.fills.done i a to y at letter (omega (arith, suc-mul i r.states)) (subst (λ s. IsClosedStep r s a to) (sym state) step) in
     (j, subst (λ l. slice_get l j ≡ Some to) x.lists (mapped_at (λ v. v.state) x.tree j z stands ∙ ap Some leads))
 
--- a set that stands in a list has a place
-pub place_some : (sets : List ℕ) (set j : ℕ) → slice_get sets j ≡ Some set → (place : Option ℕ) → IsPlaceOf sets set place → IsSome place
-place_some sets set j at None none = absurd (none (Contains-slice_get sets j set at))
-place_some sets set j at (Some i) there = refl
+-- a state stands at one place of a search
+one_place : {Step : ℕ → ℕ → ℕ → Type 0} {k start : ℕ} {states : List ℕ} {e : ℕ} → IsSearch Step k start states e → (i j s : ℕ) → slice_get states i ≡ Some s → slice_get states j ≡ Some s → i ≡ j
+one_place x i j s at also =
+    let (y, here, same) = search_place x i s at in
+    let (z, there, other) = search_place x j s also in
+    x.queue.apart i j y z here there (same ∙ sym other)
 
--- the place of the empty set is the class of the orphans
-dead_class : {r : LocalRule} {classes : List ℕ} {e : ℕ} {words : List (List ℕ)} → IsRule r → HaveClosures r → (x : IsClassSearch r classes e) → AreClasses x.tree words
-    → length x.tree * r.states ≤ e → (dead : Option ℕ) → IsPlaceOf classes 0 dead → IsDeadClass r words dead
-dead_class {words = words} rule closures x c all None none =
-    IsDeadClass-none rule closures x.queue all words (λ i y at empty. none (subst (λ l. Contains l 0) x.lists (Contains-state x.tree i y 0 at empty)))
-dead_class rule closures x c all (Some i) at =
-    let (y, stands, empty) = search_place x i 0 at in
-    IsDeadClass-some rule x.queue c i y stands empty
-
--- the words of the classes
-record AreClassWords (r : LocalRule) (classes : List ℕ) (words : List (List ℕ)) : Type 0 where
-  pub list : IsClassList r words
-  pub long : length classes ≡ length words
-  pub next : (i a j from to : ℕ) → slice_get classes i ≡ Some from → slice_get classes j ≡ Some to → a < r.states → IsClosedStep r from a to → IsNextClass r words i a j
-  pub dead : (dead : Option ℕ) → IsPlaceOf classes 0 dead → IsDeadClass r words dead
-
--- there are words of the classes
-words_of : {r : LocalRule} {closures classes : List ℕ} → HasClasses r closures classes → (words : List (List ℕ)) × AreClassWords r classes words
-words_of {r} {closures} {classes} h =
-    let x = h.search in
-    let have : HaveClosures r = λ set l. (slice_index closures set, h.closed.closure set (omega arith) l) in
-    let long = length-search x in
-    let all : length x.tree * r.states ≤ h.edges = subst (λ n. n * r.states ≤ h.edges) (sym long) h.all in
-    let (words, are) = AreClasses-some x.queue in (
-      words,
-      record {
-        list = IsClassList-closed h.rule have x.queue all are;
-        long = sym long ∙ are.long;
-        next = λ i a j from to at also letter step.
-            let (y, at_y, of_y) = search_place x i from at in
-            let (z, at_z, of_z) = search_place x j to also in
-            IsNextClass-step h.rule x.queue are i a j y z at_y at_z letter (subst (λ s. IsClosedStep r s a z.state) (sym of_y) (subst (IsClosedStep r from a) (sym of_z) step));
-        dead = dead_class h.rule have x are all;
-      },
-    )
-
--- there are as many classes as the least automaton has
-pub HasClasses-long : {r : LocalRule} {closures classes : List ℕ} {m : Automaton} → HasClasses r closures classes → IsLeastAutomaton r m → length classes ≡ m.classes
-HasClasses-long h least = let words = words_of h in words.1.long ∙ IsClassList-long words.1.list least.list ∙ sym least.classes
-
--- a closed step leads to the class that the least automaton has next
-pub HasClasses-next : {r : LocalRule} {closures classes : List ℕ} {m : Automaton} → HasClasses r closures classes → IsLeastAutomaton r m → (i a j from to : ℕ) → slice_get classes i ≡ Some from
-    → slice_get classes j ≡ Some to → a < r.states → IsClosedStep r from a to → j ≡ slice_index m.next (i * m.states + a)
-HasClasses-next {classes = classes} h least i a j from to at also letter step =
-    let words = words_of h in
-    let inside = slice_get_within classes i from at in
-    IsNextClass-unique words.1.list least.list (words.1.next i a j from to at also letter step) (least.next i a (omega (arith, inside, HasClasses-long h least)) (omega (arith, letter, least.states)))
-
--- the empty set stands where the least automaton has the class of the orphans
-pub HasClasses-dead : {r : LocalRule} {closures classes : List ℕ} {m : Automaton} → HasClasses r closures classes → IsLeastAutomaton r m → (dead : Option ℕ) → IsPlaceOf classes 0 dead → dead ≡ m.dead
-HasClasses-dead {m = m} h least dead at = let words = words_of h in IsDeadClass-unique h.rule words.1.list least.list dead m.dead (words.1.dead dead at) least.dead
-
--- a set stands somewhere in a list or nowhere
-place_in : (sets : List ℕ) (set : ℕ) → (place : Option ℕ) × IsPlaceOf sets set place
-place_in sets set =
+-- a state stands somewhere in a search or nowhere
+place_in : {Step : ℕ → ℕ → ℕ → Type 0} {k start : ℕ} {states : List ℕ} {e : ℕ} → IsSearch Step k start states e → (s : ℕ) → (place : Option ℕ) × IsPlaceOf states s place
+place_in {states = states} x s =
     ⊎_elim
-    (λ (i, inside, same). (Some i, slice_get-get_or sets i 0 inside ∙ ap Some same))
-    (λ none. (None, λ has. let (i, at) = slice_get-Contains sets set has in none i (slice_get_within sets i set at) (get_or_from_slice_get sets i set 0 at)))
-    (some_below (λ i. slice_index sets i ≡ set) (λ i. cases_eq (slice_index sets i) set) (length sets))
+    (λ (i, inside, same).
+    let at = slice_get-get_or states i 0 inside ∙ ap Some same in
+    (Some i, λ j. ((λ e. subst (λ g. slice_get states g ≡ Some s) (same_Some i j e) at), (λ also. ap Some (one_place x i j s at also)))))
+    (λ none. (None, λ i. ((λ e. absurd (none-some i e)), (λ at. absurd (none i (slice_get_within states i s at) (get_or_from_slice_get states i s 0 at))))))
+    (some_below (λ i. slice_index states i ≡ s) (λ i. cases_eq (slice_index states i) s) (length states))
 
--- there is a least automaton
-pub HasClasses-least : {r : LocalRule} {closures classes : List ℕ} → HasClasses r closures classes → (m : Automaton) × IsLeastAutomaton r m
-HasClasses-least {r} {closures} {classes} h =
+-- where all edges are followed there is a least automaton, of these classes
+pub HasClasses-closed : {r : LocalRule} {closures classes : List ℕ} {e : ℕ} → IsRule r → AreClosures r closures → IsClassSearch r classes e → length classes * r.states ≤ e → HasClasses r closures classes
+HasClasses-closed {r} {closures} {classes} rule have x closed =
     let k = r.states in
-    let (words, are) = words_of h in
-    let table : List ℕ = replicate (length classes * k) 0 in
-    let long : length table ≡ length classes * k = length-replicate {A = ℕ} (length classes * k) 0 in
-    let Fits : ℕ → ℕ → Type 0 = λ e j. (i a : ℕ) → a < k → i * k + a ≡ e → IsNextClass r words i a j in
-    let (next, size, fits) = chosen table Fits (λ e x at.
-    let (inside, letter, same) = table_place (length classes) k e (omega (arith, slice_get_within table e x at, long)) in
-    let from = slice_index classes (e / k) in
-    let here = slice_get-get_or classes (e / k) 0 inside in
-    let (to, step) = IsStep-some r from (e % k) in
-    let closed = closed_step from (e % k) h.closed step in
-    let (j, there) = class_after h (e / k) (e % k) from (slice_index closures to) here letter closed in (
+    let (words, are) = AreClassWords-closed rule have x closed in
+    let size : ℕ = length classes * k in
+    let Leads : ℕ → ℕ → ℕ → Type 0 = λ i a j. slice_get classes j ≡ Some (slice_index closures (IsStep-some r (slice_index classes i) a).0) in
+    let (next, long, fits) = chosen {X = ℕ} (replicate size 0) (λ e j. (i a : ℕ) → i * k + a ≡ e → a < k → Leads i a j) (λ e y at.
+    let (inside, letter, same) = table_place (length classes) k e (omega (arith, slice_get_within (replicate size 0) e y at, length-replicate {A = ℕ} size 0)) in
+    let step = IsStep-some r (slice_index classes (e / k)) (e % k) in
+    let (j, there) = class_after x closed (e / k) (e % k) (slice_index closures step.0) inside letter (closed_step (slice_index classes (e / k)) (e % k) have step.1) in (
       j,
-      λ i a below place.
-          let (row, column) = same_from_place i a (e / k) (e % k) k below letter (place ∙ same) in
-          subst (λ g. IsNextClass r words g a j) (sym row) (subst (λ b. IsNextClass r words (e / k) b j) (sym column) (are.next (e / k) (e % k) j from (slice_index closures to) here there letter closed)),
+      λ i a is below. let (row, column) = same_from_place i a (e / k) (e % k) k below letter (is ∙ same) in subst₂ (λ g b. Leads g b j) (sym row) (sym column) there,
     )) in
-    let dead = place_in classes 0 in (
-      record { states = k; classes = length classes; next = next; dead = dead.0 },
-      record {
+    let full : length next ≡ size = sym long ∙ length-replicate {A = ℕ} size 0 in
+    let entry : (i a : ℕ) → i < length classes → a < k → Leads i a (slice_index next (i * k + a)) = λ i a inside letter.
+    let row : suc i * k ≤ length classes * k = mul-le-mul_right k inside in
+    let within : i * k + a < length next = omega (arith, suc-mul i k, full) in
+    fits (i * k + a) (slice_index next (i * k + a)) (slice_get-get_or next (i * k + a) 0 within) i a refl letter in
+    let (dead, place) = place_in x 0 in
+    record {
+      rule = rule;
+      closed = have;
+      automaton = record { states = k; classes = length classes; next = next; dead = dead };
+      least = record {
         words = words;
         states = refl;
         list = are.list;
         classes = are.long;
-        long = sym size ∙ long;
+        long = full;
         next = λ i a inside letter.
-            let row : suc i * k ≤ length classes * k = mul-le-mul_right k inside in
-            let within : i * k + a < length next = omega (arith, suc-mul i k, size, long) in
-            fits (i * k + a) (slice_index next (i * k + a)) (slice_get-get_or next (i * k + a) 0 within) i a letter refl;
-        dead = are.dead dead.0 dead.1;
-      },
-    )
+            let step = IsStep-some r (slice_index classes i) a in
+            IsNextClass-step rule are i a (slice_index next (i * k + a)) (slice_index classes i) (slice_index closures step.0) (slice_get-get_or classes i 0 inside) (entry i a inside letter) letter
+            (closed_step (slice_index classes i) a have step.1);
+        dead = IsDeadClass-place rule have are dead place;
+      };
+      long = refl;
+      some = omega (arith, slice_get_within x.tree 0 x.queue.fills.first x.queue.fills.root, length-search x);
+      below = class-below x;
+      next = λ i a to inside letter step. entry i a inside letter ∙ ap (λ t. Some (slice_index closures t)) (IsSetOf-unique (IsStep-some r (slice_index classes i) a).1 step);
+      dead = place;
+    }
+
+-- it is the least automaton
+pub the_automaton : {r q : LocalRule} {closures classes : List ℕ} {m : Automaton} → (h : HasClasses r closures classes) → r ≡ q → IsLeastAutomaton q m → h.automaton ≡ m
+the_automaton {m = m} h same least = IsLeastAutomaton-unique h.rule h.least (subst (λ r. IsLeastAutomaton r m) (sym same) least)
 
 -- a class of the least automaton is listed
 pub class_inside : {r q : LocalRule} {closures classes : List ℕ} → HasClasses r closures classes → r ≡ q → (i : ℕ) → ((m : Automaton) → IsLeastAutomaton q m → i < m.classes) → i < length classes
-class_inside h same i inside =
-    let (m, least) = HasClasses-least h in
-    omega (arith, HasClasses-long h least, inside m (subst (λ r. IsLeastAutomaton r m) same least))
-
--- the closure of a set to which a step leads from a class is that of a class
-pub Contains-next : {r : LocalRule} {closures classes : List ℕ} → HasClasses r closures classes → (i a from to : ℕ) → i < length classes → from ≡ slice_index classes i → a < r.states → IsStep r from a to
-    → Contains classes (slice_index closures to)
-Contains-next {closures = closures} {classes = classes} h i a from to inside is letter step =
-    let (j, there) = class_after h i a from (slice_index closures to) (slice_get-get_or classes i 0 inside ∙ ap Some (sym is)) letter (closed_step from a h.closed step) in
-    Contains-slice_get classes j (slice_index closures to) there
-
--- the class with that closure is the one that the least automaton has next
-pub next_class : {r : LocalRule} {closures classes : List ℕ} {m : Automaton} → HasClasses r closures classes → IsLeastAutomaton r m → (i a j from to : ℕ) → i < length classes → from ≡ slice_index classes i
-    → a < r.states → IsStep r from a to → slice_get classes j ≡ Some (slice_index closures to) → j ≡ slice_index m.next (i * m.states + a)
-next_class {closures = closures} {classes = classes} h least i a j from to inside is letter step there =
-    HasClasses-next h least i a j from (slice_index closures to) (slice_get-get_or classes i 0 inside ∙ ap Some (sym is)) there letter (closed_step from a h.closed step)
+class_inside h same i inside = omega (arith, h.long, inside h.automaton (subst (λ r. IsLeastAutomaton r h.automaton) same h.least))

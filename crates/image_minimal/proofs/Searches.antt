@@ -1,20 +1,47 @@
 -- A search through sets of nodes that are put into a list, and the unread sets that one lists.
-use Rattle.std.proofs.Common.{◌≡◌, ℕ, suc, ◌+◌, ◌*◌, ◌<◌, ◌≤◌, List, [], ◌∷◌, length, Some, Contains, refl, sym, ap, ◌∙◌, subst, arith, ⊎_elim, slice_get, mul-le-mul_right, suc-mul}
-use Rattle.word_image.proofs.Common.{slice_get_within, LocalRule, Contains-slice_get}
-use Rattle.search_laws.proofs.Common.{Leads, Place, IsQueue, IsSearch, Leads-induct, place_of_listed, Contains-state, IsSearch-there, IsSearch-new, length-search, TreeSpells-some, Leads-spelled}
+use Rattle.std.proofs.Common.{◌≡◌, ℕ, suc, ◌+◌, ◌*◌, ◌<◌, ◌≤◌, List, [], ◌∷◌, ◌++◌, length, slice_index, Some, Contains, refl, sym, ap, ◌∙◌, subst, arith, ⊎_elim, slice_get, mul-le-mul_right, suc-mul}
+use Rattle.word_image.proofs.Common.{slice_get_within, slice_get-get_or, slice_get-append, LocalRule}
+use Rattle.search_laws.proofs.Common.{Leads, Place, IsQueue, IsSearch, Leads-induct, place_of_listed, Contains-state, IsSearch-start, IsSearch-there, IsSearch-new, length-search, TreeSpells-some, Leads-spelled}
 use Rattle.image_minimal.specs.Closures.{IsBack, IsUnread, IsUnreadSet}
-use Rattle.image_minimal.specs.Indexes.{IsInsertedAt}
+use Rattle.image_minimal.specs.Indexes.{IsInserted}
 use Rattle.image_minimal.specs.Searches.{AreUnreadSets}
 
--- one more edge is followed, to a set that is put into the list
-pub IsStateSearch-insert : {Step : ℕ → ℕ → ℕ → Type 0} {k start : ℕ} {sets new : List ℕ} {place : ℕ} (h n from to : ℕ) → IsSearch Step k start sets (h * k + n) → n < k
-    → slice_get sets h ≡ Some from → Step from n to → ((t : ℕ) → Step from n t → to ≡ t) → IsInsertedAt sets new to place → IsSearch Step k start new (h * k + n + 1)
-IsStateSearch-insert {Step} {k} {start} {sets} {new} {place} h n from to x letter here step only added =
+-- at the beginning the start is put into an empty list
+pub IsSearch-first : (Step : ℕ → ℕ → ℕ → Type 0) (k : ℕ) {start : ℕ} {old new : List ℕ} → old ≡ [] → IsInserted old new start → IsSearch Step k start new (0 * k)
+IsSearch-first Step k {start} {old} {new} none h =
+    let alone : new ≡ start ∷ [] =
     ⊎_elim
-    (λ same. subst (λ l. IsSearch Step k start l (h * k + n + 1)) (sym same) (IsSearch-there h n from x letter here
-    (λ t other. Contains-slice_get sets place t (subst (λ l. slice_get l place ≡ Some t) same (added.stands ∙ ap Some (only t other))))))
-    (λ (absent, longer). subst (λ l. IsSearch Step k start l (h * k + n + 1)) (sym longer) (IsSearch-new h n from to x letter here step (λ t other. sym (only t other)) absent))
-    added.grown
+    (λ (_, (i, inside, _)). absurd (omega (arith, ap length none)))
+    (λ (_, longer). longer ∙ ap (λ l. l ++ start ∷ []) none)
+    h in
+    let here : IsSearch Step k start new 0 = subst (λ l. IsSearch Step k start l 0) (sym alone) (IsSearch-start Step k start) in
+    subst (IsSearch Step k start new) (omega arith) here
+
+-- a search in which the steps on the first letters have been followed from the state at a place
+pub record IsSearchAt (Step : ℕ → ℕ → ℕ → Type 0) (k start : ℕ) (states : List ℕ) (place from letter : ℕ) : Type 0 where
+  pub search : IsSearch Step k start states (place * k + letter)
+  pub here : slice_get states place ≡ Some from
+
+-- before the first letter
+pub IsSearchAt-start : {Step : ℕ → ℕ → ℕ → Type 0} {k start : ℕ} {states : List ℕ} {place from : ℕ} → IsSearch Step k start states (place * k) → place < length states → from ≡ slice_index states place
+    → IsSearchAt Step k start states place from 0
+IsSearchAt-start {Step} {k} {start} {states} {place} x inside is = record { search = subst (IsSearch Step k start states) (omega arith) x; here = slice_get-get_or states place 0 inside ∙ ap Some (sym is) }
+
+-- one more step is followed, to a state that is put into the list
+pub IsSearchAt-insert : {Step : ℕ → ℕ → ℕ → Type 0} {k start : ℕ} {states new : List ℕ} {place from letter to : ℕ} → IsSearchAt Step k start states place from letter → letter < k
+    → Step from letter to → ((t : ℕ) → Step from letter t → to ≡ t) → IsInserted states new to → IsSearchAt Step k start new place from (letter + 1)
+IsSearchAt-insert {Step} {k} {start} {states} {new} {place} {from} {letter} {to} h below step only added =
+    let next : place * k + letter + 1 ≡ place * k + (letter + 1) = omega arith in
+    ⊎_elim
+    (λ (same, there). subst (λ l. IsSearchAt Step k start l place from (letter + 1)) (sym same) (record {
+      search = subst (IsSearch Step k start states) next (IsSearch-there place letter from h.search below h.here (λ t other. subst (Contains states) (only t other) there));
+      here = h.here;
+    }))
+    (λ (absent, longer). subst (λ l. IsSearchAt Step k start l place from (letter + 1)) (sym longer) (record {
+      search = subst (IsSearch Step k start (states ++ to ∷ [])) next (IsSearch-new place letter from to h.search below h.here step (λ t other. sym (only t other)) absent);
+      here = slice_get-append states (to ∷ []) place from h.here;
+    }))
+    added
 
 -- where steps backwards lead is an unread set
 unread_leads : {r : LocalRule} {w : List ℕ} {set : ℕ} → Leads (IsBack r) r.states 0 w set → IsUnreadSet r set

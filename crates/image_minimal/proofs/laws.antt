@@ -1,9 +1,9 @@
+pub mod Entries
 pub mod Unread
 pub mod Closures
 pub mod ClosureTables
 pub mod ClosedSteps
 pub mod Classes
 pub mod ClassLists
-pub mod Chains
 pub mod LinkWords
 pub mod Separations

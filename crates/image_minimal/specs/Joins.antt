@@ -1,11 +1,10 @@
 -- Numbers that are joined to classes (Galler and Fischer 1964): each leads to a lesser one of its class, or is the root of its class itself.
-use Rattle.std.specs.Prelude.{◌≡◌, ℕ, ◌<◌, ◌≤◌, ◌⊎◌, List, length, slice_index, Bool, true, false}
+use Rattle.std.specs.Prelude.{◌≡◌, ℕ, ◌+◌, ◌<◌, ◌≤◌, List, length, slice_index, Bool, true, false, if◌then◌else◌}
 use Rattle.std.specs.List.{sum_by}
 
--- one number leads to the other, from parent to parent
-pub data Rises (parents : List ℕ) : ℕ → ℕ → Type 0 where
-  Rest : (x : ℕ) → Rises parents x x
-  Rise : (x z : ℕ) → x < length parents → Rises parents (slice_index parents x) z → Rises parents x z
+-- each number has the colour of its parent, so that all numbers of a class have one
+abbrev pub AreColours : List ℕ → (ℕ → Bool) → Type 0
+AreColours parents f = (x : ℕ) → x < length parents → f (slice_index parents x) ≡ f x
 
 -- no number leads to a greater one
 abbrev pub IsFalling : List ℕ → Type 0
@@ -15,21 +14,23 @@ IsFalling parents = (x : ℕ) → x < length parents → slice_index parents x �
 abbrev pub total : List ℕ → ℕ
 total = sum_by (λ x. x)
 
--- each number leads to one to which it led before, and the parents aren't greater
+-- each number leads to one of its class, the roots are the same, and the parents aren't greater
 pub record IsHalved (old new : List ℕ) : Type 0 where
   pub long : length new ≡ length old
-  pub kept : (x : ℕ) → x < length old → Rises old x (slice_index new x)
   pub falling : IsFalling new
+  pub colours : (f : ℕ → Bool) → AreColours old f → AreColours new f
+  pub roots : (x : ℕ) → x < length old → slice_index old x ≡ x → slice_index new x ≡ x
   pub no_more : total new ≤ total old
 
--- each number leads to one to which it led before, or two are joined: it leads where one led, and the other led to its new parent
-pub record IsUnited (old new : List ℕ) (x y : ℕ) : Type 0 where
-  pub long : length new ≡ length old
-  pub led : (i : ℕ) → i < length old
-      → Rises old i (slice_index new i) ⊎ ((Rises old x i × Rises old y (slice_index new i)) ⊎ (Rises old y i × Rises old x (slice_index new i)))
-  pub less : total new < total old
+-- a lesser number of the class of a number is met on a way that is halved
+pub record IsOnWay (old new : List ℕ) (number at : ℕ) : Type 0 where
+  pub halved : IsHalved old new
+  pub within : at ≤ number
+  pub one : (f : ℕ → Bool) → AreColours old f → f number ≡ f at
 
--- two numbers are joined, or they were in one class: both led to one number
-abbrev pub IsJoin : List ℕ → List ℕ → ℕ → ℕ → Bool → Type 0
-IsJoin old new x y true = IsUnited old new x y
-IsJoin old new x y false = IsHalved old new × ((root : ℕ) × Rises old x root × Rises old y root)
+-- the classes of two numbers are joined, or they were one
+pub record IsJoin (old new : List ℕ) (x y : ℕ) (joined : Bool) : Type 0 where
+  pub long : length new ≡ length old
+  pub one : (f : ℕ → Bool) → AreColours old f → joined ≡ false → f x ≡ f y
+  pub colours : (f : ℕ → Bool) → AreColours old f → f x ≡ f y → AreColours new f
+  pub fewer : total new + (if joined then 1 else 0) ≤ total old

@@ -1,16 +1,12 @@
 -- Pairs of sets to which one word leads under two rules, linked (Hopcroft and Karp 1971).
-use Rattle.std.specs.Prelude.{◌≡◌, ◌≢◌, ℕ, ◌+◌, ◌*◌, ◌<◌, ◌≤◌, ◌↔◌, ◌⊎◌, ◌^◌, List, length, map, slice_get, slice_index, Option, Some, None}
+use Rattle.std.specs.Prelude.{◌≡◌, ◌≢◌, ℕ, ◌+◌, ◌*◌, ◌<◌, ◌≤◌, ◌⊎◌, ◌^◌, List, length, map, slice_get, Option, Some, None, Bool, nat_eq}
 use Rattle.std.specs.List.{range_with_len}
 use Rattle.search_laws.specs.SearchQueues.{Place, TreeSpells, IsFilled, filled}
 use Rattle.word_image.specs.LocalRules.{LocalRule, node_count}
 use Rattle.word_image.specs.Graphs.{full_set}
 use Rattle.word_image.specs.Edges.{IsStep}
-use Rattle.image_minimal.specs.Joins.{total}
+use Rattle.image_minimal.specs.Joins.{AreColours, total}
 use Rattle.image_minimal.specs.declared.links.Link.{Link}
-
--- the sets of both rules as one: from n on stand those of the second
-abbrev pub second_state : ℕ → Link → ℕ
-second_state n x = n + x.second
 
 -- a link as a place of a search through pairs of sets
 abbrev pub link_place : Link → Place (ℕ × ℕ)
@@ -19,25 +15,17 @@ link_place x = record { state = (x.first, x.second); parent = x.parent; letter =
 abbrev pub link_places : List Link → List (Place (ℕ × ℕ))
 link_places = map link_place
 
--- one state is joined to the other by links that were made by the time e edges had been followed
-pub data Chain (n k : ℕ) (links : List Link) (e : ℕ) : ℕ → ℕ → Type 0 where
-  Stay : (x : ℕ) → Chain n k links e x x
-  Forth : (i : ℕ) (y : Link) (z : ℕ) → slice_get links i ≡ Some y → filled k i (link_place y) ≤ e → Chain n k links e (second_state n y) z → Chain n k links e y.first z
-  Back : (i : ℕ) (y : Link) (z : ℕ) → slice_get links i ≡ Some y → filled k i (link_place y) ≤ e → Chain n k links e y.first z → Chain n k links e (second_state n y) z
+-- both sets of each link that was made by the time e edges had been followed have one colour, where from n on stand the sets of the second rule
+abbrev pub HaveOneColour : ℕ → ℕ → List Link → ℕ → (ℕ → Bool) → Type 0
+HaveOneColour n k links e f = (i : ℕ) (x : Link) → slice_get links i ≡ Some x → filled k i (link_place x) ≤ e → f x.first ≡ f (n + x.second)
 
 -- a step on one letter on both sides
 abbrev pub LinkStep : LocalRule → LocalRule → ℕ × ℕ → ℕ → ℕ × ℕ → Type 0
 LinkStep r q from a to = IsStep r from.0 a to.0 × IsStep q from.1 a to.1
 
--- two sets are joined by links that were made by the time e edges had been followed
+-- two sets are joined by links that were made by the time e edges had been followed: they have one colour wherever both sets of each of these links do
 abbrev pub HasChain : LocalRule → List Link → ℕ × ℕ → ℕ → Type 0
-HasChain r links pair e = Chain (2 ^ node_count r) r.states links e pair.0 (2 ^ node_count r + pair.1)
-
--- links of the sets of two rules, from all nodes on both sides on, that are made breadth first. A pair that is joined already makes
--- no link, and each pair that was met is empty on both sides or on neither.
-pub record IsLinking (r q : LocalRule) (links : List Link) (e : ℕ) : Type 0 where
-  pub fills : IsFilled (LinkStep r q) (HasChain r links) r.states (full_set r, full_set q) (link_places links) e
-  pub even : (i : ℕ) (x : Link) → slice_get links i ≡ Some x → (x.first ≡ 0 ↔ (x.second ≡ 0))
+HasChain r links pair e = (f : ℕ → Bool) → HaveOneColour (2 ^ node_count r) r.states links e f → f pair.0 ≡ f (2 ^ node_count r + pair.1)
 
 -- on letter a the pair of link i leads to two sets of which exactly one is empty
 pub record IsConflict (r q : LocalRule) (links : List Link) (i a : ℕ) : Type 0 where
@@ -58,16 +46,14 @@ set_count r q = 2 ^ node_count r + 2 ^ node_count q
 abbrev pub most_links : LocalRule → LocalRule → ℕ
 most_links r q = total (range_with_len 0 (set_count r q)) + 1
 
--- the sets of both rules in classes that are joined by the links
-pub record AreJoined (r q : LocalRule) (links : List Link) (e : ℕ) (parents : List ℕ) : Type 0 where
-  pub long : length parents ≡ set_count r q
-  pub joined : (x : ℕ) → x < set_count r q → Chain (2 ^ node_count r) r.states links e x (slice_index parents x)
-  pub few : length links + total parents ≤ most_links r q
-
--- a search through linked sets of two rules, in which the first e edges have been followed
+-- a search through linked sets of two rules, from all nodes on both sides on, breadth first, in which the first e edges have been followed. A pair that is
+-- joined already makes no link, each pair that was met is empty on both sides or on neither, and the sets of both rules are in classes that the links join.
 pub record IsLinkSearch (r q : LocalRule) (links : List Link) (parents : List ℕ) (e : ℕ) : Type 0 where
-  pub linking : IsLinking r q links e
-  pub joined : AreJoined r q links e parents
+  pub fills : IsFilled (LinkStep r q) (HasChain r links) r.states (full_set r, full_set q) (link_places links) e
+  pub even : (i : ℕ) (x : Link) → slice_get links i ≡ Some x → nat_eq x.first 0 ≡ nat_eq x.second 0
+  pub long : length parents ≡ set_count r q
+  pub joined : (f : ℕ → Bool) → HaveOneColour (2 ^ node_count r) r.states links e f → AreColours parents f
+  pub few : length links + total parents ≤ most_links r q
 
 -- the edges from link i on all letters have been followed, or those before a conflict
 abbrev pub IsLinkedOn : LocalRule → LocalRule → List Link → List ℕ → ℕ → Option ℕ → Type 0

@@ -1,9 +1,12 @@
 -- Searches through sets of nodes, in which some edges have been followed.
-use Rattle.std.specs.Prelude.{ℕ, ◌*◌, ◌≤◌, ◌↔◌, List, length, Contains}
-use Rattle.word_image.specs.LocalRules.{LocalRule, IsRule}
+use Rattle.std.specs.Prelude.{◌≡◌, ℕ, ◌+◌, ◌*◌, ◌^◌, ◌<◌, ◌≤◌, ◌↔◌, List, length, slice_get, slice_index, Some, Contains}
+use Rattle.word_image.specs.LocalRules.{LocalRule, IsRule, node_count}
 use Rattle.word_image.specs.Graphs.{full_set}
+use Rattle.word_image.specs.Edges.{IsStep}
 use Rattle.search_laws.specs.SearchQueues.{IsSearch}
+use Rattle.image_minimal.specs.ImageLanguages.{Automaton, IsLeastAutomaton}
 use Rattle.image_minimal.specs.Closures.{IsUnreadSet, IsClosedStep, AreClosures}
+use Rattle.image_minimal.specs.Indexes.{IsPlaceOf}
 
 -- exactly the unread sets are listed
 abbrev pub AreUnreadSets : LocalRule → List ℕ → Type 0
@@ -13,10 +16,15 @@ AreUnreadSets r sets = (set : ℕ) → Contains sets set ↔ IsUnreadSet r set
 abbrev pub IsClassSearch : LocalRule → List ℕ → ℕ → Type 0
 IsClassSearch r = IsSearch (IsClosedStep r) r.states (full_set r)
 
--- the closures of all sets, and those of the classes in their order: all to which closed steps lead
+-- the closures of all sets, and those of the classes in their order, which are those of the least automaton
 pub record HasClasses (r : LocalRule) (closures classes : List ℕ) : Type 0 where
   pub rule : IsRule r
   pub closed : AreClosures r closures
-  pub edges : ℕ
-  pub search : IsClassSearch r classes edges
-  pub all : length classes * r.states ≤ edges
+  pub automaton : Automaton
+  pub least : IsLeastAutomaton r automaton
+  pub long : automaton.classes ≡ length classes
+  pub some : 1 ≤ length classes
+  pub below : (i : ℕ) → i < length classes → slice_index classes i < 2 ^ node_count r
+  pub next : (i a to : ℕ) → i < length classes → a < r.states → IsStep r (slice_index classes i) a to
+      → slice_get classes (slice_index automaton.next (i * automaton.states + a)) ≡ Some (slice_index closures to)
+  pub dead : IsPlaceOf classes 0 automaton.dead

@@ -1,10 +1,10 @@
 //! The classes of alike words, found breadth first by the closures of their sets.
 
-ghost use Rattle.std.specs.Prelude.{◌≡◌, ◌+◌, ◌*◌, ◌<◌, ◌≤◌, ◌++◌, length, take, drop, slice_get, slice_index, Some, Contains, IfOk};
+ghost use Rattle.std.specs.Prelude.{◌≡◌, ◌+◌, ◌*◌, ◌<◌, ◌≤◌, ℕ, length, slice_get, slice_index, Some, IfOk};
 ghost use Rattle.word_image.specs.LocalRules.{LocalRule, IsRule, most_sets};
 ghost use Rattle.image_minimal.specs.ImageLanguages.{Automaton, IsLeastAutomaton};
 ghost use Rattle.image_minimal.specs.Closures.{AreClosures};
-ghost use Rattle.image_minimal.specs.Searches.{IsClassSearch, HasClasses};
+ghost use Rattle.image_minimal.specs.Searches.{HasClasses};
 
 use crate::closures::closures;
 use crate::listed::Listed;
@@ -73,27 +73,17 @@ impl Minimal {
     pub fn rows(&self, alloc: Global) -> Result<Vec<u16>, AllocError>
         ensures { IfOk result (λ rows. (a : Automaton) → IsLeastAutomaton self.now a → rows.items ≡ a.next) }
     {
-        let classes = self.len();
-        let mut rows = vec![in alloc; 0; classes as usize * usize::from(self.k())]?;
+        let classes = self.classes.len();
+        let mut rows = Vec::with_capacity(alloc, classes as usize * usize::from(self.k()))?;
         for class in 0..classes {
-            self.fill_row(&mut rows, class);
+            let set = self.classes.at(class);
+            let steps = self.subsets.steps(set);
+            for letter in 0..self.subsets.k() {
+                let after = steps[letter as usize];
+                rows.push(class_of(&self.closures, &self.classes, after))?;
+            }
         }
         Ok(rows)
-    }
-
-    /// Fills in the row of class i: the class of a word of it followed by each letter, letters ascending.
-    fn fill_row(&self, rows: &mut [u16], i: u32)
-        requires class { (a : Automaton) → IsLeastAutomaton self.now a → i < a.classes }
-        requires room { (a : Automaton) → IsLeastAutomaton self.now a → length rows.old ≡ length a.next }
-        ensures { (a : Automaton) → IsLeastAutomaton self.now a → take ((i + 1) * a.states) rows.new ≡ take (i * a.states) rows.old ++ take a.states (drop (i * a.states) a.next) }
-    {
-        let set = self.classes.at(i);
-        let steps = self.subsets.steps(set);
-        let first = i as usize * usize::from(self.subsets.k());
-        for letter in 0..self.subsets.k() {
-            let after = steps[letter as usize];
-            rows[first + letter as usize] = class_of(&self.closures, &self.classes, after);
-        }
     }
 
     /// The class of a word of class i followed by letter a.
@@ -131,8 +121,8 @@ impl Minimal {
 /// The class whose closure is that of the set.
 fn class_of(closures: &[u16], classes: &Listed, set: u16) -> u16
     requires set { set < length closures.now }
-    requires class { Contains classes.now (slice_index closures.now set) }
-    ensures { slice_get classes.now result ≡ Some (slice_index closures.now set) }
+    requires class { (j : ℕ) × (slice_get classes.now j ≡ Some (slice_index closures.now set)) }
+    ensures { (j : ℕ) → slice_get classes.now j ≡ Some (slice_index closures.now set) → result ≡ j }
 {
     let class = classes.place(closures[usize::from(set)]);
     class.unwrap()
@@ -147,29 +137,13 @@ fn search(alloc: Global, subsets: &Subsets, closures: &[u16]) -> Result<Listed, 
     classes.insert(subsets.full())?;
     let mut place = 0;
     while place < classes.len() {
-        expand(subsets, closures, &mut classes, place)?;
+        let set = classes.at(place);
+        let steps = subsets.steps(set);
+        for letter in 0..subsets.k() {
+            let after = steps[letter as usize];
+            classes.insert(closures[usize::from(after)])?;
+        }
         place += 1;
     }
     Ok(classes)
-}
-
-/// Follows the steps from the class at this place, letters ascending.
-fn expand(
-    subsets: &Subsets,
-    closures: &[u16],
-    classes: &mut Listed,
-    place: u32,
-) -> Result<(), AllocError>
-    requires closures { AreClosures subsets.now closures.now }
-    requires place { place < length classes.old }
-    requires search { IsClassSearch subsets.now classes.old (place * subsets.now.states) }
-    ensures { IfOk result (λ _. IsClassSearch subsets.now classes.new ((place + 1) * subsets.now.states)) }
-{
-    let set = classes.at(place);
-    let steps = subsets.steps(set);
-    for letter in 0..subsets.k() {
-        let after = steps[letter as usize];
-        classes.insert(closures[usize::from(after)])?;
-    }
-    Ok(())
 }

@@ -1,9 +1,8 @@
 //! Unread sets, and the closure of each set of nodes.
 
-ghost use Rattle.std.specs.Prelude.{◌+◌, ◌*◌, ◌^◌, ◌<◌, length, IfOk};
+ghost use Rattle.std.specs.Prelude.{◌+◌, ◌^◌, ◌<◌, IfOk};
 ghost use Rattle.word_image.specs.LocalRules.{node_count};
 ghost use Rattle.image_minimal.specs.Closures.{IsBack, IsUnreadSet, IsClosure, AreClosures, AreClosuresFrom};
-ghost use Rattle.search_laws.specs.SearchQueues.{IsSearch};
 ghost use Rattle.image_minimal.specs.Searches.{AreUnreadSets};
 
 use crate::listed::Listed;
@@ -52,23 +51,13 @@ fn unread_sets(alloc: Global, graph: &Graph) -> Result<Listed, AllocError>
     sets.insert(0)?;
     let mut place = 0;
     while place < sets.len() {
-        expand(graph, &mut sets, place)?;
+        let set = sets.at(place);
+        for a in 0..graph.k() {
+            sets.insert(back(graph, set, a))?;
+        }
         place += 1;
     }
     Ok(sets)
-}
-
-/// Lists the sets to which steps backwards lead from the set at this place.
-fn expand(graph: &Graph, sets: &mut Listed, place: u32) -> Result<(), AllocError>
-    requires place { place < length sets.old }
-    requires search { IsSearch (IsBack graph.now) graph.now.states 0 sets.old (place * graph.now.states) }
-    ensures { IfOk result (λ _. IsSearch (IsBack graph.now) graph.now.states 0 sets.new ((place + 1) * graph.now.states)) }
-{
-    let set = sets.at(place);
-    for a in 0..graph.k() {
-        sets.insert(back(graph, set, a))?;
-    }
-    Ok(())
 }
 
 /// The nodes from which all edges labelled a lead into the set.

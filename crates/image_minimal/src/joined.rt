@@ -1,8 +1,8 @@
 //! Numbers in classes that are joined two by two (Galler and Fischer 1964).
 
-ghost use Rattle.std.specs.Prelude.{◌≡◌, ◌<◌, ◌≤◌, length, slice_index, IfOk};
+ghost use Rattle.std.specs.Prelude.{◌≡◌, ◌<◌, length, slice_index, IfOk};
 ghost use Rattle.std.specs.List.{range_with_len};
-ghost use Rattle.image_minimal.specs.Joins.{Rises, IsFalling, IsHalved, IsJoin};
+ghost use Rattle.image_minimal.specs.Joins.{IsFalling, IsOnWay, IsJoin};
 
 use std::alloc::{AllocError, Global};
 use std::marker::Model;
@@ -58,9 +58,7 @@ fn root(parents: &mut Vec<u32>, number: u32) -> u32
     requires number { number < length parents.old.items }
     requires falling { IsFalling parents.old.items }
     ensures root { slice_index parents.new.items result ≡ result }
-    ensures within { result ≤ number }
-    ensures rises { Rises parents.old.items number result }
-    ensures halved { IsHalved parents.old.items parents.new.items }
+    ensures way { IsOnWay parents.old.items parents.new.items number result }
 {
     let mut at = number;
     while parents[at as usize] != at {

@@ -2,7 +2,7 @@
 
 ghost use Rattle.std.specs.Prelude.{◌≡◌, ◌<◌, ◌≤◌, [], length, slice_index, IfOk};
 ghost use Rattle.word_image.specs.LocalRules.{most_sets};
-ghost use Rattle.image_minimal.specs.Indexes.{IsInsertedAt, IsPlaceOf};
+ghost use Rattle.image_minimal.specs.Indexes.{IsInserted, IsPlaceOf};
 
 use std::alloc::{AllocError, Global};
 use std::marker::Model;
@@ -61,17 +61,17 @@ impl Listed {
         self.places[usize::from(set)]
     }
 
-    /// Puts the set at the end, if it isn't there, and gives its place.
-    pub fn insert(&mut self, set: u16) -> Result<u16, AllocError>
-        ensures { IfOk result (IsInsertedAt self.old self.new set) }
+    /// Puts the set at the end, if it isn't there.
+    pub fn insert(&mut self, set: u16) -> Result<(), AllocError>
+        ensures { IfOk result (λ _. IsInserted self.old self.new set) }
     {
         match self.place(set) {
-            Some(place) => Ok(place),
+            Some(_) => Ok(()),
             None => {
                 let place = self.len() as u16;
                 self.sets.push(set)?;
                 self.places[usize::from(set)] = Some(place);
-                Ok(place)
+                Ok(())
             }
         }
     }

@@ -1,8 +1,8 @@
 -- Steps of closures: from the set of all nodes a word leads to the closure of its last nodes, and to no other set.
-use Rattle.std.proofs.Common.{◌≡◌, ℕ, ◌^◌, ◌<◌, List, [], ◌∷◌, refl, sym, subst}
-use Rattle.word_image.proofs.Common.{LocalRule, IsRule, IsWord, node_count, full_set, IsLastSet, IsLastSet-full, IsLastSet-step}
+use Rattle.std.proofs.Common.{◌≡◌, ℕ, List, [], ◌∷◌, slice_index, refl, sym, subst, arith}
+use Rattle.word_image.proofs.Common.{LocalRule, IsRule, IsWord, full_set, IsStep, IsLastSet, IsLastSet-full, IsLastSet-step}
 use Rattle.search_laws.proofs.Common.{Walk, Leads, Leads-induct, IsStep-some, IsSetOf-unique}
-use Rattle.image_minimal.specs.Closures.{IsClosure, IsClosedStep}
+use Rattle.image_minimal.specs.Closures.{IsClosure, IsClosedStep, AreClosures}
 use Rattle.image_minimal.proofs.laws.Closures.{AreReadAlike-closure, AreReadAlike-step, IsClosure-alike, IsClosure-unique, IsClosure-full}
 
 -- a closed step on a letter leads to one set
@@ -29,21 +29,20 @@ IsLastClosure-leads {r} {w} {closure} rule = Leads-induct (IsLastClosure r) (rec
     record {
       set = next.0;
       last = IsLastSet-step {set = h.set} rule h.last letter next.1;
-      closes = IsClosure-alike (AreReadAlike-step {s = before} {t = h.set} rule letter (AreReadAlike-closure h.closes) step.step next.1) step.closure;
+      closes = IsClosure-alike rule step.step.within next.1.within (AreReadAlike-step {s = before} {t = h.set} letter (AreReadAlike-closure rule h.last.last.within h.closes) step.step next.1) step.closure;
     }) w closure
 
--- each set of nodes has a closure
-abbrev pub HaveClosures : LocalRule → Type 0
-HaveClosures r = (set : ℕ) → set < 2 ^ node_count r → (closure : ℕ) × IsClosure r set closure
+-- a step to a set is a closed step to its closure
+pub closed_step : {r : LocalRule} {closures : List ℕ} {to : ℕ} (set a : ℕ) → AreClosures r closures → IsStep r set a to → IsClosedStep r set a (slice_index closures to)
+closed_step {to = to} set a h step = record { to = to; step = step; closure = h.closure to (omega arith) step.within }
 
 -- where each set of nodes has a closure, a word leads from each set to some set by closed steps
-closed_walk : {r : LocalRule} → HaveClosures r → (w : List ℕ) (set : ℕ) → (end : ℕ) × Walk (IsClosedStep r) set w end
-closed_walk closures [] set = (set, refl)
-closed_walk {r} closures (a ∷ w) set =
+closed_walk : {r : LocalRule} {closures : List ℕ} → AreClosures r closures → (w : List ℕ) (set : ℕ) → (end : ℕ) × Walk (IsClosedStep r) set w end
+closed_walk h [] set = (set, refl)
+closed_walk {r} {closures} h (a ∷ w) set =
     let (next, step) = IsStep-some r set a in
-    let (after, closure) = closures next step.within in
-    let (end, rest) = closed_walk closures w after in
-    (end, (after, record { to = next; step = step; closure = closure }, rest))
+    let (end, rest) = closed_walk h w (slice_index closures next) in
+    (end, (slice_index closures next, closed_step set a h step, rest))
 
-pub LeadsToClosure-some : {r : LocalRule} → HaveClosures r → (w : List ℕ) → IsWord r.states w → (closure : ℕ) × LeadsToClosure r w closure
-LeadsToClosure-some {r} closures w word = let (end, walk) = closed_walk closures w (full_set r) in (end, record { walk = walk; word = word })
+pub LeadsToClosure-some : {r : LocalRule} {closures : List ℕ} → AreClosures r closures → (w : List ℕ) → IsWord r.states w → (closure : ℕ) × LeadsToClosure r w closure
+LeadsToClosure-some {r} h w word = let (end, walk) = closed_walk h w (full_set r) in (end, record { walk = walk; word = word })

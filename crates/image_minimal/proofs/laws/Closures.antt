@@ -1,93 +1,65 @@
 -- The closure of a set: two words are alike exactly where the sets of their last nodes have one closure.
-use Rattle.std.proofs.Common.{◌≡◌, ℕ, ◌^◌, ◌<◌, ◌↔◌, List, [], ◌∷◌, refl, sym, subst, arith, pow_pos}
-use Rattle.word_image.proofs.Common.{LocalRule, IsRule, node_count, full_set, IsStep, IsLastSet, IsBitSet-full, IsSetOf-same}
-use Rattle.search_laws.proofs.Common.{IsSetOf-unique}
+use Rattle.std.proofs.Common.{◌≡◌, ℕ, ◌^◌, ◌<◌, ◌↔◌, List, [], ◌∷◌, ◌++◌, Bool, true, false, refl, sym, ap, ◌∙◌, subst, subst₂, arith, pow_pos}
+use mathlib.Core.Logic.Iff.{trans as iff_then, symm as iff_sym}
+use Rattle.word_image.proofs.Common.{All-cons, LocalRule, IsRule, IsWord, IsOrphan, node_count, full_set, IsStep, IsLastSet, IsBitSet-full, IsSetOf-same}
+use Rattle.search_laws.proofs.Common.{IsSetOf-unique, IsStep-some}
 use Rattle.image_minimal.specs.ImageLanguages.{Alike}
 use Rattle.image_minimal.specs.Closures.{IsWithin, IsUnreadSet, IsClosure}
-use Rattle.image_minimal.proofs.laws.Unread.{IsBack-some, IsUnread-some, IsWord-unread, IsWithin-back, IsWithin-zero, IsOrphan-unread}
+use Rattle.image_minimal.proofs.laws.Unread.{is_dead, is_dead-unread, IsUnread-some, IsWord-unread, IsWithin-zero, IsOrphan-is_dead}
 
--- one list of words is read from both sets
+-- tests that hold alike are one
+same_tests : (a b : Bool) → ((a ≡ true) ↔ (b ≡ true)) → a ≡ b
+same_tests true b h = sym (h.0 refl)
+same_tests false true h = h.1 refl
+same_tests false false h = refl
+
+-- the same words lead from both sets to the empty set
 pub record AreReadAlike (r : LocalRule) (s t : ℕ) : Type 0 where
-  pub within : (unread : ℕ) → IsUnreadSet r unread → (IsWithin r s unread ↔ IsWithin r t unread)
+  pub dead : (z : List ℕ) → IsWord r.states z → is_dead r z s ≡ is_dead r z t
 
--- a set is within its closure
-pub IsWithin-closure : {r : LocalRule} {s closure : ℕ} → IsClosure r s closure → IsWithin r s closure
-IsWithin-closure c u l there = (c.of.nodes u l).1 (λ unread is within. within u l there)
+-- the unread sets in which a set is are those in which its closure is
+IsWithin-closure : {r : LocalRule} {s closure : ℕ} → IsClosure r s closure → (unread : ℕ) → IsUnreadSet r unread → (IsWithin r closure unread ↔ IsWithin r s unread)
+IsWithin-closure c unread is = (
+  (λ within u l there. within u l ((c.of.nodes u l).1 (λ other _ inside. inside u l there))),
+  (λ within u l there. (c.of.nodes u l).0 there unread is within),
+)
 
 -- the same words are read from a set and from its closure
-pub AreReadAlike-closure : {r : LocalRule} {s closure : ℕ} → IsClosure r s closure → AreReadAlike r closure s
-AreReadAlike-closure c = record {
-  within = λ unread is. (
-    (λ within u l there. within u l (IsWithin-closure c u l there)),
-    (λ within u l there. (c.of.nodes u l).0 there unread is within),
-  );
-}
-
--- from sets of one closure the same words are read
-pub AreReadAlike-one : {r : LocalRule} {s t closure : ℕ} → IsClosure r s closure → IsClosure r t closure → AreReadAlike r s t
-AreReadAlike-one first second = record {
-  within = λ unread is.
-      let one = (AreReadAlike-closure first).within unread is in
-      let two = (AreReadAlike-closure second).within unread is in
-      ((λ within. two.0 (one.1 within)), (λ within. one.0 (two.1 within)));
+pub AreReadAlike-closure : {r : LocalRule} {s closure : ℕ} → IsRule r → s < 2 ^ node_count r → IsClosure r s closure → AreReadAlike r closure s
+AreReadAlike-closure {r} {s} {closure} rule small c = record {
+  dead = λ z word.
+      let (unread, is) = IsUnread-some r z word in
+      same_tests (is_dead r z closure) (is_dead r z s) (iff_then (is_dead-unread rule z unread closure is c.of.within) (iff_then (IsWithin-closure c unread (z, is)) (iff_sym (is_dead-unread rule z unread s is small))));
 }
 
 -- sets from which the same words are read have the same closure
-pub IsClosure-alike : {r : LocalRule} {s t closure : ℕ} → AreReadAlike r s t → IsClosure r s closure → IsClosure r t closure
-IsClosure-alike h c = record {
-  of = IsSetOf-same (λ u l. (
-    (λ all unread is within. all unread is ((h.within unread is).1 within)),
-    (λ all unread is within. all unread is ((h.within unread is).0 within)),
-  )) c.of;
-}
+pub IsClosure-alike : {r : LocalRule} {s t closure : ℕ} → IsRule r → s < 2 ^ node_count r → t < 2 ^ node_count r → AreReadAlike r s t → IsClosure r s closure → IsClosure r t closure
+IsClosure-alike {r} {s} {t} rule small also h c =
+    let same : (unread : ℕ) → IsUnreadSet r unread → (IsWithin r s unread ↔ IsWithin r t unread) = λ unread (z, is).
+    iff_then (iff_sym (is_dead-unread rule z unread s is small)) (subst (λ b. (b ≡ true) ↔ IsWithin r t unread) (sym (h.dead z (IsWord-unread r z unread is))) (is_dead-unread rule z unread t is also)) in
+    record { of = IsSetOf-same (λ u l. ((λ all unread is within. all unread is ((same unread is).1 within)), (λ all unread is within. all unread is ((same unread is).0 within)))) c.of }
 
 -- a set has one closure
 pub IsClosure-unique : {r : LocalRule} {s closure other : ℕ} → IsClosure r s closure → IsClosure r s other → closure ≡ other
 IsClosure-unique first second = IsSetOf-unique first.of second.of
 
 -- steps on one letter lead from sets from which the same words are read to such sets
-pub AreReadAlike-step : {r : LocalRule} {s t a after also : ℕ} → IsRule r → a < r.states → AreReadAlike r s t → IsStep r s a after → IsStep r t a also → AreReadAlike r after also
-AreReadAlike-step {r} {s} {t} {a} {after} {also} rule letter h first second = record {
-  within = λ unread (z, is).
-      let back = IsBack-some r unread a in
-      let one = IsWithin-back rule s first back.1 in
-      let two = IsWithin-back rule t second back.1 in
-      let both = h.within back.0 (a ∷ z, (unread, (letter, back.1), is)) in (
-        (λ within. two.1 (both.0 (one.0 within))),
-        (λ within. one.1 (both.1 (two.0 within))),
-      );
+pub AreReadAlike-step : {r : LocalRule} {s t a after also : ℕ} → a < r.states → AreReadAlike r s t → IsStep r s a after → IsStep r t a also → AreReadAlike r after also
+AreReadAlike-step {r} {s} {t} {a} letter h first second = record {
+  dead = λ z word. subst₂ (λ x y. is_dead r z x ≡ is_dead r z y) (IsSetOf-unique (IsStep-some r s a).1 first) (IsSetOf-unique (IsStep-some r t a).1 second) (h.dead (a ∷ z) (All-cons (λ b. b < r.states) a z letter word));
 }
-
--- words are alike exactly where the same words are read from their last nodes
-pub Alike-read : {r : LocalRule} {x y : List ℕ} {s t : ℕ} → IsRule r → IsLastSet r x s → IsLastSet r y t → (Alike r x y ↔ AreReadAlike r s t)
-Alike-read {r} {x} {y} {s} {t} rule first second = (
-  (λ alike. record {
-    within = λ unread (z, is).
-        let one = IsOrphan-unread rule z unread is x s first in
-        let two = IsOrphan-unread rule z unread is y t second in
-        let both = alike z (IsWord-unread r z unread is) in (
-          (λ within. two.0 (both.0 (one.1 within))),
-          (λ within. one.0 (both.1 (two.1 within))),
-        );
-  }),
-  (λ h z word.
-      let unread = IsUnread-some r z word in
-      let one = IsOrphan-unread rule z unread.0 unread.1 x s first in
-      let two = IsOrphan-unread rule z unread.0 unread.1 y t second in
-      let both = h.within unread.0 (z, unread.1) in (
-        (λ orphan. two.1 (both.0 (one.0 orphan))),
-        (λ orphan. one.1 (both.1 (two.0 orphan))),
-      )),
-)
 
 -- two words are alike exactly where their last nodes have one closure
 pub Alike-closure : {r : LocalRule} {x y : List ℕ} {s t closure other : ℕ} → IsRule r → IsLastSet r x s → IsLastSet r y t → IsClosure r s closure → IsClosure r t other
     → (Alike r x y ↔ (closure ≡ other))
-Alike-closure {r} {x} {y} {s} {t} {closure} {other} rule first second of_s of_t =
-    let read = Alike-read rule first second in (
-      (λ alike. IsClosure-unique (IsClosure-alike (read.0 alike) of_s) of_t),
-      (λ same. read.1 (AreReadAlike-one of_s (subst (IsClosure r t) (sym same) of_t))),
-    )
+Alike-closure {r} {x} {s = s} {t} rule first second of_s of_t = (
+  (λ alike. IsClosure-unique (IsClosure-alike rule first.last.within second.last.within (record {
+    dead = λ z word. same_tests (is_dead r z s) (is_dead r z t) (iff_then (iff_sym (IsOrphan-is_dead rule first z word)) (iff_then (alike z word) (IsOrphan-is_dead rule second z word)));
+  }) of_s) of_t),
+  (λ same z word.
+      let dead = sym ((AreReadAlike-closure rule first.last.within of_s).dead z word) ∙ ap (is_dead r z) same ∙ (AreReadAlike-closure rule second.last.within of_t).dead z word in
+      iff_then (subst (λ b. IsOrphan r (x ++ z) ↔ (b ≡ true)) dead (IsOrphan-is_dead rule first z word)) (iff_sym (IsOrphan-is_dead rule second z word))),
+)
 
 -- all nodes are their own closure
 pub IsClosure-full : (r : LocalRule) → IsClosure r (full_set r) (full_set r)
@@ -100,10 +72,4 @@ IsClosure-full r = record {
 
 -- the empty set is its own closure, and that of no other
 pub IsClosure-empty : {r : LocalRule} {s closure : ℕ} → s < 2 ^ node_count r → IsClosure r s closure → (s ≡ 0 ↔ (closure ≡ 0))
-IsClosure-empty {r} {s} {closure} small c =
-    let none = IsWithin-zero r s small in
-    let also = IsWithin-zero r closure c.of.within in
-    let alike = (AreReadAlike-closure c).within 0 ([], refl) in (
-      (λ empty. also.1 (alike.1 (none.0 empty))),
-      (λ empty. none.1 (alike.0 (also.0 empty))),
-    )
+IsClosure-empty {r} {s} {closure} small c = iff_then (IsWithin-zero r s small) (iff_then (iff_sym (IsWithin-closure c 0 ([], refl))) (iff_sym (IsWithin-zero r closure c.of.within)))

@@ -1,48 +1,30 @@
 -- What links say of the orphans of two rules: links that are closed under steps show that they are the same, and the first
 -- pair with exactly one empty set gives the least word that is an orphan of exactly one.
-use Rattle.std.proofs.Common.{◌≡◌, ℕ, ◌+◌, ◌*◌, ◌<◌, ◌≤◌, ◌↔◌, inl, inr, List, [], ◌∷◌, ◌++◌, length, Some, sym, ap, ◌∙◌, subst, arith, ⊎_elim, append_assoc, slice_get}
-use Rattle.word_image.proofs.Common.{cases_lt, length-map, LocalRule, IsRule, IsWord, IsOrphan, full_set, IsLastSet, IsLastSet-full}
-use Rattle.search_laws.proofs.Common.{Root, Leads-push, word_number, word_number-snoc, word_number-less, TreeSpells-unique, TreeSpells-some, spelled-within, edges-ascending, edge-within, unmapped_at, IsLastSet-leads}
+use Rattle.std.proofs.Common.{◌≡◌, ℕ, ◌+◌, ◌*◌, ◌<◌, ◌≤◌, ◌↔◌, inl, inr, List, [], ◌∷◌, ◌++◌, length, Some, sym, ap, ◌∙◌, subst, arith, ⊎_elim, append_assoc, slice_get, true}
+use mathlib.Core.Logic.Iff.{trans as iff_then, symm as iff_sym}
+use Rattle.word_image.proofs.Common.{cases_lt, length-map, LocalRule, IsRule, IsWord, IsOrphan, full_set, IsLastSet, IsLastSet-full, IsLastSet-step}
+use Rattle.search_laws.proofs.Common.{Root, word_number, word_number-snoc, word_number-less, TreeSpells-unique, TreeSpells-some, spelled-within, edges-ascending, edge-within, unmapped_at, mapped_at}
 use Rattle.image_minimal.specs.ImageLanguages.{HaveSameOrphans, Separates}
-use Rattle.image_minimal.specs.Closures.{IsWithin, IsUnread}
 use Rattle.image_minimal.specs.declared.links.Link.{Link}
-use Rattle.image_minimal.specs.Links.{IsLinking, IsConflict, link_place, link_places, SpellsLink}
-use Rattle.image_minimal.proofs.laws.Unread.{IsUnread-some, IsOrphan-last, IsOrphan-unread}
-use Rattle.image_minimal.proofs.laws.LinkWords.{AreEarly, Leads-link, link_place_at, both_within, word_number-append, word_number-front}
-
--- a word that is read from all nodes of both rules or of neither is an orphan of both or of neither
-same_orphan : {r q : LocalRule} → IsRule r → IsRule q → r.states ≡ q.states → (v : List ℕ)
-    → (IsWord r.states v → (s t : ℕ) → IsUnread r v s → IsUnread q v t → (IsWithin r (full_set r) s ↔ IsWithin q (full_set q) t)) → (IsOrphan r v ↔ IsOrphan q v)
-same_orphan {r} {q} rule other states v both = (
-  (λ orphan.
-      let word = orphan.word in
-      let s = IsUnread-some r v word in
-      let t = IsUnread-some q v (subst (λ k. IsWord k v) states word) in
-      (IsOrphan-unread other v t.0 t.1 [] (full_set q) (IsLastSet-full q)).1
-      ((both word s.0 t.0 s.1 t.1).0 ((IsOrphan-unread rule v s.0 s.1 [] (full_set r) (IsLastSet-full r)).0 orphan))),
-  (λ orphan.
-      let word = subst (λ k. IsWord k v) (sym states) orphan.word in
-      let s = IsUnread-some r v word in
-      let t = IsUnread-some q v orphan.word in
-      (IsOrphan-unread rule v s.0 s.1 [] (full_set r) (IsLastSet-full r)).1
-      ((both word s.0 t.0 s.1 t.1).1 ((IsOrphan-unread other v t.0 t.1 [] (full_set q) (IsLastSet-full q)).0 orphan))),
-)
+use Rattle.image_minimal.specs.Links.{IsLinkSearch, IsConflict, link_place, link_places, SpellsLink}
+use Rattle.image_minimal.proofs.laws.Unread.{is_dead, IsOrphan-last, IsOrphan-is_dead}
+use Rattle.image_minimal.proofs.laws.LinkWords.{AreEarly, IsLastSet-link, same_end, word_number-append, word_number-front}
 
 -- where all words that don't come after a word are early, the word is an orphan of both rules or of neither
-orphan_early : {r q : LocalRule} {links : List Link} {e : ℕ} {Early : ℕ → List ℕ → Type 0} → IsRule r → IsRule q → r.states ≡ q.states → IsLinking r q links e
+orphan_early : {r q : LocalRule} {links : List Link} {parents : List ℕ} {e : ℕ} {Early : ℕ → List ℕ → Type 0} → IsRule r → IsRule q → r.states ≡ q.states → IsLinkSearch r q links parents e
     → AreEarly r.states links e Early → (v : List ℕ) → (IsWord r.states v → Early 0 v) → (IsOrphan r v ↔ IsOrphan q v)
-orphan_early {r} {q} {links} rule other states h early v soon = same_orphan rule other states v (λ word s t unread also.
+orphan_early {r} {q} {links} rule other states h early v soon =
     let (root, at, alike) = unmapped_at link_place links 0 h.fills.first h.fills.root in
-    let starts = ap (λ y. y.state) alike ∙ h.fills.starts in
-    subst (λ n. IsWithin r n s ↔ IsWithin q (full_set q) t) (ap (λ p. p.0) starts)
-    (subst (λ n. IsWithin r root.first s ↔ IsWithin q n t) (ap (λ p. p.1) starts)
-    (both_within rule other h early v s t unread also 0 root at (soon word))))
+    let both : IsWord r.states v → (IsOrphan r v ↔ IsOrphan q v) = λ word.
+    let same = subst (λ (p : ℕ × ℕ). is_dead r v p.0 ≡ is_dead q v p.1) (ap (λ y. y.state) alike ∙ h.fills.starts) (same_end h early v word 0 root at (soon word)) in
+    iff_then (subst (λ b. IsOrphan r v ↔ (b ≡ true)) same (IsOrphan-is_dead rule (IsLastSet-full r) v word)) (iff_sym (IsOrphan-is_dead other (IsLastSet-full q) v (subst (λ k. IsWord k v) states word))) in
+    ((λ orphan. (both orphan.word).0 orphan), (λ orphan. (both (subst (λ k. IsWord k v) (sym states) orphan.word)).1 orphan))
 
 -- where all edges are followed the two rules have the same orphans
-pub HaveSameOrphans-closed : {r q : LocalRule} {links : List Link} {e : ℕ} → IsRule r → IsRule q → r.states ≡ q.states → IsLinking r q links e → length links * r.states ≤ e → HaveSameOrphans r q
-HaveSameOrphans-closed {r} {q} {links} {e} rule other states h closed v =
+pub HaveSameOrphans-closed : {r q : LocalRule} {links : List Link} {parents : List ℕ} {e : ℕ} → IsRule r → IsRule q → r.states ≡ q.states → IsLinkSearch r q links parents e → length links * r.states ≤ e → HaveSameOrphans r q
+HaveSameOrphans-closed {r} {q} {links} {e = e} rule other states h closed v =
     let early : AreEarly r.states links e (λ i z. Unit {0}) = record {
-      edge = λ i a z x at letter _. omega (arith, edge-within r.states (link_places links) i (a + 1) (link_place x) (link_place_at links i x at) (omega arith), ap (λ n. n * r.states) (length-map links link_place));
+      edge = λ i a z x at letter _. omega (arith, edge-within r.states (link_places links) i (a + 1) (link_place x) (mapped_at link_place links i x at) (omega arith), ap (λ n. n * r.states) (length-map links link_place));
       next = λ i a j z x y at also letter when _. tt;
     } in
     orphan_early rule other states h early v (λ _. tt)
@@ -51,39 +33,37 @@ HaveSameOrphans-closed {r} {q} {links} {e} rule other states h closed v =
 abbrev AreLesserEarly : ℕ → List Link → ℕ → ℕ → List ℕ → Type 0
 AreLesserEarly k links bound i z = (w : List ℕ) → SpellsLink links i w → word_number k (w ++ z) ≤ bound
 
-early_before : {r q : LocalRule} {links : List Link} {h a : ℕ} {w : List ℕ} {x : Link} → IsRule r → IsLinking r q links (h * r.states + a) → SpellsLink links h w → slice_get links h ≡ Some x → a < r.states
-    → AreEarly r.states links (h * r.states + a) (AreLesserEarly r.states links (word_number r.states w * r.states + a))
-early_before {r} {q} {links} {h} {a} {w} {x} rule linking reaches here letter =
+early_before : {r q : LocalRule} {links : List Link} {parents : List ℕ} {h a : ℕ} {w : List ℕ} {x : Link} → IsRule r → IsLinkSearch r q links parents (h * r.states + a) → SpellsLink links h w → slice_get links h ≡ Some x
+    → a < r.states → AreEarly r.states links (h * r.states + a) (AreLesserEarly r.states links (word_number r.states w * r.states + a))
+early_before {r} {q} {links} {h = h} {a} {w} {x} rule search reaches here letter =
     let k = r.states in
     record {
       edge = λ i b z y at below before.
-          let v = TreeSpells-some linking.fills i (link_place y) (link_place_at links i y at) in
+          let v = TreeSpells-some search.fills i (link_place y) (mapped_at link_place links i y at) in
           let front = word_number-front k (v.0 ++ b ∷ []) z (omega (arith, rule.shape.least_states)) in
           let whole : word_number k ((v.0 ++ b ∷ []) ++ z) ≤ word_number k w * k + a = rw (append_assoc v.0 (b ∷ []) z) (before v.0 v.1) in
           let long = word_number-snoc k v.0 b in
-          ⊎_elim (λ less. less)
-          (λ past.
-          let order = edges-ascending linking.fills reaches v.1 (link_place x) (link_place_at links h x here) a b letter below past in
-          absurd (omega arith))
+          ⊎_elim
+          (λ less. less)
+          (λ past. let order = edges-ascending search.fills reaches v.1 (link_place x) (mapped_at link_place links h x here) a b letter below past in absurd (omega arith))
           (cases_lt (i * k + b) (h * k + a));
       next = λ i b j z y l at also below when before u to_j.
-          let v = TreeSpells-some linking.fills i (link_place y) (link_place_at links i y at) in
-          let within = spelled-within linking.fills v.1 b below j (link_place l) u (link_place_at links j l also) to_j when in
+          let v = TreeSpells-some search.fills i (link_place y) (mapped_at link_place links i y at) in
+          let within = spelled-within search.fills v.1 b below j (link_place l) u (mapped_at link_place links j l also) to_j when in
           let whole : word_number k ((v.0 ++ b ∷ []) ++ z) ≤ word_number k w * k + a = rw (append_assoc v.0 (b ∷ []) z) (before v.0 v.1) in
           let longer = word_number-append k u (v.0 ++ b ∷ []) z (omega (arith, word_number-snoc k v.0 b)) in
           omega arith;
     }
 
 -- where the next edge leads to two sets of which exactly one is empty, its word is the least that is an orphan of exactly one rule
-pub Separates-conflict : {r q : LocalRule} {links : List Link} {i a : ℕ} {w : List ℕ} → IsRule r → IsRule q → r.states ≡ q.states
-    → IsLinking r q links (i * r.states + a) → IsConflict r q links i a → SpellsLink links i w → Separates r q (w ++ a ∷ [])
-Separates-conflict {r} {q} {links} {i} {a} {w} rule other states h c reaches =
+pub Separates-conflict : {r q : LocalRule} {links : List Link} {parents : List ℕ} {i a : ℕ} {w : List ℕ} → IsRule r → IsRule q → r.states ≡ q.states
+    → IsLinkSearch r q links parents (i * r.states + a) → IsConflict r q links i a → SpellsLink links i w → Separates r q (w ++ a ∷ [])
+Separates-conflict {r} {q} {links} {i = i} {a} {w} rule other states h c reaches =
     let k = r.states in
-    let both = Leads-link h states reaches c.link c.stands in
-    let first : IsLastSet r (w ++ a ∷ []) c.first = IsLastSet-leads rule (Leads-push both.0 c.letter c.first_step) in
-    let second : IsLastSet q (w ++ a ∷ []) c.second = IsLastSet-leads other (Leads-push both.1 (omega (arith, c.letter, states)) c.second_step) in
+    let both = IsLastSet-link rule other states h reaches c.link c.stands in
+    let first : IsLastSet r (w ++ a ∷ []) c.first = IsLastSet-step rule both.0 c.letter c.first_step in
     let one = IsOrphan-last rule first in
-    let two = IsOrphan-last other second in
+    let two = IsOrphan-last other (IsLastSet-step other both.1 (omega (arith, c.letter, states)) c.second_step) in
     record {
       one = ⊎_elim
           (λ (none, some). inl (one.1 none, (λ orphan. some (two.0 orphan))))
@@ -91,6 +71,5 @@ Separates-conflict {r} {q} {links} {i} {a} {w} rule other states h c reaches =
           c.one;
       least = λ v less. orphan_early rule other states h (early_before rule h reaches c.stands c.letter) v (λ word u at_first.
           let number = word_number-less k v (w ++ a ∷ []) word first.word less in
-          let empty : u ≡ [] = TreeSpells-unique at_first Root in
-          subst (λ y. word_number k (y ++ v) ≤ word_number k w * k + a) (sym empty) (omega (arith, number, word_number-snoc k w a)));
+          subst (λ y. word_number k (y ++ v) ≤ word_number k w * k + a) (TreeSpells-unique Root at_first) (omega (arith, number, word_number-snoc k w a)));
     }

@@ -1,9 +1,28 @@
--- A word is read from a set where some node of the set isn't one of those from which it isn't read, and then it goes on from there.
-use Rattle.std.proofs.Common.{◌≡◌, ℕ, ◌^◌, ◌<◌, ◌⊎◌, ◌↔◌, inl, inr, List, [], ◌∷◌, ◌++◌, IsBitSet, refl, sym, subst, arith, ⊎_elim, append-nil, append_assoc, pow_pos}
-use Rattle.word_image.proofs.Common.{cases_eq, All-tail, LocalRule, IsRule, IsWord, node_count, IsOrphan, next, label, IsEdge, IsStep, IsLastSet, IsBitSet-some, IsBitSet-zero, IsBitSet-decide, next-below, IsLastSet-step, IsOrphan-empty_set, some_below}
+-- A word leads from a set to the empty set exactly where it is read from none of its nodes, and then it goes on from there.
+use Rattle.std.proofs.Common.{◌≡◌, ℕ, ◌^◌, ◌<◌, ◌⊎◌, ◌↔◌, inl, inr, List, [], ◌∷◌, ◌++◌, Bool, true, nat_eq, eq-eqb, IsBitSet, refl, sym, subst, arith, ⊎_elim, append-nil, append_assoc, pow_pos}
+use Rattle.std.proofs.lemmas.Bool.{eqb-true}
+use mathlib.Core.Logic.Iff.{trans as iff_then}
+use Rattle.word_image.proofs.Common.{cases_eq, decide_both, All-head, All-tail, LocalRule, IsRule, IsWord, node_count, IsOrphan, next, label, IsEdge, IsStep, IsLastSet, IsBitSet-some, IsBitSet-zero, IsBitSet-decide, next-below, IsLastSet-step, IsOrphan-empty_set, some_below}
 use Rattle.word_image.specs.declared.side.Side.TheVariants.{Right}
 use Rattle.search_laws.proofs.Common.{some_set, IsStep-some, IsLastSet-unique, IsLastSet-orphan, All-walk}
 use Rattle.image_minimal.specs.Closures.{IsWithin, IsLedInto, IsBack, StepsInto, IsUnread, IsUnreadSet}
+
+-- where a word leads from a set of nodes
+abbrev pub end_set : LocalRule → List ℕ → ℕ → ℕ
+end_set r [] s = s
+end_set r (a ∷ z) s = end_set r z (IsStep-some r s a).0
+
+-- whether it is the empty set
+abbrev pub is_dead : LocalRule → List ℕ → ℕ → Bool
+is_dead r z s = nat_eq (end_set r z s) 0
+
+-- from the last nodes of a word another leads to those of both in a row
+IsLastSet-end : {r : LocalRule} → IsRule r → (z : List ℕ) → IsWord r.states z → (w : List ℕ) (s : ℕ) → IsLastSet r w s → IsLastSet r (w ++ z) (end_set r z s)
+IsLastSet-end {r} rule [] word w s last = subst (λ v. IsLastSet r v s) (sym (append-nil w)) last
+IsLastSet-end {r} rule (a ∷ z) word w s last =
+    let (after, step) = IsStep-some r s a in
+    subst (λ v. IsLastSet r v (end_set r z after)) (append_assoc w (a ∷ []) z)
+    (IsLastSet-end rule z (All-tail (λ b. b < r.states) a z word) (w ++ a ∷ []) after (IsLastSet-step {set = s} {after = after} rule last (All-head (λ b. b < r.states) a z word) step))
 
 -- an edge leads to a node
 pub edge_below : {r : LocalRule} → IsRule r → (a u v : ℕ) → IsEdge Right r a u v → v < node_count r
@@ -13,11 +32,7 @@ edge_below {r} rule a u v (b, letter, (labelled, ends)) = subst (λ x. x < node_
 pub IsBack-some : (r : LocalRule) (set a : ℕ) → (before : ℕ) × IsBack r set a before
 IsBack-some r set a =
     let Out : ℕ → ℕ → Type 0 = λ u b. (label r u b ≡ a) × ¬ IsBitSet set (next r u b) in
-    let out : (u b : ℕ) → Out u b ⊎ ¬ Out u b = λ u b.
-    ⊎_elim
-    (λ labelled. ⊎_elim (λ some. inr (λ (_, none). none some)) (λ none. inl (labelled, none)) (IsBitSet-decide set (next r u b)))
-    (λ other. inr (λ (labelled, _). other labelled))
-    (cases_eq (label r u b) a) in
+    let out : (u b : ℕ) → Out u b ⊎ ¬ Out u b = λ u b. decide_both (cases_eq (label r u b) a) (⊎_elim (λ some. inr (λ none. none some)) (λ none. inl none) (IsBitSet-decide set (next r u b))) in
     let decide : (u : ℕ) → IsLedInto r set a u ⊎ ¬ IsLedInto r set a u = λ u.
     ⊎_elim
     (λ (b, letter, (labelled, none)). inr (λ has. none (has (next r u b) (b, letter, (labelled, refl)))))
@@ -68,17 +83,13 @@ IsOrphan-last {r} {w} {s} rule last = (
   (λ none. IsOrphan-empty_set (subst (IsLastSet r w) none last)),
 )
 
--- a word followed by another is an orphan exactly where the other is read from none of its last nodes
-pub IsOrphan-unread : {r : LocalRule} → IsRule r → (z : List ℕ) (set : ℕ) → IsUnread r z set → (w : List ℕ) (s : ℕ) → IsLastSet r w s
-    → (IsOrphan r (w ++ z) ↔ IsWithin r s set)
-IsOrphan-unread {r} rule [] set same w s last =
-    let orphan = IsOrphan-last rule last in
-    let none = IsWithin-zero r s last.last.within in
-    subst (λ v. IsOrphan r v ↔ IsWithin r s set) (sym (append-nil w))
-    (subst (λ n. IsOrphan r w ↔ IsWithin r s n) (sym same) ((λ is. none.0 (orphan.0 is)), (λ within. orphan.1 (none.1 within))))
-IsOrphan-unread {r} rule (a ∷ z) set (rest, (letter, back), unread) w s last =
-    let step = IsStep-some r s a in
-    let later = IsOrphan-unread rule z rest unread (w ++ a ∷ []) step.0 (IsLastSet-step {set = s} rule last letter step.1) in
-    let through = IsWithin-back rule s step.1 back in
-    subst (λ v. IsOrphan r v ↔ IsWithin r s set) (append_assoc w (a ∷ []) z)
-    ((λ is. through.0 (later.0 is)), (λ within. later.1 (through.1 within)))
+-- a word followed by another is an orphan exactly where the other leads from its last nodes to the empty set
+pub IsOrphan-is_dead : {r : LocalRule} {w : List ℕ} {s : ℕ} → IsRule r → IsLastSet r w s → (z : List ℕ) → IsWord r.states z → (IsOrphan r (w ++ z) ↔ (is_dead r z s ≡ true))
+IsOrphan-is_dead {r} {w} {s} rule last z word = iff_then (IsOrphan-last rule (IsLastSet-end rule z word w s last)) (eq-eqb (end_set r z s) 0, eqb-true (end_set r z s) 0)
+
+-- a word leads from a set to the empty set exactly where it is read from none of its nodes
+pub is_dead-unread : {r : LocalRule} → IsRule r → (z : List ℕ) (set s : ℕ) → IsUnread r z set → s < 2 ^ node_count r → ((is_dead r z s ≡ true) ↔ IsWithin r s set)
+is_dead-unread {r} rule [] set s same small = subst (λ n. (nat_eq s 0 ≡ true) ↔ IsWithin r s n) (sym same) (iff_then (eqb-true s 0, eq-eqb s 0) (IsWithin-zero r s small))
+is_dead-unread {r} rule (a ∷ z) set s (rest, (letter, back), unread) small =
+    let (after, step) = IsStep-some r s a in
+    iff_then (is_dead-unread rule z rest after unread step.within) (IsWithin-back rule s step back)

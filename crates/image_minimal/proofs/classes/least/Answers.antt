@@ -1,7 +1,6 @@
 use Rattle.std.proofs.Common.{subst}
 use Rattle.image_minimal.specs.ImageLanguages.{Automaton, IsLeastAutomaton}
-use Rattle.image_minimal.proofs.ClassSearches.{HasClasses-least}
 use Rattle.image_minimal.proofs.classes.least.Goals as goal
 
 pub returns-clause-some : goal.returns-clause-some
-returns-clause-some c = subst (λ r. (m : Automaton) × IsLeastAutomaton r m) c.in_ok-subsets.ensures (HasClasses-least c.in_ok-classes.ensures)
+returns-clause-some c = subst (λ r. (m : Automaton) × IsLeastAutomaton r m) c.in_ok-subsets.ensures (c.in_ok-classes.ensures.automaton, c.in_ok-classes.ensures.least)

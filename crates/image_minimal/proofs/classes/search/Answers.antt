@@ -1,26 +1,30 @@
-use Rattle.std.proofs.Common.{◌≡◌, ℕ, ◌*◌, List, [], ◌∷◌, sym, ap, ◌∙◌, subst, arith, mul-le-mul_right}
-use Rattle.word_image.proofs.Common.{full_set}
+use Rattle.std.proofs.Common.{◌<◌, slice_index, sym, subst, arith, mul-le-mul_right}
 use Rattle.image_minimal.specs.Closures.{IsClosedStep}
-use Rattle.image_minimal.specs.Searches.{IsClassSearch}
-use Rattle.image_minimal.proofs.Indexes.{inserted_first}
-use Rattle.search_laws.proofs.Common.{IsSearch-start}
-use Rattle.image_minimal.proofs.ClassSearches.{length-classes-le}
+use Rattle.image_minimal.specs.Indexes.{IsInserted}
+use Rattle.image_minimal.proofs.laws.ClosedSteps.{IsClosedStep-unique, closed_step}
+use Rattle.image_minimal.proofs.Searches.{IsSearch-first, IsSearchAt-start, IsSearchAt-insert}
+use Rattle.image_minimal.proofs.ClassSearches.{length-classes-le, class-below, HasClasses-closed}
 use Rattle.image_minimal.proofs.classes.search.Goals as goal
 
 pub loop-place-init : goal.loop-place-init
-loop-place-init c =
-    let r = c.args.subsets.now in
-    let alone : c.insert.new.self ≡ full_set r ∷ [] = inserted_first c.in_ok-classes.ensures c.in_ok-insert.ensures ∙ ap (λ (s : ℕ). s ∷ []) c.full.ensures.set in
-    subst (λ (classes : List ℕ). IsClassSearch r classes (0 * r.states)) (sym alone) (subst (IsClassSearch r (full_set r ∷ [])) (omega arith) (IsSearch-start (IsClosedStep r) r.states (full_set r)))
+loop-place-init c = IsSearch-first (IsClosedStep c.args.subsets.now) c.args.subsets.now.states c.in_ok-classes.ensures (subst (IsInserted c.in_ok-classes.classes c.insert.new.self) c.full.ensures.set c.in_ok-insert.ensures)
+
+pub steps-steps-requires : goal.steps-steps-requires
+steps-steps-requires c = omega (arith, class-below c.loop-place.invariant c.loop-place.place (omega (arith, c.len.ensures.len)), c.at-set.ensures)
+
+pub loop-letter-init : goal.loop-letter-init
+loop-letter-init c = IsSearchAt-start c.loop-place.invariant (omega (arith, c.len.ensures.len)) c.at-set.ensures
+
+pub loop-letter-preserved : goal.loop-letter-preserved
+loop-letter-preserved c =
+    let after = slice_index c.steps-steps.result c.loop-letter.letter in
+    let letter : c.loop-letter.letter < c.args.subsets.now.states = omega arith in
+    let step = closed_step c.at-set.result c.loop-letter.letter c.requires (c.steps-steps.ensures c.loop-letter.letter letter) in
+    IsSearchAt-insert c.loop-letter.invariant letter step (λ t other. IsClosedStep-unique step other)
+    (subst (λ i. IsInserted c.loop-letter.classes c.insert-in-loop-letter.new.self (slice_index c.args.closures.now i)) c.from.ensures c.in_ok-insert-2.ensures)
 
 pub loop-place-smaller : goal.loop-place-smaller
 loop-place-smaller c = omega (arith, length-classes-le c.loop-place.invariant, c.len.ensures.len)
 
 pub returns : goal.returns
-returns c = record {
-  rule = c.full.ensures.rule;
-  closed = c.requires;
-  edges = c.loop-place.place * c.args.subsets.now.states;
-  search = c.loop-place.invariant;
-  all = mul-le-mul_right c.args.subsets.now.states (omega (arith, c.len.ensures.len));
-}
+returns c = HasClasses-closed c.full.ensures.rule c.requires c.loop-place.invariant (mul-le-mul_right c.args.subsets.now.states (omega (arith, c.len.ensures.len)))

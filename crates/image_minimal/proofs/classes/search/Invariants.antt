@@ -1,6 +1,8 @@
 use Rattle.std.proofs.Common.{◌-◌, ◌*◌, ◌^◌}
-use Rattle.word_image.proofs.Common.{node_count}
+use Rattle.word_image.proofs.Common.{node_count, full_set}
+use Rattle.image_minimal.specs.Closures.{IsClosedStep}
 use Rattle.image_minimal.specs.Searches.{IsClassSearch}
+use Rattle.image_minimal.proofs.Searches.{IsSearchAt}
 use Rattle.image_minimal.proofs.classes.search.Given as goal
 
 -- the steps from the first classes are followed
@@ -10,3 +12,7 @@ invariant-loop-place l = IsClassSearch l.subsets l.classes (l.place * l.subsets.
 -- how many classes may still come
 abbrev pub decreases-loop-place : goal.decreases-loop-place
 decreases-loop-place l = 2 ^ node_count l.subsets - l.place
+
+-- the steps on the first letters are followed
+abbrev pub invariant-loop-letter : goal.invariant-loop-letter
+invariant-loop-letter l = IsSearchAt (IsClosedStep l.subsets) l.subsets.states (full_set l.subsets) l.classes l.place l.set l.letter

@@ -1,8 +1,8 @@
-use Rattle.std.proofs.Common.{◌≡◌, ℕ, ◌+◌, ◌*◌, ◌%◌, ◌^◌, ◌<◌, IsBitSet, bit_and, bit_or, ◌/◌, slice_index, sym, ap, ◌∙◌, subst, arith}
+use Rattle.std.proofs.Common.{◌≡◌, ℕ, ◌*◌, ◌%◌, ◌^◌, ◌<◌, IsBitSet, bit_and, bit_or, slice_index, ap, ◌∙◌, subst, arith, pow_pos}
 use Rattle.std.proofs.Math.Pow.{pow-lt}
 use Rattle.std.proofs.lemmas.Nat.Bits.{shr_and_one, bit_at-lt}
-use Rattle.word_image.proofs.Common.{one_shl, or_lt, bit_set_by_shift, node_count, bit_at-IsBitSet}
-use Rattle.image_minimal.proofs.laws.ClosureTables.{with_node, with_node-greater, IsShared, IsShared-start, IsShared-skip, IsShared-take, IsClosure-shared}
+use Rattle.word_image.proofs.Common.{one_shl, or_lt, bit_set_by_shift, IsBitSet-full, node_count, IsNodeSet, bit_at-IsBitSet}
+use Rattle.image_minimal.proofs.laws.ClosureTables.{with_node, HasAbove, IsCommon-take, IsCommon-skip, IsClosure-shared}
 use Rattle.image_minimal.proofs.closures.closure_above.Goals as goal
 use Rattle.image_minimal.proofs.closures.closure_above.Goals.{then-set-u-eq0, else-set-u-eq0}
 
@@ -10,12 +10,10 @@ use Rattle.image_minimal.proofs.closures.closure_above.Goals.{then-set-u-eq0, el
 more : (set u at : ℕ) → u < 16 → at ≡ bit_or set (1 * 2 ^ u % 65536) → at ≡ with_node set u
 more set u at small is = is ∙ ap (bit_or set) (one_shl u 16 small)
 
--- a bit that is tested
-missing : (set u : ℕ) → bit_and (set / 2 ^ u) 1 ≡ 0 → ¬ IsBitSet set u
-missing set u test some = omega (arith, (bit_set_by_shift set u).1 some, test)
-
 pub loop-u-init : goal.loop-u-init
-loop-u-init c = subst (IsShared c.args.graph.now c.args.set 0 c.args.closures.now) (sym c.full-closure.ensures.set) (IsShared-start c.args.set c.args.closures.now)
+loop-u-init c =
+    let r = c.args.graph.now in
+    rw c.full-closure.ensures.set (record { within = omega (arith, pow_pos (node_count r)); nodes = λ v l. ((λ _ u less. absurd (omega (arith, less))), (λ _. IsBitSet-full r v l)) })
 
 pub bounds-closures-from : goal.bounds-closures-from
 bounds-closures-from c =
@@ -26,25 +24,22 @@ bounds-closures-from c =
 
 pub loop-u-preserved : goal.loop-u-preserved
 loop-u-preserved c =
-    let r = c.args.graph.now in
     let set = c.args.set in
     let closures = c.args.closures.now in
     let u = c.loop-u.u in
-    let node : u < node_count r = omega (arith, c.nodes-u-end.ensures.nodes) in
-    let small : u < 16 = omega (arith, node, c.nodes-u-end.ensures.rule.shape.most_nodes) in
+    let small : u < 16 = omega (arith, c.nodes-u-end.ensures.nodes, c.nodes-u-end.ensures.rule.shape.most_nodes) in
     elim c.if-set-u-eq0.branch [
       | then-set-u-eq0 w ↦
-          let at = more set u w.from.result small w.from.ensures in
-          let absent = missing set u w.if-set-u-eq0.true in
-          let part = c.requires.closures.closure (with_node set u) (omega (arith, with_node-greater set u absent)) (or_lt (node_count r) set (2 ^ u) c.requires.set (pow-lt node)) in
-          subst (IsShared r set (u + 1) closures) (sym (w.closure-is ∙ ap (λ i. bit_and c.loop-u.closure (slice_index closures i)) at)) (IsShared-take c.loop-u.invariant absent part.of.within)
+          let missing : ¬ IsBitSet set u = λ some. omega (arith, (bit_set_by_shift set u).1 some, w.if-set-u-eq0.true) in
+          rw (w.closure-is ∙ ap (λ i. bit_and c.loop-u.closure (slice_index closures i)) (more set u w.from.result small w.from.ensures))
+          (IsCommon-take (HasAbove set closures) u c.loop-u.closure (slice_index closures (with_node set u)) c.loop-u.invariant (λ v. ((λ some _. some), (λ has. has missing))))
       | else-set-u-eq0 w ↦
           let there : IsBitSet set u = (bit_at-IsBitSet set u).1 (omega (arith, bit_at-lt set u, shr_and_one set u, w.if-set-u-eq0.false)) in
-          subst (IsShared r set (u + 1) closures) (sym w.closure-is) (IsShared-skip c.loop-u.invariant there)
+          rw w.closure-is (IsCommon-skip (HasAbove set closures) u c.loop-u.invariant (λ v lacks. absurd (lacks there)))
     ]
 
 pub returns : goal.returns
 returns c =
     let r = c.args.graph.now in
     let all : c.loop-u.u ≡ node_count r = omega (arith, c.nodes-u-end.ensures.nodes) in
-    IsClosure-shared c.requires.set c.requires.read c.requires.closures (subst (λ n. IsShared r c.args.set n c.args.closures.now c.loop-u.closure) all c.loop-u.invariant)
+    IsClosure-shared c.requires.set c.requires.read c.requires.closures (subst (λ n. IsNodeSet r (λ v. (u : ℕ) → u < n → HasAbove c.args.set c.args.closures.now u v) c.loop-u.closure) all c.loop-u.invariant)

@@ -1,7 +1,7 @@
-use Rattle.std.proofs.Common.{◌≡◌, ◌+◌, ◌-◌, ◌^◌, ◌<◌, set, sym, subst, arith, pow_pos}
+use Rattle.std.proofs.Common.{◌≡◌, ◌+◌, ◌-◌, ◌^◌, ◌<◌, set, subst, arith, pow_pos}
 use Rattle.word_image.proofs.Common.{node_count, Contains-slice_get}
-use Rattle.image_minimal.specs.Indexes.{IsPlaceOf}
 use Rattle.image_minimal.specs.Closures.{IsClosure, AreClosuresFrom}
+use Rattle.image_minimal.proofs.Indexes.{IsPlaceOf-none}
 use Rattle.image_minimal.proofs.laws.ClosureTables.{IsClosure-unread, AreClosuresFrom-set}
 use Rattle.image_minimal.proofs.closures.closures.Goals as goal
 use Rattle.image_minimal.proofs.closures.closures.Goals.{in-Some, in-None}
@@ -9,8 +9,7 @@ use Rattle.image_minimal.proofs.closures.closures.Goals.{in-Some, in-None}
 pub closure_above-closure-requires-clause-read : goal.closure_above-closure-requires-clause-read
 closure_above-closure-requires-clause-read c is =
     let s = c.full-all.result - c.loop-less.less in
-    let none = subst (IsPlaceOf c.in_ok-unread.unread s) c.in-None.is c.place.ensures in
-    none ((c.in_ok-unread.ensures s).1 is)
+    IsPlaceOf-none _ _ _ c.place.ensures c.in-None.is ((c.in_ok-unread.ensures s).1 is)
 
 pub loop-less-preserved : goal.loop-less-preserved
 loop-less-preserved c =
@@ -21,9 +20,8 @@ loop-less-preserved c =
     let small : s < 2 ^ node_count r = omega (arith, c.full-all.ensures.set, pow_pos (node_count r)) in
     let here : IsClosure r s c.match-place.closure = elim c.match-place.branch [
       | in-Some w ↦
-          let stands = subst (IsPlaceOf c.in_ok-unread.unread s) w.in-Some.is c.place.ensures in
-          subst (IsClosure r s) (sym w.closure-is) (IsClosure-unread ((c.in_ok-unread.ensures s).0 (Contains-slice_get c.in_ok-unread.unread _ s stands)))
-      | in-None w ↦ subst (IsClosure r s) (sym w.closure-is) w.closure_above-closure.ensures
+          rw w.closure-is (IsClosure-unread ((c.in_ok-unread.ensures s).0 (Contains-slice_get c.in_ok-unread.unread _ s ((c.place.ensures _).0 w.in-Some.is))))
+      | in-None w ↦ rw w.closure-is w.closure_above-closure.ensures
     ] in
     let from : 2 ^ node_count r - c.loop-less.less ≡ s + 1 = omega (arith, c.full-all.ensures.set, inside) in
     let to : s ≡ 2 ^ node_count r - (c.loop-less.less + 1) = omega (arith, c.full-all.ensures.set, inside) in

@@ -1,16 +1,18 @@
-use Rattle.std.proofs.Common.{◌≡◌, ◌*◌, ◌^◌, [], ◌∷◌, sym, subst, arith, mul-le-mul_right, pow_pos}
+use Rattle.std.proofs.Common.{◌^◌, arith, mul-le-mul_right, pow_pos}
 use Rattle.word_image.proofs.Common.{node_count}
 use Rattle.image_minimal.specs.Closures.{IsBack}
-use Rattle.search_laws.proofs.Common.{IsSearch, IsSearch-start, length-search-le}
-use Rattle.image_minimal.proofs.Indexes.{inserted_first}
-use Rattle.image_minimal.proofs.Searches.{AreUnreadSets-closed}
+use Rattle.search_laws.proofs.Common.{IsSetOf-unique, length-search-le}
+use Rattle.image_minimal.proofs.Searches.{IsSearch-first, IsSearchAt-start, IsSearchAt-insert, AreUnreadSets-closed}
 use Rattle.image_minimal.proofs.closures.unread_sets.Goals as goal
 
 pub loop-place-init : goal.loop-place-init
-loop-place-init c =
-    let r = c.args.graph.now in
-    let alone : c.insert.new.self ≡ 0 ∷ [] = inserted_first c.in_ok-sets.ensures c.in_ok-insert.ensures in
-    subst (λ sets. IsSearch (IsBack r) r.states 0 sets (0 * r.states)) (sym alone) (subst (IsSearch (IsBack r) r.states 0 (0 ∷ [])) (omega arith) (IsSearch-start (IsBack r) r.states 0))
+loop-place-init c = IsSearch-first (IsBack c.args.graph.now) c.args.graph.now.states c.in_ok-sets.ensures c.in_ok-insert.ensures
+
+pub loop-a-init : goal.loop-a-init
+loop-a-init c = IsSearchAt-start c.loop-place.invariant (omega (arith, c.len.ensures.len)) c.at-set.ensures
+
+pub loop-a-preserved : goal.loop-a-preserved
+loop-a-preserved c = IsSearchAt-insert c.loop-a.invariant (omega arith) c.back.ensures (λ t other. IsSetOf-unique c.back.ensures.of other.of) c.in_ok-insert-2.ensures
 
 pub loop-place-smaller : goal.loop-place-smaller
 loop-place-smaller c =

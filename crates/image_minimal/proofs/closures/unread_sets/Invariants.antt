@@ -2,6 +2,7 @@ use Rattle.std.proofs.Common.{◌-◌, ◌*◌, ◌^◌}
 use Rattle.word_image.proofs.Common.{node_count}
 use Rattle.image_minimal.specs.Closures.{IsBack}
 use Rattle.search_laws.proofs.Common.{IsSearch}
+use Rattle.image_minimal.proofs.Searches.{IsSearchAt}
 use Rattle.image_minimal.proofs.closures.unread_sets.Given as goal
 
 -- the edges from the first sets are followed
@@ -11,3 +12,7 @@ invariant-loop-place l = IsSearch (IsBack l.graph) l.graph.states 0 l.sets (l.pl
 -- how many sets may still come
 abbrev pub decreases-loop-place : goal.decreases-loop-place
 decreases-loop-place l = 2 ^ node_count l.graph - l.place
+
+-- the edges on the first letters are followed
+abbrev pub invariant-loop-a : goal.invariant-loop-a
+invariant-loop-a l = IsSearchAt (IsBack l.graph) l.graph.states 0 l.sets l.place l.set l.a

@@ -1,5 +1,6 @@
-use Rattle.std.proofs.Common.{◌≡◌, ℕ, ◌+◌, ◌*◌, ◌^◌, ◌%◌, ◌<◌, [], ◌∷◌, ◌++◌, slice_index, refl, ap, ap₂, ◌∙◌, subst, arith, suc-mul}
+use Rattle.std.proofs.Common.{◌≡◌, ℕ, ◌+◌, ◌*◌, ◌^◌, ◌%◌, ◌<◌, [], ◌∷◌, ◌++◌, slice_index, nat_eq, refl, ap, ap₂, ◌∙◌, subst, arith, suc-mul}
 use Rattle.word_image.proofs.Common.{one_shl, slice_get_read, node_count, slice_get-append}
+use Rattle.image_minimal.specs.declared.links.Link.{Link}
 use Rattle.image_minimal.specs.Joins.{IsJoin}
 use Rattle.image_minimal.specs.Links.{IsLinkSearch}
 use Rattle.image_minimal.proofs.laws.LinkWords.{link-below}
@@ -16,12 +17,12 @@ loop-letter-init c = record {
 pub steps-firsts-requires : goal.steps-firsts-requires
 steps-firsts-requires c =
     let here = slice_get_read c.args.links.now.items _ c.args.place c.index-link.result.now refl c.requires.place c.index-link.ensures in
-    (link-below c.requires.search.linking c.args.place c.index-link.result.now here).0
+    (link-below c.requires.search c.args.place c.index-link.result.now here).0
 
 pub steps-seconds-requires : goal.steps-seconds-requires
 steps-seconds-requires c =
     let here = slice_get_read c.args.links.now.items _ c.args.place c.index-link.result.now refl c.requires.place c.index-link.ensures in
-    (link-below c.requires.search.linking c.args.place c.index-link.result.now here).1
+    (link-below c.requires.search c.args.place c.index-link.result.now here).1
 
 pub returns-then-s-t : goal.returns-then-s-t
 returns-then-s-t c = (
@@ -63,17 +64,16 @@ loop-letter-preserved c =
     let joins : IsJoin old new s state c.join.result = subst (λ x. IsJoin old new x state c.join.result) c.from.ensures (subst (λ y. IsJoin old new c.from.result y c.join.result) size c.join.ensures) in
     elim c.if-join.branch [
       | then-join+in_ok-push w ↦
-          let united = subst (IsJoin old new s state) w.if-join.true joins in
-          let links_is : c.if-join.links.items ≡ links ++ record { first = s; second = t; parent = place; letter = letter } ∷ [] = ap (λ v. v.items) w.links-is ∙ w.in_ok-push.ensures.items in
-          let longer = IsLinkSearch-new place letter search link here below one two (even s t c.if-s-t.false) united in
+          let y : Link = record { first = s; second = t; parent = place; letter = letter } in
+          let links_is : c.if-join.links.items ≡ links ++ y ∷ [] = ap (λ v. v.items) w.links-is ∙ w.in_ok-push.ensures.items in
+          let longer = IsLinkSearch-new place letter search link here below one two (even (nat_eq s 0) (nat_eq t 0) c.if-s-t.false) (subst (IsJoin old new s state) w.if-join.true joins) in
           rw links_is (record {
-            search = subst (IsLinkSearch r q (links ++ record { first = s; second = t; parent = place; letter = letter } ∷ []) new) next longer;
-            here = λ x at. slice_get-append links (record { first = s; second = t; parent = place; letter = letter } ∷ []) place x (c.loop-letter.invariant.here x at);
+            search = subst (IsLinkSearch r q (links ++ y ∷ []) new) next longer;
+            here = λ x at. slice_get-append links (y ∷ []) place x (c.loop-letter.invariant.here x at);
           })
       | else-join w ↦
-          let (halved, (root, first, second)) = subst (IsJoin old new s state) w.if-join.false joins in
           let links_is : c.if-join.links.items ≡ links = ap (λ v. v.items) w.links-is in
-          let longer = IsLinkSearch-there place letter search link here below one two halved first second in
+          let longer = IsLinkSearch-there place letter search link here below one two (subst (IsJoin old new s state) w.if-join.false joins) in
           rw links_is (record { search = subst (IsLinkSearch r q links new) next longer; here = c.loop-letter.invariant.here })
     ]
 

@@ -3,7 +3,7 @@ use Rattle.word_image.proofs.Common.{range_with_len, one_shl, slice_get_within, 
 use Rattle.image_minimal.specs.declared.links.Link.{Link}
 use Rattle.image_minimal.specs.ImageLanguages.{Separates}
 use Rattle.image_minimal.specs.Links.{link_place, IsLinkSearch, IsLinkedOn, SpellsLink, set_count}
-use Rattle.image_minimal.proofs.laws.LinkWords.{link_place_at, SpellsLink-some}
+use Rattle.search_laws.proofs.Common.{TreeSpells-some, mapped_at}
 use Rattle.image_minimal.proofs.laws.Separations.{HaveSameOrphans-closed, Separates-conflict}
 use Rattle.image_minimal.proofs.LinkSearches.{IsLinkSearch-start}
 use Rattle.image_minimal.proofs.separation.search.Goals as goal
@@ -35,7 +35,7 @@ word_to-requires-clause-at c =
 
 pub word_to-requires-clause-earlier : goal.word_to-requires-clause-earlier
 word_to-requires-clause-earlier c i x positive at =
-    ((conflict c).0.linking.fills.branches i (link_place x) positive (link_place_at c.expand.new.links.items i x (subst (λ l. slice_get l i ≡ Some x) c.deref.ensures.value at))).earlier
+    ((conflict c).0.fills.branches i (link_place x) positive (mapped_at link_place c.expand.new.links.items i x (subst (λ l. slice_get l i ≡ Some x) c.deref.ensures.value at))).earlier
 
 pub returns-in-Some : goal.returns-in-Some
 returns-in-Some c =
@@ -44,9 +44,9 @@ returns-in-Some c =
     let links = c.expand.new.links.items in
     let place = c.loop-place.place in
     let both = subst (IsLinkedOn r q links c.expand.new.joined place) c.in-Some.is c.in_ok-letter.ensures in
-    let way = SpellsLink-some both.0.linking place both.1.link both.1.stands in
+    let way = TreeSpells-some both.0.fills place (link_place both.1.link) (mapped_at link_place links place both.1.link both.1.stands) in
     let word = c.in_ok-word_to.ensures way.0 (subst (λ l. SpellsLink l place way.0) (sym c.deref.ensures.value) way.1) in
-    subst (Separates r q) (sym word) (Separates-conflict c.full.ensures.rule c.full-2.ensures.rule c.requires both.0.linking both.1 way.1)
+    subst (Separates r q) (sym word) (Separates-conflict c.full.ensures.rule c.full-2.ensures.rule c.requires both.0 both.1 way.1)
 
 pub returns : goal.returns
-returns c = HaveSameOrphans-closed c.full.ensures.rule c.full-2.ensures.rule c.requires c.loop-place.invariant.linking (mul-le-mul_right c.args.first.now.states (omega arith))
+returns c = HaveSameOrphans-closed c.full.ensures.rule c.full-2.ensures.rule c.requires c.loop-place.invariant (mul-le-mul_right c.args.first.now.states (omega arith))

@@ -1,12 +1,10 @@
-use Rattle.std.proofs.Common.{Some, sym, ap, ◌∙◌, subst}
-use Rattle.image_minimal.specs.ImageLanguages.{IsLeastAutomaton}
-use Rattle.image_minimal.proofs.ClassSearches.{HasClasses-dead}
+use Rattle.std.proofs.Common.{◌≡◌, None, Some, sym, ap, ◌∙◌}
+use Rattle.image_minimal.proofs.Indexes.{IsPlaceOf-one}
+use Rattle.image_minimal.proofs.ClassSearches.{the_automaton}
 use Rattle.image_minimal.proofs.classes.Minimal.dead.Goals as goal
 
 pub returns-in-None : goal.returns-in-None
-returns-in-None c m least =
-    sym c.in-None.is ∙ HasClasses-dead c.self.invariant (subst (λ r. IsLeastAutomaton r m) (sym c.self.view_is) least) c.place.result c.place.ensures
+returns-in-None c m least = sym c.in-None.is ∙ IsPlaceOf-one _ _ _ _ c.place.ensures c.self.invariant.dead ∙ ap (λ a. a.dead) (the_automaton c.self.invariant c.self.view_is least)
 
 pub returns-in-Some : goal.returns-in-Some
-returns-in-Some c m least =
-    ap Some c.from.ensures ∙ sym c.in-Some.is ∙ HasClasses-dead c.self.invariant (subst (λ r. IsLeastAutomaton r m) (sym c.self.view_is) least) c.place.result c.place.ensures
+returns-in-Some c m least = ap Some c.from.ensures ∙ sym c.in-Some.is ∙ IsPlaceOf-one _ _ _ _ c.place.ensures c.self.invariant.dead ∙ ap (λ a. a.dead) (the_automaton c.self.invariant c.self.view_is least)

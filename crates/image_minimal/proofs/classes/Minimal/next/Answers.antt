@@ -1,32 +1,28 @@
-use Rattle.std.proofs.Common.{◌≡◌, ◌<◌, slice_get, slice_index, Some, Contains, ◌∙◌, sym, subst, arith}
-use Rattle.word_image.proofs.Common.{LocalRule, IsRule}
-use Rattle.image_minimal.specs.ImageLanguages.{IsLeastAutomaton}
-use Rattle.image_minimal.proofs.ClassSearches.{class-below, class_inside, Contains-next, next_class}
+use Rattle.std.proofs.Common.{◌≡◌, ◌+◌, ◌*◌, ◌<◌, ℕ, slice_get, slice_index, Some, ap, ◌∙◌, sym, subst, arith}
+use Rattle.word_image.proofs.Common.{LocalRule, IsRule, IsStep}
+use Rattle.image_minimal.proofs.ClassSearches.{class_inside, the_automaton}
 use Rattle.image_minimal.proofs.classes.Minimal.next.Goals as goal
+use Rattle.image_minimal.proofs.classes.Minimal.next.Goals.{After-deref}
 
 pub at-set-requires : goal.at-set-requires
 at-set-requires c = class_inside c.self.invariant c.self.view_is c.args.i c.requires.class
 
 pub steps-steps-requires : goal.steps-steps-requires
-steps-steps-requires c = omega (arith, class-below c.self.invariant.search c.args.i (class_inside c.self.invariant c.self.view_is c.args.i c.requires.class), c.at-set.ensures)
+steps-steps-requires c = omega (arith, c.self.invariant.below c.args.i (class_inside c.self.invariant c.self.view_is c.args.i c.requires.class), c.at-set.ensures)
 
 pub bounds-steps-a : goal.bounds-steps-a
 bounds-steps-a c = omega (arith, c.requires.letter, (subst IsRule (c.rule.ensures ∙ c.graph.ensures ∙ c.self.view_is) c.keeps_limits.ensures).shape.most_states)
 
-pub class_of-requires-clause-class : goal.class_of-requires-clause-class
-class_of-requires-clause-class c =
+-- where the class stands that the least automaton has next
+next_at : (c : After-deref) → slice_get c.self.inside.classes (slice_index c.self.invariant.automaton.next (c.args.i * c.self.invariant.automaton.states + c.args.a)) ≡ Some (slice_index c.deref.result.now (slice_index c.steps-steps.result c.args.a))
+next_at c =
     let h = c.self.invariant in
-    let after = slice_index c.steps-steps.result c.args.a in
     let below : c.args.a < c.self.inside.subsets.states = subst (λ (r : LocalRule). c.args.a < r.states) (sym c.self.view_is) c.requires.letter in
-    subst (λ closures. Contains c.self.inside.classes (slice_index closures after)) (sym c.deref.ensures.value)
-    (Contains-next h c.args.i c.args.a c.at-set.result after (class_inside h c.self.view_is c.args.i c.requires.class) c.at-set.ensures below (c.steps-steps.ensures c.args.a below))
+    let step = subst (λ s. IsStep c.self.inside.subsets s c.args.a (slice_index c.steps-steps.result c.args.a)) c.at-set.ensures (c.steps-steps.ensures c.args.a below) in
+    rw c.deref.ensures.value (h.next c.args.i c.args.a _ (class_inside h c.self.view_is c.args.i c.requires.class) below step)
+
+pub class_of-requires-clause-class : goal.class_of-requires-clause-class
+class_of-requires-clause-class c = (_, next_at c)
 
 pub returns : goal.returns
-returns c m least =
-    let h = c.self.invariant in
-    let after = slice_index c.steps-steps.result c.args.a in
-    let below : c.args.a < c.self.inside.subsets.states = subst (λ (r : LocalRule). c.args.a < r.states) (sym c.self.view_is) c.requires.letter in
-    let stands = subst (λ closures. slice_get c.self.inside.classes c.class_of.result ≡ Some (slice_index closures after)) c.deref.ensures.value c.class_of.ensures in
-    c.from.ensures
-    ∙ next_class h (subst (λ r. IsLeastAutomaton r m) (sym c.self.view_is) least) c.args.i c.args.a c.class_of.result c.at-set.result after (class_inside h c.self.view_is c.args.i c.requires.class) c.at-set.ensures below (c.steps-steps.ensures c.args.a below)
-    stands
+returns c m least = c.from.ensures ∙ c.class_of.ensures _ (next_at (goal.at.returns c).After-deref) ∙ ap (λ a. slice_index a.next (c.args.i * a.states + c.args.a)) (the_automaton c.self.invariant c.self.view_is least)

@@ -1,40 +1,47 @@
-use Rattle.std.proofs.Common.{◌≡◌, ℕ, ◌+◌, ◌*◌, List, ◌++◌, length, take, drop, sym, ap, ap₂, ◌∙◌, arith}
-use Rattle.std.proofs.Math.Seq.{take-add}
+use Rattle.std.proofs.Common.{◌≡◌, ℕ, ◌+◌, ◌*◌, ◌<◌, List, [], ◌∷◌, ◌++◌, length, take, slice_get, slice_index, Some, sym, ap, ap₂, ◌∙◌, subst, arith, mul_comm}
 use Rattle.std.proofs.lemmas.List.{take_all}
-use Rattle.word_image.proofs.Common.{length-replicate}
-use Rattle.image_subsets.proofs.MarkSpreads.{written_back}
+use Rattle.word_image.proofs.Common.{mul-add-lt, take_more, IsStep}
+use Rattle.image_minimal.proofs.ClassSearches.{the_automaton}
 use Rattle.image_minimal.proofs.classes.Minimal.rows.Goals as goal
+use Rattle.image_minimal.proofs.classes.Minimal.rows.Goals.{After-deref}
 
-pub loop-class-init : goal.loop-class-init
-loop-class-init c = record {
-  room = λ a least.
-      let long = ap length (c.in_ok-rows.ensures.items_if_clones_equal (λ y same. same)) ∙ length-replicate {A = ℕ} (c.len-classes.result * c.from.result) 0 in
-      let states : c.from.result ≡ a.states = c.from.ensures ∙ c.k.ensures.states ∙ sym least.states in
-      long ∙ ap₂ (λ (n k : ℕ). n * k) (c.len-classes.ensures.len a least) states ∙ sym least.long;
-  rows = λ a least.
-      let none : 0 * a.states ≡ 0 = omega arith in
-      ap (λ n. take n c.in_ok-rows.rows.items) none ∙ sym (ap (λ n. take n a.next) none);
-}
+pub steps-steps-requires : goal.steps-steps-requires
+steps-steps-requires c = omega (arith, c.self.invariant.below c.loop-class.class (omega (arith, c.len-classes.ensures.len)), c.at-set.ensures)
+
+-- where the class stands that the least automaton has next
+next_at : (c : After-deref)
+    → slice_get c.self.inside.classes (slice_index c.self.invariant.automaton.next (c.loop-class.class * c.self.invariant.automaton.states + c.loop-letter.letter))
+    ≡ Some (slice_index c.deref.result.now (slice_index c.steps-steps.result c.loop-letter.letter))
+next_at c =
+    let below : c.loop-letter.letter < c.self.inside.subsets.states = omega arith in
+    let step = subst (λ s. IsStep c.self.inside.subsets s c.loop-letter.letter (slice_index c.steps-steps.result c.loop-letter.letter)) c.at-set.ensures (c.steps-steps.ensures c.loop-letter.letter below) in
+    rw c.deref.ensures.value (c.self.invariant.next c.loop-class.class c.loop-letter.letter _ (omega (arith, c.len-classes.ensures.len)) below step)
+
+pub class_of-requires-clause-class : goal.class_of-requires-clause-class
+class_of-requires-clause-class c = (_, next_at c)
+
+pub loop-letter-init : goal.loop-letter-init
+loop-letter-init c a least = c.loop-class.invariant a least ∙ ap (λ n. take n a.next) (omega arith)
+
+pub loop-letter-preserved : goal.loop-letter-preserved
+loop-letter-preserved c a least =
+    let h = c.self.invariant in
+    let class : ℕ = c.loop-class.class in
+    let letter : ℕ = c.loop-letter.letter in
+    let same = the_automaton h c.self.view_is least in
+    let below : letter < a.states = omega (arith, ap (λ r. r.states) c.self.view_is, least.states) in
+    let inside = mul-add-lt class a.states letter a.classes (omega (arith, c.len-classes.ensures.len, h.long, ap (λ m. m.classes) same)) below in
+    let next : c.class_of.result ≡ slice_index a.next (class * a.states + letter) = c.class_of.ensures _ (next_at (goal.at.loop-letter-preserved c).After-deref) ∙ ap (λ m. slice_index m.next (class * m.states + letter)) same in
+    c.in_ok-push.ensures.items ∙ ap₂ (λ (l : List ℕ) (x : ℕ). l ++ x ∷ []) (c.loop-letter.invariant a least) next
+    ∙ sym (take_more a.next (class * a.states + letter) 0 (omega (arith, inside, least.long, mul_comm a.states a.classes))) ∙ ap (λ n. take n a.next) (omega arith)
 
 pub loop-class-preserved : goal.loop-class-preserved
-loop-class-preserved c =
-    let i : ℕ = c.loop-class.class in
-    let new : List ℕ = c.fill_row.new.rows in
-    let back = written_back new c.loop-class.rows.items c.loop-class.rows.len (omega (arith, c.fill_row.auto.rows, c.deref_mut.ensures.len)) in
-    record {
-      room = λ a least. ap length back ∙ c.fill_row.auto.rows ∙ ap length c.deref_mut.ensures.value ∙ c.loop-class.invariant.room a least;
-      rows = λ a least.
-          let k : ℕ = a.states in
-          let more : i * k + k ≡ (i + 1) * k = omega arith in
-          let row : List ℕ = take k (drop (i * k) a.next) in
-          ap (take ((i + 1) * k)) back ∙ c.fill_row.ensures a least ∙ ap (λ (l : List ℕ). take (i * k) l ++ row) c.deref_mut.ensures.value ∙ ap (λ (l : List ℕ). l ++ row) (c.loop-class.invariant.rows a least)
-          ∙ sym (take-add (i * k) k a.next) ∙ ap (λ n. take n a.next) more;
-    }
+loop-class-preserved c a least =
+    let class : ℕ = c.loop-class.class in
+    let all : c.loop-letter.letter ≡ a.states = omega (arith, ap (λ r. r.states) c.self.view_is, least.states) in
+    c.loop-letter.invariant a least ∙ ap (λ n. take n a.next) (ap (λ n. class * a.states + n) all ∙ omega arith)
 
 pub returns : goal.returns
 returns c a least =
-    let all : c.loop-class.class ≡ a.classes = omega (arith, c.loop-class-test.false, c.loop-class.auto.class-end, c.len-classes.ensures.len a least) in
-    let rows : List ℕ = c.loop-class.rows.items in
-    let end : a.classes * a.states ≡ c.loop-class.class * a.states = ap (λ n. n * a.states) (sym all) in
-    sym (take_all (c.loop-class.class * a.states) rows (omega (arith, c.loop-class.invariant.room a least, least.long, end))) ∙ c.loop-class.invariant.rows a least
-    ∙ take_all (c.loop-class.class * a.states) a.next (omega (arith, least.long, end))
+    let all : c.loop-class.class ≡ a.classes = omega (arith, c.len-classes.ensures.len, c.self.invariant.long, ap (λ m. m.classes) (the_automaton c.self.invariant c.self.view_is least)) in
+    c.loop-class.invariant a least ∙ ap (λ n. take (n * a.states) a.next) all ∙ take_all (a.classes * a.states) a.next (omega (arith, least.long))

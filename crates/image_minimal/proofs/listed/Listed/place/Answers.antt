@@ -1,13 +1,10 @@
-use Rattle.std.proofs.Common.{◌≡◌, get_or, Some, ap, ◌∙◌, subst, arith, refl, slice_get}
-use Rattle.word_image.proofs.Common.{slice_get_read}
+use Rattle.std.proofs.Common.{◌≡◌, get_or, None, ap, sym, ◌∙◌, subst, arith}
+use Rattle.word_image.proofs.Common.{get_or_default}
 use Rattle.image_minimal.specs.Indexes.{IsPlaceOf}
-use Rattle.image_minimal.proofs.Indexes.{IsPlaceOf-index}
 use Rattle.image_minimal.proofs.listed.Listed.place.Goals as goal
 
 pub returns : goal.returns
 returns c =
     let places = c.self.inside.places.items in
-    let place = c.index.result.now in
-    let at : slice_get places c.args.set ≡ Some place =
-    slice_get_read places _ c.args.set place refl (omega (arith, c.self.invariant.long, c.ranges.set)) (c.index.ensures ∙ ap (λ i. get_or places i place) c.from.ensures) in
-    subst (λ sets. IsPlaceOf sets c.args.set place) c.self.view_is (IsPlaceOf-index c.self.invariant c.args.set (omega (arith, c.ranges.set)) place at)
+    let at : c.index.result.now ≡ get_or places c.args.set None = c.index.ensures ∙ get_or_default places c.from.result _ None (omega (arith, c.self.invariant.long, c.from.ensures)) ∙ ap (λ i. get_or places i None) c.from.ensures in
+    rw at (subst (λ sets. IsPlaceOf sets c.args.set (get_or places c.args.set None)) c.self.view_is (c.self.invariant.each c.args.set (omega (arith, c.self.invariant.long, c.ranges.set))))
