@@ -1,5 +1,5 @@
 -- Pairs of sets to which one word leads under two rules, linked (Hopcroft and Karp 1971).
-use Rattle.std.specs.Prelude.{◌≡◌, ◌≢◌, ℕ, ◌+◌, ◌*◌, ◌<◌, ◌≤◌, ◌⊎◌, ◌^◌, List, length, map, slice_get, Option, Some, None, Bool, nat_eq}
+use Rattle.std.specs.Prelude.{◌≡◌, ℕ, ◌+◌, ◌≤◌, ◌^◌, List, length, map, slice_get, Some, Bool, nat_eq}
 use Rattle.std.specs.List.{range_with_len}
 use Rattle.search_laws.specs.SearchQueues.{Place, TreeSpells, IsFilled, filled}
 use Rattle.word_image.specs.LocalRules.{LocalRule, node_count}
@@ -27,17 +27,6 @@ LinkStep r q from a to = IsStep r from.0 a to.0 × IsStep q from.1 a to.1
 abbrev pub HasChain : LocalRule → List Link → ℕ × ℕ → ℕ → Type 0
 HasChain r links pair e = (f : ℕ → Bool) → HaveOneColour (2 ^ node_count r) r.states links e f → f pair.0 ≡ f (2 ^ node_count r + pair.1)
 
--- on letter a the pair of link i leads to two sets of which exactly one is empty
-pub record IsConflict (r q : LocalRule) (links : List Link) (i a : ℕ) : Type 0 where
-  pub link : Link
-  pub first : ℕ
-  pub second : ℕ
-  pub stands : slice_get links i ≡ Some link
-  pub letter : a < r.states
-  pub first_step : IsStep r link.first a first
-  pub second_step : IsStep q link.second a second
-  pub one : ((first ≡ 0) × (second ≢ 0)) ⊎ ((second ≡ 0) × (first ≢ 0))
-
 -- how many sets there are under both rules
 abbrev pub set_count : LocalRule → LocalRule → ℕ
 set_count r q = 2 ^ node_count r + 2 ^ node_count q
@@ -54,11 +43,6 @@ pub record IsLinkSearch (r q : LocalRule) (links : List Link) (parents : List �
   pub long : length parents ≡ set_count r q
   pub joined : (f : ℕ → Bool) → HaveOneColour (2 ^ node_count r) r.states links e f → AreColours parents f
   pub few : length links + total parents ≤ most_links r q
-
--- the edges from link i on all letters have been followed, or those before a conflict
-abbrev pub IsLinkedOn : LocalRule → LocalRule → List Link → List ℕ → ℕ → Option ℕ → Type 0
-IsLinkedOn r q links parents i None = IsLinkSearch r q links parents ((i + 1) * r.states)
-IsLinkedOn r q links parents i (Some a) = IsLinkSearch r q links parents (i * r.states + a) × IsConflict r q links i a
 
 -- the word on the way to a link
 abbrev pub SpellsLink : List Link → ℕ → List ℕ → Type 0

@@ -6,7 +6,7 @@ ghost use Rattle.image_minimal.specs.Links.{SpellsLink};
 ghost use Rattle.image_minimal.specs.declared.links.Link.{Link};
 
 use crate::joined::Joined;
-use crate::links::{Link, expand};
+use crate::links::Link;
 use crate::subsets::Subsets;
 use std::alloc::{AllocError, Global};
 use word_image::{Rule, Word};
@@ -45,14 +45,14 @@ pub fn separate(alloc: Global, first: &Rule, second: &Rule) -> Result<Option<Wor
     Ok(search(alloc, &one, &other)?)
 }
 
-/// The same of two rules with one number of states.
+/// The same of two rules with one number of states: links are followed breadth first, letters ascending, up to a letter that leads to two sets
+/// of which exactly one is empty.
 fn search(alloc: Global, first: &Subsets, second: &Subsets) -> Result<Option<Word>, AllocError>
     requires { first.now.states ≡ second.now.states }
     ensures { IfOk result (λ word. MatchOption word (HaveSameOrphans first.now second.now) (Separates first.now second.now)) }
 {
-    let below = 1u32 << first.nodes();
-    let count = below + (1u32 << second.nodes());
-    let mut joined = Joined::new(alloc, count)?;
+    let below = first.count();
+    let mut joined = Joined::new(alloc, below + second.count())?;
     let mut links = Vec::new(alloc);
     links.push(Link {
         first: first.full(),
@@ -62,8 +62,24 @@ fn search(alloc: Global, first: &Subsets, second: &Subsets) -> Result<Option<Wor
     })?;
     let mut place = 0;
     while place < links.len() {
-        if let Some(letter) = expand(first, second, &mut links, &mut joined, place)? {
-            return Ok(Some(word_to(alloc, &links, place, letter)?));
+        let link = links[place];
+        let firsts = first.steps(link.first);
+        let seconds = second.steps(link.second);
+        for letter in 0..first.k() {
+            let s = firsts[letter as usize];
+            let t = seconds[letter as usize];
+            if (s == 0) != (t == 0) {
+                return Ok(Some(word_to(alloc, &links, place, letter)?));
+            }
+            // A pair whose sets earlier links join is left out.
+            if joined.join(u32::from(s), below + u32::from(t)) {
+                links.push(Link {
+                    first: s,
+                    second: t,
+                    parent: place,
+                    letter,
+                })?;
+            }
         }
         place += 1;
     }

@@ -56,12 +56,12 @@ impl Subsets {
         &self.graph
     }
 
-    /// The number of nodes N, from 2 to 16.
-    pub fn nodes(&self) -> u8
-        ensures nodes { result ≡ node_count self.now }
+    /// How many sets of nodes there are.
+    pub fn count(&self) -> u32
+        ensures count { result ≡ 2 ^ node_count self.now }
         ensures rule { IsRule self.now }
     {
-        self.graph.nodes()
+        1u32 << self.graph.nodes()
     }
 
     /// The set of all nodes.

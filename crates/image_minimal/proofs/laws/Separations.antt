@@ -1,12 +1,12 @@
 -- What links say of the orphans of two rules: links that are closed under steps show that they are the same, and the first
 -- pair with exactly one empty set gives the least word that is an orphan of exactly one.
-use Rattle.std.proofs.Common.{◌≡◌, ℕ, ◌+◌, ◌*◌, ◌<◌, ◌≤◌, ◌↔◌, inl, inr, List, [], ◌∷◌, ◌++◌, length, Some, sym, ap, ◌∙◌, subst, arith, ⊎_elim, append_assoc, slice_get, true}
+use Rattle.std.proofs.Common.{◌≡◌, ◌≢◌, ℕ, ◌+◌, ◌*◌, ◌<◌, ◌≤◌, ◌⊎◌, ◌↔◌, inl, inr, List, [], ◌∷◌, ◌++◌, length, Some, sym, ap, ◌∙◌, subst, arith, ⊎_elim, append_assoc, slice_get, true}
 use mathlib.Core.Logic.Iff.{trans as iff_then, symm as iff_sym}
-use Rattle.word_image.proofs.Common.{cases_lt, length-map, LocalRule, IsRule, IsWord, IsOrphan, full_set, IsLastSet, IsLastSet-full, IsLastSet-step}
+use Rattle.word_image.proofs.Common.{cases_lt, length-map, LocalRule, IsRule, IsWord, IsOrphan, full_set, IsStep, IsLastSet, IsLastSet-full, IsLastSet-step}
 use Rattle.search_laws.proofs.Common.{Root, word_number, word_number-snoc, word_number-less, TreeSpells-unique, TreeSpells-some, spelled-within, edges-ascending, edge-within, unmapped_at, mapped_at}
 use Rattle.image_minimal.specs.ImageLanguages.{HaveSameOrphans, Separates}
 use Rattle.image_minimal.specs.declared.links.Link.{Link}
-use Rattle.image_minimal.specs.Links.{IsLinkSearch, IsConflict, link_place, link_places, SpellsLink}
+use Rattle.image_minimal.specs.Links.{IsLinkSearch, link_place, link_places, SpellsLink}
 use Rattle.image_minimal.proofs.laws.Unread.{is_dead, IsOrphan-last, IsOrphan-is_dead}
 use Rattle.image_minimal.proofs.laws.LinkWords.{AreEarly, IsLastSet-link, same_end, word_number-append, word_number-front}
 
@@ -56,20 +56,18 @@ early_before {r} {q} {links} {h = h} {a} {w} {x} rule search reaches here letter
     }
 
 -- where the next edge leads to two sets of which exactly one is empty, its word is the least that is an orphan of exactly one rule
-pub Separates-conflict : {r q : LocalRule} {links : List Link} {parents : List ℕ} {i a : ℕ} {w : List ℕ} → IsRule r → IsRule q → r.states ≡ q.states
-    → IsLinkSearch r q links parents (i * r.states + a) → IsConflict r q links i a → SpellsLink links i w → Separates r q (w ++ a ∷ [])
-Separates-conflict {r} {q} {links} {i = i} {a} {w} rule other states h c reaches =
+pub Separates-conflict : {r q : LocalRule} {links : List Link} {parents : List ℕ} {i a s t : ℕ} {w : List ℕ} {x : Link} → IsRule r → IsRule q → r.states ≡ q.states
+    → IsLinkSearch r q links parents (i * r.states + a) → SpellsLink links i w → slice_get links i ≡ Some x → a < r.states → IsStep r x.first a s → IsStep q x.second a t
+    → ((s ≡ 0) × (t ≢ 0)) ⊎ ((t ≡ 0) × (s ≢ 0)) → Separates r q (w ++ a ∷ [])
+Separates-conflict {r} {q} {links} {i = i} {a} {s} {t} {w} {x} rule other states h reaches here letter one two uneven =
     let k = r.states in
-    let both = IsLastSet-link rule other states h reaches c.link c.stands in
-    let first : IsLastSet r (w ++ a ∷ []) c.first = IsLastSet-step rule both.0 c.letter c.first_step in
-    let one = IsOrphan-last rule first in
-    let two = IsOrphan-last other (IsLastSet-step other both.1 (omega (arith, c.letter, states)) c.second_step) in
+    let both = IsLastSet-link rule other states h reaches x here in
+    let first : IsLastSet r (w ++ a ∷ []) s = IsLastSet-step rule both.0 letter one in
+    let orphan = IsOrphan-last rule first in
+    let also = IsOrphan-last other (IsLastSet-step other both.1 (omega (arith, letter, states)) two) in
     record {
-      one = ⊎_elim
-          (λ (none, some). inl (one.1 none, (λ orphan. some (two.0 orphan))))
-          (λ (none, some). inr (two.1 none, (λ orphan. some (one.0 orphan))))
-          c.one;
-      least = λ v less. orphan_early rule other states h (early_before rule h reaches c.stands c.letter) v (λ word u at_first.
+      one = ⊎_elim (λ (none, some). inl (orphan.1 none, (λ is. some (also.0 is)))) (λ (none, some). inr (also.1 none, (λ is. some (orphan.0 is)))) uneven;
+      least = λ v less. orphan_early rule other states h (early_before rule h reaches here letter) v (λ word u at_first.
           let number = word_number-less k v (w ++ a ∷ []) word first.word less in
           subst (λ y. word_number k (y ++ v) ≤ word_number k w * k + a) (TreeSpells-unique Root at_first) (omega (arith, number, word_number-snoc k w a)));
     }
