@@ -1,9 +1,5 @@
 -- Whether all edges labelled a lead into a set from a node, by the set of their ends.
-use Rattle.std.proofs.Common.{◌≡◌, ◌≢◌, ℕ, ◌-◌, ◌^◌, ◌<◌, bit_and, IsBitSet, subst, arith, ⊎_elim}
-use Rattle.word_image.proofs.Common.{and_le_l, LocalRule, IsRule, node_count, IsBitSet-some, IsBitSet-zero, IsBitSet-decide, IsEnds}
-use Rattle.pair_laws.proofs.Common.{IsBitSet-minus}
-use Rattle.word_image.specs.declared.side.Side.TheVariants.{Right}
-use Rattle.image_minimal.specs.Closures.{IsLedInto}
+use Rattle.image_minimal.proofs.Common.{◌≡◌, ◌≢◌, ℕ, ◌-◌, ◌^◌, ◌<◌, bit_and, IsBitSet, subst, arith, ⊎_elim, and_le_l, LocalRule, IsRule, node_count, IsBitSet-some, IsBitSet-zero, IsBitSet-decide, IsEnds, IsBitSet-minus, Right, IsLedInto}
 use Rattle.image_minimal.proofs.laws.Unread.{edge_below}
 
 -- where the set lacks none of the ends, all edges lead into it

@@ -1,11 +1,5 @@
 -- A search through the closures has the classes of the least automaton in the end.
-use Rattle.std.proofs.Common.{◌≡◌, ℕ, suc, ◌+◌, ◌*◌, ◌/◌, ◌%◌, ◌^◌, ◌<◌, ◌≤◌, List, length, replicate, slice_index, Option, Some, None, refl, sym, ap, ◌∙◌, subst, subst₂, arith, ⊎_elim, slice_get, pow_pos, mul-le-mul_right, suc-mul}
-use Rattle.word_image.proofs.Common.{cases_eq, same_Some, same_from_place, slice_get_within, slice_get-get_or, get_or_from_slice_get, none-some, length-replicate, LocalRule, IsRule, node_count, some_below}
-use Rattle.search_laws.proofs.Common.{mapped_at, search_place, search-below, length-search, length-search-le, chosen, IsSearch, IsStep-some, IsSetOf-unique}
-use Rattle.image_minimal.specs.ImageLanguages.{Automaton, IsLeastAutomaton}
-use Rattle.image_minimal.specs.Closures.{IsClosedStep, AreClosures}
-use Rattle.image_minimal.specs.Indexes.{IsPlaceOf}
-use Rattle.image_minimal.specs.Searches.{IsClassSearch, HasClasses}
+use Rattle.image_minimal.proofs.Common.{◌≡◌, ℕ, suc, ◌+◌, ◌*◌, ◌/◌, ◌%◌, ◌^◌, ◌<◌, ◌≤◌, List, length, replicate, slice_index, Option, Some, None, refl, sym, ap, ◌∙◌, subst, subst₂, arith, ⊎_elim, slice_get, pow_pos, mul-le-mul_right, suc-mul, cases_eq, same_Some, same_from_place, slice_get_within, slice_get-get_or, get_or_from_slice_get, none-some, length-replicate, LocalRule, IsRule, node_count, some_below, mapped_at, search_place, search-below, length-search, length-search-le, chosen, IsSearch, IsStep-some, IsSetOf-unique, Automaton, IsLeastAutomaton, IsClosedStep, AreClosures, IsPlaceOf, IsClassSearch, HasClasses}
 use Rattle.image_minimal.proofs.laws.ClosedSteps.{closed_step}
 use Rattle.image_minimal.proofs.laws.Classes.{AreClassWords-closed, IsNextClass-step, IsDeadClass-place}
 use Rattle.image_minimal.proofs.laws.ClassLists.{table_place, IsLeastAutomaton-unique}

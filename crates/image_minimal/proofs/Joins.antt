@@ -1,7 +1,5 @@
 -- Ways from parent to parent: what halving them keeps, and what joining two roots does.
-use Rattle.std.proofs.Common.{◌≡◌, ◌≢◌, ℕ, ◌<◌, ◌≤◌, ◌⊎◌, List, length, set, slice_index, Bool, true, false, true≢false, refl, sym, ap, ◌∙◌, subst, arith, ⊎_elim, length-set}
-use Rattle.word_image.proofs.Common.{sum_by-set}
-use Rattle.image_minimal.specs.Joins.{AreColours, IsFalling, IsOnWay, IsJoin}
+use Rattle.image_minimal.proofs.Common.{◌≡◌, ◌≢◌, ℕ, ◌<◌, ◌≤◌, ◌⊎◌, List, length, set, slice_index, Bool, true, false, true≢false, refl, sym, ap, ◌∙◌, subst, arith, ⊎_elim, length-set, sum_by-set, AreColours, IsFalling, IsOnWay, IsJoin}
 use Rattle.image_minimal.proofs.laws.Entries.{each-set}
 
 -- a way of no step

@@ -1,3 +1,4 @@
+mod Common
 pub mod laws
 pub mod Indexes
 pub mod Backs

@@ -1,12 +1,5 @@
 -- A search through linked sets of two rules, one edge more at a time.
-use Rattle.std.proofs.Common.{◌≡◌, ◌≢◌, ℕ, ◌+◌, ◌*◌, ◌^◌, ◌<◌, ◌⊎◌, inl, inr, List, [], ◌∷◌, ◌++◌, length, slice_index, Some, Bool, refl, sym, ap, ap₂, ◌∙◌, subst, subst₂, arith, ⊎_elim, not, nat_eq, true, false, true≢false, slice_get, eq-eqb, ne_eqb}
-use Rattle.std.proofs.Math.Pow.{pow-lt}
-use Rattle.std.proofs.Math.Bool.{beq}
-use Rattle.word_image.proofs.Common.{range_with_len, cases_eq, slice_get_within, length_push, map-append, get_or-range_with_len, length-range_with_len, LocalRule, IsRule, node_count, full_set, IsStep, node_count_pos, only_place, slice_get-append, slice_get-push, slice_get-push_cases}
-use Rattle.search_laws.proofs.Common.{IsFilled, filled-later, IsFilled-start, IsFilled-there, IsFilled-new, IsSetOf-unique, mapped_at}
-use Rattle.image_minimal.specs.declared.links.Link.{Link}
-use Rattle.image_minimal.specs.Links.{link_place, LinkStep, HaveOneColour, HasChain, set_count, IsLinkSearch}
-use Rattle.image_minimal.specs.Joins.{IsJoin}
+use Rattle.image_minimal.proofs.Common.{◌≡◌, ◌≢◌, ℕ, ◌+◌, ◌*◌, ◌^◌, ◌<◌, ◌⊎◌, inl, inr, List, [], ◌∷◌, ◌++◌, length, slice_index, Some, Bool, refl, sym, ap, ap₂, ◌∙◌, subst, subst₂, arith, ⊎_elim, not, nat_eq, true, false, true≢false, slice_get, eq-eqb, ne_eqb, pow-lt, beq, range_with_len, cases_eq, slice_get_within, length_push, map-append, get_or-range_with_len, length-range_with_len, LocalRule, IsRule, node_count, full_set, IsStep, node_count_pos, only_place, slice_get-append, slice_get-push, slice_get-push_cases, IsFilled, filled-later, IsFilled-start, IsFilled-there, IsFilled-new, IsSetOf-unique, mapped_at, Link, link_place, LinkStep, HaveOneColour, HasChain, set_count, IsLinkSearch, IsJoin}
 
 -- a search in which the edges on the first letters have been followed from the link at a place, along the steps of its sets
 pub record IsLinkSearchAt (r q : LocalRule) (links : List Link) (parents : List ℕ) (place : ℕ) (firsts seconds : List ℕ) (letter : ℕ) : Type 0 where

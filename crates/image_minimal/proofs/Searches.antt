@@ -1,10 +1,5 @@
 -- A search through sets of nodes that are put into a list, and the unread sets that one lists.
-use Rattle.std.proofs.Common.{◌≡◌, ℕ, suc, ◌+◌, ◌*◌, ◌<◌, ◌≤◌, List, [], ◌∷◌, ◌++◌, length, slice_index, Some, Contains, refl, sym, ap, ◌∙◌, subst, arith, ⊎_elim, slice_get, mul-le-mul_right, suc-mul}
-use Rattle.word_image.proofs.Common.{slice_get_within, slice_get-get_or, slice_get-append, LocalRule}
-use Rattle.search_laws.proofs.Common.{Leads, Place, IsQueue, IsSearch, Leads-induct, place_of_listed, Contains-state, IsSearch-start, IsSearch-there, IsSearch-new, length-search, TreeSpells-some, Leads-spelled}
-use Rattle.image_minimal.specs.Closures.{IsBack, IsUnread, IsUnreadSet}
-use Rattle.image_minimal.specs.Indexes.{IsInserted}
-use Rattle.image_minimal.specs.Searches.{AreUnreadSets}
+use Rattle.image_minimal.proofs.Common.{◌≡◌, ℕ, suc, ◌+◌, ◌*◌, ◌<◌, ◌≤◌, List, [], ◌∷◌, ◌++◌, length, slice_index, Some, Contains, refl, sym, ap, ◌∙◌, subst, arith, ⊎_elim, slice_get, mul-le-mul_right, suc-mul, slice_get_within, slice_get-get_or, slice_get-append, LocalRule, Leads, Place, IsQueue, IsSearch, Leads-induct, place_of_listed, Contains-state, IsSearch-start, IsSearch-there, IsSearch-new, length-search, TreeSpells-some, Leads-spelled, IsBack, IsUnread, IsUnreadSet, IsInserted, AreUnreadSets}
 
 -- at the beginning the start is put into an empty list
 pub IsSearch-first : (Step : ℕ → ℕ → ℕ → Type 0) (k : ℕ) {start : ℕ} {old new : List ℕ} → old ≡ [] → IsInserted old new start → IsSearch Step k start new (0 * k)

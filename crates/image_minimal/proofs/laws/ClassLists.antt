@@ -1,9 +1,5 @@
 -- A rule has one list of classes, so it has one least automaton.
-use Rattle.std.proofs.Common.{◌≡◌, ℕ, zero, suc, ◌+◌, ◌*◌, ◌/◌, ◌%◌, ◌<◌, List, [], ◌∷◌, ◌++◌, length, slice_index, Option, Some, None, refl, sym, ap, ap₂, ◌∙◌, subst, arith, append-nil, append_assoc, slice_get, nat_cmp, Equal, ext_get_or, div-lt_iff_lt-mul, mod-lt, mul-zero, mul_comm}
-use Rattle.word_image.proofs.Common.{slice_cmp, nat_cmp_is, none-some, All-push, All-head, All-tail, div-add-mod, LocalRule, IsRule, IsWord, IsOrphan, IsAscending, slice_get-unique, IsPreimage-snoc, then_equal}
-use Rattle.std.proofs.lemmas.Map.Lookups.{exact_bytes}
-use Rattle.search_laws.proofs.Common.{word_number, word_number-le, word_number-less, word_cmp-number}
-use Rattle.image_minimal.specs.ImageLanguages.{Alike, IsLeastAlike, IsClassList, IsNextClass, IsDeadClass, Automaton, IsLeastAutomaton}
+use Rattle.image_minimal.proofs.Common.{◌≡◌, ℕ, zero, suc, ◌+◌, ◌*◌, ◌/◌, ◌%◌, ◌<◌, List, [], ◌∷◌, ◌++◌, length, slice_index, Option, Some, None, refl, sym, ap, ap₂, ◌∙◌, subst, arith, append-nil, append_assoc, slice_get, nat_cmp, Equal, ext_get_or, div-lt_iff_lt-mul, mod-lt, mul-zero, mul_comm, slice_cmp, nat_cmp_is, none-some, All-push, All-head, All-tail, div-add-mod, LocalRule, IsRule, IsWord, IsOrphan, IsAscending, slice_get-unique, IsPreimage-snoc, then_equal, exact_bytes, word_number, word_number-le, word_number-less, word_cmp-number, Alike, IsLeastAlike, IsClassList, IsNextClass, IsDeadClass, Automaton, IsLeastAutomaton}
 
 -- words of one number are one
 one_number : (k : ℕ) (v w : List ℕ) → IsWord k v → IsWord k w → word_number k v ≡ word_number k w → v ≡ w

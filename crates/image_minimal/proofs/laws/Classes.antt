@@ -1,13 +1,5 @@
 -- The closures that a search lists are the classes of alike words, in the order of their least words.
-use Rattle.std.proofs.Common.{◌≡◌, ℕ, ◌+◌, ◌*◌, ◌<◌, ◌≤◌, ◌↔◌, List, [], length, get_or, Option, Some, None, refl, sym, ap, ◌∙◌, subst, arith, slice_get}
-use mathlib.Core.Logic.Iff.{trans as iff_then}
-use Rattle.word_image.proofs.Common.{slice_get_within, slice_get-get_or, LocalRule, IsRule, IsOrphan, full_set, slice_get-unique, IsPreimage-nonempty_set}
-use Rattle.search_laws.proofs.Common.{Place, TreeSpells, Leads-push, TreeSpells-some, TreeSpells-ascending, chosen, stands_at, length-search, mapped_at}
-use Rattle.search_laws.proofs.LeastFirst.{IsLeastTo, IsLeastTo-spelled, reached_all}
-use Rattle.image_minimal.specs.ImageLanguages.{Alike, IsClassList, IsNextClass, IsDeadClass}
-use Rattle.image_minimal.specs.Closures.{IsClosedStep, AreClosures}
-use Rattle.image_minimal.specs.Indexes.{IsPlaceOf}
-use Rattle.image_minimal.specs.Searches.{IsClassSearch}
+use Rattle.image_minimal.proofs.Common.{◌≡◌, ℕ, ◌+◌, ◌*◌, ◌<◌, ◌≤◌, ◌↔◌, List, [], length, get_or, Option, Some, None, refl, sym, ap, ◌∙◌, subst, arith, slice_get, iff_then, slice_get_within, slice_get-get_or, LocalRule, IsRule, IsOrphan, full_set, slice_get-unique, IsPreimage-nonempty_set, Place, TreeSpells, Leads-push, TreeSpells-some, TreeSpells-ascending, chosen, stands_at, length-search, mapped_at, IsLeastTo, IsLeastTo-spelled, reached_all, Alike, IsClassList, IsNextClass, IsDeadClass, IsClosedStep, AreClosures, IsPlaceOf, IsClassSearch}
 use Rattle.image_minimal.proofs.laws.Unread.{IsOrphan-last}
 use Rattle.image_minimal.proofs.laws.Closures.{Alike-closure, IsClosure-empty}
 use Rattle.image_minimal.proofs.laws.ClosedSteps.{LeadsToClosure, IsLastClosure-leads, LeadsToClosure-some}

@@ -1,8 +1,5 @@
 -- Steps of closures: from the set of all nodes a word leads to the closure of its last nodes, and to no other set.
-use Rattle.std.proofs.Common.{◌≡◌, ℕ, List, [], ◌∷◌, slice_index, refl, sym, subst, arith}
-use Rattle.word_image.proofs.Common.{LocalRule, IsRule, IsWord, full_set, IsStep, IsLastSet, IsLastSet-full, IsLastSet-step}
-use Rattle.search_laws.proofs.Common.{Walk, Leads, Leads-induct, IsStep-some, IsSetOf-unique}
-use Rattle.image_minimal.specs.Closures.{IsClosure, IsClosedStep, AreClosures}
+use Rattle.image_minimal.proofs.Common.{◌≡◌, ℕ, List, [], ◌∷◌, slice_index, refl, sym, subst, arith, LocalRule, IsRule, IsWord, full_set, IsStep, IsLastSet, IsLastSet-full, IsLastSet-step, Walk, Leads, Leads-induct, IsStep-some, IsSetOf-unique, IsClosure, IsClosedStep, AreClosures}
 use Rattle.image_minimal.proofs.laws.Closures.{AreReadAlike-closure, AreReadAlike-step, IsClosure-alike, IsClosure-unique, IsClosure-full}
 
 -- a closed step on a letter leads to one set

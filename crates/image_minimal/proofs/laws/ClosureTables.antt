@@ -1,12 +1,7 @@
 -- The closure of a set by those of the sets with one node more.
-use Rattle.std.proofs.Common.{◌≡◌, ℕ, ◌+◌, ◌^◌, ◌<◌, ◌≤◌, ◌⊎◌, ◌↔◌, inl, inr, List, set, slice_index, IsBitSet, bit_and, bit_or, refl, sym, ◌∙◌, subst, arith, ⊎_elim, pow_pos, length-set, below_more}
-use Rattle.std.proofs.Math.Pow.{pow-lt}
-use Rattle.word_image.proofs.Common.{cases_eq, and_le_l, le_or_l, or_lt, LocalRule, node_count, IsNodeSet, IsSetOf, IsBitSet-or, IsBitSet-pow, IsBitSet-decide, some_below, IsSetOf-same}
-use Rattle.pair_laws.proofs.Common.{IsBitSet-and}
-use Rattle.search_laws.proofs.Common.{same_set}
-use Rattle.image_minimal.specs.Closures.{IsWithin, IsUnreadSet, IsClosure, AreClosuresFrom}
+use Rattle.image_minimal.proofs.Common.{◌≡◌, ℕ, ◌+◌, ◌^◌, ◌<◌, ◌≤◌, ◌⊎◌, ◌↔◌, inl, inr, List, set, slice_index, IsBitSet, bit_and, bit_or, refl, sym, ◌∙◌, subst, arith, ⊎_elim, pow_pos, length-set, below_more, pow-lt, ⊎_map, cases_eq, decide_both, and_le_l, le_or_l, or_lt, LocalRule, node_count, IsNodeSet, IsSetOf, IsBitSet-or, IsBitSet-pow, IsBitSet-decide, some_below, IsSetOf-same, IsBitSet-and, same_set, IsWithin, IsUnreadSet, IsClosure, AreClosuresFrom}
 use Rattle.image_minimal.proofs.laws.Entries.{each-set}
-use Rattle.image_minimal.proofs.laws.Unread.{IsUnreadSet-below}
+use Rattle.image_minimal.proofs.laws.Unread.{IsUnreadSet-below, lacks}
 
 -- an unread set is its own closure
 pub IsClosure-unread : {r : LocalRule} {set : ℕ} → IsUnreadSet r set → IsClosure r set set
@@ -20,12 +15,7 @@ lacking r set other =
     ⊎_elim
     (λ some. inl some)
     (λ none. inr (λ u l there. ⊎_elim (λ also. also) (λ missing. absurd (none u l (there, missing))) (IsBitSet-decide other u)))
-    (some_below (λ u. IsBitSet set u × ¬ IsBitSet other u) (λ u.
-    ⊎_elim
-    (λ there. ⊎_elim (λ also. inr (λ both. both.1 also)) (λ missing. inl (there, missing)) (IsBitSet-decide other u))
-    (λ missing. inr (λ both. missing both.0))
-    (IsBitSet-decide set u))
-    (node_count r))
+    (some_below (λ u. IsBitSet set u × ¬ IsBitSet other u) (λ u. decide_both (IsBitSet-decide set u) (lacks other u)) (node_count r))
 
 -- a set with one node more
 abbrev pub with_node : ℕ → ℕ → ℕ
@@ -35,10 +25,8 @@ with_node set u = bit_or set (2 ^ u)
 pub IsBitSet-with : (set u v : ℕ) → IsBitSet (with_node set u) v ↔ (IsBitSet set v ⊎ (v ≡ u))
 IsBitSet-with set u v =
     let either = IsBitSet-or set (2 ^ u) v in
-    let one = IsBitSet-pow u v in (
-      (λ some. ⊎_elim (λ there. inl there) (λ new. inr (one.0 new)) (either.0 some)),
-      (λ some. either.1 (⊎_elim (λ there. inl there) (λ new. inr (one.1 new)) some)),
-    )
+    let one = IsBitSet-pow u v in
+    ((λ some. ⊎_map (λ there. there) one.0 (either.0 some)), (λ some. either.1 (⊎_map (λ there. there) one.1 some)))
 
 -- where the set lacks the node, it is a greater number with it
 pub with_node-greater : (set u : ℕ) → ¬ IsBitSet set u → set < with_node set u

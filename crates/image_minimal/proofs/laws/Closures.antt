@@ -1,10 +1,5 @@
 -- The closure of a set: two words are alike exactly where the sets of their last nodes have one closure.
-use Rattle.std.proofs.Common.{◌≡◌, ℕ, ◌^◌, ◌<◌, ◌↔◌, List, [], ◌∷◌, ◌++◌, Bool, true, false, refl, sym, ap, ◌∙◌, subst, subst₂, arith, pow_pos}
-use mathlib.Core.Logic.Iff.{trans as iff_then, symm as iff_sym}
-use Rattle.word_image.proofs.Common.{All-cons, LocalRule, IsRule, IsWord, IsOrphan, node_count, full_set, IsStep, IsLastSet, IsBitSet-full, IsSetOf-same}
-use Rattle.search_laws.proofs.Common.{IsSetOf-unique, IsStep-some}
-use Rattle.image_minimal.specs.ImageLanguages.{Alike}
-use Rattle.image_minimal.specs.Closures.{IsWithin, IsUnreadSet, IsClosure}
+use Rattle.image_minimal.proofs.Common.{◌≡◌, ℕ, ◌^◌, ◌<◌, ◌↔◌, List, [], ◌∷◌, ◌++◌, Bool, true, false, refl, sym, ap, ◌∙◌, subst, subst₂, arith, pow_pos, iff_then, iff_sym, All-cons, LocalRule, IsRule, IsWord, IsOrphan, node_count, full_set, IsStep, IsLastSet, IsBitSet-full, IsSetOf-same, IsSetOf-unique, IsStep-some, Alike, IsWithin, IsUnreadSet, IsClosure}
 use Rattle.image_minimal.proofs.laws.Unread.{is_dead, is_dead-unread, IsUnread-some, IsWord-unread, IsWithin-zero, IsOrphan-is_dead}
 
 -- tests that hold alike are one

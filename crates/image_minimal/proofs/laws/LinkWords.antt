@@ -1,9 +1,5 @@
 -- The words of links, and the words that come early enough after them: such a word leads both sets of a link to the empty set, or neither.
-use Rattle.std.proofs.Common.{◌≡◌, ℕ, suc, ◌+◌, ◌-◌, ◌*◌, ◌^◌, ◌<◌, ◌≤◌, List, [], ◌∷◌, ◌++◌, Some, Bool, cond, ltb, lt-ltb, le-ltb, refl, sym, ap, ap₂, ◌∙◌, subst, arith, ⊎_elim, length, map, slice_get, pow_pos, mul-le-mul_left, mul-le-mul_right, mul-one}
-use Rattle.word_image.proofs.Common.{map-append, one-le-pow, All-head, All-tail, LocalRule, IsRule, IsWord, IsLastSet, IsLastSet-full, IsLastSet-step, value, value-append, node_count, slice_get-unique}
-use Rattle.search_laws.proofs.Common.{Place, filled, Leads-induct, word_number, mapped_at, state-all, TreeSpells-cases, Leads-spelled, IsStep-some}
-use Rattle.image_minimal.specs.declared.links.Link.{Link}
-use Rattle.image_minimal.specs.Links.{IsLinkSearch, link_place, link_places, SpellsLink}
+use Rattle.image_minimal.proofs.Common.{◌≡◌, ℕ, suc, ◌+◌, ◌-◌, ◌*◌, ◌^◌, ◌<◌, ◌≤◌, List, [], ◌∷◌, ◌++◌, Some, Bool, cond, ltb, lt-ltb, le-ltb, refl, sym, ap, ap₂, ◌∙◌, subst, arith, ⊎_elim, length, map, slice_get, pow_pos, mul-le-mul_left, mul-le-mul_right, mul-one, map-append, one-le-pow, All-head, All-tail, LocalRule, IsRule, IsWord, IsLastSet, IsLastSet-full, IsLastSet-step, value, value-append, node_count, slice_get-unique, Place, filled, Leads-induct, word_number, mapped_at, state-all, TreeSpells-cases, Leads-spelled, IsStep-some, Link, IsLinkSearch, link_place, link_places, SpellsLink}
 use Rattle.image_minimal.proofs.laws.Unread.{is_dead}
 
 -- the word on the way to a link has the sets of the link on both sides

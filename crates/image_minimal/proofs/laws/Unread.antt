@@ -1,11 +1,5 @@
 -- A word leads from a set to the empty set exactly where it is read from none of its nodes, and then it goes on from there.
-use Rattle.std.proofs.Common.{◌≡◌, ℕ, ◌^◌, ◌<◌, ◌⊎◌, ◌↔◌, inl, inr, List, [], ◌∷◌, ◌++◌, Bool, true, nat_eq, eq-eqb, IsBitSet, refl, sym, subst, arith, ⊎_elim, append-nil, append_assoc, pow_pos}
-use Rattle.std.proofs.lemmas.Bool.{eqb-true}
-use mathlib.Core.Logic.Iff.{trans as iff_then}
-use Rattle.word_image.proofs.Common.{cases_eq, decide_both, All-head, All-tail, LocalRule, IsRule, IsWord, node_count, IsOrphan, next, label, IsEdge, IsStep, IsLastSet, IsBitSet-some, IsBitSet-zero, IsBitSet-decide, next-below, IsLastSet-step, IsOrphan-empty_set, some_below}
-use Rattle.word_image.specs.declared.side.Side.TheVariants.{Right}
-use Rattle.search_laws.proofs.Common.{some_set, IsStep-some, IsLastSet-unique, IsLastSet-orphan, All-walk}
-use Rattle.image_minimal.specs.Closures.{IsWithin, IsLedInto, IsBack, StepsInto, IsUnread, IsUnreadSet}
+use Rattle.image_minimal.proofs.Common.{◌≡◌, ℕ, ◌^◌, ◌<◌, ◌⊎◌, ◌↔◌, inl, inr, List, [], ◌∷◌, ◌++◌, Bool, true, nat_eq, eq-eqb, IsBitSet, refl, sym, subst, arith, ⊎_elim, append-nil, append_assoc, pow_pos, eqb-true, iff_then, cases_eq, decide_both, All-head, All-tail, LocalRule, IsRule, IsWord, node_count, IsOrphan, next, label, IsEdge, IsStep, IsLastSet, IsBitSet-some, IsBitSet-zero, IsBitSet-decide, next-below, IsLastSet-step, IsOrphan-empty_set, some_below, Right, some_set, IsStep-some, IsLastSet-unique, IsLastSet-orphan, All-walk, IsWithin, IsLedInto, IsBack, StepsInto, IsUnread, IsUnreadSet}
 
 -- where a word leads from a set of nodes
 abbrev pub end_set : LocalRule → List ℕ → ℕ → ℕ
@@ -28,11 +22,15 @@ IsLastSet-end {r} rule (a ∷ z) word w s last =
 pub edge_below : {r : LocalRule} → IsRule r → (a u v : ℕ) → IsEdge Right r a u v → v < node_count r
 edge_below {r} rule a u v (b, letter, (labelled, ends)) = subst (λ x. x < node_count r) ends (next-below rule u b)
 
+-- a set lacks a number or not
+pub lacks : (set u : ℕ) → (¬ IsBitSet set u) ⊎ ¬ ¬ IsBitSet set u
+lacks set u = ⊎_elim (λ some. inr (λ none. none some)) (λ none. inl none) (IsBitSet-decide set u)
+
 -- from some nodes all edges labelled a lead into a set
 pub IsBack-some : (r : LocalRule) (set a : ℕ) → (before : ℕ) × IsBack r set a before
 IsBack-some r set a =
     let Out : ℕ → ℕ → Type 0 = λ u b. (label r u b ≡ a) × ¬ IsBitSet set (next r u b) in
-    let out : (u b : ℕ) → Out u b ⊎ ¬ Out u b = λ u b. decide_both (cases_eq (label r u b) a) (⊎_elim (λ some. inr (λ none. none some)) (λ none. inl none) (IsBitSet-decide set (next r u b))) in
+    let out : (u b : ℕ) → Out u b ⊎ ¬ Out u b = λ u b. decide_both (cases_eq (label r u b) a) (lacks set (next r u b)) in
     let decide : (u : ℕ) → IsLedInto r set a u ⊎ ¬ IsLedInto r set a u = λ u.
     ⊎_elim
     (λ (b, letter, (labelled, none)). inr (λ has. none (has (next r u b) (b, letter, (labelled, refl)))))

@@ -1,5 +1,4 @@
-use Rattle.std.proofs.Common.{◌≡◌, slice_index, Some, refl, sym, ◌∙◌, subst, slice_get}
-use Rattle.word_image.proofs.Common.{same_Some}
+use Rattle.image_minimal.proofs.Common.{◌≡◌, slice_index, Some, refl, sym, ◌∙◌, subst, slice_get, same_Some}
 use Rattle.image_minimal.proofs.classes.class_of.Goals as goal
 
 pub unwrap-requires : goal.unwrap-requires

@@ -1,5 +1,4 @@
-use Rattle.std.proofs.Common.{subst}
-use Rattle.image_minimal.specs.ImageLanguages.{Automaton, IsLeastAutomaton}
+use Rattle.image_minimal.proofs.Common.{subst, Automaton, IsLeastAutomaton}
 use Rattle.image_minimal.proofs.classes.least.Goals as goal
 
 pub returns-clause-some : goal.returns-clause-some

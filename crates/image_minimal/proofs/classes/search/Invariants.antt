@@ -1,7 +1,4 @@
-use Rattle.std.proofs.Common.{◌-◌, ◌*◌, ◌^◌}
-use Rattle.word_image.proofs.Common.{node_count, full_set}
-use Rattle.image_minimal.specs.Closures.{IsClosedStep}
-use Rattle.image_minimal.specs.Searches.{IsClassSearch}
+use Rattle.image_minimal.proofs.Common.{◌-◌, ◌*◌, ◌^◌, node_count, full_set, IsClosedStep, IsClassSearch}
 use Rattle.image_minimal.proofs.Searches.{IsSearchAt}
 use Rattle.image_minimal.proofs.classes.search.Given as goal
 

@@ -1,6 +1,4 @@
-use Rattle.std.proofs.Common.{ℕ, ◌+◌, ◌^◌, ◌<◌, sym, subst, arith}
-use Rattle.word_image.proofs.Common.{one_shl, node_count, IsSetTo, IsSetTo-skip, IsSetTo-take, IsSetTo-all}
-use Rattle.image_minimal.specs.Closures.{IsLedInto}
+use Rattle.image_minimal.proofs.Common.{ℕ, ◌+◌, ◌^◌, ◌<◌, sym, subst, arith, one_shl, node_count, IsSetTo, IsSetTo-skip, IsSetTo-take, IsSetTo-all, IsLedInto}
 use Rattle.image_minimal.proofs.Backs.{all_led, not_led}
 use Rattle.image_minimal.proofs.closures.back.Goals as goal
 use Rattle.image_minimal.proofs.closures.back.Goals.{then-ends-set-eq0, else-ends-set-eq0}

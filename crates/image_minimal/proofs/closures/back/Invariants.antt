@@ -1,5 +1,4 @@
-use Rattle.word_image.proofs.Common.{node_count, IsSetTo}
-use Rattle.image_minimal.specs.Closures.{IsLedInto}
+use Rattle.image_minimal.proofs.Common.{node_count, IsSetTo, IsLedInto}
 use Rattle.image_minimal.proofs.closures.back.Given as goal
 
 -- the first nodes are done

@@ -1,7 +1,4 @@
-use Rattle.std.proofs.Common.{◌≡◌, ℕ, ◌*◌, ◌%◌, ◌^◌, ◌<◌, IsBitSet, bit_and, bit_or, slice_index, ap, ◌∙◌, subst, arith, pow_pos}
-use Rattle.std.proofs.Math.Pow.{pow-lt}
-use Rattle.std.proofs.lemmas.Nat.Bits.{shr_and_one, bit_at-lt}
-use Rattle.word_image.proofs.Common.{one_shl, or_lt, bit_set_by_shift, IsBitSet-full, node_count, IsNodeSet, bit_at-IsBitSet}
+use Rattle.image_minimal.proofs.Common.{◌≡◌, ℕ, ◌*◌, ◌%◌, ◌^◌, ◌<◌, IsBitSet, bit_and, bit_or, slice_index, ap, ◌∙◌, subst, arith, pow_pos, pow-lt, shr_and_one, bit_at-lt, one_shl, or_lt, bit_set_by_shift, IsBitSet-full, node_count, IsNodeSet, bit_at-IsBitSet}
 use Rattle.image_minimal.proofs.laws.ClosureTables.{with_node, HasAbove, IsCommon-take, IsCommon-skip, IsClosure-shared}
 use Rattle.image_minimal.proofs.closures.closure_above.Goals as goal
 use Rattle.image_minimal.proofs.closures.closure_above.Goals.{then-set-u-eq0, else-set-u-eq0}

@@ -1,5 +1,4 @@
-use Rattle.std.proofs.Common.{ℕ, ◌<◌}
-use Rattle.word_image.proofs.Common.{IsNodeSet}
+use Rattle.image_minimal.proofs.Common.{ℕ, ◌<◌, IsNodeSet}
 use Rattle.image_minimal.proofs.laws.ClosureTables.{HasAbove}
 use Rattle.image_minimal.proofs.closures.closure_above.Given as goal
 

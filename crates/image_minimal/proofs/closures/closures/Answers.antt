@@ -1,6 +1,4 @@
-use Rattle.std.proofs.Common.{◌≡◌, ◌+◌, ◌-◌, ◌^◌, ◌<◌, set, subst, arith, pow_pos}
-use Rattle.word_image.proofs.Common.{node_count, Contains-slice_get}
-use Rattle.image_minimal.specs.Closures.{IsClosure, AreClosuresFrom}
+use Rattle.image_minimal.proofs.Common.{◌≡◌, ◌+◌, ◌-◌, ◌^◌, ◌<◌, set, subst, arith, pow_pos, node_count, Contains-slice_get, IsClosure, AreClosuresFrom}
 use Rattle.image_minimal.proofs.Indexes.{IsPlaceOf-none}
 use Rattle.image_minimal.proofs.laws.ClosureTables.{IsClosure-unread, AreClosuresFrom-set}
 use Rattle.image_minimal.proofs.closures.closures.Goals as goal

@@ -1,6 +1,4 @@
-use Rattle.std.proofs.Common.{◌-◌, ◌^◌}
-use Rattle.word_image.proofs.Common.{node_count}
-use Rattle.image_minimal.specs.Closures.{AreClosuresFrom}
+use Rattle.image_minimal.proofs.Common.{◌-◌, ◌^◌, node_count, AreClosuresFrom}
 use Rattle.image_minimal.proofs.closures.closures.Given as goal
 
 -- the closures of the last sets are there

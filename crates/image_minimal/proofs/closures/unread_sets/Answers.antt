@@ -1,7 +1,4 @@
-use Rattle.std.proofs.Common.{◌^◌, arith, mul-le-mul_right, pow_pos}
-use Rattle.word_image.proofs.Common.{node_count}
-use Rattle.image_minimal.specs.Closures.{IsBack}
-use Rattle.search_laws.proofs.Common.{IsSetOf-unique, length-search-le}
+use Rattle.image_minimal.proofs.Common.{◌^◌, arith, mul-le-mul_right, pow_pos, node_count, IsBack, IsSetOf-unique, length-search-le}
 use Rattle.image_minimal.proofs.Searches.{IsSearch-first, IsSearchAt-start, IsSearchAt-insert, AreUnreadSets-closed}
 use Rattle.image_minimal.proofs.closures.unread_sets.Goals as goal
 

@@ -1,7 +1,4 @@
-use Rattle.std.proofs.Common.{◌-◌, ◌*◌, ◌^◌}
-use Rattle.word_image.proofs.Common.{node_count}
-use Rattle.image_minimal.specs.Closures.{IsBack}
-use Rattle.search_laws.proofs.Common.{IsSearch}
+use Rattle.image_minimal.proofs.Common.{◌-◌, ◌*◌, ◌^◌, node_count, IsBack, IsSearch}
 use Rattle.image_minimal.proofs.Searches.{IsSearchAt}
 use Rattle.image_minimal.proofs.closures.unread_sets.Given as goal
 

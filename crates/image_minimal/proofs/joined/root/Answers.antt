@@ -1,5 +1,4 @@
-use Rattle.std.proofs.Common.{◌≡◌, ◌<◌, ◌≤◌, length, get_or, slice_index, ap, ◌∙◌, arith}
-use Rattle.word_image.proofs.Common.{get_or_default}
+use Rattle.image_minimal.proofs.Common.{◌≡◌, ◌<◌, ◌≤◌, length, get_or, slice_index, ap, ◌∙◌, arith, get_or_default}
 use Rattle.image_minimal.proofs.Joins.{IsOnWay-start, IsOnWay-next}
 use Rattle.image_minimal.proofs.joined.root.Goals as goal
 

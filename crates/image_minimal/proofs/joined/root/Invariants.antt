@@ -1,4 +1,4 @@
-use Rattle.image_minimal.specs.Joins.{IsOnWay}
+use Rattle.image_minimal.proofs.Common.{IsOnWay}
 use Rattle.image_minimal.proofs.joined.root.Given as goal
 
 -- the number has led so far

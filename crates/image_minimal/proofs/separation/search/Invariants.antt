@@ -1,5 +1,4 @@
-use Rattle.std.proofs.Common.{◌-◌, ◌*◌}
-use Rattle.image_minimal.specs.Links.{IsLinkSearch, most_links}
+use Rattle.image_minimal.proofs.Common.{◌-◌, ◌*◌, IsLinkSearch, most_links}
 use Rattle.image_minimal.proofs.LinkSearches.{IsLinkSearchAt}
 use Rattle.image_minimal.proofs.separation.search.Given as goal
 

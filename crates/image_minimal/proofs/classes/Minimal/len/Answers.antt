@@ -1,5 +1,4 @@
-use Rattle.std.proofs.Common.{sym, ap, ◌∙◌, subst, arith}
-use Rattle.image_minimal.specs.ImageLanguages.{Automaton, IsLeastAutomaton}
+use Rattle.image_minimal.proofs.Common.{sym, ap, ◌∙◌, subst, arith, Automaton, IsLeastAutomaton}
 use Rattle.image_minimal.proofs.ClassSearches.{the_automaton}
 use Rattle.image_minimal.proofs.classes.Minimal.len.Goals as goal
 

@@ -1,5 +1,4 @@
-use Rattle.std.proofs.Common.{◌≡◌, ◌+◌, ◌*◌, ◌<◌, ℕ, slice_get, slice_index, Some, ap, ◌∙◌, sym, subst, arith}
-use Rattle.word_image.proofs.Common.{LocalRule, IsRule, IsStep}
+use Rattle.image_minimal.proofs.Common.{◌≡◌, ◌+◌, ◌*◌, ◌<◌, ℕ, slice_get, slice_index, Some, ap, ◌∙◌, sym, subst, arith, LocalRule, IsRule, IsStep}
 use Rattle.image_minimal.proofs.ClassSearches.{class_inside, the_automaton}
 use Rattle.image_minimal.proofs.classes.Minimal.next.Goals as goal
 use Rattle.image_minimal.proofs.classes.Minimal.next.Goals.{After-deref}

@@ -1,5 +1,4 @@
-use Rattle.std.proofs.Common.{◌≡◌, ◌+◌, ◌*◌, take}
-use Rattle.image_minimal.specs.ImageLanguages.{Automaton, IsLeastAutomaton}
+use Rattle.image_minimal.proofs.Common.{◌≡◌, ◌+◌, ◌*◌, take, Automaton, IsLeastAutomaton}
 use Rattle.image_minimal.proofs.classes.Minimal.rows.Given as goal
 
 -- the rows of the first classes are there

@@ -1,6 +1,4 @@
-use Rattle.std.proofs.Common.{◌≡◌, ◌<◌, ◌⊎◌, inl, inr, List, ℕ, set, true, false, ap, length, subst, arith, ⊎_elim}
-use Rattle.word_image.proofs.Common.{cases_lt}
-use Rattle.image_minimal.specs.Joins.{IsJoin}
+use Rattle.image_minimal.proofs.Common.{◌≡◌, ◌<◌, ◌⊎◌, inl, inr, List, ℕ, set, true, false, ap, length, subst, arith, ⊎_elim, cases_lt, IsJoin}
 use Rattle.image_minimal.proofs.Joins.{IsJoin-one, IsJoin-roots}
 use Rattle.image_minimal.proofs.joined.Joined.join.Goals as goal
 

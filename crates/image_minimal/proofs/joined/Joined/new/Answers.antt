@@ -1,6 +1,4 @@
-use Rattle.std.proofs.Common.{ℕ, [], ◌∷◌, ◌++◌, sym, ap, ◌∙◌, subst, arith}
-use Rattle.word_image.proofs.Common.{range_with_len, get_or-range_with_len, length-range_with_len, range-more}
-use Rattle.image_minimal.specs.Joins.{IsFalling}
+use Rattle.image_minimal.proofs.Common.{ℕ, [], ◌∷◌, ◌++◌, sym, ap, ◌∙◌, subst, arith, range_with_len, get_or-range_with_len, length-range_with_len, range-more, IsFalling}
 use Rattle.image_minimal.proofs.joined.Joined.new.Goals as goal
 
 -- each of the numbers is its own parent

@@ -1,5 +1,4 @@
-use Rattle.std.proofs.Common.{◌≡◌}
-use Rattle.word_image.proofs.Common.{range_with_len}
+use Rattle.image_minimal.proofs.Common.{◌≡◌, range_with_len}
 use Rattle.image_minimal.proofs.joined.Joined.new.Given as goal
 
 -- the first numbers are there

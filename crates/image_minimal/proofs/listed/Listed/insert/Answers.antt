@@ -1,5 +1,4 @@
-use Rattle.std.proofs.Common.{◌≡◌, ℕ, inl, inr, [], ◌∷◌, ◌++◌, length, set, Some, Contains, refl, sym, ap, ap₂, ◌∙◌, subst, arith}
-use Rattle.word_image.proofs.Common.{length_push, Contains-slice_get}
+use Rattle.image_minimal.proofs.Common.{◌≡◌, ℕ, inl, inr, [], ◌∷◌, ◌++◌, length, set, Some, Contains, refl, sym, ap, ap₂, ◌∙◌, subst, arith, length_push, Contains-slice_get}
 use Rattle.image_minimal.proofs.Indexes.{IsPlaceOf-none, IsExactIndex-push, length-listed-le}
 use Rattle.image_minimal.proofs.listed.Listed.insert.Goals as goal
 

@@ -1,4 +1,4 @@
-use Rattle.std.proofs.Common.{arith}
+use Rattle.image_minimal.proofs.Common.{arith}
 use Rattle.image_minimal.proofs.Indexes.{length-listed-le}
 use Rattle.image_minimal.proofs.listed.Listed.len.Goals as goal
 

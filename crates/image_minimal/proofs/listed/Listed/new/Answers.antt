@@ -1,5 +1,4 @@
-use Rattle.std.proofs.Common.{◌≡◌, ◌+◌, [], sym, subst, arith, List, Option, ℕ, None, replicate, rules}
-use Rattle.image_minimal.specs.Indexes.{IsExactIndex}
+use Rattle.image_minimal.proofs.Common.{◌≡◌, ◌+◌, [], sym, subst, arith, List, Option, ℕ, None, replicate, rules, IsExactIndex}
 use Rattle.image_minimal.proofs.Indexes.{IsExactIndex-start}
 use Rattle.image_minimal.proofs.listed.Listed.new.Goals as goal
 

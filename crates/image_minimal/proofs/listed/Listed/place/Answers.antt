@@ -1,6 +1,4 @@
-use Rattle.std.proofs.Common.{◌≡◌, get_or, None, ap, sym, ◌∙◌, subst, arith}
-use Rattle.word_image.proofs.Common.{get_or_default}
-use Rattle.image_minimal.specs.Indexes.{IsPlaceOf}
+use Rattle.image_minimal.proofs.Common.{◌≡◌, get_or, None, ap, sym, ◌∙◌, subst, arith, get_or_default, IsPlaceOf}
 use Rattle.image_minimal.proofs.listed.Listed.place.Goals as goal
 
 pub returns : goal.returns

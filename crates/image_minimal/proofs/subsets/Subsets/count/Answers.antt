@@ -1,5 +1,4 @@
-use Rattle.std.proofs.Common.{◌^◌, ap, ◌∙◌, arith}
-use Rattle.word_image.proofs.Common.{one_shl, node_count}
+use Rattle.image_minimal.proofs.Common.{◌^◌, ap, ◌∙◌, arith, one_shl, node_count}
 use Rattle.image_minimal.proofs.subsets.Subsets.count.Goals as goal
 
 pub returns-clause-count : goal.returns-clause-count

@@ -1,6 +1,4 @@
-use Rattle.std.proofs.Common.{subst}
-use Rattle.image_subsets.specs.StepTables.{AreTables}
-use Rattle.image_subsets.proofs.Steps.{HasRows-tables}
+use Rattle.image_minimal.proofs.Common.{subst, AreTables, HasRows-tables}
 use Rattle.image_minimal.proofs.subsets.Subsets.steps.Goals as goal
 
 pub steps-requires : goal.steps-requires
