@@ -1,5 +1,5 @@
 -- A search through the closures has the classes of the least automaton in the end.
-use Rattle.image_minimal.proofs.Common.{◌≡◌, ℕ, suc, ◌+◌, ◌*◌, ◌/◌, ◌%◌, ◌^◌, ◌<◌, ◌≤◌, List, length, replicate, slice_index, Option, Some, None, refl, sym, ap, ◌∙◌, subst, subst₂, arith, ⊎_elim, slice_get, pow_pos, mul-le-mul_right, suc-mul, cases_eq, same_Some, same_from_place, slice_get_within, slice_get-get_or, get_or_from_slice_get, none-some, length-replicate, LocalRule, IsRule, node_count, some_below, mapped_at, search_place, search-below, length-search, length-search-le, chosen, IsSearch, IsStep-some, IsSetOf-unique, Automaton, IsLeastAutomaton, IsClosedStep, AreClosures, IsPlaceOf, IsClassSearch, HasClasses}
+use Rattle.image_minimal.proofs.Common.{◌≡◌, ℕ, suc, ◌+◌, ◌*◌, ◌/◌, ◌%◌, ◌^◌, ◌<◌, ◌≤◌, List, length, replicate, slice_index, Option, Some, None, refl, sym, ap, ◌∙◌, subst, subst₂, arith, ⊎_elim, slice_get, pow_pos, mul-le-mul_right, suc-mul, cases_eq, same_Some, same_from_place, slice_get_within, slice_get-get_or, get_or_from_slice_get, none-some, length-replicate, LocalRule, IsRule, node_count, some_below, mapped_at, search_place, search-below, length-search, length-search-le, chosen, IsSearch, IsStep, IsStep-some, IsSetOf-unique, Automaton, IsLeastAutomaton, IsClosedStep, AreClosures, IsPlaceOf, IsClassSearch, HasClasses}
 use Rattle.image_minimal.proofs.laws.ClosedSteps.{closed_step}
 use Rattle.image_minimal.proofs.laws.Classes.{AreClassWords-closed, IsNextClass-step, IsDeadClass-place}
 use Rattle.image_minimal.proofs.laws.ClassLists.{table_place, IsLeastAutomaton-unique}
@@ -77,7 +77,7 @@ HasClasses-closed {r} {closures} {classes} rule have x closed =
       long = refl;
       some = omega (arith, slice_get_within x.tree 0 x.queue.fills.first x.queue.fills.root, length-search x);
       below = class-below x;
-      next = λ i a to inside letter step. entry i a inside letter ∙ ap (λ t. Some (slice_index closures t)) (IsSetOf-unique (IsStep-some r (slice_index classes i) a).1 step);
+      next = λ i a from to inside is letter step. entry i a inside letter ∙ ap (λ t. Some (slice_index closures t)) (IsSetOf-unique (IsStep-some r (slice_index classes i) a).1 (subst (λ s. IsStep r s a to) is step));
       dead = place;
     }
 

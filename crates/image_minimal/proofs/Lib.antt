@@ -1,7 +1,6 @@
 mod Common
 pub mod laws
 pub mod Indexes
-pub mod Backs
 pub mod Searches
 pub mod ClassSearches
 pub mod Joins

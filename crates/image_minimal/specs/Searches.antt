@@ -25,6 +25,6 @@ pub record HasClasses (r : LocalRule) (closures classes : List ℕ) : Type 0 whe
   pub long : automaton.classes ≡ length classes
   pub some : 1 ≤ length classes
   pub below : (i : ℕ) → i < length classes → slice_index classes i < 2 ^ node_count r
-  pub next : (i a to : ℕ) → i < length classes → a < r.states → IsStep r (slice_index classes i) a to
+  pub next : (i a from to : ℕ) → i < length classes → from ≡ slice_index classes i → a < r.states → IsStep r from a to
       → slice_get classes (slice_index automaton.next (i * automaton.states + a)) ≡ Some (slice_index closures to)
   pub dead : IsPlaceOf classes 0 automaton.dead

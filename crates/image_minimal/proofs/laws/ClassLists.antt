@@ -1,5 +1,6 @@
 -- A rule has one list of classes, so it has one least automaton.
-use Rattle.image_minimal.proofs.Common.{◌≡◌, ℕ, zero, suc, ◌+◌, ◌*◌, ◌/◌, ◌%◌, ◌<◌, List, [], ◌∷◌, ◌++◌, length, slice_index, Option, Some, None, refl, sym, ap, ap₂, ◌∙◌, subst, arith, append-nil, append_assoc, slice_get, nat_cmp, Equal, ext_get_or, div-lt_iff_lt-mul, mod-lt, mul-zero, mul_comm, slice_cmp, nat_cmp_is, none-some, All-push, All-head, All-tail, div-add-mod, LocalRule, IsRule, IsWord, IsOrphan, IsAscending, slice_get-unique, IsPreimage-snoc, then_equal, exact_bytes, word_number, word_number-le, word_number-less, word_cmp-number, Alike, IsLeastAlike, IsClassList, IsNextClass, IsDeadClass, Automaton, IsLeastAutomaton}
+use Rattle.image_minimal.proofs.Common.{◌≡◌, ℕ, zero, suc, ◌+◌, ◌*◌, ◌/◌, ◌%◌, ◌<◌, List, [], ◌∷◌, ◌++◌, length, slice_index, Option, Some, None, refl, sym, ap, ap₂, ◌∙◌, subst, arith, append-nil, append_assoc, slice_get, nat_cmp, Equal, ext_get_or, div-lt_iff_lt-mul, mod-lt, mul-zero, mul_comm, slice_cmp, nat_cmp_is, none-some, All-push, All-head, All-tail, div-add-mod, LocalRule, IsRule, IsWord, IsOrphan, IsAscending, slice_get-unique, IsPreimage-snoc, then_equal, exact_bytes, word_number, word_number-le, word_number-less, word_cmp-number, Alike, IsLeastAlike, IsClassList, IsNextClass, IsDeadClass, Automaton, IsLeastAutomaton, node_count, pow_pos, IsBitSet-zero, IsLastSet-orphan}
+use Rattle.image_minimal.proofs.laws.Unread.{IsUnread-some, is_dead-unread, IsOrphan-is_dead}
 
 -- words of one number are one
 one_number : (k : ℕ) (v w : List ℕ) → IsWord k v → IsWord k w → word_number k v ≡ word_number k w → v ≡ w
@@ -92,13 +93,9 @@ IsNextClass-unique {r} {x} {i} {a} {g} {h} list one other =
 
 -- an orphan followed by any word is one
 orphan_on : {r : LocalRule} → IsRule r → (w z : List ℕ) → IsWord r.states z → IsOrphan r w → IsOrphan r (w ++ z)
-orphan_on {r} rule w [] word orphan = subst (IsOrphan r) (sym (append-nil w)) orphan
-orphan_on {r} rule w (a ∷ z) word orphan =
-    let longer : IsOrphan r (w ++ a ∷ []) = record {
-      word = All-push (λ b. b < r.states) w a orphan.word (All-head (λ b. b < r.states) a z word);
-      none = λ x preimage. let shorter = IsPreimage-snoc rule w a x preimage in orphan.none shorter.before shorter.preimage;
-    } in
-    subst (IsOrphan r) (append_assoc w (a ∷ []) z) (orphan_on rule (w ++ a ∷ []) z (All-tail (λ b. b < r.states) a z word) longer)
+orphan_on {r} rule w z word orphan =
+    let (set, unread) = IsUnread-some r z word in
+    (IsOrphan-is_dead rule (IsLastSet-orphan rule orphan) z word).1 ((is_dead-unread rule z set 0 unread (pow_pos (node_count r))).1 (λ u l some. absurd (IsBitSet-zero u some)))
 
 -- where there is an orphan, a rule isn't surjective, and one class is that of the orphans
 IsDeadClass-unique : {r : LocalRule} {x : List (List ℕ)} → IsRule r → IsClassList r x → (c d : Option ℕ) → IsDeadClass r x c → IsDeadClass r x d → c ≡ d

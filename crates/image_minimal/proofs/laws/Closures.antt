@@ -58,12 +58,7 @@ Alike-closure {r} {x} {s = s} {t} rule first second of_s of_t = (
 
 -- all nodes are their own closure
 pub IsClosure-full : (r : LocalRule) → IsClosure r (full_set r) (full_set r)
-IsClosure-full r = record {
-  of = record {
-    within = omega (arith, pow_pos (node_count r));
-    nodes = λ u l. ((λ some unread is within. within u l some), (λ _. IsBitSet-full r u l));
-  };
-}
+IsClosure-full r = record { of = record { within = omega (arith, pow_pos (node_count r)); nodes = λ u l. ((λ some unread is within. within u l some), (λ _. IsBitSet-full r u l)) } }
 
 -- the empty set is its own closure, and that of no other
 pub IsClosure-empty : {r : LocalRule} {s closure : ℕ} → s < 2 ^ node_count r → IsClosure r s closure → (s ≡ 0 ↔ (closure ≡ 0))

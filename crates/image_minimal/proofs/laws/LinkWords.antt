@@ -1,5 +1,5 @@
 -- The words of links, and the words that come early enough after them: such a word leads both sets of a link to the empty set, or neither.
-use Rattle.image_minimal.proofs.Common.{◌≡◌, ℕ, suc, ◌+◌, ◌-◌, ◌*◌, ◌^◌, ◌<◌, ◌≤◌, List, [], ◌∷◌, ◌++◌, Some, Bool, cond, ltb, lt-ltb, le-ltb, refl, sym, ap, ap₂, ◌∙◌, subst, arith, ⊎_elim, length, map, slice_get, pow_pos, mul-le-mul_left, mul-le-mul_right, mul-one, map-append, one-le-pow, All-head, All-tail, LocalRule, IsRule, IsWord, IsLastSet, IsLastSet-full, IsLastSet-step, value, value-append, node_count, slice_get-unique, Place, filled, Leads-induct, word_number, mapped_at, state-all, TreeSpells-cases, Leads-spelled, IsStep-some, Link, IsLinkSearch, link_place, link_places, SpellsLink}
+use Rattle.image_minimal.proofs.Common.{◌≡◌, ℕ, suc, ◌+◌, ◌-◌, ◌*◌, ◌^◌, ◌<◌, ◌≤◌, List, [], ◌∷◌, ◌++◌, Some, Bool, cond, ltb, lt-ltb, le-ltb, refl, sym, ap, ap₂, ◌∙◌, subst, arith, ⊎_elim, length, map, slice_get, pow_pos, mul-le-mul_left, mul-le-mul_right, mul-one, map-append, one-le-pow, All-head, All-tail, LocalRule, IsRule, IsWord, IsLastSet, IsLastSet-full, IsLastSet-step, value, value-append, node_count, slice_get-unique, Place, filled, Leads-induct, word_number, word_number-snoc, spelled-within, TreeSpells-some, append_assoc, mapped_at, state-all, TreeSpells-cases, Leads-spelled, IsStep-some, Link, IsLinkSearch, link_place, link_places, SpellsLink}
 use Rattle.image_minimal.proofs.laws.Unread.{is_dead}
 
 -- the word on the way to a link has the sets of the link on both sides
@@ -22,28 +22,30 @@ word_number-parts : (k : ℕ) (u z : List ℕ) → word_number k (u ++ z) ≡ wo
 word_number-parts k u z = ap (value k) (map-append suc u z) ∙ value-append k (map suc u) (map suc z)
 
 -- the number of a longer word grows with that of its front
-pub word_number-append : (k : ℕ) (u v z : List ℕ) → word_number k u ≤ word_number k v → word_number k (u ++ z) ≤ word_number k (v ++ z)
+word_number-append : (k : ℕ) (u v z : List ℕ) → word_number k u ≤ word_number k v → word_number k (u ++ z) ≤ word_number k (v ++ z)
 word_number-append k u v z most =
     let rows : word_number k u * k ^ length (map suc z) ≤ word_number k v * k ^ length (map suc z) = mul-le-mul_right (k ^ length (map suc z)) most in
     omega (arith, word_number-parts k u z, word_number-parts k v z)
 
 -- a front has no greater number than the whole word
-pub word_number-front : (k : ℕ) (u z : List ℕ) → 1 ≤ k → word_number k u ≤ word_number k (u ++ z)
+word_number-front : (k : ℕ) (u z : List ℕ) → 1 ≤ k → word_number k u ≤ word_number k (u ++ z)
 word_number-front k u z some =
     let grows : word_number k u * 1 ≤ word_number k u * k ^ length (map suc z) = mul-le-mul_left (word_number k u) (one-le-pow (length (map suc z)) k some) in
     omega (arith, word_number-parts k u z, mul-one (word_number k u))
 
--- the words after links that come early enough: before them and between them all edges have been followed
-pub record AreEarly (k : ℕ) (links : List Link) (e : ℕ) (Early : ℕ → List ℕ → Type 0) : Type 0 where
-  pub edge : (i a : ℕ) (z : List ℕ) (x : Link) → slice_get links i ≡ Some x → a < k → Early i (a ∷ z) → i * k + a < e
-  pub next : (i a j : ℕ) (z : List ℕ) (x y : Link) → slice_get links i ≡ Some x → slice_get links j ≡ Some y → a < k → filled k j (link_place y) ≤ i * k + a + 1 → Early i (a ∷ z) → Early j z
+-- the edges whose words have no greater number have been followed
+abbrev pub AreEarly : ℕ → List Link → ℕ → ℕ → Type 0
+AreEarly k links e bound = (i a : ℕ) (v : List ℕ) (x : Link) → slice_get links i ≡ Some x → SpellsLink links i v → a < k → word_number k (v ++ a ∷ []) ≤ bound → i * k + a < e
 
--- an early word leads both sets of a link to the empty set, or neither
-pub same_end : {r q : LocalRule} {links : List Link} {parents : List ℕ} {e : ℕ} {Early : ℕ → List ℕ → Type 0} → IsLinkSearch r q links parents e → AreEarly r.states links e Early
-    → (z : List ℕ) → IsWord r.states z → (i : ℕ) (x : Link) → slice_get links i ≡ Some x → Early i z → is_dead r z x.first ≡ is_dead q z x.second
-same_end h early [] word i x at soon = h.even i x at
-same_end {r} {q} {links} h early (a ∷ z) word i x at soon =
+-- a word after the one on the way to a link leads both sets of the link to the empty set, or neither, if both together have no greater number
+pub same_end : {r q : LocalRule} {links : List Link} {parents : List ℕ} {e bound : ℕ} → IsRule r → IsLinkSearch r q links parents e → AreEarly r.states links e bound
+    → (z : List ℕ) → IsWord r.states z → (i : ℕ) (x : Link) (w : List ℕ) → slice_get links i ≡ Some x → SpellsLink links i w → word_number r.states (w ++ z) ≤ bound → is_dead r z x.first ≡ is_dead q z x.second
+same_end rule h early [] word i x w at spells most = h.even i x at
+same_end {r} {q} {links} {bound = bound} rule h early (a ∷ z) word i x w at spells most =
+    let k = r.states in
     let letter = All-head (λ b. b < r.states) a z word in
+    let whole : word_number k ((w ++ a ∷ []) ++ z) ≤ bound = rw (append_assoc w (a ∷ []) z) most in
+    let front = word_number-front k (w ++ a ∷ []) z (omega (arith, rule.shape.least_states)) in
     let n = 2 ^ node_count r in
     let (s, one) = IsStep-some r x.first a in
     let (t, two) = IsStep-some q x.second a in
@@ -52,9 +54,13 @@ same_end {r} {q} {links} h early (a ∷ z) word i x at soon =
     let second : (v : ℕ) → f (n + v) ≡ is_dead q z v = λ v.
     let back : n + v - n ≡ v = omega arith in
     ap₂ (λ b u. cond b (is_dead r z (n + v)) (is_dead q z u)) (le-ltb (n + v) n (omega arith)) back in
-    let chain = h.fills.done i a (s, t) (link_place x) (mapped_at link_place links i x at) letter (early.edge i a z x at letter soon) (one, two) in
+    let chain = h.fills.done i a (s, t) (link_place x) (mapped_at link_place links i x at) letter (early i a w x at spells letter (omega arith)) (one, two) in
     sym (first s one.within)
-    ∙ chain f (λ j y there when. first y.first (link-below h j y there).0 ∙ same_end h early z (All-tail (λ b. b < r.states) a z word) j y there (early.next i a j z x y at there letter when soon) ∙ sym (second y.second))
+    ∙ chain f (λ j y there when.
+    let (u, to) = TreeSpells-some h.fills j (link_place y) (mapped_at link_place links j y there) in
+    let within = spelled-within h.fills spells a letter j (link_place y) u (mapped_at link_place links j y there) to when in
+    let longer = word_number-append k u (w ++ a ∷ []) z (omega (arith, word_number-snoc k w a)) in
+    first y.first (link-below h j y there).0 ∙ same_end rule h early z (All-tail (λ b. b < r.states) a z word) j y u there to (omega arith) ∙ sym (second y.second))
     ∙ second t
 
 -- the word on the way to a link is that of its parent, followed by its letter

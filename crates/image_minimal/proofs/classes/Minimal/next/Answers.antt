@@ -1,4 +1,4 @@
-use Rattle.image_minimal.proofs.Common.{◌≡◌, ◌+◌, ◌*◌, ◌<◌, ℕ, slice_get, slice_index, Some, ap, ◌∙◌, sym, subst, arith, LocalRule, IsRule, IsStep}
+use Rattle.image_minimal.proofs.Common.{◌≡◌, ◌+◌, ◌*◌, ◌<◌, ℕ, slice_get, slice_index, Some, ap, ◌∙◌, sym, subst, arith, LocalRule, IsRule}
 use Rattle.image_minimal.proofs.ClassSearches.{class_inside, the_automaton}
 use Rattle.image_minimal.proofs.classes.Minimal.next.Goals as goal
 use Rattle.image_minimal.proofs.classes.Minimal.next.Goals.{After-deref}
@@ -15,10 +15,9 @@ bounds-steps-a c = omega (arith, c.requires.letter, (subst IsRule (c.rule.ensure
 -- where the class stands that the least automaton has next
 next_at : (c : After-deref) → slice_get c.self.inside.classes (slice_index c.self.invariant.automaton.next (c.args.i * c.self.invariant.automaton.states + c.args.a)) ≡ Some (slice_index c.deref.result.now (slice_index c.steps-steps.result c.args.a))
 next_at c =
-    let h = c.self.invariant in
     let below : c.args.a < c.self.inside.subsets.states = subst (λ (r : LocalRule). c.args.a < r.states) (sym c.self.view_is) c.requires.letter in
-    let step = subst (λ s. IsStep c.self.inside.subsets s c.args.a (slice_index c.steps-steps.result c.args.a)) c.at-set.ensures (c.steps-steps.ensures c.args.a below) in
-    rw c.deref.ensures.value (h.next c.args.i c.args.a _ (class_inside h c.self.view_is c.args.i c.requires.class) below step)
+    rw c.deref.ensures.value
+    (c.self.invariant.next c.args.i c.args.a c.at-set.result _ (class_inside c.self.invariant c.self.view_is c.args.i c.requires.class) c.at-set.ensures below (c.steps-steps.ensures c.args.a below))
 
 pub class_of-requires-clause-class : goal.class_of-requires-clause-class
 class_of-requires-clause-class c = (_, next_at c)

@@ -1,4 +1,4 @@
-use Rattle.image_minimal.proofs.Common.{◌≡◌, ℕ, ◌+◌, ◌*◌, ◌<◌, List, [], ◌∷◌, ◌++◌, length, take, slice_get, slice_index, Some, sym, ap, ap₂, ◌∙◌, subst, arith, mul_comm, take_all, mul-add-lt, take_more, IsStep}
+use Rattle.image_minimal.proofs.Common.{◌≡◌, ℕ, ◌+◌, ◌*◌, ◌<◌, List, [], ◌∷◌, ◌++◌, length, take, slice_get, slice_index, Some, sym, ap, ap₂, ◌∙◌, subst, arith, mul_comm, take_all, mul-add-lt, take_more}
 use Rattle.image_minimal.proofs.ClassSearches.{the_automaton}
 use Rattle.image_minimal.proofs.classes.Minimal.rows.Goals as goal
 use Rattle.image_minimal.proofs.classes.Minimal.rows.Goals.{After-deref}
@@ -12,8 +12,8 @@ next_at : (c : After-deref)
     ≡ Some (slice_index c.deref.result.now (slice_index c.steps-steps.result c.loop-letter.letter))
 next_at c =
     let below : c.loop-letter.letter < c.self.inside.subsets.states = omega arith in
-    let step = subst (λ s. IsStep c.self.inside.subsets s c.loop-letter.letter (slice_index c.steps-steps.result c.loop-letter.letter)) c.at-set.ensures (c.steps-steps.ensures c.loop-letter.letter below) in
-    rw c.deref.ensures.value (c.self.invariant.next c.loop-class.class c.loop-letter.letter _ (omega (arith, c.len-classes.ensures.len)) below step)
+    rw c.deref.ensures.value
+    (c.self.invariant.next c.loop-class.class c.loop-letter.letter c.at-set.result _ (omega (arith, c.len-classes.ensures.len)) c.at-set.ensures below (c.steps-steps.ensures c.loop-letter.letter below))
 
 pub class_of-requires-clause-class : goal.class_of-requires-clause-class
 class_of-requires-clause-class c = (_, next_at c)
