@@ -1,5 +1,5 @@
 -- Lists of different sets, with an index by set.
-use Rattle.image_minimal.proofs.Common.{◌≡◌, ℕ, ◌<◌, ◌≤◌, List, [], ◌∷◌, ◌++◌, length, set, replicate, get_or, slice_index, Option, Some, None, Contains, refl, sym, ap, ◌∙◌, subst, arith, ⊎_elim, slice_get, length-set, cases_lt, same_Some, slice_get-get_or, none-some, get_or-replicate, length-replicate, slice_get-append, slice_get-push, slice_get-push_cases, Contains-slice_get, slice_get-Contains, twice_below, IsPlaceOf, IsExactIndex}
+use Rattle.image_minimal.proofs.Common.{◌≡◌, ℕ, ◌<◌, ◌≤◌, List, [], ◌∷◌, ◌++◌, length, set, replicate, slice_index, Option, Some, None, Contains, refl, sym, ap, ◌∙◌, subst, arith, ⊎_elim, slice_get, length-set, cases_lt, same_Some, slice_get-get_or, none-some, get_or-replicate, length-replicate, slice_get-append, slice_get-push, slice_get-push_cases, Contains-slice_get, slice_get-Contains, twice_below, IsPlaceOf, IsExactIndex}
 use Rattle.image_minimal.proofs.laws.Entries.{each-set}
 
 -- a set without a place isn't in the list

@@ -1,5 +1,5 @@
 -- A rule has one list of classes, so it has one least automaton.
-use Rattle.image_minimal.proofs.Common.{◌≡◌, ℕ, zero, suc, ◌+◌, ◌*◌, ◌/◌, ◌%◌, ◌<◌, List, [], ◌∷◌, ◌++◌, length, slice_index, Option, Some, None, refl, sym, ap, ap₂, ◌∙◌, subst, arith, append-nil, append_assoc, slice_get, nat_cmp, Equal, ext_get_or, div-lt_iff_lt-mul, mod-lt, mul-zero, mul_comm, slice_cmp, nat_cmp_is, none-some, All-push, All-head, All-tail, div-add-mod, LocalRule, IsRule, IsWord, IsOrphan, IsAscending, slice_get-unique, IsPreimage-snoc, then_equal, exact_bytes, word_number, word_number-le, word_number-less, word_cmp-number, Alike, IsLeastAlike, IsClassList, IsNextClass, IsDeadClass, Automaton, IsLeastAutomaton, node_count, pow_pos, IsBitSet-zero, IsLastSet-orphan}
+use Rattle.image_minimal.proofs.Common.{◌≡◌, ℕ, zero, suc, ◌+◌, ◌*◌, ◌/◌, ◌%◌, ◌<◌, List, [], ◌∷◌, ◌++◌, length, slice_index, Option, Some, None, refl, sym, ap, ap₂, ◌∙◌, subst, arith, slice_get, nat_cmp, Equal, ext_get_or, div-lt_iff_lt-mul, mod-lt, mul-zero, mul_comm, slice_cmp, nat_cmp_is, none-some, div-add-mod, LocalRule, IsRule, IsWord, IsOrphan, IsAscending, slice_get-unique, then_equal, exact_bytes, word_number, word_number-le, word_number-less, word_cmp-number, Alike, IsLeastAlike, IsClassList, IsNextClass, IsDeadClass, Automaton, IsLeastAutomaton, node_count, pow_pos, IsBitSet-zero, IsLastSet-orphan}
 use Rattle.image_minimal.proofs.laws.Unread.{IsUnread-some, is_dead-unread, IsOrphan-is_dead}
 
 -- words of one number are one

@@ -1,5 +1,5 @@
 -- What holds of each entry of a list in which one is stored.
-use Rattle.image_minimal.proofs.Common.{◌≡◌, ◌≢◌, ℕ, ◌<◌, List, length, get_or, set, sym, subst, arith, ⊎_elim, get_or-set_same, get_or-set_other, length-set, cases_eq}
+use Rattle.image_minimal.proofs.Common.{◌≢◌, ℕ, ◌<◌, List, length, get_or, set, sym, subst, arith, ⊎_elim, get_or-set_same, get_or-set_other, length-set, cases_eq}
 
 -- what holds of each other entry, and of the one that is stored, holds of each entry
 pub each-set : {X : Type 0} (P : ℕ → X → Type 0) (xs : List X) (i : ℕ) (d y : X) → i < length xs → ((v : ℕ) → v < length xs → v ≢ i → P v (get_or xs v d)) → P i y

@@ -1,5 +1,5 @@
 -- The words of links, and the words that come early enough after them: such a word leads both sets of a link to the empty set, or neither.
-use Rattle.image_minimal.proofs.Common.{◌≡◌, ℕ, suc, ◌+◌, ◌-◌, ◌*◌, ◌^◌, ◌<◌, ◌≤◌, List, [], ◌∷◌, ◌++◌, Some, Bool, cond, ltb, lt-ltb, le-ltb, refl, sym, ap, ap₂, ◌∙◌, subst, arith, ⊎_elim, length, map, slice_get, pow_pos, mul-le-mul_left, mul-le-mul_right, mul-one, map-append, one-le-pow, All-head, All-tail, LocalRule, IsRule, IsWord, IsLastSet, IsLastSet-full, IsLastSet-step, value, value-append, node_count, slice_get-unique, Place, filled, Leads-induct, word_number, word_number-snoc, spelled-within, TreeSpells-some, append_assoc, mapped_at, state-all, TreeSpells-cases, Leads-spelled, IsStep-some, Link, IsLinkSearch, link_place, link_places, SpellsLink}
+use Rattle.image_minimal.proofs.Common.{◌≡◌, ℕ, suc, ◌+◌, ◌-◌, ◌*◌, ◌^◌, ◌<◌, ◌≤◌, List, [], ◌∷◌, ◌++◌, Some, Bool, cond, ltb, lt-ltb, le-ltb, sym, ap, ap₂, ◌∙◌, subst, arith, ⊎_elim, length, map, slice_get, pow_pos, mul-le-mul_left, mul-le-mul_right, mul-one, map-append, one-le-pow, All-head, All-tail, LocalRule, IsRule, IsWord, IsLastSet, IsLastSet-full, IsLastSet-step, value, value-append, node_count, slice_get-unique, Place, Leads-induct, word_number, word_number-snoc, spelled-within, TreeSpells-some, append_assoc, mapped_at, state-all, TreeSpells-cases, Leads-spelled, IsStep-some, Link, IsLinkSearch, link_place, link_places, SpellsLink}
 use Rattle.image_minimal.proofs.laws.Unread.{is_dead}
 
 -- the word on the way to a link has the sets of the link on both sides

@@ -1,6 +1,6 @@
 -- What links say of the orphans of two rules: links that are closed under steps show that they are the same, and the first
 -- pair with exactly one empty set gives the least word that is an orphan of exactly one.
-use Rattle.image_minimal.proofs.Common.{◌≡◌, ◌≢◌, ℕ, ◌+◌, ◌*◌, ◌<◌, ◌≤◌, ◌⊎◌, ◌↔◌, inl, inr, List, [], ◌∷◌, ◌++◌, length, Some, sym, ap, ◌∙◌, subst, arith, ⊎_elim, append_assoc, slice_get, true, iff_then, iff_sym, cases_lt, length-map, LocalRule, IsRule, IsWord, IsOrphan, full_set, IsStep, IsLastSet, IsLastSet-full, IsLastSet-step, Root, word_number, word_number-snoc, word_number-less, TreeSpells-unique, TreeSpells-some, spelled-within, edges-ascending, edge-within, unmapped_at, mapped_at, HaveSameOrphans, Separates, Link, IsLinkSearch, link_place, link_places, SpellsLink}
+use Rattle.image_minimal.proofs.Common.{◌≡◌, ◌≢◌, ℕ, ◌+◌, ◌*◌, ◌<◌, ◌≤◌, ◌⊎◌, ◌↔◌, inl, inr, List, [], ◌∷◌, ◌++◌, length, Some, sym, ap, ◌∙◌, subst, arith, ⊎_elim, slice_get, true, iff_then, iff_sym, cases_lt, length-map, LocalRule, IsRule, IsWord, IsOrphan, IsStep, IsLastSet, IsLastSet-full, IsLastSet-step, Root, word_number, word_number-snoc, word_number-less, edges-ascending, edge-within, unmapped_at, mapped_at, HaveSameOrphans, Separates, Link, IsLinkSearch, link_place, link_places, SpellsLink}
 use Rattle.image_minimal.proofs.laws.Unread.{is_dead, IsOrphan-last, IsOrphan-is_dead}
 use Rattle.image_minimal.proofs.laws.LinkWords.{AreEarly, IsLastSet-link, same_end}
 

@@ -1,4 +1,4 @@
-use Rattle.image_minimal.proofs.Common.{◌<◌, slice_index, sym, subst, arith, mul-le-mul_right, IsClosedStep, IsInserted}
+use Rattle.image_minimal.proofs.Common.{◌<◌, slice_index, subst, arith, mul-le-mul_right, IsClosedStep, IsInserted}
 use Rattle.image_minimal.proofs.laws.ClosedSteps.{IsClosedStep-unique, closed_step}
 use Rattle.image_minimal.proofs.Searches.{IsSearch-first, IsSearchAt-start, IsSearchAt-insert}
 use Rattle.image_minimal.proofs.ClassSearches.{length-classes-le, class-below, HasClasses-closed}

@@ -1,4 +1,4 @@
-use Rattle.image_minimal.proofs.Common.{ℕ, ◌+◌, ◌^◌, ◌<◌, sym, subst, arith, one_shl, node_count, IsSetTo, IsSetTo-skip, IsSetTo-take, IsSetTo-all, IsLedInto, ◌≡◌, ◌≢◌, ◌-◌, bit_and, IsBitSet, ⊎_elim, and_le_l, LocalRule, IsRule, IsBitSet-some, IsBitSet-zero, IsBitSet-decide, IsEnds, IsBitSet-minus, Right}
+use Rattle.image_minimal.proofs.Common.{ℕ, ◌^◌, ◌<◌, subst, arith, one_shl, node_count, IsSetTo-skip, IsSetTo-take, IsSetTo-all, IsLedInto, ◌≡◌, ◌≢◌, ◌-◌, bit_and, IsBitSet, ⊎_elim, and_le_l, LocalRule, IsRule, IsBitSet-some, IsBitSet-zero, IsBitSet-decide, IsEnds, IsBitSet-minus, Right}
 use Rattle.image_minimal.proofs.laws.Unread.{edge_below}
 use Rattle.image_minimal.proofs.closures.back.Goals as goal
 use Rattle.image_minimal.proofs.closures.back.Goals.{then-ends-set-eq0, else-ends-set-eq0}

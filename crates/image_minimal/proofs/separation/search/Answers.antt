@@ -1,4 +1,4 @@
-use Rattle.image_minimal.proofs.Common.{◌≡◌, ℕ, ◌+◌, ◌*◌, ◌^◌, [], ◌∷◌, ◌++◌, slice_index, nat_eq, Some, refl, sym, ap, ap₂, ◌∙◌, subst, arith, slice_get, length, mul-le-mul_right, suc-mul, range_with_len, slice_get_read, slice_get_within, node_count, TreeSpells-some, mapped_at, Link, Separates, IsJoin, link_place, IsLinkSearch, SpellsLink, set_count}
+use Rattle.image_minimal.proofs.Common.{◌≡◌, ℕ, ◌+◌, ◌*◌, ◌^◌, [], ◌∷◌, ◌++◌, slice_index, nat_eq, Some, refl, sym, ap, ap₂, ◌∙◌, subst, arith, slice_get, length, mul-le-mul_right, suc-mul, range_with_len, slice_get_read, slice_get_within, node_count, TreeSpells-some, mapped_at, Link, IsJoin, link_place, IsLinkSearch, SpellsLink, set_count}
 use Rattle.image_minimal.proofs.laws.LinkWords.{link-below}
 use Rattle.image_minimal.proofs.laws.Separations.{HaveSameOrphans-closed, Separates-conflict}
 use Rattle.image_minimal.proofs.LinkSearches.{IsLinkSearch-start, IsLinkSearchAt-there, IsLinkSearchAt-new, uneven, even}

@@ -1,4 +1,4 @@
-use Rattle.image_minimal.proofs.Common.{◌≡◌, None, Some, sym, ap, ◌∙◌}
+use Rattle.image_minimal.proofs.Common.{Some, sym, ap, ◌∙◌}
 use Rattle.image_minimal.proofs.Indexes.{IsPlaceOf-one}
 use Rattle.image_minimal.proofs.ClassSearches.{the_automaton}
 use Rattle.image_minimal.proofs.classes.Minimal.dead.Goals as goal

@@ -1,4 +1,4 @@
-use Rattle.image_minimal.proofs.Common.{◌≡◌, ◌+◌, ◌*◌, ◌<◌, ℕ, slice_get, slice_index, Some, ap, ◌∙◌, sym, subst, arith, LocalRule, IsRule}
+use Rattle.image_minimal.proofs.Common.{◌≡◌, ◌+◌, ◌*◌, ◌<◌, slice_get, slice_index, Some, ap, ◌∙◌, sym, subst, arith, LocalRule, IsRule}
 use Rattle.image_minimal.proofs.ClassSearches.{class_inside, the_automaton}
 use Rattle.image_minimal.proofs.classes.Minimal.next.Goals as goal
 use Rattle.image_minimal.proofs.classes.Minimal.next.Goals.{After-deref}

@@ -1,4 +1,4 @@
-use Rattle.image_minimal.proofs.Common.{◌≡◌, ◌<◌, ◌⊎◌, inl, inr, List, ℕ, set, true, false, ap, length, subst, arith, ⊎_elim, cases_lt, IsJoin}
+use Rattle.image_minimal.proofs.Common.{◌≡◌, ◌⊎◌, inl, inr, List, ℕ, set, true, false, ap, length, subst, arith, ⊎_elim, cases_lt, IsJoin}
 use Rattle.image_minimal.proofs.Joins.{IsJoin-one, IsJoin-roots}
 use Rattle.image_minimal.proofs.joined.Joined.join.Goals as goal
 

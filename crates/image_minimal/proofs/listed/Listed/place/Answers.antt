@@ -1,4 +1,4 @@
-use Rattle.image_minimal.proofs.Common.{◌≡◌, get_or, None, ap, sym, ◌∙◌, subst, arith, get_or_default, IsPlaceOf}
+use Rattle.image_minimal.proofs.Common.{◌≡◌, get_or, None, ap, ◌∙◌, subst, arith, get_or_default, IsPlaceOf}
 use Rattle.image_minimal.proofs.listed.Listed.place.Goals as goal
 
 pub returns : goal.returns
