@@ -12,7 +12,7 @@ length-classes-le {r} x = length-search-le x (2 ^ node_count r) (omega (arith, p
 pub class-below : {r : LocalRule} {classes : List ℕ} {e : ℕ} → IsClassSearch r classes e → (i : ℕ) → i < length classes → slice_index classes i < 2 ^ node_count r
 class-below {r} {classes} x i l = search-below x (2 ^ node_count r) (omega (arith, pow_pos (node_count r))) (λ s a t step. step.closure.of.within) i (slice_index classes i) (slice_get-get_or classes i 0 l)
 
--- where all edges are followed a closed step from a class leads to a class
+-- if all edges have been followed, a closed step from a class leads to a class
 class_after : {r : LocalRule} {classes : List ℕ} {e : ℕ} → IsClassSearch r classes e → length classes * r.states ≤ e → (i a to : ℕ) → i < length classes → a < r.states → IsClosedStep r (slice_index classes i) a to
     → (j : ℕ) × (slice_get classes j ≡ Some to)
 class_after {r} {classes} x closed i a to inside letter step =
@@ -38,7 +38,7 @@ place_in {states = states} x s =
     (λ none. (None, λ i. ((λ e. absurd (none-some i e)), (λ at. absurd (none i (slice_get_within states i s at) (get_or_from_slice_get states i s 0 at))))))
     (some_below (λ i. slice_index states i ≡ s) (λ i. cases_eq (slice_index states i) s) (length states))
 
--- where all edges are followed there is a least automaton, of these classes
+-- if all edges have been followed, there is a least automaton, of these classes
 pub HasClasses-closed : {r : LocalRule} {closures classes : List ℕ} {e : ℕ} → IsRule r → AreClosures r closures → IsClassSearch r classes e → length classes * r.states ≤ e → HasClasses r closures classes
 HasClasses-closed {r} {closures} {classes} rule have x closed =
     let k = r.states in

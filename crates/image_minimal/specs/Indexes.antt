@@ -2,7 +2,7 @@
 use Rattle.std.specs.Prelude.{◌≡◌, ℕ, ◌<◌, ◌↔◌, ◌⊎◌, List, [], ◌∷◌, ◌++◌, length, slice_get, get_or, Option, Some, None, Contains}
 use Rattle.word_image.specs.LocalRules.{most_sets}
 
--- where the set stands, if it does
+-- the place at which the set stands; none if it doesn't
 abbrev pub IsPlaceOf : List ℕ → ℕ → Option ℕ → Type 0
 IsPlaceOf sets set place = (i : ℕ) → (place ≡ Some i) ↔ (slice_get sets i ≡ Some set)
 

@@ -15,7 +15,7 @@ link_place x = record { state = (x.first, x.second); parent = x.parent; letter =
 abbrev pub link_places : List Link → List (Place (ℕ × ℕ))
 link_places = map link_place
 
--- both sets of each link that was made by the time e edges had been followed have one colour, where from n on stand the sets of the second rule
+-- both sets of each link that was made by the time e edges had been followed have one colour; set s of the second rule stands at n + s
 abbrev pub HaveOneColour : ℕ → ℕ → List Link → ℕ → (ℕ → Bool) → Type 0
 HaveOneColour n k links e f = (i : ℕ) (x : Link) → slice_get links i ≡ Some x → filled k i (link_place x) ≤ e → f x.first ≡ f (n + x.second)
 
@@ -23,7 +23,7 @@ HaveOneColour n k links e f = (i : ℕ) (x : Link) → slice_get links i ≡ Som
 abbrev pub LinkStep : LocalRule → LocalRule → ℕ × ℕ → ℕ → ℕ × ℕ → Type 0
 LinkStep r q from a to = IsStep r from.0 a to.0 × IsStep q from.1 a to.1
 
--- two sets are joined by links that were made by the time e edges had been followed: they have one colour wherever both sets of each of these links do
+-- links that were made by the time e edges had been followed join two sets: these have one colour whenever both sets of each of these links do
 abbrev pub HasChain : LocalRule → List Link → ℕ × ℕ → ℕ → Type 0
 HasChain r links pair e = (f : ℕ → Bool) → HaveOneColour (2 ^ node_count r) r.states links e f → f pair.0 ≡ f (2 ^ node_count r + pair.1)
 

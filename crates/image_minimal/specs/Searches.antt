@@ -16,7 +16,7 @@ AreUnreadSets r sets = (set : ℕ) → Contains sets set ↔ IsUnreadSet r set
 abbrev pub IsClassSearch : LocalRule → List ℕ → ℕ → Type 0
 IsClassSearch r = IsSearch (IsClosedStep r) r.states (full_set r)
 
--- the closures of all sets, and those of the classes in their order, which are those of the least automaton
+-- the closures of all sets, and those of the classes in the order of the least automaton; a step from a class leads where the automaton says
 pub record HasClasses (r : LocalRule) (closures classes : List ℕ) : Type 0 where
   pub rule : IsRule r
   pub closed : AreClosures r closures

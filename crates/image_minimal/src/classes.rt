@@ -74,13 +74,15 @@ impl Minimal {
         ensures { IfOk result (λ rows. (a : Automaton) → IsLeastAutomaton self.now a → rows.items ≡ a.next) }
     {
         let classes = self.classes.len();
+        // Borrowed once: the loop then reads a pointer less for each letter.
+        let closures: &[u16] = &self.closures;
         let mut rows = Vec::with_capacity(alloc, classes as usize * usize::from(self.k()))?;
         for class in 0..classes {
             let set = self.classes.at(class);
             let steps = self.subsets.steps(set);
             for letter in 0..self.subsets.k() {
                 let after = steps[letter as usize];
-                rows.push(class_of(&self.closures, &self.classes, after))?;
+                rows.push(class_of(closures, &self.classes, after))?;
             }
         }
         Ok(rows)

@@ -45,8 +45,8 @@ pub fn separate(alloc: Global, first: &Rule, second: &Rule) -> Result<Option<Wor
     Ok(search(alloc, &one, &other)?)
 }
 
-/// The same of two rules with one number of states: links are followed breadth first, letters ascending, up to a letter that leads to two sets
-/// of which exactly one is empty.
+/// Finds the word if the rules have one number of states. Follows links breadth first, letters ascending, until a letter
+/// leads to two sets of which exactly one is empty.
 fn search(alloc: Global, first: &Subsets, second: &Subsets) -> Result<Option<Word>, AllocError>
     requires { first.now.states ≡ second.now.states }
     ensures { IfOk result (λ word. MatchOption word (HaveSameOrphans first.now second.now) (Separates first.now second.now)) }
@@ -71,7 +71,7 @@ fn search(alloc: Global, first: &Subsets, second: &Subsets) -> Result<Option<Wor
             if (s == 0) != (t == 0) {
                 return Ok(Some(word_to(alloc, &links, place, letter)?));
             }
-            // A pair whose sets earlier links join is left out.
+            // Earlier links may join the two sets already.
             if joined.join(u32::from(s), below + u32::from(t)) {
                 links.push(Link {
                     first: s,

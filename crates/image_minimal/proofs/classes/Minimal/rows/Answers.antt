@@ -1,22 +1,19 @@
 use Rattle.image_minimal.proofs.Common.{◌≡◌, ℕ, ◌+◌, ◌*◌, ◌<◌, List, [], ◌∷◌, ◌++◌, take, slice_get, slice_index, Some, sym, ap, ap₂, ◌∙◌, arith, mul_comm, take_all, mul-add-lt, take_more}
 use Rattle.image_minimal.proofs.ClassSearches.{the_automaton}
 use Rattle.image_minimal.proofs.classes.Minimal.rows.Goals as goal
-use Rattle.image_minimal.proofs.classes.Minimal.rows.Goals.{After-deref}
 
 pub steps-steps-requires : goal.steps-steps-requires
 steps-steps-requires c = omega (arith, c.self.invariant.below c.loop-class.class (omega (arith, c.len-classes.ensures.len)), c.at-set.ensures)
 
--- where the class stands that the least automaton has next
-next_at : (c : After-deref)
-    → slice_get c.self.inside.classes (slice_index c.self.invariant.automaton.next (c.loop-class.class * c.self.invariant.automaton.states + c.loop-letter.letter))
-    ≡ Some (slice_index c.deref.result.now (slice_index c.steps-steps.result c.loop-letter.letter))
-next_at c =
-    let below : c.loop-letter.letter < c.self.inside.subsets.states = omega arith in
-    rw c.deref.ensures.value
-    (c.self.invariant.next c.loop-class.class c.loop-letter.letter c.at-set.result _ (omega (arith, c.len-classes.ensures.len)) c.at-set.ensures below (c.steps-steps.ensures c.loop-letter.letter below))
-
 pub class_of-requires-clause-class : goal.class_of-requires-clause-class
-class_of-requires-clause-class c = (_, next_at c)
+class_of-requires-clause-class c =
+    let h = c.self.invariant in
+    let class : ℕ = c.loop-class.class in
+    let letter : ℕ = c.loop-letter.letter in
+    let below : letter < c.self.inside.subsets.states = omega arith in (
+      slice_index h.automaton.next (class * h.automaton.states + letter),
+      rw c.deref-closures.ensures.value (h.next class letter c.at-set.result _ (omega (arith, c.len-classes.ensures.len)) c.at-set.ensures below (c.steps-steps.ensures letter below)),
+    )
 
 pub loop-letter-init : goal.loop-letter-init
 loop-letter-init c a least = c.loop-class.invariant a least ∙ ap (λ n. take n a.next) (omega arith)
@@ -29,7 +26,9 @@ loop-letter-preserved c a least =
     let same = the_automaton h c.self.view_is least in
     let below : letter < a.states = omega (arith, ap (λ r. r.states) c.self.view_is, least.states) in
     let inside = mul-add-lt class a.states letter a.classes (omega (arith, c.len-classes.ensures.len, h.long, ap (λ m. m.classes) same)) below in
-    let next : c.class_of.result ≡ slice_index a.next (class * a.states + letter) = c.class_of.ensures _ (next_at (goal.at.loop-letter-preserved c).After-deref) ∙ ap (λ m. slice_index m.next (class * m.states + letter)) same in
+    let here : letter < c.self.inside.subsets.states = omega arith in
+    let there = h.next class letter c.at-set.result _ (omega (arith, c.len-classes.ensures.len)) c.at-set.ensures here (c.steps-steps.ensures letter here) in
+    let next : c.class_of.result ≡ slice_index a.next (class * a.states + letter) = c.class_of.ensures _ (rw c.deref-closures.ensures.value there) ∙ ap (λ m. slice_index m.next (class * m.states + letter)) same in
     c.in_ok-push.ensures.items ∙ ap₂ (λ (l : List ℕ) (x : ℕ). l ++ x ∷ []) (c.loop-letter.invariant a least) next
     ∙ sym (take_more a.next (class * a.states + letter) 0 (omega (arith, inside, least.long, mul_comm a.states a.classes))) ∙ ap (λ n. take n a.next) (omega arith)
 
