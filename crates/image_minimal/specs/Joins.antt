@@ -1,6 +1,6 @@
 -- Numbers that are joined to classes (Galler and Fischer 1964): each leads to a lesser one of its class, or is the root of its class itself.
 -- Two numbers are in one class exactly if they have one colour whenever each number has the colour of its parent.
-use Rattle.std.specs.Prelude.{◌≡◌, ℕ, ◌+◌, ◌<◌, ◌≤◌, List, length, slice_index, Bool, true, false, if◌then◌else◌}
+use Rattle.std.specs.Prelude.{◌≡◌, ℕ, ◌+◌, ◌<◌, ◌≤◌, List, length, slice_index, Bool, false, if◌then◌else◌}
 use Rattle.std.specs.List.{sum_by}
 
 -- each number has the colour of its parent, so that all numbers of a class have one

@@ -1,4 +1,4 @@
-use Rattle.image_minimal.proofs.Common.{◌≡◌, ℕ, ◌+◌, ◌*◌, ◌<◌, List, [], ◌∷◌, ◌++◌, take, slice_get, slice_index, Some, sym, ap, ap₂, ◌∙◌, arith, mul_comm, take_all, mul-add-lt, take_more}
+use Rattle.image_minimal.proofs.Common.{◌≡◌, ℕ, ◌+◌, ◌*◌, ◌<◌, List, [], ◌∷◌, ◌++◌, take, slice_index, sym, ap, ap₂, ◌∙◌, arith, mul_comm, take_all, mul-add-lt, take_more}
 use Rattle.image_minimal.proofs.ClassSearches.{the_automaton}
 use Rattle.image_minimal.proofs.classes.Minimal.rows.Goals as goal
 
