@@ -101,8 +101,9 @@ class Pictures(unittest.TestCase):
             report = ca.decide(rule)
             for show in (None, *SHOWN):
                 with self.subTest(rule=rule, show=show):
-                    there = {None: True, "orphan": report.orphan, "twins": report.twins, "right": report.right.split,
-                             "left": report.left.split, "flux": report.flux, "ring": report.ring}[show]
+                    there = {None: True, "graph": True, "orphan": report.orphan, "twins": report.twins, "right": report.right.split,
+                             "left": report.left.split, "flux": report.flux, "ring": report.ring,
+                             "current": report.flux and 0 <= -report.rule.offset < report.rule.width}[show]
                     if not there:
                         self.assertRaises(ValueError, ca.picture, rule, show)
                         continue
@@ -131,7 +132,7 @@ class Pictures(unittest.TestCase):
 class Cells(unittest.TestCase):
     """Letters stand at their cells, and the image at those that have it: held against the rule's table alone."""
 
-    def compare(self, rule: ca.Rule) -> int:
+    def compare(self, rule: ca.RuleLike) -> int:
         """How many pictures of two configurations a rule has, each of which is looked at."""
         report, seen = ca.decide(rule), 0
         for show, (first, second), cells in pairs_of(report):
@@ -158,7 +159,7 @@ class Cells(unittest.TestCase):
         self.assertEqual(fills.count(MARK), 2)
 
     def test_the_second_walk_is_broken(self) -> None:
-        shown: list[tuple[ca.Rule, str]] = [(184, "twins"), (110, "right"), ("16:2:0:t" + "0" * 256, "left")]
+        shown: list[tuple[ca.RuleLike, str]] = [(184, "twins"), (110, "right"), ("16:2:0:t" + "0" * 256, "left")]
         for rule, show in shown:
             lines = list(tree.fromstring(ca.picture(rule, show)).iter(f"{SVG}polyline"))
             for color, broken in ((FIRST, False), (SECOND, True)):
