@@ -34,6 +34,7 @@ from .library import keep_freed_memory
 from .lists import write_list
 from .pages import page
 from .pictures import SHOWN, picture
+from .rule_values import look_at_number, read
 from .sums import kept_sums
 
 # The program's commands, by docs/COMMANDS.md.
@@ -131,13 +132,24 @@ def of_program(words: list[str]) -> int:
     code, output = run(words, data)
     sys.stdout.write(output.decode())
     sys.stdout.flush()
+    if code:
+        explain(words, data)
+    return code
+
+
+def explain(words: list[str], data: bytes) -> None:
+    """Says on standard error what a fault means."""
     try:
+        for place, word in enumerate(words[1:3 if words[0] in ("same", "compose") else 2], 1):
+            if words[0] not in ("survey", "sample", "classes", "check"):
+                read(word, place)
+        if words[0] in ("survey", "classes"):
+            look_at_number(int(words[1]), int(words[2]), int(words[3]) + int(words[4]) - 1)
         reply(*words, data=data)
-    except UsageError:
-        print(f"{words[0]}: its operands are not these; docs/COMMANDS.md says what they are", file=sys.stderr)
+    except (UsageError, ValueError, IndexError):
+        print(f"the operands of {words[0]} aren't these; docs/COMMANDS.md says what they are", file=sys.stderr)
     except FoursaspenError as fault:
         print(fault, file=sys.stderr)
-    return code
 
 
 def main(words: list[str] | None = None) -> int:
