@@ -183,6 +183,14 @@ class Texts(unittest.TestCase):
         self.assertEqual(set(values), {field.name for field in dataclasses.fields(ca.Report)})
 
 
+class Replies(unittest.TestCase):
+    def test_the_example_of_the_page(self) -> None:
+        """The whole reply that docs/ANSWERS.md shows."""
+        page = (TOP / "docs" / "ANSWERS.md").read_text()
+        shown = json.loads(page.split("```json\n")[1].split("```")[0])
+        self.assertEqual(json.loads(library.library().run_json(["decide", "110"]).output), shown)
+
+
 class Bytes(unittest.TestCase):
     def test_counts_of_whole_shapes(self) -> None:
         """By docs/COMMANDS.md."""
