@@ -13,6 +13,7 @@ One rule, each with its least evidence:
     kept_sums(rule, range)              all sums of weights of words that it keeps
     flux(rule, weights), keeps(..)      whether it keeps a sum that you have in mind, and what shows it
     language(rule), same(rule, other)   which words have a preimage
+    image(rule, word)                   one step: of a word, of a ring or of a configuration
     preimage(rule, tail), erase(rule)   what is mapped to a configuration; two words that may stand for each other
 
 Rules made of rules:
@@ -28,7 +29,7 @@ Many rules:
     verdicts, verdict_bytes             a byte for each rule, whose bits Bit names
 
 To look at:
-    picture(rule, show), windows(rule)  SVG, which a notebook shows
+    picture(rule, show), windows(rule)  SVG, which a notebook shows; with steps=40 what comes of a configuration
     page(rule), atlas(states, width)    HTML pages; site(folder, states, width) writes an atlas with a page for each class
     to_dot(rule), to_networkx(rule)     the de Bruijn graph for other programs
 
@@ -48,6 +49,7 @@ from .evidence import EvidenceError
 from .exports import to_dot, to_networkx
 from .faults import (FoursaspenError, LibraryMissingError, NotFitError, OutOfMemoryError, RefusedError, RuleError, TooLongError,
                      UsageError, WordsError)
+from .images import Image, image
 from .library import Outcome, keep_freed_memory
 from .lists import Listing, Rules, rules
 from .operands import Weights
@@ -63,11 +65,11 @@ from .surveys import Progress, survey_over
 
 __version__ = "3"
 __all__ = [
-    "Answer", "Bit", "Certificate", "ClassSummary", "Closing", "EvidenceError", "FoursaspenError", "Gap", "Inverse",
+    "Answer", "Bit", "Certificate", "ClassSummary", "Closing", "EvidenceError", "FoursaspenError", "Gap", "Image", "Inverse",
     "KeptSums", "Language", "LibraryMissingError", "Listing", "NotFitError", "OutOfMemoryError", "Outcome", "Pair", "Picture",
     "Preimage", "Progress", "RefusedError", "Report", "Rule", "RuleClass", "RuleError", "RuleLike", "Rules", "Same", "Split",
     "Summary", "Tail", "TooLongError", "UsageError", "Verdicts", "Weights", "Window", "WordsError", "as_dict", "atlas", "brief",
-    "certify", "check", "class_of", "classes", "compose", "decide", "erase", "flux", "inverse", "is_involution",
+    "certify", "check", "class_of", "classes", "compose", "decide", "erase", "flux", "image", "inverse", "is_involution",
     "keep_freed_memory", "keeps", "kept_sums", "language", "least", "lift", "number", "order", "orphan", "page", "permute",
     "picture", "preimage", "reflect", "rules", "run", "same", "sample", "shift", "site", "survey", "survey_over", "to_dot",
     "to_networkx", "trim", "unlift", "verdict_bytes", "verdicts", "widen", "windows",
