@@ -1,4 +1,4 @@
-"""The de Bruijn graph and the automaton of the words with a preimage for other programs: DOT, and networkx where it is installed."""
+"""The de Bruijn graph and the automaton of the words with a preimage for other programs: as DOT, and for networkx."""
 from __future__ import annotations
 
 import importlib

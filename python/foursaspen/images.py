@@ -89,7 +89,8 @@ def moved(rule: Rule, before: Tail | Image) -> Image:
     # right period.
     first, last = 1 - rule.width - rule.offset, len(middle) - rule.offset
     letters = applied(rule, (left, middle, right), first - len(left), last + len(right) - first + len(left))
-    return shortest(start + first, letters[:len(left)], letters[len(left):len(letters) - len(right)], letters[len(letters) - len(right):])
+    end = len(letters) - len(right)
+    return shortest(start + first, letters[:len(left)], letters[len(left):end], letters[end:])
 
 
 def shortest(start: int, left: str, middle: str, right: str) -> Image:

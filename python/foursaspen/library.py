@@ -94,7 +94,8 @@ class Library:
         self._flux.argtypes = [byte, byte, text, size, byte, ctypes.POINTER(Weights), ctypes.POINTER(Flux)]
         self._flux.restype = byte
         if self._image is not None:
-            self._image.argtypes = [byte, byte, ctypes.c_int8, text, size, text, size, text, size, text, size, ctypes.c_int64, text, size]
+            parts = [text, size, text, size, text, size]
+            self._image.argtypes = [byte, byte, ctypes.c_int8, text, size, *parts, ctypes.c_int64, text, size]
             self._image.restype = byte
         self._rooms = threading.local()
         self.path = path

@@ -230,8 +230,8 @@ class Sections:
     def ring(self, ring: str) -> str:
         walk = self.graph.ring(ring)
         return "".join([
-            f"<p>The {self.term('ring')} {code(ring)} has the sum {self.graph.total(ring)}, and its image {code(written(walk))} has "
-            f"the sum {self.graph.total(written(walk))}.</p>",
+            f"<p>The {self.term('ring')} {code(ring)} has the sum {self.graph.total(ring)}, and its image {code(written(walk))} "
+            f"has the sum {self.graph.total(written(walk))}.</p>",
             self.drawn("ring"), steps("Cell by cell", ("cell", "window", "letter of the image"),
                                       ([cell, *row] for cell, row in enumerate(self.windows(walk))))])
 
@@ -242,8 +242,8 @@ class Sections:
         current = (f"<p>What moves between neighbours is the {self.term('current')}: what a cell gains is the number at its "
                    f"window's first letters less that at its last letters.</p>{self.drawn('current')}") if holds_cell else ""
         return "".join([
-            f"<p>What a window adds to the sum is the {self.term('flux')} at its first letters less that at its last letters. Round a "
-            "ring these differences add up to 0, so the sum stays.</p>", self.drawn("flux"),
+            f"<p>What a window adds to the sum is the {self.term('flux')} at its first letters less that at its last letters. "
+            "Round a ring these differences add up to 0, so the sum stays.</p>", self.drawn("flux"),
             steps("Window by window", ("window", "gives", "adds", "flux before", "flux behind"), rows), current])
 
     # More
@@ -287,11 +287,11 @@ class Sections:
             if any(getattr(verdicts, key) != bool(getattr(self.report, key)) for key in VERDICTS):
                 raise EvidenceError(f"the certificate of version {version} doesn't fit the report of {self.report.rule}")
             file = f"{self.report.rule[:60]} version {version}.json".replace(":", "_").replace(" ", "_")
-            links.append(f"<p><a download='{file}' href='data:application/json,{quote(text)}'>the certificate of version {version}, "
-                         f"{len(text):,} bytes</a></p><details><summary>its text</summary><pre>{escape(text)}</pre></details>")
+            links.append(f"<p><a download='{file}' href='data:application/json,{quote(text)}'>the certificate of version "
+                         f"{version}, {len(text):,} bytes</a></p><details><summary>its text</summary><pre>{escape(text)}</pre></details>")
         return "".join([
-            f"<h2 id=certificates>Certificates</h2><p>Each {self.term('certificate')} has all that is needed to check these verdicts "
-            "without trust in this page or in who made it: by <code>ca check</code>, by <code>checkers/judge.py</code> of the "
+            f"<h2 id=certificates>Certificates</h2><p>Each {self.term('certificate')} has all that is needed to check these "
+            "verdicts without trust in this page or in who made it: by <code>ca check</code>, by <code>checkers/judge.py</code> of the "
             "repository, or by a checker of your own. Compare the rule that it names with yours. Version 2 shows that a rule is "
             "surjective by sets of nodes, and version 3 by pairs.</p>", *links])
 

@@ -60,8 +60,8 @@ def picture(rule: RuleLike, show: str | Tail | None = None, weights: Weights | N
     """The graph of a rule. Beneath it stands what `show` names: the reading of the least orphan, the two walks of the
     least twins, those of the least split of a side, `right` or `left`, that of the least ring whose sum isn't kept;
     of a configuration, a Tail or its text, a preimage or the orphan in it; where it is None the orphan, if there is
-    one. `graph` has nothing beneath it. `flux` and `current` have these numbers at the nodes, and at the edges what they carry, by the weights that are given
-    or that a report has. ValueError where the rule has no such thing.
+    one. `graph` has nothing beneath it. `flux` and `current` have these numbers at the nodes, and at the edges what they
+    carry, by the weights that are given or that a report has. ValueError where the rule has no such thing.
 
     With `steps` it is what comes of a configuration instead: a row for each step, downwards, of the cells that are named, or of
     as many as change."""
@@ -109,8 +109,8 @@ def after_steps(rule: Rule, show: str | Tail | None, count: int, cells: range | 
                 canvas.box(MARGIN + at * CELL, MARGIN + place * CELL, long * CELL, CELL, DARK,
                            strength=int(letter, 16) / (rule.states - 1))
             at += long
-    canvas.text(MARGIN, MARGIN + len(rows) * CELL + 18, f"cells {seen.start} to {seen.stop - 1}, a row for each step", anchor="start",
-                color=GREY)
+    said = f"cells {seen.start} to {seen.stop - 1}, a row for each step"
+    canvas.text(MARGIN, MARGIN + len(rows) * CELL + 18, said, anchor="start", color=GREY)
     return canvas.svg()
 
 
@@ -295,7 +295,8 @@ def draw_table(canvas: Canvas, graph: Graph, walks: list[list[Edge]], numbers: N
         y = top + high * node
         if node % 2 == 0:
             canvas.box(left - 50, y, wide * graph.states + 50, high, SHADE)
-        canvas.text(left - 14, y + 16, graph.name(node) + (f": {numbers.at_nodes[node]}" if numbers else ""), anchor="end", bold=True)
+        number = f": {numbers.at_nodes[node]}" if numbers else ""
+        canvas.text(left - 14, y + 16, graph.name(node) + number, anchor="end", bold=True)
         for letter in range(graph.states):
             edge = graph.edge(node, letter)
             with canvas.titled(graph.said(edge)):

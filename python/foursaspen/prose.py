@@ -65,7 +65,8 @@ def part(name: str, blocks: list[str], pictures: dict[str, str]) -> Iterator[str
 
 
 def table(rows: list[str]) -> str:
-    heads, *lines = [[inline(cell.strip()) for cell in re.split(r"(?<!\\)\|", row)[1:-1]] for row in rows if not set(row) <= set("|- ")]
+    cells = [re.split(r"(?<!\\)\|", row)[1:-1] for row in rows if not set(row) <= set("|- ")]
+    heads, *lines = [[inline(cell.strip()) for cell in row] for row in cells]
     head = "".join(f"<th scope=col>{cell}</th>" for cell in heads)
     body = "".join(f"<tr>{''.join(f'<td>{cell}</td>' for cell in line)}</tr>" for line in lines)
     return f"<div class=scroll><table><tr>{head}</tr>{body}</table></div>"

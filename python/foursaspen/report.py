@@ -201,10 +201,10 @@ class Report(Answer):
     def text(self) -> str:
         return "".join([
             line("rule", self.rule), line("number", "none" if self.number is None else self.number),
-            verdict("surjective", True) if self.orphan is None else verdict("surjective", False, "orphan", self.orphan),
-            verdict("injective", True, "window", self.window) if self.injective else verdict("injective", False, "twins", self.twins),
+            verdict("surjective", self.surjective, *(() if self.orphan is None else ("orphan", self.orphan))),
+            verdict("injective", self.injective, *(("window", self.window) if self.injective else ("twins", self.twins))),
             self.right._line("right"), self.left._line("left"), verdict("open", self.open),
-            verdict("conserving", False, "ring", self.ring) if self.flux is None else verdict("conserving", True, "flux", *self.flux)])
+            verdict("conserving", self.conserving, *(("ring", self.ring) if self.flux is None else ("flux", *self.flux)))])
 
     @property
     def current(self) -> tuple[int, ...] | None:

@@ -24,8 +24,8 @@ DRAWN = re.compile(r"foursaspen picture (\S+)(?: (\S+))? > docs/(\S+)")
 
 def site(folder: str | os.PathLike[str], states: SupportsIndex = 2, width: SupportsIndex = 3, *,
          found: Iterable[RuleLike] | None = None, told: Told | None = None) -> int:
-    """Writes the site of a shape into a folder, or that of the rules of a list, and gives the number of its pages. index.html is the
-    atlas, and evidence.html explains the words. `told` is called with how far it is. UsageError where there are more than 4,096
+    """Writes the site of a shape into a folder, or that of the rules of a list, and gives the number of its pages. index.html
+    is the atlas, and evidence.html explains the words. `told` is called with how far it is. UsageError where there are more than 4,096
     classes."""
     if found is None:
         k, m, _, _ = numbered(states, width, 0, 1)

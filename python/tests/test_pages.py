@@ -235,8 +235,8 @@ class Clicks(unittest.TestCase):
         get = self.browser.get
         get("(it => it.scrollTop = 1500)(document.querySelector('.scroll'))")
         get("new Promise(done => setTimeout(done, 50))")
-        box = get("[document.querySelector('#head th').getBoundingClientRect().top, document.querySelector('.scroll').getBoundingClientRect().top]")
-        self.assertLess(abs(box[0] - box[1]), 2)
+        places = get("['#head th', '.scroll'].map(name => document.querySelector(name).getBoundingClientRect().top)")
+        self.assertLess(abs(places[0] - places[1]), 2)
 
     def test_the_keyboard(self) -> None:
         self.browser.open(self.file("small.html", ca.atlas(2, 2)))

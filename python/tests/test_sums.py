@@ -119,8 +119,10 @@ class Sums(unittest.TestCase):
             words = ["".join(word) for word in itertools.product("0123456789abcdef"[:rule.states], repeat=letters)]
             for row in (*ca.kept_sums(rule, letters).rows, {words[-1]: 1}):
                 told = judge.flux([row.get(word, 0) for word in words], letters)
-                found = ca.flux(rule, row)
-                self.assertEqual(None if found is None else sum(abs(number) for number in found.values()), None if told is None else sum(map(abs, told)))
+                numbers = ["".join(word) for word in
+                           itertools.product("0123456789abcdef"[:rule.states], repeat=rule.width + letters - 2)]
+                wanted = None if told is None else {word: number for word, number in zip(numbers, told) if number}
+                self.assertEqual(ca.flux(rule, row), wanted)
 
     def test_answers_are_values(self) -> None:
         kept = ca.kept_sums(14, 2)
@@ -139,9 +141,11 @@ class Sums(unittest.TestCase):
             known = ca.kept_sums(rule, letters)
             self.assertEqual(judged(text), (0, f"accepted {known.rule} range {letters} rows {len(known.rows)} rings {len(known.rings)}\n"))
         good = ca.kept_sums(14, 2).as_dict()
-        changes: list[tuple[dict[str, Any], str]] = [({"rows": [{"10": 2}]}, "refused row 2 doesn't begin as it should"), ({"rows": [{"11": 1}], "rings": {"10": "1"}}, "refused "),
-                             ({"rings": {"11": "01"}}, "refused "), ({"rows": []}, "refused places"), ({"range": 9}, "refused format"),
-                             ({"fluxes": [{"100": -1}]}, "refused flux of the row 10"), ({"rule": "2:3"}, "refused format")]
+        changes: list[tuple[dict[str, Any], str]] = [
+            ({"rows": [{"10": 2}]}, "refused row 2 doesn't begin as it should"), ({"rule": "2:3"}, "refused format"),
+            ({"rows": [{"11": 1}], "rings": {"10": "1"}}, "refused "), ({"rings": {"11": "01"}}, "refused "),
+            ({"rows": []}, "refused places"), ({"range": 9}, "refused format"),
+            ({"fluxes": [{"100": -1}]}, "refused flux of the row 10")]
         for change, said in changes:
             code, line = judged(json.dumps({**good, **change}))
             self.assertEqual((code, line[:len(said)]), (1, said))
