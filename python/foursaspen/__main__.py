@@ -3,8 +3,8 @@
     python -m foursaspen decide RULE [WEIGHTS]        and every other command of docs/COMMANDS.md: the program's output and status
     python -m foursaspen check FILE                   whether the certificate in a file is accepted; - is the input
 
-    python -m foursaspen picture RULE [SHOW]          an SVG text; SHOW is graph, orphan, twins, right, left, flux, current, ring,
-                                                      or a configuration LEFT|MIDDLE|RIGHT; --weights 1,4 for the sums
+    python -m foursaspen picture RULE [SHOW]          an SVG text; SHOW is graph, orphan, erase, twins, right, left, flux,
+                                                      current, ring, or a configuration LEFT|MIDDLE|RIGHT; --weights 1,4 for the sums
     python -m foursaspen picture RULE CONFIGURATION --steps 40
                                                       what comes of a configuration, a row for each step
     python -m foursaspen dot RULE                     the graph in the language of graphviz

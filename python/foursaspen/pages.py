@@ -181,9 +181,10 @@ class Sections:
         if pair is None or not is_erasable(self.graph, pair):
             raise EvidenceError(f"the erasable pair doesn't fit the table of {self.report.rule}")
         walks = [self.graph.within(word) for word in (pair.first, pair.second)]
-        return steps(f"{code(pair.first)} and {code(pair.second)} begin and end alike and have one image: each may stand for "
-                     "the other everywhere", ("window of the first", "of the second", "letter of the image"),
-                     self.windows(*walks))
+        table = steps(f"{code(pair.first)} and {code(pair.second)} begin and end alike and have one image: each may stand for "
+                      "the other everywhere", ("window of the first", "of the second", "letter of the image"),
+                      self.windows(*walks))
+        return f"<p>So there is an {self.term('erasable pair')}, too.</p>{self.drawn('erase', len(pair.first))}{table}"
 
     def apart(self) -> str:
         pairs = sorted({(min(pair), max(pair)) for pair in reached(self.graph)})

@@ -7,7 +7,7 @@ from dataclasses import dataclass
 from itertools import groupby
 from typing import SupportsIndex
 
-from .commands import decide, preimage
+from .commands import decide, erase, preimage
 from .drawing import DARK, DASHES, FIRST, GREY, MARGIN, PAPER, SECOND, SHADE, WIDEST, Canvas, Picture
 from .faults import UsageError
 from .graphs import Edge, Graph
@@ -18,7 +18,7 @@ from .report import Gap, Report, Tail
 from .rule_values import DIGITS, Rule, RuleLike, refuse, rule_of, whole
 from .trellis import draw_reading, draw_walks
 
-SHOWN = ("graph", "orphan", "twins", "right", "left", "flux", "current", "ring")     # what a picture may show
+SHOWN = ("graph", "orphan", "erase", "twins", "right", "left", "flux", "current", "ring")     # what a picture may show
 DRAWN = 256                                     # windows of a picture, at most
 MOST_STEPS, MOST_CELLS, CELL = 1000, 1000, 6    # of a picture of many steps, and the size of a cell
 
@@ -167,7 +167,7 @@ def beneath(report: Report, show: str | Tail | None) -> Beneath:
         return None
     if show in ("flux", "current"):
         return numbers_of(report, show)
-    if show in ("twins", "right", "left", "ring"):
+    if show in ("twins", "erase", "right", "left", "ring"):
         return walks_of(report, show)
     if show not in ("orphan", None):
         raise ValueError(f"show is one of {', '.join(SHOWN)}, or a configuration LEFT|MIDDLE|RIGHT, and not {show!r}")
@@ -194,7 +194,14 @@ def numbers_of(report: Report, show: str) -> Numbers:
 
 
 def walks_of(report: Report, show: str) -> Walks:
-    """The walks of the twins, of a split or of a ring; ValueError where there are none."""
+    """The walks of the twins, of an erasable pair, of a split or of a ring; ValueError where there are none."""
+    if show == "erase":
+        pair = erase(report.rule)
+        if pair is None:
+            raise ValueError("the rule is surjective: it has no erasable pair")
+        heading = f"{pair.first} and {pair.second} may stand for each other everywhere: two walks that differ in them alone"
+        tails = [Tail(word[0], word, word[-1]) for word in (pair.first, pair.second)]
+        return Walks(heading, {"first": tails[0], "second": tails[1]}, seen_at(Graph(report.rule), range(len(pair.first))))
     if show == "ring":
         if not report.ring:
             raise ValueError("the rule is conserving: each ring keeps its sum")

@@ -101,7 +101,7 @@ class Pictures(unittest.TestCase):
             report = ca.decide(rule)
             for show in (None, *SHOWN):
                 with self.subTest(rule=rule, show=show):
-                    there = {None: True, "graph": True, "orphan": report.orphan, "twins": report.twins, "right": report.right.split,
+                    there = {None: True, "graph": True, "orphan": report.orphan, "erase": report.orphan, "twins": report.twins, "right": report.right.split,
                              "left": report.left.split, "flux": report.flux, "ring": report.ring,
                              "current": report.flux and 0 <= -report.rule.offset < report.rule.width}[show]
                     if not there:
@@ -153,6 +153,14 @@ class Cells(unittest.TestCase):
 
     def test_rule_184_moves_cars(self) -> None:
         self.assertEqual(rows_of(ca.picture(184, "twins")), {"first": "0011", "second": "0101", "image": "1010"})
+
+    def test_an_erasable_pair(self) -> None:
+        """The pair of rule 110 is that of docs/COMMANDS.md, and its two configurations share an image."""
+        rows = rows_of(ca.picture(110, "erase"))
+        self.assertEqual((rows["first"], rows["second"]), ("010110", "011010"))
+        for word in ("0|010110|0", "0|011010|0"):
+            self.assertEqual(rows["image"], image_at("2:3:-1:t01110110", word, range(6)))
+        self.assertRaises(ValueError, ca.picture, 90, "erase")
 
     def test_differing_cells_are_marked(self) -> None:
         fills = [part.get("fill") for part in tree.fromstring(ca.picture(184, "twins")).iter(f"{SVG}rect")]
