@@ -18,7 +18,7 @@ from .faults import UsageError
 from .pages import STYLE
 from .relations import RuleClass, classes_in
 from .report import Closing, Report
-from .rule_values import Rule, RuleLike, of_number, rule_of
+from .rule_values import Rule, RuleLike, of_number, refuse, rule_of
 from .sums import kept_sums, ranges
 
 HEAD = ("least", "members", "surjective", "orphan", "injective", "window", "twins", "right", "right evidence", "left",
@@ -52,6 +52,8 @@ def name(rule: Rule) -> str:
 def atlas(states: SupportsIndex = 2, width: SupportsIndex = 3, form: str = "html") -> str:
     """The atlas of a shape as a text: a page to sort and filter, `csv`, or of the elementary rules `markdown`, which is
     docs/ELEMENTARY.md."""
+    if not isinstance(form, str):
+        raise refuse("form is", f"one of {', '.join(FORMS)}", form)
     if form not in FORMS:
         raise UsageError(f"form is one of {', '.join(FORMS)}, and not {form!r}")
     k, m, _, _ = numbered(states, width, 0, 1)

@@ -3,6 +3,7 @@ from __future__ import annotations
 
 import io
 import tempfile
+import types
 import unittest
 from collections.abc import Callable
 from pathlib import Path
@@ -130,6 +131,10 @@ MISTAKES: Wrong = [
 ]
 
 
+class Nothing:
+    """What is no operand of anything."""
+
+
 class Index:
     """A whole number of another library."""
 
@@ -152,6 +157,30 @@ class Operands(unittest.TestCase):
             for asked, kind, said in MISTAKES:
                 if not said.startswith("word "):    # of an answer of the library
                     self.assertRaises(kind, asked)
+
+    def test_what_is_of_a_wrong_type_is_a_type_error(self) -> None:
+        """Each public call, with something else in the place of each of its operands in turn."""
+        tail = ca.Tail("0", "1", "0")
+        calls: list[tuple[Any, tuple[Any, ...]]] = [
+            (ca.decide, (110, [0, 1])), (ca.certify, (110, [0, 1])), (ca.brief, (110, [0, 1])), (ca.orphan, (110,)), (ca.number, (110,)),
+            (ca.check, ("{}",)), (ca.language, (110,)), (ca.same, (110, 90)), (ca.preimage, (110, tail)), (ca.erase, (110,)),
+            (ca.inverse, (170,)), (ca.compose, (110, 90)), (ca.trim, (110,)), (ca.widen, (110, 4)), (ca.shift, (110, 1)),
+            (ca.reflect, (110,)), (ca.permute, (110, [1, 0])), (ca.least, (110,)), (ca.lift, (110,)), (ca.unlift, (110,)),
+            (ca.survey, (2, 2, 0, 16)), (ca.sample, (2, 2, 0, 16)), (ca.classes, (2, 2, 0, 16)), (ca.run, (["number", "110"], b"")),
+            (ca.verdicts, (2, 2, [0, 1, 1, 0])), (ca.verdict_bytes, (2, 2, 0, 16)), (ca.kept_sums, (110, 1)), (ca.flux, (14, {"10": 1})),
+            (ca.keeps, (14, {"10": 1})), (ca.picture, (110, "orphan", [0, 1])), (ca.windows, (110,)), (ca.page, (110, [0, 1])),
+            (ca.to_dot, (110,)), (ca.class_of, (110,)), (ca.is_involution, (110,)), (ca.order, (110, 3)), (ca.as_dict, (110,)),
+            (ca.image, (110, "010")), (ca.rules, ("open", 2, 2, 0, "0")), (ca.survey_over, (None, 2, 2)), (ca.Rule, (110,)),
+            (ca.Rule.totalistic, (2, 3, 10, -1)), (ca.Rule.from_wolfram, ("0110", 2, 0)), (ca.Tail, ("0", "1", "0")),
+            (ca.Tail.of, ("0|1|0",)), (ca.language(110).class_of, ("0",)), (ca.atlas, (2, 2, "csv")), (ca.site, ("/nowhere/site", 2, 2))]
+        known = {getattr(one, "__name__", "") for one, _ in calls}
+        functions = {name for name in ca.__all__ if isinstance(getattr(ca, name), types.FunctionType)}
+        self.assertEqual(functions - known, {"keep_freed_memory", "to_networkx"})
+        for call, operands in calls:
+            for place in range(len(operands)):
+                with self.subTest(call=call, place=place), self.assertRaises(TypeError) as raised:
+                    call(*operands[:place], Nothing(), *operands[place + 1:])
+                self.assertRegex(str(raised.exception), "Nothing$")
 
     def test_what_has_a_rule_is_a_rule(self) -> None:
         shift = "2:2:0:t0101"
