@@ -52,6 +52,16 @@ may_be() {
     esac
 }
 
+# tell_operands COMMAND OPERANDS: what each of them may be, a line for each.
+tell_operands() {
+    local all=() one last=
+    read -ra all <<<"$2"
+    for one in ${all[@]+"${all[@]}"}; do
+        [ "$one" = "$last" ] || echo "${one//[][]/} is $(may_be "$1" "$one")"
+        last=$one
+    done
+}
+
 # fits COMMAND OPERAND WORD: whether the word has the form of the operand. A rule may be any word here.
 fits() {
     local LC_ALL=C weight='([01]?[0-9]{1,2}|2[0-4][0-9]|25[0-5])' padded
@@ -72,16 +82,17 @@ fits() {
 
 # no_command WORD: says that the word is no command, and what may be meant.
 no_command() {
-    local meant=
+    local meant= word=${1,,}
     case $1 in
     -*) echo "there are no options, and \`$1\` is no command" ;;
     *) echo "there is no command \`$1\`" ;;
     esac
-    case ${1,,} in
+    case $word in
     rules | list | lists) echo "./rules PROPERTY BEGIN lists all rules of a shape" ;;
     surjective | injective | bijective | reversible | invertible | open | closing | conserving | report) meant=decide ;;
     [0-9]*) meant=decide ;;
-    ???*) meant=$(forms | sed -n "s/^ *\.\/ca \(${1,,}[a-z]*\) .*/\1/p" 2>/dev/null | sed -n 1p) ;;
+    *[!a-z]* | ? | ??) ;;
+    *) meant=$(forms | sed -n "s/^ *\.\/ca \($word[a-z]*\) .*/\1/p" | sed -n 1p) ;;
     esac
     if [ -n "$meant" ]; then
         echo "is it $meant?"
@@ -102,7 +113,7 @@ usage_fault() {
         [[ " $*" != *' --'* ]] || echo "there are no options"
         echo "after $name comes ${all[*]:-no word}, and not ${*:-nothing}"
         [ "$name" != check ] || echo "check reads standard input: ./ca check < FILE"
-        for one in $(printf '%s\n' ${all[@]+"${all[@]}"} | uniq); do echo "${one//[][]/} is $(may_be "$name" "$one")"; done
+        tell_operands "$name" "${all[*]-}"
         return 0
     fi
     for word; do
@@ -255,9 +266,10 @@ explained() {
 
 # page COMMAND: its form, what its operands may be, and its part of docs/COMMANDS.md.
 page() {
-    local one line inside=
+    local line inside=
     form "$1"
-    for one in $(operands "$1" | tr ' ' '\n' | uniq); do echo "${one//[][]/} is $(may_be "$1" "$one")."; done
+    tell_operands "$1" "$(operands "$1")"
+    echo
     while IFS= read -r line; do
         case $line in
         "## $1" | "## $1 "*) inside=yes ;;
@@ -270,7 +282,7 @@ page() {
 # give_help WORD..: where there are no words or they ask for help, says on standard error what they ask for, gives the program's
 # answer to them and ends. It returns if it would have to judge a rule for that answer.
 give_help() {
-    local word name=
+    local word name= place=2
     [ $# = 0 ] || asks_help "$@" || return
     for word; do [ -n "$name" ] || ! is_command "$word" || name=$word; done
     if [ -n "$name" ]; then
@@ -286,7 +298,7 @@ give_help() {
     fi
     # --help stands in the place of a rule. A number of an elementary rule before it is accepted.
     if [ "$2" = --help ] || [[ $2 =~ ^0{0,30}([0-9]{1,3})$ && 10#${BASH_REMATCH[1]} -le 255 ]]; then
-        [ "$2" = --help ] && place=1 || place=2
+        [ "$2" != --help ] || place=1
         printf 'rule fault %s form 0\n' "$place" 2>/dev/null || exit 7
         exit 3
     fi
@@ -295,7 +307,6 @@ give_help() {
 # give_lists_help WORD..: where there are no words, says on standard error how ./rules is called, gives the program's answer
 # and ends; where they ask for help, prints the beginning of docs/LISTS.md and ends.
 give_lists_help() {
-    local one
     if asks_help "$@"; then
         sed -n '/^## The order$/q; p' "$top/docs/LISTS.md" | plain || exit 70
         exit 0
@@ -303,7 +314,7 @@ give_lists_help() {
     [ $# = 0 ] || return 0
     {
         echo 'usage: ./rules PROPERTY BEGIN; ./rules --help says more'
-        for one in PROPERTY BEGIN; do echo "    $one is $(may_be ./rules "$one")"; done
+        tell_operands ./rules 'PROPERTY BEGIN'
     } >&2
     printf 'usage error\n' 2>/dev/null || exit 7
     exit 2

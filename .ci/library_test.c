@@ -645,6 +645,113 @@ static void test_flux(void)
        ca_flux(2, 3, cars, 8, 1, weights, numbers) == CA_FAULT_NONE && numbers[3] == -1);
 }
 
+/* The letters of a word, as digits. */
+static size_t letters_of(const char *digits, uint8_t *letters)
+{
+    size_t length = strlen(digits);
+    for (size_t at = 0; at < length; at++)
+        letters[at] = (uint8_t)(digits[at] - '0');
+    return length;
+}
+
+/* Whether the letters are these digits, and behind them nothing was written. */
+static bool are_letters(const uint8_t *letters, const char *digits, size_t room)
+{
+    uint8_t wanted[16];
+    size_t length = letters_of(digits, wanted);
+    return memcmp(letters, wanted, length) == 0 && is_kept(letters, length, room);
+}
+
+/* The table of an elementary rule. */
+static void table_of(int number, uint8_t *table)
+{
+    for (int window = 0; window < 8; window++)
+        table[window] = (uint8_t)(number >> window & 1);
+}
+
+/* Whether an elementary rule has this image of a ring, or of a word. */
+static bool has_ring_image(int number, const char *ring, const char *image)
+{
+    uint8_t table[8], letters[16], found[16];
+    size_t length = letters_of(ring, letters);
+    table_of(number, table);
+    memset(found, FILLING, sizeof found);
+    return ca_ring_image(2, 3, -1, table, 8, letters, length, found) == CA_FAULT_NONE
+        && are_letters(found, image, sizeof found);
+}
+
+static bool has_word_image(int number, const char *word, const char *image)
+{
+    uint8_t table[8], letters[16], found[16];
+    size_t length = letters_of(word, letters);
+    table_of(number, table);
+    memset(found, FILLING, sizeof found);
+    return ca_word_image(2, 3, table, 8, letters, length, found) == CA_FAULT_NONE
+        && are_letters(found, image, sizeof found);
+}
+
+/* A call of ca_image for an elementary rule, with the table and the parts as digits. */
+static uint8_t asked_image(uint8_t states, int8_t offset, const char *table, const char *left, const char *middle,
+                           const char *right, int64_t first, uint8_t *letters, size_t count)
+{
+    uint8_t windows[16], parts[3][16];
+    size_t size = letters_of(table, windows);
+    size_t lengths[3] = {letters_of(left, parts[0]), letters_of(middle, parts[1]), letters_of(right, parts[2])};
+    return ca_image(states, 3, offset, windows, size, parts[0], lengths[0], parts[1], lengths[1], parts[2], lengths[2],
+                    first, letters, count);
+}
+
+/* Whether a rule has these letters of the image of a configuration, from a place on. */
+static bool has_image(const char *table, const char *left, const char *middle, const char *right, int64_t first,
+                      const char *image)
+{
+    uint8_t found[16];
+    memset(found, FILLING, sizeof found);
+    return asked_image(2, -1, table, left, middle, right, first, found, strlen(image)) == CA_FAULT_NONE
+        && are_letters(found, image, sizeof found);
+}
+
+/* Whether a call has this fault, and writes nothing. */
+static bool has_no_image(uint8_t states, int8_t offset, const char *table, const char *left, const char *middle,
+                         const char *right, int64_t first, int fault)
+{
+    uint8_t found[16];
+    memset(found, FILLING, sizeof found);
+    return asked_image(states, offset, table, left, middle, right, first, found, 4) == fault
+        && is_kept(found, 0, sizeof found);
+}
+
+#define TABLE_110 "01110110"
+#define TABLE_204 "00110011"
+
+static void test_images(void)
+{
+    const int64_t far = (int64_t)1 << 61;
+    is("the image of a word", has_word_image(110, "01100", "110"));
+    is("the image of a word of one window", has_word_image(110, "101", "1"));
+    is("the image of a word without windows", has_word_image(110, "10", "") && has_word_image(110, "1", ""));
+    is("the image of a ring", has_ring_image(184, "0011", "1010"));
+    is("the image of the other ring of twins", has_ring_image(184, "0101", "1010"));
+    is("the image of a ring of one letter", has_ring_image(110, "1", "0"));
+    is("the image of a configuration", has_image(TABLE_110, "0", "1", "0", -2, "01100"));
+    is("a configuration, by the rule that copies it", has_image(TABLE_204, "011", "01", "0", -3, "011010"));
+    is("a configuration far to the left", has_image(TABLE_204, "011", "01", "0", -far, "110"));
+    is("a configuration far to the right", has_image(TABLE_204, "0", "", "011", far, "101"));
+    is("no letters of an image", has_image(TABLE_110, "0", "1", "0", 0, ""));
+    is("an image under no rule", has_no_image(1, -1, TABLE_110, "0", "1", "0", 0, CA_FAULT_STATES));
+    is("an image by an offset", has_no_image(2, -17, TABLE_110, "0", "1", "0", 0, CA_FAULT_OFFSET));
+    is("an image by seven windows", has_no_image(2, -1, "0111011", "0", "1", "0", 0, CA_FAULT_LENGTH));
+    is("an image by a letter of the table", has_no_image(2, -1, "01120110", "0", "1", "0", 0, CA_FAULT_LETTER));
+    is("an image without a left period", has_no_image(2, -1, TABLE_110, "", "2", "0", 0, CA_FAULT_PERIOD));
+    is("an image without a right period", has_no_image(2, -1, TABLE_110, "0", "1", "", 0, CA_FAULT_PERIOD));
+    is("an image of other letters on the left", has_no_image(2, -1, TABLE_110, "02", "1", "0", INT64_MIN, CA_FAULT_CELL));
+    is("an image of other letters", has_no_image(2, -1, TABLE_110, "0", "12", "0", 0, CA_FAULT_CELL));
+    is("an image of other letters on the right", has_no_image(2, -1, TABLE_110, "0", "1", "02", 0, CA_FAULT_CELL));
+    is("an image too far on the left", has_no_image(2, -1, TABLE_110, "0", "1", "0", -far - 1, CA_FAULT_PLACE));
+    is("an image at the first of all places", has_no_image(2, -1, TABLE_110, "0", "1", "0", INT64_MIN, CA_FAULT_PLACE));
+    is("an image too far on the right", has_no_image(2, -1, TABLE_110, "0", "1", "0", far + 1, CA_FAULT_PLACE));
+}
+
 /* A pointer may be NULL if the length beside it is 0. */
 static void test_null(void)
 {
@@ -669,6 +776,10 @@ static void test_null(void)
     is("ca_next_rule, NULL for the table",
        ca_next_rule(CA_BIT_OPEN, 2, 3, order, 8, NULL, 0, 0, NULL, 0) == CA_FAULT_LENGTH);
     is("ca_kept_sums, NULL", ca_kept_sums(2, 3, NULL, 0, 1, &(struct ca_kept_sums){0}) == CA_FAULT_LENGTH);
+    is("ca_image, NULL for the table",
+       ca_image(2, 3, -1, NULL, 0, table, 1, NULL, 0, table, 1, 0, order, 8) == CA_FAULT_LENGTH);
+    is("ca_image, NULL for the periods", ca_image(2, 3, -1, table, 8, NULL, 0, NULL, 0, NULL, 0, 0, NULL, 0) == CA_FAULT_PERIOD);
+    is("ca_image, NULL for the letters", ca_image(2, 3, -1, table, 8, table, 1, NULL, 0, table, 1, 0, NULL, 0) == CA_FAULT_NONE);
     is("ca_flux, NULL", ca_flux(2, 3, NULL, 0, 1, (int64_t[CA_MOST_WORDS]){0}, (int64_t[CA_MOST_FLUX]){0}) == CA_FAULT_LENGTH);
 }
 
@@ -676,7 +787,7 @@ static void test_null(void)
 static void test_fault_texts(void)
 {
     const char *none = ca_fault_text(255);
-    for (int fault = 0; fault <= CA_FAULT_WEIGHTS; fault++) {
+    for (int fault = 0; fault <= CA_FAULT_PLACE; fault++) {
         const bool there = fault != 9; /* no fault has this number */
         is("the text of a fault", there == (strcmp(ca_fault_text((uint8_t)fault), none) != 0));
         for (int other = 0; other < fault; other++)
@@ -764,6 +875,7 @@ int main(void)
     test_next_rule();
     test_kept_sums();
     test_flux();
+    test_images();
     test_null();
     test_fault_texts();
     test_small_stack();

@@ -69,7 +69,7 @@ enum ca_code {
     CA_SHORT = CA_CODE_SHORT
 };
 
-/* Why a call gives no verdicts, no report, no order, no rule, no sums or no flux: the first that holds. */
+/* Why a call gives no verdicts, no report, no order, no rule, no sums, no flux or no image: the first that holds. */
 enum ca_fault {
     CA_FAULT_NONE = 0,   /* it gives them */
     CA_FAULT_STATES = 1, /* there are not 2 to 16 states */
@@ -91,7 +91,11 @@ enum ca_fault {
     CA_FAULT_WEIGHT = 16, /* a weight is greater than 2^56, or less than its negative */
     CA_FAULT_LOST = 17,   /* the sum isn't kept */
 
-    CA_FAULT_WEIGHTS = 18 /* there isn't one weight for each letter */
+    CA_FAULT_WEIGHTS = 18, /* there isn't one weight for each letter */
+
+    CA_FAULT_PERIOD = 19, /* a period of the configuration has no letter */
+    CA_FAULT_CELL = 20,   /* a letter of the configuration is not below states */
+    CA_FAULT_PLACE = 21   /* first is not from -2^61 to 2^61, or there are to be more than 2^61 letters */
 };
 
 /* What a fault means, in English and without a full stop. */
@@ -116,6 +120,9 @@ static inline const char *ca_fault_text(uint8_t fault)
     case CA_FAULT_WEIGHT: return "each weight must be from -2^56 to 2^56";
     case CA_FAULT_LOST: return "the rule doesn't keep the sum";
     case CA_FAULT_WEIGHTS: return "there must be one weight for each letter";
+    case CA_FAULT_PERIOD: return "each period must have a letter";
+    case CA_FAULT_CELL: return "each letter of the configuration must be less than the number of states";
+    case CA_FAULT_PLACE: return "the first place must be from -2^61 to 2^61, with at most 2^61 letters";
     default: return "no fault has this number";
     }
 }
@@ -283,6 +290,45 @@ uint8_t ca_report(uint8_t states, uint8_t width, int8_t offset, const uint8_t *t
 #ifdef __cplusplus
 }
 #endif
+
+/*
+ * Applies a rule once to a configuration, writes letters of the image, and takes no memory: with it the evidence of a report
+ * can be checked by hand. The rule is that of ca_report.
+ *
+ * The configuration has the letters of middle from cell 0 on, the letters of right over and over to the right of them, and
+ * those of left over and over to the left. Letter i of letters is that of the image at cell first + i, as many as count says.
+ * The image of a periodic configuration is periodic too, so a caller who wants the image as a configuration asks for one period
+ * on each side, and between them for the cells whose windows meet the middle.
+ *
+ * It gives CA_FAULT_NONE, or CA_FAULT_STATES to CA_FAULT_LETTER, CA_FAULT_PERIOD, CA_FAULT_CELL or CA_FAULT_PLACE, the first that
+ * holds; letters is then as it was. It looks at each letter of the configuration once, and then at one window for each letter.
+ */
+uint8_t ca_image(uint8_t states, uint8_t width, int8_t offset, const uint8_t *table, size_t table_length,
+                 const uint8_t *left, size_t left_length, const uint8_t *middle, size_t middle_length,
+                 const uint8_t *right, size_t right_length, int64_t first, uint8_t *letters, size_t count);
+
+/*
+ * Writes the image of a ring by ca_image: ring_length letters, letter i that of the window of place i, counted round the ring.
+ * A ring is the configuration whose periods are the ring, without a middle.
+ */
+static inline uint8_t ca_ring_image(uint8_t states, uint8_t width, int8_t offset, const uint8_t *table,
+                                    size_t table_length, const uint8_t *ring, size_t ring_length, uint8_t *letters)
+{
+    return ca_image(states, width, offset, table, table_length, ring, ring_length, NULL, 0, ring, ring_length, 0,
+                    letters, ring_length);
+}
+
+/*
+ * Writes the image of a word by ca_image: width - 1 letters fewer than the word has, of its windows from the first one to the
+ * last. A word of fewer letters than that has an image without letters.
+ */
+static inline uint8_t ca_word_image(uint8_t states, uint8_t width, const uint8_t *table, size_t table_length,
+                                    const uint8_t *word, size_t word_length, uint8_t *letters)
+{
+    const uint8_t zero = 0;
+    return ca_image(states, width, 0, table, table_length, &zero, 1, word, word_length, &zero, 1, 0, letters,
+                    word_length < width ? 0 : word_length - width + 1);
+}
 
 /*
  * Decides the questions of many rules with consecutive numbers, and takes no memory.

@@ -5,3 +5,4 @@ pub mod RuleSums
 pub mod LetterRows
 pub mod ReportParts
 pub mod Reports
+pub mod Images

@@ -12,12 +12,15 @@
 //! | 1 to 9 | of many rules: besides these kind, number, form | [`number_of`] |
 //! | 14, 15 | of how many letters the words of a sum have: none, too many | [`range_number`] |
 //! | 18 | there isn't one weight for each letter | [`report_of_table`] |
+//! | 19 to 21 | of a configuration and of places: no period, no letter, out of reach | [`write_image`] |
 //!
 //! [`next_rule`] finds the rules of a shape, one a call; a property has the number of its bit in a byte of verdicts,
 //! which [`property_of`] reads. A report takes the time and the memory of `ca_answers::report`, and **O(n)** of both for n
-//! letters; nothing else here takes memory.
+//! letters; nothing else here takes memory. [`write_image`] writes n letters in time **O(n m)** for a rule of width m, and reads
+//! each letter of the configuration once more: a ring and a word are configurations too.
 #![tactic(auto)]
 
+mod images;
 mod letter_rows;
 mod next_rules;
 mod numbered_verdicts;
@@ -26,6 +29,7 @@ mod rule_reports;
 mod rule_sums;
 mod table_verdicts;
 
+pub use images::{Parts, image_of_ring, image_of_word, write_image};
 pub use letter_rows::{LetterRow, SplitRows, TailRows, TwinRows};
 pub use next_rules::{letters_of, next_rule, property_of, shape_rule, write_table};
 pub use numbered_verdicts::{joined, number_of};

@@ -12,12 +12,14 @@ ghost use Rattle.kept_sums.specs.Stages.{AreKeptSums};
 ghost use Rattle.c_values.specs.RuleSums.{sums_code, IsFluxCall};
 ghost use Rattle.c_values.specs.Verdicts.{AreNone, fault_code, rule_of_table, verdicts_about};
 ghost use Rattle.c_values.specs.NextRules.{IsNext, IsWindowOrder};
+ghost use Rattle.c_values.specs.Images.{IsImageCall};
 ghost use Rattle.c_values.specs.Reports.{IsReportCall, named_weights, rule_with};
+ghost use Rattle.tail_config.specs.TailValues.{config_of};
 
 use crate::calls::{Form, SHORT, hand_back, put};
 use c_values::{
-    RuleReport, RuleVerdicts, fault_number, joined, letters_of, next_rule, number_of, property_of,
-    range_number, report_of_table, shape_rule, write_table,
+    Parts, RuleReport, RuleVerdicts, fault_number, joined, letters_of, next_rule, number_of,
+    property_of, range_number, report_of_table, shape_rule, write_image, write_table,
 };
 use kept_sums::{Flux, KeptSums, Row, are_small, check_range, flux, kept_sums};
 use rule_lists::{is_order, write_order};
@@ -148,6 +150,35 @@ pub extern "C" fn ca_report(
             *length = 0;
             MEMORY
         }
+    }
+}
+
+/// Writes letters of the image of a configuration under the rule with these states, this width, this offset and this table:
+/// those at the places from `first` on, as many as the buffer has room for. The configuration has these periods, and the middle
+/// begins at place 0. It gives 0, or the number of the first fault, and then the buffer is as it was: of the rule, 19 where a
+/// period has no letter, 20 where a letter isn't below the states, 21 where a place is out of reach. It takes no memory.
+#[unsafe(no_mangle)]
+pub extern "C" fn ca_image(
+    states: u8,
+    width: u8,
+    offset: i8,
+    table: &[u8],
+    left: &[u8],
+    middle: &[u8],
+    right: &[u8],
+    first: i64,
+    letters: &mut [u8],
+) -> u8
+    ensures { IsImageCall (rule_with states width offset table.now) (config_of left.now middle.now right.now) first letters.old result letters.new }
+{
+    let parts = Parts {
+        left,
+        middle,
+        right,
+    };
+    match Rule::new(states, width, offset, table) {
+        Ok(rule) => write_image(&rule, &parts, first, letters),
+        Err(fault) => fault_number(fault),
     }
 }
 

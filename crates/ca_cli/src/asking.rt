@@ -31,6 +31,7 @@ pub fn question(alloc: Global, words: &[String]) -> Result<Question, Stop>
 }
 
 /// Returns the question that the words behind a name ask.
+#[tactic(auto, using(crate::proofs::laws::Asking::asking))]
 fn behind(alloc: Global, name: Name, rest: &[String]) -> Result<Question, Stop>
     requires { name ≡ names.Check → rest.now ≢ [] }
     ensures { MatchResult result (IsAskedBy (word_of name ∷ map string_bytes rest.now)) (IsStop (word_of name ∷ map string_bytes rest.now)) }

@@ -1,15 +1,15 @@
 //! Which sums a rule keeps.
-ghost use Rattle.std.specs.Prelude.{◌≡◌, ◌≢◌, ℕ, ◌+◌, ◌-◌, ◌*◌, ◌^◌, ◌<◌, ◌≤◌, length, take, set, true, pos, ◌<ℤ◌};
+ghost use Rattle.std.specs.Prelude.{◌≡◌, ◌≢◌, ℕ, ◌+◌, ◌-◌, ◌*◌, ◌^◌, ◌<◌, ◌≤◌, ◌⊎◌, List, length, take, set, All, true, pos};
 ghost use Rattle.word_image.specs.Rings.{IsRing};
 ghost use Rattle.kept_sums.specs.Rows.{IsUnit};
 ghost use Rattle.kept_sums.specs.Sums.{IsKept};
-ghost use Rattle.kept_sums.specs.Spans.{entry, gain_at, AreSmall, AreShort, IsNarrowed, FitNarrowed};
+ghost use Rattle.kept_sums.specs.Spans.{entry, AreSmall, IsNarrowed, IsLastGain, FitNarrowed};
 ghost use Rattle.kept_sums.specs.Stages.{IsStage, IsAfterRing, IsAfterRings, AreKeptSums};
 
 use crate::fluxes::is_kept;
-use crate::rings::{LONGEST, word_with, words};
+use crate::rings::{LONGEST, blocks, image_letters, word_with};
 use crate::rows::Row;
-use crate::steps::{Rows, in_order, last_gain, narrowed};
+use crate::steps::{Rows, last_gain, narrowed_by};
 use word_image::{MOST_STATES, Rule};
 
 /// What is found: a row of weights or a ring for each word that doesn't begin with the letter 0.
@@ -72,16 +72,17 @@ fn narrowed_by_ring(
     ensures { IsAfterRing rule.now range sums.now.rows (take count letters.now) result.rows result.counts result.rings }
 {
     let ring = &letters[..usize::from(count)];
-    let (after, before) = words(rule, range, ring);
+    let image = image_letters(rule, ring);
+    let before = blocks(rule.k(), range, ring);
+    let after = blocks(rule.k(), range, &image[..ring.len()]);
     let (after, before) = (&after[..ring.len()], &before[..ring.len()]);
     let Some(pivot) = last_gain(&sums.rows, after, before) else {
         return *sums;
     };
-    let (after, before) = in_order(&sums.rows[usize::from(pivot)], after, before);
     narrowed_at(sums, pivot, after, before, letters, count)
 }
 
-/// The sums with the rows that are crossed with one that gains more than nothing, and a ring noted in its place.
+/// The sums with the rows that are crossed with the last one that gains, and a ring noted in its place.
 fn narrowed_at(
     sums: &KeptSums,
     pivot: u8,
@@ -91,16 +92,19 @@ fn narrowed_at(
     count: u8,
 ) -> KeptSums
     requires small { AreSmall sums.now.rows }
-    requires words { AreShort after.now before.now }
-    requires pivot { pivot < 16 }
-    requires gains { pos 0 <ℤ gain_at (entry sums.now.rows pivot) after.now before.now }
+    requires after { All (λ a. a < 16) after.now }
+    requires before { All (λ a. a < 16) before.now }
+    requires few_after { length after.now ≤ 16 }
+    requires few_before { length before.now ≤ 16 }
+    requires last { IsLastGain sums.now.rows after.now before.now pivot }
     requires fits { FitNarrowed sums.now.rows after.now before.now pivot }
-    ensures narrowed { IsNarrowed sums.now.rows after.now before.now pivot result.rows }
+    requires turned { FitNarrowed sums.now.rows before.now after.now pivot }
+    ensures narrowed { IsNarrowed sums.now.rows after.now before.now pivot result.rows ⊎ IsNarrowed sums.now.rows before.now after.now pivot result.rows }
     ensures small { AreSmall result.rows }
     ensures counts { result.counts ≡ set sums.now.counts pivot count }
     ensures rings { result.rings ≡ set sums.now.rings pivot letters.now }
 {
-    let rows = narrowed(&sums.rows, pivot, after, before);
+    let rows = narrowed_by(&sums.rows, pivot, after, before);
     noted(sums, rows, pivot, letters, count)
 }
 

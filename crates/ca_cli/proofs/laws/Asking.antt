@@ -1,10 +1,9 @@
 -- What comes of words, once their operands are read.
-use Rattle.std.proofs.Common.{◌≡◌, ℕ, List, [], ◌∷◌, ◌++◌, length, refl, sym, ap, subst, ◌∙◌, Result, Ok, Err, IsErrAnd, MatchResult}
+use Rattle.std.proofs.Common.{◌≡◌, ℕ, List, [], ◌∷◌, ◌++◌, length, sym, ap, subst, ◌∙◌, Result, Ok, Err, IsErrAnd, MatchResult}
 use Rattle.word_image.proofs.Common.{err_from_is_err_and, LocalRule}
-use Rattle.rule_text.specs.declared.text_fault.TextFault.{TextFault}
-use Rattle.rule_text.specs.RuleTexts.{IsRuleText, IsTextFault}
+use Rattle.rule_text.specs.RuleTexts.{IsRuleText}
 use Rattle.ca_words.specs.declared.names.Name.{Name}
-use Rattle.ca_words.specs.Commands.{AreOperands, Command, IsCommand, form_of, rule_count, word_of}
+use Rattle.ca_words.specs.Commands.{AreOperands, IsCommand, form_of, rule_count, word_of}
 use Rattle.ca_findings.proofs.Common.{Question}
 use Rattle.ca_findings.specs.declared.found.Found.{Found}
 use Rattle.ca_findings.specs.declared.found.Stop.{Stop}
@@ -67,3 +66,6 @@ pub only_rule : (n : Name) {rest : List (List ℕ)} {text : List ℕ} (result : 
     → MatchResult result (IsRuleText text) (IsRuleFault 1 text) → MatchResult result (λ r. IsCall (word_of n ∷ rest) n (r ∷ []) []) (IsStop (word_of n ∷ rest))
 only_rule n (Ok r) same one are says = read_one n same one are says
 only_rule n (Err s) same one are refusal = first_refused n [] [] same (sym one) are refusal
+
+-- the questions of commands that take rules and nothing else, and why such a command asks none
+pub ruleset asking = (asks, failed, Asks.Orphan, Asks.Number, Asks.Reflect, Asks.Trim, Asks.Compose, Asks.Least, Asks.Lift, Asks.Unlift, Asks.Inverse, Asks.Language, Asks.Same, Asks.Erase)

@@ -2,7 +2,6 @@ use Rattle.std.proofs.Common.{refl}
 use Rattle.word_image.proofs.Common.{IfOk-weaker}
 use Rattle.ca_words.specs.Commands.{check_command}
 use Rattle.ca_cli.specs.RightAnswers.{IsReplyTo}
-use Rattle.ca_cli.proofs.laws.Inputs.{nothing_read}
 use Rattle.ca_cli.proofs.replies.reply.Goals as goal
 
 pub returns-then-is_check-clause-reply : goal.returns-then-is_check-clause-reply
