@@ -2,7 +2,7 @@
 
 WORDS has command lines: of each how many words it has, and the words, each of all these with a 0 byte after it. The lines
 are those of docs/COMMANDS.md and docs/CERTIFICATES.md, and the form is that of docs/ANSWERS.md; what is written here knows
-neither the package nor the library.
+neither the package nor the library. The texts of the package's own answers and exceptions are held beside those too.
 """
 import json
 import operator
@@ -13,6 +13,8 @@ from itertools import chain
 from pathlib import Path
 
 import listed
+from foursaspen import report as answers
+from foursaspen.faults import KINDS as FAULTS
 from foursaspen.library import Library, place
 
 DOCS = Path(__file__).resolve().parents[1] / "docs"
@@ -131,6 +133,30 @@ STATUSES = {
 }
 
 
+# The package
+
+# What it makes of a finding, where that is more than a word or a number.
+MADE = {
+    "report": answers.Report._of, "automaton": answers.Language._of, "inverse": answers.Inverse._of,
+    "certificate": answers.Certificate._of, "same": answers.Same,
+}
+
+
+def of_package(reply, code):
+    """The text of the package's answer, or what its exception says that the program prints; None where it has a plain value."""
+    if code:
+        return FAULTS[code]._of(reply).output
+    if "verdicts" in reply:
+        return str(answers.Verdicts._of(reply["verdicts"]))
+    finding = reply["finding"]
+    if "summary" in finding:
+        counts = answers.Summary(**finding["summary"])
+        return str(answers.ClassSummary(counts, finding["classes"]) if "classes" in finding else counts)
+    if "preimage" in finding or "gap" in finding:
+        return str(answers.preimage_of(finding))
+    return next((str(MADE[name](value)) for name, value in finding.items() if name in MADE), None)
+
+
 # Calls
 
 def written(file):
@@ -219,6 +245,9 @@ def wrong(words, text, form):
     status, made = STATUSES[reply["status"]]
     if (form.code, made(reply)) != (status, text.output.decode()) or text.code != status:
         yield f"the status {form.code} and the text {made(reply)!r}, and not {text.code} and {text.output.decode()!r}"
+    own = of_package(reply, form.code)
+    if own not in (None, text.output.decode()):
+        yield f"the package says {own!r}, and not {text.output.decode()!r}"
     if json.dumps(reply, separators=(",", ":"), sort_keys=True) != form.output.decode():
         yield "it has blanks, a key twice, or keys out of order"
     if "report" in reply.get("finding", {}) and operator.ne(*weights(words, reply)):

@@ -1,11 +1,31 @@
+#!/usr/bin/env python3
 """Judges what is said to be all the sums that a rule keeps, from the rule's table alone. It stands on docs/SUMS.md and on
 nothing of the library.
 
+    python3 sums.py < kept.json
+
+reads what `python -m foursaspen kept RULE RANGE --json` writes, and says `accepted` or why it is refused. The exit status is 0
+where it is accepted, 1 where it is refused, and 70 where the call is another one.
+
 Weights are a list, one for each word of `letters` letters, by the word's value. Ranks are taken over fractions.
 """
+import json
+import re
+import sys
 from fractions import Fraction
 from itertools import product
 from math import gcd
+
+HEX = "0123456789abcdef"
+
+
+class Refused(Exception):
+    """What is read is refused with these words."""
+
+
+def need(holds, *words):
+    if not holds:
+        raise Refused(" ".join(words))
 
 
 class Rule:
@@ -99,3 +119,77 @@ def dimension(rule, letters, longest):
     conditions = [rule.condition(ring, letters) for count in range(1, longest + 1) for ring in rule.words(count)]
     trivial = rule.states ** (letters - 1)
     return rule.states ** letters - trivial - rank([list(row) for row in set(map(tuple, conditions))])
+
+
+# What is read
+
+def read_rule(text):
+    form = re.fullmatch("([0-9]{1,2}):([0-9]{1,2}):-?[0-9]{1,2}:t([0-9a-f]+)", text) if type(text) is str else None
+    need(form, "format rule")
+    states, width = int(form[1]), int(form[2])
+    need(2 <= states <= 16 and 2 <= width <= 5 and states ** (width - 1) <= 16 and len(form[3]) == states ** width, "format rule")
+    table = [HEX.index(digit) for digit in form[3]]
+    need(max(table) < states, "format rule")
+    return Rule(states, width, table)
+
+
+def read_word(rule, word, letters=None):
+    """The letters of a word."""
+    need(type(word) is str and letters in (None, len(word)) and word and set(word) <= set(HEX[:rule.states]), "format word")
+    return [HEX.index(digit) for digit in word]
+
+
+def read_numbers(rule, numbers, letters):
+    """The numbers of the words of so many letters, by their values; those that aren't named are 0."""
+    need(type(numbers) is dict and all(type(number) is int for number in numbers.values()), "format numbers")
+    read = [0] * rule.states ** letters
+    for word, number in numbers.items():
+        read[rule.value(read_word(rule, word, letters))] = number
+    return read
+
+
+def judge(text):
+    """The line that accepts a text; Refused where it is none that is accepted."""
+    try:
+        given = json.loads(text)
+    except ValueError:
+        raise Refused("format") from None
+    need(type(given) is dict and set(given) in ({"rule", "range", "rows", "rings"}, {"rule", "range", "rows", "rings", "fluxes"}), "format")
+    rule, letters = read_rule(given["rule"]), given["range"]
+    need(type(letters) is int and letters >= 1 and rule.states ** letters <= 16, "format range")
+    need(type(given["rows"]) is list and type(given["rings"]) is dict, "format")
+    rows = [read_numbers(rule, row, letters) for row in given["rows"]]
+    need(all(map(any, rows)), "format row")
+    placed = {next(place for place, number in enumerate(row) if number): row for row in rows}
+    need(len(placed) == len(rows), "places")
+    rings = {rule.value(read_word(rule, word, letters)): read_word(rule, ring) for word, ring in given["rings"].items()}
+    wrong = fault(rule, letters, placed, rings)
+    need(wrong is None, wrong or "")
+    fluxes = given.get("fluxes")
+    need(fluxes is None or type(fluxes) is list and len(fluxes) == len(rows), "format fluxes")
+    for row, numbers in zip(rows, fluxes or []):
+        flux = read_numbers(rule, numbers, rule.width + letters - 2)
+        need(rule.is_flux(row, letters, flux), f"flux of the row {name(rule, letters, row)}")
+    return f"accepted {given['rule']} range {letters} rows {len(rows)} rings {len(rings)}"
+
+
+def name(rule, letters, row):
+    """The word at which a row begins."""
+    place = next(place for place, number in enumerate(row) if number)
+    return "".join(HEX[place // rule.states ** at % rule.states] for at in reversed(range(letters)))
+
+
+def main(words):
+    if words:
+        print("usage: python3 sums.py < kept.json", file=sys.stderr)
+        return 70
+    try:
+        line, status = judge(sys.stdin.read()), 0
+    except Refused as refusal:
+        line, status = f"refused {refusal}", 1
+    print(line)
+    return status
+
+
+if __name__ == "__main__":
+    sys.exit(main(sys.argv[1:]))

@@ -28,7 +28,8 @@ def build_wheel(folder: str, config_settings: Any = None, metadata_directory: st
     library = place().read_bytes()
     files = {f"foursaspen/{file.name}": file.read_bytes() for file in sorted((HERE / "foursaspen").iterdir())
              if file.is_file() and file.name != NAME}
-    return write(Path(folder), {**files, f"foursaspen/{NAME}": library}, tag_of(library))
+    words = (HERE.parent / "docs" / "EVIDENCE.md").read_bytes()   # which pages show
+    return write(Path(folder), {**files, "foursaspen/EVIDENCE.md": words, f"foursaspen/{NAME}": library}, tag_of(library))
 
 
 def build_editable(folder: str, config_settings: Any = None, metadata_directory: str | None = None) -> str:

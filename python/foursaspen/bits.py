@@ -8,13 +8,11 @@ from typing import SupportsIndex
 
 from .faults import RuleError
 from .library import library
-from .operands import shape, whole
+from .operands import shape
+from .rule_values import items, look_at, look_at_number, needs, whole
 
 PART = 1 << 20                                  # rules of one call of the library: a second at most
 MOST_NUMBERS = 1 << 128                         # a number of a rule is below this
-
-# Of enum ca_fault what can come: states, widths and letters have been looked at before.
-FAULTS = {3: "nodes", 5: "length", 7: "kind", 8: "number"}
 
 
 class Bit(IntFlag):
@@ -31,10 +29,18 @@ def verdicts(states: SupportsIndex, width: SupportsIndex, table: Iterable[Suppor
     """What holds of the rule with this table, at offset 0: the letter of each window, in the order of the windows'
     values. Neither a text nor evidence is made, so it takes some microseconds."""
     states, width = shape(states, width)
-    letters = bytes(whole("a letter is", letter, 0, states - 1) for letter in table)
+    given = items("table is", "a list of letters, one for each window", table)
+    letters = bytes(whole("a letter is", letter, 0, states - 1) for letter in given)
+    look_at(states, width, 0)
+    if len(letters) != states ** width:
+        raise RuleError(1, "length", found=needs(len(letters), "letter", states ** width))
+    return of_table(states, width, letters)
+
+
+def of_table(states: int, width: int, letters: bytes) -> Bit:
+    """What holds of the rule with a table that is one."""
     found = library().verdicts(states, width, letters)
-    if found.fault:
-        raise RuleError(1, FAULTS[found.fault])
+    assert not found.fault, found.fault
     held = (found.surjective, found.injective, found.right, found.left, found.is_open, found.conserving)
     return Bit(sum(1 << place for place, holds in enumerate(held) if holds))
 
@@ -50,18 +56,10 @@ def verdict_bytes(states: SupportsIndex, width: SupportsIndex, first: SupportsIn
     count = whole("count is", count, 0, MOST_NUMBERS)
     if count == 0:
         return b""
-    look_at(states, width, first + count - 1)
+    look_at_number(states, width, first + count - 1)
     written = bytearray(count)
     for start in range(0, count, PART):
         room = (ctypes.c_char * min(PART, count - start)).from_buffer(written, start)
-        library().verdict_bytes(states, width, first + start, room)
+        fault = library().verdict_bytes(states, width, first + start, room)
+        assert not fault, fault
     return bytes(written)
-
-
-def look_at(states: int, width: int, last: int) -> None:
-    """A fault where the last number has no rule of this shape. Two rules from the greatest number of 128 bits on stand
-    for what is past it."""
-    room = ctypes.create_string_buffer(1 if last < MOST_NUMBERS else 2)
-    fault = library().verdict_bytes(states, width, min(last, MOST_NUMBERS - 1), room)
-    if fault:
-        raise RuleError(1, FAULTS[fault])

@@ -1,6 +1,6 @@
 """One function for each command of docs/COMMANDS.md, which says what each answers.
 
-A rule is a text, as `"2:3:-1:t01110110"`, the number of an elementary rule, or an answer that has a rule. Whatever the
+A rule is a Rule, a text, as `"2:3:-1:t01110110"`, the number of an elementary rule, or an answer that has a rule. Whatever the
 program answers with a status other than Done is an exception of foursaspen.faults.
 """
 from __future__ import annotations
@@ -8,170 +8,194 @@ from __future__ import annotations
 from collections.abc import Iterable
 from typing import Any, SupportsIndex
 
-from .calls import Call
+from .calls import finding, reply
+from .faults import NotFitError
 from .library import Outcome, library
-from .operands import (MOST, Rule, Text, Weights, certificate_bytes, digits_text, refuse, rule_text, shape, tail_text,
-                       weights_text, whole)
+from .operands import (MOST, CertificateLike, Letters, Weights, certificate_bytes, digits_text, own_weights, shape, tail_of,
+                       weight_numbers, weights_of, weights_word)
 from .report import (Certificate, ClassSummary, Gap, Inverse, Language, Pair, Preimage, Report, Same, Summary, Tail,
                      Verdicts, preimage_of)
+from .rule_values import Rule, RuleLike, items, look_at, look_at_number, refuse, rule_of, whole
 
 
 def run(words: Iterable[str], data: bytes = b"") -> Outcome:
     """The program's exit status and output on a command line and an input, whatever they are."""
-    if isinstance(words, str):
-        raise refuse("words are", "a list of texts", words)
-    return library().run(words, data)
-
-
-def found(name: str, *words: object) -> Any:
-    """What a command finds, as docs/ANSWERS.md names it; an exception where the status isn't Done."""
-    return Call(*words).finding()[name]
+    listed = items("words are", "a list of texts", words)
+    for word in listed:
+        if not isinstance(word, str):
+            raise refuse("words are", "a list of texts", word)
+    if not isinstance(data, (bytes, bytearray)):
+        raise refuse("data is", "bytes", data)
+    return library().run(listed, bytes(data))
 
 
 # One rule
 
-def decide(rule: Rule, weights: Weights | None = None) -> Report:
+def decide(rule: RuleLike, weights: Weights | None = None) -> Report:
     """The report of a rule: each verdict with its least evidence. Where weights are given, one for each letter,
-    the sum of a ring is that of its letters' weights."""
-    call = Call("decide", rule_text(rule), *weights_text(weights))
-    return Report.of(call.finding()["report"]).of_call(call)
+    the sum of a ring is that of its letters' weights. An answer that has weights hands them on."""
+    known, numbers, words = weighed(rule, weights)
+    return Report._of(finding("decide", known, *words)["report"], own_weights(known.states, numbers))
 
 
-def orphan(rule: Rule) -> str | None:
+def orphan(rule: RuleLike) -> str | None:
     """The least word that is the image of none, or None where the rule is surjective."""
-    word: str | None = found("orphan", "orphan", rule_text(rule))
+    word: str | None = finding("orphan", rule_of(rule))["orphan"]
     return word
 
 
-def number(rule: Rule) -> int | None:
+def number(rule: RuleLike) -> int | None:
     """The Wolfram number of a rule, or None from seven states on."""
-    digits = found("number", "number", rule_text(rule))
+    digits = finding("number", rule_of(rule))["number"]
     return None if digits is None else int(digits)
 
 
-def certify(rule: Rule, weights: Weights | None = None) -> Certificate:
+def certify(rule: RuleLike, weights: Weights | None = None) -> Certificate:
     """The certificate of a rule, of version 2."""
-    return Certificate.of(found("certificate", "certify", rule_text(rule), *weights_text(weights)))
+    known, _, words = weighed(rule, weights)
+    return Certificate._of(finding("certify", known, *words)["certificate"])
 
 
-def brief(rule: Rule, weights: Weights | None = None) -> Certificate:
+def brief(rule: RuleLike, weights: Weights | None = None) -> Certificate:
     """The short certificate of a rule, of version 3."""
-    return Certificate.of(found("certificate", "brief", rule_text(rule), *weights_text(weights)))
+    known, _, words = weighed(rule, weights)
+    return Certificate._of(finding("brief", known, *words)["certificate"])
 
 
-def check(certificate: Text) -> Verdicts:
+def weighed(rule: RuleLike, weights: Weights | None) -> tuple[Rule, tuple[int, ...] | None, list[str]]:
+    """A rule, what its letters weigh where that is said, and the words for it."""
+    known, given = rule_of(rule), weights_of(rule, weights)
+    if given is None:
+        return known, None, []
+    numbers = weight_numbers(known.states, given)
+    return known, numbers, [weights_word(numbers)]
+
+
+def check(certificate: CertificateLike) -> Verdicts:
     """The verdicts of a certificate that is accepted; else RefusedError or TooLongError is raised. It may be a
-    Certificate, a text, bytes, or a file that is open for reading."""
-    call = Call("check", data=certificate_bytes(certificate))
-    return Verdicts.of(call.reply()["verdicts"]).of_call(call)
+    Certificate, a text, bytes, the object that a text writes, the path of a file, or a file that is open for reading."""
+    return Verdicts._of(reply("check", data=certificate_bytes(certificate))["verdicts"])
 
 
 # Images
 
-def language(rule: Rule) -> Language:
+def language(rule: RuleLike) -> Language:
     """The least automaton of the words that have a preimage."""
-    call = Call("language", rule_text(rule))
-    return Language.of(call.finding()["automaton"]).of_call(call)
+    return Language._of(finding("language", rule_of(rule))["automaton"])
 
 
-def same(rule: Rule, other: Rule) -> Same:
+def same(rule: RuleLike, other: RuleLike) -> Same:
     """Whether the same words have a preimage under two rules."""
-    call = Call("same", rule_text(rule), rule_text(other, "other", 2))
-    return Same(call.finding()["same"]).of_call(call)
+    first, second = rule_of(rule), rule_of(other, "other", 2)
+    return Same(finding("same", first, second)["same"])
 
 
-def preimage(rule: Rule, tail: Tail | str) -> Preimage | Gap:
+def preimage(rule: RuleLike, tail: Tail | str) -> Preimage | Gap:
     """The first configuration that the rule maps to this one, or the orphan in it."""
-    call = Call("preimage", rule_text(rule), tail_text(tail))
-    return preimage_of(call.finding()).of_call(call)
+    known = rule_of(rule)
+    return preimage_of(finding("preimage", known, tail_of(known, tail)))
 
 
-def erase(rule: Rule) -> Pair | None:
+def erase(rule: RuleLike) -> Pair | None:
     """The least erasable pair, or None where the rule is surjective."""
-    pair = found("erased", "erase", rule_text(rule))
+    pair = finding("erase", rule_of(rule))["erased"]
     return None if pair is None else Pair(*pair)
 
 
 # Rules made of rules
 
-def inverse(rule: Rule) -> Inverse:
+def inverse(rule: RuleLike) -> Inverse:
     """The map that gives every cell back from the image; NotFitError where the rule isn't injective."""
-    call = Call("inverse", rule_text(rule))
-    return Inverse.of(call.finding()["inverse"]).of_call(call)
+    return Inverse._of(finding("inverse", rule_of(rule))["inverse"])
 
 
-def compose(rule: Rule, then: Rule) -> str:
+def compose(rule: RuleLike, then: RuleLike) -> Rule:
     """The rule that does what the first does, and then what the second does."""
-    return made("compose", rule, rule_text(then, "then", 2))
+    first, second = rule_of(rule), rule_of(then, "then", 2)
+    wide = first.width + second.width - 1
+    if first.states == second.states and wide > 5:
+        raise NotFitError("width", why=f"the width of the result must be at most 5, and would be {wide}")
+    return made("compose", first, second)
 
 
-def trim(rule: Rule) -> str:
+def trim(rule: RuleLike) -> Rule:
     """The rule without outer cells that it ignores."""
-    return made("trim", rule)
+    return made("trim", rule_of(rule))
 
 
-def widen(rule: Rule, width: SupportsIndex) -> str:
+def widen(rule: RuleLike, width: SupportsIndex) -> Rule:
     """The rule at a greater width."""
-    return made("widen", rule, whole("width is", width, 2, 5))
+    known, wide = rule_of(rule), whole("width is", width, 2, 5)
+    if wide < known.width:
+        raise NotFitError("width", why=f"the width must be at least that of the rule, {known.width}, and not {wide}")
+    return made("widen", known, wide)
 
 
-def shift(rule: Rule, cells: SupportsIndex) -> str:
+def shift(rule: RuleLike, cells: SupportsIndex) -> Rule:
     """The rule that reads so many cells further to the right."""
-    return made("shift", rule, whole("cells is", cells, -31, 31))
+    return made("shift", rule_of(rule), whole("cells is", cells, -31, 31))
 
 
-def reflect(rule: Rule) -> str:
+def reflect(rule: RuleLike) -> Rule:
     """The mirrored rule."""
-    return made("reflect", rule)
+    return made("reflect", rule_of(rule))
 
 
-def permute(rule: Rule, digits: str | Iterable[SupportsIndex]) -> str:
-    """The rule with other names of the letters: letter a has the a-th of the digits."""
-    return made("permute", rule, digits_text(digits))
+def permute(rule: RuleLike, digits: Letters) -> Rule:
+    """The rule with other names of the letters: letter a has the a-th of the digits, or what a mapping has for it."""
+    known = rule_of(rule)
+    return made("permute", known, digits_text(known.states, digits))
 
 
-def least(rule: Rule) -> str:
+def least(rule: RuleLike) -> Rule:
     """The rule of the least number in the class of a rule."""
-    return made("least", rule)
+    return made("least", rule_of(rule))
 
 
-def lift(rule: Rule) -> str:
+def lift(rule: RuleLike) -> Rule:
     """The second-order rule, of pairs of letters, which is reversible."""
-    return made("lift", rule)
+    return made("lift", rule_of(rule))
 
 
-def unlift(rule: Rule) -> str:
+def unlift(rule: RuleLike) -> Rule:
     """The rule that undoes the lift."""
-    return made("unlift", rule)
+    return made("unlift", rule_of(rule))
 
 
-def made(command: str, rule: Rule, *words: object) -> str:
-    """The text of a rule that a command makes."""
-    text: str = found("rule", command, rule_text(rule), *words)
-    return text
+def made(command: str, rule: Rule, *words: object) -> Rule:
+    """The rule that a command makes."""
+    return Rule._made(finding(command, rule, *words)["rule"])
 
 
 # Many rules
 
-START = 10 ** 39 - 1                            # the library says where a shape has fewer rules
+START = 10 ** 39 - 1
 SEED = 2 ** 64 - 1
 
 
 def survey(states: SupportsIndex, width: SupportsIndex, start: SupportsIndex, count: SupportsIndex) -> Summary:
     """How many of `count` rules, from 1 to 4,096, have each property, by their numbers from `start` on, from 0 to
     K^(K^M) - count where K states have the width M."""
-    return Summary(**found("summary", "survey", *shape(states, width), whole("start is", start, 0, START),
-                           whole("count is", count, 1, MOST)))
+    return Summary(**finding("survey", *numbered(states, width, start, count))["summary"])
 
 
 def sample(states: SupportsIndex, width: SupportsIndex, seed: SupportsIndex, count: SupportsIndex) -> Summary:
     """The same of `count` rules, from 1 to 4,096, that are drawn from a seed, from 0 to 2^64 - 1."""
-    return Summary(**found("summary", "sample", *shape(states, width), whole("seed is", seed, 0, SEED),
-                           whole("count is", count, 1, MOST)))
+    k, m = shape(states, width)
+    at, rules = whole("seed is", seed, 0, SEED), whole("count is", count, 1, MOST)
+    look_at(k, m, 0)
+    return Summary(**finding("sample", k, m, at, rules)["summary"])
 
 
 def classes(states: SupportsIndex, width: SupportsIndex, start: SupportsIndex, count: SupportsIndex) -> ClassSummary:
     """The same as `survey`, and in how many classes the rules lie."""
-    call = Call("classes", *shape(states, width), whole("start is", start, 0, START), whole("count is", count, 1, MOST))
-    finding = call.finding()
-    return ClassSummary(Summary(**finding["summary"]), finding["classes"]).of_call(call)
+    found: dict[str, Any] = finding("classes", *numbered(states, width, start, count))
+    return ClassSummary(Summary(**found["summary"]), found["classes"])
+
+
+def numbered(states: SupportsIndex, width: SupportsIndex, start: SupportsIndex, count: SupportsIndex) -> tuple[int, int, int, int]:
+    """A shape, and numbers of its rules: the first one, and how many."""
+    k, m = shape(states, width)
+    at, rules = whole("start is", start, 0, START), whole("count is", count, 1, MOST)
+    look_at_number(k, m, at + rules - 1)
+    return k, m, at, rules

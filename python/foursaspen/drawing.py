@@ -78,10 +78,13 @@ class Canvas:
         self._parts.append(f'<circle cx="{x:.1f}" cy="{y:.1f}" r="{radius:g}" fill="{fill}" stroke="{line}" '
                            'stroke-width="1.3"/>')
 
-    def box(self, x: float, y: float, width: float, height: float, fill: str) -> None:
+    def box(self, x: float, y: float, width: float, height: float, fill: str, line: str = "", strength: float = 1) -> None:
+        """A box; of a strength below 1 the ground shines through."""
         self._reach(x + width, y + height)
+        edge = f' stroke="{line}"' if line else ""
+        weak = f' fill-opacity="{strength:.2g}"' if strength < 1 else ""
         self._parts.append(f'<rect x="{x:.1f}" y="{y:.1f}" width="{width:.1f}" height="{height:.1f}" '
-                           f'fill="{fill}"/>')
+                           f'fill="{fill}"{edge}{weak}/>')
 
     def line(self, points: Sequence[Point], color: str, width: float = 1.2, dashes: str = "") -> None:
         """A line through the points."""
@@ -107,8 +110,8 @@ class Canvas:
         night = "".join(f'.foursaspen [{part}="{color}"]{{{part}:{dark}}}'
                         for color, dark in NIGHT.items() for part in ("fill", "stroke"))
         return Picture("\n".join([
-            f'<svg xmlns="http://www.w3.org/2000/svg" class="foursaspen" width="{width}" height="{height}" '
-            f'viewBox="0 0 {width} {height}" font-family="{FONT}">',
+            f'<svg xmlns="http://www.w3.org/2000/svg" class="foursaspen" role="img" aria-label="{escape(self.title)}" '
+            f'width="{width}" height="{height}" viewBox="0 0 {width} {height}" font-family="{FONT}">',
             f"<title>{escape(self.title)}</title>",
             f"<style>@media(prefers-color-scheme:dark){{{night}}}</style>",
             f'<rect width="{width}" height="{height}" fill="{PAPER}"/>', *self._parts, "</svg>", ""]))

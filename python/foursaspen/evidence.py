@@ -7,6 +7,7 @@ from collections.abc import Iterator
 from .faults import FoursaspenError
 from .graphs import Graph, written
 from .report import Closing, Pair, Report, Split, Window
+from .rule_values import mirror
 
 Pairs = set[tuple[int, int]]                    # of nodes
 
@@ -17,33 +18,26 @@ class EvidenceError(FoursaspenError):
 
 def work_out(report: Report) -> None:
     """EvidenceError where a piece of evidence isn't so. That no evidence is less is looked at for look-aheads alone."""
-    graph = Graph(report.rule)
+    graph = Graph(report.rule, report.weights)
     for name, holds in pieces(report, graph, mirrored(graph)):
         if not holds:
             raise EvidenceError(f"the evidence of {name} doesn't fit the table of {report.rule}")
 
 
-def pieces(report: Report, graph: Graph, mirror: Graph) -> Iterator[tuple[str, bool]]:
+def pieces(report: Report, graph: Graph, back: Graph) -> Iterator[tuple[str, bool]]:
     """Each verdict, and whether its evidence is so."""
     yield "surjective", are_apart(graph) if report.orphan is None else not graph.reading(report.orphan)[-1][0]
     yield "injective", (is_window(graph, report.window) if report.window else
                         report.twins is not None and are_twins(graph, report.twins))
     yield "right", is_closing(graph, graph, report.right, "right")
-    yield "left", is_closing(graph, mirror, report.left, "left")
+    yield "left", is_closing(graph, back, report.left, "left")
     yield "open", report.open == (bool(report.right) and bool(report.left))
     yield "conserving", is_flux(graph, report.flux) if report.flux is not None else loses(graph, report.ring or "")
 
 
 def mirrored(graph: Graph) -> Graph:
     """The graph of the mirrored rule."""
-    table = ""
-    for window in range(len(graph.table)):
-        back = 0
-        for _ in range(graph.width):
-            window, letter = divmod(window, graph.states)
-            back = back * graph.states + letter
-        table += f"{graph.table[back]:x}"
-    return Graph(f"{graph.states}:{graph.width}:{1 - graph.width - graph.offset}:t{table}")
+    return Graph(mirror(graph.rule), graph.weights)
 
 
 # Pairs of walks that write the same letters
@@ -143,12 +137,7 @@ def is_flux(graph: Graph, flux: tuple[int, ...]) -> bool:
 
 def loses(graph: Graph, ring: str) -> bool:
     """Whether a ring hasn't the sum of its image."""
-    return ring != "" and total(ring) != total(written(graph.ring(ring)))
-
-
-def total(word: str) -> int:
-    """The sum of the letters."""
-    return sum(int(letter, 16) for letter in word)
+    return ring != "" and graph.total(ring) != graph.total(written(graph.ring(ring)))
 
 
 def is_erasable(graph: Graph, pair: Pair) -> bool:

@@ -3,9 +3,11 @@ letter and writes what the rule gives on the node's letters and the one that is 
 """
 from __future__ import annotations
 
+from collections.abc import Sequence
 from dataclasses import dataclass
 
-from .report import DIGITS, Tail
+from .report import Tail
+from .rule_values import DIGITS, RuleLike, rule_of
 
 Way = tuple[int, int]                           # a node, and the letter that is read there
 
@@ -33,14 +35,13 @@ def written(walk: list[Edge]) -> str:
 
 
 class Graph:
-    """The graph of a rule that is given by its table, as the program prints rules."""
+    """The graph of a rule, and what each letter weighs: its own value, where no weights are given."""
 
-    def __init__(self, rule: str) -> None:
-        states, width, offset, table = rule.split(":")
-        self.rule = rule
-        self.states, self.width, self.offset = int(states), int(width), int(offset)
+    def __init__(self, like: RuleLike, weights: Sequence[int] | None = None) -> None:
+        self.rule = rule = rule_of(like)
+        self.states, self.width, self.offset, self.table = rule.states, rule.width, rule.offset, rule.table
         self.nodes: int = self.states ** (self.width - 1)
-        self.table = [DIGITS.index(digit) for digit in table[1:]]
+        self.weights = range(self.states) if weights is None else weights
 
     def edge(self, node: int, letter: int) -> Edge:
         window = node * self.states + letter
@@ -51,9 +52,13 @@ class Graph:
         return (f"{self.name(edge.source)} reads {DIGITS[edge.letter]}, writes {DIGITS[edge.image]} "
                 f"and leads to {self.name(edge.target)}")
 
-    def change(self, edge: Edge) -> int:
-        """What the image has more than the first letter of the edge's window."""
-        return edge.image - edge.source * self.states // self.nodes
+    def change(self, edge: Edge, place: int = 0) -> int:
+        """What the letter that is written weighs more than the letter of the edge's window at a place, the first one at 0."""
+        return self.weights[edge.image] - self.weights[int(self.window(edge)[place], 16)]
+
+    def total(self, word: str) -> int:
+        """What the letters of a word weigh."""
+        return sum(self.weights[int(letter, 16)] for letter in word)
 
     def out(self, node: int) -> list[Edge]:
         """The edges from a node."""

@@ -70,6 +70,7 @@ class Library:
             self._next_rule = loaded.ca_next_rule
             self._kept_sums = loaded.ca_kept_sums
             self._flux = loaded.ca_flux
+            self._image = getattr(loaded, "ca_image", None)    # which older ones of this version lack
             version = int(loaded.ca_version())
         except (OSError, AttributeError) as fault:
             raise LibraryMissingError(f"the library can't be loaded: {fault}; {ADVICE}") from fault
@@ -92,6 +93,10 @@ class Library:
         self._kept_sums.restype = byte
         self._flux.argtypes = [byte, byte, text, size, byte, ctypes.POINTER(Weights), ctypes.POINTER(Flux)]
         self._flux.restype = byte
+        if self._image is not None:
+            parts = [text, size, text, size, text, size]
+            self._image.argtypes = [byte, byte, ctypes.c_int8, text, size, *parts, ctypes.c_int64, text, size]
+            self._image.restype = byte
         self._rooms = threading.local()
         self.path = path
 
@@ -162,6 +167,18 @@ class Library:
         fault = int(self._flux(states, width, table, len(table), letters, Weights(*weights), found))
         assert fault in (0, NOT_KEPT), fault
         return None if fault else found[:states ** (width + letters - 2)]
+
+
+    def image(self, states: int, width: int, offset: int, table: bytes, parts: Sequence[bytes], first: int, count: int) -> bytes:
+        """So many letters, from the cell `first` on, of the image of the configuration with these three parts. Other threads run
+        meanwhile."""
+        if self._image is None:
+            raise LibraryMissingError(f"the library {self.path} is older than ca_image; {ADVICE}")
+        room = ctypes.create_string_buffer(max(count, 1))
+        sized = [word for part in parts for word in (part, len(part))]
+        fault = int(self._image(states, width, offset, table, len(table), *sized, first, room, count))
+        assert not fault, fault                 # rule, letters and periods have been looked at
+        return room.raw[:count]
 
 
 def keep_freed_memory() -> None:

@@ -1,30 +1,41 @@
 """All rules of a shape that have a property, one after another or in parts over any executor."""
 from __future__ import annotations
 
+import csv
+import os
 import re
+import threading
 import time
 from collections import deque
-from collections.abc import Callable, Generator, Iterator
+from collections.abc import Callable, Generator, Iterable, Iterator
 from concurrent.futures import Executor, Future
 from dataclasses import dataclass
 from itertools import islice, product
 from pathlib import Path
-from typing import SupportsIndex
+from typing import Any, Literal, SupportsIndex, Union, overload
 
-from .bits import Bit
-from .commands import brief
-from .faults import RuleError, UsageError
+from .bits import Bit, of_table
+from .commands import brief, inverse
+from .faults import FoursaspenError, UsageError
 from .library import library
-from .operands import HEX, index, refuse, shape, whole
-from .surveys import AHEAD, bar_of
+from .operands import HEX, shape
+from .relations import RuleClass, as_dict, classes_in
+from .rule_values import DIGITS, Rule, index, items, look_at, refuse, whole
+from .surveys import AHEAD, bar_of, executor_of
 
 PARTS = 64                                      # of a list, at least, where the shape has so many tables
 OPEN = 255                                      # no letter: its window is open
-DIGITS = "0123456789abcdef"
 
 # The properties by their words. The number of each is that of its bit.
 PROPERTIES = {"surjective": Bit.SURJECTIVE, "injective": Bit.INJECTIVE, "right": Bit.RIGHT, "left": Bit.LEFT,
               "open": Bit.OPEN, "conserving": Bit.CONSERVING}
+# Other words for them.
+SYNONYMS = {"onto": "surjective", "reversible": "injective", "bijective": "injective", "one-to-one": "injective",
+            "invertible": "injective", "right-closing": "right", "left-closing": "left", "number-conserving": "conserving",
+            "conservative": "conserving"}
+# Which list of several is gone through: that of the property which fewer rules have.
+RARER = (Bit.CONSERVING, Bit.INJECTIVE, Bit.OPEN, Bit.RIGHT, Bit.LEFT, Bit.SURJECTIVE)
+Properties = Union[str, Bit, Iterable[Union[str, Bit]]]
 
 NO_RULE = 13                                    # of enum ca_fault
 
@@ -42,32 +53,112 @@ class Listing:
         return f"{self.parts:,} of {self.of:,} parts, {self.rules:,} rules, {self.seconds:.0f} s"
 
 
-def rules(property: str, states: SupportsIndex, width: SupportsIndex, offset: SupportsIndex = 0, begin: str = "", *,
+class Rules(Iterator[Rule]):
+    """The rules of a list, each searched when it is asked for: what `rules` gives. `close` ends the search."""
+
+    def __init__(self, found: Generator[Rule, None, None]) -> None:
+        self._found = found
+
+    def __next__(self) -> Rule:
+        return next(self._found)
+
+    def close(self) -> None:
+        """Ends the search, and leaves what no worker has begun."""
+        self._found.close()
+
+    def to_csv(self, path: str | os.PathLike[str]) -> int:
+        """Writes a line for each rule with all that `as_dict` says of it into a file; how many there are."""
+        count = 0
+        with open(path, "w", newline="", encoding="utf-8") as file:
+            writer = csv.writer(file, lineterminator="\n")
+            for count, rule in enumerate(self, 1):
+                row = as_dict(rule)
+                if count == 1:
+                    writer.writerow(row)
+                writer.writerow("" if value is None else value for value in row.values())
+        return count
+
+
+@overload
+def rules(property: Properties, states: SupportsIndex, width: SupportsIndex, offset: SupportsIndex = 0, begin: str = "", *,
+          classes: Literal[False] = False, shifts: bool = False, essential: bool = False,
+          inverse_width: SupportsIndex | None = None, executor: Executor | None = None,
+          progress: Callable[[Listing], object] | None = None, bar: bool = False) -> Rules: ...
+
+
+@overload
+def rules(property: Properties, states: SupportsIndex, width: SupportsIndex, offset: SupportsIndex = 0, begin: str = "", *,
+          classes: Literal[True], shifts: bool = False, essential: bool = False,
+          inverse_width: SupportsIndex | None = None, executor: Executor | None = None,
+          progress: Callable[[Listing], object] | None = None, bar: bool = False) -> Iterator[RuleClass]: ...
+
+
+def rules(property: Properties, states: SupportsIndex, width: SupportsIndex, offset: SupportsIndex = 0, begin: str = "", *,
+          classes: bool = False, shifts: bool = False, essential: bool = False, inverse_width: SupportsIndex | None = None,
           executor: Executor | None = None, progress: Callable[[Listing], object] | None = None,
-          bar: bool = False) -> Generator[str, None, None]:
-    """The texts of all rules of a shape that have a property and whose tables begin so, each once. The property is
-    `surjective`, `injective`, `right`, `left`, `open` or `conserving`; `begin` has the first digits of the table.
-    docs/LISTS.md has the order, and which shapes have an end in sight.
+          bar: bool = False) -> Rules | Iterator[RuleClass]:
+    """All rules of a shape that have a property, or several, and whose tables begin so, each once. The properties are
+    `surjective`, `injective`, `right`, `left`, `open` and `conserving`, or other words for them, as `reversible`, or Bits;
+    `begin` has the first digits of the table. docs/LISTS.md has the order, and which shapes have an end in sight. The offset is
+    0 where none is named, and that of a number is -1: a rule of the one offset isn't equal to one of the other.
+
+    Of several properties the list of one is gone through, and the rules are left out that haven't the others. `essential`
+    leaves out those that ignore their first or their last cell, and so have a smaller width too, and `inverse_width` those
+    that have no inverse of at most so many cells. With `classes` the classes of the rules come in place of the rules, each with
+    its least rule and with its members that are in the list; with `shifts` rules that only read other cells are in one class.
 
     Without an executor each rule is searched when it is asked for. An executor, any of concurrent.futures whose workers
     have this package, searches the parts of the shape side by side, and the rules of a part come together; the order
     is the same. `progress` is called with a Listing after each part, and `bar` shows a bar where tqdm is installed."""
-    if not isinstance(property, str):
-        raise refuse("property is", "a text", property)
-    if property not in PROPERTIES:
-        raise UsageError(f"property is one of {', '.join(PROPERTIES)}, and not {property!r}")
+    wanted = bits_of(property)
     states, width = shape(states, width)
-    if states ** (width - 1) > 16:
-        raise RuleError(1, "nodes")
-    offset = index("offset is", "a whole number", offset)
-    if not -16 <= offset <= 17 - width:
-        raise RuleError(1, "offset")
+    begins = index("offset is", "a whole number", offset)
+    look_at(states, width, begins)
     if not isinstance(begin, str):
         raise refuse("begin is", "a text of digits", begin)
     size = states ** width
     if len(begin) > size or not re.fullmatch(f"{HEX}*", begin) or max(letters(begin), default=0) >= states:
         raise UsageError(f"begin is at most {size} hexadecimal digits below {states}, and not {begin!r}")
-    return listed(PROPERTIES[property], states, width, f"{states}:{width}:{offset}:t", begin, executor, progress, bar)
+    if progress is not None and not callable(progress):
+        raise refuse("progress is", "a function of a Listing", progress)
+    narrow = None if inverse_width is None else whole("inverse_width is", inverse_width, 1, 5)
+    found = listed(next(bit for bit in RARER if bit in wanted), states, width, f"{states}:{width}:{begins}:t", begin,
+                   executor_of(executor), progress, bar)
+    if wanted.bit_count() > 1:
+        found = (rule for rule in found if wanted in of_table(states, width, bytes(rule.table)))
+    if essential:
+        found = (rule for rule in found if rule.is_essential)
+    if narrow is not None:
+        found = (rule for rule in found if has_inverse(rule, narrow))
+    return classes_in(found, shifts) if classes else Rules(found)
+
+
+def bits_of(property: Properties) -> Bit:
+    """The properties that are meant, as a sum."""
+    expected = f"one of {', '.join(PROPERTIES)}, or a list of them"
+    if isinstance(property, Bit):
+        if not property:
+            raise UsageError(f"property is {expected}, and not none of them")
+        return property
+    if isinstance(property, str):
+        name = property.lower()
+        if SYNONYMS.get(name, name) not in PROPERTIES:
+            raise UsageError(f"property is {expected}, and not {property!r}")
+        return PROPERTIES[SYNONYMS.get(name, name)]
+    wanted = Bit(0)
+    for one in items("property is", expected, property):
+        if not isinstance(one, (str, Bit)):
+            raise refuse("property is", expected, one)
+        wanted |= bits_of(one)
+    return bits_of(wanted)
+
+
+def has_inverse(rule: Rule, most: int) -> bool:
+    """Whether a rule has an inverse that reads at most so many cells."""
+    try:
+        return inverse(rule).window.letters <= most
+    except FoursaspenError:
+        return False
 
 
 def letters(digits: str) -> bytes:
@@ -76,7 +167,7 @@ def letters(digits: str) -> bytes:
 
 
 def listed(property: int, states: int, width: int, head: str, begin: str, executor: Executor | None,
-           progress: Callable[[Listing], object] | None, bar: bool) -> Generator[str, None, None]:
+           progress: Callable[[Listing], object] | None, bar: bool) -> Generator[Rule, None, None]:
     """The rules part by part, and after each how far the list is."""
     order = library().window_order(property, states, width)
     least = PARTS if executor or progress or bar else 1
@@ -87,7 +178,7 @@ def listed(property: int, states: int, width: int, head: str, begin: str, execut
         for place, found in enumerate(searched(property, states, width, order, fixed, executor), 1):
             for table in found:
                 count += 1
-                yield head + "".join(DIGITS[letter] for letter in table)
+                yield Rule._made(head + "".join(DIGITS[letter] for letter in table))
             if shown is not None:
                 shown.update(1)
             if progress is not None:
@@ -110,30 +201,54 @@ def parts(states: int, order: bytes, begin: bytes, least: int) -> Iterator[bytea
         yield fixed
 
 
+class Stop:
+    """Whether the tasks of a list are to end: known to the threads of this process. A worker of another process has one of its
+    own, which is never set."""
+
+    def __init__(self) -> None:
+        self._event = threading.Event()
+
+    def set(self) -> None:
+        self._event.set()
+
+    def is_set(self) -> bool:
+        return self._event.is_set()
+
+    def __reduce__(self) -> Any:
+        return Stop, ()
+
+
 def searched(property: int, states: int, width: int, order: bytes, fixed: list[bytes],
              executor: Executor | None) -> Generator[Iterator[bytes] | list[bytes], None, None]:
-    """The tables of each part, in the order of the parts. With an executor so many parts are under way at a time."""
+    """The tables of each part, in the order of the parts. With an executor so many parts are under way at a time; where
+    the list is left, those that threads are at end at their next rule."""
     if executor is None:
         for begin in fixed:
             yield tables(property, states, width, order, begin)
         return
-    missing = iter(fixed)
+    missing, stop = iter(fixed), Stop()
     pending: deque[Future[list[bytes]]] = deque()
     try:
         while True:
             for begin in islice(missing, AHEAD - len(pending)):
-                pending.append(executor.submit(part, property, states, width, order, begin))
+                pending.append(executor.submit(part, property, states, width, order, begin, stop))
             if not pending:
                 return
             yield pending.popleft().result()
     finally:
+        stop.set()
         for future in pending:
             future.cancel()
 
 
-def part(property: int, states: int, width: int, order: bytes, fixed: bytes) -> list[bytes]:
-    """The tables of a part: a task."""
-    return list(tables(property, states, width, order, fixed))
+def part(property: int, states: int, width: int, order: bytes, fixed: bytes, stop: Stop) -> list[bytes]:
+    """The tables of a part, or where it is stopped the first of them: a task."""
+    found = []
+    for table in tables(property, states, width, order, fixed):
+        found.append(table)
+        if stop.is_set():
+            break
+    return found
 
 
 def tables(property: int, states: int, width: int, order: bytes, fixed: bytes) -> Iterator[bytes]:

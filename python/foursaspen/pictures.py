@@ -1,19 +1,26 @@
-"""Pictures of a rule as SVG: its de Bruijn graph, and beneath it how an orphan is read, two walks with one image, those
-of twins or of a split, or a configuration with a preimage of it.
+"""Pictures of a rule as SVG: its windows; its de Bruijn graph, and beneath it how an orphan is read, two walks with one image,
+those of twins or of a split, or a configuration with a preimage of it.
 """
 from __future__ import annotations
 
 from dataclasses import dataclass
+from itertools import groupby
+from typing import SupportsIndex
 
-from .commands import decide, preimage
-from .drawing import DARK, DASHES, FIRST, GREY, MARGIN, PAPER, SECOND, SHADE, Canvas, Picture
+from .commands import decide, erase, preimage
+from .drawing import DARK, DASHES, FIRST, GREY, MARGIN, PAPER, SECOND, SHADE, WIDEST, Canvas, Picture
+from .faults import UsageError
 from .graphs import Edge, Graph
+from .images import Image, steps_from
 from .layout import RADIUS, fits, ring
-from .operands import Rule
+from .operands import Weights
 from .report import Gap, Report, Tail
+from .rule_values import DIGITS, Rule, RuleLike, refuse, rule_of, whole
 from .trellis import draw_reading, draw_walks
 
-SHOWN = ("orphan", "twins", "right", "left", "flux", "ring")    # what a picture may show
+SHOWN = ("graph", "orphan", "erase", "twins", "right", "left", "flux", "current", "ring")     # what a picture may show
+DRAWN = 256                                     # windows of a picture, at most
+MOST_STEPS, MOST_CELLS, CELL = 1000, 1000, 6    # of a picture of many steps, and the size of a cell
 
 
 @dataclass(frozen=True)
@@ -30,57 +37,175 @@ class Walks:
                 for tail in self.rows.values()]
 
 
-def picture(rule: Rule, show: str | Tail | None = None) -> Picture:
+@dataclass(frozen=True)
+class Reading:
+    """An orphan, and what is said of it."""
+    heading: str
+    orphan: str
+
+
+@dataclass(frozen=True)
+class Numbers:
+    """A number for each node, and the place of the letter of a window that a difference of two of them is about."""
+    heading: str
+    at_nodes: tuple[int, ...]
+    place: int
+
+
+Beneath = Walks | Reading | Numbers | None
+
+
+def picture(rule: RuleLike, show: str | Tail | None = None, weights: Weights | None = None, *, steps: SupportsIndex | None = None,
+            cells: range | None = None) -> Picture:
     """The graph of a rule. Beneath it stands what `show` names: the reading of the least orphan, the two walks of the
     least twins, those of the least split of a side, `right` or `left`, that of the least ring whose sum isn't kept;
     of a configuration, a Tail or its text, a preimage or the orphan in it; where it is None the orphan, if there is
-    one. `flux` has the flux at the nodes, and at the edges what it carries. ValueError where the rule has no such
-    thing."""
-    report = decide(rule)
-    graph = Graph(report.rule)
+    one. `graph` has nothing beneath it. `flux` and `current` have these numbers at the nodes, and at the edges what they
+    carry, by the weights that are given or that a report has. ValueError where the rule has no such thing.
+
+    With `steps` it is what comes of a configuration instead: a row for each step, downwards, of the cells that are named, or of
+    as many as change."""
+    if steps is not None:
+        return after_steps(rule_of(rule), show, whole("steps is", steps, 1, MOST_STEPS), cells)
+    if not isinstance(show, (str, Tail, type(None))):
+        raise refuse("show is", f"one of {', '.join(SHOWN)}, or a configuration, a Tail or a text LEFT|MIDDLE|RIGHT", show)
+    return drawn(decide(rule, weights), show)
+
+
+def drawn(report: Report, show: str | Tail | None = None, with_graph: bool = True) -> Picture:
+    """The picture of a report; without the graph only what stands beneath it."""
+    graph = Graph(report.rule, report.weights)
     below = beneath(report, show)
-    canvas = Canvas(f"The de Bruijn graph of {report.rule}")
-    canvas.lines_of_text(26, title(report), 16, bold=True)
-    draw_graph(canvas, graph, below.edges(graph) if isinstance(below, Walks) else [],
-               report.flux if show == "flux" else None)
-    top = canvas.height + 34
+    what = f", and {below.heading[0].lower()}{below.heading[1:]}" if below else ""
+    canvas = Canvas(f"The de Bruijn graph of {title(report)}{what}" if with_graph or below is None else
+                    f"{title(report)}: {below.heading}")
+    if with_graph:
+        canvas.lines_of_text(26, title(report), 16, bold=True)
+        draw_graph(canvas, graph, below.edges(graph) if isinstance(below, Walks) else [],
+                   below if isinstance(below, Numbers) else None)
+    top = canvas.height + (34 if with_graph else 26)
     if isinstance(below, Walks):
         draw_walks(canvas, graph, below.rows, below.cells, below.moved, below.heading, top)
-    elif below:
-        draw_reading(canvas, graph, below[0], below[1], top)
+    elif isinstance(below, Reading):
+        draw_reading(canvas, graph, below.orphan, below.heading, top)
     return canvas.svg()
+
+
+def after_steps(rule: Rule, show: str | Tail | None, count: int, cells: range | None = None) -> Picture:
+    """What comes of a configuration step by step: a cell is as dark as its letter is great."""
+    if not isinstance(show, (str, Tail)):
+        raise refuse("show is", "the configuration to begin with, a Tail or a text LEFT|MIDDLE|RIGHT", show)
+    rows = list(steps_from(rule, show if isinstance(show, Tail) else Tail.of(show), count))
+    seen = widest(rows) if cells is None else cells
+    if not isinstance(seen, range) or seen.step != 1 or not 1 <= len(seen) <= MOST_CELLS:
+        raise UsageError(f"cells is a range of at most {MOST_CELLS:,} cells, as range(-40, 41), and not {seen!r}")
+    canvas = Canvas(f"{rule} from {show}, {count:,} steps downwards, cells {seen.start} to {seen.stop - 1}")
+    canvas.box(MARGIN, MARGIN, len(seen) * CELL, len(rows) * CELL, PAPER, GREY)
+    for place, row in enumerate(rows):
+        at = 0
+        for letter, same in groupby(row.cells(seen.start, seen.stop)):
+            long = len(list(same))
+            if letter != "0":
+                canvas.box(MARGIN + at * CELL, MARGIN + place * CELL, long * CELL, CELL, DARK,
+                           strength=int(letter, 16) / (rule.states - 1))
+            at += long
+    said = f"cells {seen.start} to {seen.stop - 1}, a row for each step"
+    canvas.text(MARGIN, MARGIN + len(rows) * CELL + 18, said, anchor="start", color=GREY)
+    return canvas.svg()
+
+
+def widest(rows: list[Image]) -> range:
+    """The cells that some middle holds, as many of them as a picture has room for round the first middle, and one more on each
+    side."""
+    first = min(row.start for row in rows) - 1
+    last = max(row.start + len(row.tail.middle) for row in rows) + 1
+    middle = (2 * rows[0].start + len(rows[0].tail.middle)) // 2
+    return range(max(first, middle - MOST_CELLS // 4), min(last, middle + MOST_CELLS // 4))
+
+
+def windows(rule: RuleLike) -> Picture:
+    """The windows of a rule by their values, each with the letter that it gives beneath its own cell, or beneath its middle where
+    it doesn't hold that cell."""
+    known = rule_of(rule)
+    canvas, graph, size = Canvas(f"The windows of {known}, by their values, and what each gives"), Graph(known), 18
+    step = size * known.width + 14
+    in_row = max(1, int((WIDEST - 2 * MARGIN) // step))
+    own = -known.offset if 0 <= -known.offset < known.width else (known.width - 1) / 2
+    for place, edge in enumerate(graph.edges()[:DRAWN]):
+        x, y = MARGIN + step * (place % in_row), 16 + (2 * size + 16) * (place // in_row)
+        with canvas.titled(f"{graph.window(edge)} gives {DIGITS[edge.image]}"):
+            for at, letter in enumerate(graph.window(edge)):
+                draw_letter(canvas, known.states, letter, x + size * at, y, size)
+            draw_letter(canvas, known.states, DIGITS[edge.image], x + size * own, y + size + 2, size)
+    return canvas.svg()
+
+
+def draw_letter(canvas: Canvas, states: int, letter: str, x: float, y: float, size: int) -> None:
+    """A cell with its letter; of two states a 1 is dark."""
+    dark = states == 2 and letter == "1"
+    canvas.box(x, y, size, size, DARK if dark else PAPER, GREY)
+    canvas.text(x + size / 2, y + size / 2 + 4.3, letter, color=PAPER if dark else DARK)
 
 
 def title(report: Report) -> str:
     """The rule: an elementary one by its number, another one by its table."""
-    return f"rule {report.number}" if report.rule.startswith("2:3:-1:") else report.rule
+    return f"rule {report.number}" if report.rule.startswith("2:3:-1:") else str(report.rule)
 
 
-def beneath(report: Report, show: str | Tail | None) -> Walks | tuple[str, str] | None:
-    """What stands beneath a graph: walks, or an orphan with a heading; ValueError where it isn't there."""
+def weighing(report: Report) -> str:
+    """What the letters weigh, where that isn't their own value."""
+    if report.weights is None:
+        return ""
+    return f", where the letters weigh {', '.join(map(str, report.weights))}"
+
+
+def beneath(report: Report, show: str | Tail | None) -> Beneath:
+    """What stands beneath a graph or at its nodes; ValueError where it isn't there."""
     if isinstance(show, Tail) or (show and "|" in show):
-        return preimage_of(report.rule, show)
-    if show == "flux":
-        if report.flux is None:
-            raise ValueError("the rule isn't conserving: it has no flux")
+        return preimage_of(report, show)
+    if show == "graph":
         return None
-    if show in ("twins", "right", "left", "ring"):
+    if show in ("flux", "current"):
+        return numbers_of(report, show)
+    if show in ("twins", "erase", "right", "left", "ring"):
         return walks_of(report, show)
     if show not in ("orphan", None):
         raise ValueError(f"show is one of {', '.join(SHOWN)}, or a configuration LEFT|MIDDLE|RIGHT, and not {show!r}")
     if report.orphan:
-        return report.orphan, f"No word has the image {report.orphan}: where a walk may be that writes it"
+        return Reading(f"No word has the image {report.orphan}: where a walk may be that writes it", report.orphan)
     if show:
         raise ValueError("the rule is surjective: it has no orphan")
     return None
 
 
+def numbers_of(report: Report, show: str) -> Numbers:
+    """The flux or the current; ValueError where there is none, or it has other words than the graph has nodes."""
+    if report.flux is None:
+        raise ValueError(f"the rule isn't conserving: it has no {show}")
+    if show == "flux":
+        return Numbers("At a node its flux; at an edge what the letter of the image weighs more than the first letter of the "
+                       f"window, which is the flux where the edge begins less that where it ends{weighing(report)}",
+                       report.flux, 0)
+    if not 0 <= -report.rule.offset < report.rule.width:
+        raise ValueError("the window of a cell doesn't hold the cell itself: the current is no number for each node")
+    return Numbers("At a node the current; at an edge what the letter of the image weighs more than the cell before, which is the "
+                   f"current where the edge begins less that where it ends{weighing(report)}", report.current or (),
+                   -report.rule.offset)
+
+
 def walks_of(report: Report, show: str) -> Walks:
-    """The walks of the twins, of a split or of a ring; ValueError where there are none."""
+    """The walks of the twins, of an erasable pair, of a split or of a ring; ValueError where there are none."""
+    if show == "erase":
+        pair = erase(report.rule)
+        if pair is None:
+            raise ValueError("the rule is surjective: it has no erasable pair")
+        heading = f"{pair.first} and {pair.second} may stand for each other everywhere: two walks that differ in them alone"
+        tails = [Tail(word[0], word, word[-1]) for word in (pair.first, pair.second)]
+        return Walks(heading, {"first": tails[0], "second": tails[1]}, seen_at(Graph(report.rule), range(len(pair.first))))
     if show == "ring":
         if not report.ring:
             raise ValueError("the rule is conserving: each ring keeps its sum")
-        return Walks(f"The ring of {report.ring} and its image haven't one sum: the walk along it",
+        return Walks(f"The ring of {report.ring} and its image haven't one sum{weighing(report)}: the walk along it",
                      {"ring": Tail.ring(report.ring)}, range(len(report.ring)))
     if show == "twins":
         if not report.twins:
@@ -108,38 +233,42 @@ def seen_at(graph: Graph, cells: range) -> range:
     return range(cells.start - max(graph.offset, 0), cells.stop + max(1 - graph.width - graph.offset, 0))
 
 
-def preimage_of(rule: str, show: Tail | str) -> Walks | tuple[str, str]:
+def preimage_of(report: Report, show: Tail | str) -> Walks | Reading:
     """The walk of the first preimage of a configuration, or the orphan in it."""
-    found = preimage(rule, show)
+    found = preimage(report.rule, show)
     tail = show if isinstance(show, Tail) else Tail.of(show)
     if isinstance(found, Gap):
-        return found.word, f"Nothing maps to {tail}: a part of it is {found.word}, which no word has as its image"
+        return Reading(f"Nothing maps to {tail}: a part of it is {found.word}, which no word has as its image", found.word)
     own, given = shown_of(found.tail), shown_of(tail)
     cells = range(min(own.start + found.start, given.start), max(own.stop + found.start, given.stop))
     return Walks(f"{found.tail} from cell {found.start} on maps to {tail}: the walk along it", {"preimage": found.tail},
                  cells, found.start)
 
 
-def draw_graph(canvas: Canvas, graph: Graph, walks: list[list[Edge]], flux: tuple[int, ...] | None) -> None:
+def draw_graph(canvas: Canvas, graph: Graph, walks: list[list[Edge]], numbers: Numbers | None) -> None:
     """The graph as nodes and edges, or as a table where there are too many edges."""
     said = "letter read / letter of the image"
-    if flux is not None:
-        said = ("at a node its flux; at an edge what the image has more than the first letter of the window, which is "
-                "the flux where the edge begins less that where it ends")
+    if numbers is not None:
+        said = numbers.heading[0].lower() + numbers.heading[1:]
     if fits(graph):
-        draw_ring(canvas, graph, walks, flux)
+        draw_ring(canvas, graph, walks, numbers)
     else:
-        draw_table(canvas, graph, walks, flux)
+        draw_table(canvas, graph, walks, numbers)
         said += "; the edge leads to the node of the letter read"
     canvas.lines_of_text(canvas.height + 22, said, 12, GREY, room=600)
 
 
-def label(graph: Graph, edge: Edge, flux: tuple[int, ...] | None) -> str:
+def label(graph: Graph, edge: Edge, numbers: Numbers | None) -> str:
     """What stands at an edge."""
-    return edge.label if flux is None else f"{graph.change(edge):+d}".replace("+0", "0")
+    return edge.label if numbers is None else signed(graph.change(edge, numbers.place))
 
 
-def draw_ring(canvas: Canvas, graph: Graph, walks: list[list[Edge]], flux: tuple[int, ...] | None) -> None:
+def signed(number: int) -> str:
+    """A number with its sign; 0 has none."""
+    return f"{number:+d}" if number else "0"
+
+
+def draw_ring(canvas: Canvas, graph: Graph, walks: list[list[Edge]], numbers: Numbers | None) -> None:
     """Nodes and edges; those of the walks in their colours, the second one broken."""
     placed, down = ring(graph.states, graph.width), canvas.height - 19
     first, second = walks[0] if walks else [], walks[1] if len(walks) > 1 else []
@@ -153,17 +282,17 @@ def draw_ring(canvas: Canvas, graph: Graph, walks: list[list[Edge]], flux: tuple
     for edge in graph.edges():
         x, y = placed.labels[edge.way]
         with canvas.titled(graph.said(edge)):
-            canvas.text(x, y + down + 4.3, label(graph, edge, flux))
+            canvas.text(x, y + down + 4.3, label(graph, edge, numbers))
     for node, (x, y) in placed.nodes.items():
         name = graph.name(node)
         canvas.disc(x, y + down, RADIUS, PAPER, DARK)
-        canvas.text(x, y + down + (0 if flux else 4.3), name, size=12 if len(name) < 4 else 11, bold=True)
-        if flux:
-            canvas.text(x, y + down + 11, str(flux[node]), size=10, color=FIRST)
+        canvas.text(x, y + down + (0 if numbers else 4.3), name, size=12 if len(name) < 4 else 11, bold=True)
+        if numbers:
+            canvas.text(x, y + down + 11, str(numbers.at_nodes[node]), size=10, color=FIRST)
     canvas.height = max(canvas.height, 2 * placed.middle + down - 40)
 
 
-def draw_table(canvas: Canvas, graph: Graph, walks: list[list[Edge]], flux: tuple[int, ...] | None) -> None:
+def draw_table(canvas: Canvas, graph: Graph, walks: list[list[Edge]], numbers: Numbers | None) -> None:
     """A row for each node and a column for each letter that is read: the letter of the image is written there."""
     wide, high, left, top = 34, 24, MARGIN + 70, canvas.height + 45
     canvas.text(left - 14, top - 12, "node", anchor="end", color=GREY)
@@ -173,11 +302,12 @@ def draw_table(canvas: Canvas, graph: Graph, walks: list[list[Edge]], flux: tupl
         y = top + high * node
         if node % 2 == 0:
             canvas.box(left - 50, y, wide * graph.states + 50, high, SHADE)
-        canvas.text(left - 14, y + 16, graph.name(node) + (f": {flux[node]}" if flux else ""), anchor="end", bold=True)
+        number = f": {numbers.at_nodes[node]}" if numbers else ""
+        canvas.text(left - 14, y + 16, graph.name(node) + number, anchor="end", bold=True)
         for letter in range(graph.states):
             edge = graph.edge(node, letter)
             with canvas.titled(graph.said(edge)):
-                draw_cell(canvas, edge, label(graph, edge, flux), walks, left + wide * (letter + 0.5), y + 16)
+                draw_cell(canvas, edge, label(graph, edge, numbers), walks, left + wide * (letter + 0.5), y + 16)
 
 
 def draw_cell(canvas: Canvas, edge: Edge, text: str, walks: list[list[Edge]], x: float, y: float) -> None:

@@ -1,5 +1,5 @@
 """What the commands answer, as frozen dataclasses, which are made of the values of docs/ANSWERS.md. The text of each,
-`str(answer)`, is what the program prints, to the byte.
+`str(answer)`, is made of these values, and is what the program prints, to the byte.
 
 Words are texts of hexadecimal digits, one for a letter, as the program prints them.
 """
@@ -7,42 +7,51 @@ from __future__ import annotations
 
 import html
 import json
+import re
 from collections.abc import Iterable
 from dataclasses import dataclass, field, fields
-from typing import Any, Literal, TypeVar
+from functools import cached_property
+from reprlib import repr as short
+from typing import Any, Literal
 
-from .calls import Call
+from .currents import current_of
 from .faults import UsageError
+from .rule_values import DIGITS, Rule, refuse
 
-DIGITS = "0123456789abcdef"
 LISTED = 64                                     # rows of a table, and letters in cells of their own
-Kind = TypeVar("Kind", bound="Found")
 
 
 class Answer:
-    """What is common: a text, which is `text` too, and a table of its lines for a notebook."""
+    """What is common: a text, which is `text` too, the values as a dict of one level, and a table of the lines for a
+    notebook."""
+
+    def __str__(self) -> str:
+        return str(getattr(self, "text"))
+
+    def as_dict(self) -> dict[str, Any]:
+        """The values by their names, each one that JSON and a cell of a table have room for: parts are texts."""
+        return {part.name: flat(getattr(self, part.name)) for part in fields(self) if part.name != "text"}
 
     def _repr_html_(self) -> str:
         return table(line.split(" ", 1) for line in str(self).splitlines())
 
 
-class Found(Answer):
-    """An answer of the library: values, and beside them the call that they came of, which is asked for the text when that
-    is wanted. One that is made in another way has no text."""
-    _call: Call | None = None
+def flat(value: Any) -> Any:
+    """A value, or its text where it has parts."""
+    if isinstance(value, (tuple, list)):
+        return " ".join(map(str, value))
+    return value if value is None or isinstance(value, (bool, int, str)) else str(value)
 
-    def of_call(self: Kind, call: Call) -> Kind:
-        object.__setattr__(self, "_call", call)
-        return self
 
-    @property
-    def text(self) -> str:
-        if self._call is None:
-            raise ValueError("what no call has found has no text")
-        return self._call.text()
+# Lines
 
-    def __str__(self) -> str:
-        return repr(self) if self._call is None else self.text
+def line(*words: object) -> str:
+    return " ".join(map(str, words)) + "\n"
+
+
+def verdict(name: str, holds: object, *evidence: object) -> str:
+    """The line of a verdict with the words of its evidence; a kind without any is left out."""
+    return line(name, "yes" if holds else "no", *evidence)
 
 
 def table(rows: Iterable[Iterable[str]]) -> str:
@@ -68,11 +77,23 @@ class Tail:
     middle: str
     right: str
 
+    def __post_init__(self) -> None:
+        for name in ("left", "middle", "right"):
+            word = getattr(self, name)
+            if not isinstance(word, str):
+                raise refuse(f"{name} is", "a text of digits", word)
+            if not re.fullmatch("[0-9a-fA-F]*", word):
+                raise UsageError(f"{name} is a text of hexadecimal digits, and not {short(word)}")
+
     def __str__(self) -> str:
         return f"{self.left}|{self.middle}|{self.right}"
 
     def cells(self, start: int, stop: int) -> str:
         """The letters of the cells from `start` on, before `stop`."""
+        for name in ("left", "right"):
+            if not getattr(self, name):
+                raise UsageError(f"{name} must have a letter, since it is repeated")
+
         def letter(cell: int) -> str:
             if cell < 0:
                 return self.left[cell % len(self.left)]
@@ -82,7 +103,12 @@ class Tail:
 
     @staticmethod
     def of(text: str) -> Tail:
-        return Tail(*text.split("|"))
+        if not isinstance(text, str):
+            raise refuse("tail is", "a text LEFT|MIDDLE|RIGHT", text)
+        parts = text.split("|")
+        if len(parts) != 3 or not all(re.fullmatch("[0-9a-fA-F]*", part) for part in parts):
+            raise UsageError(f"tail is LEFT|MIDDLE|RIGHT, three words of hexadecimal digits, and not {short(text)}")
+        return Tail(*parts)
 
     @staticmethod
     def ring(word: str) -> Tail:
@@ -96,12 +122,18 @@ class Window:
     letters: int
     place: int
 
+    def __str__(self) -> str:
+        return f"{self.letters} {self.place}"
+
 
 @dataclass(frozen=True)
 class Pair:
     """Two words of one length: twins, whose rings have one image, or an erasable pair."""
     first: str
     second: str
+
+    def __str__(self) -> str:
+        return f"{self.first} {self.second}"
 
     def _repr_html_(self) -> str:
         return table([["first", *letters(self.first)], ["second", *letters(self.second)]])
@@ -112,6 +144,9 @@ class Split:
     """Two configurations that agree to one side, differ, and share an image."""
     first: Tail
     second: Tail
+
+    def __str__(self) -> str:
+        return f"{self.first} {self.second}"
 
     def _repr_html_(self) -> str:
         return table([["first", str(self.first)], ["second", str(self.second)]])
@@ -131,8 +166,11 @@ class Closing:
         return table([["closes", "yes"], ["look-ahead", str(self.ahead)]] if self.split is None else
                      [["closes", "no"], ["split", str(self.split.first), str(self.split.second)]])
 
+    def _line(self, name: str) -> str:
+        return verdict(name, True, "ahead", self.ahead) if self.split is None else verdict(name, False, "split", self.split)
+
     @staticmethod
-    def of(value: dict[str, Any]) -> Closing:
+    def _of(value: dict[str, Any]) -> Closing:
         if value["holds"]:
             return Closing(value["ahead"], None)
         return Closing(None, Split(*(Tail(**tail) for tail in value["split"])))
@@ -141,9 +179,10 @@ class Closing:
 # Answers about one rule
 
 @dataclass(frozen=True)
-class Report(Found):
-    """The report of `decide`: five verdicts and whether the rule is open, each with its least evidence."""
-    rule: str
+class Report(Answer):
+    """The report of `decide`: five verdicts and whether the rule is open, each with its least evidence. `weights` is what
+    each letter weighs, or None where it weighs its own value."""
+    rule: Rule
     number: int | None
     surjective: bool
     orphan: str | None
@@ -156,48 +195,89 @@ class Report(Found):
     conserving: bool
     flux: tuple[int, ...] | None
     ring: str | None
-
-    @staticmethod
-    def of(value: dict[str, Any]) -> Report:
-        number, onto, one, kept = (value[name] for name in ("number", "surjective", "injective", "conserving"))
-        return Report(
-            value["rule"], None if number is None else int(number),
-            onto["holds"], onto.get("orphan"),
-            one["holds"], Window(*one["window"]) if one["holds"] else None, None if one["holds"] else Pair(*one["twins"]),
-            Closing.of(value["right"]), Closing.of(value["left"]), value["open"],
-            kept["holds"], tuple(kept["flux"]) if kept["holds"] else None, kept.get("ring"))
-
-
-@dataclass(frozen=True)
-class Certificate(Answer):
-    """A certificate, as one JSON text without a line end."""
-    text: str = field(repr=False)
-
-    def __str__(self) -> str:
-        return self.text
-
-    @staticmethod
-    def of(value: dict[str, Any]) -> Certificate:
-        return Certificate(json.dumps(value, separators=(",", ":")))
+    weights: tuple[int, ...] | None = None
 
     @property
+    def text(self) -> str:
+        return "".join([
+            line("rule", self.rule), line("number", "none" if self.number is None else self.number),
+            verdict("surjective", self.surjective, *(() if self.orphan is None else ("orphan", self.orphan))),
+            verdict("injective", self.injective, *(("window", self.window) if self.injective else ("twins", self.twins))),
+            self.right._line("right"), self.left._line("left"), verdict("open", self.open),
+            verdict("conserving", self.conserving, *(("ring", self.ring) if self.flux is None else ("flux", *self.flux)))])
+
+    @property
+    def current(self) -> tuple[int, ...] | None:
+        """What moves between neighbours, or None where the sum isn't kept: a number for each word of width - 1 letters, by the
+        word's value. The word lies to the left of a place between two cells where the offset is 1 - width, and round it or to
+        its right where the offset is greater. What a cell weighs more in the image than before is the number to its left less
+        the one to its right. Where windows don't hold their own cells, the words reach from the window to the cell."""
+        if self.flux is None:
+            return None
+        rule = self.rule
+        return current_of(rule.states, rule.width, rule.offset, 1, self.flux, self.weights or range(rule.states))
+
+    def as_dict(self) -> dict[str, Any]:
+        values = super().as_dict()
+        for side in ("right", "left"):
+            closing: Closing = getattr(self, side)
+            values[side] = bool(closing)
+            values |= {f"{side}_ahead": closing.ahead, f"{side}_split": flat(closing.split)}
+        return values
+
+    @staticmethod
+    def _of(value: dict[str, Any], weights: tuple[int, ...] | None = None) -> Report:
+        number, onto, one, kept = (value[name] for name in ("number", "surjective", "injective", "conserving"))
+        return Report(
+            Rule._made(value["rule"]), None if number is None else int(number),
+            onto["holds"], onto.get("orphan"),
+            one["holds"], Window(*one["window"]) if one["holds"] else None, None if one["holds"] else Pair(*one["twins"]),
+            Closing._of(value["right"]), Closing._of(value["left"]), value["open"],
+            kept["holds"], tuple(kept["flux"]) if kept["holds"] else None, kept.get("ring"), weights)
+
+
+@dataclass(frozen=True, repr=False)
+class Certificate(Answer):
+    """A certificate, as one JSON text without a line end."""
+    text: str
+
+    @staticmethod
+    def _of(value: dict[str, Any]) -> Certificate:
+        return Certificate(json.dumps(value, separators=(",", ":")))
+
+    @cached_property
     def data(self) -> dict[str, Any]:
-        """The object that the text writes, as docs/CERTIFICATES.md has its keys."""
+        """The object that the text writes, as docs/CERTIFICATES.md has its keys. It is read once, and is to be left as it is."""
         data: dict[str, Any] = json.loads(self.text)
         return data
 
     @property
-    def rule(self) -> str:
-        return str(self.data["rule"])
+    def rule(self) -> Rule:
+        return Rule._made(self.data["rule"])
+
+    @property
+    def weights(self) -> tuple[int, ...] | None:
+        """What each letter weighs, or None where it weighs its own value."""
+        weights = self.data.get("weights")
+        return None if weights is None else tuple(weights)
+
+    def as_dict(self) -> dict[str, Any]:
+        return dict(self.data)
+
+    def __repr__(self) -> str:
+        return f"Certificate({str(self.rule)!r}, version={self.data['version']}, {len(self.text):,} bytes)"
+
+    def __getstate__(self) -> dict[str, str]:
+        return {"text": self.text}
 
     def _repr_html_(self) -> str:
         return table((key, json.dumps(value)) for key, value in self.data.items() if key != "ranks")
 
 
 @dataclass(frozen=True)
-class Verdicts(Found):
+class Verdicts(Answer):
     """What `check` says of an accepted certificate; `weights` exactly where a letter doesn't weigh its value."""
-    rule: str
+    rule: Rule
     surjective: bool
     injective: bool
     right: bool
@@ -206,24 +286,39 @@ class Verdicts(Found):
     conserving: bool
     weights: tuple[int, ...] | None
 
+    @property
+    def text(self) -> str:
+        names = ("surjective", "injective", "right", "left", "open", "conserving")
+        weights = [] if self.weights is None else [line("weights", ",".join(map(str, self.weights)))]
+        return "".join([line("accepted", self.rule), *(verdict(name, getattr(self, name)) for name in names), *weights])
+
     @staticmethod
-    def of(value: dict[str, Any]) -> Verdicts:
+    def _of(value: dict[str, Any]) -> Verdicts:
         weights = tuple(value["weights"])
-        parts: dict[str, Any] = {**value, "weights": None if weights == tuple(range(len(weights))) else weights}
+        parts: dict[str, Any] = {**value, "rule": Rule._made(value["rule"]),
+                                 "weights": None if weights == tuple(range(len(weights))) else weights}
         return Verdicts(**parts)
 
 
 @dataclass(frozen=True)
-class Language(Found):
+class Language(Answer):
     """The least automaton of the words that have a preimage: how many classes there are, the class of the
     orphans, and for each class the class after it on each letter. It begins in class 0."""
     classes: int
     dead: int | None
     after: tuple[tuple[int, ...], ...] = field(repr=False)
 
+    @property
+    def text(self) -> str:
+        return "".join([line("classes", self.classes), line("dead", "none" if self.dead is None else self.dead),
+                        *(line(*row) for row in self.after)])
+
     @staticmethod
-    def of(value: dict[str, Any]) -> Language:
+    def _of(value: dict[str, Any]) -> Language:
         return Language(value["classes"], value["dead"], tuple(map(tuple, value["next"])))
+
+    def as_dict(self) -> dict[str, Any]:
+        return {"classes": self.classes, "dead": self.dead, "after": [list(row) for row in self.after]}
 
     def class_of(self, word: object) -> int:
         """The class of a word, which is a text."""
@@ -248,35 +343,48 @@ class Language(Found):
 
 
 @dataclass(frozen=True)
-class Inverse(Found):
+class Inverse(Answer):
     """The map that gives every cell back from the image: the least window, the offset from which on it reads
     the image, its letter for each word, and the map as a rule where that is within the limits."""
     window: Window
     offset: int
     map: str = field(repr=False)
-    rule: str | None
+    rule: Rule | None
+
+    @property
+    def text(self) -> str:
+        return line("window", self.window) + line("offset", self.offset) + line("map", self.map) + line("rule", self.rule or "none")
 
     @staticmethod
-    def of(value: dict[str, Any]) -> Inverse:
-        return Inverse(Window(*value["window"]), value["offset"], value["map"], value["rule"])
+    def _of(value: dict[str, Any]) -> Inverse:
+        rule = value["rule"]
+        return Inverse(Window(*value["window"]), value["offset"], value["map"], None if rule is None else Rule._made(rule))
 
 
 @dataclass(frozen=True)
-class Same(Found):
+class Same(Answer):
     """Whether two rules have the same orphans, or the first word that is one of exactly one of them. It is true
     exactly where they have."""
     word: str | None
+
+    @property
+    def text(self) -> str:
+        return line("same yes") if self.word is None else line("same no", self.word)
 
     def __bool__(self) -> bool:
         return self.word is None
 
 
 @dataclass(frozen=True)
-class Preimage(Found):
+class Preimage(Answer):
     """The first configuration that maps to the given one, whose middle begins at the cell `start`. It is
     true."""
     start: int
     tail: Tail
+
+    @property
+    def text(self) -> str:
+        return line("preimage", self.start, self.tail)
 
     def __bool__(self) -> Literal[True]:
         return True
@@ -286,12 +394,16 @@ class Preimage(Found):
 
 
 @dataclass(frozen=True)
-class Gap(Found):
+class Gap(Answer):
     """That nothing maps to the given configuration: `left` of its left periods, its middle and `right` of its
     right ones are an orphan, `word`. It is false."""
     left: int
     right: int
     word: str
+
+    @property
+    def text(self) -> str:
+        return line("no preimage", self.left, self.right, self.word)
 
     def __bool__(self) -> Literal[False]:
         return False
@@ -312,7 +424,7 @@ def preimage_of(finding: dict[str, Any]) -> Preimage | Gap:
 # Answers about many rules
 
 @dataclass(frozen=True)
-class Summary:
+class Summary(Answer):
     """How many rules there are, and how many of them have each property. Summaries of different rules are
     added, many of them by `sum(summaries, Summary())`."""
     rules: int = 0
@@ -323,20 +435,28 @@ class Summary:
     open: int = 0
     conserving: int = 0
 
+    @property
+    def text(self) -> str:
+        return "".join(line(part.name, getattr(self, part.name)) for part in fields(Summary))
+
     def __add__(self, other: Summary) -> Summary:
         if not isinstance(other, Summary):
             return NotImplemented
         return Summary(*(getattr(self, part.name) + getattr(other, part.name) for part in fields(Summary)))
-
-    def __str__(self) -> str:
-        return "".join(f"{part.name} {getattr(self, part.name)}\n" for part in fields(Summary))
 
     def _repr_html_(self) -> str:
         return table((part.name, f"{getattr(self, part.name):,}") for part in fields(Summary))
 
 
 @dataclass(frozen=True)
-class ClassSummary(Found):
+class ClassSummary(Answer):
     """A summary, and in how many classes the rules lie. Two of these can't be added: they may share a class."""
     counts: Summary
     classes: int
+
+    @property
+    def text(self) -> str:
+        return self.counts.text + line("classes", self.classes)
+
+    def as_dict(self) -> dict[str, Any]:
+        return {**self.counts.as_dict(), "classes": self.classes}

@@ -1,4 +1,4 @@
-"""Which sums a rule keeps: all of them, for letters or for words of a few letters.
+"""Which sums a rule keeps: all of them, for letters or for words of a few letters; and whether it keeps one.
 
 A sum weighs each word of `range` letters and adds up, round a ring, the weights of the words that begin at each place.
 Every rule keeps the trivial ones, which say no more than how many letters the ring has. Each other one that is kept is a
@@ -6,17 +6,23 @@ rational combination of the rows and of a trivial one; docs/SUMS.md of the repos
 """
 from __future__ import annotations
 
+import json
+import math
+from collections.abc import Mapping, Sequence
 from dataclasses import dataclass, field
-from typing import SupportsIndex
+from fractions import Fraction
+from numbers import Rational
+from typing import Any, SupportsIndex, Union
 
-from .commands import shift
+from .currents import current_of, reach
 from .faults import UsageError
-from .graphs import Graph
 from .library import library
-from .operands import Rule, index
-from .report import DIGITS, Answer, table
+from .report import Answer, table
+from .rule_values import DIGITS, Rule, RuleLike, index, refuse, rule_of
 
 MOST_WORDS = 16
+HEAVIEST = 1 << 56                              # a weight that the library takes
+Number = Union[int, Fraction]
 
 
 @dataclass(frozen=True)
@@ -27,44 +33,109 @@ class KeptSums(Answer):
     `rings` has, for each other word by which no row begins, a ring. These rings alone show that no more sums are kept:
     whatever keeps their sums is a combination of the rows and of a trivial one."""
     text: str = field(repr=False)
-    rule: str
+    rule: Rule
     range: int
     rows: tuple[dict[str, int], ...]
     rings: dict[str, str]
 
-    def __str__(self) -> str:
-        return self.text
+    def __hash__(self) -> int:
+        return hash((self.rule, self.range, self.text))
 
     @property
     def fluxes(self) -> tuple[dict[str, int], ...]:
         """The flux of each row, by the words of width + range - 2 letters that have a number other than 0: for each word of
         one letter more, what its image weighs more than its first letters is the number of its first letters but for the
         last less that of its last letters but for the first."""
-        graph = Graph(self.rule)
-        words = all_words(graph.states, graph.width + self.range - 2)
-        return tuple(dict((word, number) for word, number in zip(words, flux_of(graph, self.range, row)) if number)
-                     for row in self.rows)
+        words = all_words(self.rule.states, self.rule.width + self.range - 2)
+        return tuple(named(words, flux_of(self.rule, self.range, row)) for row in self.rows)
+
+    @property
+    def currents(self) -> tuple[dict[str, int], ...]:
+        """The current of each row, by the words that have a number other than 0: what moves between neighbours. What the word
+        at a cell weighs more in the image than before is the number to the cell's left less the one to its right. As with
+        `current` of a report the words are as long as those of `fluxes` where windows hold their own cells, and begin at the
+        first cell of the window."""
+        rule = self.rule
+        words = all_words(rule.states, reach(rule.width, rule.offset, self.range))
+        return tuple(named(words, current_of(rule.states, rule.width, rule.offset, self.range, flux_of(rule, self.range, row),
+                                             by_values(rule.states, self.range, row))) for row in self.rows)
+
+    def as_dict(self) -> dict[str, Any]:
+        """What `python -m foursaspen kept --json` writes, and checkers/sums.py judges."""
+        return {"rule": str(self.rule), "range": self.range, "rows": [dict(row) for row in self.rows],
+                "fluxes": [dict(flux) for flux in self.fluxes], "rings": dict(self.rings)}
+
+    def as_json(self) -> str:
+        """The same as a JSON text."""
+        return json.dumps(self.as_dict())
 
     def _repr_html_(self) -> str:
-        words = free_words(int(self.rule.split(":")[0]), self.range)
+        words = free_words(self.rule.states, self.range)
         heads = [f"row {place}" for place in range(1, len(self.rows) + 1)]
         lines = [[word, *(str(row.get(word, 0)) for row in self.rows), self.rings.get(word, "")] for word in words]
         return table([["word", *heads, "ring"], *lines])
 
 
-def kept_sums(rule: Rule, range: SupportsIndex = 1) -> KeptSums:
+def kept_sums(rule: RuleLike, range: SupportsIndex = 1) -> KeptSums:
     """All sums that a rule keeps, of weights of words of `range` letters: the rows of the one reduced basis, and rings that
     show that there are no more. There may be at most 16 words of so many letters. A sum of whole numbers is kept where each
     ring, however long, has the sum of its image."""
-    graph = Graph(shift(rule, 0))
-    letters = whole_range(graph.states, range)
-    found = library().kept_sums(graph.states, graph.width, bytes(graph.table), letters)
-    words = {value: word for value, word in enumerate(all_words(graph.states, letters))}
+    known = rule_of(rule)
+    letters = whole_range(known.states, range)
+    found = library().kept_sums(known.states, known.width, bytes(known.table), letters)
+    words = {value: word for value, word in enumerate(all_words(known.states, letters))}
     rows = tuple({words[value]: weight for value, weight in enumerate(row) if weight}
                  for row, count in zip(found.rows, found.counts) if not count and any(row))
     rings = {words[place]: "".join(DIGITS[letter] for letter in ring[:count])
              for place, (ring, count) in enumerate(zip(found.rings, found.counts)) if count}
-    return KeptSums(text_of(rows, rings), graph.rule, letters, rows, rings)
+    return KeptSums(text_of(rows, rings), known, letters, rows, rings)
+
+
+def flux(rule: RuleLike, weights: Mapping[str, Any]) -> dict[str, Number] | None:
+    """The flux of a sum that somebody has in mind, or None where the rule doesn't keep it. `weights` has what words of one
+    length weigh, whole numbers or fractions; other words weigh 0. The flux is by the words of width + range - 2 letters that
+    have a number other than 0, as in `KeptSums.fluxes`, and empty where the sum stays at each place."""
+    known = rule_of(rule)
+    letters, weighed = words_weighed(known.states, weights)
+    times = math.lcm(*(number.denominator for number in weighed.values()))
+    row = {word: int(number * times) for word, number in weighed.items()}
+    if any(abs(number) > HEAVIEST for number in row.values()):
+        raise UsageError(f"weights are at most {HEAVIEST:,} on either side of 0, where all are whole, and not "
+                         f"{max(row.values(), key=abs):,}")
+    found = library().flux(known.states, known.width, bytes(known.table), letters, by_values(known.states, letters, row))
+    if found is None:
+        return None
+    words = all_words(known.states, known.width + letters - 2)
+    return {word: shown(Fraction(number, times)) for word, number in named(words, found).items()}
+
+
+def keeps(rule: RuleLike, weights: Mapping[str, Any]) -> bool:
+    """Whether a rule keeps a sum that somebody has in mind: `flux` says what its operands are."""
+    return flux(rule, weights) is not None
+
+
+def words_weighed(states: int, weights: Mapping[str, Any]) -> tuple[int, dict[str, Fraction]]:
+    """How many letters the words have, and what each weighs that is named."""
+    if not isinstance(weights, Mapping):
+        raise refuse("weights are", "a dict of words and what they weigh, as {'10': 1}", weights)
+    known: dict[str, Fraction] = {}
+    for word, weight in weights.items():
+        if not isinstance(word, str):
+            raise refuse("a word of weights is", "a text of digits", word)
+        if word == "" or set(word.lower()) - set(DIGITS[:states]):
+            raise UsageError(f"words of weights have letters from 0 to {DIGITS[states - 1]}, and not {word!r}")
+        if isinstance(weight, bool) or not isinstance(weight, Rational):
+            weight = index(f"the weight of {word} is", "a whole number or a fraction", weight)
+        known[word.lower()] = Fraction(int(weight.numerator), int(weight.denominator))
+    sizes = sorted({len(word) for word in known})
+    if len(sizes) != 1:
+        raise UsageError("weights are of words of one length, and not of " + (" and ".join(map(str, sizes)) or "no word"))
+    return whole_range(states, sizes[0]), known
+
+
+def shown(number: Fraction) -> Number:
+    """A whole number as one."""
+    return int(number) if number.denominator == 1 else number
 
 
 def whole_range(states: int, range: SupportsIndex) -> int:
@@ -95,6 +166,16 @@ def free_words(states: int, letters: int) -> list[str]:
     return [word for word in all_words(states, letters) if word[0] != "0"]
 
 
+def named(words: list[str], numbers: Sequence[int]) -> dict[str, int]:
+    """The numbers other than 0, by their words."""
+    return {word: number for word, number in zip(words, numbers) if number}
+
+
+def by_values(states: int, letters: int, row: Mapping[str, int]) -> list[int]:
+    """The weights of a row, by the values of the words."""
+    return [row.get(word, 0) for word in all_words(states, letters)]
+
+
 def text_of(rows: tuple[dict[str, int], ...], rings: dict[str, str]) -> str:
     """A line for each row, and one for each ring behind the word by which no row begins."""
     lines = ["row " + " ".join(f"{word}:{weight}" for word, weight in row.items()) for row in rows]
@@ -102,9 +183,8 @@ def text_of(rows: tuple[dict[str, int], ...], rings: dict[str, str]) -> str:
     return "".join(f"{line}\n" for line in [f"rows {len(rows)}", *lines])
 
 
-def flux_of(graph: Graph, letters: int, row: dict[str, int]) -> list[int]:
+def flux_of(rule: Rule, letters: int, row: dict[str, int]) -> list[int]:
     """The flux of a row, by the values of the words."""
-    weights = [row.get(word, 0) for word in all_words(graph.states, letters)]
-    found = library().flux(graph.states, graph.width, bytes(graph.table), letters, weights)
+    found = library().flux(rule.states, rule.width, bytes(rule.table), letters, by_values(rule.states, letters, row))
     assert found is not None                    # a row is kept
     return found

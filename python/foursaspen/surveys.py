@@ -13,9 +13,10 @@ from itertools import islice
 from pathlib import Path
 from typing import Any, SupportsIndex
 
-from .commands import START, survey
-from .operands import MOST, whole
+from .commands import START, numbered, survey
+from .operands import MOST
 from .report import Summary
+from .rule_values import refuse, whole
 
 LARGEST = 64 * MOST                             # rules of a task: some half a second
 TASKS = 64                                      # of a survey, at least, where that many calls are in it
@@ -51,16 +52,22 @@ def survey_over(executor: Executor | None, states: SupportsIndex, width: Support
     A task has `task` rules, by default as many as take up to half a second. With `file`, which is made where it isn't
     there, each task that is done is a line, and a survey that was stopped takes up what is there; ValueError where
     the file is another survey's. `bar` shows a bar where tqdm is installed. It begins when the first is asked for."""
-    first = whole("start is", start, 0, START)
-    survey(states, width, first, 1)             # a shape that is refused is refused here
-    states, width = int(states), int(width)
+    pool = executor_of(executor)
+    states, width, first, _ = numbered(states, width, start, 1)
     end: int = states ** states ** width
     end = end if stop is None else whole("stop is", stop, first + 1, end)
     size = min(LARGEST, MOST * math.ceil((end - first) / (MOST * TASKS)))
     size = size if task is None else whole("task is", task, 1, START)
     head = {"states": states, "width": width, "start": first, "stop": end, "task": size}
     done = resumed(Path(file), head) if file else {}
-    return counted(executor, head, done, Path(file) if file else Path(os.devnull), bar)
+    return counted(pool, head, done, Path(file) if file else Path(os.devnull), bar)
+
+
+def executor_of(executor: Executor | None) -> Executor | None:
+    """An executor, or None; it may be of any library that has the call `submit`."""
+    if executor is not None and not callable(getattr(executor, "submit", None)):
+        raise refuse("executor is", "an Executor of concurrent.futures or None", executor)
+    return executor
 
 
 def counted(executor: Executor | None, head: dict[str, int], done: dict[int, Summary], file: Path,

@@ -93,6 +93,21 @@ class Browser:
             self.call("Input.dispatchMouseEvent", type=kind, x=x, y=y, button="left", clickCount=1)
         self.get("new Promise(done => requestAnimationFrame(() => setTimeout(done, 20)))")
 
+    def press(self, key: str) -> None:
+        """Presses a key, Tab or Enter."""
+        code = {"Tab": 9, "Enter": 13}[key]
+        more = {"text": "\r"} if key == "Enter" else {}
+        for kind in ("keyDown", "keyUp"):
+            self.call("Input.dispatchKeyEvent", type=kind, key=key, code=key, windowsVirtualKeyCode=code,
+                      **(more if kind == "keyDown" else {}))
+        self.get("new Promise(done => requestAnimationFrame(() => setTimeout(done, 20)))")
+
+    def write(self, text: str) -> None:
+        """Types letters, one after another."""
+        for letter in text:
+            self.call("Input.dispatchKeyEvent", type="char", text=letter)
+        self.get("new Promise(done => requestAnimationFrame(() => setTimeout(done, 20)))")
+
     def look(self, file: Path) -> None:
         """Writes the whole page as a picture."""
         shot = self.call("Page.captureScreenshot", captureBeyondViewport=True)

@@ -1,11 +1,11 @@
 """A program over the package, as mypy --strict has it: a test narrows what is found."""
 from __future__ import annotations
 
-from foursaspen import (Picture, RefusedError, Rule, Summary, Tail, check, decide, inverse, orphan, picture, preimage,
-                        same, survey_over)
+from foursaspen import (Picture, RefusedError, Rule, RuleLike, Summary, Tail, check, decide, inverse, orphan, picture, preimage,
+                        rules, same, survey_over)
 
 
-def told(rule: Rule, tail: Tail | str) -> str:
+def told(rule: RuleLike, tail: Tail | str) -> str:
     """What a configuration comes from."""
     found = preimage(rule, tail)
     if found:
@@ -13,15 +13,21 @@ def told(rule: Rule, tail: Tail | str) -> str:
     return f"nothing: {found.word} is an orphan of {len(found.word)} letters"
 
 
-def report_of(rule: Rule) -> str:
+def report_of(rule: RuleLike) -> str:
     """A line on a rule."""
     report = decide(rule)
     if report.orphan is not None:
         return f"no word has the image {report.orphan}"
     if report.twins is not None:
         return f"{report.twins.first} and {report.twins.second} are twins"
-    undone: str | None = inverse(report).rule
-    return undone or "it has a wide inverse"
+    undone: Rule | None = inverse(report).rule
+    return f"{undone.width} cells, as {undone.text}" if undone else "it has a wide inverse"
+
+
+def of_lists() -> int:
+    """How many rules are in two lists."""
+    least: list[Rule] = [one.least for one in rules("injective", 2, 3, classes=True)]
+    return len(least) + len([rule.table for rule in rules(("open", "conserving"), 2, 3)])
 
 
 def main() -> None:
@@ -30,7 +36,7 @@ def main() -> None:
     total = Summary()
     for done in survey_over(None, 2, 3):
         total = done.summary
-    print(drawing[:4], total.injective, bool(same(110, 110)))
+    print(drawing[:4], total.injective, bool(same(110, 110)), of_lists())
     try:
         check(b"")
     except RefusedError as fault:

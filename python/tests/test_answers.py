@@ -19,10 +19,9 @@ from pathlib import Path
 from unittest import mock
 
 import foursaspen as ca
-from foursaspen import faults, library
-from foursaspen.calls import Call
+from foursaspen import calls, faults, library
 
-from .support import TOP
+from .support import TOP, output
 
 
 def cells(answer: object) -> list[list[str]]:
@@ -48,6 +47,56 @@ class Reports(unittest.TestCase):
         self.assertEqual((report.window, report.twins), (ca.Window(1, 1), None))
         self.assertEqual((report.right, report.left), (ca.Closing(1, None), ca.Closing(2, None)))
         self.assertEqual((report.open, report.conserving, report.flux, report.ring), (True, True, (0, -2), None))
+
+    def test_weights_go_with_a_report(self) -> None:
+        """The rule that exchanges 0 and 2 keeps a sum exactly where they weigh the same."""
+        rule = ca.Rule.of(lambda a, b: {0: 2, 1: 1, 2: 0}[a], states=3)
+        self.assertFalse(ca.decide(rule).conserving)
+        report = ca.decide(rule, [5, 9, 5])
+        self.assertEqual((report.conserving, report.flux, report.weights), (True, (0, 0, 0), (5, 9, 5)))
+        self.assertEqual((ca.decide(report), ca.decide(report, [0, 1, 2]).conserving), (report, False))
+        for certificate in (ca.certify(report), ca.brief(report)):
+            verdicts = ca.check(certificate)
+            self.assertEqual((verdicts.weights, verdicts.conserving, certificate.weights), ((5, 9, 5), True, (5, 9, 5)))
+            self.assertEqual([ca.decide(verdicts), ca.decide(certificate)], [report, report])
+        self.assertIn("conserving: <b>yes</b>", ca.page(report))
+        self.assertEqual(ca.page(report), ca.page(rule, "5,9,5"))
+        self.assertIn("conserving: <b>no</b>", ca.page(rule))
+        self.assertEqual(ca.picture(report, "flux"), ca.picture(rule, "flux", {0: 5, 1: 9, 2: 5}))
+        self.assertEqual(ca.picture(report, "current")[:4], "<svg")
+        self.assertRaises(ValueError, ca.picture, rule, "flux")
+        ask = [sys.executable, "-m", "foursaspen"]
+        self.assertEqual(output([*ask, "picture", rule, "flux", "--weights", "5,9,5"]), ca.picture(report, "flux"))
+        self.assertEqual(output([*ask, "page", rule, "5,9,5"]), ca.page(report))
+
+    def test_reports_of_other_sums_differ(self) -> None:
+        reports = [ca.decide(0), ca.decide(0, [0, 1]), ca.decide(0, [1, 1]), ca.decide(0, [2, 2]), ca.decide(0, [1, 2])]
+        self.assertEqual([report.weights for report in reports], [None, None, (1, 1), (2, 2), (1, 2)])
+        self.assertEqual(len(set(reports)), 4)
+        self.assertEqual(pickle.loads(pickle.dumps(reports[3])), reports[3])
+
+    def test_values_in_one_row(self) -> None:
+        """By the report of README, and by docs/COMMANDS.md."""
+        row = ca.decide(110).as_dict()
+        self.assertEqual(row, json.loads(json.dumps(row)))
+        self.assertEqual(row, {
+            "rule": "2:3:-1:t01110110", "number": 110, "surjective": False, "orphan": "01010", "injective": False, "window": None,
+            "twins": "0 1", "right": False, "right_ahead": None, "right_split": "0|100|0 0|111|1", "left": False,
+            "left_ahead": None, "left_split": "011|01|0 110|11|0", "open": False, "conserving": False, "flux": None, "ring": "1",
+            "weights": None})
+        more = ca.as_dict(170)
+        self.assertEqual({name: more[name] for name in ("window", "right_ahead", "left_ahead", "flux", "inverse", "least", "kept_sums")},
+                         {"window": "1 2", "right_ahead": 1, "left_ahead": 3, "flux": "0 -1 -1 -2", "inverse": "2:2:-1:t0011",
+                          "least": "2:3:0:t01010101", "kept_sums": "1 2 4 8"})
+        for answer in (ca.survey(2, 2, 0, 16), ca.classes(2, 2, 0, 16), ca.inverse(170), ca.same(110, 90), ca.certify(30),
+                       ca.preimage(204, "1|0|1"), ca.language(110), ca.check(ca.brief(30))):
+            self.assertEqual(answer.as_dict(), json.loads(json.dumps(answer.as_dict())))
+
+    def test_certificates_say_what_they_are(self) -> None:
+        certificate = ca.certify("2:2:0:t0101")
+        self.assertEqual(repr(certificate), f"Certificate('2:2:0:t0101', version=2, {len(certificate.text)} bytes)")
+        self.assertIs(certificate.data, certificate.data)
+        self.assertEqual(repr(ca.brief(110))[:47], "Certificate('2:3:-1:t01110110', version=3, 393 ")
 
     def test_answers_are_frozen(self) -> None:
         with self.assertRaises(dataclasses.FrozenInstanceError):
@@ -102,19 +151,19 @@ class Reports(unittest.TestCase):
 
 
 class Texts(unittest.TestCase):
-    """The text of an answer, which is asked for apart from its values."""
+    """The text of an answer, which is made of its values."""
 
     ANSWERS: tuple[Callable[[], ca.Answer], ...] = (
         lambda: ca.decide(110), lambda: ca.language(54), lambda: ca.same(110, 124), lambda: ca.preimage(90, "0|1|0"),
         lambda: ca.inverse(170), lambda: ca.classes(2, 3, 7, 100), lambda: ca.check(ca.brief(30)))
 
-    def test_it_is_asked_for_once_and_when_it_is_wanted(self) -> None:
+    def test_it_needs_no_library(self) -> None:
+        called = AssertionError("the library is called")
         for asked in self.ANSWERS:
-            with mock.patch.object(library.Library, "run", autospec=True, side_effect=library.Library.run) as run:
-                answer = asked()
-                run.assert_not_called()
-                self.assertEqual(str(answer), str(answer))
-                self.assertEqual((str(answer)[-1], run.call_count), ("\n", 1))
+            answer = asked()
+            with mock.patch.object(library.Library, "run", side_effect=called), \
+                    mock.patch.object(library.Library, "run_json", side_effect=called):
+                self.assertEqual((str(answer)[-1], str(answer)), ("\n", getattr(answer, "text")))
 
     def test_answers_go_between_processes(self) -> None:
         for asked in self.ANSWERS:
@@ -128,12 +177,18 @@ class Texts(unittest.TestCase):
 
     def test_answers_are_values_alone(self) -> None:
         made = ca.Preimage(-1, ca.Tail("0", "0", "01"))
-        self.assertEqual((ca.preimage(90, "0|1|0"), str(made)), (made, repr(made)))
-        with self.assertRaises(ValueError):
-            made.text
+        self.assertEqual((ca.preimage(90, "0|1|0"), str(made)), (made, "preimage -1 0|0|01\n"))
         values = json.loads(json.dumps(dataclasses.asdict(ca.decide(170))))
         self.assertEqual((values["window"], values["flux"]), ({"letters": 1, "place": 2}, [0, -1, -1, -2]))
         self.assertEqual(set(values), {field.name for field in dataclasses.fields(ca.Report)})
+
+
+class Replies(unittest.TestCase):
+    def test_the_example_of_the_page(self) -> None:
+        """The whole reply that docs/ANSWERS.md shows."""
+        page = (TOP / "docs" / "ANSWERS.md").read_text()
+        shown = json.loads(page.split("```json\n")[1].split("```")[0])
+        self.assertEqual(json.loads(library.library().run_json(["decide", "110"]).output), shown)
 
 
 class Bytes(unittest.TestCase):
@@ -175,7 +230,7 @@ class Bytes(unittest.TestCase):
 class Faults(unittest.TestCase):
     def test_each_status_has_its_exception(self) -> None:
         with self.assertRaises(ca.UsageError) as usage:
-            Call("preimage", 110, "0|1").reply()
+            calls.reply("preimage", 110, "0|1")
         self.assertEqual((str(usage.exception), usage.exception.output), ("usage error", "usage error\n"))
         with self.assertRaises(ca.RuleError) as rule:
             ca.same("3:2:0:w0", "2:3")
@@ -211,7 +266,7 @@ class Faults(unittest.TestCase):
 
     def test_faults_go_between_processes(self) -> None:
         lines = {ca.RefusedError("orphan"): "refused orphan", ca.UsageError(): "usage error",
-                 ca.RuleError(1, "form", 3): "rule fault 1 form 3", ca.RuleError(2, "number"): "rule fault 2 number",
+                 ca.RuleError(1, "form", 3, "and not this"): "rule fault 1 form 3", ca.RuleError(2, "number"): "rule fault 2 number",
                  ca.NotFitError("wide", "17"): "notfit wide 17", ca.NotFitError("twins", "0", "1"): "notfit twins 0 1",
                  ca.NotFitError("states"): "notfit states", ca.TooLongError(): "too long",
                  ca.OutOfMemoryError("there was no memory"): ""}
@@ -245,11 +300,6 @@ class Faults(unittest.TestCase):
         for kind in [*faults.KINDS.values(), ca.LibraryMissingError]:
             self.assertTrue(issubclass(kind, ca.FoursaspenError))
             self.assertTrue(kind.__name__.endswith("Error"))
-
-    def test_the_names_of_version_1(self) -> None:
-        self.assertEqual([ca.Fault, ca.Refused, ca.UsageFault, ca.RuleFault, ca.NotFit, ca.TooLong, ca.OutOfMemory,
-                          ca.WordsFault, ca.LibraryMissing],
-                         [ca.FoursaspenError, *map(faults.KINDS.get, (1, 2, 3, 4, 5, 8, 9)), ca.LibraryMissingError])
 
     def test_each_kind_of_a_rule_error_is_explained(self) -> None:
         page = (TOP / "docs" / "COMMANDS.md").read_text()

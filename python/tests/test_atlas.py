@@ -7,7 +7,7 @@ import re
 import unittest
 
 import foursaspen as ca
-from foursaspen import atlas
+from foursaspen import atlases
 
 from .support import TOP
 
@@ -19,31 +19,36 @@ INJECTIVE = {15, 51, 85, 170, 204, 240}
 CONSERVING = {170, 184, 204, 226, 240}
 
 
+def numbers(entry: atlases.Entry) -> list[int]:
+    """The numbers of the rules of a class."""
+    return [int(name) for name in entry.names]
+
+
 class Elementary(unittest.TestCase):
-    entries: list[atlas.Class]
+    entries: list[atlases.Entry]
 
     @classmethod
     def setUpClass(cls) -> None:
-        cls.entries = list(atlas.classes_of(2, 3))
+        cls.entries = list(atlases.entries_of(2, 3))
 
     def having(self, name: str) -> set[int]:
         """The rules of the classes that have a property."""
-        return {rule for entry in self.entries if getattr(entry.report, name) for rule in entry.members}
+        return {number for entry in self.entries if getattr(entry.report, name) for number in numbers(entry)}
 
     def test_the_page(self) -> None:
-        self.assertEqual((TOP / "docs" / "ELEMENTARY.md").read_text(), atlas.page())
+        self.assertEqual((TOP / "docs" / "ELEMENTARY.md").read_text(), ca.atlas(form="markdown"))
 
     def test_classes(self) -> None:
-        self.assertEqual([entry.members[0] for entry in self.entries], list(map(int, LEAST.split())))
-        self.assertEqual(sorted(rule for entry in self.entries for rule in entry.members), list(range(256)))
-        self.assertIn((110, 124, 137, 193), [entry.members for entry in self.entries])
+        self.assertEqual([numbers(entry)[0] for entry in self.entries], list(map(int, LEAST.split())))
+        self.assertEqual(sorted(number for entry in self.entries for number in numbers(entry)), list(range(256)))
+        self.assertIn([110, 124, 137, 193], list(map(numbers, self.entries)))
 
     def test_members_are_mirrors_and_complements(self) -> None:
         for entry in self.entries:
             rule = entry.members[0]
             mirror = ca.reflect(rule)
             alike = [ca.reflect(mirror), mirror, ca.permute(rule, "10"), ca.permute(mirror, "10")]
-            self.assertEqual(entry.members, tuple(sorted({ca.number(text) or 0 for text in alike})))
+            self.assertEqual(numbers(entry), sorted({ca.number(text) or 0 for text in alike}))
 
     def test_facts_of_the_literature(self) -> None:
         self.assertEqual(len(self.having("surjective")), 30)
@@ -57,7 +62,7 @@ class Elementary(unittest.TestCase):
                 re.findall(r"^\| (\d+) \| [\d, ]+ \|((?: \d \|){4})$", page, re.M)}
         self.assertEqual(len(told), 29)
         for entry in self.entries:
-            self.assertEqual(" ".join(map(str, atlas.kept(entry.report.rule))), told.get(entry.members[0], "0 0 0 0"))
+            self.assertEqual(" ".join(map(str, atlases.kept(entry.report.rule))), told.get(numbers(entry)[0], "0 0 0 0"))
 
     def test_a_class_has_the_verdicts_of_each_member(self) -> None:
         for entry in self.entries:
@@ -70,7 +75,7 @@ class Elementary(unittest.TestCase):
 
 class Csv(unittest.TestCase):
     def test_two_states_of_width_two(self) -> None:
-        rows = list(csv.DictReader(io.StringIO(atlas.as_csv(2, 2))))
+        rows = list(csv.DictReader(io.StringIO(ca.atlas(2, 2, "csv"))))
         self.assertEqual(len(rows), 7)
         self.assertEqual(sum(len(row["members"].split()) for row in rows), 16)
         self.assertEqual(sum(len(row["members"].split()) for row in rows if row["surjective"] == "yes"), 6)
@@ -78,7 +83,7 @@ class Csv(unittest.TestCase):
         self.assertEqual((mod2["twins"], mod2["right evidence"], mod2["open"]), ("0 1", "1", "yes"))
 
     def test_a_shape_without_numbers(self) -> None:
-        self.assertRaises(ca.RuleFault, atlas.as_csv, 7, 2)
+        self.assertRaises(ca.RuleError, ca.atlas, 7, 2, "csv")
 
 
 if __name__ == "__main__":

@@ -5,6 +5,7 @@ import doctest
 import unittest
 
 import foursaspen
+from foursaspen import rule_values
 
 from .support import TOP
 
@@ -17,6 +18,7 @@ class Examples(unittest.TestCase):
 
     def test_the_package(self) -> None:
         self.assertEqual(doctest.testmod(foursaspen, verbose=False), (0, 2))
+        self.assertEqual(doctest.testmod(rule_values, verbose=False), (0, 5))
 
 
 if __name__ == "__main__":

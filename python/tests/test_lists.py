@@ -98,7 +98,7 @@ class Lists(unittest.TestCase):
 
     def test_refusals_come_at_once(self) -> None:
         over: Any = ca.rules
-        for words in (("reversible", 2, 3), ("Injective", 2, 3), ("injective", 1, 3), ("injective", 2, 6),
+        for words in (("undoable", 2, 3), ("", 2, 3), ((), 2, 3), (ca.Bit(0), 2, 3), ("injective", 1, 3), ("injective", 2, 6),
                       ("injective", 17, 2), ("injective", 2, 3, 0, "2"), ("injective", 2, 3, 0, "000000000"),
                       ("injective", 2, 3, 0, "x"), ("injective", 2, 3, 0, "\u0661"), ("injective", 2, 3, 0, "0\n")):
             with self.assertRaises(ca.UsageError):
@@ -109,7 +109,7 @@ class Lists(unittest.TestCase):
                 over(*words)
             self.assertEqual(caught.exception.kind, kind)
         for words in (("injective", "2", 3), ("injective", 2, 3, 0, 1), ("injective", 2, 3, "0"), ("injective", 2, 3, 0, b"0"),
-                      (2, 2, 3), (["injective"], 2, 3)):
+                      (2, 2, 3), ([2], 2, 3), ({"injective"}, 2, 3), ("injective", 2, 3, 0, "", 4)):
             with self.assertRaises(TypeError):
                 over(*words)
         self.assertEqual(list(ca.rules("injective", 2, 3, 14, "0"))[0], "2:3:14:t00001111")
@@ -146,7 +146,7 @@ class Listing(unittest.TestCase):
     def test_what_is_refused(self) -> None:
         for words, line in ((("injective", "110"), "BEGIN is STATES:WIDTH:OFFSET:t"), (("injective", "2:3:-1:w1"), "BEGIN is"),
                             (("injective", "2:3:-1:t2"), "begin is at most 8"), (("injective", "2:3:15:t"), "rule fault 1 offset"),
-                            (("reversible", "2:3:0:t"), "invalid choice")):
+                            (("undoable", "2:3:0:t"), "property is one of surjective, ")):
             with self.assertRaisesRegex(AssertionError, line):
                 self.listed(*words, "--certificates", str(self.folder))
             self.assertFalse(self.folder.exists())

@@ -19,14 +19,14 @@ from unittest import mock
 from urllib.parse import unquote
 
 import foursaspen as ca
-from foursaspen import atlas, page
+from foursaspen import atlases, pages
 from foursaspen.evidence import EvidenceError, is_split, work_out
 from foursaspen.graphs import Graph
 
 from .browser import Browser
 from .support import ENVIRONMENT, drawn, output
 
-RULES: tuple[ca.Rule, ...] = (110, 184, 30, "2:2:0:t0101")
+RULES: tuple[ca.RuleLike, ...] = (110, 184, 30, "2:2:0:t0101")
 WIDE = "".join(f"{(x + 2 * y) % 16:x}" for x in range(16) for y in range(16))
 
 
@@ -82,18 +82,18 @@ class Evidence(unittest.TestCase):
 
     def test_no_page_where_it_does_not_fit(self) -> None:
         wrong = dataclasses.replace(ca.decide(110), orphan="0101")
-        with mock.patch.object(page, "decide", return_value=wrong):
-            self.assertRaises(EvidenceError, page.page, 110)
-        with mock.patch.object(page, "erase", return_value=ca.Pair("00000", "00000")):
-            self.assertRaises(EvidenceError, page.page, 110)
-        with mock.patch.object(page, "check", return_value=ca.check(ca.certify(90))):
-            self.assertRaises(EvidenceError, page.page, 110)
+        with mock.patch.object(pages, "decide", return_value=wrong):
+            self.assertRaises(EvidenceError, ca.page, 110)
+        with mock.patch.object(pages, "erase", return_value=ca.Pair("00000", "00000")):
+            self.assertRaises(EvidenceError, ca.page, 110)
+        with mock.patch.object(pages, "check", return_value=ca.check(ca.certify(90))):
+            self.assertRaises(EvidenceError, ca.page, 110)
 
 
 class Texts(unittest.TestCase):
     def test_pages_of_all_shapes(self) -> None:
         for rule in [*drawn(24, seed=14), f"16:2:0:t{WIDE}"]:
-            text = page.page(rule)
+            text = ca.page(rule)
             self.assertIn(ca.decide(rule).rule, text)
             self.assertNotIn("<script", text)
             self.assertNotIn("http", text.replace("http://www.w3.org/2000/svg", ""))
@@ -102,20 +102,19 @@ class Texts(unittest.TestCase):
 
     def test_certificates_are_whole(self) -> None:
         for rule in RULES:
-            links = [link.split("'")[0] for link in page.page(rule).split("href='data:application/json,")[1:]]
+            links = [link.split("'")[0] for link in ca.page(rule).split("href='data:application/json,")[1:]]
             self.assertEqual([unquote(html.unescape(link)) for link in links], [str(ca.certify(rule)), str(ca.brief(rule))])
 
     def test_an_atlas_that_does_not_end_is_refused(self) -> None:
         for shape, size in (((2, 5), "4,294,967,296"), ((4, 2), "4,294,967,296"), ((3, 3), "7,625,597,484,987")):
-            for made in (atlas.as_html, atlas.as_csv):
+            for form in ("html", "csv"):
                 with self.assertRaisesRegex(ca.UsageError, f"have {size} rules"):
-                    made(*shape)
-
+                    ca.atlas(*shape, form)
 
     def test_command_lines(self) -> None:
         ask = [sys.executable, "-m", "foursaspen"]
-        self.assertEqual(output([*ask, "page", "110"]), page.page(110))
-        self.assertEqual(output([*ask, "atlas", "2", "2", "--html"]), atlas.as_html(2, 2))
+        self.assertEqual(output([*ask, "page", "110"]), ca.page(110))
+        self.assertEqual(output([*ask, "atlas", "2", "2", "--html"]), ca.atlas(2, 2))
         self.assertEqual(output([*ask, "picture", "90", "0|1|0"]), ca.picture(90, "0|1|0"))
         for words, said in (("atlas 2 5 --csv", "2 states and width 5 have 4,294,967,296 rules"), ("picture 110 loop", "show is "),
                             ("page 256", "rule fault 1 number: "), ("picture 110 ring|", "tail is LEFT|MIDDLE|RIGHT")):
@@ -144,23 +143,39 @@ class Clicks(unittest.TestCase):
     def look(self, address: str) -> None:
         """By day and by night, wide and narrow: the colours follow, and nothing is beyond the edge."""
         for dark, ground in ((False, "rgb(255, 255, 255)"), (True, "rgb(21, 24, 28)")):
-            for width in (1100, 360):
+            for width in (1280, 360):
                 self.browser.open(address, width, dark)
                 get = self.browser.get
                 self.assertEqual(get("getComputedStyle(document.body).backgroundColor"), ground)
                 self.assertEqual(get("[...document.querySelectorAll('svg > rect:first-of-type')].map(r => getComputedStyle(r).fill)"
                                      ".filter(fill => fill !== '" + ground + "')"), [])
                 self.assertLessEqual(get("document.documentElement.scrollWidth"), width)
+                self.assertEqual(get("[...document.querySelectorAll('svg')].filter(svg => Math.abs("
+                                     "svg.getBoundingClientRect().width - svg.width.baseVal.value) > 1).length"), 0)
+                self.assertEqual(get("[...document.querySelectorAll('td code')].filter(code => code.textContent && "
+                                     "code.getClientRects().length > 1 || code.getBoundingClientRect().height > 30).length"), 0)
         self.assertEqual(self.browser.console, [])
+
+    def named(self) -> None:
+        """Who doesn't see the pictures and the tables is told what each is."""
+        get = self.browser.get
+        names = get("[...document.querySelectorAll('svg')].map(svg => svg.role + ' ' + svg.ariaLabel)")
+        self.assertEqual([name.split()[0] for name in names], ["img"] * len(names))
+        self.assertEqual(len(set(names)), len(names))
+        self.assertEqual(get("[...document.querySelectorAll('table')].filter(table => !table.caption || "
+                             "[...table.querySelectorAll('th')].some(head => !head.scope)).length"), 0)
+        self.assertEqual(get("document.querySelectorAll('main').length"), 1)
 
     def test_the_page_of_a_rule(self) -> None:
         for rule in RULES:
-            report, address = ca.decide(rule), self.file(f"{rule}.html".replace(":", "_"), page.page(rule))
+            report, address = ca.decide(rule), self.file(f"{rule}.html".replace(":", "_"), ca.page(rule))
             self.look(address)
             self.browser.open(address)
             get = self.browser.get
+            if rule != RULES[-1]:
+                self.named()
             shown = get("[...document.querySelectorAll('.badge')].map(badge => badge.textContent)")
-            self.assertEqual(shown, [f"{key}: {'yes' if getattr(report, key) else 'no'}" for key in page.VERDICTS])
+            self.assertEqual(shown, [f"{key}: {'yes' if getattr(report, key) else 'no'}" for key in pages.VERDICTS])
             self.browser.click("document.querySelector('.badge[href=\"#left\"]')")
             self.assertEqual(get("location.hash"), "#left")
             self.assertLess(abs(get("document.getElementById('left').getBoundingClientRect().top")), 900)
@@ -169,14 +184,98 @@ class Clicks(unittest.TestCase):
             self.assertEqual((was, get("document.querySelector('details').open")), (True, False))
             self.assertEqual(self.browser.console, [])
 
+    def links(self, folder: Path) -> int:
+        """How many links the pages of a folder have, each of which leads to a page and to a part of it that are there."""
+        parts, links = {}, []
+        for file in folder.iterdir():
+            self.browser.open(file.as_uri())
+            parts[file.name] = set(self.browser.get("[...document.querySelectorAll('[id]')].map(it => it.id)"))
+            links += [(file.name, href) for href in self.browser.get("[...document.querySelectorAll('a')].map(a => a.getAttribute('href'))")]
+        for here, href in links:
+            if not href.startswith("data:") and href != "#":
+                page, _, part = href.partition("#")
+                self.assertIn(page or here, parts, href)
+                if part:
+                    self.assertIn(part, parts[page or here], href)
+        return len(links)
+
+    def test_links_of_a_page(self) -> None:
+        folder = self.room / "alone"
+        folder.mkdir()
+        (folder / "rule.html").write_text(ca.page(184, [1, 4]))
+        self.assertGreater(self.links(folder), 20)
+
+    def test_a_site(self) -> None:
+        folder = self.room / "site"
+        self.assertEqual(ca.site(folder, 2, 2), 7 + 2)
+        self.assertGreater(self.links(folder), 100)
+        get, index = self.browser.get, (folder / "index.html").as_uri()
+        for name in ("index.html", "evidence.html", "2_2_0_t0110.html"):
+            self.look((folder / name).as_uri())
+        self.browser.open(index)
+        self.browser.click("document.querySelector('#body a')")
+        self.assertEqual(get("location.pathname.split('/').pop()"), "2_2_0_t0000.html")
+        self.assertEqual(get("document.querySelectorAll('#kin a').length + document.querySelectorAll('nav a').length"), 3 + 6)
+        self.browser.click("[...document.querySelectorAll('nav a')].find(a => a.textContent === 'the next class')")
+        self.assertEqual(get("document.querySelector('h1').textContent"), "2:2:0:t1000")
+        self.browser.click("document.querySelector('a.term')")
+        self.assertEqual(get("location.pathname.split('/').pop() + location.hash"), "evidence.html#the-graph")
+        self.assertGreater(get("document.querySelectorAll('svg').length"), 5)
+        self.assertEqual(self.browser.console, [])
+
+    def test_a_site_of_a_list(self) -> None:
+        folder, file = self.room / "listed", self.room / "rules.txt"
+        file.write_text("".join(f"{rule}\n" for rule in ca.rules("injective", 3, 2)) + "rules 48\n")
+        told = output([sys.executable, "-m", "foursaspen", "site", "--from", str(file), str(folder)])
+        self.assertEqual((told.split()[:2], len(list(folder.iterdir()))), (["9", "pages,"], 9))
+        self.links(folder)
+
+    def test_headings_stay(self) -> None:
+        self.browser.open(self.file("atlas.html", ca.atlas(2, 3)))
+        get = self.browser.get
+        get("(it => it.scrollTop = 1500)(document.querySelector('.scroll'))")
+        get("new Promise(done => setTimeout(done, 50))")
+        places = get("['#head th', '.scroll'].map(name => document.querySelector(name).getBoundingClientRect().top)")
+        self.assertLess(abs(places[0] - places[1]), 2)
+
+    def test_the_keyboard(self) -> None:
+        self.browser.open(self.file("small.html", ca.atlas(2, 2)))
+        get, seen = self.browser.get, []
+        for _ in range(40):
+            self.browser.press("Tab")
+            seen.append(get("document.activeElement.id || document.activeElement.textContent.slice(0, 12)"))
+            if seen[-1] == "members":
+                break
+        self.assertEqual([name for name in seen if name in pages.VERDICTS or name in ("kept", "rule")][:8], [*pages.VERDICTS, "kept", "rule"])
+        self.browser.press("Enter")
+        self.assertEqual(get("location.hash"), "#sort=members")
+        self.assertEqual(self.counts()[0][0], "0")
+        count = get("history.length")
+        get("document.getElementById('rule').focus()")
+        self.browser.write("2:2:1:t0110")
+        self.assertEqual((get("history.length"), self.counts()[0]), (count, ["6"]))
+        self.browser.open(self.file("small.html", ca.atlas(2, 2)) + "#surjective=maybe&kept=7")
+        self.assertEqual((self.counts()[1], get("document.getElementById('surjective').value")), ("7 of 7 classes, 16 rules", ""))
+        self.browser.open(self.file("small.html", ca.atlas(2, 2)) + "#kept=1")
+        self.assertEqual(self.counts(), (["10"], "1 of 7 classes, 2 rules"))
+
+    def test_on_paper(self) -> None:
+        """Headings stay with what they head, and nothing is cut off."""
+        self.browser.open(self.file("paper.html", ca.page(110)), 700)
+        self.browser.call("Emulation.setEmulatedMedia", media="print")
+        get = self.browser.get
+        self.assertEqual(get("[...document.querySelectorAll('.scroll')].filter(it => it.scrollWidth > it.clientWidth + 1).length"), 0)
+        self.assertEqual(set(get("[...document.querySelectorAll('h2, summary')].map(it => getComputedStyle(it).breakAfter)")), {"avoid"})
+        self.browser.call("Emulation.setEmulatedMedia", media="")
+
     def counts(self) -> tuple[list[str], str]:
         """The first cells of the rows that are shown, and the line that counts."""
         return (self.browser.get("[...document.querySelectorAll('#body tr')].map(row => row.cells[0].textContent)"),
                 self.browser.get("document.getElementById('count').textContent"))
 
     def test_an_atlas(self) -> None:
-        rows = list(csv.reader(io.StringIO(atlas.as_csv(2, 3))))
-        address = self.file("atlas.html", atlas.as_html(2, 3))
+        rows = list(csv.reader(io.StringIO(ca.atlas(2, 3, "csv"))))
+        address = self.file("atlas.html", ca.atlas(2, 3))
         self.look(address)
         self.browser.open(address)
         get = self.browser.get
@@ -192,7 +291,7 @@ class Clicks(unittest.TestCase):
         self.browser.open(f"{address}#surjective=no&sort=surjective&down=1")
         having = [row[3] for row in rows[1:] if row[2] == "no"]
         self.assertEqual(self.counts()[1], f"{len(having)} of 88 classes, 226 rules")
-        self.assertEqual(get("document.querySelector('#body code').textContent.length"), max(map(len, having)))
+        self.assertEqual(get("document.querySelector('#body td:nth-child(3) code').textContent.length"), max(map(len, having)))
         self.browser.open(f"{address}#rule=124")
         self.assertEqual(self.counts(), (["110"], "1 of 88 classes, 4 rules"))
         self.browser.call("Page.setDownloadBehavior", behavior="allow", downloadPath=str(self.room))

@@ -101,8 +101,9 @@ class Pictures(unittest.TestCase):
             report = ca.decide(rule)
             for show in (None, *SHOWN):
                 with self.subTest(rule=rule, show=show):
-                    there = {None: True, "orphan": report.orphan, "twins": report.twins, "right": report.right.split,
-                             "left": report.left.split, "flux": report.flux, "ring": report.ring}[show]
+                    there = {None: True, "graph": True, "orphan": report.orphan, "erase": report.orphan, "twins": report.twins, "right": report.right.split,
+                             "left": report.left.split, "flux": report.flux, "ring": report.ring,
+                             "current": report.flux and 0 <= -report.rule.offset < report.rule.width}[show]
                     if not there:
                         self.assertRaises(ValueError, ca.picture, rule, show)
                         continue
@@ -131,7 +132,7 @@ class Pictures(unittest.TestCase):
 class Cells(unittest.TestCase):
     """Letters stand at their cells, and the image at those that have it: held against the rule's table alone."""
 
-    def compare(self, rule: ca.Rule) -> int:
+    def compare(self, rule: ca.RuleLike) -> int:
         """How many pictures of two configurations a rule has, each of which is looked at."""
         report, seen = ca.decide(rule), 0
         for show, (first, second), cells in pairs_of(report):
@@ -153,12 +154,20 @@ class Cells(unittest.TestCase):
     def test_rule_184_moves_cars(self) -> None:
         self.assertEqual(rows_of(ca.picture(184, "twins")), {"first": "0011", "second": "0101", "image": "1010"})
 
+    def test_an_erasable_pair(self) -> None:
+        """The pair of rule 110 is that of docs/COMMANDS.md, and its two configurations share an image."""
+        rows = rows_of(ca.picture(110, "erase"))
+        self.assertEqual((rows["first"], rows["second"]), ("010110", "011010"))
+        for word in ("0|010110|0", "0|011010|0"):
+            self.assertEqual(rows["image"], image_at("2:3:-1:t01110110", word, range(6)))
+        self.assertRaises(ValueError, ca.picture, 90, "erase")
+
     def test_differing_cells_are_marked(self) -> None:
         fills = [part.get("fill") for part in tree.fromstring(ca.picture(184, "twins")).iter(f"{SVG}rect")]
         self.assertEqual(fills.count(MARK), 2)
 
     def test_the_second_walk_is_broken(self) -> None:
-        shown: list[tuple[ca.Rule, str]] = [(184, "twins"), (110, "right"), ("16:2:0:t" + "0" * 256, "left")]
+        shown: list[tuple[ca.RuleLike, str]] = [(184, "twins"), (110, "right"), ("16:2:0:t" + "0" * 256, "left")]
         for rule, show in shown:
             lines = list(tree.fromstring(ca.picture(rule, show)).iter(f"{SVG}polyline"))
             for color, broken in ((FIRST, False), (SECOND, True)):

@@ -148,7 +148,7 @@ class Drawn(unittest.TestCase):
 
 class Threads(unittest.TestCase):
     def test_calls_of_threads_do_not_meet(self) -> None:
-        rules: list[ca.Rule] = [n % 256 for n in range(1000)]
+        rules: list[ca.RuleLike] = [n % 256 for n in range(1000)]
         with ThreadPoolExecutor(8) as pool:
             self.assertEqual(list(pool.map(ca.decide, rules)), [ca.decide(rule) for rule in rules])
 
@@ -217,7 +217,7 @@ class Functions(unittest.TestCase):
                 self.assertEqual((0, f"{asked()}\n".encode()), program(line.split()))
 
     def test_plain_values(self) -> None:
-        rules: list[ca.Rule] = [0, 30, 90, 110, "3:2:0:t012120201", "7:2:0:t" + "0123456" * 7]
+        rules: list[ca.RuleLike] = [0, 30, 90, 110, "3:2:0:t012120201", "7:2:0:t" + "0123456" * 7]
         for rule in rules:
             with self.subTest(rule=rule):
                 orphan = ca.orphan(rule)

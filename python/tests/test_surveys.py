@@ -125,7 +125,7 @@ class Surveys(unittest.TestCase):
                 over(None, 2, 3, **ends)
 
     def test_a_failing_task_ends_the_survey(self) -> None:
-        with mock.patch.object(surveys, "survey", side_effect=[ca.Summary(1), OSError("gone")]):
+        with mock.patch.object(surveys, "survey", side_effect=[OSError("gone")]):
             with self.assertRaisesRegex(OSError, "gone"):
                 last(ca.survey_over(AtOnce(), 2, 3))
         self.assertLess(threading.active_count(), 20)

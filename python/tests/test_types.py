@@ -22,7 +22,7 @@ class Types(unittest.TestCase):
     def test_the_client_runs(self) -> None:
         told = output([sys.executable, str(TOP / "python" / "tests" / "client.py")])
         self.assertEqual(told.splitlines(), ["0|0|01 from cell -1 on", "nothing: 01010 is an orphan of 5 letters",
-                                             "2:2:-1:t0011", "01010", "<svg 6 True", "format notjson"])
+                                             "2 cells, as 2:2:-1:t0011", "01010", "<svg 6 True 7", "format notjson"])
 
     def test_a_program_that_does_not_narrow(self) -> None:
         program = (TOP / "python" / "tests" / "client.py").read_text()

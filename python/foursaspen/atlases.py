@@ -1,0 +1,212 @@
+"""An atlas of a shape or of a list: each class of rules with its verdicts and their least evidence, as Markdown for the
+elementary rules, and as CSV or a page to sort and filter for any shape that isn't too large. Verdicts and evidence
+are those of the class's least rule: of the mirrored ones right and left are exchanged, and whether a sum is kept is a
+matter of each rule alone.
+"""
+from __future__ import annotations
+
+import csv
+import io
+import json
+from collections.abc import Callable, Iterable, Iterator
+from dataclasses import dataclass
+from pathlib import Path
+from typing import SupportsIndex
+
+from .commands import decide, numbered, survey
+from .faults import UsageError
+from .pages import STYLE
+from .relations import RuleClass, classes_in
+from .report import Closing, Report
+from .rule_values import Rule, RuleLike, of_number, refuse, rule_of
+from .sums import kept_sums, ranges
+
+HEAD = ("least", "members", "surjective", "orphan", "injective", "window", "twins", "right", "right evidence", "left",
+        "left evidence", "open", "conserving", "conserving evidence", "kept sums")
+
+FORMS = ("markdown", "csv", "html")
+MOST = 2 ** 20                                  # rules of a shape: these take some minutes
+LONG = 10                                       # digits of a number that is a rule's name
+TEMPLATE = Path(__file__).with_name("atlas.html")
+Told = Callable[[str], object]
+
+
+@dataclass(frozen=True)
+class Entry:
+    """A class of rules that differ by a mirror and by names of the letters: its rules that are there, and the report of the
+    least one."""
+    members: tuple[Rule, ...]
+    report: Report
+
+    @property
+    def names(self) -> list[str]:
+        return list(map(name, self.members))
+
+
+def name(rule: Rule) -> str:
+    """A rule by its number, or by its text where that is long."""
+    number = rule.number
+    return str(rule) if number is None or len(str(number)) > LONG else str(number)
+
+
+def atlas(states: SupportsIndex = 2, width: SupportsIndex = 3, form: str = "html") -> str:
+    """The atlas of a shape as a text: a page to sort and filter, `csv`, or of the elementary rules `markdown`, which is
+    docs/ELEMENTARY.md."""
+    if not isinstance(form, str):
+        raise refuse("form is", f"one of {', '.join(FORMS)}", form)
+    if form not in FORMS:
+        raise UsageError(f"form is one of {', '.join(FORMS)}, and not {form!r}")
+    k, m, _, _ = numbered(states, width, 0, 1)
+    if form == "markdown":
+        if (k, m) != (2, 3):
+            raise UsageError("Markdown is made of the elementary rules alone: form is csv or html for other shapes")
+        return elementary()
+    return as_csv(entries_of(k, m)) if form == "csv" else as_html(entries_of(k, m), title_of(k, m))
+
+
+def title_of(states: int, width: int) -> str:
+    return f"Rules of {states} states and width {width}"
+
+
+def entries_of(states: SupportsIndex, width: SupportsIndex, offset: int = 0, told: Told | None = None) -> Iterator[Entry]:
+    """The classes of all rules of a shape, by their least numbers."""
+    k, m, _, _ = numbered(states, width, 0, 1)  # a shape that is refused is refused here
+    size: int = k ** k ** m
+    if size > MOST:
+        raise UsageError(f"{k} states and width {m} have {size:,} rules, and an atlas has room for {MOST:,}")
+    return entries_in((of_number(k, m, offset, rule) for rule in range(size)), told)
+
+
+def entries_in(found: Iterable[RuleLike], told: Told | None = None) -> Iterator[Entry]:
+    """The classes of the rules of a list."""
+    rules = map(rule_of, found)
+    for place, one in enumerate(classes_in(counting(rules, told))):
+        if told is not None and place % 100 == 0:
+            told(f"class {place:,}")
+        yield Entry(one.members, decide(first_of(one)))
+
+
+def counting(rules: Iterable[Rule], told: Told | None) -> Iterator[Rule]:
+    """The rules, while somebody is told how many there are so far."""
+    for place, rule in enumerate(rules):
+        if told is not None and place % 1000 == 0:
+            told(f"rule {place:,}")
+        yield rule
+
+
+def first_of(one: RuleClass) -> Rule:
+    """The least rule at the offset of the class's rules, or where that isn't in the list the first of these."""
+    least = Rule(states=one.least.states, table=one.least.table, offset=one.members[0].offset)
+    return least if least in one.members else one.members[0]
+
+
+def said(verdict: bool | Closing) -> str:
+    return "yes" if verdict else "no"
+
+
+def closing(side: Closing) -> str:
+    """The evidence for a side."""
+    return str(side.ahead) if side.split is None else str(side.split)
+
+
+def row(entry: Entry) -> list[str]:
+    """The cells of a class, as HEAD names them."""
+    report = entry.report
+    return [name(report.rule), " ".join(entry.names), said(report.surjective), report.orphan or "",
+            said(report.injective), str(report.window or ""), str(report.twins or ""), said(report.right),
+            closing(report.right), said(report.left),
+            closing(report.left), said(report.open), said(report.conserving),
+            report.ring or " ".join(map(str, report.flux or ())), " ".join(map(str, kept(report.rule)))]
+
+
+def kept(rule: Rule) -> list[int]:
+    """How many sums a rule keeps apart from the trivial ones, of words of 1 letter, of 2 and so on."""
+    return [len(kept_sums(rule, letters).rows) for letters in ranges(rule.states)]
+
+
+def as_csv(entries: Iterable[Entry]) -> str:
+    """An atlas as CSV, a line for each class."""
+    text = io.StringIO()
+    writer = csv.writer(text, lineterminator="\n")
+    writer.writerow(HEAD)
+    writer.writerows(map(row, entries))
+    return text.getvalue()
+
+
+def as_html(entries: Iterable[Entry], title: str, pages: dict[Rule, str] | None = None) -> str:
+    """An atlas as a page in one file, to sort and filter. What is chosen stands in the page's address. With pages a class leads to
+    the page of its least rule."""
+    listed = list(entries)
+    rows = [[*row(entry), (pages or {}).get(entry.report.rule, "")] for entry in listed]
+    rules = sum(len(entry.members) for entry in listed)
+    about = (f"The {rules:,} rules are in {len(rows):,} classes of rules that "
+             "differ by a mirror and by names of the letters. Verdicts and evidence are those of the class's least "
+             "rule: of its mirrored ones right and left are exchanged, and whether sums are kept is a matter of each.")
+    parts = {"@TITLE@": title, "@STYLE@": STYLE.read_text(encoding="utf-8"), "@ABOUT@": about,
+             "@EVIDENCE@": "<p>The <a href='evidence.html'>words</a> are explained with pictures.</p>" if pages else "",
+             "@HEAD@": json.dumps(HEAD), "@ROWS@": json.dumps(rows, separators=(",", ":"))}
+    text = TEMPLATE.read_text(encoding="utf-8")
+    for part, made in parts.items():
+        text = text.replace(part, made)
+    return text
+
+
+# The page of the elementary rules
+
+INTRODUCTION = """# The elementary rules
+
+The 256 rules of two states and width 3, by their Wolfram numbers, in the 88 classes of rules that differ by a mirror
+and by an exchange of 0 and 1. Made by `python -m foursaspen atlas`, which calls the proved library for each; the
+tests compare this page with what that prints.
+
+Bold is yes. Behind a verdict stands its least evidence, that of the class's least rule, as `decide` prints it: the
+least orphan; the least window N C or the least twins; the least look-ahead or the least normal split; the flux or
+the least ring whose sum isn't kept. [COMMANDS.md](COMMANDS.md#decide-r) says what these are. Of the mirrored rules in
+a class right and left are exchanged. That the number of ones is kept is the same for a whole class here, since then
+the number of zeros is kept too.
+
+The last column has how many sums of words of 1, 2, 3 and 4 letters are kept apart from those that every rule keeps, none of
+them a combination of the others: [SUMS.md](SUMS.md). They are as many for each rule of a class.
+
+"""
+
+
+def summary_lines(entries: list[Entry]) -> Iterator[str]:
+    """For each property how many rules and classes have it, and which these are."""
+    properties = {"surjective": "surjective", "injective": "injective", "right": "right-closing",
+                  "left": "left-closing", "open": "open", "conserving": "conserving the number of ones"}
+    counts = survey(2, 3, 0, 256)
+    yield "| Property | Rules | Classes | The least rules of these |"
+    yield "|---|---|---|---|"
+    for name, title in properties.items():
+        having = [entry for entry in entries if getattr(entry.report, name)]
+        firsts = " ".join(entry.names[0] for entry in having)
+        yield f"| {title} | {getattr(counts, name)} | {len(having)} | {firsts} |"
+
+
+def cell(verdict: bool | Closing, evidence: str) -> str:
+    """A cell of the page: yes in bold, and the evidence as code."""
+    code = " ".join("`" + word.replace("|", "\\|") + "`" for word in evidence.split())
+    return f"{'**yes**' if verdict else 'no'} {code}".rstrip()
+
+
+def page_row(entry: Entry) -> str:
+    """The row of a class."""
+    report = entry.report
+    cells = dict(zip(HEAD, row(entry)))
+    return "| " + " | ".join([
+        f"**{cells['least']}**", ", ".join(entry.names),
+        cell(report.surjective, cells["orphan"]), cell(report.injective, cells["window"] or cells["twins"]),
+        cell(report.right, cells["right evidence"]), cell(report.left, cells["left evidence"]),
+        cell(report.open, ""), cell(report.conserving, cells["conserving evidence"]),
+        cells["kept sums"]]) + " |"
+
+
+def elementary() -> str:
+    """docs/ELEMENTARY.md."""
+    entries = list(entries_of(2, 3))
+    lines: Iterable[str] = [
+        *summary_lines(entries), "",
+        "| Least | Members | Surjective | Injective | Right-closing | Left-closing | Open | Conserving | Kept sums |",
+        "|---|---|---|---|---|---|---|---|---|", *map(page_row, entries)]
+    return INTRODUCTION + "\n".join(lines) + "\n"

@@ -1,0 +1,136 @@
+"""The package as a whole: what it shows of itself, its command line, and what other programs take from it."""
+from __future__ import annotations
+
+import os
+import pickle
+import pydoc
+import re
+import signal
+import subprocess
+import sys
+import tempfile
+import time
+import types
+import unittest
+from pathlib import Path
+
+import foursaspen as ca
+from foursaspen.lists import Stop
+
+from .support import ENVIRONMENT, output, program, python_with
+
+ASK = [sys.executable, "-m", "foursaspen"]
+NETWORKX = """import networkx
+from foursaspen import language, to_networkx
+graph = to_networkx(110)
+print(sorted(graph.nodes), graph.number_of_edges(), networkx.is_strongly_connected(graph), graph["01"]["11"][0])
+words = to_networkx(language("2:2:0:t0001"))
+print(sorted((a, b, read) for a, b, read in words.edges.data("read")), words.nodes[3]["dead"])
+"""
+
+
+class Shown(unittest.TestCase):
+    def test_names(self) -> None:
+        self.assertEqual(dir(ca), sorted(ca.__all__))
+        self.assertEqual([name for name in ca.__all__ if isinstance(getattr(ca, name), types.ModuleType)], [])
+
+    def test_help_begins_with_the_functions(self) -> None:
+        told = pydoc.plain(pydoc.render_doc(ca)).partition("PACKAGE CONTENTS")[0]
+        self.assertLess(told.count("\n"), 70)
+        missing = [name for name in ca.__all__ if isinstance(getattr(ca, name), types.FunctionType) and
+                   not re.search(rf"\b{name}\b", told)]
+        self.assertEqual(missing, [])
+
+    def test_answers_show_what_is_for_callers(self) -> None:
+        for answer in (ca.decide(110), ca.certify(110), ca.language(110), ca.kept_sums(14)):
+            self.assertEqual([name for name in dir(answer) if not name.startswith("_") and name.startswith("of")], [])
+
+
+class Others(unittest.TestCase):
+    def test_dot(self) -> None:
+        text = ca.to_dot(110)
+        self.assertEqual(text.splitlines()[0], 'digraph "2:3:-1:t01110110" {')
+        self.assertIn('  "01" -> "11" [label="1/1"];', text)
+        self.assertEqual(text.count("->"), 8)
+        self.assertEqual(output([*ASK, "dot", "110"]), text)
+
+    def test_networkx(self) -> None:
+        told = output([python_with("networkx", "python3-networkx"), "-c", NETWORKX]).splitlines()
+        self.assertEqual(told[0], "['00', '01', '10', '11'] 8 True {'read': '1', 'written': '1'}")
+        self.assertEqual(told[1], "[(0, 0, '0'), (0, 1, '1'), (1, 1, '1'), (1, 2, '0'), (2, 0, '0'), (2, 3, '1'), (3, 3, '0'), "
+                         "(3, 3, '1')] True")
+
+
+class CommandLine(unittest.TestCase):
+    def asked(self, *words: str, data: str = "") -> tuple[int, str, str]:
+        done = subprocess.run([*ASK, *words], env=ENVIRONMENT, cwd="/", input=data, capture_output=True, text=True, check=False)
+        return done.returncode, done.stdout, done.stderr
+
+    def test_commands_of_the_program(self) -> None:
+        """Output and status are the program's, and standard error says what a fault means."""
+        for line, said in (("decide 110", ""), ("shift 110 -1", ""), ("inverse 90", "the rule must be injective"), ("orphan 256", "0 to 255"),
+                           ("decide 110 0,1,2", "one weight for each letter"), ("decide", "docs/COMMANDS.md"),
+                           ("same 110 2:3:-1:t0", "has 1 digit and needs 8"), ("survey 2 2 10 7", "0 to 15")):
+            status, told, error = self.asked(*line.split())
+            self.assertEqual((status, told.encode()), program(line.split()))
+            self.assertIn(said, error)
+            self.assertEqual(error == "", said == "")
+
+    def test_check_takes_a_file(self) -> None:
+        with tempfile.TemporaryDirectory() as folder:
+            file = Path(folder) / "certificate.json"
+            file.write_text(str(ca.certify(110)))
+            accepted = str(ca.check(ca.certify(110)))
+            self.assertEqual(self.asked("check", str(file)), (0, accepted, ""))
+            self.assertEqual(self.asked("check", "-", data=file.read_text()), (0, accepted, ""))
+            self.assertEqual(self.asked("check", data=file.read_text()), (0, accepted, ""))
+            file.write_text("{}")
+            status, told, error = self.asked("check", str(file))
+            self.assertEqual((status, told), (1, "refused format shape version\n"))
+            self.assertIn("docs/CERTIFICATES.md", error)
+            self.assertEqual(self.asked("check", str(file) + ".gone")[0], 1)
+
+    def test_what_cannot_be_written(self) -> None:
+        if not os.access("/dev/full", os.W_OK):
+            self.skipTest("there is no /dev/full")
+        for words in (["picture", "110"], ["page", "110"], ["list", "injective", "2:3:-1:t"], ["kept", "14", "2"], ["decide", "110"]):
+            with open("/dev/full", "w") as full:
+                done = subprocess.run([*ASK, *words], env=ENVIRONMENT, cwd="/", stdout=full, stderr=subprocess.PIPE, text=True, check=False)
+            self.assertEqual((done.returncode, done.stderr), (1, "[Errno 28] No space left on device\n"), words)
+
+    def test_a_reader_that_has_enough(self) -> None:
+        done = subprocess.run(["bash", "-c", f"set -o pipefail; {{ {' '.join(ASK)} list surjective 2:4:0:t | head -n 1; }} 2>&1"],
+                              env=ENVIRONMENT, cwd="/", capture_output=True, text=True, check=False)
+        self.assertEqual((done.stdout.count("\n"), "Errno" in done.stdout), (1, False))
+
+
+class Stopped(unittest.TestCase):
+    CODE = """import sys, threading
+from concurrent.futures import ThreadPoolExecutor
+from foursaspen import rules
+with ThreadPoolExecutor(2) as pool:
+    list(rules(sys.argv[1], int(sys.argv[2]), int(sys.argv[3]), executor=pool))
+"""
+
+    def test_threads_end_within_a_second(self) -> None:
+        """Of lists that have no end in sight."""
+        for words in (("open", "4", "3"), ("surjective", "3", "3"), ("injective", "4", "3")):
+            begun = subprocess.Popen([sys.executable, "-c", self.CODE, *words], env=ENVIRONMENT, cwd="/", stderr=subprocess.DEVNULL)
+            time.sleep(2.5)
+            self.assertIsNone(begun.poll(), words)
+            begun.send_signal(signal.SIGINT)
+            stopped = time.monotonic()
+            try:
+                begun.wait(30)
+            finally:
+                begun.kill()
+            self.assertLess(time.monotonic() - stopped, 1.5, words)
+
+    def test_a_worker_of_another_process_is_never_stopped(self) -> None:
+        stop = Stop()
+        stop.set()
+        self.assertEqual((stop.is_set(), pickle.loads(pickle.dumps(stop)).is_set()), (True, False))
+
+
+if __name__ == "__main__":
+    unittest.main()
