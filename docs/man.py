@@ -1,7 +1,7 @@
 """Writes docs/ca.1, the page for man, made of COMMANDS.md: `python3 docs/man.py > docs/ca.1`.
 
-It knows of Markdown what that page uses: headings, paragraphs, tables, blocks that are indented by four blanks, and in a
-line code, links and nothing else.
+It knows of Markdown what that page uses: headings, paragraphs, numbered lists, tables, blocks that are indented by four blanks,
+and in a line code, links and nothing else.
 """
 import re
 import sys
@@ -48,6 +48,16 @@ def table(rows):
         yield from [".TP", inline(tag), "\n.br\n".join(lines)]
 
 
+def numbered(lines):
+    """A list with its numbers as tags. A line without a number belongs to the item before it."""
+    for line in lines:
+        number, _, rest = line.partition(" ")
+        if number[:-1].isdecimal():
+            yield from [rf".IP {number} 4", inline(rest)]
+        else:
+            yield inline(line.strip())
+
+
 def blocks(text):
     """The parts of a page that blank lines part: each a list of lines. A heading stands alone."""
     for block in re.split(r"\n{2,}", text.strip("\n")):
@@ -62,6 +72,8 @@ def written(block):
         yield ".SS " + inline(first[4:])
     elif first.startswith("|"):
         yield from table(block)
+    elif first.startswith("1. "):
+        yield from numbered(block)
     elif first.startswith("    "):
         yield from [".PP", ".RS 4", ".nf", *[escaped(line[4:]) for line in block], ".fi", ".RE"]
     else:
