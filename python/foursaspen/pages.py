@@ -148,7 +148,8 @@ class Sections:
 
     def head(self, key: str, name: str) -> str:
         verdict = said(self.report, key)
-        return f"<h2 id={key}>{name}: <span class={verdict}>{verdict}</span></h2>"
+        word = key if key in prose.PARTS else "closes"
+        return f"<h2 id={key}>{self.term(word, name)}: <span class={verdict}>{verdict}</span></h2>"
 
     def drawn(self, show: str, long: int = 0) -> str:
         """The graph, with numbers or without, or what stands beneath it alone."""

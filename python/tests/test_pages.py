@@ -6,6 +6,7 @@ import dataclasses
 import functools
 import html
 import io
+import re
 import subprocess
 import sys
 import tempfile
@@ -99,6 +100,25 @@ class Texts(unittest.TestCase):
             self.assertNotIn("http", text.replace("http://www.w3.org/2000/svg", ""))
             for part in text.split("<svg")[1:]:
                 tree.fromstring("<svg" + part.partition("</svg>")[0] + "</svg>")
+
+    def test_words_lead_to_what_they_mean(self) -> None:
+        for rule in RULES:
+            text = ca.page(rule)
+            for heading in ("Surjective", "Injective", "Closing on the right", "Closing on the left", "Open", "Conserving"):
+                self.assertRegex(text, f"<h2 id=[a-z]+><a class=term href='#[a-z-]+'>{heading}</a>: ")
+            for name in set(re.findall("href='#([a-z-]+)'", text)):
+                self.assertEqual(len(re.findall(f"id={name}[ >]", text)), 1, name)
+
+    def test_what_there_is_none_of(self) -> None:
+        """Rules 90 and 170 have no pairs that walks from one node come to; no sum changes by +0."""
+        plain: tuple[ca.RuleLike, ...] = (90, 170, "3:2:0:t012120201")
+        for rule in plain:
+            text = ca.page(rule)
+            self.assertIn("don't exist: the edges from a node write different letters.", text)
+            self.assertNotIn("are these", text)
+            self.assertNotIn("The pairs", text)
+        self.assertIn("The pairs", ca.page(30))
+        self.assertNotIn("+0", ca.page(204))
 
     def test_certificates_are_whole(self) -> None:
         for rule in RULES:

@@ -124,7 +124,7 @@ class Designer(unittest.TestCase):
         self.assertEqual(len(list(ca.rules("reversible", 3, 3, classes=True, shifts=True))), 165)
 
     def test_all_cells(self) -> None:
-        """1,800 less those of width 2: of the 48 rules of 3:2 12 read one cell, so 36 + 6 are at two places, and 6 at a third."""
+        """1,800 less those of width 2: of the 48 of 3:2 36 read both cells, which lie at two places, and 6 read one, at three."""
         essential = list(ca.rules("reversible", 3, 3, essential=True))
         self.assertEqual((len(essential), len({ca.least(rule) for rule in essential})), (1710, 158))
         self.assertEqual(len(essential), 1800 - 2 * 36 - 3 * 6)
