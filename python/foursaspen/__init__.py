@@ -29,7 +29,7 @@ Many rules:
     verdicts, verdict_bytes             a byte for each rule, whose bits Bit names
 
 To look at:
-    picture(rule, show), windows(rule)  SVG, which a notebook shows; with steps=40 what comes of a configuration
+    picture(rule, show), windows(rule)  SVG, which a notebook shows
     page(rule), atlas(states, width)    HTML pages; site(folder, states, width) writes an atlas with a page for each class
     to_dot(rule), to_networkx(rule)     the de Bruijn graph for other programs
 

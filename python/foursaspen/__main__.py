@@ -5,8 +5,6 @@
 
     python -m foursaspen picture RULE [SHOW]          an SVG text; SHOW is graph, orphan, erase, twins, right, left, flux,
                                                       current, ring, or a configuration LEFT|MIDDLE|RIGHT; --weights 1,4 for the sums
-    python -m foursaspen picture RULE CONFIGURATION --steps 40
-                                                      what comes of a configuration, a row for each step
     python -m foursaspen dot RULE                     the graph in the language of graphviz
     python -m foursaspen page RULE [WEIGHTS]          an HTML page of a rule
     python -m foursaspen site STATES WIDTH FOLDER     an atlas with a page for each class, linked; --from FILE for a list
@@ -54,7 +52,6 @@ def arguments() -> argparse.ArgumentParser:
     drawn.add_argument("rule")
     drawn.add_argument("show", nargs="?", help=f"what stands beneath it: {', '.join(SHOWN)}, or a configuration LEFT|MIDDLE|RIGHT")
     drawn.add_argument("--weights", help="what each letter weighs, as 1,4")
-    drawn.add_argument("--steps", type=int, help="what comes of the configuration in so many steps, in place of the graph")
     dotted = commands.add_parser("dot", help="the de Bruijn graph of a rule, in the language of graphviz")
     dotted.add_argument("rule")
     paged = commands.add_parser("page", help="a rule's verdicts, evidence and certificates, as HTML")
@@ -101,7 +98,7 @@ def told(text: str) -> None:
 def answer(asked: argparse.Namespace, parser: argparse.ArgumentParser) -> Iterator[str]:
     """What is written, piece by piece."""
     if asked.command == "picture":
-        yield picture(asked.rule, asked.show, asked.weights, steps=asked.steps)
+        yield picture(asked.rule, asked.show, asked.weights)
     elif asked.command == "dot":
         yield to_dot(asked.rule)
     elif asked.command == "page":

@@ -78,13 +78,11 @@ class Canvas:
         self._parts.append(f'<circle cx="{x:.1f}" cy="{y:.1f}" r="{radius:g}" fill="{fill}" stroke="{line}" '
                            'stroke-width="1.3"/>')
 
-    def box(self, x: float, y: float, width: float, height: float, fill: str, line: str = "", strength: float = 1) -> None:
-        """A box; of a strength below 1 the ground shines through."""
+    def box(self, x: float, y: float, width: float, height: float, fill: str, line: str = "") -> None:
         self._reach(x + width, y + height)
         edge = f' stroke="{line}"' if line else ""
-        weak = f' fill-opacity="{strength:.2g}"' if strength < 1 else ""
         self._parts.append(f'<rect x="{x:.1f}" y="{y:.1f}" width="{width:.1f}" height="{height:.1f}" '
-                           f'fill="{fill}"{edge}{weak}/>')
+                           f'fill="{fill}"{edge}/>')
 
     def line(self, points: Sequence[Point], color: str, width: float = 1.2, dashes: str = "") -> None:
         """A line through the points."""

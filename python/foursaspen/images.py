@@ -1,7 +1,6 @@
 """One step of a rule: the image of a word, of a ring or of a configuration."""
 from __future__ import annotations
 
-from collections.abc import Iterator
 from dataclasses import dataclass
 from typing import overload
 
@@ -100,12 +99,3 @@ def shortest(start: int, left: str, middle: str, right: str) -> Image:
     while middle and middle[-1] == right[-1]:
         middle, right = middle[:-1], right[-1] + right[:-1]
     return Image(start, Tail(left, middle, right))
-
-
-def steps_from(rule: Rule, tail: Tail, count: int) -> Iterator[Image]:
-    """The configuration, and so many images of it, each of the last."""
-    here = Image(0, tail_of(rule, tail))
-    yield here
-    for _ in range(count):
-        here = moved(rule, here)
-        yield here

@@ -12,10 +12,10 @@ from urllib.parse import quote
 from . import prose
 from .commands import brief, certify, check, decide, erase, inverse
 from .evidence import EvidenceError, is_erasable, left_after, mirrored, reached, undecided, work_out
-from .faults import LibraryMissingError, NotFitError
+from .faults import NotFitError
 from .graphs import Edge, Graph, written
 from .operands import Weights
-from .pictures import DRAWN, after_steps, drawn, signed, title, walks_of, windows
+from .pictures import DRAWN, drawn, signed, title, walks_of, windows
 from .relations import class_of
 from .report import Closing, Report, Window
 from .rule_values import NUMBERED, Rule, RuleLike, mirror
@@ -24,7 +24,6 @@ from .sums import kept_sums, ranges
 VERDICTS = ("surjective", "injective", "right", "left", "open", "conserving")
 LONGEST = 200                                   # letters of a word that is drawn, and steps of a table
 SHOWN = 24                                      # rules of a class that are named
-STEPS = 32                                      # of the picture of what comes of a 1
 STYLE = Path(__file__).with_name("style.css")
 PAGE = """<!doctype html>
 <html lang=en>
@@ -136,15 +135,7 @@ class Sections:
             "<h2 id=rule>The rule</h2><p>Each window with the letter that it gives, in the order of the windows' values, as the "
             "table has them. Wolfram writes this row from right to left.</p>", shown,
             f"<p>In the graph a {self.term('node')} is what is read last, and each edge reads a letter and writes one. A "
-            f"configuration is a {self.term('walk')}, and what that writes is its image.</p>", self.drawn("graph"), self.steps()])
-
-    def steps(self) -> str:
-        """What comes of a 1 among zeros."""
-        try:
-            made = after_steps(self.report.rule, "0|1|0", STEPS, range(-STEPS, STEPS + 1))
-        except LibraryMissingError:             # it is older than its call for images
-            return ""
-        return (f"<p>What comes of a 1 among zeros, a row for each of {STEPS} steps:</p><div class=scroll tabindex=0>{made}</div>")
+            f"configuration is a {self.term('walk')}, and what that writes is its image.</p>", self.drawn("graph")])
 
     def head(self, key: str, name: str) -> str:
         verdict = said(self.report, key)

@@ -4,23 +4,18 @@ those of twins or of a split, or a configuration with a preimage of it.
 from __future__ import annotations
 
 from dataclasses import dataclass
-from itertools import groupby
-from typing import SupportsIndex
 
 from .commands import decide, erase, preimage
 from .drawing import DARK, DASHES, FIRST, GREY, MARGIN, PAPER, SECOND, SHADE, WIDEST, Canvas, Picture
-from .faults import UsageError
 from .graphs import Edge, Graph
-from .images import Image, steps_from
 from .layout import RADIUS, fits, ring
 from .operands import Weights
 from .report import Gap, Report, Tail
-from .rule_values import DIGITS, Rule, RuleLike, refuse, rule_of, whole
+from .rule_values import DIGITS, RuleLike, refuse, rule_of
 from .trellis import draw_reading, draw_walks
 
 SHOWN = ("graph", "orphan", "erase", "twins", "right", "left", "flux", "current", "ring")     # what a picture may show
 DRAWN = 256                                     # windows of a picture, at most
-MOST_STEPS, MOST_CELLS, CELL = 1000, 1000, 6    # of a picture of many steps, and the size of a cell
 
 
 @dataclass(frozen=True)
@@ -55,18 +50,12 @@ class Numbers:
 Beneath = Walks | Reading | Numbers | None
 
 
-def picture(rule: RuleLike, show: str | Tail | None = None, weights: Weights | None = None, *, steps: SupportsIndex | None = None,
-            cells: range | None = None) -> Picture:
+def picture(rule: RuleLike, show: str | Tail | None = None, weights: Weights | None = None) -> Picture:
     """The graph of a rule. Beneath it stands what `show` names: the reading of the least orphan, the two walks of the
     least twins, those of the least split of a side, `right` or `left`, that of the least ring whose sum isn't kept;
     of a configuration, a Tail or its text, a preimage or the orphan in it; where it is None the orphan, if there is
     one. `graph` has nothing beneath it. `flux` and `current` have these numbers at the nodes, and at the edges what they
-    carry, by the weights that are given or that a report has. ValueError where the rule has no such thing.
-
-    With `steps` it is what comes of a configuration instead: a row for each step, downwards, of the cells that are named, or of
-    as many as change."""
-    if steps is not None:
-        return after_steps(rule_of(rule), show, whole("steps is", steps, 1, MOST_STEPS), cells)
+    carry, by the weights that are given or that a report has. ValueError where the rule has no such thing."""
     if not isinstance(show, (str, Tail, type(None))):
         raise refuse("show is", f"one of {', '.join(SHOWN)}, or a configuration, a Tail or a text LEFT|MIDDLE|RIGHT", show)
     return drawn(decide(rule, weights), show)
@@ -89,38 +78,6 @@ def drawn(report: Report, show: str | Tail | None = None, with_graph: bool = Tru
     elif isinstance(below, Reading):
         draw_reading(canvas, graph, below.orphan, below.heading, top)
     return canvas.svg()
-
-
-def after_steps(rule: Rule, show: str | Tail | None, count: int, cells: range | None = None) -> Picture:
-    """What comes of a configuration step by step: a cell is as dark as its letter is great."""
-    if not isinstance(show, (str, Tail)):
-        raise refuse("show is", "the configuration to begin with, a Tail or a text LEFT|MIDDLE|RIGHT", show)
-    rows = list(steps_from(rule, show if isinstance(show, Tail) else Tail.of(show), count))
-    seen = widest(rows) if cells is None else cells
-    if not isinstance(seen, range) or seen.step != 1 or not 1 <= len(seen) <= MOST_CELLS:
-        raise UsageError(f"cells is a range of at most {MOST_CELLS:,} cells, as range(-40, 41), and not {seen!r}")
-    canvas = Canvas(f"{rule} from {show}, {count:,} steps downwards, cells {seen.start} to {seen.stop - 1}")
-    canvas.box(MARGIN, MARGIN, len(seen) * CELL, len(rows) * CELL, PAPER, GREY)
-    for place, row in enumerate(rows):
-        at = 0
-        for letter, same in groupby(row.cells(seen.start, seen.stop)):
-            long = len(list(same))
-            if letter != "0":
-                canvas.box(MARGIN + at * CELL, MARGIN + place * CELL, long * CELL, CELL, DARK,
-                           strength=int(letter, 16) / (rule.states - 1))
-            at += long
-    said = f"cells {seen.start} to {seen.stop - 1}, a row for each step"
-    canvas.text(MARGIN, MARGIN + len(rows) * CELL + 18, said, anchor="start", color=GREY)
-    return canvas.svg()
-
-
-def widest(rows: list[Image]) -> range:
-    """The cells that some middle holds, as many of them as a picture has room for round the first middle, and one more on each
-    side."""
-    first = min(row.start for row in rows) - 1
-    last = max(row.start + len(row.tail.middle) for row in rows) + 1
-    middle = (2 * rows[0].start + len(rows[0].tail.middle)) // 2
-    return range(max(first, middle - MOST_CELLS // 4), min(last, middle + MOST_CELLS // 4))
 
 
 def windows(rule: RuleLike) -> Picture:

@@ -1,20 +1,15 @@
-"""One step of a rule, and many: by the definition of an image in docs/COMMANDS.md, and by what is known of rules 90 and 184."""
+"""One step of a rule: by the definition of an image in docs/COMMANDS.md, and by what is known of rule 184."""
 from __future__ import annotations
 
-import math
 import random
-import sys
 import unittest
-import xml.etree.ElementTree as tree
 from collections.abc import Callable
 from typing import Any
 
 import foursaspen as ca
-from foursaspen.drawing import DARK, PAPER
-from foursaspen.pictures import CELL
 
-from .support import drawn, output
-from .test_pictures import SVG, image_at
+from .support import drawn
+from .test_pictures import image_at
 
 
 def drawn_tail(dice: random.Random, states: int) -> ca.Tail:
@@ -77,46 +72,11 @@ class Images(unittest.TestCase):
             (lambda: image(110, "0|1|0"), ca.UsageError, "word is a text of digits, and a configuration is Tail.of('0|1|0')"),
             (lambda: image(110, ca.Tail("", "1", "0")), ca.NotFitError, "the left period of a configuration must have a letter"),
             (lambda: image(110, 3), TypeError, "word is a text of digits, a Tail or an Image, and not 3 of type int"),
-            (lambda: image(110), TypeError, "image takes a word or a configuration, or ring=WORD"),
-            (lambda: ca.picture(110, steps=3), TypeError, "show is the configuration to begin with"),
-            (lambda: ca.picture(110, "0|1|0", steps=0), ca.UsageError, "steps is 1 to 1,000, and not 0"),
-            (lambda: ca.picture(110, "0|1|0", steps=5, cells=range(0)), ca.UsageError, "cells is a range of at most 1,000 cells")]
+            (lambda: image(110), TypeError, "image takes a word or a configuration, or ring=WORD")]
         for asked, kind, said in wrong:
             with self.assertRaises(kind) as raised:
                 asked()
             self.assertIn(said, str(raised.exception))
-
-
-class Steps(unittest.TestCase):
-    def dark(self, svg: str) -> set[tuple[int, int]]:
-        """The steps and places of the dark cells of a picture."""
-        boxes = list(tree.fromstring(svg).iter(f"{SVG}rect"))
-        frame = next(box for box in boxes if box.get("stroke"))
-        left, top = float(frame.get("x", 0)), float(frame.get("y", 0))
-        cells = set()
-        for box in boxes:
-            if box.get("fill") == DARK:
-                row, column = round((float(box.get("y", 0)) - top) / CELL), round((float(box.get("x", 0)) - left) / CELL)
-                cells |= {(row, column + at) for at in range(round(float(box.get("width", 0)) / CELL))}
-        return cells
-
-    def test_rule_90_is_pascals_triangle(self) -> None:
-        """After t steps the cell i is the binomial coefficient of t over (t + i) / 2, modulo 2."""
-        cells = self.dark(ca.picture(90, "0|1|0", steps=31, cells=range(-31, 32)))
-        wanted = {(step, 31 + place) for step in range(32) for place in range(-step, step + 1)
-                  if (step + place) % 2 == 0 and math.comb(step, (step + place) // 2) % 2}
-        self.assertEqual(cells, wanted)
-
-    def test_the_cells_that_change(self) -> None:
-        self.assertEqual(self.dark(ca.picture(170, ca.Tail("0", "1", "0"), steps=3)), {(0, 4), (1, 3), (2, 2), (3, 1)})
-        shades = {box.get("fill-opacity") for box in tree.fromstring(ca.picture("3:2:0:t012120201", "0|12|0", steps=9)).iter(f"{SVG}rect")
-                  if box.get("fill") == DARK}
-        self.assertEqual(shades, {None, "0.5"})
-        self.assertNotEqual(DARK, PAPER)
-
-    def test_the_command_line(self) -> None:
-        told = output([sys.executable, "-m", "foursaspen", "picture", "110", "0|1|0", "--steps", "20"])
-        self.assertEqual(told, ca.picture(110, "0|1|0", steps=20))
 
 
 if __name__ == "__main__":
