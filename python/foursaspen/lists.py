@@ -8,7 +8,7 @@ import threading
 import time
 from collections import deque
 from collections.abc import Callable, Generator, Iterable, Iterator
-from concurrent.futures import Executor, Future
+from concurrent.futures import Executor, Future, wait
 from dataclasses import dataclass
 from itertools import islice, product
 from pathlib import Path
@@ -25,6 +25,7 @@ from .surveys import AHEAD, bar_of, executor_of
 
 PARTS = 64                                      # of a list, at least, where the shape has so many tables
 OPEN = 255                                      # no letter: its window is open
+LOOK = 0.2                                      # seconds after which a task looks again whether it is to end
 
 # The properties by their words. The number of each is that of its bit.
 PROPERTIES = {"surjective": Bit.SURJECTIVE, "injective": Bit.INJECTIVE, "right": Bit.RIGHT, "left": Bit.LEFT,
@@ -221,7 +222,7 @@ class Stop:
 def searched(property: int, states: int, width: int, order: bytes, fixed: list[bytes],
              executor: Executor | None) -> Generator[Iterator[bytes] | list[bytes], None, None]:
     """The tables of each part, in the order of the parts. With an executor so many parts are under way at a time; where
-    the list is left, those that threads are at end at their next rule."""
+    the list is left, those that threads are at end within a second."""
     if executor is None:
         for begin in fixed:
             yield tables(property, states, width, order, begin)
@@ -242,13 +243,31 @@ def searched(property: int, states: int, width: int, order: bytes, fixed: list[b
 
 
 def part(property: int, states: int, width: int, order: bytes, fixed: bytes, stop: Stop) -> list[bytes]:
-    """The tables of a part, or where it is stopped the first of them: a task."""
-    found = []
-    for table in tables(property, states, width, order, fixed):
-        found.append(table)
-        if stop.is_set():
-            break
-    return found
+    """The tables of a part, or where it is stopped the first of them: a task. A call of the library can't be stopped, and may
+    last for hours, so another thread calls it: where nobody waits for it any more it ends at its next rule, or with the process."""
+    found: list[bytes] = []
+    searched_all: Future[None] = Future()
+    left = threading.Event()
+
+    def search() -> None:
+        try:
+            for table in tables(property, states, width, order, fixed):
+                found.append(table)
+                if left.is_set():
+                    break
+            searched_all.set_result(None)
+        except BaseException as fault:
+            searched_all.set_exception(fault)
+
+    threading.Thread(target=search, daemon=True).start()
+    try:
+        while not stop.is_set() and not wait([searched_all], LOOK).done:
+            pass
+    finally:
+        left.set()
+    if searched_all.done():
+        searched_all.result()
+    return list(found)
 
 
 def tables(property: int, states: int, width: int, order: bytes, fixed: bytes) -> Iterator[bytes]:

@@ -53,7 +53,9 @@ class Classes(unittest.TestCase):
             seen[least] += 1
             self.assertEqual(len({ca.class_of(rule) for rule in members}), 1)
         self.assertEqual((len(seen), sum(seen.values())), (88, 256))
-        self.assertEqual(len(ca.class_of("3:2:0:t012120201").members), 6)
+        # Each permutation of three letters is affine: it takes a + b modulo 3 to a + b + v, and the mirror image is the same.
+        self.assertEqual({rule.table for rule in ca.class_of("3:2:0:t012120201").members},
+                         {tuple((a + b + v) % 3 for a in range(3) for b in range(3)) for v in range(3)})
         with self.assertRaises(ca.NotFitError):
             ca.class_of("7:2:0:t" + "0" * 49)
 
