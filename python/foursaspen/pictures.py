@@ -6,7 +6,7 @@ from __future__ import annotations
 from dataclasses import dataclass
 
 from .commands import decide, erase, preimage
-from .drawing import DARK, DASHES, FIRST, GREY, MARGIN, PAPER, SECOND, SHADE, WIDEST, Canvas, Picture
+from .drawing import DARK, DASHES, FIRST, GREY, MARGIN, PAPER, PHONE, SECOND, SHADE, WIDEST, Canvas, Picture
 from .graphs import Edge, Graph
 from .layout import RADIUS, fits, ring
 from .operands import Weights
@@ -212,7 +212,7 @@ def draw_graph(canvas: Canvas, graph: Graph, walks: list[list[Edge]], numbers: N
     else:
         draw_table(canvas, graph, walks, numbers)
         said += "; the edge leads to the node of the letter read"
-    canvas.lines_of_text(canvas.height + 22, said, 12, GREY, room=600)
+    canvas.lines_of_text(canvas.height + 22, said, 12, GREY, room=PHONE)
 
 
 def label(graph: Graph, edge: Edge, numbers: Numbers | None) -> str:
