@@ -18,6 +18,7 @@ NIGHT = {PAPER: "#15181c", SHADE: "#22272e", MARK: "#5a4310", DARK: "#e8e8e8", G
          FIRST: "#d6e8ff", SECOND: "#e07b2a"}
 MARGIN = 24                                     # left of all, and below it
 WIDEST = 1200                                   # of a picture whose words have room in it
+PHONE = 320                                     # what a phone shows of a picture
 FONT = "DejaVu Sans, Verdana, sans-serif"
 LETTER, BOLD = 0.65, 0.7                        # the widths of digits of size 1
 Point = tuple[float, float]

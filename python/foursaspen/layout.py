@@ -15,7 +15,7 @@ STEPS = 24                                      # pieces of an edge
 CELL = 20                                       # of the grid by which what is near is found
 ENOUGH = 7.0                                    # clear of all else
 # Of the circle of nodes, by states and width.
-RADII = {(2, 2): 70, (3, 2): 95, (4, 2): 150, (2, 3): 105, (2, 4): 165, (3, 3): 230, (2, 5): 270, (4, 3): 430}
+RADII = {(2, 2): 70, (3, 2): 95, (4, 2): 150, (2, 3): 80, (2, 4): 165, (3, 3): 230, (2, 5): 270, (4, 3): 430}
 
 
 def fits(graph: Graph) -> bool:

@@ -133,7 +133,7 @@ class Sections:
         shown = "" if large else f"<div class=scroll tabindex=0>{windows(self.report.rule)}</div>"
         return "".join([
             "<h2 id=rule>The rule</h2><p>Each window with the letter that it gives, in the order of the windows' values, as the "
-            "table has them. Wolfram writes this row from right to left.</p>", shown,
+            "table has them. Wolfram writes the letters in the reverse order.</p>", shown,
             f"<p>In the graph a {self.term('node')} is what is read last, and each edge reads a letter and writes one. A "
             f"configuration is a {self.term('walk')}, and what that writes is its image.</p>", self.drawn("graph")])
 

@@ -6,7 +6,7 @@ from __future__ import annotations
 from dataclasses import dataclass
 
 from .commands import decide, erase, preimage
-from .drawing import DARK, DASHES, FIRST, GREY, MARGIN, PAPER, SECOND, SHADE, WIDEST, Canvas, Picture
+from .drawing import DARK, DASHES, FIRST, GREY, MARGIN, PAPER, PHONE, SECOND, SHADE, WIDEST, Canvas, Picture
 from .graphs import Edge, Graph
 from .layout import RADIUS, fits, ring
 from .operands import Weights
@@ -86,7 +86,9 @@ def windows(rule: RuleLike) -> Picture:
     known = rule_of(rule)
     canvas, graph, size = Canvas(f"The windows of {known}, by their values, and what each gives"), Graph(known), 18
     step = size * known.width + 14
-    in_row = max(1, int((WIDEST - 2 * MARGIN) // step))
+    in_row = 1                                  # a power of the states: windows below each other end alike
+    while in_row < len(graph.edges()) and in_row * known.states * step <= WIDEST - 2 * MARGIN:
+        in_row *= known.states
     own = -known.offset if 0 <= -known.offset < known.width else (known.width - 1) / 2
     for place, edge in enumerate(graph.edges()[:DRAWN]):
         x, y = MARGIN + step * (place % in_row), 16 + (2 * size + 16) * (place // in_row)
@@ -156,13 +158,13 @@ def walks_of(report: Report, show: str) -> Walks:
         pair = erase(report.rule)
         if pair is None:
             raise ValueError("the rule is surjective: it has no erasable pair")
-        heading = f"{pair.first} and {pair.second} may stand for each other everywhere: two walks that differ in them alone"
+        heading = f"{pair.first} and {pair.second} may stand for each other everywhere: two walks that differ only in them"
         tails = [Tail(word[0], word, word[-1]) for word in (pair.first, pair.second)]
         return Walks(heading, {"first": tails[0], "second": tails[1]}, seen_at(Graph(report.rule), range(len(pair.first))))
     if show == "ring":
         if not report.ring:
             raise ValueError("the rule is conserving: each ring keeps its sum")
-        return Walks(f"The ring of {report.ring} and its image haven't one sum{weighing(report)}: the walk along it",
+        return Walks(f"The ring of {report.ring} and its image have different sums{weighing(report)}: the walk along it",
                      {"ring": Tail.ring(report.ring)}, range(len(report.ring)))
     if show == "twins":
         if not report.twins:
@@ -212,7 +214,7 @@ def draw_graph(canvas: Canvas, graph: Graph, walks: list[list[Edge]], numbers: N
     else:
         draw_table(canvas, graph, walks, numbers)
         said += "; the edge leads to the node of the letter read"
-    canvas.lines_of_text(canvas.height + 22, said, 12, GREY, room=600)
+    canvas.lines_of_text(canvas.height + 22, said, 12, GREY, room=PHONE)
 
 
 def label(graph: Graph, edge: Edge, numbers: Numbers | None) -> str:

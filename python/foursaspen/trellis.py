@@ -3,13 +3,26 @@ from __future__ import annotations
 
 import math
 
-from .drawing import (DARK, DASHES, FIRST, GREY, LIGHT, MARGIN, MARK, PAPER, SECOND, WIDEST, Canvas)
+from .drawing import (DARK, DASHES, FIRST, GREY, LIGHT, MARGIN, MARK, PAPER, PHONE, SECOND, WIDEST, Canvas)
 from .graphs import Edge, Graph, written
 from .report import Tail
 
 ROW = 24
+LEFT = MARGIN + 92.0                            # of the columns
 LEAST = 16.0                                    # of a column's width
 STYLES = ((FIRST, "", FIRST, -2.5), (SECOND, DASHES, PAPER, 2.5))   # of two walks: line, dashes, nodes, how far down
+
+
+def column_of(graph: Graph, steps: int) -> float:
+    """How wide a column is, as far as there is room."""
+    room = (WIDEST - LEFT - 52) / max(steps, 1)             # the margin, and half a word beyond the last column
+    return max(LEAST, min(38.0 + 3.5 * graph.nodes, room))
+
+
+def room_of(graph: Graph, steps: int) -> float:
+    """How wide the lines of text may be: as wide as a phone shows, unless the columns are much wider."""
+    columns = LEFT + column_of(graph, steps) * steps + 52
+    return PHONE if columns < 2 * PHONE else min(WIDEST, columns)
 
 
 class Trellis:
@@ -17,9 +30,7 @@ class Trellis:
 
     def __init__(self, canvas: Canvas, graph: Graph, steps: int, top: float) -> None:
         self.canvas, self.graph, self.top = canvas, graph, top
-        self.left: float = MARGIN + 92.0
-        room = (WIDEST - self.left - 52) / max(steps, 1)    # the margin, and half a word beyond the last column
-        self.column: float = max(LEAST, min(38.0 + 3.5 * graph.nodes, room))
+        self.left, self.column = LEFT, column_of(graph, steps)
         for node in range(graph.nodes):
             canvas.text(self.left - 22, self.y(node) + 4.3, graph.name(node), anchor="end", bold=True)
             for column in range(steps + 1):
@@ -49,7 +60,7 @@ class Trellis:
 
 def draw_reading(canvas: Canvas, graph: Graph, orphan: str, said: str, top: float) -> None:
     """Where a walk may be that writes the orphan, letter by letter: at last nowhere."""
-    top = canvas.lines_of_text(top, said)
+    top = canvas.lines_of_text(top, said, room=room_of(graph, len(orphan)))
     trellis = Trellis(canvas, graph, len(orphan), top + 44)
     trellis.letters("image", list(orphan), trellis.top - 14)
     for column, (nodes, edges) in enumerate(graph.reading(orphan)):
@@ -65,7 +76,8 @@ def draw_walks(canvas: Canvas, graph: Graph, rows: dict[str, Tail], cells: range
     """Configurations with one image, by their names: their letters at the cells, those that differ marked, and at
     each cell its letter of the image with the steps of the walks that write it. `moved` is the cell at which the
     middles begin."""
-    top = canvas.lines_of_text(top, said) + 12
+    room = room_of(graph, len(cells))
+    top = canvas.lines_of_text(top, said, room=room) + 12
     ends = cells.start - moved, cells.stop - moved
     words = [tail.cells(*ends) for tail in rows.values()]
     walks = [graph.over(tail, *ends) for tail in rows.values()]
@@ -84,5 +96,5 @@ def draw_walks(canvas: Canvas, graph: Graph, rows: dict[str, Tail], cells: range
         canvas.disc(trellis.x(len(walk)), trellis.y(walk[-1].target) + down, 3.4, fill, color)
     reads = graph.offset + graph.width - 1
     where = f"{abs(reads)} cell{'' if abs(reads) == 1 else 's'} to the {'right' if reads > 0 else 'left'}"
-    canvas.text(MARGIN, trellis.y(graph.nodes) + 14, "A step stands below the letter that it writes, and reads the "
-                f"letter {where if reads else 'of the same cell'}.", anchor="start", color=GREY)
+    canvas.lines_of_text(trellis.y(graph.nodes) + 14, "A step stands below the letter that it writes, and reads the letter "
+                         f"{where if reads else 'of the same cell'}.", 12, GREY, room=room)

@@ -7,6 +7,7 @@ import json
 import os
 import subprocess
 import tempfile
+import time
 from pathlib import Path
 from typing import Any
 
@@ -86,12 +87,27 @@ class Browser:
         return answer["result"].get("value")
 
     def click(self, element: str) -> None:
-        """Clicks on the middle of what the expression names."""
+        """Clicks on the middle of what the expression names, which leads to no other page."""
+        self._click(element)
+        self.get("new Promise(done => requestAnimationFrame(() => setTimeout(done, 20)))")
+
+    def follow(self, element: str, end: str) -> None:
+        """Clicks on a link, and waits until a page is loaded whose address ends so: for a minute at most."""
+        self._click(element)
+        shown, last = "", time.monotonic() + 60
+        while not (shown.startswith("complete ") and shown.endswith(end)):
+            if time.monotonic() > last:
+                raise AssertionError(f"{element} leads to {shown}, and not to {end}")
+            try:
+                shown = self.get("document.readyState + ' ' + location.href")
+            except AssertionError:                      # the page was left meanwhile
+                time.sleep(0.05)
+
+    def _click(self, element: str) -> None:
         x, y = self.get(f"(() => {{ const it = {element}; it.scrollIntoView({{block: 'center'}});"
                         "const box = it.getBoundingClientRect(); return [box.x + box.width / 2, box.y + box.height / 2] })()")
         for kind in ("mousePressed", "mouseReleased"):
             self.call("Input.dispatchMouseEvent", type=kind, x=x, y=y, button="left", clickCount=1)
-        self.get("new Promise(done => requestAnimationFrame(() => setTimeout(done, 20)))")
 
     def press(self, key: str) -> None:
         """Presses a key, Tab or Enter."""

@@ -53,6 +53,17 @@ class Lists(unittest.TestCase):
                 self.assertEqual(list(ca.rules("surjective", 2, 3, begin="0110", executor=executor)),
                                  [rule for rule in wanted if rule.startswith("2:3:0:t0110")])
 
+    def test_a_task(self) -> None:
+        """A part has its tables, the first of them where it is stopped; what goes wrong in its thread is raised."""
+        order, free, stop = bytes(range(4)), bytes([lists.OPEN] * 4), lists.Stop()
+        wanted = list(lists.tables(ca.Bit.SURJECTIVE, 2, 2, order, free))
+        self.assertEqual((lists.part(ca.Bit.SURJECTIVE, 2, 2, order, free, stop), len(wanted)), (wanted, 6))
+        with self.assertRaisesRegex(AssertionError, "ca_next_rule gives"):
+            lists.part(ca.Bit.SURJECTIVE, 2, 2, bytes(4), free, stop)
+        stop.set()
+        found = lists.part(ca.Bit.SURJECTIVE, 2, 2, order, free, stop)
+        self.assertEqual(found, wanted[:len(found)])
+
     def test_the_parts_fix_all_letters_that_can_stand(self) -> None:
         for states, size, begin, least in ((2, 8, b"", 64), (3, 9, b"\1\2", 64), (16, 16, b"", 64), (2, 4, b"\0\1\1\0", 64),
                                            (2, 8, b"", 1)):

@@ -233,13 +233,12 @@ class Clicks(unittest.TestCase):
         for name in ("index.html", "evidence.html", "2_2_0_t0110.html"):
             self.look((folder / name).as_uri())
         self.browser.open(index)
-        self.browser.click("document.querySelector('#body a')")
-        self.assertEqual(get("location.pathname.split('/').pop()"), "2_2_0_t0000.html")
+        self.browser.follow("document.querySelector('#body a')", "/2_2_0_t0000.html")
         self.assertEqual(get("document.querySelectorAll('#kin a').length + document.querySelectorAll('nav a').length"), 3 + 6)
-        self.browser.click("[...document.querySelectorAll('nav a')].find(a => a.textContent === 'the next class')")
+        self.browser.follow("[...document.querySelectorAll('nav a')].find(a => a.textContent === 'the next class')",
+                            "/2_2_0_t1000.html")
         self.assertEqual(get("document.querySelector('h1').textContent"), "2:2:0:t1000")
-        self.browser.click("document.querySelector('a.term')")
-        self.assertEqual(get("location.pathname.split('/').pop() + location.hash"), "evidence.html#the-graph")
+        self.browser.follow("document.querySelector('a.term')", "/evidence.html#the-graph")
         self.assertGreater(get("document.querySelectorAll('svg').length"), 5)
         self.assertEqual(self.browser.console, [])
 

@@ -96,6 +96,21 @@ class Pictures(unittest.TestCase):
             self.assertEqual(groups.count(said), 2, said)       # of the line and of its label
         self.assertEqual(len(groups), 16)
 
+    def test_windows(self) -> None:
+        """They ascend, each has the letter of the table at its value, and those below each other have one last letter."""
+        for rule in drawn(24, seed=7):
+            states, width, _, table = rule.split(":")
+            below: dict[str, set[str]] = {}
+            drawing = tree.fromstring(ca.windows(rule))
+            for value, group in enumerate(drawing.iter(f"{SVG}g")):
+                window, letter = (group[0].text or "").split(" gives ")
+                self.assertEqual((len(window), letter), (int(width), table[1 + value]))
+                self.assertEqual(sum(int(read, 16) * int(states) ** place for place, read in enumerate(window[::-1])), value)
+                self.assertEqual("".join(part.text or "" for part in group.iter(f"{SVG}text")), window + letter)
+                below.setdefault(group[1].get("x", ""), set()).add(window[-1])
+            self.assertEqual({len(last) for last in below.values()}, {1})
+            self.assertLessEqual(int(drawing.get("width", 0)), 1200)
+
     def test_pictures_are_well_formed(self) -> None:
         for rule in drawn(24, seed=5):
             report = ca.decide(rule)
