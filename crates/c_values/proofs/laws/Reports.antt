@@ -1,5 +1,5 @@
 -- What a report says, where letters are added behind its words, and what comes of the question for a report.
-use Rattle.std.proofs.Common.{◌≡◌, ℕ, ◌≤◌, List, ◌++◌, length, drop, Option, Some, None, Result, Ok, Err, refl, sym, ap, subst, subst₂, ◌∙◌, [], arith, IfOk}
+use Rattle.std.proofs.Common.{◌≡◌, ℕ, ◌≤◌, List, ◌++◌, length, drop, Option, Some, None, Result, Ok, Err, sym, ap, subst, subst₂, ◌∙◌, [], arith, IfOk}
 use Rattle.word_image.proofs.Common.{LocalRule, IsRule, rule_fault}
 use Rattle.word_image.specs.declared.local_rule.RuleFault.{RuleFault}
 use Rattle.cert_format.specs.Evidence.{Window, Twins, Ahead, Split, Flux, Ring}
