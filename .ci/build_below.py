@@ -1,11 +1,11 @@
-"""Runs a command of rt in this folder, after the crates below were built side by side: build_below.py WORD..
+"""Builds the crates below this folder's crate in parallel, then runs a command of rt in this folder: build_below.py WORD..
 
-rt proves the crates below one after the other, and a second command of rt in a checkout waits for the first. But it takes
-a library as built wherever it lies, by the stamp beside it, which is a sum of its sources and of those below. So each crate
-below is built by `rt lib` in one of a few copies of the checkout, once those that it stands on are there, first the one
-with the most lines on the way up from it. It takes along what an earlier run left of it, brings it back here, and
-its library is linked into the other copies; then the command runs here. On standard error stands how far it is, and how much
-longer it will take, by the pace so far. However it ends, it stops what it began and removes the copies.
+rt proves the crates one after another, and a second command of rt in a checkout waits for the first. But rt accepts a built
+library in any checkout, because the stamp next to it is a checksum of its sources and of the sources below. So this script makes a
+few copies of the checkout, and builds each crate in one of them by `rt lib`, as soon as the crates that it uses are built. Of the
+crates that are ready, the one with the most lines on the way up from it comes first. What an earlier run left of a crate moves
+into the copy, and the result moves back here; its library is linked into the other copies. Standard error shows the progress and
+an estimate of the time that is left. However the script ends, it stops what it began and removes the copies.
 """
 import os
 import re

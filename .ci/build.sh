@@ -1,6 +1,6 @@
-# What ./ca, ./try, ./rules and ./library share; each names itself in `me` and the checkout in `top`, and sources this.
+# What ./ca, ./try, ./rules and ./library share. Each of them sets `me` to its name and `top` to the checkout, and sources this.
 
-# needs_rt: whether rt is there; says what it is where it isn't.
+# needs_rt: whether rt is installed; if it isn't, says what it is.
 needs_rt() {
     command -v rt >/dev/null && return
     cat >&2 <<END
@@ -10,11 +10,11 @@ END
     return 1
 }
 
-# The crates on which no program of ca's and no library stands.
+# The crates that neither the program ca nor a library uses.
 apart=(answer_laws config_laws list_run preimage_laws public_calls rules worked_examples)
 
-# is_current CRATE OTHER..: whether the crate was built, and no source changed since that began, but for those
-# of the other crates.
+# is_current CRATE OTHER..: whether the crate was built, and no source has changed since that build began. Sources of the OTHER
+# crates don't count.
 is_current() {
     local stamp=$top/crates/$1/out/built others=() crate
     shift
@@ -23,8 +23,8 @@ is_current() {
         "$top"/crates/*/proofs "${others[@]}" -newer "$stamp" -print -quit 2>&1)" ]
 }
 
-# build CRATE COMMAND..: proves and builds the crate by this command in its folder, says how far it is, calls finish, and
-# leaves out/built, which is as old as the beginning of this. In a shell of its own, which clears up however it ends.
+# build CRATE COMMAND..: proves and builds the crate with this command in its folder, shows its progress, calls finish, and
+# leaves the file out/built, which is as old as the beginning of this. It runs in a subshell, which always cleans up.
 build() (
     stamp=$top/crates/$1/out/built
     begun=$stamp.$$
@@ -41,5 +41,5 @@ build() (
     finish && mv "$begun" "$stamp"
 )
 
-# What is left to do after the command.
+# What a script still does after the command.
 finish() { :; }

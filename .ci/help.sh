@@ -1,5 +1,5 @@
-# What ./ca, ./try and ./rules say to whoever needs help: how a command is called, and what a fault of theirs means. Each
-# names itself in `me` and the checkout in `top`, and sources this.
+# The help of ./ca, ./try and ./rules: how a command is called, and what a fault means. Each of them sets `me` to its name and
+# `top` to the checkout, and sources this.
 commands_page=$top/docs/COMMANDS.md
 
 # explains: whether a script says what a fault means: only at a terminal, and CA_EXPLAIN, which is yes or no, decides else.

@@ -1,4 +1,4 @@
-"""Writes docs/ca.1, the page for man, made of COMMANDS.md: `python3 docs/man.py > docs/ca.1`.
+"""Prints ca.1, the page for man, made from docs/COMMANDS.md: `python3 .ci/man.py > ca.1`.
 
 It knows of Markdown what that page uses: headings, paragraphs, numbered lists, tables, blocks that are indented by four blanks,
 and in a line code, links and nothing else.
@@ -7,9 +7,9 @@ import re
 import sys
 from pathlib import Path
 
-PAGE = Path(__file__).with_name("COMMANDS.md")
+PAGE = Path(__file__).resolve().parent.parent / "docs" / "COMMANDS.md"
 
-HEAD = r""".\" Made of docs/COMMANDS.md by docs/man.py; not to be edited.
+HEAD = r""".\" Made from docs/COMMANDS.md by .ci/man.py.
 .TH CA 1
 .SH NAME
 ca \- decides what holds of one\-dimensional cellular automata
