@@ -155,18 +155,27 @@ def as_html(entries: Iterable[Entry], title: str, pages: dict[Rule, str] | None 
 
 INTRODUCTION = """# The elementary rules
 
-The 256 rules of two states and width 3, by their Wolfram numbers, in the 88 classes of rules that differ by a mirror
-and by an exchange of 0 and 1. Made by `python -m foursaspen atlas`, which calls the proved library for each; the
-tests compare this page with what that prints.
+This page is an atlas of the 256 elementary rules, which have two states and width 3. A rule is named by its Wolfram number. The
+rules form 88 classes. Two rules are in the same class if one becomes the other by a mirror, by an exchange of 0 and 1, or by
+both. The command `python -m foursaspen atlas` makes this page. It calls the proved library for each rule, and the tests compare
+this page with its output.
 
-Bold is yes. Behind a verdict stands its least evidence, that of the class's least rule, as `decide` prints it: the
-least orphan; the least window N C or the least twins; the least look-ahead or the least normal split; the flux or
-the least ring whose sum isn't kept. [COMMANDS.md](COMMANDS.md#decide-r) says what these are. Of the mirrored rules in
-a class right and left are exchanged. That the number of ones is kept is the same for a whole class here, since then
-the number of zeros is kept too.
+The second table has a row for each class. The verdicts are those of the least rule of the class; a "yes" is bold. After a verdict
+comes its evidence, as `decide` prints it. [EVIDENCE.md](EVIDENCE.md) explains these kinds of evidence:
 
-The last column has how many sums of words of 1, 2, 3 and 4 letters are kept apart from those that every rule keeps, none of
-them a combination of the others: [SUMS.md](SUMS.md). They are as many for each rule of a class.
+| Verdict | Evidence of a yes | Evidence of a no |
+|---|---|---|
+| surjective | | the least orphan |
+| injective | the least window N C | the least twins |
+| right-closing, left-closing | the least look-ahead | the least normal split |
+| conserving | the flux | the least ring that doesn't keep its sum |
+
+The other rules of a class have the same verdicts, except that right and left are exchanged for a mirrored rule. Conserving is
+the same for all rules of a class: if a rule keeps the number of ones, it also keeps the number of zeros.
+
+The last column has four numbers, for words of 1, 2, 3 and 4 letters. Each says how many sums of weights of such words the rule
+keeps. Sums that every rule keeps don't count, and none of the counted sums is a combination of the others ([SUMS.md](SUMS.md)).
+All rules of a class have the same four numbers.
 
 """
 
