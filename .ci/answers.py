@@ -1,8 +1,8 @@
-"""Makes the text of each answer anew from its JSON form alone, and holds it beside the text: answers.py WORDS.
+"""Makes the text of each answer from its JSON, and compares it with the text of the library: answers.py WORDS.
 
-WORDS has command lines: of each how many words it has, and the words, each of all these with a 0 byte after it. The lines
-are those of docs/COMMANDS.md and docs/CERTIFICATES.md, and the form is that of docs/ANSWERS.md; what is written here knows
-neither the package nor the library. The texts of the package's own answers and exceptions are held beside those too.
+The file WORDS has command lines. Each is the number of its words and then the words, each followed by a 0 byte. The writer of the
+text follows only docs/COMMANDS.md, docs/CERTIFICATES.md and docs/ANSWERS.md, and uses neither the package nor the library. The texts
+of the answers and exceptions of the package are compared too.
 """
 import json
 import operator

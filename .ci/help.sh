@@ -2,7 +2,7 @@
 # `top` to the checkout, and sources this.
 commands_page=$top/docs/COMMANDS.md
 
-# explains: whether a script says what a fault means: only at a terminal, and CA_EXPLAIN, which is yes or no, decides else.
+# explains: whether a script explains faults: only at a terminal, unless CA_EXPLAIN is yes or no.
 explains() {
     case ${CA_EXPLAIN-} in
     yes) return 0 ;;

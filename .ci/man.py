@@ -1,7 +1,7 @@
 """Prints ca.1, the page for man, made from docs/COMMANDS.md: `python3 .ci/man.py > ca.1`.
 
-It knows of Markdown what that page uses: headings, paragraphs, numbered lists, tables, blocks that are indented by four blanks,
-and in a line code, links and nothing else.
+It knows only the parts of Markdown that this page uses: headings, paragraphs, numbered lists, tables, blocks that are indented by
+four blanks, and in a line code and links.
 """
 import re
 import sys

@@ -1,9 +1,9 @@
 """Proves and builds the static library in this folder over the libraries below it as `rt ci` left them: over_ci.py BEGUN.
 
-`rt lib` would prove each of those once more, since rt ci leaves no stamp beside them. BEGUN is a file that was made right
-before rt ci began. A library counts that is as its stamp says, or that has none and was made since then, where no source
-has changed since; where there is another one this builds nothing and ends with 1. Those without a stamp are then removed:
-no command of rt takes them, and a later rt ci would put them back in place of its own.
+`rt lib` would prove each of these libraries again, since rt ci leaves no stamp next to them. BEGUN is a file that was made directly
+before rt ci began. A library is used if its stamp fits. A library without a stamp is used if it was made after BEGUN and no
+source has changed since then. If there is any other library, this script builds nothing and ends with 1. Afterwards it removes the
+libraries without a stamp: no command of rt uses them, and a later rt ci would put them back in place of its own.
 """
 import importlib.util
 import os

@@ -1,6 +1,6 @@
-"""The definitions that a promise rests on, as one page: each declaration that the promise leads to, in an order in which
-none comes before one that it uses, without imports. A declaration is parsed by its layout alone: it begins in the first
-column, and the lines below it are indented or are equations that begin with its name."""
+"""Puts the definitions that a promise uses on one page, without imports: each declaration that the promise leads to comes after
+the declarations that it uses. A declaration is parsed only by its layout: it begins in the first column, and the lines below it
+are indented, or are equations that begin with its name."""
 
 import re
 from dataclasses import dataclass, field
