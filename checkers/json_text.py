@@ -1,11 +1,11 @@
-"""A reader of JSON with the rules of docs/CERTIFICATES.md, where Python's own has others.
+"""A reader of JSON with the rules of docs/CERTIFICATES.md.
 
-That one takes NaN and Infinity, numbers that no double holds, escaped surrogates without their other half,
-and encodings other than UTF-8; it has its own bounds for the length of a whole number and for how deep
-brackets stand; and -0 is whole to it. That the last of members with one key counts is so there too.
+Python's own reader has other rules. It accepts NaN and Infinity, numbers that are too large for a double, escaped surrogates without
+their other half, and encodings other than UTF-8. It has other limits for the length of a whole number and for nested brackets, and
+it takes -0 for a whole number. As in Python's reader, the last of several members with the same key counts.
 
-`read` gives the value of bytes: a dict, list, str, True, False or None. Of numbers only the signed whole ones
-become an int; every other number (1.0, 1e0, -0, 2^64) becomes a float, which nobody asks for.
+`read` returns the value of bytes: a dict, list, str, True, False or None. A signed whole number becomes an int. Every other number
+(1.0, 1e0, -0, 2^64) becomes a float, which no caller uses.
 """
 import math
 import re

@@ -1,11 +1,11 @@
 #!/usr/bin/env python3
-"""Judges a certificate of a cellular automaton, as docs/CERTIFICATES.md tells it and nothing else.
+"""Judges a certificate of a cellular automaton. It was written only from docs/CERTIFICATES.md.
 
     python3 judge.py < certificate.json
 
-The exit status is 0 where it is accepted, 1 where it is refused, 5 where it is too long, 6 where it can't be read,
-7 where the answer can't be written, 8 where there is no memory, and 70 where it is called with an operand or Python fails
-otherwise. The steps of the shape and the conditions stand in the order of that page's tables.
+The exit status is 0 if the certificate is accepted, 1 if it is refused, 5 if it is too long, 6 if it can't be read, 7 if the answer
+can't be written, and 8 if there is no memory. It is 70 if the program is called with an operand, or if Python fails otherwise. The
+steps of the shape and the conditions are in the order of the tables of that page.
 """
 import contextlib
 import os

@@ -1,4 +1,4 @@
-"""Holds the tables of docs/SUMS.md beside the library, and has sums.py judge answers: `kept_tables.py PAGE`."""
+"""Compares the tables of docs/SUMS.md with the library, and lets sums.py judge answers: `kept_tables.py PAGE`."""
 import random
 import re
 import sys

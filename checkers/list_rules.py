@@ -1,11 +1,11 @@
 #!/usr/bin/env python3
-"""Lists every rule of a shape that has a property, as docs/LISTS.md tells it and nothing else: each table is tried.
+"""Lists every rule of a shape that has a property, by trying each table. It was written only from docs/LISTS.md.
 
     python3 list_rules.py PROPERTY BEGIN
 
-It is for a few ten thousand tables, so for the shapes 2:2, 2:3, 2:4 and 3:2, and for parts of others. Nodes are the words of
-m - 1 letters, and a window leads from the node of its first letters to that of its last ones. The exit status is 1 where
-the words are no property and one beginning.
+It can try some ten thousand tables: the shapes 2:2, 2:3, 2:4 and 3:2, and parts of other shapes. Nodes are the words of m - 1
+letters. A window leads from the node of its first m - 1 letters to the node of its last m - 1 letters. The exit status is 1 if the
+words aren't a property and one beginning.
 """
 import itertools
 import re

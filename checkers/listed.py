@@ -1,4 +1,4 @@
-"""The certificates of certificates.txt, as one JSON object a line: the text, the status, and what is printed of it.
+"""Prints the certificates of certificates.txt as JSON, one object on each line: the text, the status, and the output.
 
     python3 checkers/listed.py > certificates.jsonl
 """

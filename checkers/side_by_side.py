@@ -1,7 +1,7 @@
-"""Holds judge.py and `ca check` against each other: `side_by_side.py PROGRAM RULES BROKEN`.
+"""Compares judge.py with `ca check`: `side_by_side.py PROGRAM RULES BROKEN`.
 
-Each case is an input of both. RULES is how many rules are drawn for certificates besides the elementary
-ones, and BROKEN how many certificates are broken by one mutation each.
+Each case is an input for both. RULES is the number of random rules that get certificates, besides the elementary rules. BROKEN is
+the number of certificates that are broken by one change each.
 """
 import json
 import os

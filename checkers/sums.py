@@ -1,13 +1,14 @@
 #!/usr/bin/env python3
-"""Judges what is said to be all the sums that a rule keeps, from the rule's table alone. It stands on docs/SUMS.md and on
-nothing of the library.
+"""Judges an answer that claims to have all the sums that a rule keeps. It uses only the table of the rule, and was written only from
+docs/SUMS.md; it doesn't use the library.
 
     python3 sums.py < kept.json
 
-reads what `python -m foursaspen kept RULE RANGE --json` writes, and says `accepted` or why it is refused. The exit status is 0
-where it is accepted, 1 where it is refused, and 70 where the call is another one.
+reads the output of `python -m foursaspen kept RULE RANGE --json`, and prints `accepted`, or why the answer is refused. The exit
+status is 0 if the answer is accepted, 1 if it is refused, and 70 if the program is called in another way.
 
-Weights are a list, one for each word of `letters` letters, by the word's value. Ranks are taken over fractions.
+Weights are a list with one weight for each word of `letters` letters, in the order of the words' values. Ranks are computed with
+fractions.
 """
 import json
 import re

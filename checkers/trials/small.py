@@ -1,8 +1,8 @@
 """Looks for a false verdict that checkers/judge.py accepts: `small.py PROGRAM EVERY [LIBRARY]`.
 
-Of the 16 rules of two states and width 2 the certificate that the program writes gets each small part in place of its
-own: 1.4 million in all. Of those with claims and splits, nearly all, one in EVERY is drawn. What is accepted must be
-what truth.py decides. A library is asked by its ca_run for the same certificates, and must answer the same.
+It takes the certificates that the program writes for the 16 rules of two states and width 2, and replaces each part by every small
+part: 1.4 million certificates in all. Nearly all of them have other claims or splits; of these it draws one in EVERY. The verdicts of
+an accepted certificate must be those of truth.py. If LIBRARY is given, its ca_run must give the same answers.
 """
 import ctypes
 import itertools

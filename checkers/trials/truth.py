@@ -2,7 +2,7 @@
 
     python3 checkers/trials/truth.py WIDTH
 
-holds that against what words and rings up to a length say, for all rules of two states and this width.
+compares this with what words and rings up to some length show, for all rules of two states and this width.
 """
 import functools
 import itertools
