@@ -149,6 +149,13 @@ class Sections:
         made = drawn(self.report, show, with_graph=show in ("graph", "flux", "current"))
         return f"<div class=scroll tabindex=0>{made}</div>"
 
+    def told(self, show: str) -> str:
+        """What a window or a look-ahead tells, where there is room for it."""
+        try:
+            return self.drawn(show)
+        except ValueError as fault:
+            return f"<p class=note>{fault}.</p>"
+
     def names(self, nodes: Iterable[int]) -> str:
         return " ".join(self.graph.name(node) for node in sorted(nodes))
 
@@ -205,7 +212,7 @@ class Sections:
             back = None
         return "".join([
             f"<p>The letter at place {window.place}, from 0 on, of {window.letters + self.graph.width - 1} is told by their "
-            f"image, {counted(window.letters, 'letter')}: a {self.term('window')}.</p>",
+            f"image, {counted(window.letters, 'letter')}: a {self.term('window')}.</p>", self.told("window"),
             steps("Two walks that differ at that place and write the same letters",
                   ("letters of the image", "pairs of nodes that are left"), enumerate(undecided(self.graph, window))),
             f"<p>The {self.term('inverse')} is {self.to(back) if back else 'wider than a rule may be'}.</p>"])
@@ -214,7 +221,7 @@ class Sections:
         counts = left_after(self.graph if side == "right" else mirrored(self.graph), ahead)
         return "".join([
             f"<p>Where two configurations agree to the {other} of a cell, that cell is told by {counted(ahead, 'letter')} of "
-            f"their image, and by no fewer: the {self.term('look-ahead')} is {ahead}.</p>",
+            f"their image, and by no fewer: the {self.term('look-ahead')} is {ahead}.</p>", self.told(side),
             steps("Two walks from one node that read different letters first and write the same ones",
                   ("letters written", "pairs of nodes that are left"), enumerate(counts, 1))])
 
