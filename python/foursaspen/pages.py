@@ -24,6 +24,7 @@ from .sums import kept_sums, ranges
 VERDICTS = ("surjective", "injective", "right", "left", "open", "conserving")
 LONGEST = 200                                   # letters of a word that is drawn, and steps of a table
 SHOWN = 24                                      # rules of a class that are named
+HEADED = 40                                     # letters of a heading
 STYLE = Path(__file__).with_name("style.css")
 PAGE = """<!doctype html>
 <html lang=en>
@@ -55,6 +56,12 @@ def whole_page(name: str, sections: str, top: str = "") -> str:
     return PAGE.format(title=escape(name), style=STYLE.read_text(encoding="utf-8"), sections=sections, top=top)
 
 
+def heading(report: Report) -> str:
+    """The name of a rule as a heading: where its text is long, how many states it has and how wide it is."""
+    rule, name = report.rule, title(report)
+    return name[0].upper() + name[1:] if len(name) <= HEADED else f"A rule of {rule.states} states and width {rule.width}"
+
+
 def said(report: Report, key: str) -> str:
     return "yes" if getattr(report, key) else "no"
 
@@ -83,8 +90,7 @@ class Sections:
     def __init__(self, report: Report, evidence: str = "", pages: dict[Rule, str] | None = None) -> None:
         work_out(report)
         self.report, self.graph, self.evidence, self.pages = report, Graph(report.rule, report.weights), evidence, pages or {}
-        name = title(report)
-        self.name = name[0].upper() + name[1:]
+        self.name = heading(report)
 
     def all(self) -> Iterator[str]:
         report = self.report
