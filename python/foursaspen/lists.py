@@ -111,9 +111,9 @@ def rules(property: Properties, states: SupportsIndex, width: SupportsIndex, off
     that have no inverse of at most so many cells. With `classes` the classes of the rules come in place of the rules, each with
     its least rule and with its members that are in the list; with `shifts` rules that only read other cells are in one class.
 
-    Without an executor each rule is searched when it is asked for. An executor, any of concurrent.futures whose workers
-    have this package, searches the parts of the shape side by side, and the rules of a part come together; the order
-    is the same. `progress` is called with a Listing after each part, and `bar` shows a bar where tqdm is installed."""
+    Without an executor each rule is searched when it is asked for, with some more where they come quickly. An executor, any of
+    concurrent.futures whose workers have this package, searches the parts of the shape side by side, and the rules of a part come
+    together; the order is the same. A list that is stopped or left ends within a second. `progress` is called with a Listing after each part, and `bar` shows a bar where tqdm is installed."""
     wanted = bits_of(property)
     states, width = shape(states, width)
     begins = index("offset is", "a whole number", offset)

@@ -1,6 +1,7 @@
 """The package as a whole: what it shows of itself, its command line, and what other programs take from it."""
 from __future__ import annotations
 
+import contextlib
 import os
 import pickle
 import pydoc
@@ -105,6 +106,26 @@ class CommandLine(unittest.TestCase):
 
 
 class Stopped(unittest.TestCase):
+    def test_a_terminal_is_told_how_far_it_is(self) -> None:
+        """And after Ctrl-C that it has stopped."""
+        ours, theirs = os.openpty()
+        begun = subprocess.Popen([*ASK, "atlas", "2", "4", "--csv"], env=ENVIRONMENT, cwd="/", stdout=subprocess.DEVNULL, stderr=theirs)
+        os.close(theirs)
+        said = b""
+        try:
+            while b"rule 1,000" not in said:
+                said += os.read(ours, 1000)
+            begun.send_signal(signal.SIGINT)
+            self.assertEqual(begun.wait(600), 130)
+            with contextlib.suppress(OSError):  # where nobody writes any more
+                while more := os.read(ours, 1000):
+                    said += more
+        finally:
+            begun.kill()
+            begun.wait()
+            os.close(ours)
+        self.assertRegex(said.decode(), r"^\rrule 0 +\rrule 1,000 .*stopped\r\n$")
+
     OVER_THREADS = """import sys
 from concurrent.futures import ThreadPoolExecutor
 from foursaspen import rules

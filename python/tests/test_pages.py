@@ -101,6 +101,22 @@ class Texts(unittest.TestCase):
             for part in text.split("<svg")[1:]:
                 tree.fromstring("<svg" + part.partition("</svg>")[0] + "</svg>")
 
+    def test_the_heading(self) -> None:
+        """The number of an elementary rule, a text that isn't long, or else how many states there are and how wide the rule is."""
+        known: list[tuple[ca.RuleLike, str]] = [
+            (110, "Rule 110"), ("3:2:0:t012120201", "3:2:0:t012120201"), (f"16:2:0:t{WIDE}", "A rule of 16 states and width 2")]
+        for rule, name in known:
+            text = ca.page(rule)
+            self.assertIn(f"<title>{name}</title>", text)
+            self.assertIn(f"<h1>{name}</h1>\n<p class='note mono'>{ca.Rule(rule)}</p>", text)
+
+    def test_what_windows_and_look_aheads_tell(self) -> None:
+        """Where there is room for it."""
+        known: list[tuple[ca.RuleLike, int, int]] = [(170, 3, 0), (30, 1, 0), (110, 0, 0), (f"16:2:0:t{WIDE}", 1, 2)]
+        for rule, count, note in known:
+            text = ca.page(rule)
+            self.assertEqual((text.count(" the marked cell</title>"), text.count(": a picture has at most 256 cases.</p>")), (count, note), rule)
+
     def test_words_lead_to_what_they_mean(self) -> None:
         for rule in RULES:
             text = ca.page(rule)
@@ -267,6 +283,25 @@ class Clicks(unittest.TestCase):
         self.shows("document.querySelector('.scroll').scrollTop > 1000", True)
         places = get("['#head th', '.scroll'].map(name => document.querySelector(name).getBoundingClientRect().top)")
         self.assertLess(abs(places[0] - places[1]), 2)
+
+    def test_large_graphs_and_long_tables(self) -> None:
+        """At 360 pixels they scroll in boxes of their own, which are no higher than the screen, and headings of tables stay."""
+        get = self.browser.get
+        for name, rule in (("wide.html", f"16:2:0:t{WIDE}"), ("long.html", "2:5:0:t00110011001111001100110011000110")):
+            address = self.file(name, ca.page(rule))
+            self.look(address)
+            self.browser.open(address, 360)
+            self.named()
+            boxes = get("[...document.querySelectorAll('.scroll')].map(box => [box.clientWidth, box.clientHeight, box.scrollWidth,"
+                        "box.scrollHeight, box.tabIndex])")
+            self.assertTrue(all(wide <= 360 and high <= 0.9 * 900 for wide, high, *_ in boxes), boxes)
+            self.assertGreater(sum(whole > wide for wide, _, whole, _, _ in boxes), 1)
+            self.assertGreater(sum(whole > high for _, high, _, whole, _ in boxes), 0)
+            self.assertEqual({stop for wide, high, whole, deep, stop in boxes if whole > wide or deep > high}, {0})
+            get("(window.high = [...document.querySelectorAll('.scroll')].find(box => box.querySelector('thead') && "
+                "box.scrollHeight > box.clientHeight + 200)).scrollTop = 150")
+            self.shows("high.scrollTop", 150)
+            self.assertLess(abs(get("high.querySelector('thead th').getBoundingClientRect().top - high.getBoundingClientRect().top")), 2)
 
     def test_the_keyboard(self) -> None:
         self.browser.open(self.file("small.html", ca.atlas(2, 2)))
