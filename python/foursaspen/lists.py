@@ -13,7 +13,7 @@ from dataclasses import dataclass
 from itertools import islice, product
 from pathlib import Path
 from queue import SimpleQueue
-from typing import Any, Literal, SupportsIndex, Union, overload
+from typing import Any, Literal, NamedTuple, SupportsIndex, Union, overload
 
 from .bits import Bit, of_table
 from .commands import brief, inverse
@@ -222,20 +222,28 @@ class Stop:
         return Stop, ()
 
 
+class Gathering(NamedTuple):
+    """Tables that are asked for: where they come from, how many or all of them, and the list into which they go."""
+    found: Iterator[bytes]
+    most: int | None
+    into: list[bytes]
+    done: Future[None]
+
+
 class Aside:
     """A thread that calls in place of another one, which only waits. A call of the library can't be stopped and may last for
     hours: where nobody waits for it any more it ends at its next rule, or with the process."""
 
     def __init__(self) -> None:
-        self._asked: SimpleQueue[tuple[Iterator[bytes], int | None, list[bytes], Future[None]] | None] = SimpleQueue()
+        self._asked: SimpleQueue[Gathering | None] = SimpleQueue()
         self._left = threading.Event()
         threading.Thread(target=self._work, daemon=True).start()
 
-    def gather(self, found: Iterator[bytes], count: int | None, into: list[bytes]) -> Future[None]:
+    def gather(self, found: Iterator[bytes], most: int | None, into: list[bytes]) -> Future[None]:
         """Puts the next tables into a list, so many or all."""
-        done: Future[None] = Future()
-        self._asked.put((found, count, into, done))
-        return done
+        asked = Gathering(found, most, into, Future())
+        self._asked.put(asked)
+        return asked.done
 
     def leave(self) -> None:
         """Says that nobody waits any more."""
@@ -244,15 +252,14 @@ class Aside:
 
     def _work(self) -> None:
         while (asked := self._asked.get()) is not None:
-            found, count, into, done = asked
             try:
-                for table in islice(found, count):
-                    into.append(table)
+                for table in islice(asked.found, asked.most):
+                    asked.into.append(table)
                     if self._left.is_set():
                         break
-                done.set_result(None)
+                asked.done.set_result(None)
             except BaseException as fault:
-                done.set_exception(fault)
+                asked.done.set_exception(fault)
 
 
 def searched(property: int, states: int, width: int, order: bytes, fixed: list[bytes],
