@@ -12,7 +12,7 @@ use Rattle.ca_words.specs.Commands.{Command, Form, IsCommand, form_of, rule_coun
 use Rattle.ca_findings.proofs.Common.{Question, AreRules}
 use Rattle.ca_findings.specs.Samples.{survey_rules, state_after, drawn_rule, sample_rules}
 use Rattle.ca_answers.proofs.laws.Samples.{survey-accepted, IsRule-drawn}
-use Rattle.ca_cli.specs.Asked.{AreRuleTexts, Asks, IsAsked, IsFirstFault, IsShapeFault, IsOperandFault}
+use Rattle.ca_words.specs.Asked.{AreRuleTexts, Asks, IsAsked, IsFirstFault, IsShapeFault, IsOperandFault}
 
 -- The rules of a question
 

@@ -13,7 +13,7 @@ use Rattle.ca_text.specs.Replies.{reply_text}
 use Rattle.ca_cli.specs.Statuses.{reply_status}
 use Rattle.ca_cli.specs.RightAnswers.{IsReply, IsReplyTo, IsAnswer}
 use Rattle.ca_cli.specs.RightAnswers.IsReply.{Found, NoFit, RuleFault, Accepted, Refused, TooLong}
-use Rattle.ca_cli.proofs.laws.Asked.{IsAsked-unique, IsAsked-reads_nothing}
+use Rattle.ca_words.proofs.laws.Asked.{IsAsked-unique, IsAsked-reads_nothing}
 use Rattle.ca_cli.proofs.laws.RightAnswers.{to_command}
 use Rattle.ca_cli.proofs.laws.OneStatus.{one_status_told, one_status_unread}
 use Rattle.answer_laws.proofs.Findings.{IsFinding-unique, IsUnfitFor-unique}

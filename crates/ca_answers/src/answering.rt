@@ -1,6 +1,6 @@
 //! The answer to a question: each is asked of the function that finds it.
 ghost use Rattle.std.specs.Prelude.{◌≡◌, option_copied};
-ghost use Rattle.ca_findings.specs.QuestionValues.{IsWhole, question_of, weights_of};
+ghost use Rattle.ca_findings.specs.QuestionValues.{IsWhole, question_of};
 ghost use Rattle.ca_findings.specs.Questions as questions;
 ghost use Rattle.ca_findings.specs.Values.{Answers, Settles};
 
@@ -11,7 +11,7 @@ use crate::languages::{erase, language, same};
 use crate::preimages::preimage;
 use crate::reports::{certificate, number, orphan, report};
 use crate::summaries::{classes, sample, survey};
-use ca_findings::{Cause, Found, Question, Stop};
+use ca_findings::{Cause, Found, Question, ShortList, Stop};
 use std::alloc::Global;
 
 /// Returns what is found for a question, or why nothing is.
@@ -30,7 +30,7 @@ pub fn answer(alloc: Global, question: &Question) -> Result<Found, Stop>
         Question::Trim(rule) => Ok(trim(rule)),
         Question::Shift(rule, by) => settled(shift(rule, *by)),
         Question::Widen(rule, width) => settled(widen(rule, *width)),
-        Question::Permute(rule, letters) => settled(permute(rule, letters)),
+        Question::Permute(rule, letters) => settled(permute(rule, letters.as_slice())),
         Question::Compose(first, second) => settled(compose(first, second)),
         Question::Least(rule) => settled(least(rule)),
         Question::Lift(rule) => settled(lift(rule)),
@@ -56,9 +56,9 @@ fn settled(found: Result<Found, Cause>) -> Result<Found, Stop>
     }
 }
 
-/// Returns the weights that are named.
-fn named(weights: &Option<Vec<u8>>) -> Option<&[u8]>
-    ensures { option_copied result ≡ weights_of weights.now }
+/// Returns the weights that are named, as numbers.
+fn named(weights: &Option<ShortList>) -> Option<&[u8]>
+    ensures { option_copied result ≡ weights.now }
 {
     match weights {
         Some(list) => Some(list.as_slice()),

@@ -1,8 +1,4 @@
 pub mod Inputs
-pub mod Asked
-pub mod Operands
-pub mod Asking
-pub mod Numbered
 pub mod RightAnswers
 pub mod CheckAnswers
 pub mod OneStatus

@@ -13,7 +13,7 @@ use Rattle.ca_findings.specs.Replies.{Reply}
 use Rattle.ca_text.specs.Replies.{reply_text}
 use Rattle.ca_cli.specs.declared.status.Status.{Status}
 use Rattle.ca_cli.specs.Statuses.{reply_status}
-use Rattle.ca_cli.specs.Asked.{IsAsked, IsOperandFault}
+use Rattle.ca_words.specs.Asked.{IsAsked, IsOperandFault}
 use Rattle.ca_cli.specs.Inputs.{IsWholeInput, IsLongInput}
 
 -- the reply is right for the command: what is found for its question is, or nothing fits, or an operand is refused, or it is what `check` says of the input

@@ -50,7 +50,6 @@
 #![tactic(auto)]
 
 mod answers;
-mod asking;
 mod checks;
 mod replies;
 mod status;

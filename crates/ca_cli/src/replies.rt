@@ -1,17 +1,17 @@
 //! From the words to what is said to them, as a value.
-ghost use Rattle.std.specs.Prelude.{◌≡◌, ◌↔◌, ℕ, List, Option, IfOk, IsTrue, map, string_bytes};
+ghost use Rattle.std.specs.Prelude.{◌≡◌, ℕ, List, Option, IfOk, map, string_bytes};
 ghost use Rattle.ca_words.specs.Commands.{IsCommand, check_command};
 ghost use Rattle.ca_findings.specs.Values.{reply_of};
-ghost use Rattle.ca_cli.specs.Asking.{IsOutcome};
+ghost use Rattle.ca_cli.specs.Outcomes.{IsOutcome};
 ghost use Rattle.ca_cli.specs.Readings.{IsReadFor, Reading};
 ghost use Rattle.ca_cli.specs.RightAnswers.{IsReplyTo};
 ghost use Rattle.ca_cli.specs.Statuses.{reply_status};
 
-use crate::asking::{one, question};
 use crate::checks::check;
 use ca_answers::answer;
 use ca_findings::{Found, Reply, Stop};
 use ca_io::{InputFault, Source};
+use ca_words::{is_check, question};
 use std::alloc::{AllocError, Global};
 
 /// Returns the reply to these words and to what the source has left, which only `check` reads. There is none if a
@@ -32,29 +32,13 @@ pub fn reply<S: Source>(
         (S.left source.old) (S.left source.new) (S.faults source.old) (S.faults source.new) }
 {
     if is_check(words) {
-        check(alloc, source)
-    } else {
-        Ok(said(outcome(alloc, words))?)
+        return check(alloc, source);
     }
-}
-
-/// Returns whether the words are the command `check`.
-fn is_check(words: &[String]) -> bool
-    ensures { IsTrue result ↔ IsCommand (map string_bytes words.now) check_command }
-{
-    match one(words) {
-        Some(word) => word == "check".as_bytes(),
-        None => false,
-    }
-}
-
-/// Returns what is found for words that read nothing, or why nothing is.
-fn outcome(alloc: Global, words: &[String]) -> Result<Found, Stop>
-    requires { ¬ IsCommand (map string_bytes words.now) check_command }
-    ensures { IsOutcome (map string_bytes words.now) result }
-{
-    let question = question(alloc, words)?;
-    answer(alloc, &question)
+    let found = match question(alloc, words) {
+        Ok(question) => answer(alloc, &question),
+        Err(stop) => Err(stop),
+    };
+    Ok(said(found)?)
 }
 
 /// Returns what is said if this comes of the words. Want of memory is no reply.

@@ -13,7 +13,7 @@ ghost use Rattle.ca_findings.specs.Questions.{Question};
 ghost use Rattle.ca_findings.specs.Findings.{Unfit, IsUnfitFor, weights_by};
 ghost use Rattle.ca_findings.specs.Replies.{Reply};
 ghost use Rattle.ca_findings.specs.Writable.{IsWritableReply};
-ghost use Rattle.ca_cli.specs.Asked.{IsAsked, IsOperandFault};
+ghost use Rattle.ca_words.specs.Asked.{IsAsked, IsOperandFault};
 ghost use Rattle.ca_cli.specs.Inputs.{most_input};
 ghost use Rattle.ca_cli.specs.Readings.{ReadsNothing};
 ghost use Rattle.ca_text.specs.StatusLines.{accepted_lines, operand_fault_line, refused_line, too_long_line, usage_line};

@@ -1,7 +1,5 @@
 -- Which question a value of the code is, and what its parts must have in common.
-use Rattle.std.specs.Prelude.{◌≡◌, ℕ, ◌≤◌, List, Option, None, Vec, true, pos, ⊤}
-use Rattle.std.specs.Global.{Global}
-use Rattle.std.specs.Option.{option_map}
+use Rattle.std.specs.Prelude.{◌≡◌, ◌≤◌, None, true, pos, ⊤}
 use Rattle.word_image.specs.LocalRules.{IsShape}
 use Rattle.cert_format.specs.Versions.{names_weights}
 use Rattle.rule_verdicts.specs.Numbers.{numbers_fault}
@@ -12,21 +10,17 @@ use Rattle.ca_findings.specs.declared.question.Drawn.{Drawn}
 use Rattle.ca_findings.specs.Questions.{Question}
 use Rattle.ca_findings.specs.Samples.{survey_rules, sample_rules}
 
--- the weights that are named
-abbrev pub weights_of : Option (Vec ℕ Global) → Option (List ℕ)
-weights_of weights = option_map (λ list. list.items) weights
-
 -- the question that a value is
 abbrev pub question_of : code.Question → Question
-question_of (asked.Report r weights) = Question.Report r (weights_of weights)
-question_of (asked.Certify v r weights) = Question.Certify v r (weights_of weights)
+question_of (asked.Report r weights) = Question.Report r weights
+question_of (asked.Certify v r weights) = Question.Certify v r weights
 question_of (asked.Orphan r) = Question.Orphan r
 question_of (asked.Number r) = Question.Number r
 question_of (asked.Reflect r) = Question.Reflect r
 question_of (asked.Trim r) = Question.Trim r
 question_of (asked.Shift r by) = Question.Shift r by
 question_of (asked.Widen r width) = Question.Widen r width
-question_of (asked.Permute r letters) = Question.Permute r letters.items
+question_of (asked.Permute r letters) = Question.Permute r letters
 question_of (asked.Compose r s) = Question.Compose r s
 question_of (asked.Least r) = Question.Least r
 question_of (asked.Lift r) = Question.Lift r

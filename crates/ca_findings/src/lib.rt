@@ -24,6 +24,7 @@
 mod found;
 mod question;
 mod reply;
+mod short_list;
 
 ghost use Rattle.ca_findings.specs.Findings.{IsFinding, IsUnfitFor, Finding, Unfit};
 ghost use Rattle.ca_findings.specs.Questions.{AreRules};
@@ -33,6 +34,7 @@ ghost use Rattle.ca_findings.specs.Writable.{IsWritable, IsWritableUnfit};
 pub use found::{Automaton, Cause, Counts, Found, Inverse, Pair, Report, Stop};
 pub use question::{Drawn, Numbered, Question};
 pub use reply::Reply;
+pub use short_list::ShortList;
 
 /// No question has both a right finding and a cause for which nothing fits.
 pub fn found_or_unfit()

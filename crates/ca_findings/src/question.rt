@@ -4,6 +4,7 @@ ghost use Rattle.rule_verdicts.specs.Numbers.{numbers_fault};
 ghost use Rattle.ca_findings.specs.QuestionValues.{AreDrawn, AreNumbered};
 ghost use Rattle.ca_findings.specs.Samples.{sample_fault};
 
+use crate::short_list::ShortList;
 use cert_format::CertVersion;
 use rule_text::{TextFault, check_shape, numbered};
 use rule_verdicts::fault_past_all;
@@ -14,9 +15,9 @@ use word_image::Rule;
 #[derive(Drop)]
 pub enum Question {
     /// Which verdicts hold of a rule, each with the least evidence.
-    Report(Rule, Option<Vec<u8>>),
+    Report(Rule, Option<ShortList>),
     /// The certificate of a rule.
-    Certify(CertVersion, Rule, Option<Vec<u8>>),
+    Certify(CertVersion, Rule, Option<ShortList>),
     /// The least orphan.
     Orphan(Rule),
     /// The Wolfram number.
@@ -30,7 +31,7 @@ pub enum Question {
     /// The rule at this width.
     Widen(Rule, u8),
     /// The rule in which each letter has the name that stands at its place.
-    Permute(Rule, Vec<u8>),
+    Permute(Rule, ShortList),
     /// The second rule after the first.
     Compose(Rule, Rule),
     /// The rule of its class with the least Wolfram number.

@@ -1,3 +1,5 @@
 pub mod Operands
 pub mod WeightTexts
 pub mod Commands
+pub mod Asked
+pub mod Asking

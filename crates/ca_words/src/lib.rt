@@ -1,7 +1,7 @@
-//! The words of a command line: the names of the commands, and the operands behind the rules.
+//! From the words of a command line to the question that they ask.
 //!
-//! A **command** is a [`Name`], as many words as the name has **rules**, and behind these its **operands**. Which words
-//! are one is `IsCommand` of specs/Commands.antt. A rule may be any word: whether it is the text of one isn't asked here.
+//! A **command** is a [`Name`], one word for each of its **rules**, and after these its **operands**. `IsCommand` of
+//! specs/Commands.antt defines which words are one. There a rule may be any word.
 //!
 //! | Words | Name | Rules | Operands | Form |
 //! |---|---|---|---|---|
@@ -13,15 +13,18 @@
 //! | `survey 2 3 0 256` | `Survey` | | `2`, `3`, `0`, `256` | `Numbers` |
 //! | `check` | `Check` | | | `Nothing` |
 //!
-//! `110`, `orphan`, `orphan 110 90` and `shift 110 x` are no commands. Words are those of one command at most.
-//! [`Name::named`] reads a name, and each of the other functions an operand. A call takes **O(n)** time for n bytes
-//! of words, and no memory but for the [`numbers`] that it lists.
+//! `110`, `orphan`, `orphan 110 90` and `shift 110 x` are no commands. No words are two commands.
+//!
+//! [`question`] reads each operand once, into a value. It tests the forms of all operands first: if the words are no
+//! command, it returns `Usage`. Then it reads the rules, from left to right: `compose 90 x` gives `RuleFault`, with the
+//! number of the operand and the fault of its text. A configuration that a rule can't have is `Unfit`. A call takes
+//! **O(n)** time for n bytes of words. Only the configuration of `preimage` needs memory.
 #![tactic(auto)]
 
+mod asking;
 mod names;
 mod operands;
-mod weight_lists;
+mod short_lists;
 
+pub use asking::{is_check, question};
 pub use names::Name;
-pub use operands::{are_colours, count_of, seed, small};
-pub use weight_lists::{are_weights, numbers};

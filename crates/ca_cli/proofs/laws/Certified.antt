@@ -13,12 +13,12 @@ use Rattle.ca_text.specs.Replies.{reply_text}
 use Rattle.ca_text.specs.StatusLines.{accepted_lines}
 use Rattle.ca_cli.specs.declared.status.Status.{Status}
 use Rattle.ca_cli.specs.declared.status.Status.TheVariants as status
-use Rattle.ca_cli.specs.Asked.{IsAsked}
+use Rattle.ca_words.specs.Asked.{IsAsked}
 use Rattle.ca_cli.specs.Inputs.{most_input}
 use Rattle.ca_cli.specs.RightAnswers.{IsReply, IsReplyOf}
 use Rattle.ca_cli.specs.Statuses.{reply_status}
 use Rattle.ca_cli.specs.RightAnswers.IsReply.{Found, NoFit, RuleFault, Accepted, Refused, TooLong}
-use Rattle.ca_cli.proofs.laws.Asked.{IsAsked-unique, IsAsked-reads_nothing}
+use Rattle.ca_words.proofs.laws.Asked.{IsAsked-unique, IsAsked-reads_nothing}
 use Rattle.ca_cli.proofs.laws.CheckAnswers.{accepted_exactly}
 
 -- what is said of a text that is a written certificate

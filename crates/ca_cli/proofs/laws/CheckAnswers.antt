@@ -15,7 +15,7 @@ use Rattle.ca_cli.specs.Inputs.{most_input}
 use Rattle.ca_cli.specs.Statuses.{reply_status}
 use Rattle.ca_cli.specs.RightAnswers.{IsReply, IsReplyOf, IsAnswer}
 use Rattle.ca_cli.specs.RightAnswers.IsReply.{Found, NoFit, RuleFault, Accepted, Refused, TooLong}
-use Rattle.ca_cli.proofs.laws.Asked.{IsAsked-reads_nothing, IsOperandFault-reads_nothing}
+use Rattle.ca_words.proofs.laws.Asked.{IsAsked-reads_nothing, IsOperandFault-reads_nothing}
 use Rattle.ca_cli.proofs.laws.RightAnswers.{right_exactly, reply_alone}
 
 -- the reply has the status and the text of another

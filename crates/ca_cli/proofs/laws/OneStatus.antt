@@ -6,13 +6,13 @@ use Rattle.ca_words.specs.Commands.{Command, IsCommand}
 use Rattle.ca_findings.proofs.Common.{Reply}
 use Rattle.ca_cli.specs.declared.status.Status.{Status}
 use Rattle.ca_cli.specs.declared.status.Status.TheVariants as status
-use Rattle.ca_cli.specs.Asked.{IsOperandFault}
+use Rattle.ca_words.specs.Asked.{IsOperandFault}
 use Rattle.ca_cli.specs.Inputs.{IsWholeInput, most_input}
 use Rattle.ca_cli.specs.Readings.{ReadsNothing}
 use Rattle.ca_cli.specs.RightAnswers.{IsReply, IsReplyTo, IsAnswer}
 use Rattle.ca_cli.specs.Statuses.{reply_status}
 use Rattle.ca_cli.specs.RightAnswers.IsReply.{Found, NoFit, RuleFault, Accepted, Refused, TooLong}
-use Rattle.ca_cli.proofs.laws.Asked.{IsAsked-no_fault, IsOperandFault-reads_nothing}
+use Rattle.ca_words.proofs.laws.Asked.{IsAsked-no_fault, IsOperandFault-reads_nothing}
 use Rattle.ca_cli.proofs.laws.RightAnswers.{FoundOrUnfit, to_command, found_says, not_fit_says}
 use Rattle.ca_cli.proofs.laws.CheckAnswers.{accepted_alone, refused_alone, long_alone}
 

@@ -9,11 +9,11 @@ use Rattle.ca_text.specs.StatusLines.{usage_line, operand_fault_line}
 use Rattle.ca_cli.specs.declared.status.Status.{Status}
 use Rattle.ca_cli.specs.declared.status.Status.TheVariants as status
 use Rattle.ca_cli.specs.Statuses.{IsAnswered, reply_status}
-use Rattle.ca_cli.specs.Asked.{IsAsked, IsOperandFault}
+use Rattle.ca_words.specs.Asked.{IsAsked, IsOperandFault}
 use Rattle.ca_cli.specs.Readings.{ReadsNothing}
 use Rattle.ca_cli.specs.RightAnswers.{IsReply, IsReplyOf, IsReplyTo, IsAnswer}
 use Rattle.ca_cli.specs.RightAnswers.IsReply.{Found, NoFit, RuleFault, Accepted, Refused, TooLong}
-use Rattle.ca_cli.proofs.laws.Asked.{IsAsked-unique, IsAsked-no_fault, IsAsked-reads_nothing}
+use Rattle.ca_words.proofs.laws.Asked.{IsAsked-unique, IsAsked-no_fault, IsAsked-reads_nothing}
 
 -- no answer is a failed write or want of memory
 answered : (reply : Reply) → IsAnswered (reply_status reply)

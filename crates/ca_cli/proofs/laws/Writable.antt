@@ -7,7 +7,7 @@ use Rattle.ca_words.specs.declared.names.Name.{Name}
 use Rattle.ca_findings.proofs.Common.{Question, AreRules, Finding, Unfit, IsFinding, IsUnfitFor, Reply}
 use Rattle.ca_findings.specs.Writable.{IsWritable, IsWritableUnfit, IsWritableReply}
 use Rattle.ca_words.specs.Commands.{Command}
-use Rattle.ca_cli.specs.Asked.{AreRuleTexts, Asks}
+use Rattle.ca_words.specs.Asked.{AreRuleTexts, Asks}
 use Rattle.ca_cli.specs.RightAnswers.{IsReply, IsReplyTo}
 
 -- the question is one of many rules

@@ -1,0 +1,12 @@
+-- Within the crate: what comes of words.
+use Rattle.std.specs.Prelude.{ℕ, List, Result, MatchResult}
+use Rattle.ca_words.specs.Asking.{Ask, IsStop}
+use Rattle.ca_findings.specs.declared.found.Found.{Found}
+use Rattle.ca_findings.specs.declared.found.Stop.{Stop}
+use Rattle.ca_findings.specs.Findings.{IsFinding}
+use Rattle.ca_findings.specs.Questions.{Question}
+use Rattle.ca_findings.specs.Values.{finding_of}
+
+-- what is found is right for the question of the words, or nothing is found
+abbrev pub IsOutcome : List (List ℕ) → Result Found Stop → Type 0
+IsOutcome words result = MatchResult result (λ f. (q : Question) × Ask words q × IsFinding q (finding_of f)) (IsStop words)

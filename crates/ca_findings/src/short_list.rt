@@ -1,0 +1,51 @@
+//! Short lists, which take no memory.
+ghost use Rattle.std.specs.Prelude.{◌≡◌, ◌<◌, ◌++◌, ◌∷◌, [], length};
+
+use std::marker::Model;
+use word_image::MOST_STATES;
+
+/// A list of at most 16 numbers below 256: the weights of letters, or new names for them.
+#[derive(Drop)]
+pub struct ShortList {
+    items: [u8; MOST_STATES],
+    // How many of the items count, at most all.
+    count: usize,
+}
+
+impl Model for ShortList {
+    ghost use Rattle.std.specs.Prelude.{◌≤◌, ℕ, List, take};
+
+    ghost Value = { List ℕ };
+
+    ghost view = { λ l. take l.count l.items };
+
+    ghost invariant = { λ l. l.count ≤ 16 };
+}
+
+impl ShortList {
+    /// Returns the empty list.
+    pub fn new() -> ShortList
+        ensures { result ≡ [] }
+    {
+        ShortList {
+            items: [0; MOST_STATES],
+            count: 0,
+        }
+    }
+
+    /// Puts a number behind the others. There are at most 15 before.
+    pub fn push(&mut self, item: u8)
+        requires { length self.old < 16 }
+        ensures { self.new ≡ self.old ++ item ∷ [] }
+    {
+        self.items[self.count] = item;
+        self.count += 1;
+    }
+
+    /// Returns the numbers, the first one first.
+    pub fn as_slice(&self) -> &[u8]
+        ensures { result.now ≡ self.now }
+    {
+        &self.items[..self.count]
+    }
+}
